@@ -1,0 +1,78 @@
+-- The checks of a request in their order, each with when it applies and its status code (RFC 8011, sections 4.1 and 4.2, appendix B).
+use Rattle.std.specs.Prelude.{ℕ, ◌==◌, List, [], ◌∷◌, Option, Result, Err, Bool, false, not, ◌&&◌, ◌||◌, nat_lt, length, codes, bytes_eq, find, if◌then◌else◌, slice_get}
+use Rattle.std.specs.List.{list_any, list_all}
+use Rattle.std.specs.Option.{option_map_or, ok_or}
+use Rattle.std.specs.Result.{result_err}
+use Rattle.std.specs.Str.{str_eq_ignore_ascii_case}
+use Rattle.ipp_wire.specs.declared.view.Head.{Head}
+use Rattle.ipp_wire.specs.Message.{Value, Attribute, Group, Message}
+use Rattle.ipp_ops.specs.declared.operation.Operation.{Operation}
+use Rattle.ipp_ops.specs.declared.attribute.OperationAttribute.{OperationAttribute}
+use Rattle.ipp_ops.specs.declared.check.Check.{Check}
+use Rattle.ipp_ops.specs.declared.check.Check.TheVariants.{Order, Charset, Form, Length, Needed, Target}
+use Rattle.ipp_ops.specs.Operations.{operation_of}
+use Rattle.ipp_ops.specs.Attributes.{Row, row, table, needs}
+use Rattle.ipp_ops.specs.Values.{are_formed, are_long}
+use Rattle.ipp_ops.specs.Request.{operation_attributes, known, bytes_in, has, is_target}
+
+-- ---- the head
+
+-- major version 1 or 2
+abbrev pub is_spoken : Head → Bool
+is_spoken h = h.major == 1 || h.major == 2
+
+-- the operation that a head asks for, or the code that refuses it: the version is looked at first
+abbrev pub asked_in : Head → Result Operation ℕ
+asked_in h = if is_spoken h then ok_or (operation_of h.code) 0x0501 else Err 0x0503
+
+abbrev pub head_refusal : Head → Option ℕ
+head_refusal h = result_err (asked_in h)
+
+-- ---- the groups
+
+-- one value of that tag under that name
+abbrev pub is_lone : List ℕ → ℕ → Attribute → Bool
+is_lone name tag a = bytes_eq a.name name && length a.values == 1 && list_all (λ v. v.tag == tag) a.values
+
+-- the first two are the charset and the language
+abbrev pub attributes_begin : List Attribute → Bool
+attributes_begin attrs = option_map_or (is_lone (codes "attributes-charset") 0x47) (slice_get attrs 0) false && option_map_or (is_lone (codes "attributes-natural-language") 0x48) (slice_get attrs 1) false
+
+-- the first group is that of the operation, and begins with charset and language
+abbrev pub groups_begin : List Group → Bool
+groups_begin gs = option_map_or (λ g. g.tag == 0x01 && attributes_begin g.attributes) (slice_get gs 0) false
+
+-- a known attribute fails a test that its row makes
+abbrev pub fails : (Row → List Value → Bool) → Operation → List Attribute → OperationAttribute → Bool
+fails test o attrs k = option_map_or (λ a. test (row k) a.values) (known o k attrs) false
+
+abbrev pub some_fails : (Row → List Value → Bool) → Operation → List Attribute → Bool
+some_fails test o attrs = list_any (fails test o attrs) table
+
+-- ---- the table
+
+-- the check refuses the request
+abbrev pub applies : Check → Operation → Message → Bool
+applies Order o m = not (groups_begin m.groups)
+applies Charset o m = not (str_eq_ignore_ascii_case (bytes_in (codes "attributes-charset") (operation_attributes m)) (codes "utf-8"))
+applies Form o m = some_fails (λ r vs. not (are_formed r vs)) o (operation_attributes m)
+applies Length o m = some_fails are_long o (operation_attributes m) || nat_lt 63 (length (bytes_in (codes "attributes-natural-language") (operation_attributes m)))
+applies Needed o m = not (list_any (λ ks. list_all (λ k. has k (operation_attributes m)) ks) (needs o))
+applies Target o m = not (is_target o (operation_attributes m))
+
+-- the status code with which it refuses
+abbrev pub code : Check → ℕ
+code Order = 0x0400
+code Charset = 0x040D
+code Form = 0x0400
+code Length = 0x0409
+code Needed = 0x0400
+code Target = 0x0406
+
+-- the checks, in order
+abbrev pub checks : List Check
+checks = Order ∷ Charset ∷ Form ∷ Length ∷ Needed ∷ Target ∷ []
+
+-- the first check that refuses
+abbrev pub refusal : Operation → Message → Option Check
+refusal o m = find (λ c. applies c o m) checks

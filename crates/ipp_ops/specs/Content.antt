@@ -1,0 +1,14 @@
+-- The values that a content stands for.
+use Rattle.std.specs.Prelude.{List, string_bytes}
+use Rattle.ipp_wire.specs.Message.{Value}
+use Rattle.ipp_ops.specs.declared.content.Content.{Content as ContentRef}
+use Rattle.ipp_ops.specs.declared.content.Content.TheVariants.{Integer, Enum, Text, Made, Moment, Reasons}
+use Rattle.ipp_ops.specs.JobReply.{text, integer, enumerated, keywords, moment, reason_words}
+
+abbrev pub values_in : ContentRef → List Value
+values_in (Integer n) = integer n
+values_in (Enum n) = enumerated n
+values_in (Text tag bytes) = text tag bytes.now
+values_in (Made tag string) = text tag (string_bytes string)
+values_in (Moment m) = moment m
+values_in (Reasons r) = keywords (reason_words r)

@@ -1,0 +1,10 @@
+pub mod Operations
+pub mod Attributes
+pub mod Values
+pub mod Request
+pub mod Checks
+pub mod Asked
+pub mod JobReply
+pub mod Content
+pub mod Reply
+pub mod Answer

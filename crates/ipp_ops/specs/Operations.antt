@@ -1,0 +1,26 @@
+-- The operations and their ids (RFC 8011, section 5.4.15).
+use Rattle.std.specs.Prelude.{ℕ, List, [], ◌∷◌, Option, ◌==◌, find, Bool, true, false}
+use Rattle.ipp_ops.specs.declared.operation.Operation.{Operation}
+use Rattle.ipp_ops.specs.declared.operation.Operation.TheVariants.{PrintJob, CancelJob, GetJobAttributes}
+
+abbrev pub id : Operation → ℕ
+id PrintJob = 0x0002
+id CancelJob = 0x0008
+id GetJobAttributes = 0x0009
+
+-- by id
+abbrev pub operations : List Operation
+operations = PrintJob ∷ CancelJob ∷ GetJobAttributes ∷ []
+
+abbrev pub operation_of : ℕ → Option Operation
+operation_of code = find (λ o. id o == code) operations
+
+-- the operations on one job
+abbrev pub on_job : Operation → Bool
+on_job PrintJob = false
+on_job CancelJob = true
+on_job GetJobAttributes = true
+
+-- two operations are the same one
+abbrev pub is_operation : Operation → Operation → Bool
+is_operation o p = id o == id p

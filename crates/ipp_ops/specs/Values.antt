@@ -1,0 +1,61 @@
+-- What the values of an attribute say (RFC 8010, section 3.9; RFC 8011, section 5.1).
+use Rattle.std.specs.Prelude.{ℕ, ◌+◌, ◌==◌, List, Option, Some, None, Bool, true, false, not, ◌&&◌, ◌||◌, nat_le, nat_lt, length, map, drop, is_some, if◌then◌else◌}
+use Rattle.std.specs.List.{list_any, list_all}
+use Rattle.std.specs.Option.{option_map_or}
+use Rattle.std.specs.Str.{is_utf8}
+use Rattle.std.specs.Int.{w16, w32, from_be_bytes}
+use Rattle.ipp_wire.specs.Message.{Value}
+use Rattle.ipp_ops.specs.declared.attribute.Shape.{Shape}
+use Rattle.ipp_ops.specs.declared.attribute.Shape.TheVariants.{Octets, Number, Name}
+use Rattle.ipp_ops.specs.Attributes.{Row}
+
+-- a number of 4 bytes in two's complement: those from 2 ^ 31 on are below zero
+abbrev pub number_of : List ℕ → Option ℕ
+number_of bytes = if length bytes == 4 then Some (from_be_bytes w32 bytes) else None
+
+-- at least 1
+abbrev pub is_positive : ℕ → Bool
+is_positive n = nat_le 1 n && nat_le n 2147483647
+
+-- the bytes of each value
+abbrev pub words_of : List Value → List (List ℕ)
+words_of vs = map (λ v. v.bytes) vs
+
+-- what follows a length in two bytes and that many bytes
+abbrev pub after_text : List ℕ → List ℕ
+after_text bytes = drop (2 + from_be_bytes w16 bytes) bytes
+
+-- the text behind a language, each with its length before it, and nothing more
+abbrev pub behind_language : List ℕ → Option (List ℕ)
+behind_language bytes = let rest = after_text bytes in if nat_le 2 (length rest) && length rest == 2 + from_be_bytes w16 rest then Some (drop 2 rest) else None
+
+-- the text of a value: of a nameWithLanguage the name, else all of it
+abbrev pub text_of : Value → Option (List ℕ)
+text_of v = if v.tag == 0x36 then behind_language v.bytes else Some v.bytes
+
+abbrev pub is_control : ℕ → Bool
+is_control b = nat_lt b 0x20 || b == 0x7f
+
+abbrev pub has_shape : Shape → List ℕ → Bool
+has_shape Octets text = true
+has_shape Number text = is_some (number_of text)
+has_shape Name text = is_utf8 text && not (list_any is_control text)
+
+-- the value has one of the row's tags and its shape
+abbrev pub is_shaped : Row → Value → Bool
+is_shaped r v = list_any (λ tag. tag == v.tag) r.tags && option_map_or (has_shape r.shape) (text_of v) false
+
+-- the values are as the row asks
+abbrev pub are_formed : Row → List Value → Bool
+are_formed r vs = (r.many || length vs == 1) && list_all (is_shaped r) vs
+
+-- a text is longer than its limit
+abbrev pub passes : Option ℕ → List ℕ → Bool
+passes limit text = option_map_or (λ n. nat_lt n (length text)) limit false
+
+abbrev pub is_long : Row → Value → Bool
+is_long r v = option_map_or (passes r.limit) (text_of v) false
+
+-- a value is longer than the row's limit
+abbrev pub are_long : Row → List Value → Bool
+are_long r vs = list_any (is_long r) vs

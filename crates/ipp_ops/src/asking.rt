@@ -1,0 +1,86 @@
+//! What a request asks: the first check that refuses it, or else its call.
+ghost use Rattle.std.specs.Prelude.{◌≡◌, ◌≤◌, IfOk, length, map};
+ghost use Rattle.ipp_wire.specs.Viewed.{attributes_of, message_of};
+ghost use Rattle.queue_core.specs.Event.{call_of};
+ghost use Rattle.ipp_ops.specs.Asked.{asks, ask_of, call_in, job, requested, usual, IsWithinLimits};
+ghost use Rattle.ipp_ops.specs.JobReply.{selected};
+
+use crate::attribute::OperationAttribute;
+use crate::check::{asked_in, first_refusal};
+use crate::job_reply::{select_requested, select_usual};
+use crate::operation::Operation;
+use crate::reading::{caller, group_attributes, known};
+use crate::request::{Ask, Wanted};
+use crate::target::target_job;
+use ipp_wire::{AttrView, View};
+use queue_core::document::Format;
+use queue_core::event::{Call, NewJob};
+use std::alloc::{AllocError, Global};
+
+fn job(v: &View<'_>) -> u32
+    ensures { result ≡ job (message_of v.now) }
+{
+    target_job(group_attributes(0x01, v.groups.as_slice())).unwrap_or(0)
+}
+
+/// The call that an operation makes of a request.
+fn call_in<'a>(o: Operation, v: &View<'a>) -> Call<'a>
+    ensures { call_of result ≡ call_in o (message_of v.now) }
+{
+    match o {
+        Operation::PrintJob => Call::PrintJob {
+            job: NewJob {
+                name: "untitled",
+                copies: 1,
+                impressions: None,
+            },
+            format: Format::OctetStream,
+            payload: v.payload,
+        },
+        Operation::CancelJob => Call::CancelJob { job: job(v) },
+        Operation::GetJobAttributes => Call::GetJobAttributes { job: job(v) },
+    }
+}
+
+/// The names that stand for an absent requested-attributes.
+fn usual(o: Operation) -> &'static [&'static str]
+    ensures { map (λ w. w.now) result.now ≡ usual o }
+{
+    match o {
+        Operation::PrintJob => &["job-uri", "job-id", "job-state", "job-state-reasons"],
+        Operation::CancelJob => &[],
+        Operation::GetJobAttributes => &["all"],
+    }
+}
+
+/// The rows that the reply is to have of a job.
+fn wanted(alloc: Global, o: Operation, attrs: &[AttrView<'_>]) -> Result<Wanted, AllocError>
+    ensures { IfOk result (λ w. w ≡ selected (requested o (attributes_of attrs.now))) }
+{
+    match known(o, OperationAttribute::RequestedAttributes, attrs) {
+        Some(a) => select_requested(alloc, a.values.as_slice()),
+        None => select_usual(alloc, usual(o)),
+    }
+}
+
+/// What a request asks: the code of the first check that refuses it, or else its call (RFC 8011,
+/// section 4.1). A call is an event within the machine's limits. The one error is want of memory.
+pub fn ask<'a>(alloc: Global, v: &View<'a>) -> Result<Ask<'a>, AllocError>
+    ensures asks { IfOk result (λ a. ask_of a ≡ asks (message_of v.now)) }
+    ensures limits { length v.now.payload.now ≤ 16777216 → IfOk result (λ a. IsWithinLimits (ask_of a)) }
+{
+    let operation = match asked_in(v.head) {
+        Ok(operation) => operation,
+        Err(code) => return Ok(Ask::Refused(code)),
+    };
+    if let Some(check) = first_refusal(operation, v) {
+        return Ok(Ask::Refused(check.code()));
+    }
+    let attrs = group_attributes(0x01, v.groups.as_slice());
+    let wanted = wanted(alloc, operation, attrs)?;
+    Ok(Ask::Call {
+        caller: caller(attrs),
+        call: call_in(operation, v),
+        wanted,
+    })
+}

@@ -1,0 +1,120 @@
+//! The operation attributes that requests have, as a table: a row for each (RFC 8011, section 4).
+ghost use Rattle.std.specs.Prelude.{◌≡◌, map};
+ghost use Rattle.ipp_ops.specs.Attributes.{row, row_of, knows, needs};
+
+use crate::operation::{OPERATIONS, Operation};
+
+/// The operation attributes that are looked at.
+#[derive(Clone, Copy, Debug)]
+pub enum OperationAttribute {
+    PrinterUri,
+    JobUri,
+    JobId,
+    RequestingUserName,
+    RequestedAttributes,
+}
+
+/// The shape of a value.
+#[derive(Clone, Copy, Debug)]
+pub enum Shape {
+    /// Any octets.
+    Octets,
+    /// A number of 4 bytes.
+    Number,
+    /// UTF-8 without control characters.
+    Name,
+}
+
+/// What a row of the table says of an attribute.
+#[derive(Clone, Copy, Debug)]
+pub struct Row {
+    pub name: &'static str,
+    /// The value tags that may stand (RFC 8010, section 3.5.2).
+    pub tags: &'static [u8],
+    /// Whether there may be several values.
+    pub many: bool,
+    pub shape: Shape,
+    /// The greatest number of octets of a value.
+    pub limit: Option<usize>,
+    pub known_in: &'static [Operation],
+}
+
+/// The operation attributes, in the table's order.
+pub const TABLE: [OperationAttribute; 5] = [
+    OperationAttribute::PrinterUri,
+    OperationAttribute::JobUri,
+    OperationAttribute::JobId,
+    OperationAttribute::RequestingUserName,
+    OperationAttribute::RequestedAttributes,
+];
+
+impl OperationAttribute {
+    pub fn row(self) -> Row
+        ensures { row_of result ≡ row self }
+    {
+        match self {
+            OperationAttribute::PrinterUri => Row {
+                name: "printer-uri",
+                tags: &[0x45],
+                many: false,
+                shape: Shape::Octets,
+                limit: Some(1023),
+                known_in: &OPERATIONS,
+            },
+            OperationAttribute::JobUri => Row {
+                name: "job-uri",
+                tags: &[0x45],
+                many: false,
+                shape: Shape::Octets,
+                limit: Some(1023),
+                known_in: &[Operation::CancelJob, Operation::GetJobAttributes],
+            },
+            OperationAttribute::JobId => Row {
+                name: "job-id",
+                tags: &[0x21],
+                many: false,
+                shape: Shape::Number,
+                limit: None,
+                known_in: &[Operation::CancelJob, Operation::GetJobAttributes],
+            },
+            OperationAttribute::RequestingUserName => Row {
+                name: "requesting-user-name",
+                tags: &[0x42, 0x36],
+                many: false,
+                shape: Shape::Name,
+                limit: Some(255),
+                known_in: &OPERATIONS,
+            },
+            OperationAttribute::RequestedAttributes => Row {
+                name: "requested-attributes",
+                tags: &[0x44],
+                many: true,
+                shape: Shape::Octets,
+                limit: Some(255),
+                known_in: &[Operation::GetJobAttributes],
+            },
+        }
+    }
+}
+
+impl Operation {
+    /// The operation knows the attribute.
+    pub fn knows(self, k: OperationAttribute) -> bool
+        ensures { result ≡ knows self k }
+    {
+        k.row().known_in.iter().any(|o| self.id() == o.id())
+    }
+
+    /// The attributes that the operation needs: all of one of these lists.
+    pub fn needs(self) -> &'static [&'static [OperationAttribute]]
+        ensures { map (λ ks. ks.now) result.now ≡ needs self }
+    {
+        match self {
+            Operation::PrintJob => &[&[OperationAttribute::PrinterUri]],
+            Operation::CancelJob | Operation::GetJobAttributes => &[
+                &[OperationAttribute::JobUri],
+                &[OperationAttribute::PrinterUri, OperationAttribute::JobId],
+            ],
+        }
+    }
+}

@@ -1,0 +1,72 @@
+//! The form, the length and the presence of the attributes that an operation knows.
+ghost use Rattle.std.specs.Prelude.{◌≡◌, not, map};
+ghost use Rattle.std.specs.List.{list_any, list_all};
+ghost use Rattle.ipp_wire.specs.Viewed.{attributes_of};
+ghost use Rattle.ipp_ops.specs.Attributes.{needs};
+ghost use Rattle.ipp_ops.specs.Checks.{fails, some_fails};
+ghost use Rattle.ipp_ops.specs.Request as request;
+ghost use Rattle.ipp_ops.specs.Values as values;
+
+use crate::attribute::{OperationAttribute, TABLE};
+use crate::operation::Operation;
+use crate::reading::{has, known};
+use crate::value::{are_formed, are_long};
+use ipp_wire::AttrView;
+
+fn is_misformed(o: Operation, k: OperationAttribute, attrs: &[AttrView<'_>]) -> bool
+    ensures { result ≡ fails (λ r vs. not (values.are_formed r vs)) o (attributes_of attrs.now) k }
+{
+    match known(o, k, attrs) {
+        Some(a) => !are_formed(&k.row(), a.values.as_slice()),
+        None => false,
+    }
+}
+
+/// A known attribute has a wrong tag, number of values or shape.
+pub fn some_misformed(o: Operation, attrs: &[AttrView<'_>]) -> bool
+    ensures { result ≡ some_fails (λ r vs. not (values.are_formed r vs)) o (attributes_of attrs.now) }
+{
+    TABLE.iter().any(|k| is_misformed(o, *k, attrs))
+}
+
+fn is_overlong(o: Operation, k: OperationAttribute, attrs: &[AttrView<'_>]) -> bool
+    ensures { result ≡ fails values.are_long o (attributes_of attrs.now) k }
+{
+    match known(o, k, attrs) {
+        Some(a) => are_long(&k.row(), a.values.as_slice()),
+        None => false,
+    }
+}
+
+/// A known attribute is longer than its limit.
+pub fn some_overlong(o: Operation, attrs: &[AttrView<'_>]) -> bool
+    ensures { result ≡ some_fails values.are_long o (attributes_of attrs.now) }
+{
+    TABLE.iter().any(|k| is_overlong(o, *k, attrs))
+}
+
+fn has_all(needed: &[OperationAttribute], attrs: &[AttrView<'_>]) -> bool
+    ensures { result ≡ list_all (λ k. request.has k (attributes_of attrs.now)) needed.now }
+{
+    needed.iter().all(|k| has(*k, attrs))
+}
+
+fn has_some(lists: &[&[OperationAttribute]], attrs: &[AttrView<'_>]) -> bool
+    ensures { result ≡ list_any (λ ks. list_all (λ k. request.has k (attributes_of attrs.now)) ks.now) lists.now }
+{
+    lists.iter().any(|ks| has_all(ks, attrs))
+}
+
+#[tactic(auto, using(crate::proofs::Lists::list_any_map))]
+fn has_needed(lists: &[&[OperationAttribute]], attrs: &[AttrView<'_>]) -> bool
+    ensures { result ≡ list_any (λ ks. list_all (λ k. request.has k (attributes_of attrs.now)) ks) (map (λ ks. ks.now) lists.now) }
+{
+    has_some(lists, attrs)
+}
+
+/// An attribute that the operation needs is missing.
+pub fn some_missing(o: Operation, attrs: &[AttrView<'_>]) -> bool
+    ensures { result ≡ not (list_any (λ ks. list_all (λ k. request.has k (attributes_of attrs.now)) ks) (needs o)) }
+{
+    !has_needed(o.needs(), attrs)
+}

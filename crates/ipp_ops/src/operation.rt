@@ -1,0 +1,44 @@
+//! The operations that the printer supports (RFC 8011, section 5.4.15).
+ghost use Rattle.std.specs.Prelude.{◌≡◌};
+ghost use Rattle.ipp_ops.specs.Operations.{id, on_job, operation_of};
+
+/// An operation, by its id.
+#[derive(Clone, Copy, Debug)]
+pub enum Operation {
+    PrintJob = 0x0002,
+    CancelJob = 0x0008,
+    GetJobAttributes = 0x0009,
+}
+
+/// The operations, by id.
+pub const OPERATIONS: [Operation; 3] = [
+    Operation::PrintJob,
+    Operation::CancelJob,
+    Operation::GetJobAttributes,
+];
+
+impl Operation {
+    /// The id by which a request's head names it.
+    pub fn id(self) -> u16
+        ensures { result ≡ id self }
+    {
+        self as u16
+    }
+
+    /// The operation is one on a job.
+    pub fn is_on_job(self) -> bool
+        ensures { result ≡ on_job self }
+    {
+        match self {
+            Operation::PrintJob => false,
+            Operation::CancelJob | Operation::GetJobAttributes => true,
+        }
+    }
+
+    /// The operation of an id, where it is supported.
+    pub fn from_id(id: u16) -> Option<Operation>
+        ensures { result ≡ operation_of id }
+    {
+        OPERATIONS.iter().copied().find(|o| o.id() == id)
+    }
+}

@@ -1,0 +1,27 @@
+//! The bytes of an answer.
+ghost use Rattle.std.specs.Prelude.{◌≡◌};
+
+/// The bytes of an answer: a whole reply, or a bare one that took no memory.
+#[derive(Debug, Drop)]
+pub enum Answer {
+    Whole(Vec<u8>),
+    Bare([u8; 72]),
+}
+
+impl Answer {
+    ghost use Rattle.ipp_ops.specs.Answer.{bytes_of};
+
+    /// The bytes, to be sent as they are. It takes no memory.
+    pub fn bytes(&self) -> &[u8]
+        ensures { result.now ≡ bytes_of self.now }
+    {
+        match self {
+            Answer::Whole(bytes) => bytes.as_slice(),
+            Answer::Bare(bytes) => bytes,
+        }
+    }
+}
+
+/// There are fewer than 8 bytes, too few for the head of a reply.
+#[derive(Clone, Copy, Debug, PartialEq, Eq)]
+pub struct TooShort;

@@ -1,0 +1,94 @@
+//! What a request is about: this printer, or a job of it.
+ghost use Rattle.std.specs.Prelude.{◌≡◌};
+ghost use Rattle.std.specs.Char.{is_ascii_digit};
+ghost use Rattle.std.specs.List.{list_all};
+ghost use Rattle.ipp_wire.specs.Viewed.{attributes_of};
+ghost use Rattle.ipp_ops.specs.Request as request;
+
+use crate::attribute::OperationAttribute;
+use crate::operation::Operation;
+use crate::reading::{bytes_in, has};
+use crate::value::{number, utf8_text};
+use ipp_wire::AttrView;
+use queue_core::uri::path;
+
+/// The greatest number of a job.
+const LAST_JOB_NUMBER: u32 = 2_147_483_647;
+
+fn bytes_of<'a>(k: OperationAttribute, attrs: &[AttrView<'a>]) -> &'a [u8]
+    ensures { result.now ≡ request.bytes_of k (attributes_of attrs.entry.now) }
+{
+    bytes_in(k.row().name.as_bytes(), attrs)
+}
+
+fn is_printer(uri: &[u8]) -> bool
+    ensures { result ≡ request.is_printer uri.now }
+{
+    path(uri) == b"/ipp/print".as_slice()
+}
+
+fn are_digits(text: &[u8]) -> bool
+    ensures { result ≡ list_all is_ascii_digit text.now }
+{
+    text.iter().all(|b| b.is_ascii_digit())
+}
+
+/// The number of a job in decimal: digits, the first not zero.
+fn number_in(bytes: &[u8]) -> Option<u32>
+    ensures { result ≡ request.number_in bytes.now }
+{
+    if !are_digits(bytes) || bytes.starts_with(b"0") {
+        return None;
+    }
+    let text = utf8_text(bytes)?;
+    match text.parse::<u32>() {
+        Ok(n) => job_of_id(n),
+        Err(_) => None,
+    }
+}
+
+fn job_in(path: &[u8]) -> Option<u32>
+    ensures { result ≡ request.job_in path.now }
+{
+    if path.starts_with(b"/ipp/print/") {
+        number_in(&path[11..])
+    } else {
+        None
+    }
+}
+
+fn job_of_id(n: u32) -> Option<u32>
+    ensures { result ≡ request.job_of_id n }
+{
+    if 1 <= n && n <= LAST_JOB_NUMBER {
+        Some(n)
+    } else {
+        None
+    }
+}
+
+/// The number of the job that a request is about: by job-uri where it is there, else by printer-uri and
+/// job-id.
+pub fn target_job(attrs: &[AttrView<'_>]) -> Option<u32>
+    ensures { result ≡ request.target_job (attributes_of attrs.now) }
+{
+    if has(OperationAttribute::JobUri, attrs) {
+        return job_in(path(bytes_of(OperationAttribute::JobUri, attrs)));
+    }
+    if is_printer(bytes_of(OperationAttribute::PrinterUri, attrs)) {
+        number(bytes_of(OperationAttribute::JobId, attrs)).and_then(job_of_id)
+    } else {
+        None
+    }
+}
+
+/// This printer, or a job of it, is what the request is about.
+pub fn is_target(o: Operation, attrs: &[AttrView<'_>]) -> bool
+    ensures { result ≡ request.is_target o (attributes_of attrs.now) }
+{
+    if o.is_on_job() {
+        target_job(attrs).is_some()
+    } else {
+        is_printer(bytes_of(OperationAttribute::PrinterUri, attrs))
+    }
+}

@@ -1,0 +1,153 @@
+//! What the values of an attribute say (RFC 8010, section 3.9; RFC 8011, section 5.1).
+ghost use Rattle.std.specs.Prelude.{◌≡◌, ◌==◌, if◌then◌else◌};
+ghost use Rattle.std.specs.List.{list_any, list_all};
+ghost use Rattle.std.specs.Str.{is_utf8};
+ghost use Rattle.std.specs.Option.{option_copied};
+ghost use Rattle.ipp_wire.specs.Viewed.{value_of, values_of};
+ghost use Rattle.ipp_ops.specs.Attributes.{row_of};
+ghost use Rattle.ipp_ops.specs.Values as spec;
+
+use crate::attribute::{Row, Shape};
+use ipp_wire::ValueView;
+use std::str;
+
+/// A number of 4 bytes.
+pub fn number(bytes: &[u8]) -> Option<u32>
+    ensures { result ≡ spec.number_of bytes.now }
+{
+    match bytes {
+        [a, b, c, d] => Some(u32::from_be_bytes([*a, *b, *c, *d])),
+        _ => None,
+    }
+}
+
+/// What follows a length in two bytes and that many bytes.
+fn after_text(bytes: &[u8]) -> &[u8]
+    ensures { result.now ≡ spec.after_text bytes.now }
+{
+    match bytes {
+        [a, b, rest @ ..] => {
+            let n = u16::from_be_bytes([*a, *b]) as usize;
+            if n <= rest.len() { &rest[n..] } else { &[] }
+        }
+        _ => &[],
+    }
+}
+
+/// The text behind a language, each with its length before it, and nothing more.
+fn behind_language(bytes: &[u8]) -> Option<&[u8]>
+    ensures { option_copied result ≡ spec.behind_language bytes.now }
+{
+    match after_text(bytes) {
+        [a, b, text @ ..] => {
+            if text.len() == u16::from_be_bytes([*a, *b]) as usize {
+                Some(text)
+            } else {
+                None
+            }
+        }
+        _ => None,
+    }
+}
+
+/// The text of a value: of a nameWithLanguage the name, else all of it.
+pub fn text<'a>(v: ValueView<'a>) -> Option<&'a [u8]>
+    ensures { option_copied result ≡ spec.text_of (value_of v.entry) }
+{
+    if v.tag == 0x36 {
+        behind_language(v.bytes)
+    } else {
+        Some(v.bytes)
+    }
+}
+
+fn has_control(text: &[u8]) -> bool
+    ensures { result ≡ list_any spec.is_control text.now }
+{
+    text.iter().any(|b| *b < 0x20 || *b == 0x7f)
+}
+
+fn has_tag(tags: &[u8], tag: u8) -> bool
+    ensures { result ≡ list_any (λ t. t == tag) tags.now }
+{
+    tags.iter().any(|t| *t == tag)
+}
+
+/// The bytes as text, where they are UTF-8.
+pub fn utf8_text(bytes: &[u8]) -> Option<&str>
+    ensures { option_copied result ≡ (if is_utf8 bytes.now then Some bytes.now else None) }
+{
+    match str::from_utf8(bytes) {
+        Ok(text) => Some(text),
+        Err(_) => None,
+    }
+}
+
+fn is_utf8(text: &[u8]) -> bool
+    ensures { result ≡ is_utf8 text.now }
+{
+    utf8_text(text).is_some()
+}
+
+fn has_shape(shape: Shape, text: &[u8]) -> bool
+    ensures { result ≡ spec.has_shape shape text.now }
+{
+    match shape {
+        Shape::Octets => true,
+        Shape::Number => number(text).is_some(),
+        Shape::Name => is_utf8(text) && !has_control(text),
+    }
+}
+
+fn is_shaped(row: &Row, v: ValueView<'_>) -> bool
+    ensures { result ≡ spec.is_shaped (row_of row.now) (value_of v.entry) }
+{
+    has_tag(row.tags, v.tag)
+        && match text(v) {
+            Some(bytes) => has_shape(row.shape, bytes),
+            None => false,
+        }
+}
+
+fn all_shaped(row: &Row, values: &[ValueView<'_>]) -> bool
+    ensures { result ≡ list_all (λ v. spec.is_shaped (row_of row.now) (value_of v)) values.now }
+{
+    values.iter().all(|v| is_shaped(row, *v))
+}
+
+#[tactic(auto, using(crate::proofs::Lists::list_all_map))]
+fn are_shaped(row: &Row, values: &[ValueView<'_>]) -> bool
+    ensures { result ≡ list_all (spec.is_shaped (row_of row.now)) (values_of values.now) }
+{
+    all_shaped(row, values)
+}
+
+/// The values are as the row asks.
+pub fn are_formed(row: &Row, values: &[ValueView<'_>]) -> bool
+    ensures { result ≡ spec.are_formed (row_of row.now) (values_of values.now) }
+{
+    (row.many || values.len() == 1) && are_shaped(row, values)
+}
+
+fn is_long(row: &Row, v: ValueView<'_>) -> bool
+    ensures { result ≡ spec.is_long (row_of row.now) (value_of v.entry) }
+{
+    match (row.limit, text(v)) {
+        (Some(limit), Some(bytes)) => limit < bytes.len(),
+        _ => false,
+    }
+}
+
+fn some_long(row: &Row, values: &[ValueView<'_>]) -> bool
+    ensures { result ≡ list_any (λ v. spec.is_long (row_of row.now) (value_of v)) values.now }
+{
+    values.iter().any(|v| is_long(row, *v))
+}
+
+/// A value is longer than the row's limit.
+#[tactic(auto, using(crate::proofs::Lists::list_any_map))]
+pub fn are_long(row: &Row, values: &[ValueView<'_>]) -> bool
+    ensures { result ≡ spec.are_long (row_of row.now) (values_of values.now) }
+{
+    some_long(row, values)
+}

@@ -1,0 +1,10 @@
+mod Lists
+mod Text
+mod Items
+mod Front
+mod Spelled
+mod Pieces
+mod Standing
+mod Building
+mod Plain
+mod Reply

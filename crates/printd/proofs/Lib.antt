@@ -1,0 +1,5 @@
+pub mod CommandLineLemmas
+pub mod DecimalLemmas
+pub mod HexadecimalLemmas
+pub mod LineLemmas
+mod Answered

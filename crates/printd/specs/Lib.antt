@@ -1,0 +1,4 @@
+pub mod CommandLine
+pub mod Line
+pub mod RequestLine
+pub mod Unread

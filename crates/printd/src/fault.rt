@@ -1,0 +1,50 @@
+//! Why the program can't go on.
+
+use queue_core::settings::SettingFault;
+use std::alloc::{AllocError, AllocFailed};
+use std::io;
+use thiserror::Error;
+
+/// A fault of the program, which its one word tells.
+#[derive(Debug, Clone, Copy, PartialEq, Eq, Error)]
+pub enum Fault {
+    /// There was no memory.
+    #[error("memory")]
+    Memory,
+    /// A setting of the printer is not within its limits.
+    #[error("bad setting")]
+    BadSetting,
+    /// A standard stream couldn't be read or written.
+    #[error("io")]
+    Io,
+}
+
+impl From<AllocError> for Fault {
+    fn from(_error: AllocError) -> Fault {
+        Fault::Memory
+    }
+}
+
+impl<T: Drop> From<AllocFailed<T>> for Fault {
+    fn from(_error: AllocFailed<T>) -> Fault {
+        Fault::Memory
+    }
+}
+
+impl From<io::Error> for Fault {
+    fn from(error: io::Error) -> Fault {
+        match error.kind() {
+            io::ErrorKind::OutOfMemory => Fault::Memory,
+            _ => Fault::Io,
+        }
+    }
+}
+
+impl From<SettingFault> for Fault {
+    fn from(fault: SettingFault) -> Fault {
+        match fault {
+            SettingFault::Bad => Fault::BadSetting,
+            SettingFault::Memory => Fault::Memory,
+        }
+    }
+}

@@ -1,0 +1,88 @@
+-- The scene of each sound world is fair.
+use Rattle.std.proofs.Common.{◌≡◌, ℕ, zero, suc, ℤ, pos, ◌+ℤ◌, ◌+◌, ◌-◌, ◌*◌, ◌^◌, ◌≤◌, ◌<◌, List, [], ◌∷◌, length, map, arith, Bool, true, false, cond}
+use Rattle.std.specs.Prelude.{Option, Some, None, IfSome, bytes_eq, filter, All, sum_by}
+use Rattle.std.specs.List.{AllByRecursion as Each}
+use Rattle.std.specs.FinMap.{get}
+use Rattle.std.proofs.lemmas.Int.{ints}
+use Rattle.std.proofs.lemmas.List.Sums.{sum_by-cons}
+use Rattle.std.proofs.lemmas.Nat.{mul-le}
+use Rattle.queue_core.specs.Job.{owed, is_live}
+use Rattle.queue_core.specs.Event.{Event}
+use Rattle.queue_core.specs.World.{World, Entry, rows, cut, found_row, names_job, caller_of}
+use Rattle.queue_core.specs.Limits.{IsFair, IsSoundJob, IsAmount}
+use Rattle.queue_core.specs.Sound.{IsSound, IsSoundEntry, Rise, granted, reserved, printed}
+use Rattle.queue_core.specs.declared.event.FreeRow.{FreeRow}
+use Rattle.queue_core.specs.declared.job.Job.{Job}
+use Rattle.queue_core.proofs.Enter.{first_below}
+
+all_of : {X : Type 0} (P : X → Type 0) (xs : List X) → Each P xs → All P xs
+all_of P [] each k d h = absurd (omega arith)
+all_of P (x ∷ xs) each zero d h = each.0
+all_of P (x ∷ xs) each (suc k) d h = all_of P xs each.1 k d (omega arith)
+
+each_named : (p : Job → Bool) (es : List Entry) → Each IsSoundEntry es → Each IsSoundJob (filter p (map (λ e. e.row) es))
+each_named p [] each = tt
+each_named p (e ∷ es) each = elim (p e.row) as (λ b. Each IsSoundJob (cond b (e.row ∷ filter p (map (λ e. e.row) es)) (filter p (map (λ e. e.row) es)))) [
+  | true ↦ (each.0.row, each_named p es each.1)
+  | false ↦ each_named p es each.1
+]
+
+named_few : (p : Job → Bool) (es : List Entry) → length (filter p (map (λ e. e.row) es)) ≤ length es
+named_few p [] = omega arith
+named_few p (e ∷ es) = let more = named_few p es in elim (p e.row) as (λ b. length (cond b (e.row ∷ filter p (map (λ e. e.row) es)) (filter p (map (λ e. e.row) es))) ≤ suc (length es)) [
+  | true ↦ omega arith
+  | false ↦ omega arith
+]
+
+-- no more jobs than numbers
+rise_length : (first next : ℕ) (es : List Entry) → Rise first es next → first + length es ≤ next
+rise_length first next [] rise = omega arith
+rise_length first next (e ∷ es) rise = let more = rise_length (e.row.number + 1) next es rise.1 in omega arith
+
+-- a sum of parts that are each at most 2^28
+sum_bound : (f : Job → ℕ) (es : List Entry) → ((e : Entry) → IsSoundEntry e → f e.row ≤ 2 ^ 28) → Each IsSoundEntry es → sum_by f (map (λ e. e.row) es) ≤ 2 ^ 28 * length es
+sum_bound f [] each all = omega arith
+sum_bound f (e ∷ es) each all =
+    let more = sum_bound f es each all.1 in
+    let here = each e all.0 in
+    omega (arith, sum_by-cons f e.row (map (λ e. e.row) es))
+
+part : (b : Bool) (n : ℕ) → n ≤ 2 ^ 28 → cond b n 0 ≤ 2 ^ 28
+part true n h = h
+part false n h = omega arith
+
+product : (a b : ℕ) → a ≤ 100000 → b ≤ 999 → a * b ≤ 2 ^ 28
+product a b h k = omega (arith, mul-le a b 100000 999 h k)
+
+owed_least : (live hold : Bool) (n c : ℕ) → n ≤ 2 ^ 28 → cond live (cond hold 0 (n - c)) 0 ≤ 2 ^ 28
+owed_least true true n c h = omega arith
+owed_least true false n c h = omega arith
+owed_least false hold n c h = omega arith
+
+owed_bound : (j : Job) → IsSoundJob j → owed j ≤ 2 ^ 28
+owed_bound j s = owed_least (is_live j) j.hold (j.impressions * j.copies) j.count (product j.impressions j.copies s.impressions s.copies.1)
+
+found : (a : List ℕ) (o : Option ℤ) → IfSome o IsAmount → Each (λ (r : FreeRow). IsAmount r.free) (found_row a o)
+found a None h = tt
+found a (Some f) h = (h, tt)
+
+amount : (o : Option ℤ) (g r p : ℕ) → g ≤ 1000000000 → r ≤ 2 ^ 59 → p ≤ 2 ^ 59 → IfSome o (λ f. pos g ≡ f +ℤ pos (r + p)) → IfSome o IsAmount
+amount None g r p hg hr hp is = tt
+amount (Some f) g r p hg hr hp is = (omega (arith, ints), omega (arith, ints))
+
+amounts_of : (w : World) → IsSound w → (a : List ℕ) → IfSome (get w.free a) IsAmount
+amounts_of w sound a =
+    let few = rise_length 1 w.next w.jobs sound.numbers in
+    let next = sound.next in
+    let reserve = sum_bound (λ j. cond (bytes_eq j.owner a) (owed j) 0) w.jobs (λ e s. part (bytes_eq e.row.owner a) (owed e.row) (owed_bound e.row s.row)) sound.entries in
+    let print = sum_bound (λ j. cond (bytes_eq j.owner a) j.count 0) w.jobs (λ e s. let c = s.row.count in part (bytes_eq e.row.owner a) e.row.count (omega arith)) sound.entries in
+    amount (get w.free a) (granted a w) (reserved a w) (printed a w) (sound.most a) (omega arith) (omega arith) (sound.balances a)
+
+pub fair_of : (w : World) (e : Event) → IsSound w → IsFair (cut w e)
+fair_of w e sound = record {
+  settings = sound.settings;
+  jobs = all_of IsSoundJob _ (each_named (λ j. names_job e j.number) w.jobs sound.entries);
+  few = (let few = rise_length 1 w.next w.jobs sound.numbers in let next = sound.next in let named = named_few (λ j. names_job e j.number) w.jobs in omega arith);
+  free = all_of (λ (r : FreeRow). IsAmount r.free) _ (found (caller_of e) (get w.free (caller_of e)) (amounts_of w sound (caller_of e)));
+  next = first_below 1 w.next w.jobs sound.numbers;
+}

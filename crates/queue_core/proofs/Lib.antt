@@ -1,0 +1,11 @@
+pub mod Keep
+pub mod Rows
+pub mod Moves
+pub mod Cancel
+pub mod Enter
+pub mod Print
+pub mod Fair
+pub mod Steps
+pub mod Runs
+pub mod Start
+pub mod Put

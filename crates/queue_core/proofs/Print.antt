@@ -1,0 +1,124 @@
+-- Print-Job keeps a world sound: a row enters under the next number, and has taken nothing.
+use Rattle.std.proofs.Common.{◌≡◌, ℕ, suc, ℤ, pos, ◌+ℤ◌, ◌-ℤ◌, ◌+◌, ◌≤◌, ◌<◌, ◌^◌, List, [], ◌∷◌, ◌++◌, length, map, refl, ap, sym, ◌∙◌, arith, subst, eq-eqb, inr, Bool, true, false, cond}
+use Rattle.std.specs.Prelude.{Option, Some, None, IfSome, nat_eq, nat_le, nat_lt, bytes_eq, option_map, filter, fold, unwrap_or}
+use Rattle.std.specs.FinMap.{FinMap, get}
+use Rattle.std.proofs.lemmas.Bool.Decides.{nat_tests}
+use Rattle.std.proofs.lemmas.Int.{ints}
+use Rattle.queue_core.specs.Settings.{AreSettings}
+use Rattle.queue_core.specs.Event.{NewJob, NewDocument, ask, print_job}
+use Rattle.queue_core.specs.World.{World, Entry, rows, cut, made_on, with_row, with_document, add_document, text_cmp, live_jobs}
+use Rattle.queue_core.specs.Machine.{refused, entered, new_job, first_document, print_job_row, returned}
+use Rattle.queue_core.specs.Limits.{IsMoment, IsOwner, IsNewJob, IsSoundJob}
+use Rattle.queue_core.specs.Sound.{IsSound, IsSoundEntry, Rise}
+use Rattle.queue_core.specs.declared.document.Document.{Document}
+use Rattle.queue_core.specs.declared.document.Format.{Format}
+use Rattle.queue_core.specs.declared.job.Job.{Job}
+use Rattle.queue_core.specs.declared.event.Scene.{Scene}
+use Rattle.queue_core.proofs.Rows.{kept_amount}
+use Rattle.queue_core.proofs.Enter.{fresh, first_below, with_row_new, with_document_new, with_new, new_row_keeps}
+use Rattle.queue_core.proofs.Moves.{new_moves}
+use Rattle.queue_core.proofs.Cancel.{Keeps, unchanged, moved, moved_from, same_key}
+
+-- ---- the new job is within its limits
+
+stands_in : (o : Option ℕ) (n : ℕ) → IfSome o (λ k. k ≤ 100000) → n ≤ 100000 → unwrap_or o n ≤ 100000
+stands_in None n h k = k
+stands_in (Some m) n h k = h
+
+few : (none : Bool) → cond none 0 1 ≤ 16
+few true = omega arith
+few false = omega arith
+
+pub new_job_sound : (s : Scene) (now : ℕ) (caller : List ℕ) (j : NewJob) (payload : List ℕ) → AreSettings s.settings → 1 ≤ s.next → s.next < 2 ^ 31 → IsMoment now → IsOwner caller → IsNewJob j → length payload ≤ 16777216 → IsSoundJob (new_job s now caller j payload)
+new_job_sound s now caller j payload settings some room moment owner new fits = record {
+  number = (some, room);
+  owner = owner;
+  name = new.name;
+  copies = new.copies;
+  impressions = stands_in j.impressions s.settings.estimate new.impressions settings.estimate_fits;
+  count = omega arith;
+  created = moment;
+  begun = tt;
+  ended = tt;
+  documents = few (nat_eq (length payload) 0);
+  octets = omega arith;
+  phase = (refl, refl, refl, refl);
+}
+
+-- ---- its document
+
+abbrev documents : Format → List ℕ → List Document
+documents format [] = []
+documents format (b ∷ bytes) = record { format = format; bytes = b ∷ bytes } ∷ []
+
+itself : (n : ℕ) → nat_eq n n ≡ true
+itself n = eq-eqb n n refl
+
+-- the row and its document stand at the end
+jobs_after : (x : Job) (format : Format) (payload : List ℕ) (es : List Entry) → Rise 1 es x.number → with_document (with_row es x) (first_document x.number format payload) ≡ es ++ record { row = x; documents = documents format payload } ∷ []
+jobs_after x format [] es rise = with_row_new x 1 es rise
+jobs_after x format (b ∷ bytes) es rise =
+    let d : NewDocument = record { job = x.number; format = format; bytes = b ∷ bytes } in
+    let added : add_document d (fresh x) ≡ record { row = x; documents = documents format (b ∷ bytes) } = ap (λ t. cond t (record { row = x; documents = documents format (b ∷ bytes) }) (fresh x)) (itself x.number) in
+    ap (map (add_document d)) (with_row_new x 1 es rise)
+    ∙ with_document_new x d 1 es refl rise
+    ∙ ap (λ e. es ++ e ∷ []) added
+
+not_empty : (n : ℕ) → nat_eq (suc n) 0 ≡ false
+not_empty n = grind (arith, nat_tests)
+
+entry_sound : (s : Scene) (now : ℕ) (caller : List ℕ) (j : NewJob) (format : Format) (payload : List ℕ) → length payload ≤ 16777216 → IsSoundJob (new_job s now caller j payload) → IsSoundEntry (record { row = new_job s now caller j payload; documents = documents format payload })
+entry_sound s now caller j format [] fits sound = record { row = sound; documents = refl; octets = refl; sizes = tt }
+entry_sound s now caller j format (b ∷ bytes) fits sound = record { row = sound; documents = ap (λ t. cond t 0 1) (not_empty (length bytes)); octets = omega arith; sizes = ((omega arith, fits), tt) }
+
+-- ---- its account
+
+none_named : (js : List Job) → filter (λ (j : Job). false) js ≡ []
+none_named [] = refl
+none_named (j ∷ js) = none_named js
+
+nothing : (b : Bool) → pos 0 +ℤ cond b (pos 0 -ℤ pos 0) (pos 0) ≡ pos 0
+nothing true = refl
+nothing false = refl
+
+module _ (w : World) (now : ℕ) (caller : List ℕ) (j : NewJob) (format : Format) (payload : List ℕ) (sound : IsSound w) (moment : IsMoment now) (owner : IsOwner caller) (new : IsNewJob j) (fits : length payload ≤ 16777216) where
+  abbrev scene : Scene
+  scene = cut w (ask caller (print_job j format payload))
+
+  abbrev x : Job
+  x = new_job scene now caller j payload
+
+  abbrev n : Entry
+  n = record { row = x; documents = documents format payload }
+
+  none_returned : (a : List ℕ) → returned scene.jobs a (x ∷ []) ≡ pos 0
+  none_returned a = ap (λ js. returned js a (x ∷ [])) (none_named (rows w)) ∙ nothing (bytes_eq caller a)
+
+  -- no account's free pages move
+  free_stays : (q : List ℕ) → get (moved w.free caller scene.jobs (x ∷ [])) q ≡ get w.free q
+  free_stays q =
+      moved_from w.free caller q scene.jobs (x ∷ []) (get w.free caller) refl
+      ∙ elim (bytes_eq q caller) as (λ t. bytes_eq q caller ≡ t → cond t (option_map (λ f. f +ℤ returned scene.jobs caller (x ∷ [])) (get w.free caller)) (get w.free q) ≡ get w.free q) [
+        | true ↦ λ is. ap (λ z. option_map (λ f. f +ℤ z) (get w.free caller)) (none_returned caller) ∙ sym (kept_amount (get w.free caller)) ∙ ap (get w.free) (sym (same_key q caller is))
+        | false ↦ λ is. refl
+      ] refl
+
+  entered_keeps : live_jobs caller (rows w) < 100 → w.next < 2 ^ 31 → Keeps w (made_on (entered scene x (first_document scene.next format payload)).change w)
+  entered_keeps live room =
+      let job : IsSoundJob x = new_job_sound scene now caller j payload sound.settings (first_below 1 w.next w.jobs sound.numbers) room moment owner new fits in
+      let m = moved w.free caller scene.jobs (x ∷ []) in
+      let kept : Keeps w (with_new w m n) = record {
+        sound = new_row_keeps w m n sound refl room (entry_sound scene now caller j format payload fits job) refl refl (refl, refl, refl) live free_stays;
+        moves = λ k. new_moves k n w.jobs (inr refl);
+      } in
+      subst (λ es. Keeps w (record w { jobs = es; next = w.next + 1; free = m })) (sym (jobs_after x format payload w.jobs sound.numbers)) kept
+
+  pub print_keeps : Keeps w (made_on (print_job_row scene now caller j format payload).change w)
+  print_keeps =
+      elim (nat_le 100 scene.live) as (λ b. nat_le 100 scene.live ≡ b → Keeps w (made_on (cond b (refused 0x0404) (cond (nat_lt 2147483647 scene.next) (refused 0x0506) (entered scene x (first_document scene.next format payload)))).change w)) [
+        | true ↦ λ full. unchanged w sound
+        | false ↦ λ free. elim (nat_lt 2147483647 scene.next) as (λ b. nat_lt 2147483647 scene.next ≡ b → Keeps w (made_on (cond b (refused 0x0506) (entered scene x (first_document scene.next format payload))).change w)) [
+          | true ↦ λ past. unchanged w sound
+          | false ↦ λ left. entered_keeps (grind (arith, nat_tests)) (grind (arith, nat_tests))
+        ] refl
+      ] refl

@@ -1,0 +1,63 @@
+-- What may happen to a queue, by its content: what a call or a change says, without where its bytes lie.
+use Rattle.std.specs.Prelude.{ℕ, List, Option, option_map}
+use Rattle.queue_core.specs.declared.document.Format.{Format}
+use Rattle.queue_core.specs.declared.event.NewJob.{NewJob as NewJobRef}
+use Rattle.queue_core.specs.declared.event.Call.{Call as CallRef}
+use Rattle.queue_core.specs.declared.event.Call.TheVariants.{PrintJob, CancelJob, GetJobAttributes}
+use Rattle.queue_core.specs.declared.event.Event.{Event as EventRef}
+use Rattle.queue_core.specs.declared.event.Event.TheVariants.{Ask}
+use Rattle.queue_core.specs.declared.event.FreeRow.{FreeRow}
+use Rattle.queue_core.specs.declared.event.NewDocument.{NewDocument as NewDocumentRef}
+use Rattle.queue_core.specs.declared.event.Change.{Change as ChangeRef}
+use Rattle.queue_core.specs.declared.event.Decision.{Decision as DecisionRef}
+use Rattle.queue_core.specs.declared.event.Reply.{Reply}
+use Rattle.queue_core.specs.declared.job.Job.{Job}
+
+pub record NewJob : Type 0 where
+  pub name : List ℕ
+  pub copies : ℕ
+  pub impressions : Option ℕ
+
+pub data Call : Type 0 where
+  print_job : NewJob → Format → List ℕ → Call
+  cancel_job : ℕ → Call
+  get_job_attributes : ℕ → Call
+
+pub data Event : Type 0 where
+  ask : List ℕ → Call → Event
+
+pub record NewDocument : Type 0 where
+  pub job : ℕ
+  pub format : Format
+  pub bytes : List ℕ
+
+-- what becomes of the rows
+pub record Change : Type 0 where
+  pub jobs : List Job
+  pub document : Option NewDocument
+  pub free : List FreeRow
+  pub next : Option ℕ
+
+pub record Decision : Type 0 where
+  pub reply : Reply
+  pub change : Change
+
+abbrev pub new_job_of : NewJobRef → NewJob
+new_job_of j = record { name = j.name.now; copies = j.copies; impressions = j.impressions }
+
+abbrev pub call_of : CallRef → Call
+call_of (PrintJob j f b) = print_job (new_job_of j) f b.now
+call_of (CancelJob n) = cancel_job n
+call_of (GetJobAttributes n) = get_job_attributes n
+
+abbrev pub event_of : EventRef → Event
+event_of (Ask caller call) = ask caller.now (call_of call)
+
+abbrev pub document_of : NewDocumentRef → NewDocument
+document_of d = record { job = d.job; format = d.format; bytes = d.bytes.now }
+
+abbrev pub change_of : ChangeRef → Change
+change_of c = record { jobs = c.jobs; document = option_map document_of c.document; free = c.free; next = c.next }
+
+abbrev pub decision_of : DecisionRef → Decision
+decision_of d = record { reply = d.reply; change = change_of d.change }

@@ -1,0 +1,12 @@
+pub mod Uri
+pub mod Settings
+pub mod Job
+pub mod Event
+pub mod World
+pub mod Machine
+pub mod Limits
+pub mod Balance
+pub mod Sound
+pub mod Runs
+pub mod Book
+pub mod Lists

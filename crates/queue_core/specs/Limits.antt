@@ -1,0 +1,94 @@
+-- The limits of rows, events and replies.
+use Rattle.std.specs.Prelude.{◌≡◌, ℕ, ℤ, pos, neg_ℤ, ◌≤ℤ◌, ◌^◌, ◌*◌, ◌≤◌, ◌<◌, List, Option, Some, None, All, ⊤, IsSome, IfSome, length, ◌==◌, ◌&&◌, ◌||◌, Bool, true, false, IsTrue, not, nat_le}
+use Rattle.std.specs.List.{list_all}
+use Rattle.std.specs.Str.{IsUtf8}
+use Rattle.queue_core.specs.Settings.{AreSettings}
+use Rattle.queue_core.specs.Event.{Event, Call, NewJob, ask, print_job, cancel_job, get_job_attributes}
+use Rattle.queue_core.specs.declared.job.Job.{Job}
+use Rattle.queue_core.specs.declared.job.Phase.{Phase}
+use Rattle.queue_core.specs.declared.job.Phase.TheVariants.{Waiting, Running, Stopped, Canceled, Aborted, Completed}
+use Rattle.queue_core.specs.declared.event.Reply.{Reply}
+use Rattle.queue_core.specs.declared.event.Reply.TheVariants.{Refused, Done, Jobs}
+use Rattle.queue_core.specs.declared.event.Scene.{Scene}
+
+-- 1 to 2,147,483,647: a moment, a job number or a sequence number
+abbrev pub IsPositive : ℕ → Type 0
+IsPositive n = (1 ≤ n) × (n < 2 ^ 31)
+
+-- seconds of printer up time
+abbrev pub IsMoment : ℕ → Type 0
+IsMoment = IsPositive
+
+abbrev pub is_no_control : ℕ → Bool
+is_no_control b = nat_le 32 b && not (b == 127)
+
+-- an owner's or account's name: 1 to 255 octets of UTF-8 without control bytes
+pub record IsOwner (t : List ℕ) : Type 0 where
+  pub some : 1 ≤ length t
+  pub fits : length t ≤ 255
+  pub utf8 : IsUtf8 t
+  pub printable : IsTrue (list_all is_no_control t)
+
+-- a job's name: 1 to 255 octets of UTF-8 without a zero byte
+pub record IsJobName (t : List ℕ) : Type 0 where
+  pub some : 1 ≤ length t
+  pub fits : length t ≤ 255
+  pub utf8 : IsUtf8 t
+  pub no_zero : IsTrue (list_all (λ b. nat_le 1 b) t)
+
+-- what a phase asks of the other fields
+abbrev pub FitsPhase : Phase → Job → Type 0
+FitsPhase Waiting j = (j.count ≡ 0) × (j.begun ≡ None) × (j.ended ≡ None) × (j.stopping ≡ false)
+FitsPhase Running j = (j.hold ≡ false) × (j.incoming ≡ false) × IsSome j.begun × (j.ended ≡ None)
+FitsPhase Stopped j = (j.hold ≡ false) × (j.incoming ≡ false) × IsSome j.begun × (j.ended ≡ None)
+FitsPhase (Canceled why) j = (j.hold ≡ false) × (j.incoming ≡ false) × IsSome j.ended × (j.stopping ≡ false)
+FitsPhase Aborted j = (j.hold ≡ false) × (j.incoming ≡ false) × IsSome j.ended × (j.stopping ≡ false)
+FitsPhase Completed j = (j.hold ≡ false) × (j.incoming ≡ false) × IsSome j.ended × (j.stopping ≡ false)
+
+-- a job's own limits
+pub record IsSoundJob (j : Job) : Type 0 where
+  pub number : IsPositive j.number
+  pub owner : IsOwner j.owner
+  pub name : IsJobName j.name
+  pub copies : (1 ≤ j.copies) × (j.copies ≤ 999)
+  pub impressions : j.impressions ≤ 100000
+  pub count : j.count ≤ 100000000
+  pub created : IsMoment j.created
+  pub begun : IfSome j.begun IsMoment
+  pub ended : IfSome j.ended IsMoment
+  pub documents : j.documents ≤ 16
+  pub octets : j.octets ≤ 16 * 16777216
+  pub phase : FitsPhase j.phase j
+
+-- what a request asks of a new job
+pub record IsNewJob (j : NewJob) : Type 0 where
+  pub name : IsJobName j.name
+  pub copies : (1 ≤ j.copies) × (j.copies ≤ 999)
+  pub impressions : IfSome j.impressions (λ n. n ≤ 100000)
+
+abbrev pub IsCall : Call → Type 0
+IsCall (print_job j format payload) = IsNewJob j × (length payload ≤ 16777216)
+IsCall (cancel_job n) = ⊤
+IsCall (get_job_attributes n) = ⊤
+
+-- an event whose numbers, lengths and texts are within the limits
+abbrev pub IsEvent : Event → Type 0
+IsEvent (ask caller call) = IsOwner caller × IsCall call
+
+-- pages of an account that a sum over jobs can't take past 64 bits
+abbrev pub IsAmount : ℤ → Type 0
+IsAmount z = (neg_ℤ (pos (2 ^ 60)) ≤ℤ z) × (z ≤ℤ pos (2 ^ 60))
+
+-- a scene as each sound world gives it
+pub record IsFair (s : Scene) : Type 0 where
+  pub settings : AreSettings s.settings
+  pub jobs : All IsSoundJob s.jobs
+  pub few : length s.jobs < 2 ^ 31
+  pub free : All (λ a. IsAmount a.free) s.free
+  pub next : 1 ≤ s.next
+
+-- the jobs that a reply shows are within their limits
+abbrev pub IsSoundReply : Reply → Type 0
+IsSoundReply (Refused code) = ⊤
+IsSoundReply Done = ⊤
+IsSoundReply (Jobs js) = All IsSoundJob js

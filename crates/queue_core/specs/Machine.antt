@@ -1,0 +1,126 @@
+-- The machine: what each event is answered, and what becomes of the rows. One definition for each row of its table.
+use Rattle.std.specs.Prelude.{ℕ, ℤ, pos, ◌+ℤ◌, ◌-ℤ◌, ◌+◌, fold, List, [], ◌∷◌, Option, Some, None, map, ◌==◌, bytes_eq, Bool, true, false, if◌then◌else◌, nat_le, nat_lt, unwrap_or, length}
+use Rattle.std.specs.Option.{option_map_or}
+use Rattle.queue_core.specs.Job.{owed}
+use Rattle.queue_core.specs.Event.{NewJob, NewDocument, Change, Decision, Event, Call, ask, print_job, cancel_job, get_job_attributes}
+use Rattle.queue_core.specs.World.{World, cut, made_on, job_at}
+use Rattle.queue_core.specs.declared.job.Job.{Job}
+use Rattle.queue_core.specs.declared.document.Format.{Format}
+use Rattle.queue_core.specs.declared.job.Why.TheVariants.{ByUser}
+use Rattle.queue_core.specs.declared.job.Phase.{Phase}
+use Rattle.queue_core.specs.declared.job.Phase.TheVariants.{Waiting, Running, Stopped, Canceled, Aborted, Completed}
+use Rattle.queue_core.specs.declared.event.FreeRow.{FreeRow}
+use Rattle.queue_core.specs.declared.event.Reply.{Reply}
+use Rattle.queue_core.specs.declared.event.Reply.TheVariants.{Refused, Done, Jobs}
+use Rattle.queue_core.specs.declared.event.Scene.{Scene}
+
+abbrev pub no_change : Change
+no_change = record { jobs = []; document = None; free = []; next = None }
+
+abbrev pub answered : Reply → Decision
+answered r = record { reply = r; change = no_change }
+
+abbrev pub refused : ℕ → Decision
+refused code = answered (Refused code)
+
+-- ---- the balance: no row of the table speaks of free pages, but by this rule
+
+-- the pages that a job has taken from free: those that are set aside and those that are printed
+abbrev pub taken : Job → ℕ
+taken j = owed j + j.count
+
+-- what comes back to the account as the job of that number becomes this: what it had taken, less what it has taken now
+abbrev pub given_back : List Job → List ℕ → Job → ℤ
+given_back before account j = if bytes_eq j.owner account then pos (option_map_or taken (job_at j.number before) 0) -ℤ pos (taken j) else pos 0
+
+-- the sum of it over the jobs that change
+abbrev pub returned : List Job → List ℕ → List Job → ℤ
+returned before account js = fold (λ sum j. sum +ℤ given_back before account j) (pos 0) js
+
+abbrev pub credited : List Job → List Job → FreeRow → FreeRow
+credited before js a = record a { free = a.free +ℤ returned before a.account js }
+
+-- these jobs change, and free by the balance
+abbrev pub changed : Scene → List Job → Change
+changed s js = record no_change { jobs = js; free = map (credited s.jobs js) s.free }
+
+abbrev pub becomes : Scene → Job → Decision
+becomes s j = record { reply = Done; change = changed s (j ∷ []) }
+
+-- ---- Print-Job (RFC 8011, section 4.2.1)
+
+-- a new job, on hold
+abbrev pub new_job : Scene → ℕ → List ℕ → NewJob → List ℕ → Job
+new_job s now caller j payload = record {
+  number = s.next;
+  owner = caller;
+  name = j.name;
+  copies = j.copies;
+  impressions = unwrap_or j.impressions s.settings.estimate;
+  hold = true;
+  incoming = false;
+  phase = Waiting;
+  stopping = false;
+  count = 0;
+  created = now;
+  begun = None;
+  ended = None;
+  documents = if length payload == 0 then 0 else 1;
+  octets = length payload;
+}
+
+-- the payload is the job's first document, where it is not empty
+abbrev pub first_document : ℕ → Format → List ℕ → Option NewDocument
+first_document n format [] = None
+first_document n format (b ∷ bytes) = Some (record { job = n; format = format; bytes = b ∷ bytes })
+
+-- the job enters under the next number, with its document
+abbrev pub entered : Scene → Job → Option NewDocument → Decision
+entered s j document = record {
+  reply = Jobs (j ∷ []);
+  change = record (changed s (j ∷ [])) { document = document; next = Some (s.next + 1) };
+}
+
+-- a caller has at most 100 live jobs, and numbers end at 2,147,483,647
+abbrev pub print_job_row : Scene → ℕ → List ℕ → NewJob → Format → List ℕ → Decision
+print_job_row s now caller j format payload =
+    if nat_le 100 s.live then refused 0x0404
+    else (if nat_lt 2147483647 s.next then refused 0x0506
+    else entered s (new_job s now caller j payload) (first_document s.next format payload))
+
+-- ---- Cancel-Job (RFC 8011, section 4.3.3)
+
+-- the device has the job: it is asked to stop, once
+abbrev pub stop_asked : Scene → Job → Decision
+stop_asked s j = if j.stopping then refused 0x0404 else becomes s (record j { stopping = true })
+
+abbrev pub cancel_in : Phase → Scene → ℕ → Job → Decision
+cancel_in Waiting s now j = becomes s (record j { phase = Canceled ByUser; hold = false; incoming = false; ended = Some now })
+cancel_in Running s now j = stop_asked s j
+cancel_in Stopped s now j = stop_asked s j
+cancel_in (Canceled why) s now j = refused 0x0404
+cancel_in Aborted s now j = refused 0x0404
+cancel_in Completed s now j = refused 0x0404
+
+-- ---- the table
+
+-- the caller's own job; another's and none are one answer
+abbrev pub of_own : List ℕ → (Job → Decision) → List Job → Decision
+of_own caller row [] = refused 0x0406
+of_own caller row (j ∷ js) = if bytes_eq j.owner caller then row j else refused 0x0406
+
+abbrev pub call_row : Scene → ℕ → List ℕ → Call → Decision
+call_row s now caller (print_job j format payload) = print_job_row s now caller j format payload
+call_row s now caller (cancel_job n) = of_own caller (λ j. cancel_in j.phase s now j) s.jobs
+call_row s now caller (get_job_attributes n) = of_own caller (λ j. answered (Jobs (j ∷ []))) s.jobs
+
+abbrev pub decision : Scene → ℕ → Event → Decision
+decision s now (ask caller call) = call_row s now caller call
+
+pub record Step : Type 0 where
+  pub world : World
+  pub reply : Reply
+
+-- one event: its answer, and the world after it
+abbrev pub step : World → ℕ → Event → Step
+step w now e = record { world = made_on (decision (cut w e) now e).change w; reply = (decision (cut w e) now e).reply }

@@ -1,0 +1,97 @@
+-- When a world is sound: its limits, and the account equation.
+use Rattle.std.specs.Prelude.{◌≡◌, ℕ, ℤ, pos, ◌+ℤ◌, ◌+◌, ◌^◌, ◌≤◌, List, [], ◌∷◌, None, sum_by, IsSome, IsSomeAnd, is_some, ◌↔◌, IfSome, length, bytes_eq, ◌==◌, ◌&&◌, ◌||◌, ◌⊎◌, Bool, IsTrue, if◌then◌else◌, nat_le}
+use Rattle.std.specs.List.{list_all, AllByRecursion as Each}
+use Rattle.std.specs.FinMap.{entries, get}
+use Rattle.queue_core.specs.Settings.{AreSettings}
+use Rattle.queue_core.specs.Job.{owed}
+use Rattle.queue_core.specs.World.{World, Entry, rows, live_jobs, job_at}
+use Rattle.queue_core.specs.Limits.{IsPositive, IsOwner, IsSoundJob}
+use Rattle.queue_core.specs.declared.job.Job.{Job}
+use Rattle.queue_core.specs.declared.document.Document.{Document}
+use Rattle.queue_core.specs.declared.event.KeptReport.{KeptReport}
+
+-- ---- jobs with their documents
+
+abbrev pub IsSoundDocument : Document → Type 0
+IsSoundDocument d = (1 ≤ length d.bytes) × (length d.bytes ≤ 16777216)
+
+-- the row tells of the documents
+pub record IsSoundEntry (e : Entry) : Type 0 where
+  pub row : IsSoundJob e.row
+  pub documents : e.row.documents ≡ length e.documents
+  pub octets : e.row.octets ≡ sum_by (λ d. length d.bytes) e.documents
+  pub sizes : Each IsSoundDocument e.documents
+
+-- the numbers rise, from the first on, and stay below the next
+abbrev pub Rise : ℕ → List Entry → ℕ → Type 0
+Rise first [] next = first ≤ next
+Rise first (e ∷ es) next = (first ≤ e.row.number) × Rise (e.row.number + 1) es next
+
+-- ---- the account equation, over the rows as they now are
+
+abbrev pub granted : List ℕ → World → ℕ
+granted a w = sum_by (λ g. if bytes_eq g.0.1 a then g.1 else 0) (entries w.grants)
+
+abbrev pub reserved : List ℕ → World → ℕ
+reserved a w = sum_by (λ j. if bytes_eq j.owner a then owed j else 0) (rows w)
+
+abbrev pub printed : List ℕ → World → ℕ
+printed a w = sum_by (λ j. if bytes_eq j.owner a then j.count else 0) (rows w)
+
+-- in each account, pages granted are those that are free, reserved and printed
+abbrev pub Balances : World → Type 0
+Balances w = (a : List ℕ) → IfSome (get w.free a) (λ free. pos (granted a w) ≡ free +ℤ pos (reserved a w + printed a w))
+
+-- ---- grants and reports
+
+-- a letter, a digit, '-', '.' or '_' of ASCII
+abbrev pub is_batch_byte : ℕ → Bool
+is_batch_byte b = (nat_le 48 b && nat_le b 57) || (nat_le 65 b && nat_le b 90) || (nat_le 97 b && nat_le b 122) || b == 45 || b == 46 || b == 95
+
+-- a batch's name: 1 to 40 of them
+pub record IsBatch (t : List ℕ) : Type 0 where
+  pub some : 1 ≤ length t
+  pub fits : length t ≤ 40
+  pub letters : IsTrue (list_all is_batch_byte t)
+
+-- a grant's batch, account and pages
+abbrev pub IsGrant : List ℕ → List ℕ → ℕ → Type 0
+IsGrant batch account pages = IsBatch batch × IsOwner account × (1 ≤ pages) × (pages ≤ 1000000)
+
+-- a kept report of that job and sequence number
+pub record IsKept (w : World) (n m : ℕ) (k : KeptReport) : Type 0 where
+  pub job : k.report.job ≡ n
+  pub seq : k.report.seq ≡ m
+  pub there : IsSome (job_at n (rows w))
+  pub positive : IsPositive m
+  pub count : k.report.count ≤ 100000000
+  pub state : (3 ≤ k.state) × (k.state ≤ 9)
+  pub total : k.total ≤ 100000000
+
+-- the greatest count that was reported of a job, 0 without a report
+abbrev pub IsGreatestCount : World → Job → Type 0
+IsGreatestCount w j =
+    ((seq : ℕ) → IfSome (get w.reports (j.number, seq)) (λ k. k.report.count ≤ j.count))
+    × ((j.count ≡ 0) ⊎ ((seq : ℕ) × IsSomeAnd (get w.reports (j.number, seq)) (λ k. k.report.count ≡ j.count)))
+
+-- it never began, has no count, and is on hold or ended
+abbrev pub IsIdle : Job → Type 0
+IsIdle j = (j.begun ≡ None) × (j.count ≡ 0) × IsTrue (j.hold || is_some j.ended)
+
+-- ---- the whole
+
+pub record IsSound (w : World) : Type 0 where
+  pub settings : AreSettings w.settings
+  pub numbers : Rise 1 w.jobs w.next
+  pub next : w.next ≤ 2 ^ 31
+  pub entries : Each IsSoundEntry w.jobs
+  pub live : (caller : List ℕ) → live_jobs caller (rows w) ≤ 100
+  pub grants : (batch account : List ℕ) → IfSome (get w.grants (batch, account)) (IsGrant batch account)
+  pub most : (a : List ℕ) → granted a w ≤ 1000000000
+  -- the accounts are those that have a grant
+  pub accounts : (a : List ℕ) → IsSome (get w.free a) ↔ ((batch : List ℕ) × IsSome (get w.grants (batch, a)))
+  pub reports : (job seq : ℕ) → IfSome (get w.reports (job, seq)) (IsKept w job seq)
+  pub counts : Each (λ e. IsGreatestCount w e.row) w.jobs
+  -- without an account nothing prints
+  pub idle : Each (λ e. get w.free e.row.owner ≡ None → IsIdle e.row) w.jobs
+  pub balances : Balances w

@@ -1,0 +1,123 @@
+-- A queue as a whole: its jobs with their documents, accounts, grants and reports; and what a change makes of it.
+use Rattle.std.specs.Prelude.{ℕ, ℤ, List, [], ◌∷◌, ◌++◌, Option, Some, None, map, filter, find, fold, count_by, ◌==◌, ◌&&◌, bytes_eq, Bool, true, false, if◌then◌else◌, unwrap_or}
+use Rattle.std.specs.declared.cmp.Ordering.{Ordering}
+use Rattle.std.specs.Ordering.{nat_cmp, ordering_then}
+use Rattle.std.specs.Cmp.Lexicographic.{slice_cmp}
+use Rattle.std.specs.Coded.{Coded, coded×, coded_list, coded_ℕ, coded_ℤ}
+use Rattle.std.specs.FinMap.{code, FinMap, insert, get}
+use Rattle.queue_core.specs.Settings.{SettingValues}
+use Rattle.queue_core.specs.Job.{is_live}
+use Rattle.queue_core.specs.Event.{NewDocument, Change, Event, Call, ask, print_job, cancel_job, get_job_attributes}
+use Rattle.queue_core.specs.declared.job.Job.{Job}
+use Rattle.queue_core.specs.declared.document.Document.{Document}
+use Rattle.queue_core.specs.declared.event.FreeRow.{FreeRow}
+use Rattle.queue_core.specs.declared.event.KeptReport.{KeptReport}
+use Rattle.queue_core.specs.declared.event.Scene.{Scene}
+
+-- a job with its documents, in the order in which they came
+pub record Entry : Type 0 where
+  pub row : Job
+  pub documents : List Document
+
+abbrev pub text_cmp : List ℕ → List ℕ → Ordering
+text_cmp = slice_cmp nat_cmp
+
+-- by batch, then by account
+abbrev pub grant_cmp : List ℕ × List ℕ → List ℕ × List ℕ → Ordering
+grant_cmp a b = ordering_then (text_cmp a.0 b.0) (text_cmp a.1 b.1)
+
+-- by job, then by sequence number
+abbrev pub report_cmp : ℕ × ℕ → ℕ × ℕ → Ordering
+report_cmp a b = ordering_then (nat_cmp a.0 b.0) (nat_cmp a.1 b.1)
+
+pub record World : Type 0 where
+  pub settings : SettingValues
+  -- by number
+  pub jobs : List Entry
+  -- the number of the next new job
+  pub next : ℕ
+  -- pages by batch and account
+  pub grants : FinMap grant_cmp ℕ
+  -- free pages by account
+  pub free : FinMap text_cmp ℤ
+  -- accepted reports by job and sequence number
+  pub reports : FinMap report_cmp KeptReport
+
+-- the jobs as rows
+abbrev pub rows : World → List Job
+rows w = map (λ e. e.row) w.jobs
+
+-- the job of that number
+abbrev pub job_at : ℕ → List Job → Option Job
+job_at n js = find (λ j. j.number == n) js
+
+-- ---- what a change makes of a world
+
+-- the job of that number is this row, and the other jobs stay; a new number stands last
+abbrev pub with_row : List Entry → Job → List Entry
+with_row [] row = record { row = row; documents = [] } ∷ []
+with_row (e ∷ es) row = if e.row.number == row.number then record e { row = row } ∷ es else e ∷ with_row es row
+
+-- the job of that number has this document after its others
+abbrev pub add_document : NewDocument → Entry → Entry
+add_document d e = if e.row.number == d.job then record e { documents = e.documents ++ record { format = d.format; bytes = d.bytes } ∷ [] } else e
+
+abbrev pub with_document : List Entry → Option NewDocument → List Entry
+with_document es None = es
+with_document es (Some d) = map (add_document d) es
+
+abbrev pub put_free : FinMap text_cmp ℤ → FreeRow → FinMap text_cmp ℤ
+put_free m a = insert m a.account a.free
+
+-- each row of the change is put in turn
+abbrev pub made_on : Change → World → World
+made_on c w = record w {
+  jobs = with_document (fold with_row w.jobs c.jobs) c.document;
+  next = unwrap_or c.next w.next;
+  free = fold put_free w.free c.free;
+}
+
+-- ---- what of a world an event needs
+
+-- the event speaks of the job of that number
+abbrev pub names_job : Event → ℕ → Bool
+names_job (ask caller (print_job j format payload)) n = false
+names_job (ask caller (cancel_job m)) n = n == m
+names_job (ask caller (get_job_attributes m)) n = n == m
+
+abbrev pub caller_of : Event → List ℕ
+caller_of (ask caller call) = caller
+
+-- how many jobs of the caller are in states 3 to 6
+abbrev pub live_jobs : List ℕ → List Job → ℕ
+live_jobs caller js = count_by (λ j. bytes_eq j.owner caller && is_live j) js
+
+-- the jobs that the event speaks of
+abbrev pub jobs_of : Event → World → List Job
+jobs_of e w = filter (λ j. names_job e j.number) (rows w)
+
+-- the account with its free pages, where it is there
+abbrev pub found_row : List ℕ → Option ℤ → List FreeRow
+found_row account None = []
+found_row account (Some free) = record { account = account; free = free } ∷ []
+
+-- the rows that the event needs
+abbrev pub cut : World → Event → Scene
+cut w e = record {
+  settings = w.settings;
+  jobs = jobs_of e w;
+  free = found_row (caller_of e) (get w.free (caller_of e));
+  live = live_jobs (caller_of e) (rows w);
+  next = w.next;
+}
+
+-- ---- codes of the maps, for a type whose content is a world
+
+abbrev pub grants_code : Coded (FinMap grant_cmp ℕ)
+grants_code = code (coded× (coded_list coded_ℕ) (coded_list coded_ℕ)) coded_ℕ
+
+abbrev pub free_code : Coded (FinMap text_cmp ℤ)
+free_code = code (coded_list coded_ℕ) coded_ℤ
+
+abbrev pub reports_code : Coded KeptReport → Coded (FinMap report_cmp KeptReport)
+reports_code kept = code (coded× coded_ℕ coded_ℕ) kept

@@ -1,0 +1,101 @@
+//! The balance of accounts: as jobs change, what they had taken less what they have taken now goes back
+//! to the free pages of their owner.
+ghost use Rattle.std.specs.Prelude.{◌≡◌, ◌≤◌, ◌<◌, ◌^◌, All, IfOk, IfSome, length, map};
+ghost use Rattle.std.specs.Option.{option_copied};
+ghost use Rattle.queue_core.specs.Job.{owed};
+ghost use Rattle.queue_core.specs.Limits.{IsAmount};
+ghost use Rattle.queue_core.specs.Machine.{credited, returned, taken, given_back};
+ghost use Rattle.queue_core.specs.World.{job_at};
+ghost use Rattle.queue_core.specs.Balance.{AreAmounts, IsBelow};
+
+use crate::event::FreeRow;
+use crate::job::{Job, Phase};
+use std::alloc::{AllocError, Global};
+
+/// The pages that are still set aside for a job: none while it is held or once it has ended.
+fn owed_of(j: &Job) -> u32
+    requires { AreAmounts j.now }
+    ensures { result ≡ owed j.now }
+{
+    match j.phase {
+        Phase::Waiting | Phase::Running | Phase::Stopped => {
+            if j.hold {
+                0
+            } else {
+                (j.impressions * j.copies).saturating_sub(j.count)
+            }
+        }
+        Phase::Canceled(_) | Phase::Aborted | Phase::Completed => 0,
+    }
+}
+
+fn taken_of(j: &Job) -> u32
+    requires { AreAmounts j.now }
+    ensures exact { result ≡ taken j.now }
+    ensures bound { result ≤ 2 ^ 28 }
+{
+    owed_of(j) + j.count
+}
+
+fn number_at(jobs: &[Job], number: u32) -> Option<&Job>
+    ensures at { option_copied result ≡ job_at number jobs.now }
+    ensures amounts { All AreAmounts jobs.now → IfSome result (λ j. AreAmounts j.now) }
+{
+    jobs.iter().find(|j| j.number == number)
+}
+
+fn given_back_by(before: &[Job], j: &Job, account: &str) -> i64
+    requires before { All AreAmounts before.now }
+    requires job { AreAmounts j.now }
+    ensures exact { result ≡ given_back before.now account.now j.now }
+    ensures bound { IsBelow (2 ^ 28) result }
+{
+    if j.owner.as_str() != account {
+        return 0;
+    }
+    let was = match number_at(before, j.number) {
+        Some(old) => taken_of(old),
+        None => 0,
+    };
+    i64::from(was) - i64::from(taken_of(j))
+}
+
+/// What comes back to an account as jobs become what they are now.
+fn returned_to(before: &[Job], after: &[Job], account: &str) -> i64
+    requires before { All AreAmounts before.now }
+    requires after { All AreAmounts after.now }
+    requires few { length after.now < 2 ^ 30 }
+    ensures exact { result ≡ returned before.now account.now after.now }
+    ensures bound { IsBelow (2 ^ 58) result }
+{
+    let mut back: i64 = 0;
+    for j in after {
+        back += given_back_by(before, j, account);
+    }
+    back
+}
+
+/// The accounts with what comes back to each.
+pub fn credited_rows(
+    alloc: Global,
+    before: &[Job],
+    after: &[Job],
+    free: &[FreeRow],
+) -> Result<Vec<FreeRow>, AllocError>
+    requires before { All AreAmounts before.now }
+    requires after { All AreAmounts after.now }
+    requires few { length after.now < 2 ^ 30 }
+    requires free { All (λ a. IsAmount a.free) free.now }
+    ensures { IfOk result (λ v. v.items ≡ map (credited before.now after.now) free.now) }
+{
+    let mut rows = Vec::new(alloc);
+    for a in free {
+        let account = a.account.try_clone()?;
+        let back = returned_to(before, after, a.account.as_str());
+        rows.push(FreeRow {
+            account,
+            free: a.free + back,
+        })?;
+    }
+    Ok(rows)
+}

@@ -1,0 +1,85 @@
+//! The plain book, which keeps a queue in lists.
+ghost use Rattle.std.specs.Prelude.{◌≡◌, [], OnOk};
+
+use crate::book::{BookFault, QueueBook};
+use crate::event::{Decision, Event};
+use crate::lists::{Lists, kept_document, reserve, scene, write};
+use crate::machine;
+use crate::settings::Settings;
+use std::alloc::Global;
+use std::marker::Model;
+
+/// A book in memory. Its content is a sound world.
+#[derive(Drop)]
+pub struct ListBook {
+    alloc: Global,
+    lists: Lists,
+}
+
+impl Model for ListBook {
+    ghost use Rattle.queue_core.specs.World.{World, grants_code, free_code, reports_code};
+    ghost use Rattle.queue_core.specs.declared.event.KeptReport.{KeptReport};
+    ghost use Rattle.std.specs.Coded.{Coded, codes};
+
+    ghost Value = { World };
+
+    ghost coded = { Prim.hlevel (codes, grants_code, free_code, reports_code (let kept : Coded KeptReport = Prim.hlevel codes in kept)) };
+
+    ghost use Rattle.queue_core.specs.Lists.{world_of, IsTidy};
+    ghost use Rattle.queue_core.specs.Sound.{IsSound};
+
+    ghost view = { λ b. world_of b.lists };
+
+    ghost invariant = { λ b. IsTidy b.lists.jobs.items b.lists.documents.items × IsSound (world_of b.lists) };
+}
+
+impl ListBook {
+    ghost use Rattle.queue_core.specs.Sound.{IsSound};
+    ghost use Rattle.std.specs.FinMap.{empty};
+
+    /// A book without jobs, grants and reports. The first job gets number 1. It takes no memory.
+    pub fn new(alloc: Global, settings: Settings) -> ListBook
+        ensures world { result ≡ record { settings = settings; jobs = []; next = 1; grants = empty; free = empty; reports = empty } }
+        ensures sound { IsSound result }
+    {
+        let _estimate = settings.estimate();
+        ListBook {
+            alloc,
+            lists: Lists {
+                settings,
+                jobs: Vec::new(alloc),
+                documents: Vec::new(alloc),
+                next: 1,
+                free: Vec::new(alloc),
+                grants: Vec::new(alloc),
+                reports: Vec::new(alloc),
+            },
+        }
+    }
+}
+
+/// A `ListBook` stands for its content, and is always honest. Its one fault is want of memory.
+impl QueueBook for ListBook {
+    ghost use Rattle.std.specs.Prelude.{⊤};
+    ghost use Rattle.queue_core.specs.Sound.{IsSound};
+
+    ghost stands = { λ b w. (b ≡ w) × IsSound w };
+
+    ghost is_honest = { λ b. ⊤ };
+
+    fn decide<'a>(&mut self, now: u32, e: &Event<'a>) -> Result<Decision<'a>, BookFault> {
+        let s = scene(self.alloc, &self.lists, e)?;
+        let d = machine::decide(self.alloc, &s, now, e)?;
+        Ok(d)
+    }
+
+    fn apply(&mut self, d: Decision<'_>) -> Result<(), BookFault> {
+        let Decision { reply: _, change } = d;
+        let document = kept_document(self.alloc, &change.document)?;
+        reserve(&mut self.lists, change.jobs.len(), change.free.len())?;
+        write(&mut self.lists, change, document);
+        Ok(())
+    }
+
+    ghost sound = { λ b w h. h.1 };
+}

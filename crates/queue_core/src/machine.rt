@@ -1,0 +1,279 @@
+//! What the machine decides on the rows that an event needs.
+ghost use Rattle.std.specs.Prelude.{◌≡◌, ◌∷◌, [], ◌<◌, ◌^◌, ◌==◌, if◌then◌else◌, All, IfOk, IfErr, length, option_map};
+ghost use Rattle.queue_core.specs.Balance.{AreAmounts};
+ghost use Rattle.queue_core.specs.Event.{event_of, change_of, decision_of, document_of, new_job_of, call_of};
+ghost use Rattle.queue_core.specs.Limits.{IsMoment, IsEvent, IsCall, IsOwner, IsNewJob, IsSoundJob, IsFair, IsSoundReply};
+ghost use Rattle.queue_core.specs.Machine.{refused, answered, becomes, changed, cancel_in, of_own, decision, first_document, new_job, entered as entered_row, print_job_row, call_row, step};
+ghost use Rattle.queue_core.specs.Runs.{MovesAlong};
+ghost use Rattle.queue_core.specs.Sound.{IsSound, Balances};
+ghost use Rattle.queue_core.specs.World.{World, cut, made_on};
+ghost use Rattle.queue_core.specs.declared.event.Reply.TheVariants.{Jobs};
+
+use crate::balance::credited_rows;
+use crate::document::Format;
+use crate::event::{Call, Change, Decision, Event, FreeList, NewDocument, NewJob, Reply, Scene};
+use crate::job::{Job, JobList, Phase, Why};
+use crate::text::Text;
+use std::alloc::{AllocError, Global};
+
+/// The live jobs that one caller may have.
+const MOST_LIVE_JOBS: usize = 100;
+
+/// The last number that a job may get.
+const LAST_JOB_NUMBER: u32 = 2_147_483_647;
+
+fn answer_only<'a>(alloc: Global, reply: Reply) -> Decision<'a>
+    ensures { decision_of result ≡ answered reply }
+{
+    Decision {
+        reply,
+        change: Change {
+            jobs: JobList::from_jobs(Vec::new(alloc)),
+            document: None,
+            free: FreeList::from_rows(Vec::new(alloc)),
+            next: None,
+        },
+    }
+}
+
+fn refuse<'a>(alloc: Global, code: u16) -> Decision<'a>
+    ensures { decision_of result ≡ refused code }
+{
+    answer_only(alloc, Reply::Refused(code))
+}
+
+/// The job takes the place of the one of its number, or enters, and free pages move by the balance.
+fn change_job<'a>(alloc: Global, s: &Scene, j: Job) -> Result<Change<'a>, AllocError>
+    requires fair { IsFair s.now }
+    requires amounts { AreAmounts j }
+    ensures { IfOk result (λ c. change_of c ≡ changed s.now (j ∷ [])) }
+{
+    let mut jobs = Vec::new(alloc);
+    jobs.push(j)?;
+    let free = credited_rows(alloc, s.jobs.as_slice(), jobs.as_slice(), s.free.as_slice())?;
+    Ok(Change {
+        jobs: JobList::from_jobs(jobs),
+        document: None,
+        free: FreeList::from_rows(free),
+        next: None,
+    })
+}
+
+fn job_becomes<'a>(alloc: Global, s: &Scene, j: Job) -> Result<Decision<'a>, AllocError>
+    requires fair { IsFair s.now }
+    requires amounts { AreAmounts j }
+    ensures { IfOk result (λ d. decision_of d ≡ becomes s.now j) }
+{
+    let change = change_job(alloc, s, j)?;
+    Ok(Decision {
+        reply: Reply::Done,
+        change,
+    })
+}
+
+fn document_count(payload: &[u8]) -> u32
+    ensures { result ≡ (if length payload.now == 0 then 0 else 1) }
+{
+    if payload.is_empty() { 0 } else { 1 }
+}
+
+fn made_job(
+    alloc: Global,
+    s: &Scene,
+    now: u32,
+    caller: &str,
+    j: &NewJob<'_>,
+    payload: &[u8],
+) -> Result<Job, AllocError>
+    ensures { IfOk result (λ k. k ≡ new_job s.now now caller.now (new_job_of j.now) payload.now) }
+{
+    let owner = Text::copy_of(alloc, caller)?;
+    let name = Text::copy_of(alloc, j.name)?;
+    Ok(Job {
+        number: s.next,
+        owner,
+        name,
+        copies: j.copies,
+        impressions: j.impressions.unwrap_or(s.settings.estimate()),
+        hold: true,
+        incoming: false,
+        phase: Phase::Waiting,
+        stopping: false,
+        count: 0,
+        created: now,
+        begun: None,
+        ended: None,
+        documents: document_count(payload),
+        octets: payload.len() as u64,
+    })
+}
+
+fn first_of(number: u32, format: Format, payload: &[u8]) -> Option<NewDocument<'_>>
+    ensures { option_map document_of result ≡ first_document number format payload.entry.now }
+{
+    if payload.is_empty() {
+        return None;
+    }
+    Some(NewDocument {
+        job: number,
+        format,
+        bytes: payload,
+    })
+}
+
+/// The job enters under the scene's next number, with its document.
+fn enter<'a>(
+    alloc: Global,
+    s: &Scene,
+    j: Job,
+    document: Option<NewDocument<'a>>,
+) -> Result<Decision<'a>, AllocError>
+    requires fair { IsFair s.now }
+    requires amounts { AreAmounts j }
+    requires number { s.now.next < 2 ^ 31 }
+    ensures { IfOk result (λ d. decision_of d ≡ entered_row s.now j (option_map document_of document.entry)) }
+{
+    let mut told = Vec::new(alloc);
+    told.push(j.try_clone()?)?;
+    let mut change = change_job(alloc, s, j)?;
+    change.document = document;
+    change.next = Some(s.next + 1);
+    Ok(Decision {
+        reply: Reply::Jobs(JobList::from_jobs(told)),
+        change,
+    })
+}
+
+fn print<'a>(
+    alloc: Global,
+    s: &Scene,
+    now: u32,
+    caller: &str,
+    j: &NewJob<'a>,
+    format: Format,
+    payload: &'a [u8],
+) -> Result<Decision<'a>, AllocError>
+    requires fair { IsFair s.now }
+    requires job { IsNewJob (new_job_of j.now) }
+    ensures { IfOk result (λ d. decision_of d ≡ print_job_row s.now now caller.now (new_job_of j.now) format payload.entry.now) }
+{
+    if s.live >= MOST_LIVE_JOBS {
+        return Ok(refuse(alloc, 0x0404));
+    }
+    if s.next > LAST_JOB_NUMBER {
+        return Ok(refuse(alloc, 0x0506));
+    }
+    let job = made_job(alloc, s, now, caller, j, payload)?;
+    enter(alloc, s, job, first_of(s.next, format, payload))
+}
+
+fn cancel<'a>(alloc: Global, s: &Scene, now: u32, j: &Job) -> Result<Decision<'a>, AllocError>
+    requires fair { IsFair s.now }
+    requires job { IsSoundJob j.now }
+    ensures { IfOk result (λ d. decision_of d ≡ cancel_in j.now.phase s.now now j.now) }
+{
+    match j.phase {
+        Phase::Waiting => {
+            let mut j = j.try_clone()?;
+            j.phase = Phase::Canceled(Why::ByUser);
+            j.hold = false;
+            j.incoming = false;
+            j.ended = Some(now);
+            job_becomes(alloc, s, j)
+        }
+        Phase::Running | Phase::Stopped => {
+            if j.stopping {
+                return Ok(refuse(alloc, 0x0404));
+            }
+            let mut j = j.try_clone()?;
+            j.stopping = true;
+            job_becomes(alloc, s, j)
+        }
+        Phase::Canceled(_) | Phase::Aborted | Phase::Completed => Ok(refuse(alloc, 0x0404)),
+    }
+}
+
+/// The caller's own job, the first of those that the event speaks of, or the code of a refusal: another's
+/// job and no job are one answer.
+fn own<'s>(jobs: &'s [Job], caller: &str) -> Result<&'s Job, u16>
+    requires sound { All IsSoundJob jobs.now }
+    ensures own { IfOk result (λ j. (row : _) → of_own caller.now row jobs.now ≡ row j.now) }
+    ensures none { IfErr result (λ code. (row : _) → of_own caller.now row jobs.now ≡ refused code) }
+    ensures sound { IfOk result (λ j. IsSoundJob j.now) }
+{
+    match jobs {
+        [] => Err(0x0406),
+        [j, ..] => {
+            if j.owner.as_str() == caller {
+                Ok(j)
+            } else {
+                Err(0x0406)
+            }
+        }
+    }
+}
+
+fn show<'a>(alloc: Global, j: &Job) -> Result<Decision<'a>, AllocError>
+    ensures { IfOk result (λ d. decision_of d ≡ answered (Jobs (j.now ∷ []))) }
+{
+    let mut told = Vec::new(alloc);
+    told.push(j.try_clone()?)?;
+    Ok(answer_only(alloc, Reply::Jobs(JobList::from_jobs(told))))
+}
+
+fn answer_call<'a>(
+    alloc: Global,
+    s: &Scene,
+    now: u32,
+    caller: &str,
+    call: &Call<'a>,
+) -> Result<Decision<'a>, AllocError>
+    requires fair { IsFair s.now }
+    requires call { IsCall (call_of call.now) }
+    ensures { IfOk result (λ d. decision_of d ≡ call_row s.now now caller.now (call_of call.now)) }
+{
+    let found = own(s.jobs.as_slice(), caller);
+    match *call {
+        Call::PrintJob {
+            job,
+            format,
+            payload,
+        } => print(alloc, s, now, caller, &job, format, payload),
+        Call::CancelJob { .. } => match found {
+            Err(code) => Ok(refuse(alloc, code)),
+            Ok(j) => cancel(alloc, s, now, j),
+        },
+        Call::GetJobAttributes { .. } => match found {
+            Err(code) => Ok(refuse(alloc, code)),
+            Ok(j) => show(alloc, j),
+        },
+    }
+}
+
+/// What the machine decides at a moment on the rows that the event needs. On the rows that were cut from
+/// a sound world, the reply is the step's and the change makes the step's world, which is sound again:
+/// each job keeps its state or takes an allowed pair, and in every account pages granted are those that
+/// are free, reserved and printed. The one error is want of memory.
+pub fn decide<'a>(
+    alloc: Global,
+    s: &Scene,
+    now: u32,
+    e: &Event<'a>,
+) -> Result<Decision<'a>, AllocError>
+    requires fair { IsFair s.now }
+    requires moment { IsMoment now }
+    requires event { IsEvent (event_of e.now) }
+    ensures decides { IfOk result (λ d. decision_of d ≡ decision s.now now (event_of e.now)) }
+    ensures limits { IfOk result (λ d. IsSoundReply d.reply) }
+
+    // on the scene that was cut from a world
+    ensures reply { IfOk result (λ d. (w : World) → s.now ≡ cut w (event_of e.now) → d.reply ≡ (step w now (event_of e.now)).reply) }
+    ensures world { IfOk result (λ d. (w : World) → s.now ≡ cut w (event_of e.now) → made_on (change_of d.change) w ≡ (step w now (event_of e.now)).world) }
+    ensures sound { IfOk result (λ d. (w : World) → s.now ≡ cut w (event_of e.now) → IsSound w → IsSound (made_on (change_of d.change) w)) }
+    ensures moves { IfOk result (λ d. (w : World) → s.now ≡ cut w (event_of e.now) → IsSound w → MovesAlong w (made_on (change_of d.change) w)) }
+    ensures balances { IfOk result (λ d. (w : World) → s.now ≡ cut w (event_of e.now) → IsSound w → Balances (made_on (change_of d.change) w)) }
+{
+    match *e {
+        Event::Ask { caller, call } => answer_call(alloc, s, now, caller, &call),
+    }
+}
