@@ -16,8 +16,11 @@ use std::io::{Read, Write};
 
 /// The settings of the printer that a replay has.
 const URI: &str = "ipp://localhost/ipp/print";
+
 const NAME: &str = "release";
+
 const ESTIMATE: u32 = 20;
+
 const EPOCH: i64 = 0;
 
 /// The moment before the first line that tells one.

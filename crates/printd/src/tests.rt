@@ -1,3 +1,11 @@
+//! The program as a whole: lines, words and streams. Its modules test requests by their bytes.
+
+mod checks;
+mod job_numbers;
+mod look_and_cancel;
+mod messages;
+mod print_job;
+
 use crate::command::{Command, CommandFault};
 use crate::command_line::command;
 use crate::fault::Fault;

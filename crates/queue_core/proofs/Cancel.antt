@@ -1,9 +1,8 @@
 -- Cancel-Job and Get-Job-Attributes keep a world sound, and its jobs move along the allowed pairs.
-use Rattle.std.proofs.Common.{◌≡◌, ℕ, ℤ, pos, ◌+ℤ◌, ◌-ℤ◌, ◌+◌, ◌≤◌, ◌<◌, List, [], ◌∷◌, ◌++◌, map, refl, ap, sym, ◌∙◌, arith, eq-eqb, subst, Bool, true, false, cond}
-use Rattle.std.specs.Prelude.{Option, Some, None, IsSome, IfSome, is_some, nat_eq, bytes_eq, option_map, filter, fold, ◌^◌}
+use Rattle.std.proofs.Common.{◌≡◌, ℕ, ℤ, pos, ◌+ℤ◌, ◌-ℤ◌, List, [], ◌∷◌, map, refl, ap, sym, ◌∙◌, arith, eq-eqb, subst, Bool, true, false, cond}
+use Rattle.std.specs.Prelude.{Option, Some, None, nat_eq, bytes_eq, option_map, filter, fold}
 use Rattle.std.specs.Option.{option_map_or}
-use Rattle.std.specs.FinMap.{FinMap, get, insert, get-insert}
-use Rattle.std.specs.Ordering.{eq_by_cmp}
+use Rattle.std.specs.FinMap.{FinMap, get, get-insert}
 use Rattle.std.specs.Cmp.Lexicographic.{nat_list_cmp_total}
 use Rattle.std.proofs.lemmas.Bool.Decides.{nat_tests}
 use Rattle.std.proofs.lemmas.Cmp.{nat_list_eq_equiv}
@@ -11,22 +10,18 @@ use Rattle.std.proofs.lemmas.Int.{ints}
 use Rattle.std.proofs.lemmas.Map.Text.{is_eq-slice_cmp}
 use Rattle.std.proofs.lemmas.Slice.Eq.{bytes_eq-Decides}
 use Rattle.std.proofs.Common.{rules}
-use Rattle.queue_core.specs.World.{World, rows, cut, made_on, with_row, text_cmp, put_free, found_row, job_at}
-use Rattle.queue_core.specs.Event.{Event, ask, cancel_job}
-use Rattle.queue_core.specs.Machine.{taken, credited, returned, given_back}
+use Rattle.queue_core.specs.World.{World, rows, cut, made_on, text_cmp, put_free, found_row, job_at}
+use Rattle.queue_core.specs.Event.{ask, cancel_job}
+use Rattle.queue_core.specs.Machine.{taken, credited, returned}
 use Rattle.queue_core.specs.declared.job.Job.{Job}
-use Rattle.queue_core.specs.declared.event.FreeRow.{FreeRow}
-use Rattle.queue_core.specs.Event.{Decision}
 use Rattle.queue_core.specs.Machine.{becomes, refused, answered, cancel_in, stop_asked, of_own}
-use Rattle.queue_core.specs.Job.{is_live}
-use Rattle.queue_core.specs.Limits.{IsSoundJob, IsMoment, FitsPhase}
-use Rattle.queue_core.specs.Sound.{IsSound, IsIdle}
-use Rattle.queue_core.specs.declared.job.Why.TheVariants.{ByUser, AtDevice}
+use Rattle.queue_core.specs.Limits.{IsMoment, FitsPhase}
+use Rattle.queue_core.specs.Sound.{IsSound}
+use Rattle.queue_core.specs.declared.job.Why.TheVariants.{ByUser}
 use Rattle.queue_core.specs.declared.job.Phase.{Phase}
 use Rattle.queue_core.specs.declared.job.Phase.TheVariants.{Waiting, Running, Stopped, Canceled, Aborted, Completed}
 use Rattle.queue_core.specs.declared.event.Scene.{Scene}
 use Rattle.queue_core.specs.declared.event.Reply.TheVariants.{Jobs}
-use Rattle.queue_core.specs.World.{Entry}
 use Rattle.queue_core.proofs.Keep.{at}
 use Rattle.queue_core.specs.Runs.{Follows, MovesAlong, is_pair}
 use Rattle.queue_core.specs.Job.{state_in}

@@ -4,11 +4,11 @@ use Rattle.std.specs.Prelude.{Option, Some, None, IsSome, is_some, nat_eq, sum_b
 use Rattle.std.specs.List.{AllByRecursion as Each}
 use Rattle.std.proofs.lemmas.Bool.Decides.{nat_tests}
 use Rattle.std.proofs.lemmas.List.Sums.{sum_by_push}
-use Rattle.queue_core.specs.World.{World, with_row, with_document, add_document}
+use Rattle.queue_core.specs.World.{World, with_row, add_document}
 use Rattle.queue_core.specs.Event.{NewDocument}
-use Rattle.queue_core.specs.World.{job_at, Entry}
+use Rattle.queue_core.specs.World.{Entry}
 use Rattle.queue_core.specs.Sound.{Rise, IsSound, IsSoundEntry, IsKept, IsGreatestCount, IsIdle, granted, reserved, printed}
-use Rattle.std.specs.Prelude.{IfSome, bytes_eq, ◌&&◌, ◌⊎◌, pos, ℤ, ◌+ℤ◌, ◌^◌}
+use Rattle.std.specs.Prelude.{IfSome, bytes_eq, ◌&&◌, pos, ℤ, ◌+ℤ◌, ◌^◌}
 use Rattle.std.specs.FinMap.{FinMap, get}
 use Rattle.std.proofs.lemmas.Slice.Eq.{bytes_eq-Decides}
 use Rattle.queue_core.specs.Job.{owed, is_live}

@@ -1,5 +1,5 @@
 -- The scene of each sound world is fair.
-use Rattle.std.proofs.Common.{◌≡◌, ℕ, zero, suc, ℤ, pos, ◌+ℤ◌, ◌+◌, ◌-◌, ◌*◌, ◌^◌, ◌≤◌, ◌<◌, List, [], ◌∷◌, length, map, arith, Bool, true, false, cond}
+use Rattle.std.proofs.Common.{◌≡◌, ℕ, zero, suc, ℤ, pos, ◌+ℤ◌, ◌+◌, ◌-◌, ◌*◌, ◌^◌, ◌≤◌, List, [], ◌∷◌, length, map, arith, Bool, true, false, cond}
 use Rattle.std.specs.Prelude.{Option, Some, None, IfSome, bytes_eq, filter, All, sum_by}
 use Rattle.std.specs.List.{AllByRecursion as Each}
 use Rattle.std.specs.FinMap.{get}
@@ -8,7 +8,7 @@ use Rattle.std.proofs.lemmas.List.Sums.{sum_by-cons}
 use Rattle.std.proofs.lemmas.Nat.{mul-le}
 use Rattle.queue_core.specs.Job.{owed, is_live}
 use Rattle.queue_core.specs.Event.{Event}
-use Rattle.queue_core.specs.World.{World, Entry, rows, cut, found_row, names_job, caller_of}
+use Rattle.queue_core.specs.World.{World, Entry, cut, found_row, names_job, caller_of}
 use Rattle.queue_core.specs.Limits.{IsFair, IsSoundJob, IsAmount}
 use Rattle.queue_core.specs.Sound.{IsSound, IsSoundEntry, Rise, granted, reserved, printed}
 use Rattle.queue_core.specs.declared.event.FreeRow.{FreeRow}

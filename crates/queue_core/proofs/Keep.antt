@@ -1,6 +1,6 @@
 -- What stays true of a world as one of its rows changes.
-use Rattle.std.proofs.Common.{◌≡◌, ℕ, ℤ, pos, ◌+ℤ◌, ◌-ℤ◌, ◌+◌, ◌≤◌, ◌<◌, List, [], ◌∷◌, ◌++◌, map, refl, ap, sym, ◌∙◌, arith, subst, rules, Bool, true, false, cond}
-use Rattle.std.specs.Prelude.{Option, Some, None, IsSome, is_some, nat_eq, sum_by, fold}
+use Rattle.std.proofs.Common.{◌≡◌, ℕ, ◌+◌, ◌≤◌, List, [], ◌∷◌, map, refl, ap, arith, subst, Bool, true, false, cond}
+use Rattle.std.specs.Prelude.{Option, Some, IsSome, is_some, nat_eq, sum_by}
 use Rattle.std.specs.List.{AllByRecursion as Each}
 use Rattle.std.proofs.lemmas.Bool.Decides.{nat_tests}
 use Rattle.std.proofs.lemmas.List.Sums.{sum_by-cons}

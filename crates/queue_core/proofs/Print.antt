@@ -1,12 +1,11 @@
 -- Print-Job keeps a world sound: a row enters under the next number, and has taken nothing.
-use Rattle.std.proofs.Common.{◌≡◌, ℕ, suc, ℤ, pos, ◌+ℤ◌, ◌-ℤ◌, ◌+◌, ◌≤◌, ◌<◌, ◌^◌, List, [], ◌∷◌, ◌++◌, length, map, refl, ap, sym, ◌∙◌, arith, subst, eq-eqb, inr, Bool, true, false, cond}
-use Rattle.std.specs.Prelude.{Option, Some, None, IfSome, nat_eq, nat_le, nat_lt, bytes_eq, option_map, filter, fold, unwrap_or}
-use Rattle.std.specs.FinMap.{FinMap, get}
+use Rattle.std.proofs.Common.{◌≡◌, ℕ, suc, pos, ◌+ℤ◌, ◌-ℤ◌, ◌+◌, ◌≤◌, ◌<◌, ◌^◌, List, [], ◌∷◌, ◌++◌, length, map, refl, ap, sym, ◌∙◌, arith, subst, eq-eqb, inr, Bool, true, false, cond}
+use Rattle.std.specs.Prelude.{Option, Some, None, IfSome, nat_eq, nat_le, nat_lt, bytes_eq, option_map, filter, unwrap_or}
+use Rattle.std.specs.FinMap.{get}
 use Rattle.std.proofs.lemmas.Bool.Decides.{nat_tests}
-use Rattle.std.proofs.lemmas.Int.{ints}
 use Rattle.queue_core.specs.Settings.{AreSettings}
 use Rattle.queue_core.specs.Event.{NewJob, NewDocument, ask, print_job}
-use Rattle.queue_core.specs.World.{World, Entry, rows, cut, made_on, with_row, with_document, add_document, text_cmp, live_jobs}
+use Rattle.queue_core.specs.World.{World, Entry, rows, cut, made_on, with_row, with_document, add_document, live_jobs}
 use Rattle.queue_core.specs.Machine.{refused, entered, new_job, first_document, print_job_row, returned}
 use Rattle.queue_core.specs.Limits.{IsMoment, IsOwner, IsNewJob, IsSoundJob}
 use Rattle.queue_core.specs.Sound.{IsSound, IsSoundEntry, Rise}

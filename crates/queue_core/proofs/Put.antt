@@ -1,11 +1,11 @@
 -- Where an item is put, and what the plain book's lists stand for once it is there.
-use Rattle.std.proofs.Common.{◌≡◌, ℕ, ◌<◌, ◌+◌, suc, zero, List, [], ◌∷◌, ◌++◌, length, get_or, map, refl, ap, sym, ◌∙◌, arith, subst, Bool, true, false, cond, rules}
+use Rattle.std.proofs.Common.{◌≡◌, ℕ, ◌<◌, suc, zero, List, [], ◌∷◌, ◌++◌, length, get_or, map, refl, ap, sym, ◌∙◌, arith, subst, Bool, true, false, cond, rules}
 use Rattle.std.specs.Prelude.{slice_set, fold, IsSome, is_some, Option, Some, None, nat_eq, bytes_eq, ℤ}
 use Rattle.std.proofs.lemmas.Cmp.{nat_list_eq_equiv}
 use Rattle.std.proofs.lemmas.Bool.Decides.{nat_tests}
-use Rattle.std.specs.FinMap.{FinMap, empty, insert, get, get-insert, get-empty, same_map, slice_cmp-IsAntisymmetric, nat_cmp-IsAntisymmetric}
-use Rattle.std.specs.Ordering.{eq_by_cmp, nat_cmp}
-use Rattle.std.specs.Cmp.Lexicographic.{slice_cmp, nat_list_cmp_total}
+use Rattle.std.specs.FinMap.{FinMap, get, get-insert, get-empty, same_map, slice_cmp-IsAntisymmetric, nat_cmp-IsAntisymmetric}
+use Rattle.std.specs.Ordering.{eq_by_cmp}
+use Rattle.std.specs.Cmp.Lexicographic.{nat_list_cmp_total}
 use Rattle.std.proofs.lemmas.Map.Text.{is_eq-slice_cmp}
 use Rattle.std.proofs.lemmas.Slice.Eq.{bytes_eq-Decides}
 use Rattle.queue_core.specs.World.{World, Entry, with_row, with_document, add_document, put_free, text_cmp, made_on, cut, found_row, names_job, caller_of, job_at}
@@ -22,7 +22,7 @@ use Rattle.std.specs.Prelude.{nat_le, nat_lt, option_map, IfSome, unwrap_or, fil
 use Rattle.queue_core.specs.Job.{is_live}
 use Rattle.queue_core.specs.declared.event.Scene.{Scene}
 use Rattle.queue_core.specs.declared.lists.Lists.{Lists}
-use Rattle.queue_core.specs.Lists.{put_by, documents_of, entry_of, entries_of, free_map, IsTidy, put_row, put_rows, put_account, put_accounts, kept_of, with_kept, world_of, grants_map, reports_map, HaveSameItems}
+use Rattle.queue_core.specs.Lists.{put_by, documents_of, entry_of, entries_of, free_map, IsTidy, put_row, put_rows, put_accounts, kept_of, with_kept, world_of, grants_map, reports_map, HaveSameItems}
 use Rattle.queue_core.specs.declared.job.Job.{Job}
 use Rattle.queue_core.specs.declared.document.Document.{Document}
 use Rattle.queue_core.specs.declared.document.KeptDocument.{KeptDocument}

@@ -1,11 +1,10 @@
 -- One job changes, with its owner's free pages by the balance: the world stays sound.
-use Rattle.std.proofs.Common.{◌≡◌, ℕ, ℤ, pos, ◌+ℤ◌, ◌-ℤ◌, ◌+◌, ◌≤◌, List, [], ◌∷◌, map, refl, ap, sym, ◌∙◌, arith, subst, Bool, true, false, cond}
-use Rattle.std.specs.Prelude.{Option, Some, None, IsSome, IfSome, IsSomeAnd, is_some, bytes_eq, option_map, sum_by, ◌&&◌, ◌⊎◌}
-use Rattle.std.specs.List.{AllByRecursion as Each}
+use Rattle.std.proofs.Common.{◌≡◌, ℕ, ℤ, pos, ◌+ℤ◌, ◌-ℤ◌, ◌+◌, ◌≤◌, List, map, refl, ap, sym, ◌∙◌, arith, subst, Bool, true, false, cond}
+use Rattle.std.specs.Prelude.{Option, Some, None, IfSome, IsSomeAnd, is_some, bytes_eq, option_map, sum_by, ◌&&◌, ◌⊎◌}
 use Rattle.std.specs.FinMap.{FinMap, get}
 use Rattle.std.proofs.lemmas.Int.{ints}
 use Rattle.queue_core.specs.Job.{owed, is_live}
-use Rattle.queue_core.specs.World.{World, rows, with_row, text_cmp}
+use Rattle.queue_core.specs.World.{World, with_row, text_cmp}
 use Rattle.queue_core.specs.Machine.{taken}
 use Rattle.queue_core.specs.Limits.{IsSoundJob}
 use Rattle.queue_core.specs.Sound.{IsSound, IsSoundEntry, IsKept, IsGreatestCount, IsIdle, granted, reserved, printed}

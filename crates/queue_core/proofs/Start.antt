@@ -1,7 +1,7 @@
 -- A queue without jobs, grants and reports is sound.
-use Rattle.std.proofs.Common.{◌≡◌, ℕ, ℤ, pos, ◌+ℤ◌, ◌+◌, ◌≤◌, List, [], refl, ap, sym, ◌∙◌, arith, subst, Bool, true, false}
-use Rattle.std.specs.Prelude.{Option, Some, None, IsSome, IfSome, is_some, sum_by, bytes_eq, if◌then◌else◌}
-use Rattle.std.specs.FinMap.{FinMap, empty, entries, get, get-empty, from_sorted, empty_of_len, len-entries, entries-from_sorted}
+use Rattle.std.proofs.Common.{◌≡◌, ℕ, pos, ◌+ℤ◌, ◌+◌, ◌≤◌, List, [], ap, sym, ◌∙◌, arith, subst, false}
+use Rattle.std.specs.Prelude.{Option, None, IsSome, IfSome, is_some, sum_by, bytes_eq, if◌then◌else◌}
+use Rattle.std.specs.FinMap.{empty, entries, get-empty, from_sorted, empty_of_len, len-entries, entries-from_sorted}
 use Rattle.std.specs.declared.cmp.Ordering.{Ordering}
 use Rattle.std.proofs.Common.{length}
 use Rattle.queue_core.specs.Settings.{SettingValues, AreSettings}

@@ -1,11 +1,11 @@
 -- What a decision brings: a reply within limits, and on a sound world a sound world.
-use Rattle.std.proofs.Common.{◌≡◌, ℕ, zero, suc, ◌<◌, List, [], ◌∷◌, length, refl, ap, sym, ◌∙◌, arith, subst, Bool, true, false, cond}
+use Rattle.std.proofs.Common.{◌≡◌, ℕ, zero, suc, List, [], ◌∷◌, refl, ap, sym, ◌∙◌, arith, subst, true, false, cond}
 use Rattle.std.specs.Prelude.{All, nat_le, nat_lt, bytes_eq, Result, Ok, Err, IfOk}
 use Rattle.std.proofs.lemmas.Bool.Decides.{nat_tests}
 use Rattle.queue_core.specs.Event.{Event, NewJob, Decision, ask, print_job, cancel_job, get_job_attributes}
 use Rattle.queue_core.specs.World.{World, cut, made_on}
 use Rattle.queue_core.specs.Machine.{decision, refused, becomes, answered, stop_asked, cancel_in, of_own, entered, new_job, first_document, print_job_row}
-use Rattle.queue_core.specs.Limits.{IsMoment, IsEvent, IsOwner, IsNewJob, IsSoundJob, IsFair, IsSoundReply}
+use Rattle.queue_core.specs.Limits.{IsMoment, IsEvent, IsSoundJob, IsFair, IsSoundReply}
 use Rattle.queue_core.specs.Sound.{IsSound}
 use Rattle.queue_core.specs.Book.{IsDecisionOn}
 use Rattle.queue_core.specs.declared.document.Format.{Format}

@@ -1,7 +1,6 @@
 -- The state of a job and its reasons (RFC 8011, sections 5.3.7 and 5.3.8), and the pages that are set aside for it.
-use Rattle.std.specs.Prelude.{ℕ, ◌-◌, ◌*◌, Bool, true, false, ◌||◌, if◌then◌else◌, Option, Some, None, ◌≤◌, ◌+◌, nat_lt, nat_le, ◌&&◌, List, ◌≡◌}
+use Rattle.std.specs.Prelude.{ℕ, ◌-◌, ◌*◌, Bool, true, false, ◌||◌, if◌then◌else◌, Some, None}
 use Rattle.queue_core.specs.declared.job.Job.{Job}
-use Rattle.queue_core.specs.declared.job.Why.{Why}
 use Rattle.queue_core.specs.declared.job.Why.TheVariants.{ByUser, AtDevice}
 use Rattle.queue_core.specs.declared.job.Phase.{Phase}
 use Rattle.queue_core.specs.declared.job.Phase.TheVariants.{Waiting, Running, Stopped, Canceled, Aborted, Completed}

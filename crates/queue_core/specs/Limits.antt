@@ -1,5 +1,5 @@
 -- The limits of rows, events and replies.
-use Rattle.std.specs.Prelude.{◌≡◌, ℕ, ℤ, pos, neg_ℤ, ◌≤ℤ◌, ◌^◌, ◌*◌, ◌≤◌, ◌<◌, List, Option, Some, None, All, ⊤, IsSome, IfSome, length, ◌==◌, ◌&&◌, ◌||◌, Bool, true, false, IsTrue, not, nat_le}
+use Rattle.std.specs.Prelude.{◌≡◌, ℕ, ℤ, pos, neg_ℤ, ◌≤ℤ◌, ◌^◌, ◌*◌, ◌≤◌, ◌<◌, List, None, All, ⊤, IsSome, IfSome, length, ◌==◌, ◌&&◌, Bool, false, IsTrue, not, nat_le}
 use Rattle.std.specs.List.{list_all}
 use Rattle.std.specs.Str.{IsUtf8}
 use Rattle.queue_core.specs.Settings.{AreSettings}

@@ -1,5 +1,5 @@
 -- The machine: what each event is answered, and what becomes of the rows. One definition for each row of its table.
-use Rattle.std.specs.Prelude.{ℕ, ℤ, pos, ◌+ℤ◌, ◌-ℤ◌, ◌+◌, fold, List, [], ◌∷◌, Option, Some, None, map, ◌==◌, bytes_eq, Bool, true, false, if◌then◌else◌, nat_le, nat_lt, unwrap_or, length}
+use Rattle.std.specs.Prelude.{ℕ, ℤ, pos, ◌+ℤ◌, ◌-ℤ◌, ◌+◌, fold, List, [], ◌∷◌, Option, Some, None, map, ◌==◌, bytes_eq, true, false, if◌then◌else◌, nat_le, nat_lt, unwrap_or, length}
 use Rattle.std.specs.Option.{option_map_or}
 use Rattle.queue_core.specs.Job.{owed}
 use Rattle.queue_core.specs.Event.{NewJob, NewDocument, Change, Decision, Event, Call, ask, print_job, cancel_job, get_job_attributes}

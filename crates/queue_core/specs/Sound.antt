@@ -1,5 +1,5 @@
 -- When a world is sound: its limits, and the account equation.
-use Rattle.std.specs.Prelude.{◌≡◌, ℕ, ℤ, pos, ◌+ℤ◌, ◌+◌, ◌^◌, ◌≤◌, List, [], ◌∷◌, None, sum_by, IsSome, IsSomeAnd, is_some, ◌↔◌, IfSome, length, bytes_eq, ◌==◌, ◌&&◌, ◌||◌, ◌⊎◌, Bool, IsTrue, if◌then◌else◌, nat_le}
+use Rattle.std.specs.Prelude.{◌≡◌, ℕ, pos, ◌+ℤ◌, ◌+◌, ◌^◌, ◌≤◌, List, [], ◌∷◌, None, sum_by, IsSome, IsSomeAnd, is_some, ◌↔◌, IfSome, length, bytes_eq, ◌==◌, ◌&&◌, ◌||◌, ◌⊎◌, Bool, IsTrue, if◌then◌else◌, nat_le}
 use Rattle.std.specs.List.{list_all, AllByRecursion as Each}
 use Rattle.std.specs.FinMap.{entries, get}
 use Rattle.queue_core.specs.Settings.{AreSettings}

@@ -1,5 +1,5 @@
 -- A queue as a whole: its jobs with their documents, accounts, grants and reports; and what a change makes of it.
-use Rattle.std.specs.Prelude.{ℕ, ℤ, List, [], ◌∷◌, ◌++◌, Option, Some, None, map, filter, find, fold, count_by, ◌==◌, ◌&&◌, bytes_eq, Bool, true, false, if◌then◌else◌, unwrap_or}
+use Rattle.std.specs.Prelude.{ℕ, ℤ, List, [], ◌∷◌, ◌++◌, Option, Some, None, map, filter, find, fold, count_by, ◌==◌, ◌&&◌, bytes_eq, Bool, false, if◌then◌else◌, unwrap_or}
 use Rattle.std.specs.declared.cmp.Ordering.{Ordering}
 use Rattle.std.specs.Ordering.{nat_cmp, ordering_then}
 use Rattle.std.specs.Cmp.Lexicographic.{slice_cmp}
@@ -7,7 +7,7 @@ use Rattle.std.specs.Coded.{Coded, coded×, coded_list, coded_ℕ, coded_ℤ}
 use Rattle.std.specs.FinMap.{code, FinMap, insert, get}
 use Rattle.queue_core.specs.Settings.{SettingValues}
 use Rattle.queue_core.specs.Job.{is_live}
-use Rattle.queue_core.specs.Event.{NewDocument, Change, Event, Call, ask, print_job, cancel_job, get_job_attributes}
+use Rattle.queue_core.specs.Event.{NewDocument, Change, Event, ask, print_job, cancel_job, get_job_attributes}
 use Rattle.queue_core.specs.declared.job.Job.{Job}
 use Rattle.queue_core.specs.declared.document.Document.{Document}
 use Rattle.queue_core.specs.declared.event.FreeRow.{FreeRow}

@@ -1,6 +1,5 @@
 use Rattle.std.proofs.Common.{arith, ap, sym, ◌∙◌, eq-eqb}
 use Rattle.queue_core.proofs.Put.{put_at, put_none}
-use Rattle.queue_core.proofs.Enter.{with_row_new}
 use Rattle.queue_core.specs.declared.job.Job.{Job}
 use Rattle.queue_core.proofs.lists.place_of.Goals as goal
 

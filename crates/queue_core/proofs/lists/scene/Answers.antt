@@ -1,4 +1,4 @@
-use Rattle.std.proofs.Common.{◌≡◌, ap, ◌∙◌, refl, List, ℕ}
+use Rattle.std.proofs.Common.{ap, ◌∙◌, refl, List, ℕ}
 use Rattle.std.specs.Prelude.{filter, count_by, bytes_eq, ◌&&◌}
 use Rattle.std.specs.FinMap.{get}
 use Rattle.queue_core.specs.Job.{is_live}

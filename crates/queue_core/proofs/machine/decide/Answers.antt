@@ -4,7 +4,6 @@ use Rattle.std.specs.Prelude.{IfOk}
 use Rattle.queue_core.specs.Event.{event_of, decision_of, Decision}
 use Rattle.queue_core.specs.Limits.{IsSoundReply}
 use Rattle.queue_core.specs.Machine.{decision}
-use Rattle.queue_core.specs.declared.event.Reply.{Reply}
 use Rattle.queue_core.proofs.Steps.{reply_within, step_keeps, decided_on, if_ok}
 use Rattle.queue_core.proofs.machine.decide.Goals as goal
 use Rattle.queue_core.proofs.machine.decide.Goals.{After-answer_call}

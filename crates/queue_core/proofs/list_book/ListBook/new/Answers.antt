@@ -1,5 +1,4 @@
-use Rattle.std.proofs.Common.{◌≡◌, [], refl, ap, sym, ◌∙◌, subst}
-use Rattle.queue_core.specs.World.{World}
+use Rattle.std.proofs.Common.{◌≡◌, [], ap, sym, subst}
 use Rattle.queue_core.specs.Sound.{IsSound}
 use Rattle.queue_core.specs.Lists.{world_of, entries_of, documents_of, free_map, grants_map, reports_map}
 use Rattle.queue_core.proofs.Start.{start, start_sound}

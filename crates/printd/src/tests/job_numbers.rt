@@ -1,0 +1,53 @@
+//! The last job number, which no run of a test could reach by printing.
+
+ghost use Rattle.std.specs.Prelude.{◌≤◌};
+
+use queue_core::document::Format;
+use queue_core::event::{Call, Decision, Event, FreeList, NewJob, Reply, Scene};
+use queue_core::job::JobList;
+use queue_core::machine::decide;
+use queue_core::settings::Settings;
+use std::alloc::Global;
+use std::test::Fail;
+
+/// The number that a Print-Job gets where this one is next, or the code that refuses it.
+fn number_given(alloc: Global, next: u32) -> Result<Result<u32, u16>, Fail>
+    requires { 1 ≤ next }
+{
+    let settings = Settings::new(alloc, "ipp://localhost/ipp/print", "release", 20, 0)?;
+    let _within_limits = settings.estimate();
+    let scene = Scene {
+        settings,
+        jobs: JobList::from_jobs(Vec::new(alloc)),
+        free: FreeList::from_rows(Vec::new(alloc)),
+        live: 0,
+        next,
+    };
+    let call = Call::PrintJob {
+        job: NewJob {
+            name: "untitled",
+            copies: 1,
+            impressions: None,
+        },
+        format: Format::OctetStream,
+        payload: b"hi",
+    };
+    let event = Event::Ask {
+        caller: "alice",
+        call,
+    };
+    let Decision { reply, change: _ } = decide(alloc, &scene, 1, &event)?;
+    match reply {
+        Reply::Jobs(jobs) => Ok(Ok(jobs.as_slice().first().ok_or("a job")?.number)),
+        Reply::Refused(code) => Ok(Err(code)),
+        Reply::Done => Ok(Err(0)),
+    }
+}
+
+#[test]
+fn last_job_number_and_the_one_after_it(rt: HostRuntime) -> Result<(), Fail> {
+    let alloc = rt.alloc();
+    assert_eq!(rt; number_given(alloc, 2_147_483_647)?, Ok(2_147_483_647));
+    assert_eq!(rt; number_given(alloc, 2_147_483_648)?, Err(0x0506));
+    Ok(())
+}
