@@ -3,5 +3,9 @@ pub mod Put
 pub mod Rows
 pub mod Bytes
 pub mod Tests
+pub mod Texts
 pub mod Within
 pub mod Numbers
+pub mod Listing
+pub mod Listed
+pub mod Faults

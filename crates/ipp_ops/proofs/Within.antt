@@ -1,117 +1,122 @@
 -- What a request asks is within the machine's limits.
-use Rattle.std.proofs.Common.{◌≡◌, ℕ, ◌≤◌, ◌==◌, List, [], ◌∷◌, Bool, true, false, length, refl, ap, ◌∙◌, arith, lit≤, Result, Ok, Err}
-use Rattle.std.specs.Prelude.{Option, Some, None, not, codes, unwrap_or, nat_lt, if◌then◌else◌}
-use Rattle.std.specs.List.{list_any, list_all}
-use Rattle.std.specs.Option.{option_map_or, option_and_then}
-use Rattle.std.specs.Str.{is_utf8}
-use Rattle.std.specs.Str.{IsAscii, IsUtf8}
-use Rattle.std.proofs.lemmas.Str.{IsUtf8-from_is_utf8, IsUtf8-from_ascii}
-use Rattle.std.proofs.lemmas.Str.Ascii.{IsAscii-nil, IsAscii-cons}
-use borrow.Author.Tests.{ltb-true, ltb-false}
+use Rattle.std.proofs.Common.{◌≡◌, ℕ, ◌≤◌, List, [], ◌∷◌, Bool, true, false, ◌&&◌, length, refl, ap, ◌∙◌, lit≤, Result, Ok, Err}
+use Rattle.std.specs.Prelude.{Option, Some, None, codes, unwrap_or, nat_le, IfSome, not, if◌then◌else◌}
+use Rattle.std.specs.Option.{option_map_or}
+use borrow.Author.Tests.{leb-true}
 use Rattle.ipp_wire.specs.Message.{Value, Attribute, Message}
-use Rattle.queue_core.specs.Limits.{IsOwner, IsNewJob, IsCall, is_no_control}
+use Rattle.queue_core.specs.Event.{Call}
+use Rattle.ipp_ops.specs.declared.job_reply.JobAttribute.{JobAttribute}
+use Rattle.queue_core.specs.Limits.{IsOwner, IsJobName, IsNewJob, IsCall}
 use Rattle.ipp_ops.specs.declared.operation.Operation.{Operation}
 use Rattle.ipp_ops.specs.declared.operation.Operation.TheVariants.{PrintJob, CancelJob, GetJobAttributes}
-use Rattle.ipp_ops.specs.declared.attribute.OperationAttribute.TheVariants.{RequestingUserName}
-use Rattle.ipp_ops.specs.declared.attribute.Shape.TheVariants.{Name}
+use Rattle.ipp_ops.specs.declared.attribute.OperationAttribute.TheVariants as key
+use Rattle.ipp_ops.specs.declared.template.TemplateAttribute.TheVariants as template
 use Rattle.ipp_ops.specs.declared.check.Check.{Check}
-use Rattle.ipp_ops.specs.Attributes.{row, table}
-use Rattle.ipp_ops.specs.Values.{text_of, has_shape, is_control, are_formed, are_long, is_shaped, is_long, passes}
-use Rattle.ipp_ops.specs.Request.{operation_attributes, named, first_value, filled, caller}
+use Rattle.ipp_ops.specs.declared.check.Check.TheVariants as check
+use Rattle.ipp_ops.specs.Attributes.{row, table, template_row, between}
+use Rattle.ipp_ops.specs.Values.{are_formed, are_long, is_within, number_of}
+use Rattle.ipp_ops.specs.Request.{operation_attributes, job_attributes, known, named, has, text_in, caller}
+use Rattle.ipp_ops.specs.Unsupported.{Unsupported, unsupported}
 use Rattle.ipp_ops.specs.Checks.{applies, checks, refusal, fails, some_fails, asked_in}
-use Rattle.ipp_ops.specs.Asked.{new_job, call_in, wanted, asked, outcome_of, asked_by, asks, IsWithinLimits}
-use Rattle.ipp_ops.proofs.Tests.{and_true, or_false, not_false, not_true, list_any_false, find_none}
+use Rattle.ipp_ops.specs.NewJob.{supported_number, template_number, job_name, new_job}
+use Rattle.ipp_ops.specs.Asked.{call_in, wanted, asked, refused_by, outcome_of, asked_by, asks, IsWithinLimits}
+use Rattle.ipp_ops.proofs.Tests.{and_true, list_any_false, find_none}
+use Rattle.ipp_ops.proofs.Texts.{anonymous_owns, untitled_names, owns, names, of_attribute}
 
--- ---- the caller
+-- ---- names
 
-ascii : (bs : List ℕ) → list_all (λ b. nat_lt b 128) bs ≡ true → IsAscii bs
-ascii [] h = IsAscii-nil
-ascii (b ∷ bs) h = let e = and_true (nat_lt b 128) (list_all (λ c. nat_lt c 128) bs) h in IsAscii-cons b bs (ltb-true _ _ e.0) (ascii bs e.1)
+-- the checks of form and length find nothing
+pub record ArePassed (o : Operation) (attrs : List Attribute) : Type 0 where
+  pub form : some_fails (λ r vs. not (are_formed r vs)) o attrs ≡ false
+  pub length : some_fails are_long o attrs ≡ false
 
-ascii_text : (bs : List ℕ) → list_all (λ b. nat_lt b 128) bs ≡ true → IsUtf8 bs
-ascii_text bs h = IsUtf8-from_ascii bs (ascii bs h)
+passed : (o : Operation) (m : Message) (u : Unsupported) → refusal o m u ≡ None → ArePassed o (operation_attributes m)
+passed o m u h = let checked = find_none (λ c. applies c o m u) checks h in record { form = checked.1.1.0; length = checked.1.1.1.0 }
 
-anonymous_owns : IsOwner (codes "anonymous")
-anonymous_owns = record { some = lit≤ tt; fits = lit≤ tt; utf8 = ascii_text (codes "anonymous") refl; printable = refl }
+caller_owns : (o : Operation) (attrs : List Attribute) → ArePassed o attrs → IsOwner (caller o attrs)
+caller_owns o attrs p =
+    of_attribute (λ t. IsOwner t) (row key.RequestingUserName) (codes "anonymous") anonymous_owns owns (known o key.RequestingUserName attrs)
+    (list_any_false (fails (λ r vs. not (are_formed r vs)) o attrs) table p.form).1.1.1.1.1.0
+    (list_any_false (fails are_long o attrs) table p.length).1.1.1.1.1.0
 
-no_control : (b : ℕ) → is_control b ≡ false → is_no_control b ≡ true
-no_control b h = let e = or_false (nat_lt b 32) (b == 127) h in grind arith
+document_names : (o : Operation) (attrs : List Attribute) → ArePassed o attrs → IsJobName (unwrap_or (text_in o key.DocumentName attrs) (codes "untitled"))
+document_names o attrs p =
+    of_attribute (λ t. IsJobName t) (row key.DocumentName) (codes "untitled") untitled_names names (known o key.DocumentName attrs)
+    (list_any_false (fails (λ r vs. not (are_formed r vs)) o attrs) table p.form).1.1.1.1.1.1.1.0
+    (list_any_false (fails are_long o attrs) table p.length).1.1.1.1.1.1.1.0
 
-no_controls : (t : List ℕ) → list_any is_control t ≡ false → list_all is_no_control t ≡ true
-no_controls [] h = refl
-no_controls (b ∷ bs) h = let e = or_false (is_control b) (list_any is_control bs) h in rw (no_control b e.0) (no_controls bs e.1)
+job_names : (o : Operation) (attrs : List Attribute) → ArePassed o attrs → IsJobName (job_name o attrs)
+job_names o attrs p =
+    of_attribute (λ t. IsJobName t) (row key.JobName) _ (document_names o attrs p) names (known o key.JobName attrs)
+    (list_any_false (fails (λ r vs. not (are_formed r vs)) o attrs) table p.form).1.1.1.1.1.1.0
+    (list_any_false (fails are_long o attrs) table p.length).1.1.1.1.1.1.0
 
-owner_if : (u : Bool) (t : List ℕ) → u ≡ true → IsOwner t → IsOwner (unwrap_or (if u then Some t else None) (codes "anonymous"))
-owner_if true t e h = h
-owner_if false t e h = absurd (cc)
+-- ---- numbers
 
-owner_of_text : (t : List ℕ) → has_shape Name t ≡ true → passes (Some 255) t ≡ false → IsOwner (unwrap_or (filled t) (codes "anonymous"))
-owner_of_text [] shaped short = anonymous_owns
-owner_of_text (b ∷ bs) shaped short =
-    let e = and_true (is_utf8 (b ∷ bs)) (not (list_any is_control (b ∷ bs))) shaped in
-    let clean = not_true (list_any is_control (b ∷ bs)) e.1 in
-    owner_if (is_utf8 (b ∷ bs)) (b ∷ bs) e.0 (record {
-      some = omega arith;
-      fits = ltb-false _ _ short;
-      utf8 = IsUtf8-from_is_utf8 (b ∷ bs) e.0;
-      printable = no_controls (b ∷ bs) clean;
-    })
+if_within : (b : Bool) (low high n : ℕ) → is_within low high n ≡ b → IfSome (if b then Some n else None) (λ k. (low ≤ k) × (k ≤ high))
+if_within true low high n e = let w = and_true (nat_le low n) (nat_le n high) e in (leb-true _ _ w.0, leb-true _ _ w.1)
+if_within false low high n e = tt
 
-owner_of_value : (t : Option (List ℕ)) → option_map_or (has_shape Name) t false ≡ true → option_map_or (passes (Some 255)) t false ≡ false → IsOwner (unwrap_or (option_and_then filled t) (codes "anonymous"))
-owner_of_value None shaped short = anonymous_owns
-owner_of_value (Some t) shaped short = owner_of_text t shaped short
+number_within : (tagged : Bool) (low high : ℕ) (n : Option ℕ) → IfSome (if tagged && option_map_or (is_within low high) n false then n else None) (λ k. (low ≤ k) × (k ≤ high))
+number_within false low high n = tt
+number_within true low high None = tt
+number_within true low high (Some n) = if_within (is_within low high n) low high n refl
 
-owner_of_values : (vs : List Value) → not (are_formed (row RequestingUserName) vs) ≡ false → are_long (row RequestingUserName) vs ≡ false
-    → IsOwner (unwrap_or (option_and_then (λ v. option_and_then filled (text_of v)) (first_value vs)) (codes "anonymous"))
-owner_of_values [] formed short = anonymous_owns
-owner_of_values (v ∷ vs) formed short =
-    let r = row RequestingUserName in
-    let f = and_true (length (v ∷ vs) == 1) (list_all (is_shaped r) (v ∷ vs)) (not_false (are_formed r (v ∷ vs)) formed) in
-    let s = and_true (is_shaped r v) (list_all (is_shaped r) vs) f.1 in
-    let t = and_true (list_any (λ tag. tag == v.tag) r.tags) (option_map_or (has_shape Name) (text_of v) false) s.0 in
-    let l = or_false (is_long r v) (list_any (is_long r) vs) short in
-    owner_of_value (text_of v) t.1 l.0
+values_within : (low high : ℕ) (name : List ℕ) (vs : List Value) → IfSome (supported_number (between low high) (Some (record { name = name; values = vs }))) (λ k. (low ≤ k) × (k ≤ high))
+values_within low high name [] = tt
+values_within low high name (v ∷ []) = number_within _ low high (number_of v.bytes)
+values_within low high name (v ∷ w ∷ vs) = tt
 
-owner_of_attribute : (a : Option Attribute) → option_map_or (λ a. not (are_formed (row RequestingUserName) a.values)) a false ≡ false → option_map_or (λ a. are_long (row RequestingUserName) a.values) a false ≡ false
-    → IsOwner (unwrap_or (option_and_then (λ v. option_and_then filled (text_of v)) (option_and_then (λ a. first_value a.values) a)) (codes "anonymous"))
-owner_of_attribute None formed short = anonymous_owns
-owner_of_attribute (Some a) formed short = owner_of_values a.values formed short
+pub supported_within : (low high : ℕ) (a : Option Attribute) → IfSome (supported_number (between low high) a) (λ k. (low ≤ k) × (k ≤ high))
+supported_within low high None = tt
+supported_within low high (Some a) = values_within low high a.name a.values
 
--- every operation knows the caller's attribute
-passed : (test : _) (o : Operation) (attrs : List Attribute) → some_fails test o attrs ≡ false → option_map_or (λ a. test (row RequestingUserName) a.values) (named (row RequestingUserName).name attrs) false ≡ false
-passed test PrintJob attrs h = (list_any_false (fails test PrintJob attrs) table h).1.1.1.0
-passed test CancelJob attrs h = (list_any_false (fails test CancelJob attrs) table h).1.1.1.0
-passed test GetJobAttributes attrs h = (list_any_false (fails test GetJobAttributes attrs) table h).1.1.1.0
+or_one : (n : Option ℕ) → IfSome n (λ k. (1 ≤ k) × (k ≤ 999)) → (1 ≤ unwrap_or n 1) × (unwrap_or n 1 ≤ 999)
+or_one None h = (lit≤ tt, lit≤ tt)
+or_one (Some n) h = h
 
--- the checks of form and length make the caller an owner
-caller_owns : (o : Operation) (m : Message) → refusal o m ≡ None → IsOwner (caller (operation_attributes m))
-caller_owns o m h =
-    let checked = find_none (λ c. applies c o m) checks h in
-    let attrs = operation_attributes m in
-    let long = or_false (some_fails are_long o attrs) _ checked.1.1.1.0 in
-    owner_of_attribute (named (row RequestingUserName).name attrs) (passed (λ r vs. not (are_formed r vs)) o attrs checked.1.1.0) (passed are_long o attrs long.0)
+at_most : (high : ℕ) (n : Option ℕ) → IfSome n (λ k. (0 ≤ k) × (k ≤ high)) → IfSome n (λ k. k ≤ high)
+at_most high None h = tt
+at_most high (Some n) h = h.1
+
+either : (b : Bool) (x y : Option ℕ) → IfSome x (λ n. n ≤ 100000) → IfSome y (λ n. n ≤ 100000) → IfSome (if b then x else y) (λ n. n ≤ 100000)
+either true x y p q = p
+either false x y p q = q
 
 -- ---- the call
 
-new_job_fits : IsNewJob new_job
-new_job_fits = record {
-  name = record { some = lit≤ tt; fits = lit≤ tt; utf8 = ascii_text (codes "untitled") refl; no_zero = refl };
-  copies = (lit≤ tt, lit≤ tt);
-  impressions = tt;
+new_job_fits : (o : Operation) (m : Message) → ArePassed o (operation_attributes m) → IsNewJob (new_job o m)
+new_job_fits o m p = record {
+  name = job_names o (operation_attributes m) p;
+  copies = or_one (template_number template.Copies m) (supported_within 1 999 (named (template_row template.Copies).name (job_attributes m)));
+  impressions = either (has o (operation_attributes m) key.JobImpressions) _ _
+      (at_most 100000 _ (supported_within 0 100000 (known o key.JobImpressions (operation_attributes m))))
+      (at_most 100000 _ (supported_within 0 100000 (named (template_row template.JobImpressions).name (job_attributes m))));
 }
 
-call_fits : (o : Operation) (m : Message) → length m.payload ≤ 16777216 → IsCall (call_in o m)
-call_fits PrintJob m h = (new_job_fits, h)
-call_fits CancelJob m h = tt
-call_fits GetJobAttributes m h = tt
+call_fits : (o : Operation) (m : Message) → ArePassed o (operation_attributes m) → length m.payload ≤ 16777216 → IsCall (call_in o m)
+call_fits PrintJob m p h = (new_job_fits PrintJob m p, h)
+call_fits CancelJob m p h = tt
+call_fits GetJobAttributes m p h = tt
 
-outcome_fits : (o : Operation) (m : Message) (r : Option Check) → refusal o m ≡ r → length m.payload ≤ 16777216 → IsWithinLimits (outcome_of o m r)
-outcome_fits o m (Some c) e h = tt
-outcome_fits o m None e h = (caller_owns o m e, call_fits o m h)
+refused_fits : (c : Check) (u : Unsupported) → IsWithinLimits (refused_by c u)
+refused_fits check.Order u = tt
+refused_fits check.Charset u = tt
+refused_fits check.Form u = tt
+refused_fits check.Length u = tt
+refused_fits check.Needed u = tt
+refused_fits check.Target u = tt
+refused_fits check.Compression u = tt
+refused_fits check.Format u = tt
+refused_fits check.Ignored u = tt
+
+outcome_fits : (o : Operation) (m : Message) (u : Unsupported) (r : Option Check) → refusal o m u ≡ r → length m.payload ≤ 16777216 → IsWithinLimits (outcome_of o m u r)
+outcome_fits o m u (Some c) e h = refused_fits c u
+outcome_fits o m u None e h = let p = passed o m u e in (caller_owns o (operation_attributes m) p, call_fits o m p h)
 
 asked_fits : (a : Result Operation ℕ) (m : Message) → length m.payload ≤ 16777216 → IsWithinLimits (asked_by a m)
 asked_fits (Err code) m h = tt
-asked_fits (Ok o) m h = outcome_fits o m (refusal o m) refl h
+asked_fits (Ok o) m h = outcome_fits o m (unsupported o m) (refusal o m (unsupported o m)) refl h
 
 -- a request with such a payload asks nothing but events within the limits
 pub asks_fits : (m : Message) → length m.payload ≤ 16777216 → IsWithinLimits (asks m)
@@ -119,6 +124,14 @@ asks_fits m h = asked_fits _ m h
 
 -- ---- the steps of `ask`
 
+-- a check refuses
+pub asks_refused : (m : Message) (o : Operation) (u : Unsupported) (c : Check) → asked_in m.head ≡ Ok o → unsupported o m ≡ u → refusal o m u ≡ Some c → asks m ≡ refused_by c u
+asks_refused m o u c e f r = ap (λ a. asked_by a m) e ∙ ap (λ v. outcome_of o m v (refusal o m v)) f ∙ ap (outcome_of o m u) r
+
 -- no check refuses
-pub asks_call : (m : Message) (o : Operation) → asked_in m.head ≡ Ok o → refusal o m ≡ None → asks m ≡ asked (caller (operation_attributes m)) (call_in o m) (wanted o m)
-asks_call m o e r = ap (λ a. asked_by a m) e ∙ ap (outcome_of o m) r
+pub asks_call : (m : Message) (o : Operation) (u : Unsupported) → asked_in m.head ≡ Ok o → unsupported o m ≡ u → refusal o m u ≡ None
+    → asks m ≡ asked (caller o (operation_attributes m)) (call_in o m) (wanted o m) u
+asks_call m o u e f r = ap (λ a. asked_by a m) e ∙ ap (λ v. outcome_of o m v (refusal o m v)) f ∙ ap (outcome_of o m u) r
+
+pub asked_same : (c d : List ℕ) (k l : Call) (r s : List JobAttribute) (u : Unsupported) → c ≡ d → k ≡ l → r ≡ s → asked c k r u ≡ asked d l s u
+asked_same c d k l r s u e f g = cc

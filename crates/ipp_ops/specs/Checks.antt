@@ -1,5 +1,5 @@
 -- The checks of a request in their order, each with when it applies and its status code (RFC 8011, sections 4.1 and 4.2, appendix B).
-use Rattle.std.specs.Prelude.{ℕ, ◌==◌, List, [], ◌∷◌, Option, Result, Err, Bool, false, not, ◌&&◌, ◌||◌, nat_lt, length, codes, bytes_eq, find, if◌then◌else◌, slice_get}
+use Rattle.std.specs.Prelude.{ℕ, ◌==◌, List, [], ◌∷◌, Option, Result, Err, Bool, false, not, ◌&&◌, ◌||◌, length, codes, bytes_eq, find, if◌then◌else◌, is_none, slice_get}
 use Rattle.std.specs.List.{list_any, list_all}
 use Rattle.std.specs.Option.{option_map_or, ok_or}
 use Rattle.std.specs.Result.{result_err}
@@ -8,12 +8,15 @@ use Rattle.ipp_wire.specs.declared.view.Head.{Head}
 use Rattle.ipp_wire.specs.Message.{Value, Attribute, Group, Message}
 use Rattle.ipp_ops.specs.declared.operation.Operation.{Operation}
 use Rattle.ipp_ops.specs.declared.attribute.OperationAttribute.{OperationAttribute}
+use Rattle.ipp_ops.specs.declared.attribute.OperationAttribute.TheVariants as key
 use Rattle.ipp_ops.specs.declared.check.Check.{Check}
-use Rattle.ipp_ops.specs.declared.check.Check.TheVariants.{Order, Charset, Form, Length, Needed, Target}
+use Rattle.ipp_ops.specs.declared.check.Check.TheVariants.{Order, Charset, Form, Length, Needed, Target, Compression, Format, Ignored}
 use Rattle.ipp_ops.specs.Operations.{operation_of}
 use Rattle.ipp_ops.specs.Attributes.{Row, row, table, needs}
-use Rattle.ipp_ops.specs.Values.{are_formed, are_long}
-use Rattle.ipp_ops.specs.Request.{operation_attributes, known, bytes_in, has, is_target}
+use Rattle.ipp_ops.specs.Values.{are_formed, are_long, are_supported}
+use Rattle.ipp_ops.specs.Formats.{format_of}
+use Rattle.ipp_ops.specs.Request.{operation_attributes, known, bytes_of, has, is_target}
+use Rattle.ipp_ops.specs.Unsupported.{Unsupported, is_filled}
 
 -- ---- the head
 
@@ -42,6 +45,8 @@ attributes_begin attrs = option_map_or (is_lone (codes "attributes-charset") 0x4
 abbrev pub groups_begin : List Group → Bool
 groups_begin gs = option_map_or (λ g. g.tag == 0x01 && attributes_begin g.attributes) (slice_get gs 0) false
 
+-- ---- the attributes
+
 -- a known attribute fails a test that its row makes
 abbrev pub fails : (Row → List Value → Bool) → Operation → List Attribute → OperationAttribute → Bool
 fails test o attrs k = option_map_or (λ a. test (row k) a.values) (known o k attrs) false
@@ -49,16 +54,27 @@ fails test o attrs k = option_map_or (λ a. test (row k) a.values) (known o k at
 abbrev pub some_fails : (Row → List Value → Bool) → Operation → List Attribute → Bool
 some_fails test o attrs = list_any (fails test o attrs) table
 
+-- all of one of the lists that the operation needs are there
+abbrev pub has_needed : Operation → List Attribute → Bool
+has_needed o attrs = list_any (λ ks. list_all (has o attrs) ks) (needs o)
+
+-- what is unsupported may not be ignored
+abbrev pub is_strict : Operation → List Attribute → Bool
+is_strict o attrs = bytes_eq (bytes_of o key.IppAttributeFidelity attrs) (1 ∷ [])
+
 -- ---- the table
 
--- the check refuses the request
-abbrev pub applies : Check → Operation → Message → Bool
-applies Order o m = not (groups_begin m.groups)
-applies Charset o m = not (str_eq_ignore_ascii_case (bytes_in (codes "attributes-charset") (operation_attributes m)) (codes "utf-8"))
-applies Form o m = some_fails (λ r vs. not (are_formed r vs)) o (operation_attributes m)
-applies Length o m = some_fails are_long o (operation_attributes m) || nat_lt 63 (length (bytes_in (codes "attributes-natural-language") (operation_attributes m)))
-applies Needed o m = not (list_any (λ ks. list_all (λ k. has k (operation_attributes m)) ks) (needs o))
-applies Target o m = not (is_target o (operation_attributes m))
+-- the check refuses the request, of which this is unsupported
+abbrev pub applies : Check → Operation → Message → Unsupported → Bool
+applies Order o m u = not (groups_begin m.groups)
+applies Charset o m u = not (str_eq_ignore_ascii_case (bytes_of o key.AttributesCharset (operation_attributes m)) (codes "utf-8"))
+applies Form o m u = some_fails (λ r vs. not (are_formed r vs)) o (operation_attributes m)
+applies Length o m u = some_fails are_long o (operation_attributes m)
+applies Needed o m u = not (has_needed o (operation_attributes m))
+applies Target o m u = not (is_target o (operation_attributes m))
+applies Compression o m u = has o (operation_attributes m) key.Compression && not (bytes_eq (bytes_of o key.Compression (operation_attributes m)) (codes "none"))
+applies Format o m u = has o (operation_attributes m) key.DocumentFormat && is_none (format_of (bytes_of o key.DocumentFormat (operation_attributes m)))
+applies Ignored o m u = some_fails (λ r vs. not (are_supported r.support vs)) o (operation_attributes m) || (is_strict o (operation_attributes m) && is_filled u.job)
 
 -- the status code with which it refuses
 abbrev pub code : Check → ℕ
@@ -68,11 +84,14 @@ code Form = 0x0400
 code Length = 0x0409
 code Needed = 0x0400
 code Target = 0x0406
+code Compression = 0x040F
+code Format = 0x040A
+code Ignored = 0x040B
 
 -- the checks, in order
 abbrev pub checks : List Check
-checks = Order ∷ Charset ∷ Form ∷ Length ∷ Needed ∷ Target ∷ []
+checks = Order ∷ Charset ∷ Form ∷ Length ∷ Needed ∷ Target ∷ Compression ∷ Format ∷ Ignored ∷ []
 
 -- the first check that refuses
-abbrev pub refusal : Operation → Message → Option Check
-refusal o m = find (λ c. applies c o m) checks
+abbrev pub refusal : Operation → Message → Unsupported → Option Check
+refusal o m u = find (λ c. applies c o m u) checks

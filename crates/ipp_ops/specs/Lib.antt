@@ -1,8 +1,11 @@
 pub mod Operations
 pub mod Attributes
 pub mod Values
+pub mod Formats
 pub mod Request
+pub mod Unsupported
 pub mod Checks
+pub mod NewJob
 pub mod Asked
 pub mod JobReply
 pub mod Content

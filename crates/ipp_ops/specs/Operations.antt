@@ -21,6 +21,12 @@ on_job PrintJob = false
 on_job CancelJob = true
 on_job GetJobAttributes = true
 
+-- the operations that look at the job group
+abbrev pub makes_job : Operation → Bool
+makes_job PrintJob = true
+makes_job CancelJob = false
+makes_job GetJobAttributes = false
+
 -- two operations are the same one
 abbrev pub is_operation : Operation → Operation → Bool
 is_operation o p = id o == id p

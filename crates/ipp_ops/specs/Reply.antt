@@ -1,5 +1,5 @@
 -- The reply to a request as a message (RFC 8011, sections 4.1 to 4.3).
-use Rattle.std.specs.Prelude.{ℕ, List, ◌++◌, map}
+use Rattle.std.specs.Prelude.{ℕ, ◌==◌, List, [], ◌∷◌, ◌++◌, map, if◌then◌else◌}
 use Rattle.ipp_wire.specs.declared.view.Head.{Head}
 use Rattle.ipp_wire.specs.Message.{Group, Message}
 use Rattle.ipp_wire.specs.Bare.{bare}
@@ -8,13 +8,22 @@ use Rattle.queue_core.specs.declared.event.Reply.TheVariants.{Refused, Done, Job
 use Rattle.queue_core.specs.Settings.{SettingValues}
 use Rattle.ipp_ops.specs.declared.job_reply.JobAttribute.{JobAttribute}
 use Rattle.ipp_ops.specs.JobReply.{job_group}
+use Rattle.ipp_ops.specs.Unsupported.{Unsupported, is_listed}
 
 -- the bare reply with these groups behind
 abbrev pub with_groups : Message → List Group → Message
 with_groups m gs = record m { groups = m.groups ++ gs }
 
--- a refusal shows nothing, and a success the jobs
-abbrev pub reply_of : Reply → Head → List JobAttribute → SettingValues → ℕ → Message
-reply_of (Refused code) h rows s now = bare h code
-reply_of Done h rows s now = bare h 0x0000
-reply_of (Jobs js) h rows s now = with_groups (bare h 0x0000) (map (job_group s.uri now rows) js)
+-- the group of what is unsupported, where something is
+abbrev pub unsupported_groups : Unsupported → List Group
+unsupported_groups u = if is_listed u then record { tag = 0x05; attributes = u.operation ++ u.job } ∷ [] else []
+
+-- successful-ok, or successful-ok-ignored-or-substituted-attributes
+abbrev pub success : Unsupported → ℕ
+success u = if is_listed u then 0x0001 else 0x0000
+
+-- a refusal shows what is unsupported only where that is its reason, and a success the jobs too
+abbrev pub reply_of : Reply → Head → List JobAttribute → Unsupported → SettingValues → ℕ → Message
+reply_of (Refused code) h rows u s now = with_groups (bare h code) (if code == 0x040B then unsupported_groups u else [])
+reply_of Done h rows u s now = with_groups (bare h (success u)) (unsupported_groups u)
+reply_of (Jobs js) h rows u s now = with_groups (bare h (success u)) (unsupported_groups u ++ map (job_group s.uri now rows) js)

@@ -10,9 +10,11 @@ use Rattle.queue_core.specs.Uri.{path_of, printer_path}
 use Rattle.ipp_ops.specs.declared.operation.Operation.{Operation}
 use Rattle.ipp_ops.specs.declared.attribute.OperationAttribute.{OperationAttribute}
 use Rattle.ipp_ops.specs.declared.attribute.OperationAttribute.TheVariants.{PrinterUri, JobUri, JobId, RequestingUserName}
-use Rattle.ipp_ops.specs.Attributes.{row, knows}
 use Rattle.ipp_ops.specs.Operations.{on_job}
+use Rattle.ipp_ops.specs.Attributes.{row, knows}
 use Rattle.ipp_ops.specs.Values.{number_of, is_positive, text_of}
+
+-- ---- attributes
 
 -- the attributes of the first group of that tag
 abbrev pub attributes_in : ℕ → List Group → List Attribute
@@ -20,6 +22,9 @@ attributes_in tag gs = option_map_or (λ g. g.attributes) (find (λ g. g.tag == 
 
 abbrev pub operation_attributes : Message → List Attribute
 operation_attributes m = attributes_in 0x01 m.groups
+
+abbrev pub job_attributes : Message → List Attribute
+job_attributes m = attributes_in 0x02 m.groups
 
 -- the first attribute of that name
 abbrev pub named : List ℕ → List Attribute → Option Attribute
@@ -29,24 +34,29 @@ named name attrs = find (λ a. bytes_eq a.name name) attrs
 abbrev pub known : Operation → OperationAttribute → List Attribute → Option Attribute
 known o k attrs = if knows o k then named (row k).name attrs else None
 
+abbrev pub has : Operation → List Attribute → OperationAttribute → Bool
+has o attrs k = is_some (known o k attrs)
+
 abbrev pub first_value : List Value → Option Value
 first_value [] = None
 first_value (v ∷ vs) = Some v
 
--- the first value of the first attribute of that name
-abbrev pub value_in : List ℕ → List Attribute → Option Value
-value_in name attrs = option_and_then (λ a. first_value a.values) (named name attrs)
+-- the first value of a known attribute
+abbrev pub value_of : Operation → OperationAttribute → List Attribute → Option Value
+value_of o k attrs = option_and_then (λ a. first_value a.values) (known o k attrs)
 
 -- its bytes, or none where there is no such attribute
-abbrev pub bytes_in : List ℕ → List Attribute → List ℕ
-bytes_in name attrs = option_map_or (λ v. v.bytes) (value_in name attrs) []
+abbrev pub bytes_of : Operation → OperationAttribute → List Attribute → List ℕ
+bytes_of o k attrs = option_map_or (λ v. v.bytes) (value_of o k attrs) []
 
-abbrev pub has : OperationAttribute → List Attribute → Bool
-has k attrs = is_some (named (row k).name attrs)
+-- a text, where it is not empty
+abbrev pub filled : List ℕ → Option (List ℕ)
+filled [] = None
+filled (b ∷ bs) = if is_utf8 (b ∷ bs) then Some (b ∷ bs) else None
 
--- the first value's bytes of an attribute
-abbrev pub bytes_of : OperationAttribute → List Attribute → List ℕ
-bytes_of k attrs = bytes_in (row k).name attrs
+-- the text of a known attribute, where there is one that is not empty
+abbrev pub text_in : Operation → OperationAttribute → List Attribute → Option (List ℕ)
+text_in o k attrs = option_and_then (λ v. option_and_then filled (text_of v)) (value_of o k attrs)
 
 -- ---- the target
 
@@ -66,23 +76,14 @@ abbrev pub job_of_id : ℕ → Option ℕ
 job_of_id n = if is_positive n then Some n else None
 
 -- the job that a request is about: by job-uri where it is there, else by printer-uri and job-id
-abbrev pub target_job : List Attribute → Option ℕ
-target_job attrs = if has JobUri attrs then job_in (path_of (bytes_of JobUri attrs)) else (if is_printer (bytes_of PrinterUri attrs) then option_and_then job_of_id (number_of (bytes_of JobId attrs)) else None)
+abbrev pub target_job : Operation → List Attribute → Option ℕ
+target_job o attrs = if has o attrs JobUri then job_in (path_of (bytes_of o JobUri attrs)) else (if is_printer (bytes_of o PrinterUri attrs) then option_and_then job_of_id (number_of (bytes_of o JobId attrs)) else None)
 
 -- this printer, or a job of it, is what the request is about
 abbrev pub is_target : Operation → List Attribute → Bool
-is_target o attrs = if on_job o then is_some (target_job attrs) else is_printer (bytes_of PrinterUri attrs)
+is_target o attrs = if on_job o then is_some (target_job o attrs) else is_printer (bytes_of o PrinterUri attrs)
 
 -- ---- the caller
 
--- a text, where it is not empty
-abbrev pub filled : List ℕ → Option (List ℕ)
-filled [] = None
-filled (b ∷ bs) = if is_utf8 (b ∷ bs) then Some (b ∷ bs) else None
-
--- the text of the attribute's first value, where there is one that is not empty
-abbrev pub text_in : OperationAttribute → List Attribute → Option (List ℕ)
-text_in k attrs = option_and_then (λ v. option_and_then filled (text_of v)) (value_in (row k).name attrs)
-
-abbrev pub caller : List Attribute → List ℕ
-caller attrs = unwrap_or (text_in RequestingUserName attrs) (codes "anonymous")
+abbrev pub caller : Operation → List Attribute → List ℕ
+caller o attrs = unwrap_or (text_in o RequestingUserName attrs) (codes "anonymous")

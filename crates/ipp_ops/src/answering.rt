@@ -1,21 +1,22 @@
 //! One request, from its bytes to those of its answer.
-ghost use Rattle.std.specs.Prelude.{◌≡◌, ◌<◌, ◌≤◌, ◌⊎◌, ◌↔◌, length, IfOk, OnErr, IsErr};
+ghost use Rattle.std.specs.Prelude.{◌≡◌, ◌<◌, ◌≤◌, ◌↔◌, length, IfOk, IfSome, IsErr, IsSome, OnErr};
+ghost use Rattle.std.specs.Bool.{OnFalse, OnTrue};
 ghost use Rattle.ipp_wire.specs.Message.{IsMessage, Spells};
 ghost use Rattle.ipp_wire.specs.Viewed.{message_of};
 ghost use Rattle.ipp_wire.specs.Bare.{bare};
 ghost use Rattle.queue_core.specs.Limits.{IsMoment};
 ghost use Rattle.queue_core.specs.World.{World};
-ghost use Rattle.ipp_ops.specs.Answer.{Answers, Fails, bytes_of, outcome};
+ghost use Rattle.ipp_ops.specs.Answer.{Answers, BeginsWith, Fails, bytes_of, is_fault, outcome};
 ghost use Rattle.ipp_ops.specs.Asked.{asks};
 
 use crate::asking::ask;
 use crate::check::head_check;
 use crate::outcome::{Answer, TooShort};
-use crate::reply::{bare_message, reply_message};
-use crate::request::Ask;
+use crate::reply::reply_message;
+use crate::request::{Ask, Wanted};
 use ipp_wire::{Head, View, WireFault, head, put_fault, read, write};
 use queue_core::book::{BookFault, QueueBook};
-use queue_core::event::Event;
+use queue_core::event::{Event, Reply};
 use queue_core::settings::Settings;
 use std::alloc::Global;
 
@@ -24,6 +25,14 @@ const TEMPORARY_ERROR: u16 = 0x0505;
 
 /// The status code client-error-bad-request.
 const BAD_REQUEST: u16 = 0x0400;
+
+/// The head at the front of a request, and none under 8 bytes.
+fn head_of(body: &[u8]) -> Option<Head>
+    ensures begins { IfSome result (λ h. BeginsWith h body.now) }
+    ensures short { IsSome result ↔ (8 ≤ length body.now) }
+{
+    head(body)
+}
 
 fn bare_answer(head: Head, code: u16) -> Answer
     ensures { Spells (bare head code) (bytes_of result) }
@@ -43,6 +52,7 @@ fn step<B: QueueBook>(
     v: &View<'_>,
 ) -> Result<Vec<u8>, BookFault>
     requires moment { IsMoment now }
+    requires message { IsMessage (message_of v.now) }
     requires fits { length v.now.payload.now ≤ 16777216 }
     requires settings { (w : World) → B.is_honest book.old → B.stands book.old w → s.now ≡ w.settings }
     ensures began { B.is_honest book.new → B.is_honest book.old }
@@ -53,17 +63,28 @@ fn step<B: QueueBook>(
     ensures err { OnErr result ((w : World) → B.stands book.old w → B.stands book.new w) }
 {
     match ask(alloc, v)? {
-        Ask::Refused(code) => {
-            let m = bare_message(alloc, v.head, code)?;
+        Ask::Refused { code, unsupported } => {
+            let wanted = Wanted::from_rows(Vec::new(alloc));
+            let reply = Reply::Refused(code);
+            let m = reply_message(alloc, &reply, v.head, &wanted, &unsupported, s, now)?;
             Ok(write(&m)?)
         }
         Ask::Call {
             caller,
             call,
             wanted,
+            unsupported,
         } => {
             let decision = book.decide(now, &Event::Ask { caller, call })?;
-            let m = reply_message(alloc, &decision.reply, v.head, &wanted, s, now)?;
+            let m = reply_message(
+                alloc,
+                &decision.reply,
+                v.head,
+                &wanted,
+                &unsupported,
+                s,
+                now,
+            )?;
             let bytes = write(&m)?;
             book.apply(decision)?;
             Ok(bytes)
@@ -87,12 +108,16 @@ pub fn answer<B: QueueBook>(
     requires settings { (w : World) → B.is_honest book.old → B.stands book.old w → s.now ≡ w.settings }
     ensures began { B.is_honest book.new → B.is_honest book.old }
     ensures short { IsErr result ↔ (length body.now < 8) }
-    ensures answered { B.is_honest book.new → IfOk result (λ a. (w : World) → B.stands book.old w →
-        ((after : World) × Answers w now body.now after (bytes_of a) × B.stands book.new after)
-        ⊎ (Fails body.now (bytes_of a) × B.stands book.new w)) }
+    ensures answered { B.is_honest book.new → IfOk result (λ a. OnFalse (is_fault (bytes_of a))
+        ((w : World) → B.stands book.old w
+        → (after : World) × Answers w now body.now after (bytes_of a) × B.stands book.new after)) }
+
+    // The code 0x0505 stands for nothing else.
+    ensures failed { B.is_honest book.new → IfOk result (λ a. OnTrue (is_fault (bytes_of a))
+        ((w : World) → B.stands book.old w → Fails body.now (bytes_of a) × B.stands book.new w)) }
     ensures err { OnErr result ((w : World) → B.stands book.old w → B.stands book.new w) }
 {
-    let Some(h) = head(body) else {
+    let Some(h) = head_of(body) else {
         return Err(TooShort);
     };
     if let Some(code) = head_check(h) {

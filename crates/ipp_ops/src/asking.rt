@@ -2,25 +2,28 @@
 ghost use Rattle.std.specs.Prelude.{◌≡◌, ◌≤◌, IfOk, length, map};
 ghost use Rattle.ipp_wire.specs.Viewed.{attributes_of, message_of};
 ghost use Rattle.queue_core.specs.Event.{call_of};
-ghost use Rattle.ipp_ops.specs.Asked.{asks, ask_of, call_in, job, requested, usual, IsWithinLimits};
+ghost use Rattle.ipp_ops.specs.Asked.{asks, ask_of, call_in, job, refused_by, requested, usual, IsWithinLimits, ListsAttributes};
+ghost use Rattle.ipp_ops.specs.Unsupported.{unsupported_of};
+ghost use Rattle.ipp_wire.specs.Message.{IsMessage};
 ghost use Rattle.ipp_ops.specs.JobReply.{selected};
 
 use crate::attribute::OperationAttribute;
-use crate::check::{asked_in, first_refusal};
+use crate::check::{Check, asked_in, first_refusal};
 use crate::job_reply::{select_requested, select_usual};
+use crate::new_job::{format, new_job};
 use crate::operation::Operation;
 use crate::reading::{caller, group_attributes, known};
 use crate::request::{Ask, Wanted};
 use crate::target::target_job;
+use crate::unsupported::Unsupported;
 use ipp_wire::{AttrView, View};
-use queue_core::document::Format;
-use queue_core::event::{Call, NewJob};
+use queue_core::event::Call;
 use std::alloc::{AllocError, Global};
 
-fn job(v: &View<'_>) -> u32
-    ensures { result ≡ job (message_of v.now) }
+fn job(o: Operation, v: &View<'_>) -> u32
+    ensures { result ≡ job o (message_of v.now) }
 {
-    target_job(group_attributes(0x01, v.groups.as_slice())).unwrap_or(0)
+    target_job(o, group_attributes(0x01, v.groups.as_slice())).unwrap_or(0)
 }
 
 /// The call that an operation makes of a request.
@@ -29,16 +32,12 @@ fn call_in<'a>(o: Operation, v: &View<'a>) -> Call<'a>
 {
     match o {
         Operation::PrintJob => Call::PrintJob {
-            job: NewJob {
-                name: "untitled",
-                copies: 1,
-                impressions: None,
-            },
-            format: Format::OctetStream,
+            job: new_job(o, v),
+            format: format(o, group_attributes(0x01, v.groups.as_slice())),
             payload: v.payload,
         },
-        Operation::CancelJob => Call::CancelJob { job: job(v) },
-        Operation::GetJobAttributes => Call::GetJobAttributes { job: job(v) },
+        Operation::CancelJob => Call::CancelJob { job: job(o, v) },
+        Operation::GetJobAttributes => Call::GetJobAttributes { job: job(o, v) },
     }
 }
 
@@ -63,24 +62,48 @@ fn wanted(alloc: Global, o: Operation, attrs: &[AttrView<'_>]) -> Result<Wanted,
     }
 }
 
+/// The answer to a request that a check refuses: what is unsupported is told where that is the reason.
+fn refused_by<'a>(alloc: Global, check: Check, unsupported: Unsupported<'a>) -> Ask<'a>
+    ensures { ask_of result ≡ refused_by check (unsupported_of unsupported.entry) }
+{
+    let code = check.code();
+    match check {
+        Check::Ignored => Ask::Refused { code, unsupported },
+        _ => Ask::Refused {
+            code,
+            unsupported: Unsupported::nothing(alloc),
+        },
+    }
+}
+
 /// What a request asks: the code of the first check that refuses it, or else its call (RFC 8011,
-/// section 4.1). A call is an event within the machine's limits. The one error is want of memory.
+/// section 4.1), with what is unsupported. A call is an event within the machine's limits. The one error
+/// is want of memory.
 pub fn ask<'a>(alloc: Global, v: &View<'a>) -> Result<Ask<'a>, AllocError>
     ensures asks { IfOk result (λ a. ask_of a ≡ asks (message_of v.now)) }
     ensures limits { length v.now.payload.now ≤ 16777216 → IfOk result (λ a. IsWithinLimits (ask_of a)) }
+    // so that it may stand in a reply
+    ensures listed { IsMessage (message_of v.now) → IfOk result (λ a. ListsAttributes (ask_of a)) }
 {
     let operation = match asked_in(v.head) {
         Ok(operation) => operation,
-        Err(code) => return Ok(Ask::Refused(code)),
+        Err(code) => {
+            return Ok(Ask::Refused {
+                code,
+                unsupported: Unsupported::nothing(alloc),
+            });
+        }
     };
-    if let Some(check) = first_refusal(operation, v) {
-        return Ok(Ask::Refused(check.code()));
+    let unsupported = Unsupported::of_request(alloc, operation, v)?;
+    if let Some(check) = first_refusal(operation, v, &unsupported) {
+        return Ok(refused_by(alloc, check, unsupported));
     }
     let attrs = group_attributes(0x01, v.groups.as_slice());
     let wanted = wanted(alloc, operation, attrs)?;
     Ok(Ask::Call {
-        caller: caller(attrs),
+        caller: caller(operation, attrs),
         call: call_in(operation, v),
         wanted,
+        unsupported,
     })
 }

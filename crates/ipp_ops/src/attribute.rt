@@ -7,22 +7,44 @@ use crate::operation::{OPERATIONS, Operation};
 /// The operation attributes that are looked at.
 #[derive(Clone, Copy, Debug)]
 pub enum OperationAttribute {
+    AttributesCharset,
+    AttributesNaturalLanguage,
     PrinterUri,
     JobUri,
     JobId,
     RequestingUserName,
+    JobName,
+    DocumentName,
+    IppAttributeFidelity,
+    Compression,
+    DocumentFormat,
+    JobImpressions,
     RequestedAttributes,
 }
 
-/// The shape of a value.
+/// The shape of a value, of a nameWithLanguage that of its name.
 #[derive(Clone, Copy, Debug)]
 pub enum Shape {
     /// Any octets.
     Octets,
     /// A number of 4 bytes.
     Number,
+    /// One byte, 0 or 1.
+    Boolean,
     /// UTF-8 without control characters.
     Name,
+    /// UTF-8 without a zero byte.
+    Text,
+}
+
+/// Which values of a good form are supported.
+#[derive(Clone, Copy, Debug)]
+pub enum Support {
+    Anything,
+    /// One integer from the first to the second.
+    Between(u32, u32),
+    /// One of these keywords.
+    Words(&'static [&'static str]),
 }
 
 /// What a row of the table says of an attribute.
@@ -34,17 +56,26 @@ pub struct Row {
     /// Whether there may be several values.
     pub many: bool,
     pub shape: Shape,
-    /// The greatest number of octets of a value.
+    /// The greatest number of octets of a value, of a nameWithLanguage that of its name.
     pub limit: Option<usize>,
+    pub support: Support,
     pub known_in: &'static [Operation],
 }
 
 /// The operation attributes, in the table's order.
-pub const TABLE: [OperationAttribute; 5] = [
+pub const TABLE: [OperationAttribute; 13] = [
+    OperationAttribute::AttributesCharset,
+    OperationAttribute::AttributesNaturalLanguage,
     OperationAttribute::PrinterUri,
     OperationAttribute::JobUri,
     OperationAttribute::JobId,
     OperationAttribute::RequestingUserName,
+    OperationAttribute::JobName,
+    OperationAttribute::DocumentName,
+    OperationAttribute::IppAttributeFidelity,
+    OperationAttribute::Compression,
+    OperationAttribute::DocumentFormat,
+    OperationAttribute::JobImpressions,
     OperationAttribute::RequestedAttributes,
 ];
 
@@ -53,12 +84,31 @@ impl OperationAttribute {
         ensures { row_of result ≡ row self }
     {
         match self {
+            OperationAttribute::AttributesCharset => Row {
+                name: "attributes-charset",
+                tags: &[0x47],
+                many: false,
+                shape: Shape::Octets,
+                limit: None,
+                support: Support::Anything,
+                known_in: &OPERATIONS,
+            },
+            OperationAttribute::AttributesNaturalLanguage => Row {
+                name: "attributes-natural-language",
+                tags: &[0x48],
+                many: false,
+                shape: Shape::Octets,
+                limit: Some(63),
+                support: Support::Anything,
+                known_in: &OPERATIONS,
+            },
             OperationAttribute::PrinterUri => Row {
                 name: "printer-uri",
                 tags: &[0x45],
                 many: false,
                 shape: Shape::Octets,
                 limit: Some(1023),
+                support: Support::Anything,
                 known_in: &OPERATIONS,
             },
             OperationAttribute::JobUri => Row {
@@ -67,6 +117,7 @@ impl OperationAttribute {
                 many: false,
                 shape: Shape::Octets,
                 limit: Some(1023),
+                support: Support::Anything,
                 known_in: &[Operation::CancelJob, Operation::GetJobAttributes],
             },
             OperationAttribute::JobId => Row {
@@ -75,6 +126,7 @@ impl OperationAttribute {
                 many: false,
                 shape: Shape::Number,
                 limit: None,
+                support: Support::Anything,
                 known_in: &[Operation::CancelJob, Operation::GetJobAttributes],
             },
             OperationAttribute::RequestingUserName => Row {
@@ -83,7 +135,62 @@ impl OperationAttribute {
                 many: false,
                 shape: Shape::Name,
                 limit: Some(255),
+                support: Support::Anything,
                 known_in: &OPERATIONS,
+            },
+            OperationAttribute::JobName => Row {
+                name: "job-name",
+                tags: &[0x42, 0x36],
+                many: false,
+                shape: Shape::Text,
+                limit: Some(255),
+                support: Support::Anything,
+                known_in: &[Operation::PrintJob],
+            },
+            OperationAttribute::DocumentName => Row {
+                name: "document-name",
+                tags: &[0x42, 0x36],
+                many: false,
+                shape: Shape::Text,
+                limit: Some(255),
+                support: Support::Anything,
+                known_in: &[Operation::PrintJob],
+            },
+            OperationAttribute::IppAttributeFidelity => Row {
+                name: "ipp-attribute-fidelity",
+                tags: &[0x22],
+                many: false,
+                shape: Shape::Boolean,
+                limit: None,
+                support: Support::Anything,
+                known_in: &[Operation::PrintJob],
+            },
+            OperationAttribute::Compression => Row {
+                name: "compression",
+                tags: &[0x44],
+                many: false,
+                shape: Shape::Octets,
+                limit: Some(255),
+                support: Support::Anything,
+                known_in: &[Operation::PrintJob],
+            },
+            OperationAttribute::DocumentFormat => Row {
+                name: "document-format",
+                tags: &[0x49],
+                many: false,
+                shape: Shape::Octets,
+                limit: Some(255),
+                support: Support::Anything,
+                known_in: &[Operation::PrintJob],
+            },
+            OperationAttribute::JobImpressions => Row {
+                name: "job-impressions",
+                tags: &[0x21],
+                many: false,
+                shape: Shape::Number,
+                limit: None,
+                support: Support::Between(0, 100_000),
+                known_in: &[Operation::PrintJob],
             },
             OperationAttribute::RequestedAttributes => Row {
                 name: "requested-attributes",
@@ -91,6 +198,7 @@ impl OperationAttribute {
                 many: true,
                 shape: Shape::Octets,
                 limit: Some(255),
+                support: Support::Anything,
                 known_in: &[Operation::GetJobAttributes],
             },
         }

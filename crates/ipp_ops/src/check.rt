@@ -1,15 +1,20 @@
 //! The checks of a request, in their order.
-ghost use Rattle.std.specs.Prelude.{◌≡◌, ◌||◌, nat_lt, length, codes, not};
-ghost use Rattle.ipp_wire.specs.Viewed.{attributes_of, message_of};
+ghost use Rattle.std.specs.Prelude.{◌≡◌, ◌∷◌, [], ◌&&◌, bytes_eq, codes, is_none, not};
 ghost use Rattle.std.specs.Str.{str_eq_ignore_ascii_case};
-ghost use Rattle.ipp_ops.specs.Values.{are_long};
-ghost use Rattle.ipp_ops.specs.Checks.{asked_in, head_refusal, code, applies, refusal, some_fails};
+ghost use Rattle.ipp_wire.specs.Viewed.{attributes_of, message_of};
+ghost use Rattle.ipp_ops.specs.declared.attribute.OperationAttribute.TheVariants as key;
+ghost use Rattle.ipp_ops.specs.Checks.{asked_in, head_refusal, code, applies, refusal, is_strict};
+ghost use Rattle.ipp_ops.specs.Formats as formats;
 ghost use Rattle.ipp_ops.specs.Request as request;
+ghost use Rattle.ipp_ops.specs.Unsupported.{unsupported_of};
 
-use crate::form::{some_misformed, some_missing, some_overlong};
+use crate::attribute::OperationAttribute;
+use crate::form::{has_needed, some_misformed, some_overlong, some_unsupported};
+use crate::format::format_of;
 use crate::operation::Operation;
-use crate::reading::{bytes_in, group_attributes, groups_begin};
+use crate::reading::{bytes_of, group_attributes, groups_begin, has};
 use crate::target::is_target;
+use crate::unsupported::{Unsupported, is_filled};
 use ipp_wire::{AttrView, Head, View};
 
 /// What may be wrong with a request, in the order in which it is looked for.
@@ -27,32 +32,52 @@ pub enum Check {
     Needed,
     /// The target isn't this printer, or names no job's number.
     Target,
+    /// The document is compressed.
+    Compression,
+    /// The document's format isn't supported.
+    Format,
+    /// Something that is unsupported may not be ignored.
+    Ignored,
 }
 
 /// The checks, in order.
-const CHECKS: [Check; 6] = [
+const CHECKS: [Check; 9] = [
     Check::Order,
     Check::Charset,
     Check::Form,
     Check::Length,
     Check::Needed,
     Check::Target,
+    Check::Compression,
+    Check::Format,
+    Check::Ignored,
 ];
 
-/// The greatest number of octets of a natural language.
-const LANGUAGE_LIMIT: usize = 63;
-
-fn is_charset_wrong(attrs: &[AttrView<'_>]) -> bool
-    ensures { result ≡ not (str_eq_ignore_ascii_case (request.bytes_in (codes "attributes-charset") (attributes_of attrs.now)) (codes "utf-8")) }
+fn is_utf8_charset(charset: &[u8]) -> bool
+    ensures { result ≡ str_eq_ignore_ascii_case charset.now (codes "utf-8") }
 {
-    !bytes_in(b"attributes-charset", attrs).eq_ignore_ascii_case(b"utf-8")
+    charset.eq_ignore_ascii_case(b"utf-8")
 }
 
-fn is_something_long(o: Operation, attrs: &[AttrView<'_>]) -> bool
-    ensures { result ≡ (some_fails are_long o (attributes_of attrs.now) || nat_lt 63 (length (request.bytes_in (codes "attributes-natural-language") (attributes_of attrs.now)))) }
+fn is_compressed(o: Operation, attrs: &[AttrView<'_>]) -> bool
+    ensures { result ≡ (request.has o (attributes_of attrs.now) key.Compression && not (bytes_eq (request.bytes_of o key.Compression (attributes_of attrs.now)) (codes "none"))) }
 {
-    some_overlong(o, attrs)
-        || bytes_in(b"attributes-natural-language", attrs).len() > LANGUAGE_LIMIT
+    has(o, attrs, OperationAttribute::Compression)
+        && bytes_of(o, OperationAttribute::Compression, attrs) != "none".as_bytes()
+}
+
+fn has_unknown_format(o: Operation, attrs: &[AttrView<'_>]) -> bool
+    ensures { result ≡ (request.has o (attributes_of attrs.now) key.DocumentFormat && is_none (formats.format_of (request.bytes_of o key.DocumentFormat (attributes_of attrs.now)))) }
+{
+    has(o, attrs, OperationAttribute::DocumentFormat)
+        && format_of(bytes_of(o, OperationAttribute::DocumentFormat, attrs)).is_none()
+}
+
+/// What is unsupported may not be ignored.
+fn is_strict(o: Operation, attrs: &[AttrView<'_>]) -> bool
+    ensures { result ≡ is_strict o (attributes_of attrs.now) }
+{
+    bytes_of(o, OperationAttribute::IppAttributeFidelity, attrs) == [1].as_slice()
 }
 
 impl Check {
@@ -65,21 +90,30 @@ impl Check {
             Check::Charset => 0x040D,
             Check::Length => 0x0409,
             Check::Target => 0x0406,
+            Check::Compression => 0x040F,
+            Check::Format => 0x040A,
+            Check::Ignored => 0x040B,
         }
     }
 
-    /// The check refuses the request.
-    fn applies(self, o: Operation, v: &View<'_>) -> bool
-        ensures { result ≡ applies self o (message_of v.now) }
+    /// The check refuses the request, of which this is unsupported.
+    fn applies(self, o: Operation, v: &View<'_>, u: &Unsupported<'_>) -> bool
+        ensures { result ≡ applies self o (message_of v.now) (unsupported_of u.now) }
     {
         let attrs = group_attributes(0x01, v.groups.as_slice());
         match self {
             Check::Order => !groups_begin(v.groups.as_slice()),
-            Check::Charset => is_charset_wrong(attrs),
+            Check::Charset => {
+                !is_utf8_charset(bytes_of(o, OperationAttribute::AttributesCharset, attrs))
+            }
             Check::Form => some_misformed(o, attrs),
-            Check::Length => is_something_long(o, attrs),
-            Check::Needed => some_missing(o, attrs),
+            Check::Length => some_overlong(o, attrs),
+            Check::Needed => !has_needed(o, attrs),
             Check::Target => !is_target(o, attrs),
+            Check::Compression => is_compressed(o, attrs),
+            Check::Format => has_unknown_format(o, attrs),
+            Check::Ignored => some_unsupported(o, attrs)
+                || (is_strict(o, attrs) && is_filled(u.job.as_slice())),
         }
     }
 }
@@ -102,9 +136,9 @@ pub fn head_check(h: Head) -> Option<u16>
     asked_in(h).err()
 }
 
-/// The first check that refuses the request.
-pub fn first_refusal(o: Operation, v: &View<'_>) -> Option<Check>
-    ensures { result ≡ refusal o (message_of v.now) }
+/// The first check that refuses the request, of which this is unsupported.
+pub fn first_refusal(o: Operation, v: &View<'_>, u: &Unsupported<'_>) -> Option<Check>
+    ensures { result ≡ refusal o (message_of v.now) (unsupported_of u.now) }
 {
-    CHECKS.iter().copied().find(|c| c.applies(o, v))
+    CHECKS.iter().copied().find(|c| c.applies(o, v, u))
 }

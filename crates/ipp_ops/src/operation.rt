@@ -1,6 +1,6 @@
 //! The operations that the printer supports (RFC 8011, section 5.4.15).
 ghost use Rattle.std.specs.Prelude.{◌≡◌};
-ghost use Rattle.ipp_ops.specs.Operations.{id, on_job, operation_of};
+ghost use Rattle.ipp_ops.specs.Operations.{id, on_job, makes_job, operation_of};
 
 /// An operation, by its id.
 #[derive(Clone, Copy, Debug)]
@@ -32,6 +32,16 @@ impl Operation {
         match self {
             Operation::PrintJob => false,
             Operation::CancelJob | Operation::GetJobAttributes => true,
+        }
+    }
+
+    /// The operation looks at the job group.
+    pub fn makes_job(self) -> bool
+        ensures { result ≡ makes_job self }
+    {
+        match self {
+            Operation::PrintJob => true,
+            Operation::CancelJob | Operation::GetJobAttributes => false,
         }
     }
 

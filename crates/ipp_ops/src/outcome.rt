@@ -9,7 +9,7 @@ pub enum Answer {
 }
 
 impl Answer {
-    ghost use Rattle.ipp_ops.specs.Answer.{bytes_of};
+    ghost use Rattle.ipp_ops.specs.Answer.{bytes_of, is_fault};
 
     /// The bytes, to be sent as they are. It takes no memory.
     pub fn bytes(&self) -> &[u8]
@@ -18,6 +18,16 @@ impl Answer {
         match self {
             Answer::Whole(bytes) => bytes.as_slice(),
             Answer::Bare(bytes) => bytes,
+        }
+    }
+
+    /// The answer is a fault: its status code is 0x0505, server-error-temporary-error. It takes no memory.
+    pub fn is_fault(&self) -> bool
+        ensures { result ≡ is_fault (bytes_of self.now) }
+    {
+        match self.bytes() {
+            [_, _, high, low, ..] => *high == 0x05 && *low == 0x05,
+            _ => false,
         }
     }
 }

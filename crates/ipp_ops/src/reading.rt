@@ -2,7 +2,7 @@
 ghost use Rattle.std.specs.Prelude.{◌≡◌, [], ◌==◌, ◌&&◌, find, bytes_eq, false, slice_get};
 ghost use Rattle.std.specs.List.{list_all};
 ghost use Rattle.std.specs.Option.{option_copied, option_map, option_map_or};
-ghost use Rattle.ipp_wire.specs.Viewed.{value_of, attribute_of, attributes_of, group_of, groups_of};
+ghost use Rattle.ipp_wire.specs.Viewed.{value_of as value_in, attribute_of, attributes_of, group_of, groups_of};
 ghost use Rattle.ipp_ops.specs.Checks as checks;
 ghost use Rattle.ipp_ops.specs.Request as request;
 
@@ -69,24 +69,35 @@ pub fn known<'v, 'a>(
     }
 }
 
-/// The bytes of the first value of the first attribute of that name, or none.
-pub fn bytes_in<'a>(name: &[u8], attrs: &[AttrView<'a>]) -> &'a [u8]
-    ensures { result.now ≡ request.bytes_in name.now (attributes_of attrs.entry.now) }
+/// The first value of a known attribute.
+pub fn value_of<'a>(
+    o: Operation,
+    k: OperationAttribute,
+    attrs: &[AttrView<'a>],
+) -> Option<ValueView<'a>>
+    ensures { option_map value_in result ≡ request.value_of o k (attributes_of attrs.entry.now) }
 {
-    match named(name, attrs) {
-        Some(a) => match a.values.as_slice() {
-            [v, ..] => v.bytes,
-            [] => &[],
-        },
+    match known(o, k, attrs)?.values.as_slice() {
+        [v, ..] => Some(*v),
+        [] => None,
+    }
+}
+
+/// The bytes of its first value, or none where there is no such attribute.
+pub fn bytes_of<'a>(o: Operation, k: OperationAttribute, attrs: &[AttrView<'a>]) -> &'a [u8]
+    ensures { result.now ≡ request.bytes_of o k (attributes_of attrs.entry.now) }
+{
+    match value_of(o, k, attrs) {
+        Some(v) => v.bytes,
         None => &[],
     }
 }
 
-/// There is an attribute of that name.
-pub fn has(k: OperationAttribute, attrs: &[AttrView<'_>]) -> bool
-    ensures { result ≡ request.has k (attributes_of attrs.now) }
+/// There is such an attribute, and the operation knows it.
+pub fn has(o: Operation, attrs: &[AttrView<'_>], k: OperationAttribute) -> bool
+    ensures { result ≡ request.has o (attributes_of attrs.now) k }
 {
-    named(k.row().name.as_bytes(), attrs).is_some()
+    known(o, k, attrs).is_some()
 }
 
 fn are_tagged(tag: u8, a: &AttrView<'_>) -> bool
@@ -171,27 +182,16 @@ fn filled(bytes: &[u8]) -> Option<&str>
     utf8_text(bytes)
 }
 
-/// The first value of the first attribute of that name.
-fn first_value<'a>(name: &[u8], attrs: &[AttrView<'a>]) -> Option<ValueView<'a>>
-    ensures { option_map value_of result ≡ request.value_in name.now (attributes_of attrs.entry.now) }
+/// The text of a known attribute, where there is one that is not empty.
+pub fn text_in<'a>(o: Operation, k: OperationAttribute, attrs: &[AttrView<'a>]) -> Option<&'a str>
+    ensures { option_copied result ≡ request.text_in o k (attributes_of attrs.entry.now) }
 {
-    match named(name, attrs)?.values.as_slice() {
-        [v, ..] => Some(*v),
-        [] => None,
-    }
-}
-
-/// The text of the attribute's first value, where there is one that is not empty.
-fn text_in<'a>(k: OperationAttribute, attrs: &[AttrView<'a>]) -> Option<&'a str>
-    ensures { option_copied result ≡ request.text_in k (attributes_of attrs.entry.now) }
-{
-    let value = first_value(k.row().name.as_bytes(), attrs)?;
-    filled(text(value)?)
+    filled(text(value_of(o, k, attrs)?)?)
 }
 
 /// The name of the caller.
-pub fn caller<'a>(attrs: &[AttrView<'a>]) -> &'a str
-    ensures { result.now ≡ request.caller (attributes_of attrs.entry.now) }
+pub fn caller<'a>(o: Operation, attrs: &[AttrView<'a>]) -> &'a str
+    ensures { result.now ≡ request.caller o (attributes_of attrs.entry.now) }
 {
-    text_in(OperationAttribute::RequestingUserName, attrs).unwrap_or("anonymous")
+    text_in(o, OperationAttribute::RequestingUserName, attrs).unwrap_or("anonymous")
 }

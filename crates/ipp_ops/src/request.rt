@@ -1,5 +1,6 @@
 //! What a request asks, as it is handed on.
 use crate::job_reply::JobAttribute;
+use crate::unsupported::Unsupported;
 use queue_core::event::Call;
 use std::marker::Model;
 
@@ -38,12 +39,17 @@ impl Wanted {
 /// What a request asks.
 #[derive(Drop)]
 pub enum Ask<'a> {
-    /// A call by a caller, with the rows that its reply is to have of a job.
+    /// A call by a caller, with the rows that its reply is to have of a job, and what is unsupported.
     Call {
         caller: &'a str,
         call: Call<'a>,
         wanted: Wanted,
+        unsupported: Unsupported<'a>,
     },
-    /// The status code of the check that refuses the request.
-    Refused(u16),
+    /// The status code of the check that refuses the request, and what is unsupported where that is the
+    /// reason.
+    Refused {
+        code: u16,
+        unsupported: Unsupported<'a>,
+    },
 }

@@ -7,19 +7,13 @@ ghost use Rattle.ipp_ops.specs.Request as request;
 
 use crate::attribute::OperationAttribute;
 use crate::operation::Operation;
-use crate::reading::{bytes_in, has};
+use crate::reading::{bytes_of, has};
 use crate::value::{number, utf8_text};
 use ipp_wire::AttrView;
 use queue_core::uri::path;
 
 /// The greatest number of a job.
 const LAST_JOB_NUMBER: u32 = 2_147_483_647;
-
-fn bytes_of<'a>(k: OperationAttribute, attrs: &[AttrView<'a>]) -> &'a [u8]
-    ensures { result.now ≡ request.bytes_of k (attributes_of attrs.entry.now) }
-{
-    bytes_in(k.row().name.as_bytes(), attrs)
-}
 
 fn is_printer(uri: &[u8]) -> bool
     ensures { result ≡ request.is_printer uri.now }
@@ -69,14 +63,14 @@ fn job_of_id(n: u32) -> Option<u32>
 
 /// The number of the job that a request is about: by job-uri where it is there, else by printer-uri and
 /// job-id.
-pub fn target_job(attrs: &[AttrView<'_>]) -> Option<u32>
-    ensures { result ≡ request.target_job (attributes_of attrs.now) }
+pub fn target_job(o: Operation, attrs: &[AttrView<'_>]) -> Option<u32>
+    ensures { result ≡ request.target_job o (attributes_of attrs.now) }
 {
-    if has(OperationAttribute::JobUri, attrs) {
-        return job_in(path(bytes_of(OperationAttribute::JobUri, attrs)));
+    if has(o, attrs, OperationAttribute::JobUri) {
+        return job_in(path(bytes_of(o, OperationAttribute::JobUri, attrs)));
     }
-    if is_printer(bytes_of(OperationAttribute::PrinterUri, attrs)) {
-        number(bytes_of(OperationAttribute::JobId, attrs)).and_then(job_of_id)
+    if is_printer(bytes_of(o, OperationAttribute::PrinterUri, attrs)) {
+        number(bytes_of(o, OperationAttribute::JobId, attrs)).and_then(job_of_id)
     } else {
         None
     }
@@ -87,8 +81,8 @@ pub fn is_target(o: Operation, attrs: &[AttrView<'_>]) -> bool
     ensures { result ≡ request.is_target o (attributes_of attrs.now) }
 {
     if o.is_on_job() {
-        target_job(attrs).is_some()
+        target_job(o, attrs).is_some()
     } else {
-        is_printer(bytes_of(OperationAttribute::PrinterUri, attrs))
+        is_printer(bytes_of(o, OperationAttribute::PrinterUri, attrs))
     }
 }

@@ -1,13 +1,13 @@
 //! What the values of an attribute say (RFC 8010, section 3.9; RFC 8011, section 5.1).
-ghost use Rattle.std.specs.Prelude.{◌≡◌, ◌==◌, if◌then◌else◌};
+ghost use Rattle.std.specs.Prelude.{◌≡◌, ◌==◌, if◌then◌else◌, bytes_eq, map};
 ghost use Rattle.std.specs.List.{list_any, list_all};
 ghost use Rattle.std.specs.Str.{is_utf8};
 ghost use Rattle.std.specs.Option.{option_copied};
 ghost use Rattle.ipp_wire.specs.Viewed.{value_of, values_of};
-ghost use Rattle.ipp_ops.specs.Attributes.{row_of};
+ghost use Rattle.ipp_ops.specs.Attributes.{row_of, support_of};
 ghost use Rattle.ipp_ops.specs.Values as spec;
 
-use crate::attribute::{Row, Shape};
+use crate::attribute::{Row, Shape, Support};
 use ipp_wire::ValueView;
 use std::str;
 
@@ -61,6 +61,12 @@ pub fn text<'a>(v: ValueView<'a>) -> Option<&'a [u8]>
     }
 }
 
+fn has_zero(text: &[u8]) -> bool
+    ensures { result ≡ list_any (λ b. b == 0) text.now }
+{
+    text.iter().any(|b| *b == 0)
+}
+
 fn has_control(text: &[u8]) -> bool
     ensures { result ≡ list_any spec.is_control text.now }
 {
@@ -95,7 +101,9 @@ fn has_shape(shape: Shape, text: &[u8]) -> bool
     match shape {
         Shape::Octets => true,
         Shape::Number => number(text).is_some(),
+        Shape::Boolean => text == [0].as_slice() || text == [1].as_slice(),
         Shape::Name => is_utf8(text) && !has_control(text),
+        Shape::Text => is_utf8(text) && !has_zero(text),
     }
 }
 
@@ -150,4 +158,39 @@ pub fn are_long(row: &Row, values: &[ValueView<'_>]) -> bool
     ensures { result ≡ spec.are_long (row_of row.now) (values_of values.now) }
 {
     some_long(row, values)
+}
+
+fn has_word(words: &[&str], bytes: &[u8]) -> bool
+    ensures { result ≡ list_any (λ w. bytes_eq w.now bytes.now) words.now }
+{
+    words.iter().any(|w| w.as_bytes() == bytes)
+}
+
+#[tactic(auto, using(crate::proofs::Lists::list_any_map))]
+fn is_word(words: &[&str], bytes: &[u8]) -> bool
+    ensures { result ≡ list_any (λ w. bytes_eq w bytes.now) (map (λ w. w.now) words.now) }
+{
+    has_word(words, bytes)
+}
+
+fn is_number_within(low: u32, high: u32, v: ValueView<'_>) -> bool
+    ensures { result ≡ spec.is_number_within low high (value_of v.entry) }
+{
+    v.tag == 0x21
+        && match number(v.bytes) {
+            Some(n) => low <= n && n <= high,
+            None => false,
+        }
+}
+
+/// The values are supported.
+pub fn are_supported(support: Support, values: &[ValueView<'_>]) -> bool
+    ensures { result ≡ spec.are_supported (support_of support) (values_of values.now) }
+{
+    match (support, values) {
+        (Support::Anything, _) => true,
+        (Support::Between(low, high), [v]) => is_number_within(low, high, *v),
+        (Support::Words(words), [v]) => v.tag == 0x44 && is_word(words, v.bytes),
+        _ => false,
+    }
 }

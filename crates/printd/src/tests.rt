@@ -1,5 +1,6 @@
 //! The program as a whole: lines, words and streams. Its modules test requests by their bytes.
 
+mod attributes;
 mod checks;
 mod job_numbers;
 mod look_and_cancel;

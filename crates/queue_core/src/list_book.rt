@@ -1,5 +1,10 @@
 //! The plain book, which keeps a queue in lists.
-ghost use Rattle.std.specs.Prelude.{◌≡◌, [], OnOk};
+ghost use Rattle.std.specs.Prelude.{◌≡◌, [], ⊤, IfOk, IfErr, OnOk, OnErr};
+ghost use Rattle.queue_core.specs.Book.{IsContent, IsDecisionOn};
+ghost use Rattle.queue_core.specs.Event.{event_of, change_of, decision_of};
+ghost use Rattle.queue_core.specs.Limits.{IsMoment, IsEvent, IsSoundReply};
+ghost use Rattle.queue_core.specs.Machine.{decision};
+ghost use Rattle.queue_core.specs.World.{World, cut, made_on};
 
 use crate::book::{BookFault, QueueBook};
 use crate::event::{Decision, Event};
@@ -60,20 +65,32 @@ impl ListBook {
 
 /// A `ListBook` stands for its content, and is always honest. Its one fault is want of memory.
 impl QueueBook for ListBook {
-    ghost use Rattle.std.specs.Prelude.{⊤};
-    ghost use Rattle.queue_core.specs.Sound.{IsSound};
-
-    ghost stands = { λ b w. (b ≡ w) × IsSound w };
+    ghost stands = { λ b w. IsContent b w };
 
     ghost is_honest = { λ b. ⊤ };
 
-    fn decide<'a>(&mut self, now: u32, e: &Event<'a>) -> Result<Decision<'a>, BookFault> {
+    fn decide<'a>(&mut self, now: u32, e: &Event<'a>) -> Result<Decision<'a>, BookFault>
+        requires moment { IsMoment now }
+        requires event { IsEvent (event_of e.now) }
+        ensures began { ⊤ → ⊤ }
+        ensures kept { (w : World) → IsContent self.old w → IsContent self.new w }
+        ensures decides { ⊤ → IfOk result (λ d. (w : World) → IsContent self.new w
+            → decision_of d ≡ decision (cut w (event_of e.now)) now (event_of e.now)) }
+        ensures limits { IfOk result (λ d. IsSoundReply d.reply) }
+        ensures fault { IfErr result (λ f. f ≡ BookFault.Memory) }
+    {
         let s = scene(self.alloc, &self.lists, e)?;
         let d = machine::decide(self.alloc, &s, now, e)?;
         Ok(d)
     }
 
-    fn apply(&mut self, d: Decision<'_>) -> Result<(), BookFault> {
+    fn apply(&mut self, d: Decision<'_>) -> Result<(), BookFault>
+        requires decided { (w : World) → ⊤ → IsContent self.old w → IsDecisionOn w (decision_of d) }
+        ensures began { ⊤ → ⊤ }
+        ensures ok { OnOk result ((w : World) → IsContent self.old w → IsContent self.new (made_on (change_of d.entry.change) w)) }
+        ensures err { OnErr result ((w : World) → IsContent self.old w → IsContent self.new w) }
+        ensures fault { IfErr result (λ f. f ≡ BookFault.Memory) }
+    {
         let Decision { reply: _, change } = d;
         let document = kept_document(self.alloc, &change.document)?;
         reserve(&mut self.lists, change.jobs.len(), change.free.len())?;

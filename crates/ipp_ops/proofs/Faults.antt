@@ -1,0 +1,138 @@
+-- The code 0x0505 stands for a fault alone: no check and no answer of the machine has it.
+use Rattle.std.proofs.Common.{◌≡◌, ℕ, List, [], ◌∷◌, ◌++◌, Bool, true, false, refl, ap, ◌∙◌, subst, Err}
+use Rattle.std.specs.Prelude.{Option, Some, None, if◌then◌else◌, ⊤, ◌==◌, nat_le, nat_lt, map}
+use Rattle.std.specs.Bool.{OnFalse, OnTrue}
+use Rattle.std.specs.Option.{ok_or}
+use Rattle.std.specs.Result.{result_err}
+use Rattle.ipp_wire.specs.declared.view.Head.{Head}
+use Rattle.ipp_wire.specs.Message.{Group, Message, Spells, spelling}
+use Rattle.ipp_wire.specs.Bare.{bare}
+use Rattle.queue_core.specs.declared.job.Job.{Job}
+use Rattle.queue_core.specs.declared.job.Phase.{Phase}
+use Rattle.queue_core.specs.declared.job.Phase.TheVariants.{Waiting, Running, Stopped, Canceled, Aborted, Completed}
+use Rattle.queue_core.specs.declared.event.Reply.{Reply}
+use Rattle.queue_core.specs.declared.event.Reply.TheVariants.{Refused, Done, Jobs}
+use Rattle.queue_core.specs.declared.event.Scene.{Scene}
+use Rattle.queue_core.specs.Event.{Call, Decision, ask, print_job, cancel_job, get_job_attributes}
+use Rattle.queue_core.specs.Machine.{call_row, cancel_in, of_own, entered, new_job, first_document, refused as refused_row}
+use Rattle.queue_core.specs.World.{World, cut}
+use Rattle.queue_core.specs.Settings.{SettingValues}
+use Rattle.ipp_ops.specs.declared.operation.Operation.{Operation}
+use Rattle.ipp_ops.specs.declared.check.Check.{Check}
+use Rattle.ipp_ops.specs.declared.check.Check.TheVariants as check
+use Rattle.ipp_ops.specs.declared.job_reply.JobAttribute.{JobAttribute}
+use Rattle.ipp_ops.specs.Operations.{operation_of}
+use Rattle.ipp_ops.specs.Unsupported.{Unsupported, is_listed, unsupported}
+use Rattle.ipp_ops.specs.Checks.{refusal, is_spoken, head_refusal}
+use Rattle.ipp_ops.specs.Asked.{Asked, asked, refused, refused_by, outcome_of, asked_by, asks}
+use Rattle.ipp_ops.specs.Reply.{with_groups, unsupported_groups, reply_of}
+use Rattle.ipp_ops.specs.JobReply.{job_group}
+use Rattle.ipp_ops.specs.Answer.{is_fault, outcome}
+
+-- a reply with this code is no fault
+abbrev IsQuiet : ℕ → Type 0
+IsQuiet code = (h : Head) (gs : List Group) → is_fault (spelling (with_groups (bare h code) gs)) ≡ false
+
+-- ---- what is refused by a check
+
+abbrev QuietAsked : Asked → Type 0
+QuietAsked (refused code u) = IsQuiet code
+QuietAsked (asked caller call rows u) = ⊤
+
+check_quiet : (c : Check) (u : Unsupported) → QuietAsked (refused_by c u)
+check_quiet check.Order u = λ h gs. refl
+check_quiet check.Charset u = λ h gs. refl
+check_quiet check.Form u = λ h gs. refl
+check_quiet check.Length u = λ h gs. refl
+check_quiet check.Needed u = λ h gs. refl
+check_quiet check.Target u = λ h gs. refl
+check_quiet check.Compression u = λ h gs. refl
+check_quiet check.Format u = λ h gs. refl
+check_quiet check.Ignored u = λ h gs. refl
+
+outcome_quiet : (o : Operation) (m : Message) (u : Unsupported) (r : Option Check) → QuietAsked (outcome_of o m u r)
+outcome_quiet o m u (Some c) = check_quiet c u
+outcome_quiet o m u None = tt
+
+asked_quiet : (spoken : Bool) (o : Option Operation) (m : Message) → QuietAsked (asked_by (if spoken then ok_or o 0x0501 else Err 0x0503) m)
+asked_quiet false o m = λ h gs. refl
+asked_quiet true None m = λ h gs. refl
+asked_quiet true (Some o) m = outcome_quiet o m (unsupported o m) (refusal o m (unsupported o m))
+
+asks_quiet : (m : Message) → QuietAsked (asks m)
+asks_quiet m = asked_quiet (is_spoken m.head) (operation_of m.head.code) m
+
+head_quiet : (spoken : Bool) (o : Option Operation) (code : ℕ) → result_err (if spoken then ok_or o 0x0501 else Err 0x0503) ≡ Some code → IsQuiet code
+head_quiet false o code e = let same : 0x0503 ≡ code = cc in subst IsQuiet same (λ h gs. refl)
+head_quiet true None code e = let same : 0x0501 ≡ code = cc in subst IsQuiet same (λ h gs. refl)
+head_quiet true (Some o) code e = absurd (cc)
+
+-- ---- what the machine refuses
+
+abbrev QuietReply : Reply → Type 0
+QuietReply (Refused code) = IsQuiet code
+QuietReply Done = ⊤
+QuietReply (Jobs js) = ⊤
+
+print_quiet : (full ended : Bool) (d : Decision) → QuietReply d.reply → QuietReply (if full then refused_row 0x0404 else (if ended then refused_row 0x0506 else d)).reply
+print_quiet true ended d q = λ h gs. refl
+print_quiet false true d q = λ h gs. refl
+print_quiet false false d q = q
+
+stop_quiet : (stopping : Bool) (d : Decision) → QuietReply d.reply → QuietReply (if stopping then refused_row 0x0404 else d).reply
+stop_quiet true d q = λ h gs. refl
+stop_quiet false d q = q
+
+cancel_quiet : (p : Phase) (s : Scene) (now : ℕ) (j : Job) → QuietReply (cancel_in p s now j).reply
+cancel_quiet Waiting s now j = tt
+cancel_quiet Running s now j = stop_quiet j.stopping _ tt
+cancel_quiet Stopped s now j = stop_quiet j.stopping _ tt
+cancel_quiet (Canceled why) s now j = λ h gs. refl
+cancel_quiet Aborted s now j = λ h gs. refl
+cancel_quiet Completed s now j = λ h gs. refl
+
+owned_quiet : (own : Bool) (d : Decision) → QuietReply d.reply → QuietReply (if own then d else refused_row 0x0406).reply
+owned_quiet true d q = q
+owned_quiet false d q = λ h gs. refl
+
+own_quiet : (caller : List ℕ) (row : Job → Decision) → ((j : Job) → QuietReply (row j).reply) → (js : List Job) → QuietReply (of_own caller row js).reply
+own_quiet caller row q [] = λ h gs. refl
+own_quiet caller row q (j ∷ js) = owned_quiet _ (row j) (q j)
+
+machine_quiet : (s : Scene) (now : ℕ) (caller : List ℕ) (call : Call) → QuietReply (call_row s now caller call).reply
+machine_quiet s now caller (print_job j format payload) = print_quiet (nat_le 100 s.live) (nat_lt 2147483647 s.next) (entered s (new_job s now caller j payload) (first_document s.next format payload)) tt
+machine_quiet s now caller (cancel_job n) = own_quiet caller (λ j. cancel_in j.phase s now j) (λ j. cancel_quiet j.phase s now j) s.jobs
+machine_quiet s now caller (get_job_attributes n) = own_quiet caller _ (λ j. tt) s.jobs
+
+-- ---- the reply
+
+success_quiet : (listed : Bool) (h : Head) (gs : List Group) → is_fault (spelling (with_groups (bare h (if listed then 0x0001 else 0x0000)) gs)) ≡ false
+success_quiet true h gs = refl
+success_quiet false h gs = refl
+
+reply_quiet : (r : Reply) (h : Head) (rows : List JobAttribute) (u : Unsupported) (s : SettingValues) (now : ℕ) → QuietReply r → is_fault (spelling (reply_of r h rows u s now)) ≡ false
+reply_quiet (Refused code) h rows u s now q = q h (if code == 0x040B then unsupported_groups u else [])
+reply_quiet Done h rows u s now q = success_quiet (is_listed u) h (unsupported_groups u)
+reply_quiet (Jobs js) h rows u s now q = success_quiet (is_listed u) h (unsupported_groups u ++ map (job_group s.uri now rows) js)
+
+outcome_tells : (a : Asked) (h : Head) (w : World) (now : ℕ) → QuietAsked a → is_fault (spelling (outcome a h w now).reply) ≡ false
+outcome_tells (refused code u) h w now q = reply_quiet (Refused code) h [] u w.settings now q
+outcome_tells (asked caller call rows u) h w now q = reply_quiet _ h rows u w.settings now (machine_quiet (cut w (ask caller call)) now caller call)
+
+-- bytes that a request is answered are no fault
+pub request_tells : (m : Message) (w : World) (now : ℕ) (out : List ℕ) → Spells (outcome (asks m) m.head w now).reply out → is_fault out ≡ false
+request_tells m w now out spelled = ap is_fault spelled.bytes ∙ outcome_tells (asks m) m.head w now (asks_quiet m)
+
+-- nor those that the head alone is answered
+pub head_tells : (h : Head) (code : ℕ) (out : List ℕ) → head_refusal h ≡ Some code → Spells (bare h code) out → is_fault out ≡ false
+head_tells h code out found spelled = ap is_fault spelled.bytes ∙ head_quiet (is_spoken h) (operation_of h.code) code found h []
+
+-- ---- a fact for one value of a test
+
+pub on_false : (P : Type 0) (b : Bool) → P → OnFalse b P
+on_false P true p = tt
+on_false P false p = p
+
+pub on_true : (P : Type 0) (b : Bool) → (b ≡ true → P) → OnTrue b P
+on_true P true p = p refl
+on_true P false p = tt

@@ -1,0 +1,87 @@
+-- What is listed may stand in a message, where the request is one.
+use Rattle.std.proofs.Common.{ℕ, List, [], ◌∷◌, ◌==◌, Bool, true, false, lit<, lit≤, refl, Result, Ok, Err}
+use Rattle.std.specs.Prelude.{Option, Some, None, IfSome, filter, find, cond}
+use Rattle.std.specs.List.{AllByRecursion, filter_map, cons_option}
+use Rattle.std.specs.Option.{option_map_or}
+use Rattle.ipp_wire.specs.Message.{Attribute, Group, Message, IsAttribute, IsGroup, IsMessage}
+use Rattle.ipp_ops.specs.declared.operation.Operation.{Operation}
+use Rattle.ipp_ops.specs.declared.unsupported.Source.{Source}
+use Rattle.ipp_ops.specs.declared.unsupported.Source.TheVariants.{OperationGroup, JobGroup}
+use Rattle.ipp_ops.specs.declared.check.Check.{Check}
+use Rattle.ipp_ops.specs.declared.check.Check.TheVariants as check
+use Rattle.ipp_ops.specs.Operations.{makes_job}
+use Rattle.ipp_ops.specs.Attributes.{Support}
+use Rattle.ipp_ops.specs.Values.{are_supported}
+use Rattle.ipp_ops.specs.Request.{attributes_in, operation_attributes, job_attributes}
+use Rattle.ipp_ops.specs.Unsupported.{Unsupported, counted, listed, listed_by, listed_in, support_for, unsupported}
+use Rattle.ipp_ops.specs.Checks.{refusal}
+use Rattle.ipp_ops.specs.Asked.{refused_by, outcome_of, asked_by, asks, CanList, ListsAttributes}
+use Rattle.ipp_ops.proofs.Put.{plain_attribute}
+
+all_filtered : (p : Attribute → Bool) (attrs : List Attribute) → AllByRecursion IsAttribute attrs → AllByRecursion IsAttribute (filter p attrs)
+all_filtered p [] h = tt
+all_filtered p (a ∷ attrs) h = elim (p a) as (λ b. AllByRecursion IsAttribute (cond b (a ∷ filter p attrs) (filter p attrs))) [ true ↦ (h.0, all_filtered p attrs h.1) | false ↦ all_filtered p attrs h.1 ]
+
+all_counted : (attrs : List Attribute) → AllByRecursion IsAttribute attrs → AllByRecursion IsAttribute (counted attrs)
+all_counted [] h = tt
+all_counted (a ∷ attrs) h = (h.0, all_filtered _ (counted attrs) (all_counted attrs h.1))
+
+one_more : (o : Option Attribute) (attrs : List Attribute) → IfSome o IsAttribute → AllByRecursion IsAttribute attrs → AllByRecursion IsAttribute (cons_option o attrs)
+one_more None attrs h all = all
+one_more (Some a) attrs h all = (h, all)
+
+all_mapped : (f : Attribute → Option Attribute) → ((a : Attribute) → IsAttribute a → IfSome (f a) IsAttribute) → (attrs : List Attribute) → AllByRecursion IsAttribute attrs → AllByRecursion IsAttribute (filter_map f attrs)
+all_mapped f fits [] h = tt
+all_mapped f fits (a ∷ attrs) h = one_more (f a) (filter_map f attrs) (fits a h.0) (all_mapped f fits attrs h.1)
+
+supported_or_not : (b : Bool) (a : Attribute) → IsAttribute a → IfSome (cond b None (Some a)) IsAttribute
+supported_or_not true a h = tt
+supported_or_not false a h = h
+
+listed_fits : (s : Option Support) (a : Attribute) → IsAttribute a → IfSome (listed_by s a) IsAttribute
+listed_fits None a h =
+    plain_attribute a.name (record { tag = 0x10; bytes = [] } ∷ []) h.begun.named h.begun.short (lit< tt)
+    (record { value = record { tag_low = lit≤ tt; tag_high = lit< tt; short = lit< tt }; opens_none = refl; closes_none = refl }, tt)
+listed_fits (Some s) a h = supported_or_not (are_supported s a.values) a h
+
+all_listed : (s : Source) (attrs : List Attribute) → AllByRecursion IsAttribute attrs → AllByRecursion IsAttribute (listed_in s attrs)
+all_listed s attrs h = all_mapped (listed s) (λ a. listed_fits (support_for s a.name) a) (counted attrs) (all_counted attrs h)
+
+group_fits : (tag : ℕ) (gs : List Group) → AllByRecursion IsGroup gs → AllByRecursion IsAttribute (attributes_in tag gs)
+group_fits tag [] h = tt
+group_fits tag (g ∷ gs) h =
+    elim (g.tag == tag) as (λ b. AllByRecursion IsAttribute (option_map_or (λ x. x.attributes) (cond b (Some g) (find (λ x. x.tag == tag) gs)) []))
+    [ true ↦ h.0.attributes | false ↦ group_fits tag gs h.1 ]
+
+where_made : (b : Bool) (attrs : List Attribute) → AllByRecursion IsAttribute attrs → AllByRecursion IsAttribute (cond b attrs [])
+where_made true attrs h = h
+where_made false attrs h = tt
+
+can_list : (o : Operation) (m : Message) → IsMessage m → CanList (unsupported o m)
+can_list o m h = (
+  all_listed (OperationGroup o) (operation_attributes m) (group_fits 0x01 m.groups h.groups),
+  where_made (makes_job o) (listed_in JobGroup (job_attributes m)) (all_listed JobGroup (job_attributes m) (group_fits 0x02 m.groups h.groups)),
+)
+
+refused_lists : (c : Check) (u : Unsupported) → CanList u → ListsAttributes (refused_by c u)
+refused_lists check.Order u h = (tt, tt)
+refused_lists check.Charset u h = (tt, tt)
+refused_lists check.Form u h = (tt, tt)
+refused_lists check.Length u h = (tt, tt)
+refused_lists check.Needed u h = (tt, tt)
+refused_lists check.Target u h = (tt, tt)
+refused_lists check.Compression u h = (tt, tt)
+refused_lists check.Format u h = (tt, tt)
+refused_lists check.Ignored u h = h
+
+outcome_lists : (o : Operation) (m : Message) (u : Unsupported) (r : Option Check) → CanList u → ListsAttributes (outcome_of o m u r)
+outcome_lists o m u (Some c) h = refused_lists c u h
+outcome_lists o m u None h = h
+
+asked_lists : (a : Result Operation ℕ) (m : Message) → IsMessage m → ListsAttributes (asked_by a m)
+asked_lists (Err code) m h = (tt, tt)
+asked_lists (Ok o) m h = outcome_lists o m (unsupported o m) (refusal o m (unsupported o m)) (can_list o m h)
+
+-- what the answer to a message lists may stand in one
+pub asks_lists : (m : Message) → IsMessage m → ListsAttributes (asks m)
+asks_lists m h = asked_lists _ m h

@@ -1,0 +1,65 @@
+-- The attributes of a request that the printer doesn't take as they stand (RFC 8011, section 4.1.7).
+use Rattle.std.specs.Prelude.{ℕ, List, [], ◌∷◌, Option, Some, None, Bool, true, false, not, ◌&&◌, ◌||◌, bytes_eq, find, filter, if◌then◌else◌, option_map}
+use Rattle.std.specs.List.{filter_map}
+use Rattle.ipp_wire.specs.Message.{Attribute, Message}
+use Rattle.ipp_wire.specs.Viewed.{attributes_of}
+use Rattle.ipp_ops.specs.declared.operation.Operation.{Operation}
+use Rattle.ipp_ops.specs.declared.unsupported.Source.{Source}
+use Rattle.ipp_ops.specs.declared.unsupported.Source.TheVariants.{OperationGroup, JobGroup}
+use Rattle.ipp_ops.specs.declared.unsupported.Unsupported.{Unsupported as UnsupportedRef}
+use Rattle.ipp_ops.specs.Operations.{makes_job}
+use Rattle.ipp_ops.specs.Attributes.{Support, row, table, knows, template_row, template_table}
+use Rattle.ipp_ops.specs.Values.{are_supported}
+use Rattle.ipp_ops.specs.Request.{operation_attributes, job_attributes}
+
+-- the attributes that are listed, by the group in which they were
+pub record Unsupported : Type 0 where
+  pub operation : List Attribute
+  pub job : List Attribute
+
+abbrev pub nothing : Unsupported
+nothing = record { operation = []; job = [] }
+
+abbrev pub is_filled : List Attribute → Bool
+is_filled [] = false
+is_filled (a ∷ attrs) = true
+
+-- something is listed
+abbrev pub is_listed : Unsupported → Bool
+is_listed u = is_filled u.operation || is_filled u.job
+
+-- ---- what is listed
+
+-- the first attribute of each name
+abbrev pub counted : List Attribute → List Attribute
+counted [] = []
+counted (a ∷ attrs) = a ∷ filter (λ b. not (bytes_eq a.name b.name)) (counted attrs)
+
+-- what is supported of an attribute of that name, where it is known
+abbrev pub support_for : Source → List ℕ → Option Support
+support_for (OperationGroup o) name = option_map (λ k. (row k).support) (find (λ k. bytes_eq (row k).name name && knows o k) table)
+support_for JobGroup name = option_map (λ k. (template_row k).support) (find (λ k. bytes_eq (template_row k).name name) template_table)
+
+-- an unknown attribute is listed with one value of tag 0x10 without bytes, a known one with its own
+abbrev pub listed_by : Option Support → Attribute → Option Attribute
+listed_by None a = Some (record { name = a.name; values = record { tag = 0x10; bytes = [] } ∷ [] })
+listed_by (Some s) a = if are_supported s a.values then None else Some a
+
+abbrev pub listed : Source → Attribute → Option Attribute
+listed s a = listed_by (support_for s a.name) a
+
+-- in the request's order
+abbrev pub listed_in : Source → List Attribute → List Attribute
+listed_in s attrs = filter_map (listed s) (counted attrs)
+
+-- the job group is looked at where the operation makes a job
+abbrev pub unsupported : Operation → Message → Unsupported
+unsupported o m = record {
+  operation = listed_in (OperationGroup o) (operation_attributes m);
+  job = if makes_job o then listed_in JobGroup (job_attributes m) else [];
+}
+
+-- ---- a list of the code, by its content
+
+abbrev pub unsupported_of : UnsupportedRef → Unsupported
+unsupported_of u = record { operation = attributes_of u.operation.items; job = attributes_of u.job.items }
