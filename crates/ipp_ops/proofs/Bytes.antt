@@ -7,6 +7,7 @@ use Rattle.ipp_wire.specs.Bare.{bare}
 use Rattle.queue_core.specs.Settings.{SettingValues}
 use Rattle.queue_core.specs.declared.event.Reply.TheVariants.{Refused}
 use Rattle.ipp_ops.specs.Unsupported.{nothing}
+use Rattle.ipp_ops.specs.Wanted.{no_rows}
 use Rattle.ipp_ops.specs.Reply.{reply_of, with_groups}
 
 -- a spelling begins with the message's head
@@ -18,8 +19,8 @@ same_twice true gs = refl
 same_twice false gs = refl
 
 -- a refusal with nothing listed is bare
-bare_refusal : (code : ℕ) (h : Head) (s : SettingValues) (now : ℕ) → reply_of (Refused code) h [] nothing s now ≡ bare h code
+bare_refusal : (code : ℕ) (h : Head) (s : SettingValues) (now : ℕ) → reply_of (Refused code) h no_rows nothing s now ≡ bare h code
 bare_refusal code h s now = ap (λ (gs : List Group). with_groups (bare h code) gs) (same_twice (code == 0x040B) [])
 
-pub bare_spelled : (code : ℕ) (h : Head) (s : SettingValues) (now : ℕ) (out : List ℕ) → Spells (bare h code) out → Spells (reply_of (Refused code) h [] nothing s now) out
+pub bare_spelled : (code : ℕ) (h : Head) (s : SettingValues) (now : ℕ) (out : List ℕ) → Spells (bare h code) out → Spells (reply_of (Refused code) h no_rows nothing s now) out
 bare_spelled code h s now out spelled = subst (λ (m : Message). Spells m out) (sym (bare_refusal code h s now)) spelled

@@ -11,22 +11,23 @@ use Rattle.queue_core.specs.declared.job.Job.{Job}
 use Rattle.queue_core.specs.declared.job.Phase.{Phase}
 use Rattle.queue_core.specs.declared.job.Phase.TheVariants.{Waiting, Running, Stopped, Canceled, Aborted, Completed}
 use Rattle.queue_core.specs.declared.event.Reply.{Reply}
-use Rattle.queue_core.specs.declared.event.Reply.TheVariants.{Refused, Done, Jobs}
+use Rattle.queue_core.specs.declared.event.Reply.TheVariants.{Refused, Done, Jobs, Printer}
 use Rattle.queue_core.specs.declared.event.Scene.{Scene}
-use Rattle.queue_core.specs.Event.{Call, Decision, ask, print_job, cancel_job, get_job_attributes}
-use Rattle.queue_core.specs.Machine.{call_row, cancel_in, of_own, entered, new_job, first_document, refused as refused_row}
+use Rattle.queue_core.specs.Event.{Call, Decision, ask, print_job, validate_job, cancel_job, get_job_attributes, get_jobs, get_printer_attributes}
+use Rattle.queue_core.specs.Machine.{call_row, cancel_in, of_own, entered, answered, new_job, first_document, unless_refused, refused as refused_row}
 use Rattle.queue_core.specs.World.{World, cut}
 use Rattle.queue_core.specs.Settings.{SettingValues}
 use Rattle.ipp_ops.specs.declared.operation.Operation.{Operation}
 use Rattle.ipp_ops.specs.declared.check.Check.{Check}
 use Rattle.ipp_ops.specs.declared.check.Check.TheVariants as check
-use Rattle.ipp_ops.specs.declared.job_reply.JobAttribute.{JobAttribute}
+use Rattle.ipp_ops.specs.Wanted.{Rows, no_rows}
 use Rattle.ipp_ops.specs.Operations.{operation_of}
 use Rattle.ipp_ops.specs.Unsupported.{Unsupported, is_listed, unsupported}
 use Rattle.ipp_ops.specs.Checks.{refusal, is_spoken, head_refusal}
 use Rattle.ipp_ops.specs.Asked.{Asked, asked, refused, refused_by, outcome_of, asked_by, asks}
 use Rattle.ipp_ops.specs.Reply.{with_groups, unsupported_groups, reply_of}
 use Rattle.ipp_ops.specs.JobReply.{job_group}
+use Rattle.ipp_ops.specs.PrinterReply.{printer_group}
 use Rattle.ipp_ops.specs.Answer.{is_fault, outcome}
 
 -- a reply with this code is no fault
@@ -73,11 +74,15 @@ abbrev QuietReply : Reply → Type 0
 QuietReply (Refused code) = IsQuiet code
 QuietReply Done = ⊤
 QuietReply (Jobs js) = ⊤
+QuietReply (Printer state queued accepting) = ⊤
 
-print_quiet : (full ended : Bool) (d : Decision) → QuietReply d.reply → QuietReply (if full then refused_row 0x0404 else (if ended then refused_row 0x0506 else d)).reply
-print_quiet true ended d q = λ h gs. refl
-print_quiet false true d q = λ h gs. refl
-print_quiet false false d q = q
+abbrev refused_by_limits : Bool → Bool → Option ℕ
+refused_by_limits full ended = if full then Some 0x0404 else (if ended then Some 0x0506 else None)
+
+new_quiet : (full ended : Bool) (d : Decision) → QuietReply d.reply → QuietReply (unless_refused (refused_by_limits full ended) d).reply
+new_quiet true ended d q = λ h gs. refl
+new_quiet false true d q = λ h gs. refl
+new_quiet false false d q = q
 
 stop_quiet : (stopping : Bool) (d : Decision) → QuietReply d.reply → QuietReply (if stopping then refused_row 0x0404 else d).reply
 stop_quiet true d q = λ h gs. refl
@@ -100,7 +105,10 @@ own_quiet caller row q [] = λ h gs. refl
 own_quiet caller row q (j ∷ js) = owned_quiet _ (row j) (q j)
 
 machine_quiet : (s : Scene) (now : ℕ) (caller : List ℕ) (call : Call) → QuietReply (call_row s now caller call).reply
-machine_quiet s now caller (print_job j format payload) = print_quiet (nat_le 100 s.live) (nat_lt 2147483647 s.next) (entered s (new_job s now caller j payload) (first_document s.next format payload)) tt
+machine_quiet s now caller (print_job j format payload) = new_quiet (nat_le 100 s.live) (nat_lt 2147483647 s.next) (entered s (new_job s now caller j payload) (first_document s.next format payload)) tt
+machine_quiet s now caller (validate_job j) = new_quiet (nat_le 100 s.live) (nat_lt 2147483647 s.next) (answered Done) tt
+machine_quiet s now caller (get_jobs which limit) = tt
+machine_quiet s now caller get_printer_attributes = tt
 machine_quiet s now caller (cancel_job n) = own_quiet caller (λ j. cancel_in j.phase s now j) (λ j. cancel_quiet j.phase s now j) s.jobs
 machine_quiet s now caller (get_job_attributes n) = own_quiet caller _ (λ j. tt) s.jobs
 
@@ -110,13 +118,14 @@ success_quiet : (listed : Bool) (h : Head) (gs : List Group) → is_fault (spell
 success_quiet true h gs = refl
 success_quiet false h gs = refl
 
-reply_quiet : (r : Reply) (h : Head) (rows : List JobAttribute) (u : Unsupported) (s : SettingValues) (now : ℕ) → QuietReply r → is_fault (spelling (reply_of r h rows u s now)) ≡ false
+reply_quiet : (r : Reply) (h : Head) (rows : Rows) (u : Unsupported) (s : SettingValues) (now : ℕ) → QuietReply r → is_fault (spelling (reply_of r h rows u s now)) ≡ false
 reply_quiet (Refused code) h rows u s now q = q h (if code == 0x040B then unsupported_groups u else [])
 reply_quiet Done h rows u s now q = success_quiet (is_listed u) h (unsupported_groups u)
-reply_quiet (Jobs js) h rows u s now q = success_quiet (is_listed u) h (unsupported_groups u ++ map (job_group s.uri now rows) js)
+reply_quiet (Jobs js) h rows u s now q = success_quiet (is_listed u) h (unsupported_groups u ++ map (job_group s.uri now rows.job) js)
+reply_quiet (Printer state queued accepting) h rows u s now q = success_quiet (is_listed u) h (unsupported_groups u ++ printer_group (record { settings = s; now = now; state = state; queued = queued; accepting = accepting }) rows.printer ∷ [])
 
 outcome_tells : (a : Asked) (h : Head) (w : World) (now : ℕ) → QuietAsked a → is_fault (spelling (outcome a h w now).reply) ≡ false
-outcome_tells (refused code u) h w now q = reply_quiet (Refused code) h [] u w.settings now q
+outcome_tells (refused code u) h w now q = reply_quiet (Refused code) h no_rows u w.settings now q
 outcome_tells (asked caller call rows u) h w now q = reply_quiet _ h rows u w.settings now (machine_quiet (cut w (ask caller call)) now caller call)
 
 -- bytes that a request is answered are no fault

@@ -1,6 +1,7 @@
 pub mod Lists
 pub mod Put
 pub mod Rows
+pub mod PrinterRows
 pub mod Bytes
 pub mod Tests
 pub mod Texts

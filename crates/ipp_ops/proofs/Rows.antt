@@ -32,7 +32,7 @@ pub record ArePlain (vs : List Value) : Type 0 where
   pub some : 0 < length vs
   pub all : AllByRecursion IsPlain vs
 
-plain : (tag : ℕ) (bytes : List ℕ) → IsPlainTag tag → length bytes < 2 ^ 15 → IsPlain (record { tag = tag; bytes = bytes })
+pub plain : (tag : ℕ) (bytes : List ℕ) → IsPlainTag tag → length bytes < 2 ^ 15 → IsPlain (record { tag = tag; bytes = bytes })
 plain tag bytes t short = record {
   value = record { tag_low = t.low; tag_high = t.high; short = short };
   opens_none = ap (λ b. if b then 1 else 0) t.no_open;
@@ -40,7 +40,7 @@ plain tag bytes t short = record {
 }
 
 -- one value with such a tag
-one : (tag : ℕ) (bytes : List ℕ) → IsPlainTag tag → length bytes < 2 ^ 15 → ArePlain (record { tag = tag; bytes = bytes } ∷ [])
+pub one : (tag : ℕ) (bytes : List ℕ) → IsPlainTag tag → length bytes < 2 ^ 15 → ArePlain (record { tag = tag; bytes = bytes } ∷ [])
 one tag bytes t short = record { some = lit< tt; all = (plain tag bytes t short, tt) }
 
 reason_short : (r : Reason) → length (reason_word r) < 2 ^ 15

@@ -5,10 +5,10 @@ use Rattle.std.specs.Option.{option_map_or}
 use borrow.Author.Tests.{leb-true}
 use Rattle.ipp_wire.specs.Message.{Value, Attribute, Message}
 use Rattle.queue_core.specs.Event.{Call}
-use Rattle.ipp_ops.specs.declared.job_reply.JobAttribute.{JobAttribute}
+use Rattle.ipp_ops.specs.Wanted.{Rows}
 use Rattle.queue_core.specs.Limits.{IsOwner, IsJobName, IsNewJob, IsCall}
 use Rattle.ipp_ops.specs.declared.operation.Operation.{Operation}
-use Rattle.ipp_ops.specs.declared.operation.Operation.TheVariants.{PrintJob, CancelJob, GetJobAttributes}
+use Rattle.ipp_ops.specs.declared.operation.Operation.TheVariants.{PrintJob, ValidateJob, CancelJob, GetJobAttributes, GetJobs, GetPrinterAttributes}
 use Rattle.ipp_ops.specs.declared.attribute.OperationAttribute.TheVariants as key
 use Rattle.ipp_ops.specs.declared.template.TemplateAttribute.TheVariants as template
 use Rattle.ipp_ops.specs.declared.check.Check.{Check}
@@ -98,6 +98,9 @@ call_fits : (o : Operation) (m : Message) → ArePassed o (operation_attributes 
 call_fits PrintJob m p h = (new_job_fits PrintJob m p, h)
 call_fits CancelJob m p h = tt
 call_fits GetJobAttributes m p h = tt
+call_fits ValidateJob m p h = new_job_fits ValidateJob m p
+call_fits GetJobs m p h = tt
+call_fits GetPrinterAttributes m p h = tt
 
 refused_fits : (c : Check) (u : Unsupported) → IsWithinLimits (refused_by c u)
 refused_fits check.Order u = tt
@@ -133,5 +136,5 @@ pub asks_call : (m : Message) (o : Operation) (u : Unsupported) → asked_in m.h
     → asks m ≡ asked (caller o (operation_attributes m)) (call_in o m) (wanted o m) u
 asks_call m o u e f r = ap (λ a. asked_by a m) e ∙ ap (λ v. outcome_of o m v (refusal o m v)) f ∙ ap (outcome_of o m u) r
 
-pub asked_same : (c d : List ℕ) (k l : Call) (r s : List JobAttribute) (u : Unsupported) → c ≡ d → k ≡ l → r ≡ s → asked c k r u ≡ asked d l s u
+pub asked_same : (c d : List ℕ) (k l : Call) (r s : Rows) (u : Unsupported) → c ≡ d → k ≡ l → r ≡ s → asked c k r u ≡ asked d l s u
 asked_same c d k l r s u e f g = cc

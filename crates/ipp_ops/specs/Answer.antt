@@ -1,5 +1,5 @@
 -- What the bytes of a request bring about: a reply, and the world after it.
-use Rattle.std.specs.Prelude.{◌≡◌, ◌++◌, ◌∷◌, ◌==◌, ◌&&◌, ℕ, Bool, false, List, [], drop, Some, None}
+use Rattle.std.specs.Prelude.{◌≡◌, ◌++◌, ◌∷◌, ◌==◌, ◌&&◌, ℕ, Bool, false, List, drop, Some, None}
 use Rattle.ipp_wire.specs.declared.view.Head.{Head}
 use Rattle.ipp_wire.specs.Message.{Message, IsHead, Spells, head_bytes}
 use Rattle.ipp_wire.specs.Bare.{bare}
@@ -13,6 +13,7 @@ use Rattle.ipp_ops.specs.Asked.{Asked, asked, refused, asks}
 use Rattle.ipp_ops.specs.Unsupported.{nothing}
 use Rattle.ipp_ops.specs.Checks.{head_refusal}
 use Rattle.ipp_ops.specs.Reply.{reply_of}
+use Rattle.ipp_ops.specs.Wanted.{no_rows}
 
 -- the bytes begin with this head
 pub record BeginsWith (h : Head) (b : List ℕ) : Type 0 where
@@ -31,7 +32,7 @@ pub record Outcome : Type 0 where
 
 -- a refused request leaves the world; else the machine takes one step
 abbrev pub outcome : Asked → Head → World → ℕ → Outcome
-outcome (refused code u) h w now = record { world = w; reply = reply_of (RefusedReply code) h [] u w.settings now }
+outcome (refused code u) h w now = record { world = w; reply = reply_of (RefusedReply code) h no_rows u w.settings now }
 outcome (asked caller call rows u) h w now = record {
   world = (step w now (ask caller call)).world;
   reply = reply_of (step w now (ask caller call)).reply h rows u w.settings now;

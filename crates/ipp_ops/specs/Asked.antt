@@ -1,37 +1,51 @@
 -- What a request asks: the first check that refuses it, or else its call.
-use Rattle.std.specs.Prelude.{ℕ, List, [], ◌∷◌, Option, Some, None, Result, Ok, Err, ⊤, codes, unwrap_or}
+use Rattle.std.specs.Prelude.{ℕ, List, [], ◌∷◌, Option, Some, None, Result, Ok, Err, ⊤, codes, unwrap_or, bytes_eq, if◌then◌else◌}
 use Rattle.std.specs.List.{AllByRecursion}
 use Rattle.std.specs.Option.{option_map_or}
 use Rattle.ipp_wire.specs.Message.{Attribute, Message, IsAttribute}
-use Rattle.queue_core.specs.Event.{Call, ask, print_job, cancel_job, get_job_attributes, call_of}
+use Rattle.queue_core.specs.Event.{Call, ask, print_job, validate_job, cancel_job, get_job_attributes, get_jobs, get_printer_attributes, call_of}
 use Rattle.queue_core.specs.Limits.{IsEvent}
 use Rattle.ipp_ops.specs.declared.operation.Operation.{Operation}
-use Rattle.ipp_ops.specs.declared.operation.Operation.TheVariants.{PrintJob, CancelJob, GetJobAttributes}
-use Rattle.ipp_ops.specs.declared.attribute.OperationAttribute.TheVariants.{RequestedAttributes}
+use Rattle.ipp_ops.specs.declared.operation.Operation.TheVariants.{PrintJob, ValidateJob, CancelJob, GetJobAttributes, GetJobs, GetPrinterAttributes}
+use Rattle.ipp_ops.specs.declared.attribute.OperationAttribute.TheVariants.{RequestedAttributes, WhichJobs, Limit}
 use Rattle.ipp_ops.specs.declared.check.Check.{Check}
 use Rattle.ipp_ops.specs.declared.check.Check.TheVariants as check
-use Rattle.ipp_ops.specs.declared.job_reply.JobAttribute.{JobAttribute}
+use Rattle.ipp_ops.specs.Wanted.{Rows}
 use Rattle.ipp_ops.specs.declared.request.Ask.{Ask}
 use Rattle.ipp_ops.specs.declared.request.Ask.TheVariants.{Call as CallAsk, Refused}
-use Rattle.ipp_ops.specs.Values.{words_of}
-use Rattle.ipp_ops.specs.Request.{operation_attributes, known, target_job, caller}
+use Rattle.queue_core.specs.declared.event.WhichJobs.{WhichJobs as Which}
+use Rattle.queue_core.specs.declared.event.WhichJobs.TheVariants as which
+use Rattle.ipp_ops.specs.Values.{words_of, number_of}
+use Rattle.ipp_ops.specs.Request.{operation_attributes, known, bytes_of, target_job, caller}
 use Rattle.ipp_ops.specs.Unsupported.{Unsupported, nothing, unsupported, unsupported_of}
 use Rattle.ipp_ops.specs.Checks.{refusal, code, asked_in}
 use Rattle.ipp_ops.specs.NewJob.{new_job, format}
 use Rattle.ipp_ops.specs.JobReply.{selected}
+use Rattle.ipp_ops.specs.PrinterReply.{selected as selected_of_printer}
 
--- a status code that refuses; or a call by a caller, with the rows that its reply is to have of a job;
--- and what is unsupported
+-- a status code that refuses; or a call by a caller, with the rows that its reply is to have; and what is
+-- unsupported
 pub data Asked : Type 0 where
   refused : ℕ → Unsupported → Asked
-  asked : List ℕ → Call → List JobAttribute → Unsupported → Asked
+  asked : List ℕ → Call → Rows → Unsupported → Asked
 
 -- the job's number; where the checks pass there is one
 abbrev pub job : Operation → Message → ℕ
 job o m = unwrap_or (target_job o (operation_attributes m)) 0
 
+-- absent: those that are not completed
+abbrev pub which_jobs : List Attribute → Which
+which_jobs attrs = if bytes_eq (bytes_of GetJobs WhichJobs attrs) (codes "completed") then which.Completed else which.NotCompleted
+
+-- absent: none
+abbrev pub limit : List Attribute → Option ℕ
+limit attrs = number_of (bytes_of GetJobs Limit attrs)
+
 abbrev pub call_in : Operation → Message → Call
 call_in PrintJob m = print_job (new_job PrintJob m) (format PrintJob (operation_attributes m)) m.payload
+call_in ValidateJob m = validate_job (new_job ValidateJob m)
+call_in GetJobs m = get_jobs (which_jobs (operation_attributes m)) (limit (operation_attributes m))
+call_in GetPrinterAttributes m = get_printer_attributes
 call_in CancelJob m = cancel_job (job CancelJob m)
 call_in GetJobAttributes m = get_job_attributes (job GetJobAttributes m)
 
@@ -40,13 +54,25 @@ abbrev pub usual : Operation → List (List ℕ)
 usual PrintJob = codes "job-uri" ∷ codes "job-id" ∷ codes "job-state" ∷ codes "job-state-reasons" ∷ []
 usual CancelJob = []
 usual GetJobAttributes = codes "all" ∷ []
+usual ValidateJob = []
+usual GetJobs = codes "job-uri" ∷ codes "job-id" ∷ []
+usual GetPrinterAttributes = codes "all" ∷ []
 
 -- the names by which attributes of the reply are requested
 abbrev pub requested : Operation → List Attribute → List (List ℕ)
 requested o attrs = option_map_or (λ a. words_of a.values) (known o RequestedAttributes attrs) (usual o)
 
-abbrev pub wanted : Operation → Message → List JobAttribute
-wanted o m = selected (requested o (operation_attributes m))
+-- the rows of the table of which the operation shows something
+abbrev pub wanted_by : Operation → List (List ℕ) → Rows
+wanted_by GetPrinterAttributes words = record { job = []; printer = selected_of_printer words }
+wanted_by PrintJob words = record { job = selected words; printer = [] }
+wanted_by ValidateJob words = record { job = selected words; printer = [] }
+wanted_by CancelJob words = record { job = selected words; printer = [] }
+wanted_by GetJobAttributes words = record { job = selected words; printer = [] }
+wanted_by GetJobs words = record { job = selected words; printer = [] }
+
+abbrev pub wanted : Operation → Message → Rows
+wanted o m = wanted_by o (requested o (operation_attributes m))
 
 -- one refusal alone tells what is unsupported
 abbrev pub refused_by : Check → Unsupported → Asked

@@ -2,11 +2,11 @@
 use Rattle.std.specs.Prelude.{ℕ, List, [], ◌∷◌, Option, Some, None, Bool, true, false, codes, map}
 use Rattle.std.specs.List.{list_any}
 use Rattle.ipp_ops.specs.declared.operation.Operation.{Operation}
-use Rattle.ipp_ops.specs.declared.operation.Operation.TheVariants.{PrintJob, CancelJob, GetJobAttributes}
+use Rattle.ipp_ops.specs.declared.operation.Operation.TheVariants.{PrintJob, ValidateJob, CancelJob, GetJobAttributes, GetJobs, GetPrinterAttributes}
 use Rattle.ipp_ops.specs.declared.attribute.OperationAttribute.{OperationAttribute}
-use Rattle.ipp_ops.specs.declared.attribute.OperationAttribute.TheVariants.{AttributesCharset, AttributesNaturalLanguage, PrinterUri, JobUri, JobId, RequestingUserName, JobName, DocumentName, IppAttributeFidelity, Compression, DocumentFormat, JobImpressions, RequestedAttributes}
+use Rattle.ipp_ops.specs.declared.attribute.OperationAttribute.TheVariants.{AttributesCharset, AttributesNaturalLanguage, PrinterUri, JobUri, JobId, RequestingUserName, JobName, DocumentName, IppAttributeFidelity, Compression, DocumentFormat, JobImpressions, RequestedAttributes, WhichJobs, Limit, MyJobs}
 use Rattle.ipp_ops.specs.declared.attribute.Shape.{Shape}
-use Rattle.ipp_ops.specs.declared.attribute.Shape.TheVariants.{Octets, Number, Boolean, Name, Text}
+use Rattle.ipp_ops.specs.declared.attribute.Shape.TheVariants.{Octets, Number, Positive, Boolean, Name, Text}
 use Rattle.ipp_ops.specs.declared.attribute.Support.{Support as SupportRef}
 use Rattle.ipp_ops.specs.declared.attribute.Support.TheVariants.{Anything, Between, Words}
 use Rattle.ipp_ops.specs.declared.attribute.Row.{Row as RowRef}
@@ -41,17 +41,20 @@ row PrinterUri = record { name = codes "printer-uri"; tags = 0x45 ∷ []; many =
 row JobUri = record { name = codes "job-uri"; tags = 0x45 ∷ []; many = false; shape = Octets; limit = Some 1023; support = anything; known_in = CancelJob ∷ GetJobAttributes ∷ [] }
 row JobId = record { name = codes "job-id"; tags = 0x21 ∷ []; many = false; shape = Number; limit = None; support = anything; known_in = CancelJob ∷ GetJobAttributes ∷ [] }
 row RequestingUserName = record { name = codes "requesting-user-name"; tags = 0x42 ∷ 0x36 ∷ []; many = false; shape = Name; limit = Some 255; support = anything; known_in = operations }
-row JobName = record { name = codes "job-name"; tags = 0x42 ∷ 0x36 ∷ []; many = false; shape = Text; limit = Some 255; support = anything; known_in = PrintJob ∷ [] }
-row DocumentName = record { name = codes "document-name"; tags = 0x42 ∷ 0x36 ∷ []; many = false; shape = Text; limit = Some 255; support = anything; known_in = PrintJob ∷ [] }
-row IppAttributeFidelity = record { name = codes "ipp-attribute-fidelity"; tags = 0x22 ∷ []; many = false; shape = Boolean; limit = None; support = anything; known_in = PrintJob ∷ [] }
-row Compression = record { name = codes "compression"; tags = 0x44 ∷ []; many = false; shape = Octets; limit = Some 255; support = anything; known_in = PrintJob ∷ [] }
-row DocumentFormat = record { name = codes "document-format"; tags = 0x49 ∷ []; many = false; shape = Octets; limit = Some 255; support = anything; known_in = PrintJob ∷ [] }
-row JobImpressions = record { name = codes "job-impressions"; tags = 0x21 ∷ []; many = false; shape = Number; limit = None; support = between 0 100000; known_in = PrintJob ∷ [] }
-row RequestedAttributes = record { name = codes "requested-attributes"; tags = 0x44 ∷ []; many = true; shape = Octets; limit = Some 255; support = anything; known_in = GetJobAttributes ∷ [] }
+row JobName = record { name = codes "job-name"; tags = 0x42 ∷ 0x36 ∷ []; many = false; shape = Text; limit = Some 255; support = anything; known_in = PrintJob ∷ ValidateJob ∷ [] }
+row DocumentName = record { name = codes "document-name"; tags = 0x42 ∷ 0x36 ∷ []; many = false; shape = Text; limit = Some 255; support = anything; known_in = PrintJob ∷ ValidateJob ∷ [] }
+row IppAttributeFidelity = record { name = codes "ipp-attribute-fidelity"; tags = 0x22 ∷ []; many = false; shape = Boolean; limit = None; support = anything; known_in = PrintJob ∷ ValidateJob ∷ [] }
+row Compression = record { name = codes "compression"; tags = 0x44 ∷ []; many = false; shape = Octets; limit = Some 255; support = anything; known_in = PrintJob ∷ ValidateJob ∷ [] }
+row DocumentFormat = record { name = codes "document-format"; tags = 0x49 ∷ []; many = false; shape = Octets; limit = Some 255; support = anything; known_in = PrintJob ∷ ValidateJob ∷ GetPrinterAttributes ∷ [] }
+row JobImpressions = record { name = codes "job-impressions"; tags = 0x21 ∷ []; many = false; shape = Number; limit = None; support = between 0 100000; known_in = PrintJob ∷ ValidateJob ∷ [] }
+row RequestedAttributes = record { name = codes "requested-attributes"; tags = 0x44 ∷ []; many = true; shape = Octets; limit = Some 255; support = anything; known_in = GetJobAttributes ∷ GetJobs ∷ GetPrinterAttributes ∷ [] }
+row WhichJobs = record { name = codes "which-jobs"; tags = 0x44 ∷ []; many = false; shape = Octets; limit = Some 255; support = words (codes "not-completed" ∷ codes "completed" ∷ []); known_in = GetJobs ∷ [] }
+row Limit = record { name = codes "limit"; tags = 0x21 ∷ []; many = false; shape = Positive; limit = None; support = anything; known_in = GetJobs ∷ [] }
+row MyJobs = record { name = codes "my-jobs"; tags = 0x22 ∷ []; many = false; shape = Boolean; limit = None; support = anything; known_in = GetJobs ∷ [] }
 
 -- in the table's order
 abbrev pub table : List OperationAttribute
-table = AttributesCharset ∷ AttributesNaturalLanguage ∷ PrinterUri ∷ JobUri ∷ JobId ∷ RequestingUserName ∷ JobName ∷ DocumentName ∷ IppAttributeFidelity ∷ Compression ∷ DocumentFormat ∷ JobImpressions ∷ RequestedAttributes ∷ []
+table = AttributesCharset ∷ AttributesNaturalLanguage ∷ PrinterUri ∷ JobUri ∷ JobId ∷ RequestingUserName ∷ JobName ∷ DocumentName ∷ IppAttributeFidelity ∷ Compression ∷ DocumentFormat ∷ JobImpressions ∷ RequestedAttributes ∷ WhichJobs ∷ Limit ∷ MyJobs ∷ []
 
 -- the operation knows the attribute
 abbrev pub knows : Operation → OperationAttribute → Bool
@@ -66,6 +69,9 @@ abbrev pub needs : Operation → List (List OperationAttribute)
 needs PrintJob = (PrinterUri ∷ []) ∷ []
 needs CancelJob = job_target
 needs GetJobAttributes = job_target
+needs ValidateJob = (PrinterUri ∷ []) ∷ []
+needs GetJobs = (PrinterUri ∷ []) ∷ []
+needs GetPrinterAttributes = (PrinterUri ∷ []) ∷ []
 
 -- ---- attributes of the job group
 

@@ -1,8 +1,9 @@
 -- The values that a content stands for.
-use Rattle.std.specs.Prelude.{List, string_bytes}
+use Rattle.std.specs.Prelude.{List, map, string_bytes}
 use Rattle.ipp_wire.specs.Message.{Value}
 use Rattle.ipp_ops.specs.declared.content.Content.{Content as ContentRef}
-use Rattle.ipp_ops.specs.declared.content.Content.TheVariants.{Integer, Enum, Text, Made, Moment, Reasons}
+use Rattle.ipp_ops.specs.declared.content.Content.TheVariants.{Integer, Enum, Text, Made, Moment, Reasons, Boolean, Texts, OperationIds}
+use Rattle.ipp_ops.specs.PrinterReply.{truth, texts, operation_ids}
 use Rattle.ipp_ops.specs.JobReply.{text, integer, enumerated, keywords, moment, reason_words}
 
 abbrev pub values_in : ContentRef → List Value
@@ -12,3 +13,6 @@ values_in (Text tag bytes) = text tag bytes.now
 values_in (Made tag string) = text tag (string_bytes string)
 values_in (Moment m) = moment m
 values_in (Reasons r) = keywords (reason_words r)
+values_in (Boolean b) = truth b
+values_in (Texts tag words) = texts tag (map (λ w. w.now) words.now)
+values_in OperationIds = operation_ids

@@ -8,6 +8,9 @@ pub mod Checks
 pub mod NewJob
 pub mod Asked
 pub mod JobReply
+pub mod PrinterReply
+pub mod PrinterView
+pub mod Wanted
 pub mod Content
 pub mod Reply
 pub mod Answer

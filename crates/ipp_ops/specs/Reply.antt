@@ -4,10 +4,11 @@ use Rattle.ipp_wire.specs.declared.view.Head.{Head}
 use Rattle.ipp_wire.specs.Message.{Group, Message}
 use Rattle.ipp_wire.specs.Bare.{bare}
 use Rattle.queue_core.specs.declared.event.Reply.{Reply}
-use Rattle.queue_core.specs.declared.event.Reply.TheVariants.{Refused, Done, Jobs}
+use Rattle.queue_core.specs.declared.event.Reply.TheVariants.{Refused, Done, Jobs, Printer}
 use Rattle.queue_core.specs.Settings.{SettingValues}
-use Rattle.ipp_ops.specs.declared.job_reply.JobAttribute.{JobAttribute}
+use Rattle.ipp_ops.specs.Wanted.{Rows}
 use Rattle.ipp_ops.specs.JobReply.{job_group}
+use Rattle.ipp_ops.specs.PrinterReply.{printer_group}
 use Rattle.ipp_ops.specs.Unsupported.{Unsupported, is_listed}
 
 -- the bare reply with these groups behind
@@ -22,8 +23,9 @@ unsupported_groups u = if is_listed u then record { tag = 0x05; attributes = u.o
 abbrev pub success : Unsupported → ℕ
 success u = if is_listed u then 0x0001 else 0x0000
 
--- a refusal shows what is unsupported only where that is its reason, and a success the jobs too
-abbrev pub reply_of : Reply → Head → List JobAttribute → Unsupported → SettingValues → ℕ → Message
+-- a refusal shows what is unsupported only where that is its reason, and a success the jobs or the printer too
+abbrev pub reply_of : Reply → Head → Rows → Unsupported → SettingValues → ℕ → Message
 reply_of (Refused code) h rows u s now = with_groups (bare h code) (if code == 0x040B then unsupported_groups u else [])
 reply_of Done h rows u s now = with_groups (bare h (success u)) (unsupported_groups u)
-reply_of (Jobs js) h rows u s now = with_groups (bare h (success u)) (unsupported_groups u ++ map (job_group s.uri now rows) js)
+reply_of (Jobs js) h rows u s now = with_groups (bare h (success u)) (unsupported_groups u ++ map (job_group s.uri now rows.job) js)
+reply_of (Printer state queued accepting) h rows u s now = with_groups (bare h (success u)) (unsupported_groups u ++ printer_group (record { settings = s; now = now; state = state; queued = queued; accepting = accepting }) rows.printer ∷ [])

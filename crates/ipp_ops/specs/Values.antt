@@ -6,7 +6,7 @@ use Rattle.std.specs.Str.{is_utf8}
 use Rattle.std.specs.Int.{w16, w32, from_be_bytes}
 use Rattle.ipp_wire.specs.Message.{Value}
 use Rattle.ipp_ops.specs.declared.attribute.Shape.{Shape}
-use Rattle.ipp_ops.specs.declared.attribute.Shape.TheVariants.{Octets, Number, Boolean, Name, Text}
+use Rattle.ipp_ops.specs.declared.attribute.Shape.TheVariants.{Octets, Number, Positive, Boolean, Name, Text}
 use Rattle.ipp_ops.specs.Attributes.{Row, Support, anything, between, words}
 
 -- ---- numbers and texts
@@ -46,6 +46,7 @@ is_control b = nat_lt b 0x20 || b == 0x7f
 abbrev pub has_shape : Shape → List ℕ → Bool
 has_shape Octets text = true
 has_shape Number text = is_some (number_of text)
+has_shape Positive text = option_map_or is_positive (number_of text) false
 has_shape Boolean text = bytes_eq text (0 ∷ []) || bytes_eq text (1 ∷ [])
 has_shape Name text = is_utf8 text && not (list_any is_control text)
 has_shape Text text = is_utf8 text && not (list_any (λ b. b == 0) text)

@@ -64,7 +64,7 @@ fn step<B: QueueBook>(
 {
     match ask(alloc, v)? {
         Ask::Refused { code, unsupported } => {
-            let wanted = Wanted::from_rows(Vec::new(alloc));
+            let wanted = Wanted::of_job(alloc, Vec::new(alloc));
             let reply = Reply::Refused(code);
             let m = reply_message(alloc, &reply, v.head, &wanted, &unsupported, s, now)?;
             Ok(write(&m)?)

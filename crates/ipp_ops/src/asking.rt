@@ -1,29 +1,51 @@
 //! What a request asks: the first check that refuses it, or else its call.
-ghost use Rattle.std.specs.Prelude.{◌≡◌, ◌≤◌, IfOk, length, map};
+ghost use Rattle.std.specs.Prelude.{◌≡◌, ◌≤◌, [], IfOk, length, map};
 ghost use Rattle.ipp_wire.specs.Viewed.{attributes_of, message_of};
 ghost use Rattle.queue_core.specs.Event.{call_of};
-ghost use Rattle.ipp_ops.specs.Asked.{asks, ask_of, call_in, job, refused_by, requested, usual, IsWithinLimits, ListsAttributes};
+ghost use Rattle.ipp_ops.specs.Asked.{asks, ask_of, call_in, job, limit, refused_by, requested, usual, wanted_by, which_jobs, IsWithinLimits, ListsAttributes};
 ghost use Rattle.ipp_ops.specs.Unsupported.{unsupported_of};
 ghost use Rattle.ipp_wire.specs.Message.{IsMessage};
 ghost use Rattle.ipp_ops.specs.JobReply.{selected};
+ghost use Rattle.ipp_ops.specs.declared.operation.Operation.TheVariants as variant;
 
 use crate::attribute::OperationAttribute;
 use crate::check::{Check, asked_in, first_refusal};
 use crate::job_reply::{select_requested, select_usual};
 use crate::new_job::{format, new_job};
 use crate::operation::Operation;
-use crate::reading::{caller, group_attributes, known};
+use crate::printer_reply::{select_of_printer, select_whole_printer};
+use crate::reading::{bytes_of, caller, group_attributes, known};
 use crate::request::{Ask, Wanted};
 use crate::target::target_job;
 use crate::unsupported::Unsupported;
+use crate::value::number;
 use ipp_wire::{AttrView, View};
-use queue_core::event::Call;
+use queue_core::event::{Call, WhichJobs};
 use std::alloc::{AllocError, Global};
 
 fn job(o: Operation, v: &View<'_>) -> u32
     ensures { result ≡ job o (message_of v.now) }
 {
     target_job(o, group_attributes(0x01, v.groups.as_slice())).unwrap_or(0)
+}
+
+/// Those that are not completed, where the request doesn't say which.
+fn which_jobs(attrs: &[AttrView<'_>]) -> WhichJobs
+    ensures { result ≡ which_jobs (attributes_of attrs.now) }
+{
+    let which = bytes_of(Operation::GetJobs, OperationAttribute::WhichJobs, attrs);
+    if which == "completed".as_bytes() {
+        WhichJobs::Completed
+    } else {
+        WhichJobs::NotCompleted
+    }
+}
+
+/// None, where the request has no limit.
+fn limit(attrs: &[AttrView<'_>]) -> Option<u32>
+    ensures { result ≡ limit (attributes_of attrs.now) }
+{
+    number(bytes_of(Operation::GetJobs, OperationAttribute::Limit, attrs))
 }
 
 /// The call that an operation makes of a request.
@@ -36,6 +58,12 @@ fn call_in<'a>(o: Operation, v: &View<'a>) -> Call<'a>
             format: format(o, group_attributes(0x01, v.groups.as_slice())),
             payload: v.payload,
         },
+        Operation::ValidateJob => Call::ValidateJob { job: new_job(o, v) },
+        Operation::GetJobs => Call::GetJobs {
+            which: which_jobs(group_attributes(0x01, v.groups.as_slice())),
+            limit: limit(group_attributes(0x01, v.groups.as_slice())),
+        },
+        Operation::GetPrinterAttributes => Call::GetPrinterAttributes,
         Operation::CancelJob => Call::CancelJob { job: job(o, v) },
         Operation::GetJobAttributes => Call::GetJobAttributes { job: job(o, v) },
     }
@@ -47,14 +75,37 @@ fn usual(o: Operation) -> &'static [&'static str]
 {
     match o {
         Operation::PrintJob => &["job-uri", "job-id", "job-state", "job-state-reasons"],
-        Operation::CancelJob => &[],
-        Operation::GetJobAttributes => &["all"],
+        Operation::ValidateJob | Operation::CancelJob => &[],
+        Operation::GetJobAttributes | Operation::GetPrinterAttributes => &["all"],
+        Operation::GetJobs => &["job-uri", "job-id"],
     }
 }
 
-/// The rows that the reply is to have of a job.
+fn wanted_of_printer(alloc: Global, attrs: &[AttrView<'_>]) -> Result<Wanted, AllocError>
+    ensures { IfOk result (λ w. w ≡ wanted_by variant.GetPrinterAttributes (requested variant.GetPrinterAttributes (attributes_of attrs.now))) }
+{
+    match known(
+        Operation::GetPrinterAttributes,
+        OperationAttribute::RequestedAttributes,
+        attrs,
+    ) {
+        Some(a) => select_of_printer(alloc, a.values.as_slice()),
+        None => select_whole_printer(alloc),
+    }
+}
+
+/// The rows that the reply is to have.
 fn wanted(alloc: Global, o: Operation, attrs: &[AttrView<'_>]) -> Result<Wanted, AllocError>
-    ensures { IfOk result (λ w. w ≡ selected (requested o (attributes_of attrs.now))) }
+    ensures { IfOk result (λ w. w ≡ wanted_by o (requested o (attributes_of attrs.now))) }
+{
+    match o {
+        Operation::GetPrinterAttributes => wanted_of_printer(alloc, attrs),
+        _ => wanted_of_job(alloc, o, attrs),
+    }
+}
+
+fn wanted_of_job(alloc: Global, o: Operation, attrs: &[AttrView<'_>]) -> Result<Wanted, AllocError>
+    ensures { IfOk result (λ w. w ≡ record { job = selected (requested o (attributes_of attrs.now)); printer = [] }) }
 {
     match known(o, OperationAttribute::RequestedAttributes, attrs) {
         Some(a) => select_requested(alloc, a.values.as_slice()),

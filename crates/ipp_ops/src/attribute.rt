@@ -20,6 +20,9 @@ pub enum OperationAttribute {
     DocumentFormat,
     JobImpressions,
     RequestedAttributes,
+    WhichJobs,
+    Limit,
+    MyJobs,
 }
 
 /// The shape of a value, of a nameWithLanguage that of its name.
@@ -29,6 +32,8 @@ pub enum Shape {
     Octets,
     /// A number of 4 bytes.
     Number,
+    /// A number of 4 bytes, at least 1.
+    Positive,
     /// One byte, 0 or 1.
     Boolean,
     /// UTF-8 without control characters.
@@ -63,7 +68,7 @@ pub struct Row {
 }
 
 /// The operation attributes, in the table's order.
-pub const TABLE: [OperationAttribute; 13] = [
+pub const TABLE: [OperationAttribute; 16] = [
     OperationAttribute::AttributesCharset,
     OperationAttribute::AttributesNaturalLanguage,
     OperationAttribute::PrinterUri,
@@ -77,6 +82,9 @@ pub const TABLE: [OperationAttribute; 13] = [
     OperationAttribute::DocumentFormat,
     OperationAttribute::JobImpressions,
     OperationAttribute::RequestedAttributes,
+    OperationAttribute::WhichJobs,
+    OperationAttribute::Limit,
+    OperationAttribute::MyJobs,
 ];
 
 impl OperationAttribute {
@@ -145,7 +153,7 @@ impl OperationAttribute {
                 shape: Shape::Text,
                 limit: Some(255),
                 support: Support::Anything,
-                known_in: &[Operation::PrintJob],
+                known_in: &[Operation::PrintJob, Operation::ValidateJob],
             },
             OperationAttribute::DocumentName => Row {
                 name: "document-name",
@@ -154,7 +162,7 @@ impl OperationAttribute {
                 shape: Shape::Text,
                 limit: Some(255),
                 support: Support::Anything,
-                known_in: &[Operation::PrintJob],
+                known_in: &[Operation::PrintJob, Operation::ValidateJob],
             },
             OperationAttribute::IppAttributeFidelity => Row {
                 name: "ipp-attribute-fidelity",
@@ -163,7 +171,7 @@ impl OperationAttribute {
                 shape: Shape::Boolean,
                 limit: None,
                 support: Support::Anything,
-                known_in: &[Operation::PrintJob],
+                known_in: &[Operation::PrintJob, Operation::ValidateJob],
             },
             OperationAttribute::Compression => Row {
                 name: "compression",
@@ -172,7 +180,7 @@ impl OperationAttribute {
                 shape: Shape::Octets,
                 limit: Some(255),
                 support: Support::Anything,
-                known_in: &[Operation::PrintJob],
+                known_in: &[Operation::PrintJob, Operation::ValidateJob],
             },
             OperationAttribute::DocumentFormat => Row {
                 name: "document-format",
@@ -181,7 +189,11 @@ impl OperationAttribute {
                 shape: Shape::Octets,
                 limit: Some(255),
                 support: Support::Anything,
-                known_in: &[Operation::PrintJob],
+                known_in: &[
+                    Operation::PrintJob,
+                    Operation::ValidateJob,
+                    Operation::GetPrinterAttributes,
+                ],
             },
             OperationAttribute::JobImpressions => Row {
                 name: "job-impressions",
@@ -190,7 +202,7 @@ impl OperationAttribute {
                 shape: Shape::Number,
                 limit: None,
                 support: Support::Between(0, 100_000),
-                known_in: &[Operation::PrintJob],
+                known_in: &[Operation::PrintJob, Operation::ValidateJob],
             },
             OperationAttribute::RequestedAttributes => Row {
                 name: "requested-attributes",
@@ -199,7 +211,38 @@ impl OperationAttribute {
                 shape: Shape::Octets,
                 limit: Some(255),
                 support: Support::Anything,
-                known_in: &[Operation::GetJobAttributes],
+                known_in: &[
+                    Operation::GetJobAttributes,
+                    Operation::GetJobs,
+                    Operation::GetPrinterAttributes,
+                ],
+            },
+            OperationAttribute::WhichJobs => Row {
+                name: "which-jobs",
+                tags: &[0x44],
+                many: false,
+                shape: Shape::Octets,
+                limit: Some(255),
+                support: Support::Words(&["not-completed", "completed"]),
+                known_in: &[Operation::GetJobs],
+            },
+            OperationAttribute::Limit => Row {
+                name: "limit",
+                tags: &[0x21],
+                many: false,
+                shape: Shape::Positive,
+                limit: None,
+                support: Support::Anything,
+                known_in: &[Operation::GetJobs],
+            },
+            OperationAttribute::MyJobs => Row {
+                name: "my-jobs",
+                tags: &[0x22],
+                many: false,
+                shape: Shape::Boolean,
+                limit: None,
+                support: Support::Anything,
+                known_in: &[Operation::GetJobs],
             },
         }
     }
@@ -218,7 +261,10 @@ impl Operation {
         ensures { map (λ ks. ks.now) result.now ≡ needs self }
     {
         match self {
-            Operation::PrintJob => &[&[OperationAttribute::PrinterUri]],
+            Operation::PrintJob
+            | Operation::ValidateJob
+            | Operation::GetJobs
+            | Operation::GetPrinterAttributes => &[&[OperationAttribute::PrinterUri]],
             Operation::CancelJob | Operation::GetJobAttributes => &[
                 &[OperationAttribute::JobUri],
                 &[OperationAttribute::PrinterUri, OperationAttribute::JobId],

@@ -169,7 +169,7 @@ fn put_job(
     m.group(0x02)?;
     'rows: for row in rows {
         let content = row.content(alloc, uri, now, j)?;
-        put(m, row.name(), &content)?;
+        put(alloc, m, row.name(), &content)?;
     }
     Ok(())
 }
@@ -247,16 +247,16 @@ fn requested_rows(
 
 /// The rows that these names select.
 pub fn select_usual(alloc: Global, words: &[&str]) -> Result<Wanted, AllocError>
-    ensures { IfOk result (λ w. w ≡ spec.selected (map (λ x. x.now) words.now)) }
+    ensures { IfOk result (λ w. w ≡ record { job = spec.selected (map (λ x. x.now) words.now); printer = [] }) }
 {
     let rows = usual_rows(alloc, &TABLE, words)?;
-    Ok(Wanted::from_rows(rows))
+    Ok(Wanted::of_job(alloc, rows))
 }
 
 /// The rows that the values' names select.
 pub fn select_requested(alloc: Global, values: &[ValueView<'_>]) -> Result<Wanted, AllocError>
-    ensures { IfOk result (λ w. w ≡ spec.selected (words_of (values_of values.now))) }
+    ensures { IfOk result (λ w. w ≡ record { job = spec.selected (words_of (values_of values.now)); printer = [] }) }
 {
     let rows = requested_rows(alloc, &TABLE, values)?;
-    Ok(Wanted::from_rows(rows))
+    Ok(Wanted::of_job(alloc, rows))
 }

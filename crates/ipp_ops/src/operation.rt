@@ -6,15 +6,21 @@ ghost use Rattle.ipp_ops.specs.Operations.{id, on_job, makes_job, operation_of};
 #[derive(Clone, Copy, Debug)]
 pub enum Operation {
     PrintJob = 0x0002,
+    ValidateJob = 0x0004,
     CancelJob = 0x0008,
     GetJobAttributes = 0x0009,
+    GetJobs = 0x000A,
+    GetPrinterAttributes = 0x000B,
 }
 
 /// The operations, by id.
-pub const OPERATIONS: [Operation; 3] = [
+pub const OPERATIONS: [Operation; 6] = [
     Operation::PrintJob,
+    Operation::ValidateJob,
     Operation::CancelJob,
     Operation::GetJobAttributes,
+    Operation::GetJobs,
+    Operation::GetPrinterAttributes,
 ];
 
 impl Operation {
@@ -30,8 +36,11 @@ impl Operation {
         ensures { result ≡ on_job self }
     {
         match self {
-            Operation::PrintJob => false,
             Operation::CancelJob | Operation::GetJobAttributes => true,
+            Operation::PrintJob
+            | Operation::ValidateJob
+            | Operation::GetJobs
+            | Operation::GetPrinterAttributes => false,
         }
     }
 
@@ -40,8 +49,11 @@ impl Operation {
         ensures { result ≡ makes_job self }
     {
         match self {
-            Operation::PrintJob => true,
-            Operation::CancelJob | Operation::GetJobAttributes => false,
+            Operation::PrintJob | Operation::ValidateJob => true,
+            Operation::CancelJob
+            | Operation::GetJobAttributes
+            | Operation::GetJobs
+            | Operation::GetPrinterAttributes => false,
         }
     }
 

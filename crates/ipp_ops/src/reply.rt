@@ -11,6 +11,7 @@ ghost use Rattle.ipp_ops.specs.Reply.{reply_of, success, unsupported_groups, wit
 ghost use Rattle.ipp_ops.specs.Unsupported.{unsupported_of};
 
 use crate::job_reply::put_jobs;
+use crate::printer_reply::{PrinterView, put_printer};
 use crate::request::Wanted;
 use crate::unsupported::Unsupported;
 use ipp_wire::{AttrView, Head, Message, ValueView};
@@ -125,8 +126,8 @@ fn success_message(alloc: Global, head: Head, u: &Unsupported<'_>) -> Result<Mes
 }
 
 /// The reply to a request with this head as a message: its version and request-id, the status code, the
-/// charset utf-8 and the language en, a group of what is unsupported, and a group for each job with the
-/// wanted attributes (RFC 8011, section 4.1). The one error is want of memory.
+/// charset utf-8 and the language en, a group of what is unsupported, and a group for each job, or for
+/// the printer, with the wanted attributes (RFC 8011, section 4.1). The one error is want of memory.
 pub fn reply_message(
     alloc: Global,
     r: &Reply,
@@ -143,6 +144,23 @@ pub fn reply_message(
     match r {
         Reply::Refused(code) => refusal_message(alloc, head, *code, unsupported),
         Reply::Done => success_message(alloc, head, unsupported),
+        Reply::Printer {
+            state,
+            queued,
+            accepting,
+        } => {
+            let printer = PrinterView {
+                settings: s,
+                now,
+                state: *state,
+                queued: *queued,
+                accepting: *accepting,
+            };
+            let mut m = success_message(alloc, head, unsupported)?;
+            let _within_limits = s.name();
+            put_printer(alloc, &mut m, printer, wanted.printer_rows())?;
+            Ok(m)
+        }
         Reply::Jobs(jobs) => {
             let mut m = success_message(alloc, head, unsupported)?;
             put_jobs(
@@ -150,7 +168,7 @@ pub fn reply_message(
                 &mut m,
                 s.uri(),
                 now,
-                wanted.as_slice(),
+                wanted.job_rows(),
                 jobs.as_slice(),
             )?;
             Ok(m)

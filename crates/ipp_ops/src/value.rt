@@ -1,8 +1,8 @@
 //! What the values of an attribute say (RFC 8010, section 3.9; RFC 8011, section 5.1).
-ghost use Rattle.std.specs.Prelude.{◌≡◌, ◌==◌, if◌then◌else◌, bytes_eq, map};
+ghost use Rattle.std.specs.Prelude.{◌≡◌, ◌==◌, false, if◌then◌else◌, bytes_eq, map};
 ghost use Rattle.std.specs.List.{list_any, list_all};
 ghost use Rattle.std.specs.Str.{is_utf8};
-ghost use Rattle.std.specs.Option.{option_copied};
+ghost use Rattle.std.specs.Option.{option_copied, option_map_or};
 ghost use Rattle.ipp_wire.specs.Viewed.{value_of, values_of};
 ghost use Rattle.ipp_ops.specs.Attributes.{row_of, support_of};
 ghost use Rattle.ipp_ops.specs.Values as spec;
@@ -18,6 +18,16 @@ pub fn number(bytes: &[u8]) -> Option<u32>
     match bytes {
         [a, b, c, d] => Some(u32::from_be_bytes([*a, *b, *c, *d])),
         _ => None,
+    }
+}
+
+/// A number of 4 bytes, at least 1.
+fn is_positive_number(bytes: &[u8]) -> bool
+    ensures { result ≡ option_map_or spec.is_positive (spec.number_of bytes.now) false }
+{
+    match number(bytes) {
+        Some(n) => 1 <= n && n <= 2_147_483_647,
+        None => false,
     }
 }
 
@@ -101,6 +111,7 @@ fn has_shape(shape: Shape, text: &[u8]) -> bool
     match shape {
         Shape::Octets => true,
         Shape::Number => number(text).is_some(),
+        Shape::Positive => is_positive_number(text),
         Shape::Boolean => text == [0].as_slice() || text == [1].as_slice(),
         Shape::Name => is_utf8(text) && !has_control(text),
         Shape::Text => is_utf8(text) && !has_zero(text),

@@ -1,8 +1,11 @@
 //! The program as a whole: lines, words and streams. Its modules test requests by their bytes.
 
 mod attributes;
+mod check_order;
 mod checks;
 mod job_numbers;
+mod jobs_and_printer;
+mod limits;
 mod look_and_cancel;
 mod messages;
 mod print_job;

@@ -1,5 +1,5 @@
 -- The scene of each sound world is fair.
-use Rattle.std.proofs.Common.{◌≡◌, ℕ, zero, suc, ℤ, pos, ◌+ℤ◌, ◌+◌, ◌-◌, ◌*◌, ◌^◌, ◌≤◌, List, [], ◌∷◌, length, map, arith, Bool, true, false, cond}
+use Rattle.std.proofs.Common.{◌≡◌, ℕ, zero, suc, ℤ, pos, ◌+ℤ◌, ◌+◌, ◌-◌, ◌*◌, ◌^◌, ◌≤◌, ◌<◌, List, [], ◌∷◌, length, map, arith, Bool, true, false, cond}
 use Rattle.std.specs.Prelude.{Option, Some, None, IfSome, bytes_eq, filter, All, sum_by}
 use Rattle.std.specs.List.{AllByRecursion as Each}
 use Rattle.std.specs.FinMap.{get}
@@ -7,15 +7,15 @@ use Rattle.std.proofs.lemmas.Int.{ints}
 use Rattle.std.proofs.lemmas.List.Sums.{sum_by-cons}
 use Rattle.std.proofs.lemmas.Nat.{mul-le}
 use Rattle.queue_core.specs.Job.{owed, is_live}
-use Rattle.queue_core.specs.Event.{Event}
-use Rattle.queue_core.specs.World.{World, Entry, cut, found_row, names_job, caller_of}
+use Rattle.queue_core.specs.Event.{Event, ask, print_job, validate_job, cancel_job, get_job_attributes, get_jobs, get_printer_attributes}
+use Rattle.queue_core.specs.World.{World, Entry, rows, cut, found_row, concerns, counts_for, caller_of}
 use Rattle.queue_core.specs.Limits.{IsFair, IsSoundJob, IsAmount}
 use Rattle.queue_core.specs.Sound.{IsSound, IsSoundEntry, Rise, granted, reserved, printed}
 use Rattle.queue_core.specs.declared.event.FreeRow.{FreeRow}
 use Rattle.queue_core.specs.declared.job.Job.{Job}
 use Rattle.queue_core.proofs.Enter.{first_below}
 
-all_of : {X : Type 0} (P : X → Type 0) (xs : List X) → Each P xs → All P xs
+pub all_of : {X : Type 0} (P : X → Type 0) (xs : List X) → Each P xs → All P xs
 all_of P [] each k d h = absurd (omega arith)
 all_of P (x ∷ xs) each zero d h = each.0
 all_of P (x ∷ xs) each (suc k) d h = all_of P xs each.1 k d (omega arith)
@@ -35,7 +35,7 @@ named_few p (e ∷ es) = let more = named_few p es in elim (p e.row) as (λ b. l
 ]
 
 -- no more jobs than numbers
-rise_length : (first next : ℕ) (es : List Entry) → Rise first es next → first + length es ≤ next
+pub rise_length : (first next : ℕ) (es : List Entry) → Rise first es next → first + length es ≤ next
 rise_length first next [] rise = omega arith
 rise_length first next (e ∷ es) rise = let more = rise_length (e.row.number + 1) next es rise.1 in omega arith
 
@@ -62,6 +62,10 @@ owed_least false hold n c h = omega arith
 owed_bound : (j : Job) → IsSoundJob j → owed j ≤ 2 ^ 28
 owed_bound j s = owed_least (is_live j) j.hold (j.impressions * j.copies) j.count (product j.impressions j.copies s.impressions s.copies.1)
 
+at_most_one : (b : Bool) → cond b 1 0 ≤ 1
+at_most_one true = omega arith
+at_most_one false = omega arith
+
 found : (a : List ℕ) (o : Option ℤ) → IfSome o IsAmount → Each (λ (r : FreeRow). IsAmount r.free) (found_row a o)
 found a None h = tt
 found a (Some f) h = (h, tt)
@@ -78,11 +82,27 @@ amounts_of w sound a =
     let print = sum_bound (λ j. cond (bytes_eq j.owner a) j.count 0) w.jobs (λ e s. let c = s.row.count in part (bytes_eq e.row.owner a) e.row.count (omega arith)) sound.entries in
     amount (get w.free a) (granted a w) (reserved a w) (printed a w) (sound.most a) (omega arith) (omega arith) (sound.balances a)
 
+live_few : (es : List Entry) → sum_by (λ (j : Job). cond (is_live j) 1 0) (map (λ e. e.row) es) ≤ length es
+live_few [] = omega arith
+live_few (e ∷ es) =
+    let more = live_few es in
+    let here = at_most_one (is_live e.row) in
+    omega (arith, sum_by-cons (λ (j : Job). cond (is_live j) 1 0) e.row (map (λ e. e.row) es))
+
+queued_few : (w : World) (e : Event) → length w.jobs < 2 ^ 31 → (counts_for e (rows w)).queued < 2 ^ 31
+queued_few w (ask caller (print_job j format payload)) few = omega arith
+queued_few w (ask caller (validate_job j)) few = omega arith
+queued_few w (ask caller (cancel_job n)) few = omega arith
+queued_few w (ask caller (get_job_attributes n)) few = omega arith
+queued_few w (ask caller (get_jobs which limit)) few = omega arith
+queued_few w (ask caller get_printer_attributes) few = let all = live_few w.jobs in omega arith
+
 pub fair_of : (w : World) (e : Event) → IsSound w → IsFair (cut w e)
 fair_of w e sound = record {
   settings = sound.settings;
-  jobs = all_of IsSoundJob _ (each_named (λ j. names_job e j.number) w.jobs sound.entries);
-  few = (let few = rise_length 1 w.next w.jobs sound.numbers in let next = sound.next in let named = named_few (λ j. names_job e j.number) w.jobs in omega arith);
+  jobs = all_of IsSoundJob _ (each_named (concerns e) w.jobs sound.entries);
+  few = (let few = rise_length 1 w.next w.jobs sound.numbers in let next = sound.next in let named = named_few (concerns e) w.jobs in omega arith);
   free = all_of (λ (r : FreeRow). IsAmount r.free) _ (found (caller_of e) (get w.free (caller_of e)) (amounts_of w sound (caller_of e)));
   next = first_below 1 w.next w.jobs sound.numbers;
+  queued = (let few = rise_length 1 w.next w.jobs sound.numbers in let next = sound.next in queued_few w e (omega arith));
 }

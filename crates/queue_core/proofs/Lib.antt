@@ -5,7 +5,9 @@ pub mod Cancel
 pub mod Enter
 pub mod Print
 pub mod Fair
+pub mod Ordered
 pub mod Steps
 pub mod Runs
 pub mod Start
 pub mod Put
+pub mod Orders

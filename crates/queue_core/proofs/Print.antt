@@ -6,7 +6,7 @@ use Rattle.std.proofs.lemmas.Bool.Decides.{nat_tests}
 use Rattle.queue_core.specs.Settings.{AreSettings}
 use Rattle.queue_core.specs.Event.{NewJob, NewDocument, ask, print_job}
 use Rattle.queue_core.specs.World.{World, Entry, rows, cut, made_on, with_row, with_document, add_document, live_jobs}
-use Rattle.queue_core.specs.Machine.{refused, entered, new_job, first_document, print_job_row, returned}
+use Rattle.queue_core.specs.Machine.{entered, new_job, first_document, new_refusal, unless_refused, print_job_row, returned}
 use Rattle.queue_core.specs.Limits.{IsMoment, IsOwner, IsNewJob, IsSoundJob}
 use Rattle.queue_core.specs.Sound.{IsSound, IsSoundEntry, Rise}
 use Rattle.queue_core.specs.declared.document.Document.{Document}
@@ -43,6 +43,21 @@ new_job_sound s now caller j payload settings some room moment owner new fits = 
   octets = omega arith;
   phase = (refl, refl, refl, refl);
 }
+
+abbrev refused_by : Bool → Bool → Option ℕ
+refused_by full past = cond full (Some 0x0404) (cond past (Some 0x0506) None)
+
+neither : (full past : Bool) → refused_by full past ≡ None → (full ≡ false) × (past ≡ false)
+neither true past is = absurd (cc)
+neither false true is = absurd (cc)
+neither false false is = (refl, refl)
+
+-- a scene that does not refuse has room for a live job and a number
+pub not_refused : (s : Scene) → new_refusal s ≡ None → (s.live < 100) × (s.next < 2 ^ 31)
+not_refused s is =
+    let free = (neither (nat_le 100 s.live) (nat_lt 2147483647 s.next) is).0 in
+    let left = (neither (nat_le 100 s.live) (nat_lt 2147483647 s.next) is).1 in
+    (grind (arith, nat_tests), grind (arith, nat_tests))
 
 -- ---- its document
 
@@ -114,10 +129,7 @@ module _ (w : World) (now : ℕ) (caller : List ℕ) (j : NewJob) (format : Form
 
   pub print_keeps : Keeps w (made_on (print_job_row scene now caller j format payload).change w)
   print_keeps =
-      elim (nat_le 100 scene.live) as (λ b. nat_le 100 scene.live ≡ b → Keeps w (made_on (cond b (refused 0x0404) (cond (nat_lt 2147483647 scene.next) (refused 0x0506) (entered scene x (first_document scene.next format payload)))).change w)) [
-        | true ↦ λ full. unchanged w sound
-        | false ↦ λ free. elim (nat_lt 2147483647 scene.next) as (λ b. nat_lt 2147483647 scene.next ≡ b → Keeps w (made_on (cond b (refused 0x0506) (entered scene x (first_document scene.next format payload))).change w)) [
-          | true ↦ λ past. unchanged w sound
-          | false ↦ λ left. entered_keeps (grind (arith, nat_tests)) (grind (arith, nat_tests))
-        ] refl
+      elim (new_refusal scene) as (λ o. new_refusal scene ≡ o → Keeps w (made_on (unless_refused o (entered scene x (first_document scene.next format payload))).change w)) [
+        | None ↦ λ is. entered_keeps (not_refused scene is).0 (not_refused scene is).1
+        | Some code ↦ λ is. unchanged w sound
       ] refl

@@ -8,17 +8,17 @@ use Rattle.std.specs.Ordering.{eq_by_cmp}
 use Rattle.std.specs.Cmp.Lexicographic.{nat_list_cmp_total}
 use Rattle.std.proofs.lemmas.Map.Text.{is_eq-slice_cmp}
 use Rattle.std.proofs.lemmas.Slice.Eq.{bytes_eq-Decides}
-use Rattle.queue_core.specs.World.{World, Entry, with_row, with_document, add_document, put_free, text_cmp, made_on, cut, found_row, names_job, caller_of, job_at}
-use Rattle.queue_core.specs.Event.{NewJob, NewDocument, Change, Decision, Event, ask, print_job, cancel_job, get_job_attributes}
-use Rattle.queue_core.specs.Machine.{refused, answered, becomes, cancel_in, stop_asked, of_own, decision, entered, new_job, first_document, print_job_row}
+use Rattle.queue_core.specs.World.{World, Entry, with_row, with_document, add_document, put_free, text_cmp, made_on, cut, found_row, concerns, counts_for, caller_of, job_at}
+use Rattle.queue_core.specs.Event.{NewJob, NewDocument, Change, Decision, Event, ask, print_job, validate_job, cancel_job, get_job_attributes, get_jobs, get_printer_attributes}
+use Rattle.queue_core.specs.Machine.{refused, answered, becomes, cancel_in, stop_asked, of_own, decision, entered, new_job, first_document, new_refusal, unless_refused, print_job_row, validate_job_row}
 use Rattle.queue_core.specs.Book.{IsDecisionOn}
 use Rattle.queue_core.specs.declared.document.Format.{Format}
 use Rattle.queue_core.specs.declared.job.Phase.{Phase}
 use Rattle.queue_core.specs.declared.job.Phase.TheVariants.{Waiting, Running, Stopped, Canceled, Aborted, Completed}
-use Rattle.queue_core.specs.declared.event.Reply.TheVariants.{Jobs}
+use Rattle.queue_core.specs.declared.event.Reply.TheVariants.{Jobs, Done}
 use Rattle.queue_core.proofs.Moves.{shadow, swap_tests}
 use Rattle.std.proofs.Common.{eq-eqb}
-use Rattle.std.specs.Prelude.{nat_le, nat_lt, option_map, IfSome, unwrap_or, filter, count_by, ◌&&◌}
+use Rattle.std.specs.Prelude.{option_map, IfSome, unwrap_or, filter, count_by, ◌&&◌}
 use Rattle.queue_core.specs.Job.{is_live}
 use Rattle.queue_core.specs.declared.event.Scene.{Scene}
 use Rattle.queue_core.specs.declared.lists.Lists.{Lists}
@@ -212,12 +212,13 @@ made_is l m c tidy settings jobs documents free next grants reports =
     λ i. record { settings = settings i; jobs = p i; next = next i; grants = grants_map (grants i); free = q i; reports = reports_map (reports i) }
 
 -- what is read of the lists is the scene
-pub scene_is : (l : Lists) (e : Event) (s : Scene) → s.settings ≡ l.settings → s.jobs ≡ filter (λ j. names_job e j.number) l.jobs.items → s.free ≡ found_row (caller_of e) (get (free_map l.free.items) (caller_of e)) → s.live ≡ count_by (λ j. bytes_eq j.owner (caller_of e) && is_live j) l.jobs.items → s.next ≡ l.next → s ≡ cut (world_of l) e
-scene_is l e s settings jobs free live next =
+pub scene_is : (l : Lists) (e : Event) (s : Scene) → s.settings ≡ l.settings → s.jobs ≡ filter (concerns e) l.jobs.items → s.free ≡ found_row (caller_of e) (get (free_map l.free.items) (caller_of e)) → s.live ≡ count_by (λ j. bytes_eq j.owner (caller_of e) && is_live j) l.jobs.items → s.counts ≡ counts_for e l.jobs.items → s.next ≡ l.next → s ≡ cut (world_of l) e
+scene_is l e s settings jobs free live counts next =
     let same : map (λ e. e.row) (entries_of l.documents.items l.jobs.items) ≡ l.jobs.items = rows_of l.documents.items l.jobs.items in
-    let p = jobs ∙ ap (λ js. filter (λ j. names_job e j.number) js) (sym same) in
+    let p = jobs ∙ ap (filter (concerns e)) (sym same) in
+    let q = counts ∙ ap (counts_for e) (sym same) in
     let r = live ∙ ap (λ js. count_by (λ j. bytes_eq j.owner (caller_of e) && is_live j) js) (sym same) in
-    λ i. record { settings = settings i; jobs = p i; free = free i; live = r i; next = next i }
+    λ i. record { settings = settings i; jobs = p i; free = free i; live = r i; counts = q i; next = next i }
 
 -- the same lists, with whatever room, stand for the same world
 pub same_world : (l m : Lists) → HaveSameItems l m → world_of m ≡ world_of l
@@ -263,16 +264,19 @@ first js x format (b ∷ bytes) = put_there x js
 
 printed : (js : List Job) (s : Scene) (now : ℕ) (caller : List ℕ) (j : NewJob) (format : Format) (payload : List ℕ) → HasItsJob js (print_job_row s now caller j format payload).change
 printed js s now caller j format payload =
-    elim (nat_le 100 s.live) as (λ b. HasItsJob js (cond b (refused 0x0404) (cond (nat_lt 2147483647 s.next) (refused 0x0506) (entered s (new_job s now caller j payload) (first_document s.next format payload)))).change) [
-      | true ↦ tt
-      | false ↦ elim (nat_lt 2147483647 s.next) as (λ b. HasItsJob js (cond b (refused 0x0506) (entered s (new_job s now caller j payload) (first_document s.next format payload))).change) [
-        | true ↦ tt
-        | false ↦ first js (new_job s now caller j payload) format payload
-      ]
+    elim (new_refusal s) as (λ o. HasItsJob js (unless_refused o (entered s (new_job s now caller j payload) (first_document s.next format payload))).change) [
+      | None ↦ first js (new_job s now caller j payload) format payload
+      | Some code ↦ tt
     ]
+
+validated : (js : List Job) (s : Scene) → HasItsJob js (validate_job_row s).change
+validated js s = elim (new_refusal s) as (λ o. HasItsJob js (unless_refused o (answered Done)).change) [ None ↦ tt | Some code ↦ tt ]
 
 decided : (js : List Job) (s : Scene) (now : ℕ) (e : Event) → HasItsJob js (decision s now e).change
 decided js s now (ask caller (print_job j format payload)) = printed js s now caller j format payload
+decided js s now (ask caller (validate_job j)) = validated js s
+decided js s now (ask caller (get_jobs which limit)) = tt
+decided js s now (ask caller get_printer_attributes) = tt
 decided js s now (ask caller (cancel_job n)) = owned js caller (λ j. cancel_in j.phase s now j) (λ j. cancel js s now j j.phase) s.jobs
 decided js s now (ask caller (get_job_attributes n)) = owned js caller (λ j. answered (Jobs (j ∷ []))) (λ j. tt) s.jobs
 

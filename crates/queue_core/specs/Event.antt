@@ -1,9 +1,10 @@
 -- What may happen to a queue, by its content: what a call or a change says, without where its bytes lie.
 use Rattle.std.specs.Prelude.{ℕ, List, Option, option_map}
 use Rattle.queue_core.specs.declared.document.Format.{Format}
+use Rattle.queue_core.specs.declared.event.WhichJobs.{WhichJobs}
 use Rattle.queue_core.specs.declared.event.NewJob.{NewJob as NewJobRef}
 use Rattle.queue_core.specs.declared.event.Call.{Call as CallRef}
-use Rattle.queue_core.specs.declared.event.Call.TheVariants.{PrintJob, CancelJob, GetJobAttributes}
+use Rattle.queue_core.specs.declared.event.Call.TheVariants.{PrintJob, ValidateJob, CancelJob, GetJobAttributes, GetJobs, GetPrinterAttributes}
 use Rattle.queue_core.specs.declared.event.Event.{Event as EventRef}
 use Rattle.queue_core.specs.declared.event.Event.TheVariants.{Ask}
 use Rattle.queue_core.specs.declared.event.FreeRow.{FreeRow}
@@ -20,8 +21,11 @@ pub record NewJob : Type 0 where
 
 pub data Call : Type 0 where
   print_job : NewJob → Format → List ℕ → Call
+  validate_job : NewJob → Call
   cancel_job : ℕ → Call
   get_job_attributes : ℕ → Call
+  get_jobs : WhichJobs → Option ℕ → Call
+  get_printer_attributes : Call
 
 pub data Event : Type 0 where
   ask : List ℕ → Call → Event
@@ -47,8 +51,11 @@ new_job_of j = record { name = j.name.now; copies = j.copies; impressions = j.im
 
 abbrev pub call_of : CallRef → Call
 call_of (PrintJob j f b) = print_job (new_job_of j) f b.now
+call_of (ValidateJob j) = validate_job (new_job_of j)
 call_of (CancelJob n) = cancel_job n
 call_of (GetJobAttributes n) = get_job_attributes n
+call_of (GetJobs which limit) = get_jobs which limit
+call_of GetPrinterAttributes = get_printer_attributes
 
 abbrev pub event_of : EventRef → Event
 event_of (Ask caller call) = ask caller.now (call_of call)

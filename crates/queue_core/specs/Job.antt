@@ -51,6 +51,20 @@ is_live_in Completed = false
 abbrev pub is_live : Job → Bool
 is_live j = is_live_in j.phase
 
+abbrev pub is_running_in : Phase → Bool
+is_running_in Running = true
+is_running_in _ = false
+
+abbrev pub is_running : Job → Bool
+is_running j = is_running_in j.phase
+
+abbrev pub is_stopped_in : Phase → Bool
+is_stopped_in Stopped = true
+is_stopped_in _ = false
+
+abbrev pub is_stopped : Job → Bool
+is_stopped j = is_stopped_in j.phase
+
 -- the pages that the owner asked for
 abbrev pub estimate : Job → ℕ
 estimate j = j.impressions * j.copies

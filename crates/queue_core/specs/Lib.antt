@@ -4,6 +4,7 @@ pub mod Job
 pub mod Event
 pub mod World
 pub mod Machine
+pub mod Order
 pub mod Limits
 pub mod Balance
 pub mod Sound

@@ -3,12 +3,12 @@ use Rattle.std.specs.Prelude.{◌≡◌, ℕ, ℤ, pos, neg_ℤ, ◌≤ℤ◌, �
 use Rattle.std.specs.List.{list_all}
 use Rattle.std.specs.Str.{IsUtf8}
 use Rattle.queue_core.specs.Settings.{AreSettings}
-use Rattle.queue_core.specs.Event.{Event, Call, NewJob, ask, print_job, cancel_job, get_job_attributes}
+use Rattle.queue_core.specs.Event.{Event, Call, NewJob, ask, print_job, validate_job, cancel_job, get_job_attributes, get_jobs, get_printer_attributes}
 use Rattle.queue_core.specs.declared.job.Job.{Job}
 use Rattle.queue_core.specs.declared.job.Phase.{Phase}
 use Rattle.queue_core.specs.declared.job.Phase.TheVariants.{Waiting, Running, Stopped, Canceled, Aborted, Completed}
 use Rattle.queue_core.specs.declared.event.Reply.{Reply}
-use Rattle.queue_core.specs.declared.event.Reply.TheVariants.{Refused, Done, Jobs}
+use Rattle.queue_core.specs.declared.event.Reply.TheVariants.{Refused, Done, Jobs, Printer}
 use Rattle.queue_core.specs.declared.event.Scene.{Scene}
 
 -- 1 to 2,147,483,647: a moment, a job number or a sequence number
@@ -68,6 +68,9 @@ pub record IsNewJob (j : NewJob) : Type 0 where
 
 abbrev pub IsCall : Call → Type 0
 IsCall (print_job j format payload) = IsNewJob j × (length payload ≤ 16777216)
+IsCall (validate_job j) = IsNewJob j
+IsCall (get_jobs which limit) = ⊤
+IsCall get_printer_attributes = ⊤
 IsCall (cancel_job n) = ⊤
 IsCall (get_job_attributes n) = ⊤
 
@@ -86,9 +89,11 @@ pub record IsFair (s : Scene) : Type 0 where
   pub few : length s.jobs < 2 ^ 31
   pub free : All (λ a. IsAmount a.free) s.free
   pub next : 1 ≤ s.next
+  pub queued : s.counts.queued < 2 ^ 31
 
--- the jobs that a reply shows are within their limits
+-- what a reply shows is within its limits
 abbrev pub IsSoundReply : Reply → Type 0
 IsSoundReply (Refused code) = ⊤
 IsSoundReply Done = ⊤
 IsSoundReply (Jobs js) = All IsSoundJob js
+IsSoundReply (Printer state queued accepting) = (3 ≤ state) × (state ≤ 5) × (queued < 2 ^ 31)

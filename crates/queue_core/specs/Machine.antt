@@ -1,8 +1,8 @@
 -- The machine: what each event is answered, and what becomes of the rows. One definition for each row of its table.
-use Rattle.std.specs.Prelude.{ℕ, ℤ, pos, ◌+ℤ◌, ◌-ℤ◌, ◌+◌, fold, List, [], ◌∷◌, Option, Some, None, map, ◌==◌, bytes_eq, true, false, if◌then◌else◌, nat_le, nat_lt, unwrap_or, length}
+use Rattle.std.specs.Prelude.{ℕ, ℤ, pos, ◌+ℤ◌, ◌-ℤ◌, ◌+◌, fold, List, [], ◌∷◌, ◌++◌, Option, Some, None, map, filter, take, ◌==◌, ◌&&◌, ◌||◌, bytes_eq, Bool, true, false, if◌then◌else◌, nat_le, nat_lt, unwrap_or, length}
 use Rattle.std.specs.Option.{option_map_or}
-use Rattle.queue_core.specs.Job.{owed}
-use Rattle.queue_core.specs.Event.{NewJob, NewDocument, Change, Decision, Event, Call, ask, print_job, cancel_job, get_job_attributes}
+use Rattle.queue_core.specs.Job.{owed, state}
+use Rattle.queue_core.specs.Event.{NewJob, NewDocument, Change, Decision, Event, Call, ask, print_job, validate_job, cancel_job, get_job_attributes, get_jobs, get_printer_attributes}
 use Rattle.queue_core.specs.World.{World, cut, made_on, job_at}
 use Rattle.queue_core.specs.declared.job.Job.{Job}
 use Rattle.queue_core.specs.declared.document.Format.{Format}
@@ -11,8 +11,11 @@ use Rattle.queue_core.specs.declared.job.Phase.{Phase}
 use Rattle.queue_core.specs.declared.job.Phase.TheVariants.{Waiting, Running, Stopped, Canceled, Aborted, Completed}
 use Rattle.queue_core.specs.declared.event.FreeRow.{FreeRow}
 use Rattle.queue_core.specs.declared.event.Reply.{Reply}
-use Rattle.queue_core.specs.declared.event.Reply.TheVariants.{Refused, Done, Jobs}
+use Rattle.queue_core.specs.declared.event.Reply.TheVariants.{Refused, Done, Jobs, Printer}
 use Rattle.queue_core.specs.declared.event.Scene.{Scene}
+use Rattle.queue_core.specs.declared.event.QueueCounts.{QueueCounts}
+use Rattle.queue_core.specs.declared.event.WhichJobs.{WhichJobs}
+use Rattle.queue_core.specs.declared.event.WhichJobs.TheVariants.{NotCompleted, Completed as CompletedJobs}
 
 abbrev pub no_change : Change
 no_change = record { jobs = []; document = None; free = []; next = None }
@@ -82,11 +85,67 @@ entered s j document = record {
 }
 
 -- a caller has at most 100 live jobs, and numbers end at 2,147,483,647
+abbrev pub new_refusal : Scene → Option ℕ
+new_refusal s = if nat_le 100 s.live then Some 0x0404 else (if nat_lt 2147483647 s.next then Some 0x0506 else None)
+
+-- the refusal, or else the decision
+abbrev pub unless_refused : Option ℕ → Decision → Decision
+unless_refused None d = d
+unless_refused (Some code) d = refused code
+
 abbrev pub print_job_row : Scene → ℕ → List ℕ → NewJob → Format → List ℕ → Decision
-print_job_row s now caller j format payload =
-    if nat_le 100 s.live then refused 0x0404
-    else (if nat_lt 2147483647 s.next then refused 0x0506
-    else entered s (new_job s now caller j payload) (first_document s.next format payload))
+print_job_row s now caller j format payload = unless_refused (new_refusal s) (entered s (new_job s now caller j payload) (first_document s.next format payload))
+
+-- ---- Validate-Job (RFC 8011, section 4.2.3)
+
+-- what Print-Job would answer, without the job
+abbrev pub validate_job_row : Scene → Decision
+validate_job_row s = unless_refused (new_refusal s) (answered Done)
+
+-- ---- Get-Jobs (RFC 8011, section 4.2.6)
+
+abbrev pub in_states : ℕ → ℕ → List Job → List Job
+in_states first last js = filter (λ j. nat_le first (state j) && nat_le (state j) last) js
+
+-- jobs by number: first those that the device has, then those that it may start, then those that wait
+abbrev pub by_state : List Job → List Job
+by_state js = in_states 5 6 js ++ in_states 3 3 js ++ in_states 4 4 js
+
+-- the moment at which a job ended
+abbrev pub end_of : Job → ℕ
+end_of j = unwrap_or j.ended 0
+
+-- a ended later than b, or at the same moment with the greater number
+abbrev pub is_newer : Job → Job → Bool
+is_newer a b = nat_lt (end_of b) (end_of a) || (end_of a == end_of b && nat_lt b.number a.number)
+
+-- behind all that are newer
+abbrev pub placed : Job → List Job → List Job
+placed j [] = j ∷ []
+placed j (k ∷ ks) = if is_newer k j then k ∷ placed j ks else j ∷ k ∷ ks
+
+-- the newest first
+abbrev pub by_end : List Job → List Job
+by_end [] = []
+by_end (j ∷ js) = placed j (by_end js)
+
+abbrev pub in_order : WhichJobs → List Job → List Job
+in_order NotCompleted js = by_state js
+in_order CompletedJobs js = by_end js
+
+-- no more than the limit, where there is one
+abbrev pub within_limit : Option ℕ → List Job → List Job
+within_limit None js = js
+within_limit (Some n) js = take n js
+
+-- ---- Get-Printer-Attributes (RFC 8011, sections 4.2.5 and 5.4.11)
+
+-- 4 processing, 5 stopped, 3 idle
+abbrev pub printer_state : QueueCounts → ℕ
+printer_state c = if nat_lt 0 c.running then 4 else (if nat_lt 0 c.stopped then 5 else 3)
+
+abbrev pub printer_row : Scene → Decision
+printer_row s = answered (Printer (printer_state s.counts) s.counts.queued (nat_le s.next 2147483647))
 
 -- ---- Cancel-Job (RFC 8011, section 4.3.3)
 
@@ -111,6 +170,9 @@ of_own caller row (j ∷ js) = if bytes_eq j.owner caller then row j else refuse
 
 abbrev pub call_row : Scene → ℕ → List ℕ → Call → Decision
 call_row s now caller (print_job j format payload) = print_job_row s now caller j format payload
+call_row s now caller (validate_job j) = validate_job_row s
+call_row s now caller (get_jobs which limit) = answered (Jobs (within_limit limit (in_order which s.jobs)))
+call_row s now caller get_printer_attributes = printer_row s
 call_row s now caller (cancel_job n) = of_own caller (λ j. cancel_in j.phase s now j) s.jobs
 call_row s now caller (get_job_attributes n) = of_own caller (λ j. answered (Jobs (j ∷ []))) s.jobs
 

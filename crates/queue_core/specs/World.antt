@@ -1,18 +1,21 @@
 -- A queue as a whole: its jobs with their documents, accounts, grants and reports; and what a change makes of it.
-use Rattle.std.specs.Prelude.{ℕ, ℤ, List, [], ◌∷◌, ◌++◌, Option, Some, None, map, filter, find, fold, count_by, ◌==◌, ◌&&◌, bytes_eq, Bool, false, if◌then◌else◌, unwrap_or}
+use Rattle.std.specs.Prelude.{ℕ, ℤ, List, [], ◌∷◌, ◌++◌, Option, Some, None, map, filter, find, fold, count_by, not, ◌==◌, ◌&&◌, bytes_eq, Bool, false, if◌then◌else◌, unwrap_or}
 use Rattle.std.specs.declared.cmp.Ordering.{Ordering}
 use Rattle.std.specs.Ordering.{nat_cmp, ordering_then}
 use Rattle.std.specs.Cmp.Lexicographic.{slice_cmp}
 use Rattle.std.specs.Coded.{Coded, coded×, coded_list, coded_ℕ, coded_ℤ}
 use Rattle.std.specs.FinMap.{code, FinMap, insert, get}
 use Rattle.queue_core.specs.Settings.{SettingValues}
-use Rattle.queue_core.specs.Job.{is_live}
-use Rattle.queue_core.specs.Event.{NewDocument, Change, Event, ask, print_job, cancel_job, get_job_attributes}
+use Rattle.queue_core.specs.Job.{is_live, is_running, is_stopped}
+use Rattle.queue_core.specs.Event.{NewDocument, Change, Event, ask, print_job, validate_job, cancel_job, get_job_attributes, get_jobs, get_printer_attributes}
 use Rattle.queue_core.specs.declared.job.Job.{Job}
 use Rattle.queue_core.specs.declared.document.Document.{Document}
 use Rattle.queue_core.specs.declared.event.FreeRow.{FreeRow}
 use Rattle.queue_core.specs.declared.event.KeptReport.{KeptReport}
 use Rattle.queue_core.specs.declared.event.Scene.{Scene}
+use Rattle.queue_core.specs.declared.event.QueueCounts.{QueueCounts}
+use Rattle.queue_core.specs.declared.event.WhichJobs.{WhichJobs}
+use Rattle.queue_core.specs.declared.event.WhichJobs.TheVariants.{NotCompleted, Completed}
 
 -- a job with its documents, in the order in which they came
 pub record Entry : Type 0 where
@@ -79,11 +82,19 @@ made_on c w = record w {
 
 -- ---- what of a world an event needs
 
--- the event speaks of the job of that number
-abbrev pub names_job : Event → ℕ → Bool
-names_job (ask caller (print_job j format payload)) n = false
-names_job (ask caller (cancel_job m)) n = n == m
-names_job (ask caller (get_job_attributes m)) n = n == m
+-- states 3 to 6 are not completed, states 7 to 9 are
+abbrev pub is_among : WhichJobs → Job → Bool
+is_among NotCompleted j = is_live j
+is_among Completed j = not (is_live j)
+
+-- the event speaks of this job
+abbrev pub concerns : Event → Job → Bool
+concerns (ask caller (print_job new format payload)) j = false
+concerns (ask caller (validate_job new)) j = false
+concerns (ask caller (cancel_job n)) j = j.number == n
+concerns (ask caller (get_job_attributes n)) j = j.number == n
+concerns (ask caller (get_jobs which limit)) j = bytes_eq j.owner caller && is_among which j
+concerns (ask caller get_printer_attributes) j = false
 
 abbrev pub caller_of : Event → List ℕ
 caller_of (ask caller call) = caller
@@ -94,7 +105,19 @@ live_jobs caller js = count_by (λ j. bytes_eq j.owner caller && is_live j) js
 
 -- the jobs that the event speaks of
 abbrev pub jobs_of : Event → World → List Job
-jobs_of e w = filter (λ j. names_job e j.number) (rows w)
+jobs_of e w = filter (concerns e) (rows w)
+
+abbrev pub counts_of : List Job → QueueCounts
+counts_of js = record { running = count_by is_running js; stopped = count_by is_stopped js; queued = count_by is_live js }
+
+-- jobs are counted for Get-Printer-Attributes alone
+abbrev pub counts_for : Event → List Job → QueueCounts
+counts_for (ask caller get_printer_attributes) js = counts_of js
+counts_for (ask caller (print_job new format payload)) js = counts_of []
+counts_for (ask caller (validate_job new)) js = counts_of []
+counts_for (ask caller (cancel_job n)) js = counts_of []
+counts_for (ask caller (get_job_attributes n)) js = counts_of []
+counts_for (ask caller (get_jobs which limit)) js = counts_of []
 
 -- the account with its free pages, where it is there
 abbrev pub found_row : List ℕ → Option ℤ → List FreeRow
@@ -108,6 +131,7 @@ cut w e = record {
   jobs = jobs_of e w;
   free = found_row (caller_of e) (get w.free (caller_of e));
   live = live_jobs (caller_of e) (rows w);
+  counts = counts_for e (rows w);
   next = w.next;
 }
 

@@ -18,6 +18,15 @@ pub struct NewJob<'a> {
     pub impressions: Option<u32>,
 }
 
+/// Which jobs Get-Jobs shows (RFC 8011, section 4.2.6.1).
+#[derive(Clone, Copy, Debug, PartialEq, Eq)]
+pub enum WhichJobs {
+    /// Jobs in states 3 to 6.
+    NotCompleted,
+    /// Jobs in states 7 to 9.
+    Completed,
+}
+
 /// An operation with its values (RFC 8011, section 4).
 #[derive(Clone, Copy)]
 pub enum Call<'a> {
@@ -31,10 +40,22 @@ pub enum Call<'a> {
     CancelJob {
         job: u32,
     },
+    /// What Print-Job would answer for such a job. Nothing changes.
+    ValidateJob {
+        job: NewJob<'a>,
+    },
     /// The job of that number is shown.
     GetJobAttributes {
         job: u32,
     },
+    /// The caller's jobs are shown: those that are not completed, or those that are, and no more than
+    /// the limit.
+    GetJobs {
+        which: WhichJobs,
+        limit: Option<u32>,
+    },
+    /// The printer is shown.
+    GetPrinterAttributes,
 }
 
 /// What happens to a queue.
@@ -51,6 +72,13 @@ pub enum Reply {
     Refused(u16),
     Done,
     Jobs(JobList),
+    /// The printer's state, 3 idle, 4 processing or 5 stopped (RFC 8011, section 5.4.11), how many jobs are
+    /// in states 3 to 6, and whether there is a number for a new job.
+    Printer {
+        state: u8,
+        queued: u32,
+        accepting: bool,
+    },
 }
 
 /// The kinds of a device's reports.
@@ -163,13 +191,23 @@ pub struct Decision<'a> {
     pub change: Change<'a>,
 }
 
+/// How many jobs there are in states 5, 6, and 3 to 6.
+#[derive(Clone, Copy, Debug, PartialEq, Eq)]
+pub struct QueueCounts {
+    pub running: usize,
+    pub stopped: usize,
+    pub queued: usize,
+}
+
 /// The rows that an event needs: the jobs that it speaks of, the free pages of the accounts that it may
-/// move, how many live jobs its caller has, and the next job number.
+/// move, how many live jobs its caller has, the counts of the queue, and the next job number.
 #[derive(Drop)]
 pub struct Scene {
     pub settings: Settings,
     pub jobs: JobList,
     pub free: FreeList,
     pub live: usize,
+    /// Counted for Get-Printer-Attributes alone, and else all 0.
+    pub counts: QueueCounts,
     pub next: u32,
 }

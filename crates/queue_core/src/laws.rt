@@ -1,8 +1,12 @@
 //! Laws of the machine, which no program calls: each is a contract on an empty body.
-ghost use Rattle.std.specs.Prelude.{◌≡◌, ◌∷◌, ◌++◌, [], List};
+ghost use Rattle.std.specs.Prelude.{◌≡◌, ◌∷◌, ◌++◌, [], Bool, List, count_by};
 ghost use Rattle.std.specs.List.{AllByRecursion};
 ghost use Rattle.queue_core.specs.Event.{Event};
 ghost use Rattle.queue_core.specs.Limits.{IsFair};
+ghost use Rattle.queue_core.specs.Machine.{in_order};
+ghost use Rattle.queue_core.specs.Order.{IsLive, AreNewestFirst, AreByRank, AreRising};
+ghost use Rattle.queue_core.specs.declared.event.WhichJobs.TheVariants.{NotCompleted, Completed as CompletedJobs};
+ghost use Rattle.queue_core.specs.declared.job.Job.{Job};
 ghost use Rattle.queue_core.specs.Runs.{Place, IsPlace, run, MovesAlong};
 ghost use Rattle.queue_core.specs.Sound.{IsSound, Balances};
 ghost use Rattle.queue_core.specs.World.{World, cut};
@@ -20,4 +24,14 @@ pub fn run_keeps()
 /// The scene that is cut from a sound world is one that `decide` takes.
 pub fn cut_is_fair()
     ensures { (w : World) (e : Event) → IsSound w → IsFair (cut w e) }
+{}
+
+/// Get-Jobs shows each job that it is about, and none twice: 'completed' from the one that ended last,
+/// and at one moment from the greatest number; 'not-completed' by the rank of its state (those that the
+/// device has, those that it may start, those that wait), and of one rank by number.
+pub fn get_jobs_in_order()
+    ensures completed_all { (p : Job → Bool) (js : List Job) → count_by p (in_order CompletedJobs js) ≡ count_by p js }
+    ensures completed_newest { (js : List Job) → AreNewestFirst (in_order CompletedJobs js) }
+    ensures live_all { (p : Job → Bool) (js : List Job) → AllByRecursion IsLive js → count_by p (in_order NotCompleted js) ≡ count_by p js }
+    ensures live_by_rank { (js : List Job) → AreRising js → AreByRank (in_order NotCompleted js) }
 {}

@@ -12,5 +12,6 @@ pub mod list_book;
 mod lists;
 pub mod machine;
 pub mod settings;
+mod shown;
 pub mod text;
 pub mod uri;

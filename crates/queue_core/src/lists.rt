@@ -2,15 +2,16 @@
 ghost use Rattle.std.specs.Prelude.{◌≡◌, ◌≤◌, ◌<◌, ◌+◌, ◌++◌, ◌∷◌, [], IfOk, OnOk, filter, count_by, bytes_eq, ◌&&◌, ◌==◌, option_map, IfNone, IfSome, IsSome, slice_set, slice_index_or, length, vec_len, vec_capacity, None, Some};
 ghost use Rattle.std.specs.FinMap.{get};
 ghost use Rattle.queue_core.specs.Event.{event_of, change_of, document_of};
-ghost use Rattle.queue_core.specs.Job.{is_live};
+ghost use Rattle.queue_core.specs.Job.{is_live, is_running, is_stopped};
 ghost use Rattle.queue_core.specs.Lists.{put_by, put_row, put_rows, put_account, put_accounts, kept_of, with_kept, HaveSameItems, HasRoom, free_map, world_of, IsTidy};
-ghost use Rattle.queue_core.specs.World.{names_job, caller_of, found_row, cut, made_on, job_at};
+ghost use Rattle.queue_core.specs.World.{concerns, is_among, counts_for, caller_of, found_row, cut, made_on, job_at};
 
 use crate::document::{Bytes, Document, KeptDocument};
 use crate::event::{
-    Call, Change, Event, FreeList, FreeRow, GrantRow, KeptReport, NewDocument, Scene,
+    Call, Change, Event, FreeList, FreeRow, GrantRow, KeptReport, NewDocument, QueueCounts, Scene,
+    WhichJobs,
 };
-use crate::job::{Job, JobList, is_live_job};
+use crate::job::{Job, JobList, Phase, is_live_job};
 use crate::settings::Settings;
 use crate::text::Text;
 use std::alloc::{AllocError, Global};
@@ -30,24 +31,36 @@ pub(crate) struct Lists {
 
 // ---- the scene
 
-fn names_number(e: &Event<'_>, n: u32) -> bool
-    ensures { result ≡ names_job (event_of e.now) n }
+/// The event speaks of the job.
+fn is_concerned(e: &Event<'_>, j: &Job) -> bool
+    ensures { result ≡ concerns (event_of e.now) j.now }
 {
     match *e {
-        Event::Ask { caller: _, call } => match call {
-            Call::PrintJob { .. } => false,
-            Call::CancelJob { job } => n == job,
-            Call::GetJobAttributes { job } => n == job,
+        Event::Ask { caller, call } => match call {
+            Call::PrintJob { .. } | Call::ValidateJob { .. } | Call::GetPrinterAttributes => false,
+            Call::CancelJob { job } | Call::GetJobAttributes { job } => j.number == job,
+            Call::GetJobs { which, limit: _ } => {
+                j.owner.as_str() == caller && is_listed(which, j)
+            }
         },
     }
 }
 
+fn is_listed(which: WhichJobs, j: &Job) -> bool
+    ensures { result ≡ is_among which j.now }
+{
+    match which {
+        WhichJobs::NotCompleted => is_live_job(j),
+        WhichJobs::Completed => !is_live_job(j),
+    }
+}
+
 fn jobs_named(alloc: Global, jobs: &[Job], e: &Event<'_>) -> Result<Vec<Job>, AllocError>
-    ensures { IfOk result (λ v. v.items ≡ filter (λ j. names_job (event_of e.now) j.number) jobs.now) }
+    ensures { IfOk result (λ v. v.items ≡ filter (concerns (event_of e.now)) jobs.now) }
 {
     let mut named = Vec::new(alloc);
     for job in jobs {
-        if names_number(e, job.number) {
+        if is_concerned(e, job) {
             named.push(job.try_clone()?)?;
         }
     }
@@ -103,6 +116,56 @@ fn caller_named<'a>(e: &Event<'a>) -> &'a str
     }
 }
 
+fn is_running_job(j: &Job) -> bool
+    ensures { result ≡ is_running j.now }
+{
+    matches!(j.phase, Phase::Running)
+}
+
+fn is_stopped_job(j: &Job) -> bool
+    ensures { result ≡ is_stopped j.now }
+{
+    matches!(j.phase, Phase::Stopped)
+}
+
+fn running_in(jobs: &[Job]) -> usize
+    ensures { result ≡ count_by is_running jobs.now }
+{
+    jobs.iter().filter(|j| is_running_job(j)).count()
+}
+
+fn stopped_in(jobs: &[Job]) -> usize
+    ensures { result ≡ count_by is_stopped jobs.now }
+{
+    jobs.iter().filter(|j| is_stopped_job(j)).count()
+}
+
+fn queued_in(jobs: &[Job]) -> usize
+    ensures { result ≡ count_by is_live jobs.now }
+{
+    jobs.iter().filter(|j| is_live_job(j)).count()
+}
+
+/// The counts of the queue, for an event that needs them.
+fn counts(jobs: &[Job], e: &Event<'_>) -> QueueCounts
+    ensures { result ≡ counts_for (event_of e.now) jobs.now }
+{
+    match *e {
+        Event::Ask { caller: _, call } => match call {
+            Call::GetPrinterAttributes => QueueCounts {
+                running: running_in(jobs),
+                stopped: stopped_in(jobs),
+                queued: queued_in(jobs),
+            },
+            _ => QueueCounts {
+                running: 0,
+                stopped: 0,
+                queued: 0,
+            },
+        },
+    }
+}
+
 /// The rows that an event needs.
 pub(crate) fn scene(alloc: Global, l: &Lists, e: &Event<'_>) -> Result<Scene, AllocError>
     ensures { IfOk result (λ s. s ≡ cut (world_of l.now) (event_of e.now)) }
@@ -117,6 +180,7 @@ pub(crate) fn scene(alloc: Global, l: &Lists, e: &Event<'_>) -> Result<Scene, Al
         jobs: JobList::from_jobs(jobs),
         free: FreeList::from_rows(free),
         live,
+        counts: counts(l.jobs.as_slice(), e),
         next: l.next,
     })
 }

@@ -1,9 +1,9 @@
 //! What the machine decides on the rows that an event needs.
-ghost use Rattle.std.specs.Prelude.{◌≡◌, ◌∷◌, [], ◌<◌, ◌^◌, ◌==◌, if◌then◌else◌, All, IfOk, IfErr, length, option_map};
+ghost use Rattle.std.specs.Prelude.{◌≡◌, ◌∷◌, [], ◌<◌, ◌^◌, ◌==◌, if◌then◌else◌, All, IfOk, IfErr, IsNone, length, option_map};
 ghost use Rattle.queue_core.specs.Balance.{AreAmounts};
 ghost use Rattle.queue_core.specs.Event.{event_of, change_of, decision_of, document_of, new_job_of, call_of};
 ghost use Rattle.queue_core.specs.Limits.{IsMoment, IsEvent, IsCall, IsOwner, IsNewJob, IsSoundJob, IsFair, IsSoundReply};
-ghost use Rattle.queue_core.specs.Machine.{refused, answered, becomes, changed, cancel_in, of_own, decision, first_document, new_job, entered as entered_row, print_job_row, call_row, step};
+ghost use Rattle.queue_core.specs.Machine.{refused, answered, becomes, changed, cancel_in, of_own, decision, first_document, new_job, entered as entered_row, new_refusal, print_job_row, validate_job_row, printer_row, within_limit, in_order, call_row, step};
 ghost use Rattle.queue_core.specs.Runs.{MovesAlong};
 ghost use Rattle.queue_core.specs.Sound.{IsSound, Balances};
 ghost use Rattle.queue_core.specs.World.{World, cut, made_on};
@@ -11,8 +11,11 @@ ghost use Rattle.queue_core.specs.declared.event.Reply.TheVariants.{Jobs};
 
 use crate::balance::credited_rows;
 use crate::document::Format;
-use crate::event::{Call, Change, Decision, Event, FreeList, NewDocument, NewJob, Reply, Scene};
+use crate::event::{
+    Call, Change, Decision, Event, FreeList, NewDocument, NewJob, Reply, Scene, WhichJobs,
+};
 use crate::job::{Job, JobList, Phase, Why};
+use crate::shown::{cut_at, ordered, state_of_printer};
 use crate::text::Text;
 use std::alloc::{AllocError, Global};
 
@@ -69,6 +72,20 @@ fn job_becomes<'a>(alloc: Global, s: &Scene, j: Job) -> Result<Decision<'a>, All
         reply: Reply::Done,
         change,
     })
+}
+
+/// The code that refuses a new job of the caller, where there is one.
+fn refusal_of_new(s: &Scene) -> Option<u16>
+    ensures code { result ≡ new_refusal s.now }
+    ensures room { IsNone result → s.now.next < 2 ^ 31 }
+{
+    if s.live >= MOST_LIVE_JOBS {
+        return Some(0x0404);
+    }
+    if s.next > LAST_JOB_NUMBER {
+        return Some(0x0506);
+    }
+    None
 }
 
 fn document_count(payload: &[u8]) -> u32
@@ -157,14 +174,20 @@ fn print<'a>(
     requires job { IsNewJob (new_job_of j.now) }
     ensures { IfOk result (λ d. decision_of d ≡ print_job_row s.now now caller.now (new_job_of j.now) format payload.entry.now) }
 {
-    if s.live >= MOST_LIVE_JOBS {
-        return Ok(refuse(alloc, 0x0404));
-    }
-    if s.next > LAST_JOB_NUMBER {
-        return Ok(refuse(alloc, 0x0506));
+    if let Some(code) = refusal_of_new(s) {
+        return Ok(refuse(alloc, code));
     }
     let job = made_job(alloc, s, now, caller, j, payload)?;
     enter(alloc, s, job, first_of(s.next, format, payload))
+}
+
+fn validate<'a>(alloc: Global, s: &Scene) -> Decision<'a>
+    ensures { decision_of result ≡ validate_job_row s.now }
+{
+    match refusal_of_new(s) {
+        Some(code) => refuse(alloc, code),
+        None => answer_only(alloc, Reply::Done),
+    }
 }
 
 fn cancel<'a>(alloc: Global, s: &Scene, now: u32, j: &Job) -> Result<Decision<'a>, AllocError>
@@ -221,6 +244,33 @@ fn show<'a>(alloc: Global, j: &Job) -> Result<Decision<'a>, AllocError>
     Ok(answer_only(alloc, Reply::Jobs(JobList::from_jobs(told))))
 }
 
+fn show_jobs<'a>(
+    alloc: Global,
+    s: &Scene,
+    which: WhichJobs,
+    limit: Option<u32>,
+) -> Result<Decision<'a>, AllocError>
+    ensures { IfOk result (λ d. decision_of d ≡ answered (Jobs (within_limit limit (in_order which s.now.jobs)))) }
+{
+    let shown = ordered(alloc, which, s.jobs.as_slice())?;
+    let shown = cut_at(shown, limit);
+    Ok(answer_only(alloc, Reply::Jobs(JobList::from_jobs(shown))))
+}
+
+fn show_printer<'a>(alloc: Global, s: &Scene) -> Decision<'a>
+    requires { IsFair s.now }
+    ensures { decision_of result ≡ printer_row s.now }
+{
+    answer_only(
+        alloc,
+        Reply::Printer {
+            state: state_of_printer(s.counts),
+            queued: s.counts.queued as u32,
+            accepting: s.next <= LAST_JOB_NUMBER,
+        },
+    )
+}
+
 fn answer_call<'a>(
     alloc: Global,
     s: &Scene,
@@ -239,6 +289,9 @@ fn answer_call<'a>(
             format,
             payload,
         } => print(alloc, s, now, caller, &job, format, payload),
+        Call::ValidateJob { .. } => Ok(validate(alloc, s)),
+        Call::GetJobs { which, limit } => show_jobs(alloc, s, which, limit),
+        Call::GetPrinterAttributes => Ok(show_printer(alloc, s)),
         Call::CancelJob { .. } => match found {
             Err(code) => Ok(refuse(alloc, code)),
             Ok(j) => cancel(alloc, s, now, j),

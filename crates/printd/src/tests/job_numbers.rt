@@ -3,7 +3,7 @@
 ghost use Rattle.std.specs.Prelude.{◌≤◌};
 
 use queue_core::document::Format;
-use queue_core::event::{Call, Decision, Event, FreeList, NewJob, Reply, Scene};
+use queue_core::event::{Call, Decision, Event, FreeList, NewJob, QueueCounts, Reply, Scene};
 use queue_core::job::JobList;
 use queue_core::machine::decide;
 use queue_core::settings::Settings;
@@ -21,6 +21,11 @@ fn number_given(alloc: Global, next: u32) -> Result<Result<u32, u16>, Fail>
         jobs: JobList::from_jobs(Vec::new(alloc)),
         free: FreeList::from_rows(Vec::new(alloc)),
         live: 0,
+        counts: QueueCounts {
+            running: 0,
+            stopped: 0,
+            queued: 0,
+        },
         next,
     };
     let call = Call::PrintJob {
@@ -40,7 +45,7 @@ fn number_given(alloc: Global, next: u32) -> Result<Result<u32, u16>, Fail>
     match reply {
         Reply::Jobs(jobs) => Ok(Ok(jobs.as_slice().first().ok_or("a job")?.number)),
         Reply::Refused(code) => Ok(Err(code)),
-        Reply::Done => Ok(Err(0)),
+        Reply::Done | Reply::Printer { .. } => Ok(Err(0)),
     }
 }
 

@@ -1,9 +1,8 @@
 use Rattle.std.proofs.Common.{◌≡◌, sym, ◌∙◌, ap, subst}
 use Rattle.ipp_wire.specs.Viewed.{attributes_of, message_of}
-use Rattle.ipp_ops.specs.Asked.{Asked, requested, IsWithinLimits, ListsAttributes}
+use Rattle.ipp_ops.specs.Asked.{Asked, requested, wanted_by, IsWithinLimits, ListsAttributes}
 use Rattle.ipp_ops.specs.Unsupported.{unsupported_of}
 use Rattle.ipp_ops.specs.Request.{caller, operation_attributes}
-use Rattle.ipp_ops.specs.JobReply.{selected}
 use Rattle.ipp_ops.proofs.Within.{asks_call, asks_refused, asks_fits, asked_same}
 use Rattle.ipp_ops.proofs.Listed.{asks_lists}
 use Rattle.ipp_ops.proofs.asking.ask.Goals as goal
@@ -32,7 +31,7 @@ returns-clause-asks c =
     asked_same _ _ _ _ _ _ (unsupported_of c.in_ok-unsupported.unsupported)
     (c.caller.ensures ∙ ap (caller o) attrs)
     c.call_in.ensures
-    (c.in_ok-wanted.ensures ∙ ap (λ a. selected (requested o a)) attrs)
+    (c.in_ok-wanted.ensures ∙ ap (λ a. wanted_by o (requested o a)) attrs)
     ∙ sym (asks_call m o (unsupported_of c.in_ok-unsupported.unsupported)
     (sym c.asked_in.ensures ∙ c.in-Ok.is) (sym c.in_ok-unsupported.ensures) (sym c.first_refusal.ensures ∙ c.in_default.is))
 

@@ -1,22 +1,11 @@
-use Rattle.std.proofs.Common.{◌≡◌, ℕ, List, ◌∙◌, ap, subst}
-use Rattle.std.specs.Prelude.{IfOk, Option}
-use Rattle.std.specs.Option.{option_map_or}
-use Rattle.ipp_wire.specs.Message.{Attribute}
-use Rattle.ipp_wire.specs.Viewed.{attributes_of, values_of}
-use Rattle.ipp_ops.specs.Values.{words_of}
-use Rattle.ipp_ops.specs.Asked.{usual, requested}
-use Rattle.ipp_ops.specs.JobReply.{selected}
+use Rattle.std.proofs.Common.{◌≡◌, sym, subst}
+use Rattle.std.specs.Prelude.{IfOk}
+use Rattle.ipp_wire.specs.Viewed.{attributes_of}
+use Rattle.ipp_ops.specs.Asked.{requested, wanted_by}
+use Rattle.ipp_ops.specs.declared.operation.Operation.{Operation}
 use Rattle.ipp_ops.proofs.asking.wanted.Goals as goal
 
-pub returns-in-Some : goal.returns-in-Some
-returns-in-Some c =
-    let names : words_of (values_of c.as_slice.result.now) ≡ requested c.args.o (attributes_of c.args.attrs.now) =
-    ap (λ vs. words_of (values_of vs)) c.as_slice.ensures.value ∙ ap (λ (a : Option Attribute). option_map_or (λ a. words_of a.values) a (usual c.args.o)) c.in-Some.ensures in
-    let P : List (List ℕ) → Type 0 = λ ws. IfOk c.select_requested.result (λ w. w ≡ selected ws) in
-    subst P names c.select_requested.ensures
-
-pub returns-in-None : goal.returns-in-None
-returns-in-None c =
-    let names = c.usual.ensures ∙ ap (λ (a : Option Attribute). option_map_or (λ a. words_of a.values) a (usual c.args.o)) c.in-None.ensures in
-    let P : List (List ℕ) → Type 0 = λ ws. IfOk c.select_usual.result (λ w. w ≡ selected ws) in
-    subst P names c.select_usual.ensures
+pub returns-in-GetPrinterAttributes : goal.returns-in-GetPrinterAttributes
+returns-in-GetPrinterAttributes c =
+    let P : Operation → Type 0 = λ o. IfOk c.wanted_of_printer.result (λ w. w ≡ wanted_by o (requested o (attributes_of c.args.attrs.now))) in
+    subst P (sym c.in-GetPrinterAttributes.is) c.wanted_of_printer.ensures

@@ -1,0 +1,22 @@
+use Rattle.std.proofs.Common.{◌≡◌, ℕ, List, [], ◌∷◌, ◌∙◌, ap, subst}
+use Rattle.std.specs.Prelude.{IfOk, Option, codes}
+use Rattle.std.specs.Option.{option_map_or}
+use Rattle.ipp_wire.specs.Message.{Attribute}
+use Rattle.ipp_wire.specs.Viewed.{attributes_of, values_of}
+use Rattle.ipp_ops.specs.Values.{words_of}
+use Rattle.ipp_ops.specs.Asked.{usual, requested, wanted_by}
+use Rattle.ipp_ops.specs.declared.operation.Operation.TheVariants.{GetPrinterAttributes}
+use Rattle.ipp_ops.proofs.asking.wanted_of_printer.Goals as goal
+
+pub returns-in-Some : goal.returns-in-Some
+returns-in-Some c =
+    let names : words_of (values_of c.as_slice.result.now) ≡ requested GetPrinterAttributes (attributes_of c.args.attrs.now) =
+    ap (λ vs. words_of (values_of vs)) c.as_slice.ensures.value ∙ ap (λ (a : Option Attribute). option_map_or (λ a. words_of a.values) a (usual GetPrinterAttributes)) c.in-Some.ensures in
+    let P : List (List ℕ) → Type 0 = λ ws. IfOk c.select_of_printer.result (λ w. w ≡ wanted_by GetPrinterAttributes ws) in
+    subst P names c.select_of_printer.ensures
+
+pub returns-in-None : goal.returns-in-None
+returns-in-None c =
+    let names : (codes "all" ∷ []) ≡ requested GetPrinterAttributes (attributes_of c.args.attrs.now) = ap (λ (a : Option Attribute). option_map_or (λ a. words_of a.values) a (usual GetPrinterAttributes)) c.in-None.ensures in
+    let P : List (List ℕ) → Type 0 = λ ws. IfOk c.select_whole_printer.result (λ w. w ≡ wanted_by GetPrinterAttributes ws) in
+    subst P names c.select_whole_printer.ensures
