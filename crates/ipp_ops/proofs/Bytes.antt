@@ -6,9 +6,9 @@ use Rattle.ipp_wire.specs.Message.{Group, Message, Spells, spelling, head_bytes}
 use Rattle.ipp_wire.specs.Bare.{bare}
 use Rattle.queue_core.specs.Settings.{SettingValues}
 use Rattle.queue_core.specs.declared.event.Reply.TheVariants.{Refused}
-use Rattle.ipp_ops.specs.Unsupported.{nothing}
-use Rattle.ipp_ops.specs.Wanted.{no_rows}
-use Rattle.ipp_ops.specs.Reply.{reply_of, with_groups}
+use Rattle.ipp_reply.specs.Unsupported.{nothing}
+use Rattle.ipp_reply.specs.Wanted.{no_rows}
+use Rattle.ipp_reply.specs.Reply.{reply_of, with_groups}
 
 -- a spelling begins with the message's head
 pub begins : (m : Message) (b : List ℕ) → b ≡ spelling m → b ≡ head_bytes m.head ++ drop 8 b

@@ -2,32 +2,35 @@
 use Rattle.std.proofs.Common.{◌≡◌, ℕ, List, [], ◌∷◌, ◌++◌, Bool, true, false, refl, ap, ◌∙◌, subst, Err}
 use Rattle.std.specs.Prelude.{Option, Some, None, if◌then◌else◌, ⊤, ◌==◌, nat_le, nat_lt, map}
 use Rattle.std.specs.Bool.{OnFalse, OnTrue}
+use Rattle.std.specs.List.{list_all}
 use Rattle.std.specs.Option.{ok_or}
 use Rattle.std.specs.Result.{result_err}
 use Rattle.ipp_wire.specs.declared.view.Head.{Head}
 use Rattle.ipp_wire.specs.Message.{Group, Message, Spells, spelling}
 use Rattle.ipp_wire.specs.Bare.{bare}
+use Rattle.queue_core.specs.declared.document.Format.{Format}
 use Rattle.queue_core.specs.declared.job.Job.{Job}
 use Rattle.queue_core.specs.declared.job.Phase.{Phase}
 use Rattle.queue_core.specs.declared.job.Phase.TheVariants.{Waiting, Running, Stopped, Canceled, Aborted, Completed}
 use Rattle.queue_core.specs.declared.event.Reply.{Reply}
 use Rattle.queue_core.specs.declared.event.Reply.TheVariants.{Refused, Done, Jobs, Printer}
 use Rattle.queue_core.specs.declared.event.Scene.{Scene}
-use Rattle.queue_core.specs.Event.{Call, Decision, ask, print_job, validate_job, cancel_job, get_job_attributes, get_jobs, get_printer_attributes}
-use Rattle.queue_core.specs.Machine.{call_row, cancel_in, of_own, entered, answered, new_job, first_document, unless_refused, refused as refused_row}
+use Rattle.queue_core.specs.Event.{Call, Decision, ask, print_job, validate_job, create_job, send_document, cancel_job, cancel_my_jobs, hold_job, release_job, get_job_attributes, get_jobs, get_printer_attributes}
+use Rattle.queue_core.specs.Machine.{call_row, cancel_row, canceled, is_cancelable, all_canceled, are_there, cancel_my_jobs_row, hold_in, let_print, release_in, is_sendable, sent, send_in, becomes, changed, of_own, entered, answered, new_job, new_document, unless_refused, refused as refused_row}
 use Rattle.queue_core.specs.World.{World, cut}
 use Rattle.queue_core.specs.Settings.{SettingValues}
-use Rattle.ipp_ops.specs.declared.operation.Operation.{Operation}
+use Rattle.ipp_reply.specs.declared.operation.Operation.{Operation}
 use Rattle.ipp_ops.specs.declared.check.Check.{Check}
 use Rattle.ipp_ops.specs.declared.check.Check.TheVariants as check
-use Rattle.ipp_ops.specs.Wanted.{Rows, no_rows}
-use Rattle.ipp_ops.specs.Operations.{operation_of}
-use Rattle.ipp_ops.specs.Unsupported.{Unsupported, is_listed, unsupported}
+use Rattle.ipp_reply.specs.Wanted.{Rows, no_rows}
+use Rattle.ipp_reply.specs.Operations.{operation_of}
+use Rattle.ipp_reply.specs.Unsupported.{Unsupported, is_listed}
+use Rattle.ipp_ops.specs.Unsupported.{unsupported}
 use Rattle.ipp_ops.specs.Checks.{refusal, is_spoken, head_refusal}
 use Rattle.ipp_ops.specs.Asked.{Asked, asked, refused, refused_by, outcome_of, asked_by, asks}
-use Rattle.ipp_ops.specs.Reply.{with_groups, unsupported_groups, reply_of}
-use Rattle.ipp_ops.specs.JobReply.{job_group}
-use Rattle.ipp_ops.specs.PrinterReply.{printer_group}
+use Rattle.ipp_reply.specs.Reply.{with_groups, unsupported_groups, reply_of}
+use Rattle.ipp_reply.specs.JobReply.{job_group}
+use Rattle.ipp_reply.specs.PrinterReply.{printer_group}
 use Rattle.ipp_ops.specs.Answer.{is_fault, outcome}
 
 -- a reply with this code is no fault
@@ -84,17 +87,44 @@ new_quiet true ended d q = λ h gs. refl
 new_quiet false true d q = λ h gs. refl
 new_quiet false false d q = q
 
-stop_quiet : (stopping : Bool) (d : Decision) → QuietReply d.reply → QuietReply (if stopping then refused_row 0x0404 else d).reply
-stop_quiet true d q = λ h gs. refl
-stop_quiet false d q = q
+-- a test lets the row answer, or not possible
+test_quiet : (test : Bool) (d : Decision) → QuietReply d.reply → QuietReply (if test then d else refused_row 0x0404).reply
+test_quiet true d q = q
+test_quiet false d q = λ h gs. refl
 
-cancel_quiet : (p : Phase) (s : Scene) (now : ℕ) (j : Job) → QuietReply (cancel_in p s now j).reply
-cancel_quiet Waiting s now j = tt
-cancel_quiet Running s now j = stop_quiet j.stopping _ tt
-cancel_quiet Stopped s now j = stop_quiet j.stopping _ tt
-cancel_quiet (Canceled why) s now j = λ h gs. refl
-cancel_quiet Aborted s now j = λ h gs. refl
-cancel_quiet Completed s now j = λ h gs. refl
+send_quiet : (s : Scene) (j : Job) (format : Format) (payload : List ℕ) (last : Bool) → QuietReply (send_in s j format payload last).reply
+send_quiet s j format payload last =
+    test_quiet (is_sendable j payload) (record { reply = Jobs (sent j payload last ∷ []); change = record (changed s (sent j payload last ∷ [])) { document = new_document j.number format payload } }) tt
+
+hold_quiet : (p : Phase) (s : Scene) (j : Job) → QuietReply (hold_in p s j).reply
+hold_quiet Waiting s j = tt
+hold_quiet Running s j = λ h gs. refl
+hold_quiet Stopped s j = λ h gs. refl
+hold_quiet (Canceled why) s j = λ h gs. refl
+hold_quiet Aborted s j = λ h gs. refl
+hold_quiet Completed s j = λ h gs. refl
+
+either_quiet : (hold : Bool) (d e : Decision) → QuietReply d.reply → QuietReply e.reply → QuietReply (if hold then d else e).reply
+either_quiet true d e p q = p
+either_quiet false d e p q = q
+
+release_quiet : (p : Phase) (s : Scene) (j : Job) → QuietReply (release_in p s j).reply
+release_quiet Waiting s j = either_quiet j.hold (let_print s j) (answered Done) (test_quiet _ (becomes s (record j { hold = false })) tt) tt
+release_quiet Running s j = tt
+release_quiet Stopped s j = tt
+release_quiet (Canceled why) s j = λ h gs. refl
+release_quiet Aborted s j = λ h gs. refl
+release_quiet Completed s j = λ h gs. refl
+
+named_quiet : (there : Bool) (d : Decision) → QuietReply d.reply → QuietReply (if there then d else refused_row 0x0406).reply
+named_quiet true d q = q
+named_quiet false d q = λ h gs. refl
+
+cancel_my_quiet : (s : Scene) (now : ℕ) (numbers : Option (List ℕ)) → QuietReply (cancel_my_jobs_row s now numbers).reply
+cancel_my_quiet s now None = tt
+cancel_my_quiet s now (Some numbers) =
+    named_quiet (are_there s.jobs numbers) (if list_all is_cancelable s.jobs then all_canceled s now s.jobs else refused_row 0x0404)
+    (test_quiet (list_all is_cancelable s.jobs) (all_canceled s now s.jobs) tt)
 
 owned_quiet : (own : Bool) (d : Decision) → QuietReply d.reply → QuietReply (if own then d else refused_row 0x0406).reply
 owned_quiet true d q = q
@@ -105,11 +135,16 @@ own_quiet caller row q [] = λ h gs. refl
 own_quiet caller row q (j ∷ js) = owned_quiet _ (row j) (q j)
 
 machine_quiet : (s : Scene) (now : ℕ) (caller : List ℕ) (call : Call) → QuietReply (call_row s now caller call).reply
-machine_quiet s now caller (print_job j format payload) = new_quiet (nat_le 100 s.live) (nat_lt 2147483647 s.next) (entered s (new_job s now caller j payload) (first_document s.next format payload)) tt
+machine_quiet s now caller (print_job j format payload) = new_quiet (nat_le 100 s.live) (nat_lt 2147483647 s.next) (entered s (new_job s now caller false j payload) (new_document s.next format payload)) tt
+machine_quiet s now caller (create_job j) = new_quiet (nat_le 100 s.live) (nat_lt 2147483647 s.next) (entered s (new_job s now caller true j []) None) tt
+machine_quiet s now caller (send_document n format payload last) = own_quiet caller (λ j. send_in s j format payload last) (λ j. send_quiet s j format payload last) s.jobs
+machine_quiet s now caller (hold_job n) = own_quiet caller (λ j. hold_in j.phase s j) (λ j. hold_quiet j.phase s j) s.jobs
+machine_quiet s now caller (release_job n) = own_quiet caller (λ j. release_in j.phase s j) (λ j. release_quiet j.phase s j) s.jobs
+machine_quiet s now caller (cancel_my_jobs numbers) = cancel_my_quiet s now numbers
 machine_quiet s now caller (validate_job j) = new_quiet (nat_le 100 s.live) (nat_lt 2147483647 s.next) (answered Done) tt
 machine_quiet s now caller (get_jobs which limit) = tt
 machine_quiet s now caller get_printer_attributes = tt
-machine_quiet s now caller (cancel_job n) = own_quiet caller (λ j. cancel_in j.phase s now j) (λ j. cancel_quiet j.phase s now j) s.jobs
+machine_quiet s now caller (cancel_job n) = own_quiet caller (λ j. cancel_row s now j) (λ j. test_quiet _ (becomes s (canceled now j)) tt) s.jobs
 machine_quiet s now caller (get_job_attributes n) = own_quiet caller _ (λ j. tt) s.jobs
 
 -- ---- the reply

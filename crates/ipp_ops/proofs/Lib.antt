@@ -1,7 +1,4 @@
 pub mod Lists
-pub mod Put
-pub mod Rows
-pub mod PrinterRows
 pub mod Bytes
 pub mod Tests
 pub mod Texts

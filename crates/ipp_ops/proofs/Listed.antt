@@ -1,22 +1,22 @@
 -- What is listed may stand in a message, where the request is one.
-use Rattle.std.proofs.Common.{ℕ, List, [], ◌∷◌, ◌==◌, Bool, true, false, lit<, lit≤, refl, Result, Ok, Err}
+use Rattle.std.proofs.Common.{ℕ, List, [], ◌∷◌, ◌==◌, Bool, true, false, lit<, lit≤, refl, Result, Ok, Err, zero, suc}
 use Rattle.std.specs.Prelude.{Option, Some, None, IfSome, filter, find, cond}
 use Rattle.std.specs.List.{AllByRecursion, filter_map, cons_option}
 use Rattle.std.specs.Option.{option_map_or}
-use Rattle.ipp_wire.specs.Message.{Attribute, Group, Message, IsAttribute, IsGroup, IsMessage}
-use Rattle.ipp_ops.specs.declared.operation.Operation.{Operation}
+use Rattle.ipp_wire.specs.Message.{Attribute, Group, Message, IsAttribute, IsGroup, IsMessage, IsNested}
+use Rattle.ipp_reply.specs.declared.operation.Operation.{Operation}
 use Rattle.ipp_ops.specs.declared.unsupported.Source.{Source}
 use Rattle.ipp_ops.specs.declared.unsupported.Source.TheVariants.{OperationGroup, JobGroup}
 use Rattle.ipp_ops.specs.declared.check.Check.{Check}
 use Rattle.ipp_ops.specs.declared.check.Check.TheVariants as check
-use Rattle.ipp_ops.specs.Operations.{makes_job}
+use Rattle.ipp_reply.specs.Operations.{makes_job}
 use Rattle.ipp_ops.specs.Attributes.{Support}
 use Rattle.ipp_ops.specs.Values.{are_supported}
 use Rattle.ipp_ops.specs.Request.{attributes_in, operation_attributes, job_attributes}
-use Rattle.ipp_ops.specs.Unsupported.{Unsupported, counted, listed, listed_by, listed_in, support_for, unsupported}
+use Rattle.ipp_ops.specs.Unsupported.{counted, listed, listed_by, listed_in, support_for, unsupported}
 use Rattle.ipp_ops.specs.Checks.{refusal}
-use Rattle.ipp_ops.specs.Asked.{refused_by, outcome_of, asked_by, asks, CanList, ListsAttributes}
-use Rattle.ipp_ops.proofs.Put.{plain_attribute}
+use Rattle.ipp_ops.specs.Asked.{refused_by, outcome_of, asked_by, asks, ListsAttributes}
+use Rattle.ipp_reply.specs.Unsupported.{Unsupported, CanList}
 
 all_filtered : (p : Attribute → Bool) (attrs : List Attribute) → AllByRecursion IsAttribute attrs → AllByRecursion IsAttribute (filter p attrs)
 all_filtered p [] h = tt
@@ -38,10 +38,18 @@ supported_or_not : (b : Bool) (a : Attribute) → IsAttribute a → IfSome (cond
 supported_or_not true a h = tt
 supported_or_not false a h = h
 
+-- the value of an unknown attribute opens no collection
+none_nested : IsNested (record { tag = 0x10; bytes = [] } ∷ [])
+none_nested zero = (lit≤ tt, lit≤ tt)
+none_nested (suc zero) = (lit≤ tt, lit≤ tt)
+none_nested (suc (suc k)) = (lit≤ tt, lit≤ tt)
+
 listed_fits : (s : Option Support) (a : Attribute) → IsAttribute a → IfSome (listed_by s a) IsAttribute
 listed_fits None a h =
-    plain_attribute a.name (record { tag = 0x10; bytes = [] } ∷ []) h.begun.named h.begun.short (lit< tt)
-    (record { value = record { tag_low = lit≤ tt; tag_high = lit< tt; short = lit< tt }; opens_none = refl; closes_none = refl }, tt)
+    record {
+      begun = record { named = h.begun.named; short = h.begun.short; valued = lit< tt; values = (record { tag_low = lit≤ tt; tag_high = lit< tt; short = lit< tt }, tt); nested = none_nested };
+      closed = refl;
+    }
 listed_fits (Some s) a h = supported_or_not (are_supported s a.values) a h
 
 all_listed : (s : Source) (attrs : List Attribute) → AllByRecursion IsAttribute attrs → AllByRecursion IsAttribute (listed_in s attrs)

@@ -5,10 +5,10 @@ use Rattle.std.specs.Option.{option_map_or}
 use borrow.Author.Tests.{leb-true}
 use Rattle.ipp_wire.specs.Message.{Value, Attribute, Message}
 use Rattle.queue_core.specs.Event.{Call}
-use Rattle.ipp_ops.specs.Wanted.{Rows}
+use Rattle.ipp_reply.specs.Wanted.{Rows}
 use Rattle.queue_core.specs.Limits.{IsOwner, IsJobName, IsNewJob, IsCall}
-use Rattle.ipp_ops.specs.declared.operation.Operation.{Operation}
-use Rattle.ipp_ops.specs.declared.operation.Operation.TheVariants.{PrintJob, ValidateJob, CancelJob, GetJobAttributes, GetJobs, GetPrinterAttributes}
+use Rattle.ipp_reply.specs.declared.operation.Operation.{Operation}
+use Rattle.ipp_reply.specs.declared.operation.Operation.TheVariants.{PrintJob, ValidateJob, CreateJob, SendDocument, CancelJob, GetJobAttributes, GetJobs, GetPrinterAttributes, HoldJob, ReleaseJob, CancelMyJobs}
 use Rattle.ipp_ops.specs.declared.attribute.OperationAttribute.TheVariants as key
 use Rattle.ipp_ops.specs.declared.template.TemplateAttribute.TheVariants as template
 use Rattle.ipp_ops.specs.declared.check.Check.{Check}
@@ -16,7 +16,8 @@ use Rattle.ipp_ops.specs.declared.check.Check.TheVariants as check
 use Rattle.ipp_ops.specs.Attributes.{row, table, template_row, between}
 use Rattle.ipp_ops.specs.Values.{are_formed, are_long, is_within, number_of}
 use Rattle.ipp_ops.specs.Request.{operation_attributes, job_attributes, known, named, has, text_in, caller}
-use Rattle.ipp_ops.specs.Unsupported.{Unsupported, unsupported}
+use Rattle.ipp_reply.specs.Unsupported.{Unsupported}
+use Rattle.ipp_ops.specs.Unsupported.{unsupported}
 use Rattle.ipp_ops.specs.Checks.{applies, checks, refusal, fails, some_fails, asked_in}
 use Rattle.ipp_ops.specs.NewJob.{supported_number, template_number, job_name, new_job}
 use Rattle.ipp_ops.specs.Asked.{call_in, wanted, asked, refused_by, outcome_of, asked_by, asks, IsWithinLimits}
@@ -99,6 +100,11 @@ call_fits PrintJob m p h = (new_job_fits PrintJob m p, h)
 call_fits CancelJob m p h = tt
 call_fits GetJobAttributes m p h = tt
 call_fits ValidateJob m p h = new_job_fits ValidateJob m p
+call_fits CreateJob m p h = new_job_fits CreateJob m p
+call_fits SendDocument m p h = h
+call_fits HoldJob m p h = tt
+call_fits ReleaseJob m p h = tt
+call_fits CancelMyJobs m p h = tt
 call_fits GetJobs m p h = tt
 call_fits GetPrinterAttributes m p h = tt
 

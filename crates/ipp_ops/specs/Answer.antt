@@ -10,10 +10,10 @@ use Rattle.queue_core.specs.declared.event.Reply.TheVariants.{Refused as Refused
 use Rattle.ipp_ops.specs.declared.outcome.Answer.{Answer}
 use Rattle.ipp_ops.specs.declared.outcome.Answer.TheVariants.{Whole, Bare}
 use Rattle.ipp_ops.specs.Asked.{Asked, asked, refused, asks}
-use Rattle.ipp_ops.specs.Unsupported.{nothing}
+use Rattle.ipp_reply.specs.Unsupported.{nothing}
 use Rattle.ipp_ops.specs.Checks.{head_refusal}
-use Rattle.ipp_ops.specs.Reply.{reply_of}
-use Rattle.ipp_ops.specs.Wanted.{no_rows}
+use Rattle.ipp_reply.specs.Reply.{reply_of}
+use Rattle.ipp_reply.specs.Wanted.{no_rows}
 
 -- the bytes begin with this head
 pub record BeginsWith (h : Head) (b : List ℕ) : Type 0 where

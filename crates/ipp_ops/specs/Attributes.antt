@@ -1,10 +1,10 @@
 -- The attributes that requests have, as two tables: a row for each (RFC 8011, sections 4 and 5.2).
 use Rattle.std.specs.Prelude.{ℕ, List, [], ◌∷◌, Option, Some, None, Bool, true, false, codes, map}
 use Rattle.std.specs.List.{list_any}
-use Rattle.ipp_ops.specs.declared.operation.Operation.{Operation}
-use Rattle.ipp_ops.specs.declared.operation.Operation.TheVariants.{PrintJob, ValidateJob, CancelJob, GetJobAttributes, GetJobs, GetPrinterAttributes}
+use Rattle.ipp_reply.specs.declared.operation.Operation.{Operation}
+use Rattle.ipp_reply.specs.declared.operation.Operation.TheVariants.{PrintJob, ValidateJob, CreateJob, SendDocument, CancelJob, GetJobAttributes, GetJobs, GetPrinterAttributes, HoldJob, ReleaseJob, CancelMyJobs}
 use Rattle.ipp_ops.specs.declared.attribute.OperationAttribute.{OperationAttribute}
-use Rattle.ipp_ops.specs.declared.attribute.OperationAttribute.TheVariants.{AttributesCharset, AttributesNaturalLanguage, PrinterUri, JobUri, JobId, RequestingUserName, JobName, DocumentName, IppAttributeFidelity, Compression, DocumentFormat, JobImpressions, RequestedAttributes, WhichJobs, Limit, MyJobs}
+use Rattle.ipp_ops.specs.declared.attribute.OperationAttribute.TheVariants.{AttributesCharset, AttributesNaturalLanguage, PrinterUri, JobUri, JobId, RequestingUserName, JobName, DocumentName, IppAttributeFidelity, Compression, DocumentFormat, JobImpressions, RequestedAttributes, WhichJobs, Limit, MyJobs, LastDocument, JobIds, JobHoldUntil}
 use Rattle.ipp_ops.specs.declared.attribute.Shape.{Shape}
 use Rattle.ipp_ops.specs.declared.attribute.Shape.TheVariants.{Octets, Number, Positive, Boolean, Name, Text}
 use Rattle.ipp_ops.specs.declared.attribute.Support.{Support as SupportRef}
@@ -13,7 +13,7 @@ use Rattle.ipp_ops.specs.declared.attribute.Row.{Row as RowRef}
 use Rattle.ipp_ops.specs.declared.template.TemplateAttribute.{TemplateAttribute}
 use Rattle.ipp_ops.specs.declared.template.TemplateAttribute.TheVariants as template
 use Rattle.ipp_ops.specs.declared.template.TemplateRow.{TemplateRow as TemplateRowRef}
-use Rattle.ipp_ops.specs.Operations.{operations, is_operation}
+use Rattle.ipp_reply.specs.Operations.{operations, is_operation}
 
 -- which values are supported: any, one number within bounds, or one of these keywords
 pub data Support : Type 0 where
@@ -34,27 +34,42 @@ pub record Row : Type 0 where
   pub support : Support
   pub known_in : List Operation
 
+-- the operations on one job
+abbrev pub of_job : List Operation
+of_job = SendDocument ∷ CancelJob ∷ GetJobAttributes ∷ HoldJob ∷ ReleaseJob ∷ []
+
+-- those that a new job's attributes come with
+abbrev pub of_new_job : List Operation
+of_new_job = PrintJob ∷ ValidateJob ∷ CreateJob ∷ []
+
+-- those that a document's attributes come with
+abbrev pub of_document : List Operation
+of_document = PrintJob ∷ ValidateJob ∷ SendDocument ∷ []
+
 abbrev pub row : OperationAttribute → Row
 row AttributesCharset = record { name = codes "attributes-charset"; tags = 0x47 ∷ []; many = false; shape = Octets; limit = None; support = anything; known_in = operations }
 row AttributesNaturalLanguage = record { name = codes "attributes-natural-language"; tags = 0x48 ∷ []; many = false; shape = Octets; limit = Some 63; support = anything; known_in = operations }
 row PrinterUri = record { name = codes "printer-uri"; tags = 0x45 ∷ []; many = false; shape = Octets; limit = Some 1023; support = anything; known_in = operations }
-row JobUri = record { name = codes "job-uri"; tags = 0x45 ∷ []; many = false; shape = Octets; limit = Some 1023; support = anything; known_in = CancelJob ∷ GetJobAttributes ∷ [] }
-row JobId = record { name = codes "job-id"; tags = 0x21 ∷ []; many = false; shape = Number; limit = None; support = anything; known_in = CancelJob ∷ GetJobAttributes ∷ [] }
+row JobUri = record { name = codes "job-uri"; tags = 0x45 ∷ []; many = false; shape = Octets; limit = Some 1023; support = anything; known_in = of_job }
+row JobId = record { name = codes "job-id"; tags = 0x21 ∷ []; many = false; shape = Number; limit = None; support = anything; known_in = of_job }
 row RequestingUserName = record { name = codes "requesting-user-name"; tags = 0x42 ∷ 0x36 ∷ []; many = false; shape = Name; limit = Some 255; support = anything; known_in = operations }
-row JobName = record { name = codes "job-name"; tags = 0x42 ∷ 0x36 ∷ []; many = false; shape = Text; limit = Some 255; support = anything; known_in = PrintJob ∷ ValidateJob ∷ [] }
-row DocumentName = record { name = codes "document-name"; tags = 0x42 ∷ 0x36 ∷ []; many = false; shape = Text; limit = Some 255; support = anything; known_in = PrintJob ∷ ValidateJob ∷ [] }
-row IppAttributeFidelity = record { name = codes "ipp-attribute-fidelity"; tags = 0x22 ∷ []; many = false; shape = Boolean; limit = None; support = anything; known_in = PrintJob ∷ ValidateJob ∷ [] }
-row Compression = record { name = codes "compression"; tags = 0x44 ∷ []; many = false; shape = Octets; limit = Some 255; support = anything; known_in = PrintJob ∷ ValidateJob ∷ [] }
-row DocumentFormat = record { name = codes "document-format"; tags = 0x49 ∷ []; many = false; shape = Octets; limit = Some 255; support = anything; known_in = PrintJob ∷ ValidateJob ∷ GetPrinterAttributes ∷ [] }
-row JobImpressions = record { name = codes "job-impressions"; tags = 0x21 ∷ []; many = false; shape = Number; limit = None; support = between 0 100000; known_in = PrintJob ∷ ValidateJob ∷ [] }
+row JobName = record { name = codes "job-name"; tags = 0x42 ∷ 0x36 ∷ []; many = false; shape = Text; limit = Some 255; support = anything; known_in = of_new_job }
+row DocumentName = record { name = codes "document-name"; tags = 0x42 ∷ 0x36 ∷ []; many = false; shape = Text; limit = Some 255; support = anything; known_in = of_document }
+row IppAttributeFidelity = record { name = codes "ipp-attribute-fidelity"; tags = 0x22 ∷ []; many = false; shape = Boolean; limit = None; support = anything; known_in = of_new_job }
+row Compression = record { name = codes "compression"; tags = 0x44 ∷ []; many = false; shape = Octets; limit = Some 255; support = anything; known_in = of_document }
+row DocumentFormat = record { name = codes "document-format"; tags = 0x49 ∷ []; many = false; shape = Octets; limit = Some 255; support = anything; known_in = PrintJob ∷ ValidateJob ∷ SendDocument ∷ GetPrinterAttributes ∷ [] }
+row JobImpressions = record { name = codes "job-impressions"; tags = 0x21 ∷ []; many = false; shape = Number; limit = None; support = between 0 100000; known_in = of_new_job }
 row RequestedAttributes = record { name = codes "requested-attributes"; tags = 0x44 ∷ []; many = true; shape = Octets; limit = Some 255; support = anything; known_in = GetJobAttributes ∷ GetJobs ∷ GetPrinterAttributes ∷ [] }
 row WhichJobs = record { name = codes "which-jobs"; tags = 0x44 ∷ []; many = false; shape = Octets; limit = Some 255; support = words (codes "not-completed" ∷ codes "completed" ∷ []); known_in = GetJobs ∷ [] }
 row Limit = record { name = codes "limit"; tags = 0x21 ∷ []; many = false; shape = Positive; limit = None; support = anything; known_in = GetJobs ∷ [] }
 row MyJobs = record { name = codes "my-jobs"; tags = 0x22 ∷ []; many = false; shape = Boolean; limit = None; support = anything; known_in = GetJobs ∷ [] }
+row LastDocument = record { name = codes "last-document"; tags = 0x22 ∷ []; many = false; shape = Boolean; limit = None; support = anything; known_in = SendDocument ∷ [] }
+row JobIds = record { name = codes "job-ids"; tags = 0x21 ∷ []; many = true; shape = Number; limit = None; support = anything; known_in = CancelMyJobs ∷ [] }
+row JobHoldUntil = record { name = codes "job-hold-until"; tags = 0x44 ∷ 0x42 ∷ 0x36 ∷ []; many = false; shape = Octets; limit = Some 255; support = words (codes "indefinite" ∷ []); known_in = HoldJob ∷ [] }
 
 -- in the table's order
 abbrev pub table : List OperationAttribute
-table = AttributesCharset ∷ AttributesNaturalLanguage ∷ PrinterUri ∷ JobUri ∷ JobId ∷ RequestingUserName ∷ JobName ∷ DocumentName ∷ IppAttributeFidelity ∷ Compression ∷ DocumentFormat ∷ JobImpressions ∷ RequestedAttributes ∷ WhichJobs ∷ Limit ∷ MyJobs ∷ []
+table = AttributesCharset ∷ AttributesNaturalLanguage ∷ PrinterUri ∷ JobUri ∷ JobId ∷ RequestingUserName ∷ JobName ∷ DocumentName ∷ IppAttributeFidelity ∷ Compression ∷ DocumentFormat ∷ JobImpressions ∷ RequestedAttributes ∷ WhichJobs ∷ Limit ∷ MyJobs ∷ LastDocument ∷ JobIds ∷ JobHoldUntil ∷ []
 
 -- the operation knows the attribute
 abbrev pub knows : Operation → OperationAttribute → Bool
@@ -67,11 +82,16 @@ job_target = (JobUri ∷ []) ∷ (PrinterUri ∷ JobId ∷ []) ∷ []
 -- the attributes that the operation needs: all of one of these lists
 abbrev pub needs : Operation → List (List OperationAttribute)
 needs PrintJob = (PrinterUri ∷ []) ∷ []
+needs ValidateJob = (PrinterUri ∷ []) ∷ []
+needs CreateJob = (PrinterUri ∷ []) ∷ []
+needs SendDocument = (JobUri ∷ LastDocument ∷ []) ∷ (PrinterUri ∷ JobId ∷ LastDocument ∷ []) ∷ []
 needs CancelJob = job_target
 needs GetJobAttributes = job_target
-needs ValidateJob = (PrinterUri ∷ []) ∷ []
 needs GetJobs = (PrinterUri ∷ []) ∷ []
 needs GetPrinterAttributes = (PrinterUri ∷ []) ∷ []
+needs HoldJob = job_target
+needs ReleaseJob = job_target
+needs CancelMyJobs = (PrinterUri ∷ []) ∷ []
 
 -- ---- attributes of the job group
 

@@ -6,17 +6,17 @@ use Rattle.std.specs.Result.{result_err}
 use Rattle.std.specs.Str.{str_eq_ignore_ascii_case}
 use Rattle.ipp_wire.specs.declared.view.Head.{Head}
 use Rattle.ipp_wire.specs.Message.{Value, Attribute, Group, Message}
-use Rattle.ipp_ops.specs.declared.operation.Operation.{Operation}
+use Rattle.ipp_reply.specs.declared.operation.Operation.{Operation}
 use Rattle.ipp_ops.specs.declared.attribute.OperationAttribute.{OperationAttribute}
 use Rattle.ipp_ops.specs.declared.attribute.OperationAttribute.TheVariants as key
 use Rattle.ipp_ops.specs.declared.check.Check.{Check}
 use Rattle.ipp_ops.specs.declared.check.Check.TheVariants.{Order, Charset, Form, Length, Needed, Target, Compression, Format, Ignored}
-use Rattle.ipp_ops.specs.Operations.{operation_of}
+use Rattle.ipp_reply.specs.Operations.{operation_of}
 use Rattle.ipp_ops.specs.Attributes.{Row, row, table, needs}
 use Rattle.ipp_ops.specs.Values.{are_formed, are_long, are_supported}
 use Rattle.ipp_ops.specs.Formats.{format_of}
 use Rattle.ipp_ops.specs.Request.{operation_attributes, known, bytes_of, has, is_target}
-use Rattle.ipp_ops.specs.Unsupported.{Unsupported, is_filled}
+use Rattle.ipp_reply.specs.Unsupported.{Unsupported, is_filled}
 
 -- ---- the head
 

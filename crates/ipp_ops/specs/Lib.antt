@@ -1,4 +1,3 @@
-pub mod Operations
 pub mod Attributes
 pub mod Values
 pub mod Formats
@@ -7,10 +6,4 @@ pub mod Unsupported
 pub mod Checks
 pub mod NewJob
 pub mod Asked
-pub mod JobReply
-pub mod PrinterReply
-pub mod PrinterView
-pub mod Wanted
-pub mod Content
-pub mod Reply
 pub mod Answer

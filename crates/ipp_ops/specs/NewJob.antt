@@ -5,7 +5,7 @@ use Rattle.ipp_wire.specs.Message.{Value, Attribute, Message}
 use Rattle.queue_core.specs.declared.document.Format.{Format}
 use Rattle.queue_core.specs.declared.document.Format.TheVariants.{OctetStream}
 use Rattle.queue_core.specs.Event.{NewJob}
-use Rattle.ipp_ops.specs.declared.operation.Operation.{Operation}
+use Rattle.ipp_reply.specs.declared.operation.Operation.{Operation}
 use Rattle.ipp_ops.specs.declared.attribute.OperationAttribute.TheVariants as key
 use Rattle.ipp_ops.specs.declared.template.TemplateAttribute.{TemplateAttribute}
 use Rattle.ipp_ops.specs.declared.template.TemplateAttribute.TheVariants as template

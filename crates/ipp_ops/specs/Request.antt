@@ -1,5 +1,5 @@
 -- What a request says: its attributes, its caller and its target (RFC 8011, sections 4.1.4 to 4.1.6).
-use Rattle.std.specs.Prelude.{ℕ, ◌==◌, List, [], ◌∷◌, Option, Some, None, Bool, codes, bytes_eq, drop, find, if◌then◌else◌, is_some, unwrap_or, not, ◌&&◌, nat_eq}
+use Rattle.std.specs.Prelude.{ℕ, ◌==◌, List, [], ◌∷◌, Option, Some, None, Bool, true, false, codes, bytes_eq, drop, find, if◌then◌else◌, is_some, unwrap_or, not, ◌&&◌, nat_eq}
 use Rattle.std.specs.Option.{option_map_or, option_and_then}
 use Rattle.std.specs.Str.{is_utf8}
 use Rattle.std.specs.Char.{is_ascii_digit}
@@ -7,10 +7,10 @@ use Rattle.std.specs.Str.Parse.{digits_value}
 use Rattle.std.specs.List.{starts_with, list_all}
 use Rattle.ipp_wire.specs.Message.{Value, Attribute, Group, Message}
 use Rattle.queue_core.specs.Uri.{path_of, printer_path}
-use Rattle.ipp_ops.specs.declared.operation.Operation.{Operation}
+use Rattle.ipp_reply.specs.declared.operation.Operation.{Operation}
 use Rattle.ipp_ops.specs.declared.attribute.OperationAttribute.{OperationAttribute}
-use Rattle.ipp_ops.specs.declared.attribute.OperationAttribute.TheVariants.{PrinterUri, JobUri, JobId, RequestingUserName}
-use Rattle.ipp_ops.specs.Operations.{on_job}
+use Rattle.ipp_ops.specs.declared.attribute.OperationAttribute.TheVariants.{PrinterUri, JobUri, JobId, JobIds, RequestingUserName}
+use Rattle.ipp_reply.specs.Operations.{on_job}
 use Rattle.ipp_ops.specs.Attributes.{row, knows}
 use Rattle.ipp_ops.specs.Values.{number_of, is_positive, text_of}
 
@@ -79,9 +79,17 @@ job_of_id n = if is_positive n then Some n else None
 abbrev pub target_job : Operation → List Attribute → Option ℕ
 target_job o attrs = if has o attrs JobUri then job_in (path_of (bytes_of o JobUri attrs)) else (if is_printer (bytes_of o PrinterUri attrs) then option_and_then job_of_id (number_of (bytes_of o JobId attrs)) else None)
 
+-- the value may be a job's number
+abbrev pub is_job_number : Value → Bool
+is_job_number v = option_map_or is_positive (number_of v.bytes) false
+
+-- what the request has of job-ids are numbers that jobs may have
+abbrev pub are_job_numbers : Operation → List Attribute → Bool
+are_job_numbers o attrs = option_map_or (λ a. list_all is_job_number a.values) (known o JobIds attrs) true
+
 -- this printer, or a job of it, is what the request is about
 abbrev pub is_target : Operation → List Attribute → Bool
-is_target o attrs = if on_job o then is_some (target_job o attrs) else is_printer (bytes_of o PrinterUri attrs)
+is_target o attrs = if on_job o then is_some (target_job o attrs) else is_printer (bytes_of o PrinterUri attrs) && are_job_numbers o attrs
 
 -- ---- the caller
 

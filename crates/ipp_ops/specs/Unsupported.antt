@@ -1,34 +1,15 @@
 -- The attributes of a request that the printer doesn't take as they stand (RFC 8011, section 4.1.7).
-use Rattle.std.specs.Prelude.{ℕ, List, [], ◌∷◌, Option, Some, None, Bool, true, false, not, ◌&&◌, ◌||◌, bytes_eq, find, filter, if◌then◌else◌, option_map}
+use Rattle.std.specs.Prelude.{ℕ, List, [], ◌∷◌, Option, Some, None, not, ◌&&◌, bytes_eq, find, filter, if◌then◌else◌, option_map}
 use Rattle.std.specs.List.{filter_map}
 use Rattle.ipp_wire.specs.Message.{Attribute, Message}
-use Rattle.ipp_wire.specs.Viewed.{attributes_of}
-use Rattle.ipp_ops.specs.declared.operation.Operation.{Operation}
+use Rattle.ipp_reply.specs.declared.operation.Operation.{Operation}
 use Rattle.ipp_ops.specs.declared.unsupported.Source.{Source}
 use Rattle.ipp_ops.specs.declared.unsupported.Source.TheVariants.{OperationGroup, JobGroup}
-use Rattle.ipp_ops.specs.declared.unsupported.Unsupported.{Unsupported as UnsupportedRef}
-use Rattle.ipp_ops.specs.Operations.{makes_job}
+use Rattle.ipp_reply.specs.Operations.{makes_job}
+use Rattle.ipp_reply.specs.Unsupported.{Unsupported}
 use Rattle.ipp_ops.specs.Attributes.{Support, row, table, knows, template_row, template_table}
 use Rattle.ipp_ops.specs.Values.{are_supported}
 use Rattle.ipp_ops.specs.Request.{operation_attributes, job_attributes}
-
--- the attributes that are listed, by the group in which they were
-pub record Unsupported : Type 0 where
-  pub operation : List Attribute
-  pub job : List Attribute
-
-abbrev pub nothing : Unsupported
-nothing = record { operation = []; job = [] }
-
-abbrev pub is_filled : List Attribute → Bool
-is_filled [] = false
-is_filled (a ∷ attrs) = true
-
--- something is listed
-abbrev pub is_listed : Unsupported → Bool
-is_listed u = is_filled u.operation || is_filled u.job
-
--- ---- what is listed
 
 -- the first attribute of each name
 abbrev pub counted : List Attribute → List Attribute
@@ -58,8 +39,3 @@ unsupported o m = record {
   operation = listed_in (OperationGroup o) (operation_attributes m);
   job = if makes_job o then listed_in JobGroup (job_attributes m) else [];
 }
-
--- ---- a list of the code, by its content
-
-abbrev pub unsupported_of : UnsupportedRef → Unsupported
-unsupported_of u = record { operation = attributes_of u.operation.items; job = attributes_of u.job.items }

@@ -1,5 +1,5 @@
 -- What the values of an attribute say (RFC 8010, section 3.9; RFC 8011, section 5.1).
-use Rattle.std.specs.Prelude.{ℕ, ◌+◌, ◌==◌, List, [], ◌∷◌, Option, Some, None, Bool, true, false, not, ◌&&◌, ◌||◌, nat_le, nat_lt, length, map, drop, is_some, bytes_eq, if◌then◌else◌}
+use Rattle.std.specs.Prelude.{ℕ, ◌+◌, ◌==◌, List, [], ◌∷◌, Option, Some, None, Bool, true, false, not, ◌&&◌, ◌||◌, nat_le, nat_lt, length, drop, is_some, bytes_eq, if◌then◌else◌}
 use Rattle.std.specs.List.{list_any, list_all}
 use Rattle.std.specs.Option.{option_map_or}
 use Rattle.std.specs.Str.{is_utf8}
@@ -33,10 +33,6 @@ behind_language bytes = let rest = after_text bytes in if nat_le 2 (length rest)
 -- the text of a value: of a nameWithLanguage the name, else all of it
 abbrev pub text_of : Value → Option (List ℕ)
 text_of v = if v.tag == 0x36 then behind_language v.bytes else Some v.bytes
-
--- the bytes of each value
-abbrev pub words_of : List Value → List (List ℕ)
-words_of vs = map (λ v. v.bytes) vs
 
 -- ---- the form
 

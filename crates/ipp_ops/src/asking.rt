@@ -1,26 +1,28 @@
 //! What a request asks: the first check that refuses it, or else its call.
-ghost use Rattle.std.specs.Prelude.{◌≡◌, ◌≤◌, [], IfOk, length, map};
-ghost use Rattle.ipp_wire.specs.Viewed.{attributes_of, message_of};
+ghost use Rattle.std.specs.Prelude.{◌≡◌, ◌≤◌, [], IfOk, length, map, unwrap_or};
+ghost use Rattle.ipp_wire.specs.Viewed.{attributes_of, message_of, values_of};
+ghost use Rattle.ipp_ops.specs.Values.{number_of};
 ghost use Rattle.queue_core.specs.Event.{call_of};
-ghost use Rattle.ipp_ops.specs.Asked.{asks, ask_of, call_in, job, limit, refused_by, requested, usual, wanted_by, which_jobs, IsWithinLimits, ListsAttributes};
-ghost use Rattle.ipp_ops.specs.Unsupported.{unsupported_of};
+ghost use Rattle.ipp_ops.specs.Asked.{asks, ask_of, call_in, is_last, job, job_ids, limit, refused_by, requested, usual, wanted_by, which_jobs, IsWithinLimits, ListsAttributes};
+ghost use Rattle.ipp_reply.specs.Unsupported.{unsupported_of};
 ghost use Rattle.ipp_wire.specs.Message.{IsMessage};
-ghost use Rattle.ipp_ops.specs.JobReply.{selected};
-ghost use Rattle.ipp_ops.specs.declared.operation.Operation.TheVariants as variant;
+ghost use Rattle.ipp_reply.specs.JobReply.{selected};
+ghost use Rattle.ipp_reply.specs.declared.operation.Operation.TheVariants as variant;
 
 use crate::attribute::OperationAttribute;
 use crate::check::{Check, asked_in, first_refusal};
-use crate::job_reply::{select_requested, select_usual};
 use crate::new_job::{format, new_job};
-use crate::operation::Operation;
-use crate::printer_reply::{select_of_printer, select_whole_printer};
 use crate::reading::{bytes_of, caller, group_attributes, known};
-use crate::request::{Ask, Wanted};
+use crate::request::Ask;
 use crate::target::target_job;
-use crate::unsupported::Unsupported;
+use crate::unsupported::unsupported_in;
 use crate::value::number;
-use ipp_wire::{AttrView, View};
-use queue_core::event::{Call, WhichJobs};
+use ipp_reply::{
+    Operation, Unsupported, Wanted, select_of_printer, select_requested, select_usual,
+    select_whole_printer,
+};
+use ipp_wire::{AttrView, ValueView, View};
+use queue_core::event::{Call, NumberList, WhichJobs};
 use std::alloc::{AllocError, Global};
 
 fn job(o: Operation, v: &View<'_>) -> u32
@@ -48,25 +50,74 @@ fn limit(attrs: &[AttrView<'_>]) -> Option<u32>
     number(bytes_of(Operation::GetJobs, OperationAttribute::Limit, attrs))
 }
 
-/// The call that an operation makes of a request.
-fn call_in<'a>(o: Operation, v: &View<'a>) -> Call<'a>
-    ensures { call_of result ≡ call_in o (message_of v.now) }
+/// No more documents come behind this one.
+fn is_last(attrs: &[AttrView<'_>]) -> bool
+    ensures { result ≡ is_last (attributes_of attrs.now) }
 {
-    match o {
+    bytes_of(
+        Operation::SendDocument,
+        OperationAttribute::LastDocument,
+        attrs,
+    ) == [1].as_slice()
+}
+
+/// The numbers of an attribute's values.
+fn numbers(alloc: Global, values: &[ValueView<'_>]) -> Result<Vec<u32>, AllocError>
+    ensures { IfOk result (λ n. n.items ≡ map (λ v. unwrap_or (number_of v.bytes) 0) (values_of values.now)) }
+{
+    let mut numbers = Vec::new(alloc);
+    for v in values {
+        numbers.push(number(v.bytes).unwrap_or(0))?;
+    }
+    Ok(numbers)
+}
+
+/// None, where the request has no job-ids.
+fn job_ids(alloc: Global, attrs: &[AttrView<'_>]) -> Result<Option<NumberList>, AllocError>
+    ensures { IfOk result (λ n. n ≡ job_ids (attributes_of attrs.now)) }
+{
+    match known(Operation::CancelMyJobs, OperationAttribute::JobIds, attrs) {
+        Some(a) => {
+            let ids = numbers(alloc, a.values.as_slice())?;
+            Ok(Some(NumberList::from_numbers(ids)))
+        }
+        None => Ok(None),
+    }
+}
+
+/// The call that an operation makes of a request.
+fn call_in<'a>(alloc: Global, o: Operation, v: &View<'a>) -> Result<Call<'a>, AllocError>
+    ensures { IfOk result (λ c. call_of c ≡ call_in o (message_of v.now)) }
+{
+    let attrs = group_attributes(0x01, v.groups.as_slice());
+    let payload = v.payload;
+    Ok(match o {
         Operation::PrintJob => Call::PrintJob {
             job: new_job(o, v),
-            format: format(o, group_attributes(0x01, v.groups.as_slice())),
-            payload: v.payload,
+            format: format(o, attrs),
+            payload,
         },
         Operation::ValidateJob => Call::ValidateJob { job: new_job(o, v) },
+        Operation::CreateJob => Call::CreateJob { job: new_job(o, v) },
+        Operation::SendDocument => Call::SendDocument {
+            job: job(o, v),
+            format: format(o, attrs),
+            payload,
+            last: is_last(attrs),
+        },
         Operation::GetJobs => Call::GetJobs {
-            which: which_jobs(group_attributes(0x01, v.groups.as_slice())),
-            limit: limit(group_attributes(0x01, v.groups.as_slice())),
+            which: which_jobs(attrs),
+            limit: limit(attrs),
         },
         Operation::GetPrinterAttributes => Call::GetPrinterAttributes,
         Operation::CancelJob => Call::CancelJob { job: job(o, v) },
         Operation::GetJobAttributes => Call::GetJobAttributes { job: job(o, v) },
-    }
+        Operation::HoldJob => Call::HoldJob { job: job(o, v) },
+        Operation::ReleaseJob => Call::ReleaseJob { job: job(o, v) },
+        Operation::CancelMyJobs => Call::CancelMyJobs {
+            jobs: job_ids(alloc, attrs)?,
+        },
+    })
 }
 
 /// The names that stand for an absent requested-attributes.
@@ -74,8 +125,14 @@ fn usual(o: Operation) -> &'static [&'static str]
     ensures { map (λ w. w.now) result.now ≡ usual o }
 {
     match o {
-        Operation::PrintJob => &["job-uri", "job-id", "job-state", "job-state-reasons"],
-        Operation::ValidateJob | Operation::CancelJob => &[],
+        Operation::PrintJob | Operation::CreateJob | Operation::SendDocument => {
+            &["job-uri", "job-id", "job-state", "job-state-reasons"]
+        }
+        Operation::ValidateJob
+        | Operation::CancelJob
+        | Operation::HoldJob
+        | Operation::ReleaseJob
+        | Operation::CancelMyJobs => &[],
         Operation::GetJobAttributes | Operation::GetPrinterAttributes => &["all"],
         Operation::GetJobs => &["job-uri", "job-id"],
     }
@@ -145,15 +202,16 @@ pub fn ask<'a>(alloc: Global, v: &View<'a>) -> Result<Ask<'a>, AllocError>
             });
         }
     };
-    let unsupported = Unsupported::of_request(alloc, operation, v)?;
+    let unsupported = unsupported_in(alloc, operation, v)?;
     if let Some(check) = first_refusal(operation, v, &unsupported) {
         return Ok(refused_by(alloc, check, unsupported));
     }
     let attrs = group_attributes(0x01, v.groups.as_slice());
     let wanted = wanted(alloc, operation, attrs)?;
+    let call = call_in(alloc, operation, v)?;
     Ok(Ask::Call {
         caller: caller(operation, attrs),
-        call: call_in(operation, v),
+        call,
         wanted,
         unsupported,
     })

@@ -2,7 +2,7 @@
 ghost use Rattle.std.specs.Prelude.{◌≡◌, map};
 ghost use Rattle.ipp_ops.specs.Attributes.{row, row_of, knows, needs};
 
-use crate::operation::{OPERATIONS, Operation};
+use ipp_reply::{OPERATIONS, Operation};
 
 /// The operation attributes that are looked at.
 #[derive(Clone, Copy, Debug)]
@@ -23,6 +23,9 @@ pub enum OperationAttribute {
     WhichJobs,
     Limit,
     MyJobs,
+    LastDocument,
+    JobIds,
+    JobHoldUntil,
 }
 
 /// The shape of a value, of a nameWithLanguage that of its name.
@@ -68,7 +71,7 @@ pub struct Row {
 }
 
 /// The operation attributes, in the table's order.
-pub const TABLE: [OperationAttribute; 16] = [
+pub const TABLE: [OperationAttribute; 19] = [
     OperationAttribute::AttributesCharset,
     OperationAttribute::AttributesNaturalLanguage,
     OperationAttribute::PrinterUri,
@@ -85,6 +88,32 @@ pub const TABLE: [OperationAttribute; 16] = [
     OperationAttribute::WhichJobs,
     OperationAttribute::Limit,
     OperationAttribute::MyJobs,
+    OperationAttribute::LastDocument,
+    OperationAttribute::JobIds,
+    OperationAttribute::JobHoldUntil,
+];
+
+/// The operations on one job.
+const ON_JOB: [Operation; 5] = [
+    Operation::SendDocument,
+    Operation::CancelJob,
+    Operation::GetJobAttributes,
+    Operation::HoldJob,
+    Operation::ReleaseJob,
+];
+
+/// The operations that a new job's attributes come with.
+const OF_NEW_JOB: [Operation; 3] = [
+    Operation::PrintJob,
+    Operation::ValidateJob,
+    Operation::CreateJob,
+];
+
+/// The operations that a document's attributes come with.
+const OF_DOCUMENT: [Operation; 3] = [
+    Operation::PrintJob,
+    Operation::ValidateJob,
+    Operation::SendDocument,
 ];
 
 impl OperationAttribute {
@@ -126,7 +155,7 @@ impl OperationAttribute {
                 shape: Shape::Octets,
                 limit: Some(1023),
                 support: Support::Anything,
-                known_in: &[Operation::CancelJob, Operation::GetJobAttributes],
+                known_in: &ON_JOB,
             },
             OperationAttribute::JobId => Row {
                 name: "job-id",
@@ -135,7 +164,7 @@ impl OperationAttribute {
                 shape: Shape::Number,
                 limit: None,
                 support: Support::Anything,
-                known_in: &[Operation::CancelJob, Operation::GetJobAttributes],
+                known_in: &ON_JOB,
             },
             OperationAttribute::RequestingUserName => Row {
                 name: "requesting-user-name",
@@ -153,7 +182,7 @@ impl OperationAttribute {
                 shape: Shape::Text,
                 limit: Some(255),
                 support: Support::Anything,
-                known_in: &[Operation::PrintJob, Operation::ValidateJob],
+                known_in: &OF_NEW_JOB,
             },
             OperationAttribute::DocumentName => Row {
                 name: "document-name",
@@ -162,7 +191,7 @@ impl OperationAttribute {
                 shape: Shape::Text,
                 limit: Some(255),
                 support: Support::Anything,
-                known_in: &[Operation::PrintJob, Operation::ValidateJob],
+                known_in: &OF_DOCUMENT,
             },
             OperationAttribute::IppAttributeFidelity => Row {
                 name: "ipp-attribute-fidelity",
@@ -171,7 +200,7 @@ impl OperationAttribute {
                 shape: Shape::Boolean,
                 limit: None,
                 support: Support::Anything,
-                known_in: &[Operation::PrintJob, Operation::ValidateJob],
+                known_in: &OF_NEW_JOB,
             },
             OperationAttribute::Compression => Row {
                 name: "compression",
@@ -180,7 +209,7 @@ impl OperationAttribute {
                 shape: Shape::Octets,
                 limit: Some(255),
                 support: Support::Anything,
-                known_in: &[Operation::PrintJob, Operation::ValidateJob],
+                known_in: &OF_DOCUMENT,
             },
             OperationAttribute::DocumentFormat => Row {
                 name: "document-format",
@@ -192,6 +221,7 @@ impl OperationAttribute {
                 known_in: &[
                     Operation::PrintJob,
                     Operation::ValidateJob,
+                    Operation::SendDocument,
                     Operation::GetPrinterAttributes,
                 ],
             },
@@ -202,7 +232,7 @@ impl OperationAttribute {
                 shape: Shape::Number,
                 limit: None,
                 support: Support::Between(0, 100_000),
-                known_in: &[Operation::PrintJob, Operation::ValidateJob],
+                known_in: &OF_NEW_JOB,
             },
             OperationAttribute::RequestedAttributes => Row {
                 name: "requested-attributes",
@@ -244,31 +274,69 @@ impl OperationAttribute {
                 support: Support::Anything,
                 known_in: &[Operation::GetJobs],
             },
+            OperationAttribute::LastDocument => Row {
+                name: "last-document",
+                tags: &[0x22],
+                many: false,
+                shape: Shape::Boolean,
+                limit: None,
+                support: Support::Anything,
+                known_in: &[Operation::SendDocument],
+            },
+            OperationAttribute::JobIds => Row {
+                name: "job-ids",
+                tags: &[0x21],
+                many: true,
+                shape: Shape::Number,
+                limit: None,
+                support: Support::Anything,
+                known_in: &[Operation::CancelMyJobs],
+            },
+            OperationAttribute::JobHoldUntil => Row {
+                name: "job-hold-until",
+                tags: &[0x44, 0x42, 0x36],
+                many: false,
+                shape: Shape::Octets,
+                limit: Some(255),
+                support: Support::Words(&["indefinite"]),
+                known_in: &[Operation::HoldJob],
+            },
         }
     }
 }
 
-impl Operation {
-    /// The operation knows the attribute.
-    pub fn knows(self, k: OperationAttribute) -> bool
-        ensures { result ≡ knows self k }
-    {
-        k.row().known_in.iter().any(|o| self.id() == o.id())
-    }
+/// The operation knows the attribute.
+pub fn knows(o: Operation, k: OperationAttribute) -> bool
+    ensures { result ≡ knows o k }
+{
+    k.row().known_in.iter().any(|p| o.id() == p.id())
+}
 
-    /// The attributes that the operation needs: all of one of these lists.
-    pub fn needs(self) -> &'static [&'static [OperationAttribute]]
-        ensures { map (λ ks. ks.now) result.now ≡ needs self }
-    {
-        match self {
-            Operation::PrintJob
-            | Operation::ValidateJob
-            | Operation::GetJobs
-            | Operation::GetPrinterAttributes => &[&[OperationAttribute::PrinterUri]],
-            Operation::CancelJob | Operation::GetJobAttributes => &[
-                &[OperationAttribute::JobUri],
-                &[OperationAttribute::PrinterUri, OperationAttribute::JobId],
+/// The attributes that the operation needs: all of one of these lists.
+pub fn needs(o: Operation) -> &'static [&'static [OperationAttribute]]
+    ensures { map (λ ks. ks.now) result.now ≡ needs o }
+{
+    match o {
+        Operation::PrintJob
+        | Operation::ValidateJob
+        | Operation::CreateJob
+        | Operation::GetJobs
+        | Operation::GetPrinterAttributes
+        | Operation::CancelMyJobs => &[&[OperationAttribute::PrinterUri]],
+        Operation::CancelJob
+        | Operation::GetJobAttributes
+        | Operation::HoldJob
+        | Operation::ReleaseJob => &[
+            &[OperationAttribute::JobUri],
+            &[OperationAttribute::PrinterUri, OperationAttribute::JobId],
+        ],
+        Operation::SendDocument => &[
+            &[OperationAttribute::JobUri, OperationAttribute::LastDocument],
+            &[
+                OperationAttribute::PrinterUri,
+                OperationAttribute::JobId,
+                OperationAttribute::LastDocument,
             ],
-        }
+        ],
     }
 }

@@ -6,15 +6,14 @@ ghost use Rattle.ipp_ops.specs.declared.attribute.OperationAttribute.TheVariants
 ghost use Rattle.ipp_ops.specs.Checks.{asked_in, head_refusal, code, applies, refusal, is_strict};
 ghost use Rattle.ipp_ops.specs.Formats as formats;
 ghost use Rattle.ipp_ops.specs.Request as request;
-ghost use Rattle.ipp_ops.specs.Unsupported.{unsupported_of};
+ghost use Rattle.ipp_reply.specs.Unsupported.{unsupported_of};
 
 use crate::attribute::OperationAttribute;
 use crate::form::{has_needed, some_misformed, some_overlong, some_unsupported};
 use crate::format::format_of;
-use crate::operation::Operation;
 use crate::reading::{bytes_of, group_attributes, groups_begin, has};
 use crate::target::is_target;
-use crate::unsupported::{Unsupported, is_filled};
+use ipp_reply::{Operation, Unsupported, is_filled};
 use ipp_wire::{AttrView, Head, View};
 
 /// What may be wrong with a request, in the order in which it is looked for.

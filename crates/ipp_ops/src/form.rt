@@ -6,10 +6,10 @@ ghost use Rattle.ipp_ops.specs.Checks.{fails, some_fails, has_needed};
 ghost use Rattle.ipp_ops.specs.Request as request;
 ghost use Rattle.ipp_ops.specs.Values as values;
 
-use crate::attribute::{OperationAttribute, TABLE};
-use crate::operation::Operation;
+use crate::attribute::{OperationAttribute, TABLE, needs};
 use crate::reading::{has, known};
 use crate::value::{are_formed, are_long, are_supported};
+use ipp_reply::Operation;
 use ipp_wire::AttrView;
 
 fn is_misformed(o: Operation, k: OperationAttribute, attrs: &[AttrView<'_>]) -> bool
@@ -67,7 +67,7 @@ fn has_one_of(o: Operation, lists: &[&[OperationAttribute]], attrs: &[AttrView<'
 pub fn has_needed(o: Operation, attrs: &[AttrView<'_>]) -> bool
     ensures { result ≡ has_needed o (attributes_of attrs.now) }
 {
-    has_one_of(o, o.needs(), attrs)
+    has_one_of(o, needs(o), attrs)
 }
 
 fn is_unsupported(o: Operation, k: OperationAttribute, attrs: &[AttrView<'_>]) -> bool

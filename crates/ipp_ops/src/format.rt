@@ -1,35 +1,12 @@
-//! The document formats (RFC 8011, section 5.4.22).
+//! The document format that a media type names (RFC 8011, section 5.4.22).
 ghost use Rattle.std.specs.Prelude.{◌≡◌, ◌==◌};
 ghost use Rattle.std.specs.List.{before_first, position, suffix_len};
 ghost use Rattle.std.specs.Str.{byte, str_eq_ignore_ascii_case};
 ghost use Rattle.ipp_ops.specs.Formats as spec;
+ghost use Rattle.ipp_reply.specs.Formats.{format_name};
 
+use ipp_reply::{FORMATS, format_name};
 use queue_core::document::Format;
-
-/// The supported formats, in order; the first is the default.
-const FORMATS: [Format; 7] = [
-    Format::OctetStream,
-    Format::Pdf,
-    Format::Postscript,
-    Format::Jpeg,
-    Format::PwgRaster,
-    Format::Urf,
-    Format::PlainText,
-];
-
-fn name(f: Format) -> &'static str
-    ensures { result.now ≡ spec.format_name f }
-{
-    match f {
-        Format::OctetStream => "application/octet-stream",
-        Format::Pdf => "application/pdf",
-        Format::Postscript => "application/postscript",
-        Format::Jpeg => "image/jpeg",
-        Format::PwgRaster => "image/pwg-raster",
-        Format::Urf => "image/urf",
-        Format::PlainText => "text/plain",
-    }
-}
 
 fn semicolon_at(bytes: &[u8]) -> Option<usize>
     ensures { result ≡ position (λ b. b == byte ";") bytes.now }
@@ -57,9 +34,9 @@ fn trimmed(text: &[u8]) -> &[u8]
 }
 
 fn is_named(f: Format, media_type: &[u8]) -> bool
-    ensures { result ≡ str_eq_ignore_ascii_case (spec.format_name f) media_type.now }
+    ensures { result ≡ str_eq_ignore_ascii_case (format_name f) media_type.now }
 {
-    name(f).as_bytes().eq_ignore_ascii_case(media_type)
+    format_name(f).as_bytes().eq_ignore_ascii_case(media_type)
 }
 
 /// The supported format of a media type, without its parameters and ASCII case aside.

@@ -8,10 +8,10 @@ ghost use Rattle.ipp_ops.specs.NewJob as spec;
 
 use crate::attribute::{OperationAttribute, Support};
 use crate::format::format_of;
-use crate::operation::Operation;
 use crate::reading::{bytes_of, group_attributes, has, known, named, text_in};
 use crate::template::TemplateAttribute;
 use crate::value::{are_supported, number};
+use ipp_reply::Operation;
 use ipp_wire::{AttrView, ValueView, View};
 use queue_core::document::Format;
 use queue_core::event::NewJob;

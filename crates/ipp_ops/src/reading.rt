@@ -6,9 +6,9 @@ ghost use Rattle.ipp_wire.specs.Viewed.{value_of as value_in, attribute_of, attr
 ghost use Rattle.ipp_ops.specs.Checks as checks;
 ghost use Rattle.ipp_ops.specs.Request as request;
 
-use crate::attribute::OperationAttribute;
-use crate::operation::Operation;
+use crate::attribute::{OperationAttribute, knows};
 use crate::value::{text, utf8_text};
+use ipp_reply::Operation;
 use ipp_wire::{AttrView, GroupView, ValueView};
 
 fn find_group<'v, 'a>(tag: u8, groups: &'v [GroupView<'a>]) -> Option<&'v GroupView<'a>>
@@ -62,7 +62,7 @@ pub fn known<'v, 'a>(
 ) -> Option<&'v AttrView<'a>>
     ensures { option_map attribute_of (option_copied result) ≡ request.known o k (attributes_of attrs.entry.now) }
 {
-    if o.knows(k) {
+    if knows(o, k) {
         named(k.row().name.as_bytes(), attrs)
     } else {
         None

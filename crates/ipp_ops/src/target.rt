@@ -2,14 +2,14 @@
 ghost use Rattle.std.specs.Prelude.{◌≡◌};
 ghost use Rattle.std.specs.Char.{is_ascii_digit};
 ghost use Rattle.std.specs.List.{list_all};
-ghost use Rattle.ipp_wire.specs.Viewed.{attributes_of};
+ghost use Rattle.ipp_wire.specs.Viewed.{attributes_of, value_of, values_of};
 ghost use Rattle.ipp_ops.specs.Request as request;
 
 use crate::attribute::OperationAttribute;
-use crate::operation::Operation;
-use crate::reading::{bytes_of, has};
-use crate::value::{number, utf8_text};
-use ipp_wire::AttrView;
+use crate::reading::{bytes_of, has, known};
+use crate::value::{is_positive_number, number, utf8_text};
+use ipp_reply::Operation;
+use ipp_wire::{AttrView, ValueView};
 use queue_core::uri::path;
 
 /// The greatest number of a job.
@@ -76,6 +76,35 @@ pub fn target_job(o: Operation, attrs: &[AttrView<'_>]) -> Option<u32>
     }
 }
 
+fn is_job_number(v: ValueView<'_>) -> bool
+    ensures { result ≡ request.is_job_number (value_of v.entry) }
+{
+    is_positive_number(v.bytes)
+}
+
+fn all_job_numbers(values: &[ValueView<'_>]) -> bool
+    ensures { result ≡ list_all (λ v. request.is_job_number (value_of v)) values.now }
+{
+    values.iter().all(|v| is_job_number(*v))
+}
+
+#[tactic(auto, using(crate::proofs::Lists::list_all_map))]
+fn job_numbers_in(values: &[ValueView<'_>]) -> bool
+    ensures { result ≡ list_all request.is_job_number (values_of values.now) }
+{
+    all_job_numbers(values)
+}
+
+/// What the request has of job-ids are numbers that jobs may have.
+fn are_job_numbers(o: Operation, attrs: &[AttrView<'_>]) -> bool
+    ensures { result ≡ request.are_job_numbers o (attributes_of attrs.now) }
+{
+    match known(o, OperationAttribute::JobIds, attrs) {
+        Some(a) => job_numbers_in(a.values.as_slice()),
+        None => true,
+    }
+}
+
 /// This printer, or a job of it, is what the request is about.
 pub fn is_target(o: Operation, attrs: &[AttrView<'_>]) -> bool
     ensures { result ≡ request.is_target o (attributes_of attrs.now) }
@@ -83,6 +112,6 @@ pub fn is_target(o: Operation, attrs: &[AttrView<'_>]) -> bool
     if o.is_on_job() {
         target_job(o, attrs).is_some()
     } else {
-        is_printer(bytes_of(o, OperationAttribute::PrinterUri, attrs))
+        is_printer(bytes_of(o, OperationAttribute::PrinterUri, attrs)) && are_job_numbers(o, attrs)
     }
 }

@@ -5,24 +5,16 @@ ghost use Rattle.std.specs.Option.{option_to_list};
 ghost use Rattle.ipp_wire.specs.Viewed.{attribute_of, attributes_of, message_of};
 ghost use Rattle.ipp_ops.specs.Attributes.{support_of, row, table, knows, template_row, template_table};
 ghost use Rattle.ipp_ops.specs.Unsupported as spec;
+ghost use Rattle.ipp_reply.specs.Unsupported.{unsupported_of};
 
-use crate::attribute::{OperationAttribute, Support, TABLE};
-use crate::operation::Operation;
+use crate::attribute::{OperationAttribute, Support, TABLE, knows};
 use crate::reading::group_attributes;
 use crate::template::{TEMPLATE_TABLE, TemplateAttribute};
 use crate::value::are_supported;
+use ipp_reply::{Operation, Unsupported};
 use ipp_wire::{AttrView, ValueView, View};
 use std::alloc::{AllocError, Global};
 use std::collections::BTreeSet;
-
-/// The attributes that the printer doesn't take as they stand, by the group in which they were, each in
-/// the request's order: an unknown one with one value of tag 0x10 without bytes, and a known one with its
-/// own values.
-#[derive(Debug, Drop)]
-pub struct Unsupported<'a> {
-    pub operation: Vec<AttrView<'a>>,
-    pub job: Vec<AttrView<'a>>,
-}
 
 /// The group whose attributes are looked at.
 #[derive(Clone, Copy, Debug)]
@@ -38,7 +30,7 @@ fn operation_attribute(o: Operation, name: &[u8]) -> Option<OperationAttribute>
     TABLE
         .iter()
         .copied()
-        .find(|k| k.row().name.as_bytes() == name && o.knows(*k))
+        .find(|k| k.row().name.as_bytes() == name && knows(o, *k))
 }
 
 fn template_attribute(name: &[u8]) -> Option<TemplateAttribute>
@@ -145,51 +137,24 @@ fn listed_in<'a>(
     Ok(out)
 }
 
-/// Some attribute is there.
-pub fn is_filled(attrs: &[AttrView<'_>]) -> bool
-    ensures { result ≡ spec.is_filled (attributes_of attrs.now) }
+/// What is unsupported in a request for an operation.
+pub fn unsupported_in<'a>(
+    alloc: Global,
+    o: Operation,
+    v: &View<'a>,
+) -> Result<Unsupported<'a>, AllocError>
+    ensures { IfOk result (λ u. unsupported_of u ≡ spec.unsupported o (message_of v.now)) }
 {
-    match attrs {
-        [] => false,
-        _ => true,
-    }
-}
-
-impl<'a> Unsupported<'a> {
-    ghost use Rattle.ipp_ops.specs.Unsupported.{unsupported_of};
-
-    /// Nothing is listed. It takes no memory.
-    pub fn nothing(alloc: Global) -> Self
-        ensures { unsupported_of result ≡ spec.nothing }
-    {
-        Unsupported {
-            operation: Vec::new(alloc),
-            job: Vec::new(alloc),
-        }
-    }
-
-    /// What is unsupported in a request for an operation.
-    pub fn of_request(alloc: Global, o: Operation, v: &View<'a>) -> Result<Self, AllocError>
-        ensures { IfOk result (λ u. unsupported_of u ≡ spec.unsupported o (message_of v.now)) }
-    {
-        let attrs = group_attributes(0x01, v.groups.as_slice());
-        let operation = listed_in(alloc, Source::OperationGroup(o), attrs)?;
-        let job = if o.makes_job() {
-            listed_in(
-                alloc,
-                Source::JobGroup,
-                group_attributes(0x02, v.groups.as_slice()),
-            )?
-        } else {
-            Vec::new(alloc)
-        };
-        Ok(Unsupported { operation, job })
-    }
-
-    /// Something is listed.
-    pub fn is_listed(&self) -> bool
-        ensures { result ≡ spec.is_listed (unsupported_of self.now) }
-    {
-        is_filled(self.operation.as_slice()) || is_filled(self.job.as_slice())
-    }
+    let attrs = group_attributes(0x01, v.groups.as_slice());
+    let operation = listed_in(alloc, Source::OperationGroup(o), attrs)?;
+    let job = if o.makes_job() {
+        listed_in(
+            alloc,
+            Source::JobGroup,
+            group_attributes(0x02, v.groups.as_slice()),
+        )?
+    } else {
+        Vec::new(alloc)
+    };
+    Ok(Unsupported { operation, job })
 }

@@ -22,7 +22,7 @@ pub fn number(bytes: &[u8]) -> Option<u32>
 }
 
 /// A number of 4 bytes, at least 1.
-fn is_positive_number(bytes: &[u8]) -> bool
+pub fn is_positive_number(bytes: &[u8]) -> bool
     ensures { result ≡ option_map_or spec.is_positive (spec.number_of bytes.now) false }
 {
     match number(bytes) {

@@ -9,6 +9,7 @@ mod limits;
 mod look_and_cancel;
 mod messages;
 mod print_job;
+mod release;
 
 use crate::command::{Command, CommandFault};
 use crate::command_line::command;

@@ -7,7 +7,7 @@ use Rattle.std.proofs.lemmas.Int.{ints}
 use Rattle.std.proofs.lemmas.List.Sums.{sum_by-cons}
 use Rattle.std.proofs.lemmas.Nat.{mul-le}
 use Rattle.queue_core.specs.Job.{owed, is_live}
-use Rattle.queue_core.specs.Event.{Event, ask, print_job, validate_job, cancel_job, get_job_attributes, get_jobs, get_printer_attributes}
+use Rattle.queue_core.specs.Event.{Event, ask, print_job, validate_job, create_job, send_document, cancel_job, cancel_my_jobs, hold_job, release_job, get_job_attributes, get_jobs, get_printer_attributes}
 use Rattle.queue_core.specs.World.{World, Entry, rows, cut, found_row, concerns, counts_for, caller_of}
 use Rattle.queue_core.specs.Limits.{IsFair, IsSoundJob, IsAmount}
 use Rattle.queue_core.specs.Sound.{IsSound, IsSoundEntry, Rise, granted, reserved, printed}
@@ -92,6 +92,11 @@ live_few (e ∷ es) =
 queued_few : (w : World) (e : Event) → length w.jobs < 2 ^ 31 → (counts_for e (rows w)).queued < 2 ^ 31
 queued_few w (ask caller (print_job j format payload)) few = omega arith
 queued_few w (ask caller (validate_job j)) few = omega arith
+queued_few w (ask caller (create_job j)) few = omega arith
+queued_few w (ask caller (send_document n format payload last)) few = omega arith
+queued_few w (ask caller (cancel_my_jobs numbers)) few = omega arith
+queued_few w (ask caller (hold_job n)) few = omega arith
+queued_few w (ask caller (release_job n)) few = omega arith
 queued_few w (ask caller (cancel_job n)) few = omega arith
 queued_few w (ask caller (get_job_attributes n)) few = omega arith
 queued_few w (ask caller (get_jobs which limit)) few = omega arith

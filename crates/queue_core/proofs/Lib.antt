@@ -1,11 +1,15 @@
 pub mod Keep
 pub mod Rows
 pub mod Moves
-pub mod Cancel
+pub mod Own
+pub mod Send
 pub mod Enter
 pub mod Print
 pub mod Fair
 pub mod Ordered
+pub mod Numbers
+pub mod Many
+pub mod Cancel
 pub mod Steps
 pub mod Runs
 pub mod Start

@@ -7,6 +7,7 @@ use Rattle.queue_core.specs.World.{World, Entry, rows, with_row, job_at, text_cm
 use Rattle.queue_core.specs.Runs.{Follows, MovesAlong}
 use Rattle.queue_core.specs.declared.job.Job.{Job}
 use Rattle.queue_core.proofs.Keep.{at}
+use Rattle.queue_core.proofs.Rows.{rows_of}
 
 -- a job that stays as it is keeps its state
 pub follows_itself : (o : Option Job) → Follows o o
@@ -43,9 +44,9 @@ at-with_row n x (e ∷ es) =
     ] refl
 
 -- one row becomes what follows it
-pub row_moves : (w : World) (m : FinMap text_cmp ℤ) (x j : Job) → at x.number w.jobs ≡ Some j → Follows (Some j) (Some x) → MovesAlong w (record w { jobs = with_row w.jobs x; free = m })
-row_moves w m x j there follows n =
-    subst (Follows (at n w.jobs)) (sym (at-with_row n x w.jobs))
+pub row_moves : (w : World) (m : FinMap text_cmp ℤ) (es : List Entry) (x j : Job) → rows_of es ≡ rows_of (with_row w.jobs x) → at x.number w.jobs ≡ Some j → Follows (Some j) (Some x) → MovesAlong w (record w { jobs = es; free = m })
+row_moves w m es x j same there follows n =
+    subst (Follows (at n w.jobs)) (sym (ap (job_at n) same ∙ at-with_row n x w.jobs))
     (elim (nat_eq x.number n) as (λ t. nat_eq x.number n ≡ t → Follows (at n w.jobs) (cond t (Some x) (at n w.jobs))) [
       | true ↦ λ is. subst (λ o. Follows o (Some x)) (sym (ap (λ k. at k w.jobs) (sym (equal x.number n is)) ∙ there)) follows
       | false ↦ λ is. follows_itself (at n w.jobs)

@@ -1,22 +1,24 @@
--- Print-Job keeps a world sound: a row enters under the next number, and has taken nothing.
-use Rattle.std.proofs.Common.{◌≡◌, ℕ, suc, pos, ◌+ℤ◌, ◌-ℤ◌, ◌+◌, ◌≤◌, ◌<◌, ◌^◌, List, [], ◌∷◌, ◌++◌, length, map, refl, ap, sym, ◌∙◌, arith, subst, eq-eqb, inr, Bool, true, false, cond}
+-- Print-Job and Create-Job keep a world sound: a row enters under the next number, and has taken nothing.
+use Rattle.std.proofs.Common.{◌≡◌, ℕ, pos, ◌+ℤ◌, ◌-ℤ◌, ◌+◌, ◌≤◌, ◌<◌, ◌^◌, List, [], ◌∷◌, ◌++◌, length, map, refl, ap, sym, ◌∙◌, arith, subst, eq-eqb, inr, Bool, true, false, cond}
 use Rattle.std.specs.Prelude.{Option, Some, None, IfSome, nat_eq, nat_le, nat_lt, bytes_eq, option_map, filter, unwrap_or}
 use Rattle.std.specs.FinMap.{get}
 use Rattle.std.proofs.lemmas.Bool.Decides.{nat_tests}
 use Rattle.queue_core.specs.Settings.{AreSettings}
-use Rattle.queue_core.specs.Event.{NewJob, NewDocument, ask, print_job}
+use Rattle.queue_core.specs.Event.{Call, NewJob, NewDocument, ask, print_job, create_job}
 use Rattle.queue_core.specs.World.{World, Entry, rows, cut, made_on, with_row, with_document, add_document, live_jobs}
-use Rattle.queue_core.specs.Machine.{entered, new_job, first_document, new_refusal, unless_refused, print_job_row, returned}
+use Rattle.queue_core.specs.Machine.{entered, new_job, new_document, new_refusal, unless_refused, print_job_row, create_job_row, returned}
 use Rattle.queue_core.specs.Limits.{IsMoment, IsOwner, IsNewJob, IsSoundJob}
 use Rattle.queue_core.specs.Sound.{IsSound, IsSoundEntry, Rise}
 use Rattle.queue_core.specs.declared.document.Document.{Document}
 use Rattle.queue_core.specs.declared.document.Format.{Format}
+use Rattle.queue_core.specs.declared.document.Format.TheVariants.{OctetStream}
 use Rattle.queue_core.specs.declared.job.Job.{Job}
 use Rattle.queue_core.specs.declared.event.Scene.{Scene}
 use Rattle.queue_core.proofs.Rows.{kept_amount}
 use Rattle.queue_core.proofs.Enter.{fresh, first_below, with_row_new, with_document_new, with_new, new_row_keeps}
 use Rattle.queue_core.proofs.Moves.{new_moves}
-use Rattle.queue_core.proofs.Cancel.{Keeps, unchanged, moved, moved_from, same_key}
+use Rattle.queue_core.proofs.Own.{Keeps, unchanged, moved, moved_from, same_key}
+use Rattle.queue_core.proofs.Send.{one_fits, no_bytes, one_document}
 
 -- ---- the new job is within its limits
 
@@ -28,8 +30,8 @@ few : (none : Bool) → cond none 0 1 ≤ 16
 few true = omega arith
 few false = omega arith
 
-pub new_job_sound : (s : Scene) (now : ℕ) (caller : List ℕ) (j : NewJob) (payload : List ℕ) → AreSettings s.settings → 1 ≤ s.next → s.next < 2 ^ 31 → IsMoment now → IsOwner caller → IsNewJob j → length payload ≤ 16777216 → IsSoundJob (new_job s now caller j payload)
-new_job_sound s now caller j payload settings some room moment owner new fits = record {
+pub new_job_sound : (s : Scene) (now : ℕ) (caller : List ℕ) (incoming : Bool) (j : NewJob) (payload : List ℕ) → AreSettings s.settings → 1 ≤ s.next → s.next < 2 ^ 31 → IsMoment now → IsOwner caller → IsNewJob j → length payload ≤ 16777216 → IsSoundJob (new_job s now caller incoming j payload)
+new_job_sound s now caller incoming j payload settings some room moment owner new fits = record {
   number = (some, room);
   owner = owner;
   name = new.name;
@@ -40,7 +42,7 @@ new_job_sound s now caller j payload settings some room moment owner new fits = 
   begun = tt;
   ended = tt;
   documents = few (nat_eq (length payload) 0);
-  octets = omega arith;
+  octets = one_fits (nat_eq (length payload) 0) (length payload) fits (no_bytes (length payload));
   phase = (refl, refl, refl, refl);
 }
 
@@ -69,7 +71,7 @@ itself : (n : ℕ) → nat_eq n n ≡ true
 itself n = eq-eqb n n refl
 
 -- the row and its document stand at the end
-jobs_after : (x : Job) (format : Format) (payload : List ℕ) (es : List Entry) → Rise 1 es x.number → with_document (with_row es x) (first_document x.number format payload) ≡ es ++ record { row = x; documents = documents format payload } ∷ []
+jobs_after : (x : Job) (format : Format) (payload : List ℕ) (es : List Entry) → Rise 1 es x.number → with_document (with_row es x) (new_document x.number format payload) ≡ es ++ record { row = x; documents = documents format payload } ∷ []
 jobs_after x format [] es rise = with_row_new x 1 es rise
 jobs_after x format (b ∷ bytes) es rise =
     let d : NewDocument = record { job = x.number; format = format; bytes = b ∷ bytes } in
@@ -78,12 +80,9 @@ jobs_after x format (b ∷ bytes) es rise =
     ∙ with_document_new x d 1 es refl rise
     ∙ ap (λ e. es ++ e ∷ []) added
 
-not_empty : (n : ℕ) → nat_eq (suc n) 0 ≡ false
-not_empty n = grind (arith, nat_tests)
-
-entry_sound : (s : Scene) (now : ℕ) (caller : List ℕ) (j : NewJob) (format : Format) (payload : List ℕ) → length payload ≤ 16777216 → IsSoundJob (new_job s now caller j payload) → IsSoundEntry (record { row = new_job s now caller j payload; documents = documents format payload })
-entry_sound s now caller j format [] fits sound = record { row = sound; documents = refl; octets = refl; sizes = tt }
-entry_sound s now caller j format (b ∷ bytes) fits sound = record { row = sound; documents = ap (λ t. cond t 0 1) (not_empty (length bytes)); octets = omega arith; sizes = ((omega arith, fits), tt) }
+entry_sound : (s : Scene) (now : ℕ) (caller : List ℕ) (incoming : Bool) (j : NewJob) (format : Format) (payload : List ℕ) → length payload ≤ 16777216 → IsSoundJob (new_job s now caller incoming j payload) → IsSoundEntry (record { row = new_job s now caller incoming j payload; documents = documents format payload })
+entry_sound s now caller incoming j format [] fits sound = record { row = sound; documents = refl; octets = refl; sizes = tt }
+entry_sound s now caller incoming j format (b ∷ bytes) fits sound = record { row = sound; documents = one_document b bytes; octets = omega arith; sizes = ((omega arith, fits), tt) }
 
 -- ---- its account
 
@@ -95,18 +94,19 @@ nothing : (b : Bool) → pos 0 +ℤ cond b (pos 0 -ℤ pos 0) (pos 0) ≡ pos 0
 nothing true = refl
 nothing false = refl
 
-module _ (w : World) (now : ℕ) (caller : List ℕ) (j : NewJob) (format : Format) (payload : List ℕ) (sound : IsSound w) (moment : IsMoment now) (owner : IsOwner caller) (new : IsNewJob j) (fits : length payload ≤ 16777216) where
+-- a call that speaks of no job that is there, and makes one
+module _ (w : World) (now : ℕ) (caller : List ℕ) (call : Call) (incoming : Bool) (j : NewJob) (format : Format) (payload : List ℕ) (sound : IsSound w) (moment : IsMoment now) (owner : IsOwner caller) (new : IsNewJob j) (fits : length payload ≤ 16777216) (none : (cut w (ask caller call)).jobs ≡ []) where
   abbrev scene : Scene
-  scene = cut w (ask caller (print_job j format payload))
+  scene = cut w (ask caller call)
 
   abbrev x : Job
-  x = new_job scene now caller j payload
+  x = new_job scene now caller incoming j payload
 
   abbrev n : Entry
   n = record { row = x; documents = documents format payload }
 
   none_returned : (a : List ℕ) → returned scene.jobs a (x ∷ []) ≡ pos 0
-  none_returned a = ap (λ js. returned js a (x ∷ [])) (none_named (rows w)) ∙ nothing (bytes_eq caller a)
+  none_returned a = ap (λ js. returned js a (x ∷ [])) none ∙ nothing (bytes_eq caller a)
 
   -- no account's free pages move
   free_stays : (q : List ℕ) → get (moved w.free caller scene.jobs (x ∷ [])) q ≡ get w.free q
@@ -117,19 +117,26 @@ module _ (w : World) (now : ℕ) (caller : List ℕ) (j : NewJob) (format : Form
         | false ↦ λ is. refl
       ] refl
 
-  entered_keeps : live_jobs caller (rows w) < 100 → w.next < 2 ^ 31 → Keeps w (made_on (entered scene x (first_document scene.next format payload)).change w)
+  entered_keeps : live_jobs caller (rows w) < 100 → w.next < 2 ^ 31 → Keeps w (made_on (entered scene x (new_document scene.next format payload)).change w)
   entered_keeps live room =
-      let job : IsSoundJob x = new_job_sound scene now caller j payload sound.settings (first_below 1 w.next w.jobs sound.numbers) room moment owner new fits in
+      let job : IsSoundJob x = new_job_sound scene now caller incoming j payload sound.settings (first_below 1 w.next w.jobs sound.numbers) room moment owner new fits in
       let m = moved w.free caller scene.jobs (x ∷ []) in
       let kept : Keeps w (with_new w m n) = record {
-        sound = new_row_keeps w m n sound refl room (entry_sound scene now caller j format payload fits job) refl refl (refl, refl, refl) live free_stays;
+        sound = new_row_keeps w m n sound refl room (entry_sound scene now caller incoming j format payload fits job) refl refl (refl, refl, refl) live free_stays;
         moves = λ k. new_moves k n w.jobs (inr refl);
       } in
       subst (λ es. Keeps w (record w { jobs = es; next = w.next + 1; free = m })) (sym (jobs_after x format payload w.jobs sound.numbers)) kept
 
-  pub print_keeps : Keeps w (made_on (print_job_row scene now caller j format payload).change w)
-  print_keeps =
-      elim (new_refusal scene) as (λ o. new_refusal scene ≡ o → Keeps w (made_on (unless_refused o (entered scene x (first_document scene.next format payload))).change w)) [
+  new_keeps : Keeps w (made_on (unless_refused (new_refusal scene) (entered scene x (new_document scene.next format payload))).change w)
+  new_keeps =
+      elim (new_refusal scene) as (λ o. new_refusal scene ≡ o → Keeps w (made_on (unless_refused o (entered scene x (new_document scene.next format payload))).change w)) [
         | None ↦ λ is. entered_keeps (not_refused scene is).0 (not_refused scene is).1
         | Some code ↦ λ is. unchanged w sound
       ] refl
+
+pub print_keeps : (w : World) (now : ℕ) (caller : List ℕ) (j : NewJob) (format : Format) (payload : List ℕ) → IsSound w → IsMoment now → IsOwner caller → IsNewJob j → length payload ≤ 16777216 → Keeps w (made_on (print_job_row (cut w (ask caller (print_job j format payload))) now caller j format payload).change w)
+print_keeps w now caller j format payload sound moment owner new fits = new_keeps w now caller (print_job j format payload) false j format payload sound moment owner new fits (none_named (rows w))
+
+-- without a document its format does not matter
+pub create_keeps : (w : World) (now : ℕ) (caller : List ℕ) (j : NewJob) → IsSound w → IsMoment now → IsOwner caller → IsNewJob j → Keeps w (made_on (create_job_row (cut w (ask caller (create_job j))) now caller j).change w)
+create_keeps w now caller j sound moment owner new = new_keeps w now caller (create_job j) true j OctetStream [] sound moment owner new (omega arith) (none_named (rows w))

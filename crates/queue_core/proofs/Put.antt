@@ -9,17 +9,19 @@ use Rattle.std.specs.Cmp.Lexicographic.{nat_list_cmp_total}
 use Rattle.std.proofs.lemmas.Map.Text.{is_eq-slice_cmp}
 use Rattle.std.proofs.lemmas.Slice.Eq.{bytes_eq-Decides}
 use Rattle.queue_core.specs.World.{World, Entry, with_row, with_document, add_document, put_free, text_cmp, made_on, cut, found_row, concerns, counts_for, caller_of, job_at}
-use Rattle.queue_core.specs.Event.{NewJob, NewDocument, Change, Decision, Event, ask, print_job, validate_job, cancel_job, get_job_attributes, get_jobs, get_printer_attributes}
-use Rattle.queue_core.specs.Machine.{refused, answered, becomes, cancel_in, stop_asked, of_own, decision, entered, new_job, first_document, new_refusal, unless_refused, print_job_row, validate_job_row}
+use Rattle.queue_core.specs.Event.{NewJob, NewDocument, Change, Decision, Event, ask, print_job, validate_job, create_job, send_document, cancel_job, cancel_my_jobs, hold_job, release_job, get_job_attributes, get_jobs, get_printer_attributes}
+use Rattle.queue_core.specs.Machine.{refused, answered, becomes, canceled, is_cancelable, cancel_row, are_there, all_canceled, cancel_my_jobs_row, of_own, decision, entered, new_job, new_document, new_refusal, unless_refused, validate_job_row, changed, is_sendable, sent, send_in, hold_in, let_print, has_pages, release_in}
 use Rattle.queue_core.specs.Book.{IsDecisionOn}
 use Rattle.queue_core.specs.declared.document.Format.{Format}
+use Rattle.queue_core.specs.declared.document.Format.TheVariants.{OctetStream}
 use Rattle.queue_core.specs.declared.job.Phase.{Phase}
 use Rattle.queue_core.specs.declared.job.Phase.TheVariants.{Waiting, Running, Stopped, Canceled, Aborted, Completed}
 use Rattle.queue_core.specs.declared.event.Reply.TheVariants.{Jobs, Done}
 use Rattle.queue_core.proofs.Moves.{shadow, swap_tests}
 use Rattle.std.proofs.Common.{eq-eqb}
 use Rattle.std.specs.Prelude.{option_map, IfSome, unwrap_or, filter, count_by, ◌&&◌}
-use Rattle.queue_core.specs.Job.{is_live}
+use Rattle.std.specs.List.{list_all}
+use Rattle.queue_core.specs.Job.{estimate, is_live}
 use Rattle.queue_core.specs.declared.event.Scene.{Scene}
 use Rattle.queue_core.specs.declared.lists.Lists.{Lists}
 use Rattle.queue_core.specs.Lists.{put_by, documents_of, entry_of, entries_of, free_map, IsTidy, put_row, put_rows, put_accounts, kept_of, with_kept, world_of, grants_map, reports_map, HaveSameItems}
@@ -243,41 +245,72 @@ put_there x (y ∷ js) =
 abbrev pub HasItsJob : List Job → Change → Type 0
 HasItsJob js c = IfSome (option_map kept_of c.document) (λ d. IsSome (job_at d.job (put_rows js c.jobs)))
 
-stop : (js : List Job) (s : Scene) (j : Job) → HasItsJob js (stop_asked s j).change
-stop js s j = elim j.stopping as (λ b. HasItsJob js (cond b (refused 0x0404) (becomes s (record j { stopping = true }))).change) [ true ↦ tt | false ↦ tt ]
+cancels : (js : List Job) (s : Scene) (now : ℕ) (j : Job) → HasItsJob js (cancel_row s now j).change
+cancels js s now j = elim (is_cancelable j) as (λ b. HasItsJob js (cond b (becomes s (canceled now j)) (refused 0x0404)).change) [ true ↦ tt | false ↦ tt ]
 
-cancel : (js : List Job) (s : Scene) (now : ℕ) (j : Job) (p : Phase) → HasItsJob js (cancel_in p s now j).change
-cancel js s now j Waiting = tt
-cancel js s now j Running = stop js s j
-cancel js s now j Stopped = stop js s j
-cancel js s now j (Canceled why) = tt
-cancel js s now j Aborted = tt
-cancel js s now j Completed = tt
+cancels_mine : (js : List Job) (s : Scene) (now : ℕ) (numbers : Option (List ℕ)) → HasItsJob js (cancel_my_jobs_row s now numbers).change
+cancels_mine js s now None = tt
+cancels_mine js s now (Some numbers) =
+    elim (are_there s.jobs numbers) as (λ b. HasItsJob js (cond b (cond (list_all is_cancelable s.jobs) (all_canceled s now s.jobs) (refused 0x0404)) (refused 0x0406)).change) [
+      | true ↦ elim (list_all is_cancelable s.jobs) as (λ b. HasItsJob js (cond b (all_canceled s now s.jobs) (refused 0x0404)).change) [ true ↦ tt | false ↦ tt ]
+      | false ↦ tt
+    ]
 
 owned : (js : List Job) (caller : List ℕ) (row : Job → Decision) → ((j : Job) → HasItsJob js (row j).change) → (ks : List Job) → HasItsJob js (of_own caller row ks).change
 owned js caller row each [] = tt
 owned js caller row each (j ∷ ks) = elim (bytes_eq j.owner caller) as (λ b. HasItsJob js (cond b (row j) (refused 0x0406)).change) [ true ↦ each j | false ↦ tt ]
 
-first : (js : List Job) (x : Job) (format : Format) (payload : List ℕ) → IfSome (option_map kept_of (first_document x.number format payload)) (λ d. IsSome (job_at d.job (put_rows js (x ∷ []))))
+first : (js : List Job) (x : Job) (format : Format) (payload : List ℕ) → IfSome (option_map kept_of (new_document x.number format payload)) (λ d. IsSome (job_at d.job (put_rows js (x ∷ []))))
 first js x format [] = tt
 first js x format (b ∷ bytes) = put_there x js
 
-printed : (js : List Job) (s : Scene) (now : ℕ) (caller : List ℕ) (j : NewJob) (format : Format) (payload : List ℕ) → HasItsJob js (print_job_row s now caller j format payload).change
-printed js s now caller j format payload =
-    elim (new_refusal s) as (λ o. HasItsJob js (unless_refused o (entered s (new_job s now caller j payload) (first_document s.next format payload))).change) [
-      | None ↦ first js (new_job s now caller j payload) format payload
+printed : (js : List Job) (s : Scene) (now : ℕ) (caller : List ℕ) (incoming : Bool) (j : NewJob) (format : Format) (payload : List ℕ) → HasItsJob js (unless_refused (new_refusal s) (entered s (new_job s now caller incoming j payload) (new_document s.next format payload))).change
+printed js s now caller incoming j format payload =
+    elim (new_refusal s) as (λ o. HasItsJob js (unless_refused o (entered s (new_job s now caller incoming j payload) (new_document s.next format payload))).change) [
+      | None ↦ first js (new_job s now caller incoming j payload) format payload
       | Some code ↦ tt
     ]
+
+sends : (js : List Job) (s : Scene) (j : Job) (format : Format) (payload : List ℕ) (last : Bool) → HasItsJob js (send_in s j format payload last).change
+sends js s j format payload last =
+    elim (is_sendable j payload) as (λ b. HasItsJob js (cond b (record { reply = Jobs (sent j payload last ∷ []); change = record (changed s (sent j payload last ∷ [])) { document = new_document j.number format payload } }) (refused 0x0404)).change) [
+      | true ↦ first js (sent j payload last) format payload
+      | false ↦ tt
+    ]
+
+holds : (js : List Job) (s : Scene) (j : Job) (p : Phase) → HasItsJob js (hold_in p s j).change
+holds js s j Waiting = tt
+holds js s j Running = tt
+holds js s j Stopped = tt
+holds js s j (Canceled why) = tt
+holds js s j Aborted = tt
+holds js s j Completed = tt
+
+lets_print : (js : List Job) (s : Scene) (j : Job) → HasItsJob js (let_print s j).change
+lets_print js s j = elim (has_pages s.free (estimate j)) as (λ b. HasItsJob js (cond b (becomes s (record j { hold = false })) (refused 0x0404)).change) [ true ↦ tt | false ↦ tt ]
+
+releases : (js : List Job) (s : Scene) (j : Job) (p : Phase) → HasItsJob js (release_in p s j).change
+releases js s j Waiting = elim j.hold as (λ b. HasItsJob js (cond b (let_print s j) (answered Done)).change) [ true ↦ lets_print js s j | false ↦ tt ]
+releases js s j Running = tt
+releases js s j Stopped = tt
+releases js s j (Canceled why) = tt
+releases js s j Aborted = tt
+releases js s j Completed = tt
 
 validated : (js : List Job) (s : Scene) → HasItsJob js (validate_job_row s).change
 validated js s = elim (new_refusal s) as (λ o. HasItsJob js (unless_refused o (answered Done)).change) [ None ↦ tt | Some code ↦ tt ]
 
 decided : (js : List Job) (s : Scene) (now : ℕ) (e : Event) → HasItsJob js (decision s now e).change
-decided js s now (ask caller (print_job j format payload)) = printed js s now caller j format payload
+decided js s now (ask caller (print_job j format payload)) = printed js s now caller false j format payload
+decided js s now (ask caller (create_job j)) = printed js s now caller true j OctetStream []
+decided js s now (ask caller (send_document n format payload last)) = owned js caller (λ j. send_in s j format payload last) (λ j. sends js s j format payload last) s.jobs
+decided js s now (ask caller (hold_job n)) = owned js caller (λ j. hold_in j.phase s j) (λ j. holds js s j j.phase) s.jobs
+decided js s now (ask caller (release_job n)) = owned js caller (λ j. release_in j.phase s j) (λ j. releases js s j j.phase) s.jobs
 decided js s now (ask caller (validate_job j)) = validated js s
 decided js s now (ask caller (get_jobs which limit)) = tt
 decided js s now (ask caller get_printer_attributes) = tt
-decided js s now (ask caller (cancel_job n)) = owned js caller (λ j. cancel_in j.phase s now j) (λ j. cancel js s now j j.phase) s.jobs
+decided js s now (ask caller (cancel_job n)) = owned js caller (λ j. cancel_row s now j) (λ j. cancels js s now j) s.jobs
+decided js s now (ask caller (cancel_my_jobs numbers)) = cancels_mine js s now numbers
 decided js s now (ask caller (get_job_attributes n)) = owned js caller (λ j. answered (Jobs (j ∷ []))) (λ j. tt) s.jobs
 
 pub has_its_job : (w : World) (js : List Job) (d : Decision) → IsDecisionOn w d → HasItsJob js d.change

@@ -1,35 +1,38 @@
 -- One job changes, with its owner's free pages by the balance: the world stays sound.
-use Rattle.std.proofs.Common.{◌≡◌, ℕ, ℤ, pos, ◌+ℤ◌, ◌-ℤ◌, ◌+◌, ◌≤◌, List, map, refl, ap, sym, ◌∙◌, arith, subst, Bool, true, false, cond}
+use Rattle.std.proofs.Common.{◌≡◌, ℕ, ℤ, pos, ◌+ℤ◌, ◌-ℤ◌, ◌+◌, ◌≤◌, List, [], ◌∷◌, map, refl, ap, sym, ◌∙◌, arith, subst, Bool, true, false, cond}
 use Rattle.std.specs.Prelude.{Option, Some, None, IfSome, IsSomeAnd, is_some, bytes_eq, option_map, sum_by, ◌&&◌, ◌⊎◌}
 use Rattle.std.specs.FinMap.{FinMap, get}
 use Rattle.std.proofs.lemmas.Int.{ints}
 use Rattle.queue_core.specs.Job.{owed, is_live}
-use Rattle.queue_core.specs.World.{World, with_row, text_cmp}
+use Rattle.queue_core.specs.World.{World, with_row, text_cmp, job_at}
 use Rattle.queue_core.specs.Machine.{taken}
 use Rattle.queue_core.specs.Limits.{IsSoundJob}
-use Rattle.queue_core.specs.Sound.{IsSound, IsSoundEntry, IsKept, IsGreatestCount, IsIdle, granted, reserved, printed}
+use Rattle.std.specs.List.{AllByRecursion as Each}
+use Rattle.queue_core.specs.Sound.{Rise, IsSound, IsSoundEntry, IsKept, IsGreatestCount, IsIdle, granted, reserved, printed}
 use Rattle.queue_core.specs.declared.job.Job.{Job}
 use Rattle.queue_core.specs.World.{Entry}
 use Rattle.queue_core.specs.declared.event.KeptReport.{KeptReport}
 use Rattle.queue_core.proofs.Keep.{at, each-with_row, rise-with_row, some-with_row, sum-with_row}
 
--- x in place of j: not its number, owner, count or documents
+-- x in place of j: not its number, owner or count
 pub record Replaces (x j : Job) : Type 0 where
   pub number : x.number ≡ j.number
   pub owner : x.owner ≡ j.owner
   pub count : x.count ≡ j.count
+  pub live : cond (is_live x) 1 0 ≤ cond (is_live j) 1 0
+
+-- with the documents of j
+pub record KeepsDocuments (x j : Job) : Type 0 where
   pub documents : x.documents ≡ j.documents
   pub octets : x.octets ≡ j.octets
   pub sound : IsSoundJob j → IsSoundJob x
-  pub live : cond (is_live x) 1 0 ≤ cond (is_live j) 1 0
-  pub idle : IsIdle j → IsIdle x
 
 -- what the account gets back
 abbrev pub back : Job → Job → List ℕ → ℤ
 back x j a = cond (bytes_eq x.owner a) (pos (taken j) -ℤ pos (taken x)) (pos 0)
 
-abbrev pub one_row : World → FinMap text_cmp ℤ → Job → World
-one_row w m x = record w { jobs = with_row w.jobs x; free = m }
+abbrev pub with_jobs : World → FinMap text_cmp ℤ → List Entry → World
+with_jobs w m es = record w { jobs = es; free = m }
 
 if_map : (P Q : KeptReport → Type 0) (o : Option KeptReport) → ((k : KeptReport) → P k → Q k) → IfSome o P → IfSome o Q
 if_map P Q None f h = tt
@@ -55,18 +58,46 @@ balance (Some f) false g r s p q oj ox cj cx es eq is = omega (arith, ints)
 same_owner : (x j : Job) → x.owner ≡ j.owner → (a : List ℕ) → bytes_eq j.owner a ≡ bytes_eq x.owner a
 same_owner x j e a = ap (λ t. bytes_eq t a) (sym e)
 
-module _ (w : World) (m : FinMap text_cmp ℤ) (x j : Job) (sound : IsSound w) (there : at x.number w.jobs ≡ Some j) (fits : Replaces x j) (free : (a : List ℕ) → get m a ≡ option_map (λ f. f +ℤ back x j a) (get w.free a)) where
-  entry_keeps : (e : Entry) → e.row ≡ j → IsSoundEntry e → IsSoundEntry (record e { row = x })
-  entry_keeps e r s = record {
-    row = fits.sound (subst IsSoundJob r s.row);
-    documents = fits.documents ∙ ap (λ (t : Job). t.documents) (sym r) ∙ s.documents;
-    octets = fits.octets ∙ ap (λ (t : Job). t.octets) (sym r) ∙ s.octets;
-    sizes = s.sizes;
-  }
+-- ---- entries with the same rows
 
-  live_keeps : (u : List ℕ) → sum_by (λ (k : Job). cond (bytes_eq k.owner u && is_live k) 1 0) (map (λ e. e.row) (with_row w.jobs x)) ≤ 100
+abbrev pub rows_of : List Entry → List Job
+rows_of es = map (λ e. e.row) es
+
+abbrev head_of : Job → List Job → Job
+head_of d [] = d
+head_of d (j ∷ js) = j
+
+abbrev tail_of : List Job → List Job
+tail_of [] = []
+tail_of (j ∷ js) = js
+
+no_rows : (x : Job) (xs : List Job) → (x ∷ xs) ≡ [] → ⊥
+no_rows x xs e = absurd (cc)
+
+rise-rows : (es fs : List Entry) (first next : ℕ) → rows_of es ≡ rows_of fs → Rise first fs next → Rise first es next
+rise-rows [] [] first next same rise = rise
+rise-rows [] (f ∷ fs) first next same rise = absurd (no_rows f.row (rows_of fs) (sym same))
+rise-rows (e ∷ es) [] first next same rise = absurd (no_rows e.row (rows_of es) same)
+rise-rows (e ∷ es) (f ∷ fs) first next same rise =
+    let n : f.row.number ≡ e.row.number = ap (λ js. (head_of e.row js).number) (sym same) in
+    (subst (λ k. first ≤ k) n rise.0, rise-rows es fs (e.row.number + 1) next (ap tail_of same) (subst (λ k. Rise (k + 1) fs next) n rise.1))
+
+each-rows : (P : Job → Type 0) (es fs : List Entry) → rows_of es ≡ rows_of fs → Each (λ e. P e.row) fs → Each (λ e. P e.row) es
+each-rows P [] fs same each = tt
+each-rows P (e ∷ es) [] same each = absurd (no_rows e.row (rows_of es) same)
+each-rows P (e ∷ es) (f ∷ fs) same each = (subst P (ap (head_of e.row) (sym same)) each.0, each-rows P es fs (ap tail_of same) each.1)
+
+-- the entries after x took the place of j, with whatever documents
+module _ (w : World) (m : FinMap text_cmp ℤ) (es : List Entry) (x j : Job) (sound : IsSound w) (there : at x.number w.jobs ≡ Some j) (fits : Replaces x j) (same : rows_of es ≡ rows_of (with_row w.jobs x)) (entries : Each IsSoundEntry es) (stays_idle : get w.free x.owner ≡ None → IsIdle j → IsIdle x) (free : (a : List ℕ) → get m a ≡ option_map (λ f. f +ℤ back x j a) (get w.free a)) where
+  abbrev new : World
+  new = with_jobs w m es
+
+  sum_after : (f : Job → ℕ) → sum_by f (rows_of es) + f j ≡ sum_by f (rows_of w.jobs) + f x
+  sum_after f = ap (λ js. sum_by f js + f j) same ∙ sum-with_row f x j w.jobs there
+
+  live_keeps : (u : List ℕ) → sum_by (λ (k : Job). cond (bytes_eq k.owner u && is_live k) 1 0) (rows_of es) ≤ 100
   live_keeps u =
-      let sums = sum-with_row (λ (k : Job). cond (bytes_eq k.owner u && is_live k) 1 0) x j w.jobs there in
+      let sums = sum_after (λ (k : Job). cond (bytes_eq k.owner u && is_live k) 1 0) in
       let less : cond (bytes_eq x.owner u && is_live x) 1 0 ≤ cond (bytes_eq j.owner u && is_live j) 1 0 = subst (λ b. cond (b && is_live x) 1 0 ≤ cond (bytes_eq j.owner u && is_live j) 1 0) (same_owner x j fits.owner u) (live_part (bytes_eq j.owner u) (is_live x) (is_live j) fits.live) in
       let most = sound.live u in
       omega arith
@@ -81,31 +112,42 @@ module _ (w : World) (m : FinMap text_cmp ℤ) (x j : Job) (sound : IsSound w) (
       subst (λ c. ((seq : ℕ) → IfSome (get w.reports (x.number, seq)) (λ k. k.report.count ≤ c)) × ((c ≡ 0) ⊎ ((seq : ℕ) × IsSomeAnd (get w.reports (x.number, seq)) (λ k. k.report.count ≡ c)))) c
       (subst (λ n. ((seq : ℕ) → IfSome (get w.reports (n, seq)) (λ k. k.report.count ≤ e.row.count)) × ((e.row.count ≡ 0) ⊎ ((seq : ℕ) × IsSomeAnd (get w.reports (n, seq)) (λ k. k.report.count ≡ e.row.count)))) n g)
 
-  balance_keeps : (a : List ℕ) → IfSome (get m a) (λ f. pos (granted a (one_row w m x)) ≡ f +ℤ pos (reserved a (one_row w m x) + printed a (one_row w m x)))
+  balance_keeps : (a : List ℕ) → IfSome (get m a) (λ f. pos (granted a new) ≡ f +ℤ pos (reserved a new + printed a new))
   balance_keeps a =
-      let owing : reserved a (one_row w m x) + cond (bytes_eq x.owner a) (owed j) 0 ≡ reserved a w + cond (bytes_eq x.owner a) (owed x) 0 = subst (λ b. reserved a (one_row w m x) + cond b (owed j) 0 ≡ reserved a w + cond (bytes_eq x.owner a) (owed x) 0) (same_owner x j fits.owner a) (sum-with_row (λ (k : Job). cond (bytes_eq k.owner a) (owed k) 0) x j w.jobs there) in
-      let counting : printed a (one_row w m x) + cond (bytes_eq x.owner a) j.count 0 ≡ printed a w + cond (bytes_eq x.owner a) x.count 0 = subst (λ b. printed a (one_row w m x) + cond b j.count 0 ≡ printed a w + cond (bytes_eq x.owner a) x.count 0) (same_owner x j fits.owner a) (sum-with_row (λ (k : Job). cond (bytes_eq k.owner a) k.count 0) x j w.jobs there) in
-      subst (λ o. IfSome o (λ f. pos (granted a w) ≡ f +ℤ pos (reserved a (one_row w m x) + printed a (one_row w m x)))) (sym (free a))
-      (balance (get w.free a) (bytes_eq x.owner a) (granted a w) (reserved a w) (reserved a (one_row w m x)) (printed a w) (printed a (one_row w m x)) (owed j) (owed x) j.count x.count owing counting (sound.balances a))
+      let owing : reserved a new + cond (bytes_eq x.owner a) (owed j) 0 ≡ reserved a w + cond (bytes_eq x.owner a) (owed x) 0 = subst (λ b. reserved a new + cond b (owed j) 0 ≡ reserved a w + cond (bytes_eq x.owner a) (owed x) 0) (same_owner x j fits.owner a) (sum_after (λ (k : Job). cond (bytes_eq k.owner a) (owed k) 0)) in
+      let counting : printed a new + cond (bytes_eq x.owner a) j.count 0 ≡ printed a w + cond (bytes_eq x.owner a) x.count 0 = subst (λ b. printed a new + cond b j.count 0 ≡ printed a w + cond (bytes_eq x.owner a) x.count 0) (same_owner x j fits.owner a) (sum_after (λ (k : Job). cond (bytes_eq k.owner a) k.count 0)) in
+      subst (λ o. IfSome o (λ f. pos (granted a w) ≡ f +ℤ pos (reserved a new + printed a new))) (sym (free a))
+      (balance (get w.free a) (bytes_eq x.owner a) (granted a w) (reserved a w) (reserved a new) (printed a w) (printed a new) (owed j) (owed x) j.count x.count owing counting (sound.balances a))
 
-  pub row_keeps : IsSound (one_row w m x)
+  pub row_keeps : IsSound new
   row_keeps = record {
     settings = sound.settings;
-    numbers = rise-with_row x j 1 w.next w.jobs there sound.numbers;
+    numbers = rise-rows es (with_row w.jobs x) 1 w.next same (rise-with_row x j 1 w.next w.jobs there sound.numbers);
     next = sound.next;
-    entries = each-with_row IsSoundEntry IsSoundEntry x j w.jobs there (λ e p. p) entry_keeps sound.entries;
+    entries = entries;
     live = live_keeps;
     grants = sound.grants;
     most = sound.most;
     accounts = λ a. (λ h. (sound.accounts a).0 (sym (some_map _ (get w.free a)) ∙ ap is_some (sym (free a)) ∙ h), λ h. ap is_some (free a) ∙ some_map _ (get w.free a) ∙ (sound.accounts a).1 h);
-    reports = λ n s. if_map (IsKept w n s) (IsKept (one_row w m x) n s) (get w.reports (n, s)) (λ k p. record { job = p.job; seq = p.seq; there = some-with_row n x j w.jobs there p.there; positive = p.positive; count = p.count; state = p.state; total = p.total }) (sound.reports n s);
-    counts = each-with_row (λ e. IsGreatestCount w e.row) (λ e. IsGreatestCount w e.row) x j w.jobs there (λ e p. p) count_keeps sound.counts;
-    idle = each-with_row (λ e. get w.free e.row.owner ≡ None → IsIdle e.row) (λ e. get m e.row.owner ≡ None → IsIdle e.row) x j w.jobs there
+    reports = λ n s. if_map (IsKept w n s) (IsKept new n s) (get w.reports (n, s)) (λ k p. record { job = p.job; seq = p.seq; there = ap (λ js. is_some (job_at n js)) same ∙ some-with_row n x j w.jobs there p.there; positive = p.positive; count = p.count; state = p.state; total = p.total }) (sound.reports n s);
+    counts = each-rows (IsGreatestCount w) es (with_row w.jobs x) same (each-with_row (λ e. IsGreatestCount w e.row) (λ e. IsGreatestCount w e.row) x j w.jobs there (λ e p. p) count_keeps sound.counts);
+    idle = each-rows (λ k. get m k.owner ≡ None → IsIdle k) es (with_row w.jobs x) same (each-with_row (λ e. get w.free e.row.owner ≡ None → IsIdle e.row) (λ e. get m e.row.owner ≡ None → IsIdle e.row) x j w.jobs there
         (λ e p none. p (none_before e.row.owner none))
-        (λ e r p none. fits.idle (subst IsIdle r (p (ap (λ (t : Job). get w.free t.owner) r ∙ ap (get w.free) (sym fits.owner) ∙ none_before x.owner none))))
-        sound.idle;
+        (λ e r p none. stays_idle (none_before x.owner none) (subst IsIdle r (p (ap (λ (t : Job). get w.free t.owner) r ∙ ap (get w.free) (sym fits.owner) ∙ none_before x.owner none))))
+        sound.idle);
     balances = balance_keeps;
   }
+
+-- the entries with x in the place of j are sound, where x keeps its documents
+pub row_entries : (es : List Entry) (x j : Job) → at x.number es ≡ Some j → KeepsDocuments x j → Each IsSoundEntry es → Each IsSoundEntry (with_row es x)
+row_entries es x j there keeps all = each-with_row IsSoundEntry IsSoundEntry x j es there (λ e p. p)
+    (λ e r s. record {
+      row = keeps.sound (subst IsSoundJob r s.row);
+      documents = keeps.documents ∙ ap (λ (t : Job). t.documents) (sym r) ∙ s.documents;
+      octets = keeps.octets ∙ ap (λ (t : Job). t.octets) (sym r) ∙ s.octets;
+      sizes = s.sizes;
+    })
+    all
 
 -- no account but the owner's moves
 pub kept_amount : (o : Option ℤ) → o ≡ option_map (λ f. f +ℤ pos 0) o

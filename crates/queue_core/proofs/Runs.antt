@@ -7,7 +7,7 @@ use Rattle.queue_core.specs.World.{World}
 use Rattle.queue_core.specs.Limits.{IsMoment, IsEvent}
 use Rattle.queue_core.specs.Runs.{Place, IsPlace, after, run, MovesAlong}
 use Rattle.queue_core.specs.Sound.{IsSound}
-use Rattle.queue_core.proofs.Cancel.{Keeps, unchanged}
+use Rattle.queue_core.proofs.Own.{Keeps, unchanged}
 use Rattle.queue_core.proofs.Steps.{event_keeps}
 
 pub run-append : (ps qs : List Place) (w : World) → run w (ps ++ qs) ≡ run (run w ps) qs

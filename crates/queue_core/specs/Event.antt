@@ -1,10 +1,10 @@
 -- What may happen to a queue, by its content: what a call or a change says, without where its bytes lie.
-use Rattle.std.specs.Prelude.{ℕ, List, Option, option_map}
+use Rattle.std.specs.Prelude.{ℕ, Bool, List, Option, option_map}
 use Rattle.queue_core.specs.declared.document.Format.{Format}
 use Rattle.queue_core.specs.declared.event.WhichJobs.{WhichJobs}
 use Rattle.queue_core.specs.declared.event.NewJob.{NewJob as NewJobRef}
 use Rattle.queue_core.specs.declared.event.Call.{Call as CallRef}
-use Rattle.queue_core.specs.declared.event.Call.TheVariants.{PrintJob, ValidateJob, CancelJob, GetJobAttributes, GetJobs, GetPrinterAttributes}
+use Rattle.queue_core.specs.declared.event.Call.TheVariants.{PrintJob, ValidateJob, CreateJob, SendDocument, CancelJob, CancelMyJobs, HoldJob, ReleaseJob, GetJobAttributes, GetJobs, GetPrinterAttributes}
 use Rattle.queue_core.specs.declared.event.Event.{Event as EventRef}
 use Rattle.queue_core.specs.declared.event.Event.TheVariants.{Ask}
 use Rattle.queue_core.specs.declared.event.FreeRow.{FreeRow}
@@ -22,7 +22,14 @@ pub record NewJob : Type 0 where
 pub data Call : Type 0 where
   print_job : NewJob → Format → List ℕ → Call
   validate_job : NewJob → Call
+  create_job : NewJob → Call
+  -- to the job of that number; whether it is the last
+  send_document : ℕ → Format → List ℕ → Bool → Call
   cancel_job : ℕ → Call
+  -- those of these numbers, or all that can be
+  cancel_my_jobs : Option (List ℕ) → Call
+  hold_job : ℕ → Call
+  release_job : ℕ → Call
   get_job_attributes : ℕ → Call
   get_jobs : WhichJobs → Option ℕ → Call
   get_printer_attributes : Call
@@ -52,6 +59,11 @@ new_job_of j = record { name = j.name.now; copies = j.copies; impressions = j.im
 abbrev pub call_of : CallRef → Call
 call_of (PrintJob j f b) = print_job (new_job_of j) f b.now
 call_of (ValidateJob j) = validate_job (new_job_of j)
+call_of (CreateJob j) = create_job (new_job_of j)
+call_of (SendDocument n f b last) = send_document n f b.now last
+call_of (CancelMyJobs numbers) = cancel_my_jobs numbers
+call_of (HoldJob n) = hold_job n
+call_of (ReleaseJob n) = release_job n
 call_of (CancelJob n) = cancel_job n
 call_of (GetJobAttributes n) = get_job_attributes n
 call_of (GetJobs which limit) = get_jobs which limit

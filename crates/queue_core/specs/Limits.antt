@@ -3,7 +3,7 @@ use Rattle.std.specs.Prelude.{◌≡◌, ℕ, ℤ, pos, neg_ℤ, ◌≤ℤ◌, �
 use Rattle.std.specs.List.{list_all}
 use Rattle.std.specs.Str.{IsUtf8}
 use Rattle.queue_core.specs.Settings.{AreSettings}
-use Rattle.queue_core.specs.Event.{Event, Call, NewJob, ask, print_job, validate_job, cancel_job, get_job_attributes, get_jobs, get_printer_attributes}
+use Rattle.queue_core.specs.Event.{Event, Call, NewJob, ask, print_job, validate_job, create_job, send_document, cancel_job, cancel_my_jobs, hold_job, release_job, get_job_attributes, get_jobs, get_printer_attributes}
 use Rattle.queue_core.specs.declared.job.Job.{Job}
 use Rattle.queue_core.specs.declared.job.Phase.{Phase}
 use Rattle.queue_core.specs.declared.job.Phase.TheVariants.{Waiting, Running, Stopped, Canceled, Aborted, Completed}
@@ -57,7 +57,7 @@ pub record IsSoundJob (j : Job) : Type 0 where
   pub begun : IfSome j.begun IsMoment
   pub ended : IfSome j.ended IsMoment
   pub documents : j.documents ≤ 16
-  pub octets : j.octets ≤ 16 * 16777216
+  pub octets : j.octets ≤ j.documents * 16777216
   pub phase : FitsPhase j.phase j
 
 -- what a request asks of a new job
@@ -69,6 +69,11 @@ pub record IsNewJob (j : NewJob) : Type 0 where
 abbrev pub IsCall : Call → Type 0
 IsCall (print_job j format payload) = IsNewJob j × (length payload ≤ 16777216)
 IsCall (validate_job j) = IsNewJob j
+IsCall (create_job j) = IsNewJob j
+IsCall (send_document n format payload last) = length payload ≤ 16777216
+IsCall (cancel_my_jobs numbers) = ⊤
+IsCall (hold_job n) = ⊤
+IsCall (release_job n) = ⊤
 IsCall (get_jobs which limit) = ⊤
 IsCall get_printer_attributes = ⊤
 IsCall (cancel_job n) = ⊤

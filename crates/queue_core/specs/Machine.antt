@@ -1,8 +1,9 @@
 -- The machine: what each event is answered, and what becomes of the rows. One definition for each row of its table.
-use Rattle.std.specs.Prelude.{ℕ, ℤ, pos, ◌+ℤ◌, ◌-ℤ◌, ◌+◌, fold, List, [], ◌∷◌, ◌++◌, Option, Some, None, map, filter, take, ◌==◌, ◌&&◌, ◌||◌, bytes_eq, Bool, true, false, if◌then◌else◌, nat_le, nat_lt, unwrap_or, length}
+use Rattle.std.specs.Prelude.{ℕ, ℤ, pos, ◌+ℤ◌, ◌-ℤ◌, ◌+◌, fold, List, [], ◌∷◌, ◌++◌, Option, Some, None, map, filter, take, ◌==◌, ◌&&◌, ◌||◌, not, bytes_eq, Bool, true, false, if◌then◌else◌, nat_le, nat_lt, int_le, unwrap_or, length}
+use Rattle.std.specs.List.{list_all, list_any}
 use Rattle.std.specs.Option.{option_map_or}
-use Rattle.queue_core.specs.Job.{owed, state}
-use Rattle.queue_core.specs.Event.{NewJob, NewDocument, Change, Decision, Event, Call, ask, print_job, validate_job, cancel_job, get_job_attributes, get_jobs, get_printer_attributes}
+use Rattle.queue_core.specs.Job.{estimate, owed, state}
+use Rattle.queue_core.specs.Event.{NewJob, NewDocument, Change, Decision, Event, Call, ask, print_job, validate_job, create_job, send_document, cancel_job, cancel_my_jobs, hold_job, release_job, get_job_attributes, get_jobs, get_printer_attributes}
 use Rattle.queue_core.specs.World.{World, cut, made_on, job_at}
 use Rattle.queue_core.specs.declared.job.Job.{Job}
 use Rattle.queue_core.specs.declared.document.Format.{Format}
@@ -50,32 +51,36 @@ changed s js = record no_change { jobs = js; free = map (credited s.jobs js) s.f
 abbrev pub becomes : Scene → Job → Decision
 becomes s j = record { reply = Done; change = changed s (j ∷ []) }
 
--- ---- Print-Job (RFC 8011, section 4.2.1)
+-- ---- Print-Job and Create-Job (RFC 8011, sections 4.2.1 and 4.2.4)
 
--- a new job, on hold
-abbrev pub new_job : Scene → ℕ → List ℕ → NewJob → List ℕ → Job
-new_job s now caller j payload = record {
+-- a payload is one document, and an empty one is none
+abbrev pub document_count : List ℕ → ℕ
+document_count payload = if length payload == 0 then 0 else 1
+
+-- a new job, on hold; whether more documents may come
+abbrev pub new_job : Scene → ℕ → List ℕ → Bool → NewJob → List ℕ → Job
+new_job s now caller incoming j payload = record {
   number = s.next;
   owner = caller;
   name = j.name;
   copies = j.copies;
   impressions = unwrap_or j.impressions s.settings.estimate;
   hold = true;
-  incoming = false;
+  incoming = incoming;
   phase = Waiting;
   stopping = false;
   count = 0;
   created = now;
   begun = None;
   ended = None;
-  documents = if length payload == 0 then 0 else 1;
+  documents = document_count payload;
   octets = length payload;
 }
 
--- the payload is the job's first document, where it is not empty
-abbrev pub first_document : ℕ → Format → List ℕ → Option NewDocument
-first_document n format [] = None
-first_document n format (b ∷ bytes) = Some (record { job = n; format = format; bytes = b ∷ bytes })
+-- the payload as a document of that job, where it is not empty
+abbrev pub new_document : ℕ → Format → List ℕ → Option NewDocument
+new_document n format [] = None
+new_document n format (b ∷ bytes) = Some (record { job = n; format = format; bytes = b ∷ bytes })
 
 -- the job enters under the next number, with its document
 abbrev pub entered : Scene → Job → Option NewDocument → Decision
@@ -94,7 +99,11 @@ unless_refused None d = d
 unless_refused (Some code) d = refused code
 
 abbrev pub print_job_row : Scene → ℕ → List ℕ → NewJob → Format → List ℕ → Decision
-print_job_row s now caller j format payload = unless_refused (new_refusal s) (entered s (new_job s now caller j payload) (first_document s.next format payload))
+print_job_row s now caller j format payload = unless_refused (new_refusal s) (entered s (new_job s now caller false j payload) (new_document s.next format payload))
+
+-- open for documents
+abbrev pub create_job_row : Scene → ℕ → List ℕ → NewJob → Decision
+create_job_row s now caller j = unless_refused (new_refusal s) (entered s (new_job s now caller true j []) None)
 
 -- ---- Validate-Job (RFC 8011, section 4.2.3)
 
@@ -149,17 +158,89 @@ printer_row s = answered (Printer (printer_state s.counts) s.counts.queued (nat_
 
 -- ---- Cancel-Job (RFC 8011, section 4.3.3)
 
--- the device has the job: it is asked to stop, once
-abbrev pub stop_asked : Scene → Job → Decision
-stop_asked s j = if j.stopping then refused 0x0404 else becomes s (record j { stopping = true })
+-- a job that waits, or that the device has and was not asked to stop
+abbrev pub is_cancelable_in : Phase → Job → Bool
+is_cancelable_in Waiting j = true
+is_cancelable_in Running j = not j.stopping
+is_cancelable_in Stopped j = not j.stopping
+is_cancelable_in (Canceled why) j = false
+is_cancelable_in Aborted j = false
+is_cancelable_in Completed j = false
 
-abbrev pub cancel_in : Phase → Scene → ℕ → Job → Decision
-cancel_in Waiting s now j = becomes s (record j { phase = Canceled ByUser; hold = false; incoming = false; ended = Some now })
-cancel_in Running s now j = stop_asked s j
-cancel_in Stopped s now j = stop_asked s j
-cancel_in (Canceled why) s now j = refused 0x0404
-cancel_in Aborted s now j = refused 0x0404
-cancel_in Completed s now j = refused 0x0404
+abbrev pub is_cancelable : Job → Bool
+is_cancelable j = is_cancelable_in j.phase j
+
+-- a waiting job ends; while the device has it, it is asked to stop
+abbrev pub canceled_in : Phase → ℕ → Job → Job
+canceled_in Waiting now j = record j { phase = Canceled ByUser; hold = false; incoming = false; ended = Some now }
+canceled_in Running now j = record j { stopping = true }
+canceled_in Stopped now j = record j { stopping = true }
+canceled_in (Canceled why) now j = j
+canceled_in Aborted now j = j
+canceled_in Completed now j = j
+
+abbrev pub canceled : ℕ → Job → Job
+canceled now j = canceled_in j.phase now j
+
+abbrev pub cancel_row : Scene → ℕ → Job → Decision
+cancel_row s now j = if is_cancelable j then becomes s (canceled now j) else refused 0x0404
+
+-- ---- Cancel-My-Jobs (PWG 5100.11)
+
+abbrev pub all_canceled : Scene → ℕ → List Job → Decision
+all_canceled s now js = record { reply = Done; change = changed s (map (canceled now) js) }
+
+-- each of the numbers is that of one of the jobs
+abbrev pub are_there : List Job → List ℕ → Bool
+are_there js numbers = list_all (λ n. list_any (λ m. m == n) (map (λ j. j.number) js)) numbers
+
+-- all of them or none; without numbers those that can be
+abbrev pub cancel_my_jobs_row : Scene → ℕ → Option (List ℕ) → Decision
+cancel_my_jobs_row s now (Some numbers) = if are_there s.jobs numbers then (if list_all is_cancelable s.jobs then all_canceled s now s.jobs else refused 0x0404) else refused 0x0406
+cancel_my_jobs_row s now None = all_canceled s now (filter is_cancelable s.jobs)
+
+-- ---- Send-Document (RFC 8011, section 4.3.1)
+
+-- a job that is not open takes no document, and none takes a seventeenth
+abbrev pub is_sendable : Job → List ℕ → Bool
+is_sendable j payload = j.incoming && nat_le (j.documents + document_count payload) 16
+
+-- the payload is the job's next document, and after the last one no more may come
+abbrev pub sent : Job → List ℕ → Bool → Job
+sent j payload last = record j { documents = j.documents + document_count payload; octets = j.octets + length payload; incoming = not last }
+
+abbrev pub send_in : Scene → Job → Format → List ℕ → Bool → Decision
+send_in s j format payload last = if is_sendable j payload then record {
+  reply = Jobs (sent j payload last ∷ []);
+  change = record (changed s (sent j payload last ∷ [])) { document = new_document j.number format payload };
+} else refused 0x0404
+
+-- ---- Hold-Job and Release-Job (RFC 8011, sections 4.3.5 and 4.3.6)
+
+abbrev pub hold_in : Phase → Scene → Job → Decision
+hold_in Waiting s j = becomes s (record j { hold = true })
+hold_in Running s j = refused 0x0404
+hold_in Stopped s j = refused 0x0404
+hold_in (Canceled why) s j = refused 0x0404
+hold_in Aborted s j = refused 0x0404
+hold_in Completed s j = refused 0x0404
+
+-- the caller has an account with so many free pages
+abbrev pub has_pages : List FreeRow → ℕ → Bool
+has_pages [] pages = false
+has_pages (a ∷ rows) pages = int_le (pos pages) a.free
+
+abbrev pub let_print : Scene → Job → Decision
+let_print s j = if has_pages s.free (estimate j) then becomes s (record j { hold = false }) else refused 0x0404
+
+-- what is released already stays so
+abbrev pub release_in : Phase → Scene → Job → Decision
+release_in Waiting s j = if j.hold then let_print s j else answered Done
+release_in Running s j = answered Done
+release_in Stopped s j = answered Done
+release_in (Canceled why) s j = refused 0x0404
+release_in Aborted s j = refused 0x0404
+release_in Completed s j = refused 0x0404
 
 -- ---- the table
 
@@ -171,9 +252,14 @@ of_own caller row (j ∷ js) = if bytes_eq j.owner caller then row j else refuse
 abbrev pub call_row : Scene → ℕ → List ℕ → Call → Decision
 call_row s now caller (print_job j format payload) = print_job_row s now caller j format payload
 call_row s now caller (validate_job j) = validate_job_row s
+call_row s now caller (create_job j) = create_job_row s now caller j
+call_row s now caller (send_document n format payload last) = of_own caller (λ j. send_in s j format payload last) s.jobs
 call_row s now caller (get_jobs which limit) = answered (Jobs (within_limit limit (in_order which s.jobs)))
 call_row s now caller get_printer_attributes = printer_row s
-call_row s now caller (cancel_job n) = of_own caller (λ j. cancel_in j.phase s now j) s.jobs
+call_row s now caller (cancel_job n) = of_own caller (λ j. cancel_row s now j) s.jobs
+call_row s now caller (cancel_my_jobs numbers) = cancel_my_jobs_row s now numbers
+call_row s now caller (hold_job n) = of_own caller (λ j. hold_in j.phase s j) s.jobs
+call_row s now caller (release_job n) = of_own caller (λ j. release_in j.phase s j) s.jobs
 call_row s now caller (get_job_attributes n) = of_own caller (λ j. answered (Jobs (j ∷ []))) s.jobs
 
 abbrev pub decision : Scene → ℕ → Event → Decision

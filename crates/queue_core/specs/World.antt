@@ -1,5 +1,6 @@
 -- A queue as a whole: its jobs with their documents, accounts, grants and reports; and what a change makes of it.
 use Rattle.std.specs.Prelude.{ℕ, ℤ, List, [], ◌∷◌, ◌++◌, Option, Some, None, map, filter, find, fold, count_by, not, ◌==◌, ◌&&◌, bytes_eq, Bool, false, if◌then◌else◌, unwrap_or}
+use Rattle.std.specs.List.{list_any}
 use Rattle.std.specs.declared.cmp.Ordering.{Ordering}
 use Rattle.std.specs.Ordering.{nat_cmp, ordering_then}
 use Rattle.std.specs.Cmp.Lexicographic.{slice_cmp}
@@ -7,7 +8,7 @@ use Rattle.std.specs.Coded.{Coded, coded×, coded_list, coded_ℕ, coded_ℤ}
 use Rattle.std.specs.FinMap.{code, FinMap, insert, get}
 use Rattle.queue_core.specs.Settings.{SettingValues}
 use Rattle.queue_core.specs.Job.{is_live, is_running, is_stopped}
-use Rattle.queue_core.specs.Event.{NewDocument, Change, Event, ask, print_job, validate_job, cancel_job, get_job_attributes, get_jobs, get_printer_attributes}
+use Rattle.queue_core.specs.Event.{NewDocument, Change, Event, ask, print_job, validate_job, create_job, send_document, cancel_job, cancel_my_jobs, hold_job, release_job, get_job_attributes, get_jobs, get_printer_attributes}
 use Rattle.queue_core.specs.declared.job.Job.{Job}
 use Rattle.queue_core.specs.declared.document.Document.{Document}
 use Rattle.queue_core.specs.declared.event.FreeRow.{FreeRow}
@@ -87,11 +88,22 @@ abbrev pub is_among : WhichJobs → Job → Bool
 is_among NotCompleted j = is_live j
 is_among Completed j = not (is_live j)
 
+-- the numbers that a Cancel-My-Jobs has
+abbrev pub numbers_in : Event → List ℕ
+numbers_in (ask caller (cancel_my_jobs (Some numbers))) = numbers
+numbers_in _ = []
+
 -- the event speaks of this job
 abbrev pub concerns : Event → Job → Bool
 concerns (ask caller (print_job new format payload)) j = false
 concerns (ask caller (validate_job new)) j = false
+concerns (ask caller (create_job new)) j = false
+concerns (ask caller (send_document n format payload last)) j = j.number == n
 concerns (ask caller (cancel_job n)) j = j.number == n
+concerns (ask caller (cancel_my_jobs (Some numbers))) j = bytes_eq j.owner caller && list_any (λ n. n == j.number) numbers
+concerns (ask caller (cancel_my_jobs None)) j = bytes_eq j.owner caller && is_live j
+concerns (ask caller (hold_job n)) j = j.number == n
+concerns (ask caller (release_job n)) j = j.number == n
 concerns (ask caller (get_job_attributes n)) j = j.number == n
 concerns (ask caller (get_jobs which limit)) j = bytes_eq j.owner caller && is_among which j
 concerns (ask caller get_printer_attributes) j = false
@@ -115,7 +127,12 @@ abbrev pub counts_for : Event → List Job → QueueCounts
 counts_for (ask caller get_printer_attributes) js = counts_of js
 counts_for (ask caller (print_job new format payload)) js = counts_of []
 counts_for (ask caller (validate_job new)) js = counts_of []
+counts_for (ask caller (create_job new)) js = counts_of []
+counts_for (ask caller (send_document n format payload last)) js = counts_of []
 counts_for (ask caller (cancel_job n)) js = counts_of []
+counts_for (ask caller (cancel_my_jobs numbers)) js = counts_of []
+counts_for (ask caller (hold_job n)) js = counts_of []
+counts_for (ask caller (release_job n)) js = counts_of []
 counts_for (ask caller (get_job_attributes n)) js = counts_of []
 counts_for (ask caller (get_jobs which limit)) js = counts_of []
 

@@ -64,9 +64,9 @@ fn given_back_by(before: &[Job], j: &Job, account: &str) -> i64
 fn returned_to(before: &[Job], after: &[Job], account: &str) -> i64
     requires before { All AreAmounts before.now }
     requires after { All AreAmounts after.now }
-    requires few { length after.now < 2 ^ 30 }
+    requires few { length after.now < 2 ^ 31 }
     ensures exact { result ≡ returned before.now account.now after.now }
-    ensures bound { IsBelow (2 ^ 58) result }
+    ensures bound { IsBelow (2 ^ 59) result }
 {
     let mut back: i64 = 0;
     for j in after {
@@ -84,7 +84,7 @@ pub fn credited_rows(
 ) -> Result<Vec<FreeRow>, AllocError>
     requires before { All AreAmounts before.now }
     requires after { All AreAmounts after.now }
-    requires few { length after.now < 2 ^ 30 }
+    requires few { length after.now < 2 ^ 31 }
     requires free { All (λ a. IsAmount a.free) free.now }
     ensures { IfOk result (λ v. v.items ≡ map (credited before.now after.now) free.now) }
 {

@@ -27,8 +27,36 @@ pub enum WhichJobs {
     Completed,
 }
 
-/// An operation with its values (RFC 8011, section 4).
-#[derive(Clone, Copy)]
+/// Job numbers, which contracts see as a list.
+#[derive(Debug, Drop)]
+pub struct NumberList {
+    numbers: Vec<u32>,
+}
+
+impl Model for NumberList {
+    ghost use Rattle.std.specs.Prelude.{ℕ, List};
+
+    ghost Value = { List ℕ };
+
+    ghost view = { λ l. l.numbers.items };
+}
+
+impl NumberList {
+    pub fn from_numbers(numbers: Vec<u32>) -> Self
+        ensures { result ≡ numbers.items }
+    {
+        NumberList { numbers }
+    }
+
+    pub fn as_slice(&self) -> &[u32]
+        ensures { result.now ≡ self.now }
+    {
+        self.numbers.as_slice()
+    }
+}
+
+/// An operation with its values (RFC 8011, section 4; PWG 5100.11).
+#[derive(Drop)]
 pub enum Call<'a> {
     /// A new job, on hold. Its document is the payload, and there is none where that is empty.
     PrintJob {
@@ -36,13 +64,38 @@ pub enum Call<'a> {
         format: Format,
         payload: &'a [u8],
     },
+    /// What Print-Job would answer for such a job. Nothing changes.
+    ValidateJob {
+        job: NewJob<'a>,
+    },
+    /// A new job, on hold and open for documents.
+    CreateJob {
+        job: NewJob<'a>,
+    },
+    /// The open job of that number gets the payload as a document, where it is not empty. With the last
+    /// one it takes no more.
+    SendDocument {
+        job: u32,
+        format: Format,
+        payload: &'a [u8],
+        last: bool,
+    },
     /// The job of that number is canceled, or marked as stopping while the device has it.
     CancelJob {
         job: u32,
     },
-    /// What Print-Job would answer for such a job. Nothing changes.
-    ValidateJob {
-        job: NewJob<'a>,
+    /// The caller's jobs of these numbers are canceled, all of them or none; without numbers those of its
+    /// jobs that can be.
+    CancelMyJobs {
+        jobs: Option<NumberList>,
+    },
+    /// The waiting job of that number is held. What was set aside for it goes back to its account.
+    HoldJob {
+        job: u32,
+    },
+    /// The held job of that number may print, where its account has the pages; they are set aside.
+    ReleaseJob {
+        job: u32,
     },
     /// The job of that number is shown.
     GetJobAttributes {
@@ -59,7 +112,7 @@ pub enum Call<'a> {
 }
 
 /// What happens to a queue.
-#[derive(Clone, Copy)]
+#[derive(Drop)]
 pub enum Event<'a> {
     /// A caller, by the requesting user name, asks for an operation.
     Ask { caller: &'a str, call: Call<'a> },

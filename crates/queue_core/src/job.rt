@@ -89,7 +89,7 @@ pub struct Job {
     pub ended: Option<u32>,
     /// The number of documents, at most 16.
     pub documents: u32,
-    /// The sum of their lengths in bytes, at most 16 times 16,777,216.
+    /// The sum of their lengths in bytes, each at most 16,777,216.
     pub octets: u64,
 }
 

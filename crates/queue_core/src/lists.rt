@@ -1,10 +1,14 @@
 //! The lists of the plain book: how they are searched, and how a change is written to them.
 ghost use Rattle.std.specs.Prelude.{◌≡◌, ◌≤◌, ◌<◌, ◌+◌, ◌++◌, ◌∷◌, [], IfOk, OnOk, filter, count_by, bytes_eq, ◌&&◌, ◌==◌, option_map, IfNone, IfSome, IsSome, slice_set, slice_index_or, length, vec_len, vec_capacity, None, Some};
+ghost use Rattle.std.specs.BTreeSet.{contains};
 ghost use Rattle.std.specs.FinMap.{get};
+ghost use Rattle.std.specs.List.{list_any};
+ghost use Rattle.std.specs.Ordering.{nat_cmp};
+ghost use Rattle.std.specs.Prelude.{ℕ};
 ghost use Rattle.queue_core.specs.Event.{event_of, change_of, document_of};
 ghost use Rattle.queue_core.specs.Job.{is_live, is_running, is_stopped};
 ghost use Rattle.queue_core.specs.Lists.{put_by, put_row, put_rows, put_account, put_accounts, kept_of, with_kept, HaveSameItems, HasRoom, free_map, world_of, IsTidy};
-ghost use Rattle.queue_core.specs.World.{concerns, is_among, counts_for, caller_of, found_row, cut, made_on, job_at};
+ghost use Rattle.queue_core.specs.World.{concerns, numbers_in, is_among, counts_for, caller_of, found_row, cut, made_on, job_at};
 
 use crate::document::{Bytes, Document, KeptDocument};
 use crate::event::{
@@ -12,9 +16,11 @@ use crate::event::{
     WhichJobs,
 };
 use crate::job::{Job, JobList, Phase, is_live_job};
+use crate::my_jobs::number_set;
 use crate::settings::Settings;
 use crate::text::Text;
 use std::alloc::{AllocError, Global};
+use std::collections::BTreeSet;
 
 /// What a plain book holds: jobs in the order of their numbers, and their documents in the order in
 /// which they came.
@@ -31,17 +37,16 @@ pub(crate) struct Lists {
 
 // ---- the scene
 
-/// The event speaks of the job.
-fn is_concerned(e: &Event<'_>, j: &Job) -> bool
-    ensures { result ≡ concerns (event_of e.now) j.now }
+/// The numbers that a Cancel-My-Jobs has.
+fn asked_numbers<'v>(e: &'v Event<'_>) -> &'v [u32]
+    ensures { result.now ≡ numbers_in (event_of e.entry.now) }
 {
-    match *e {
-        Event::Ask { caller, call } => match call {
-            Call::PrintJob { .. } | Call::ValidateJob { .. } | Call::GetPrinterAttributes => false,
-            Call::CancelJob { job } | Call::GetJobAttributes { job } => j.number == job,
-            Call::GetJobs { which, limit: _ } => {
-                j.owner.as_str() == caller && is_listed(which, j)
-            }
+    match e {
+        Event::Ask { caller: _, call } => match call {
+            Call::CancelMyJobs {
+                jobs: Some(numbers),
+            } => numbers.as_slice(),
+            _ => &[],
         },
     }
 }
@@ -55,12 +60,40 @@ fn is_listed(which: WhichJobs, j: &Job) -> bool
     }
 }
 
+/// The event, with this set of numbers, speaks of the job.
+fn is_concerned(e: &Event<'_>, named: &BTreeSet<u32>, j: &Job) -> bool
+    requires { (q : ℕ) → contains nat_cmp named.now q ≡ list_any (λ n. n == q) (numbers_in (event_of e.now)) }
+    ensures { result ≡ concerns (event_of e.now) j.now }
+{
+    match e {
+        Event::Ask { caller, call } => match call {
+            Call::PrintJob { .. }
+            | Call::ValidateJob { .. }
+            | Call::CreateJob { .. }
+            | Call::GetPrinterAttributes => false,
+            Call::SendDocument { job, .. }
+            | Call::CancelJob { job }
+            | Call::HoldJob { job }
+            | Call::ReleaseJob { job }
+            | Call::GetJobAttributes { job } => j.number == *job,
+            Call::CancelMyJobs { jobs: Some(_) } => {
+                j.owner.as_str() == *caller && named.contains(&j.number)
+            }
+            Call::CancelMyJobs { jobs: None } => j.owner.as_str() == *caller && is_live_job(j),
+            Call::GetJobs { which, limit: _ } => {
+                j.owner.as_str() == *caller && is_listed(*which, j)
+            }
+        },
+    }
+}
+
 fn jobs_named(alloc: Global, jobs: &[Job], e: &Event<'_>) -> Result<Vec<Job>, AllocError>
     ensures { IfOk result (λ v. v.items ≡ filter (concerns (event_of e.now)) jobs.now) }
 {
+    let numbers = number_set(alloc, asked_numbers(e))?;
     let mut named = Vec::new(alloc);
     for job in jobs {
-        if is_concerned(e, job) {
+        if is_concerned(e, &numbers, job) {
             named.push(job.try_clone()?)?;
         }
     }
@@ -111,7 +144,7 @@ fn free_rows_of(alloc: Global, free: &[FreeRow], account: &str) -> Result<Vec<Fr
 fn caller_named<'a>(e: &Event<'a>) -> &'a str
     ensures { result.now ≡ caller_of (event_of e.now) }
 {
-    match *e {
+    match e {
         Event::Ask { caller, call: _ } => caller,
     }
 }
@@ -150,7 +183,7 @@ fn queued_in(jobs: &[Job]) -> usize
 fn counts(jobs: &[Job], e: &Event<'_>) -> QueueCounts
     ensures { result ≡ counts_for (event_of e.now) jobs.now }
 {
-    match *e {
+    match e {
         Event::Ask { caller: _, call } => match call {
             Call::GetPrinterAttributes => QueueCounts {
                 running: running_in(jobs),

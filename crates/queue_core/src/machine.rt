@@ -1,20 +1,20 @@
 //! What the machine decides on the rows that an event needs.
-ghost use Rattle.std.specs.Prelude.{◌≡◌, ◌∷◌, [], ◌<◌, ◌^◌, ◌==◌, if◌then◌else◌, All, IfOk, IfErr, IsNone, length, option_map};
+ghost use Rattle.std.specs.Prelude.{◌≡◌, ◌∷◌, [], ◌<◌, ◌^◌, IfOk, IsNone, None, option_map};
 ghost use Rattle.queue_core.specs.Balance.{AreAmounts};
 ghost use Rattle.queue_core.specs.Event.{event_of, change_of, decision_of, document_of, new_job_of, call_of};
-ghost use Rattle.queue_core.specs.Limits.{IsMoment, IsEvent, IsCall, IsOwner, IsNewJob, IsSoundJob, IsFair, IsSoundReply};
-ghost use Rattle.queue_core.specs.Machine.{refused, answered, becomes, changed, cancel_in, of_own, decision, first_document, new_job, entered as entered_row, new_refusal, print_job_row, validate_job_row, printer_row, within_limit, in_order, call_row, step};
+ghost use Rattle.queue_core.specs.Limits.{IsMoment, IsEvent, IsCall, IsNewJob, IsFair, IsSoundReply};
+ghost use Rattle.queue_core.specs.Machine.{answered, decision, new_job, entered as entered_row, new_refusal, print_job_row, create_job_row, validate_job_row, printer_row, within_limit, in_order, call_row, step};
 ghost use Rattle.queue_core.specs.Runs.{MovesAlong};
 ghost use Rattle.queue_core.specs.Sound.{IsSound, Balances};
 ghost use Rattle.queue_core.specs.World.{World, cut, made_on};
 ghost use Rattle.queue_core.specs.declared.event.Reply.TheVariants.{Jobs};
 
-use crate::balance::credited_rows;
 use crate::document::Format;
-use crate::event::{
-    Call, Change, Decision, Event, FreeList, NewDocument, NewJob, Reply, Scene, WhichJobs,
-};
-use crate::job::{Job, JobList, Phase, Why};
+use crate::event::{Call, Decision, Event, NewDocument, NewJob, Reply, Scene, WhichJobs};
+use crate::job::{Job, JobList, Phase};
+use crate::my_jobs::{cancel_all, cancel_named};
+use crate::outcome::{answer_only, change_job, refuse};
+use crate::own_job::{cancel, count_of, document_in, hold, own, release, send, show};
 use crate::shown::{cut_at, ordered, state_of_printer};
 use crate::text::Text;
 use std::alloc::{AllocError, Global};
@@ -24,55 +24,6 @@ const MOST_LIVE_JOBS: usize = 100;
 
 /// The last number that a job may get.
 const LAST_JOB_NUMBER: u32 = 2_147_483_647;
-
-fn answer_only<'a>(alloc: Global, reply: Reply) -> Decision<'a>
-    ensures { decision_of result ≡ answered reply }
-{
-    Decision {
-        reply,
-        change: Change {
-            jobs: JobList::from_jobs(Vec::new(alloc)),
-            document: None,
-            free: FreeList::from_rows(Vec::new(alloc)),
-            next: None,
-        },
-    }
-}
-
-fn refuse<'a>(alloc: Global, code: u16) -> Decision<'a>
-    ensures { decision_of result ≡ refused code }
-{
-    answer_only(alloc, Reply::Refused(code))
-}
-
-/// The job takes the place of the one of its number, or enters, and free pages move by the balance.
-fn change_job<'a>(alloc: Global, s: &Scene, j: Job) -> Result<Change<'a>, AllocError>
-    requires fair { IsFair s.now }
-    requires amounts { AreAmounts j }
-    ensures { IfOk result (λ c. change_of c ≡ changed s.now (j ∷ [])) }
-{
-    let mut jobs = Vec::new(alloc);
-    jobs.push(j)?;
-    let free = credited_rows(alloc, s.jobs.as_slice(), jobs.as_slice(), s.free.as_slice())?;
-    Ok(Change {
-        jobs: JobList::from_jobs(jobs),
-        document: None,
-        free: FreeList::from_rows(free),
-        next: None,
-    })
-}
-
-fn job_becomes<'a>(alloc: Global, s: &Scene, j: Job) -> Result<Decision<'a>, AllocError>
-    requires fair { IsFair s.now }
-    requires amounts { AreAmounts j }
-    ensures { IfOk result (λ d. decision_of d ≡ becomes s.now j) }
-{
-    let change = change_job(alloc, s, j)?;
-    Ok(Decision {
-        reply: Reply::Done,
-        change,
-    })
-}
 
 /// The code that refuses a new job of the caller, where there is one.
 fn refusal_of_new(s: &Scene) -> Option<u16>
@@ -88,21 +39,16 @@ fn refusal_of_new(s: &Scene) -> Option<u16>
     None
 }
 
-fn document_count(payload: &[u8]) -> u32
-    ensures { result ≡ (if length payload.now == 0 then 0 else 1) }
-{
-    if payload.is_empty() { 0 } else { 1 }
-}
-
 fn made_job(
     alloc: Global,
     s: &Scene,
     now: u32,
     caller: &str,
+    incoming: bool,
     j: &NewJob<'_>,
     payload: &[u8],
 ) -> Result<Job, AllocError>
-    ensures { IfOk result (λ k. k ≡ new_job s.now now caller.now (new_job_of j.now) payload.now) }
+    ensures { IfOk result (λ k. k ≡ new_job s.now now caller.now incoming (new_job_of j.now) payload.now) }
 {
     let owner = Text::copy_of(alloc, caller)?;
     let name = Text::copy_of(alloc, j.name)?;
@@ -113,28 +59,15 @@ fn made_job(
         copies: j.copies,
         impressions: j.impressions.unwrap_or(s.settings.estimate()),
         hold: true,
-        incoming: false,
+        incoming,
         phase: Phase::Waiting,
         stopping: false,
         count: 0,
         created: now,
         begun: None,
         ended: None,
-        documents: document_count(payload),
+        documents: count_of(payload),
         octets: payload.len() as u64,
-    })
-}
-
-fn first_of(number: u32, format: Format, payload: &[u8]) -> Option<NewDocument<'_>>
-    ensures { option_map document_of result ≡ first_document number format payload.entry.now }
-{
-    if payload.is_empty() {
-        return None;
-    }
-    Some(NewDocument {
-        job: number,
-        format,
-        bytes: payload,
     })
 }
 
@@ -177,8 +110,26 @@ fn print<'a>(
     if let Some(code) = refusal_of_new(s) {
         return Ok(refuse(alloc, code));
     }
-    let job = made_job(alloc, s, now, caller, j, payload)?;
-    enter(alloc, s, job, first_of(s.next, format, payload))
+    let job = made_job(alloc, s, now, caller, false, j, payload)?;
+    enter(alloc, s, job, document_in(s.next, format, payload))
+}
+
+fn create<'a>(
+    alloc: Global,
+    s: &Scene,
+    now: u32,
+    caller: &str,
+    j: &NewJob<'a>,
+) -> Result<Decision<'a>, AllocError>
+    requires fair { IsFair s.now }
+    requires job { IsNewJob (new_job_of j.now) }
+    ensures { IfOk result (λ d. decision_of d ≡ create_job_row s.now now caller.now (new_job_of j.now)) }
+{
+    if let Some(code) = refusal_of_new(s) {
+        return Ok(refuse(alloc, code));
+    }
+    let job = made_job(alloc, s, now, caller, true, j, &[])?;
+    enter(alloc, s, job, None)
 }
 
 fn validate<'a>(alloc: Global, s: &Scene) -> Decision<'a>
@@ -188,60 +139,6 @@ fn validate<'a>(alloc: Global, s: &Scene) -> Decision<'a>
         Some(code) => refuse(alloc, code),
         None => answer_only(alloc, Reply::Done),
     }
-}
-
-fn cancel<'a>(alloc: Global, s: &Scene, now: u32, j: &Job) -> Result<Decision<'a>, AllocError>
-    requires fair { IsFair s.now }
-    requires job { IsSoundJob j.now }
-    ensures { IfOk result (λ d. decision_of d ≡ cancel_in j.now.phase s.now now j.now) }
-{
-    match j.phase {
-        Phase::Waiting => {
-            let mut j = j.try_clone()?;
-            j.phase = Phase::Canceled(Why::ByUser);
-            j.hold = false;
-            j.incoming = false;
-            j.ended = Some(now);
-            job_becomes(alloc, s, j)
-        }
-        Phase::Running | Phase::Stopped => {
-            if j.stopping {
-                return Ok(refuse(alloc, 0x0404));
-            }
-            let mut j = j.try_clone()?;
-            j.stopping = true;
-            job_becomes(alloc, s, j)
-        }
-        Phase::Canceled(_) | Phase::Aborted | Phase::Completed => Ok(refuse(alloc, 0x0404)),
-    }
-}
-
-/// The caller's own job, the first of those that the event speaks of, or the code of a refusal: another's
-/// job and no job are one answer.
-fn own<'s>(jobs: &'s [Job], caller: &str) -> Result<&'s Job, u16>
-    requires sound { All IsSoundJob jobs.now }
-    ensures own { IfOk result (λ j. (row : _) → of_own caller.now row jobs.now ≡ row j.now) }
-    ensures none { IfErr result (λ code. (row : _) → of_own caller.now row jobs.now ≡ refused code) }
-    ensures sound { IfOk result (λ j. IsSoundJob j.now) }
-{
-    match jobs {
-        [] => Err(0x0406),
-        [j, ..] => {
-            if j.owner.as_str() == caller {
-                Ok(j)
-            } else {
-                Err(0x0406)
-            }
-        }
-    }
-}
-
-fn show<'a>(alloc: Global, j: &Job) -> Result<Decision<'a>, AllocError>
-    ensures { IfOk result (λ d. decision_of d ≡ answered (Jobs (j.now ∷ []))) }
-{
-    let mut told = Vec::new(alloc);
-    told.push(j.try_clone()?)?;
-    Ok(answer_only(alloc, Reply::Jobs(JobList::from_jobs(told))))
 }
 
 fn show_jobs<'a>(
@@ -283,14 +180,36 @@ fn answer_call<'a>(
     ensures { IfOk result (λ d. decision_of d ≡ call_row s.now now caller.now (call_of call.now)) }
 {
     let found = own(s.jobs.as_slice(), caller);
-    match *call {
+    match call {
         Call::PrintJob {
             job,
             format,
             payload,
-        } => print(alloc, s, now, caller, &job, format, payload),
+        } => print(alloc, s, now, caller, job, *format, payload),
         Call::ValidateJob { .. } => Ok(validate(alloc, s)),
-        Call::GetJobs { which, limit } => show_jobs(alloc, s, which, limit),
+        Call::CreateJob { job } => create(alloc, s, now, caller, job),
+        Call::SendDocument {
+            format,
+            payload,
+            last,
+            ..
+        } => match found {
+            Err(code) => Ok(refuse(alloc, code)),
+            Ok(j) => send(alloc, s, j, *format, payload, *last),
+        },
+        Call::CancelMyJobs {
+            jobs: Some(numbers),
+        } => { cancel_named(alloc, s, now, numbers.as_slice()) }
+        Call::CancelMyJobs { jobs: None } => cancel_all(alloc, s, now),
+        Call::HoldJob { .. } => match found {
+            Err(code) => Ok(refuse(alloc, code)),
+            Ok(j) => hold(alloc, s, j),
+        },
+        Call::ReleaseJob { .. } => match found {
+            Err(code) => Ok(refuse(alloc, code)),
+            Ok(j) => release(alloc, s, j),
+        },
+        Call::GetJobs { which, limit } => show_jobs(alloc, s, *which, *limit),
         Call::GetPrinterAttributes => Ok(show_printer(alloc, s)),
         Call::CancelJob { .. } => match found {
             Err(code) => Ok(refuse(alloc, code)),
@@ -326,7 +245,7 @@ pub fn decide<'a>(
     ensures moves { IfOk result (λ d. (w : World) → s.now ≡ cut w (event_of e.now) → IsSound w → MovesAlong w (made_on (change_of d.change) w)) }
     ensures balances { IfOk result (λ d. (w : World) → s.now ≡ cut w (event_of e.now) → IsSound w → Balances (made_on (change_of d.change) w)) }
 {
-    match *e {
-        Event::Ask { caller, call } => answer_call(alloc, s, now, caller, &call),
+    match e {
+        Event::Ask { caller, call } => answer_call(alloc, s, now, caller, call),
     }
 }

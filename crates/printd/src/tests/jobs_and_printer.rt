@@ -190,15 +190,20 @@ const FIRST_ROWS: [(u8, &str, &[u8]); 6] = [
 ];
 
 /// Further values stand under an empty name.
-const LAST_ROWS: [(u8, &str, &[u8]); 25] = [
+const LAST_ROWS: [(u8, &str, &[u8]); 30] = [
     (0x44, "ipp-versions-supported", b"1.1"),
     (0x44, "", b"2.0"),
     (0x23, "operations-supported", &[0, 0, 0, 0x02]),
     (0x23, "", &[0, 0, 0, 0x04]),
+    (0x23, "", &[0, 0, 0, 0x05]),
+    (0x23, "", &[0, 0, 0, 0x06]),
     (0x23, "", &[0, 0, 0, 0x08]),
     (0x23, "", &[0, 0, 0, 0x09]),
     (0x23, "", &[0, 0, 0, 0x0A]),
     (0x23, "", &[0, 0, 0, 0x0B]),
+    (0x23, "", &[0, 0, 0, 0x0C]),
+    (0x23, "", &[0, 0, 0, 0x0D]),
+    (0x23, "", &[0, 0, 0, 0x39]),
     (0x47, "charset-configured", b"utf-8"),
     (0x47, "charset-supported", b"utf-8"),
     (0x48, "natural-language-configured", b"en"),

@@ -2,7 +2,7 @@ use Rattle.std.proofs.Common.{◌≡◌, false, refl, sym, ◌∙◌}
 use Rattle.ipp_wire.specs.Viewed.{message_of}
 use Rattle.ipp_ops.specs.Asked.{refused, asks}
 use Rattle.ipp_ops.specs.Answer.{by_head, malformed, request, outcome, is_fault, bytes_of}
-use Rattle.ipp_ops.specs.Unsupported.{nothing}
+use Rattle.ipp_reply.specs.Unsupported.{nothing}
 use Rattle.ipp_ops.proofs.Bytes.{begins, bare_spelled}
 use Rattle.ipp_ops.proofs.Faults.{request_tells, head_tells, on_false, on_true}
 use Rattle.ipp_ops.proofs.answering.answer.Goals as goal

@@ -1,7 +1,7 @@
 use Rattle.std.proofs.Common.{◌≡◌, sym, ◌∙◌, ap, subst}
 use Rattle.ipp_wire.specs.Viewed.{attributes_of, message_of}
 use Rattle.ipp_ops.specs.Asked.{Asked, requested, wanted_by, IsWithinLimits, ListsAttributes}
-use Rattle.ipp_ops.specs.Unsupported.{unsupported_of}
+use Rattle.ipp_reply.specs.Unsupported.{unsupported_of}
 use Rattle.ipp_ops.specs.Request.{caller, operation_attributes}
 use Rattle.ipp_ops.proofs.Within.{asks_call, asks_refused, asks_fits, asked_same}
 use Rattle.ipp_ops.proofs.Listed.{asks_lists}
@@ -30,7 +30,7 @@ returns-clause-asks c =
     let attrs : attributes_of c.group_attributes-attrs.result.now ≡ operation_attributes m = rw c.as_slice.ensures.value at c.group_attributes-attrs.ensures in
     asked_same _ _ _ _ _ _ (unsupported_of c.in_ok-unsupported.unsupported)
     (c.caller.ensures ∙ ap (caller o) attrs)
-    c.call_in.ensures
+    c.in_ok-call.ensures
     (c.in_ok-wanted.ensures ∙ ap (λ a. wanted_by o (requested o a)) attrs)
     ∙ sym (asks_call m o (unsupported_of c.in_ok-unsupported.unsupported)
     (sym c.asked_in.ensures ∙ c.in-Ok.is) (sym c.in_ok-unsupported.ensures) (sym c.first_refusal.ensures ∙ c.in_default.is))

@@ -2,7 +2,7 @@ use Rattle.std.proofs.Common.{◌≡◌, sym, subst}
 use Rattle.std.specs.Prelude.{IfOk}
 use Rattle.ipp_wire.specs.Viewed.{attributes_of}
 use Rattle.ipp_ops.specs.Asked.{requested, wanted_by}
-use Rattle.ipp_ops.specs.declared.operation.Operation.{Operation}
+use Rattle.ipp_reply.specs.declared.operation.Operation.{Operation}
 use Rattle.ipp_ops.proofs.asking.wanted.Goals as goal
 
 pub returns-in-GetPrinterAttributes : goal.returns-in-GetPrinterAttributes

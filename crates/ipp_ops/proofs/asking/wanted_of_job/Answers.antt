@@ -3,9 +3,9 @@ use Rattle.std.specs.Prelude.{IfOk, Option}
 use Rattle.std.specs.Option.{option_map_or}
 use Rattle.ipp_wire.specs.Message.{Attribute}
 use Rattle.ipp_wire.specs.Viewed.{attributes_of, values_of}
-use Rattle.ipp_ops.specs.Values.{words_of}
+use Rattle.ipp_reply.specs.Wanted.{words_of}
 use Rattle.ipp_ops.specs.Asked.{usual, requested}
-use Rattle.ipp_ops.specs.JobReply.{selected}
+use Rattle.ipp_reply.specs.JobReply.{selected}
 use Rattle.ipp_ops.proofs.asking.wanted_of_job.Goals as goal
 
 pub returns-in-Some : goal.returns-in-Some

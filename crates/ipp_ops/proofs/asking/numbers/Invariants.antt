@@ -1,0 +1,8 @@
+use Rattle.std.proofs.Common.{◌≡◌, map, take}
+use Rattle.std.specs.Prelude.{unwrap_or}
+use Rattle.ipp_wire.specs.Viewed.{values_of}
+use Rattle.ipp_ops.specs.Values.{number_of}
+use Rattle.ipp_ops.proofs.asking.numbers.Given as goal
+
+abbrev pub invariant-loop-v : goal.invariant-loop-v
+invariant-loop-v l = l.numbers.items ≡ map (λ v. unwrap_or (number_of v.bytes) 0) (values_of (take l.v-index l.values))

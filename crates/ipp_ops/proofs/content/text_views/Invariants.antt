@@ -1,8 +1,0 @@
-use Rattle.std.proofs.Common.{◌≡◌, take}
-use Rattle.std.specs.Prelude.{map}
-use Rattle.ipp_wire.specs.Viewed.{values_of}
-use Rattle.ipp_ops.specs.PrinterReply.{texts}
-use Rattle.ipp_ops.proofs.content.text_views.Given as goal
-
-abbrev pub invariant-loop-text : goal.invariant-loop-text
-invariant-loop-text l = values_of l.views.items ≡ texts l.tag (map (λ t. t.now) (take l.text-index l.texts))

@@ -1,7 +1,0 @@
-use Rattle.std.proofs.Common.{◌≡◌, ◌++◌, take}
-use Rattle.std.specs.Prelude.{map}
-use Rattle.ipp_ops.specs.JobReply.{job_group}
-use Rattle.ipp_ops.proofs.job_reply.put_jobs.Given as goal
-
-abbrev pub invariant-loop-j : goal.invariant-loop-j
-invariant-loop-j l = l.m ≡ record l.fn.m { groups = l.fn.m.groups ++ map (job_group l.uri l.now l.rows) (take l.j-index l.jobs) }

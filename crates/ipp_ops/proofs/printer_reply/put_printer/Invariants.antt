@@ -1,8 +1,0 @@
-use Rattle.std.proofs.Common.{◌≡◌, [], ◌∷◌, ◌++◌, take}
-use Rattle.std.specs.Prelude.{map}
-use Rattle.ipp_ops.specs.PrinterReply.{attribute}
-use Rattle.ipp_ops.specs.PrinterView.{printer_of}
-use Rattle.ipp_ops.proofs.printer_reply.put_printer.Given as goal
-
-abbrev pub invariant-rows : goal.invariant-rows
-invariant-rows l = l.m ≡ record l.fn.m { groups = l.fn.m.groups ++ record { tag = 0x04; attributes = map (attribute (printer_of l.p)) (take l.row-index l.rows) } ∷ [] }

@@ -1,0 +1,4 @@
+pub mod Lists
+pub mod Put
+pub mod Rows
+pub mod PrinterRows

@@ -1,0 +1,9 @@
+pub mod Operations
+pub mod Formats
+pub mod JobReply
+pub mod PrinterReply
+pub mod PrinterView
+pub mod Content
+pub mod Wanted
+pub mod Unsupported
+pub mod Reply

@@ -1,0 +1,220 @@
+//! The values of a reply's attribute, before they are put into a message.
+ghost use Rattle.std.specs.Prelude.{◌≡◌, ◌++◌, ◌∷◌, ◌<◌, [], IfOk, OnOk, length, map};
+ghost use Rattle.ipp_wire.specs.Viewed.{value_of, values_of};
+ghost use Rattle.ipp_reply.specs.Operations.{id, operations};
+ghost use Rattle.ipp_wire.specs.Message.{IsAttribute};
+ghost use Rattle.ipp_wire.specs.Owned.{add_attribute};
+ghost use Rattle.ipp_reply.specs.Content.{values_in};
+ghost use Rattle.ipp_reply.specs.Formats.{format_name, formats};
+ghost use Rattle.ipp_reply.specs.JobReply as spec;
+ghost use Rattle.ipp_reply.specs.PrinterReply.{texts as spec_texts};
+
+use crate::format::{FORMATS, format_name};
+use crate::operation::{OPERATIONS, Operation};
+use ipp_wire::{Message, ValueView};
+use queue_core::job::{Reason, Reasons};
+use std::alloc::{AllocError, Global};
+
+/// What an attribute of a reply says.
+#[derive(Drop)]
+pub enum Content<'a> {
+    Integer(u32),
+    Enum(u32),
+    /// A text under its value tag.
+    Text(u8, &'a str),
+    Made(u8, String),
+    /// A moment, or no-value.
+    Moment(Option<u32>),
+    Reasons(Reasons),
+    Boolean(bool),
+    /// Several texts under one value tag.
+    Texts(u8, &'static [&'static str]),
+    /// The ids of the operations, each an enum.
+    OperationIds,
+    /// The names of the document formats, each a mimeMediaType.
+    FormatNames,
+}
+
+fn reason_word(r: Reason) -> &'static str
+    ensures { result.now ≡ spec.reason_word r }
+{
+    match r {
+        Reason::NoReason => "none",
+        Reason::JobIncoming => "job-incoming",
+        Reason::JobHoldUntilSpecified => "job-hold-until-specified",
+        Reason::JobPrinting => "job-printing",
+        Reason::PrinterStopped => "printer-stopped",
+        Reason::ProcessingToStopPoint => "processing-to-stop-point",
+        Reason::JobCanceledByUser => "job-canceled-by-user",
+        Reason::JobCanceledAtDevice => "job-canceled-at-device",
+        Reason::AbortedBySystem => "aborted-by-system",
+        Reason::JobCompletedSuccessfully => "job-completed-successfully",
+    }
+}
+
+fn keyword(r: Reason) -> ValueView<'static>
+    ensures tag { result.tag ≡ 0x44 }
+    ensures word { result.bytes.now ≡ spec.reason_word r }
+{
+    ValueView {
+        tag: 0x44,
+        bytes: reason_word(r).as_bytes(),
+    }
+}
+
+fn text_view(tag: u8, text: &str) -> ValueView<'_>
+    ensures { value_of result ≡ record { tag = tag; bytes = text.entry.now } }
+{
+    ValueView {
+        tag,
+        bytes: text.as_bytes(),
+    }
+}
+
+fn text_views<'a>(
+    alloc: Global,
+    tag: u8,
+    texts: &[&'a str],
+) -> Result<Vec<ValueView<'a>>, AllocError>
+    ensures { IfOk result (λ v. values_of v.items ≡ spec_texts tag (map (λ t. t.now) texts.now)) }
+{
+    let mut views = Vec::new(alloc);
+    for text in texts {
+        views.push(text_view(tag, text))?;
+    }
+    Ok(views)
+}
+
+fn format_names(alloc: Global) -> Result<Vec<&'static str>, AllocError>
+    ensures { IfOk result (λ v. map (λ t. t.now) v.items ≡ map format_name formats) }
+{
+    let mut names = Vec::new(alloc);
+    for format in &FORMATS {
+        names.push(format_name(*format))?;
+    }
+    Ok(names)
+}
+
+fn id_bytes(o: Operation) -> [u8; 4]
+    ensures { result ≡ 0 ∷ 0 ∷ 0 ∷ id o ∷ [] }
+{
+    u32::from(o.id()).to_be_bytes()
+}
+
+fn operation_ids(alloc: Global) -> Result<Vec<[u8; 4]>, AllocError>
+    ensures { IfOk result (λ v. v.items ≡ map (λ o. 0 ∷ 0 ∷ 0 ∷ id o ∷ []) operations) }
+{
+    let mut ids = Vec::new(alloc);
+    for operation in &OPERATIONS {
+        ids.push(id_bytes(*operation))?;
+    }
+    Ok(ids)
+}
+
+fn enum_views<'a>(alloc: Global, ids: &'a [[u8; 4]]) -> Result<Vec<ValueView<'a>>, AllocError>
+    ensures { IfOk result (λ v. values_of v.items ≡ map (λ id. record { tag = 0x23; bytes = id }) ids.entry.now) }
+{
+    let mut views = Vec::new(alloc);
+    for id in ids {
+        views.push(ValueView {
+            tag: 0x23,
+            bytes: id,
+        })?;
+    }
+    Ok(views)
+}
+
+/// Adds an attribute with this content at the end of the last group.
+pub(crate) fn put(
+    alloc: Global,
+    m: &mut Message,
+    name: &str,
+    c: &Content<'_>,
+) -> Result<(), AllocError>
+    requires begun { 0 < length m.old.groups }
+    requires fits { IsAttribute (record { name = name.now; values = values_in c.now }) }
+    ensures { OnOk result (m.new ≡ record m.old { groups = add_attribute (record { name = name.now; values = values_in c.now }) m.old.groups }) }
+{
+    let name = name.as_bytes();
+    match c {
+        Content::Integer(n) => {
+            let bytes = n.to_be_bytes();
+            m.attribute(
+                name,
+                &[ValueView {
+                    tag: 0x21,
+                    bytes: &bytes,
+                }],
+            )
+        }
+        Content::Enum(n) => {
+            let bytes = n.to_be_bytes();
+            m.attribute(
+                name,
+                &[ValueView {
+                    tag: 0x23,
+                    bytes: &bytes,
+                }],
+            )
+        }
+        Content::Text(tag, text) => m.attribute(
+            name,
+            &[ValueView {
+                tag: *tag,
+                bytes: text.as_bytes(),
+            }],
+        ),
+        Content::Made(tag, text) => m.attribute(
+            name,
+            &[ValueView {
+                tag: *tag,
+                bytes: text.as_bytes(),
+            }],
+        ),
+        Content::Moment(None) => m.attribute(
+            name,
+            &[ValueView {
+                tag: 0x13,
+                bytes: b"",
+            }],
+        ),
+        Content::Moment(Some(n)) => {
+            let bytes = n.to_be_bytes();
+            m.attribute(
+                name,
+                &[ValueView {
+                    tag: 0x21,
+                    bytes: &bytes,
+                }],
+            )
+        }
+        Content::Boolean(b) => {
+            let bytes = [u8::from(*b)];
+            m.attribute(
+                name,
+                &[ValueView {
+                    tag: 0x22,
+                    bytes: &bytes,
+                }],
+            )
+        }
+        Content::Texts(tag, texts) => {
+            let values = text_views(alloc, *tag, texts)?;
+            m.attribute(name, values.as_slice())
+        }
+        Content::FormatNames => {
+            let names = format_names(alloc)?;
+            let values = text_views(alloc, 0x49, names.as_slice())?;
+            m.attribute(name, values.as_slice())
+        }
+        Content::OperationIds => {
+            let ids = operation_ids(alloc)?;
+            let values = enum_views(alloc, ids.as_slice())?;
+            m.attribute(name, values.as_slice())
+        }
+        Content::Reasons(r) => match r.second {
+            None => m.attribute(name, &[keyword(r.first)]),
+            Some(second) => m.attribute(name, &[keyword(r.first), keyword(second)]),
+        },
+    }
+}

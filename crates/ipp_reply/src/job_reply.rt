@@ -1,0 +1,263 @@
+//! The job attributes of a reply, as a table in order (RFC 8011, section 5.3).
+ghost use Rattle.std.specs.Prelude.{◌≡◌, ◌++◌, ◌∷◌, [], ◌≤◌, ◌^◌, ◌+◌, ◌/◌, IfOk, OnOk, OnErr, All, filter, length, map};
+ghost use Rattle.std.specs.List.{list_any};
+ghost use Rattle.ipp_wire.specs.Viewed.{values_of};
+ghost use Rattle.queue_core.specs.Limits.{IsSoundJob};
+ghost use Rattle.ipp_reply.specs.Content.{values_in};
+ghost use Rattle.ipp_reply.specs.JobReply as spec;
+ghost use Rattle.ipp_reply.specs.Wanted.{words_of};
+
+use crate::content::{Content, put};
+use crate::wanted::Wanted;
+use ipp_wire::{Message, ValueView};
+use queue_core::job::{Job, reasons_of, state_of};
+use std::alloc::{AllocError, Global};
+
+/// A job attribute of a reply.
+#[derive(Clone, Copy, Debug)]
+pub enum JobAttribute {
+    JobUri,
+    JobId,
+    JobPrinterUri,
+    JobName,
+    JobOriginatingUserName,
+    JobState,
+    JobStateReasons,
+    TimeAtCreation,
+    TimeAtProcessing,
+    TimeAtCompleted,
+    JobPrinterUpTime,
+    AttributesCharset,
+    AttributesNaturalLanguage,
+    JobKOctets,
+    JobImpressions,
+    JobImpressionsCompleted,
+    NumberOfDocuments,
+    Copies,
+    JobHoldUntil,
+}
+
+/// The rows, in the table's order.
+const TABLE: [JobAttribute; 19] = [
+    JobAttribute::JobUri,
+    JobAttribute::JobId,
+    JobAttribute::JobPrinterUri,
+    JobAttribute::JobName,
+    JobAttribute::JobOriginatingUserName,
+    JobAttribute::JobState,
+    JobAttribute::JobStateReasons,
+    JobAttribute::TimeAtCreation,
+    JobAttribute::TimeAtProcessing,
+    JobAttribute::TimeAtCompleted,
+    JobAttribute::JobPrinterUpTime,
+    JobAttribute::AttributesCharset,
+    JobAttribute::AttributesNaturalLanguage,
+    JobAttribute::JobKOctets,
+    JobAttribute::JobImpressions,
+    JobAttribute::JobImpressionsCompleted,
+    JobAttribute::NumberOfDocuments,
+    JobAttribute::Copies,
+    JobAttribute::JobHoldUntil,
+];
+
+impl JobAttribute {
+    /// The attribute's name.
+    pub fn name(self) -> &'static str
+        ensures { result.now ≡ spec.name_of self }
+    {
+        match self {
+            JobAttribute::JobUri => "job-uri",
+            JobAttribute::JobId => "job-id",
+            JobAttribute::JobPrinterUri => "job-printer-uri",
+            JobAttribute::JobName => "job-name",
+            JobAttribute::JobOriginatingUserName => "job-originating-user-name",
+            JobAttribute::JobState => "job-state",
+            JobAttribute::JobStateReasons => "job-state-reasons",
+            JobAttribute::TimeAtCreation => "time-at-creation",
+            JobAttribute::TimeAtProcessing => "time-at-processing",
+            JobAttribute::TimeAtCompleted => "time-at-completed",
+            JobAttribute::JobPrinterUpTime => "job-printer-up-time",
+            JobAttribute::AttributesCharset => "attributes-charset",
+            JobAttribute::AttributesNaturalLanguage => "attributes-natural-language",
+            JobAttribute::JobKOctets => "job-k-octets",
+            JobAttribute::JobImpressions => "job-impressions",
+            JobAttribute::JobImpressionsCompleted => "job-impressions-completed",
+            JobAttribute::NumberOfDocuments => "number-of-documents",
+            JobAttribute::Copies => "copies",
+            JobAttribute::JobHoldUntil => "job-hold-until",
+        }
+    }
+
+    /// The group name by which a request asks for the attribute among others.
+    fn family(self) -> &'static str
+        ensures { result.now ≡ spec.family_of self }
+    {
+        match self {
+            JobAttribute::Copies | JobAttribute::JobHoldUntil => "job-template",
+            _ => "job-description",
+        }
+    }
+
+    /// The word selects the row.
+    fn is_selected(self, word: &[u8]) -> bool
+        ensures { result ≡ spec.selects self word.now }
+    {
+        word == self.name().as_bytes()
+            || word == "all".as_bytes()
+            || word == self.family().as_bytes()
+    }
+
+    /// What the row says of a job.
+    fn content<'a>(
+        self,
+        alloc: Global,
+        uri: &'a str,
+        now: u32,
+        j: &'a Job,
+    ) -> Result<Content<'a>, AllocError>
+        requires { j.now.octets ≤ 2 ^ 28 }
+        ensures { IfOk result (λ c. values_in c ≡ spec.values_of uri.now now j.now self) }
+    {
+        Ok(match self {
+            JobAttribute::JobUri => Content::Made(0x45, format!(in alloc; "{}/{}", uri, j.number)?),
+            JobAttribute::JobId => Content::Integer(j.number),
+            JobAttribute::JobPrinterUri => Content::Text(0x45, uri),
+            JobAttribute::JobName => Content::Text(0x42, j.name.as_str()),
+            JobAttribute::JobOriginatingUserName => Content::Text(0x42, j.owner.as_str()),
+            JobAttribute::JobState => Content::Enum(u32::from(state_of(j))),
+            JobAttribute::JobStateReasons => Content::Reasons(reasons_of(j)),
+            JobAttribute::TimeAtCreation => Content::Integer(j.created),
+            JobAttribute::TimeAtProcessing => Content::Moment(j.begun),
+            JobAttribute::TimeAtCompleted => Content::Moment(j.ended),
+            JobAttribute::JobPrinterUpTime => Content::Integer(now),
+            JobAttribute::AttributesCharset => Content::Text(0x47, "utf-8"),
+            JobAttribute::AttributesNaturalLanguage => Content::Text(0x48, "en"),
+            JobAttribute::JobKOctets => Content::Integer(kilo_octets(j.octets)),
+            JobAttribute::JobImpressions => Content::Integer(j.impressions),
+            JobAttribute::JobImpressionsCompleted => Content::Integer(j.count),
+            JobAttribute::NumberOfDocuments => Content::Integer(j.documents),
+            JobAttribute::Copies => Content::Integer(j.copies),
+            JobAttribute::JobHoldUntil => Content::Text(
+                0x44,
+                if j.hold { "indefinite" } else { "no-hold" },
+            ),
+        })
+    }
+}
+
+/// Octets in units of 1,024, rounded up.
+fn kilo_octets(octets: u64) -> u32
+    requires { octets ≤ 2 ^ 28 }
+    ensures { result ≡ (octets + 1023) / 1024 }
+{
+    ((octets + 1023) / 1024) as u32
+}
+
+/// Adds the group of a job with these rows.
+fn put_job(
+    alloc: Global,
+    m: &mut Message,
+    uri: &str,
+    now: u32,
+    rows: &[JobAttribute],
+    j: &Job,
+) -> Result<(), AllocError>
+    requires uri { length uri.now ≤ 255 }
+    requires job { IsSoundJob j.now }
+    ensures { OnOk result (m.new ≡ record m.old { groups = m.old.groups ++ spec.job_group uri.now now rows.now j.now ∷ [] }) }
+{
+    m.group(0x02)?;
+    'rows: for row in rows {
+        let content = row.content(alloc, uri, now, j)?;
+        put(alloc, m, row.name(), &content)?;
+    }
+    Ok(())
+}
+
+/// Adds a group for each job, with these rows.
+pub(crate) fn put_jobs(
+    alloc: Global,
+    m: &mut Message,
+    uri: &str,
+    now: u32,
+    rows: &[JobAttribute],
+    jobs: &[Job],
+) -> Result<(), AllocError>
+    requires uri { length uri.now ≤ 255 }
+    requires jobs { All IsSoundJob jobs.now }
+    ensures { OnOk result (m.new ≡ record m.old { groups = m.old.groups ++ map (spec.job_group uri.now now rows.now) jobs.now }) }
+{
+    for j in jobs {
+        put_job(alloc, m, uri, now, rows, j)?;
+    }
+    Ok(())
+}
+
+fn is_among(a: JobAttribute, words: &[&str]) -> bool
+    ensures { result ≡ list_any (λ w. spec.selects a w.now) words.now }
+{
+    words.iter().any(|w| a.is_selected(w.as_bytes()))
+}
+
+#[tactic(auto, using(crate::proofs::Lists::list_any_map))]
+fn is_usual(a: JobAttribute, words: &[&str]) -> bool
+    ensures { result ≡ list_any (spec.selects a) (map (λ w. w.now) words.now) }
+{
+    is_among(a, words)
+}
+
+fn is_requested(a: JobAttribute, values: &[ValueView<'_>]) -> bool
+    ensures { result ≡ list_any (λ v. spec.selects a v.bytes.now) values.now }
+{
+    values.iter().any(|v| a.is_selected(v.bytes))
+}
+
+#[tactic(auto, using(crate::proofs::Lists::list_any_map))]
+fn is_named(a: JobAttribute, values: &[ValueView<'_>]) -> bool
+    ensures { result ≡ list_any (spec.selects a) (words_of (values_of values.now)) }
+{
+    is_requested(a, values)
+}
+
+fn usual_rows(
+    alloc: Global,
+    rows: &[JobAttribute],
+    words: &[&str],
+) -> Result<Vec<JobAttribute>, AllocError>
+    ensures { IfOk result (λ v. v.items ≡ filter (λ a. list_any (spec.selects a) (map (λ w. w.now) words.now)) rows.now) }
+{
+    rows.iter()
+        .copied()
+        .filter(|a| is_usual(*a, words))
+        .collect(alloc)
+}
+
+fn requested_rows(
+    alloc: Global,
+    rows: &[JobAttribute],
+    values: &[ValueView<'_>],
+) -> Result<Vec<JobAttribute>, AllocError>
+    ensures { IfOk result (λ v. v.items ≡ filter (λ a. list_any (spec.selects a) (words_of (values_of values.now))) rows.now) }
+{
+    rows.iter()
+        .copied()
+        .filter(|a| is_named(*a, values))
+        .collect(alloc)
+}
+
+/// The rows of a job that these names select: a name of a row, its group or `all` (RFC 8011, section 4.3.4).
+/// The one error is want of memory.
+pub fn select_usual(alloc: Global, words: &[&str]) -> Result<Wanted, AllocError>
+    ensures { IfOk result (λ w. w ≡ record { job = spec.selected (map (λ x. x.now) words.now); printer = [] }) }
+{
+    let rows = usual_rows(alloc, &TABLE, words)?;
+    Ok(Wanted::of_job(alloc, rows))
+}
+
+/// The rows of a job that the names in these values select. The one error is want of memory.
+pub fn select_requested(alloc: Global, values: &[ValueView<'_>]) -> Result<Wanted, AllocError>
+    ensures { IfOk result (λ w. w ≡ record { job = spec.selected (words_of (values_of values.now)); printer = [] }) }
+{
+    let rows = requested_rows(alloc, &TABLE, values)?;
+    Ok(Wanted::of_job(alloc, rows))
+}

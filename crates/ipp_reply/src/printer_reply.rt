@@ -1,0 +1,207 @@
+//! The printer attributes of a reply, as a table in order (RFC 8011, section 5.4).
+ghost use Rattle.std.specs.Prelude.{◌≡◌, ◌++◌, ◌∷◌, [], IfOk, OnOk, codes, filter, map};
+ghost use Rattle.std.specs.List.{list_any};
+ghost use Rattle.ipp_wire.specs.Viewed.{values_of};
+ghost use Rattle.queue_core.specs.Settings.{AreSettings};
+ghost use Rattle.ipp_reply.specs.Content.{values_in};
+ghost use Rattle.ipp_reply.specs.PrinterReply as spec;
+ghost use Rattle.ipp_reply.specs.PrinterView.{printer_of};
+ghost use Rattle.ipp_reply.specs.Wanted.{words_of};
+
+use crate::content::{Content, put};
+use crate::format::format_name;
+use crate::wanted::Wanted;
+use ipp_wire::{Message, ValueView};
+use queue_core::document::Format;
+use queue_core::settings::Settings;
+use std::alloc::{AllocError, Global};
+
+/// A printer attribute of a reply.
+#[derive(Clone, Copy, Debug)]
+pub enum PrinterAttribute {
+    PrinterUriSupported,
+    UriAuthenticationSupported,
+    UriSecuritySupported,
+    PrinterName,
+    PrinterState,
+    PrinterStateReasons,
+    IppVersionsSupported,
+    OperationsSupported,
+    CharsetConfigured,
+    CharsetSupported,
+    NaturalLanguageConfigured,
+    GeneratedNaturalLanguageSupported,
+    DocumentFormatDefault,
+    DocumentFormatSupported,
+    PrinterIsAcceptingJobs,
+    QueuedJobCount,
+    PdlOverrideSupported,
+    PrinterUpTime,
+    CompressionSupported,
+}
+
+/// The rows, in the table's order.
+const TABLE: [PrinterAttribute; 19] = [
+    PrinterAttribute::PrinterUriSupported,
+    PrinterAttribute::UriAuthenticationSupported,
+    PrinterAttribute::UriSecuritySupported,
+    PrinterAttribute::PrinterName,
+    PrinterAttribute::PrinterState,
+    PrinterAttribute::PrinterStateReasons,
+    PrinterAttribute::IppVersionsSupported,
+    PrinterAttribute::OperationsSupported,
+    PrinterAttribute::CharsetConfigured,
+    PrinterAttribute::CharsetSupported,
+    PrinterAttribute::NaturalLanguageConfigured,
+    PrinterAttribute::GeneratedNaturalLanguageSupported,
+    PrinterAttribute::DocumentFormatDefault,
+    PrinterAttribute::DocumentFormatSupported,
+    PrinterAttribute::PrinterIsAcceptingJobs,
+    PrinterAttribute::QueuedJobCount,
+    PrinterAttribute::PdlOverrideSupported,
+    PrinterAttribute::PrinterUpTime,
+    PrinterAttribute::CompressionSupported,
+];
+
+/// What a printer is: its settings, and its queue at a moment.
+#[derive(Clone, Copy)]
+pub struct PrinterView<'a> {
+    pub settings: &'a Settings,
+    pub now: u32,
+    pub state: u8,
+    pub queued: u32,
+    pub accepting: bool,
+}
+
+impl PrinterAttribute {
+    /// The attribute's name.
+    pub fn name(self) -> &'static str
+        ensures { result.now ≡ spec.name_of self }
+    {
+        match self {
+            PrinterAttribute::PrinterUriSupported => "printer-uri-supported",
+            PrinterAttribute::UriAuthenticationSupported => "uri-authentication-supported",
+            PrinterAttribute::UriSecuritySupported => "uri-security-supported",
+            PrinterAttribute::PrinterName => "printer-name",
+            PrinterAttribute::PrinterState => "printer-state",
+            PrinterAttribute::PrinterStateReasons => "printer-state-reasons",
+            PrinterAttribute::IppVersionsSupported => "ipp-versions-supported",
+            PrinterAttribute::OperationsSupported => "operations-supported",
+            PrinterAttribute::CharsetConfigured => "charset-configured",
+            PrinterAttribute::CharsetSupported => "charset-supported",
+            PrinterAttribute::NaturalLanguageConfigured => "natural-language-configured",
+            PrinterAttribute::GeneratedNaturalLanguageSupported => {
+                "generated-natural-language-supported"
+            }
+            PrinterAttribute::DocumentFormatDefault => "document-format-default",
+            PrinterAttribute::DocumentFormatSupported => "document-format-supported",
+            PrinterAttribute::PrinterIsAcceptingJobs => "printer-is-accepting-jobs",
+            PrinterAttribute::QueuedJobCount => "queued-job-count",
+            PrinterAttribute::PdlOverrideSupported => "pdl-override-supported",
+            PrinterAttribute::PrinterUpTime => "printer-up-time",
+            PrinterAttribute::CompressionSupported => "compression-supported",
+        }
+    }
+
+    /// The word selects the row.
+    fn is_selected(self, word: &[u8]) -> bool
+        ensures { result ≡ spec.selects self word.now }
+    {
+        word == self.name().as_bytes()
+            || word == "all".as_bytes()
+            || word == "printer-description".as_bytes()
+    }
+
+    /// What the row says of a printer.
+    fn content<'a>(self, p: PrinterView<'a>) -> Content<'a>
+        ensures { values_in result ≡ spec.values_of (printer_of p.entry) self }
+    {
+        match self {
+            PrinterAttribute::PrinterUriSupported => Content::Text(0x45, p.settings.uri()),
+            PrinterAttribute::UriAuthenticationSupported => {
+                Content::Text(0x44, "requesting-user-name")
+            }
+            PrinterAttribute::UriSecuritySupported => Content::Text(0x44, "none"),
+            PrinterAttribute::PrinterName => Content::Text(0x42, p.settings.name()),
+            PrinterAttribute::PrinterState => Content::Enum(u32::from(p.state)),
+            PrinterAttribute::PrinterStateReasons => Content::Text(0x44, "none"),
+            PrinterAttribute::IppVersionsSupported => Content::Texts(0x44, &["1.1", "2.0"]),
+            PrinterAttribute::OperationsSupported => Content::OperationIds,
+            PrinterAttribute::CharsetConfigured | PrinterAttribute::CharsetSupported => {
+                Content::Text(0x47, "utf-8")
+            }
+            PrinterAttribute::NaturalLanguageConfigured
+            | PrinterAttribute::GeneratedNaturalLanguageSupported => Content::Text(0x48, "en"),
+            PrinterAttribute::DocumentFormatDefault => {
+                Content::Text(0x49, format_name(Format::OctetStream))
+            }
+            PrinterAttribute::DocumentFormatSupported => Content::FormatNames,
+            PrinterAttribute::PrinterIsAcceptingJobs => Content::Boolean(p.accepting),
+            PrinterAttribute::QueuedJobCount => Content::Integer(p.queued),
+            PrinterAttribute::PdlOverrideSupported => Content::Text(0x44, "not-attempted"),
+            PrinterAttribute::PrinterUpTime => Content::Integer(p.now),
+            PrinterAttribute::CompressionSupported => Content::Text(0x44, "none"),
+        }
+    }
+}
+
+/// Adds the group of a printer with these rows.
+pub(crate) fn put_printer(
+    alloc: Global,
+    m: &mut Message,
+    p: PrinterView<'_>,
+    rows: &[PrinterAttribute],
+) -> Result<(), AllocError>
+    requires { AreSettings p.settings.now }
+    ensures { OnOk result (m.new ≡ record m.old { groups = m.old.groups ++ spec.printer_group (printer_of p.entry) rows.now ∷ [] }) }
+{
+    m.group(0x04)?;
+    'rows: for row in rows {
+        let content = row.content(p);
+        put(alloc, m, row.name(), &content)?;
+    }
+    Ok(())
+}
+
+fn is_requested(a: PrinterAttribute, values: &[ValueView<'_>]) -> bool
+    ensures { result ≡ list_any (λ v. spec.selects a v.bytes.now) values.now }
+{
+    values.iter().any(|v| a.is_selected(v.bytes))
+}
+
+#[tactic(auto, using(crate::proofs::Lists::list_any_map))]
+fn is_named(a: PrinterAttribute, values: &[ValueView<'_>]) -> bool
+    ensures { result ≡ list_any (spec.selects a) (words_of (values_of values.now)) }
+{
+    is_requested(a, values)
+}
+
+fn named_rows(
+    alloc: Global,
+    rows: &[PrinterAttribute],
+    values: &[ValueView<'_>],
+) -> Result<Vec<PrinterAttribute>, AllocError>
+    ensures { IfOk result (λ v. v.items ≡ filter (λ a. list_any (spec.selects a) (words_of (values_of values.now))) rows.now) }
+{
+    rows.iter()
+        .copied()
+        .filter(|a| is_named(*a, values))
+        .collect(alloc)
+}
+
+/// The rows of the printer that the names in these values select: a name of a row,
+/// `printer-description` or `all` (RFC 8011, section 4.2.5). The one error is want of memory.
+pub fn select_of_printer(alloc: Global, values: &[ValueView<'_>]) -> Result<Wanted, AllocError>
+    ensures { IfOk result (λ w. w ≡ record { job = []; printer = spec.selected (words_of (values_of values.now)) }) }
+{
+    let rows = named_rows(alloc, &TABLE, values)?;
+    Ok(Wanted::of_printer(alloc, rows))
+}
+
+/// All rows of the printer. The one error is want of memory.
+pub fn select_whole_printer(alloc: Global) -> Result<Wanted, AllocError>
+    ensures { IfOk result (λ w. w ≡ record { job = []; printer = spec.selected (codes "all" ∷ []) }) }
+{
+    let rows = TABLE.to_vec(alloc)?;
+    Ok(Wanted::of_printer(alloc, rows))
+}

@@ -1,0 +1,176 @@
+//! The reply to a request as a message.
+ghost use Rattle.std.specs.Prelude.{◌≡◌, ◌==◌, ◌<◌, [], IfOk, OnOk, fold, length, if◌then◌else◌};
+ghost use Rattle.std.specs.List.{AllByRecursion};
+ghost use Rattle.ipp_wire.specs.Bare.{bare, bare_head};
+ghost use Rattle.ipp_wire.specs.Message.{IsAttribute};
+ghost use Rattle.ipp_wire.specs.Owned.{add_attribute};
+ghost use Rattle.ipp_wire.specs.Viewed.{attributes_of};
+ghost use Rattle.queue_core.specs.Limits.{IsSoundReply};
+ghost use Rattle.ipp_reply.specs.Reply.{reply_of, success, unsupported_groups, with_groups};
+ghost use Rattle.ipp_reply.specs.Unsupported.{CanList, unsupported_of};
+
+use crate::job_reply::put_jobs;
+use crate::printer_reply::{PrinterView, put_printer};
+use crate::unsupported::Unsupported;
+use crate::wanted::Wanted;
+use ipp_wire::{AttrView, Head, Message, ValueView};
+use queue_core::event::Reply;
+use queue_core::settings::Settings;
+use std::alloc::{AllocError, Global};
+
+/// The status code successful-ok.
+const SUCCESSFUL_OK: u16 = 0x0000;
+
+/// The status code successful-ok-ignored-or-substituted-attributes.
+const ATTRIBUTES_IGNORED: u16 = 0x0001;
+
+/// The status code client-error-attributes-or-values-not-supported.
+const ATTRIBUTES_NOT_SUPPORTED: u16 = 0x040B;
+
+/// The head of a reply: the request's version, or 1.1 where its major version isn't 1 or 2.
+fn reply_head(head: Head, code: u16) -> Head
+    ensures { result ≡ bare_head head code }
+{
+    let is_known = head.major == 1 || head.major == 2;
+    let (major, minor) = if is_known {
+        (head.major, head.minor)
+    } else {
+        (1, 1)
+    };
+    Head {
+        major,
+        minor,
+        code,
+        request_id: head.request_id,
+    }
+}
+
+/// A reply with charset and natural language alone.
+fn bare_message(alloc: Global, head: Head, code: u16) -> Result<Message, AllocError>
+    ensures { IfOk result (λ m. m ≡ bare head code) }
+{
+    let mut m = Message::new(alloc, reply_head(head, code));
+    m.group(0x01)?;
+    m.attribute(
+        b"attributes-charset",
+        &[ValueView {
+            tag: 0x47,
+            bytes: b"utf-8",
+        }],
+    )?;
+    m.attribute(
+        b"attributes-natural-language",
+        &[ValueView {
+            tag: 0x48,
+            bytes: b"en",
+        }],
+    )?;
+    Ok(m)
+}
+
+fn put_attributes(m: &mut Message, attrs: &[AttrView<'_>]) -> Result<(), AllocError>
+    requires begun { 0 < length m.old.groups }
+    requires fits { AllByRecursion IsAttribute (attributes_of attrs.now) }
+    ensures ok { OnOk result (m.new ≡ record m.old { groups = fold (λ gs a. add_attribute a gs) m.old.groups (attributes_of attrs.now) }) }
+    ensures still_begun { 0 < length m.new.groups }
+{
+    for a in attrs {
+        m.attribute(a.name, a.values.as_slice())?;
+    }
+    Ok(())
+}
+
+/// Adds the group of what is unsupported, where something is.
+fn put_unsupported(m: &mut Message, u: &Unsupported<'_>) -> Result<(), AllocError>
+    requires { CanList (unsupported_of u.now) }
+    ensures { OnOk result (m.new ≡ with_groups m.old (unsupported_groups (unsupported_of u.now))) }
+{
+    if !u.is_listed() {
+        return Ok(());
+    }
+    m.group(0x05)?;
+    put_attributes(m, u.operation.as_slice())?;
+    put_attributes(m, u.job.as_slice())
+}
+
+fn refusal_message(
+    alloc: Global,
+    head: Head,
+    code: u16,
+    u: &Unsupported<'_>,
+) -> Result<Message, AllocError>
+    requires { CanList (unsupported_of u.now) }
+    ensures { IfOk result (λ m. m ≡ with_groups (bare head code) (if code == 0x040B then unsupported_groups (unsupported_of u.now) else [])) }
+{
+    let mut m = bare_message(alloc, head, code)?;
+    if code != ATTRIBUTES_NOT_SUPPORTED {
+        return Ok(m);
+    }
+    put_unsupported(&mut m, u)?;
+    Ok(m)
+}
+
+fn success_message(alloc: Global, head: Head, u: &Unsupported<'_>) -> Result<Message, AllocError>
+    requires { CanList (unsupported_of u.now) }
+    ensures { IfOk result (λ m. m ≡ with_groups (bare head (success (unsupported_of u.now))) (unsupported_groups (unsupported_of u.now))) }
+{
+    let code = if u.is_listed() {
+        ATTRIBUTES_IGNORED
+    } else {
+        SUCCESSFUL_OK
+    };
+    let mut m = bare_message(alloc, head, code)?;
+    put_unsupported(&mut m, u)?;
+    Ok(m)
+}
+
+/// The reply to a request with this head as a message: its version and request-id, the status code, the
+/// charset utf-8 and the language en, a group of what is unsupported, and a group for each job, or for
+/// the printer, with the wanted attributes (RFC 8011, section 4.1). The one error is want of memory.
+pub fn reply_message(
+    alloc: Global,
+    r: &Reply,
+    head: Head,
+    wanted: &Wanted,
+    unsupported: &Unsupported<'_>,
+    s: &Settings,
+    now: u32,
+) -> Result<Message, AllocError>
+    requires sound { IsSoundReply r.now }
+    requires listed { CanList (unsupported_of unsupported.now) }
+    ensures { IfOk result (λ m. m ≡ reply_of r.now head wanted.now (unsupported_of unsupported.now) s.now now) }
+{
+    match r {
+        Reply::Refused(code) => refusal_message(alloc, head, *code, unsupported),
+        Reply::Done => success_message(alloc, head, unsupported),
+        Reply::Printer {
+            state,
+            queued,
+            accepting,
+        } => {
+            let printer = PrinterView {
+                settings: s,
+                now,
+                state: *state,
+                queued: *queued,
+                accepting: *accepting,
+            };
+            let mut m = success_message(alloc, head, unsupported)?;
+            let _within_limits = s.name();
+            put_printer(alloc, &mut m, printer, wanted.printer_rows())?;
+            Ok(m)
+        }
+        Reply::Jobs(jobs) => {
+            let mut m = success_message(alloc, head, unsupported)?;
+            put_jobs(
+                alloc,
+                &mut m,
+                s.uri(),
+                now,
+                wanted.job_rows(),
+                jobs.as_slice(),
+            )?;
+            Ok(m)
+        }
+    }
+}
