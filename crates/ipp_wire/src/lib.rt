@@ -9,8 +9,6 @@ mod law;
 mod message;
 mod reading;
 mod tags;
-#[cfg(test)]
-mod tests;
 mod view;
 
 pub use bare::put_fault;

@@ -66,11 +66,10 @@ fn text_at(bytes: &[u8]) -> Option<(&[u8], &[u8])>
     ensures place { IfSome result (λ x. x.0.ref_ptr ≡ byte_add bytes.entry.ref_ptr 2) }
     ensures end { IfSome result (λ x. end_of x.1 ≡ end_of bytes.entry) }
 {
-    if bytes.len() < 2 {
+    let [high, low, rest @ ..] = bytes else {
         return None;
-    }
-    let rest = &bytes[2..];
-    let len = u16::from_be_bytes([bytes[0], bytes[1]]) as usize;
+    };
+    let len = u16::from_be_bytes([*high, *low]) as usize;
     if LONGEST < len || rest.len() < len {
         return None;
     }

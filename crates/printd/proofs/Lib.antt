@@ -1,5 +1,1 @@
 pub mod CommandLineLemmas
-pub mod DecimalLemmas
-pub mod HexadecimalLemmas
-pub mod LineLemmas
-mod Answered

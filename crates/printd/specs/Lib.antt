@@ -1,4 +1,1 @@
 pub mod CommandLine
-pub mod Line
-pub mod RequestLine
-pub mod Unread

@@ -3,17 +3,12 @@
 
 mod command;
 mod command_line;
-mod fault;
-mod hexadecimal;
-mod lines;
-mod replay;
-mod request_line;
 #[cfg(test)]
 mod tests;
 
 use command::{Command, CommandFault};
 use command_line::command;
-use fault::Fault;
+use replay::fault::Fault;
 use replay::replay;
 use std::io::BufWriter;
 use std::process::ExitCode;

@@ -1,0 +1,4 @@
+pub mod DecimalLemmas
+pub mod HexadecimalLemmas
+pub mod LineLemmas
+mod Answered

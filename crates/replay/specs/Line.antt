@@ -1,0 +1,26 @@
+-- What a line of an input is.
+use Rattle.std.specs.Prelude.{◌≡◌, ◌<◌, ◌==◌, ◌⊎◌, ℕ, List, [], ◌∷◌, ◌++◌, Option, length, nat_lt, not, take}
+use Rattle.std.specs.Io.KnownBytes.{Consumes, IsAtEnd}
+use Rattle.std.specs.List.{AllPass}
+use Rattle.replay.specs.declared.lines.Line.{Line}
+
+-- no byte is a line feed
+abbrev pub IsOneLine : List ℕ → Type 0
+IsOneLine bytes = AllPass (λ byte. not (byte == 10)) bytes
+
+-- these bytes are taken with the line feed that ends them, or they are the last of the input
+abbrev pub TakesLine : Option (List ℕ) → Option (List ℕ) → List ℕ → Type 0
+TakesLine old new bytes =
+    Consumes old new (bytes ++ 10 ∷ []) ⊎ ((0 < length bytes) × Consumes old new bytes × IsAtEnd new)
+
+-- of these bytes the line has all that are kept
+abbrev pub IsFrontOf : List ℕ → Line → Type 0
+IsFrontOf bytes line =
+    (line.bytes.items ≡ take 33554436 bytes) × (line.is_cut ≡ nat_lt 33554436 (length bytes))
+
+-- what is left of an input loses its first line, which is given
+pub record GivesLine (old new : Option (List ℕ)) (line : Line) : Type 0 where
+  pub bytes : List ℕ
+  pub is_one : IsOneLine bytes
+  pub taken : TakesLine old new bytes
+  pub front : IsFrontOf bytes line

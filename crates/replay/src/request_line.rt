@@ -1,0 +1,46 @@
+//! What a line of a replay asks for.
+
+ghost use Rattle.std.specs.Prelude.{◌≡◌, ◌≢◌, ℕ, IfSome, IfNone};
+ghost use Rattle.std.specs.Fmt.{decimal};
+ghost use Rattle.replay.specs.RequestLine.{IsMoment, Says};
+ghost use Rattle.replay.specs.declared.request_line.RequestLine.{RequestLine};
+
+/// The last moment that there is, in seconds of printer up time.
+pub const MAX_MOMENT: u32 = 2_147_483_647;
+
+/// A line of a replay that is of one of the forms.
+pub enum RequestLine<'a> {
+    /// `now N`: requests come at this moment from here on. N is 1 to [`MAX_MOMENT`] in decimal,
+    /// without leading zeros.
+    Now(u32),
+    /// `ipp HEX`: a message of the Internet Printing Protocol, with what stands for its digits.
+    Ipp(&'a [u8]),
+}
+
+impl<'a> RequestLine<'a> {
+    /// What the line says, and none where it is of no form.
+    pub fn read(line: &'a [u8]) -> Option<RequestLine<'a>>
+        ensures said { IfSome result (Says line.now) }
+        ensures bad { IfNone result ((request : RequestLine) → Says line.now request → ⊥) }
+    {
+        if let Some(digits) = line.strip_prefix(b"ipp ".as_slice()) {
+            return Some(RequestLine::Ipp(digits));
+        }
+        let digits = line.strip_prefix(b"now ".as_slice())?;
+        let moment = read_moment(digits)?;
+        Some(RequestLine::Now(moment))
+    }
+}
+
+/// The moment that stands there in decimal digits, without leading zeros.
+fn read_moment(digits: &[u8]) -> Option<u32>
+    ensures moment { IfSome result (λ n. IsMoment n × (digits.now ≡ decimal n)) }
+    ensures none { IfNone result ((n : ℕ) → IsMoment n → digits.now ≢ decimal n) }
+{
+    let first = *digits.first()?;
+    if first == b'0' || first == b'+' {
+        return None;
+    }
+    let moment = str::from_utf8(digits).ok()?.parse::<u32>().ok()?;
+    (moment <= MAX_MOMENT).then_some(moment)
+}
