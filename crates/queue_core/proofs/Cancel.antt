@@ -19,13 +19,13 @@ use Rattle.queue_core.proofs.Rows.{Replaces, KeepsDocuments}
 
 -- ---- the jobs that come of it
 
-abbrev held : Bool → Job → Job
+abbrev pub held : Bool → Job → Job
 held hold j = record j { hold = hold }
 
 holds : (hold : Bool) (j : Job) → Replaces (held hold j) j
 holds hold j = record { number = refl; owner = refl; count = refl; live = omega arith }
 
-held_documents : (hold : Bool) (j : Job) → j.phase ≡ Waiting → KeepsDocuments (held hold j) j
+pub held_documents : (hold : Bool) (j : Job) → j.phase ≡ Waiting → KeepsDocuments (held hold j) j
 held_documents hold j is = record {
   documents = refl;
   octets = refl;

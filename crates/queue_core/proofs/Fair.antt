@@ -1,24 +1,21 @@
 -- The scene of each sound world is fair.
-use Rattle.std.proofs.Common.{◌≡◌, ℕ, zero, suc, ℤ, pos, ◌+ℤ◌, ◌+◌, ◌-◌, ◌*◌, ◌^◌, ◌≤◌, ◌<◌, List, [], ◌∷◌, length, map, arith, Bool, true, false, cond}
-use Rattle.std.specs.Prelude.{Option, Some, None, IfSome, bytes_eq, filter, All, sum_by}
+use Rattle.std.proofs.Common.{◌≡◌, ℕ, suc, ℤ, pos, ◌+ℤ◌, ◌+◌, ◌-◌, ◌*◌, ◌^◌, ◌≤◌, ◌<◌, List, [], ◌∷◌, length, map, arith, Bool, true, false, cond}
+use Rattle.std.specs.Prelude.{Option, Some, None, IfSome, bytes_eq, filter, sum_by, ◌==◌, ◌&&◌}
 use Rattle.std.specs.List.{AllByRecursion as Each}
 use Rattle.std.specs.FinMap.{get}
 use Rattle.std.proofs.lemmas.Int.{ints}
 use Rattle.std.proofs.lemmas.List.Sums.{sum_by-cons}
 use Rattle.std.proofs.lemmas.Nat.{mul-le}
 use Rattle.queue_core.specs.Job.{owed, is_live}
-use Rattle.queue_core.specs.Event.{Event, ask, print_job, validate_job, create_job, send_document, cancel_job, cancel_my_jobs, hold_job, release_job, get_job_attributes, get_jobs, get_printer_attributes}
-use Rattle.queue_core.specs.World.{World, Entry, rows, cut, found_row, concerns, counts_for, caller_of}
+use Rattle.queue_core.specs.Event.{Event, Call, ask, print_job, validate_job, create_job, send_document, cancel_job, cancel_my_jobs, hold_job, release_job, get_job_attributes, get_jobs, get_printer_attributes}
+use Rattle.queue_core.specs.World.{World, Entry, rows, cut, found_row, numbered, jobs_for, counts_for}
 use Rattle.queue_core.specs.Limits.{IsFair, IsSoundJob, IsAmount}
 use Rattle.queue_core.specs.Sound.{IsSound, IsSoundEntry, Rise, granted, reserved, printed}
 use Rattle.queue_core.specs.declared.event.FreeRow.{FreeRow}
 use Rattle.queue_core.specs.declared.job.Job.{Job}
+use Rattle.queue_core.specs.Visible.{is_among}
 use Rattle.queue_core.proofs.Enter.{first_below}
-
-pub all_of : {X : Type 0} (P : X → Type 0) (xs : List X) → Each P xs → All P xs
-all_of P [] each k d h = absurd (omega arith)
-all_of P (x ∷ xs) each zero d h = each.0
-all_of P (x ∷ xs) each (suc k) d h = all_of P xs each.1 k d (omega arith)
+use Rattle.queue_core.proofs.Ordered.{all_of, each-visible, few_visible}
 
 each_named : (p : Job → Bool) (es : List Entry) → Each IsSoundEntry es → Each IsSoundJob (filter p (map (λ e. e.row) es))
 each_named p [] each = tt
@@ -89,25 +86,67 @@ live_few (e ∷ es) =
     let here = at_most_one (is_live e.row) in
     omega (arith, sum_by-cons (λ (j : Job). cond (is_live j) 1 0) e.row (map (λ e. e.row) es))
 
-queued_few : (w : World) (e : Event) → length w.jobs < 2 ^ 31 → (counts_for e (rows w)).queued < 2 ^ 31
-queued_few w (ask caller (print_job j format payload)) few = omega arith
-queued_few w (ask caller (validate_job j)) few = omega arith
-queued_few w (ask caller (create_job j)) few = omega arith
-queued_few w (ask caller (send_document n format payload last)) few = omega arith
-queued_few w (ask caller (cancel_my_jobs numbers)) few = omega arith
-queued_few w (ask caller (hold_job n)) few = omega arith
-queued_few w (ask caller (release_job n)) few = omega arith
-queued_few w (ask caller (cancel_job n)) few = omega arith
-queued_few w (ask caller (get_job_attributes n)) few = omega arith
-queued_few w (ask caller (get_jobs which limit)) few = omega arith
-queued_few w (ask caller get_printer_attributes) few = let all = live_few w.jobs in omega arith
+queued_few : (w : World) (call : Call) → length w.jobs < 2 ^ 31 → (counts_for call (rows w)).queued < 2 ^ 31
+queued_few w (print_job j format payload) few = omega arith
+queued_few w (validate_job j) few = omega arith
+queued_few w (create_job j) few = omega arith
+queued_few w (send_document n format payload last) few = omega arith
+queued_few w (cancel_my_jobs numbers) few = omega arith
+queued_few w (hold_job n) few = omega arith
+queued_few w (release_job n) few = omega arith
+queued_few w (cancel_job n) few = omega arith
+queued_few w (get_job_attributes n) few = omega arith
+queued_few w (get_jobs which limit) few = omega arith
+queued_few w get_printer_attributes few = let all = live_few w.jobs in omega arith
+
+each_numbered : (n : ℕ) (w : World) → IsSound w → Each IsSoundJob (numbered n (rows w))
+each_numbered n w sound = each_named (λ j. j.number == n) w.jobs sound.entries
+
+few_numbered : (n : ℕ) (w : World) → length (numbered n (rows w)) ≤ length w.jobs
+few_numbered n w = named_few (λ j. j.number == n) w.jobs
+
+jobs_sound : (w : World) (caller : List ℕ) (call : Call) → IsSound w → Each IsSoundJob (jobs_for caller call (rows w))
+jobs_sound w caller (print_job j format payload) sound = tt
+jobs_sound w caller (validate_job j) sound = tt
+jobs_sound w caller (create_job j) sound = tt
+jobs_sound w caller (send_document n format payload last) sound = each_numbered n w sound
+jobs_sound w caller (cancel_my_jobs None) sound = each_named _ w.jobs sound.entries
+jobs_sound w caller (cancel_my_jobs (Some numbers)) sound = each_named _ w.jobs sound.entries
+jobs_sound w caller (hold_job n) sound = each_numbered n w sound
+jobs_sound w caller (release_job n) sound = each_numbered n w sound
+jobs_sound w caller (cancel_job n) sound = each_numbered n w sound
+jobs_sound w caller (get_job_attributes n) sound = each_numbered n w sound
+jobs_sound w caller (get_jobs which limit) sound = each-visible IsSoundJob limit which _ (each_named _ w.jobs sound.entries)
+jobs_sound w caller get_printer_attributes sound = tt
+
+jobs_few : (w : World) (caller : List ℕ) (call : Call) → length (jobs_for caller call (rows w)) ≤ length w.jobs
+jobs_few w caller (print_job j format payload) = omega arith
+jobs_few w caller (validate_job j) = omega arith
+jobs_few w caller (create_job j) = omega arith
+jobs_few w caller (send_document n format payload last) = few_numbered n w
+jobs_few w caller (cancel_my_jobs None) = named_few _ w.jobs
+jobs_few w caller (cancel_my_jobs (Some numbers)) = named_few _ w.jobs
+jobs_few w caller (hold_job n) = few_numbered n w
+jobs_few w caller (release_job n) = few_numbered n w
+jobs_few w caller (cancel_job n) = few_numbered n w
+jobs_few w caller (get_job_attributes n) = few_numbered n w
+jobs_few w caller (get_jobs which limit) =
+    let p : Job → Bool = λ j. bytes_eq j.owner caller && is_among which j in
+    let shown = few_visible limit which (filter p (rows w)) in
+    let own = named_few p w.jobs in
+    omega arith
+jobs_few w caller get_printer_attributes = omega arith
 
 pub fair_of : (w : World) (e : Event) → IsSound w → IsFair (cut w e)
-fair_of w e sound = record {
-  settings = sound.settings;
-  jobs = all_of IsSoundJob _ (each_named (concerns e) w.jobs sound.entries);
-  few = (let few = rise_length 1 w.next w.jobs sound.numbers in let next = sound.next in let named = named_few (concerns e) w.jobs in omega arith);
-  free = all_of (λ (r : FreeRow). IsAmount r.free) _ (found (caller_of e) (get w.free (caller_of e)) (amounts_of w sound (caller_of e)));
-  next = first_below 1 w.next w.jobs sound.numbers;
-  queued = (let few = rise_length 1 w.next w.jobs sound.numbers in let next = sound.next in queued_few w e (omega arith));
-}
+fair_of w (ask caller call) sound =
+    let numbers = rise_length 1 w.next w.jobs sound.numbers in
+    let next = sound.next in
+    let named = jobs_few w caller call in
+    record {
+      settings = sound.settings;
+      jobs = all_of IsSoundJob _ (jobs_sound w caller call sound);
+      few = omega arith;
+      free = all_of (λ (r : FreeRow). IsAmount r.free) _ (found caller (get w.free caller) (amounts_of w sound caller));
+      next = first_below 1 w.next w.jobs sound.numbers;
+      queued = queued_few w call (omega arith);
+    }

@@ -10,8 +10,8 @@ pub mod Ordered
 pub mod Numbers
 pub mod Many
 pub mod Cancel
+pub mod Within
 pub mod Steps
 pub mod Runs
 pub mod Start
-pub mod Put
 pub mod Orders

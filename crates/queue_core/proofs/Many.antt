@@ -1,14 +1,14 @@
 -- Several jobs of the caller's own are canceled at once: the world stays sound, and its jobs move along the allowed pairs.
 use Rattle.std.proofs.Common.{◌≡◌, ℕ, ℤ, pos, ◌+ℤ◌, ◌-ℤ◌, ◌+◌, ◌<◌, List, [], ◌∷◌, map, refl, ap, sym, ◌∙◌, arith, subst, inl, inr, Bool, true, false, cond}
 use Rattle.std.specs.Prelude.{Option, Some, None, IsTrue, ◌&&◌, nat_eq, bytes_eq, option_map, filter, fold}
-use Rattle.std.specs.List.{list_all, list_any, AllByRecursion as Each}
+use Rattle.std.specs.List.{list_all, AllByRecursion as Each}
 use Rattle.std.specs.Option.{option_map_or}
 use Rattle.std.specs.FinMap.{FinMap, get, same_map, slice_cmp-IsAntisymmetric, nat_cmp-IsAntisymmetric}
 use Rattle.std.specs.Cmp.Lexicographic.{nat_list_cmp_total}
 use Rattle.std.proofs.lemmas.Bool.Decides.{nat_tests}
 use Rattle.std.proofs.lemmas.Cmp.{nat_list_eq_equiv}
 use Rattle.std.proofs.lemmas.Int.{ints}
-use Rattle.queue_core.specs.World.{World, Entry, rows, cut, made_on, with_row, text_cmp, job_at}
+use Rattle.queue_core.specs.World.{World, Entry, rows, cut, made_on, with_row, text_cmp, job_at, is_one_of}
 use Rattle.queue_core.specs.Event.{Call, ask, cancel_my_jobs}
 use Rattle.queue_core.specs.Job.{is_live, state_in}
 use Rattle.queue_core.specs.Limits.{IsMoment, FitsPhase}
@@ -118,11 +118,11 @@ pub rising : (first next : ℕ) (es : List Entry) → Rise first es next → Are
 rising first next [] rise = tt
 rising first next (e ∷ es) rise = (rising_above e (e.row.number + 1) next es (omega arith) rise.1, rising (e.row.number + 1) next es rise.1)
 
-each_map : (P Q : Job → Type 0) (js : List Job) → ((j : Job) → P j → Q j) → Each P js → Each Q js
+pub each_map : (P Q : Job → Type 0) (js : List Job) → ((j : Job) → P j → Q j) → Each P js → Each Q js
 each_map P Q [] f each = tt
 each_map P Q (j ∷ js) f each = (f j each.0, each_map P Q js f each.1)
 
-each_both : (P Q : Job → Type 0) (js : List Job) → Each P js → Each Q js → Each (λ j. P j × Q j) js
+pub each_both : (P Q : Job → Type 0) (js : List Job) → Each P js → Each Q js → Each (λ j. P j × Q j) js
 each_both P Q [] p q = tt
 each_both P Q (j ∷ js) p q = ((p.0, q.0), each_both P Q js p.1 q.1)
 
@@ -135,7 +135,7 @@ pub at_its_number : (js : List Job) → AreRising js → Each (λ j. job_at j.nu
 at_its_number [] rising = tt
 at_its_number (j ∷ js) rising = (ap (λ b. cond b (Some j) (job_at j.number js)) (itself j.number), behind j js js rising.0 (at_its_number js rising.1))
 
-passed : (p : Job → Bool) (js : List Job) → Each (λ j. p j ≡ true) (filter p js)
+pub passed : (p : Job → Bool) (js : List Job) → Each (λ j. p j ≡ true) (filter p js)
 passed p [] = tt
 passed p (j ∷ js) = elim (p j) as (λ b. p j ≡ b → Each (λ k. p k ≡ true) (cond b (j ∷ filter p js) (filter p js))) [
   | true ↦ λ is. (is, passed p js)
@@ -277,7 +277,7 @@ module _ (w : World) (now : ℕ) (caller : List ℕ) (call : Call) (c : Job → 
   pub all_keeps : Keeps w (made_on (all_canceled scene now (filter is_cancelable scene.jobs)).change w)
   all_keeps = subst (λ js. Keeps w (with_jobs w (moved w.free caller js (map (canceled now) (filter is_cancelable js))) (fold with_row w.jobs (map (canceled now) (filter is_cancelable js))))) (sym named) able_keeps
 
-first_of : (a b : Bool) → (a && b) ≡ true → a ≡ true
+pub first_of : (a b : Bool) → (a && b) ≡ true → a ≡ true
 first_of true b e = refl
 first_of false b e = absurd (cc)
 
@@ -287,8 +287,8 @@ cancel_my_keeps w now caller None sound moment =
 cancel_my_keeps w now caller (Some numbers) sound moment =
     let s : Scene = cut w (ask caller (cancel_my_jobs (Some numbers))) in
     let keeps : Keeps w (made_on (all_canceled s now (filter is_cancelable s.jobs)).change w) =
-    all_keeps w now caller (cancel_my_jobs (Some numbers)) (λ j. bytes_eq j.owner caller && list_any (λ n. nat_eq n j.number) numbers) sound moment refl
-    (λ j is. same_key j.owner caller (first_of (bytes_eq j.owner caller) (list_any (λ n. nat_eq n j.number) numbers) is)) in
+    all_keeps w now caller (cancel_my_jobs (Some numbers)) (λ j. bytes_eq j.owner caller && is_one_of numbers j) sound moment refl
+    (λ j is. same_key j.owner caller (first_of (bytes_eq j.owner caller) (is_one_of numbers j) is)) in
     elim (are_there s.jobs numbers) as (λ b. Keeps w (made_on (cond b (cond (list_all is_cancelable s.jobs) (all_canceled s now s.jobs) (refused 0x0404)) (refused 0x0406)).change w)) [
       | true ↦
           elim (list_all is_cancelable s.jobs) as (λ b. list_all is_cancelable s.jobs ≡ b → Keeps w (made_on (cond b (all_canceled s now s.jobs) (refused 0x0404)).change w)) [

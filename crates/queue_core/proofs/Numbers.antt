@@ -12,8 +12,7 @@ use Rattle.queue_core.specs.Machine.{canceled, canceled_in, is_cancelable}
 use Rattle.queue_core.specs.declared.job.Job.{Job}
 use Rattle.queue_core.specs.declared.job.Phase.{Phase}
 use Rattle.queue_core.specs.declared.job.Phase.TheVariants.{Waiting, Running, Stopped, Canceled, Aborted, Completed}
-use Rattle.queue_core.proofs.Fair.{all_of}
-use Rattle.queue_core.proofs.Ordered.{each_of, each-filter}
+use Rattle.queue_core.proofs.Ordered.{all_of, each_of, each-filter}
 
 -- ---- numbers that were seen
 

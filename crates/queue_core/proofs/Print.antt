@@ -1,11 +1,11 @@
 -- Print-Job and Create-Job keep a world sound: a row enters under the next number, and has taken nothing.
 use Rattle.std.proofs.Common.{◌≡◌, ℕ, pos, ◌+ℤ◌, ◌-ℤ◌, ◌+◌, ◌≤◌, ◌<◌, ◌^◌, List, [], ◌∷◌, ◌++◌, length, map, refl, ap, sym, ◌∙◌, arith, subst, eq-eqb, inr, Bool, true, false, cond}
-use Rattle.std.specs.Prelude.{Option, Some, None, IfSome, nat_eq, nat_le, nat_lt, bytes_eq, option_map, filter, unwrap_or}
+use Rattle.std.specs.Prelude.{Option, Some, None, IfSome, nat_eq, nat_le, nat_lt, bytes_eq, option_map, unwrap_or}
 use Rattle.std.specs.FinMap.{get}
 use Rattle.std.proofs.lemmas.Bool.Decides.{nat_tests}
 use Rattle.queue_core.specs.Settings.{AreSettings}
 use Rattle.queue_core.specs.Event.{Call, NewJob, NewDocument, ask, print_job, create_job}
-use Rattle.queue_core.specs.World.{World, Entry, rows, cut, made_on, with_row, with_document, add_document, live_jobs}
+use Rattle.queue_core.specs.World.{World, Entry, rows, cut, made_on, with_row, with_document, add_document, live_for, live_jobs}
 use Rattle.queue_core.specs.Machine.{entered, new_job, new_document, new_refusal, unless_refused, print_job_row, create_job_row, returned}
 use Rattle.queue_core.specs.Limits.{IsMoment, IsOwner, IsNewJob, IsSoundJob}
 use Rattle.queue_core.specs.Sound.{IsSound, IsSoundEntry, Rise}
@@ -86,16 +86,12 @@ entry_sound s now caller incoming j format (b ∷ bytes) fits sound = record { r
 
 -- ---- its account
 
-none_named : (js : List Job) → filter (λ (j : Job). false) js ≡ []
-none_named [] = refl
-none_named (j ∷ js) = none_named js
-
 nothing : (b : Bool) → pos 0 +ℤ cond b (pos 0 -ℤ pos 0) (pos 0) ≡ pos 0
 nothing true = refl
 nothing false = refl
 
 -- a call that speaks of no job that is there, and makes one
-module _ (w : World) (now : ℕ) (caller : List ℕ) (call : Call) (incoming : Bool) (j : NewJob) (format : Format) (payload : List ℕ) (sound : IsSound w) (moment : IsMoment now) (owner : IsOwner caller) (new : IsNewJob j) (fits : length payload ≤ 16777216) (none : (cut w (ask caller call)).jobs ≡ []) where
+module _ (w : World) (now : ℕ) (caller : List ℕ) (call : Call) (incoming : Bool) (j : NewJob) (format : Format) (payload : List ℕ) (sound : IsSound w) (moment : IsMoment now) (owner : IsOwner caller) (new : IsNewJob j) (fits : length payload ≤ 16777216) (none : (cut w (ask caller call)).jobs ≡ []) (counted : live_for caller call (rows w) ≡ live_jobs caller (rows w)) where
   abbrev scene : Scene
   scene = cut w (ask caller call)
 
@@ -130,13 +126,13 @@ module _ (w : World) (now : ℕ) (caller : List ℕ) (call : Call) (incoming : B
   new_keeps : Keeps w (made_on (unless_refused (new_refusal scene) (entered scene x (new_document scene.next format payload))).change w)
   new_keeps =
       elim (new_refusal scene) as (λ o. new_refusal scene ≡ o → Keeps w (made_on (unless_refused o (entered scene x (new_document scene.next format payload))).change w)) [
-        | None ↦ λ is. entered_keeps (not_refused scene is).0 (not_refused scene is).1
+        | None ↦ λ is. entered_keeps (subst (λ n. n < 100) counted (not_refused scene is).0) (not_refused scene is).1
         | Some code ↦ λ is. unchanged w sound
       ] refl
 
 pub print_keeps : (w : World) (now : ℕ) (caller : List ℕ) (j : NewJob) (format : Format) (payload : List ℕ) → IsSound w → IsMoment now → IsOwner caller → IsNewJob j → length payload ≤ 16777216 → Keeps w (made_on (print_job_row (cut w (ask caller (print_job j format payload))) now caller j format payload).change w)
-print_keeps w now caller j format payload sound moment owner new fits = new_keeps w now caller (print_job j format payload) false j format payload sound moment owner new fits (none_named (rows w))
+print_keeps w now caller j format payload sound moment owner new fits = new_keeps w now caller (print_job j format payload) false j format payload sound moment owner new fits refl refl
 
 -- without a document its format does not matter
 pub create_keeps : (w : World) (now : ℕ) (caller : List ℕ) (j : NewJob) → IsSound w → IsMoment now → IsOwner caller → IsNewJob j → Keeps w (made_on (create_job_row (cut w (ask caller (create_job j))) now caller j).change w)
-create_keeps w now caller j sound moment owner new = new_keeps w now caller (create_job j) true j OctetStream [] sound moment owner new (omega arith) (none_named (rows w))
+create_keeps w now caller j sound moment owner new = new_keeps w now caller (create_job j) true j OctetStream [] sound moment owner new (omega arith) refl refl

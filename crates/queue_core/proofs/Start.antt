@@ -5,11 +5,8 @@ use Rattle.std.specs.FinMap.{empty, entries, get-empty, from_sorted, empty_of_le
 use Rattle.std.specs.declared.cmp.Ordering.{Ordering}
 use Rattle.std.proofs.Common.{length}
 use Rattle.queue_core.specs.Settings.{SettingValues, AreSettings}
-use Rattle.queue_core.specs.World.{World, grant_cmp, text_cmp, report_cmp}
+use Rattle.queue_core.specs.World.{empty_queue, grant_cmp, text_cmp, report_cmp}
 use Rattle.queue_core.specs.Sound.{IsSound, IsGrant, IsKept, granted, reserved, printed}
-
-abbrev pub start : SettingValues → World
-start s = record { settings = s; jobs = []; next = 1; grants = empty; free = empty; reports = empty }
 
 no_entries : {K X : Type 0} (R : K → K → Ordering) → entries (empty {K = K} {X = X} {R = R}) ≡ []
 no_entries {K} {X} R = ap entries (sym (empty_of_len (from_sorted {K = K} {X = X} {R = R} []) (len-entries _ ∙ ap length (entries-from_sorted R [] tt)))) ∙ entries-from_sorted R [] tt
@@ -17,8 +14,8 @@ no_entries {K} {X} R = ap entries (sym (empty_of_len (from_sorted {K = K} {X = X
 not_some : {X : Type 0} (o : Option X) → o ≡ None → IsSome o → ⊥
 not_some o e h = let no : is_some o ≡ false = ap is_some e in absurd (cc)
 
-pub start_sound : (s : SettingValues) → AreSettings s → IsSound (start s)
-start_sound s settings = record {
+pub empty_sound : (s : SettingValues) → AreSettings s → IsSound (empty_queue s)
+empty_sound s settings = record {
   settings = settings;
   numbers = omega arith;
   next = omega arith;
@@ -27,8 +24,8 @@ start_sound s settings = record {
   grants = λ b a. subst (λ o. IfSome o (IsGrant b a)) (sym (get-empty grant_cmp (b, a))) tt;
   most = λ a. subst (λ es. sum_by (λ (g : (List ℕ × List ℕ) × ℕ). if bytes_eq g.0.1 a then g.1 else 0) es ≤ 1000000000) (sym (no_entries grant_cmp)) (omega arith);
   accounts = λ a. (λ h. absurd (not_some _ (get-empty text_cmp a) h), λ h. absurd (not_some _ (get-empty grant_cmp (h.0, a)) h.1));
-  reports = λ n m. subst (λ o. IfSome o (IsKept (start s) n m)) (sym (get-empty report_cmp (n, m))) tt;
+  reports = λ n m. subst (λ o. IfSome o (IsKept (empty_queue s) n m)) (sym (get-empty report_cmp (n, m))) tt;
   counts = tt;
   idle = tt;
-  balances = λ a. subst (λ o. IfSome o (λ f. pos (granted a (start s)) ≡ f +ℤ pos (reserved a (start s) + printed a (start s)))) (sym (get-empty text_cmp a)) tt;
+  balances = λ a. subst (λ o. IfSome o (λ f. pos (granted a (empty_queue s)) ≡ f +ℤ pos (reserved a (empty_queue s) + printed a (empty_queue s)))) (sym (get-empty text_cmp a)) tt;
 }

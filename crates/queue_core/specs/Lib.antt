@@ -2,6 +2,7 @@ pub mod Uri
 pub mod Settings
 pub mod Job
 pub mod Event
+pub mod Visible
 pub mod World
 pub mod Machine
 pub mod Order
@@ -10,4 +11,3 @@ pub mod Balance
 pub mod Sound
 pub mod Runs
 pub mod Book
-pub mod Lists

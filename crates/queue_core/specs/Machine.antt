@@ -1,8 +1,8 @@
 -- The machine: what each event is answered, and what becomes of the rows. One definition for each row of its table.
-use Rattle.std.specs.Prelude.{ℕ, ℤ, pos, ◌+ℤ◌, ◌-ℤ◌, ◌+◌, fold, List, [], ◌∷◌, ◌++◌, Option, Some, None, map, filter, take, ◌==◌, ◌&&◌, ◌||◌, not, bytes_eq, Bool, true, false, if◌then◌else◌, nat_le, nat_lt, int_le, unwrap_or, length}
+use Rattle.std.specs.Prelude.{ℕ, ℤ, pos, ◌+ℤ◌, ◌-ℤ◌, ◌+◌, fold, List, [], ◌∷◌, Option, Some, None, map, filter, ◌==◌, ◌&&◌, not, bytes_eq, Bool, true, false, if◌then◌else◌, nat_le, nat_lt, int_le, unwrap_or, length}
 use Rattle.std.specs.List.{list_all, list_any}
 use Rattle.std.specs.Option.{option_map_or}
-use Rattle.queue_core.specs.Job.{estimate, owed, state}
+use Rattle.queue_core.specs.Job.{estimate, owed}
 use Rattle.queue_core.specs.Event.{NewJob, NewDocument, Change, Decision, Event, Call, ask, print_job, validate_job, create_job, send_document, cancel_job, cancel_my_jobs, hold_job, release_job, get_job_attributes, get_jobs, get_printer_attributes}
 use Rattle.queue_core.specs.World.{World, cut, made_on, job_at}
 use Rattle.queue_core.specs.declared.job.Job.{Job}
@@ -15,8 +15,6 @@ use Rattle.queue_core.specs.declared.event.Reply.{Reply}
 use Rattle.queue_core.specs.declared.event.Reply.TheVariants.{Refused, Done, Jobs, Printer}
 use Rattle.queue_core.specs.declared.event.Scene.{Scene}
 use Rattle.queue_core.specs.declared.event.QueueCounts.{QueueCounts}
-use Rattle.queue_core.specs.declared.event.WhichJobs.{WhichJobs}
-use Rattle.queue_core.specs.declared.event.WhichJobs.TheVariants.{NotCompleted, Completed as CompletedJobs}
 
 abbrev pub no_change : Change
 no_change = record { jobs = []; document = None; free = []; next = None }
@@ -110,42 +108,6 @@ create_job_row s now caller j = unless_refused (new_refusal s) (entered s (new_j
 -- what Print-Job would answer, without the job
 abbrev pub validate_job_row : Scene → Decision
 validate_job_row s = unless_refused (new_refusal s) (answered Done)
-
--- ---- Get-Jobs (RFC 8011, section 4.2.6)
-
-abbrev pub in_states : ℕ → ℕ → List Job → List Job
-in_states first last js = filter (λ j. nat_le first (state j) && nat_le (state j) last) js
-
--- jobs by number: first those that the device has, then those that it may start, then those that wait
-abbrev pub by_state : List Job → List Job
-by_state js = in_states 5 6 js ++ in_states 3 3 js ++ in_states 4 4 js
-
--- the moment at which a job ended
-abbrev pub end_of : Job → ℕ
-end_of j = unwrap_or j.ended 0
-
--- a ended later than b, or at the same moment with the greater number
-abbrev pub is_newer : Job → Job → Bool
-is_newer a b = nat_lt (end_of b) (end_of a) || (end_of a == end_of b && nat_lt b.number a.number)
-
--- behind all that are newer
-abbrev pub placed : Job → List Job → List Job
-placed j [] = j ∷ []
-placed j (k ∷ ks) = if is_newer k j then k ∷ placed j ks else j ∷ k ∷ ks
-
--- the newest first
-abbrev pub by_end : List Job → List Job
-by_end [] = []
-by_end (j ∷ js) = placed j (by_end js)
-
-abbrev pub in_order : WhichJobs → List Job → List Job
-in_order NotCompleted js = by_state js
-in_order CompletedJobs js = by_end js
-
--- no more than the limit, where there is one
-abbrev pub within_limit : Option ℕ → List Job → List Job
-within_limit None js = js
-within_limit (Some n) js = take n js
 
 -- ---- Get-Printer-Attributes (RFC 8011, sections 4.2.5 and 5.4.11)
 
@@ -254,7 +216,7 @@ call_row s now caller (print_job j format payload) = print_job_row s now caller 
 call_row s now caller (validate_job j) = validate_job_row s
 call_row s now caller (create_job j) = create_job_row s now caller j
 call_row s now caller (send_document n format payload last) = of_own caller (λ j. send_in s j format payload last) s.jobs
-call_row s now caller (get_jobs which limit) = answered (Jobs (within_limit limit (in_order which s.jobs)))
+call_row s now caller (get_jobs which limit) = answered (Jobs s.jobs)
 call_row s now caller get_printer_attributes = printer_row s
 call_row s now caller (cancel_job n) = of_own caller (λ j. cancel_row s now j) s.jobs
 call_row s now caller (cancel_my_jobs numbers) = cancel_my_jobs_row s now numbers

@@ -13,9 +13,9 @@ pub record SettingValues : Type 0 where
   -- the second of the clock at which the printer's up time is 0
   pub epoch : ℤ
 
--- a visible character of ASCII that begins neither a query nor a fragment
+-- a printable character of ASCII that begins neither a query nor a fragment
 abbrev pub is_uri_byte : ℕ → Bool
-is_uri_byte b = nat_le 33 b && nat_le b 126 && not (b == byte "?" || b == byte "#")
+is_uri_byte b = nat_le 32 b && nat_le b 126 && not (b == byte "?" || b == byte "#")
 
 pub record AreSettings (s : SettingValues) : Type 0 where
   pub uri_some : 1 ≤ length s.uri

@@ -1,22 +1,21 @@
 -- A queue as a whole: its jobs with their documents, accounts, grants and reports; and what a change makes of it.
-use Rattle.std.specs.Prelude.{ℕ, ℤ, List, [], ◌∷◌, ◌++◌, Option, Some, None, map, filter, find, fold, count_by, not, ◌==◌, ◌&&◌, bytes_eq, Bool, false, if◌then◌else◌, unwrap_or}
+use Rattle.std.specs.Prelude.{ℕ, ℤ, List, [], ◌∷◌, ◌++◌, Option, Some, None, map, filter, find, fold, count_by, ◌==◌, ◌&&◌, bytes_eq, Bool, if◌then◌else◌, unwrap_or}
 use Rattle.std.specs.List.{list_any}
 use Rattle.std.specs.declared.cmp.Ordering.{Ordering}
 use Rattle.std.specs.Ordering.{nat_cmp, ordering_then}
 use Rattle.std.specs.Cmp.Lexicographic.{slice_cmp}
 use Rattle.std.specs.Coded.{Coded, coded×, coded_list, coded_ℕ, coded_ℤ}
-use Rattle.std.specs.FinMap.{code, FinMap, insert, get}
+use Rattle.std.specs.FinMap.{code, FinMap, empty, insert, get}
 use Rattle.queue_core.specs.Settings.{SettingValues}
 use Rattle.queue_core.specs.Job.{is_live, is_running, is_stopped}
-use Rattle.queue_core.specs.Event.{NewDocument, Change, Event, ask, print_job, validate_job, create_job, send_document, cancel_job, cancel_my_jobs, hold_job, release_job, get_job_attributes, get_jobs, get_printer_attributes}
+use Rattle.queue_core.specs.Visible.{visible}
+use Rattle.queue_core.specs.Event.{NewDocument, Change, Event, Call, ask, print_job, validate_job, create_job, send_document, cancel_job, cancel_my_jobs, hold_job, release_job, get_job_attributes, get_jobs, get_printer_attributes}
 use Rattle.queue_core.specs.declared.job.Job.{Job}
 use Rattle.queue_core.specs.declared.document.Document.{Document}
 use Rattle.queue_core.specs.declared.event.FreeRow.{FreeRow}
 use Rattle.queue_core.specs.declared.event.KeptReport.{KeptReport}
 use Rattle.queue_core.specs.declared.event.Scene.{Scene}
 use Rattle.queue_core.specs.declared.event.QueueCounts.{QueueCounts}
-use Rattle.queue_core.specs.declared.event.WhichJobs.{WhichJobs}
-use Rattle.queue_core.specs.declared.event.WhichJobs.TheVariants.{NotCompleted, Completed}
 
 -- a job with its documents, in the order in which they came
 pub record Entry : Type 0 where
@@ -46,6 +45,10 @@ pub record World : Type 0 where
   pub free : FinMap text_cmp ℤ
   -- accepted reports by job and sequence number
   pub reports : FinMap report_cmp KeptReport
+
+-- a queue without jobs, accounts and reports
+abbrev pub empty_queue : SettingValues → World
+empty_queue settings = record { settings = settings; jobs = []; next = 1; grants = empty; free = empty; reports = empty }
 
 -- the jobs as rows
 abbrev pub rows : World → List Job
@@ -83,33 +86,28 @@ made_on c w = record w {
 
 -- ---- what of a world an event needs
 
--- states 3 to 6 are not completed, states 7 to 9 are
-abbrev pub is_among : WhichJobs → Job → Bool
-is_among NotCompleted j = is_live j
-is_among Completed j = not (is_live j)
+-- the job of that number, in a list of all of them
+abbrev pub numbered : ℕ → List Job → List Job
+numbered n js = filter (λ j. j.number == n) js
 
--- the numbers that a Cancel-My-Jobs has
-abbrev pub numbers_in : Event → List ℕ
-numbers_in (ask caller (cancel_my_jobs (Some numbers))) = numbers
-numbers_in _ = []
+-- the job has one of these numbers
+unfoldable pub is_one_of : List ℕ → Job → Bool
+is_one_of numbers j = list_any (λ n. n == j.number) numbers
 
--- the event speaks of this job
-abbrev pub concerns : Event → Job → Bool
-concerns (ask caller (print_job new format payload)) j = false
-concerns (ask caller (validate_job new)) j = false
-concerns (ask caller (create_job new)) j = false
-concerns (ask caller (send_document n format payload last)) j = j.number == n
-concerns (ask caller (cancel_job n)) j = j.number == n
-concerns (ask caller (cancel_my_jobs (Some numbers))) j = bytes_eq j.owner caller && list_any (λ n. n == j.number) numbers
-concerns (ask caller (cancel_my_jobs None)) j = bytes_eq j.owner caller && is_live j
-concerns (ask caller (hold_job n)) j = j.number == n
-concerns (ask caller (release_job n)) j = j.number == n
-concerns (ask caller (get_job_attributes n)) j = j.number == n
-concerns (ask caller (get_jobs which limit)) j = bytes_eq j.owner caller && is_among which j
-concerns (ask caller get_printer_attributes) j = false
-
-abbrev pub caller_of : Event → List ℕ
-caller_of (ask caller call) = caller
+-- of all jobs those that a caller's call speaks of
+abbrev pub jobs_for : List ℕ → Call → List Job → List Job
+jobs_for caller (print_job new format payload) js = []
+jobs_for caller (validate_job new) js = []
+jobs_for caller (create_job new) js = []
+jobs_for caller (send_document n format payload last) js = numbered n js
+jobs_for caller (cancel_job n) js = numbered n js
+jobs_for caller (cancel_my_jobs (Some numbers)) js = filter (λ j. bytes_eq j.owner caller && is_one_of numbers j) js
+jobs_for caller (cancel_my_jobs None) js = filter (λ j. bytes_eq j.owner caller && is_live j) js
+jobs_for caller (hold_job n) js = numbered n js
+jobs_for caller (release_job n) js = numbered n js
+jobs_for caller (get_job_attributes n) js = numbered n js
+jobs_for caller (get_jobs which limit) js = visible caller which limit js
+jobs_for caller get_printer_attributes js = []
 
 -- how many jobs of the caller are in states 3 to 6
 abbrev pub live_jobs : List ℕ → List Job → ℕ
@@ -117,38 +115,62 @@ live_jobs caller js = count_by (λ j. bytes_eq j.owner caller && is_live j) js
 
 -- the jobs that the event speaks of
 abbrev pub jobs_of : Event → World → List Job
-jobs_of e w = filter (concerns e) (rows w)
+jobs_of (ask caller call) w = jobs_for caller call (rows w)
 
-abbrev pub counts_of : List Job → QueueCounts
-counts_of js = record { running = count_by is_running js; stopped = count_by is_stopped js; queued = count_by is_live js }
+-- a caller's live jobs are counted where a new one is asked for, and else not
+abbrev pub live_for : List ℕ → Call → List Job → ℕ
+live_for caller (print_job new format payload) js = live_jobs caller js
+live_for caller (validate_job new) js = live_jobs caller js
+live_for caller (create_job new) js = live_jobs caller js
+live_for caller (send_document n format payload last) js = 0
+live_for caller (cancel_job n) js = 0
+live_for caller (cancel_my_jobs numbers) js = 0
+live_for caller (hold_job n) js = 0
+live_for caller (release_job n) js = 0
+live_for caller (get_job_attributes n) js = 0
+live_for caller (get_jobs which limit) js = 0
+live_for caller get_printer_attributes js = 0
 
--- jobs are counted for Get-Printer-Attributes alone
-abbrev pub counts_for : Event → List Job → QueueCounts
-counts_for (ask caller get_printer_attributes) js = counts_of js
-counts_for (ask caller (print_job new format payload)) js = counts_of []
-counts_for (ask caller (validate_job new)) js = counts_of []
-counts_for (ask caller (create_job new)) js = counts_of []
-counts_for (ask caller (send_document n format payload last)) js = counts_of []
-counts_for (ask caller (cancel_job n)) js = counts_of []
-counts_for (ask caller (cancel_my_jobs numbers)) js = counts_of []
-counts_for (ask caller (hold_job n)) js = counts_of []
-counts_for (ask caller (release_job n)) js = counts_of []
-counts_for (ask caller (get_job_attributes n)) js = counts_of []
-counts_for (ask caller (get_jobs which limit)) js = counts_of []
+abbrev pub live_of : Event → World → ℕ
+live_of (ask caller call) w = live_for caller call (rows w)
+
+abbrev pub queue_counts : List Job → QueueCounts
+queue_counts js = record { running = count_by is_running js; stopped = count_by is_stopped js; queued = count_by is_live js }
+
+-- all jobs are counted for Get-Printer-Attributes, and else none
+abbrev pub counts_for : Call → List Job → QueueCounts
+counts_for get_printer_attributes js = queue_counts js
+counts_for (print_job new format payload) js = queue_counts []
+counts_for (validate_job new) js = queue_counts []
+counts_for (create_job new) js = queue_counts []
+counts_for (send_document n format payload last) js = queue_counts []
+counts_for (cancel_job n) js = queue_counts []
+counts_for (cancel_my_jobs numbers) js = queue_counts []
+counts_for (hold_job n) js = queue_counts []
+counts_for (release_job n) js = queue_counts []
+counts_for (get_job_attributes n) js = queue_counts []
+counts_for (get_jobs which limit) js = queue_counts []
+
+abbrev pub counts_of : Event → World → QueueCounts
+counts_of (ask caller call) w = counts_for call (rows w)
 
 -- the account with its free pages, where it is there
 abbrev pub found_row : List ℕ → Option ℤ → List FreeRow
 found_row account None = []
 found_row account (Some free) = record { account = account; free = free } ∷ []
 
+-- the caller's account
+abbrev pub free_of : Event → World → List FreeRow
+free_of (ask caller call) w = found_row caller (get w.free caller)
+
 -- the rows that the event needs
 abbrev pub cut : World → Event → Scene
 cut w e = record {
   settings = w.settings;
   jobs = jobs_of e w;
-  free = found_row (caller_of e) (get w.free (caller_of e));
-  live = live_jobs (caller_of e) (rows w);
-  counts = counts_for e (rows w);
+  free = free_of e w;
+  live = live_of e w;
+  counts = counts_of e w;
   next = w.next;
 }
 

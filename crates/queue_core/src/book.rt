@@ -13,14 +13,14 @@ ghost use Rattle.queue_core.specs.World.{World, cut, made_on};
 use crate::event::{Decision, Event};
 use std::alloc::AllocError;
 
-/// Why a book can't do what it was asked.
+/// Why a book can't do what it was asked, by its number.
 #[derive(Clone, Copy, Debug, PartialEq, Eq)]
 pub enum BookFault {
-    Memory,
+    Memory = 1,
     /// The disk, or its size, refused.
-    Disk,
+    Disk = 2,
     /// The rows that were read don't stand for a world.
-    Damaged,
+    Damaged = 3,
 }
 
 impl From<AllocError> for BookFault {
@@ -59,6 +59,6 @@ pub trait QueueBook {
         ensures ok { OnOk result ((w : World) → stands self.old w → stands self.new (made_on (change_of d.entry.change) w)) }
         ensures err { OnErr result ((w : World) → stands self.old w → stands self.new w) };
 
-    /// A world that a book stands for is sound.
-    ghost sound: { (b : Self) (w : World) → stands b w → IsSound w };
+    /// A world that an honest book stands for is sound.
+    ghost sound: { (b : Self) (w : World) → is_honest b → stands b w → IsSound w };
 }

@@ -16,7 +16,7 @@ ghost use Rattle.std.specs.Prelude.{◌≡◌, length, IfOk, Some, None, if◌th
 ghost use Rattle.queue_core.specs.Job.{state, reasons, is_live};
 
 use crate::text::Text;
-use std::alloc::AllocError;
+use std::alloc::{AllocError, Global};
 use std::marker::Model;
 
 /// Who canceled a job.
@@ -131,6 +131,17 @@ impl JobList {
         ensures { result ≡ length self.now }
     {
         self.jobs.len()
+    }
+
+    /// A copy. The one error is want of memory.
+    pub fn try_clone(&self, alloc: Global) -> Result<JobList, AllocError>
+        ensures { IfOk result (λ l. l ≡ self.now) }
+    {
+        let mut jobs = Vec::new(alloc);
+        for job in self.jobs.as_slice() {
+            jobs.push(job.try_clone()?)?;
+        }
+        Ok(JobList { jobs })
     }
 }
 

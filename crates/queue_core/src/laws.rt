@@ -1,15 +1,17 @@
 //! Laws of the machine, which no program calls: each is a contract on an empty body.
 ghost use Rattle.std.specs.Prelude.{◌≡◌, ◌∷◌, ◌++◌, [], Bool, List, count_by};
 ghost use Rattle.std.specs.List.{AllByRecursion};
-ghost use Rattle.queue_core.specs.Event.{Event};
-ghost use Rattle.queue_core.specs.Limits.{IsFair};
-ghost use Rattle.queue_core.specs.Machine.{in_order};
+ghost use Rattle.queue_core.specs.Book.{IsDecisionOn};
+ghost use Rattle.queue_core.specs.Event.{Event, Decision};
+ghost use Rattle.queue_core.specs.Limits.{IsFair, IsSoundDecision};
+ghost use Rattle.queue_core.specs.Visible.{in_order};
 ghost use Rattle.queue_core.specs.Order.{IsLive, AreNewestFirst, AreByRank, AreRising};
 ghost use Rattle.queue_core.specs.declared.event.WhichJobs.TheVariants.{NotCompleted, Completed as CompletedJobs};
 ghost use Rattle.queue_core.specs.declared.job.Job.{Job};
 ghost use Rattle.queue_core.specs.Runs.{Place, IsPlace, run, MovesAlong};
+ghost use Rattle.queue_core.specs.Settings.{SettingValues, AreSettings};
 ghost use Rattle.queue_core.specs.Sound.{IsSound, Balances};
-ghost use Rattle.queue_core.specs.World.{World, cut};
+ghost use Rattle.queue_core.specs.World.{World, cut, empty_queue, made_on};
 
 /// From a sound world every place of a run, a moment with an event within the limits or with nothing,
 /// leaves a sound world: jobs move along the allowed pairs alone, and in every account pages granted are
@@ -24,6 +26,17 @@ pub fn run_keeps()
 /// The scene that is cut from a sound world is one that `decide` takes.
 pub fn cut_is_fair()
     ensures { (w : World) (e : Event) → IsSound w → IsFair (cut w e) }
+{}
+
+/// A queue without jobs, accounts and reports is sound.
+pub fn empty_is_sound()
+    ensures { (s : SettingValues) → AreSettings s → IsSound (empty_queue s) }
+{}
+
+/// What the machine decides on a sound world is within the limits, and its change makes a sound world.
+pub fn decisions_are_sound()
+    ensures within { (w : World) (d : Decision) → IsSound w → IsDecisionOn w d → IsSoundDecision d }
+    ensures made { (w : World) (d : Decision) → IsSound w → IsDecisionOn w d → IsSound (made_on d.change w) }
 {}
 
 /// Get-Jobs shows each job that it is about, and none twice: 'completed' from the one that ended last,

@@ -2,20 +2,19 @@
 ghost use Rattle.std.specs.Prelude.{◌≡◌, ◌∷◌, [], ◌<◌, ◌^◌, IfOk, IsNone, None, option_map};
 ghost use Rattle.queue_core.specs.Balance.{AreAmounts};
 ghost use Rattle.queue_core.specs.Event.{event_of, change_of, decision_of, document_of, new_job_of, call_of};
-ghost use Rattle.queue_core.specs.Limits.{IsMoment, IsEvent, IsCall, IsNewJob, IsFair, IsSoundReply};
-ghost use Rattle.queue_core.specs.Machine.{answered, decision, new_job, entered as entered_row, new_refusal, print_job_row, create_job_row, validate_job_row, printer_row, within_limit, in_order, call_row, step};
+ghost use Rattle.queue_core.specs.Limits.{IsMoment, IsEvent, IsCall, IsNewJob, IsFair, IsSoundDecision};
+ghost use Rattle.queue_core.specs.Machine.{answered, decision, new_job, entered as entered_row, new_refusal, print_job_row, create_job_row, validate_job_row, printer_row, printer_state, call_row, step};
 ghost use Rattle.queue_core.specs.Runs.{MovesAlong};
 ghost use Rattle.queue_core.specs.Sound.{IsSound, Balances};
 ghost use Rattle.queue_core.specs.World.{World, cut, made_on};
 ghost use Rattle.queue_core.specs.declared.event.Reply.TheVariants.{Jobs};
 
 use crate::document::Format;
-use crate::event::{Call, Decision, Event, NewDocument, NewJob, Reply, Scene, WhichJobs};
+use crate::event::{Call, Decision, Event, NewDocument, NewJob, QueueCounts, Reply, Scene};
 use crate::job::{Job, JobList, Phase};
 use crate::my_jobs::{cancel_all, cancel_named};
 use crate::outcome::{answer_only, change_job, refuse};
 use crate::own_job::{cancel, count_of, document_in, hold, own, release, send, show};
-use crate::shown::{cut_at, ordered, state_of_printer};
 use crate::text::Text;
 use std::alloc::{AllocError, Global};
 
@@ -141,17 +140,25 @@ fn validate<'a>(alloc: Global, s: &Scene) -> Decision<'a>
     }
 }
 
-fn show_jobs<'a>(
-    alloc: Global,
-    s: &Scene,
-    which: WhichJobs,
-    limit: Option<u32>,
-) -> Result<Decision<'a>, AllocError>
-    ensures { IfOk result (λ d. decision_of d ≡ answered (Jobs (within_limit limit (in_order which s.now.jobs)))) }
+/// The jobs of the scene are those that are shown.
+fn show_jobs<'a>(alloc: Global, s: &Scene) -> Result<Decision<'a>, AllocError>
+    ensures { IfOk result (λ d. decision_of d ≡ answered (Jobs s.now.jobs)) }
 {
-    let shown = ordered(alloc, which, s.jobs.as_slice())?;
-    let shown = cut_at(shown, limit);
-    Ok(answer_only(alloc, Reply::Jobs(JobList::from_jobs(shown))))
+    let shown = s.jobs.try_clone(alloc)?;
+    Ok(answer_only(alloc, Reply::Jobs(shown)))
+}
+
+/// The printer's state: 4 processing, 5 stopped, 3 idle.
+fn state_of_printer(counts: QueueCounts) -> u8
+    ensures { result ≡ printer_state counts }
+{
+    if counts.running > 0 {
+        4
+    } else if counts.stopped > 0 {
+        5
+    } else {
+        3
+    }
 }
 
 fn show_printer<'a>(alloc: Global, s: &Scene) -> Decision<'a>
@@ -209,7 +216,7 @@ fn answer_call<'a>(
             Err(code) => Ok(refuse(alloc, code)),
             Ok(j) => release(alloc, s, j),
         },
-        Call::GetJobs { which, limit } => show_jobs(alloc, s, *which, *limit),
+        Call::GetJobs { .. } => show_jobs(alloc, s),
         Call::GetPrinterAttributes => Ok(show_printer(alloc, s)),
         Call::CancelJob { .. } => match found {
             Err(code) => Ok(refuse(alloc, code)),
@@ -236,7 +243,7 @@ pub fn decide<'a>(
     requires moment { IsMoment now }
     requires event { IsEvent (event_of e.now) }
     ensures decides { IfOk result (λ d. decision_of d ≡ decision s.now now (event_of e.now)) }
-    ensures limits { IfOk result (λ d. IsSoundReply d.reply) }
+    ensures limits { IfOk result (λ d. IsSoundDecision (decision_of d)) }
 
     // on the scene that was cut from a world
     ensures reply { IfOk result (λ d. (w : World) → s.now ≡ cut w (event_of e.now) → d.reply ≡ (step w now (event_of e.now)).reply) }

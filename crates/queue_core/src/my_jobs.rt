@@ -16,7 +16,7 @@ use std::alloc::{AllocError, Global};
 use std::collections::BTreeSet;
 
 /// A set of these numbers.
-pub(crate) fn number_set(alloc: Global, numbers: &[u32]) -> Result<BTreeSet<u32>, AllocError>
+pub fn number_set(alloc: Global, numbers: &[u32]) -> Result<BTreeSet<u32>, AllocError>
     ensures { IfOk result (λ s. (q : ℕ) → contains nat_cmp s q ≡ list_any (λ n. n == q) numbers.now) }
 {
     let mut set = BTreeSet::new(alloc);

@@ -9,12 +9,12 @@ use crate::uri::path;
 use std::alloc::{AllocError, Global};
 use std::marker::Model;
 
-/// Why settings were refused.
+/// Why settings were refused, by its number.
 #[derive(Clone, Copy, Debug, PartialEq, Eq)]
 pub enum SettingFault {
     /// A value is not within its limits.
-    Bad,
-    Memory,
+    Bad = 1,
+    Memory = 2,
 }
 
 /// A printer's settings, which always keep their limits.
@@ -40,7 +40,7 @@ fn has_uri_bytes(uri: &[u8]) -> bool
     ensures { result ≡ list_all is_uri_byte uri.now }
 {
     uri.iter()
-        .all(|b| *b >= 33 && *b <= 126 && !(*b == b'?' || *b == b'#'))
+        .all(|b| *b >= 32 && *b <= 126 && !(*b == b'?' || *b == b'#'))
 }
 
 fn is_printer_path(path: &[u8]) -> bool
@@ -52,7 +52,7 @@ fn is_printer_path(path: &[u8]) -> bool
 impl Settings {
     ghost use Rattle.queue_core.specs.Settings.{SettingValues, AreSettings};
 
-    /// Settings of these values: a URI of 1 to 255 visible ASCII characters with the path `/ipp/print`,
+    /// Settings of these values: a URI of 1 to 255 printable ASCII characters (0x20 to 0x7e) with the path `/ipp/print`,
     /// without query and fragment; a name of 1 to 127 octets; an estimate of 0 to 100,000 pages; the
     /// epoch in seconds since 1970.
     pub fn new(

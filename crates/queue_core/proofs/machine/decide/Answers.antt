@@ -1,10 +1,11 @@
 -- Each clause over worlds follows from what the machine's decision makes of the world that the scene was cut from.
 use Rattle.std.proofs.Common.{◌≡◌, sym, subst, rules}
 use Rattle.std.specs.Prelude.{IfOk}
-use Rattle.queue_core.specs.Event.{event_of, decision_of, Decision}
-use Rattle.queue_core.specs.Limits.{IsSoundReply}
+use Rattle.queue_core.specs.Event.{event_of, decision_of}
+use Rattle.queue_core.specs.Limits.{IsSoundDecision}
 use Rattle.queue_core.specs.Machine.{decision}
-use Rattle.queue_core.proofs.Steps.{reply_within, step_keeps, decided_on, if_ok}
+use Rattle.queue_core.proofs.Steps.{step_keeps, decided_on, if_ok}
+use Rattle.queue_core.proofs.Within.{decision_within}
 use Rattle.queue_core.proofs.machine.decide.Goals as goal
 use Rattle.queue_core.proofs.machine.decide.Goals.{After-answer_call}
 
@@ -12,7 +13,7 @@ decides : (c : After-answer_call) → IfOk c.answer_call.result (λ d. decision_
 decides c = search rules
 
 pub returns-clause-limits : goal.returns-clause-limits
-returns-clause-limits c = if_ok c.answer_call.result _ _ (λ d is. subst (λ (d : Decision). IsSoundReply d.reply) (sym is) (reply_within c.args.s.now c.args.now (event_of c.args.e.now) c.requires.fair c.requires.moment c.requires.event)) (decides c)
+returns-clause-limits c = if_ok c.answer_call.result _ _ (λ d is. subst IsSoundDecision (sym is) (decision_within c.args.s.now c.args.now (event_of c.args.e.now) c.requires.fair c.requires.moment c.requires.event)) (decides c)
 
 pub returns-clause-sound : goal.returns-clause-sound
 returns-clause-sound c = if_ok c.answer_call.result _ _ (λ d is w same sound. (step_keeps w (decision_of d) sound (decided_on w c.args.s.now c.args.now (event_of c.args.e.now) (decision_of d) c.requires.moment c.requires.event same is)).sound) (decides c)

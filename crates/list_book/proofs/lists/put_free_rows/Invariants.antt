@@ -1,0 +1,12 @@
+use Rattle.std.proofs.Common.{◌≡◌, ◌≤◌, ◌+◌, length}
+use Rattle.std.specs.Prelude.{vec_len, vec_capacity}
+use Rattle.std.specs.Vec.Iter.{into_iter_items}
+use Rattle.list_book.specs.Lists.{put_accounts}
+use Rattle.list_book.proofs.lists.put_free_rows.Given as goal
+
+abbrev pub invariant-loop-row : goal.invariant-loop-row
+invariant-loop-row l =
+    (goal.iterator-loop-row).can_next l.row-iterator ×
+    (goal.iterator-loop-row).is_finite l.row-iterator ×
+    (put_accounts l.free.items (into_iter_items l.row-iterator) ≡ put_accounts l.initial.free.items (into_iter_items l.initial.row-iterator)) ×
+    (vec_len l.free + length (into_iter_items l.row-iterator) ≤ vec_capacity l.free)

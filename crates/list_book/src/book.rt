@@ -1,0 +1,105 @@
+//! The plain book, which keeps a queue in lists.
+ghost use Rattle.std.specs.Prelude.{◌≡◌, ⊤, IfOk, IfErr, OnOk, OnErr};
+ghost use Rattle.queue_core.specs.Book.{IsContent, IsDecisionOn};
+ghost use Rattle.queue_core.specs.Event.{event_of, change_of, decision_of};
+ghost use Rattle.queue_core.specs.Limits.{IsMoment, IsEvent, IsSoundReply};
+ghost use Rattle.queue_core.specs.Machine.{decision};
+ghost use Rattle.queue_core.specs.World.{World, cut, made_on};
+
+use crate::lists::{Lists, kept_document, reserve, write};
+use crate::scene::scene;
+use queue_core::event::{Decision, Event};
+use queue_core::settings::Settings;
+use queue_core::{BookFault, QueueBook, cut_is_fair, decisions_are_sound, empty_is_sound};
+use std::alloc::Global;
+use std::marker::Model;
+
+/// A book in memory. Its content is a sound world.
+#[derive(Drop)]
+pub struct ListBook {
+    alloc: Global,
+    lists: Lists,
+}
+
+impl Model for ListBook {
+    ghost use Rattle.queue_core.specs.World.{World, grants_code, free_code, reports_code};
+    ghost use Rattle.queue_core.specs.declared.event.KeptReport.{KeptReport};
+    ghost use Rattle.std.specs.Coded.{Coded, codes};
+
+    ghost Value = { World };
+
+    ghost coded = { Prim.hlevel (codes, grants_code, free_code, reports_code (let kept : Coded KeptReport = Prim.hlevel codes in kept)) };
+
+    ghost use Rattle.list_book.specs.Lists.{world_of, IsTidy};
+    ghost use Rattle.queue_core.specs.Sound.{IsSound};
+
+    ghost view = { λ b. world_of b.lists };
+
+    ghost invariant = { λ b. IsTidy b.lists.jobs.items b.lists.documents.items × IsSound (world_of b.lists) };
+}
+
+impl ListBook {
+    ghost use Rattle.queue_core.specs.Sound.{IsSound};
+    ghost use Rattle.queue_core.specs.World.{empty_queue};
+
+    /// A book without jobs, grants and reports. The first job gets number 1. It takes no memory.
+    pub fn new(alloc: Global, settings: Settings) -> ListBook
+        ensures world { result ≡ empty_queue settings }
+        ensures sound { IsSound result }
+    {
+        empty_is_sound();
+        let _estimate = settings.estimate();
+        ListBook {
+            alloc,
+            lists: Lists {
+                settings,
+                jobs: Vec::new(alloc),
+                documents: Vec::new(alloc),
+                next: 1,
+                free: Vec::new(alloc),
+                grants: Vec::new(alloc),
+                reports: Vec::new(alloc),
+            },
+        }
+    }
+}
+
+/// A `ListBook` stands for its content, and is always honest. Its one fault is want of memory.
+impl QueueBook for ListBook {
+    ghost stands = { λ b w. IsContent b w };
+
+    ghost is_honest = { λ b. ⊤ };
+
+    fn decide<'a>(&mut self, now: u32, e: &Event<'a>) -> Result<Decision<'a>, BookFault>
+        requires moment { IsMoment now }
+        requires event { IsEvent (event_of e.now) }
+        ensures began { ⊤ → ⊤ }
+        ensures kept { (w : World) → IsContent self.old w → IsContent self.new w }
+        ensures decides { ⊤ → IfOk result (λ d. (w : World) → IsContent self.new w
+            → decision_of d ≡ decision (cut w (event_of e.now)) now (event_of e.now)) }
+        ensures limits { IfOk result (λ d. IsSoundReply d.reply) }
+        ensures fault { IfErr result (λ f. f ≡ BookFault.Memory) }
+    {
+        cut_is_fair();
+        let s = scene(self.alloc, &self.lists, e)?;
+        let d = queue_core::decide(self.alloc, &s, now, e)?;
+        Ok(d)
+    }
+
+    fn apply(&mut self, d: Decision<'_>) -> Result<(), BookFault>
+        requires decided { (w : World) → ⊤ → IsContent self.old w → IsDecisionOn w (decision_of d) }
+        ensures began { ⊤ → ⊤ }
+        ensures ok { OnOk result ((w : World) → IsContent self.old w → IsContent self.new (made_on (change_of d.entry.change) w)) }
+        ensures err { OnErr result ((w : World) → IsContent self.old w → IsContent self.new w) }
+        ensures fault { IfErr result (λ f. f ≡ BookFault.Memory) }
+    {
+        decisions_are_sound();
+        let Decision { reply: _, change } = d;
+        let document = kept_document(self.alloc, &change.document)?;
+        reserve(&mut self.lists, change.jobs.len(), change.free.len())?;
+        write(&mut self.lists, change, document);
+        Ok(())
+    }
+
+    ghost sound = { λ b w honest h. h.1 };
+}

@@ -1,0 +1,9 @@
+//! The plain book: a queue in lists, in memory.
+#![tactic(auto)]
+
+pub mod book;
+mod lists;
+mod scene;
+mod shown;
+
+pub use book::ListBook;

@@ -1,0 +1,251 @@
+//! What an event needs of the plain book.
+ghost use Rattle.std.specs.Prelude.{ℕ, ◌≡◌, ◌==◌, IfOk, count_by, filter, bytes_eq, ◌&&◌};
+ghost use Rattle.std.specs.BTreeSet.{contains};
+ghost use Rattle.std.specs.FinMap.{get};
+ghost use Rattle.std.specs.List.{list_any};
+ghost use Rattle.std.specs.Ordering.{nat_cmp};
+ghost use Rattle.queue_core.specs.Event.{ask, event_of, call_of};
+ghost use Rattle.queue_core.specs.Job.{is_live, is_running, is_stopped};
+ghost use Rattle.queue_core.specs.Visible.{is_among, visible};
+ghost use Rattle.queue_core.specs.World.{cut, found_row, is_one_of, numbered, jobs_for, live_for, counts_for};
+ghost use Rattle.list_book.specs.Lists.{free_map, world_of};
+
+use crate::lists::{Lists, account_place};
+use crate::shown::{cut_at, ordered};
+use queue_core::event::{Call, Event, FreeList, FreeRow, QueueCounts, Scene, WhichJobs};
+use queue_core::job::{Job, JobList, Phase, is_live_job};
+use queue_core::number_set;
+use queue_core::text::Text;
+use std::alloc::{AllocError, Global};
+use std::collections::BTreeSet;
+
+fn with_number(alloc: Global, jobs: &[Job], number: u32) -> Result<Vec<Job>, AllocError>
+    ensures { IfOk result (λ v. v.items ≡ numbered number jobs.now) }
+{
+    let mut named = Vec::new(alloc);
+    for job in jobs {
+        if job.number == number {
+            named.push(job.try_clone()?)?;
+        }
+    }
+    Ok(named)
+}
+
+/// The job is the caller's and its number is in the set.
+fn is_own_of(set: &BTreeSet<u32>, numbers: &[u32], caller: &str, j: &Job) -> bool
+    requires { (q : ℕ) → contains nat_cmp set.now q ≡ list_any (λ n. n == q) numbers.now }
+    ensures { result ≡ (bytes_eq j.now.owner caller.now && is_one_of numbers.now j.now) }
+{
+    j.owner.as_str() == caller && set.contains(&j.number)
+}
+
+/// The caller's jobs of these numbers.
+fn own_of_numbers(
+    alloc: Global,
+    jobs: &[Job],
+    caller: &str,
+    numbers: &[u32],
+) -> Result<Vec<Job>, AllocError>
+    ensures { IfOk result (λ v. v.items ≡ filter (λ j. bytes_eq j.owner caller.now && is_one_of numbers.now j) jobs.now) }
+{
+    let set = number_set(alloc, numbers)?;
+    let mut named = Vec::new(alloc);
+    for job in jobs {
+        if is_own_of(&set, numbers, caller, job) {
+            named.push(job.try_clone()?)?;
+        }
+    }
+    Ok(named)
+}
+
+fn is_listed(which: WhichJobs, j: &Job) -> bool
+    ensures { result ≡ is_among which j.now }
+{
+    match which {
+        WhichJobs::NotCompleted => is_live_job(j),
+        WhichJobs::Completed => !is_live_job(j),
+    }
+}
+
+/// The caller's jobs of that kind.
+fn own_among(
+    alloc: Global,
+    jobs: &[Job],
+    caller: &str,
+    which: WhichJobs,
+) -> Result<Vec<Job>, AllocError>
+    ensures { IfOk result (λ v. v.items ≡ filter (λ j. bytes_eq j.owner caller.now && is_among which j) jobs.now) }
+{
+    let mut own = Vec::new(alloc);
+    for job in jobs {
+        if job.owner.as_str() == caller && is_listed(which, job) {
+            own.push(job.try_clone()?)?;
+        }
+    }
+    Ok(own)
+}
+
+/// What Get-Jobs shows to the caller.
+fn shown_to(
+    alloc: Global,
+    jobs: &[Job],
+    caller: &str,
+    which: WhichJobs,
+    limit: Option<u32>,
+) -> Result<Vec<Job>, AllocError>
+    ensures { IfOk result (λ v. v.items ≡ visible caller.now which limit jobs.now) }
+{
+    let own = own_among(alloc, jobs, caller, which)?;
+    let shown = ordered(alloc, which, own.as_slice())?;
+    Ok(cut_at(shown, limit))
+}
+
+/// The jobs that the caller's call speaks of.
+fn concerned(
+    alloc: Global,
+    jobs: &[Job],
+    caller: &str,
+    call: &Call<'_>,
+) -> Result<Vec<Job>, AllocError>
+    ensures { IfOk result (λ v. v.items ≡ jobs_for caller.now (call_of call.now) jobs.now) }
+{
+    match call {
+        Call::PrintJob { .. }
+        | Call::ValidateJob { .. }
+        | Call::CreateJob { .. }
+        | Call::GetPrinterAttributes => Ok(Vec::new(alloc)),
+        Call::SendDocument { job, .. }
+        | Call::CancelJob { job }
+        | Call::HoldJob { job }
+        | Call::ReleaseJob { job }
+        | Call::GetJobAttributes { job } => with_number(alloc, jobs, *job),
+        Call::CancelMyJobs {
+            jobs: Some(numbers),
+        } => own_of_numbers(alloc, jobs, caller, numbers.as_slice()),
+        Call::CancelMyJobs { jobs: None } => own_among(
+            alloc,
+            jobs,
+            caller,
+            WhichJobs::NotCompleted,
+        ),
+        Call::GetJobs { which, limit } => shown_to(alloc, jobs, caller, *which, *limit),
+    }
+}
+
+fn live_of(jobs: &[Job], caller: &str) -> usize
+    ensures { result ≡ count_by (λ j. bytes_eq j.owner caller.now && is_live j) jobs.now }
+{
+    let mut live = 0;
+    for job in jobs {
+        if job.owner.as_str() == caller && is_live_job(job) {
+            live += 1;
+        }
+    }
+    live
+}
+
+/// How many live jobs the caller has, for a call that asks for a new one.
+fn live_for_call(jobs: &[Job], caller: &str, call: &Call<'_>) -> usize
+    ensures { result ≡ live_for caller.now (call_of call.now) jobs.now }
+{
+    match call {
+        Call::PrintJob { .. } | Call::ValidateJob { .. } | Call::CreateJob { .. } => {
+            live_of(jobs, caller)
+        }
+        _ => 0,
+    }
+}
+
+/// The account with its free pages, where it is there.
+fn free_rows_of(alloc: Global, free: &[FreeRow], account: &str) -> Result<Vec<FreeRow>, AllocError>
+    ensures { IfOk result (λ v. v.items ≡ found_row account.now (get (free_map free.now) account.now)) }
+{
+    let mut rows = Vec::new(alloc);
+    if let Some(i) = account_place(free, account) {
+        let account = Text::copy_of(alloc, account)?;
+        rows.push(FreeRow {
+            account,
+            free: free[i].free,
+        })?;
+    }
+    Ok(rows)
+}
+
+fn is_running_job(j: &Job) -> bool
+    ensures { result ≡ is_running j.now }
+{
+    matches!(j.phase, Phase::Running)
+}
+
+fn is_stopped_job(j: &Job) -> bool
+    ensures { result ≡ is_stopped j.now }
+{
+    matches!(j.phase, Phase::Stopped)
+}
+
+fn running_in(jobs: &[Job]) -> usize
+    ensures { result ≡ count_by is_running jobs.now }
+{
+    jobs.iter().filter(|j| is_running_job(j)).count()
+}
+
+fn stopped_in(jobs: &[Job]) -> usize
+    ensures { result ≡ count_by is_stopped jobs.now }
+{
+    jobs.iter().filter(|j| is_stopped_job(j)).count()
+}
+
+fn queued_in(jobs: &[Job]) -> usize
+    ensures { result ≡ count_by is_live jobs.now }
+{
+    jobs.iter().filter(|j| is_live_job(j)).count()
+}
+
+/// The counts of the queue, for a call that needs them.
+fn counts(jobs: &[Job], call: &Call<'_>) -> QueueCounts
+    ensures { result ≡ counts_for (call_of call.now) jobs.now }
+{
+    match call {
+        Call::GetPrinterAttributes => QueueCounts {
+            running: running_in(jobs),
+            stopped: stopped_in(jobs),
+            queued: queued_in(jobs),
+        },
+        _ => QueueCounts {
+            running: 0,
+            stopped: 0,
+            queued: 0,
+        },
+    }
+}
+
+/// The rows that a caller's call needs.
+fn scene_of_call(
+    alloc: Global,
+    l: &Lists,
+    caller: &str,
+    call: &Call<'_>,
+) -> Result<Scene, AllocError>
+    ensures { IfOk result (λ s. s ≡ cut (world_of l.now) (ask caller.now (call_of call.now))) }
+{
+    let settings = l.settings.try_clone()?;
+    let jobs = concerned(alloc, l.jobs.as_slice(), caller, call)?;
+    let free = free_rows_of(alloc, l.free.as_slice(), caller)?;
+    Ok(Scene {
+        settings,
+        jobs: JobList::from_jobs(jobs),
+        free: FreeList::from_rows(free),
+        live: live_for_call(l.jobs.as_slice(), caller, call),
+        counts: counts(l.jobs.as_slice(), call),
+        next: l.next,
+    })
+}
+
+/// The rows that an event needs. The one error is want of memory.
+pub(crate) fn scene(alloc: Global, l: &Lists, e: &Event<'_>) -> Result<Scene, AllocError>
+    ensures { IfOk result (λ s. s ≡ cut (world_of l.now) (event_of e.now)) }
+{
+    match e {
+        Event::Ask { caller, call } => scene_of_call(alloc, l, caller, call),
+    }
+}
