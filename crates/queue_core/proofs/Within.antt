@@ -28,13 +28,13 @@ one j sound zero d h = sound
 one j sound (suc k) d h = absurd (omega arith)
 
 answering : (r : Reply) → IsSoundReply r → IsSoundDecision (answered r)
-answering r sound = record { reply = sound; jobs = all_of IsSoundJob [] tt; document = tt }
+answering r sound = record { reply = sound; change = record { jobs = all_of IsSoundJob [] tt; document = tt } }
 
 refusing : (code : ℕ) → IsSoundDecision (refused code)
 refusing code = answering (Refused code) tt
 
 becoming : (s : Scene) (x : Job) → IsSoundJob x → IsSoundDecision (becomes s x)
-becoming s x sound = record { reply = tt; jobs = one x sound; document = tt }
+becoming s x sound = record { reply = tt; change = record { jobs = one x sound; document = tt } }
 
 -- a new document is of the job that comes with it
 of_its_job : (x : Job) (format : Format) (payload : List ℕ) → IfSome (new_document x.number format payload) (λ k. IsSome (job_at k.job (x ∷ [])))
@@ -50,7 +50,7 @@ entering s now caller incoming j payload document fair moment owner new fits its
     elim (new_refusal s) as (λ o. new_refusal s ≡ o → IsSoundDecision (unless_refused o (entered s (new_job s now caller incoming j payload) document))) [
       | None ↦ λ is.
           let job = new_job_sound s now caller incoming j payload fair.settings fair.next (not_refused s is).1 moment owner new fits in
-          record { reply = one (new_job s now caller incoming j payload) job; jobs = one (new_job s now caller incoming j payload) job; document = its }
+          record { reply = one (new_job s now caller incoming j payload) job; change = record { jobs = one (new_job s now caller incoming j payload) job; document = its } }
       | Some code ↦ λ is. refusing code
     ] refl
 
@@ -68,8 +68,10 @@ each_canceled now (j ∷ js) moment each = ((keeps_documents now j j.phase momen
 canceling_able : (s : Scene) (now : ℕ) → IsFair s → IsMoment now → IsSoundDecision (all_canceled s now (filter is_cancelable s.jobs))
 canceling_able s now fair moment = record {
   reply = tt;
-  jobs = all_of IsSoundJob _ (each_canceled now (filter is_cancelable s.jobs) moment (each_both IsSoundJob (λ j. is_cancelable j ≡ true) (filter is_cancelable s.jobs) (each-filter IsSoundJob is_cancelable s.jobs (each_of IsSoundJob s.jobs fair.jobs)) (passed is_cancelable s.jobs)));
-  document = tt;
+  change = record {
+    jobs = all_of IsSoundJob _ (each_canceled now (filter is_cancelable s.jobs) moment (each_both IsSoundJob (λ j. is_cancelable j ≡ true) (filter is_cancelable s.jobs) (each-filter IsSoundJob is_cancelable s.jobs (each_of IsSoundJob s.jobs fair.jobs)) (passed is_cancelable s.jobs)));
+    document = tt;
+  };
 }
 
 canceling_mine : (s : Scene) (now : ℕ) (numbers : Option (List ℕ)) → IsFair s → IsMoment now → IsSoundDecision (cancel_my_jobs_row s now numbers)
@@ -105,7 +107,7 @@ state_most c = elim (nat_lt 0 c.running) as (λ b. cond b 4 (cond (nat_lt 0 c.st
 sending : (s : Scene) (format : Format) (payload : List ℕ) (last : Bool) → length payload ≤ 16777216 → (j : Job) → IsSoundJob j → IsSoundDecision (send_in s j format payload last)
 sending s format payload last fits j sound =
     elim (is_sendable j payload) as (λ b. is_sendable j payload ≡ b → IsSoundDecision (cond b (record { reply = Jobs (sent j payload last ∷ []); change = record (changed s (sent j payload last ∷ [])) { document = new_document j.number format payload } }) (refused 0x0404))) [
-      | true ↦ λ is. let job = sent_sound j payload last sound is fits in record { reply = one (sent j payload last) job; jobs = one (sent j payload last) job; document = of_its_job (sent j payload last) format payload }
+      | true ↦ λ is. let job = sent_sound j payload last sound is fits in record { reply = one (sent j payload last) job; change = record { jobs = one (sent j payload last) job; document = of_its_job (sent j payload last) format payload } }
       | false ↦ λ is. refusing 0x0404
     ] refl
 

@@ -3,7 +3,7 @@ use Rattle.std.specs.Prelude.{◌≡◌, ℕ, ℤ, pos, neg_ℤ, ◌≤ℤ◌, �
 use Rattle.std.specs.List.{list_all}
 use Rattle.std.specs.Str.{IsUtf8}
 use Rattle.queue_core.specs.Settings.{AreSettings}
-use Rattle.queue_core.specs.Event.{Event, Call, NewJob, Decision, ask, print_job, validate_job, create_job, send_document, cancel_job, cancel_my_jobs, hold_job, release_job, get_job_attributes, get_jobs, get_printer_attributes}
+use Rattle.queue_core.specs.Event.{Event, Call, NewJob, Change, Decision, ask, print_job, validate_job, create_job, send_document, cancel_job, cancel_my_jobs, hold_job, release_job, get_job_attributes, get_jobs, get_printer_attributes}
 use Rattle.queue_core.specs.World.{job_at}
 use Rattle.queue_core.specs.declared.job.Job.{Job}
 use Rattle.queue_core.specs.declared.job.Phase.{Phase}
@@ -104,8 +104,12 @@ IsSoundReply Done = ⊤
 IsSoundReply (Jobs js) = All IsSoundJob js
 IsSoundReply (Printer state queued accepting) = (3 ≤ state) × (state ≤ 5) × (queued < 2 ^ 31)
 
--- a decision whose reply and rows are within their limits, and whose document is of one of its jobs
+-- a change whose rows are within their limits, and whose document is of one of its jobs
+pub record IsSoundChange (c : Change) : Type 0 where
+  pub jobs : All IsSoundJob c.jobs
+  pub document : IfSome c.document (λ k. IsSome (job_at k.job c.jobs))
+
+-- a decision within the limits
 pub record IsSoundDecision (d : Decision) : Type 0 where
   pub reply : IsSoundReply d.reply
-  pub jobs : All IsSoundJob d.change.jobs
-  pub document : IfSome d.change.document (λ k. IsSome (job_at k.job d.change.jobs))
+  pub change : IsSoundChange d.change

@@ -3,7 +3,7 @@ ghost use Rattle.std.specs.Prelude.{◌≡◌, ◌∷◌, ◌++◌, [], Bool, Li
 ghost use Rattle.std.specs.List.{AllByRecursion};
 ghost use Rattle.queue_core.specs.Book.{IsDecisionOn};
 ghost use Rattle.queue_core.specs.Event.{Event, Decision};
-ghost use Rattle.queue_core.specs.Limits.{IsFair, IsSoundDecision};
+ghost use Rattle.queue_core.specs.Limits.{IsFair, IsSoundChange};
 ghost use Rattle.queue_core.specs.Visible.{in_order};
 ghost use Rattle.queue_core.specs.Order.{IsLive, AreNewestFirst, AreByRank, AreRising};
 ghost use Rattle.queue_core.specs.declared.event.WhichJobs.TheVariants.{NotCompleted, Completed as CompletedJobs};
@@ -33,9 +33,9 @@ pub fn empty_is_sound()
     ensures { (s : SettingValues) → AreSettings s → IsSound (empty_queue s) }
 {}
 
-/// What the machine decides on a sound world is within the limits, and its change makes a sound world.
+/// What becomes of the rows by a decision on a sound world is within the limits, and makes a sound world.
 pub fn decisions_are_sound()
-    ensures within { (w : World) (d : Decision) → IsSound w → IsDecisionOn w d → IsSoundDecision d }
+    ensures within { (w : World) (d : Decision) → IsSound w → IsDecisionOn w d → IsSoundChange d.change }
     ensures made { (w : World) (d : Decision) → IsSound w → IsDecisionOn w d → IsSound (made_on d.change w) }
 {}
 

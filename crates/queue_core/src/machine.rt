@@ -2,7 +2,7 @@
 ghost use Rattle.std.specs.Prelude.{◌≡◌, ◌∷◌, [], ◌<◌, ◌^◌, IfOk, IsNone, None, option_map};
 ghost use Rattle.queue_core.specs.Balance.{AreAmounts};
 ghost use Rattle.queue_core.specs.Event.{event_of, change_of, decision_of, document_of, new_job_of, call_of};
-ghost use Rattle.queue_core.specs.Limits.{IsMoment, IsEvent, IsCall, IsNewJob, IsFair, IsSoundDecision};
+ghost use Rattle.queue_core.specs.Limits.{IsMoment, IsEvent, IsCall, IsNewJob, IsFair, IsSoundReply, IsSoundChange};
 ghost use Rattle.queue_core.specs.Machine.{answered, decision, new_job, entered as entered_row, new_refusal, print_job_row, create_job_row, validate_job_row, printer_row, printer_state, call_row, step};
 ghost use Rattle.queue_core.specs.Runs.{MovesAlong};
 ghost use Rattle.queue_core.specs.Sound.{IsSound, Balances};
@@ -243,7 +243,8 @@ pub fn decide<'a>(
     requires moment { IsMoment now }
     requires event { IsEvent (event_of e.now) }
     ensures decides { IfOk result (λ d. decision_of d ≡ decision s.now now (event_of e.now)) }
-    ensures limits { IfOk result (λ d. IsSoundDecision (decision_of d)) }
+    ensures limits { IfOk result (λ d. IsSoundReply d.reply) }
+    ensures rows { IfOk result (λ d. IsSoundChange (change_of d.change)) }
 
     // on the scene that was cut from a world
     ensures reply { IfOk result (λ d. (w : World) → s.now ≡ cut w (event_of e.now) → d.reply ≡ (step w now (event_of e.now)).reply) }

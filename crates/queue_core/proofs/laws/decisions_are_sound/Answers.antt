@@ -2,7 +2,7 @@ use Rattle.queue_core.proofs.Steps.{step_keeps, step_within}
 use Rattle.queue_core.proofs.laws.decisions_are_sound.Goals as goal
 
 pub returns-clause-within : goal.returns-clause-within
-returns-clause-within c = step_within
+returns-clause-within c = λ w d sound is. (step_within w d sound is).change
 
 pub returns-clause-made : goal.returns-clause-made
 returns-clause-made c = λ w d sound is. (step_keeps w d sound is).sound
