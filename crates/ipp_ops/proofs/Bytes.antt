@@ -10,8 +10,8 @@ use Rattle.queue_core.specs.declared.event.Reply.TheVariants.{Refused}
 use Rattle.ipp_reply.specs.Unsupported.{nothing}
 use Rattle.ipp_reply.specs.Wanted.{no_rows}
 use Rattle.ipp_reply.specs.Reply.{reply_of, with_groups}
-use Rattle.ipp_ops.specs.Answer.{Answers, AsksFor, IsMalformed, by_head, malformed, request, outcome}
-use Rattle.ipp_ops.specs.Asked.{asks, refused}
+use Rattle.ipp_ops.specs.Answer.{Answers, IsVerdictOn, IsMalformed, by_head, malformed, request, outcome}
+use Rattle.ipp_ops.specs.Verdict.{refused, verdict}
 use Rattle.ipp_ops.specs.Checks.{head_refusal}
 
 same_twice : (b : Bool) (gs : List Group) → (if b then gs else gs) ≡ gs
@@ -26,27 +26,27 @@ bare_spelled : (code : ℕ) (h : Head) (s : SettingValues) (now : ℕ) (out : Li
 bare_spelled code h s now out spelled = subst (λ (m : Message). Spells m out) (sym (bare_refusal code h s now)) spelled
 
 -- the head of the bytes refuses them
-pub asks_by_head : (code : ℕ) (h : Head) (b : List ℕ) → h ≡ head_of b → Some code ≡ head_refusal h → AsksFor b (refused code nothing)
-asks_by_head code h b e found = by_head code (ap head_refusal (sym e) ∙ sym found)
+pub refused_by_head : (code : ℕ) (h : Head) (b : List ℕ) → h ≡ head_of b → Some code ≡ head_refusal h → IsVerdictOn b (refused code nothing)
+refused_by_head code h b e found = by_head code (ap head_refusal (sym e) ∙ sym found)
 
 -- they spell no message
-pub asks_malformed : (h : Head) (b : List ℕ) → h ≡ head_of b → None ≡ head_refusal h → IsMalformed b → AsksFor b (refused 0x0400 nothing)
-asks_malformed h b e found unspelled = malformed (ap head_refusal (sym e) ∙ sym found) unspelled
+pub refused_malformed : (h : Head) (b : List ℕ) → h ≡ head_of b → None ≡ head_refusal h → IsMalformed b → IsVerdictOn b (refused 0x0400 nothing)
+refused_malformed h b e found unspelled = malformed (ap head_refusal (sym e) ∙ sym found) unspelled
 
 -- what is refused so is answered by a bare reply, and the world stays
-pub bare_answers : (code : ℕ) (h : Head) (b out : List ℕ) (w : World) (now : ℕ) → h ≡ head_of b → AsksFor b (refused code nothing) → Spells (bare h code) out → Answers w now b w out
-bare_answers code h b out w now e asked spelled = record {
-  says = refused code nothing;
-  asks = asked;
+pub bare_answers : (code : ℕ) (h : Head) (b out : List ℕ) (w : World) (now : ℕ) → h ≡ head_of b → IsVerdictOn b (refused code nothing) → Spells (bare h code) out → Answers w now b w out
+bare_answers code h b out w now e given spelled = record {
+  verdict = refused code nothing;
+  on_bytes = given;
   world = refl;
   spelled = subst (λ (x : Head). Spells (reply_of (Refused code) x no_rows nothing w.settings now) out) e (bare_spelled code h w.settings now out spelled);
 }
 
 -- a message is answered by what comes of it
-pub message_answers : (m : Message) (b out : List ℕ) (w : World) (now : ℕ) → m.head ≡ head_of b → Spells m b → Spells (outcome (asks m) m.head w now).reply out → Answers w now b (outcome (asks m) m.head w now).world out
+pub message_answers : (m : Message) (b out : List ℕ) (w : World) (now : ℕ) → m.head ≡ head_of b → Spells m b → Spells (outcome (verdict m) m.head w now).reply out → Answers w now b (outcome (verdict m) m.head w now).world out
 message_answers m b out w now e found spelled = record {
-  says = asks m;
-  asks = request m found;
-  world = ap (λ (x : Head). (outcome (asks m) x w now).world) e;
-  spelled = subst (λ (x : Head). Spells (outcome (asks m) x w now).reply out) e spelled;
+  verdict = verdict m;
+  on_bytes = request m found;
+  world = ap (λ (x : Head). (outcome (verdict m) x w now).world) e;
+  spelled = subst (λ (x : Head). Spells (outcome (verdict m) x w now).reply out) e spelled;
 }

@@ -1,6 +1,6 @@
 -- What the code of a reply tells: 0x0505 stands for a fault alone, which no check and no answer of the machine has, and a
 -- reply of the machine that refuses leaves the world.
-use Rattle.std.proofs.Common.{◌≡◌, ℕ, List, [], ◌∷◌, ◌++◌, Bool, true, false, refl, ap, sym, ◌∙◌, subst, Err}
+use Rattle.std.proofs.Common.{◌≡◌, ℕ, List, [], ◌∷◌, ◌++◌, Bool, true, false, refl, ap, sym, ◌∙◌, subst, Result, Ok, Err}
 use Rattle.std.specs.Prelude.{Option, Some, None, if◌then◌else◌, ⊤, ◌==◌, nat_le, nat_lt, map, bytes_eq}
 use Rattle.std.specs.Bool.{OnFalse, OnTrue}
 use Rattle.std.specs.List.{list_all}
@@ -27,8 +27,9 @@ use Rattle.ipp_reply.specs.Wanted.{Rows, no_rows}
 use Rattle.ipp_reply.specs.Operations.{operation_of}
 use Rattle.ipp_reply.specs.Unsupported.{Unsupported, is_listed}
 use Rattle.ipp_ops.specs.Unsupported.{unsupported}
-use Rattle.ipp_ops.specs.Checks.{refusal, is_spoken, head_refusal}
-use Rattle.ipp_ops.specs.Asked.{Asked, asked, refused, refused_by, outcome_of, asked_by, asks}
+use Rattle.ipp_ops.specs.Checks.{code, refusal, groups_begin, is_refused_for, is_spoken, head_refusal, request_by}
+use Rattle.ipp_ops.specs.Request.{Request, request_for}
+use Rattle.ipp_ops.specs.Verdict.{Verdict, passed, refused, verdict, verdict_on, verdict_past, verdict_with}
 use Rattle.ipp_reply.specs.Reply.{with_groups, unsupported_groups, reply_of}
 use Rattle.ipp_reply.specs.JobReply.{job_group}
 use Rattle.ipp_reply.specs.PrinterReply.{printer_group}
@@ -40,32 +41,38 @@ IsQuiet code = (h : Head) (gs : List Group) → is_fault (spelling (with_groups 
 
 -- ---- what is refused by a check
 
-abbrev QuietAsked : Asked → Type 0
-QuietAsked (refused code u) = IsQuiet code
-QuietAsked (asked caller call rows u) = ⊤
+abbrev QuietVerdict : Verdict → Type 0
+QuietVerdict (refused code u) = IsQuiet code
+QuietVerdict (passed caller call rows u) = ⊤
 
-check_quiet : (c : Check) (u : Unsupported) → QuietAsked (refused_by c u)
-check_quiet check.Order u = λ h gs. refl
-check_quiet check.Charset u = λ h gs. refl
-check_quiet check.Form u = λ h gs. refl
-check_quiet check.Length u = λ h gs. refl
-check_quiet check.Needed u = λ h gs. refl
-check_quiet check.Target u = λ h gs. refl
-check_quiet check.Compression u = λ h gs. refl
-check_quiet check.Format u = λ h gs. refl
-check_quiet check.Ignored u = λ h gs. refl
+check_quiet : (c : Check) → IsQuiet (code c)
+check_quiet check.Charset = λ h gs. refl
+check_quiet check.Form = λ h gs. refl
+check_quiet check.Length = λ h gs. refl
+check_quiet check.Needed = λ h gs. refl
+check_quiet check.Target = λ h gs. refl
+check_quiet check.Compression = λ h gs. refl
+check_quiet check.Format = λ h gs. refl
 
-outcome_quiet : (o : Operation) (m : Message) (u : Unsupported) (r : Option Check) → QuietAsked (outcome_of o m u r)
-outcome_quiet o m u (Some c) = check_quiet c u
-outcome_quiet o m u None = tt
+past_quiet : (r : Request) (u : Unsupported) (b : Bool) → QuietVerdict (verdict_past r u b)
+past_quiet r u true = λ h gs. refl
+past_quiet r u false = tt
 
-asked_quiet : (spoken : Bool) (o : Option Operation) (m : Message) → QuietAsked (asked_by (if spoken then ok_or o 0x0501 else Err 0x0503) m)
-asked_quiet false o m = λ h gs. refl
-asked_quiet true None m = λ h gs. refl
-asked_quiet true (Some o) m = outcome_quiet o m (unsupported o m) (refusal o m (unsupported o m))
+with_quiet : (r : Request) (c : Option Check) → QuietVerdict (verdict_with r c)
+with_quiet r (Some c) = check_quiet c
+with_quiet r None = past_quiet r (unsupported r) (is_refused_for r (unsupported r))
 
-asks_quiet : (m : Message) → QuietAsked (asks m)
-asks_quiet m = asked_quiet (is_spoken m.head) (operation_of m.head.code) m
+ordered_quiet : (b : Bool) (o : Operation) (m : Message) → QuietVerdict (verdict_on (if b then Ok (request_for o m) else Err 0x0400))
+ordered_quiet true o m = with_quiet (request_for o m) (refusal (request_for o m))
+ordered_quiet false o m = λ h gs. refl
+
+head_verdict_quiet : (spoken : Bool) (o : Option Operation) (m : Message) → QuietVerdict (verdict_on (request_by (if spoken then ok_or o 0x0501 else Err 0x0503) m))
+head_verdict_quiet false o m = λ h gs. refl
+head_verdict_quiet true None m = λ h gs. refl
+head_verdict_quiet true (Some o) m = ordered_quiet (groups_begin m.groups) o m
+
+verdict_quiet : (m : Message) → QuietVerdict (verdict m)
+verdict_quiet m = head_verdict_quiet (is_spoken m.head) (operation_of m.head.code) m
 
 head_quiet : (spoken : Bool) (o : Option Operation) (code : ℕ) → result_err (if spoken then ok_or o 0x0501 else Err 0x0503) ≡ Some code → IsQuiet code
 head_quiet false o code e = let same : 0x0503 ≡ code = cc in subst IsQuiet same (λ h gs. refl)
@@ -166,13 +173,13 @@ reply_quiet Done change h rows u s now q = success_quiet (is_listed u) h (unsupp
 reply_quiet (Jobs js) change h rows u s now q = success_quiet (is_listed u) h (unsupported_groups u ++ map (job_group s.uri now rows.job) js)
 reply_quiet (Printer state queued accepting) change h rows u s now q = success_quiet (is_listed u) h (unsupported_groups u ++ printer_group (record { settings = s; now = now; state = state; queued = queued; accepting = accepting }) rows.printer ∷ [])
 
-outcome_tells : (a : Asked) (h : Head) (w : World) (now : ℕ) → QuietAsked a → is_fault (spelling (outcome a h w now).reply) ≡ false
+outcome_tells : (v : Verdict) (h : Head) (w : World) (now : ℕ) → QuietVerdict v → is_fault (spelling (outcome v h w now).reply) ≡ false
 outcome_tells (refused code u) h w now q = q h (if code == 0x040B then unsupported_groups u else [])
-outcome_tells (asked caller call rows u) h w now q = reply_quiet _ _ h rows u w.settings now (machine_quiet (cut w (ask caller call)) now caller call)
+outcome_tells (passed caller call rows u) h w now q = reply_quiet _ _ h rows u w.settings now (machine_quiet (cut w (ask caller call)) now caller call)
 
 -- bytes that a request is answered are no fault
-pub request_tells : (m : Message) (w : World) (now : ℕ) (out : List ℕ) → Spells (outcome (asks m) m.head w now).reply out → is_fault out ≡ false
-request_tells m w now out spelled = ap is_fault spelled.bytes ∙ outcome_tells (asks m) m.head w now (asks_quiet m)
+pub request_tells : (m : Message) (w : World) (now : ℕ) (out : List ℕ) → Spells (outcome (verdict m) m.head w now).reply out → is_fault out ≡ false
+request_tells m w now out spelled = ap is_fault spelled.bytes ∙ outcome_tells (verdict m) m.head w now (verdict_quiet m)
 
 -- nor those that the head alone is answered
 pub head_tells : (h : Head) (code : ℕ) (out : List ℕ) → head_refusal h ≡ Some code → Spells (bare h code) out → is_fault out ≡ false
@@ -191,13 +198,13 @@ reply_keeps Done change h rows u s now w q e = let small = success_small (is_lis
 reply_keeps (Jobs js) change h rows u s now w q e = let small = success_small (is_listed u) h (unsupported_groups u ++ map (job_group s.uri now rows.job) js) in absurd (cc)
 reply_keeps (Printer state queued accepting) change h rows u s now w q e = let small = success_small (is_listed u) h (unsupported_groups u ++ printer_group (record { settings = s; now = now; state = state; queued = queued; accepting = accepting }) rows.printer ∷ []) in absurd (cc)
 
-outcome_keeps : (a : Asked) (h : Head) (w : World) (now : ℕ) → is_refusal (spelling (outcome a h w now).reply) ≡ true → (outcome a h w now).world ≡ w
+outcome_keeps : (v : Verdict) (h : Head) (w : World) (now : ℕ) → is_refusal (spelling (outcome v h w now).reply) ≡ true → (outcome v h w now).world ≡ w
 outcome_keeps (refused code u) h w now e = refl
-outcome_keeps (asked caller call rows u) h w now e = reply_keeps _ _ h rows u w.settings now w (machine_quiet (cut w (ask caller call)) now caller call) e
+outcome_keeps (passed caller call rows u) h w now e = reply_keeps _ _ h rows u w.settings now w (machine_quiet (cut w (ask caller call)) now caller call) e
 
 -- bytes that refuse a request leave the world
-pub request_keeps : (m : Message) (w : World) (now : ℕ) (out : List ℕ) → Spells (outcome (asks m) m.head w now).reply out → is_refusal out ≡ true → (outcome (asks m) m.head w now).world ≡ w
-request_keeps m w now out spelled e = outcome_keeps (asks m) m.head w now (sym (ap is_refusal spelled.bytes) ∙ e)
+pub request_keeps : (m : Message) (w : World) (now : ℕ) (out : List ℕ) → Spells (outcome (verdict m) m.head w now).reply out → is_refusal out ≡ true → (outcome (verdict m) m.head w now).world ≡ w
+request_keeps m w now out spelled e = outcome_keeps (verdict m) m.head w now (sym (ap is_refusal spelled.bytes) ∙ e)
 
 -- ---- a fact for one value of a test
 

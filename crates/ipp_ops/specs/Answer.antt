@@ -9,7 +9,7 @@ use Rattle.queue_core.specs.Machine.{step}
 use Rattle.queue_core.specs.declared.event.Reply.TheVariants.{Refused as RefusedReply}
 use Rattle.ipp_ops.specs.declared.outcome.Answer.{Answer}
 use Rattle.ipp_ops.specs.declared.outcome.Answer.TheVariants.{Whole, Bare}
-use Rattle.ipp_ops.specs.Asked.{Asked, asked, refused, asks}
+use Rattle.ipp_ops.specs.Verdict.{Verdict, passed, refused, verdict}
 use Rattle.ipp_reply.specs.Unsupported.{nothing}
 use Rattle.ipp_ops.specs.Checks.{head_refusal}
 use Rattle.ipp_reply.specs.Reply.{reply_of}
@@ -19,30 +19,30 @@ use Rattle.ipp_reply.specs.Wanted.{no_rows}
 abbrev pub IsMalformed : List ℕ → Type 0
 IsMalformed b = (m : Message) → Spells m b → ⊥
 
--- what bytes, 8 or more, ask: their head may be refused, or they spell no message, or they spell one
-pub data AsksFor (b : List ℕ) : Asked → Type 0 where
-  by_head : (code : ℕ) → head_refusal (head_of b) ≡ Some code → AsksFor b (refused code nothing)
-  malformed : head_refusal (head_of b) ≡ None → IsMalformed b → AsksFor b (refused 0x0400 nothing)
-  request : (m : Message) → Spells m b → AsksFor b (asks m)
+-- the verdict on bytes, 8 or more: their head may be refused, or they spell no message, or they spell one
+pub data IsVerdictOn (b : List ℕ) : Verdict → Type 0 where
+  by_head : (code : ℕ) → head_refusal (head_of b) ≡ Some code → IsVerdictOn b (refused code nothing)
+  malformed : head_refusal (head_of b) ≡ None → IsMalformed b → IsVerdictOn b (refused 0x0400 nothing)
+  request : (m : Message) → Spells m b → IsVerdictOn b (verdict m)
 
 pub record Outcome : Type 0 where
   pub world : World
   pub reply : Message
 
 -- a refused request leaves the world; else the machine takes one step
-abbrev pub outcome : Asked → Head → World → ℕ → Outcome
+abbrev pub outcome : Verdict → Head → World → ℕ → Outcome
 outcome (refused code u) h w now = record { world = w; reply = reply_of (RefusedReply code) h no_rows u w.settings now }
-outcome (asked caller call rows u) h w now = record {
+outcome (passed caller call rows u) h w now = record {
   world = (step w now (ask caller call)).world;
   reply = reply_of (step w now (ask caller call)).reply h rows u w.settings now;
 }
 
--- out is the reply to what the bytes ask, and new the world after it
+-- out is the reply to the verdict on the bytes, and new the world after it
 pub record Answers (old : World) (now : ℕ) (b : List ℕ) (new : World) (out : List ℕ) : Type 0 where
-  pub says : Asked
-  pub asks : AsksFor b says
-  pub world : new ≡ (outcome says (head_of b) old now).world
-  pub spelled : Spells (outcome says (head_of b) old now).reply out
+  pub verdict : Verdict
+  pub on_bytes : IsVerdictOn b verdict
+  pub world : new ≡ (outcome verdict (head_of b) old now).world
+  pub spelled : Spells (outcome verdict (head_of b) old now).reply out
 
 -- the head check finds nothing, and out is the bare 0x0505
 pub record Fails (b : List ℕ) (out : List ℕ) : Type 0 where

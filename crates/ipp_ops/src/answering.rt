@@ -11,13 +11,13 @@ ghost use Rattle.queue_core.specs.World.{World};
 ghost use Rattle.ipp_reply.specs.Reply.{reply_of};
 ghost use Rattle.ipp_reply.specs.Unsupported.{CanList, unsupported_of};
 ghost use Rattle.ipp_ops.specs.Answer.{Answers, Fails, IsMalformed, bytes_of, is_fault, is_refusal, outcome};
-ghost use Rattle.ipp_ops.specs.Asked.{asks};
+ghost use Rattle.ipp_ops.specs.Verdict.{verdict};
 ghost use Rattle.ipp_ops.specs.Checks.{head_refusal};
 
 use crate::asking::ask;
 use crate::check::head_check;
 use crate::outcome::{Answer, TooShort};
-use crate::request::Ask;
+use crate::verdict::Ask;
 use ipp_reply::{Unsupported, Wanted, reply_message};
 use ipp_wire::{Head, View, WireFault, head, put_fault, read, write};
 use queue_core::book::{BookFault, QueueBook};
@@ -98,9 +98,9 @@ fn step<B: QueueBook>(
     requires fits { length v.now.payload.now ≤ 16777216 }
     ensures began { B.is_honest book.new → B.is_honest book.old }
     ensures reply { B.is_honest book.new → IfOk result (λ b. (w : World) → B.stands book.old w → s.now ≡ w.settings
-        → Spells (outcome (asks (message_of v.now)) v.now.head w now).reply b.items) }
+        → Spells (outcome (verdict (message_of v.now)) v.now.head w now).reply b.items) }
     ensures world { B.is_honest book.new → IfOk result (λ b. (w : World) → B.stands book.old w
-        → B.stands book.new (outcome (asks (message_of v.now)) v.now.head w now).world) }
+        → B.stands book.new (outcome (verdict (message_of v.now)) v.now.head w now).world) }
     ensures err { OnErr result ((w : World) → B.stands book.old w → B.stands book.new w) }
 {
     match ask(alloc, v)? {

@@ -1,15 +1,12 @@
-//! What a request says: its groups and their attributes, its caller and its target.
+//! The groups of a message and their attributes.
 ghost use Rattle.std.specs.Prelude.{◌≡◌, [], ◌==◌, ◌&&◌, find, bytes_eq, false, slice_get};
 ghost use Rattle.std.specs.List.{list_all};
 ghost use Rattle.std.specs.Option.{option_copied, option_map, option_map_or};
-ghost use Rattle.ipp_wire.specs.Viewed.{value_of as value_in, attribute_of, attributes_of, group_of, groups_of};
+ghost use Rattle.ipp_wire.specs.Viewed.{attribute_of, attributes_of, group_of, groups_of};
 ghost use Rattle.ipp_ops.specs.Checks as checks;
 ghost use Rattle.ipp_ops.specs.Request as request;
 
-use crate::attribute::{OperationAttribute, knows};
-use crate::value::{text, utf8_text};
-use ipp_reply::Operation;
-use ipp_wire::{AttrView, GroupView, ValueView};
+use ipp_wire::{AttrView, GroupView};
 
 fn find_group<'v, 'a>(tag: u8, groups: &'v [GroupView<'a>]) -> Option<&'v GroupView<'a>>
     ensures { option_copied result ≡ find (λ g. g.tag == tag) groups.entry.now }
@@ -52,52 +49,6 @@ pub fn named<'v, 'a>(name: &[u8], attrs: &'v [AttrView<'a>]) -> Option<&'v AttrV
     ensures { option_map attribute_of (option_copied result) ≡ request.named name.now (attributes_of attrs.entry.now) }
 {
     find_named(name, attrs)
-}
-
-/// The first attribute of that name, where the operation knows it.
-pub fn known<'v, 'a>(
-    o: Operation,
-    k: OperationAttribute,
-    attrs: &'v [AttrView<'a>],
-) -> Option<&'v AttrView<'a>>
-    ensures { option_map attribute_of (option_copied result) ≡ request.known o k (attributes_of attrs.entry.now) }
-{
-    if knows(o, k) {
-        named(k.row().name.as_bytes(), attrs)
-    } else {
-        None
-    }
-}
-
-/// The first value of a known attribute.
-pub fn value_of<'a>(
-    o: Operation,
-    k: OperationAttribute,
-    attrs: &[AttrView<'a>],
-) -> Option<ValueView<'a>>
-    ensures { option_map value_in result ≡ request.value_of o k (attributes_of attrs.entry.now) }
-{
-    match known(o, k, attrs)?.values.as_slice() {
-        [v, ..] => Some(*v),
-        [] => None,
-    }
-}
-
-/// The bytes of its first value, or none where there is no such attribute.
-pub fn bytes_of<'a>(o: Operation, k: OperationAttribute, attrs: &[AttrView<'a>]) -> &'a [u8]
-    ensures { result.now ≡ request.bytes_of o k (attributes_of attrs.entry.now) }
-{
-    match value_of(o, k, attrs) {
-        Some(v) => v.bytes,
-        None => &[],
-    }
-}
-
-/// There is such an attribute, and the operation knows it.
-pub fn has(o: Operation, attrs: &[AttrView<'_>], k: OperationAttribute) -> bool
-    ensures { result ≡ request.has o (attributes_of attrs.now) k }
-{
-    known(o, k, attrs).is_some()
 }
 
 fn are_tagged(tag: u8, a: &AttrView<'_>) -> bool
@@ -170,28 +121,4 @@ pub fn groups_begin(groups: &[GroupView<'_>]) -> bool
         Some(g) => g.tag == 0x01 && attributes_begin(g.attrs.as_slice()),
         None => false,
     }
-}
-
-/// The text, where it is not empty.
-fn filled(bytes: &[u8]) -> Option<&str>
-    ensures { option_copied result ≡ request.filled bytes.now }
-{
-    if bytes.is_empty() {
-        return None;
-    }
-    utf8_text(bytes)
-}
-
-/// The text of a known attribute, where there is one that is not empty.
-pub fn text_in<'a>(o: Operation, k: OperationAttribute, attrs: &[AttrView<'a>]) -> Option<&'a str>
-    ensures { option_copied result ≡ request.text_in o k (attributes_of attrs.entry.now) }
-{
-    filled(text(value_of(o, k, attrs)?)?)
-}
-
-/// The name of the caller.
-pub fn caller<'a>(o: Operation, attrs: &[AttrView<'a>]) -> &'a str
-    ensures { result.now ≡ request.caller o (attributes_of attrs.entry.now) }
-{
-    text_in(o, OperationAttribute::RequestingUserName, attrs).unwrap_or("anonymous")
 }

@@ -8,13 +8,13 @@ use Rattle.queue_core.specs.Settings.{SettingValues}
 use Rattle.queue_core.specs.Sound.{IsSound}
 use Rattle.queue_core.specs.World.{World}
 use Rattle.ipp_ops.specs.Answer.{Answers, Fails, outcome, bytes_of, is_fault}
-use Rattle.ipp_ops.specs.Asked.{Asked, asked, refused}
+use Rattle.ipp_ops.specs.Verdict.{Verdict, passed, refused}
 use Rattle.ipp_ops.specs.declared.outcome.Answer.{Answer}
 use Rattle.ipp_ops.specs.declared.outcome.TooShort.{TooShort}
 
-settings_stay : (says : Asked) (h : Head) (w : World) (now : ℕ) → (outcome says h w now).world.settings ≡ w.settings
+settings_stay : (v : Verdict) (h : Head) (w : World) (now : ℕ) → (outcome v h w now).world.settings ≡ w.settings
 settings_stay (refused code unsupported) h w now = refl
-settings_stay (asked caller call rows unsupported) h w now = refl
+settings_stay (passed caller call rows unsupported) h w now = refl
 
 abbrev pub Stands : World → World → Type 0
 Stands b w = (b ≡ w) × IsSound w
@@ -37,6 +37,6 @@ pub kept : (r : Result Answer TooShort) (old new : World) (s : SettingValues) (n
 kept (Ok answer) old new s now b is sound answered failed err =
     elim (is_fault (bytes_of answer)) as (λ f. OnFalse f (Answered old new s now b answer) → OnTrue f (Failed old new s b answer) → Kept new s) [
       | true ↦ λ answered failed. same new old s (failed old (refl, sound) (sym is)).1 is
-      | false ↦ λ answered failed. let a = answered old (refl, sound) (sym is) in same new a.0 s a.2 (ap (λ (v : World). v.settings) a.1.world ∙ settings_stay a.1.says (head_of b) old now ∙ is)
+      | false ↦ λ answered failed. let a = answered old (refl, sound) (sym is) in same new a.0 s a.2 (ap (λ (v : World). v.settings) a.1.world ∙ settings_stay a.1.verdict (head_of b) old now ∙ is)
     ] answered failed
 kept (Err e) old new s now b is sound answered failed err = same new old s (err old (refl, sound)) is

@@ -1,9 +1,9 @@
 use Rattle.std.proofs.Common.{◌≡◌, false, sym, ◌∙◌, subst}
 use Rattle.ipp_wire.specs.Viewed.{message_of}
 use Rattle.queue_core.specs.World.{World}
-use Rattle.ipp_ops.specs.Asked.{asks}
+use Rattle.ipp_ops.specs.Verdict.{verdict}
 use Rattle.ipp_ops.specs.Answer.{outcome, is_fault, is_refusal, bytes_of}
-use Rattle.ipp_ops.proofs.Bytes.{asks_by_head, asks_malformed, bare_answers, message_answers}
+use Rattle.ipp_ops.proofs.Bytes.{refused_by_head, refused_malformed, bare_answers, message_answers}
 use Rattle.ipp_ops.proofs.Faults.{request_tells, request_keeps, head_tells, on_false, on_true}
 use Rattle.ipp_ops.proofs.answering.answer.Goals as goal
 
@@ -11,7 +11,7 @@ pub returns-in-Some-head_check-clause-answered : goal.returns-in-Some-head_check
 returns-in-Some-head_check-clause-answered g c = λ honest. on_false _ (is_fault (bytes_of c.bare_answer.result)) (λ w stands set. (
   w,
   bare_answers c.in-Some-head_check.code c.in-Some.h c.args.body.now _ w c.args.now c.in-Some.ensures.fields
-      (asks_by_head c.in-Some-head_check.code c.in-Some.h c.args.body.now c.in-Some.ensures.fields c.in-Some-head_check.ensures) c.bare_answer.ensures,
+      (refused_by_head c.in-Some-head_check.code c.in-Some.h c.args.body.now c.in-Some.ensures.fields c.in-Some-head_check.ensures) c.bare_answer.ensures,
   stands,
 ))
 
@@ -23,7 +23,7 @@ returns-in-Some-head_check-clause-failed g c = λ honest. on_true _ (is_fault (b
 pub returns-in-Ok-step-clause-answered : goal.returns-in-Ok-step-clause-answered
 returns-in-Ok-step-clause-answered g c = λ honest. on_false _ (is_fault c.in-Ok-step.bytes.items) (λ w stands set.
     let m = message_of c.in-Ok.v in (
-      (outcome (asks m) m.head w c.args.now).world,
+      (outcome (verdict m) m.head w c.args.now).world,
       message_answers m c.args.body.now _ w c.args.now c.in-Ok.ensures.head c.in-Ok.ensures.found (c.in-Ok-step.ensures.reply honest w stands set),
       c.in-Ok-step.ensures.world honest w stands,
     ))
@@ -50,7 +50,7 @@ pub returns-in-Err-Malformed-clause-answered : goal.returns-in-Err-Malformed-cla
 returns-in-Err-Malformed-clause-answered g c = λ honest. on_false _ (is_fault (bytes_of c.bare_answer-in-Err-Malformed.result)) (λ w stands set. (
   w,
   bare_answers 0x0400 c.in-Some.h c.args.body.now _ w c.args.now c.in-Some.ensures.fields
-      (asks_malformed c.in-Some.h c.args.body.now c.in-Some.ensures.fields (sym c.in_default-head_check.is ∙ c.head_check.ensures) (rw c.in-Err-Malformed.field-0-is at c.in-Err-Malformed.ensures.fault).1)
+      (refused_malformed c.in-Some.h c.args.body.now c.in-Some.ensures.fields (sym c.in_default-head_check.is ∙ c.head_check.ensures) (rw c.in-Err-Malformed.field-0-is at c.in-Err-Malformed.ensures.fault).1)
       c.bare_answer-in-Err-Malformed.ensures,
   stands,
 ))
