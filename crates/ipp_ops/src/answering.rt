@@ -18,18 +18,13 @@ use crate::asking::ask;
 use crate::check::head_check;
 use crate::outcome::{Answer, TooShort};
 use crate::verdict::Ask;
+use ipp_reply::status::{CLIENT_ERROR_BAD_REQUEST, SERVER_ERROR_TEMPORARY_ERROR};
 use ipp_reply::{Unsupported, Wanted, reply_message};
 use ipp_wire::{Head, View, WireFault, head, put_fault, read, write};
 use queue_core::book::{BookFault, QueueBook};
 use queue_core::event::{Event, Reply};
 use queue_core::settings::Settings;
 use std::alloc::{AllocError, Global};
-
-/// The status code server-error-temporary-error.
-const TEMPORARY_ERROR: u16 = 0x0505;
-
-/// The status code client-error-bad-request.
-const BAD_REQUEST: u16 = 0x0400;
 
 fn bare_answer(head: Head, code: u16) -> Answer
     ensures { Spells (bare head code) (bytes_of result) }
@@ -162,9 +157,9 @@ pub fn answer<B: QueueBook>(
     match read(alloc, body) {
         Ok(v) => match step(alloc, book, s, now, &v) {
             Ok(bytes) => Ok(Answer::Whole(bytes)),
-            Err(_) => Ok(bare_answer(h, TEMPORARY_ERROR)),
+            Err(_) => Ok(bare_answer(h, SERVER_ERROR_TEMPORARY_ERROR)),
         },
-        Err(WireFault::Malformed { .. }) => Ok(bare_answer(h, BAD_REQUEST)),
-        Err(_) => Ok(bare_answer(h, TEMPORARY_ERROR)),
+        Err(WireFault::Malformed { .. }) => Ok(bare_answer(h, CLIENT_ERROR_BAD_REQUEST)),
+        Err(_) => Ok(bare_answer(h, SERVER_ERROR_TEMPORARY_ERROR)),
     }
 }

@@ -20,6 +20,7 @@ use crate::target::target_job;
 use crate::unsupported::{is_refused_for, unsupported_in};
 use crate::value::number;
 use crate::verdict::Ask;
+use ipp_reply::status::CLIENT_ERROR_ATTRIBUTES_OR_VALUES_NOT_SUPPORTED;
 use ipp_reply::{
     Operation, Unsupported, Wanted, select_of_printer, select_requested, select_usual,
     select_whole_printer,
@@ -27,9 +28,6 @@ use ipp_reply::{
 use ipp_wire::{ValueView, View};
 use queue_core::event::{Call, NumberList, WhichJobs};
 use std::alloc::{AllocError, Global};
-
-/// The status code client-error-attributes-or-values-not-supported.
-const ATTRIBUTES_NOT_SUPPORTED: u16 = 0x040B;
 
 fn job(r: Request<'_, '_>) -> u32
     ensures { result ≡ job (request_of r.entry) }
@@ -200,7 +198,7 @@ fn supported<'a>(alloc: Global, r: Request<'_, 'a>) -> Result<Ask<'a>, AllocErro
     let unsupported = unsupported_in(alloc, r)?;
     if is_refused_for(r, &unsupported) {
         return Ok(Ask::Refused {
-            code: ATTRIBUTES_NOT_SUPPORTED,
+            code: CLIENT_ERROR_ATTRIBUTES_OR_VALUES_NOT_SUPPORTED,
             unsupported,
         });
     }

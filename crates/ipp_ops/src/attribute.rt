@@ -3,6 +3,10 @@ ghost use Rattle.std.specs.Prelude.{◌≡◌, map, true};
 ghost use Rattle.ipp_ops.specs.Attributes.{one, row, row_of, support_of, is_one_of, is_on_job, makes_job, knows, needs};
 
 use ipp_reply::{OPERATIONS, Operation};
+use ipp_wire::tags::{
+    BOOLEAN, CHARSET, INTEGER, KEYWORD, MIME_MEDIA_TYPE, NAME_WITH_LANGUAGE, NAME_WITHOUT_LANGUAGE,
+    NATURAL_LANGUAGE, URI,
+};
 
 /// The operation attributes that are looked at.
 #[derive(Clone, Copy, Debug)]
@@ -160,65 +164,65 @@ impl OperationAttribute {
         match self {
             Self::AttributesCharset => Row::one(
                 "attributes-charset",
-                &[0x47],
+                &[CHARSET],
                 Shape::Octets,
                 None,
                 &OPERATIONS,
             ),
             Self::AttributesNaturalLanguage => Row::one(
                 "attributes-natural-language",
-                &[0x48],
+                &[NATURAL_LANGUAGE],
                 Shape::Octets,
                 Some(63),
                 &OPERATIONS,
             ),
             Self::PrinterUri => Row::one(
                 "printer-uri",
-                &[0x45],
+                &[URI],
                 Shape::Octets,
                 Some(1023),
                 &OPERATIONS,
             ),
-            Self::JobUri => Row::one("job-uri", &[0x45], Shape::Octets, Some(1023), &OF_JOB),
-            Self::JobId => Row::one("job-id", &[0x21], Shape::Number, None, &OF_JOB),
+            Self::JobUri => Row::one("job-uri", &[URI], Shape::Octets, Some(1023), &OF_JOB),
+            Self::JobId => Row::one("job-id", &[INTEGER], Shape::Number, None, &OF_JOB),
             Self::RequestingUserName => Row::one(
                 "requesting-user-name",
-                &[0x42, 0x36],
+                &[NAME_WITHOUT_LANGUAGE, NAME_WITH_LANGUAGE],
                 Shape::Name,
                 Some(255),
                 &OPERATIONS,
             ),
             Self::JobName => Row::one(
                 "job-name",
-                &[0x42, 0x36],
+                &[NAME_WITHOUT_LANGUAGE, NAME_WITH_LANGUAGE],
                 Shape::Text,
                 Some(255),
                 &OF_NEW_JOB,
             ),
             Self::DocumentName => Row::one(
                 "document-name",
-                &[0x42, 0x36],
+                &[NAME_WITHOUT_LANGUAGE, NAME_WITH_LANGUAGE],
                 Shape::Text,
                 Some(255),
                 &OF_DOCUMENT,
             ),
             Self::IppAttributeFidelity => Row::one(
                 "ipp-attribute-fidelity",
-                &[0x22],
+                &[BOOLEAN],
                 Shape::Boolean,
                 None,
                 &OF_NEW_JOB,
             ),
             Self::Compression => Row::one(
                 "compression",
-                &[0x44],
+                &[KEYWORD],
                 Shape::Octets,
                 Some(255),
                 &OF_DOCUMENT,
             ),
             Self::DocumentFormat => Row::one(
                 "document-format",
-                &[0x49],
+                &[MIME_MEDIA_TYPE],
                 Shape::Octets,
                 Some(255),
                 &[
@@ -230,14 +234,15 @@ impl OperationAttribute {
             ),
             Self::JobImpressions => Row::one(
                 "job-impressions",
-                &[0x21],
+                &[INTEGER],
                 Shape::Number,
                 None,
                 &OF_NEW_JOB,
-            ).supporting(Support::Between(0, 100_000)),
+            )
+            .supporting(Support::Between(0, 100_000)),
             Self::RequestedAttributes => Row::one(
                 "requested-attributes",
-                &[0x44],
+                &[KEYWORD],
                 Shape::Octets,
                 Some(255),
                 &[
@@ -249,7 +254,7 @@ impl OperationAttribute {
             .with_many(),
             Self::WhichJobs => Row::one(
                 "which-jobs",
-                &[0x44],
+                &[KEYWORD],
                 Shape::Octets,
                 Some(255),
                 &[Operation::GetJobs],
@@ -257,28 +262,28 @@ impl OperationAttribute {
             .supporting(Support::Words(&["not-completed", "completed"])),
             Self::Limit => Row::one(
                 "limit",
-                &[0x21],
+                &[INTEGER],
                 Shape::Positive,
                 None,
                 &[Operation::GetJobs],
             ),
             Self::MyJobs => Row::one(
                 "my-jobs",
-                &[0x22],
+                &[BOOLEAN],
                 Shape::Boolean,
                 None,
                 &[Operation::GetJobs],
             ),
             Self::LastDocument => Row::one(
                 "last-document",
-                &[0x22],
+                &[BOOLEAN],
                 Shape::Boolean,
                 None,
                 &[Operation::SendDocument],
             ),
             Self::JobIds => Row::one(
                 "job-ids",
-                &[0x21],
+                &[INTEGER],
                 Shape::Number,
                 None,
                 &[Operation::CancelMyJobs],
@@ -286,7 +291,7 @@ impl OperationAttribute {
             .with_many(),
             Self::JobHoldUntil => Row::one(
                 "job-hold-until",
-                &[0x44, 0x42, 0x36],
+                &[KEYWORD, NAME_WITHOUT_LANGUAGE, NAME_WITH_LANGUAGE],
                 Shape::Octets,
                 Some(255),
                 &[Operation::HoldJob],

@@ -11,7 +11,7 @@ use crate::form::{has_needed, some_misformed, some_overlong};
 use crate::format::format_of;
 use crate::request::Request;
 use crate::target::is_target;
-use ipp_reply::Operation;
+use ipp_reply::{Operation, status};
 use ipp_wire::Head;
 
 /// What may be wrong with a request, in the order in which it is looked for.
@@ -70,12 +70,12 @@ impl Check {
         ensures { result ≡ code self }
     {
         match self {
-            Check::Form | Check::Needed => 0x0400,
-            Check::Charset => 0x040D,
-            Check::Length => 0x0409,
-            Check::Target => 0x0406,
-            Check::Compression => 0x040F,
-            Check::Format => 0x040A,
+            Check::Form | Check::Needed => status::CLIENT_ERROR_BAD_REQUEST,
+            Check::Charset => status::CLIENT_ERROR_CHARSET_NOT_SUPPORTED,
+            Check::Length => status::CLIENT_ERROR_REQUEST_VALUE_TOO_LONG,
+            Check::Target => status::CLIENT_ERROR_NOT_FOUND,
+            Check::Compression => status::CLIENT_ERROR_COMPRESSION_NOT_SUPPORTED,
+            Check::Format => status::CLIENT_ERROR_DOCUMENT_FORMAT_NOT_SUPPORTED,
         }
     }
 
@@ -100,9 +100,9 @@ pub fn operation_in(h: Head) -> Result<Operation, u16>
     ensures { result ≡ operation_in h }
 {
     if h.major != 1 && h.major != 2 {
-        return Err(0x0503);
+        return Err(status::SERVER_ERROR_VERSION_NOT_SUPPORTED);
     }
-    Operation::from_id(h.code).ok_or(0x0501)
+    Operation::from_id(h.code).ok_or(status::SERVER_ERROR_OPERATION_NOT_SUPPORTED)
 }
 
 /// What the head of a request alone refuses: 0x0503, where its major version isn't 1 or 2, or else

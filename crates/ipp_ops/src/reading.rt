@@ -6,6 +6,7 @@ ghost use Rattle.ipp_wire.specs.Viewed.{attribute_of, attributes_of, group_of, g
 ghost use Rattle.ipp_ops.specs.Checks as checks;
 ghost use Rattle.ipp_ops.specs.Request as request;
 
+use ipp_wire::tags::{CHARSET, NATURAL_LANGUAGE, OPERATION_ATTRIBUTES};
 use ipp_wire::{AttrView, GroupView};
 
 fn find_group<'v, 'a>(tag: u8, groups: &'v [GroupView<'a>]) -> Option<&'v GroupView<'a>>
@@ -96,8 +97,8 @@ fn is_lone_at(i: usize, name: &str, tag: u8, attrs: &[AttrView<'_>]) -> bool
 fn attributes_begin(attrs: &[AttrView<'_>]) -> bool
     ensures { result ≡ checks.attributes_begin (attributes_of attrs.now) }
 {
-    is_lone_at(0, "attributes-charset", 0x47, attrs)
-        && is_lone_at(1, "attributes-natural-language", 0x48, attrs)
+    is_lone_at(0, "attributes-charset", CHARSET, attrs)
+        && is_lone_at(1, "attributes-natural-language", NATURAL_LANGUAGE, attrs)
 }
 
 fn group_at<'v, 'a>(i: usize, groups: &'v [GroupView<'a>]) -> Option<&'v GroupView<'a>>
@@ -118,7 +119,7 @@ pub fn groups_begin(groups: &[GroupView<'_>]) -> bool
     ensures { result ≡ checks.groups_begin (groups_of groups.now) }
 {
     match group(0, groups) {
-        Some(g) => g.tag == 0x01 && attributes_begin(g.attrs.as_slice()),
+        Some(g) => g.tag == OPERATION_ATTRIBUTES && attributes_begin(g.attrs.as_slice()),
         None => false,
     }
 }

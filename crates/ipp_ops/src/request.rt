@@ -11,10 +11,9 @@ use crate::check::operation_in;
 use crate::reading::{group_attributes, groups_begin, named};
 use crate::value::{text, utf8_text};
 use ipp_reply::Operation;
+use ipp_reply::status::CLIENT_ERROR_BAD_REQUEST;
+use ipp_wire::tags::{JOB_ATTRIBUTES, OPERATION_ATTRIBUTES};
 use ipp_wire::{AttrView, ValueView, View};
-
-/// The status code client-error-bad-request.
-const BAD_REQUEST: u16 = 0x0400;
 
 /// What a request has.
 #[derive(Clone, Copy)]
@@ -46,8 +45,8 @@ impl<'v, 'a: 'v> Request<'v, 'a> {
         let groups = v.groups.as_slice();
         Request {
             operation,
-            attributes: group_attributes(0x01, groups),
-            job_attributes: group_attributes(0x02, groups),
+            attributes: group_attributes(OPERATION_ATTRIBUTES, groups),
+            job_attributes: group_attributes(JOB_ATTRIBUTES, groups),
             payload: v.payload,
         }
     }
@@ -59,7 +58,7 @@ impl<'v, 'a: 'v> Request<'v, 'a> {
     {
         let operation = operation_in(v.head)?;
         if !groups_begin(v.groups.as_slice()) {
-            return Err(BAD_REQUEST);
+            return Err(CLIENT_ERROR_BAD_REQUEST);
         }
         Ok(Request::new(operation, v))
     }

@@ -14,6 +14,7 @@ use crate::request::Request;
 use crate::template::{TEMPLATE_TABLE, TemplateAttribute};
 use crate::value::are_supported;
 use ipp_reply::{Operation, Unsupported, is_filled};
+use ipp_wire::tags::UNSUPPORTED;
 use ipp_wire::{AttrView, ValueView};
 use std::alloc::{AllocError, Global};
 use std::collections::BTreeSet;
@@ -68,7 +69,7 @@ fn unknown<'a>(alloc: Global, a: &AttrView<'a>) -> Result<AttrView<'a>, AllocErr
 {
     let mut values = Vec::new(alloc);
     values.push(ValueView {
-        tag: 0x10,
+        tag: UNSUPPORTED,
         bytes: b"",
     })?;
     Ok(AttrView {

@@ -11,6 +11,7 @@ ghost use Rattle.ipp_reply.specs.PrinterReply.{texts as spec_texts};
 
 use crate::format::{FORMATS, format_name};
 use crate::operation::{OPERATIONS, Operation};
+use ipp_wire::tags::{BOOLEAN, ENUM, INTEGER, KEYWORD, MIME_MEDIA_TYPE, NO_VALUE};
 use ipp_wire::{Message, ValueView};
 use queue_core::job::{Reason, Reasons};
 use std::alloc::{AllocError, Global};
@@ -57,7 +58,7 @@ fn keyword(r: Reason) -> ValueView<'static>
     ensures word { result.bytes.now ≡ spec.reason_word r }
 {
     ValueView {
-        tag: 0x44,
+        tag: KEYWORD,
         bytes: reason_word(r).as_bytes(),
     }
 }
@@ -117,7 +118,7 @@ fn enum_views<'a>(alloc: Global, ids: &'a [[u8; 4]]) -> Result<Vec<ValueView<'a>
     let mut views = Vec::new(alloc);
     for id in ids {
         views.push(ValueView {
-            tag: 0x23,
+            tag: ENUM,
             bytes: id,
         })?;
     }
@@ -142,7 +143,7 @@ pub(crate) fn put(
             m.attribute(
                 name,
                 &[ValueView {
-                    tag: 0x21,
+                    tag: INTEGER,
                     bytes: &bytes,
                 }],
             )
@@ -152,7 +153,7 @@ pub(crate) fn put(
             m.attribute(
                 name,
                 &[ValueView {
-                    tag: 0x23,
+                    tag: ENUM,
                     bytes: &bytes,
                 }],
             )
@@ -174,7 +175,7 @@ pub(crate) fn put(
         Content::Moment(None) => m.attribute(
             name,
             &[ValueView {
-                tag: 0x13,
+                tag: NO_VALUE,
                 bytes: b"",
             }],
         ),
@@ -183,7 +184,7 @@ pub(crate) fn put(
             m.attribute(
                 name,
                 &[ValueView {
-                    tag: 0x21,
+                    tag: INTEGER,
                     bytes: &bytes,
                 }],
             )
@@ -193,7 +194,7 @@ pub(crate) fn put(
             m.attribute(
                 name,
                 &[ValueView {
-                    tag: 0x22,
+                    tag: BOOLEAN,
                     bytes: &bytes,
                 }],
             )
@@ -204,7 +205,7 @@ pub(crate) fn put(
         }
         Content::FormatNames => {
             let names = format_names(alloc)?;
-            let values = text_views(alloc, 0x49, names.as_slice())?;
+            let values = text_views(alloc, MIME_MEDIA_TYPE, names.as_slice())?;
             m.attribute(name, values.as_slice())
         }
         Content::OperationIds => {

@@ -8,7 +8,7 @@ mod fault;
 mod law;
 mod message;
 mod reading;
-mod tags;
+pub mod tags;
 mod view;
 
 pub use bare::put_fault;
