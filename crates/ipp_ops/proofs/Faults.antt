@@ -1,6 +1,6 @@
 -- What the code of a reply tells: 0x0505 stands for a fault alone, which no check and no answer of the machine has, and a
 -- reply of the machine that refuses leaves the world.
-use Rattle.std.proofs.Common.{◌≡◌, ℕ, List, [], ◌∷◌, ◌++◌, Bool, true, false, refl, ap, sym, ◌∙◌, subst, Result, Ok, Err}
+use Rattle.std.proofs.Common.{◌≡◌, ℕ, List, [], ◌∷◌, ◌++◌, Bool, true, false, refl, ap, sym, ◌∙◌, subst, Ok, Err}
 use Rattle.std.specs.Prelude.{Option, Some, None, if◌then◌else◌, ⊤, ◌==◌, nat_le, nat_lt, map, bytes_eq}
 use Rattle.std.specs.Bool.{OnFalse, OnTrue}
 use Rattle.std.specs.List.{list_all}
@@ -8,7 +8,7 @@ use Rattle.std.specs.Option.{ok_or}
 use Rattle.std.specs.Result.{result_err}
 use Rattle.ipp_wire.specs.declared.view.Head.{Head}
 use Rattle.ipp_wire.specs.Message.{Group, Message, Spells, spelling}
-use Rattle.ipp_wire.specs.Bare.{bare}
+use Rattle.ipp_wire.specs.Bare.{bare, is_known_version}
 use Rattle.queue_core.specs.declared.document.Format.{Format}
 use Rattle.queue_core.specs.declared.job.Job.{Job}
 use Rattle.queue_core.specs.declared.job.Phase.{Phase}
@@ -23,13 +23,13 @@ use Rattle.queue_core.specs.Settings.{SettingValues}
 use Rattle.ipp_reply.specs.declared.operation.Operation.{Operation}
 use Rattle.ipp_ops.specs.declared.check.Check.{Check}
 use Rattle.ipp_ops.specs.declared.check.Check.TheVariants as check
-use Rattle.ipp_reply.specs.Wanted.{Rows, no_rows}
+use Rattle.ipp_reply.specs.Wanted.{Rows, job_rows, printer_rows}
 use Rattle.ipp_reply.specs.Operations.{operation_of}
 use Rattle.ipp_reply.specs.Unsupported.{Unsupported, is_listed}
 use Rattle.ipp_ops.specs.Unsupported.{unsupported}
-use Rattle.ipp_ops.specs.Checks.{code, refusal, groups_begin, is_refused_for, is_spoken, head_refusal, request_by}
+use Rattle.ipp_ops.specs.Checks.{code, refusal, groups_begin, is_refused_for, head_refusal, request_by}
 use Rattle.ipp_ops.specs.Request.{Request, request_for}
-use Rattle.ipp_ops.specs.Verdict.{Verdict, passed, refused, verdict, verdict_on, verdict_past, verdict_with}
+use Rattle.ipp_ops.specs.Verdict.{Verdict, passed, refused, verdict, request_verdict, listed_verdict, checked_verdict}
 use Rattle.ipp_reply.specs.Reply.{with_groups, unsupported_groups, reply_of}
 use Rattle.ipp_reply.specs.JobReply.{job_group}
 use Rattle.ipp_reply.specs.PrinterReply.{printer_group}
@@ -54,25 +54,25 @@ check_quiet check.Target = λ h gs. refl
 check_quiet check.Compression = λ h gs. refl
 check_quiet check.Format = λ h gs. refl
 
-past_quiet : (r : Request) (u : Unsupported) (b : Bool) → QuietVerdict (verdict_past r u b)
+past_quiet : (r : Request) (u : Unsupported) (b : Bool) → QuietVerdict (listed_verdict r u b)
 past_quiet r u true = λ h gs. refl
 past_quiet r u false = tt
 
-with_quiet : (r : Request) (c : Option Check) → QuietVerdict (verdict_with r c)
+with_quiet : (r : Request) (c : Option Check) → QuietVerdict (checked_verdict r c)
 with_quiet r (Some c) = check_quiet c
 with_quiet r None = past_quiet r (unsupported r) (is_refused_for r (unsupported r))
 
-ordered_quiet : (b : Bool) (o : Operation) (m : Message) → QuietVerdict (verdict_on (if b then Ok (request_for o m) else Err 0x0400))
+ordered_quiet : (b : Bool) (o : Operation) (m : Message) → QuietVerdict (request_verdict (if b then Ok (request_for o m) else Err 0x0400))
 ordered_quiet true o m = with_quiet (request_for o m) (refusal (request_for o m))
 ordered_quiet false o m = λ h gs. refl
 
-head_verdict_quiet : (spoken : Bool) (o : Option Operation) (m : Message) → QuietVerdict (verdict_on (request_by (if spoken then ok_or o 0x0501 else Err 0x0503) m))
+head_verdict_quiet : (spoken : Bool) (o : Option Operation) (m : Message) → QuietVerdict (request_verdict (request_by (if spoken then ok_or o 0x0501 else Err 0x0503) m))
 head_verdict_quiet false o m = λ h gs. refl
 head_verdict_quiet true None m = λ h gs. refl
 head_verdict_quiet true (Some o) m = ordered_quiet (groups_begin m.groups) o m
 
 verdict_quiet : (m : Message) → QuietVerdict (verdict m)
-verdict_quiet m = head_verdict_quiet (is_spoken m.head) (operation_of m.head.code) m
+verdict_quiet m = head_verdict_quiet (is_known_version m.head) (operation_of m.head.code) m
 
 head_quiet : (spoken : Bool) (o : Option Operation) (code : ℕ) → result_err (if spoken then ok_or o 0x0501 else Err 0x0503) ≡ Some code → IsQuiet code
 head_quiet false o code e = let same : 0x0503 ≡ code = cc in subst IsQuiet same (λ h gs. refl)
@@ -170,8 +170,8 @@ success_quiet false h gs = refl
 reply_quiet : (r : Reply) (change : Change) (h : Head) (rows : Rows) (u : Unsupported) (s : SettingValues) (now : ℕ) → Quiet r change → is_fault (spelling (reply_of r h rows u s now)) ≡ false
 reply_quiet (Refused code) change h rows u s now q = q.0 h (if code == 0x040B then unsupported_groups u else [])
 reply_quiet Done change h rows u s now q = success_quiet (is_listed u) h (unsupported_groups u)
-reply_quiet (Jobs js) change h rows u s now q = success_quiet (is_listed u) h (unsupported_groups u ++ map (job_group s.uri now rows.job) js)
-reply_quiet (Printer state queued accepting) change h rows u s now q = success_quiet (is_listed u) h (unsupported_groups u ++ printer_group (record { settings = s; now = now; state = state; queued = queued; accepting = accepting }) rows.printer ∷ [])
+reply_quiet (Jobs js) change h rows u s now q = success_quiet (is_listed u) h (unsupported_groups u ++ map (job_group s.uri now (job_rows rows)) js)
+reply_quiet (Printer state queued accepting) change h rows u s now q = success_quiet (is_listed u) h (unsupported_groups u ++ printer_group (record { settings = s; now = now; state = state; queued = queued; accepting = accepting }) (printer_rows rows) ∷ [])
 
 outcome_tells : (v : Verdict) (h : Head) (w : World) (now : ℕ) → QuietVerdict v → is_fault (spelling (outcome v h w now).reply) ≡ false
 outcome_tells (refused code u) h w now q = q h (if code == 0x040B then unsupported_groups u else [])
@@ -183,7 +183,7 @@ request_tells m w now out spelled = ap is_fault spelled.bytes ∙ outcome_tells 
 
 -- nor those that the head alone is answered
 pub head_tells : (h : Head) (code : ℕ) (out : List ℕ) → head_refusal h ≡ Some code → Spells (bare h code) out → is_fault out ≡ false
-head_tells h code out found spelled = ap is_fault spelled.bytes ∙ head_quiet (is_spoken h) (operation_of h.code) code found h []
+head_tells h code out found spelled = ap is_fault spelled.bytes ∙ head_quiet (is_known_version h) (operation_of h.code) code found h []
 
 -- ---- a reply that refuses
 
@@ -195,8 +195,8 @@ success_small false h gs = refl
 reply_keeps : (r : Reply) (change : Change) (h : Head) (rows : Rows) (u : Unsupported) (s : SettingValues) (now : ℕ) (w : World) → Quiet r change → is_refusal (spelling (reply_of r h rows u s now)) ≡ true → made_on change w ≡ w
 reply_keeps (Refused code) change h rows u s now w q e = ap (λ (c : Change). made_on c w) q.1
 reply_keeps Done change h rows u s now w q e = let small = success_small (is_listed u) h (unsupported_groups u) in absurd (cc)
-reply_keeps (Jobs js) change h rows u s now w q e = let small = success_small (is_listed u) h (unsupported_groups u ++ map (job_group s.uri now rows.job) js) in absurd (cc)
-reply_keeps (Printer state queued accepting) change h rows u s now w q e = let small = success_small (is_listed u) h (unsupported_groups u ++ printer_group (record { settings = s; now = now; state = state; queued = queued; accepting = accepting }) rows.printer ∷ []) in absurd (cc)
+reply_keeps (Jobs js) change h rows u s now w q e = let small = success_small (is_listed u) h (unsupported_groups u ++ map (job_group s.uri now (job_rows rows)) js) in absurd (cc)
+reply_keeps (Printer state queued accepting) change h rows u s now w q e = let small = success_small (is_listed u) h (unsupported_groups u ++ printer_group (record { settings = s; now = now; state = state; queued = queued; accepting = accepting }) (printer_rows rows) ∷ []) in absurd (cc)
 
 outcome_keeps : (v : Verdict) (h : Head) (w : World) (now : ℕ) → is_refusal (spelling (outcome v h w now).reply) ≡ true → (outcome v h w now).world ≡ w
 outcome_keeps (refused code u) h w now e = refl

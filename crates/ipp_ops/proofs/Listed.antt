@@ -13,7 +13,7 @@ use Rattle.ipp_ops.specs.Values.{are_supported}
 use Rattle.ipp_ops.specs.Request.{Request, attributes_in, request_for}
 use Rattle.ipp_ops.specs.Unsupported.{counted, listed, listed_by, listed_in, support_for, unsupported}
 use Rattle.ipp_ops.specs.Checks.{refusal, groups_begin, is_refused_for, request_by}
-use Rattle.ipp_ops.specs.Verdict.{verdict, verdict_on, verdict_past, verdict_with, ListsAttributes}
+use Rattle.ipp_ops.specs.Verdict.{verdict, request_verdict, listed_verdict, checked_verdict, ListsAttributes}
 use Rattle.ipp_reply.specs.Unsupported.{Unsupported, CanList}
 
 all_filtered : (p : Attribute → Bool) (attrs : List Attribute) → AllByRecursion IsAttribute attrs → AllByRecursion IsAttribute (filter p attrs)
@@ -69,19 +69,19 @@ can_list o m h = (
   where_made (makes_job o) (listed_in JobGroup (attributes_in 0x02 m.groups)) (all_listed JobGroup (attributes_in 0x02 m.groups) (group_fits 0x02 m.groups h.groups)),
 )
 
-past_lists : (r : Request) (u : Unsupported) (b : Bool) → CanList u → ListsAttributes (verdict_past r u b)
+past_lists : (r : Request) (u : Unsupported) (b : Bool) → CanList u → ListsAttributes (listed_verdict r u b)
 past_lists r u true h = h
 past_lists r u false h = h
 
-with_lists : (r : Request) (c : Option Check) → CanList (unsupported r) → ListsAttributes (verdict_with r c)
+with_lists : (r : Request) (c : Option Check) → CanList (unsupported r) → ListsAttributes (checked_verdict r c)
 with_lists r (Some c) h = (tt, tt)
 with_lists r None h = past_lists r (unsupported r) (is_refused_for r (unsupported r)) h
 
-ordered_lists : (b : Bool) (o : Operation) (m : Message) → IsMessage m → ListsAttributes (verdict_on (if b then Ok (request_for o m) else Err 0x0400))
+ordered_lists : (b : Bool) (o : Operation) (m : Message) → IsMessage m → ListsAttributes (request_verdict (if b then Ok (request_for o m) else Err 0x0400))
 ordered_lists true o m h = with_lists (request_for o m) (refusal (request_for o m)) (can_list o m h)
 ordered_lists false o m h = (tt, tt)
 
-by_operation_lists : (o : Result Operation ℕ) (m : Message) → IsMessage m → ListsAttributes (verdict_on (request_by o m))
+by_operation_lists : (o : Result Operation ℕ) (m : Message) → IsMessage m → ListsAttributes (request_verdict (request_by o m))
 by_operation_lists (Err code) m h = (tt, tt)
 by_operation_lists (Ok o) m h = ordered_lists (groups_begin m.groups) o m h
 

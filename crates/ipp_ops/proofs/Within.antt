@@ -17,7 +17,7 @@ use Rattle.ipp_ops.specs.Request.{Request, request_for, known, named, has, text_
 use Rattle.ipp_ops.specs.Unsupported.{unsupported}
 use Rattle.ipp_ops.specs.Checks.{applies, checks, refusal, fails, some_fails, groups_begin, is_refused_for, request_by}
 use Rattle.ipp_ops.specs.NewJob.{supported_number, template_number, job_name, new_job}
-use Rattle.ipp_ops.specs.Verdict.{call_by, verdict, verdict_on, verdict_past, verdict_with, IsWithinLimits}
+use Rattle.ipp_ops.specs.Verdict.{call_by, verdict, request_verdict, listed_verdict, checked_verdict, IsWithinLimits}
 use Rattle.ipp_ops.proofs.Tests.{and_true, list_any_false, find_none}
 use Rattle.ipp_ops.proofs.Texts.{anonymous_owns, untitled_names, owns, names, of_attribute}
 
@@ -105,19 +105,19 @@ call_fits CancelMyJobs r p h = tt
 call_fits GetJobs r p h = tt
 call_fits GetPrinterAttributes r p h = tt
 
-past_fits : (r : Request) (u : Unsupported) (b : Bool) → ArePassed r → length r.payload ≤ 16777216 → IsWithinLimits (verdict_past r u b)
+past_fits : (r : Request) (u : Unsupported) (b : Bool) → ArePassed r → length r.payload ≤ 16777216 → IsWithinLimits (listed_verdict r u b)
 past_fits r u true p h = tt
 past_fits r u false p h = (caller_owns r p, call_fits r.operation r p h)
 
-with_fits : (r : Request) (c : Option Check) → refusal r ≡ c → length r.payload ≤ 16777216 → IsWithinLimits (verdict_with r c)
+with_fits : (r : Request) (c : Option Check) → refusal r ≡ c → length r.payload ≤ 16777216 → IsWithinLimits (checked_verdict r c)
 with_fits r (Some c) e h = tt
 with_fits r None e h = past_fits r (unsupported r) (is_refused_for r (unsupported r)) (checks_passed r e) h
 
-ordered_fits : (b : Bool) (o : Operation) (m : Message) → length m.payload ≤ 16777216 → IsWithinLimits (verdict_on (if b then Ok (request_for o m) else Err 0x0400))
+ordered_fits : (b : Bool) (o : Operation) (m : Message) → length m.payload ≤ 16777216 → IsWithinLimits (request_verdict (if b then Ok (request_for o m) else Err 0x0400))
 ordered_fits true o m h = with_fits (request_for o m) (refusal (request_for o m)) refl h
 ordered_fits false o m h = tt
 
-by_operation_fits : (o : Result Operation ℕ) (m : Message) → length m.payload ≤ 16777216 → IsWithinLimits (verdict_on (request_by o m))
+by_operation_fits : (o : Result Operation ℕ) (m : Message) → length m.payload ≤ 16777216 → IsWithinLimits (request_verdict (request_by o m))
 by_operation_fits (Err code) m h = tt
 by_operation_fits (Ok o) m h = ordered_fits (groups_begin m.groups) o m h
 

@@ -1,11 +1,12 @@
 -- What is looked for in a request, in order, each with when it applies and its status code (RFC 8011, sections 4.1 and 4.2,
 -- appendix B): the head, the order of the groups, the checks of known attributes, and what is unsupported.
-use Rattle.std.specs.Prelude.{ℕ, ◌==◌, List, [], ◌∷◌, Option, Result, Ok, Err, Bool, false, not, ◌&&◌, ◌||◌, length, codes, bytes_eq, find, if◌then◌else◌, is_none, slice_get}
+use Rattle.std.specs.Prelude.{ℕ, ◌==◌, List, [], ◌∷◌, Option, Result, Ok, Err, Bool, false, not, ◌&&◌, ◌||◌, codes, bytes_eq, find, if◌then◌else◌, is_none}
 use Rattle.std.specs.List.{list_any, list_all}
 use Rattle.std.specs.Option.{option_map_or, ok_or}
 use Rattle.std.specs.Result.{result_err}
 use Rattle.std.specs.Str.{str_eq_ignore_ascii_case}
 use Rattle.ipp_wire.specs.declared.view.Head.{Head}
+use Rattle.ipp_wire.specs.Bare.{is_known_version}
 use Rattle.ipp_wire.specs.Message.{Value, Attribute, Group, Message}
 use Rattle.ipp_reply.specs.declared.operation.Operation.{Operation}
 use Rattle.ipp_ops.specs.declared.attribute.OperationAttribute.{OperationAttribute}
@@ -14,7 +15,7 @@ use Rattle.ipp_ops.specs.declared.check.Check.{Check}
 use Rattle.ipp_ops.specs.declared.check.Check.TheVariants.{Charset, Form, Length, Needed, Target, Compression, Format}
 use Rattle.ipp_reply.specs.Operations.{operation_of}
 use Rattle.ipp_ops.specs.Attributes.{Row, row, table, needs}
-use Rattle.ipp_ops.specs.Values.{are_formed, are_long}
+use Rattle.ipp_ops.specs.Values.{are_formed, are_long, one_value}
 use Rattle.ipp_ops.specs.Formats.{format_of}
 use Rattle.ipp_ops.specs.Request.{Request, request_for, known, bytes_of, has, is_target}
 use Rattle.ipp_ops.specs.Unsupported.{is_known}
@@ -22,13 +23,9 @@ use Rattle.ipp_reply.specs.Unsupported.{Unsupported, is_filled}
 
 -- ---- the head
 
--- major version 1 or 2
-abbrev pub is_spoken : Head → Bool
-is_spoken h = h.major == 1 || h.major == 2
-
 -- the operation that a head asks for, or the code that refuses it: the version is looked at first
 abbrev pub operation_in : Head → Result Operation ℕ
-operation_in h = if is_spoken h then ok_or (operation_of h.code) 0x0501 else Err 0x0503
+operation_in h = if is_known_version h then ok_or (operation_of h.code) 0x0501 else Err 0x0503
 
 abbrev pub head_refusal : Head → Option ℕ
 head_refusal h = result_err (operation_in h)
@@ -37,15 +34,17 @@ head_refusal h = result_err (operation_in h)
 
 -- one value of that tag under that name
 abbrev pub is_lone : List ℕ → ℕ → Attribute → Bool
-is_lone name tag a = bytes_eq a.name name && length a.values == 1 && list_all (λ v. v.tag == tag) a.values
+is_lone name tag a = bytes_eq a.name name && one_value (λ v. v.tag == tag) a.values
 
 -- the first two are the charset and the language
 abbrev pub attributes_begin : List Attribute → Bool
-attributes_begin attrs = option_map_or (is_lone (codes "attributes-charset") 0x47) (slice_get attrs 0) false && option_map_or (is_lone (codes "attributes-natural-language") 0x48) (slice_get attrs 1) false
+attributes_begin (charset ∷ language ∷ attrs) = is_lone (codes "attributes-charset") 0x47 charset && is_lone (codes "attributes-natural-language") 0x48 language
+attributes_begin _ = false
 
 -- the first group is that of the operation, and begins with charset and language
 abbrev pub groups_begin : List Group → Bool
-groups_begin gs = option_map_or (λ g. g.tag == 0x01 && attributes_begin g.attributes) (slice_get gs 0) false
+groups_begin [] = false
+groups_begin (g ∷ gs) = g.tag == 0x01 && attributes_begin g.attributes
 
 -- the request that a message is, or the code that refuses its head or the order of its groups
 abbrev pub ordered_for : Operation → Message → Result Request ℕ

@@ -8,7 +8,7 @@ use Rattle.ipp_reply.specs.declared.operation.Operation.{Operation}
 use Rattle.ipp_reply.specs.declared.operation.Operation.TheVariants.{PrintJob, ValidateJob, CreateJob, SendDocument, CancelJob, GetJobAttributes, GetJobs, GetPrinterAttributes, HoldJob, ReleaseJob, CancelMyJobs}
 use Rattle.ipp_ops.specs.declared.attribute.OperationAttribute.TheVariants.{RequestedAttributes, WhichJobs, Limit, LastDocument, JobIds}
 use Rattle.ipp_ops.specs.declared.check.Check.{Check}
-use Rattle.ipp_reply.specs.Wanted.{Rows}
+use Rattle.ipp_reply.specs.Wanted.{Rows, of_job, of_printer, rows_of}
 use Rattle.ipp_ops.specs.declared.verdict.Ask.{Ask}
 use Rattle.ipp_ops.specs.declared.verdict.Ask.TheVariants.{Call as CallAsk, Refused}
 use Rattle.queue_core.specs.declared.event.WhichJobs.{WhichJobs as Which}
@@ -85,8 +85,8 @@ requested r = option_map_or (λ a. words_of a.values) (known r RequestedAttribut
 
 -- the rows of the table of which the operation shows something
 abbrev pub rows_by : Operation → List (List ℕ) → Rows
-rows_by GetPrinterAttributes words = record { job = []; printer = selected_of_printer words }
-rows_by _ words = record { job = selected words; printer = [] }
+rows_by GetPrinterAttributes words = of_printer (selected_of_printer words)
+rows_by _ words = of_job (selected words)
 
 abbrev pub rows : Request → Rows
 rows r = rows_by r.operation (requested r)
@@ -94,27 +94,27 @@ rows r = rows_by r.operation (requested r)
 -- ---- the verdict
 
 -- what is unsupported is told where it is the reason for a refusal, and with what is done
-abbrev pub verdict_past : Request → Unsupported → Bool → Verdict
-verdict_past r u true = refused 0x040B u
-verdict_past r u false = passed (caller r) (call r) (rows r) u
+abbrev pub listed_verdict : Request → Unsupported → Bool → Verdict
+listed_verdict r u true = refused 0x040B u
+listed_verdict r u false = passed (caller r) (call r) (rows r) u
 
-abbrev pub verdict_with : Request → Option Check → Verdict
-verdict_with r (Some c) = refused (code c) nothing
-verdict_with r None = verdict_past r (unsupported r) (is_refused_for r (unsupported r))
+abbrev pub checked_verdict : Request → Option Check → Verdict
+checked_verdict r (Some c) = refused (code c) nothing
+checked_verdict r None = listed_verdict r (unsupported r) (is_refused_for r (unsupported r))
 
 -- the first check that refuses, or else the call
-abbrev pub verdict_on : Result Request ℕ → Verdict
-verdict_on (Err code) = refused code nothing
-verdict_on (Ok r) = verdict_with r (refusal r)
+abbrev pub request_verdict : Result Request ℕ → Verdict
+request_verdict (Err code) = refused code nothing
+request_verdict (Ok r) = checked_verdict r (refusal r)
 
 abbrev pub verdict : Message → Verdict
-verdict m = verdict_on (request_in m)
+verdict m = request_verdict (request_in m)
 
--- ---- what the answer of `ask` says
+-- ---- an answer of `ask`, by its content
 
-abbrev pub verdict_in : Ask → Verdict
-verdict_in (CallAsk caller call wanted unsupported) = passed caller.now (call_of call) wanted (unsupported_of unsupported)
-verdict_in (Refused code unsupported) = refused code (unsupported_of unsupported)
+abbrev pub ask_content : Ask → Verdict
+ask_content (CallAsk caller call wanted unsupported) = passed caller.now (call_of call) (rows_of wanted) (unsupported_of unsupported)
+ask_content (Refused code unsupported) = refused code (unsupported_of unsupported)
 
 -- a call is an event within the machine's limits
 abbrev pub IsWithinLimits : Verdict → Type 0

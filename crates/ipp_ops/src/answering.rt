@@ -10,6 +10,7 @@ ghost use Rattle.queue_core.specs.Machine.{step as machine_step};
 ghost use Rattle.queue_core.specs.World.{World};
 ghost use Rattle.ipp_reply.specs.Reply.{reply_of};
 ghost use Rattle.ipp_reply.specs.Unsupported.{CanList, unsupported_of};
+ghost use Rattle.ipp_reply.specs.Wanted.{rows_of};
 ghost use Rattle.ipp_ops.specs.Answer.{Answers, Fails, IsMalformed, bytes_of, is_fault, is_refusal, outcome};
 ghost use Rattle.ipp_ops.specs.Verdict.{verdict};
 ghost use Rattle.ipp_ops.specs.Checks.{head_refusal};
@@ -46,7 +47,7 @@ fn reply_bytes(
 ) -> Result<Vec<u8>, AllocError>
     requires sound { IsSoundReply r.now }
     requires listed { CanList (unsupported_of unsupported.now) }
-    ensures { IfOk result (λ b. Spells (reply_of r.now head wanted.now (unsupported_of unsupported.now) s.now now) b.items) }
+    ensures { IfOk result (λ b. Spells (reply_of r.now head (rows_of wanted.now) (unsupported_of unsupported.now) s.now now) b.items) }
 {
     let m = reply_message(alloc, r, head, wanted, unsupported, s, now)?;
     write(&m)
@@ -69,7 +70,7 @@ fn take<B: QueueBook>(
     requires listed { CanList (unsupported_of unsupported.now) }
     ensures began { B.is_honest book.new → B.is_honest book.old }
     ensures reply { B.is_honest book.new → IfOk result (λ b. (w : World) → B.stands book.old w → s.now ≡ w.settings
-        → Spells (reply_of (machine_step w now (event_of e.now)).reply head wanted.now (unsupported_of unsupported.now) w.settings now) b.items) }
+        → Spells (reply_of (machine_step w now (event_of e.now)).reply head (rows_of wanted.now) (unsupported_of unsupported.now) w.settings now) b.items) }
     ensures world { B.is_honest book.new → IfOk result (λ b. (w : World) → B.stands book.old w
         → B.stands book.new (machine_step w now (event_of e.now)).world) }
     ensures err { OnErr result ((w : World) → B.stands book.old w → B.stands book.new w) }
@@ -100,7 +101,7 @@ fn step<B: QueueBook>(
 {
     match ask(alloc, v)? {
         Ask::Refused { code, unsupported } => {
-            let wanted = Wanted::of_job(alloc, Vec::new(alloc));
+            let wanted = Wanted::nothing(alloc);
             let reply = Reply::Refused(code);
             Ok(reply_bytes(alloc, &reply, v.head, &wanted, &unsupported, s, now)?)
         }

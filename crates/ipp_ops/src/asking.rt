@@ -5,11 +5,12 @@ ghost use Rattle.ipp_wire.specs.Viewed.{message_of, values_of};
 ghost use Rattle.queue_core.specs.Event.{call_of};
 ghost use Rattle.ipp_reply.specs.JobReply.{selected};
 ghost use Rattle.ipp_reply.specs.Unsupported.{nothing, unsupported_of};
+ghost use Rattle.ipp_reply.specs.Wanted.{of_job, rows_of};
 ghost use Rattle.ipp_reply.specs.declared.operation.Operation.TheVariants as variant;
 ghost use Rattle.ipp_ops.specs.Request.{caller, request_of};
 ghost use Rattle.ipp_ops.specs.Unsupported.{unsupported};
 ghost use Rattle.ipp_ops.specs.Values.{number_of};
-ghost use Rattle.ipp_ops.specs.Verdict.{call, is_last, job, job_ids, limit, passed, refused, requested, rows, rows_by, usual, verdict, verdict_in, verdict_past, verdict_with, which_jobs, IsWithinLimits, ListsAttributes};
+ghost use Rattle.ipp_ops.specs.Verdict.{call, is_last, job, job_ids, limit, passed, refused, requested, rows, rows_by, usual, verdict, ask_content, listed_verdict, checked_verdict, which_jobs, IsWithinLimits, ListsAttributes};
 ghost use Rattle.ipp_ops.specs.Checks.{is_refused_for, refusal};
 
 use crate::attribute::OperationAttribute;
@@ -137,7 +138,7 @@ fn usual(o: Operation) -> &'static [&'static str]
 
 fn printer_rows(alloc: Global, r: Request<'_, '_>) -> Result<Wanted, AllocError>
     requires { r.operation ≡ variant.GetPrinterAttributes }
-    ensures { IfOk result (λ w. w ≡ rows (request_of r.entry)) }
+    ensures { IfOk result (λ w. rows_of w ≡ rows (request_of r.entry)) }
 {
     match r.known(OperationAttribute::RequestedAttributes) {
         Some(a) => select_of_printer(alloc, a.values.as_slice()),
@@ -146,7 +147,7 @@ fn printer_rows(alloc: Global, r: Request<'_, '_>) -> Result<Wanted, AllocError>
 }
 
 fn job_rows(alloc: Global, r: Request<'_, '_>) -> Result<Wanted, AllocError>
-    ensures { IfOk result (λ w. w ≡ record { job = selected (requested (request_of r.entry)); printer = [] }) }
+    ensures { IfOk result (λ w. rows_of w ≡ of_job (selected (requested (request_of r.entry)))) }
 {
     match r.known(OperationAttribute::RequestedAttributes) {
         Some(a) => select_requested(alloc, a.values.as_slice()),
@@ -156,7 +157,7 @@ fn job_rows(alloc: Global, r: Request<'_, '_>) -> Result<Wanted, AllocError>
 
 /// The rows that the reply is to have.
 fn rows(alloc: Global, r: Request<'_, '_>) -> Result<Wanted, AllocError>
-    ensures { IfOk result (λ w. w ≡ rows (request_of r.entry)) }
+    ensures { IfOk result (λ w. rows_of w ≡ rows (request_of r.entry)) }
 {
     match r.operation {
         Operation::GetPrinterAttributes => printer_rows(alloc, r),
@@ -166,7 +167,7 @@ fn rows(alloc: Global, r: Request<'_, '_>) -> Result<Wanted, AllocError>
 
 /// A refusal that tells nothing of what is unsupported.
 fn refused<'a>(alloc: Global, code: u16) -> Ask<'a>
-    ensures { verdict_in result ≡ refused code nothing }
+    ensures { ask_content result ≡ refused code nothing }
 {
     Ask::Refused {
         code,
@@ -180,7 +181,7 @@ fn passed<'a>(
     r: Request<'_, 'a>,
     unsupported: Unsupported<'a>,
 ) -> Result<Ask<'a>, AllocError>
-    ensures { IfOk result (λ a. verdict_in a ≡ passed (caller (request_of r.entry)) (call (request_of r.entry)) (rows (request_of r.entry)) (unsupported_of unsupported.entry)) }
+    ensures { IfOk result (λ a. ask_content a ≡ passed (caller (request_of r.entry)) (call (request_of r.entry)) (rows (request_of r.entry)) (unsupported_of unsupported.entry)) }
 {
     let wanted = rows(alloc, r)?;
     Ok(Ask::Call {
@@ -192,8 +193,8 @@ fn passed<'a>(
 }
 
 /// What a request asks of which no known attribute is refused. What is unsupported is told.
-fn supported<'a>(alloc: Global, r: Request<'_, 'a>) -> Result<Ask<'a>, AllocError>
-    ensures { IfOk result (λ a. verdict_in a ≡ verdict_past (request_of r.entry) (unsupported (request_of r.entry)) (is_refused_for (request_of r.entry) (unsupported (request_of r.entry)))) }
+fn listed<'a>(alloc: Global, r: Request<'_, 'a>) -> Result<Ask<'a>, AllocError>
+    ensures { IfOk result (λ a. ask_content a ≡ listed_verdict (request_of r.entry) (unsupported (request_of r.entry)) (is_refused_for (request_of r.entry) (unsupported (request_of r.entry)))) }
 {
     let unsupported = unsupported_in(alloc, r)?;
     if is_refused_for(r, &unsupported) {
@@ -207,11 +208,11 @@ fn supported<'a>(alloc: Global, r: Request<'_, 'a>) -> Result<Ask<'a>, AllocErro
 
 /// What a request asks.
 fn checked<'a>(alloc: Global, r: Request<'_, 'a>) -> Result<Ask<'a>, AllocError>
-    ensures { IfOk result (λ a. verdict_in a ≡ verdict_with (request_of r.entry) (refusal (request_of r.entry))) }
+    ensures { IfOk result (λ a. ask_content a ≡ checked_verdict (request_of r.entry) (refusal (request_of r.entry))) }
 {
     match first_refusal(r) {
         Some(check) => Ok(refused(alloc, check.code())),
-        None => supported(alloc, r),
+        None => listed(alloc, r),
     }
 }
 
@@ -219,10 +220,10 @@ fn checked<'a>(alloc: Global, r: Request<'_, 'a>) -> Result<Ask<'a>, AllocError>
 /// section 4.1), with what is unsupported. A call is an event within the machine's limits. The one error
 /// is want of memory.
 pub fn ask<'a>(alloc: Global, v: &View<'a>) -> Result<Ask<'a>, AllocError>
-    ensures verdict { IfOk result (λ a. verdict_in a ≡ verdict (message_of v.now)) }
-    ensures limits { length v.now.payload.now ≤ 16777216 → IfOk result (λ a. IsWithinLimits (verdict_in a)) }
+    ensures verdict { IfOk result (λ a. ask_content a ≡ verdict (message_of v.now)) }
+    ensures limits { length v.now.payload.now ≤ 16777216 → IfOk result (λ a. IsWithinLimits (ask_content a)) }
     // so that it may stand in a reply
-    ensures listed { IsMessage (message_of v.now) → IfOk result (λ a. ListsAttributes (verdict_in a)) }
+    ensures listed { IsMessage (message_of v.now) → IfOk result (λ a. ListsAttributes (ask_content a)) }
 {
     match Request::read(v) {
         Ok(r) => checked(alloc, r),

@@ -12,7 +12,7 @@ use crate::format::format_of;
 use crate::request::Request;
 use crate::target::is_target;
 use ipp_reply::{Operation, status};
-use ipp_wire::Head;
+use ipp_wire::{Head, is_known_version};
 
 /// What may be wrong with a request, in the order in which it is looked for.
 #[derive(Clone, Copy, Debug)]
@@ -99,7 +99,7 @@ impl Check {
 pub fn operation_in(h: Head) -> Result<Operation, u16>
     ensures { result ≡ operation_in h }
 {
-    if h.major != 1 && h.major != 2 {
+    if !is_known_version(h) {
         return Err(status::SERVER_ERROR_VERSION_NOT_SUPPORTED);
     }
     Operation::from_id(h.code).ok_or(status::SERVER_ERROR_OPERATION_NOT_SUPPORTED)

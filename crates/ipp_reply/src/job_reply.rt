@@ -5,7 +5,7 @@ ghost use Rattle.ipp_wire.specs.Viewed.{values_of};
 ghost use Rattle.queue_core.specs.Limits.{IsSoundJob};
 ghost use Rattle.ipp_reply.specs.Content.{values_in};
 ghost use Rattle.ipp_reply.specs.JobReply as spec;
-ghost use Rattle.ipp_reply.specs.Wanted.{words_of};
+ghost use Rattle.ipp_reply.specs.Wanted.{of_job, rows_of, words_of};
 
 use crate::content::{Content, put};
 use crate::wanted::Wanted;
@@ -254,16 +254,16 @@ fn requested_rows(
 /// The rows of a job that these names select: a name of a row, its group or `all` (RFC 8011, section 4.3.4).
 /// The one error is want of memory.
 pub fn select_usual(alloc: Global, words: &[&str]) -> Result<Wanted, AllocError>
-    ensures { IfOk result (λ w. w ≡ record { job = spec.selected (map (λ x. x.now) words.now); printer = [] }) }
+    ensures { IfOk result (λ w. rows_of w ≡ of_job (spec.selected (map (λ x. x.now) words.now))) }
 {
     let rows = usual_rows(alloc, &TABLE, words)?;
-    Ok(Wanted::of_job(alloc, rows))
+    Ok(Wanted::Job(rows))
 }
 
 /// The rows of a job that the names in these values select. The one error is want of memory.
 pub fn select_requested(alloc: Global, values: &[ValueView<'_>]) -> Result<Wanted, AllocError>
-    ensures { IfOk result (λ w. w ≡ record { job = spec.selected (words_of (values_of values.now)); printer = [] }) }
+    ensures { IfOk result (λ w. rows_of w ≡ of_job (spec.selected (words_of (values_of values.now)))) }
 {
     let rows = requested_rows(alloc, &TABLE, values)?;
-    Ok(Wanted::of_job(alloc, rows))
+    Ok(Wanted::Job(rows))
 }

@@ -6,7 +6,7 @@ ghost use Rattle.queue_core.specs.Settings.{AreSettings};
 ghost use Rattle.ipp_reply.specs.Content.{values_in};
 ghost use Rattle.ipp_reply.specs.PrinterReply as spec;
 ghost use Rattle.ipp_reply.specs.PrinterView.{printer_of};
-ghost use Rattle.ipp_reply.specs.Wanted.{words_of};
+ghost use Rattle.ipp_reply.specs.Wanted.{of_printer, rows_of, words_of};
 
 use crate::content::{Content, put};
 use crate::format::format_name;
@@ -202,16 +202,16 @@ fn named_rows(
 /// The rows of the printer that the names in these values select: a name of a row,
 /// `printer-description` or `all` (RFC 8011, section 4.2.5). The one error is want of memory.
 pub fn select_of_printer(alloc: Global, values: &[ValueView<'_>]) -> Result<Wanted, AllocError>
-    ensures { IfOk result (λ w. w ≡ record { job = []; printer = spec.selected (words_of (values_of values.now)) }) }
+    ensures { IfOk result (λ w. rows_of w ≡ of_printer (spec.selected (words_of (values_of values.now)))) }
 {
     let rows = named_rows(alloc, &TABLE, values)?;
-    Ok(Wanted::of_printer(alloc, rows))
+    Ok(Wanted::Printer(rows))
 }
 
 /// All rows of the printer. The one error is want of memory.
 pub fn select_whole_printer(alloc: Global) -> Result<Wanted, AllocError>
-    ensures { IfOk result (λ w. w ≡ record { job = []; printer = spec.selected (codes "all" ∷ []) }) }
+    ensures { IfOk result (λ w. rows_of w ≡ of_printer (spec.selected (codes "all" ∷ []))) }
 {
     let rows = TABLE.to_vec(alloc)?;
-    Ok(Wanted::of_printer(alloc, rows))
+    Ok(Wanted::Printer(rows))
 }

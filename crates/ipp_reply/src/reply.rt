@@ -1,13 +1,14 @@
 //! The reply to a request as a message.
 ghost use Rattle.std.specs.Prelude.{◌≡◌, ◌==◌, ◌<◌, [], IfOk, OnOk, fold, length, if◌then◌else◌};
 ghost use Rattle.std.specs.List.{AllByRecursion};
-ghost use Rattle.ipp_wire.specs.Bare.{bare, bare_head};
+ghost use Rattle.ipp_wire.specs.Bare.{bare};
 ghost use Rattle.ipp_wire.specs.Message.{IsAttribute};
 ghost use Rattle.ipp_wire.specs.Owned.{add_attribute};
 ghost use Rattle.ipp_wire.specs.Viewed.{attributes_of};
 ghost use Rattle.queue_core.specs.Limits.{IsSoundReply};
 ghost use Rattle.ipp_reply.specs.Reply.{reply_of, success, unsupported_groups, with_groups};
 ghost use Rattle.ipp_reply.specs.Unsupported.{CanList, unsupported_of};
+ghost use Rattle.ipp_reply.specs.Wanted.{rows_of};
 
 use crate::job_reply::put_jobs;
 use crate::printer_reply::{PrinterView, put_printer};
@@ -18,28 +19,10 @@ use crate::status::{
 use crate::unsupported::Unsupported;
 use crate::wanted::Wanted;
 use ipp_wire::tags::{CHARSET, NATURAL_LANGUAGE, OPERATION_ATTRIBUTES, UNSUPPORTED_ATTRIBUTES};
-use ipp_wire::{AttrView, Head, Message, ValueView};
+use ipp_wire::{AttrView, Head, Message, ValueView, reply_head};
 use queue_core::event::Reply;
 use queue_core::settings::Settings;
 use std::alloc::{AllocError, Global};
-
-/// The head of a reply: the request's version, or 1.1 where its major version isn't 1 or 2.
-fn reply_head(head: Head, code: u16) -> Head
-    ensures { result ≡ bare_head head code }
-{
-    let is_known = head.major == 1 || head.major == 2;
-    let (major, minor) = if is_known {
-        (head.major, head.minor)
-    } else {
-        (1, 1)
-    };
-    Head {
-        major,
-        minor,
-        code,
-        request_id: head.request_id,
-    }
-}
 
 /// A reply with charset and natural language alone.
 fn bare_message(alloc: Global, head: Head, code: u16) -> Result<Message, AllocError>
@@ -134,7 +117,7 @@ pub fn reply_message(
 ) -> Result<Message, AllocError>
     requires sound { IsSoundReply r.now }
     requires listed { CanList (unsupported_of unsupported.now) }
-    ensures { IfOk result (λ m. m ≡ reply_of r.now head wanted.now (unsupported_of unsupported.now) s.now now) }
+    ensures { IfOk result (λ m. m ≡ reply_of r.now head (rows_of wanted.now) (unsupported_of unsupported.now) s.now now) }
 {
     match r {
         Reply::Refused(code) => refusal_message(alloc, head, *code, unsupported),

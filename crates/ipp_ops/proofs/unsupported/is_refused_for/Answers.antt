@@ -1,4 +1,4 @@
-use Rattle.std.proofs.Common.{◌≡◌, Bool, true, false, ◌&&◌, ◌||◌, refl, sym, ◌∙◌}
+use Rattle.std.proofs.Common.{◌≡◌, Bool, true, false, ◌&&◌, ◌||◌}
 use Rattle.ipp_reply.specs.Unsupported.{is_filled, unsupported_of}
 use Rattle.ipp_ops.specs.Checks.{is_strict}
 use Rattle.ipp_ops.specs.Request.{request_of}
