@@ -1,18 +1,18 @@
--- Bytes and the messages that they spell.
-use Rattle.std.proofs.Common.{◌≡◌, ℕ, List, [], ◌++◌, ◌==◌, drop, Bool, true, false, refl, ap, subst, sym}
-use Rattle.std.specs.Prelude.{if◌then◌else◌}
+-- Bytes and what they are answered.
+use Rattle.std.proofs.Common.{◌≡◌, ℕ, List, [], ◌==◌, Bool, true, false, refl, ap, subst, sym, ◌∙◌}
+use Rattle.std.specs.Prelude.{Some, None, if◌then◌else◌}
 use Rattle.ipp_wire.specs.declared.view.Head.{Head}
-use Rattle.ipp_wire.specs.Message.{Group, Message, Spells, spelling, head_bytes}
+use Rattle.ipp_wire.specs.Message.{Group, Message, Spells, head_of}
 use Rattle.ipp_wire.specs.Bare.{bare}
 use Rattle.queue_core.specs.Settings.{SettingValues}
+use Rattle.queue_core.specs.World.{World}
 use Rattle.queue_core.specs.declared.event.Reply.TheVariants.{Refused}
 use Rattle.ipp_reply.specs.Unsupported.{nothing}
 use Rattle.ipp_reply.specs.Wanted.{no_rows}
 use Rattle.ipp_reply.specs.Reply.{reply_of, with_groups}
-
--- a spelling begins with the message's head
-pub begins : (m : Message) (b : List ℕ) → b ≡ spelling m → b ≡ head_bytes m.head ++ drop 8 b
-begins m b e = subst (λ (x : List ℕ). x ≡ head_bytes m.head ++ drop 8 x) (sym e) refl
+use Rattle.ipp_ops.specs.Answer.{Answers, IsVerdictOn, IsMalformed, by_head, malformed, request, outcome}
+use Rattle.ipp_ops.specs.Verdict.{refused, verdict}
+use Rattle.ipp_ops.specs.Checks.{head_refusal}
 
 same_twice : (b : Bool) (gs : List Group) → (if b then gs else gs) ≡ gs
 same_twice true gs = refl
@@ -22,5 +22,31 @@ same_twice false gs = refl
 bare_refusal : (code : ℕ) (h : Head) (s : SettingValues) (now : ℕ) → reply_of (Refused code) h no_rows nothing s now ≡ bare h code
 bare_refusal code h s now = ap (λ (gs : List Group). with_groups (bare h code) gs) (same_twice (code == 0x040B) [])
 
-pub bare_spelled : (code : ℕ) (h : Head) (s : SettingValues) (now : ℕ) (out : List ℕ) → Spells (bare h code) out → Spells (reply_of (Refused code) h no_rows nothing s now) out
+bare_spelled : (code : ℕ) (h : Head) (s : SettingValues) (now : ℕ) (out : List ℕ) → Spells (bare h code) out → Spells (reply_of (Refused code) h no_rows nothing s now) out
 bare_spelled code h s now out spelled = subst (λ (m : Message). Spells m out) (sym (bare_refusal code h s now)) spelled
+
+-- the head of the bytes refuses them
+pub refused_by_head : (code : ℕ) (h : Head) (b : List ℕ) → h ≡ head_of b → Some code ≡ head_refusal h → IsVerdictOn b (refused code nothing)
+refused_by_head code h b e found = by_head code (ap head_refusal (sym e) ∙ sym found)
+
+-- they spell no message
+pub refused_malformed : (h : Head) (b : List ℕ) → h ≡ head_of b → None ≡ head_refusal h → IsMalformed b → IsVerdictOn b (refused 0x0400 nothing)
+refused_malformed h b e found unspelled = malformed (ap head_refusal (sym e) ∙ sym found) unspelled
+
+-- what is refused so is answered by a bare reply, and the world stays
+pub bare_answers : (code : ℕ) (h : Head) (b out : List ℕ) (w : World) (now : ℕ) → h ≡ head_of b → IsVerdictOn b (refused code nothing) → Spells (bare h code) out → Answers w now b w out
+bare_answers code h b out w now e given spelled = record {
+  verdict = refused code nothing;
+  on_bytes = given;
+  world = refl;
+  spelled = subst (λ (x : Head). Spells (reply_of (Refused code) x no_rows nothing w.settings now) out) e (bare_spelled code h w.settings now out spelled);
+}
+
+-- a message is answered by what comes of it
+pub message_answers : (m : Message) (b out : List ℕ) (w : World) (now : ℕ) → m.head ≡ head_of b → Spells m b → Spells (outcome (verdict m) m.head w now).reply out → Answers w now b (outcome (verdict m) m.head w now).world out
+message_answers m b out w now e found spelled = record {
+  verdict = verdict m;
+  on_bytes = request m found;
+  world = ap (λ (x : Head). (outcome (verdict m) x w now).world) e;
+  spelled = subst (λ (x : Head). Spells (outcome (verdict m) x w now).reply out) e spelled;
+}

@@ -1,6 +1,6 @@
 -- What is listed may stand in a message, where the request is one.
 use Rattle.std.proofs.Common.{ℕ, List, [], ◌∷◌, ◌==◌, Bool, true, false, lit<, lit≤, refl, Result, Ok, Err, zero, suc}
-use Rattle.std.specs.Prelude.{Option, Some, None, IfSome, filter, find, cond}
+use Rattle.std.specs.Prelude.{Option, Some, None, IfSome, filter, find, cond, if◌then◌else◌}
 use Rattle.std.specs.List.{AllByRecursion, filter_map, cons_option}
 use Rattle.std.specs.Option.{option_map_or}
 use Rattle.ipp_wire.specs.Message.{Attribute, Group, Message, IsAttribute, IsGroup, IsMessage, IsNested}
@@ -8,14 +8,12 @@ use Rattle.ipp_reply.specs.declared.operation.Operation.{Operation}
 use Rattle.ipp_ops.specs.declared.unsupported.Source.{Source}
 use Rattle.ipp_ops.specs.declared.unsupported.Source.TheVariants.{OperationGroup, JobGroup}
 use Rattle.ipp_ops.specs.declared.check.Check.{Check}
-use Rattle.ipp_ops.specs.declared.check.Check.TheVariants as check
-use Rattle.ipp_reply.specs.Operations.{makes_job}
-use Rattle.ipp_ops.specs.Attributes.{Support}
+use Rattle.ipp_ops.specs.Attributes.{Support, makes_job}
 use Rattle.ipp_ops.specs.Values.{are_supported}
-use Rattle.ipp_ops.specs.Request.{attributes_in, operation_attributes, job_attributes}
+use Rattle.ipp_ops.specs.Request.{Request, attributes_in, request_for}
 use Rattle.ipp_ops.specs.Unsupported.{counted, listed, listed_by, listed_in, support_for, unsupported}
-use Rattle.ipp_ops.specs.Checks.{refusal}
-use Rattle.ipp_ops.specs.Asked.{refused_by, outcome_of, asked_by, asks, ListsAttributes}
+use Rattle.ipp_ops.specs.Checks.{refusal, groups_begin, is_refused_for, request_by}
+use Rattle.ipp_ops.specs.Verdict.{verdict, request_verdict, listed_verdict, checked_verdict, ListsAttributes}
 use Rattle.ipp_reply.specs.Unsupported.{Unsupported, CanList}
 
 all_filtered : (p : Attribute → Bool) (attrs : List Attribute) → AllByRecursion IsAttribute attrs → AllByRecursion IsAttribute (filter p attrs)
@@ -65,31 +63,28 @@ where_made : (b : Bool) (attrs : List Attribute) → AllByRecursion IsAttribute 
 where_made true attrs h = h
 where_made false attrs h = tt
 
-can_list : (o : Operation) (m : Message) → IsMessage m → CanList (unsupported o m)
+can_list : (o : Operation) (m : Message) → IsMessage m → CanList (unsupported (request_for o m))
 can_list o m h = (
-  all_listed (OperationGroup o) (operation_attributes m) (group_fits 0x01 m.groups h.groups),
-  where_made (makes_job o) (listed_in JobGroup (job_attributes m)) (all_listed JobGroup (job_attributes m) (group_fits 0x02 m.groups h.groups)),
+  all_listed (OperationGroup o) (attributes_in 0x01 m.groups) (group_fits 0x01 m.groups h.groups),
+  where_made (makes_job o) (listed_in JobGroup (attributes_in 0x02 m.groups)) (all_listed JobGroup (attributes_in 0x02 m.groups) (group_fits 0x02 m.groups h.groups)),
 )
 
-refused_lists : (c : Check) (u : Unsupported) → CanList u → ListsAttributes (refused_by c u)
-refused_lists check.Order u h = (tt, tt)
-refused_lists check.Charset u h = (tt, tt)
-refused_lists check.Form u h = (tt, tt)
-refused_lists check.Length u h = (tt, tt)
-refused_lists check.Needed u h = (tt, tt)
-refused_lists check.Target u h = (tt, tt)
-refused_lists check.Compression u h = (tt, tt)
-refused_lists check.Format u h = (tt, tt)
-refused_lists check.Ignored u h = h
+past_lists : (r : Request) (u : Unsupported) (b : Bool) → CanList u → ListsAttributes (listed_verdict r u b)
+past_lists r u true h = h
+past_lists r u false h = h
 
-outcome_lists : (o : Operation) (m : Message) (u : Unsupported) (r : Option Check) → CanList u → ListsAttributes (outcome_of o m u r)
-outcome_lists o m u (Some c) h = refused_lists c u h
-outcome_lists o m u None h = h
+with_lists : (r : Request) (c : Option Check) → CanList (unsupported r) → ListsAttributes (checked_verdict r c)
+with_lists r (Some c) h = (tt, tt)
+with_lists r None h = past_lists r (unsupported r) (is_refused_for r (unsupported r)) h
 
-asked_lists : (a : Result Operation ℕ) (m : Message) → IsMessage m → ListsAttributes (asked_by a m)
-asked_lists (Err code) m h = (tt, tt)
-asked_lists (Ok o) m h = outcome_lists o m (unsupported o m) (refusal o m (unsupported o m)) (can_list o m h)
+ordered_lists : (b : Bool) (o : Operation) (m : Message) → IsMessage m → ListsAttributes (request_verdict (if b then Ok (request_for o m) else Err 0x0400))
+ordered_lists true o m h = with_lists (request_for o m) (refusal (request_for o m)) (can_list o m h)
+ordered_lists false o m h = (tt, tt)
+
+by_operation_lists : (o : Result Operation ℕ) (m : Message) → IsMessage m → ListsAttributes (request_verdict (request_by o m))
+by_operation_lists (Err code) m h = (tt, tt)
+by_operation_lists (Ok o) m h = ordered_lists (groups_begin m.groups) o m h
 
 -- what the answer to a message lists may stand in one
-pub asks_lists : (m : Message) → IsMessage m → ListsAttributes (asks m)
-asks_lists m h = asked_lists _ m h
+pub verdict_lists : (m : Message) → IsMessage m → ListsAttributes (verdict m)
+verdict_lists m h = by_operation_lists _ m h

@@ -34,6 +34,10 @@ pub record Row : Type 0 where
   pub support : Support
   pub known_in : List Operation
 
+-- the operation is one of these
+abbrev pub is_one_of : List Operation → Operation → Bool
+is_one_of os o = list_any (λ p. is_operation o p) os
+
 -- the operations on one job
 abbrev pub of_job : List Operation
 of_job = SendDocument ∷ CancelJob ∷ GetJobAttributes ∷ HoldJob ∷ ReleaseJob ∷ []
@@ -46,26 +50,38 @@ of_new_job = PrintJob ∷ ValidateJob ∷ CreateJob ∷ []
 abbrev pub of_document : List Operation
 of_document = PrintJob ∷ ValidateJob ∷ SendDocument ∷ []
 
+-- one value, of any content
+abbrev pub one : List ℕ → List ℕ → Shape → Option ℕ → List Operation → Row
+one name tags shape limit known_in = record { name = name; tags = tags; many = false; shape = shape; limit = limit; support = anything; known_in = known_in }
+
 abbrev pub row : OperationAttribute → Row
-row AttributesCharset = record { name = codes "attributes-charset"; tags = 0x47 ∷ []; many = false; shape = Octets; limit = None; support = anything; known_in = operations }
-row AttributesNaturalLanguage = record { name = codes "attributes-natural-language"; tags = 0x48 ∷ []; many = false; shape = Octets; limit = Some 63; support = anything; known_in = operations }
-row PrinterUri = record { name = codes "printer-uri"; tags = 0x45 ∷ []; many = false; shape = Octets; limit = Some 1023; support = anything; known_in = operations }
-row JobUri = record { name = codes "job-uri"; tags = 0x45 ∷ []; many = false; shape = Octets; limit = Some 1023; support = anything; known_in = of_job }
-row JobId = record { name = codes "job-id"; tags = 0x21 ∷ []; many = false; shape = Number; limit = None; support = anything; known_in = of_job }
-row RequestingUserName = record { name = codes "requesting-user-name"; tags = 0x42 ∷ 0x36 ∷ []; many = false; shape = Name; limit = Some 255; support = anything; known_in = operations }
-row JobName = record { name = codes "job-name"; tags = 0x42 ∷ 0x36 ∷ []; many = false; shape = Text; limit = Some 255; support = anything; known_in = of_new_job }
-row DocumentName = record { name = codes "document-name"; tags = 0x42 ∷ 0x36 ∷ []; many = false; shape = Text; limit = Some 255; support = anything; known_in = of_document }
-row IppAttributeFidelity = record { name = codes "ipp-attribute-fidelity"; tags = 0x22 ∷ []; many = false; shape = Boolean; limit = None; support = anything; known_in = of_new_job }
-row Compression = record { name = codes "compression"; tags = 0x44 ∷ []; many = false; shape = Octets; limit = Some 255; support = anything; known_in = of_document }
-row DocumentFormat = record { name = codes "document-format"; tags = 0x49 ∷ []; many = false; shape = Octets; limit = Some 255; support = anything; known_in = PrintJob ∷ ValidateJob ∷ SendDocument ∷ GetPrinterAttributes ∷ [] }
-row JobImpressions = record { name = codes "job-impressions"; tags = 0x21 ∷ []; many = false; shape = Number; limit = None; support = between 0 100000; known_in = of_new_job }
-row RequestedAttributes = record { name = codes "requested-attributes"; tags = 0x44 ∷ []; many = true; shape = Octets; limit = Some 255; support = anything; known_in = GetJobAttributes ∷ GetJobs ∷ GetPrinterAttributes ∷ [] }
-row WhichJobs = record { name = codes "which-jobs"; tags = 0x44 ∷ []; many = false; shape = Octets; limit = Some 255; support = words (codes "not-completed" ∷ codes "completed" ∷ []); known_in = GetJobs ∷ [] }
-row Limit = record { name = codes "limit"; tags = 0x21 ∷ []; many = false; shape = Positive; limit = None; support = anything; known_in = GetJobs ∷ [] }
-row MyJobs = record { name = codes "my-jobs"; tags = 0x22 ∷ []; many = false; shape = Boolean; limit = None; support = anything; known_in = GetJobs ∷ [] }
-row LastDocument = record { name = codes "last-document"; tags = 0x22 ∷ []; many = false; shape = Boolean; limit = None; support = anything; known_in = SendDocument ∷ [] }
-row JobIds = record { name = codes "job-ids"; tags = 0x21 ∷ []; many = true; shape = Number; limit = None; support = anything; known_in = CancelMyJobs ∷ [] }
-row JobHoldUntil = record { name = codes "job-hold-until"; tags = 0x44 ∷ 0x42 ∷ 0x36 ∷ []; many = false; shape = Octets; limit = Some 255; support = words (codes "indefinite" ∷ []); known_in = HoldJob ∷ [] }
+row AttributesCharset = one (codes "attributes-charset") (0x47 ∷ []) Octets None operations
+row AttributesNaturalLanguage = one (codes "attributes-natural-language") (0x48 ∷ []) Octets (Some 63) operations
+row PrinterUri = one (codes "printer-uri") (0x45 ∷ []) Octets (Some 1023) operations
+row JobUri = one (codes "job-uri") (0x45 ∷ []) Octets (Some 1023) of_job
+row JobId = one (codes "job-id") (0x21 ∷ []) Number None of_job
+row RequestingUserName = one (codes "requesting-user-name") (0x42 ∷ 0x36 ∷ []) Name (Some 255) operations
+row JobName = one (codes "job-name") (0x42 ∷ 0x36 ∷ []) Text (Some 255) of_new_job
+row DocumentName = one (codes "document-name") (0x42 ∷ 0x36 ∷ []) Text (Some 255) of_document
+row IppAttributeFidelity = one (codes "ipp-attribute-fidelity") (0x22 ∷ []) Boolean None of_new_job
+row Compression = one (codes "compression") (0x44 ∷ []) Octets (Some 255) of_document
+row DocumentFormat = one (codes "document-format") (0x49 ∷ []) Octets (Some 255) (PrintJob ∷ ValidateJob ∷ SendDocument ∷ GetPrinterAttributes ∷ [])
+row JobImpressions = record (one (codes "job-impressions") (0x21 ∷ []) Number None of_new_job) { support = between 0 100000 }
+row RequestedAttributes = record (one (codes "requested-attributes") (0x44 ∷ []) Octets (Some 255) (GetJobAttributes ∷ GetJobs ∷ GetPrinterAttributes ∷ [])) { many = true }
+row WhichJobs = record (one (codes "which-jobs") (0x44 ∷ []) Octets (Some 255) (GetJobs ∷ [])) { support = words (codes "not-completed" ∷ codes "completed" ∷ []) }
+row Limit = one (codes "limit") (0x21 ∷ []) Positive None (GetJobs ∷ [])
+row MyJobs = one (codes "my-jobs") (0x22 ∷ []) Boolean None (GetJobs ∷ [])
+row LastDocument = one (codes "last-document") (0x22 ∷ []) Boolean None (SendDocument ∷ [])
+row JobIds = record (one (codes "job-ids") (0x21 ∷ []) Number None (CancelMyJobs ∷ [])) { many = true }
+row JobHoldUntil = record (one (codes "job-hold-until") (0x44 ∷ 0x42 ∷ 0x36 ∷ []) Octets (Some 255) (HoldJob ∷ [])) { support = words (codes "indefinite" ∷ []) }
+
+-- the operation is one on a job
+abbrev pub is_on_job : Operation → Bool
+is_on_job o = is_one_of of_job o
+
+-- the operation looks at the job group: it makes a job, or says whether one would be made
+abbrev pub makes_job : Operation → Bool
+makes_job o = is_one_of of_new_job o
 
 -- in the table's order
 abbrev pub table : List OperationAttribute
@@ -73,7 +89,7 @@ table = AttributesCharset ∷ AttributesNaturalLanguage ∷ PrinterUri ∷ JobUr
 
 -- the operation knows the attribute
 abbrev pub knows : Operation → OperationAttribute → Bool
-knows o k = list_any (λ p. is_operation o p) (row k).known_in
+knows o k = is_one_of (row k).known_in o
 
 -- by job-uri, or by printer-uri and job-id
 abbrev pub job_target : List (List OperationAttribute)

@@ -5,5 +5,5 @@ pub mod Request
 pub mod Unsupported
 pub mod Checks
 pub mod NewJob
-pub mod Asked
+pub mod Verdict
 pub mod Answer

@@ -1,24 +1,31 @@
 -- The attributes of a request that the printer doesn't take as they stand (RFC 8011, section 4.1.7).
-use Rattle.std.specs.Prelude.{ℕ, List, [], ◌∷◌, Option, Some, None, not, ◌&&◌, bytes_eq, find, filter, if◌then◌else◌, option_map}
+use Rattle.std.specs.Prelude.{ℕ, List, [], ◌∷◌, Option, Some, None, not, ◌&&◌, Bool, bytes_eq, find, filter, if◌then◌else◌, is_some, option_map}
 use Rattle.std.specs.List.{filter_map}
-use Rattle.ipp_wire.specs.Message.{Attribute, Message}
+use Rattle.ipp_wire.specs.Message.{Attribute}
 use Rattle.ipp_reply.specs.declared.operation.Operation.{Operation}
 use Rattle.ipp_ops.specs.declared.unsupported.Source.{Source}
 use Rattle.ipp_ops.specs.declared.unsupported.Source.TheVariants.{OperationGroup, JobGroup}
-use Rattle.ipp_reply.specs.Operations.{makes_job}
+use Rattle.ipp_ops.specs.declared.attribute.OperationAttribute.{OperationAttribute}
 use Rattle.ipp_reply.specs.Unsupported.{Unsupported}
-use Rattle.ipp_ops.specs.Attributes.{Support, row, table, knows, template_row, template_table}
+use Rattle.ipp_ops.specs.Attributes.{Support, row, table, knows, makes_job, template_row, template_table}
 use Rattle.ipp_ops.specs.Values.{are_supported}
-use Rattle.ipp_ops.specs.Request.{operation_attributes, job_attributes}
+use Rattle.ipp_ops.specs.Request.{Request}
 
 -- the first attribute of each name
 abbrev pub counted : List Attribute → List Attribute
 counted [] = []
 counted (a ∷ attrs) = a ∷ filter (λ b. not (bytes_eq a.name b.name)) (counted attrs)
 
+-- the attribute of that name that an operation knows
+abbrev pub attribute_named : Operation → List ℕ → Option OperationAttribute
+attribute_named o name = find (λ k. bytes_eq (row k).name name && knows o k) table
+
+abbrev pub is_known : Operation → List ℕ → Bool
+is_known o name = is_some (attribute_named o name)
+
 -- what is supported of an attribute of that name, where it is known
 abbrev pub support_for : Source → List ℕ → Option Support
-support_for (OperationGroup o) name = option_map (λ k. (row k).support) (find (λ k. bytes_eq (row k).name name && knows o k) table)
+support_for (OperationGroup o) name = option_map (λ k. (row k).support) (attribute_named o name)
 support_for JobGroup name = option_map (λ k. (template_row k).support) (find (λ k. bytes_eq (template_row k).name name) template_table)
 
 -- an unknown attribute is listed with one value of tag 0x10 without bytes, a known one with its own
@@ -34,8 +41,8 @@ abbrev pub listed_in : Source → List Attribute → List Attribute
 listed_in s attrs = filter_map (listed s) (counted attrs)
 
 -- the job group is looked at where the operation makes a job
-abbrev pub unsupported : Operation → Message → Unsupported
-unsupported o m = record {
-  operation = listed_in (OperationGroup o) (operation_attributes m);
-  job = if makes_job o then listed_in JobGroup (job_attributes m) else [];
+abbrev pub unsupported : Request → Unsupported
+unsupported r = record {
+  operation = listed_in (OperationGroup r.operation) r.attributes;
+  job = if makes_job r.operation then listed_in JobGroup r.job_attributes else [];
 }

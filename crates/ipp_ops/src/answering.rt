@@ -1,38 +1,31 @@
 //! One request, from its bytes to those of its answer.
-ghost use Rattle.std.specs.Prelude.{◌≡◌, ◌<◌, ◌≤◌, ◌↔◌, length, IfOk, IfSome, IsErr, IsSome, OnErr};
+ghost use Rattle.std.specs.Prelude.{◌≡◌, ◌<◌, ◌≤◌, ◌↔◌, None, Some, ℕ, length, IfOk, IsErr, MatchBool, OnErr};
 ghost use Rattle.std.specs.Bool.{OnFalse, OnTrue};
-ghost use Rattle.ipp_wire.specs.Message.{IsMessage, Spells};
+ghost use Rattle.ipp_wire.specs.Message.{IsMessage, Spells, head_of};
 ghost use Rattle.ipp_wire.specs.Viewed.{message_of};
 ghost use Rattle.ipp_wire.specs.Bare.{bare};
-ghost use Rattle.queue_core.specs.Limits.{IsMoment};
+ghost use Rattle.queue_core.specs.Event.{event_of};
+ghost use Rattle.queue_core.specs.Limits.{IsEvent, IsMoment, IsSoundReply};
+ghost use Rattle.queue_core.specs.Machine.{step as machine_step};
 ghost use Rattle.queue_core.specs.World.{World};
-ghost use Rattle.ipp_ops.specs.Answer.{Answers, BeginsWith, Fails, bytes_of, is_fault, outcome};
-ghost use Rattle.ipp_ops.specs.Asked.{asks};
+ghost use Rattle.ipp_reply.specs.Reply.{reply_of};
+ghost use Rattle.ipp_reply.specs.Unsupported.{CanList, unsupported_of};
+ghost use Rattle.ipp_reply.specs.Wanted.{rows_of};
+ghost use Rattle.ipp_ops.specs.Answer.{Answers, Fails, IsMalformed, bytes_of, is_fault, is_refusal, outcome};
+ghost use Rattle.ipp_ops.specs.Verdict.{verdict};
+ghost use Rattle.ipp_ops.specs.Checks.{head_refusal};
 
 use crate::asking::ask;
 use crate::check::head_check;
 use crate::outcome::{Answer, TooShort};
-use crate::request::Ask;
-use ipp_reply::{Wanted, reply_message};
+use crate::verdict::Ask;
+use ipp_reply::status::{CLIENT_ERROR_BAD_REQUEST, SERVER_ERROR_TEMPORARY_ERROR};
+use ipp_reply::{Unsupported, Wanted, reply_message};
 use ipp_wire::{Head, View, WireFault, head, put_fault, read, write};
 use queue_core::book::{BookFault, QueueBook};
 use queue_core::event::{Event, Reply};
 use queue_core::settings::Settings;
-use std::alloc::Global;
-
-/// The status code server-error-temporary-error.
-const TEMPORARY_ERROR: u16 = 0x0505;
-
-/// The status code client-error-bad-request.
-const BAD_REQUEST: u16 = 0x0400;
-
-/// The head at the front of a request, and none under 8 bytes.
-fn head_of(body: &[u8]) -> Option<Head>
-    ensures begins { IfSome result (λ h. BeginsWith h body.now) }
-    ensures short { IsSome result ↔ (8 ≤ length body.now) }
-{
-    head(body)
-}
+use std::alloc::{AllocError, Global};
 
 fn bare_answer(head: Head, code: u16) -> Answer
     ensures { Spells (bare head code) (bytes_of result) }
@@ -42,8 +35,53 @@ fn bare_answer(head: Head, code: u16) -> Answer
     Answer::Bare(out)
 }
 
-/// One step of the machine on a request that was read, or a fault and no change: the book is changed
-/// last, once the reply's bytes are there.
+/// The bytes of a reply.
+fn reply_bytes(
+    alloc: Global,
+    r: &Reply,
+    head: Head,
+    wanted: &Wanted,
+    unsupported: &Unsupported<'_>,
+    s: &Settings,
+    now: u32,
+) -> Result<Vec<u8>, AllocError>
+    requires sound { IsSoundReply r.now }
+    requires listed { CanList (unsupported_of unsupported.now) }
+    ensures { IfOk result (λ b. Spells (reply_of r.now head (rows_of wanted.now) (unsupported_of unsupported.now) s.now now) b.items) }
+{
+    let m = reply_message(alloc, r, head, wanted, unsupported, s, now)?;
+    write(&m)
+}
+
+/// One step of the machine, or a fault and no change: the book is changed last, once the reply's bytes
+/// are there.
+fn take<B: QueueBook>(
+    alloc: Global,
+    book: &mut B,
+    s: &Settings,
+    now: u32,
+    e: &Event<'_>,
+    head: Head,
+    wanted: &Wanted,
+    unsupported: &Unsupported<'_>,
+) -> Result<Vec<u8>, BookFault>
+    requires moment { IsMoment now }
+    requires event { IsEvent (event_of e.now) }
+    requires listed { CanList (unsupported_of unsupported.now) }
+    ensures began { B.is_honest book.new → B.is_honest book.old }
+    ensures reply { B.is_honest book.new → IfOk result (λ b. (w : World) → B.stands book.old w → s.now ≡ w.settings
+        → Spells (reply_of (machine_step w now (event_of e.now)).reply head (rows_of wanted.now) (unsupported_of unsupported.now) w.settings now) b.items) }
+    ensures world { B.is_honest book.new → IfOk result (λ b. (w : World) → B.stands book.old w
+        → B.stands book.new (machine_step w now (event_of e.now)).world) }
+    ensures err { OnErr result ((w : World) → B.stands book.old w → B.stands book.new w) }
+{
+    let decision = book.decide(now, e)?;
+    let bytes = reply_bytes(alloc, &decision.reply, head, wanted, unsupported, s, now)?;
+    book.apply(decision)?;
+    Ok(bytes)
+}
+
+/// What a request that was read is answered: the reply to it, or a fault and no change.
 fn step<B: QueueBook>(
     alloc: Global,
     book: &mut B,
@@ -54,20 +92,18 @@ fn step<B: QueueBook>(
     requires moment { IsMoment now }
     requires message { IsMessage (message_of v.now) }
     requires fits { length v.now.payload.now ≤ 16777216 }
-    requires settings { (w : World) → B.is_honest book.old → B.stands book.old w → s.now ≡ w.settings }
     ensures began { B.is_honest book.new → B.is_honest book.old }
-    ensures reply { B.is_honest book.new → IfOk result (λ b. (w : World) → B.stands book.old w
-        → Spells (outcome (asks (message_of v.now)) v.now.head w now).reply b.items) }
+    ensures reply { B.is_honest book.new → IfOk result (λ b. (w : World) → B.stands book.old w → s.now ≡ w.settings
+        → Spells (outcome (verdict (message_of v.now)) v.now.head w now).reply b.items) }
     ensures world { B.is_honest book.new → IfOk result (λ b. (w : World) → B.stands book.old w
-        → B.stands book.new (outcome (asks (message_of v.now)) v.now.head w now).world) }
+        → B.stands book.new (outcome (verdict (message_of v.now)) v.now.head w now).world) }
     ensures err { OnErr result ((w : World) → B.stands book.old w → B.stands book.new w) }
 {
     match ask(alloc, v)? {
         Ask::Refused { code, unsupported } => {
-            let wanted = Wanted::of_job(alloc, Vec::new(alloc));
+            let wanted = Wanted::nothing(alloc);
             let reply = Reply::Refused(code);
-            let m = reply_message(alloc, &reply, v.head, &wanted, &unsupported, s, now)?;
-            Ok(write(&m)?)
+            Ok(reply_bytes(alloc, &reply, v.head, &wanted, &unsupported, s, now)?)
         }
         Ask::Call {
             caller,
@@ -75,19 +111,8 @@ fn step<B: QueueBook>(
             wanted,
             unsupported,
         } => {
-            let decision = book.decide(now, &Event::Ask { caller, call })?;
-            let m = reply_message(
-                alloc,
-                &decision.reply,
-                v.head,
-                &wanted,
-                &unsupported,
-                s,
-                now,
-            )?;
-            let bytes = write(&m)?;
-            book.apply(decision)?;
-            Ok(bytes)
+            let e = Event::Ask { caller, call };
+            take(alloc, book, s, now, &e, v.head, &wanted, &unsupported)
         }
     }
 }
@@ -105,19 +130,26 @@ pub fn answer<B: QueueBook>(
 ) -> Result<Answer, TooShort>
     requires moment { IsMoment now }
     requires fits { length body.now ≤ 16777216 }
-    requires settings { (w : World) → B.is_honest book.old → B.stands book.old w → s.now ≡ w.settings }
     ensures began { B.is_honest book.new → B.is_honest book.old }
     ensures short { IsErr result ↔ (length body.now < 8) }
     ensures answered { B.is_honest book.new → IfOk result (λ a. OnFalse (is_fault (bytes_of a))
-        ((w : World) → B.stands book.old w
+        ((w : World) → B.stands book.old w → s.now ≡ w.settings
         → (after : World) × Answers w now body.now after (bytes_of a) × B.stands book.new after)) }
 
     // The code 0x0505 stands for nothing else.
     ensures failed { B.is_honest book.new → IfOk result (λ a. OnTrue (is_fault (bytes_of a))
-        ((w : World) → B.stands book.old w → Fails body.now (bytes_of a) × B.stands book.new w)) }
+        ((w : World) → B.stands book.old w → s.now ≡ w.settings → Fails body.now (bytes_of a) × B.stands book.new w)) }
+    ensures refused { B.is_honest book.new → IfOk result (λ a. OnTrue (is_refusal (bytes_of a))
+        ((w : World) → B.stands book.old w → s.now ≡ w.settings → B.stands book.new w)) }
+
+    // These hold on any book, also on one that is not honest.
+    ensures head_refused { (code : ℕ) → head_refusal (head_of body.now) ≡ Some code → IfOk result (λ a. Spells (bare (head_of body.now) code) (bytes_of a)) }
+    ensures head_refused_kept { (code : ℕ) → head_refusal (head_of body.now) ≡ Some code → (w : World) → B.stands book.old w → B.stands book.new w }
+    ensures malformed { head_refusal (head_of body.now) ≡ None → IsMalformed body.now → IfOk result (λ a. MatchBool (is_fault (bytes_of a)) (Fails body.now (bytes_of a)) (Spells (bare (head_of body.now) 0x0400) (bytes_of a))) }
+    ensures malformed_kept { IsMalformed body.now → (w : World) → B.stands book.old w → B.stands book.new w }
     ensures err { OnErr result ((w : World) → B.stands book.old w → B.stands book.new w) }
 {
-    let Some(h) = head_of(body) else {
+    let Some(h) = head(body) else {
         return Err(TooShort);
     };
     if let Some(code) = head_check(h) {
@@ -126,9 +158,9 @@ pub fn answer<B: QueueBook>(
     match read(alloc, body) {
         Ok(v) => match step(alloc, book, s, now, &v) {
             Ok(bytes) => Ok(Answer::Whole(bytes)),
-            Err(_) => Ok(bare_answer(h, TEMPORARY_ERROR)),
+            Err(_) => Ok(bare_answer(h, SERVER_ERROR_TEMPORARY_ERROR)),
         },
-        Err(WireFault::Malformed { .. }) => Ok(bare_answer(h, BAD_REQUEST)),
-        Err(_) => Ok(bare_answer(h, TEMPORARY_ERROR)),
+        Err(WireFault::Malformed { .. }) => Ok(bare_answer(h, CLIENT_ERROR_BAD_REQUEST)),
+        Err(_) => Ok(bare_answer(h, SERVER_ERROR_TEMPORARY_ERROR)),
     }
 }

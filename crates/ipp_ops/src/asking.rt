@@ -1,42 +1,46 @@
 //! What a request asks: the first check that refuses it, or else its call.
 ghost use Rattle.std.specs.Prelude.{◌≡◌, ◌≤◌, [], IfOk, length, map, unwrap_or};
-ghost use Rattle.ipp_wire.specs.Viewed.{attributes_of, message_of, values_of};
-ghost use Rattle.ipp_ops.specs.Values.{number_of};
-ghost use Rattle.queue_core.specs.Event.{call_of};
-ghost use Rattle.ipp_ops.specs.Asked.{asks, ask_of, call_in, is_last, job, job_ids, limit, refused_by, requested, usual, wanted_by, which_jobs, IsWithinLimits, ListsAttributes};
-ghost use Rattle.ipp_reply.specs.Unsupported.{unsupported_of};
 ghost use Rattle.ipp_wire.specs.Message.{IsMessage};
+ghost use Rattle.ipp_wire.specs.Viewed.{message_of, values_of};
+ghost use Rattle.queue_core.specs.Event.{call_of};
 ghost use Rattle.ipp_reply.specs.JobReply.{selected};
+ghost use Rattle.ipp_reply.specs.Unsupported.{nothing, unsupported_of};
+ghost use Rattle.ipp_reply.specs.Wanted.{of_job, rows_of};
 ghost use Rattle.ipp_reply.specs.declared.operation.Operation.TheVariants as variant;
+ghost use Rattle.ipp_ops.specs.Request.{caller, request_of};
+ghost use Rattle.ipp_ops.specs.Unsupported.{unsupported};
+ghost use Rattle.ipp_ops.specs.Values.{number_of};
+ghost use Rattle.ipp_ops.specs.Verdict.{call, is_last, job, job_ids, limit, passed, refused, requested, rows, rows_by, usual, verdict, ask_content, listed_verdict, checked_verdict, which_jobs, IsWithinLimits, ListsAttributes};
+ghost use Rattle.ipp_ops.specs.Checks.{is_refused_for, refusal};
 
 use crate::attribute::OperationAttribute;
-use crate::check::{Check, asked_in, first_refusal};
+use crate::check::first_refusal;
 use crate::new_job::{format, new_job};
-use crate::reading::{bytes_of, caller, group_attributes, known};
-use crate::request::Ask;
+use crate::request::Request;
 use crate::target::target_job;
-use crate::unsupported::unsupported_in;
+use crate::unsupported::{is_refused_for, unsupported_in};
 use crate::value::number;
+use crate::verdict::Ask;
+use ipp_reply::status::CLIENT_ERROR_ATTRIBUTES_OR_VALUES_NOT_SUPPORTED;
 use ipp_reply::{
     Operation, Unsupported, Wanted, select_of_printer, select_requested, select_usual,
     select_whole_printer,
 };
-use ipp_wire::{AttrView, ValueView, View};
+use ipp_wire::{ValueView, View};
 use queue_core::event::{Call, NumberList, WhichJobs};
 use std::alloc::{AllocError, Global};
 
-fn job(o: Operation, v: &View<'_>) -> u32
-    ensures { result ≡ job o (message_of v.now) }
+fn job(r: Request<'_, '_>) -> u32
+    ensures { result ≡ job (request_of r.entry) }
 {
-    target_job(o, group_attributes(0x01, v.groups.as_slice())).unwrap_or(0)
+    target_job(r).unwrap_or(0)
 }
 
 /// Those that are not completed, where the request doesn't say which.
-fn which_jobs(attrs: &[AttrView<'_>]) -> WhichJobs
-    ensures { result ≡ which_jobs (attributes_of attrs.now) }
+fn which_jobs(r: Request<'_, '_>) -> WhichJobs
+    ensures { result ≡ which_jobs (request_of r.entry) }
 {
-    let which = bytes_of(Operation::GetJobs, OperationAttribute::WhichJobs, attrs);
-    if which == "completed".as_bytes() {
+    if r.bytes_of(OperationAttribute::WhichJobs) == "completed".as_bytes() {
         WhichJobs::Completed
     } else {
         WhichJobs::NotCompleted
@@ -44,21 +48,17 @@ fn which_jobs(attrs: &[AttrView<'_>]) -> WhichJobs
 }
 
 /// None, where the request has no limit.
-fn limit(attrs: &[AttrView<'_>]) -> Option<u32>
-    ensures { result ≡ limit (attributes_of attrs.now) }
+fn limit(r: Request<'_, '_>) -> Option<u32>
+    ensures { result ≡ limit (request_of r.entry) }
 {
-    number(bytes_of(Operation::GetJobs, OperationAttribute::Limit, attrs))
+    number(r.bytes_of(OperationAttribute::Limit))
 }
 
 /// No more documents come behind this one.
-fn is_last(attrs: &[AttrView<'_>]) -> bool
-    ensures { result ≡ is_last (attributes_of attrs.now) }
+fn is_last(r: Request<'_, '_>) -> bool
+    ensures { result ≡ is_last (request_of r.entry) }
 {
-    bytes_of(
-        Operation::SendDocument,
-        OperationAttribute::LastDocument,
-        attrs,
-    ) == [1].as_slice()
+    r.bytes_of(OperationAttribute::LastDocument) == [1].as_slice()
 }
 
 /// The numbers of an attribute's values.
@@ -73,10 +73,10 @@ fn numbers(alloc: Global, values: &[ValueView<'_>]) -> Result<Vec<u32>, AllocErr
 }
 
 /// None, where the request has no job-ids.
-fn job_ids(alloc: Global, attrs: &[AttrView<'_>]) -> Result<Option<NumberList>, AllocError>
-    ensures { IfOk result (λ n. n ≡ job_ids (attributes_of attrs.now)) }
+fn job_ids(alloc: Global, r: Request<'_, '_>) -> Result<Option<NumberList>, AllocError>
+    ensures { IfOk result (λ n. n ≡ job_ids (request_of r.entry)) }
 {
-    match known(Operation::CancelMyJobs, OperationAttribute::JobIds, attrs) {
+    match r.known(OperationAttribute::JobIds) {
         Some(a) => {
             let ids = numbers(alloc, a.values.as_slice())?;
             Ok(Some(NumberList::from_numbers(ids)))
@@ -85,37 +85,35 @@ fn job_ids(alloc: Global, attrs: &[AttrView<'_>]) -> Result<Option<NumberList>, 
     }
 }
 
-/// The call that an operation makes of a request.
-fn call_in<'a>(alloc: Global, o: Operation, v: &View<'a>) -> Result<Call<'a>, AllocError>
-    ensures { IfOk result (λ c. call_of c ≡ call_in o (message_of v.now)) }
+/// The call that the operation makes of a request.
+fn call<'a>(alloc: Global, r: Request<'_, 'a>) -> Result<Call<'a>, AllocError>
+    ensures { IfOk result (λ c. call_of c ≡ call (request_of r.entry)) }
 {
-    let attrs = group_attributes(0x01, v.groups.as_slice());
-    let payload = v.payload;
-    Ok(match o {
+    Ok(match r.operation {
         Operation::PrintJob => Call::PrintJob {
-            job: new_job(o, v),
-            format: format(o, attrs),
-            payload,
+            job: new_job(r),
+            format: format(r),
+            payload: r.payload,
         },
-        Operation::ValidateJob => Call::ValidateJob { job: new_job(o, v) },
-        Operation::CreateJob => Call::CreateJob { job: new_job(o, v) },
+        Operation::ValidateJob => Call::ValidateJob { job: new_job(r) },
+        Operation::CreateJob => Call::CreateJob { job: new_job(r) },
         Operation::SendDocument => Call::SendDocument {
-            job: job(o, v),
-            format: format(o, attrs),
-            payload,
-            last: is_last(attrs),
+            job: job(r),
+            format: format(r),
+            payload: r.payload,
+            last: is_last(r),
         },
         Operation::GetJobs => Call::GetJobs {
-            which: which_jobs(attrs),
-            limit: limit(attrs),
+            which: which_jobs(r),
+            limit: limit(r),
         },
         Operation::GetPrinterAttributes => Call::GetPrinterAttributes,
-        Operation::CancelJob => Call::CancelJob { job: job(o, v) },
-        Operation::GetJobAttributes => Call::GetJobAttributes { job: job(o, v) },
-        Operation::HoldJob => Call::HoldJob { job: job(o, v) },
-        Operation::ReleaseJob => Call::ReleaseJob { job: job(o, v) },
+        Operation::CancelJob => Call::CancelJob { job: job(r) },
+        Operation::GetJobAttributes => Call::GetJobAttributes { job: job(r) },
+        Operation::HoldJob => Call::HoldJob { job: job(r) },
+        Operation::ReleaseJob => Call::ReleaseJob { job: job(r) },
         Operation::CancelMyJobs => Call::CancelMyJobs {
-            jobs: job_ids(alloc, attrs)?,
+            jobs: job_ids(alloc, r)?,
         },
     })
 }
@@ -138,49 +136,83 @@ fn usual(o: Operation) -> &'static [&'static str]
     }
 }
 
-fn wanted_of_printer(alloc: Global, attrs: &[AttrView<'_>]) -> Result<Wanted, AllocError>
-    ensures { IfOk result (λ w. w ≡ wanted_by variant.GetPrinterAttributes (requested variant.GetPrinterAttributes (attributes_of attrs.now))) }
+fn printer_rows(alloc: Global, r: Request<'_, '_>) -> Result<Wanted, AllocError>
+    requires { r.operation ≡ variant.GetPrinterAttributes }
+    ensures { IfOk result (λ w. rows_of w ≡ rows (request_of r.entry)) }
 {
-    match known(
-        Operation::GetPrinterAttributes,
-        OperationAttribute::RequestedAttributes,
-        attrs,
-    ) {
+    match r.known(OperationAttribute::RequestedAttributes) {
         Some(a) => select_of_printer(alloc, a.values.as_slice()),
         None => select_whole_printer(alloc),
     }
 }
 
-/// The rows that the reply is to have.
-fn wanted(alloc: Global, o: Operation, attrs: &[AttrView<'_>]) -> Result<Wanted, AllocError>
-    ensures { IfOk result (λ w. w ≡ wanted_by o (requested o (attributes_of attrs.now))) }
+fn job_rows(alloc: Global, r: Request<'_, '_>) -> Result<Wanted, AllocError>
+    ensures { IfOk result (λ w. rows_of w ≡ of_job (selected (requested (request_of r.entry)))) }
 {
-    match o {
-        Operation::GetPrinterAttributes => wanted_of_printer(alloc, attrs),
-        _ => wanted_of_job(alloc, o, attrs),
-    }
-}
-
-fn wanted_of_job(alloc: Global, o: Operation, attrs: &[AttrView<'_>]) -> Result<Wanted, AllocError>
-    ensures { IfOk result (λ w. w ≡ record { job = selected (requested o (attributes_of attrs.now)); printer = [] }) }
-{
-    match known(o, OperationAttribute::RequestedAttributes, attrs) {
+    match r.known(OperationAttribute::RequestedAttributes) {
         Some(a) => select_requested(alloc, a.values.as_slice()),
-        None => select_usual(alloc, usual(o)),
+        None => select_usual(alloc, usual(r.operation)),
     }
 }
 
-/// The answer to a request that a check refuses: what is unsupported is told where that is the reason.
-fn refused_by<'a>(alloc: Global, check: Check, unsupported: Unsupported<'a>) -> Ask<'a>
-    ensures { ask_of result ≡ refused_by check (unsupported_of unsupported.entry) }
+/// The rows that the reply is to have.
+fn rows(alloc: Global, r: Request<'_, '_>) -> Result<Wanted, AllocError>
+    ensures { IfOk result (λ w. rows_of w ≡ rows (request_of r.entry)) }
 {
-    let code = check.code();
-    match check {
-        Check::Ignored => Ask::Refused { code, unsupported },
-        _ => Ask::Refused {
-            code,
-            unsupported: Unsupported::nothing(alloc),
-        },
+    match r.operation {
+        Operation::GetPrinterAttributes => printer_rows(alloc, r),
+        _ => job_rows(alloc, r),
+    }
+}
+
+/// A refusal that tells nothing of what is unsupported.
+fn refused<'a>(alloc: Global, code: u16) -> Ask<'a>
+    ensures { ask_content result ≡ refused code nothing }
+{
+    Ask::Refused {
+        code,
+        unsupported: Unsupported::nothing(alloc),
+    }
+}
+
+/// What a request asks that no check refuses.
+fn passed<'a>(
+    alloc: Global,
+    r: Request<'_, 'a>,
+    unsupported: Unsupported<'a>,
+) -> Result<Ask<'a>, AllocError>
+    ensures { IfOk result (λ a. ask_content a ≡ passed (caller (request_of r.entry)) (call (request_of r.entry)) (rows (request_of r.entry)) (unsupported_of unsupported.entry)) }
+{
+    let wanted = rows(alloc, r)?;
+    Ok(Ask::Call {
+        caller: r.caller(),
+        call: call(alloc, r)?,
+        wanted,
+        unsupported,
+    })
+}
+
+/// What a request asks of which no known attribute is refused. What is unsupported is told.
+fn listed<'a>(alloc: Global, r: Request<'_, 'a>) -> Result<Ask<'a>, AllocError>
+    ensures { IfOk result (λ a. ask_content a ≡ listed_verdict (request_of r.entry) (unsupported (request_of r.entry)) (is_refused_for (request_of r.entry) (unsupported (request_of r.entry)))) }
+{
+    let unsupported = unsupported_in(alloc, r)?;
+    if is_refused_for(r, &unsupported) {
+        return Ok(Ask::Refused {
+            code: CLIENT_ERROR_ATTRIBUTES_OR_VALUES_NOT_SUPPORTED,
+            unsupported,
+        });
+    }
+    passed(alloc, r, unsupported)
+}
+
+/// What a request asks.
+fn checked<'a>(alloc: Global, r: Request<'_, 'a>) -> Result<Ask<'a>, AllocError>
+    ensures { IfOk result (λ a. ask_content a ≡ checked_verdict (request_of r.entry) (refusal (request_of r.entry))) }
+{
+    match first_refusal(r) {
+        Some(check) => Ok(refused(alloc, check.code())),
+        None => listed(alloc, r),
     }
 }
 
@@ -188,31 +220,13 @@ fn refused_by<'a>(alloc: Global, check: Check, unsupported: Unsupported<'a>) -> 
 /// section 4.1), with what is unsupported. A call is an event within the machine's limits. The one error
 /// is want of memory.
 pub fn ask<'a>(alloc: Global, v: &View<'a>) -> Result<Ask<'a>, AllocError>
-    ensures asks { IfOk result (λ a. ask_of a ≡ asks (message_of v.now)) }
-    ensures limits { length v.now.payload.now ≤ 16777216 → IfOk result (λ a. IsWithinLimits (ask_of a)) }
+    ensures verdict { IfOk result (λ a. ask_content a ≡ verdict (message_of v.now)) }
+    ensures limits { length v.now.payload.now ≤ 16777216 → IfOk result (λ a. IsWithinLimits (ask_content a)) }
     // so that it may stand in a reply
-    ensures listed { IsMessage (message_of v.now) → IfOk result (λ a. ListsAttributes (ask_of a)) }
+    ensures listed { IsMessage (message_of v.now) → IfOk result (λ a. ListsAttributes (ask_content a)) }
 {
-    let operation = match asked_in(v.head) {
-        Ok(operation) => operation,
-        Err(code) => {
-            return Ok(Ask::Refused {
-                code,
-                unsupported: Unsupported::nothing(alloc),
-            });
-        }
-    };
-    let unsupported = unsupported_in(alloc, operation, v)?;
-    if let Some(check) = first_refusal(operation, v, &unsupported) {
-        return Ok(refused_by(alloc, check, unsupported));
+    match Request::read(v) {
+        Ok(r) => checked(alloc, r),
+        Err(code) => Ok(refused(alloc, code)),
     }
-    let attrs = group_attributes(0x01, v.groups.as_slice());
-    let wanted = wanted(alloc, operation, attrs)?;
-    let call = call_in(alloc, operation, v)?;
-    Ok(Ask::Call {
-        caller: caller(operation, attrs),
-        call,
-        wanted,
-        unsupported,
-    })
 }

@@ -1,8 +1,12 @@
 //! The operation attributes that requests have, as a table: a row for each (RFC 8011, section 4).
-ghost use Rattle.std.specs.Prelude.{◌≡◌, map};
-ghost use Rattle.ipp_ops.specs.Attributes.{row, row_of, knows, needs};
+ghost use Rattle.std.specs.Prelude.{◌≡◌, map, true};
+ghost use Rattle.ipp_ops.specs.Attributes.{one, row, row_of, support_of, is_one_of, is_on_job, makes_job, knows, needs};
 
 use ipp_reply::{OPERATIONS, Operation};
+use ipp_wire::tags::{
+    BOOLEAN, CHARSET, INTEGER, KEYWORD, MIME_MEDIA_TYPE, NAME_WITH_LANGUAGE, NAME_WITHOUT_LANGUAGE,
+    NATURAL_LANGUAGE, URI,
+};
 
 /// The operation attributes that are looked at.
 #[derive(Clone, Copy, Debug)]
@@ -94,7 +98,7 @@ pub const TABLE: [OperationAttribute; 19] = [
 ];
 
 /// The operations on one job.
-const ON_JOB: [Operation; 5] = [
+const OF_JOB: [Operation; 5] = [
     Operation::SendDocument,
     Operation::CancelJob,
     Operation::GetJobAttributes,
@@ -116,200 +120,213 @@ const OF_DOCUMENT: [Operation; 3] = [
     Operation::SendDocument,
 ];
 
+impl Row {
+    /// A row for one value, of which any content is supported.
+    fn one(
+        name: &'static str,
+        tags: &'static [u8],
+        shape: Shape,
+        limit: Option<usize>,
+        known_in: &'static [Operation],
+    ) -> Row
+        ensures { row_of result ≡ one name.entry.now tags.entry.now shape limit known_in.entry.now }
+    {
+        Row {
+            name,
+            tags,
+            many: false,
+            shape,
+            limit,
+            support: Support::Anything,
+            known_in,
+        }
+    }
+
+    /// The row for one value or more.
+    fn with_many(self) -> Row
+        ensures { row_of result ≡ record (row_of self) { many = true } }
+    {
+        Row { many: true, ..self }
+    }
+
+    /// The row of which these values alone are supported.
+    fn supporting(self, support: Support) -> Row
+        ensures { row_of result ≡ record (row_of self) { support = support_of support } }
+    {
+        Row { support, ..self }
+    }
+}
+
 impl OperationAttribute {
     pub fn row(self) -> Row
         ensures { row_of result ≡ row self }
     {
         match self {
-            OperationAttribute::AttributesCharset => Row {
-                name: "attributes-charset",
-                tags: &[0x47],
-                many: false,
-                shape: Shape::Octets,
-                limit: None,
-                support: Support::Anything,
-                known_in: &OPERATIONS,
-            },
-            OperationAttribute::AttributesNaturalLanguage => Row {
-                name: "attributes-natural-language",
-                tags: &[0x48],
-                many: false,
-                shape: Shape::Octets,
-                limit: Some(63),
-                support: Support::Anything,
-                known_in: &OPERATIONS,
-            },
-            OperationAttribute::PrinterUri => Row {
-                name: "printer-uri",
-                tags: &[0x45],
-                many: false,
-                shape: Shape::Octets,
-                limit: Some(1023),
-                support: Support::Anything,
-                known_in: &OPERATIONS,
-            },
-            OperationAttribute::JobUri => Row {
-                name: "job-uri",
-                tags: &[0x45],
-                many: false,
-                shape: Shape::Octets,
-                limit: Some(1023),
-                support: Support::Anything,
-                known_in: &ON_JOB,
-            },
-            OperationAttribute::JobId => Row {
-                name: "job-id",
-                tags: &[0x21],
-                many: false,
-                shape: Shape::Number,
-                limit: None,
-                support: Support::Anything,
-                known_in: &ON_JOB,
-            },
-            OperationAttribute::RequestingUserName => Row {
-                name: "requesting-user-name",
-                tags: &[0x42, 0x36],
-                many: false,
-                shape: Shape::Name,
-                limit: Some(255),
-                support: Support::Anything,
-                known_in: &OPERATIONS,
-            },
-            OperationAttribute::JobName => Row {
-                name: "job-name",
-                tags: &[0x42, 0x36],
-                many: false,
-                shape: Shape::Text,
-                limit: Some(255),
-                support: Support::Anything,
-                known_in: &OF_NEW_JOB,
-            },
-            OperationAttribute::DocumentName => Row {
-                name: "document-name",
-                tags: &[0x42, 0x36],
-                many: false,
-                shape: Shape::Text,
-                limit: Some(255),
-                support: Support::Anything,
-                known_in: &OF_DOCUMENT,
-            },
-            OperationAttribute::IppAttributeFidelity => Row {
-                name: "ipp-attribute-fidelity",
-                tags: &[0x22],
-                many: false,
-                shape: Shape::Boolean,
-                limit: None,
-                support: Support::Anything,
-                known_in: &OF_NEW_JOB,
-            },
-            OperationAttribute::Compression => Row {
-                name: "compression",
-                tags: &[0x44],
-                many: false,
-                shape: Shape::Octets,
-                limit: Some(255),
-                support: Support::Anything,
-                known_in: &OF_DOCUMENT,
-            },
-            OperationAttribute::DocumentFormat => Row {
-                name: "document-format",
-                tags: &[0x49],
-                many: false,
-                shape: Shape::Octets,
-                limit: Some(255),
-                support: Support::Anything,
-                known_in: &[
+            Self::AttributesCharset => Row::one(
+                "attributes-charset",
+                &[CHARSET],
+                Shape::Octets,
+                None,
+                &OPERATIONS,
+            ),
+            Self::AttributesNaturalLanguage => Row::one(
+                "attributes-natural-language",
+                &[NATURAL_LANGUAGE],
+                Shape::Octets,
+                Some(63),
+                &OPERATIONS,
+            ),
+            Self::PrinterUri => Row::one(
+                "printer-uri",
+                &[URI],
+                Shape::Octets,
+                Some(1023),
+                &OPERATIONS,
+            ),
+            Self::JobUri => Row::one("job-uri", &[URI], Shape::Octets, Some(1023), &OF_JOB),
+            Self::JobId => Row::one("job-id", &[INTEGER], Shape::Number, None, &OF_JOB),
+            Self::RequestingUserName => Row::one(
+                "requesting-user-name",
+                &[NAME_WITHOUT_LANGUAGE, NAME_WITH_LANGUAGE],
+                Shape::Name,
+                Some(255),
+                &OPERATIONS,
+            ),
+            Self::JobName => Row::one(
+                "job-name",
+                &[NAME_WITHOUT_LANGUAGE, NAME_WITH_LANGUAGE],
+                Shape::Text,
+                Some(255),
+                &OF_NEW_JOB,
+            ),
+            Self::DocumentName => Row::one(
+                "document-name",
+                &[NAME_WITHOUT_LANGUAGE, NAME_WITH_LANGUAGE],
+                Shape::Text,
+                Some(255),
+                &OF_DOCUMENT,
+            ),
+            Self::IppAttributeFidelity => Row::one(
+                "ipp-attribute-fidelity",
+                &[BOOLEAN],
+                Shape::Boolean,
+                None,
+                &OF_NEW_JOB,
+            ),
+            Self::Compression => Row::one(
+                "compression",
+                &[KEYWORD],
+                Shape::Octets,
+                Some(255),
+                &OF_DOCUMENT,
+            ),
+            Self::DocumentFormat => Row::one(
+                "document-format",
+                &[MIME_MEDIA_TYPE],
+                Shape::Octets,
+                Some(255),
+                &[
                     Operation::PrintJob,
                     Operation::ValidateJob,
                     Operation::SendDocument,
                     Operation::GetPrinterAttributes,
                 ],
-            },
-            OperationAttribute::JobImpressions => Row {
-                name: "job-impressions",
-                tags: &[0x21],
-                many: false,
-                shape: Shape::Number,
-                limit: None,
-                support: Support::Between(0, 100_000),
-                known_in: &OF_NEW_JOB,
-            },
-            OperationAttribute::RequestedAttributes => Row {
-                name: "requested-attributes",
-                tags: &[0x44],
-                many: true,
-                shape: Shape::Octets,
-                limit: Some(255),
-                support: Support::Anything,
-                known_in: &[
+            ),
+            Self::JobImpressions => Row::one(
+                "job-impressions",
+                &[INTEGER],
+                Shape::Number,
+                None,
+                &OF_NEW_JOB,
+            )
+            .supporting(Support::Between(0, 100_000)),
+            Self::RequestedAttributes => Row::one(
+                "requested-attributes",
+                &[KEYWORD],
+                Shape::Octets,
+                Some(255),
+                &[
                     Operation::GetJobAttributes,
                     Operation::GetJobs,
                     Operation::GetPrinterAttributes,
                 ],
-            },
-            OperationAttribute::WhichJobs => Row {
-                name: "which-jobs",
-                tags: &[0x44],
-                many: false,
-                shape: Shape::Octets,
-                limit: Some(255),
-                support: Support::Words(&["not-completed", "completed"]),
-                known_in: &[Operation::GetJobs],
-            },
-            OperationAttribute::Limit => Row {
-                name: "limit",
-                tags: &[0x21],
-                many: false,
-                shape: Shape::Positive,
-                limit: None,
-                support: Support::Anything,
-                known_in: &[Operation::GetJobs],
-            },
-            OperationAttribute::MyJobs => Row {
-                name: "my-jobs",
-                tags: &[0x22],
-                many: false,
-                shape: Shape::Boolean,
-                limit: None,
-                support: Support::Anything,
-                known_in: &[Operation::GetJobs],
-            },
-            OperationAttribute::LastDocument => Row {
-                name: "last-document",
-                tags: &[0x22],
-                many: false,
-                shape: Shape::Boolean,
-                limit: None,
-                support: Support::Anything,
-                known_in: &[Operation::SendDocument],
-            },
-            OperationAttribute::JobIds => Row {
-                name: "job-ids",
-                tags: &[0x21],
-                many: true,
-                shape: Shape::Number,
-                limit: None,
-                support: Support::Anything,
-                known_in: &[Operation::CancelMyJobs],
-            },
-            OperationAttribute::JobHoldUntil => Row {
-                name: "job-hold-until",
-                tags: &[0x44, 0x42, 0x36],
-                many: false,
-                shape: Shape::Octets,
-                limit: Some(255),
-                support: Support::Words(&["indefinite"]),
-                known_in: &[Operation::HoldJob],
-            },
+            )
+            .with_many(),
+            Self::WhichJobs => Row::one(
+                "which-jobs",
+                &[KEYWORD],
+                Shape::Octets,
+                Some(255),
+                &[Operation::GetJobs],
+            )
+            .supporting(Support::Words(&["not-completed", "completed"])),
+            Self::Limit => Row::one(
+                "limit",
+                &[INTEGER],
+                Shape::Positive,
+                None,
+                &[Operation::GetJobs],
+            ),
+            Self::MyJobs => Row::one(
+                "my-jobs",
+                &[BOOLEAN],
+                Shape::Boolean,
+                None,
+                &[Operation::GetJobs],
+            ),
+            Self::LastDocument => Row::one(
+                "last-document",
+                &[BOOLEAN],
+                Shape::Boolean,
+                None,
+                &[Operation::SendDocument],
+            ),
+            Self::JobIds => Row::one(
+                "job-ids",
+                &[INTEGER],
+                Shape::Number,
+                None,
+                &[Operation::CancelMyJobs],
+            )
+            .with_many(),
+            Self::JobHoldUntil => Row::one(
+                "job-hold-until",
+                &[KEYWORD, NAME_WITHOUT_LANGUAGE, NAME_WITH_LANGUAGE],
+                Shape::Octets,
+                Some(255),
+                &[Operation::HoldJob],
+            )
+            .supporting(Support::Words(&["indefinite"])),
         }
     }
+}
+
+/// The operation is one of these.
+pub fn is_one_of(operations: &[Operation], o: Operation) -> bool
+    ensures { result ≡ is_one_of operations.now o }
+{
+    operations.iter().any(|p| o.id() == p.id())
+}
+
+/// The operation is one on a job.
+pub fn is_on_job(o: Operation) -> bool
+    ensures { result ≡ is_on_job o }
+{
+    is_one_of(&OF_JOB, o)
+}
+
+/// The operation looks at the job group: it makes a job, or says whether one would be made.
+pub fn makes_job(o: Operation) -> bool
+    ensures { result ≡ makes_job o }
+{
+    is_one_of(&OF_NEW_JOB, o)
 }
 
 /// The operation knows the attribute.
 pub fn knows(o: Operation, k: OperationAttribute) -> bool
     ensures { result ≡ knows o k }
 {
-    k.row().known_in.iter().any(|p| o.id() == p.id())
+    is_one_of(k.row().known_in, o)
 }
 
 /// The attributes that the operation needs: all of one of these lists.

@@ -16,10 +16,11 @@ mod target;
 mod template;
 mod unsupported;
 mod value;
+mod verdict;
 
 pub use answering::answer;
 pub use asking::ask;
 pub use check::head_check;
 pub use ipp_reply::{JobAttribute, PrinterAttribute, Unsupported, Wanted, reply_message};
 pub use outcome::{Answer, TooShort};
-pub use request::Ask;
+pub use verdict::Ask;

@@ -1,18 +1,19 @@
 //! What a request asks of a new job (RFC 8011, sections 4.2.1 and 5.2).
 ghost use Rattle.std.specs.Prelude.{◌≡◌};
 ghost use Rattle.std.specs.Option.{option_copied, option_map};
-ghost use Rattle.ipp_wire.specs.Viewed.{attribute_of, attributes_of, message_of, values_of};
+ghost use Rattle.ipp_wire.specs.Viewed.{attribute_of, values_of};
 ghost use Rattle.queue_core.specs.Event.{new_job_of};
 ghost use Rattle.ipp_ops.specs.Attributes.{support_of};
 ghost use Rattle.ipp_ops.specs.NewJob as spec;
+ghost use Rattle.ipp_ops.specs.Request.{request_of};
 
 use crate::attribute::{OperationAttribute, Support};
 use crate::format::format_of;
-use crate::reading::{bytes_of, group_attributes, has, known, named, text_in};
+use crate::reading::named;
+use crate::request::Request;
 use crate::template::TemplateAttribute;
 use crate::value::{are_supported, number};
-use ipp_reply::Operation;
-use ipp_wire::{AttrView, ValueView, View};
+use ipp_wire::{AttrView, ValueView};
 use queue_core::document::Format;
 use queue_core::event::NewJob;
 
@@ -41,49 +42,49 @@ fn supported_number(support: Support, a: Option<&AttrView<'_>>) -> Option<u32>
     }
 }
 
-fn template_number(k: TemplateAttribute, v: &View<'_>) -> Option<u32>
-    ensures { result ≡ spec.template_number k (message_of v.now) }
+fn template_number(r: Request<'_, '_>, k: TemplateAttribute) -> Option<u32>
+    ensures { result ≡ spec.template_number (request_of r.entry) k }
 {
     let row = k.row();
-    let attrs = group_attributes(0x02, v.groups.as_slice());
-    supported_number(row.support, named(row.name.as_bytes(), attrs))
+    supported_number(row.support, named(row.name.as_bytes(), r.job_attributes))
 }
 
-fn impressions(o: Operation, v: &View<'_>) -> Option<u32>
-    ensures { result ≡ spec.impressions o (message_of v.now) }
+fn impressions(r: Request<'_, '_>) -> Option<u32>
+    ensures { result ≡ spec.impressions (request_of r.entry) }
 {
-    let attrs = group_attributes(0x01, v.groups.as_slice());
-    if has(o, attrs, OperationAttribute::JobImpressions) {
-        let found = known(o, OperationAttribute::JobImpressions, attrs);
+    if r.has(OperationAttribute::JobImpressions) {
+        let found = r.known(OperationAttribute::JobImpressions);
         supported_number(OperationAttribute::JobImpressions.row().support, found)
     } else {
-        template_number(TemplateAttribute::JobImpressions, v)
+        template_number(r, TemplateAttribute::JobImpressions)
     }
 }
 
-fn job_name<'a>(o: Operation, attrs: &[AttrView<'a>]) -> &'a str
-    ensures { result.now ≡ spec.job_name o (attributes_of attrs.entry.now) }
+fn job_name<'a>(r: Request<'_, 'a>) -> &'a str
+    ensures { result.now ≡ spec.job_name (request_of r.entry) }
 {
-    match text_in(o, OperationAttribute::JobName, attrs) {
+    match r.text_in(OperationAttribute::JobName) {
         Some(name) => name,
-        None => text_in(o, OperationAttribute::DocumentName, attrs).unwrap_or("untitled"),
+        None => r
+            .text_in(OperationAttribute::DocumentName)
+            .unwrap_or("untitled"),
     }
 }
 
-/// What a request for this operation asks of a new job.
-pub fn new_job<'a>(o: Operation, v: &View<'a>) -> NewJob<'a>
-    ensures { new_job_of result ≡ spec.new_job o (message_of v.entry.now) }
+/// What the request asks of a new job.
+pub fn new_job<'a>(r: Request<'_, 'a>) -> NewJob<'a>
+    ensures { new_job_of result ≡ spec.new_job (request_of r.entry) }
 {
     NewJob {
-        name: job_name(o, group_attributes(0x01, v.groups.as_slice())),
-        copies: template_number(TemplateAttribute::Copies, v).unwrap_or(1),
-        impressions: impressions(o, v),
+        name: job_name(r),
+        copies: template_number(r, TemplateAttribute::Copies).unwrap_or(1),
+        impressions: impressions(r),
     }
 }
 
 /// The format of the request's document.
-pub fn format(o: Operation, attrs: &[AttrView<'_>]) -> Format
-    ensures { result ≡ spec.format o (attributes_of attrs.now) }
+pub fn format(r: Request<'_, '_>) -> Format
+    ensures { result ≡ spec.format (request_of r.entry) }
 {
-    format_of(bytes_of(o, OperationAttribute::DocumentFormat, attrs)).unwrap_or(Format::OctetStream)
+    format_of(r.bytes_of(OperationAttribute::DocumentFormat)).unwrap_or(Format::OctetStream)
 }

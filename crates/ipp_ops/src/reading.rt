@@ -1,14 +1,12 @@
-//! What a request says: its groups and their attributes, its caller and its target.
-ghost use Rattle.std.specs.Prelude.{◌≡◌, [], ◌==◌, ◌&&◌, find, bytes_eq, false, slice_get};
-ghost use Rattle.std.specs.List.{list_all};
-ghost use Rattle.std.specs.Option.{option_copied, option_map, option_map_or};
-ghost use Rattle.ipp_wire.specs.Viewed.{value_of as value_in, attribute_of, attributes_of, group_of, groups_of};
+//! The groups of a message and their attributes.
+ghost use Rattle.std.specs.Prelude.{◌≡◌, [], ◌==◌, find, bytes_eq};
+ghost use Rattle.std.specs.Option.{option_copied, option_map};
+ghost use Rattle.ipp_wire.specs.Viewed.{attribute_of, attributes_of, group_of, groups_of, values_of};
 ghost use Rattle.ipp_ops.specs.Checks as checks;
 ghost use Rattle.ipp_ops.specs.Request as request;
+ghost use Rattle.ipp_ops.specs.Values.{one_value};
 
-use crate::attribute::{OperationAttribute, knows};
-use crate::value::{text, utf8_text};
-use ipp_reply::Operation;
+use ipp_wire::tags::{CHARSET, NATURAL_LANGUAGE, OPERATION_ATTRIBUTES};
 use ipp_wire::{AttrView, GroupView, ValueView};
 
 fn find_group<'v, 'a>(tag: u8, groups: &'v [GroupView<'a>]) -> Option<&'v GroupView<'a>>
@@ -54,144 +52,40 @@ pub fn named<'v, 'a>(name: &[u8], attrs: &'v [AttrView<'a>]) -> Option<&'v AttrV
     find_named(name, attrs)
 }
 
-/// The first attribute of that name, where the operation knows it.
-pub fn known<'v, 'a>(
-    o: Operation,
-    k: OperationAttribute,
-    attrs: &'v [AttrView<'a>],
-) -> Option<&'v AttrView<'a>>
-    ensures { option_map attribute_of (option_copied result) ≡ request.known o k (attributes_of attrs.entry.now) }
-{
-    if knows(o, k) {
-        named(k.row().name.as_bytes(), attrs)
-    } else {
-        None
-    }
-}
-
-/// The first value of a known attribute.
-pub fn value_of<'a>(
-    o: Operation,
-    k: OperationAttribute,
-    attrs: &[AttrView<'a>],
-) -> Option<ValueView<'a>>
-    ensures { option_map value_in result ≡ request.value_of o k (attributes_of attrs.entry.now) }
-{
-    match known(o, k, attrs)?.values.as_slice() {
-        [v, ..] => Some(*v),
-        [] => None,
-    }
-}
-
-/// The bytes of its first value, or none where there is no such attribute.
-pub fn bytes_of<'a>(o: Operation, k: OperationAttribute, attrs: &[AttrView<'a>]) -> &'a [u8]
-    ensures { result.now ≡ request.bytes_of o k (attributes_of attrs.entry.now) }
-{
-    match value_of(o, k, attrs) {
-        Some(v) => v.bytes,
-        None => &[],
-    }
-}
-
-/// There is such an attribute, and the operation knows it.
-pub fn has(o: Operation, attrs: &[AttrView<'_>], k: OperationAttribute) -> bool
-    ensures { result ≡ request.has o (attributes_of attrs.now) k }
-{
-    known(o, k, attrs).is_some()
-}
-
-fn are_tagged(tag: u8, a: &AttrView<'_>) -> bool
-    ensures { result ≡ list_all (λ v. v.tag == tag) a.now.values.items }
-{
-    a.values.iter().all(|v| v.tag == tag)
-}
-
-#[tactic(auto, using(crate::proofs::Lists::list_all_map))]
-fn all_tagged(tag: u8, a: &AttrView<'_>) -> bool
-    ensures { result ≡ list_all (λ v. v.tag == tag) (attribute_of a.now).values }
-{
-    are_tagged(tag, a)
-}
-
 /// It has that name and one value, with that tag.
 fn is_lone(name: &str, tag: u8, a: &AttrView<'_>) -> bool
     ensures { result ≡ checks.is_lone name.now tag (attribute_of a.now) }
 {
-    a.name == name.as_bytes() && a.values.len() == 1 && all_tagged(tag, a)
+    a.name == name.as_bytes() && is_one_tagged(tag, a.values.as_slice())
 }
 
-fn attribute_at<'v, 'a>(i: usize, attrs: &'v [AttrView<'a>]) -> Option<&'v AttrView<'a>>
-    ensures { option_copied result ≡ slice_get attrs.entry.now i }
+fn is_one_tagged(tag: u8, values: &[ValueView<'_>]) -> bool
+    ensures { result ≡ one_value (λ v. v.tag == tag) (values_of values.now) }
 {
-    attrs.get(i)
-}
-
-#[tactic(auto, using(crate::proofs::Lists::get_map))]
-fn attribute<'v, 'a>(i: usize, attrs: &'v [AttrView<'a>]) -> Option<&'v AttrView<'a>>
-    ensures { option_map attribute_of (option_copied result) ≡ slice_get (attributes_of attrs.entry.now) i }
-{
-    attribute_at(i, attrs)
-}
-
-fn is_lone_at(i: usize, name: &str, tag: u8, attrs: &[AttrView<'_>]) -> bool
-    ensures { result ≡ option_map_or (checks.is_lone name.now tag) (slice_get (attributes_of attrs.now) i) false }
-{
-    match attribute(i, attrs) {
-        Some(a) => is_lone(name, tag, a),
-        None => false,
+    match values {
+        [v] => v.tag == tag,
+        _ => false,
     }
 }
 
 fn attributes_begin(attrs: &[AttrView<'_>]) -> bool
     ensures { result ≡ checks.attributes_begin (attributes_of attrs.now) }
 {
-    is_lone_at(0, "attributes-charset", 0x47, attrs)
-        && is_lone_at(1, "attributes-natural-language", 0x48, attrs)
-}
-
-fn group_at<'v, 'a>(i: usize, groups: &'v [GroupView<'a>]) -> Option<&'v GroupView<'a>>
-    ensures { option_copied result ≡ slice_get groups.entry.now i }
-{
-    groups.get(i)
-}
-
-#[tactic(auto, using(crate::proofs::Lists::get_map))]
-fn group<'v, 'a>(i: usize, groups: &'v [GroupView<'a>]) -> Option<&'v GroupView<'a>>
-    ensures { option_map group_of (option_copied result) ≡ slice_get (groups_of groups.entry.now) i }
-{
-    group_at(i, groups)
+    match attrs {
+        [charset, language, ..] => {
+            is_lone("attributes-charset", CHARSET, charset)
+                && is_lone("attributes-natural-language", NATURAL_LANGUAGE, language)
+        }
+        _ => false,
+    }
 }
 
 /// The first group is that of the operation, and begins with charset and language.
 pub fn groups_begin(groups: &[GroupView<'_>]) -> bool
     ensures { result ≡ checks.groups_begin (groups_of groups.now) }
 {
-    match group(0, groups) {
-        Some(g) => g.tag == 0x01 && attributes_begin(g.attrs.as_slice()),
-        None => false,
+    match groups {
+        [g, ..] => g.tag == OPERATION_ATTRIBUTES && attributes_begin(g.attrs.as_slice()),
+        [] => false,
     }
-}
-
-/// The text, where it is not empty.
-fn filled(bytes: &[u8]) -> Option<&str>
-    ensures { option_copied result ≡ request.filled bytes.now }
-{
-    if bytes.is_empty() {
-        return None;
-    }
-    utf8_text(bytes)
-}
-
-/// The text of a known attribute, where there is one that is not empty.
-pub fn text_in<'a>(o: Operation, k: OperationAttribute, attrs: &[AttrView<'a>]) -> Option<&'a str>
-    ensures { option_copied result ≡ request.text_in o k (attributes_of attrs.entry.now) }
-{
-    filled(text(value_of(o, k, attrs)?)?)
-}
-
-/// The name of the caller.
-pub fn caller<'a>(o: Operation, attrs: &[AttrView<'a>]) -> &'a str
-    ensures { result.now ≡ request.caller o (attributes_of attrs.entry.now) }
-{
-    text_in(o, OperationAttribute::RequestingUserName, attrs).unwrap_or("anonymous")
 }

@@ -2,21 +2,21 @@
 ghost use Rattle.std.specs.Prelude.{◌≡◌};
 ghost use Rattle.std.specs.Char.{is_ascii_digit};
 ghost use Rattle.std.specs.List.{list_all};
-ghost use Rattle.ipp_wire.specs.Viewed.{attributes_of, value_of, values_of};
-ghost use Rattle.ipp_ops.specs.Request as request;
+ghost use Rattle.ipp_wire.specs.Viewed.{value_of, values_of};
+ghost use Rattle.ipp_ops.specs.Request as spec;
+ghost use Rattle.ipp_ops.specs.Request.{request_of};
 
-use crate::attribute::OperationAttribute;
-use crate::reading::{bytes_of, has, known};
+use crate::attribute::{OperationAttribute, is_on_job};
+use crate::request::Request;
 use crate::value::{is_positive_number, number, utf8_text};
-use ipp_reply::Operation;
-use ipp_wire::{AttrView, ValueView};
+use ipp_wire::ValueView;
 use queue_core::uri::path;
 
 /// The greatest number of a job.
 const LAST_JOB_NUMBER: u32 = 2_147_483_647;
 
 fn is_printer(uri: &[u8]) -> bool
-    ensures { result ≡ request.is_printer uri.now }
+    ensures { result ≡ spec.is_printer uri.now }
 {
     path(uri) == b"/ipp/print".as_slice()
 }
@@ -29,7 +29,7 @@ fn are_digits(text: &[u8]) -> bool
 
 /// The number of a job in decimal: digits, the first not zero.
 fn number_in(bytes: &[u8]) -> Option<u32>
-    ensures { result ≡ request.number_in bytes.now }
+    ensures { result ≡ spec.number_in bytes.now }
 {
     if !are_digits(bytes) || bytes.starts_with(b"0") {
         return None;
@@ -42,7 +42,7 @@ fn number_in(bytes: &[u8]) -> Option<u32>
 }
 
 fn job_in(path: &[u8]) -> Option<u32>
-    ensures { result ≡ request.job_in path.now }
+    ensures { result ≡ spec.job_in path.now }
 {
     if path.starts_with(b"/ipp/print/") {
         number_in(&path[11..])
@@ -52,7 +52,7 @@ fn job_in(path: &[u8]) -> Option<u32>
 }
 
 fn job_of_id(n: u32) -> Option<u32>
-    ensures { result ≡ request.job_of_id n }
+    ensures { result ≡ spec.job_of_id n }
 {
     if 1 <= n && n <= LAST_JOB_NUMBER {
         Some(n)
@@ -63,55 +63,55 @@ fn job_of_id(n: u32) -> Option<u32>
 
 /// The number of the job that a request is about: by job-uri where it is there, else by printer-uri and
 /// job-id.
-pub fn target_job(o: Operation, attrs: &[AttrView<'_>]) -> Option<u32>
-    ensures { result ≡ request.target_job o (attributes_of attrs.now) }
+pub fn target_job(r: Request<'_, '_>) -> Option<u32>
+    ensures { result ≡ spec.target_job (request_of r.entry) }
 {
-    if has(o, attrs, OperationAttribute::JobUri) {
-        return job_in(path(bytes_of(o, OperationAttribute::JobUri, attrs)));
+    if r.has(OperationAttribute::JobUri) {
+        return job_in(path(r.bytes_of(OperationAttribute::JobUri)));
     }
-    if is_printer(bytes_of(o, OperationAttribute::PrinterUri, attrs)) {
-        number(bytes_of(o, OperationAttribute::JobId, attrs)).and_then(job_of_id)
+    if is_printer(r.bytes_of(OperationAttribute::PrinterUri)) {
+        number(r.bytes_of(OperationAttribute::JobId)).and_then(job_of_id)
     } else {
         None
     }
 }
 
 fn is_job_number(v: ValueView<'_>) -> bool
-    ensures { result ≡ request.is_job_number (value_of v.entry) }
+    ensures { result ≡ spec.is_job_number (value_of v.entry) }
 {
     is_positive_number(v.bytes)
 }
 
 fn all_job_numbers(values: &[ValueView<'_>]) -> bool
-    ensures { result ≡ list_all (λ v. request.is_job_number (value_of v)) values.now }
+    ensures { result ≡ list_all (λ v. spec.is_job_number (value_of v)) values.now }
 {
     values.iter().all(|v| is_job_number(*v))
 }
 
 #[tactic(auto, using(crate::proofs::Lists::list_all_map))]
 fn job_numbers_in(values: &[ValueView<'_>]) -> bool
-    ensures { result ≡ list_all request.is_job_number (values_of values.now) }
+    ensures { result ≡ list_all spec.is_job_number (values_of values.now) }
 {
     all_job_numbers(values)
 }
 
 /// What the request has of job-ids are numbers that jobs may have.
-fn are_job_numbers(o: Operation, attrs: &[AttrView<'_>]) -> bool
-    ensures { result ≡ request.are_job_numbers o (attributes_of attrs.now) }
+fn are_job_numbers(r: Request<'_, '_>) -> bool
+    ensures { result ≡ spec.are_job_numbers (request_of r.entry) }
 {
-    match known(o, OperationAttribute::JobIds, attrs) {
+    match r.known(OperationAttribute::JobIds) {
         Some(a) => job_numbers_in(a.values.as_slice()),
         None => true,
     }
 }
 
 /// This printer, or a job of it, is what the request is about.
-pub fn is_target(o: Operation, attrs: &[AttrView<'_>]) -> bool
-    ensures { result ≡ request.is_target o (attributes_of attrs.now) }
+pub fn is_target(r: Request<'_, '_>) -> bool
+    ensures { result ≡ spec.is_target (request_of r.entry) }
 {
-    if o.is_on_job() {
-        target_job(o, attrs).is_some()
+    if is_on_job(r.operation) {
+        target_job(r).is_some()
     } else {
-        is_printer(bytes_of(o, OperationAttribute::PrinterUri, attrs)) && are_job_numbers(o, attrs)
+        is_printer(r.bytes_of(OperationAttribute::PrinterUri)) && are_job_numbers(r)
     }
 }

@@ -2,17 +2,20 @@
 ghost use Rattle.std.specs.Prelude.{◌≡◌, ◌++◌, ◌==◌, ◌&&◌, IfOk, OnOk, bytes_eq, find, not, option_map};
 ghost use Rattle.std.specs.List.{list_any};
 ghost use Rattle.std.specs.Option.{option_to_list};
-ghost use Rattle.ipp_wire.specs.Viewed.{attribute_of, attributes_of, message_of};
-ghost use Rattle.ipp_ops.specs.Attributes.{support_of, row, table, knows, template_row, template_table};
+ghost use Rattle.ipp_wire.specs.Viewed.{attribute_of, attributes_of};
+ghost use Rattle.ipp_ops.specs.Attributes.{support_of, template_row, template_table};
+ghost use Rattle.ipp_ops.specs.Checks.{is_refused_for, is_strict};
+ghost use Rattle.ipp_ops.specs.Request.{request_of};
 ghost use Rattle.ipp_ops.specs.Unsupported as spec;
 ghost use Rattle.ipp_reply.specs.Unsupported.{unsupported_of};
 
-use crate::attribute::{OperationAttribute, Support, TABLE, knows};
-use crate::reading::group_attributes;
+use crate::attribute::{OperationAttribute, Support, TABLE, knows, makes_job};
+use crate::request::Request;
 use crate::template::{TEMPLATE_TABLE, TemplateAttribute};
 use crate::value::are_supported;
-use ipp_reply::{Operation, Unsupported};
-use ipp_wire::{AttrView, ValueView, View};
+use ipp_reply::{Operation, Unsupported, is_filled};
+use ipp_wire::tags::UNSUPPORTED;
+use ipp_wire::{AttrView, ValueView};
 use std::alloc::{AllocError, Global};
 use std::collections::BTreeSet;
 
@@ -24,8 +27,9 @@ pub enum Source {
     JobGroup,
 }
 
-fn operation_attribute(o: Operation, name: &[u8]) -> Option<OperationAttribute>
-    ensures { result ≡ find (λ k. bytes_eq (row k).name name.now && knows o k) table }
+/// The attribute of that name that the operation knows.
+fn attribute_named(o: Operation, name: &[u8]) -> Option<OperationAttribute>
+    ensures { result ≡ spec.attribute_named o name.now }
 {
     TABLE
         .iter()
@@ -49,7 +53,7 @@ impl Source {
     {
         match self {
             Source::OperationGroup(o) => {
-                let k = operation_attribute(o, name)?;
+                let k = attribute_named(o, name)?;
                 Some(k.row().support)
             }
             Source::JobGroup => {
@@ -65,7 +69,7 @@ fn unknown<'a>(alloc: Global, a: &AttrView<'a>) -> Result<AttrView<'a>, AllocErr
 {
     let mut values = Vec::new(alloc);
     values.push(ValueView {
-        tag: 0x10,
+        tag: UNSUPPORTED,
         bytes: b"",
     })?;
     Ok(AttrView {
@@ -137,24 +141,50 @@ fn listed_in<'a>(
     Ok(out)
 }
 
-/// What is unsupported in a request for an operation.
-pub fn unsupported_in<'a>(
-    alloc: Global,
-    o: Operation,
-    v: &View<'a>,
-) -> Result<Unsupported<'a>, AllocError>
-    ensures { IfOk result (λ u. unsupported_of u ≡ spec.unsupported o (message_of v.now)) }
+/// What is unsupported in a request.
+pub fn unsupported_in<'a>(alloc: Global, r: Request<'_, 'a>) -> Result<Unsupported<'a>, AllocError>
+    ensures { IfOk result (λ u. unsupported_of u ≡ spec.unsupported (request_of r.entry)) }
 {
-    let attrs = group_attributes(0x01, v.groups.as_slice());
-    let operation = listed_in(alloc, Source::OperationGroup(o), attrs)?;
-    let job = if o.makes_job() {
-        listed_in(
-            alloc,
-            Source::JobGroup,
-            group_attributes(0x02, v.groups.as_slice()),
-        )?
+    let operation = listed_in(alloc, Source::OperationGroup(r.operation), r.attributes)?;
+    let job = if makes_job(r.operation) {
+        listed_in(alloc, Source::JobGroup, r.job_attributes)?
     } else {
         Vec::new(alloc)
     };
     Ok(Unsupported { operation, job })
+}
+
+fn is_known(o: Operation, name: &[u8]) -> bool
+    ensures { result ≡ spec.is_known o name.now }
+{
+    attribute_named(o, name).is_some()
+}
+
+fn has_known(o: Operation, attrs: &[AttrView<'_>]) -> bool
+    ensures { result ≡ list_any (λ a. spec.is_known o (attribute_of a).name) attrs.now }
+{
+    attrs.iter().any(|a| is_known(o, a.name))
+}
+
+#[tactic(auto, using(crate::proofs::Lists::list_any_map))]
+fn lists_known(o: Operation, attrs: &[AttrView<'_>]) -> bool
+    ensures { result ≡ list_any (λ a. spec.is_known o a.name) (attributes_of attrs.now) }
+{
+    has_known(o, attrs)
+}
+
+/// What is unsupported in the job group may not be ignored.
+fn is_strict(r: Request<'_, '_>) -> bool
+    ensures { result ≡ is_strict (request_of r.entry) }
+{
+    r.bytes_of(OperationAttribute::IppAttributeFidelity) == [1].as_slice()
+}
+
+/// The request is refused for what of it is unsupported: an attribute that the operation knows, or one of
+/// the job group that may not be ignored.
+pub fn is_refused_for(r: Request<'_, '_>, u: &Unsupported<'_>) -> bool
+    ensures { result ≡ is_refused_for (request_of r.entry) (unsupported_of u.now) }
+{
+    lists_known(r.operation, u.operation.as_slice())
+        || (is_strict(r) && is_filled(u.job.as_slice()))
 }

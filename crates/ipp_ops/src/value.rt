@@ -9,6 +9,7 @@ ghost use Rattle.ipp_ops.specs.Values as spec;
 
 use crate::attribute::{Row, Shape, Support};
 use ipp_wire::ValueView;
+use ipp_wire::tags::{INTEGER, KEYWORD, NAME_WITH_LANGUAGE};
 use std::str;
 
 /// A number of 4 bytes.
@@ -64,7 +65,7 @@ fn behind_language(bytes: &[u8]) -> Option<&[u8]>
 pub fn text<'a>(v: ValueView<'a>) -> Option<&'a [u8]>
     ensures { option_copied result ≡ spec.text_of (value_of v.entry) }
 {
-    if v.tag == 0x36 {
+    if v.tag == NAME_WITH_LANGUAGE {
         behind_language(v.bytes)
     } else {
         Some(v.bytes)
@@ -187,7 +188,7 @@ fn is_word(words: &[&str], bytes: &[u8]) -> bool
 fn is_number_within(low: u32, high: u32, v: ValueView<'_>) -> bool
     ensures { result ≡ spec.is_number_within low high (value_of v.entry) }
 {
-    v.tag == 0x21
+    v.tag == INTEGER
         && match number(v.bytes) {
             Some(n) => low <= n && n <= high,
             None => false,
@@ -201,7 +202,7 @@ pub fn are_supported(support: Support, values: &[ValueView<'_>]) -> bool
     match (support, values) {
         (Support::Anything, _) => true,
         (Support::Between(low, high), [v]) => is_number_within(low, high, *v),
-        (Support::Words(words), [v]) => v.tag == 0x44 && is_word(words, v.bytes),
+        (Support::Words(words), [v]) => v.tag == KEYWORD && is_word(words, v.bytes),
         _ => false,
     }
 }

@@ -6,7 +6,7 @@ use Rattle.ipp_wire.specs.Bare.{bare}
 use Rattle.queue_core.specs.declared.event.Reply.{Reply}
 use Rattle.queue_core.specs.declared.event.Reply.TheVariants.{Refused, Done, Jobs, Printer}
 use Rattle.queue_core.specs.Settings.{SettingValues}
-use Rattle.ipp_reply.specs.Wanted.{Rows}
+use Rattle.ipp_reply.specs.Wanted.{Rows, job_rows, printer_rows}
 use Rattle.ipp_reply.specs.JobReply.{job_group}
 use Rattle.ipp_reply.specs.PrinterReply.{printer_group}
 use Rattle.ipp_reply.specs.Unsupported.{Unsupported, is_listed}
@@ -27,5 +27,5 @@ success u = if is_listed u then 0x0001 else 0x0000
 abbrev pub reply_of : Reply → Head → Rows → Unsupported → SettingValues → ℕ → Message
 reply_of (Refused code) h rows u s now = with_groups (bare h code) (if code == 0x040B then unsupported_groups u else [])
 reply_of Done h rows u s now = with_groups (bare h (success u)) (unsupported_groups u)
-reply_of (Jobs js) h rows u s now = with_groups (bare h (success u)) (unsupported_groups u ++ map (job_group s.uri now rows.job) js)
-reply_of (Printer state queued accepting) h rows u s now = with_groups (bare h (success u)) (unsupported_groups u ++ printer_group (record { settings = s; now = now; state = state; queued = queued; accepting = accepting }) rows.printer ∷ [])
+reply_of (Jobs js) h rows u s now = with_groups (bare h (success u)) (unsupported_groups u ++ map (job_group s.uri now (job_rows rows)) js)
+reply_of (Printer state queued accepting) h rows u s now = with_groups (bare h (success u)) (unsupported_groups u ++ printer_group (record { settings = s; now = now; state = state; queued = queued; accepting = accepting }) (printer_rows rows) ∷ [])

@@ -11,6 +11,7 @@ ghost use Rattle.ipp_reply.specs.PrinterReply.{texts as spec_texts};
 
 use crate::format::{FORMATS, format_name};
 use crate::operation::{OPERATIONS, Operation};
+use ipp_wire::tags::{BOOLEAN, ENUM, INTEGER, KEYWORD, MIME_MEDIA_TYPE, NO_VALUE};
 use ipp_wire::{Message, ValueView};
 use queue_core::job::{Reason, Reasons};
 use std::alloc::{AllocError, Global};
@@ -57,7 +58,7 @@ fn keyword(r: Reason) -> ValueView<'static>
     ensures word { result.bytes.now ≡ spec.reason_word r }
 {
     ValueView {
-        tag: 0x44,
+        tag: KEYWORD,
         bytes: reason_word(r).as_bytes(),
     }
 }
@@ -117,11 +118,20 @@ fn enum_views<'a>(alloc: Global, ids: &'a [[u8; 4]]) -> Result<Vec<ValueView<'a>
     let mut views = Vec::new(alloc);
     for id in ids {
         views.push(ValueView {
-            tag: 0x23,
+            tag: ENUM,
             bytes: id,
         })?;
     }
     Ok(views)
+}
+
+/// Adds an attribute with one value at the end of the last group.
+fn put_one(m: &mut Message, name: &str, tag: u8, bytes: &[u8]) -> Result<(), AllocError>
+    requires begun { 0 < length m.old.groups }
+    requires fits { IsAttribute (record { name = name.now; values = spec.text tag bytes.now }) }
+    ensures { OnOk result (m.new ≡ record m.old { groups = add_attribute (record { name = name.now; values = spec.text tag bytes.now }) m.old.groups }) }
+{
+    m.attribute(name.as_bytes(), &[ValueView { tag, bytes }])
 }
 
 /// Adds an attribute with this content at the end of the last group.
@@ -135,86 +145,31 @@ pub(crate) fn put(
     requires fits { IsAttribute (record { name = name.now; values = values_in c.now }) }
     ensures { OnOk result (m.new ≡ record m.old { groups = add_attribute (record { name = name.now; values = values_in c.now }) m.old.groups }) }
 {
-    let name = name.as_bytes();
     match c {
-        Content::Integer(n) => {
-            let bytes = n.to_be_bytes();
-            m.attribute(
-                name,
-                &[ValueView {
-                    tag: 0x21,
-                    bytes: &bytes,
-                }],
-            )
-        }
-        Content::Enum(n) => {
-            let bytes = n.to_be_bytes();
-            m.attribute(
-                name,
-                &[ValueView {
-                    tag: 0x23,
-                    bytes: &bytes,
-                }],
-            )
-        }
-        Content::Text(tag, text) => m.attribute(
-            name,
-            &[ValueView {
-                tag: *tag,
-                bytes: text.as_bytes(),
-            }],
-        ),
-        Content::Made(tag, text) => m.attribute(
-            name,
-            &[ValueView {
-                tag: *tag,
-                bytes: text.as_bytes(),
-            }],
-        ),
-        Content::Moment(None) => m.attribute(
-            name,
-            &[ValueView {
-                tag: 0x13,
-                bytes: b"",
-            }],
-        ),
-        Content::Moment(Some(n)) => {
-            let bytes = n.to_be_bytes();
-            m.attribute(
-                name,
-                &[ValueView {
-                    tag: 0x21,
-                    bytes: &bytes,
-                }],
-            )
-        }
-        Content::Boolean(b) => {
-            let bytes = [u8::from(*b)];
-            m.attribute(
-                name,
-                &[ValueView {
-                    tag: 0x22,
-                    bytes: &bytes,
-                }],
-            )
-        }
+        Content::Integer(n) => put_one(m, name, INTEGER, &n.to_be_bytes()),
+        Content::Enum(n) => put_one(m, name, ENUM, &n.to_be_bytes()),
+        Content::Text(tag, text) => put_one(m, name, *tag, text.as_bytes()),
+        Content::Made(tag, text) => put_one(m, name, *tag, text.as_bytes()),
+        Content::Moment(None) => put_one(m, name, NO_VALUE, b""),
+        Content::Moment(Some(n)) => put_one(m, name, INTEGER, &n.to_be_bytes()),
+        Content::Boolean(b) => put_one(m, name, BOOLEAN, &[u8::from(*b)]),
         Content::Texts(tag, texts) => {
             let values = text_views(alloc, *tag, texts)?;
-            m.attribute(name, values.as_slice())
+            m.attribute(name.as_bytes(), values.as_slice())
         }
         Content::FormatNames => {
             let names = format_names(alloc)?;
-            let values = text_views(alloc, 0x49, names.as_slice())?;
-            m.attribute(name, values.as_slice())
+            let values = text_views(alloc, MIME_MEDIA_TYPE, names.as_slice())?;
+            m.attribute(name.as_bytes(), values.as_slice())
         }
         Content::OperationIds => {
             let ids = operation_ids(alloc)?;
             let values = enum_views(alloc, ids.as_slice())?;
-            m.attribute(name, values.as_slice())
+            m.attribute(name.as_bytes(), values.as_slice())
         }
         Content::Reasons(r) => match r.second {
-            None => m.attribute(name, &[keyword(r.first)]),
-            Some(second) => m.attribute(name, &[keyword(r.first), keyword(second)]),
+            None => m.attribute(name.as_bytes(), &[keyword(r.first)]),
+            Some(second) => { m.attribute(name.as_bytes(), &[keyword(r.first), keyword(second)]) }
         },
     }
 }

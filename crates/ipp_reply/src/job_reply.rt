@@ -5,10 +5,13 @@ ghost use Rattle.ipp_wire.specs.Viewed.{values_of};
 ghost use Rattle.queue_core.specs.Limits.{IsSoundJob};
 ghost use Rattle.ipp_reply.specs.Content.{values_in};
 ghost use Rattle.ipp_reply.specs.JobReply as spec;
-ghost use Rattle.ipp_reply.specs.Wanted.{words_of};
+ghost use Rattle.ipp_reply.specs.Wanted.{of_job, rows_of, words_of};
 
 use crate::content::{Content, put};
 use crate::wanted::Wanted;
+use ipp_wire::tags::{
+    CHARSET, JOB_ATTRIBUTES, KEYWORD, NAME_WITHOUT_LANGUAGE, NATURAL_LANGUAGE, URI,
+};
 use ipp_wire::{Message, ValueView};
 use queue_core::job::{Job, reasons_of, state_of};
 use std::alloc::{AllocError, Global};
@@ -119,26 +122,29 @@ impl JobAttribute {
         ensures { IfOk result (λ c. values_in c ≡ spec.values_of uri.now now j.now self) }
     {
         Ok(match self {
-            JobAttribute::JobUri => Content::Made(0x45, format!(in alloc; "{}/{}", uri, j.number)?),
+            JobAttribute::JobUri => Content::Made(URI, format!(in alloc; "{}/{}", uri, j.number)?),
             JobAttribute::JobId => Content::Integer(j.number),
-            JobAttribute::JobPrinterUri => Content::Text(0x45, uri),
-            JobAttribute::JobName => Content::Text(0x42, j.name.as_str()),
-            JobAttribute::JobOriginatingUserName => Content::Text(0x42, j.owner.as_str()),
+            JobAttribute::JobPrinterUri => Content::Text(URI, uri),
+            JobAttribute::JobName => Content::Text(NAME_WITHOUT_LANGUAGE, j.name.as_str()),
+            JobAttribute::JobOriginatingUserName => Content::Text(
+                NAME_WITHOUT_LANGUAGE,
+                j.owner.as_str(),
+            ),
             JobAttribute::JobState => Content::Enum(u32::from(state_of(j))),
             JobAttribute::JobStateReasons => Content::Reasons(reasons_of(j)),
             JobAttribute::TimeAtCreation => Content::Integer(j.created),
             JobAttribute::TimeAtProcessing => Content::Moment(j.begun),
             JobAttribute::TimeAtCompleted => Content::Moment(j.ended),
             JobAttribute::JobPrinterUpTime => Content::Integer(now),
-            JobAttribute::AttributesCharset => Content::Text(0x47, "utf-8"),
-            JobAttribute::AttributesNaturalLanguage => Content::Text(0x48, "en"),
+            JobAttribute::AttributesCharset => Content::Text(CHARSET, "utf-8"),
+            JobAttribute::AttributesNaturalLanguage => Content::Text(NATURAL_LANGUAGE, "en"),
             JobAttribute::JobKOctets => Content::Integer(kilo_octets(j.octets)),
             JobAttribute::JobImpressions => Content::Integer(j.impressions),
             JobAttribute::JobImpressionsCompleted => Content::Integer(j.count),
             JobAttribute::NumberOfDocuments => Content::Integer(j.documents),
             JobAttribute::Copies => Content::Integer(j.copies),
             JobAttribute::JobHoldUntil => Content::Text(
-                0x44,
+                KEYWORD,
                 if j.hold { "indefinite" } else { "no-hold" },
             ),
         })
@@ -166,7 +172,7 @@ fn put_job(
     requires job { IsSoundJob j.now }
     ensures { OnOk result (m.new ≡ record m.old { groups = m.old.groups ++ spec.job_group uri.now now rows.now j.now ∷ [] }) }
 {
-    m.group(0x02)?;
+    m.group(JOB_ATTRIBUTES)?;
     'rows: for row in rows {
         let content = row.content(alloc, uri, now, j)?;
         put(alloc, m, row.name(), &content)?;
@@ -248,16 +254,16 @@ fn requested_rows(
 /// The rows of a job that these names select: a name of a row, its group or `all` (RFC 8011, section 4.3.4).
 /// The one error is want of memory.
 pub fn select_usual(alloc: Global, words: &[&str]) -> Result<Wanted, AllocError>
-    ensures { IfOk result (λ w. w ≡ record { job = spec.selected (map (λ x. x.now) words.now); printer = [] }) }
+    ensures { IfOk result (λ w. rows_of w ≡ of_job (spec.selected (map (λ x. x.now) words.now))) }
 {
     let rows = usual_rows(alloc, &TABLE, words)?;
-    Ok(Wanted::of_job(alloc, rows))
+    Ok(Wanted::Job(rows))
 }
 
 /// The rows of a job that the names in these values select. The one error is want of memory.
 pub fn select_requested(alloc: Global, values: &[ValueView<'_>]) -> Result<Wanted, AllocError>
-    ensures { IfOk result (λ w. w ≡ record { job = spec.selected (words_of (values_of values.now)); printer = [] }) }
+    ensures { IfOk result (λ w. rows_of w ≡ of_job (spec.selected (words_of (values_of values.now)))) }
 {
     let rows = requested_rows(alloc, &TABLE, values)?;
-    Ok(Wanted::of_job(alloc, rows))
+    Ok(Wanted::Job(rows))
 }

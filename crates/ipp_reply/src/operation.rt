@@ -1,6 +1,6 @@
 //! The operations that the printer supports (RFC 8011, section 5.4.15; PWG 5100.11).
 ghost use Rattle.std.specs.Prelude.{◌≡◌};
-ghost use Rattle.ipp_reply.specs.Operations.{id, on_job, makes_job, operation_of};
+ghost use Rattle.ipp_reply.specs.Operations.{id, operation_of};
 
 /// An operation, by its id.
 #[derive(Clone, Copy, Debug)]
@@ -39,42 +39,6 @@ impl Operation {
         ensures { result ≡ id self }
     {
         self as u16
-    }
-
-    /// The operation is one on a job.
-    pub fn is_on_job(self) -> bool
-        ensures { result ≡ on_job self }
-    {
-        match self {
-            Operation::SendDocument
-            | Operation::CancelJob
-            | Operation::GetJobAttributes
-            | Operation::HoldJob
-            | Operation::ReleaseJob => true,
-            Operation::PrintJob
-            | Operation::ValidateJob
-            | Operation::CreateJob
-            | Operation::GetJobs
-            | Operation::GetPrinterAttributes
-            | Operation::CancelMyJobs => false,
-        }
-    }
-
-    /// The operation looks at the job group.
-    pub fn makes_job(self) -> bool
-        ensures { result ≡ makes_job self }
-    {
-        match self {
-            Operation::PrintJob | Operation::ValidateJob | Operation::CreateJob => true,
-            Operation::SendDocument
-            | Operation::CancelJob
-            | Operation::GetJobAttributes
-            | Operation::GetJobs
-            | Operation::GetPrinterAttributes
-            | Operation::HoldJob
-            | Operation::ReleaseJob
-            | Operation::CancelMyJobs => false,
-        }
     }
 
     /// The operation of an id, where it is supported.

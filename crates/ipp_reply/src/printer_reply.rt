@@ -6,11 +6,15 @@ ghost use Rattle.queue_core.specs.Settings.{AreSettings};
 ghost use Rattle.ipp_reply.specs.Content.{values_in};
 ghost use Rattle.ipp_reply.specs.PrinterReply as spec;
 ghost use Rattle.ipp_reply.specs.PrinterView.{printer_of};
-ghost use Rattle.ipp_reply.specs.Wanted.{words_of};
+ghost use Rattle.ipp_reply.specs.Wanted.{of_printer, rows_of, words_of};
 
 use crate::content::{Content, put};
 use crate::format::format_name;
 use crate::wanted::Wanted;
+use ipp_wire::tags::{
+    CHARSET, KEYWORD, MIME_MEDIA_TYPE, NAME_WITHOUT_LANGUAGE, NATURAL_LANGUAGE, PRINTER_ATTRIBUTES,
+    URI,
+};
 use ipp_wire::{Message, ValueView};
 use queue_core::document::Format;
 use queue_core::settings::Settings;
@@ -117,30 +121,36 @@ impl PrinterAttribute {
         ensures { values_in result ≡ spec.values_of (printer_of p.entry) self }
     {
         match self {
-            PrinterAttribute::PrinterUriSupported => Content::Text(0x45, p.settings.uri()),
+            PrinterAttribute::PrinterUriSupported => Content::Text(URI, p.settings.uri()),
             PrinterAttribute::UriAuthenticationSupported => {
-                Content::Text(0x44, "requesting-user-name")
+                Content::Text(KEYWORD, "requesting-user-name")
             }
-            PrinterAttribute::UriSecuritySupported => Content::Text(0x44, "none"),
-            PrinterAttribute::PrinterName => Content::Text(0x42, p.settings.name()),
+            PrinterAttribute::UriSecuritySupported => Content::Text(KEYWORD, "none"),
+            PrinterAttribute::PrinterName => Content::Text(
+                NAME_WITHOUT_LANGUAGE,
+                p.settings.name(),
+            ),
             PrinterAttribute::PrinterState => Content::Enum(u32::from(p.state)),
-            PrinterAttribute::PrinterStateReasons => Content::Text(0x44, "none"),
-            PrinterAttribute::IppVersionsSupported => Content::Texts(0x44, &["1.1", "2.0"]),
+            PrinterAttribute::PrinterStateReasons => Content::Text(KEYWORD, "none"),
+            PrinterAttribute::IppVersionsSupported => Content::Texts(KEYWORD, &["1.1", "2.0"]),
             PrinterAttribute::OperationsSupported => Content::OperationIds,
             PrinterAttribute::CharsetConfigured | PrinterAttribute::CharsetSupported => {
-                Content::Text(0x47, "utf-8")
+                Content::Text(CHARSET, "utf-8")
             }
             PrinterAttribute::NaturalLanguageConfigured
-            | PrinterAttribute::GeneratedNaturalLanguageSupported => Content::Text(0x48, "en"),
+            | PrinterAttribute::GeneratedNaturalLanguageSupported => Content::Text(
+                NATURAL_LANGUAGE,
+                "en",
+            ),
             PrinterAttribute::DocumentFormatDefault => {
-                Content::Text(0x49, format_name(Format::OctetStream))
+                Content::Text(MIME_MEDIA_TYPE, format_name(Format::OctetStream))
             }
             PrinterAttribute::DocumentFormatSupported => Content::FormatNames,
             PrinterAttribute::PrinterIsAcceptingJobs => Content::Boolean(p.accepting),
             PrinterAttribute::QueuedJobCount => Content::Integer(p.queued),
-            PrinterAttribute::PdlOverrideSupported => Content::Text(0x44, "not-attempted"),
+            PrinterAttribute::PdlOverrideSupported => Content::Text(KEYWORD, "not-attempted"),
             PrinterAttribute::PrinterUpTime => Content::Integer(p.now),
-            PrinterAttribute::CompressionSupported => Content::Text(0x44, "none"),
+            PrinterAttribute::CompressionSupported => Content::Text(KEYWORD, "none"),
         }
     }
 }
@@ -155,7 +165,7 @@ pub(crate) fn put_printer(
     requires { AreSettings p.settings.now }
     ensures { OnOk result (m.new ≡ record m.old { groups = m.old.groups ++ spec.printer_group (printer_of p.entry) rows.now ∷ [] }) }
 {
-    m.group(0x04)?;
+    m.group(PRINTER_ATTRIBUTES)?;
     'rows: for row in rows {
         let content = row.content(p);
         put(alloc, m, row.name(), &content)?;
@@ -192,16 +202,16 @@ fn named_rows(
 /// The rows of the printer that the names in these values select: a name of a row,
 /// `printer-description` or `all` (RFC 8011, section 4.2.5). The one error is want of memory.
 pub fn select_of_printer(alloc: Global, values: &[ValueView<'_>]) -> Result<Wanted, AllocError>
-    ensures { IfOk result (λ w. w ≡ record { job = []; printer = spec.selected (words_of (values_of values.now)) }) }
+    ensures { IfOk result (λ w. rows_of w ≡ of_printer (spec.selected (words_of (values_of values.now)))) }
 {
     let rows = named_rows(alloc, &TABLE, values)?;
-    Ok(Wanted::of_printer(alloc, rows))
+    Ok(Wanted::Printer(rows))
 }
 
 /// All rows of the printer. The one error is want of memory.
 pub fn select_whole_printer(alloc: Global) -> Result<Wanted, AllocError>
-    ensures { IfOk result (λ w. w ≡ record { job = []; printer = spec.selected (codes "all" ∷ []) }) }
+    ensures { IfOk result (λ w. rows_of w ≡ of_printer (spec.selected (codes "all" ∷ []))) }
 {
     let rows = TABLE.to_vec(alloc)?;
-    Ok(Wanted::of_printer(alloc, rows))
+    Ok(Wanted::Printer(rows))
 }

@@ -1,67 +1,46 @@
 //! The reply to a request as a message.
 ghost use Rattle.std.specs.Prelude.{◌≡◌, ◌==◌, ◌<◌, [], IfOk, OnOk, fold, length, if◌then◌else◌};
 ghost use Rattle.std.specs.List.{AllByRecursion};
-ghost use Rattle.ipp_wire.specs.Bare.{bare, bare_head};
+ghost use Rattle.ipp_wire.specs.Bare.{bare};
 ghost use Rattle.ipp_wire.specs.Message.{IsAttribute};
 ghost use Rattle.ipp_wire.specs.Owned.{add_attribute};
 ghost use Rattle.ipp_wire.specs.Viewed.{attributes_of};
 ghost use Rattle.queue_core.specs.Limits.{IsSoundReply};
 ghost use Rattle.ipp_reply.specs.Reply.{reply_of, success, unsupported_groups, with_groups};
 ghost use Rattle.ipp_reply.specs.Unsupported.{CanList, unsupported_of};
+ghost use Rattle.ipp_reply.specs.Wanted.{rows_of};
 
 use crate::job_reply::put_jobs;
 use crate::printer_reply::{PrinterView, put_printer};
+use crate::status::{
+    CLIENT_ERROR_ATTRIBUTES_OR_VALUES_NOT_SUPPORTED, SUCCESSFUL_OK,
+    SUCCESSFUL_OK_IGNORED_OR_SUBSTITUTED_ATTRIBUTES,
+};
 use crate::unsupported::Unsupported;
 use crate::wanted::Wanted;
-use ipp_wire::{AttrView, Head, Message, ValueView};
+use ipp_wire::tags::{CHARSET, NATURAL_LANGUAGE, OPERATION_ATTRIBUTES, UNSUPPORTED_ATTRIBUTES};
+use ipp_wire::{AttrView, Head, Message, ValueView, reply_head};
 use queue_core::event::Reply;
 use queue_core::settings::Settings;
 use std::alloc::{AllocError, Global};
-
-/// The status code successful-ok.
-const SUCCESSFUL_OK: u16 = 0x0000;
-
-/// The status code successful-ok-ignored-or-substituted-attributes.
-const ATTRIBUTES_IGNORED: u16 = 0x0001;
-
-/// The status code client-error-attributes-or-values-not-supported.
-const ATTRIBUTES_NOT_SUPPORTED: u16 = 0x040B;
-
-/// The head of a reply: the request's version, or 1.1 where its major version isn't 1 or 2.
-fn reply_head(head: Head, code: u16) -> Head
-    ensures { result ≡ bare_head head code }
-{
-    let is_known = head.major == 1 || head.major == 2;
-    let (major, minor) = if is_known {
-        (head.major, head.minor)
-    } else {
-        (1, 1)
-    };
-    Head {
-        major,
-        minor,
-        code,
-        request_id: head.request_id,
-    }
-}
 
 /// A reply with charset and natural language alone.
 fn bare_message(alloc: Global, head: Head, code: u16) -> Result<Message, AllocError>
     ensures { IfOk result (λ m. m ≡ bare head code) }
 {
     let mut m = Message::new(alloc, reply_head(head, code));
-    m.group(0x01)?;
+    m.group(OPERATION_ATTRIBUTES)?;
     m.attribute(
         b"attributes-charset",
         &[ValueView {
-            tag: 0x47,
+            tag: CHARSET,
             bytes: b"utf-8",
         }],
     )?;
     m.attribute(
         b"attributes-natural-language",
         &[ValueView {
-            tag: 0x48,
+            tag: NATURAL_LANGUAGE,
             bytes: b"en",
         }],
     )?;
@@ -88,7 +67,7 @@ fn put_unsupported(m: &mut Message, u: &Unsupported<'_>) -> Result<(), AllocErro
     if !u.is_listed() {
         return Ok(());
     }
-    m.group(0x05)?;
+    m.group(UNSUPPORTED_ATTRIBUTES)?;
     put_attributes(m, u.operation.as_slice())?;
     put_attributes(m, u.job.as_slice())
 }
@@ -103,7 +82,7 @@ fn refusal_message(
     ensures { IfOk result (λ m. m ≡ with_groups (bare head code) (if code == 0x040B then unsupported_groups (unsupported_of u.now) else [])) }
 {
     let mut m = bare_message(alloc, head, code)?;
-    if code != ATTRIBUTES_NOT_SUPPORTED {
+    if code != CLIENT_ERROR_ATTRIBUTES_OR_VALUES_NOT_SUPPORTED {
         return Ok(m);
     }
     put_unsupported(&mut m, u)?;
@@ -115,7 +94,7 @@ fn success_message(alloc: Global, head: Head, u: &Unsupported<'_>) -> Result<Mes
     ensures { IfOk result (λ m. m ≡ with_groups (bare head (success (unsupported_of u.now))) (unsupported_groups (unsupported_of u.now))) }
 {
     let code = if u.is_listed() {
-        ATTRIBUTES_IGNORED
+        SUCCESSFUL_OK_IGNORED_OR_SUBSTITUTED_ATTRIBUTES
     } else {
         SUCCESSFUL_OK
     };
@@ -138,7 +117,7 @@ pub fn reply_message(
 ) -> Result<Message, AllocError>
     requires sound { IsSoundReply r.now }
     requires listed { CanList (unsupported_of unsupported.now) }
-    ensures { IfOk result (λ m. m ≡ reply_of r.now head wanted.now (unsupported_of unsupported.now) s.now now) }
+    ensures { IfOk result (λ m. m ≡ reply_of r.now head (rows_of wanted.now) (unsupported_of unsupported.now) s.now now) }
 {
     match r {
         Reply::Refused(code) => refusal_message(alloc, head, *code, unsupported),

@@ -2,57 +2,44 @@
 use crate::job_reply::JobAttribute;
 use crate::printer_reply::PrinterAttribute;
 use std::alloc::Global;
-use std::marker::Model;
 
-/// The rows that a reply is to have, of a job and of the printer, each in its table's order.
+/// The rows that a reply is to have, in their table's order.
 #[derive(Debug, Drop)]
-pub struct Wanted {
-    job: Vec<JobAttribute>,
-    printer: Vec<PrinterAttribute>,
-}
-
-impl Model for Wanted {
-    ghost use Rattle.ipp_reply.specs.Wanted.{Rows};
-
-    ghost Value = { Rows };
-
-    ghost view = { λ w. record { job = w.job.items; printer = w.printer.items } };
+pub enum Wanted {
+    /// Of each job that the reply shows.
+    Job(Vec<JobAttribute>),
+    Printer(Vec<PrinterAttribute>),
 }
 
 impl Wanted {
-    ghost use Rattle.std.specs.Prelude.{◌≡◌, []};
+    ghost use Rattle.std.specs.Prelude.{◌≡◌};
+    ghost use Rattle.ipp_reply.specs.Wanted as spec;
+    ghost use Rattle.ipp_reply.specs.Wanted.{rows_of};
 
-    /// These rows of a job. It takes no memory.
-    pub fn of_job(alloc: Global, rows: Vec<JobAttribute>) -> Self
-        ensures { result ≡ record { job = rows.items; printer = [] } }
+    /// No row. It takes no memory.
+    pub fn nothing(alloc: Global) -> Self
+        ensures { rows_of result ≡ spec.no_rows }
     {
-        Wanted {
-            job: rows,
-            printer: Vec::new(alloc),
-        }
-    }
-
-    /// These rows of the printer. It takes no memory.
-    pub fn of_printer(alloc: Global, rows: Vec<PrinterAttribute>) -> Self
-        ensures { result ≡ record { job = []; printer = rows.items } }
-    {
-        Wanted {
-            job: Vec::new(alloc),
-            printer: rows,
-        }
+        Wanted::Job(Vec::new(alloc))
     }
 
     /// The rows of a job.
-    pub fn job_rows(&self) -> &[JobAttribute]
-        ensures { result.now ≡ self.now.job }
+    pub(crate) fn job_rows(&self) -> &[JobAttribute]
+        ensures { result.now ≡ spec.job_rows (rows_of self.now) }
     {
-        self.job.as_slice()
+        match self {
+            Wanted::Job(rows) => rows.as_slice(),
+            Wanted::Printer(_) => &[],
+        }
     }
 
     /// The rows of the printer.
-    pub fn printer_rows(&self) -> &[PrinterAttribute]
-        ensures { result.now ≡ self.now.printer }
+    pub(crate) fn printer_rows(&self) -> &[PrinterAttribute]
+        ensures { result.now ≡ spec.printer_rows (rows_of self.now) }
     {
-        self.printer.as_slice()
+        match self {
+            Wanted::Job(_) => &[],
+            Wanted::Printer(rows) => rows.as_slice(),
+        }
     }
 }

@@ -2,7 +2,7 @@
 
 ghost use Rattle.std.specs.Prelude.{◌≡◌};
 ghost use Rattle.ipp_wire.specs.Message.{Spells};
-ghost use Rattle.ipp_wire.specs.Bare.{bare, bare_head};
+ghost use Rattle.ipp_wire.specs.Bare.{bare, bare_head, is_known_version};
 
 use crate::message::head_array;
 use crate::view::Head;
@@ -24,12 +24,19 @@ pub fn put_fault(out: &mut [u8; 72], head: Head, code: u16) -> usize
     72
 }
 
-/// The head of the bare reply.
-fn reply_head(head: Head, code: u16) -> Head
+/// The major version is one whose replies are known, 1 or 2. It takes no memory.
+pub fn is_known_version(head: Head) -> bool
+    ensures { result ≡ is_known_version head }
+{
+    head.major == 1 || head.major == 2
+}
+
+/// The head of a reply with this status code to a request with this head: the request's version, or 1.1
+/// where its major version isn't 1 or 2, and its request-id (RFC 8011, section 4.1.8). It takes no memory.
+pub fn reply_head(head: Head, code: u16) -> Head
     ensures { result ≡ bare_head head code }
 {
-    let known = head.major == 1 || head.major == 2;
-    let (major, minor) = if known {
+    let (major, minor) = if is_known_version(head) {
         (head.major, head.minor)
     } else {
         (1, 1)

@@ -8,10 +8,10 @@ mod fault;
 mod law;
 mod message;
 mod reading;
-mod tags;
+pub mod tags;
 mod view;
 
-pub use bare::put_fault;
+pub use bare::{is_known_version, put_fault, reply_head};
 pub use law::{one_spelling, plain_attribute};
 pub use message::{Message, write};
 pub use reading::{head, read};
