@@ -1,15 +1,8 @@
 //! A print release server. `printd replay` answers requests that it reads as lines of text.
 #![tactic(auto)]
 
-mod command;
-mod command_line;
-#[cfg(test)]
-mod tests;
-
-use command::{Command, CommandFault};
-use command_line::command;
-use replay::fault::Fault;
-use replay::replay;
+use command_words::{Command, CommandFault, command};
+use replay::{Fault, replay};
 use std::io::BufWriter;
 use std::process::ExitCode;
 use std::rt::Env;

@@ -1,4 +1,3 @@
 pub mod DecimalLemmas
 pub mod HexadecimalLemmas
 pub mod LineLemmas
-mod Answered

@@ -1,3 +1,4 @@
 pub mod Line
 pub mod RequestLine
+pub mod Session
 pub mod Unread

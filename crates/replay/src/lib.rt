@@ -1,10 +1,13 @@
 //! The text of a replay: requests that stand on lines, and the lines that answer them.
 #![tactic(auto)]
 
-pub mod fault;
-pub mod hexadecimal;
+mod fault;
+mod hexadecimal;
 mod lines;
+mod replaying;
 mod request_line;
 mod session;
 
-pub use session::replay;
+pub use fault::Fault;
+pub use hexadecimal::{HexFault, MAX_BYTES, put_hex, read_hex};
+pub use replaying::replay;

@@ -1,45 +1,86 @@
-//! Runs many replays, each over an empty queue of its own. A case of the input is a line `# NAME` and
-//! the lines of a replay, in which no `#` stands; a case is answered by its first line, the lines of
-//! the replay and its status.
+//! Runs worked examples of replays, each over an empty queue of its own, and compares what they write with what is wanted.
+//!
+//! In the input a case is a line `# NAME`, the lines of a replay, a line `=`, the lines that are to answer them and a line
+//! `status N`. A case that is answered so is a line `ok NAME` of the output. Of one that is not, the first line that
+//! differs goes to standard error, as it was wanted and as it came, and the program ends with status 1.
 #![tactic(auto)]
 
+mod case;
 #[cfg(test)]
 mod tests;
 
-use replay::fault::Fault;
-use replay::replay;
+use case::{Case, first_difference};
+use replay::Fault;
 use std::alloc::Global;
 use std::io;
 use std::io::{BufWriter, Read, Write};
+use std::process::ExitCode;
 
-fn main(rt: HostRuntime) -> Result<(), Fault> {
+/// How many bytes the input of a replay gives at a time: one, or all that there are room for.
+const SIZES: [usize; 2] = [1, usize::MAX];
+
+fn main(rt: HostRuntime) -> Result<ExitCode, Fault> {
     let alloc = rt.alloc();
     let mut text = Vec::new(alloc);
     rt.reader().read_to_end(&mut text)?;
     let mut output = BufWriter::new(alloc, io::writer(&rt))?;
-    for case in text.as_slice().split(|byte| *byte == b'#') {
-        if !case.is_empty() {
-            answer_case(alloc, case, &mut output)?;
-        }
-    }
+    let are_well = run_cases(alloc, text.as_slice(), &mut output, &mut rt.stderr())?;
     output.flush()?;
-    Ok(())
+    Ok(ExitCode::from(u8::from(!are_well)))
 }
 
-/// Answers one case: its name, and behind the line feed the lines of its replay.
-fn answer_case<W: Write>(alloc: Global, case: &[u8], output: &mut W) -> Result<(), Fault> {
-    let end = case
-        .iter()
-        .position(|byte| *byte == b'\n')
-        .unwrap_or(case.len());
-    let (name, mut lines) = case.split_at(end);
-    if let [_, rest @ ..] = lines {
-        lines = rest;
+/// Runs the cases of a text, each behind a `#`, and says whether all are answered as they are to be.
+fn run_cases<O: Write, E: Write>(
+    alloc: Global,
+    text: &[u8],
+    output: &mut O,
+    complaints: &mut E,
+) -> Result<bool, Fault> {
+    let mut are_well = true;
+    for part in text.split(|byte| *byte == b'#').skip(1) {
+        are_well &= run_case(alloc, part, output, complaints)?;
     }
-    output.write_all(b"#")?;
-    output.write_all(name)?;
+    Ok(are_well)
+}
+
+/// Runs one case, and says whether it is answered as it is to be.
+fn run_case<O: Write, E: Write>(
+    alloc: Global,
+    text: &[u8],
+    output: &mut O,
+    complaints: &mut E,
+) -> Result<bool, Fault> {
+    let Some(case) = Case::read(text) else {
+        complaints.write_all(b"no case: ")?;
+        complaints.write_all(text)?;
+        return Ok(false);
+    };
+    for size in SIZES {
+        let came = case.outcome(alloc, size)?;
+        if came.as_slice() != case.wanted {
+            tell_difference(&case, came.as_slice(), complaints)?;
+            return Ok(false);
+        }
+    }
+    output.write_all(b"ok")?;
+    output.write_all(case.name)?;
     output.write_all(b"\n")?;
-    let status = replay(alloc, &mut lines, output)?;
-    writeln!(output, "status {status}")?;
+    Ok(true)
+}
+
+/// Writes the name of a case, and the first line that differs.
+fn tell_difference<E: Write>(
+    case: &Case<'_>,
+    came: &[u8],
+    complaints: &mut E,
+) -> Result<(), Fault> {
+    let (wanted, other) = first_difference(case.wanted, came).unwrap_or((case.wanted, came));
+    complaints.write_all(b"differs:")?;
+    complaints.write_all(case.name)?;
+    complaints.write_all(b"\nwanted: ")?;
+    complaints.write_all(wanted)?;
+    complaints.write_all(b"\ncame:   ")?;
+    complaints.write_all(other)?;
+    complaints.write_all(b"\n")?;
     Ok(())
 }

@@ -1,27 +1,14 @@
-//! Streams that give one byte at a time, and streams that fail.
+//! Streams that fail, text of bytes, and cases that are not answered as they are to be.
 
 mod job_numbers;
 mod wire_bytes;
+mod words;
 
-use replay::fault::Fault;
-use replay::hexadecimal::{HexFault, put_hex, read_hex};
-use replay::replay;
+use crate::run_cases;
+use replay::{Fault, HexFault, put_hex, read_hex, replay};
 use std::io;
 use std::io::{Read, Write};
 use std::test::Fail;
-
-/// Gives one byte at each read.
-#[derive(Drop)]
-struct SlowReader<'a> {
-    rest: &'a [u8],
-}
-
-impl Read for SlowReader<'_> {
-    fn read(&mut self, buf: &mut [u8]) -> io::Result<usize> {
-        let wanted = buf.len().min(1);
-        self.rest.read(&mut buf[..wanted])
-    }
-}
 
 /// Gives some bytes, and then fails.
 #[derive(Drop)]
@@ -84,14 +71,20 @@ fn messages_as_text(rt: HostRuntime) -> Result<(), Fail> {
 }
 
 #[test]
-fn one_byte_at_a_time(rt: HostRuntime) {
-    let mut input = SlowReader {
-        rest: b"now 7\nipp 0A0b\nipp \n\nipp 00\n",
-    };
+fn cases_that_differ(rt: HostRuntime) -> Result<(), Fail> {
+    let text = b"# short\nipp 00\n=\nipp short\nstatus 0\n\
+        # another answer\nnow 3\nipp 00\n=\nipp 0101\nstatus 0\n\
+        # another status\nnow 0\n=\nbad line 1\nstatus 0\n\
+        # an answer more\nipp 00\n=\nstatus 0\n\
+        # no lines that are wanted\n";
     let mut output = Vec::new(rt.alloc());
-    assert_eq!(rt; replay(rt.alloc(), &mut input, &mut output), Ok(1));
-    assert_eq!(rt;
-        output.as_slice(),
-        b"ipp short\nipp short\nbad line 4\n".as_slice()
-    );
+    let mut complaints = Vec::new(rt.alloc());
+    assert!(rt; !run_cases(rt.alloc(), text, &mut output, &mut complaints)?);
+    assert_eq!(rt; output.as_slice(), b"ok short\n".as_slice());
+    let wanted = "differs: another answer\nwanted: ipp 0101\ncame:   ipp short\n\
+        differs: another status\nwanted: status 0\ncame:   status 1\n\
+        differs: an answer more\nwanted: status 0\ncame:   ipp short\n\
+        no case:  no lines that are wanted\n";
+    assert_eq!(rt; complaints.as_slice(), wanted.as_bytes());
+    Ok(())
 }

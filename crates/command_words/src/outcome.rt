@@ -1,8 +1,8 @@
 //! What the program is to do, and why words may name nothing that it does.
 
 ghost use Rattle.std.specs.Prelude.{◌≡◌};
-ghost use Rattle.printd.specs.CommandLine.{IsFaultOf};
-ghost use Rattle.printd.specs.declared.command.CommandFault.TheVariants as faults;
+ghost use Rattle.command_words.specs.CommandLine.{IsFaultOf};
+ghost use Rattle.command_words.specs.declared.outcome.CommandFault.TheVariants as faults;
 
 use clap::Error;
 use clap::error::ErrorKind;

@@ -8,10 +8,10 @@ use Rattle.clap.specs.declared.builder.command.Command.{Command as Definition}
 use Rattle.clap.specs.declared.builder.command.Command.TheViews.{out-Command}
 use Rattle.clap.specs.declared.error.Error.{Error}
 use Rattle.clap.specs.declared.error.kind.ErrorKind.TheVariants as kind
-use Rattle.printd.specs.declared.command.Command.{Command}
-use Rattle.printd.specs.declared.command.Command.TheVariants.{Replay}
-use Rattle.printd.specs.declared.command.CommandFault.{CommandFault}
-use Rattle.printd.specs.declared.command.CommandFault.TheVariants as fault
+use Rattle.command_words.specs.declared.outcome.Command.{Command}
+use Rattle.command_words.specs.declared.outcome.Command.TheVariants.{Replay}
+use Rattle.command_words.specs.declared.outcome.CommandFault.{CommandFault}
+use Rattle.command_words.specs.declared.outcome.CommandFault.TheVariants as fault
 
 -- the program by itself: it wants a subcommand, and without a word it says which there are
 abbrev pub program : Shape

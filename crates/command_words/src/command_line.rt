@@ -2,9 +2,9 @@
 
 ghost use Rattle.std.specs.Prelude.{◌≡◌, [], map, IfOk, IfErr, OnOk, IsSomeAnd};
 ghost use Rattle.clap.specs.Words.{fault_of, subcommand_of};
-ghost use Rattle.printd.specs.CommandLine.{IsCommand, IsDefined, IsWordsFault, definition};
+ghost use Rattle.command_words.specs.CommandLine.{IsCommand, IsDefined, IsWordsFault, definition};
 
-use crate::command::{Command, CommandFault};
+use crate::outcome::{Command, CommandFault};
 use clap::Command as Definition;
 use std::alloc::{AllocError, Global};
 

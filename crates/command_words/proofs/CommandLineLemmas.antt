@@ -14,9 +14,9 @@ use Rattle.clap.specs.declared.parser.matches.ArgMatches.TheViews.{out-ArgMatche
 use Rattle.clap.specs.declared.parser.matches.SubCommand.{SubCommand}
 use Rattle.std.specs.Box.{box_value}
 use Rattle.clap.proofs.OnLiterals.{clap_on_literals}
-use Rattle.printd.specs.CommandLine.{IsDefined, IsFaultOf, IsWordsFault, definition}
-use Rattle.printd.specs.declared.command.CommandFault.{CommandFault}
-use Rattle.printd.specs.declared.command.CommandFault.TheVariants as fault
+use Rattle.command_words.specs.CommandLine.{IsDefined, IsFaultOf, IsWordsFault, definition}
+use Rattle.command_words.specs.declared.outcome.CommandFault.{CommandFault}
+use Rattle.command_words.specs.declared.outcome.CommandFault.TheVariants as fault
 
 definition_is_simple : is_simple definition ≡ true
 unfolding clap_on_literals

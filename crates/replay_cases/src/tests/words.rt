@@ -1,7 +1,6 @@
 //! Words that name a command, and words that name none.
 
-use crate::command::{Command, CommandFault};
-use crate::command_line::command;
+use command_words::{Command, CommandFault, command};
 
 #[test]
 fn words_and_commands(rt: HostRuntime) {

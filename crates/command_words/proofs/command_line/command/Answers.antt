@@ -2,8 +2,8 @@ use Rattle.std.proofs.Common.{rules, ◌≡◌, List, Some, map}
 use Rattle.std.proofs.lemmas.Result.{err_from_is_err_and}
 use Rattle.clap.specs.Matches.{subcommand_name_of}
 use Rattle.clap.specs.Walk.{Text}
-use Rattle.printd.proofs.CommandLineLemmas.{met_by_definition, only_replay, refused_words}
-use Rattle.printd.proofs.command_line.command.Goals as goal
+use Rattle.command_words.proofs.CommandLineLemmas.{met_by_definition, only_replay, refused_words}
+use Rattle.command_words.proofs.command_line.command.Goals as goal
 
 pub returns-in_err-defined-clause-refused : goal.returns-in_err-defined-clause-refused
 returns-in_err-defined-clause-refused c =

@@ -1,0 +1,117 @@
+"""Jobs that take documents one by one, and jobs that are only validated."""
+from ipp import (
+    BEGIN_COLLECTION,
+    BOOLEAN,
+    CREATE_JOB,
+    END_COLLECTION,
+    GET_JOBS,
+    GET_JOB_ATTRIBUTES,
+    KEYWORD,
+    MEDIA_TYPE,
+    PRINT_JOB,
+    SEND_DOCUMENT,
+    VALIDATE_JOB,
+    Job,
+    job_request,
+    record,
+    reply,
+    request,
+    unknown,
+    unsupported,
+)
+from worked.case import case, done, print_job, refused, sized, taken, wants
+from worked.jobs import HUNDRED, look, seen
+
+OPEN = Job(reasons=("job-incoming", "job-hold-until-specified"))
+
+
+def send(is_last, payload, *others, caller="alice"):
+    """A Send-Document to job 1."""
+    return job_request(
+        SEND_DOCUMENT, 1, record(BOOLEAN, "last-document", is_last), *others, payload=payload, caller=caller
+    )
+
+
+def created(job):
+    """The reply to a Create-Job or a Send-Document."""
+    return reply(0x0000, job.new_group())
+
+
+COUNTS = ("job-k-octets", "number-of-documents")
+case(
+    "sixteen documents and no more",
+    (request(CREATE_JOB, payload=b"not looked at"), created(OPEN)),
+    (look(1, *COUNTS), seen(Job(octets=0, documents=0), *COUNTS)),
+    *((send(False, b"a"), created(OPEN)) for _ in range(16)),
+    (send(False, b"a"), refused(0x0404)),
+    (send(True, b"a"), refused(0x0404)),
+    (send(False, b""), created(OPEN)),
+    (send(True, b""), created(Job())),
+    (look(1, *COUNTS), seen(Job(octets=16, documents=16), *COUNTS)),
+    # after the last document the job takes none
+    (send(False, b"a"), refused(0x0404)),
+    (send(True, b""), refused(0x0404)),
+)
+case(
+    "octets are rounded up",
+    (request(CREATE_JOB), created(OPEN)),
+    (send(False, bytes(1024)), created(OPEN)),
+    (look(1, *COUNTS), seen(Job(octets=1024, documents=1), *COUNTS)),
+    (send(True, b"a"), created(Job())),
+    (look(1, *COUNTS), seen(Job(octets=1025, documents=2), *COUNTS)),
+)
+case(
+    "Print-Job without a document",
+    (print_job(payload=b""), taken(1)),
+    (look(1, *COUNTS), seen(Job(octets=0, documents=0), *COUNTS)),
+)
+case(
+    "documents that are not sent",
+    (print_job(), taken(1)),
+    (send(True, b"a"), refused(0x0404)),
+    (job_request(SEND_DOCUMENT, 1, payload=b"a"), refused(0x0400)),
+    (send(True, b"a", caller="bob"), refused(0x0406)),
+    (look(1, *COUNTS), seen(Job(), *COUNTS)),
+)
+case(
+    "documents that are refused by their form",
+    (request(CREATE_JOB), created(OPEN)),
+    (send(False, b"a", record(KEYWORD, "compression", "gzip")), refused(0x040F)),
+    (send(False, b"a", record(MEDIA_TYPE, "document-format", "image/png")), refused(0x040A)),
+    (look(1, *COUNTS), seen(Job(octets=0, documents=0), *COUNTS)),
+    (
+        send(False, b"a", record(KEYWORD, "job-name", "b")),
+        reply(0x0001, unsupported(unknown("job-name")), OPEN.new_group()),
+    ),
+)
+
+VALIDATED = request(VALIDATE_JOB)
+case("validated without a job", (VALIDATED, done()), (print_job(), taken(1)))
+case(
+    "validated with a payload",
+    (request(VALIDATE_JOB, payload=b"hi"), done()),
+    (request(GET_JOBS), done()),
+    (print_job(), taken(1)),
+)
+case(
+    "validated with an unknown attribute",
+    (
+        request(VALIDATE_JOB, job=[record(BEGIN_COLLECTION, "media-col", ""), record(END_COLLECTION, "", "")]),
+        sized(87, reply(0x0001, unsupported(unknown("media-col")))),
+    ),
+    (print_job(), taken(1)),
+)
+case(
+    "validated with a compression and a document format",
+    (request(VALIDATE_JOB, record(KEYWORD, "compression", "gzip")), refused(0x040F)),
+    (request(VALIDATE_JOB, record(MEDIA_TYPE, "document-format", "image/png")), refused(0x040A)),
+    (request(VALIDATE_JOB, record(MEDIA_TYPE, "document-format", "image/urf")), done()),
+)
+case(
+    "validated beside hundred live jobs",
+    *HUNDRED[:99],
+    (VALIDATED, done()),
+    HUNDRED[99],
+    (VALIDATED, refused(0x0404)),
+    (request(VALIDATE_JOB, payload=b"hi", caller="bob"), done()),
+)

@@ -1,0 +1,8 @@
+//! The words of the command line, and the command that they name.
+#![tactic(auto)]
+
+mod command_line;
+mod outcome;
+
+pub use command_line::command;
+pub use outcome::{Command, CommandFault};

@@ -1,0 +1,42 @@
+-- What a line of a replay brings about, and the text that answers it.
+use Rattle.std.specs.Prelude.{◌≡◌, ◌<◌, ◌⊎◌, ℕ, List, [], ◌∷◌, ◌++◌, Ok, IsErr, IsOkAnd, codes, length}
+use Rattle.hex.specs.Hex.{decode_of, encode_lower}
+use Rattle.ipp_ops.specs.Answer.{Answers, Fails}
+use Rattle.queue_core.specs.World.{World}
+use Rattle.replay.specs.RequestLine.{Says}
+use Rattle.replay.specs.declared.request_line.RequestLine.{RequestLine}
+use Rattle.replay.specs.declared.request_line.RequestLine.TheVariants.{Now, Ipp}
+
+-- where a session is: the moment at which requests come, and the queue
+pub record State : Type 0 where
+  pub now : ℕ
+  pub queue : World
+
+-- out is the reply to the message at this moment, and new the queue after it; or out tells of a fault, and the queue stays
+abbrev pub IsReply : World → ℕ → List ℕ → World → List ℕ → Type 0
+IsReply old now message new out = Answers old now message new out ⊎ (Fails message out × (new ≡ old))
+
+-- `ipp `, the reply in lower-case hexadecimal, and a line feed
+abbrev pub reply_line : List ℕ → List ℕ
+reply_line out = codes "ipp " ++ encode_lower out ++ 10 ∷ []
+
+-- the text answers the message at this moment: it has the reply, or says that the message is too short for one
+abbrev pub AnswersMessage : World → ℕ → List ℕ → World → List ℕ → Type 0
+AnswersMessage old now message new text =
+    ((out : List ℕ) × IsReply old now message new out × (text ≡ reply_line out))
+    ⊎ ((length message < 8) × (new ≡ old) × (text ≡ codes "ipp short" ++ 10 ∷ []))
+
+-- `now N` sets the moment and has no answer; `ipp HEX` is answered at the moment that was set last
+abbrev pub Takes : RequestLine → State → State → List ℕ → Type 0
+Takes (Now n) old new text = (new.now ≡ n) × (new.queue ≡ old.queue) × (text ≡ [])
+Takes (Ipp digits) old new text = (new.now ≡ old.now)
+    × ((message : List ℕ) × (decode_of digits.now ≡ Ok message) × AnswersMessage old.queue old.now message new.queue text)
+
+-- the digits stand for no message of at most 16,777,216 bytes
+abbrev pub IsRefused : RequestLine → Type 0
+IsRefused (Now n) = ⊥
+IsRefused (Ipp digits) = IsErr (decode_of digits.now) ⊎ IsOkAnd (decode_of digits.now) (λ message. 16777216 < length message)
+
+-- the line is of no form, or has a message that is refused
+abbrev pub IsBad : List ℕ → Type 0
+IsBad line = (request : RequestLine) → Says line request → IsRefused request
