@@ -178,7 +178,11 @@ class Writer:
         same = self.random.choice(kinds.get(tag, TEXTS))
         if tag == URI:
             same += self.random.choice(PATHS) + self.random.choice(ENDS)
+        # a limit of octets, or one more
+        long = octets(value) + (b"?" if tag == URI else b"")
+        long = long.ljust(self.random.choice([63, 64, 255, 256, 1023, 1024, 0x7FFF, 0x8000]), b"a")
         changes = [
+            values[:at] + [(tag, long)] + values[at + 1 :],
             values[:at] + [self.any_value()] + values[at + 1 :],
             values[:at] + [(tag, same)] + values[at + 1 :],
             values[:at] + [(self.random.choice(TAGS), value)] + values[at + 1 :],
