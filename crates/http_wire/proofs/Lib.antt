@@ -1,0 +1,6 @@
+pub mod LeftLemmas
+pub mod HeadLemmas
+pub mod WriteLemmas
+pub mod FieldLemmas
+pub mod ChunkLemmas
+pub mod PlanLemmas

@@ -1,0 +1,13 @@
+pub mod Ends
+pub mod Left
+pub mod Head
+pub mod Found
+pub mod Routes
+pub mod Checks
+pub mod Planned
+pub mod Chunks
+pub mod ChunkParts
+pub mod LineEnds
+pub mod Responses
+pub mod Received
+pub mod Bodies
