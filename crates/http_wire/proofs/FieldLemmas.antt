@@ -1,6 +1,6 @@
 -- The words of a head, as the code reads them.
-use Rattle.std.proofs.Common.{◌≡◌, ◌+◌, ◌-◌, ◌*◌, ◌<◌, ◌≤◌, ℕ, List, [], ◌∷◌, ◌++◌, ◌&&◌, Bool, true, false, length, ◌^◌, take, drop, map, min, slice_range, refl, sym, ap, ◌∙◌, arith, get_or, IsTrue, ◌↔◌, append-nil}
-use Rattle.std.specs.Prelude.{bytes_eq, if◌then◌else◌, not, ◌||◌, nat_lt, Some, None, unwrap_or}
+use Rattle.std.proofs.Common.{◌≡◌, ◌+◌, ◌-◌, ◌*◌, ◌<◌, ◌≤◌, ℕ, List, [], ◌∷◌, ◌&&◌, Bool, true, false, length, ◌^◌, take, map, min, refl, sym, ap, ◌∙◌, arith, get_or, IsTrue, ◌↔◌}
+use Rattle.std.specs.Prelude.{bytes_eq, if◌then◌else◌, ◌||◌, nat_lt, Some, None, unwrap_or}
 use Rattle.std.specs.List.{list_all, list_any}
 use Rattle.std.specs.Char.{is_ascii_digit, digit_value}
 use Rattle.std.specs.Str.{IsAscii, is_utf8}
@@ -19,15 +19,12 @@ use Rattle.http_wire.specs.declared.end.Refusal.TheVariants.{BadRequest, NotFoun
 use Rattle.http_wire.specs.Ends.{code_of}
 use Rattle.std.proofs.lemmas.Bool.Decides.{same_from_decides}
 use Rattle.std.proofs.lemmas.Slice.Eq.{bytes_eq-Decides}
-use Rattle.httparse.specs.declared.spans.HeaderSpan.{HeaderSpan}
-use Rattle.httparse.specs.declared.spans.Span.{Span}
-use Rattle.httparse.specs.Spans.{span_bytes, header_bytes}
-use Rattle.http_wire.specs.Checks.{FieldText, fits_word, number_in, all_same, first_text, any, misframed, is_digits, is_one_chunked}
+use Rattle.http_wire.specs.Fields.{fits_word, number_in}
+use Rattle.http_wire.specs.Framing.{all_same, first_text, is_there}
 
 -- a test that tells whether texts are equal
 pub told : (r : Bool) (a b : List ℕ) → (IsTrue r ↔ (a ≡ b)) → r ≡ bytes_eq a b
 told r a b h = same_from_decides r (bytes_eq a b) h (bytes_eq-Decides a b)
-
 
 -- ---- numbers
 
@@ -118,6 +115,11 @@ phrase_short TooLarge = omega arith
 phrase_short UnsupportedType = omega arith
 phrase_short HeadTooLarge = omega arith
 phrase_short Unavailable = omega arith
+
+-- there is a value, whatever each is
+pub there-map : {X : Type 0} (f : X → List ℕ) (xs : List X) → is_there (map f xs) ≡ is_there xs
+there-map f [] = refl
+there-map f (x ∷ xs) = refl
 
 three_is : (a b c d e f : Bool) → a ≡ d → b ≡ e → c ≡ f → (a && b && c) ≡ (d && e && f)
 three_is a b c d e f p q r = rw (p, q, r) refl

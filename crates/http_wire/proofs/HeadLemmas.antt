@@ -1,18 +1,19 @@
 -- Where the bytes that have come hold no head, those left of the connection hold none within the limits.
-use Rattle.std.proofs.Common.{◌≡◌, Option, ℕ, ◌+◌, ◌<◌, ◌≤◌, ◌⊎◌, List, [], ◌++◌, None, Some, IfSome, length, take, drop, refl, sym, ap, ◌∙◌, subst, append_assoc, arith, take-append-drop, inl, inr, length-append, append-nil}
-use Rattle.std.specs.Io.KnownBytes.{Keeps, Consumes, IsAtEnd}
-use Rattle.std.proofs.lemmas.List.{take-append-le, length-take-le, length-take, take_all}
-use Rattle.std.proofs.Math.Seq.{take-append_seam, drop-append_seam}
-use Rattle.httparse.specs.Grammar.{ChunkLine, HasNoChunkLine, NeverHasChunkLine, print_chunk_line, RequestHead, ReadsRequest, HasNoRequest, NeverHasRequest, print_request}
-use Rattle.httparse.specs.Spans.{RequestOverflows, RequestExceeds, IsChunkLineAt}
+use Rattle.std.proofs.Common.{◌≡◌, Option, ℕ, ◌≤◌, List, ◌++◌, None, Some, IfSome, length, take, drop, refl, sym, ap, ◌∙◌, subst, append_assoc, arith, take-append-drop, inl, inr, length-append}
+use Rattle.std.specs.Io.KnownBytes.{Keeps, Consumes}
+use Rattle.std.proofs.lemmas.List.{take-append-le}
+use Rattle.std.proofs.Math.Seq.{take-append_seam}
+use Rattle.httparse.specs.Grammar.{RequestHead, HasNoRequest, print_request}
+use Rattle.httparse.specs.Spans.{RequestOverflows, RequestExceeds}
 use Rattle.httparse.specs.declared.spans.HeaderSpan.{HeaderSpan}
 use Rattle.httparse.specs.declared.spans.RequestSpans.{RequestSpans}
 use Rattle.http_wire.specs.Found.{IsHeadAt}
 use Rattle.http_wire.specs.Received.{TakesHead}
 use Rattle.http_wire.specs.Checks.{head_of, refusal_of}
 use Rattle.http_wire.specs.Left.{left}
-use Rattle.http_wire.specs.Head.{BeginsHead, HasNoHead, IsTooLarge, EndsWithoutHead, head_limit, field_limit}
-use Rattle.http_wire.specs.declared.end.Finish.TheVariants.{Refused, Cut}
+use Rattle.http_wire.specs.Head.{BeginsHead, HasNoHead, EndsWithoutHead}
+use Rattle.http_wire.specs.Limits.{head_limit, field_limit}
+use Rattle.http_wire.specs.declared.end.Finish.TheVariants.{Refused}
 use Rattle.http_wire.specs.declared.end.Refusal.{Refusal}
 use Rattle.http_wire.specs.declared.end.Refusal.TheVariants.{HeadTooLarge}
 
@@ -46,7 +47,7 @@ refused_full None r come p full none = tt
 refused_full (Some x) None come p full none = absurd p
 refused_full (Some x) (Some y) come p full none =
     subst (λ xs. EndsWithoutHead xs (Refused HeadTooLarge)) p
-        (inr (refl, no_head_in_full come y full none, inl (length_front come y full)))
+    (inr (refl, no_head_in_full come y full none, inl (length_front come y full)))
 
 pub refused_many : (bytes r : Option (List ℕ)) (come : List ℕ) → Keeps bytes (left come r) → RequestOverflows field_limit come → RequestExceeds field_limit come
     → IfSome bytes (λ xs. EndsWithoutHead xs (Refused HeadTooLarge))
@@ -54,7 +55,7 @@ refused_many None r come p over many = tt
 refused_many (Some x) None come p over many = absurd p
 refused_many (Some x) (Some y) come p over many =
     subst (λ xs. EndsWithoutHead xs (Refused HeadTooLarge)) p
-        (inr (refl, no_head_in_many come y over, inr (exceeds_more come y many)))
+    (inr (refl, no_head_in_many come y over, inr (exceeds_more come y many)))
 
 pub head_consumed : (bytes r : Option (List ℕ)) (come front rest : List ℕ) → Keeps bytes (left come r) → come ≡ front ++ rest → Consumes bytes (left rest r) front
 head_consumed None r come front rest p e = tt
@@ -75,10 +76,13 @@ pub head_begins : (bytes r : Option (List ℕ)) (come : List ℕ) (headers : Lis
     → IfSome bytes (λ xs. (k : RequestHead) × (rest : List ℕ) × BeginsHead xs k rest × (refusal_of (head_of k) ≡ Some code))
 head_begins None r come headers spans h code p is e = tt
 head_begins (Some x) None come headers spans h code p is e = absurd p
-head_begins (Some x) (Some y) come headers spans h code p is e =
-    (h, drop spans.len come ++ y, record {
-      reads = (is.at.reads.0, sym p ∙ ap (λ l. l ++ y) is.at.reads.1 ∙ append_assoc (print_request h) (drop spans.len come) y);
-      short = omega (arith, is.short, is.at.len);
-      few = is.few;
-    }, e)
-
+head_begins (Some x) (Some y) come headers spans h code p is e = (
+  h,
+  drop spans.len come ++ y,
+  record {
+    reads = (is.at.reads.0, sym p ∙ ap (λ l. l ++ y) is.at.reads.1 ∙ append_assoc (print_request h) (drop spans.len come) y);
+    short = omega (arith, is.short, is.at.len);
+    few = is.few;
+  },
+  e,
+)

@@ -1,9 +1,10 @@
 -- The bytes left of a connection, as a buffer takes them from a reader and gives them on.
-use Rattle.std.proofs.Common.{◌≡◌, Option, ℕ, ◌+◌, ◌-◌, ◌≤◌, ◌<◌, List, [], ◌++◌, None, Some, IfSome, length, take, drop, slice_range, refl, sym, ap, ◌∙◌, subst, append_assoc, append-nil, arith, add-zero, take-append-drop, length-drop}
-use Rattle.std.specs.Io.KnownBytes.{Consumes, Keeps, IsAtEnd, Appends, prepend_known}
+use Rattle.std.proofs.Common.{◌≡◌, Option, ℕ, ◌+◌, ◌-◌, ◌≤◌, List, ◌++◌, None, Some, length, take, drop, slice_range, sym, ap, ◌∙◌, subst, append_assoc, arith, take-append-drop, length-append, length-drop}
+use Rattle.std.specs.Io.KnownBytes.{Consumes, Keeps, Appends}
 use Rattle.std.proofs.Math.Seq.{take-add}
-use Rattle.std.proofs.lemmas.List.{drop-take, length-take, take_all}
+use Rattle.std.proofs.lemmas.List.{drop-take, length-take, length-take-le, take_all}
 use Rattle.std.proofs.KnownBytes.{Appends-trans, Consumes-trans, Consumes-kept}
+use Rattle.http_wire.specs.Bodies.{TakesMore}
 use Rattle.http_wire.specs.Left.{left}
 use lib.Seq.{drop-drop}
 
@@ -61,8 +62,11 @@ pub put_rest : (a b c : Option (List ℕ)) (xs : List ℕ) (at n : ℕ) → Appe
 put_rest a b c xs at n p q = put_more a b c xs at n p (subst (λ l. Appends b c (take n l)) (rest_is xs at) q)
 
 -- more of a body was taken from the buffer, once something had come
-pub body_more : (a b : Option (List ℕ)) (r : Option (List ℕ)) (come body more : List ℕ) (n : ℕ) → Consumes a b body → Keeps b (left come r) → more ≡ body ++ take n come
-    → Consumes a (left (drop n come) r) more
-body_more a b r come body more n p k e =
-    subst (λ l. Consumes a (left (drop n come) r) l) (sym e)
-        (Consumes-trans a (left come r) (left (drop n come) r) body (take n come) (Consumes-kept a b (left come r) body p k) (take_consumes r come n))
+pub more_taken : (a b r : Option (List ℕ)) (come before body more : List ℕ) (taken n : ℕ) → TakesMore taken a b before body → Keeps b (left come r) → n ≤ length come → more ≡ body ++ take n come
+    → TakesMore (taken + n) a (left (drop n come) r) before more
+more_taken a b r come before body more taken n m k fits e = record {
+  more = m.more ++ take n come;
+  size = let f = length-append m.more (take n come) in let h = length-take-le n come fits in omega (arith, f, h, m.size);
+  after_is = e ∙ ap (λ l. l ++ take n come) m.after_is ∙ append_assoc before m.more (take n come);
+  taken = Consumes-trans a (left come r) (left (drop n come) r) m.more (take n come) (Consumes-kept a b (left come r) m.more m.taken k) (take_consumes r come n);
+}

@@ -2,5 +2,6 @@ pub mod LeftLemmas
 pub mod HeadLemmas
 pub mod WriteLemmas
 pub mod FieldLemmas
-pub mod ChunkLemmas
 pub mod PlanLemmas
+pub mod ChunkLemmas
+pub mod LineLemmas

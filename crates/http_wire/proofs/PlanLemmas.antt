@@ -1,23 +1,23 @@
 -- The checks of a head in code are those of the table.
-use Rattle.std.proofs.Common.{◌≡◌, ℕ, ◌<◌, ◌≤◌, List, [], ◌∷◌, Bool, true, false, ◌&&◌, Option, Some, None, min, refl, sym, ap, ◌∙◌, subst, arith, take, map, unwrap_or}
-use Rattle.std.specs.Prelude.{All, not, ◌||◌, nat_lt, bytes_eq, ◌==◌, codes, if◌then◌else◌, Result}
+use Rattle.std.proofs.Common.{◌≡◌, ℕ, ◌≤◌, List, [], ◌∷◌, Bool, true, false, ◌&&◌, Option, Some, None, min, refl, sym, ap, ◌∙◌, subst, arith, take, map}
+use Rattle.std.specs.Prelude.{◌||◌, nat_lt, ◌==◌, codes, if◌then◌else◌, Result, Ok, Err, IfOk}
 use Rattle.std.proofs.lemmas.Bool.Decides.{nat_tests}
 use Rattle.httparse.specs.Grammar.{RequestHead}
 use Rattle.httparse.specs.declared.spans.HeaderSpan.{HeaderSpan}
 use Rattle.httparse.specs.declared.spans.RequestSpans.{RequestSpans}
-use Rattle.httparse.specs.Spans.{span_bytes, header_bytes, name_and_value}
+use Rattle.httparse.specs.Spans.{span_bytes}
 use Rattle.http_wire.specs.Found.{IsHeadAt}
-use Rattle.http_wire.specs.Received.{TakesHead}
 use Rattle.httparse.specs.declared.spans.Span.{Span}
-use Rattle.http_wire.specs.Checks.{values, misframed, framing, Head, head_of, refusal_of, plan_of, checked, rows, unrouted, first_that_applies, is_misframed, framing_of, capped, target_in, has_type, is_plain, asks, is_posted, method_of, size_of}
+use Rattle.http_wire.specs.Fields.{values}
+use Rattle.http_wire.specs.Framing.{misframed, framing, capped, size_of}
+use Rattle.http_wire.specs.Checks.{Head, head_of, refusal_of, plan_of, checked, rows, unrouted, first_that_applies, is_misframed, framing_of, target_in, is_typed, asks}
 use Rattle.http_wire.specs.Planned.{said, IsPlanOf, fields_at}
 use Rattle.http_wire.specs.declared.end.Refusal.{Refusal}
 use Rattle.http_wire.specs.declared.end.Refusal.TheVariants.{BadRequest, NotFound}
 use Rattle.http_wire.specs.declared.plan.Plan.{Plan}
-use Rattle.http_wire.specs.declared.plan.Target.{Target}
-use Rattle.http_wire.specs.declared.plan.Target.TheVariants.{Queue}
-use Rattle.http_wire.specs.declared.plan.Framing.{Framing}
-use Rattle.http_wire.specs.declared.plan.Framing.TheVariants.{Nothing, Sized, Chunked}
+use Rattle.http_wire.specs.declared.target.Target.{Target}
+use Rattle.http_wire.specs.declared.framing.Framing.{Framing}
+use Rattle.http_wire.specs.declared.framing.Framing.TheVariants.{Nothing, Sized, Chunked}
 
 pub refused_unrouted : (h : Head) (m : Bool) (t : Option Target) → t ≡ target_in h → t ≡ None → m ≡ is_misframed h → m ≡ true → refusal_of h ≡ Some BadRequest
 unfolding refusal_of
@@ -45,15 +45,15 @@ same_rows t false f g method typed h = ap (λ x. first_that_applies (rows t fals
 
 -- the row that applies, by the code's own values
 pub refused_routed : (h : Head) (t : Target) (u : Option Target) (m : Bool) (f : Framing) (method : List ℕ) (typed : Bool) (r : Option Refusal)
-    → u ≡ target_in h → u ≡ Some t → m ≡ is_misframed h → (is_misframed h ≡ false → f ≡ capped (framing_of h)) → method ≡ h.method → typed ≡ (has_type t h && is_plain h)
+    → u ≡ target_in h → u ≡ Some t → m ≡ is_misframed h → (is_misframed h ≡ false → f ≡ capped (framing_of h)) → method ≡ h.method → typed ≡ (is_typed t h)
     → r ≡ first_that_applies (rows t m f method typed) → refusal_of h ≡ r
 unfolding refusal_of
 refused_routed h t u m f method typed r u_is some m_is f_is method_is typed_is r_is =
     ap (checked h) (sym u_is ∙ some)
-    ∙ sym (same_rows t (is_misframed h) f (framing_of h) h.method (has_type t h && is_plain h) f_is)
+    ∙ sym (same_rows t (is_misframed h) f (framing_of h) h.method (is_typed t h) f_is)
     ∙ sym (r_is ∙ ap (λ b. first_that_applies (rows t b f method typed)) m_is
-        ∙ ap (λ x. first_that_applies (rows t (is_misframed h) f x typed)) method_is
-        ∙ ap (λ b. first_that_applies (rows t (is_misframed h) f h.method b)) typed_is)
+    ∙ ap (λ x. first_that_applies (rows t (is_misframed h) f x typed)) method_is
+    ∙ ap (λ b. first_that_applies (rows t (is_misframed h) f h.method b)) typed_is)
 
 if_none : (b : Bool) (r : Refusal) (o : Option Refusal) → (if b then Some r else o) ≡ None → (b ≡ false) × (o ≡ None)
 if_none true r o e = absurd (cc)
@@ -83,11 +83,11 @@ passes_by t false g method typed e = (refl, uncapped t g method typed e)
 pub framed : (h : Head) (t : Target) (f : Framing) → target_in h ≡ Some t → (is_misframed h ≡ false → f ≡ capped (framing_of h)) → refusal_of h ≡ None → f ≡ framing_of h
 unfolding refusal_of
 framed h t f t_is f_is passes =
-    let e = passes_by t (is_misframed h) (framing_of h) h.method (has_type t h && is_plain h) (sym (ap (checked h) t_is) ∙ passes) in
+    let e = passes_by t (is_misframed h) (framing_of h) h.method (is_typed t h) (sym (ap (checked h) t_is) ∙ passes) in
     f_is e.0 ∙ e.1
 
 pub planned : (h : Head) (t : Target) (u : Option Target) (m : Bool) (f : Framing) (method : List ℕ) (typed expects closes : Bool) (r : Option Refusal)
-    → u ≡ target_in h → u ≡ Some t → m ≡ is_misframed h → (is_misframed h ≡ false → f ≡ capped (framing_of h)) → method ≡ h.method → typed ≡ (has_type t h && is_plain h)
+    → u ≡ target_in h → u ≡ Some t → m ≡ is_misframed h → (is_misframed h ≡ false → f ≡ capped (framing_of h)) → method ≡ h.method → typed ≡ (is_typed t h)
     → r ≡ first_that_applies (rows t m f method typed) → r ≡ None
     → expects ≡ ((h.minor == 1) && asks (codes "expect") (codes "100-continue") h) → closes ≡ ((h.minor == 0) || asks (codes "connection") (codes "close") h)
     → (refusal_of h ≡ None) × (record { target = t; framing = f; expects = expects; closes = closes } ≡ plan_of h)
@@ -131,7 +131,7 @@ not_over n h = grind (arith, nat_tests)
 routed_fits : (h : Head) (t : Option Target) → checked h t ≡ None → size_of (framing_of h) ≤ 16777216
 routed_fits h None e = absurd (unrouted_some (is_misframed h) e)
 routed_fits h (Some t) e =
-    not_over (size_of (framing_of h)) (none_applies (rows t (is_misframed h) (framing_of h) h.method (has_type t h && is_plain h)) e).1.1.1.1.0
+    not_over (size_of (framing_of h)) (none_applies (rows t (is_misframed h) (framing_of h) h.method (is_typed t h)) e).1.1.1.1.0
 
 passed_fits : (h : Head) → refusal_of h ≡ None → size_of (framing_of h) ≤ 16777216
 unfolding refusal_of
@@ -141,5 +141,10 @@ plan_fits : (h : Head) → refusal_of h ≡ None → size_of (plan_of h).framing
 unfolding plan_of
 plan_fits h e = passed_fits h e
 
-pub planned_size : (plan : Plan) (r q : Option (List ℕ)) → (h : RequestHead) × TakesHead r q h × (refusal_of (head_of h) ≡ None) × (plan ≡ plan_of (head_of h)) → size_of plan.framing ≤ 16777216
-planned_size plan r q h = subst (λ (p : Plan). size_of p.framing ≤ 16777216) (sym h.3) (plan_fits (head_of h.0) h.2)
+-- the plan of a head that passes the checks
+plan_fits_of : (h : Head) (plan : Plan) → refusal_of h ≡ None → plan ≡ plan_of h → size_of plan.framing ≤ 16777216
+plan_fits_of h plan passes e = subst (λ (p : Plan). size_of p.framing ≤ 16777216) (sym e) (plan_fits h passes)
+
+pub fits_by : (h : Head) (result : Result Plan Refusal) → IsPlanOf h result → IfOk result (λ plan. size_of plan.framing ≤ 16777216)
+fits_by h (Ok plan) p = plan_fits_of h plan p.0 p.1
+fits_by h (Err r) p = tt

@@ -1,6 +1,5 @@
--- The status of a refusal (RFC 9110, section 15; RFC 6585, section 5), and its response.
-use Rattle.std.specs.Prelude.{ℕ, List, [], ◌++◌, ◌∷◌, codes, decimal, unwrap_or, Bool, true, false}
-use Rattle.http.specs.StatusCode.{reason_phrase}
+-- The status of a refusal (RFC 9110, section 15; RFC 6585, section 5), and how a connection ended.
+use Rattle.std.specs.Prelude.{ℕ, Bool, true, false}
 use Rattle.http_wire.specs.declared.end.End.{End}
 use Rattle.http_wire.specs.declared.end.End.TheVariants.{Closed, Cut, Done, Refused}
 use Rattle.http_wire.specs.declared.end.Finish.{Finish}
@@ -8,6 +7,7 @@ use Rattle.http_wire.specs.declared.end.Finish.TheVariants.{Closed as FinishClos
 use Rattle.http_wire.specs.declared.end.Refusal.{Refusal}
 use Rattle.http_wire.specs.declared.end.Refusal.TheVariants.{BadRequest, NotFound, PostAllowed, GetAllowed, LengthRequired, TooLarge, UnsupportedType, HeadTooLarge, Unavailable}
 
+-- the status code
 abbrev pub code_of : Refusal → ℕ
 code_of BadRequest = 400
 code_of NotFound = 404
@@ -19,30 +19,12 @@ code_of UnsupportedType = 415
 code_of HeadTooLarge = 431
 code_of Unavailable = 503
 
+-- the end with the status code alone
 abbrev pub end_of : Finish → End
 end_of FinishClosed = Closed
 end_of FinishCut = Cut
 end_of FinishDone = Done
 end_of (FinishRefused r) = Refused (code_of r)
-
--- the line that a refused method has
-abbrev pub allow_line : Refusal → List ℕ
-allow_line PostAllowed = codes "Allow: POST\r\n"
-allow_line GetAllowed = codes "Allow: GET\r\n"
-allow_line _ = []
-
--- the whole response of a refusal
-unfoldable pub refusal : Refusal → List ℕ
-refusal r =
-    codes "HTTP/1.1 " ++ decimal (code_of r) ++ codes " " ++ unwrap_or (reason_phrase (code_of r)) [] ++ codes "\r\n"
-    ++ allow_line r ++ codes "Content-Length: 0\r\nConnection: close\r\n\r\n"
-
--- the response that an end has
-abbrev pub farewell : Finish → List ℕ
-farewell FinishClosed = []
-farewell FinishCut = []
-farewell FinishDone = []
-farewell (FinishRefused r) = refusal r
 
 -- it is a fault of the server's own
 abbrev pub is_unavailable : Finish → Bool

@@ -4,7 +4,8 @@ use Rattle.httparse.specs.Grammar.{RequestHead}
 use Rattle.httparse.specs.declared.spans.HeaderSpan.{HeaderSpan}
 use Rattle.httparse.specs.declared.spans.RequestSpans.{RequestSpans}
 use Rattle.httparse.specs.Spans.{IsRequestAt, IsRequestWithin}
-use Rattle.http_wire.specs.Head.{EndsWithoutHead, head_limit, field_limit}
+use Rattle.http_wire.specs.Head.{EndsWithoutHead}
+use Rattle.http_wire.specs.Limits.{head_limit, field_limit}
 use Rattle.http_wire.specs.declared.head.Found.{Found}
 use Rattle.http_wire.specs.declared.head.Found.TheVariants.{Ended, Whole}
 

@@ -1,18 +1,11 @@
 -- Where a request head stands in the bytes of a connection (RFC 9112, section 2.1), and where none does.
-use Rattle.std.specs.Prelude.{◌≡◌, ◌<◌, ◌≤◌, ◌⊎◌, ℕ, List, [], length, map}
+use Rattle.std.specs.Prelude.{◌≡◌, ◌<◌, ◌≤◌, ◌⊎◌, ℕ, List, [], length}
 use Rattle.httparse.specs.Grammar.{RequestHead, ReadsRequest, print_request, NeverHasRequest}
-use Rattle.httparse.specs.Spans.{RequestExceeds, name_and_value}
+use Rattle.httparse.specs.Spans.{RequestExceeds}
+use Rattle.http_wire.specs.Limits.{head_limit, field_limit}
 use Rattle.http_wire.specs.declared.end.Finish.{Finish}
 use Rattle.http_wire.specs.declared.end.Finish.TheVariants.{Closed, Cut, Done, Refused}
 use Rattle.http_wire.specs.declared.end.Refusal.TheVariants.{BadRequest, HeadTooLarge}
-
--- the most bytes of a head
-abbrev pub head_limit : ℕ
-head_limit = 16384
-
--- the most fields of a head
-abbrev pub field_limit : ℕ
-field_limit = 64
 
 -- the bytes are this head, which is within the limits, and then the rest
 pub record BeginsHead (bytes : List ℕ) (h : RequestHead) (rest : List ℕ) : Type 0 where

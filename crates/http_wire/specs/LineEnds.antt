@@ -1,7 +1,7 @@
 -- What bytes say of a line end at their front.
 use Rattle.std.specs.Prelude.{◌≡◌, ◌<◌, ◌++◌, ℕ, List, length, drop}
 use Rattle.httparse.specs.Ascii.{crlf_bytes}
-use Rattle.http_wire.specs.Chunks.{HasNoLineEnd}
+use Rattle.http_wire.specs.ChunkEnds.{HasNoLineEnd}
 use Rattle.http_wire.specs.declared.chunk.LineEndState.{LineEndState}
 use Rattle.http_wire.specs.declared.chunk.LineEndState.TheVariants.{Whole, Open, Wrong}
 

@@ -1,16 +1,17 @@
 -- What the checks of a head answer.
-use Rattle.std.specs.Prelude.{◌≡◌, ℕ, List, Option, None, Some, Result, MatchResult, map, take}
+use Rattle.std.specs.Prelude.{◌≡◌, ℕ, List, None, Some, Result, MatchResult, map, take}
 use Rattle.httparse.specs.Grammar.{RequestHead}
 use Rattle.httparse.specs.declared.spans.HeaderSpan.{HeaderSpan}
 use Rattle.httparse.specs.declared.spans.RequestSpans.{RequestSpans}
 use Rattle.httparse.specs.Spans.{span_bytes, header_bytes}
 use Rattle.http_wire.specs.Found.{IsHeadAt}
-use Rattle.http_wire.specs.Checks.{Head, FieldText, head_of, refusal_of, plan_of}
+use Rattle.http_wire.specs.Fields.{FieldLine}
+use Rattle.http_wire.specs.Checks.{Head, head_of, refusal_of, plan_of}
 use Rattle.http_wire.specs.declared.end.Refusal.{Refusal}
 use Rattle.http_wire.specs.declared.plan.Plan.{Plan}
 
 -- the names and the values that the spans cover
-abbrev pub fields_at : List ℕ → List HeaderSpan → List FieldText
+abbrev pub fields_at : List ℕ → List HeaderSpan → List FieldLine
 fields_at come headers = map (header_bytes come) headers
 
 -- what the spans cover of a head

@@ -31,7 +31,11 @@ impl Buffer {
     pub fn new() -> Buffer
         ensures { result ≡ [] }
     {
-        Buffer { bytes: [0; CAPACITY], start: 0, end: 0 }
+        Buffer {
+            bytes: [0; CAPACITY],
+            start: 0,
+            end: 0,
+        }
     }
 
     /// What has come.

@@ -1,6 +1,6 @@
 //! How a connection ends.
 ghost use Rattle.std.specs.Prelude.{◌≡◌};
-ghost use Rattle.http_wire.specs.Ends.{code_of, end_of};
+ghost use Rattle.http_wire.specs.Ends as spec;
 
 /// How serving a connection ended.
 #[derive(Clone, Copy, Debug, PartialEq, Eq)]
@@ -11,20 +11,20 @@ pub enum End {
     Cut,
     /// The last request that a connection may have was answered.
     Done,
-    /// A request was refused with this status.
+    /// A request was refused with this status code.
     Refused(u16),
 }
 
 /// A refusal (RFC 9110, section 15; RFC 6585, section 5). It ends the connection.
-#[derive(Clone, Copy, Debug, PartialEq, Eq)]
+#[derive(Clone, Copy)]
 pub enum Refusal {
     /// 400
     BadRequest,
     /// 404
     NotFound,
-    /// 405, on a route that takes POST
+    /// 405, for a target that allows POST alone
     PostAllowed,
-    /// 405, on a route that takes GET
+    /// 405, for a target that allows GET alone
     GetAllowed,
     /// 411
     LengthRequired,
@@ -34,12 +34,12 @@ pub enum Refusal {
     UnsupportedType,
     /// 431
     HeadTooLarge,
-    /// 503
+    /// 503: a fault of the server's own
     Unavailable,
 }
 
 /// How a connection ends, with the refusal itself.
-#[derive(Clone, Copy, Debug, PartialEq, Eq)]
+#[derive(Clone, Copy)]
 pub enum Finish {
     Closed,
     Cut,
@@ -50,7 +50,7 @@ pub enum Finish {
 impl Refusal {
     /// The status code.
     pub fn code(self) -> u16
-        ensures { result ≡ code_of self }
+        ensures { result ≡ spec.code_of self }
     {
         match self {
             Refusal::BadRequest => 400,
@@ -68,7 +68,7 @@ impl Refusal {
 impl Finish {
     /// The same with the status code alone.
     pub fn end(self) -> End
-        ensures { result ≡ end_of self }
+        ensures { result ≡ spec.end_of self }
     {
         match self {
             Finish::Closed => End::Closed,
@@ -77,12 +77,19 @@ impl Finish {
             Finish::Refused(refusal) => End::Refused(refusal.code()),
         }
     }
+
+    /// It is a fault of the server's own.
+    pub fn is_unavailable(self) -> bool
+        ensures { result ≡ spec.is_unavailable self }
+    {
+        matches!(self, Finish::Refused(Refusal::Unavailable))
+    }
 }
 
 /// A read failed.
-#[derive(Clone, Copy, Debug, PartialEq, Eq)]
+#[derive(Clone, Copy)]
 pub struct ReadFault;
 
 /// A write failed.
-#[derive(Clone, Copy, Debug, PartialEq, Eq)]
+#[derive(Clone, Copy)]
 pub struct WriteFault;

@@ -1,19 +1,19 @@
-//! The fields of a head and the words in them.
+//! Field lines, and the words in their values (RFC 9110, section 5).
 ghost use Rattle.std.specs.Prelude.{◌≡◌, ◌≤◌, ◌==◌, length, map, not, bytes_eq, option_map, if◌then◌else◌, Some, None, true, min};
-ghost use Rattle.std.specs.List.{before_first, after_first, position, position_or_len, suffix_len, list_all, list_any, slice_split};
+ghost use Rattle.std.specs.List.{before_first, after_first, position, list_all};
 ghost use Rattle.std.specs.Option.{option_copied};
 ghost use Rattle.std.specs.Char.{is_ascii_digit};
 ghost use Rattle.std.specs.Str.{is_utf8};
 ghost use Rattle.std.specs.Str.Parse.{digits_value};
 ghost use Rattle.httparse.specs.Spans.{span_bytes, header_bytes};
 ghost use Rattle.arrayvec.specs.ArrayVec.{array_vec_len};
-ghost use Rattle.http_wire.specs.Checks as spec;
+ghost use Rattle.http_wire.specs.Fields as spec;
 
 use arrayvec::ArrayVec;
 use httparse::spans::{HeaderSpan, Span};
 use std::str;
 
-/// The bytes that a span covers.
+/// The bytes that a span covers, of those that have come.
 pub fn text_at(come: &[u8], span: Span) -> &[u8]
     ensures { result.now ≡ span_bytes come.now span }
 {
@@ -35,7 +35,7 @@ fn is_named(come: &[u8], h: &HeaderSpan, name: &[u8]) -> bool
     same_word(text_at(come, h.name), name)
 }
 
-/// The values of all fields of that name.
+/// The values of all field lines of that name.
 pub fn values(come: &[u8], headers: &[HeaderSpan], name: &[u8]) -> ArrayVec<Span, 64>
     requires { length headers.now ≤ 64 }
     ensures { map (span_bytes come.now) result.items ≡ spec.values name.now (map (header_bytes come.now) headers.now) }
@@ -80,31 +80,26 @@ fn end_cut(text: &[u8], tabs: bool) -> &[u8]
     &text[..end]
 }
 
-/// The text without the blanks at both ends.
+/// The text without the spaces, and where `tabs` the tabs, at both ends.
 pub fn trimmed(text: &[u8], tabs: bool) -> &[u8]
     ensures { result.now ≡ spec.trimmed (spec.is_blank tabs) text.now }
 {
     end_cut(front_cut(text, tabs), tabs)
 }
 
-fn is_part(part: &[u8], word: &[u8]) -> bool
-    ensures { result ≡ spec.same_word (spec.trimmed (spec.is_blank true) part.now) word.now }
+fn is_member(member: &[u8], word: &[u8]) -> bool
+    ensures { result ≡ spec.same_word (spec.trimmed (spec.is_blank true) member.now) word.now }
 {
-    same_word(trimmed(part, true), word)
+    same_word(trimmed(member, true), word)
 }
 
-/// A part of the value between commas is that word.
-pub fn has_part(word: &[u8], value: &[u8]) -> bool
-    ensures { result ≡ spec.has_part word.now value.now }
+/// A member of the list that the value is, is that word.
+pub fn has_member(word: &[u8], value: &[u8]) -> bool
+    ensures { result ≡ spec.has_member word.now value.now }
 {
-    value.split(|b| *b == b',').any(|part| is_part(part, word))
-}
-
-/// A value of that name has the word among its parts.
-pub fn asks(come: &[u8], values: &[Span], word: &[u8]) -> bool
-    ensures { result ≡ list_any (λ s. spec.has_part word.now (span_bytes come.now s)) values.now }
-{
-    values.iter().any(|s| has_part(word, text_at(come, *s)))
+    value
+        .split(|b| *b == b',')
+        .any(|member| is_member(member, word))
 }
 
 fn place_of(byte: u8, text: &[u8]) -> Option<usize>

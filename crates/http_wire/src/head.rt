@@ -11,7 +11,7 @@ use httparse::{Error, Status};
 use std::io::Read;
 
 /// What was found where a head may stand.
-#[derive(Clone, Copy, Debug)]
+#[derive(Clone, Copy)]
 pub enum Found {
     Ended(Finish),
     Whole(RequestSpans),
@@ -30,14 +30,20 @@ pub fn find_head<R: Read>(
         match parse_request(buffer.bytes(), headers) {
             Ok(Status::Complete(spans)) => return Ok(Found::Whole(spans)),
             Ok(Status::Partial) => {}
-            Err(Error::TooManyHeaders) => return Ok(Found::Ended(Finish::Refused(Refusal::HeadTooLarge))),
+            Err(Error::TooManyHeaders) => return Ok(Found::Ended(Finish::Refused(
+                Refusal::HeadTooLarge,
+            ))),
             Err(_) => return Ok(Found::Ended(Finish::Refused(Refusal::BadRequest))),
         }
         if buffer.bytes().len() == CAPACITY {
             return Ok(Found::Ended(Finish::Refused(Refusal::HeadTooLarge)));
         }
         if buffer.fill(reader)? == 0 {
-            let end = if buffer.bytes().is_empty() { Finish::Closed } else { Finish::Cut };
+            let end = if buffer.bytes().is_empty() {
+                Finish::Closed
+            } else {
+                Finish::Cut
+            };
             return Ok(Found::Ended(end));
         }
     }

@@ -1,7 +1,7 @@
-//! One whole request, from its head to the end of its body.
+//! The head of a request, taken and checked.
 ghost use Rattle.std.specs.Prelude.{◌≡◌, IfOk};
 ghost use Rattle.http_wire.specs.Left.{left};
-ghost use Rattle.http_wire.specs.Received.{IsHeaded};
+ghost use Rattle.http_wire.specs.Received.{IsHeaded, FitsPlan};
 ghost use Rattle.http_wire.specs.Routes.{routes};
 
 use crate::buffer::Buffer;
@@ -14,7 +14,7 @@ use matchit::Router;
 use std::io::Read;
 
 /// What was found in a head's place; a head is taken.
-#[derive(Clone, Copy, Debug, PartialEq, Eq)]
+#[derive(Clone, Copy)]
 pub enum Headed {
     Ended(Finish),
     /// A check applies.
@@ -23,9 +23,14 @@ pub enum Headed {
 }
 
 /// Takes the next head, and checks it.
-pub fn take_head<R: Read>(router: &Router<Route>, reader: &mut R, buffer: &mut Buffer) -> Result<Headed, ReadFault>
+pub fn take_head<R: Read>(
+    router: &Router<Route>,
+    reader: &mut R,
+    buffer: &mut Buffer,
+) -> Result<Headed, ReadFault>
     requires { router.now ≡ routes }
     ensures headed { IfOk result (IsHeaded (left buffer.old (R.remaining reader.old)) (left buffer.new (R.remaining reader.new))) }
+    ensures fits { IfOk result FitsPlan }
 {
     let mut headers = [EMPTY_HEADER_SPAN; 64];
     let found = find_head(reader, buffer, &mut headers)?;

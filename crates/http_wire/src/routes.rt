@@ -6,7 +6,7 @@ use matchit::{InsertError, Router};
 use std::alloc::Global;
 
 /// What answers a route.
-#[derive(Clone, Copy, Debug, PartialEq, Eq)]
+#[derive(Clone, Copy)]
 pub enum Route {
     Print,
     Report,

@@ -1,4 +1,4 @@
-use Rattle.std.proofs.Common.{rules, arith}
+use Rattle.std.proofs.Common.{rules}
 use Rattle.http_wire.proofs.FieldLemmas.{capped_more}
 use Rattle.http_wire.proofs.fields.capped_number.Goals as goal
 

@@ -1,6 +1,6 @@
 use Rattle.std.proofs.Common.{◌≡◌, ◌+◌, ◌≤◌, length, take}
 use Rattle.std.specs.List.{suffix_len}
-use Rattle.http_wire.specs.Checks.{is_blank}
+use Rattle.http_wire.specs.Fields.{is_blank}
 use Rattle.http_wire.proofs.fields.end_cut.Given as goal
 
 abbrev pub invariant-loop-end : goal.invariant-loop-end

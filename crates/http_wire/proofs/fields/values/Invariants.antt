@@ -1,6 +1,6 @@
 use Rattle.std.proofs.Common.{◌≡◌, ◌≤◌, take, map, length}
 use Rattle.httparse.specs.Spans.{span_bytes, header_bytes}
-use Rattle.http_wire.specs.Checks.{values}
+use Rattle.http_wire.specs.Fields.{values}
 use Rattle.http_wire.proofs.fields.values.Given as goal
 
 abbrev pub invariant-loop-h : goal.invariant-loop-h

@@ -8,5 +8,5 @@ returns-clause-kept g c =
     let n = c.in_ok-n.n in
     let got = slice_range c.read_at.new.bytes at (at + n) in
     fill_keeps _ _ c.args.self.now _ got c.in_ok-n.ensures.got
-        (packed_and_read c.self.inside.bytes c.pack-self-inside.new.bytes c.read_at.new.bytes c.self.inside.start c.self.inside.end at n c.pack-self-inside.ensures.front c.read_at.ensures.kept
-         ∙ ap (λ l. l ++ got) c.self.view_is)
+    (packed_and_read c.self.inside.bytes c.pack-self-inside.new.bytes c.read_at.new.bytes c.self.inside.start c.self.inside.end at n c.pack-self-inside.ensures.front c.read_at.ensures.kept
+    ∙ ap (λ l. l ++ got) c.self.view_is)

@@ -1,4 +1,4 @@
-use Rattle.std.proofs.Common.{◌≡◌, ◌+◌, ◌≤◌, ◌-◌, length, drop, arith, ap, ◌∙◌, sym}
+use Rattle.std.proofs.Common.{◌+◌, ◌≤◌, length, drop, arith, ap, ◌∙◌}
 use Rattle.http_wire.proofs.LeftLemmas.{range_drop, range_length}
 use Rattle.http_wire.proofs.buffer.Buffer.take.Goals as goal
 
