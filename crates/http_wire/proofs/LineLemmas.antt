@@ -1,0 +1,183 @@
+-- What a window over the bytes that have come says of a chunk line or a trailer section in the bytes left.
+use Rattle.std.proofs.Common.{◌≡◌, Option, ℕ, ◌<◌, ◌≤◌, List, ◌++◌, None, Some, IfSome, length, take, drop, refl, sym, ap, ◌∙◌, subst, append_assoc, arith, take-append-drop, inl, inr, length-append, append-nil, zero-add}
+use Rattle.std.specs.Io.KnownBytes.{Keeps, Consumes, IsAtEnd}
+use Rattle.std.proofs.KnownBytes.{Keeps-trans}
+use Rattle.std.proofs.lemmas.List.{length-take-le, length-take, length-map, take_all}
+use Rattle.std.proofs.Math.Seq.{drop-append_seam}
+use Rattle.httparse.specs.Grammar.{ChunkLine, HasNoChunkLine, NeverHasChunkLine, print_chunk_line, Field, print_section, HasNoSection}
+use Rattle.httparse.specs.Spans.{IsChunkLineAt, SectionOverflows, IsSectionOf, AreFieldsAt, header_bytes, name_and_value}
+use Rattle.httparse.specs.declared.spans.HeaderSpan.{HeaderSpan}
+use Rattle.http_wire.specs.Left.{left}
+use Rattle.http_wire.specs.Limits.{line_limit, trailer_limit, field_limit}
+use Rattle.http_wire.specs.ChunkEnds.{HasNoLineWithin, HasNoTrailersWithin, EndsAtLine, EndsAtTrailers}
+use Rattle.http_wire.specs.ChunkParts.{TakesLine, TakesTrailers, AreTrailersAt}
+use Rattle.http_wire.specs.declared.chunk.Bound.{Bound}
+use Rattle.http_wire.specs.declared.end.Finish.TheVariants.{Cut, Refused}
+use Rattle.http_wire.specs.declared.end.Refusal.TheVariants.{BadRequest}
+use Rattle.http_wire.proofs.HeadLemmas.{front_of, head_consumed}
+
+-- ---- windows
+
+pub front_all : (come : List ℕ) (n : ℕ) → length come ≤ n → come ≡ take n come
+front_all come n h = sym (take_all n come h)
+
+whole_of : (come y more : List ℕ) (n : ℕ) → take n come ++ (drop n come ++ y ++ more) ≡ (come ++ y) ++ more
+whole_of come y more n =
+    ap (λ l. take n come ++ l) (append_assoc (drop n come) y more) ∙ sym (append_assoc (take n come) (drop n come) (y ++ more))
+    ∙ ap (λ l. l ++ (y ++ more)) (take-append-drop n come) ∙ sym (append_assoc come y more)
+
+window_of : (come more : List ℕ) (n : ℕ) → take n come ++ (drop n come ++ more) ≡ come ++ more
+window_of come more n = sym (append_assoc (take n come) (drop n come) more) ∙ ap (λ l. l ++ more) (take-append-drop n come)
+
+pub kept_on : (bytes r q : Option (List ℕ)) (come new : List ℕ) → Keeps bytes (left come r) → Keeps (left come r) (left new q) → new ≡ come → Keeps bytes (left come q)
+kept_on bytes r q come new p k e = subst (λ b. Keeps bytes (left b q)) e (Keeps-trans bytes (left come r) (left new q) p k)
+
+-- what stands at the front of a window stands at the front of all that has come
+in_window : (come window part : List ℕ) (n len : ℕ) → window ≡ take n come → window ≡ part ++ drop len window → len ≡ length part
+    → (come ≡ part ++ drop len come) × (len ≤ n)
+in_window come window part n len e is len_is =
+    let rest = drop len window in
+    let whole : come ≡ part ++ (rest ++ drop n come) =
+    sym (take-append-drop n come) ∙ ap (λ l. l ++ drop n come) (sym e ∙ is) ∙ append_assoc part rest (drop n come) in
+    let after : drop len come ≡ rest ++ drop n come =
+    ap (λ k. drop k come) len_is ∙ ap (drop (length part)) whole ∙ drop-append_seam part (rest ++ drop n come) in
+    let a = ap length is in
+    let b = length-append part rest in
+    let d = ap length e in
+    let f = length-take n come in
+    (whole ∙ ap (λ l. part ++ l) (sym after), omega (arith, a, b, d, f, len_is))
+
+-- ---- a chunk line
+
+no_line_within : (come more : List ℕ) (n : ℕ) → n ≤ length come → HasNoChunkLine (take n come) → HasNoLineWithin n (come ++ more)
+no_line_within come more n full none l rest line short e =
+    let size : length (take n come) ≡ n = length-take-le n come full in
+    let fits : length (print_chunk_line l) ≤ length (take n come) = omega (arith, size, short) in
+    none l (drop (length (print_chunk_line l)) (take n come))
+    (line, front_of (take n come) (drop n come ++ more) (print_chunk_line l) rest (window_of come more n ∙ e) fits)
+
+-- as many bytes as a line may have hold none
+pub line_endless : (bytes r : Option (List ℕ)) (come window : List ℕ) (bound : Bound) → Keeps bytes (left come r) → bound.limit ≤ length come → window ≡ take bound.limit come → HasNoChunkLine window
+    → IfSome bytes (λ xs. EndsAtLine bound xs (Refused bound.refusal))
+line_endless None r come window bound p full e none = tt
+line_endless (Some x) None come window bound p full e none = absurd p
+line_endless (Some x) (Some y) come window bound p full e none =
+    subst (λ xs. EndsAtLine bound xs (Refused bound.refusal)) p
+    (inr (refl, omega (arith, full, length-append come y), no_line_within come y bound.limit full (subst HasNoChunkLine e none)))
+
+-- what can never begin a line can't where more stands behind it
+pub line_never : (bytes r : Option (List ℕ)) (come window : List ℕ) (bound : Bound) → Keeps bytes (left come r) → window ≡ take bound.limit come → NeverHasChunkLine window
+    → IfSome bytes (λ xs. EndsAtLine bound xs (Refused BadRequest))
+line_never None r come window bound p e never = tt
+line_never (Some x) None come window bound p e never = absurd p
+line_never (Some x) (Some y) come window bound p e never =
+    let n = bound.limit in
+    let cut : NeverHasChunkLine (take n come) = subst NeverHasChunkLine e never in
+    subst (λ xs. EndsAtLine bound xs (Refused BadRequest)) p
+    (inl (refl, λ more. subst HasNoChunkLine (whole_of come y more n) (cut (drop n come ++ y ++ more))))
+
+pub line_cut : (bytes r : Option (List ℕ)) (come window : List ℕ) (bound : Bound) → Keeps bytes (left come r) → length come < bound.limit → window ≡ take bound.limit come → HasNoChunkLine window → IsAtEnd r
+    → IfSome bytes (λ xs. EndsAtLine bound xs Cut)
+line_cut None r come window bound p few e none end = tt
+line_cut (Some x) None come window bound p few e none end = absurd p
+line_cut (Some x) (Some y) come window bound p few e none end =
+    let small : length come ≤ bound.limit = omega (arith, few) in
+    let same : come ≡ x = sym (append-nil come) ∙ ap (λ l. come ++ l) (sym end) ∙ p in
+    subst (λ xs. EndsAtLine bound xs Cut) same (few, subst HasNoChunkLine (e ∙ take_all bound.limit come small) none)
+
+-- a line in the window is a line
+pub line_found : (come window : List ℕ) (n len size : ℕ) → window ≡ take n come → ((l : ChunkLine) × IsChunkLineAt window len size l)
+    → (l : ChunkLine) × IsChunkLineAt come len size l × (len ≤ n)
+line_found come window n len size e h =
+    let r = in_window come window (print_chunk_line h.0) n len e h.1.reads.1 h.1.len_is in
+    (h.0, record { reads = (h.1.reads.0, r.0); len_is = h.1.len_is; size_is = h.1.size_is }, r.1)
+
+pub line_taken : (bytes r : Option (List ℕ)) (come new : List ℕ) (limit len size : ℕ) → Keeps bytes (left come r) → ((l : ChunkLine) × IsChunkLineAt come len size l × (len ≤ limit)) → limit ≤ line_limit
+    → new ≡ drop len come → TakesLine limit bytes (left new r) len size
+line_taken bytes r come new limit len size p found small e = record {
+  line = found.0;
+  is = record { line = found.1.reads.0; short = omega (arith, found.1.len_is, found.2, small) };
+  len_is = found.1.len_is;
+  size_is = found.1.size_is;
+  fits = found.2;
+  taken = subst (λ (b : List ℕ). Consumes bytes (left b r) (print_chunk_line found.0)) (sym e) (head_consumed bytes r come (print_chunk_line found.0) (drop len come) p found.1.reads.1);
+}
+
+-- ---- a trailer section
+
+section_few : (buf : List ℕ) (headers : List HeaderSpan) (count : ℕ) (fields : List Field) → AreFieldsAt buf headers count fields → length headers ≡ 64 → length fields ≤ field_limit
+section_few buf headers count fields e room =
+    let a = ap length e in
+    let b = length-map (take count headers) (header_bytes buf) in
+    let d = length-map fields name_and_value in
+    let f = length-take count headers in
+    omega (arith, a, b, d, f, room)
+
+-- a section in the window is a section
+pub trailers_found : (come window : List ℕ) (headers : List HeaderSpan) (n len count : ℕ) → window ≡ take n come → n ≤ trailer_limit → length headers ≡ 64
+    → IsSectionOf window 0 headers (len, count) → AreTrailersAt come len × (len ≤ n)
+trailers_found come window headers n len count e small room h =
+    let fields = h.0 in
+    let end = h.1 in
+    let at = h.2 in
+    let r = in_window come window (print_section fields end) n len e at.reads.1 (at.len_is ∙ zero-add (length (print_section fields end))) in
+    let same : len ≡ length (print_section fields end) = at.len_is ∙ zero-add (length (print_section fields end)) in (
+      record {
+        fields = fields;
+        end = end;
+        are = record { each = at.reads.0; few = section_few window headers count fields at.fields_are room; short = omega (arith, r.1, small, same) };
+        bytes = r.0;
+        len_is = same;
+      },
+      r.1,
+    )
+
+pub trailers_taken : (bytes r : Option (List ℕ)) (come new : List ℕ) (limit len : ℕ) → Keeps bytes (left come r) → (AreTrailersAt come len × (len ≤ limit)) → new ≡ drop len come
+    → TakesTrailers limit bytes (left new r)
+trailers_taken bytes r come new limit len p found e = record {
+  fields = found.0.fields;
+  end = found.0.end;
+  are = found.0.are;
+  fits = omega (arith, found.0.len_is, found.1);
+  taken = subst (λ (b : List ℕ). Consumes bytes (left b r) (print_section found.0.fields found.0.end)) (sym e)
+      (head_consumed bytes r come (print_section found.0.fields found.0.end) (drop len come) p found.0.bytes);
+}
+
+overflown : (come more : List ℕ) (n : ℕ) → SectionOverflows 64 (take n come) → HasNoTrailersWithin trailer_limit (come ++ more)
+overflown come more n over fields end rest are short e =
+    omega (arith, over (drop n come ++ more) fields end rest (are.each, window_of come more n ∙ e), are.few)
+
+pub trailers_refused : (bytes r : Option (List ℕ)) (come window : List ℕ) (bound : Bound) → Keeps bytes (left come r) → window ≡ take bound.limit come → SectionOverflows 64 window
+    → IfSome bytes (λ xs. EndsAtTrailers bound xs (Refused BadRequest))
+trailers_refused None r come window bound p e over = tt
+trailers_refused (Some x) None come window bound p e over = absurd p
+trailers_refused (Some x) (Some y) come window bound p e over =
+    let cut : SectionOverflows 64 (take bound.limit come) = subst (SectionOverflows 64) e over in
+    subst (λ xs. EndsAtTrailers bound xs (Refused BadRequest)) p (inl (refl, overflown come y bound.limit cut))
+
+no_trailers_within : (come more : List ℕ) (n : ℕ) → n ≤ length come → HasNoSection (take n come) → HasNoTrailersWithin n (come ++ more)
+no_trailers_within come more n full none fields end rest are short e =
+    let size : length (take n come) ≡ n = length-take-le n come full in
+    let fits : length (print_section fields end) ≤ length (take n come) = omega (arith, size, short) in
+    none fields end (drop (length (print_section fields end)) (take n come))
+    (are.each, front_of (take n come) (drop n come ++ more) (print_section fields end) rest (window_of come more n ∙ e) fits)
+
+-- as many bytes as a section may have hold none
+pub trailers_endless : (bytes r : Option (List ℕ)) (come window : List ℕ) (bound : Bound) → Keeps bytes (left come r) → bound.limit ≤ length come → window ≡ take bound.limit come → HasNoSection window
+    → IfSome bytes (λ xs. EndsAtTrailers bound xs (Refused bound.refusal))
+trailers_endless None r come window bound p full e none = tt
+trailers_endless (Some x) None come window bound p full e none = absurd p
+trailers_endless (Some x) (Some y) come window bound p full e none =
+    let cut : HasNoSection (take bound.limit come) = subst HasNoSection e none in
+    subst (λ xs. EndsAtTrailers bound xs (Refused bound.refusal)) p
+    (inr (refl, omega (arith, full, length-append come y), no_trailers_within come y bound.limit full cut))
+
+pub trailers_cut : (bytes r : Option (List ℕ)) (come window : List ℕ) (bound : Bound) → Keeps bytes (left come r) → length come < bound.limit → window ≡ take bound.limit come → HasNoSection window → IsAtEnd r
+    → IfSome bytes (λ xs. EndsAtTrailers bound xs Cut)
+trailers_cut None r come window bound p few e none end = tt
+trailers_cut (Some x) None come window bound p few e none end = absurd p
+trailers_cut (Some x) (Some y) come window bound p few e none end =
+    let small : length come ≤ bound.limit = omega (arith, few) in
+    let same : come ≡ x = sym (append-nil come) ∙ ap (λ l. come ++ l) (sym end) ∙ p in
+    let here : HasNoSection come = subst HasNoSection (e ∙ take_all bound.limit come small) none in
+    subst (λ xs. EndsAtTrailers bound xs Cut) same (few, λ fields last rest are short same. here fields last rest (are.each, same))

@@ -1,0 +1,13 @@
+use Rattle.std.proofs.Common.{◌-◌, ◌≤◌}
+use Rattle.http_wire.specs.Left.{left}
+use Rattle.http_wire.specs.Bodies.{TakesMore}
+use Rattle.http_wire.proofs.body.take_more.Given as goal
+
+abbrev pub invariant-take : goal.invariant-take
+invariant-take g l = record {
+  within : l.taken ≤ l.n;
+  more : TakesMore l.taken (left l.initial.buffer (g.R.Read.remaining l.initial.reader)) (left l.buffer (g.R.Read.remaining l.reader)) l.initial.content.items l.content.items;
+}
+
+abbrev pub decreases-take : goal.decreases-take
+decreases-take g l = l.n - l.taken

@@ -1,0 +1,14 @@
+use Rattle.std.proofs.Common.{◌-◌, ◌≤◌, length}
+use Rattle.http_wire.specs.Left.{left}
+use Rattle.http_wire.specs.ChunkParts.{TakesChunks}
+use Rattle.http_wire.proofs.chunked.take_chunks.Given as goal
+
+abbrev pub invariant-chunks : goal.invariant-chunks
+invariant-chunks g l = record {
+  raw_fits : l.raw ≤ 67108864;
+  content_fits : length l.content.items ≤ 16777216;
+  chunks : TakesChunks (left l.initial.buffer (g.R.Read.remaining l.initial.reader)) (left l.buffer (g.R.Read.remaining l.reader)) l.raw l.content.items;
+}
+
+abbrev pub decreases-chunks : goal.decreases-chunks
+decreases-chunks g l = 67108864 - l.raw

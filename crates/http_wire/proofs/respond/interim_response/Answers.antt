@@ -1,0 +1,7 @@
+use Rattle.std.proofs.Common.{rules}
+use Rattle.http_wire.specs.Responses.{continue_response}
+use Rattle.http_wire.proofs.respond.interim_response.Goals as goal
+
+pub returns-then-plan : goal.returns-then-plan
+unfolding continue_response
+returns-then-plan c = search rules

@@ -1,0 +1,158 @@
+//! Responses (RFC 9112, section 4). A head is put together in a fixed array, so that no memory is taken.
+ghost use Rattle.std.specs.Prelude.{◌≡◌, ◌+◌, ◌≤◌, ◌++◌, length, OnOk, OnErr, unwrap_or, []};
+ghost use Rattle.std.specs.Io.KnownBytes.{Appends};
+ghost use Rattle.arrayvec.specs.ArrayVec.{array_vec_len};
+ghost use Rattle.http.specs.StatusCode.{reason_phrase};
+ghost use Rattle.http_wire.specs.Ends.{code_of};
+ghost use Rattle.http_wire.specs.Responses as spec;
+ghost use Rattle.http_wire.specs.Responses.{WritesFront};
+
+use crate::end::{Finish, Refusal, WriteFault};
+use crate::plan::Plan;
+use crate::put::{put, put_both};
+use arrayvec::ArrayVec;
+use http::StatusCode;
+use std::io::Write;
+
+/// Adds a text that fits.
+fn add(line: &mut ArrayVec<u8, 256>, text: &[u8])
+    requires { array_vec_len line.old + length text.now ≤ 256 }
+    ensures { line.new.items ≡ line.old.items ++ text.now }
+{
+    let _fits = line.try_extend_from_slice(text);
+}
+
+/// The field line that ends a connection (RFC 9112, section 9.6), or none.
+fn close_line(closes: bool) -> &'static str
+    ensures value { result.now ≡ spec.close_line closes }
+    ensures short { length result.now ≤ 19 }
+{
+    if closes { "Connection: close\r\n" } else { "" }
+}
+
+/// The head of a success: the media type of the content, its length in bytes, and whether the connection ends.
+fn success_head(media_type: &str, size: u64, closes: bool) -> ArrayVec<u8, 256>
+    requires { length media_type.now ≤ 64 }
+    ensures { result.items ≡ spec.success_head media_type.now size closes }
+{
+    let mut line = ArrayVec::new();
+    let mut digits = itoa::Buffer::new();
+    add(&mut line, b"HTTP/1.1 200 OK\r\nContent-Type: ");
+    add(&mut line, media_type.as_bytes());
+    add(&mut line, b"\r\nContent-Length: ");
+    add(&mut line, digits.format(size).as_bytes());
+    add(&mut line, b"\r\n");
+    add(&mut line, close_line(closes).as_bytes());
+    add(&mut line, b"\r\n");
+    line
+}
+
+/// The field line of a refused method (RFC 9110, section 15.5.6), or none.
+fn allow_line(refusal: Refusal) -> &'static str
+    ensures value { result.now ≡ spec.allow_line refusal }
+    ensures short { length result.now ≤ 40 }
+{
+    match refusal {
+        Refusal::PostAllowed => "Allow: POST\r\n",
+        Refusal::GetAllowed => "Allow: GET\r\n",
+        Refusal::BadRequest
+        | Refusal::NotFound
+        | Refusal::LengthRequired
+        | Refusal::TooLarge
+        | Refusal::UnsupportedType
+        | Refusal::HeadTooLarge
+        | Refusal::Unavailable => "",
+    }
+}
+
+/// The reason phrase of a refusal's status.
+fn phrase_of(refusal: Refusal) -> &'static str
+    ensures value { result.now ≡ unwrap_or (reason_phrase (code_of refusal)) [] }
+    ensures short { length result.now ≤ 40 }
+{
+    phrase_text(refusal)
+}
+
+fn phrase_text(refusal: Refusal) -> &'static str
+    ensures { result.now ≡ unwrap_or (reason_phrase (code_of refusal)) [] }
+{
+    match StatusCode::from_u16(refusal.code()) {
+        Ok(status) => status.canonical_reason().unwrap_or(""),
+        Err(_) => unreachable!(),
+    }
+}
+
+/// The whole response of a refusal.
+fn refusal_response(refusal: Refusal) -> ArrayVec<u8, 256>
+    ensures { result.items ≡ spec.refusal_response refusal }
+{
+    let mut line = ArrayVec::new();
+    let mut digits = itoa::Buffer::new();
+    let phrase = phrase_of(refusal);
+    add(&mut line, b"HTTP/1.1 ");
+    add(&mut line, digits.format(refusal.code()).as_bytes());
+    add(&mut line, b" ");
+    add(&mut line, phrase.as_bytes());
+    add(&mut line, b"\r\n");
+    add(&mut line, allow_line(refusal).as_bytes());
+    add(&mut line, b"Content-Length: 0\r\nConnection: close\r\n\r\n");
+    line
+}
+
+fn interim_response(plan: Plan) -> &'static [u8]
+    ensures { result.now ≡ spec.interim_response plan }
+{
+    if plan.expects {
+        b"HTTP/1.1 100 Continue\r\n\r\n"
+    } else {
+        b""
+    }
+}
+
+/// Writes `100 Continue` (RFC 9110, section 15.2.1) where the request expects it.
+pub fn send_continue<W: Write>(writer: &mut W, plan: Plan) -> Result<(), WriteFault>
+    ensures ok { OnOk result (Appends (W.contents writer.old) (W.contents writer.new) (spec.interim_response plan)) }
+    ensures err { OnErr result (WritesFront (W.contents writer.old) (W.contents writer.new) (spec.interim_response plan)) }
+{
+    put(writer, interim_response(plan))
+}
+
+/// Writes the head of a success, behind which its content of so many bytes is to follow.
+pub fn send_head<W: Write>(
+    writer: &mut W,
+    media_type: &str,
+    size: u64,
+    closes: bool,
+) -> Result<(), WriteFault>
+    requires { length media_type.now ≤ 64 }
+    ensures ok { OnOk result (Appends (W.contents writer.old) (W.contents writer.new) (spec.success_head media_type.now size closes)) }
+    ensures err { OnErr result (WritesFront (W.contents writer.old) (W.contents writer.new) (spec.success_head media_type.now size closes)) }
+{
+    put(writer, success_head(media_type, size, closes).as_slice())
+}
+
+/// Writes a success with its content.
+pub fn send_success<W: Write>(
+    writer: &mut W,
+    media_type: &str,
+    content: &[u8],
+    closes: bool,
+) -> Result<(), WriteFault>
+    requires { length media_type.now ≤ 64 }
+    ensures ok { OnOk result (Appends (W.contents writer.old) (W.contents writer.new) (spec.success_response media_type.now content.now closes)) }
+    ensures err { OnErr result (WritesFront (W.contents writer.old) (W.contents writer.new) (spec.success_response media_type.now content.now closes)) }
+{
+    let head = success_head(media_type, content.len() as u64, closes);
+    put_both(writer, head.as_slice(), content)
+}
+
+/// Writes the response that an end has: a refusal's, and else none.
+pub fn send_end<W: Write>(writer: &mut W, end: Finish) -> Result<(), WriteFault>
+    ensures ok { OnOk result (Appends (W.contents writer.old) (W.contents writer.new) (spec.last_response end)) }
+    ensures err { OnErr result (WritesFront (W.contents writer.old) (W.contents writer.new) (spec.last_response end)) }
+{
+    match end {
+        Finish::Refused(refusal) => put(writer, refusal_response(refusal).as_slice()),
+        Finish::Closed | Finish::Cut | Finish::Done => Ok(()),
+    }
+}
