@@ -1,0 +1,13 @@
+pub mod Defaults
+pub mod RunLemmas
+pub mod GroupLemmas
+pub mod OrderLemmas
+pub mod AmountLemmas
+pub mod SumLemmas
+pub mod Filled
+pub mod WorldOf
+pub mod WorldMaps
+pub mod WorldRows
+pub mod WorldGrants
+pub mod WorldJobs
+pub mod WorldSound
