@@ -11,3 +11,8 @@ pub mod WorldRows
 pub mod WorldGrants
 pub mod WorldJobs
 pub mod WorldSound
+pub mod WorldTold
+pub mod WorldHas
+pub mod WorldFrom
+pub mod WorldOnly
+pub mod Worlds

@@ -20,6 +20,10 @@ use Rattle.queue_rows.specs.declared.rows.DocumentRow.{DocumentRow}
 use Rattle.queue_rows.specs.declared.rows.PieceRow.{PieceRow}
 use Rattle.queue_rows.proofs.GroupLemmas.{is_of}
 
+pub each_map : {X : Type 0} (P Q : X → Type 0) → ((x : X) → P x → Q x) → (xs : List X) → Each P xs → Each Q xs
+each_map P Q one [] h = tt
+each_map P Q one (x ∷ xs) h = (one x h.0, each_map P Q one xs h.1)
+
 abbrev pub row_of : Entry → Job
 row_of e = e.row
 

@@ -22,7 +22,7 @@ use Rattle.queue_rows.specs.declared.rows.DocumentRow.{DocumentRow}
 use Rattle.queue_rows.proofs.Defaults.{no_report, no_grant, no_account}
 use Rattle.queue_rows.proofs.Filled.{octets_of, filled, each_filled, rise_filled, sound_filled, number_filled, live_filled, reserved_filled, printed_filled}
 use Rattle.queue_rows.proofs.WorldGrants.{grants_of, free_of, reports_of, grant_found, free_found, free_there, report_found, report_there, granted_told, HasGrant, grant_from_sum, sum_from_grant, free_from_count, count_from_free}
-use Rattle.queue_rows.proofs.WorldJobs.{row_of, rows_in, rise_from, size_of, sizes_in, entries_sound}
+use Rattle.queue_rows.proofs.WorldJobs.{row_of, rows_in, rise_from, size_of, sizes_in, entries_sound, each_map}
 use Rattle.queue_rows.proofs.WorldOf.{documents_in, entries_in, world_from}
 use Rattle.queue_rows.proofs.WorldRows.{if_some, some_of, job_there, count_within, count_reached}
 
@@ -92,10 +92,6 @@ no_account_no_grant gs acs h a none = elim (cases_lt 0 (granted_to a gs)) [
   | inl some ↦ absurd (let there : IsSome (get (free_of acs) a) = (account_has gs acs h a).1 (grant_from_sum gs h.grants_order a (omega arith)) in cc (none, there))
   | inr zero' ↦ omega arith
 ]
-
-each_map : {X : Type 0} (P Q : X → Type 0) → ((x : X) → P x → Q x) → (xs : List X) → Each P xs → Each Q xs
-each_map P Q one [] h = tt
-each_map P Q one (x ∷ xs) h = (one x h.0, each_map P Q one xs h.1)
 
 pub sound_world : (t : Tables) (bs : List (List ℕ)) → map length bs ≡ map length_in t.pieces → (h : AreSoundRows t) → IsSound (world_from h.row t bs)
 sound_world t bs lengths h =
