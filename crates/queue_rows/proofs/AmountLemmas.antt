@@ -1,10 +1,11 @@
 -- Sums over a list of named amounts, as sums over the rows that it was made of.
-use Rattle.std.proofs.Common.{◌≡◌, ℕ, ◌+◌, ◌*◌, ◌<◌, ◌≤◌, List, [], ◌∷◌, Bool, Bor, inl, inr, suc, ◌-◌, Result, Ok, Err, IfOk, IsTrue, ◌↔◌, All, if◌then◌else◌, length, map, sum_by, bytes_eq, refl, sym, ap, subst, ◌∙◌, arith}
+use Rattle.std.proofs.Common.{◌≡◌, ℕ, ◌+◌, ◌*◌, ◌<◌, ◌≤◌, List, [], ◌∷◌, Bool, Bor, inl, inr, suc, ◌-◌, Result, Ok, Err, IfOk, IsTrue, ◌↔◌, All, if◌then◌else◌, true, false, cond, ◌&&◌, length, map, sum_by, bytes_eq, refl, sym, ap, subst, ◌∙◌, arith}
 use Rattle.std.specs.Cmp.Lexicographic.{nat_list_eq_equiv}
 use Rattle.std.specs.HashMap.{HashMap}
 use Rattle.std.proofs.lemmas.Bool.{cases_Bool}
 use Rattle.std.proofs.Math.Nat.{mul-le-mul}
 use Rattle.queue_core.specs.Job.{owed, estimate, is_live}
+use Rattle.queue_core.specs.World.{live_jobs}
 use Rattle.queue_core.specs.Limits.{IsSoundJob}
 use Rattle.queue_core.specs.declared.job.Job.{Job}
 use Rattle.std.proofs.lemmas.List.Sums.{sum_by-cons}
@@ -66,3 +67,35 @@ owed_small j s =
       ]
       | inr ended ↦ rw ended (omega arith)
     ]
+
+-- ---- jobs in the states 3 to 6
+
+abbrev pub owner_of : Job → List ℕ
+owner_of j = j.owner
+
+abbrev pub live_of : Job → ℕ
+live_of j = if is_live j then 1 else 0
+
+pub live_small : (j : Job) → live_of j ≤ 1
+live_small j = elim (cases_Bool (is_live j)) [
+  | inl live ↦ rw live (omega arith)
+  | inr ended ↦ rw ended (omega arith)
+]
+
+abbrev live_if : Bool → Bool → ℕ
+live_if a b = if a then (if b then 1 else 0) else 0
+
+abbrev count_if : Bool → ℕ
+count_if b = cond b 1 0
+
+if_both : (a b : Bool) → live_if a b ≡ count_if (a && b)
+if_both true true = refl
+if_both true false = refl
+if_both false true = refl
+if_both false false = refl
+
+pub live_is : (q : List ℕ) (js : List Job) → sum_by (of_name owner_of live_of q) js ≡ live_jobs q js
+live_is q [] = refl
+live_is q (j ∷ js) =
+    sum_by-cons (of_name owner_of live_of q) j js ∙ ap (λ (n : ℕ). n + sum_by (of_name owner_of live_of q) js) (if_both (bytes_eq j.owner q) (is_live j))
+    ∙ ap (λ (n : ℕ). count_if (bytes_eq j.owner q && is_live j) + n) (live_is q js) ∙ sym (sum_by-cons (λ (x : Job). count_if (bytes_eq x.owner q && is_live x)) j js)

@@ -102,25 +102,45 @@ sound_filled (j ∷ js) ds group sizes h =
     let s = h.0.sound in
     let short : n ≤ length ds = prefix_len-le-length (is_of j.number) ds in
     let many : length (take n ds) ≡ n = length-take-le n ds short in
-    let within = octets_within (take n ds) (All-take HasSize n ds sizes) in
-    (record {
-      number = s.number; owner = s.owner; name = s.name; copies = s.copies; impressions = s.impressions; count = s.count; created = s.created; begun = s.begun; ended = s.ended;
-      documents = group.0.0;
-      octets = omega (arith, within, many);
-      phase = fits_filled j.phase j ds s.phase;
-    }, sound_filled js (drop n ds) group.1 (All-drop HasSize n ds sizes) h.1)
+    let within = octets_within (take n ds) (All-take HasSize n ds sizes) in (
+      record {
+        number = s.number;
+        owner = s.owner;
+        name = s.name;
+        copies = s.copies;
+        impressions = s.impressions;
+        count = s.count;
+        created = s.created;
+        begun = s.begun;
+        ended = s.ended;
+        documents = group.0.0;
+        octets = omega (arith, within, many);
+        phase = fits_filled j.phase j ds s.phase;
+      },
+      sound_filled js (drop n ds) group.1 (All-drop HasSize n ds sizes) h.1,
+    )
 
 pub sound_bare : (js : List Job) (ds : List DocumentRow) → Each (λ j. (j.documents ≡ 0) × (j.octets ≡ 0)) js → Each IsSoundJob (filled js ds) → Each IsJobRow js
 sound_bare [] ds bare h = tt
 sound_bare (j ∷ js) ds bare h =
     let s = h.0 in
-    let none = bare.0 in
-    (record {
-      sound = record {
-        number = s.number; owner = s.owner; name = s.name; copies = s.copies; impressions = s.impressions; count = s.count; created = s.created; begun = s.begun; ended = s.ended;
-        documents = omega (arith, none.0);
-        octets = omega (arith, none.1);
-        phase = fits_bare j.phase j ds s.phase;
-      };
-      bare = none.0;
-    }, sound_bare js (behind j ds) bare.1 h.1)
+    let none = bare.0 in (
+      record {
+        sound = record {
+          number = s.number;
+          owner = s.owner;
+          name = s.name;
+          copies = s.copies;
+          impressions = s.impressions;
+          count = s.count;
+          created = s.created;
+          begun = s.begun;
+          ended = s.ended;
+          documents = omega (arith, none.0);
+          octets = omega (arith, none.1);
+          phase = fits_bare j.phase j ds s.phase;
+        };
+        bare = none.0;
+      },
+      sound_bare js (behind j ds) bare.1 h.1,
+    )

@@ -11,13 +11,13 @@ order_more {X} before xs i e some lt all here k d low =
     let right : get_or (take (i + 1) xs) (k + 1) d ≡ get_or xs (k + 1) d = get_or-take (i + 1) xs (k + 1) d (omega arith) in
     let both : before (get_or xs k d) (get_or xs (k + 1) d) ≡ true = elim (cases_eq (k + 1) i) [
       | inl same ↦ let a : get_or xs k d ≡ get_or xs (i - 1) e = get_or_default xs k d e (omega arith) ∙ ap (λ (n : ℕ). get_or xs n e) (omega arith) in
-        let b : get_or xs (k + 1) d ≡ get_or xs i e = get_or_default xs (k + 1) d e (omega arith) ∙ ap (λ (n : ℕ). get_or xs n e) same in
-        ap (λ (x : X). before x (get_or xs (k + 1) d)) a ∙ ap (before (get_or xs (i - 1) e)) b ∙ here
+          let b : get_or xs (k + 1) d ≡ get_or xs i e = get_or_default xs (k + 1) d e (omega arith) ∙ ap (λ (n : ℕ). get_or xs n e) same in
+          ap (λ (x : X). before x (get_or xs (k + 1) d)) a ∙ ap (before (get_or xs (i - 1) e)) b ∙ here
       | inr other ↦ let short : length (take i xs) ≡ i = length-take-le i xs (omega arith) in
-        let old = all k d (omega arith) in
-        let a : get_or (take i xs) k d ≡ get_or xs k d = get_or-take i xs k d (omega arith) in
-        let b : get_or (take i xs) (k + 1) d ≡ get_or xs (k + 1) d = get_or-take i xs (k + 1) d (omega arith) in
-        ap (λ (x : X). before x (get_or xs (k + 1) d)) (sym a) ∙ ap (before (get_or (take i xs) k d)) (sym b) ∙ old
+          let old = all k d (omega arith) in
+          let a : get_or (take i xs) k d ≡ get_or xs k d = get_or-take i xs k d (omega arith) in
+          let b : get_or (take i xs) (k + 1) d ≡ get_or xs (k + 1) d = get_or-take i xs (k + 1) d (omega arith) in
+          ap (λ (x : X). before x (get_or xs (k + 1) d)) (sym a) ∙ ap (before (get_or (take i xs) k d)) (sym b) ∙ old
     ] in
     ap (λ (x : X). before x (get_or (take (i + 1) xs) (k + 1) d)) left ∙ ap (before (get_or xs k d)) right ∙ both
 

@@ -65,7 +65,7 @@ documents_kept (j ∷ js) ds all s f group =
     let short : n ≤ length ds = prefix_len-le-length (is_of j.number) ds in
     let many : length (take n ds) ≡ n = length-take-le n ds short in
     let jobs = λ (k : ℕ) (d : DocumentRow) (lt : k < length (take n ds)).
-      ap (λ (x : DocumentRow). x.job) (get_or-take n ds k d (omega (arith, lt, many))) ∙ eqb-true (get_or ds k d).job j.number (prefix_len_passes (is_of j.number) ds k d (omega (arith, lt, many))) in
+    ap (λ (x : DocumentRow). x.job) (get_or-take n ds k d (omega (arith, lt, many))) ∙ eqb-true (get_or ds k d).job j.number (prefix_len_passes (is_of j.number) ds k d (omega (arith, lt, many))) in
     let docs : map doc_of (take n ds) ≡ range_with_len 1 (length (take n ds)) = group.0.1 ∙ ap (range_with_len 1) (sym many) in
     let front : documents_from j.number 1 (take n all) ≡ take n ds
     = group_rows j.number 1 (take n all) (take n ds) (take_mapped size_of octets_of n all ds s) (take_mapped format_of format_in n all ds f) jobs docs in
@@ -173,11 +173,11 @@ rows_back m t bs lengths only meta f =
     let w = world_from m t bs in
     let has = has_rows m t bs lengths f in
     let stored : Each (λ a. account_row w (free_entry a) ≡ a) t.accounts = recursion_from_All (λ a. account_row w (free_entry a) ≡ a) t.accounts (λ k d lt.
-      let a = get_or t.accounts k d in
-      let s = f.sums k d lt in
-      let reserved_is : reserved a.name w ≡ a.reserved = ap (reserved_for a.name) has.jobs ∙ reserved_filled a.name t.jobs t.documents ∙ sym s.0 in
-      let printed_is : printed a.name w ≡ a.printed = ap (printed_for a.name) has.jobs ∙ printed_filled a.name t.jobs t.documents ∙ sym s.1 in
-      λ i. record a { reserved = reserved_is i; printed = printed_is i }) in
+    let a = get_or t.accounts k d in
+    let s = f.sums k d lt in
+    let reserved_is : reserved a.name w ≡ a.reserved = ap (reserved_for a.name) has.jobs ∙ reserved_filled a.name t.jobs t.documents ∙ sym s.0 in
+    let printed_is : printed a.name w ≡ a.printed = ap (printed_for a.name) has.jobs ∙ printed_filled a.name t.jobs t.documents ∙ sym s.1 in
+    λ i. record a { reserved = reserved_is i; printed = printed_is i }) in
     let one : 1 ≡ m.one = sym meta.one in
     let schema : 1 ≡ m.schema = sym meta.schema in
     let row : meta_row w ≡ m = λ i. record m { one = one i; schema = schema i } in

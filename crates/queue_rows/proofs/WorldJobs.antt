@@ -130,13 +130,15 @@ entries_sound (j ∷ js) ds all e sizes h =
     let front : map size_of (take n all) ≡ map octets_of (take n ds) = take_mapped size_of octets_of n all ds e in
     let short : n ≤ length ds = prefix_len-le-length (is_of j.number) ds in
     let same : length all ≡ length ds = same_length size_of octets_of all ds e in
-    let many : length (take n all) ≡ n = length-take-le n all (omega arith) in
-    (record {
-      row = h.0;
-      documents = sym many;
-      octets = sym (sum_mapped size_of octets_of (take n all) (take n ds) front);
-      sizes = sizes_sound (take n all) (take n ds) front (All-take HasSize n ds sizes);
-    }, entries_sound js (drop n ds) (drop n all) (drop_mapped size_of octets_of n all ds e) (All-drop HasSize n ds sizes) h.1)
+    let many : length (take n all) ≡ n = length-take-le n all (omega arith) in (
+      record {
+        row = h.0;
+        documents = sym many;
+        octets = sym (sum_mapped size_of octets_of (take n all) (take n ds) front);
+        sizes = sizes_sound (take n all) (take n ds) front (All-take HasSize n ds sizes);
+      },
+      entries_sound js (drop n ds) (drop n all) (drop_mapped size_of octets_of n all ds e) (All-drop HasSize n ds sizes) h.1,
+    )
 
 pub rows_told : (js : List Job) (ds : List DocumentRow) (all : List Document) → Each IsSoundEntry (entries_in js ds all) → Each IsSoundJob (filled js ds)
 rows_told [] ds all h = tt

@@ -97,9 +97,9 @@ positive_row name amount a e [] h = absurd (omega arith)
 positive_row name amount a e (x ∷ xs) h = elim (cases_Bool (bytes_eq (name x) a)) [
   | inl same ↦ (0, omega arith, (bytes_decides (name x) a).0 same)
   | inr other ↦
-    let none : of_name name amount a x ≡ 0 = ap (λ (b : Bool). if b then amount x else 0) other in
-    let rest = positive_row name amount a e xs (omega (arith, h, none, sum_by-cons (of_name name amount a) x xs)) in
-    (suc rest.0, omega (arith, rest.1), rest.2)
+      let none : of_name name amount a x ≡ 0 = ap (λ (b : Bool). if b then amount x else 0) other in
+      let rest = positive_row name amount a e xs (omega (arith, h, none, sum_by-cons (of_name name amount a) x xs)) in
+      (suc rest.0, omega (arith, rest.1), rest.2)
 ]
 
 -- a row of that name whose amount is not 0 makes the sum not 0
@@ -121,17 +121,17 @@ number_from n g [] h = inl h
 number_from n g (j ∷ js) h = elim (cases_eq n j.number) [
   | inl same ↦ let here : j.number == n ≡ true = eq-eqb j.number n (sym same) in inr (ap (λ (b : Bool). is_some (cond b (Some j) (job_at n js))) here)
   | inr other ↦
-    let left : n == j.number ≡ false = ne_eqb n j.number other in
-    let right : j.number == n ≡ false = ne_eqb j.number n (λ e. other (sym e)) in
-    let stays : seen n g j ≡ g = ap (λ (b : Bool). if b then 1 else g) left in
-    elim (number_from n g js (ap (λ (m : ℕ). fold (seen n) m js) (sym stays) ∙ h)) [
-      | inl is ↦ inl is
-      | inr there ↦ inr (ap (λ (b : Bool). is_some (cond b (Some j) (job_at n js))) right ∙ there)
-    ]
+      let left : n == j.number ≡ false = ne_eqb n j.number other in
+      let right : j.number == n ≡ false = ne_eqb j.number n (λ e. other (sym e)) in
+      let stays : seen n g j ≡ g = ap (λ (b : Bool). if b then 1 else g) left in
+      elim (number_from n g js (ap (λ (m : ℕ). fold (seen n) m js) (sym stays) ∙ h)) [
+        | inl is ↦ inl is
+        | inr there ↦ inr (ap (λ (b : Bool). is_some (cond b (Some j) (job_at n js))) right ∙ there)
+      ]
 ]
 
 pub job_there : (n : ℕ) (js : List Job) → has_number n js ≡ 1 → IsSome (job_at n js)
-job_there n js h = elim (number_from n 0 js h) [ | inl never ↦ absurd (omega arith) | inr there ↦ there ]
+job_there n js h = elim (number_from n 0 js h) [ inl never ↦ absurd (omega arith) | inr there ↦ there ]
 
 -- ---- the greatest count
 
@@ -161,10 +161,10 @@ count_reached n g (r ∷ rs) d = elim (count_reached n (more n g r) rs d) [
   | inl stays ↦ elim (cases_eq n r.report.job) [
     | inr other ↦ inl (stays ∙ ap (λ (b : Bool). if b then max g r.report.count else g) (ne_eqb n r.report.job other))
     | inl same ↦
-      let is : more n g r ≡ max g r.report.count = ap (λ (b : Bool). if b then max g r.report.count else g) (eq-eqb n r.report.job same) in
-      elim (cases_lt g r.report.count) [
-        | inl grows ↦ inr (0, omega arith, sym same, omega (arith, stays, is, grows))
-        | inr keeps ↦ inl (omega (arith, stays, is, keeps))
-      ]
+        let is : more n g r ≡ max g r.report.count = ap (λ (b : Bool). if b then max g r.report.count else g) (eq-eqb n r.report.job same) in
+        elim (cases_lt g r.report.count) [
+          | inl grows ↦ inr (0, omega arith, sym same, omega (arith, stays, is, grows))
+          | inr keeps ↦ inl (omega (arith, stays, is, keeps))
+        ]
   ]
 ]

@@ -42,15 +42,16 @@ pub pages_some : (gs : List GrantRow) → All IsGrantRow gs → All (λ g. 1 ≤
 pages_some gs h k d lt = (h k d lt).2
 
 pub account_has : (gs : List GrantRow) (acs : List AccountRow) → HaveSoundGrants gs acs → (a : List ℕ) → IsSome (get (free_of acs) a) ↔ HasGrant gs a
-account_has gs acs h a =
-    (λ there.
+account_has gs acs h a = (
+  λ there.
       let v = some_of (get (free_of acs) a) there in
       let row = free_found acs h.accounts_order a v.0 v.1 in
       grant_from_sum gs h.grants_order a (subst (λ (n : List ℕ). 1 ≤ granted_to n gs) row.2 (h.granted row.0 no_account row.1)),
-    λ has.
+  λ has.
       let v = some_of (get (grants_of gs) (has.0, a)) has.1 in
       let row = grant_found gs h.grants_order (has.0, a) v.0 v.1 in
-      free_from_count acs h.accounts_order a (subst (λ (q : List ℕ × List ℕ). 1 ≤ accounts_of q.1 acs) row.2 (h.named row.0 no_grant row.1)))
+      free_from_count acs h.accounts_order a (subst (λ (q : List ℕ × List ℕ). 1 ≤ accounts_of q.1 acs) row.2 (h.named row.0 no_grant row.1)),
+)
 
 pub is_kept : (w : World) (rs : List KeptReport) (js all : List Job) → HaveSoundReports rs js → ((n : ℕ) → has_number n all ≡ has_number n js) → rows w ≡ all → (n m : ℕ) → IfSome (get (reports_of rs) (n, m)) (IsKept w n m)
 is_kept w rs js all h same is n m = if_some (get (reports_of rs) (n, m)) (IsKept w n m) (λ v e.
@@ -71,21 +72,22 @@ is_kept w rs js all h same is n m = if_some (get (reports_of rs) (n, m)) (IsKept
     }))
 
 pub is_greatest : (w : World) (rs : List KeptReport) (js : List Job) → HaveSoundReports rs js → w.reports ≡ reports_of rs → (j : Job) → j.count ≡ greatest j.number rs → IsGreatestCount w j
-is_greatest w rs js h is j count =
-    (λ seq. subst (λ (m : _). IfSome (get m (j.number, seq)) (λ k. k.report.count ≤ j.count)) (sym is) (if_some (get (reports_of rs) (j.number, seq)) (λ k. k.report.count ≤ j.count) (λ v e.
+is_greatest w rs js h is j count = (
+  λ seq. subst (λ (m : _). IfSome (get m (j.number, seq)) (λ k. k.report.count ≤ j.count)) (sym is) (if_some (get (reports_of rs) (j.number, seq)) (λ k. k.report.count ≤ j.count) (λ v e.
       let row = report_found rs h.order (j.number, seq) v e in
       let within = count_within j.number 0 rs row.0 no_report row.1 (ap (λ (q : ℕ × ℕ). q.0) row.2) in
       subst (λ (k : KeptReport). k.report.count ≤ j.count) row.3 (omega (arith, within, count)))),
-    elim (count_reached j.number 0 rs no_report) [
-      | inl none ↦ inl (count ∙ none)
-      | inr at ↦
+  elim (count_reached j.number 0 rs no_report) [
+    | inl none ↦ inl (count ∙ none)
+    | inr at ↦
         let r = get_or rs at.0 no_report in
         let there : get (reports_of rs) (r.report.job, r.report.seq) ≡ Some r = report_there rs h.order at.0 at.1 in
         let named : get (reports_of rs) (j.number, r.report.seq) ≡ Some r = subst (λ (n : ℕ). get (reports_of rs) (n, r.report.seq) ≡ Some r) at.2 there in
         let same : r.report.count ≡ j.count = at.3 ∙ sym count in
         let has : IsSomeAnd (get (reports_of rs) (j.number, r.report.seq)) (λ k. k.report.count ≡ j.count) = subst (λ (o : Option KeptReport). IsSomeAnd o (λ k. k.report.count ≡ j.count)) (sym named) same in
         inr (r.report.seq, subst (λ (m : _). IsSomeAnd (get m (j.number, r.report.seq)) (λ k. k.report.count ≡ j.count)) (sym is) has)
-    ])
+  ],
+)
 
 pub no_account_no_grant : (gs : List GrantRow) (acs : List AccountRow) → HaveSoundGrants gs acs → (a : List ℕ) → get (free_of acs) a ≡ None → granted_to a gs ≡ 0
 no_account_no_grant gs acs h a none = elim (cases_lt 0 (granted_to a gs)) [
@@ -119,15 +121,15 @@ sound_world t bs lengths h =
       counts = each (IsGreatestCount w) (each_map _ (IsGreatestCount w) (λ j e. is_greatest w t.reports js h.reports refl j e) full counts);
       idle = each (λ j. get (free_of t.accounts) j.owner ≡ None → IsIdle j) (each_map _ (λ j. get (free_of t.accounts) j.owner ≡ None → IsIdle j) (λ j e none. e (no_account_no_grant t.grants t.accounts h.grants j.owner none)) full idle);
       balances = λ a. if_some (get (free_of t.accounts) a) (λ free. pos (granted a w) ≡ free +ℤ pos (reserved a w + printed a w)) (λ v e.
-        let row = free_found t.accounts h.grants.accounts_order a v e in
-        let x = get_or t.accounts row.0 no_account in
-        let b = h.owners.balanced row.0 no_account row.1 in
-        let pages : granted a w ≡ granted_to a t.grants = granted_told t.grants h.grants.grants_order a in
-        let held : reserved a w ≡ reserved_for a js = ap (reserved_for a) is ∙ reserved_filled a js ds in
-        let done : printed a w ≡ printed_for a js = ap (printed_for a) is ∙ printed_filled a js ds in
-        let first : reserved_for x.name js ≡ reserved_for a js = ap (λ (n : List ℕ). reserved_for n js) row.2 in
-        let second : printed_for x.name js ≡ printed_for a js = ap (λ (n : List ℕ). printed_for n js) row.2 in
-        let third : granted_to x.name t.grants ≡ granted_to a t.grants = ap (λ (n : List ℕ). granted_to n t.grants) row.2 in
-        let sums : x.reserved + x.printed ≡ reserved a w + printed a w = omega (arith, b.reserved, b.printed, held, done, first, second) in
-        ap pos (pages ∙ sym third) ∙ b.granted ∙ ap (λ (n : ℕ). x.free +ℤ pos n) sums ∙ ap (λ (z : ℤ). z +ℤ pos (reserved a w + printed a w)) row.3);
+          let row = free_found t.accounts h.grants.accounts_order a v e in
+          let x = get_or t.accounts row.0 no_account in
+          let b = h.owners.balanced row.0 no_account row.1 in
+          let pages : granted a w ≡ granted_to a t.grants = granted_told t.grants h.grants.grants_order a in
+          let held : reserved a w ≡ reserved_for a js = ap (reserved_for a) is ∙ reserved_filled a js ds in
+          let done : printed a w ≡ printed_for a js = ap (printed_for a) is ∙ printed_filled a js ds in
+          let first : reserved_for x.name js ≡ reserved_for a js = ap (λ (n : List ℕ). reserved_for n js) row.2 in
+          let second : printed_for x.name js ≡ printed_for a js = ap (λ (n : List ℕ). printed_for n js) row.2 in
+          let third : granted_to x.name t.grants ≡ granted_to a t.grants = ap (λ (n : List ℕ). granted_to n t.grants) row.2 in
+          let sums : x.reserved + x.printed ≡ reserved a w + printed a w = omega (arith, b.reserved, b.printed, held, done, first, second) in
+          ap pos (pages ∙ sym third) ∙ b.granted ∙ ap (λ (n : ℕ). x.free +ℤ pos n) sums ∙ ap (λ (z : ℤ). z +ℤ pos (reserved a w + printed a w)) row.3);
     }

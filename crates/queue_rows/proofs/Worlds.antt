@@ -3,7 +3,7 @@ use Rattle.std.proofs.Common.{◌≡◌, ◌*◌, ℕ, List, [], ◌∷◌, Bool
 use Rattle.queue_core.specs.Sound.{IsSound}
 use Rattle.queue_core.specs.World.{World}
 use Rattle.queue_rows.specs.Pieces.{length_in}
-use Rattle.queue_rows.specs.Rows.{Tables, meta_row, rows_of, bytes_of, HaveWorld}
+use Rattle.queue_rows.specs.Rows.{Tables, meta_row, rows_of, bytes_of, HaveWorld, StandForSoundWorlds, StandForNoSoundWorld}
 use Rattle.queue_rows.specs.Sound.{AreSoundRows}
 use Rattle.queue_rows.specs.declared.rows.MetaRow.{MetaRow}
 use Rattle.queue_rows.proofs.WorldHas.{has_rows, rows_back}
@@ -30,11 +30,11 @@ world_for t bs lengths h = record {
   bytes = (has_rows h.row t bs lengths (fits t h)).pieces;
 }
 
-pub sound_rows : {E : Type 0} (r : Result Bool E) (t : Tables) → IfOk r (λ b. IsTrue b ↔ AreSoundRows t) → IfOk r (λ b. IsTrue b → (bs : List (List ℕ)) → map length bs ≡ map length_in t.pieces → HaveWorld t bs)
+pub sound_rows : {E : Type 0} (r : Result Bool E) (t : Tables) → IfOk r (λ b. IsTrue b ↔ AreSoundRows t) → IfOk r (λ b. IsTrue b → StandForSoundWorlds t)
 sound_rows (Ok b) t h = λ passed bs lengths. world_for t bs lengths (h.0 passed)
 sound_rows (Err e) t h = tt
 
-pub damaged_rows : {E : Type 0} (r : Result Bool E) (t : Tables) → IfOk r (λ b. IsTrue b ↔ AreSoundRows t) → IfOk r (λ b. b ≡ false → (w : World) → IsSound w → rows_of w ≡ t → ⊥)
+pub damaged_rows : {E : Type 0} (r : Result Bool E) (t : Tables) → IfOk r (λ b. IsTrue b ↔ AreSoundRows t) → IfOk r (λ b. b ≡ false → StandForNoSoundWorld t)
 damaged_rows (Ok b) t h = λ failed w sound same. let passed : b ≡ true = h.1 (subst AreSoundRows same (rows_are_sound w sound)) in absurd (cc (passed, failed))
 damaged_rows (Err e) t h = tt
 

@@ -1,15 +1,14 @@
 -- The rows that a queue has: what each table holds, in the order of its key.
-use Rattle.std.specs.Prelude.{◌≡◌, ℕ, ℤ, ◌+◌, List, [], ◌∷◌, map}
+use Rattle.std.specs.Prelude.{◌≡◌, ◌≢◌, ℕ, ℤ, List, [], ◌∷◌, map, length}
 use Rattle.std.specs.List.{flat_map}
 use Rattle.std.specs.FinMap.{entries}
 use Rattle.queue_core.specs.Sound.{IsSound, reserved, printed}
 use Rattle.queue_core.specs.World.{World, Entry}
-use Rattle.queue_core.specs.declared.document.Document.{Document}
 use Rattle.queue_core.specs.declared.event.GrantRow.{GrantRow}
 use Rattle.queue_core.specs.declared.event.KeptReport.{KeptReport}
 use Rattle.queue_core.specs.declared.job.Job.{Job}
 use Rattle.queue_rows.specs.Documents.{documents_from}
-use Rattle.queue_rows.specs.Pieces.{pieces_of, cut_up}
+use Rattle.queue_rows.specs.Pieces.{pieces_of, cut_up, length_in}
 use Rattle.queue_rows.specs.declared.rows.AccountRow.{AccountRow}
 use Rattle.queue_rows.specs.declared.rows.DocumentRow.{DocumentRow}
 use Rattle.queue_rows.specs.declared.rows.MetaRow.{MetaRow}
@@ -87,9 +86,16 @@ bytes_of w = flat_map bytes_of_entry w.jobs
 
 -- ---- of a sound queue
 
--- some sound world has these rows, with these bytes in its pieces
+-- a sound world has these rows, and these bytes in its pieces
 pub record HaveWorld (t : Tables) (bs : List (List ℕ)) : Type 0 where
   pub world : World
   pub sound : IsSound world
   pub rows : rows_of world ≡ t
   pub bytes : bytes_of world ≡ bs
+
+-- whatever the bytes of the pieces are, of the lengths that the rows say
+abbrev pub StandForSoundWorlds : Tables → Type 0
+StandForSoundWorlds t = (bs : List (List ℕ)) → map length bs ≡ map length_in t.pieces → HaveWorld t bs
+
+abbrev pub StandForNoSoundWorld : Tables → Type 0
+StandForNoSoundWorld t = (w : World) → IsSound w → rows_of w ≢ t

@@ -49,7 +49,11 @@ fn has_account(names: &HashMap<&str, u128>, g: &GrantRow) -> bool
 }
 
 /// Each grant's account is there.
-pub fn grants_have_accounts(alloc: Global, grants: &[GrantRow], accounts: &[AccountRow]) -> Result<bool, AllocError>
+pub fn grants_have_accounts(
+    alloc: Global,
+    grants: &[GrantRow],
+    accounts: &[AccountRow],
+) -> Result<bool, AllocError>
     ensures { IfOk result (λ b. IsTrue b ↔ All (λ g. 1 ≤ accounts_of g.account accounts.now) grants.now) }
 {
     let names = name_totals(alloc, accounts)?;
@@ -62,7 +66,11 @@ pub fn grants_have_accounts(alloc: Global, grants: &[GrantRow], accounts: &[Acco
 }
 
 /// Each account has a grant.
-pub fn accounts_have_grants(alloc: Global, accounts: &[AccountRow], grants: &[GrantRow]) -> Result<bool, AllocError>
+pub fn accounts_have_grants(
+    alloc: Global,
+    accounts: &[AccountRow],
+    grants: &[GrantRow],
+) -> Result<bool, AllocError>
     requires { All IsGrantRow grants.now }
     ensures { IfOk result (λ b. IsTrue b ↔ All (λ a. 1 ≤ granted_to a.name grants.now) accounts.now) }
 {

@@ -13,7 +13,10 @@ use queue_core::job::{Job, Phase, is_live_job};
 use std::alloc::{AllocError, Global};
 use std::collections::HashMap;
 
-pub fn grant_amounts<'a>(alloc: Global, grants: &'a [GrantRow]) -> Result<Vec<(&'a str, u64)>, AllocError>
+pub fn grant_amounts<'a>(
+    alloc: Global,
+    grants: &'a [GrantRow],
+) -> Result<Vec<(&'a str, u64)>, AllocError>
     ensures { IfOk result (λ v. map named v.items ≡ map grant_amount grants.now) }
 {
     let mut amounts = Vec::new(alloc);
@@ -61,7 +64,10 @@ fn printed_amounts<'a>(alloc: Global, jobs: &'a [Job]) -> Result<Vec<(&'a str, u
     Ok(amounts)
 }
 
-fn name_amounts<'a>(alloc: Global, accounts: &'a [AccountRow]) -> Result<Vec<(&'a str, u64)>, AllocError>
+fn name_amounts<'a>(
+    alloc: Global,
+    accounts: &'a [AccountRow],
+) -> Result<Vec<(&'a str, u64)>, AllocError>
     ensures { IfOk result (λ v. map named v.items ≡ map name_amount accounts.now) }
 {
     let mut amounts = Vec::new(alloc);
@@ -83,7 +89,10 @@ pub fn live_amounts<'a>(alloc: Global, jobs: &'a [Job]) -> Result<Vec<(&'a str, 
 }
 
 /// The pages that were granted to each account.
-pub fn granted_totals<'a>(alloc: Global, grants: &'a [GrantRow]) -> Result<HashMap<&'a str, u128>, AllocError>
+pub fn granted_totals<'a>(
+    alloc: Global,
+    grants: &'a [GrantRow],
+) -> Result<HashMap<&'a str, u128>, AllocError>
     requires { All IsGrantRow grants.now }
     ensures { IfOk result (λ m. (q : List ℕ) → total_in m q ≡ granted_to q grants.now) }
 {
@@ -92,7 +101,10 @@ pub fn granted_totals<'a>(alloc: Global, grants: &'a [GrantRow]) -> Result<HashM
 }
 
 /// The pages that are set aside for each owner's jobs.
-pub fn reserved_totals<'a>(alloc: Global, jobs: &'a [Job]) -> Result<HashMap<&'a str, u128>, AllocError>
+pub fn reserved_totals<'a>(
+    alloc: Global,
+    jobs: &'a [Job],
+) -> Result<HashMap<&'a str, u128>, AllocError>
     requires { All IsJobRow jobs.now }
     ensures { IfOk result (λ m. (q : List ℕ) → total_in m q ≡ reserved_for q jobs.now) }
 {
@@ -101,7 +113,10 @@ pub fn reserved_totals<'a>(alloc: Global, jobs: &'a [Job]) -> Result<HashMap<&'a
 }
 
 /// The pages that each owner's jobs have printed.
-pub fn printed_totals<'a>(alloc: Global, jobs: &'a [Job]) -> Result<HashMap<&'a str, u128>, AllocError>
+pub fn printed_totals<'a>(
+    alloc: Global,
+    jobs: &'a [Job],
+) -> Result<HashMap<&'a str, u128>, AllocError>
     requires { All IsJobRow jobs.now }
     ensures { IfOk result (λ m. (q : List ℕ) → total_in m q ≡ printed_for q jobs.now) }
 {
@@ -110,7 +125,10 @@ pub fn printed_totals<'a>(alloc: Global, jobs: &'a [Job]) -> Result<HashMap<&'a 
 }
 
 /// How many accounts have each name.
-pub fn name_totals<'a>(alloc: Global, accounts: &'a [AccountRow]) -> Result<HashMap<&'a str, u128>, AllocError>
+pub fn name_totals<'a>(
+    alloc: Global,
+    accounts: &'a [AccountRow],
+) -> Result<HashMap<&'a str, u128>, AllocError>
     ensures { IfOk result (λ m. (q : List ℕ) → total_in m q ≡ accounts_of q accounts.now) }
 {
     let amounts = name_amounts(alloc, accounts)?;

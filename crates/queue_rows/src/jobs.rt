@@ -57,8 +57,14 @@ fn is_job_row(j: &Job) -> bool
     ensures { IsTrue result ↔ IsJobRow j.now }
 {
     let texts = is_owner(j.owner.as_str()) && is_job_name(j.name.as_str());
-    let moments = is_positive(j.created) && is_moment_if_some(j.begun) && is_moment_if_some(j.ended);
-    let numbers = is_positive(j.number) && j.copies >= 1 && j.copies <= 999 && j.impressions <= 100_000 && j.count <= 100_000_000;
+    let moments = is_positive(j.created)
+        && is_moment_if_some(j.begun)
+        && is_moment_if_some(j.ended);
+    let numbers = is_positive(j.number)
+        && j.copies >= 1
+        && j.copies <= 999
+        && j.impressions <= 100_000
+        && j.count <= 100_000_000;
     let is_bare = j.documents == 0 && j.octets == 0;
     texts && moments && numbers && is_bare && fits_phase(j)
 }

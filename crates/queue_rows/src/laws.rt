@@ -8,5 +8,4 @@ ghost use Rattle.queue_rows.specs.Rows.{rows_of, bytes_of};
 /// a queue.
 pub fn rows_tell_the_queue()
     ensures { (v w : World) → IsSound v → IsSound w → rows_of v ≡ rows_of w → bytes_of v ≡ bytes_of w → v ≡ w }
-{
-}
+{}

@@ -37,11 +37,7 @@ fn is_covered(granted: &HashMap<&str, u128>, j: &Job) -> bool
 }
 
 /// Each job whose owner was granted nothing never began, has no count, and is on hold or ended.
-pub fn others_are_idle(
-    alloc: Global,
-    jobs: &[Job],
-    grants: &[GrantRow],
-) -> Result<bool, AllocError>
+pub fn others_are_idle(alloc: Global, jobs: &[Job], grants: &[GrantRow]) -> Result<bool, AllocError>
     requires { All IsGrantRow grants.now }
     ensures { IfOk result (λ b. IsTrue b ↔ All (λ j. granted_to j.owner grants.now ≡ 0 → IsIdle j) jobs.now) }
 {

@@ -75,10 +75,7 @@ pub fn reports_have_jobs(
 }
 
 /// The greatest count that was reported of each job.
-fn greatest_counts(
-    alloc: Global,
-    reports: &[KeptReport],
-) -> Result<HashMap<u32, u32>, AllocError>
+fn greatest_counts(alloc: Global, reports: &[KeptReport]) -> Result<HashMap<u32, u32>, AllocError>
     ensures { IfOk result (λ m. (n : ℕ) → unwrap_or (get nat_eq m n) 0 ≡ greatest n reports.now) }
 {
     let mut m = HashMap::new(alloc);

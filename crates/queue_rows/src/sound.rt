@@ -1,11 +1,8 @@
 //! Whether the rows of all tables are those of a sound queue.
-ghost use Rattle.std.specs.Prelude.{◌≡◌, ◌≢◌, ◌↔◌, ℕ, List, All, IfOk, IsTrue, false, map, length};
-ghost use Rattle.queue_core.specs.Sound.{IsSound};
-ghost use Rattle.queue_core.specs.World.{World};
+ghost use Rattle.std.specs.Prelude.{◌≡◌, ◌↔◌, All, IfOk, IsTrue, false};
 ghost use Rattle.queue_rows.specs.Grants.{IsGrantRow};
 ghost use Rattle.queue_rows.specs.Jobs.{IsJobRow};
-ghost use Rattle.queue_rows.specs.Pieces.{length_in};
-ghost use Rattle.queue_rows.specs.Rows.{tables_in, rows_of, HaveWorld};
+ghost use Rattle.queue_rows.specs.Rows.{tables_in, StandForSoundWorlds, StandForNoSoundWorld};
 ghost use Rattle.queue_rows.specs.Sound.{HaveSoundJobs, HaveSoundGrants, HaveSoundReports, HaveSoundOwners, AreSoundRows};
 
 use crate::accounts::{accounts_are_in_order, accounts_have_grants, grants_have_accounts};
@@ -47,7 +44,11 @@ fn have_sound_jobs(jobs: &[Job], documents: &[DocumentRow], pieces: &[PieceRow],
 }
 
 /// The grants with their accounts.
-fn have_sound_grants(alloc: Global, grants: &[GrantRow], accounts: &[AccountRow]) -> Result<bool, AllocError>
+fn have_sound_grants(
+    alloc: Global,
+    grants: &[GrantRow],
+    accounts: &[AccountRow],
+) -> Result<bool, AllocError>
     ensures { IfOk result (λ b. IsTrue b ↔ HaveSoundGrants grants.now accounts.now) }
 {
     if !grants_are_sound(grants) {
@@ -66,7 +67,11 @@ fn have_sound_grants(alloc: Global, grants: &[GrantRow], accounts: &[AccountRow]
 }
 
 /// The reports with the counts of the jobs.
-fn have_sound_reports(alloc: Global, reports: &[KeptReport], jobs: &[Job]) -> Result<bool, AllocError>
+fn have_sound_reports(
+    alloc: Global,
+    reports: &[KeptReport],
+    jobs: &[Job],
+) -> Result<bool, AllocError>
     ensures { IfOk result (λ b. IsTrue b ↔ HaveSoundReports reports.now jobs.now) }
 {
     if !reports_are_sound(reports) {
@@ -82,7 +87,12 @@ fn have_sound_reports(alloc: Global, reports: &[KeptReport], jobs: &[Job]) -> Re
 }
 
 /// The jobs by their owners, and what is stored of the accounts.
-fn have_sound_owners(alloc: Global, jobs: &[Job], grants: &[GrantRow], accounts: &[AccountRow]) -> Result<bool, AllocError>
+fn have_sound_owners(
+    alloc: Global,
+    jobs: &[Job],
+    grants: &[GrantRow],
+    accounts: &[AccountRow],
+) -> Result<bool, AllocError>
     requires grants { All IsGrantRow grants.now }
     requires jobs { All IsJobRow jobs.now }
     ensures { IfOk result (λ b. IsTrue b ↔ HaveSoundOwners jobs.now grants.now accounts.now) }
@@ -109,7 +119,12 @@ fn keep_each_clause(alloc: Global, rows: &Rows) -> Result<bool, AllocError>
     if !is_sound_meta(alloc, meta)? {
         return Ok(false);
     }
-    if !have_sound_jobs(jobs, rows.documents.as_slice(), rows.pieces.as_slice(), meta.next_number) {
+    if !have_sound_jobs(
+        jobs,
+        rows.documents.as_slice(),
+        rows.pieces.as_slice(),
+        meta.next_number,
+    ) {
         return Ok(false);
     }
     if !have_sound_grants(alloc, grants, accounts)? {
@@ -124,8 +139,8 @@ fn keep_each_clause(alloc: Global, rows: &Rows) -> Result<bool, AllocError>
 /// Whether the rows of all tables are those of a sound queue. If so, there is one for any bytes of the
 /// pieces that have their lengths; if not, no sound queue has these rows. The one error is want of memory.
 pub fn are_sound_rows(alloc: Global, rows: &Rows) -> Result<bool, AllocError>
-    ensures sound { IfOk result (λ b. IsTrue b → (bs : List (List ℕ)) → map length bs ≡ map length_in (tables_in rows.now).pieces → HaveWorld (tables_in rows.now) bs) }
-    ensures damaged { IfOk result (λ b. b ≡ false → (w : World) → IsSound w → rows_of w ≢ tables_in rows.now) }
+    ensures sound { IfOk result (λ b. IsTrue b → StandForSoundWorlds (tables_in rows.now)) }
+    ensures damaged { IfOk result (λ b. b ≡ false → StandForNoSoundWorld (tables_in rows.now)) }
 {
     keep_each_clause(alloc, rows)
 }

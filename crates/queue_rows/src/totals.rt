@@ -28,11 +28,7 @@ pub fn total_of(m: &HashMap<&str, u128>, name: &str) -> u128
 }
 
 /// No name has more than the most.
-pub fn are_within(
-    alloc: Global,
-    amounts: &[(&str, u64)],
-    most: u128,
-) -> Result<bool, AllocError>
+pub fn are_within(alloc: Global, amounts: &[(&str, u64)], most: u128) -> Result<bool, AllocError>
     requires { sum_by (λ p. p.1) amounts.now < 2 ^ 128 }
     ensures { IfOk result (λ b. IsTrue b ↔ ((q : List ℕ) → total q amounts.now ≤ most)) }
 {

@@ -1,4 +1,4 @@
-use Rattle.std.proofs.Common.{◌≡◌, ◌≤◌, ℕ, All, take, refl, sym, ap, ◌∙◌, subst, arith, pos}
+use Rattle.std.proofs.Common.{◌≤◌, ℕ, refl, sym, subst, arith}
 use Rattle.std.proofs.lemmas.List.{take_all}
 use Rattle.std.proofs.lemmas.List.Elements.{All-more}
 use Rattle.queue_rows.specs.Accounts.{accounts_of}
@@ -6,11 +6,14 @@ use Rattle.queue_core.specs.declared.event.GrantRow.{GrantRow}
 use Rattle.queue_rows.proofs.accounts.grants_have_accounts.Goals as goal
 
 pub returns-then-not-has_account : goal.returns-then-not-has_account
-returns-then-not-has_account c = (λ t. absurd cc, λ all.
-    let P = λ (g : GrantRow). 1 ≤ accounts_of g.account c.args.accounts.now in
-    let here : P c.g-item.result = subst P (sym c.g-item.is) (all c.loop-g.g-index c.g-item.result (omega arith)) in
-    let passes = c.has_account.ensures.1 (subst (λ (n : ℕ). 1 ≤ n) (sym (c.in_ok-names.ensures c.g-item.result.account)) here) in
-    absurd (cc (passes, c.if-not-has_account.true)))
+returns-then-not-has_account c = (
+  λ t. absurd cc,
+  λ all.
+      let P = λ (g : GrantRow). 1 ≤ accounts_of g.account c.args.accounts.now in
+      let here : P c.g-item.result = subst P (sym c.g-item.is) (all c.loop-g.g-index c.g-item.result (omega arith)) in
+      let passes = c.has_account.ensures.1 (subst (λ (n : ℕ). 1 ≤ n) (sym (c.in_ok-names.ensures c.g-item.result.account)) here) in
+      absurd (cc (passes, c.if-not-has_account.true)),
+)
 
 pub loop-g-preserved : goal.loop-g-preserved
 loop-g-preserved c =

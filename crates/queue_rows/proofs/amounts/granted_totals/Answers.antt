@@ -1,8 +1,7 @@
-use Rattle.std.proofs.Common.{◌≡◌, ◌≤◌, ◌*◌, ℕ, List, All, map, sym, subst, ap, ◌∙◌, arith, sum_by, length}
+use Rattle.std.proofs.Common.{◌≡◌, ℕ, List, map, ap, ◌∙◌, arith}
 use Rattle.queue_core.specs.declared.event.GrantRow.{GrantRow}
-use Rattle.queue_rows.specs.Totals.{total, named, grant_amount}
-use Rattle.queue_rows.specs.Grants.{granted_to}
-use Rattle.queue_rows.proofs.AmountLemmas.{total_by, sum_within, IfTotals-of, owed_small}
+use Rattle.queue_rows.specs.Totals.{named, grant_amount}
+use Rattle.queue_rows.proofs.AmountLemmas.{total_by, sum_within, IfTotals-of}
 use Rattle.queue_rows.proofs.amounts.granted_totals.Goals as goal
 
 abbrev name_of : GrantRow → List ℕ

@@ -1,8 +1,7 @@
-use Rattle.std.proofs.Common.{◌≡◌, ◌≤◌, ◌*◌, ℕ, List, All, map, sym, subst, ap, ◌∙◌, arith, sum_by, length}
+use Rattle.std.proofs.Common.{◌≡◌, ℕ, List, map, ap, ◌∙◌, arith}
 use Rattle.queue_rows.specs.declared.rows.AccountRow.{AccountRow}
-use Rattle.queue_rows.specs.Totals.{total, named, name_amount}
-use Rattle.queue_rows.specs.Accounts.{accounts_of}
-use Rattle.queue_rows.proofs.AmountLemmas.{total_by, sum_within, IfTotals-of, owed_small}
+use Rattle.queue_rows.specs.Totals.{named, name_amount}
+use Rattle.queue_rows.proofs.AmountLemmas.{total_by, sum_within, IfTotals-of}
 use Rattle.queue_rows.proofs.amounts.name_totals.Goals as goal
 
 abbrev name_of : AccountRow → List ℕ

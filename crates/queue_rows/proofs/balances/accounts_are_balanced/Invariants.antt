@@ -1,4 +1,4 @@
-use Rattle.std.proofs.Common.{◌≤◌, All, take}
+use Rattle.std.proofs.Common.{All, take}
 use Rattle.queue_rows.specs.Accounts.{IsBalanced}
 use Rattle.queue_rows.proofs.balances.accounts_are_balanced.Given as goal
 

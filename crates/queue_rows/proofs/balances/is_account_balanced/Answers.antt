@@ -1,4 +1,4 @@
-use Rattle.std.proofs.Common.{◌≡◌, ℕ}
+use Rattle.std.proofs.Common.{◌≡◌}
 use Rattle.queue_rows.specs.Totals.{total_in}
 use Rattle.queue_rows.proofs.balances.is_account_balanced.Goals as goal
 

@@ -1,14 +1,9 @@
-use Rattle.std.proofs.Common.{◌≡◌, ◌==◌, ℕ, ◌+◌, ◌*◌, ◌<◌, ◌≤◌, ◌++◌, List, [], ◌∷◌, true, false, length, map, take, get_or, sum_by, arith, refl, sym, ap, subst, ◌∙◌, ne_eqb, eq-eqb, rules}
+use Rattle.std.proofs.Common.{◌≡◌, ℕ, ◌+◌, ◌<◌, ◌++◌, List, [], ◌∷◌, length, get_or, arith, sym, ap, subst, ◌∙◌, ne_eqb}
 use Rattle.std.specs.List.{range_with_len}
 use Rattle.std.proofs.lemmas.List.{map_more, get_or_default}
-use Rattle.std.proofs.lemmas.List.FromFn.{map-range_with_len_more}
-use Rattle.std.proofs.lemmas.List.Sums.{prefix_len_is, sum_by_more}
-use Rattle.std.proofs.lemmas.Bool.{cases_eq}
+use Rattle.std.proofs.lemmas.List.Sums.{prefix_len_is}
 use Rattle.queue_rows.proofs.Defaults.{no_document}
-use Rattle.queue_rows.specs.Documents.{next_of, IsGroup}
-use Rattle.queue_rows.specs.declared.rows.DocumentRow.{DocumentRow}
-use Rattle.queue_core.specs.declared.document.Format.{Format}
-use Rattle.queue_core.specs.declared.document.Format.TheVariants.{OctetStream}
+use Rattle.queue_rows.specs.Documents.{next_of}
 use Rattle.queue_rows.proofs.GroupLemmas.{doc_of, is_of, group_is, too_many, misnumbered, all_more, range_more}
 use Rattle.queue_rows.proofs.documents.leading_documents.Goals as goal
 
@@ -17,7 +12,7 @@ returns-then-d-number c =
     let inv = c.loop-d.invariant in
     let ends : next_of c.args.number c.args.documents.now ≡ c.loop-d.count
     = prefix_len_is (is_of c.args.number) c.args.documents.now c.loop-d.count no_document (omega arith) (λ k lt. inv.theirs k no_document lt)
-        (λ lt. ne_eqb _ _ (subst (λ (m : ℕ). (get_or c.args.documents.now m no_document).job ≡ c.args.number → ⊥) (sym inv.place) c.if-d-number.true)) in
+    (λ lt. ne_eqb _ _ (subst (λ (m : ℕ). (get_or c.args.documents.now m no_document).job ≡ c.args.number → ⊥) (sym inv.place) c.if-d-number.true)) in
     group_is c.args.number c.loop-d.count c.args.documents.now ends inv.few inv.numbered
 
 pub returns-then-count-eq16 : goal.returns-then-count-eq16
@@ -41,8 +36,8 @@ loop-d-preserved c =
       place = omega arith;
       few = omega arith;
       theirs = λ k d low.
-        let same : get_or c.args.documents.now k d ≡ get_or c.args.documents.now k no_document = get_or_default c.args.documents.now k d no_document (omega arith) in
-        ap (is_of c.args.number) same ∙ all_more c.args.number c.loop-d.d-index c.args.documents.now no_document (omega arith) (λ j e lt. inv.theirs j e (omega arith)) c.if-d-number.false k (omega arith);
+          let same : get_or c.args.documents.now k d ≡ get_or c.args.documents.now k no_document = get_or_default c.args.documents.now k d no_document (omega arith) in
+          ap (is_of c.args.number) same ∙ all_more c.args.number c.loop-d.d-index c.args.documents.now no_document (omega arith) (λ j e lt. inv.theirs j e (omega arith)) c.if-d-number.false k (omega arith);
       numbered = map_more doc_of c.args.documents.now c.loop-d.count no_document lt ∙ ap (λ (l : List ℕ). l ++ doc_of (get_or c.args.documents.now c.loop-d.count no_document) ∷ []) inv.numbered
           ∙ ap (λ (n : ℕ). range_with_len 1 c.loop-d.count ++ n ∷ []) here ∙ sym (range_more c.loop-d.count);
     }

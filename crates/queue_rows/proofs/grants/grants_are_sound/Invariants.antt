@@ -1,6 +1,5 @@
 use Rattle.std.proofs.Common.{All, take}
 use Rattle.queue_rows.specs.Grants.{IsGrantRow}
-use Rattle.queue_core.specs.declared.event.GrantRow.{GrantRow}
 use Rattle.queue_rows.proofs.grants.grants_are_sound.Given as goal
 
 abbrev pub invariant-loop-g : goal.invariant-loop-g

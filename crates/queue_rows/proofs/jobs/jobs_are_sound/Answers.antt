@@ -1,4 +1,4 @@
-use Rattle.std.proofs.Common.{◌≡◌, All, take, refl, sym, subst, arith}
+use Rattle.std.proofs.Common.{refl, sym, subst, arith}
 use Rattle.std.proofs.lemmas.List.{take_all}
 use Rattle.std.proofs.lemmas.List.Elements.{All-more}
 use Rattle.queue_rows.specs.Jobs.{IsJobRow}
@@ -6,10 +6,13 @@ use Rattle.queue_core.specs.declared.job.Job.{Job}
 use Rattle.queue_rows.proofs.jobs.jobs_are_sound.Goals as goal
 
 pub returns-then-not-is_job_row : goal.returns-then-not-is_job_row
-returns-then-not-is_job_row c = (λ t. absurd cc, λ all.
-    let P = λ (x : Job). IsJobRow x in
-    let passes = c.is_job_row.ensures.1 (subst P (sym c.j-item.is) (all c.loop-j.j-index c.j-item.result (omega arith))) in
-    absurd (cc (passes, c.if-not-is_job_row.true)))
+returns-then-not-is_job_row c = (
+  λ t. absurd cc,
+  λ all.
+      let P = λ (x : Job). IsJobRow x in
+      let passes = c.is_job_row.ensures.1 (subst P (sym c.j-item.is) (all c.loop-j.j-index c.j-item.result (omega arith))) in
+      absurd (cc (passes, c.if-not-is_job_row.true)),
+)
 
 pub loop-j-preserved : goal.loop-j-preserved
 loop-j-preserved c =

@@ -1,6 +1,5 @@
 use Rattle.std.proofs.Common.{All, take}
 use Rattle.queue_rows.specs.Jobs.{IsJobRow}
-use Rattle.queue_core.specs.declared.job.Job.{Job}
 use Rattle.queue_rows.proofs.jobs.jobs_are_sound.Given as goal
 
 abbrev pub invariant-loop-j : goal.invariant-loop-j

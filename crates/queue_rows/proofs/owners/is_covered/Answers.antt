@@ -1,4 +1,4 @@
-use Rattle.std.proofs.Common.{◌≡◌, ℕ, refl, arith}
+use Rattle.std.proofs.Common.{◌≡◌, refl, arith}
 use Rattle.queue_rows.specs.Totals.{total_in}
 use Rattle.queue_rows.proofs.owners.is_covered.Goals as goal
 

@@ -1,4 +1,4 @@
-use Rattle.std.proofs.Common.{◌≡◌, ◌≤◌, ◌<◌, ◌*◌, ◌+◌, ◌++◌, ℕ, List, length, drop, map, get_or, arith, ap, sym, ◌∙◌, below_more}
+use Rattle.std.proofs.Common.{◌≡◌, ◌<◌, ◌*◌, ◌+◌, ◌++◌, ℕ, List, length, drop, map, get_or, arith, ap, sym, ◌∙◌, below_more}
 use Rattle.std.specs.List.{range_with_len}
 use Rattle.std.specs.Int.{div_ceil}
 use Rattle.std.proofs.lemmas.List.{length-append, take_rest}
@@ -34,6 +34,6 @@ pub returns : goal.returns
 returns c =
     let count : c.div_ceil-count.result ≡ pieces_in c.args.d.now.octets = c.div_ceil-count.ensures in
     let run = run_is (piece_of c.args.d.now) 0 c.div_ceil-count.result c.args.pieces.now no_piece (omega (arith, c.if-pieces-count.false))
-        (λ m lt. c.loop-k.invariant m (omega (arith, lt, c.loop-k-test.false)) ∙ ap (piece_of c.args.d.now) (omega arith)) in
+    (λ m lt. c.loop-k.invariant m (omega (arith, lt, c.loop-k-test.false)) ∙ ap (piece_of c.args.d.now) (omega arith)) in
     run ∙ ap (λ (n : ℕ). map (piece_of c.args.d.now) (range_with_len 0 n) ++ drop c.div_ceil-count.result c.args.pieces.now) count
     ∙ ap (λ (l : List PieceRow). pieces_of c.args.d.now ++ l) (sym (take_rest c.args.pieces.now c.div_ceil-count.result))

@@ -1,4 +1,4 @@
-use Rattle.std.proofs.Common.{◌≡◌, refl, arith}
+use Rattle.std.proofs.Common.{refl, arith}
 use Rattle.queue_rows.proofs.Defaults.{no_report}
 use Rattle.queue_rows.specs.Reports.{report_before}
 use Rattle.queue_rows.proofs.OrderLemmas.{order_more, order_all}

@@ -1,4 +1,4 @@
-use Rattle.std.proofs.Common.{◌≡◌, All, take, refl, sym, subst, arith}
+use Rattle.std.proofs.Common.{refl, sym, arith}
 use Rattle.std.proofs.lemmas.List.{take_all}
 use Rattle.std.proofs.lemmas.List.Elements.{All-more}
 use Rattle.queue_rows.proofs.Defaults.{no_report}
@@ -7,10 +7,13 @@ use Rattle.queue_core.specs.declared.event.KeptReport.{KeptReport}
 use Rattle.queue_rows.proofs.reports.reports_are_sound.Goals as goal
 
 pub returns-then-not-is_report : goal.returns-then-not-is_report
-returns-then-not-is_report c = (λ t. absurd cc, λ all.
-    let P = λ (x : KeptReport). IsReportRow x in
-    let passes = c.is_report.ensures.1 (all c.loop-k.k-index no_report (omega arith)) in
-    absurd (cc (passes, c.if-not-is_report.true)))
+returns-then-not-is_report c = (
+  λ t. absurd cc,
+  λ all.
+      let P = λ (x : KeptReport). IsReportRow x in
+      let passes = c.is_report.ensures.1 (all c.loop-k.k-index no_report (omega arith)) in
+      absurd (cc (passes, c.if-not-is_report.true)),
+)
 
 pub loop-k-preserved : goal.loop-k-preserved
 loop-k-preserved c =

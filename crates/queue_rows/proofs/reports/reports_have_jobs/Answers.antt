@@ -1,4 +1,4 @@
-use Rattle.std.proofs.Common.{◌≡◌, All, get_or, take, refl, sym, subst, arith}
+use Rattle.std.proofs.Common.{◌≡◌, get_or, refl, sym, arith}
 use Rattle.std.proofs.lemmas.Grind.{common_steps}
 use Rattle.std.proofs.lemmas.List.{take_all}
 use Rattle.std.proofs.lemmas.List.Elements.{All-more}

@@ -1,4 +1,4 @@
-use Rattle.std.proofs.Common.{◌≤◌, ◌<◌, ℕ, List, get_or, arith, length, refl}
+use Rattle.std.proofs.Common.{◌≤◌, get_or, arith, refl}
 use Rattle.queue_rows.specs.Totals.{total}
 use Rattle.queue_rows.proofs.SumLemmas.{no_pair, all_within}
 use Rattle.queue_rows.proofs.totals.are_within.Goals as goal
