@@ -1,4 +1,5 @@
 pub mod Defaults
+pub mod CodeLemmas
 pub mod RunLemmas
 pub mod GroupLemmas
 pub mod OrderLemmas

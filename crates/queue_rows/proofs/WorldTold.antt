@@ -103,44 +103,46 @@ rows_told_sound m t bs lengths only meta h f =
       row = m;
       only = only;
       meta = meta;
-      jobs = record {
-        rise = rise_bare 1 js ds m.next_number (subst (λ (l : List Job). NumbersRise 1 l m.next_number) is (rise_to 1 es m.next_number h.numbers));
-        last = h.next;
-        jobs = All-from_recursion IsJobRow js (sound_bare js ds (recursion_from_All IsBare js f.no_documents) (rows_told js ds all h.entries));
-        grouped = f.grouped;
-        sizes = all_sizes_told js ds all sizes f.grouped h.entries;
-        pieces = f.pieces;
-      };
-      grants = record {
-        grants = grants;
-        grants_order = f.grants;
-        accounts_order = f.accounts;
-        most = λ a. subst (λ (n : ℕ). n ≤ 1000000000) (granted_told t.grants f.grants a) (h.most a);
-        named = All-from_get_or (λ g. 1 ≤ accounts_of g.account t.accounts) t.grants no_grant (λ k lt.
-            let g = get_or t.grants k no_grant in
-            count_from_free t.accounts f.accounts g.account ((h.accounts g.account).1 (g.batch, ap is_some (grant_there t.grants f.grants k lt))));
-        granted = All-from_get_or (λ a. 1 ≤ granted_to a.name t.grants) t.accounts no_account (λ k lt.
-            let a = get_or t.accounts k no_account in
-            sum_from_grant t.grants f.grants pages a.name ((h.accounts a.name).0 (ap is_some (free_there t.accounts f.accounts k lt))));
-      };
-      reports = record {
-        reports = All-from_get_or IsReportRow t.reports no_report (λ k lt. let r = kept k lt in record { seq = r.positive; count = r.count; state = r.state; total = r.total });
-        order = f.reports;
-        there = All-from_get_or (λ k. has_number k.report.job js ≡ 1) t.reports no_report (λ k lt.
-            let r = get_or t.reports k no_report in
-            sym (number_filled r.report.job js ds) ∙ number_into r.report.job 0 full (inr (subst (λ (l : List Job). IsSome (job_at r.report.job l)) is (kept k lt).there)));
-        counts = All-from_recursion (λ j. j.count ≡ greatest j.number t.reports) js (each_bare (λ j. j.count ≡ greatest j.number t.reports) (λ j ds' e. e) js ds counts);
-      };
-      owners = record {
-        live = λ caller. subst (λ (n : ℕ). n ≤ 100) (ap (live_jobs caller) is ∙ live_filled caller js ds) (h.live caller);
-        idle = All-from_recursion (λ j. granted_to j.owner t.grants ≡ 0 → IsIdle j) js (each_bare (λ j. granted_to j.owner t.grants ≡ 0 → IsIdle j) (λ j ds' e. e) js ds idle);
-        balanced = All-from_get_or (IsBalanced t.grants js) t.accounts no_account (λ k lt.
-            let a = get_or t.accounts k no_account in
-            let b : pos (granted a.name w) ≡ a.free +ℤ pos (reserved a.name w + printed a.name w) = subst (λ (o : Option ℤ). IfSome o (λ free. pos (granted a.name w) ≡ free +ℤ pos (reserved a.name w + printed a.name w))) (free_there t.accounts f.accounts k lt) (h.balances a.name) in
-            let stored = f.sums k no_account lt in
-            let held : reserved a.name w ≡ reserved_for a.name js = ap (reserved_for a.name) is ∙ reserved_filled a.name js ds in
-            let done : printed a.name w ≡ printed_for a.name js = ap (printed_for a.name) is ∙ printed_filled a.name js ds in
-            let sums : reserved a.name w + printed a.name w ≡ a.reserved + a.printed = omega (arith, held, done, stored.0, stored.1) in
-            record { reserved = stored.0; printed = stored.1; granted = ap pos (sym (granted_told t.grants f.grants a.name)) ∙ b ∙ ap (λ (n : ℕ). a.free +ℤ pos n) sums });
+      tables = record {
+        jobs = record {
+          rise = rise_bare 1 js ds m.next_number (subst (λ (l : List Job). NumbersRise 1 l m.next_number) is (rise_to 1 es m.next_number h.numbers));
+          last = h.next;
+          jobs = All-from_recursion IsJobRow js (sound_bare js ds (recursion_from_All IsBare js f.no_documents) (rows_told js ds all h.entries));
+          grouped = f.grouped;
+          sizes = all_sizes_told js ds all sizes f.grouped h.entries;
+          pieces = f.pieces;
+        };
+        grants = record {
+          grants = grants;
+          grants_order = f.grants;
+          accounts_order = f.accounts;
+          most = λ a. subst (λ (n : ℕ). n ≤ 1000000000) (granted_told t.grants f.grants a) (h.most a);
+          named = All-from_get_or (λ g. 1 ≤ accounts_of g.account t.accounts) t.grants no_grant (λ k lt.
+              let g = get_or t.grants k no_grant in
+              count_from_free t.accounts f.accounts g.account ((h.accounts g.account).1 (g.batch, ap is_some (grant_there t.grants f.grants k lt))));
+          granted = All-from_get_or (λ a. 1 ≤ granted_to a.name t.grants) t.accounts no_account (λ k lt.
+              let a = get_or t.accounts k no_account in
+              sum_from_grant t.grants f.grants pages a.name ((h.accounts a.name).0 (ap is_some (free_there t.accounts f.accounts k lt))));
+        };
+        reports = record {
+          reports = All-from_get_or IsReportRow t.reports no_report (λ k lt. let r = kept k lt in record { seq = r.positive; count = r.count; state = r.state; total = r.total });
+          order = f.reports;
+          there = All-from_get_or (λ k. has_number k.report.job js ≡ 1) t.reports no_report (λ k lt.
+              let r = get_or t.reports k no_report in
+              sym (number_filled r.report.job js ds) ∙ number_into r.report.job 0 full (inr (subst (λ (l : List Job). IsSome (job_at r.report.job l)) is (kept k lt).there)));
+          counts = All-from_recursion (λ j. j.count ≡ greatest j.number t.reports) js (each_bare (λ j. j.count ≡ greatest j.number t.reports) (λ j ds' e. e) js ds counts);
+        };
+        owners = record {
+          live = λ caller. subst (λ (n : ℕ). n ≤ 100) (ap (live_jobs caller) is ∙ live_filled caller js ds) (h.live caller);
+          idle = All-from_recursion (λ j. granted_to j.owner t.grants ≡ 0 → IsIdle j) js (each_bare (λ j. granted_to j.owner t.grants ≡ 0 → IsIdle j) (λ j ds' e. e) js ds idle);
+          balanced = All-from_get_or (IsBalanced t.grants js) t.accounts no_account (λ k lt.
+              let a = get_or t.accounts k no_account in
+              let b : pos (granted a.name w) ≡ a.free +ℤ pos (reserved a.name w + printed a.name w) = subst (λ (o : Option ℤ). IfSome o (λ free. pos (granted a.name w) ≡ free +ℤ pos (reserved a.name w + printed a.name w))) (free_there t.accounts f.accounts k lt) (h.balances a.name) in
+              let stored = f.sums k no_account lt in
+              let held : reserved a.name w ≡ reserved_for a.name js = ap (reserved_for a.name) is ∙ reserved_filled a.name js ds in
+              let done : printed a.name w ≡ printed_for a.name js = ap (printed_for a.name) is ∙ printed_filled a.name js ds in
+              let sums : reserved a.name w + printed a.name w ≡ a.reserved + a.printed = omega (arith, held, done, stored.0, stored.1) in
+              record { reserved = stored.0; printed = stored.1; granted = ap pos (sym (granted_told t.grants f.grants a.name)) ∙ b ∙ ap (λ (n : ℕ). a.free +ℤ pos n) sums });
+        };
       };
     }

@@ -13,13 +13,13 @@ use Rattle.queue_rows.proofs.WorldSound.{sound_world}
 
 fits : (t : Tables) → AreSoundRows t → FitTogether t
 fits t h = record {
-  no_documents = λ k d lt. let j = h.jobs.jobs k d lt in (j.bare, omega (arith, j.bare, j.sound.octets));
-  grouped = h.jobs.grouped;
-  pieces = h.jobs.pieces;
-  grants = h.grants.grants_order;
-  accounts = h.grants.accounts_order;
-  reports = h.reports.order;
-  sums = λ k d lt. let b = h.owners.balanced k d lt in (b.reserved, b.printed);
+  no_documents = λ k d lt. let j = h.tables.jobs.jobs k d lt in (j.bare, omega (arith, j.bare, j.sound.octets));
+  grouped = h.tables.jobs.grouped;
+  pieces = h.tables.jobs.pieces;
+  grants = h.tables.grants.grants_order;
+  accounts = h.tables.grants.accounts_order;
+  reports = h.tables.reports.order;
+  sums = λ k d lt. let b = h.tables.owners.balanced k d lt in (b.reserved, b.printed);
 }
 
 world_for : (t : Tables) (bs : List (List ℕ)) → map length bs ≡ map length_in t.pieces → AreSoundRows t → HaveWorld t bs

@@ -51,11 +51,15 @@ pub record HaveSoundOwners (js : List Job) (gs : List GrantRow) (acs : List Acco
   pub idle : All (λ j. granted_to j.owner gs ≡ 0 → IsIdle j) js
   pub balanced : All (IsBalanced gs js) acs
 
+-- the tables beside `meta`
+pub record HaveSoundTables (t : Tables) (next : ℕ) : Type 0 where
+  pub jobs : HaveSoundJobs t.jobs t.documents t.pieces next
+  pub grants : HaveSoundGrants t.grants t.accounts
+  pub reports : HaveSoundReports t.reports t.jobs
+  pub owners : HaveSoundOwners t.jobs t.grants t.accounts
+
 pub record AreSoundRows (t : Tables) : Type 0 where
   pub row : MetaRow
   pub only : t.meta ≡ row ∷ []
   pub meta : IsSoundMeta row
-  pub jobs : HaveSoundJobs t.jobs t.documents t.pieces row.next_number
-  pub grants : HaveSoundGrants t.grants t.accounts
-  pub reports : HaveSoundReports t.reports t.jobs
-  pub owners : HaveSoundOwners t.jobs t.grants t.accounts
+  pub tables : HaveSoundTables t row.next_number

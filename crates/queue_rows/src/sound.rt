@@ -3,7 +3,7 @@ ghost use Rattle.std.specs.Prelude.{◌≡◌, ◌↔◌, All, IfOk, IsTrue, fal
 ghost use Rattle.queue_rows.specs.Grants.{IsGrantRow};
 ghost use Rattle.queue_rows.specs.Jobs.{IsJobRow};
 ghost use Rattle.queue_rows.specs.Rows.{tables_in, StandForSoundWorlds, StandForNoSoundWorld};
-ghost use Rattle.queue_rows.specs.Sound.{HaveSoundJobs, HaveSoundGrants, HaveSoundReports, HaveSoundOwners, AreSoundRows};
+ghost use Rattle.queue_rows.specs.Sound.{HaveSoundJobs, HaveSoundGrants, HaveSoundReports, HaveSoundOwners, HaveSoundTables, AreSoundRows};
 
 use crate::accounts::{accounts_are_in_order, accounts_have_grants, grants_have_accounts};
 use crate::balances::accounts_are_balanced;
@@ -106,24 +106,18 @@ fn have_sound_owners(
     accounts_are_balanced(alloc, accounts, grants, jobs)
 }
 
-/// Each clause over the rows is kept.
-fn keep_each_clause(alloc: Global, rows: &Rows) -> Result<bool, AllocError>
-    ensures { IfOk result (λ b. IsTrue b ↔ AreSoundRows (tables_in rows.now)) }
+/// The tables beside `meta`.
+fn have_sound_tables(alloc: Global, rows: &Rows, next: u32) -> Result<bool, AllocError>
+    ensures { IfOk result (λ b. IsTrue b ↔ HaveSoundTables (tables_in rows.now) next) }
 {
-    let [meta] = rows.meta.as_slice() else {
-        return Ok(false);
-    };
     let jobs = rows.jobs.as_slice();
     let grants = rows.grants.as_slice();
     let accounts = rows.accounts.as_slice();
-    if !is_sound_meta(alloc, meta)? {
-        return Ok(false);
-    }
     if !have_sound_jobs(
         jobs,
         rows.documents.as_slice(),
         rows.pieces.as_slice(),
-        meta.next_number,
+        next,
     ) {
         return Ok(false);
     }
@@ -134,6 +128,19 @@ fn keep_each_clause(alloc: Global, rows: &Rows) -> Result<bool, AllocError>
         return Ok(false);
     }
     have_sound_owners(alloc, jobs, grants, accounts)
+}
+
+/// Each clause over the rows is kept.
+fn keep_each_clause(alloc: Global, rows: &Rows) -> Result<bool, AllocError>
+    ensures { IfOk result (λ b. IsTrue b ↔ AreSoundRows (tables_in rows.now)) }
+{
+    let [meta] = rows.meta.as_slice() else {
+        return Ok(false);
+    };
+    if !is_sound_meta(alloc, meta)? {
+        return Ok(false);
+    }
+    have_sound_tables(alloc, rows, meta.next_number)
 }
 
 /// Whether the rows of all tables are those of a sound queue. If so, there is one for any bytes of the
