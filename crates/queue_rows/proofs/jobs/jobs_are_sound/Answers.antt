@@ -1,0 +1,23 @@
+use Rattle.std.proofs.Common.{refl, sym, subst, arith}
+use Rattle.std.proofs.lemmas.List.{take_all}
+use Rattle.std.proofs.lemmas.List.Elements.{All-more}
+use Rattle.queue_rows.specs.Jobs.{IsJobRow}
+use Rattle.queue_core.specs.declared.job.Job.{Job}
+use Rattle.queue_rows.proofs.jobs.jobs_are_sound.Goals as goal
+
+pub returns-then-not-is_job_row : goal.returns-then-not-is_job_row
+returns-then-not-is_job_row c = (
+  λ t. absurd cc,
+  λ all.
+      let P = λ (x : Job). IsJobRow x in
+      let passes = c.is_job_row.ensures.1 (subst P (sym c.j-item.is) (all c.loop-j.j-index c.j-item.result (omega arith))) in
+      absurd (cc (passes, c.if-not-is_job_row.true)),
+)
+
+pub loop-j-preserved : goal.loop-j-preserved
+loop-j-preserved c =
+    let P = λ (x : Job). IsJobRow x in
+    All-more P c.args.jobs.now c.loop-j.j-index c.j-item.result (omega arith) c.loop-j.invariant (subst P c.j-item.is (c.is_job_row.ensures.0 (cc (c.if-not-is_job_row.false))))
+
+pub returns : goal.returns
+returns c = (λ t. rw (sym (take_all c.loop-j.j-index c.args.jobs.now (omega (arith, c.loop-j-test.false)))) c.loop-j.invariant, λ all. refl)

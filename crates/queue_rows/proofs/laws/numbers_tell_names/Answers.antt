@@ -1,0 +1,11 @@
+use Rattle.queue_rows.proofs.CodeLemmas.{same_phase, same_kind, same_flag}
+use Rattle.queue_rows.proofs.laws.numbers_tell_names.Goals as goal
+
+pub returns-clause-phases : goal.returns-clause-phases
+returns-clause-phases c = same_phase
+
+pub returns-clause-kinds : goal.returns-clause-kinds
+returns-clause-kinds c = same_kind
+
+pub returns-clause-flags : goal.returns-clause-flags
+returns-clause-flags c = same_flag

@@ -1,0 +1,6 @@
+use Rattle.std.proofs.Common.{◌≡◌, ℕ, List, take}
+use Rattle.queue_rows.specs.Totals.{total, total_in}
+use Rattle.queue_rows.proofs.totals.totals.Given as goal
+
+abbrev pub invariant-loop-name : goal.invariant-loop-name
+invariant-loop-name l = (q : List ℕ) → total_in l.m q ≡ total q (take l.name-index l.amounts)

@@ -1,0 +1,12 @@
+pub mod Order
+pub mod Totals
+pub mod Meta
+pub mod Jobs
+pub mod Documents
+pub mod Pieces
+pub mod Grants
+pub mod Accounts
+pub mod Reports
+pub mod Rows
+pub mod Sound
+pub mod Codes

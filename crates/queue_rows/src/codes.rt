@@ -1,0 +1,98 @@
+//! The numbers that stand for phases, kinds of reports and truth values in the columns of the tables.
+ghost use Rattle.std.specs.Prelude.{◌≡◌, pos, MatchOption, Bool};
+ghost use Rattle.queue_core.specs.declared.event.Kind.{Kind};
+ghost use Rattle.queue_core.specs.declared.job.Phase.{Phase};
+ghost use Rattle.queue_rows.specs.Codes.{phase_number, why_number, kind_number, flag_number};
+
+use queue_core::event::Kind;
+use queue_core::job::{Phase, Why};
+
+/// The column `phase`: 0 waiting, 1 running, 2 stopped, 7 canceled, 8 aborted, 9 completed.
+pub fn phase_code(phase: Phase) -> i64
+    ensures { result ≡ pos (phase_number phase) }
+{
+    match phase {
+        Phase::Waiting => 0,
+        Phase::Running => 1,
+        Phase::Stopped => 2,
+        Phase::Canceled(_) => 7,
+        Phase::Aborted => 8,
+        Phase::Completed => 9,
+    }
+}
+
+/// The column `why`: who canceled the job, 1 by its user and 2 at the device; of any other job 0.
+pub fn why_code(phase: Phase) -> i64
+    ensures { result ≡ pos (why_number phase) }
+{
+    match phase {
+        Phase::Canceled(Why::ByUser) => 1,
+        Phase::Canceled(Why::AtDevice) => 2,
+        Phase::Waiting | Phase::Running | Phase::Stopped | Phase::Aborted | Phase::Completed => 0,
+    }
+}
+
+/// The phase that stands in the columns `phase` and `why`; None where no phase does.
+pub fn phase_of(phase: i64, why: i64) -> Option<Phase>
+    ensures { MatchOption result ((p : Phase) → ¬ ((phase ≡ pos (phase_number p)) × (why ≡ pos (why_number p)))) (λ p. (phase ≡ pos (phase_number p)) × (why ≡ pos (why_number p))) }
+{
+    match (phase, why) {
+        (0, 0) => Some(Phase::Waiting),
+        (1, 0) => Some(Phase::Running),
+        (2, 0) => Some(Phase::Stopped),
+        (7, 1) => Some(Phase::Canceled(Why::ByUser)),
+        (7, 2) => Some(Phase::Canceled(Why::AtDevice)),
+        (8, 0) => Some(Phase::Aborted),
+        (9, 0) => Some(Phase::Completed),
+        _ => None,
+    }
+}
+
+/// The column `kind` of a report: 1 start, 2 stop, 3 resume, 4 count, 5 done, 6 fail, 7 halt.
+pub fn kind_code(kind: Kind) -> i64
+    ensures { result ≡ pos (kind_number kind) }
+{
+    match kind {
+        Kind::Start => 1,
+        Kind::Stop => 2,
+        Kind::Resume => 3,
+        Kind::Count => 4,
+        Kind::Done => 5,
+        Kind::Fail => 6,
+        Kind::Halt => 7,
+    }
+}
+
+/// The kind that stands in the column `kind`; None where no kind does.
+pub fn kind_of(kind: i64) -> Option<Kind>
+    ensures { MatchOption result ((k : Kind) → ¬ (kind ≡ pos (kind_number k))) (λ k. kind ≡ pos (kind_number k)) }
+{
+    match kind {
+        1 => Some(Kind::Start),
+        2 => Some(Kind::Stop),
+        3 => Some(Kind::Resume),
+        4 => Some(Kind::Count),
+        5 => Some(Kind::Done),
+        6 => Some(Kind::Fail),
+        7 => Some(Kind::Halt),
+        _ => None,
+    }
+}
+
+/// A truth value: 0 false, 1 true.
+pub fn flag_code(flag: bool) -> i64
+    ensures { result ≡ pos (flag_number flag) }
+{
+    i64::from(flag)
+}
+
+/// The truth value that stands in a column; None where none does.
+pub fn flag_of(flag: i64) -> Option<bool>
+    ensures { MatchOption result ((b : Bool) → ¬ (flag ≡ pos (flag_number b))) (λ b. flag ≡ pos (flag_number b)) }
+{
+    match flag {
+        0 => Some(false),
+        1 => Some(true),
+        _ => None,
+    }
+}

@@ -1,0 +1,57 @@
+//! The rows of documents against those of jobs.
+ghost use Rattle.std.specs.Prelude.{◌≡◌, ◌↔◌, ◌≤◌, All, IsTrue, MatchOption, drop, length};
+ghost use Rattle.queue_rows.specs.Documents.{HasSize, next_of, IsGroup, AreGrouped};
+
+use crate::rows::DocumentRow;
+use queue_core::job::Job;
+
+/// How many documents of the job stand first. None where they are not numbered 1, 2 and so on, or are
+/// more than 16.
+fn leading_documents(documents: &[DocumentRow], number: u32) -> Option<u32>
+    ensures { MatchOption result (¬ IsGroup number documents.now) (λ n. IsGroup number documents.now × (n ≡ next_of number documents.now)) }
+{
+    let mut count = 0u32;
+    for d in documents {
+        if d.job != number {
+            return Some(count);
+        }
+        if count == 16 {
+            return None;
+        }
+        if d.doc != count + 1 {
+            return None;
+        }
+        count += 1;
+    }
+    Some(count)
+}
+
+fn behind(documents: &[DocumentRow], count: u32) -> &[DocumentRow]
+    requires { count ≤ length documents.now }
+    ensures { result.now ≡ drop count documents.now }
+{
+    &documents[count as usize..]
+}
+
+/// The documents are those of the jobs, each job's after another's, numbered from 1.
+pub fn documents_follow(jobs: &[Job], documents: &[DocumentRow]) -> bool
+    ensures { IsTrue result ↔ AreGrouped jobs.now documents.now }
+{
+    let mut rest = documents;
+    for j in jobs {
+        let Some(count) = leading_documents(rest, j.number) else {
+            return false;
+        };
+        rest = behind(rest, count);
+    }
+    rest.is_empty()
+}
+
+/// Each document has 1 to 16,777,216 octets.
+pub fn documents_have_sizes(documents: &[DocumentRow]) -> bool
+    ensures { IsTrue result ↔ All HasSize documents.now }
+{
+    documents
+        .iter()
+        .all(|d| d.octets >= 1 && d.octets <= 16_777_216)
+}

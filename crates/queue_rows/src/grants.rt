@@ -1,0 +1,60 @@
+//! The rows of grants: each one's own limits, their order, and the most of an account.
+ghost use Rattle.std.specs.Prelude.{◌≡◌, ◌↔◌, ◌≤◌, ℕ, List, All, IfOk, IsTrue};
+ghost use Rattle.queue_rows.specs.Grants.{IsGrantRow, grant_before, granted_to};
+ghost use Rattle.queue_rows.specs.Order.{AreInOrder};
+
+use crate::amounts::grant_amounts;
+use crate::texts::{is_batch, is_owner};
+use crate::totals::are_within;
+use queue_core::event::GrantRow;
+use std::alloc::{AllocError, Global};
+use std::cmp::Ordering;
+
+fn is_grant(g: &GrantRow) -> bool
+    ensures { IsTrue result ↔ IsGrantRow g.now }
+{
+    let names = is_batch(g.batch.as_str()) && is_owner(g.account.as_str());
+    names && g.pages >= 1 && g.pages <= 1_000_000
+}
+
+pub fn grants_are_sound(grants: &[GrantRow]) -> bool
+    ensures { IsTrue result ↔ All IsGrantRow grants.now }
+{
+    for g in grants {
+        if !is_grant(g) {
+            return false;
+        }
+    }
+    true
+}
+
+fn is_grant_before(a: &GrantRow, b: &GrantRow) -> bool
+    ensures { result ≡ grant_before a.now b.now }
+{
+    match a.batch.as_str().cmp(b.batch.as_str()) {
+        Ordering::Less => true,
+        Ordering::Equal => a.account.as_str() < b.account.as_str(),
+        Ordering::Greater => false,
+    }
+}
+
+/// The grants stand in the order of batch and account, none twice.
+pub fn grants_are_in_order(grants: &[GrantRow]) -> bool
+    ensures { IsTrue result ↔ AreInOrder grant_before grants.now }
+{
+    for i in 1..grants.len() {
+        if !is_grant_before(&grants[i - 1], &grants[i]) {
+            return false;
+        }
+    }
+    true
+}
+
+/// No account was granted more than 1,000,000,000 pages.
+pub fn grants_are_within(alloc: Global, grants: &[GrantRow]) -> Result<bool, AllocError>
+    requires { All IsGrantRow grants.now }
+    ensures { IfOk result (λ b. IsTrue b ↔ ((a : List ℕ) → granted_to a grants.now ≤ 1000000000)) }
+{
+    let amounts = grant_amounts(alloc, grants)?;
+    are_within(alloc, amounts.as_slice(), 1_000_000_000)
+}

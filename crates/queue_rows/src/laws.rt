@@ -1,0 +1,21 @@
+//! What rows tell, as laws that no program calls: each is a contract on an empty body.
+ghost use Rattle.std.specs.Prelude.{◌≡◌, Bool};
+ghost use Rattle.queue_core.specs.declared.event.Kind.{Kind};
+ghost use Rattle.queue_core.specs.declared.job.Phase.{Phase};
+ghost use Rattle.queue_core.specs.Sound.{IsSound};
+ghost use Rattle.queue_core.specs.World.{World};
+ghost use Rattle.queue_rows.specs.Codes.{phase_number, why_number, kind_number, flag_number};
+ghost use Rattle.queue_rows.specs.Rows.{rows_of, bytes_of};
+
+/// Two sound queues with the same rows, and the same bytes in their pieces, are one: the rows tell all of
+/// a queue.
+pub fn rows_tell_the_queue()
+    ensures { (v w : World) → IsSound v → IsSound w → rows_of v ≡ rows_of w → bytes_of v ≡ bytes_of w → v ≡ w }
+{}
+
+/// No two phases, kinds of reports or truth values have the same numbers in their columns.
+pub fn numbers_tell_names()
+    ensures phases { (p q : Phase) → phase_number p ≡ phase_number q → why_number p ≡ why_number q → p ≡ q }
+    ensures kinds { (k l : Kind) → kind_number k ≡ kind_number l → k ≡ l }
+    ensures flags { (a b : Bool) → flag_number a ≡ flag_number b → a ≡ b }
+{}

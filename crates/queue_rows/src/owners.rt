@@ -1,0 +1,51 @@
+//! The rows of jobs by their owners: how many are live, and that without an account nothing prints.
+ghost use Rattle.std.specs.Prelude.{◌≡◌, ◌↔◌, ◌≤◌, ℕ, List, All, IfOk, IsTrue};
+ghost use Rattle.queue_core.specs.Sound.{IsIdle};
+ghost use Rattle.queue_core.specs.World.{live_jobs};
+ghost use Rattle.queue_rows.specs.Grants.{IsGrantRow, granted_to};
+ghost use Rattle.queue_rows.specs.Totals.{total_in};
+
+use crate::amounts::{granted_totals, live_amounts};
+use crate::totals::{are_within, total_of};
+use queue_core::event::GrantRow;
+use queue_core::job::Job;
+use std::alloc::{AllocError, Global};
+use std::collections::HashMap;
+
+/// No owner has more than 100 jobs in the states 3 to 6.
+pub fn live_jobs_fit(alloc: Global, jobs: &[Job]) -> Result<bool, AllocError>
+    ensures { IfOk result (λ b. IsTrue b ↔ ((caller : List ℕ) → live_jobs caller jobs.now ≤ 100)) }
+{
+    let amounts = live_amounts(alloc, jobs)?;
+    are_within(alloc, amounts.as_slice(), 100)
+}
+
+fn is_idle(j: &Job) -> bool
+    ensures { IsTrue result ↔ IsIdle j.now }
+{
+    j.begun.is_none() && j.count == 0 && (j.hold || j.ended.is_some())
+}
+
+/// The owner was granted pages, or the job is idle.
+fn is_covered(granted: &HashMap<&str, u128>, j: &Job) -> bool
+    ensures { IsTrue result ↔ (total_in granted.now j.now.owner ≡ 0 → IsIdle j.now) }
+{
+    if total_of(granted, j.owner.as_str()) > 0 {
+        return true;
+    }
+    is_idle(j)
+}
+
+/// Each job whose owner was granted nothing never began, has no count, and is on hold or ended.
+pub fn others_are_idle(alloc: Global, jobs: &[Job], grants: &[GrantRow]) -> Result<bool, AllocError>
+    requires { All IsGrantRow grants.now }
+    ensures { IfOk result (λ b. IsTrue b ↔ All (λ j. granted_to j.owner grants.now ≡ 0 → IsIdle j) jobs.now) }
+{
+    let granted = granted_totals(alloc, grants)?;
+    for j in jobs {
+        if !is_covered(&granted, j) {
+            return Ok(false);
+        }
+    }
+    Ok(true)
+}

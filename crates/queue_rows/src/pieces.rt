@@ -1,0 +1,49 @@
+//! The rows of pieces against those of documents.
+ghost use Rattle.std.specs.Prelude.{◌≡◌, ◌≢◌, ◌<◌, ◌*◌, ◌++◌, ◌↔◌, List, IsTrue, MatchOption};
+ghost use Rattle.std.specs.List.{flat_map};
+ghost use Rattle.queue_rows.specs.Pieces.{piece_of, pieces_of};
+ghost use Rattle.queue_rows.specs.declared.rows.PieceRow.{PieceRow};
+
+use crate::rows::{DocumentRow, PieceRow};
+
+/// The bytes of a piece, but of a document's last one.
+const PIECE: u32 = 65_536;
+
+/// It is the piece of that number of the document.
+fn is_piece(p: &PieceRow, d: &DocumentRow, k: u32) -> bool
+    requires { k * 65536 < d.now.octets }
+    ensures { IsTrue result ↔ (p.now ≡ piece_of d.now k) }
+{
+    let length = (d.octets - k * PIECE).min(PIECE);
+    p.job == d.job && p.doc == d.doc && p.piece == k && p.length == length
+}
+
+/// What follows the document's pieces, where they stand first.
+fn behind_pieces<'a>(pieces: &'a [PieceRow], d: &DocumentRow) -> Option<&'a [PieceRow]>
+    ensures { MatchOption result ((rest : List PieceRow) → pieces.now ≢ pieces_of d.now ++ rest) (λ rest. pieces.now ≡ pieces_of d.now ++ rest.now) }
+{
+    let count = d.octets.div_ceil(PIECE);
+    if pieces.len() < count as usize {
+        return None;
+    }
+    for k in 0..count {
+        if !is_piece(&pieces[k as usize], d, k) {
+            return None;
+        }
+    }
+    Some(&pieces[count as usize..])
+}
+
+/// The pieces are those of the documents, each document's after another's.
+pub fn pieces_follow(documents: &[DocumentRow], pieces: &[PieceRow]) -> bool
+    ensures { IsTrue result ↔ (pieces.now ≡ flat_map pieces_of documents.now) }
+{
+    let mut rest = pieces;
+    for d in documents {
+        let Some(behind) = behind_pieces(rest, d) else {
+            return false;
+        };
+        rest = behind;
+    }
+    rest.is_empty()
+}

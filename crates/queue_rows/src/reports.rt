@@ -1,0 +1,104 @@
+//! The rows of kept reports: each one's own limits, their order, their jobs, and the jobs' counts.
+ghost use Rattle.std.specs.Prelude.{◌≡◌, ◌↔◌, ℕ, All, IsTrue, IfOk, unwrap_or, nat_eq};
+ghost use Rattle.std.specs.HashMap.{get};
+ghost use Rattle.queue_rows.specs.Jobs.{has_number};
+ghost use Rattle.queue_rows.specs.Order.{AreInOrder};
+ghost use Rattle.queue_rows.specs.Reports.{IsReportRow, report_before, greatest};
+
+use queue_core::event::KeptReport;
+use queue_core::job::Job;
+use std::alloc::{AllocError, Global};
+use std::collections::HashMap;
+
+fn is_report(k: &KeptReport) -> bool
+    ensures { IsTrue result ↔ IsReportRow k.now }
+{
+    let seq = k.report.seq >= 1 && k.report.seq < 2_147_483_648;
+    seq && k.report.count <= 100_000_000 && k.state >= 3 && k.state <= 9 && k.total <= 100_000_000
+}
+
+pub fn reports_are_sound(reports: &[KeptReport]) -> bool
+    ensures { IsTrue result ↔ All IsReportRow reports.now }
+{
+    for k in reports {
+        if !is_report(k) {
+            return false;
+        }
+    }
+    true
+}
+
+fn is_report_before(a: &KeptReport, b: &KeptReport) -> bool
+    ensures { result ≡ report_before a.now b.now }
+{
+    a.report.job < b.report.job || (a.report.job == b.report.job && a.report.seq < b.report.seq)
+}
+
+/// The reports stand in the order of job and sequence number, none twice.
+pub fn reports_are_in_order(reports: &[KeptReport]) -> bool
+    ensures { IsTrue result ↔ AreInOrder report_before reports.now }
+{
+    for i in 1..reports.len() {
+        if !is_report_before(&reports[i - 1], &reports[i]) {
+            return false;
+        }
+    }
+    true
+}
+
+/// The numbers of the jobs.
+fn job_numbers(alloc: Global, jobs: &[Job]) -> Result<HashMap<u32, u32>, AllocError>
+    ensures { IfOk result (λ m. (n : ℕ) → unwrap_or (get nat_eq m n) 0 ≡ has_number n jobs.now) }
+{
+    let mut m = HashMap::new(alloc);
+    for j in jobs {
+        m.insert(j.number, 1)?;
+    }
+    Ok(m)
+}
+
+/// Each report's job is there.
+pub fn reports_have_jobs(
+    alloc: Global,
+    reports: &[KeptReport],
+    jobs: &[Job],
+) -> Result<bool, AllocError>
+    ensures { IfOk result (λ b. IsTrue b ↔ All (λ k. has_number k.report.job jobs.now ≡ 1) reports.now) }
+{
+    let m = job_numbers(alloc, jobs)?;
+    for k in reports {
+        if m.get(&k.report.job).copied().unwrap_or(0) != 1 {
+            return Ok(false);
+        }
+    }
+    Ok(true)
+}
+
+/// The greatest count that was reported of each job.
+fn greatest_counts(alloc: Global, reports: &[KeptReport]) -> Result<HashMap<u32, u32>, AllocError>
+    ensures { IfOk result (λ m. (n : ℕ) → unwrap_or (get nat_eq m n) 0 ≡ greatest n reports.now) }
+{
+    let mut m = HashMap::new(alloc);
+    for r in reports {
+        let before = m.get(&r.report.job).copied().unwrap_or(0);
+        m.insert(r.report.job, before.max(r.report.count))?;
+    }
+    Ok(m)
+}
+
+/// Each job's count is the greatest of its reports.
+pub fn counts_are_greatest(
+    alloc: Global,
+    jobs: &[Job],
+    reports: &[KeptReport],
+) -> Result<bool, AllocError>
+    ensures { IfOk result (λ b. IsTrue b ↔ All (λ j. j.count ≡ greatest j.number reports.now) jobs.now) }
+{
+    let m = greatest_counts(alloc, reports)?;
+    for j in jobs {
+        if j.count != m.get(&j.number).copied().unwrap_or(0) {
+            return Ok(false);
+        }
+    }
+    Ok(true)
+}

@@ -1,0 +1,153 @@
+//! Whether the rows of all tables are those of a sound queue.
+ghost use Rattle.std.specs.Prelude.{◌≡◌, ◌↔◌, All, IfOk, IsTrue, false};
+ghost use Rattle.queue_rows.specs.Grants.{IsGrantRow};
+ghost use Rattle.queue_rows.specs.Jobs.{IsJobRow};
+ghost use Rattle.queue_rows.specs.Rows.{tables_in, StandForSoundWorlds, StandForNoSoundWorld};
+ghost use Rattle.queue_rows.specs.Sound.{HaveSoundJobs, HaveSoundGrants, HaveSoundReports, HaveSoundOwners, HaveSoundTables, AreSoundRows};
+
+use crate::accounts::{accounts_are_in_order, accounts_have_grants, grants_have_accounts};
+use crate::balances::accounts_are_balanced;
+use crate::documents::{documents_follow, documents_have_sizes};
+use crate::grants::{grants_are_in_order, grants_are_sound, grants_are_within};
+use crate::jobs::{jobs_are_sound, numbers_rise};
+use crate::meta::is_sound_meta;
+use crate::owners::{live_jobs_fit, others_are_idle};
+use crate::pieces::pieces_follow;
+use crate::reports::{
+    counts_are_greatest, reports_are_in_order, reports_are_sound, reports_have_jobs,
+};
+use crate::rows::{AccountRow, DocumentRow, PieceRow, Rows};
+use queue_core::event::{GrantRow, KeptReport};
+use queue_core::job::Job;
+use std::alloc::{AllocError, Global};
+
+/// The jobs with their documents and pieces.
+fn have_sound_jobs(jobs: &[Job], documents: &[DocumentRow], pieces: &[PieceRow], next: u32) -> bool
+    ensures { IsTrue result ↔ HaveSoundJobs jobs.now documents.now pieces.now next }
+{
+    if !numbers_rise(jobs, next) {
+        return false;
+    }
+    if next > 2_147_483_648 {
+        return false;
+    }
+    if !jobs_are_sound(jobs) {
+        return false;
+    }
+    if !documents_follow(jobs, documents) {
+        return false;
+    }
+    if !documents_have_sizes(documents) {
+        return false;
+    }
+    pieces_follow(documents, pieces)
+}
+
+/// The grants with their accounts.
+fn have_sound_grants(
+    alloc: Global,
+    grants: &[GrantRow],
+    accounts: &[AccountRow],
+) -> Result<bool, AllocError>
+    ensures { IfOk result (λ b. IsTrue b ↔ HaveSoundGrants grants.now accounts.now) }
+{
+    if !grants_are_sound(grants) {
+        return Ok(false);
+    }
+    if !grants_are_in_order(grants) || !accounts_are_in_order(accounts) {
+        return Ok(false);
+    }
+    if !grants_are_within(alloc, grants)? {
+        return Ok(false);
+    }
+    if !grants_have_accounts(alloc, grants, accounts)? {
+        return Ok(false);
+    }
+    accounts_have_grants(alloc, accounts, grants)
+}
+
+/// The reports with the counts of the jobs.
+fn have_sound_reports(
+    alloc: Global,
+    reports: &[KeptReport],
+    jobs: &[Job],
+) -> Result<bool, AllocError>
+    ensures { IfOk result (λ b. IsTrue b ↔ HaveSoundReports reports.now jobs.now) }
+{
+    if !reports_are_sound(reports) {
+        return Ok(false);
+    }
+    if !reports_are_in_order(reports) {
+        return Ok(false);
+    }
+    if !reports_have_jobs(alloc, reports, jobs)? {
+        return Ok(false);
+    }
+    counts_are_greatest(alloc, jobs, reports)
+}
+
+/// The jobs by their owners, and what is stored of the accounts.
+fn have_sound_owners(
+    alloc: Global,
+    jobs: &[Job],
+    grants: &[GrantRow],
+    accounts: &[AccountRow],
+) -> Result<bool, AllocError>
+    requires grants { All IsGrantRow grants.now }
+    requires jobs { All IsJobRow jobs.now }
+    ensures { IfOk result (λ b. IsTrue b ↔ HaveSoundOwners jobs.now grants.now accounts.now) }
+{
+    if !live_jobs_fit(alloc, jobs)? {
+        return Ok(false);
+    }
+    if !others_are_idle(alloc, jobs, grants)? {
+        return Ok(false);
+    }
+    accounts_are_balanced(alloc, accounts, grants, jobs)
+}
+
+/// The tables beside `meta`.
+fn have_sound_tables(alloc: Global, rows: &Rows, next: u32) -> Result<bool, AllocError>
+    ensures { IfOk result (λ b. IsTrue b ↔ HaveSoundTables (tables_in rows.now) next) }
+{
+    let jobs = rows.jobs.as_slice();
+    let grants = rows.grants.as_slice();
+    let accounts = rows.accounts.as_slice();
+    if !have_sound_jobs(
+        jobs,
+        rows.documents.as_slice(),
+        rows.pieces.as_slice(),
+        next,
+    ) {
+        return Ok(false);
+    }
+    if !have_sound_grants(alloc, grants, accounts)? {
+        return Ok(false);
+    }
+    if !have_sound_reports(alloc, rows.reports.as_slice(), jobs)? {
+        return Ok(false);
+    }
+    have_sound_owners(alloc, jobs, grants, accounts)
+}
+
+/// Each clause over the rows is kept.
+fn keep_each_clause(alloc: Global, rows: &Rows) -> Result<bool, AllocError>
+    ensures { IfOk result (λ b. IsTrue b ↔ AreSoundRows (tables_in rows.now)) }
+{
+    let [meta] = rows.meta.as_slice() else {
+        return Ok(false);
+    };
+    if !is_sound_meta(alloc, meta)? {
+        return Ok(false);
+    }
+    have_sound_tables(alloc, rows, meta.next_number)
+}
+
+/// Whether the rows of all tables are those of a sound queue. If so, there is one for any bytes of the
+/// pieces that have their lengths; if not, no sound queue has these rows. The one error is want of memory.
+pub fn are_sound_rows(alloc: Global, rows: &Rows) -> Result<bool, AllocError>
+    ensures sound { IfOk result (λ b. IsTrue b → StandForSoundWorlds (tables_in rows.now)) }
+    ensures damaged { IfOk result (λ b. b ≡ false → StandForNoSoundWorld (tables_in rows.now)) }
+{
+    keep_each_clause(alloc, rows)
+}

@@ -1,0 +1,51 @@
+//! Names within their limits.
+ghost use Rattle.std.specs.Prelude.{◌≡◌, ◌↔◌, IsTrue, nat_le};
+ghost use Rattle.std.specs.List.{list_all};
+ghost use Rattle.queue_core.specs.Limits.{is_no_control, IsOwner, IsJobName};
+ghost use Rattle.queue_core.specs.Sound.{is_batch_byte, IsBatch};
+
+fn has_no_control(t: &[u8]) -> bool
+    ensures { result ≡ list_all is_no_control t.now }
+{
+    t.iter().all(|b| *b >= 32 && !(*b == 127))
+}
+
+fn has_no_zero(t: &[u8]) -> bool
+    ensures { result ≡ list_all (λ b. nat_le 1 b) t.now }
+{
+    t.iter().all(|b| *b >= 1)
+}
+
+fn has_batch_bytes(t: &[u8]) -> bool
+    ensures { result ≡ list_all is_batch_byte t.now }
+{
+    t.iter().all(|b| {
+        (*b >= b'0' && *b <= b'9')
+            || (*b >= b'A' && *b <= b'Z')
+            || (*b >= b'a' && *b <= b'z')
+            || *b == b'-'
+            || *b == b'.'
+            || *b == b'_'
+    })
+}
+
+/// 1 to 255 octets without control bytes.
+pub fn is_owner(t: &str) -> bool
+    ensures { IsTrue result ↔ IsOwner t.now }
+{
+    t.len() >= 1 && t.len() <= 255 && has_no_control(t.as_bytes())
+}
+
+/// 1 to 255 octets without a zero byte.
+pub fn is_job_name(t: &str) -> bool
+    ensures { IsTrue result ↔ IsJobName t.now }
+{
+    t.len() >= 1 && t.len() <= 255 && has_no_zero(t.as_bytes())
+}
+
+/// 1 to 40 letters, digits, '-', '.' or '_'.
+pub fn is_batch(t: &str) -> bool
+    ensures { IsTrue result ↔ IsBatch t.now }
+{
+    t.len() >= 1 && t.len() <= 40 && has_batch_bytes(t.as_bytes())
+}
