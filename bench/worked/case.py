@@ -1,5 +1,5 @@
 """What an example is made of."""
-from ipp import INTEGER, KEYWORD, PRINT_JOB, Job, Message, NAME, record, reply, request
+from ipp import INTEGER, KEYWORD, PRINT_JOB, Job, Message, NAME, octets, record, reply, request
 
 CASES = []
 
@@ -19,13 +19,16 @@ def line(message, request_id):
 
 
 def case(name, *steps):
-    """An example by its steps: exchanges (a request and its reply) and moments (`now`)."""
+    """An example by its steps: exchanges (a request and its reply, or a line and its answer) and moments (`now`)."""
     text, wanted = b"", b""
     for place, step in enumerate(steps):
         if isinstance(step, bytes):
             text += step
             continue
         asked, answer = step
+        if isinstance(asked, bytes):
+            text, wanted = text + asked, wanted + answer
+            continue
         assert isinstance(asked, Message) and isinstance(answer, Message), name
         text += line(asked, FIRST_REQUEST_ID + place)
         wanted += line(answer, FIRST_REQUEST_ID + place)
@@ -35,6 +38,16 @@ def case(name, *steps):
 def now(moment):
     """The step that sets the moment."""
     return b"now %d\n" % moment
+
+
+def dev(text, answer):
+    """The step of a line of the device, and what answers it."""
+    return b"dev %s\n" % octets(text), octets(answer) + b"\n"
+
+
+def grant(row, answer="new 1 repeats 0"):
+    """The step of an account file of one row, and what comes of it."""
+    return b"grant %s\n" % octets(row), b"grant %s\n" % octets(answer)
 
 
 def sized(length, message):

@@ -81,12 +81,13 @@ head_quiet true (Some o) code e = absurd (cc)
 
 -- ---- what the machine refuses
 
--- a decision that refuses changes nothing, and its code is no fault
+-- a decision that refuses changes nothing, and its code is no fault; no decision on a request has another form
 abbrev Quiet : Reply → Change → Type 0
 Quiet (Refused code) change = IsQuiet code × (change ≡ no_change)
 Quiet Done change = ⊤
 Quiet (Jobs js) change = ⊤
 Quiet (Printer state queued accepting) change = ⊤
+Quiet _ change = ⊥
 
 abbrev QuietDecision : Decision → Type 0
 QuietDecision d = Quiet d.reply d.change
@@ -172,6 +173,7 @@ reply_quiet (Refused code) change h rows u s now q = q.0 h (if code == 0x040B th
 reply_quiet Done change h rows u s now q = success_quiet (is_listed u) h (unsupported_groups u)
 reply_quiet (Jobs js) change h rows u s now q = success_quiet (is_listed u) h (unsupported_groups u ++ map (job_group s.uri now (job_rows rows)) js)
 reply_quiet (Printer state queued accepting) change h rows u s now q = success_quiet (is_listed u) h (unsupported_groups u ++ printer_group (record { settings = s; now = now; state = state; queued = queued; accepting = accepting }) (printer_rows rows) ∷ [])
+reply_quiet _ change h rows u s now q = absurd q
 
 outcome_tells : (v : Verdict) (h : Head) (w : World) (now : ℕ) → QuietVerdict v → is_fault (spelling (outcome v h w now).reply) ≡ false
 outcome_tells (refused code u) h w now q = q h (if code == 0x040B then unsupported_groups u else [])
@@ -197,6 +199,7 @@ reply_keeps (Refused code) change h rows u s now w q e = ap (λ (c : Change). ma
 reply_keeps Done change h rows u s now w q e = let small = success_small (is_listed u) h (unsupported_groups u) in absurd (cc)
 reply_keeps (Jobs js) change h rows u s now w q e = let small = success_small (is_listed u) h (unsupported_groups u ++ map (job_group s.uri now (job_rows rows)) js) in absurd (cc)
 reply_keeps (Printer state queued accepting) change h rows u s now w q e = let small = success_small (is_listed u) h (unsupported_groups u ++ printer_group (record { settings = s; now = now; state = state; queued = queued; accepting = accepting }) (printer_rows rows) ∷ []) in absurd (cc)
+reply_keeps _ change h rows u s now w q e = absurd q
 
 outcome_keeps : (v : Verdict) (h : Head) (w : World) (now : ℕ) → is_refusal (spelling (outcome v h w now).reply) ≡ true → (outcome v h w now).world ≡ w
 outcome_keeps (refused code u) h w now e = refl

@@ -151,5 +151,10 @@ pub fn reply_message(
             )?;
             Ok(m)
         }
+        // These answer reports and account files.
+        Reply::Told { .. } => unreachable!(),
+        Reply::NotTold(_) => unreachable!(),
+        Reply::Added { .. } => unreachable!(),
+        Reply::NotAdded { .. } => unreachable!(),
     }
 }

@@ -1,2 +1,5 @@
 pub mod Put
 pub mod Ordered
+pub mod SeenLemmas
+pub mod SentLemmas
+pub mod Keyed

@@ -3,18 +3,21 @@ use Rattle.std.proofs.Common.{◌≡◌, ℕ, ◌<◌, suc, zero, List, [], ◌�
 use Rattle.std.specs.Prelude.{slice_set, fold, IsSome, is_some, Option, Some, None, nat_eq, bytes_eq, ℤ}
 use Rattle.std.proofs.lemmas.Cmp.{nat_list_eq_equiv}
 use Rattle.std.proofs.lemmas.Bool.Decides.{nat_tests}
-use Rattle.std.specs.FinMap.{FinMap, get, get-insert, get-empty, same_map, slice_cmp-IsAntisymmetric, nat_cmp-IsAntisymmetric}
+use Rattle.std.specs.FinMap.{FinMap, empty, get, get-insert, get-empty, same_map, slice_cmp-IsAntisymmetric, nat_cmp-IsAntisymmetric}
 use Rattle.std.specs.Ordering.{eq_by_cmp}
 use Rattle.std.specs.Cmp.Lexicographic.{nat_list_cmp_total}
 use Rattle.std.proofs.lemmas.Map.Text.{is_eq-slice_cmp}
 use Rattle.std.proofs.lemmas.Slice.Eq.{bytes_eq-Decides}
-use Rattle.queue_core.specs.World.{Entry, with_row, with_document, add_document, put_free, text_cmp, made_on, cut, found_row, jobs_for, live_for, counts_for, job_at}
-use Rattle.queue_core.specs.Event.{NewDocument, Change, Call, ask}
+use Rattle.queue_core.specs.World.{Entry, with_row, with_document, add_document, put_free, text_cmp, put_grant, with_report, made_on, cut, found_row, owner_row, numbered, queue_counts, jobs_for, live_for, counts_for, job_at}
+use Rattle.queue_core.specs.Event.{NewDocument, Change, Call, ask, tell}
 use Rattle.std.proofs.Common.{eq-eqb}
 use Rattle.std.specs.Prelude.{option_map, IfSome, unwrap_or}
 use Rattle.queue_core.specs.declared.event.Scene.{Scene}
 use Rattle.list_book.specs.declared.lists.Lists.{Lists}
-use Rattle.list_book.specs.Lists.{put_by, documents_of, entry_of, entries_of, free_map, IsTidy, put_row, put_rows, put_accounts, kept_of, with_kept, world_of, grants_map, reports_map, HaveSameItems}
+use Rattle.list_book.specs.Lists.{put_by, documents_of, entry_of, entries_of, free_map, IsTidy, put_row, put_rows, put_accounts, kept_of, with_kept, with_kept_report, put_report, world_of, grants_map, reports_map, HaveSameItems}
+use Rattle.std.proofs.lemmas.List.Sums.{fold_push, fold-append}
+use Rattle.queue_core.specs.declared.event.KeptReport.{KeptReport}
+use Rattle.queue_core.specs.declared.event.Report.{Report}
 use Rattle.queue_core.specs.declared.job.Job.{Job}
 use Rattle.queue_core.specs.declared.document.Document.{Document}
 use Rattle.queue_core.specs.declared.document.KeptDocument.{KeptDocument}
@@ -203,8 +206,12 @@ pub tidy_kept : (js : List Job) (ds : List KeptDocument) (o : Option KeptDocumen
 tidy_kept js ds None tidy there = tidy
 tidy_kept js ds (Some d) tidy there = tidy-push js ds d tidy there
 
+reports_with : (rows : List KeptReport) (o : Option KeptReport) → with_report (reports_map rows) o ≡ reports_map (with_kept_report rows o)
+reports_with rows None = refl
+reports_with rows (Some k) = sym (fold_push put_report empty rows k)
+
 -- the lists after a change stand for the world that it makes
-pub made_is : (l m : Lists) (c : Change) → IsTidy l.jobs.items l.documents.items → m.settings ≡ l.settings → m.jobs.items ≡ put_rows l.jobs.items c.jobs → m.documents.items ≡ with_kept l.documents.items (option_map kept_of c.document) → m.free.items ≡ put_accounts l.free.items c.free → m.next ≡ unwrap_or c.next l.next → m.grants.items ≡ l.grants.items → m.reports.items ≡ l.reports.items → world_of m ≡ made_on c (world_of l)
+pub made_is : (l m : Lists) (c : Change) → IsTidy l.jobs.items l.documents.items → m.settings ≡ l.settings → m.jobs.items ≡ put_rows l.jobs.items c.jobs → m.documents.items ≡ with_kept l.documents.items (option_map kept_of c.document) → m.free.items ≡ put_accounts l.free.items c.free → m.next ≡ unwrap_or c.next l.next → m.grants.items ≡ l.grants.items ++ c.grants → m.reports.items ≡ with_kept_report l.reports.items c.report → world_of m ≡ made_on c (world_of l)
 made_is l m c tidy settings jobs documents free next grants reports =
     let p : entries_of m.documents.items m.jobs.items ≡ with_document (fold with_row (entries_of l.documents.items l.jobs.items) c.jobs) c.document =
     ap (λ ds. entries_of ds m.jobs.items) documents
@@ -212,16 +219,25 @@ made_is l m c tidy settings jobs documents free next grants reports =
     ∙ sym (documents_is l.documents.items (put_rows l.jobs.items c.jobs) c.document)
     ∙ ap (λ es. with_document es c.document) (sym (with_rows_of l.documents.items c.jobs l.jobs.items tidy).0) in
     let q : free_map m.free.items ≡ fold put_free (free_map l.free.items) c.free = ap free_map free ∙ sym (free_maps c.free l.free.items) in
-    λ i. record { settings = settings i; jobs = p i; next = next i; grants = grants_map (grants i); free = q i; reports = reports_map (reports i) }
+    let g : grants_map m.grants.items ≡ fold put_grant (grants_map l.grants.items) c.grants = ap grants_map grants ∙ fold-append put_grant empty l.grants.items c.grants in
+    let r : reports_map m.reports.items ≡ with_report (reports_map l.reports.items) c.report = ap reports_map reports ∙ sym (reports_with l.reports.items c.report) in
+    λ i. record { settings = settings i; jobs = p i; next = next i; grants = g i; free = q i; reports = r i }
 
 -- what is read of the lists is the scene
-pub scene_is : (l : Lists) (caller : List ℕ) (call : Call) (s : Scene) → s.settings ≡ l.settings → s.jobs ≡ jobs_for caller call l.jobs.items → s.free ≡ found_row caller (get (free_map l.free.items) caller) → s.live ≡ live_for caller call l.jobs.items → s.counts ≡ counts_for call l.jobs.items → s.next ≡ l.next → s ≡ cut (world_of l) (ask caller call)
-scene_is l caller call s settings jobs free live counts next =
+pub scene_is : (l : Lists) (caller : List ℕ) (call : Call) (s : Scene) → s.settings ≡ l.settings → s.jobs ≡ jobs_for caller call l.jobs.items → s.free ≡ found_row caller (get (free_map l.free.items) caller) → s.live ≡ live_for caller call l.jobs.items → s.counts ≡ counts_for call l.jobs.items → s.report ≡ None → s.known ≡ [] → s.next ≡ l.next → s ≡ cut (world_of l) (ask caller call)
+scene_is l caller call s settings jobs free live counts report known next =
     let same : map (λ e. e.row) (entries_of l.documents.items l.jobs.items) ≡ l.jobs.items = rows_of l.documents.items l.jobs.items in
     let p = jobs ∙ ap (jobs_for caller call) (sym same) in
     let q = counts ∙ ap (counts_for call) (sym same) in
     let r = live ∙ ap (live_for caller call) (sym same) in
-    λ i. record { settings = settings i; jobs = p i; free = free i; live = r i; counts = q i; next = next i }
+    λ i. record { settings = settings i; jobs = p i; free = free i; live = r i; counts = q i; report = report i; known = known i; next = next i }
+
+pub report_scene_is : (l : Lists) (r : Report) (s : Scene) → s.settings ≡ l.settings → s.jobs ≡ numbered r.job l.jobs.items → s.free ≡ owner_row (free_map l.free.items) (numbered r.job l.jobs.items) → s.live ≡ 0 → s.counts ≡ queue_counts [] → s.report ≡ get (reports_map l.reports.items) (r.job, r.seq) → s.known ≡ [] → s.next ≡ l.next → s ≡ cut (world_of l) (tell r)
+report_scene_is l r s settings jobs free live counts report known next =
+    let same : map (λ e. e.row) (entries_of l.documents.items l.jobs.items) ≡ l.jobs.items = rows_of l.documents.items l.jobs.items in
+    let p = jobs ∙ ap (numbered r.job) (sym same) in
+    let f = free ∙ ap (λ js. owner_row (free_map l.free.items) (numbered r.job js)) (sym same) in
+    λ i. record { settings = settings i; jobs = p i; free = f i; live = live i; counts = counts i; report = report i; known = known i; next = next i }
 
 -- the same lists, with whatever room, stand for the same world
 pub same_world : (l m : Lists) → HaveSameItems l m → world_of m ≡ world_of l

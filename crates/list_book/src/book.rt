@@ -1,17 +1,29 @@
 //! The plain book, which keeps a queue in lists.
-ghost use Rattle.std.specs.Prelude.{◌≡◌, ⊤, IfOk, IfErr, OnOk, OnErr};
+ghost use Rattle.std.specs.Prelude.{◌≡◌, ◌≤◌, ⊤, IfOk, IfErr, IsSome, OnOk, OnErr, Some, length, option_map, take};
+ghost use Rattle.std.specs.Io.KnownBytes.{Appends};
 ghost use Rattle.queue_core.specs.Book.{IsContent, IsDecisionOn};
 ghost use Rattle.queue_core.specs.Event.{event_of, change_of, decision_of};
-ghost use Rattle.queue_core.specs.Limits.{IsMoment, IsEvent, IsSoundReply};
+ghost use Rattle.queue_core.specs.Limits.{IsMoment, IsEvent, IsReplyTo};
 ghost use Rattle.queue_core.specs.Machine.{decision};
+ghost use Rattle.queue_core.specs.Shown.{document_at, head_of, pending_jobs, sheet_of};
 ghost use Rattle.queue_core.specs.World.{World, cut, made_on};
+ghost use Rattle.queue_core.specs.declared.document.Document.{Document};
 
 use crate::lists::{Lists, kept_document, reserve, write};
 use crate::scene::scene;
+use crate::send::send;
+use crate::{seen, sheet};
+use queue_core::document::DocumentHead;
 use queue_core::event::{Decision, Event};
+use queue_core::job::JobList;
 use queue_core::settings::Settings;
-use queue_core::{BookFault, QueueBook, cut_is_fair, decisions_are_sound, empty_is_sound};
+use queue_core::sheet::AccountSheet;
+use queue_core::{
+    BookFault, QueueBook, SendFault, cut_is_fair, decisions_are_sound, empty_is_sound,
+    new_grants_add_up,
+};
 use std::alloc::Global;
+use std::io::Write;
 use std::marker::Model;
 
 /// A book in memory. Its content is a sound world.
@@ -32,10 +44,12 @@ impl Model for ListBook {
 
     ghost use Rattle.list_book.specs.Lists.{world_of, IsTidy};
     ghost use Rattle.queue_core.specs.Sound.{IsSound};
+    ghost use Rattle.queue_core.specs.World.{AreNew};
+    ghost use Rattle.std.specs.FinMap.{empty};
 
     ghost view = { λ b. world_of b.lists };
 
-    ghost invariant = { λ b. IsTidy b.lists.jobs.items b.lists.documents.items × IsSound (world_of b.lists) };
+    ghost invariant = { λ b. IsTidy b.lists.jobs.items b.lists.documents.items × IsSound (world_of b.lists) × AreNew empty b.lists.grants.items };
 }
 
 impl ListBook {
@@ -77,10 +91,11 @@ impl QueueBook for ListBook {
         ensures kept { (w : World) → IsContent self.old w → IsContent self.new w }
         ensures decides { ⊤ → IfOk result (λ d. (w : World) → IsContent self.new w
             → decision_of d ≡ decision (cut w (event_of e.now)) now (event_of e.now)) }
-        ensures limits { IfOk result (λ d. IsSoundReply d.reply) }
+        ensures limits { IfOk result (λ d. IsReplyTo (event_of e.now) d.reply) }
         ensures fault { IfErr result (λ f. f ≡ BookFault.Memory) }
     {
         cut_is_fair();
+        new_grants_add_up();
         let s = scene(self.alloc, &self.lists, e)?;
         let d = queue_core::decide(self.alloc, &s, now, e)?;
         Ok(d)
@@ -96,9 +111,59 @@ impl QueueBook for ListBook {
         decisions_are_sound();
         let Decision { reply: _, change } = d;
         let document = kept_document(self.alloc, &change.document)?;
-        reserve(&mut self.lists, change.jobs.len(), change.free.len())?;
+        reserve(
+            &mut self.lists,
+            change.jobs.len(),
+            change.free.len(),
+            change.grants.len(),
+        )?;
         write(&mut self.lists, change, document);
         Ok(())
+    }
+
+    fn pending(&mut self) -> Result<JobList, BookFault>
+        ensures began { ⊤ → ⊤ }
+        ensures kept { (w : World) → IsContent self.old w → IsContent self.new w }
+        ensures jobs { ⊤ → IfOk result (λ js. (w : World) → IsContent self.new w → js ≡ pending_jobs w) }
+        ensures fault { IfErr result (λ f. f ≡ BookFault.Memory) }
+    {
+        let jobs = seen::pending(self.alloc, self.lists.jobs.as_slice())?;
+        Ok(JobList::from_jobs(jobs))
+    }
+
+    fn document_head(&mut self, job: u32, n: u32) -> Result<Option<DocumentHead>, BookFault>
+        ensures began { ⊤ → ⊤ }
+        ensures kept { (w : World) → IsContent self.old w → IsContent self.new w }
+        ensures head { ⊤ → IfOk result (λ h. (w : World) → IsContent self.new w → h ≡ option_map head_of (document_at w job n)) }
+        ensures fault { IfErr result (λ f. f ≡ BookFault.Memory) }
+    {
+        Ok(seen::document_head(&self.lists, job, n))
+    }
+
+    fn send_document<W: Write>(&mut self, job: u32, n: u32, out: &mut W) -> Result<u64, SendFault>
+        requires there { (w : World) → ⊤ → IsContent self.old w → IsSome (document_at w job n) }
+        ensures began { ⊤ → ⊤ }
+        ensures kept { (w : World) → IsContent self.old w → IsContent self.new w }
+        ensures ok { ⊤ → IfOk result (λ sent. (w : World) (d : Document) → IsContent self.new w → document_at w job n ≡ Some d
+            → (sent ≡ length d.bytes) × Appends (W.contents out.old) (W.contents out.new) d.bytes) }
+        ensures err { ⊤ → IfErr result (λ f. (w : World) (d : Document) → IsContent self.new w → document_at w job n ≡ Some d
+            → (f.written ≤ length d.bytes) × Appends (W.contents out.old) (W.contents out.new) (take f.written d.bytes)) }
+    {
+        match seen::document(&self.lists, job, n) {
+            Some(d) => send(out, d.bytes.as_slice()),
+            None => Ok(0),
+        }
+    }
+
+    fn sheet(&mut self, account: &str) -> Result<Option<AccountSheet>, BookFault>
+        ensures began { ⊤ → ⊤ }
+        ensures kept { (w : World) → IsContent self.old w → IsContent self.new w }
+        ensures sheet { ⊤ → IfOk result (λ s. (w : World) → IsContent self.new w → s ≡ sheet_of w account.now) }
+        ensures fault { IfErr result (λ f. f ≡ BookFault.Memory) }
+    {
+        new_grants_add_up();
+        let s = sheet::sheet(self.alloc, &self.lists, account)?;
+        Ok(s)
     }
 
     ghost sound = { λ b w honest h. h.1 };

@@ -4,6 +4,9 @@
 pub mod book;
 mod lists;
 mod scene;
+mod seen;
+mod send;
+mod sheet;
 mod shown;
 
 pub use book::ListBook;

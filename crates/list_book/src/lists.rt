@@ -3,7 +3,7 @@ ghost use Rattle.std.specs.Prelude.{◌≡◌, ◌≤◌, ◌<◌, ◌+◌, ◌+
 ghost use Rattle.std.specs.FinMap.{get};
 ghost use Rattle.queue_core.specs.Event.{change_of, document_of};
 ghost use Rattle.queue_core.specs.World.{made_on, job_at};
-ghost use Rattle.list_book.specs.Lists.{put_by, put_row, put_rows, put_account, put_accounts, kept_of, with_kept, HaveSameItems, HasRoom, free_map, world_of, IsTidy};
+ghost use Rattle.list_book.specs.Lists.{put_by, put_row, put_rows, put_account, put_accounts, kept_of, with_kept, with_kept_report, HaveSameItems, HasRoom, free_map, world_of, IsTidy};
 
 use queue_core::document::{Bytes, Document, KeptDocument};
 use queue_core::event::{Change, FreeRow, GrantRow, KeptReport, NewDocument};
@@ -102,6 +102,24 @@ fn put_document(documents: &mut Vec<KeptDocument>, d: Option<KeptDocument>)
     }
 }
 
+fn put_grants(grants: &mut Vec<GrantRow>, new: Vec<GrantRow>)
+    requires room { vec_len grants.old + length new.items ≤ vec_capacity grants.old }
+    ensures { grants.new.items ≡ grants.old.items ++ new.items }
+{
+    for row in new {
+        grants.push_reserved(row);
+    }
+}
+
+fn put_report(reports: &mut Vec<KeptReport>, report: Option<KeptReport>)
+    requires room { vec_len reports.old < vec_capacity reports.old }
+    ensures { reports.new.items ≡ with_kept_report reports.old.items report }
+{
+    if let Some(report) = report {
+        reports.push_reserved(report);
+    }
+}
+
 /// A copy of the document that a change brings.
 pub(crate) fn kept_document(
     alloc: Global,
@@ -125,27 +143,37 @@ pub(crate) fn kept_document(
 }
 
 /// Makes room for all that a change brings, so that writing it needs no memory.
-pub(crate) fn reserve(l: &mut Lists, jobs: usize, free: usize) -> Result<(), AllocError>
+pub(crate) fn reserve(
+    l: &mut Lists,
+    jobs: usize,
+    free: usize,
+    grants: usize,
+) -> Result<(), AllocError>
     ensures same { HaveSameItems l.old l.new }
-    ensures room { OnOk result (HasRoom l.new jobs free) }
+    ensures room { OnOk result (HasRoom l.new jobs free grants) }
 {
     l.jobs.reserve(jobs)?;
     l.free.reserve(free)?;
+    l.grants.reserve(grants)?;
     l.documents.reserve(1)?;
+    l.reports.reserve(1)?;
     Ok(())
 }
 
 /// Writes a change, with the copy of its document, into the room that was made for it. It needs no memory.
 pub(crate) fn write(l: &mut Lists, c: Change<'_>, document: Option<KeptDocument>)
-    requires room { HasRoom l.old (length (change_of c).jobs) (length (change_of c).free) }
+    requires room { HasRoom l.old (length (change_of c).jobs) (length (change_of c).free) (length (change_of c).grants) }
     requires tidy { IsTidy l.old.jobs.items l.old.documents.items }
     requires document { document ≡ option_map kept_of (change_of c).document }
     requires there { IfSome document (λ d. IsSome (job_at d.job (put_rows l.old.jobs.items (change_of c).jobs))) }
     ensures made { world_of l.new ≡ made_on (change_of c.entry) (world_of l.old) }
     ensures tidy { IsTidy l.new.jobs.items l.new.documents.items }
+    ensures grants { l.new.grants.items ≡ l.old.grants.items ++ (change_of c.entry).grants }
 {
     put_document(&mut l.documents, document);
     put_jobs(&mut l.jobs, c.jobs.into_jobs());
     put_free_rows(&mut l.free, c.free.into_rows());
+    put_grants(&mut l.grants, c.grants.into_rows());
+    put_report(&mut l.reports, c.report);
     l.next = c.next.unwrap_or(l.next);
 }

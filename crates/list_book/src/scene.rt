@@ -1,21 +1,25 @@
 //! What an event needs of the plain book.
-ghost use Rattle.std.specs.Prelude.{ℕ, ◌≡◌, ◌==◌, IfOk, count_by, filter, bytes_eq, ◌&&◌};
+ghost use Rattle.std.specs.Prelude.{ℕ, List, [], ◌≡◌, ◌≤◌, map, ◌==◌, IfOk, Some, count_by, filter, bytes_eq, ◌&&◌, if◌then◌else◌};
 ghost use Rattle.std.specs.BTreeSet.{contains};
-ghost use Rattle.std.specs.FinMap.{get};
+ghost use Rattle.std.specs.FinMap.{empty, get};
+ghost use Rattle.queue_core.specs.Grants.{pages_to};
 ghost use Rattle.std.specs.List.{list_any};
 ghost use Rattle.std.specs.Ordering.{nat_cmp};
-ghost use Rattle.queue_core.specs.Event.{ask, event_of, call_of};
+ghost use Rattle.queue_core.specs.Event.{ask, tell, grant, event_of, call_of};
 ghost use Rattle.queue_core.specs.Job.{is_live, is_running, is_stopped};
 ghost use Rattle.queue_core.specs.Visible.{is_among, visible};
-ghost use Rattle.queue_core.specs.World.{cut, found_row, is_one_of, numbered, jobs_for, live_for, counts_for};
-ghost use Rattle.list_book.specs.Lists.{free_map, world_of};
+ghost use Rattle.queue_core.specs.World.{AreNew, cut, found_row, owner_row, queue_counts, is_one_of, numbered, jobs_for, live_for, counts_for};
+ghost use Rattle.list_book.specs.Lists.{free_map, grants_map, known_in, reports_map, world_of};
 
 use crate::lists::{Lists, account_place};
 use crate::shown::{cut_at, ordered};
-use queue_core::event::{Call, Event, FreeList, FreeRow, QueueCounts, Scene, WhichJobs};
+use queue_core::event::{
+    Call, Event, FreeList, FreeRow, GrantRow, KeptReport, KnownGrant, KnownList, QueueCounts,
+    Report, Scene, WhichJobs,
+};
 use queue_core::job::{Job, JobList, Phase, is_live_job};
-use queue_core::number_set;
 use queue_core::text::Text;
+use queue_core::{new_grants_add_up, number_set};
 use std::alloc::{AllocError, Global};
 use std::collections::BTreeSet;
 
@@ -219,6 +223,17 @@ fn counts(jobs: &[Job], call: &Call<'_>) -> QueueCounts
     }
 }
 
+/// Counts of a queue that nobody asks for.
+fn no_counts() -> QueueCounts
+    ensures { result ≡ queue_counts [] }
+{
+    QueueCounts {
+        running: 0,
+        stopped: 0,
+        queued: 0,
+    }
+}
+
 /// The rows that a caller's call needs.
 fn scene_of_call(
     alloc: Global,
@@ -237,15 +252,154 @@ fn scene_of_call(
         free: FreeList::from_rows(free),
         live: live_for_call(l.jobs.as_slice(), caller, call),
         counts: counts(l.jobs.as_slice(), call),
+        report: None,
+        known: KnownList::from_known(Vec::new(alloc)),
+        next: l.next,
+    })
+}
+
+/// The account of the first job's owner.
+fn owner_rows(alloc: Global, free: &[FreeRow], jobs: &[Job]) -> Result<Vec<FreeRow>, AllocError>
+    ensures { IfOk result (λ v. v.items ≡ owner_row (free_map free.now) jobs.now) }
+{
+    match jobs {
+        [] => Ok(Vec::new(alloc)),
+        [job, ..] => free_rows_of(alloc, free, job.owner.as_str()),
+    }
+}
+
+/// This report, where it is of the job under the sequence number, and else the one before.
+fn or_report(before: Option<KeptReport>, k: &KeptReport, job: u32, seq: u32) -> Option<KeptReport>
+    ensures { result ≡ (if job == k.now.report.job && seq == k.now.report.seq then Some k.now else before) }
+{
+    if job == k.report.job && seq == k.report.seq {
+        Some(*k)
+    } else {
+        before
+    }
+}
+
+/// The report that is kept of the job under the sequence number.
+fn kept_report(reports: &[KeptReport], job: u32, seq: u32) -> Option<KeptReport>
+    ensures { result ≡ get (reports_map reports.now) (job, seq) }
+{
+    let mut kept = None;
+    for k in reports {
+        kept = or_report(kept, k, job, seq);
+    }
+    kept
+}
+
+/// The rows that a report needs.
+fn scene_of_report(alloc: Global, l: &Lists, r: &Report) -> Result<Scene, AllocError>
+    ensures { IfOk result (λ s. s ≡ cut (world_of l.now) (tell r.now)) }
+{
+    let settings = l.settings.try_clone()?;
+    let jobs = with_number(alloc, l.jobs.as_slice(), r.job)?;
+    let free = owner_rows(alloc, l.free.as_slice(), jobs.as_slice())?;
+    Ok(Scene {
+        settings,
+        jobs: JobList::from_jobs(jobs),
+        free: FreeList::from_rows(free),
+        live: 0,
+        counts: no_counts(),
+        report: kept_report(l.reports.as_slice(), r.job, r.seq),
+        known: KnownList::from_known(Vec::new(alloc)),
+        next: l.next,
+    })
+}
+
+/// The pages of this grant, where it is under the batch and to the account, and else those before.
+fn or_pages(before: Option<u32>, g: &GrantRow, batch: &str, account: &str) -> Option<u32>
+    ensures { result ≡ (if bytes_eq batch.now g.now.batch && bytes_eq account.now g.now.account then Some g.now.pages else before) }
+{
+    if batch == g.batch.as_str() && account == g.account.as_str() {
+        Some(g.pages)
+    } else {
+        before
+    }
+}
+
+/// The pages that are granted under the batch to the account.
+fn pages_under(grants: &[GrantRow], batch: &str, account: &str) -> Option<u32>
+    ensures { result ≡ get (grants_map grants.now) (batch.now, account.now) }
+{
+    let mut pages = None;
+    for g in grants {
+        pages = or_pages(pages, g, batch, account);
+    }
+    pages
+}
+
+/// The pages that are granted to the account in all.
+pub(crate) fn pages_granted(grants: &[GrantRow], account: &str) -> u32
+    requires { pages_to account.now grants.now ≤ 1000000000 }
+    ensures { result ≡ pages_to account.now grants.now }
+{
+    let mut pages = 0;
+    for g in grants {
+        if g.account.as_str() == account {
+            pages += g.pages;
+        }
+    }
+    pages
+}
+
+/// The account's free pages, where it is there.
+pub(crate) fn free_pages(free: &[FreeRow], account: &str) -> Option<i64>
+    ensures { result ≡ get (free_map free.now) account.now }
+{
+    let i = account_place(free, account)?;
+    Some(free[i].free)
+}
+
+/// What is known of each row of an account file.
+fn known_rows(alloc: Global, l: &Lists, rows: &[GrantRow]) -> Result<Vec<KnownGrant>, AllocError>
+    requires { (a : List ℕ) → pages_to a l.now.grants.items ≤ 1000000000 }
+    ensures { IfOk result (λ v. v.items ≡ map (known_in l.now) rows.now) }
+{
+    let mut known = Vec::new(alloc);
+    for row in rows {
+        let account = row.account.as_str();
+        known.push(KnownGrant {
+            pages: pages_under(l.grants.as_slice(), row.batch.as_str(), account),
+            granted: pages_granted(l.grants.as_slice(), account),
+            free: free_pages(l.free.as_slice(), account),
+        })?;
+    }
+    Ok(known)
+}
+
+/// The rows that an account file needs.
+fn scene_of_grants(alloc: Global, l: &Lists, rows: &[GrantRow]) -> Result<Scene, AllocError>
+    requires new { AreNew empty l.now.grants.items }
+    requires most { (a : List ℕ) → pages_to a l.now.grants.items ≤ 1000000000 }
+    ensures { IfOk result (λ s. s ≡ cut (world_of l.now) (grant rows.now)) }
+{
+    new_grants_add_up();
+    let settings = l.settings.try_clone()?;
+    let known = known_rows(alloc, l, rows)?;
+    Ok(Scene {
+        settings,
+        jobs: JobList::from_jobs(Vec::new(alloc)),
+        free: FreeList::from_rows(Vec::new(alloc)),
+        live: 0,
+        counts: no_counts(),
+        report: None,
+        known: KnownList::from_known(known),
         next: l.next,
     })
 }
 
 /// The rows that an event needs. The one error is want of memory.
 pub(crate) fn scene(alloc: Global, l: &Lists, e: &Event<'_>) -> Result<Scene, AllocError>
+    requires new { AreNew empty l.now.grants.items }
+    requires most { (a : List ℕ) → pages_to a l.now.grants.items ≤ 1000000000 }
     ensures { IfOk result (λ s. s ≡ cut (world_of l.now) (event_of e.now)) }
 {
     match e {
         Event::Ask { caller, call } => scene_of_call(alloc, l, caller, call),
+        Event::Tell(r) => scene_of_report(alloc, l, r),
+        Event::Grant(rows) => scene_of_grants(alloc, l, rows),
     }
 }

@@ -7,11 +7,14 @@ use Rattle.std.proofs.lemmas.Int.{ints}
 use Rattle.std.proofs.lemmas.List.Sums.{sum_by-cons}
 use Rattle.std.proofs.lemmas.Nat.{mul-le}
 use Rattle.queue_core.specs.Job.{owed, is_live}
-use Rattle.queue_core.specs.Event.{Event, Call, ask, print_job, validate_job, create_job, send_document, cancel_job, cancel_my_jobs, hold_job, release_job, get_job_attributes, get_jobs, get_printer_attributes}
-use Rattle.queue_core.specs.World.{World, Entry, rows, cut, found_row, numbered, jobs_for, counts_for}
-use Rattle.queue_core.specs.Limits.{IsFair, IsSoundJob, IsAmount}
-use Rattle.queue_core.specs.Sound.{IsSound, IsSoundEntry, Rise, granted, reserved, printed}
+use Rattle.queue_core.specs.Event.{Event, Call, ask, tell, grant, print_job, validate_job, create_job, send_document, cancel_job, cancel_my_jobs, hold_job, release_job, get_job_attributes, get_jobs, get_printer_attributes}
+use Rattle.queue_core.specs.World.{World, Entry, rows, cut, found_row, owner_row, known_grant, numbered, jobs_for, counts_for, granted}
+use Rattle.queue_core.specs.Limits.{IsFair, IsKnown, IsSoundJob, IsAmount}
+use Rattle.queue_core.specs.Sound.{IsSound, IsSoundEntry, IsKept, Rise, reserved, printed}
 use Rattle.queue_core.specs.declared.event.FreeRow.{FreeRow}
+use Rattle.queue_core.specs.declared.event.GrantRow.{GrantRow}
+use Rattle.queue_core.specs.declared.event.KeptReport.{KeptReport}
+use Rattle.queue_core.specs.declared.event.KnownGrant.{KnownGrant}
 use Rattle.queue_core.specs.declared.job.Job.{Job}
 use Rattle.queue_core.specs.Visible.{is_among}
 use Rattle.queue_core.proofs.Enter.{first_below}
@@ -137,6 +140,18 @@ jobs_few w caller (get_jobs which limit) =
     omega arith
 jobs_few w caller get_printer_attributes = omega arith
 
+owner_amounts : (w : World) → IsSound w → (js : List Job) → Each (λ (r : FreeRow). IsAmount r.free) (owner_row w.free js)
+owner_amounts w sound [] = tt
+owner_amounts w sound (j ∷ js) = found j.owner (get w.free j.owner) (amounts_of w sound j.owner)
+
+kept_within : (w : World) (n s : ℕ) (o : Option KeptReport) → IfSome o (IsKept w n s) → IfSome o (λ k. (3 ≤ k.state) × (k.state ≤ 9) × (k.total ≤ 100000000))
+kept_within w n s None kept = tt
+kept_within w n s (Some k) kept = (kept.state.0, kept.state.1, kept.total)
+
+each_known : (w : World) → IsSound w → (rows : List GrantRow) → Each IsKnown (map (known_grant w) rows)
+each_known w sound [] = tt
+each_known w sound (g ∷ rows) = (record { granted = sound.most g.account; free = amounts_of w sound g.account }, each_known w sound rows)
+
 pub fair_of : (w : World) (e : Event) → IsSound w → IsFair (cut w e)
 fair_of w (ask caller call) sound =
     let numbers = rise_length 1 w.next w.jobs sound.numbers in
@@ -149,4 +164,30 @@ fair_of w (ask caller call) sound =
       free = all_of (λ (r : FreeRow). IsAmount r.free) _ (found caller (get w.free caller) (amounts_of w sound caller));
       next = first_below 1 w.next w.jobs sound.numbers;
       queued = queued_few w call (omega arith);
+      report = tt;
+      known = all_of IsKnown [] tt;
     }
+fair_of w (tell r) sound =
+    let numbers = rise_length 1 w.next w.jobs sound.numbers in
+    let next = sound.next in
+    let named = few_numbered r.job w in
+    record {
+      settings = sound.settings;
+      jobs = all_of IsSoundJob _ (each_numbered r.job w sound);
+      few = omega arith;
+      free = all_of (λ (r : FreeRow). IsAmount r.free) _ (owner_amounts w sound (numbered r.job (rows w)));
+      next = first_below 1 w.next w.jobs sound.numbers;
+      queued = omega arith;
+      report = kept_within w r.job r.seq (get w.reports (r.job, r.seq)) (sound.reports r.job r.seq);
+      known = all_of IsKnown [] tt;
+    }
+fair_of w (grant new) sound = record {
+  settings = sound.settings;
+  jobs = all_of IsSoundJob [] tt;
+  few = omega arith;
+  free = all_of (λ (r : FreeRow). IsAmount r.free) [] tt;
+  next = first_below 1 w.next w.jobs sound.numbers;
+  queued = omega arith;
+  report = tt;
+  known = all_of IsKnown _ (each_known w sound new);
+}

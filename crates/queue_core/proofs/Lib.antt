@@ -10,8 +10,12 @@ pub mod Ordered
 pub mod Numbers
 pub mod Many
 pub mod Cancel
+pub mod Maps
+pub mod Reported
 pub mod Within
 pub mod Steps
 pub mod Runs
 pub mod Start
 pub mod Orders
+pub mod GrantLemmas
+pub mod Granted

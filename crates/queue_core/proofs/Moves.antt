@@ -28,7 +28,7 @@ swap_tests s t x y z =
       | false ↦ λ no. refl
     ]
 
-equal : (a b : ℕ) → nat_eq a b ≡ true → a ≡ b
+pub equal : (a b : ℕ) → nat_eq a b ≡ true → a ≡ b
 equal a b e = grind (arith, nat_tests)
 
 not_both : (a b n : ℕ) → nat_eq a b ≡ false → nat_eq a n ≡ true → nat_eq b n ≡ true → ⊥

@@ -4,17 +4,23 @@ use Rattle.std.specs.Prelude.{Option, Some, None, IfSome, IsSomeAnd, is_some, by
 use Rattle.std.specs.FinMap.{FinMap, get}
 use Rattle.std.proofs.lemmas.Int.{ints}
 use Rattle.queue_core.specs.Job.{owed, is_live}
-use Rattle.queue_core.specs.World.{World, with_row, text_cmp, job_at}
+use Rattle.queue_core.specs.World.{World, with_row, text_cmp, report_cmp, job_at, granted}
 use Rattle.queue_core.specs.Machine.{taken}
 use Rattle.queue_core.specs.Limits.{IsSoundJob}
 use Rattle.std.specs.List.{AllByRecursion as Each}
-use Rattle.queue_core.specs.Sound.{Rise, IsSound, IsSoundEntry, IsKept, IsGreatestCount, IsIdle, granted, reserved, printed}
+use Rattle.queue_core.specs.Sound.{Rise, IsSound, IsSoundEntry, IsKept, IsGreatestCount, IsIdle, reserved, printed}
 use Rattle.queue_core.specs.declared.job.Job.{Job}
 use Rattle.queue_core.specs.World.{Entry}
 use Rattle.queue_core.specs.declared.event.KeptReport.{KeptReport}
 use Rattle.queue_core.proofs.Keep.{at, each-with_row, rise-with_row, some-with_row, sum-with_row}
 
--- x in place of j: not its number, owner or count
+-- x in place of j: not its number or owner
+pub record Succeeds (x j : Job) : Type 0 where
+  pub number : x.number ≡ j.number
+  pub owner : x.owner ≡ j.owner
+  pub live : cond (is_live x) 1 0 ≤ cond (is_live j) 1 0
+
+-- nor its count
 pub record Replaces (x j : Job) : Type 0 where
   pub number : x.number ≡ j.number
   pub owner : x.owner ≡ j.owner
@@ -88,9 +94,10 @@ each-rows P (e ∷ es) [] same each = absurd (no_rows e.row (rows_of es) same)
 each-rows P (e ∷ es) (f ∷ fs) same each = (subst P (ap (head_of e.row) (sym same)) each.0, each-rows P es fs (ap tail_of same) each.1)
 
 -- the entries after x took the place of j, with whatever documents
-module _ (w : World) (m : FinMap text_cmp ℤ) (es : List Entry) (x j : Job) (sound : IsSound w) (there : at x.number w.jobs ≡ Some j) (fits : Replaces x j) (same : rows_of es ≡ rows_of (with_row w.jobs x)) (entries : Each IsSoundEntry es) (stays_idle : get w.free x.owner ≡ None → IsIdle j → IsIdle x) (free : (a : List ℕ) → get m a ≡ option_map (λ f. f +ℤ back x j a) (get w.free a)) where
+module _ (w : World) (m : FinMap text_cmp ℤ) (rep : FinMap report_cmp KeptReport) (es : List Entry) (x j : Job) (sound : IsSound w) (there : at x.number w.jobs ≡ Some j) (fits : Succeeds x j) (same : rows_of es ≡ rows_of (with_row w.jobs x)) (entries : Each IsSoundEntry es) (stays_idle : get w.free x.owner ≡ None → IsIdle j → IsIdle x) (free : (a : List ℕ) → get m a ≡ option_map (λ f. f +ℤ back x j a) (get w.free a))
+    (kept : (n s : ℕ) → IfSome (get rep (n, s)) (IsKept (record w { jobs = es; free = m; reports = rep }) n s)) (greatest : Each (λ e. IsGreatestCount (record w { jobs = es; free = m; reports = rep }) e.row) (with_row w.jobs x)) where
   abbrev new : World
-  new = with_jobs w m es
+  new = record w { jobs = es; free = m; reports = rep }
 
   sum_after : (f : Job → ℕ) → sum_by f (rows_of es) + f j ≡ sum_by f (rows_of w.jobs) + f x
   sum_after f = ap (λ js. sum_by f js + f j) same ∙ sum-with_row f x j w.jobs there
@@ -105,13 +112,6 @@ module _ (w : World) (m : FinMap text_cmp ℤ) (es : List Entry) (x j : Job) (so
   none_before : (a : List ℕ) → get m a ≡ None → get w.free a ≡ None
   none_before a e = none_map _ (get w.free a) (sym (free a) ∙ e)
 
-  count_keeps : (e : Entry) → e.row ≡ j → IsGreatestCount w e.row → IsGreatestCount w x
-  count_keeps e r g =
-      let n : e.row.number ≡ x.number = ap (λ (t : Job). t.number) r ∙ sym fits.number in
-      let c : e.row.count ≡ x.count = ap (λ (t : Job). t.count) r ∙ sym fits.count in
-      subst (λ c. ((seq : ℕ) → IfSome (get w.reports (x.number, seq)) (λ k. k.report.count ≤ c)) × ((c ≡ 0) ⊎ ((seq : ℕ) × IsSomeAnd (get w.reports (x.number, seq)) (λ k. k.report.count ≡ c)))) c
-      (subst (λ n. ((seq : ℕ) → IfSome (get w.reports (n, seq)) (λ k. k.report.count ≤ e.row.count)) × ((e.row.count ≡ 0) ⊎ ((seq : ℕ) × IsSomeAnd (get w.reports (n, seq)) (λ k. k.report.count ≡ e.row.count)))) n g)
-
   balance_keeps : (a : List ℕ) → IfSome (get m a) (λ f. pos (granted a new) ≡ f +ℤ pos (reserved a new + printed a new))
   balance_keeps a =
       let owing : reserved a new + cond (bytes_eq x.owner a) (owed j) 0 ≡ reserved a w + cond (bytes_eq x.owner a) (owed x) 0 = subst (λ b. reserved a new + cond b (owed j) 0 ≡ reserved a w + cond (bytes_eq x.owner a) (owed x) 0) (same_owner x j fits.owner a) (sum_after (λ (k : Job). cond (bytes_eq k.owner a) (owed k) 0)) in
@@ -119,8 +119,8 @@ module _ (w : World) (m : FinMap text_cmp ℤ) (es : List Entry) (x j : Job) (so
       subst (λ o. IfSome o (λ f. pos (granted a w) ≡ f +ℤ pos (reserved a new + printed a new))) (sym (free a))
       (balance (get w.free a) (bytes_eq x.owner a) (granted a w) (reserved a w) (reserved a new) (printed a w) (printed a new) (owed j) (owed x) j.count x.count owing counting (sound.balances a))
 
-  pub row_keeps : IsSound new
-  row_keeps = record {
+  pub job_keeps : IsSound new
+  job_keeps = record {
     settings = sound.settings;
     numbers = rise-rows es (with_row w.jobs x) 1 w.next same (rise-with_row x j 1 w.next w.jobs there sound.numbers);
     next = sound.next;
@@ -129,14 +129,28 @@ module _ (w : World) (m : FinMap text_cmp ℤ) (es : List Entry) (x j : Job) (so
     grants = sound.grants;
     most = sound.most;
     accounts = λ a. (λ h. (sound.accounts a).0 (sym (some_map _ (get w.free a)) ∙ ap is_some (sym (free a)) ∙ h), λ h. ap is_some (free a) ∙ some_map _ (get w.free a) ∙ (sound.accounts a).1 h);
-    reports = λ n s. if_map (IsKept w n s) (IsKept new n s) (get w.reports (n, s)) (λ k p. record { job = p.job; seq = p.seq; there = ap (λ js. is_some (job_at n js)) same ∙ some-with_row n x j w.jobs there p.there; positive = p.positive; count = p.count; state = p.state; total = p.total }) (sound.reports n s);
-    counts = each-rows (IsGreatestCount w) es (with_row w.jobs x) same (each-with_row (λ e. IsGreatestCount w e.row) (λ e. IsGreatestCount w e.row) x j w.jobs there (λ e p. p) count_keeps sound.counts);
+    reports = kept;
+    counts = each-rows (IsGreatestCount new) es (with_row w.jobs x) same greatest;
     idle = each-rows (λ k. get m k.owner ≡ None → IsIdle k) es (with_row w.jobs x) same (each-with_row (λ e. get w.free e.row.owner ≡ None → IsIdle e.row) (λ e. get m e.row.owner ≡ None → IsIdle e.row) x j w.jobs there
         (λ e p none. p (none_before e.row.owner none))
         (λ e r p none. stays_idle (none_before x.owner none) (subst IsIdle r (p (ap (λ (t : Job). get w.free t.owner) r ∙ ap (get w.free) (sym fits.owner) ∙ none_before x.owner none))))
         sound.idle);
     balances = balance_keeps;
   }
+
+-- the same, where the count stays and no report is kept
+module _ (w : World) (m : FinMap text_cmp ℤ) (es : List Entry) (x j : Job) (sound : IsSound w) (there : at x.number w.jobs ≡ Some j) (fits : Replaces x j) (same : rows_of es ≡ rows_of (with_row w.jobs x)) (entries : Each IsSoundEntry es) (stays_idle : get w.free x.owner ≡ None → IsIdle j → IsIdle x) (free : (a : List ℕ) → get m a ≡ option_map (λ f. f +ℤ back x j a) (get w.free a)) where
+  count_keeps : (e : Entry) → e.row ≡ j → IsGreatestCount w e.row → IsGreatestCount w x
+  count_keeps e r g =
+      let n : e.row.number ≡ x.number = ap (λ (t : Job). t.number) r ∙ sym fits.number in
+      let c : e.row.count ≡ x.count = ap (λ (t : Job). t.count) r ∙ sym fits.count in
+      subst (λ c. ((seq : ℕ) → IfSome (get w.reports (x.number, seq)) (λ k. k.report.count ≤ c)) × ((c ≡ 0) ⊎ ((seq : ℕ) × IsSomeAnd (get w.reports (x.number, seq)) (λ k. k.report.count ≡ c)))) c
+      (subst (λ n. ((seq : ℕ) → IfSome (get w.reports (n, seq)) (λ k. k.report.count ≤ e.row.count)) × ((e.row.count ≡ 0) ⊎ ((seq : ℕ) × IsSomeAnd (get w.reports (n, seq)) (λ k. k.report.count ≡ e.row.count)))) n g)
+
+  pub row_keeps : IsSound (with_jobs w m es)
+  row_keeps = job_keeps w m w.reports es x j sound there (record { number = fits.number; owner = fits.owner; live = fits.live }) same entries stays_idle free
+      (λ n s. if_map (IsKept w n s) (IsKept (with_jobs w m es) n s) (get w.reports (n, s)) (λ k p. record { job = p.job; seq = p.seq; there = ap (λ js. is_some (job_at n js)) same ∙ some-with_row n x j w.jobs there p.there; positive = p.positive; count = p.count; state = p.state; total = p.total }) (sound.reports n s))
+      (each-with_row (λ e. IsGreatestCount w e.row) (λ e. IsGreatestCount w e.row) x j w.jobs there (λ e p. p) count_keeps sound.counts)
 
 -- the entries with x in the place of j are sound, where x keeps its documents
 pub row_entries : (es : List Entry) (x j : Job) → at x.number es ≡ Some j → KeepsDocuments x j → Each IsSoundEntry es → Each IsSoundEntry (with_row es x)

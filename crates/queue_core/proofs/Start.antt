@@ -5,8 +5,9 @@ use Rattle.std.specs.FinMap.{empty, entries, get-empty, from_sorted, empty_of_le
 use Rattle.std.specs.declared.cmp.Ordering.{Ordering}
 use Rattle.std.proofs.Common.{length}
 use Rattle.queue_core.specs.Settings.{SettingValues, AreSettings}
-use Rattle.queue_core.specs.World.{empty_queue, grant_cmp, text_cmp, report_cmp}
-use Rattle.queue_core.specs.Sound.{IsSound, IsGrant, IsKept, granted, reserved, printed}
+use Rattle.queue_core.specs.World.{empty_queue, grant_cmp, text_cmp, report_cmp, granted}
+use Rattle.queue_core.specs.Sound.{IsSound, IsKept, reserved, printed}
+use Rattle.queue_core.specs.Limits.{IsGrant}
 
 no_entries : {K X : Type 0} (R : K → K → Ordering) → entries (empty {K = K} {X = X} {R = R}) ≡ []
 no_entries {K} {X} R = ap entries (sym (empty_of_len (from_sorted {K = K} {X = X} {R = R} []) (len-entries _ ∙ ap length (entries-from_sorted R [] tt)))) ∙ entries-from_sorted R [] tt

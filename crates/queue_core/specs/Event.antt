@@ -6,8 +6,11 @@ use Rattle.queue_core.specs.declared.event.NewJob.{NewJob as NewJobRef}
 use Rattle.queue_core.specs.declared.event.Call.{Call as CallRef}
 use Rattle.queue_core.specs.declared.event.Call.TheVariants.{PrintJob, ValidateJob, CreateJob, SendDocument, CancelJob, CancelMyJobs, HoldJob, ReleaseJob, GetJobAttributes, GetJobs, GetPrinterAttributes}
 use Rattle.queue_core.specs.declared.event.Event.{Event as EventRef}
-use Rattle.queue_core.specs.declared.event.Event.TheVariants.{Ask}
+use Rattle.queue_core.specs.declared.event.Event.TheVariants.{Ask, Tell, Grant}
 use Rattle.queue_core.specs.declared.event.FreeRow.{FreeRow}
+use Rattle.queue_core.specs.declared.event.GrantRow.{GrantRow}
+use Rattle.queue_core.specs.declared.event.KeptReport.{KeptReport}
+use Rattle.queue_core.specs.declared.event.Report.{Report}
 use Rattle.queue_core.specs.declared.event.NewDocument.{NewDocument as NewDocumentRef}
 use Rattle.queue_core.specs.declared.event.Change.{Change as ChangeRef}
 use Rattle.queue_core.specs.declared.event.Decision.{Decision as DecisionRef}
@@ -36,6 +39,10 @@ pub data Call : Type 0 where
 
 pub data Event : Type 0 where
   ask : List ℕ → Call → Event
+  -- a device tells of a job
+  tell : Report → Event
+  -- the rows of an account file
+  grant : List GrantRow → Event
 
 pub record NewDocument : Type 0 where
   pub job : ℕ
@@ -47,6 +54,8 @@ pub record Change : Type 0 where
   pub jobs : List Job
   pub document : Option NewDocument
   pub free : List FreeRow
+  pub grants : List GrantRow
+  pub report : Option KeptReport
   pub next : Option ℕ
 
 pub record Decision : Type 0 where
@@ -71,12 +80,14 @@ call_of GetPrinterAttributes = get_printer_attributes
 
 abbrev pub event_of : EventRef → Event
 event_of (Ask caller call) = ask caller.now (call_of call)
+event_of (Tell r) = tell r
+event_of (Grant rows) = grant rows.now
 
 abbrev pub document_of : NewDocumentRef → NewDocument
 document_of d = record { job = d.job; format = d.format; bytes = d.bytes.now }
 
 abbrev pub change_of : ChangeRef → Change
-change_of c = record { jobs = c.jobs; document = option_map document_of c.document; free = c.free; next = c.next }
+change_of c = record { jobs = c.jobs; document = option_map document_of c.document; free = c.free; grants = c.grants; report = c.report; next = c.next }
 
 abbrev pub decision_of : DecisionRef → Decision
 decision_of d = record { reply = d.reply; change = change_of d.change }

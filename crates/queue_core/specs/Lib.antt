@@ -4,10 +4,14 @@ pub mod Job
 pub mod Event
 pub mod Visible
 pub mod World
+pub mod Reports
+pub mod Grants
+pub mod Tally
 pub mod Machine
 pub mod Order
 pub mod Limits
 pub mod Balance
 pub mod Sound
+pub mod Shown
 pub mod Runs
 pub mod Book

@@ -1,15 +1,18 @@
 -- The limits of rows, events and replies.
-use Rattle.std.specs.Prelude.{◌≡◌, ℕ, ℤ, pos, neg_ℤ, ◌≤ℤ◌, ◌^◌, ◌*◌, ◌≤◌, ◌<◌, List, None, All, ⊤, IsSome, IfSome, length, ◌==◌, ◌&&◌, Bool, false, IsTrue, not, nat_le}
+use Rattle.std.specs.Prelude.{◌≡◌, ℕ, ℤ, pos, neg_ℤ, ◌≤ℤ◌, ◌^◌, ◌*◌, ◌+◌, ◌≤◌, ◌<◌, List, None, All, ⊤, IsSome, IfSome, length, ◌==◌, ◌&&◌, ◌||◌, Bool, false, IsTrue, not, nat_le}
 use Rattle.std.specs.List.{list_all}
 use Rattle.std.specs.Str.{IsUtf8}
 use Rattle.queue_core.specs.Settings.{AreSettings}
-use Rattle.queue_core.specs.Event.{Event, Call, NewJob, Change, Decision, ask, print_job, validate_job, create_job, send_document, cancel_job, cancel_my_jobs, hold_job, release_job, get_job_attributes, get_jobs, get_printer_attributes}
+use Rattle.queue_core.specs.Event.{Event, Call, NewJob, Change, Decision, ask, tell, grant, print_job, validate_job, create_job, send_document, cancel_job, cancel_my_jobs, hold_job, release_job, get_job_attributes, get_jobs, get_printer_attributes}
 use Rattle.queue_core.specs.World.{job_at}
 use Rattle.queue_core.specs.declared.job.Job.{Job}
 use Rattle.queue_core.specs.declared.job.Phase.{Phase}
 use Rattle.queue_core.specs.declared.job.Phase.TheVariants.{Waiting, Running, Stopped, Canceled, Aborted, Completed}
+use Rattle.queue_core.specs.declared.event.GrantRow.{GrantRow}
+use Rattle.queue_core.specs.declared.event.KnownGrant.{KnownGrant}
+use Rattle.queue_core.specs.declared.event.Report.{Report}
 use Rattle.queue_core.specs.declared.event.Reply.{Reply}
-use Rattle.queue_core.specs.declared.event.Reply.TheVariants.{Refused, Done, Jobs, Printer}
+use Rattle.queue_core.specs.declared.event.Reply.TheVariants.{Refused, Done, Jobs, Printer, Told, NotTold, Added, NotAdded}
 use Rattle.queue_core.specs.declared.event.Scene.{Scene}
 
 -- 1 to 2,147,483,647: a moment, a job number or a sequence number
@@ -36,6 +39,20 @@ pub record IsJobName (t : List ℕ) : Type 0 where
   pub fits : length t ≤ 255
   pub utf8 : IsUtf8 t
   pub no_zero : IsTrue (list_all (λ b. nat_le 1 b) t)
+
+-- a letter, a digit, '-', '.' or '_' of ASCII
+abbrev pub is_batch_byte : ℕ → Bool
+is_batch_byte b = (nat_le 48 b && nat_le b 57) || (nat_le 65 b && nat_le b 90) || (nat_le 97 b && nat_le b 122) || b == 45 || b == 46 || b == 95
+
+-- a batch's name: 1 to 40 of them
+pub record IsBatch (t : List ℕ) : Type 0 where
+  pub some : 1 ≤ length t
+  pub fits : length t ≤ 40
+  pub letters : IsTrue (list_all is_batch_byte t)
+
+-- a grant's batch, account and pages
+abbrev pub IsGrant : List ℕ → List ℕ → ℕ → Type 0
+IsGrant batch account pages = IsBatch batch × IsOwner account × (1 ≤ pages) × (pages ≤ 1000000)
 
 -- what a phase asks of the other fields
 abbrev pub FitsPhase : Phase → Job → Type 0
@@ -80,13 +97,29 @@ IsCall get_printer_attributes = ⊤
 IsCall (cancel_job n) = ⊤
 IsCall (get_job_attributes n) = ⊤
 
+-- the numbers of a report
+pub record IsReport (r : Report) : Type 0 where
+  pub job : IsPositive r.job
+  pub seq : IsPositive r.seq
+  pub count : r.count ≤ 100000000
+
+abbrev pub IsGrantRow : GrantRow → Type 0
+IsGrantRow g = IsGrant g.batch g.account g.pages
+
 -- an event whose numbers, lengths and texts are within the limits
 abbrev pub IsEvent : Event → Type 0
 IsEvent (ask caller call) = IsOwner caller × IsCall call
+IsEvent (tell r) = IsReport r
+IsEvent (grant new) = (length new ≤ 16777216) × All IsGrantRow new
 
 -- pages of an account that a sum over jobs can't take past 64 bits
 abbrev pub IsAmount : ℤ → Type 0
 IsAmount z = (neg_ℤ (pos (2 ^ 60)) ≤ℤ z) × (z ≤ℤ pos (2 ^ 60))
+
+-- what a sound world gives of an account file's row
+pub record IsKnown (k : KnownGrant) : Type 0 where
+  pub granted : k.granted ≤ 1000000000
+  pub free : IfSome k.free IsAmount
 
 -- a scene as each sound world gives it
 pub record IsFair (s : Scene) : Type 0 where
@@ -96,20 +129,44 @@ pub record IsFair (s : Scene) : Type 0 where
   pub free : All (λ a. IsAmount a.free) s.free
   pub next : 1 ≤ s.next
   pub queued : s.counts.queued < 2 ^ 31
+  pub report : IfSome s.report (λ k. (3 ≤ k.state) × (k.state ≤ 9) × (k.total ≤ 100000000))
+  pub known : All IsKnown s.known
 
--- what a reply shows is within its limits
+-- the reply to a request, whose jobs and numbers are within their limits
 abbrev pub IsSoundReply : Reply → Type 0
 IsSoundReply (Refused code) = ⊤
 IsSoundReply Done = ⊤
 IsSoundReply (Jobs js) = All IsSoundJob js
 IsSoundReply (Printer state queued accepting) = (3 ≤ state) × (state ≤ 5) × (queued < 2 ^ 31)
+IsSoundReply (Told state count) = ⊥
+IsSoundReply (NotTold refusal) = ⊥
+IsSoundReply (Added new repeats) = ⊥
+IsSoundReply (NotAdded fault row) = ⊥
+
+-- the answer to a report
+abbrev pub IsReportReply : Reply → Type 0
+IsReportReply (Told state count) = (3 ≤ state) × (state ≤ 9) × (count ≤ 100000000)
+IsReportReply (NotTold refusal) = ⊤
+IsReportReply _ = ⊥
+
+-- the answer to the rows of an account file
+abbrev pub IsGrantReply : Reply → Type 0
+IsGrantReply (Added new repeats) = new + repeats ≤ 16777216
+IsGrantReply (NotAdded fault row) = (1 ≤ row) × (row ≤ 16777216)
+IsGrantReply _ = ⊥
+
+-- each kind of event has replies of its own
+abbrev pub IsReplyTo : Event → Reply → Type 0
+IsReplyTo (ask caller call) r = IsSoundReply r
+IsReplyTo (tell report) r = IsReportReply r
+IsReplyTo (grant new) r = IsGrantReply r
 
 -- a change whose rows are within their limits, and whose document is of one of its jobs
 pub record IsSoundChange (c : Change) : Type 0 where
   pub jobs : All IsSoundJob c.jobs
   pub document : IfSome c.document (λ k. IsSome (job_at k.job c.jobs))
 
--- a decision within the limits
-pub record IsSoundDecision (d : Decision) : Type 0 where
-  pub reply : IsSoundReply d.reply
+-- a decision on that event within the limits
+pub record IsSoundDecision (e : Event) (d : Decision) : Type 0 where
+  pub reply : IsReplyTo e d.reply
   pub change : IsSoundChange d.change

@@ -2,22 +2,27 @@
 use Rattle.std.specs.Prelude.{ℕ, ℤ, pos, ◌+ℤ◌, ◌-ℤ◌, ◌+◌, fold, List, [], ◌∷◌, Option, Some, None, map, filter, ◌==◌, ◌&&◌, not, bytes_eq, Bool, true, false, if◌then◌else◌, nat_le, nat_lt, int_le, unwrap_or, length}
 use Rattle.std.specs.List.{list_all, list_any}
 use Rattle.std.specs.Option.{option_map_or}
-use Rattle.queue_core.specs.Job.{estimate, owed}
-use Rattle.queue_core.specs.Event.{NewJob, NewDocument, Change, Decision, Event, Call, ask, print_job, validate_job, create_job, send_document, cancel_job, cancel_my_jobs, hold_job, release_job, get_job_attributes, get_jobs, get_printer_attributes}
+use Rattle.queue_core.specs.Job.{estimate, owed, state}
+use Rattle.queue_core.specs.Event.{NewJob, NewDocument, Change, Decision, Event, Call, ask, tell, grant, print_job, validate_job, create_job, send_document, cancel_job, cancel_my_jobs, hold_job, release_job, get_job_attributes, get_jobs, get_printer_attributes}
 use Rattle.queue_core.specs.World.{World, cut, made_on, job_at}
+use Rattle.queue_core.specs.Reports.{reported, is_same_report}
+use Rattle.queue_core.specs.Grants.{Taken, all_taken, none_taken, take_rows}
 use Rattle.queue_core.specs.declared.job.Job.{Job}
 use Rattle.queue_core.specs.declared.document.Format.{Format}
 use Rattle.queue_core.specs.declared.job.Why.TheVariants.{ByUser}
 use Rattle.queue_core.specs.declared.job.Phase.{Phase}
 use Rattle.queue_core.specs.declared.job.Phase.TheVariants.{Waiting, Running, Stopped, Canceled, Aborted, Completed}
 use Rattle.queue_core.specs.declared.event.FreeRow.{FreeRow}
+use Rattle.queue_core.specs.declared.event.KeptReport.{KeptReport}
+use Rattle.queue_core.specs.declared.event.Report.{Report}
+use Rattle.queue_core.specs.declared.event.ReportRefusal.TheVariants.{NoJob, State, Conflict}
 use Rattle.queue_core.specs.declared.event.Reply.{Reply}
-use Rattle.queue_core.specs.declared.event.Reply.TheVariants.{Refused, Done, Jobs, Printer}
+use Rattle.queue_core.specs.declared.event.Reply.TheVariants.{Refused, Done, Jobs, Printer, Told, NotTold, Added, NotAdded}
 use Rattle.queue_core.specs.declared.event.Scene.{Scene}
 use Rattle.queue_core.specs.declared.event.QueueCounts.{QueueCounts}
 
 abbrev pub no_change : Change
-no_change = record { jobs = []; document = None; free = []; next = None }
+no_change = record { jobs = []; document = None; free = []; grants = []; report = None; next = None }
 
 abbrev pub answered : Reply → Decision
 answered r = record { reply = r; change = no_change }
@@ -204,6 +209,31 @@ release_in (Canceled why) s j = refused 0x0404
 release_in Aborted s j = refused 0x0404
 release_in Completed s j = refused 0x0404
 
+-- ---- reports of a device
+
+-- what is accepted is kept, with what its answer told
+abbrev pub accepted : Scene → Report → Job → Decision
+accepted s r j = record {
+  reply = Told (state j) j.count;
+  change = record (changed s (j ∷ [])) { report = Some (record { report = r; state = state j; total = j.count }) };
+}
+
+abbrev pub accepted_where : Scene → Report → Option Job → Decision
+accepted_where s r None = answered (NotTold State)
+accepted_where s r (Some j) = accepted s r j
+
+-- a report that was accepted before has its first answer
+abbrev pub report_row : Scene → ℕ → Report → List Job → Option KeptReport → Decision
+report_row s now r [] kept = answered (NotTold NoJob)
+report_row s now r (j ∷ js) None = accepted_where s r (reported r now j)
+report_row s now r (j ∷ js) (Some k) = if is_same_report r k.report then answered (Told k.state k.total) else answered (NotTold Conflict)
+
+-- ---- account files
+
+abbrev pub grant_row : Taken → Decision
+grant_row (all_taken new free repeats) = record { reply = Added (length new) repeats; change = record no_change { free = free; grants = new } }
+grant_row (none_taken fault row) = answered (NotAdded fault row)
+
 -- ---- the table
 
 -- the caller's own job; another's and none are one answer
@@ -226,6 +256,8 @@ call_row s now caller (get_job_attributes n) = of_own caller (λ j. answered (Jo
 
 abbrev pub decision : Scene → ℕ → Event → Decision
 decision s now (ask caller call) = call_row s now caller call
+decision s now (tell r) = report_row s now r s.jobs s.report
+decision s now (grant rows) = grant_row (take_rows rows s.known 1 [] [] 0)
 
 pub record Step : Type 0 where
   pub world : World

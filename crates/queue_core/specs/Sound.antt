@@ -1,11 +1,11 @@
 -- When a world is sound: its limits, and the account equation.
 use Rattle.std.specs.Prelude.{◌≡◌, ℕ, pos, ◌+ℤ◌, ◌+◌, ◌^◌, ◌≤◌, List, [], ◌∷◌, None, sum_by, IsSome, IsSomeAnd, is_some, ◌↔◌, IfSome, length, bytes_eq, ◌==◌, ◌&&◌, ◌||◌, ◌⊎◌, Bool, IsTrue, if◌then◌else◌, nat_le}
 use Rattle.std.specs.List.{list_all, AllByRecursion as Each}
-use Rattle.std.specs.FinMap.{entries, get}
+use Rattle.std.specs.FinMap.{get}
 use Rattle.queue_core.specs.Settings.{AreSettings}
 use Rattle.queue_core.specs.Job.{owed}
-use Rattle.queue_core.specs.World.{World, Entry, rows, live_jobs, job_at}
-use Rattle.queue_core.specs.Limits.{IsPositive, IsOwner, IsSoundJob}
+use Rattle.queue_core.specs.World.{World, Entry, rows, live_jobs, job_at, granted}
+use Rattle.queue_core.specs.Limits.{IsPositive, IsGrant, IsSoundJob}
 use Rattle.queue_core.specs.declared.job.Job.{Job}
 use Rattle.queue_core.specs.declared.document.Document.{Document}
 use Rattle.queue_core.specs.declared.event.KeptReport.{KeptReport}
@@ -29,9 +29,6 @@ Rise first (e ∷ es) next = (first ≤ e.row.number) × Rise (e.row.number + 1)
 
 -- ---- the account equation, over the rows as they now are
 
-abbrev pub granted : List ℕ → World → ℕ
-granted a w = sum_by (λ g. if bytes_eq g.0.1 a then g.1 else 0) (entries w.grants)
-
 abbrev pub reserved : List ℕ → World → ℕ
 reserved a w = sum_by (λ j. if bytes_eq j.owner a then owed j else 0) (rows w)
 
@@ -42,21 +39,7 @@ printed a w = sum_by (λ j. if bytes_eq j.owner a then j.count else 0) (rows w)
 abbrev pub Balances : World → Type 0
 Balances w = (a : List ℕ) → IfSome (get w.free a) (λ free. pos (granted a w) ≡ free +ℤ pos (reserved a w + printed a w))
 
--- ---- grants and reports
-
--- a letter, a digit, '-', '.' or '_' of ASCII
-abbrev pub is_batch_byte : ℕ → Bool
-is_batch_byte b = (nat_le 48 b && nat_le b 57) || (nat_le 65 b && nat_le b 90) || (nat_le 97 b && nat_le b 122) || b == 45 || b == 46 || b == 95
-
--- a batch's name: 1 to 40 of them
-pub record IsBatch (t : List ℕ) : Type 0 where
-  pub some : 1 ≤ length t
-  pub fits : length t ≤ 40
-  pub letters : IsTrue (list_all is_batch_byte t)
-
--- a grant's batch, account and pages
-abbrev pub IsGrant : List ℕ → List ℕ → ℕ → Type 0
-IsGrant batch account pages = IsBatch batch × IsOwner account × (1 ≤ pages) × (pages ≤ 1000000)
+-- ---- reports
 
 -- a kept report of that job and sequence number
 pub record IsKept (w : World) (n m : ℕ) (k : KeptReport) : Type 0 where

@@ -1,19 +1,21 @@
 -- A queue as a whole: its jobs with their documents, accounts, grants and reports; and what a change makes of it.
-use Rattle.std.specs.Prelude.{ℕ, ℤ, List, [], ◌∷◌, ◌++◌, Option, Some, None, map, filter, find, fold, count_by, ◌==◌, ◌&&◌, bytes_eq, Bool, if◌then◌else◌, unwrap_or}
+use Rattle.std.specs.Prelude.{◌≡◌, ⊤, ℕ, ℤ, sum_by, List, [], ◌∷◌, ◌++◌, Option, Some, None, map, filter, find, fold, count_by, ◌==◌, ◌&&◌, bytes_eq, Bool, if◌then◌else◌, unwrap_or}
 use Rattle.std.specs.List.{list_any}
 use Rattle.std.specs.declared.cmp.Ordering.{Ordering}
 use Rattle.std.specs.Ordering.{nat_cmp, ordering_then}
 use Rattle.std.specs.Cmp.Lexicographic.{slice_cmp}
 use Rattle.std.specs.Coded.{Coded, coded×, coded_list, coded_ℕ, coded_ℤ}
-use Rattle.std.specs.FinMap.{code, FinMap, empty, insert, get}
+use Rattle.std.specs.FinMap.{code, FinMap, empty, entries, insert, get}
 use Rattle.queue_core.specs.Settings.{SettingValues}
 use Rattle.queue_core.specs.Job.{is_live, is_running, is_stopped}
 use Rattle.queue_core.specs.Visible.{visible}
-use Rattle.queue_core.specs.Event.{NewDocument, Change, Event, Call, ask, print_job, validate_job, create_job, send_document, cancel_job, cancel_my_jobs, hold_job, release_job, get_job_attributes, get_jobs, get_printer_attributes}
+use Rattle.queue_core.specs.Event.{NewDocument, Change, Event, Call, ask, tell, grant, print_job, validate_job, create_job, send_document, cancel_job, cancel_my_jobs, hold_job, release_job, get_job_attributes, get_jobs, get_printer_attributes}
 use Rattle.queue_core.specs.declared.job.Job.{Job}
 use Rattle.queue_core.specs.declared.document.Document.{Document}
 use Rattle.queue_core.specs.declared.event.FreeRow.{FreeRow}
+use Rattle.queue_core.specs.declared.event.GrantRow.{GrantRow}
 use Rattle.queue_core.specs.declared.event.KeptReport.{KeptReport}
+use Rattle.queue_core.specs.declared.event.KnownGrant.{KnownGrant}
 use Rattle.queue_core.specs.declared.event.Scene.{Scene}
 use Rattle.queue_core.specs.declared.event.QueueCounts.{QueueCounts}
 
@@ -76,12 +78,26 @@ with_document es (Some d) = map (add_document d) es
 abbrev pub put_free : FinMap text_cmp ℤ → FreeRow → FinMap text_cmp ℤ
 put_free m a = insert m a.account a.free
 
+abbrev pub put_grant : FinMap grant_cmp ℕ → GrantRow → FinMap grant_cmp ℕ
+put_grant m g = insert m (g.batch, g.account) g.pages
+
+-- each of these grants is under a batch and an account that has none, in turn
+abbrev pub AreNew : FinMap grant_cmp ℕ → List GrantRow → Type 0
+AreNew m [] = ⊤
+AreNew m (g ∷ rows) = (get m (g.batch, g.account) ≡ None) × AreNew (put_grant m g) rows
+
+abbrev pub with_report : FinMap report_cmp KeptReport → Option KeptReport → FinMap report_cmp KeptReport
+with_report m None = m
+with_report m (Some k) = insert m (k.report.job, k.report.seq) k
+
 -- each row of the change is put in turn
 abbrev pub made_on : Change → World → World
 made_on c w = record w {
   jobs = with_document (fold with_row w.jobs c.jobs) c.document;
   next = unwrap_or c.next w.next;
   free = fold put_free w.free c.free;
+  grants = fold put_grant w.grants c.grants;
+  reports = with_report w.reports c.report;
 }
 
 -- ---- what of a world an event needs
@@ -116,6 +132,8 @@ live_jobs caller js = count_by (λ j. bytes_eq j.owner caller && is_live j) js
 -- the jobs that the event speaks of
 abbrev pub jobs_of : Event → World → List Job
 jobs_of (ask caller call) w = jobs_for caller call (rows w)
+jobs_of (tell r) w = numbered r.job (rows w)
+jobs_of (grant new) w = []
 
 -- a caller's live jobs are counted where a new one is asked for, and else not
 abbrev pub live_for : List ℕ → Call → List Job → ℕ
@@ -133,6 +151,8 @@ live_for caller get_printer_attributes js = 0
 
 abbrev pub live_of : Event → World → ℕ
 live_of (ask caller call) w = live_for caller call (rows w)
+live_of (tell r) w = 0
+live_of (grant new) w = 0
 
 abbrev pub queue_counts : List Job → QueueCounts
 queue_counts js = record { running = count_by is_running js; stopped = count_by is_stopped js; queued = count_by is_live js }
@@ -153,15 +173,46 @@ counts_for (get_jobs which limit) js = queue_counts []
 
 abbrev pub counts_of : Event → World → QueueCounts
 counts_of (ask caller call) w = counts_for call (rows w)
+counts_of (tell r) w = queue_counts []
+counts_of (grant new) w = queue_counts []
 
 -- the account with its free pages, where it is there
 abbrev pub found_row : List ℕ → Option ℤ → List FreeRow
 found_row account None = []
 found_row account (Some free) = record { account = account; free = free } ∷ []
 
--- the caller's account
+-- the account of the first job's owner
+abbrev pub owner_row : FinMap text_cmp ℤ → List Job → List FreeRow
+owner_row free [] = []
+owner_row free (j ∷ js) = found_row j.owner (get free j.owner)
+
+-- the account that the event may move: the caller's, or that of the job's owner
 abbrev pub free_of : Event → World → List FreeRow
 free_of (ask caller call) w = found_row caller (get w.free caller)
+free_of (tell r) w = owner_row w.free (numbered r.job (rows w))
+free_of (grant new) w = []
+
+-- the report that was accepted of the same job under the same sequence number
+abbrev pub report_of : Event → World → Option KeptReport
+report_of (ask caller call) w = None
+report_of (tell r) w = get w.reports (r.job, r.seq)
+report_of (grant new) w = None
+
+-- the pages granted to an account in all
+abbrev pub granted_in : List ℕ → FinMap grant_cmp ℕ → ℕ
+granted_in a m = sum_by (λ g. if bytes_eq g.0.1 a then g.1 else 0) (entries m)
+
+abbrev pub granted : List ℕ → World → ℕ
+granted a w = granted_in a w.grants
+
+-- what is known of a row's batch and account
+abbrev pub known_grant : World → GrantRow → KnownGrant
+known_grant w g = record { pages = get w.grants (g.batch, g.account); granted = granted g.account w; free = get w.free g.account }
+
+abbrev pub known_of : Event → World → List KnownGrant
+known_of (ask caller call) w = []
+known_of (tell r) w = []
+known_of (grant new) w = map (known_grant w) new
 
 -- the rows that the event needs
 abbrev pub cut : World → Event → Scene
@@ -171,6 +222,8 @@ cut w e = record {
   free = free_of e w;
   live = live_of e w;
   counts = counts_of e w;
+  report = report_of e w;
+  known = known_of e w;
   next = w.next;
 }
 

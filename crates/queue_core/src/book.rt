@@ -2,16 +2,23 @@
 //!
 //! What a book may stand for is a relation to worlds. What is read of a book holds where it is honest as
 //! the call ends; a call that ends honest began so. A refused call leaves what the book stands for.
-ghost use Rattle.std.specs.Prelude.{◌≡◌, IfOk, OnOk, OnErr};
+ghost use Rattle.std.specs.Prelude.{◌≡◌, ◌≤◌, Some, IfErr, IfOk, IsSome, OnOk, OnErr, length, option_map, take};
+ghost use Rattle.std.specs.Io.KnownBytes.{Appends};
 ghost use Rattle.queue_core.specs.Book.{IsDecisionOn};
 ghost use Rattle.queue_core.specs.Event.{event_of, change_of, decision_of};
-ghost use Rattle.queue_core.specs.Limits.{IsMoment, IsEvent, IsSoundReply};
+ghost use Rattle.queue_core.specs.Limits.{IsMoment, IsEvent, IsReplyTo};
 ghost use Rattle.queue_core.specs.Machine.{decision};
+ghost use Rattle.queue_core.specs.Shown.{document_at, head_of, pending_jobs, sheet_of};
 ghost use Rattle.queue_core.specs.Sound.{IsSound};
+ghost use Rattle.queue_core.specs.declared.document.Document.{Document};
 ghost use Rattle.queue_core.specs.World.{World, cut, made_on};
 
+use crate::document::DocumentHead;
 use crate::event::{Decision, Event};
+use crate::job::JobList;
+use crate::sheet::AccountSheet;
 use std::alloc::AllocError;
+use std::io::Write;
 
 /// Why a book can't do what it was asked, by its number.
 #[derive(Clone, Copy, Debug, PartialEq, Eq)]
@@ -33,6 +40,21 @@ impl From<AllocError> for BookFault {
     }
 }
 
+/// Why a document was not sent whole.
+#[derive(Clone, Copy, Debug, PartialEq, Eq)]
+pub enum SendCause {
+    Book(BookFault),
+    /// The writer failed.
+    Write,
+}
+
+/// A document that was not sent whole, and how many of its bytes were written.
+#[derive(Clone, Copy, Debug, PartialEq, Eq)]
+pub struct SendFault {
+    pub written: u64,
+    pub cause: SendCause,
+}
+
 /// A queue as it is kept.
 pub trait QueueBook {
     /// As far as can be known, the book holds this world.
@@ -50,7 +72,7 @@ pub trait QueueBook {
         ensures decides { is_honest self.new → IfOk result (λ d. (w : World) → stands self.new w
             → decision_of d ≡ decision (cut w (event_of e.now)) now (event_of e.now)) }
         // on any book, also one that is not honest
-        ensures limits { IfOk result (λ d. IsSoundReply d.reply) };
+        ensures limits { IfOk result (λ d. IsReplyTo (event_of e.now) d.reply) };
 
     /// Makes a decision that `decide` gave on what the book now holds. A refusal leaves it as it was.
     fn apply(&mut self, d: Decision<'_>) -> Result<(), BookFault>
@@ -58,6 +80,35 @@ pub trait QueueBook {
         ensures began { is_honest self.new → is_honest self.old }
         ensures ok { OnOk result ((w : World) → stands self.old w → stands self.new (made_on (change_of d.entry.change) w)) }
         ensures err { OnErr result ((w : World) → stands self.old w → stands self.new w) };
+
+    /// The jobs that the device may start, those in state 3, by number.
+    fn pending(&mut self) -> Result<JobList, BookFault>
+        ensures began { is_honest self.new → is_honest self.old }
+        ensures kept { (w : World) → stands self.old w → stands self.new w }
+        ensures jobs { is_honest self.new → IfOk result (λ js. (w : World) → stands self.new w → js ≡ pending_jobs w) };
+
+    /// The format and the length of document n, counted from 1, of a job in state 3, 5 or 6.
+    fn document_head(&mut self, job: u32, n: u32) -> Result<Option<DocumentHead>, BookFault>
+        ensures began { is_honest self.new → is_honest self.old }
+        ensures kept { (w : World) → stands self.old w → stands self.new w }
+        ensures head { is_honest self.new → IfOk result (λ h. (w : World) → stands self.new w → h ≡ option_map head_of (document_at w job n)) };
+
+    /// Writes the bytes of such a document, and says how many they are. After a fault a front of them was
+    /// written.
+    fn send_document<W: Write>(&mut self, job: u32, n: u32, out: &mut W) -> Result<u64, SendFault>
+        requires there { (w : World) → is_honest self.old → stands self.old w → IsSome (document_at w job n) }
+        ensures began { is_honest self.new → is_honest self.old }
+        ensures kept { (w : World) → stands self.old w → stands self.new w }
+        ensures ok { is_honest self.new → IfOk result (λ sent. (w : World) (d : Document) → stands self.new w → document_at w job n ≡ Some d
+            → (sent ≡ length d.bytes) × Appends (W.contents out.old) (W.contents out.new) d.bytes) }
+        ensures err { is_honest self.new → IfErr result (λ f. (w : World) (d : Document) → stands self.new w → document_at w job n ≡ Some d
+            → (f.written ≤ length d.bytes) × Appends (W.contents out.old) (W.contents out.new) (take f.written d.bytes)) };
+
+    /// What is told of an account, where it is there.
+    fn sheet(&mut self, account: &str) -> Result<Option<AccountSheet>, BookFault>
+        ensures began { is_honest self.new → is_honest self.old }
+        ensures kept { (w : World) → stands self.old w → stands self.new w }
+        ensures sheet { is_honest self.new → IfOk result (λ s. (w : World) → stands self.new w → s ≡ sheet_of w account.now) };
 
     /// A world that an honest book stands for is sound.
     ghost sound: { (b : Self) (w : World) → is_honest b → stands b w → IsSound w };

@@ -44,6 +44,12 @@ impl Bytes {
         let bytes = Vec::from_slice(alloc, bytes)?;
         Ok(Bytes { bytes })
     }
+
+    pub fn as_slice(&self) -> &[u8]
+        ensures { result.now ≡ self.now }
+    {
+        self.bytes.as_slice()
+    }
 }
 
 /// A document with all its bytes, 1 to 16,777,216.
@@ -58,4 +64,11 @@ pub struct Document {
 pub struct KeptDocument {
     pub job: u32,
     pub document: Document,
+}
+
+/// The format of a document, and its length in bytes.
+#[derive(Clone, Copy, Debug, PartialEq, Eq)]
+pub struct DocumentHead {
+    pub format: Format,
+    pub octets: u64,
 }

@@ -1,10 +1,11 @@
 //! What may happen to a queue, what it answers, and what becomes of its rows.
-ghost use Rattle.std.specs.Prelude.{◌≡◌, length};
+ghost use Rattle.std.specs.Prelude.{◌≡◌, IfOk, length};
 
 use crate::document::Format;
 use crate::job::JobList;
 use crate::settings::Settings;
 use crate::text::Text;
+use std::alloc::AllocError;
 use std::marker::Model;
 
 /// What a request asks of a new job.
@@ -116,6 +117,10 @@ pub enum Call<'a> {
 pub enum Event<'a> {
     /// A caller, by the requesting user name, asks for an operation.
     Ask { caller: &'a str, call: Call<'a> },
+    /// The device reports of a job.
+    Tell(Report),
+    /// The office grants pages: the rows of an account file, at most 16,777,216.
+    Grant(&'a [GrantRow]),
 }
 
 /// What the machine answers.
@@ -132,6 +137,43 @@ pub enum Reply {
         queued: u32,
         accepting: bool,
     },
+    /// A report is accepted, now or before: the job's state by its number, and the pages reported of it, as
+    /// they were after it was accepted.
+    Told {
+        state: u8,
+        count: u32,
+    },
+    /// A report is not accepted. Nothing changes.
+    NotTold(ReportRefusal),
+    /// The rows of an account file are taken: so many are new, and so many equal one that was accepted before.
+    Added {
+        added: u32,
+        repeats: u32,
+    },
+    /// None of the rows of an account file is taken, for this one, counted from 1. Nothing changes.
+    NotAdded {
+        fault: GrantFault,
+        row: u32,
+    },
+}
+
+/// Why a report is not accepted, by its number.
+#[derive(Clone, Copy, Debug, PartialEq, Eq)]
+pub enum ReportRefusal {
+    NoJob = 2,
+    /// The job's phase takes no report of that kind.
+    State = 3,
+    /// Another kind or count was accepted of the job under that sequence number.
+    Conflict = 5,
+}
+
+/// Why a row of an account file can't be taken, by its number.
+#[derive(Clone, Copy, Debug, PartialEq, Eq)]
+pub enum GrantFault {
+    /// The same batch and account were accepted with other pages.
+    Conflict = 4,
+    /// The account would have more than 1,000,000,000 pages granted.
+    TooMany = 5,
 }
 
 /// The kinds of a device's reports.
@@ -144,6 +186,25 @@ pub enum Kind {
     Done,
     Fail,
     Halt,
+}
+
+impl Kind {
+    ghost use Rattle.queue_core.specs.Reports.{kind_number};
+
+    /// 1 to 7, in the order above.
+    pub fn number(self) -> u8
+        ensures { result ≡ kind_number self }
+    {
+        match self {
+            Kind::Start => 1,
+            Kind::Stop => 2,
+            Kind::Resume => 3,
+            Kind::Count => 4,
+            Kind::Done => 5,
+            Kind::Fail => 6,
+            Kind::Halt => 7,
+        }
+    }
 }
 
 /// What a device reports of a job: numbers of 1 to 2,147,483,647, and 0 to 100,000,000 pages.
@@ -169,6 +230,102 @@ pub struct GrantRow {
     pub batch: Text,
     pub account: Text,
     pub pages: u32,
+}
+
+impl GrantRow {
+    /// A copy. The one error is want of memory.
+    pub fn try_clone(&self) -> Result<GrantRow, AllocError>
+        ensures { IfOk result (λ g. g ≡ self.now) }
+    {
+        let batch = self.batch.try_clone()?;
+        let account = self.account.try_clone()?;
+        Ok(GrantRow {
+            batch,
+            account,
+            pages: self.pages,
+        })
+    }
+}
+
+/// Grants, which contracts see as a list.
+#[derive(Debug, Drop)]
+pub struct GrantList {
+    rows: Vec<GrantRow>,
+}
+
+impl Model for GrantList {
+    ghost use Rattle.std.specs.Prelude.{List};
+    ghost use Rattle.queue_core.specs.declared.event.GrantRow.{GrantRow};
+
+    ghost Value = { List GrantRow };
+
+    ghost view = { λ l. l.rows.items };
+}
+
+impl GrantList {
+    pub fn from_rows(rows: Vec<GrantRow>) -> Self
+        ensures { result ≡ rows.items }
+    {
+        GrantList { rows }
+    }
+
+    pub fn len(&self) -> usize
+        ensures { result ≡ length self.now }
+    {
+        self.rows.len()
+    }
+
+    pub fn into_rows(self) -> Vec<GrantRow>
+        ensures { result.items ≡ self }
+    {
+        self.rows
+    }
+
+    pub fn as_slice(&self) -> &[GrantRow]
+        ensures { result.now ≡ self.now }
+    {
+        self.rows.as_slice()
+    }
+}
+
+/// What a queue knows of the batch and the account of an account file's row.
+#[derive(Clone, Copy, Debug, PartialEq, Eq)]
+pub struct KnownGrant {
+    /// The pages that were granted under this batch to this account.
+    pub pages: Option<u32>,
+    /// The pages that were granted to the account in all, at most 1,000,000,000.
+    pub granted: u32,
+    /// The account's free pages, where it is there.
+    pub free: Option<i64>,
+}
+
+/// What is known of each row of an account file, which contracts see as a list.
+#[derive(Debug, Drop)]
+pub struct KnownList {
+    known: Vec<KnownGrant>,
+}
+
+impl Model for KnownList {
+    ghost use Rattle.std.specs.Prelude.{List};
+    ghost use Rattle.queue_core.specs.declared.event.KnownGrant.{KnownGrant};
+
+    ghost Value = { List KnownGrant };
+
+    ghost view = { λ l. l.known.items };
+}
+
+impl KnownList {
+    pub fn from_known(known: Vec<KnownGrant>) -> Self
+        ensures { result ≡ known.items }
+    {
+        KnownList { known }
+    }
+
+    pub fn as_slice(&self) -> &[KnownGrant]
+        ensures { result.now ≡ self.now }
+    {
+        self.known.as_slice()
+    }
 }
 
 /// An account with its free pages, below zero by pages printed past what was reserved.
@@ -228,12 +385,14 @@ pub struct NewDocument<'a> {
 }
 
 /// What becomes of the rows: the jobs that change or enter, one more document, the free pages of the
-/// accounts concerned, and the next job number.
+/// accounts concerned, new grants, one more report that is kept, and the next job number.
 #[derive(Drop)]
 pub struct Change<'a> {
     pub jobs: JobList,
     pub document: Option<NewDocument<'a>>,
     pub free: FreeList,
+    pub grants: GrantList,
+    pub report: Option<KeptReport>,
     pub next: Option<u32>,
 }
 
@@ -252,15 +411,20 @@ pub struct QueueCounts {
     pub queued: usize,
 }
 
-/// The rows that an event needs: the jobs that it speaks of, the free pages of the accounts that it may
-/// move, how many live jobs its caller has, the counts of the queue, and the next job number.
+/// The rows that an event needs: the jobs that it speaks of, the free pages of the account that it may
+/// move, how many live jobs its caller has, the counts of the queue, the report that is kept under the same
+/// sequence number, what is known of the rows of an account file, and the next job number.
 #[derive(Drop)]
 pub struct Scene {
     pub settings: Settings,
     pub jobs: JobList,
     pub free: FreeList,
+    /// Counted for Print-Job, Validate-Job and Create-Job, and else 0.
     pub live: usize,
-    /// Counted for Get-Printer-Attributes alone, and else all 0.
+    /// Counted for Get-Printer-Attributes, and else all 0.
     pub counts: QueueCounts,
+    pub report: Option<KeptReport>,
+    /// Row by row.
+    pub known: KnownList,
     pub next: u32,
 }

@@ -1,8 +1,11 @@
 //! Laws of the machine, which no program calls: each is a contract on an empty body.
-ghost use Rattle.std.specs.Prelude.{◌≡◌, ◌∷◌, ◌++◌, [], Bool, List, count_by};
+ghost use Rattle.std.specs.Prelude.{ℕ, ◌≡◌, ◌+◌, ◌∷◌, ◌++◌, [], Bool, List, count_by, fold};
+ghost use Rattle.std.specs.FinMap.{FinMap};
 ghost use Rattle.std.specs.List.{AllByRecursion};
 ghost use Rattle.queue_core.specs.Book.{IsDecisionOn};
 ghost use Rattle.queue_core.specs.Event.{Event, Decision};
+ghost use Rattle.queue_core.specs.Grants.{pages_to};
+ghost use Rattle.queue_core.specs.declared.event.GrantRow.{GrantRow};
 ghost use Rattle.queue_core.specs.Limits.{IsFair, IsSoundChange};
 ghost use Rattle.queue_core.specs.Visible.{in_order};
 ghost use Rattle.queue_core.specs.Order.{IsLive, AreNewestFirst, AreByRank, AreRising};
@@ -11,7 +14,7 @@ ghost use Rattle.queue_core.specs.declared.job.Job.{Job};
 ghost use Rattle.queue_core.specs.Runs.{Place, IsPlace, run, MovesAlong};
 ghost use Rattle.queue_core.specs.Settings.{SettingValues, AreSettings};
 ghost use Rattle.queue_core.specs.Sound.{IsSound, Balances};
-ghost use Rattle.queue_core.specs.World.{World, cut, empty_queue, made_on};
+ghost use Rattle.queue_core.specs.World.{World, AreNew, cut, empty_queue, grant_cmp, granted_in, made_on, put_grant};
 
 /// From a sound world every place of a run, a moment with an event within the limits or with nothing,
 /// leaves a sound world: jobs move along the allowed pairs alone, and in every account pages granted are
@@ -33,10 +36,17 @@ pub fn empty_is_sound()
     ensures { (s : SettingValues) → AreSettings s → IsSound (empty_queue s) }
 {}
 
-/// What becomes of the rows by a decision on a sound world is within the limits, and makes a sound world.
+/// What becomes of the rows by a decision on a sound world is within the limits, and makes a sound world;
+/// its grants are under batches and accounts that have none.
 pub fn decisions_are_sound()
     ensures within { (w : World) (d : Decision) → IsSound w → IsDecisionOn w d → IsSoundChange d.change }
     ensures made { (w : World) (d : Decision) → IsSound w → IsDecisionOn w d → IsSound (made_on d.change w) }
+    ensures new_grants { (w : World) (d : Decision) → IsSound w → IsDecisionOn w d → AreNew w.grants d.change.grants }
+{}
+
+/// The pages that new grants add to an account are those of its rows.
+pub fn new_grants_add_up()
+    ensures { (a : List ℕ) (rows : List GrantRow) (m : FinMap grant_cmp ℕ) → AreNew m rows → granted_in a (fold put_grant m rows) ≡ granted_in a m + pages_to a rows }
 {}
 
 /// Get-Jobs shows each job that it is about, and none twice: 'completed' from the one that ended last,

@@ -2,7 +2,7 @@
 ghost use Rattle.std.specs.Prelude.{◌≡◌, ◌∷◌, [], ◌<◌, ◌^◌, IfOk, IsNone, None, option_map};
 ghost use Rattle.queue_core.specs.Balance.{AreAmounts};
 ghost use Rattle.queue_core.specs.Event.{event_of, change_of, decision_of, document_of, new_job_of, call_of};
-ghost use Rattle.queue_core.specs.Limits.{IsMoment, IsEvent, IsCall, IsNewJob, IsFair, IsSoundReply, IsSoundChange};
+ghost use Rattle.queue_core.specs.Limits.{IsMoment, IsEvent, IsCall, IsNewJob, IsFair, IsReplyTo, IsSoundChange};
 ghost use Rattle.queue_core.specs.Machine.{answered, decision, new_job, entered as entered_row, new_refusal, print_job_row, create_job_row, validate_job_row, printer_row, printer_state, call_row, step};
 ghost use Rattle.queue_core.specs.Runs.{MovesAlong};
 ghost use Rattle.queue_core.specs.Sound.{IsSound, Balances};
@@ -11,10 +11,12 @@ ghost use Rattle.queue_core.specs.declared.event.Reply.TheVariants.{Jobs};
 
 use crate::document::Format;
 use crate::event::{Call, Decision, Event, NewDocument, NewJob, QueueCounts, Reply, Scene};
+use crate::grants::grant;
 use crate::job::{Job, JobList, Phase};
 use crate::my_jobs::{cancel_all, cancel_named};
 use crate::outcome::{answer_only, change_job, refuse};
 use crate::own_job::{cancel, count_of, document_in, hold, own, release, send, show};
+use crate::reports::report;
 use crate::text::Text;
 use std::alloc::{AllocError, Global};
 
@@ -229,6 +231,23 @@ fn answer_call<'a>(
     }
 }
 
+fn decision_on<'a>(
+    alloc: Global,
+    s: &Scene,
+    now: u32,
+    e: &Event<'a>,
+) -> Result<Decision<'a>, AllocError>
+    requires fair { IsFair s.now }
+    requires event { IsEvent (event_of e.now) }
+    ensures { IfOk result (λ d. decision_of d ≡ decision s.now now (event_of e.now)) }
+{
+    match e {
+        Event::Ask { caller, call } => answer_call(alloc, s, now, caller, call),
+        Event::Tell(r) => report(alloc, s, now, *r),
+        Event::Grant(rows) => grant(alloc, s, rows),
+    }
+}
+
 /// What the machine decides at a moment on the rows that the event needs. On the rows that were cut from
 /// a sound world, the reply is the step's and the change makes the step's world, which is sound again:
 /// each job keeps its state or takes an allowed pair, and in every account pages granted are those that
@@ -243,7 +262,7 @@ pub fn decide<'a>(
     requires moment { IsMoment now }
     requires event { IsEvent (event_of e.now) }
     ensures decides { IfOk result (λ d. decision_of d ≡ decision s.now now (event_of e.now)) }
-    ensures limits { IfOk result (λ d. IsSoundReply d.reply) }
+    ensures limits { IfOk result (λ d. IsReplyTo (event_of e.now) d.reply) }
     ensures rows { IfOk result (λ d. IsSoundChange (change_of d.change)) }
 
     // on the scene that was cut from a world
@@ -253,7 +272,5 @@ pub fn decide<'a>(
     ensures moves { IfOk result (λ d. (w : World) → s.now ≡ cut w (event_of e.now) → IsSound w → MovesAlong w (made_on (change_of d.change) w)) }
     ensures balances { IfOk result (λ d. (w : World) → s.now ≡ cut w (event_of e.now) → IsSound w → Balances (made_on (change_of d.change) w)) }
 {
-    match e {
-        Event::Ask { caller, call } => answer_call(alloc, s, now, caller, call),
-    }
+    decision_on(alloc, s, now, e)
 }

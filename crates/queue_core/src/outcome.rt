@@ -6,7 +6,7 @@ ghost use Rattle.queue_core.specs.Limits.{IsFair};
 ghost use Rattle.queue_core.specs.Machine.{refused, answered, becomes, changed};
 
 use crate::balance::credited_rows;
-use crate::event::{Change, Decision, FreeList, Reply, Scene};
+use crate::event::{Change, Decision, FreeList, GrantList, Reply, Scene};
 use crate::job::{Job, JobList};
 use std::alloc::{AllocError, Global};
 
@@ -19,6 +19,8 @@ pub(crate) fn answer_only<'a>(alloc: Global, reply: Reply) -> Decision<'a>
             jobs: JobList::from_jobs(Vec::new(alloc)),
             document: None,
             free: FreeList::from_rows(Vec::new(alloc)),
+            grants: GrantList::from_rows(Vec::new(alloc)),
+            report: None,
             next: None,
         },
     }
@@ -46,6 +48,8 @@ pub(crate) fn change_jobs<'a>(
         jobs: JobList::from_jobs(jobs),
         document: None,
         free: FreeList::from_rows(free),
+        grants: GrantList::from_rows(Vec::new(alloc)),
+        report: None,
         next: None,
     })
 }

@@ -6,7 +6,8 @@ use Rattle.std.specs.FinMap as finmap
 use Rattle.std.specs.Cmp.Lexicographic.{nat_list_cmp_total}
 use Rattle.std.proofs.lemmas.Bool.{cases_lt}
 use Rattle.std.proofs.lemmas.List.{get_or_default}
-use Rattle.queue_core.specs.Sound.{IsGrant, IsKept}
+use Rattle.queue_core.specs.Sound.{IsKept}
+use Rattle.queue_core.specs.Limits.{IsGrant}
 use Rattle.queue_core.specs.World.{World, text_cmp, grant_cmp, report_cmp}
 use Rattle.queue_core.specs.declared.event.GrantRow.{GrantRow}
 use Rattle.queue_core.specs.declared.event.KeptReport.{KeptReport}

@@ -4,7 +4,9 @@ use Rattle.std.specs.List.{flat_map, AllByRecursion as Each}
 use Rattle.std.specs.FinMap.{get}
 use Rattle.std.proofs.lemmas.Bool.{cases_lt, cases_eq, eq-eqb, ne_eqb}
 use Rattle.std.proofs.lemmas.List.Elements.{All-from_recursion, recursion_from_All, All-from_get_or}
-use Rattle.queue_core.specs.Sound.{IsSound, IsGrant, IsKept, IsGreatestCount, IsIdle, granted, reserved, printed}
+use Rattle.queue_core.specs.Sound.{IsSound, IsKept, IsGreatestCount, IsIdle, reserved, printed}
+use Rattle.queue_core.specs.World.{granted}
+use Rattle.queue_core.specs.Limits.{IsGrant}
 use Rattle.queue_core.specs.World.{World, Entry, rows, live_jobs, job_at}
 use Rattle.queue_core.specs.declared.event.GrantRow.{GrantRow}
 use Rattle.queue_core.specs.declared.event.KeptReport.{KeptReport}

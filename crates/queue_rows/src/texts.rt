@@ -2,7 +2,7 @@
 ghost use Rattle.std.specs.Prelude.{◌≡◌, ◌↔◌, IsTrue, nat_le};
 ghost use Rattle.std.specs.List.{list_all};
 ghost use Rattle.queue_core.specs.Limits.{is_no_control, IsOwner, IsJobName};
-ghost use Rattle.queue_core.specs.Sound.{is_batch_byte, IsBatch};
+ghost use Rattle.queue_core.specs.Limits.{is_batch_byte, IsBatch};
 
 fn has_no_control(t: &[u8]) -> bool
     ensures { result ≡ list_all is_no_control t.now }

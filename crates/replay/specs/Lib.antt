@@ -1,4 +1,5 @@
 pub mod Line
+pub mod Replay
 pub mod RequestLine
 pub mod Session
 pub mod Unread

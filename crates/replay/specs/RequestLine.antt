@@ -2,13 +2,15 @@
 use Rattle.std.specs.Prelude.{◌≡◌, ℕ, ◌≤◌, List, ◌++◌, codes}
 use Rattle.std.specs.Fmt.{decimal}
 use Rattle.replay.specs.declared.request_line.RequestLine.{RequestLine}
-use Rattle.replay.specs.declared.request_line.RequestLine.TheVariants.{Now, Ipp}
+use Rattle.replay.specs.declared.request_line.RequestLine.TheVariants.{Now, Ipp, Dev, Grant}
 
 -- a moment, in seconds of printer up time
 abbrev pub IsMoment : ℕ → Type 0
 IsMoment n = (1 ≤ n) × (n ≤ 2147483647)
 
--- the bytes of the line are those of `now N` or of `ipp HEX`
+-- the bytes of the line are those of `now N`, `ipp HEX`, `dev LINE` or `grant B,A,P`
 abbrev pub Says : List ℕ → RequestLine → Type 0
 Says line (Now n) = IsMoment n × (line ≡ codes "now " ++ decimal n)
 Says line (Ipp digits) = line ≡ codes "ipp " ++ digits.now
+Says line (Dev text) = line ≡ codes "dev " ++ text.now
+Says line (Grant row) = line ≡ codes "grant " ++ row.now

@@ -1,11 +1,21 @@
 -- What a line of a replay brings about, and the text that answers it.
-use Rattle.std.specs.Prelude.{◌≡◌, ◌<◌, ◌⊎◌, ℕ, List, [], ◌∷◌, ◌++◌, Ok, IsErr, IsOkAnd, codes, length}
+use Rattle.std.specs.Prelude.{◌≡◌, ◌<◌, ◌⊎◌, ℕ, List, [], ◌∷◌, ◌++◌, Result, Ok, Err, IsErr, IsOkAnd, MatchResult, codes, length}
+use Rattle.std.specs.Fmt.{decimal}
+use Rattle.device_lines.specs.Reports.{IsReported, IsUntaken}
+use Rattle.grants_csv.specs.Fault.{code_of, fault}
+use Rattle.grants_csv.specs.File.{rows_of}
+use Rattle.grants_csv.specs.Import.{Adds, Refuses}
+use Rattle.grants_csv.specs.declared.fault.ImportFault.{ImportFault}
+use Rattle.grants_csv.specs.declared.importing.Imported.{Imported}
+use Rattle.queue_core.specs.Event.{grant}
+use Rattle.queue_core.specs.Machine.{step}
+use Rattle.queue_core.specs.declared.event.GrantRow.{GrantRow}
 use Rattle.hex.specs.Hex.{decode_of, encode_lower}
 use Rattle.ipp_ops.specs.Answer.{Answers, Fails}
 use Rattle.queue_core.specs.World.{World}
 use Rattle.replay.specs.RequestLine.{Says}
 use Rattle.replay.specs.declared.request_line.RequestLine.{RequestLine}
-use Rattle.replay.specs.declared.request_line.RequestLine.TheVariants.{Now, Ipp}
+use Rattle.replay.specs.declared.request_line.RequestLine.TheVariants.{Now, Ipp, Dev, Grant}
 
 -- where a session is: the moment at which requests come, and the queue
 pub record State : Type 0 where
@@ -26,15 +36,39 @@ AnswersMessage old now message new text =
     ((out : List ℕ) × IsReply old now message new out × (text ≡ reply_line out))
     ⊎ ((length message < 8) × (new ≡ old) × (text ≡ codes "ipp short" ++ 10 ∷ []))
 
--- `now N` sets the moment and has no answer; `ipp HEX` is answered at the moment that was set last
+-- out answers the line of the device at this moment, and new is the queue after it; or out tells of a fault, and the queue stays
+abbrev pub AnswersLine : World → ℕ → List ℕ → World → List ℕ → Type 0
+AnswersLine old now line new out = IsReported old now line new out ⊎ (IsUntaken line out × (new ≡ old))
+
+-- the account file with this one row
+abbrev pub file_of : List ℕ → List ℕ
+file_of row = codes "batch,account,pages\n" ++ row ++ 10 ∷ []
+
+-- what the import of an account file at this moment says, and the queue after it: its rows are taken as one event; or
+-- this is why they are not, or a fault, and the queue stays
+abbrev pub Imports : World → ℕ → List ℕ → World → Result Imported ImportFault → Type 0
+Imports old now file new (Ok n) = (rows : List GrantRow) × (rows_of file ≡ Ok rows) × Adds (step old now (grant rows)).reply n × (new ≡ (step old now (grant rows)).world)
+Imports old now file new (Err f) = MatchResult (rows_of file) (λ rows. Refuses (step old now (grant rows)).reply f) (λ bad. (f ≡ bad) ⊎ (f ≡ fault)) × (new ≡ old)
+
+-- `grant new N repeats M` or `grant refused CODE`
+abbrev pub import_line : Result Imported ImportFault → List ℕ
+import_line (Ok n) = codes "grant new " ++ decimal n.added ++ codes " repeats " ++ decimal n.repeats ++ 10 ∷ []
+import_line (Err f) = codes "grant refused " ++ decimal (code_of f.cause) ++ 10 ∷ []
+
+-- `now N` sets the moment and has no answer; the others are answered at the moment that was set last
 abbrev pub Takes : RequestLine → State → State → List ℕ → Type 0
 Takes (Now n) old new text = (new.now ≡ n) × (new.queue ≡ old.queue) × (text ≡ [])
 Takes (Ipp digits) old new text = (new.now ≡ old.now)
     × ((message : List ℕ) × (decode_of digits.now ≡ Ok message) × AnswersMessage old.queue old.now message new.queue text)
+Takes (Dev line) old new text = (new.now ≡ old.now) × AnswersLine old.queue old.now (line.now ++ 10 ∷ []) new.queue text
+Takes (Grant row) old new text = (new.now ≡ old.now)
+    × ((answer : Result Imported ImportFault) × Imports old.queue old.now (file_of row.now) new.queue answer × (text ≡ import_line answer))
 
 -- the digits stand for no message of at most 16,777,216 bytes
 abbrev pub IsRefused : RequestLine → Type 0
 IsRefused (Now n) = ⊥
+IsRefused (Dev line) = ⊥
+IsRefused (Grant row) = ⊥
 IsRefused (Ipp digits) = IsErr (decode_of digits.now) ⊎ IsOkAnd (decode_of digits.now) (λ message. 16777216 < length message)
 
 -- the line is of no form, or has a message that is refused

@@ -16,15 +16,15 @@ pub const MAX_BYTES: usize = 16_777_216;
 /// How many bytes are turned into text at a time.
 const PIECE: usize = 512;
 
-/// Why a text stands for no message.
+/// Why a text stands for no message, by its number.
 #[derive(Debug, Clone, Copy, PartialEq, Eq)]
 pub enum HexFault {
     /// It isn't an even number of hexadecimal digits.
-    NotOfTheForm,
+    NotOfTheForm = 1,
     /// It stands for more bytes than [`MAX_BYTES`].
-    TooLong,
+    TooLong = 2,
     /// There was no memory for its bytes.
-    Memory,
+    Memory = 3,
 }
 
 /// The bytes that a text of hexadecimal digits stands for, two digits a byte, in either case. Only

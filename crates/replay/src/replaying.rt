@@ -1,6 +1,9 @@
 //! A replay: requests that stand on lines, and the lines that answer them.
 
-ghost use Rattle.std.specs.Prelude.{◌≤◌, IfOk};
+ghost use Rattle.std.specs.Prelude.{◌≤◌, ℕ, List, IfOk, OnOk};
+ghost use Rattle.std.specs.Io.KnownBytes.{Appends};
+ghost use Rattle.replay.specs.Replay.{Replays, bad_line, first};
+ghost use Rattle.replay.specs.Unread.{left};
 
 use crate::fault::Fault;
 use crate::lines::{Line, LineReader};
@@ -13,7 +16,9 @@ use std::io::{Read, Write};
 /// behind it is read. Answers are flushed before the program waits for more of the input. The queue
 /// is a book in memory, empty at first.
 pub fn replay<R: Read, W: Write>(alloc: Global, input: &mut R, output: &mut W) -> Result<u8, Fault>
-    ensures { IfOk result (λ status. status ≤ 1) }
+    ensures status { IfOk result (λ status. status ≤ 1) }
+    ensures answered { IfOk result (λ status. (text : List ℕ) × Replays (R.remaining input.old) first status text
+        × Appends (W.contents output.old) (W.contents output.new) text) }
 {
     let mut session = Session::new(alloc)?;
     answer_input(alloc, &mut session, input, output)
@@ -26,7 +31,9 @@ fn answer_input<R: Read, W: Write>(
     input: &mut R,
     output: &mut W,
 ) -> Result<u8, Fault>
-    ensures { IfOk result (λ status. status ≤ 1) }
+    ensures status { IfOk result (λ status. status ≤ 1) }
+    ensures answered { IfOk result (λ status. (text : List ℕ) × Replays (R.remaining input.old) session.old status text
+        × Appends (W.contents output.old) (W.contents output.new) text) }
 {
     let mut lines = LineReader::new(alloc)?;
     let mut line = Line::new(alloc);
@@ -42,7 +49,9 @@ fn answer_lines<R: Read, W: Write>(
     input: &mut R,
     output: &mut W,
 ) -> Result<u8, Fault>
-    ensures { IfOk result (λ status. status ≤ 1) }
+    ensures status { IfOk result (λ status. status ≤ 1) }
+    ensures answered { IfOk result (λ status. (text : List ℕ) × Replays (left lines.old (R.remaining input.old)) session.old status text
+        × Appends (W.contents output.old) (W.contents output.new) text) }
 {
     for number in 1..u64::MAX {
         if !lines.next_line(input, output, line)? {
@@ -50,10 +59,18 @@ fn answer_lines<R: Read, W: Write>(
             return Ok(0);
         }
         if line.is_cut || !session.take_line(alloc, line.bytes.as_slice(), output)? {
-            writeln!(output, "bad line {number}")?;
-            output.flush()?;
+            tell_bad_line(output, number)?;
             return Ok(1);
         }
     }
     Err(Fault::Io)
+}
+
+/// Writes which line is bad, at once.
+fn tell_bad_line<W: Write>(output: &mut W, number: u64) -> Result<(), Fault>
+    ensures { OnOk result (Appends (W.contents output.old) (W.contents output.new) (bad_line number)) }
+{
+    writeln!(output, "bad line {number}")?;
+    output.flush()?;
+    Ok(())
 }

@@ -1,6 +1,6 @@
 //! What a line of a replay asks for.
 
-ghost use Rattle.std.specs.Prelude.{◌≡◌, ◌≢◌, ℕ, IfSome, IfNone};
+ghost use Rattle.std.specs.Prelude.{◌≡◌, ◌≢◌, ◌++◌, ℕ, IfSome, IfNone, codes};
 ghost use Rattle.std.specs.Fmt.{decimal};
 ghost use Rattle.replay.specs.RequestLine.{IsMoment, Says};
 ghost use Rattle.replay.specs.declared.request_line.RequestLine.{RequestLine};
@@ -15,6 +15,10 @@ pub enum RequestLine<'a> {
     Now(u32),
     /// `ipp HEX`: a message of the Internet Printing Protocol, with what stands for its digits.
     Ipp(&'a [u8]),
+    /// `dev LINE`: a line of the device, without its line feed.
+    Dev(&'a [u8]),
+    /// `grant B,A,P`: the one row of an account file, without its line feed.
+    Grant(&'a [u8]),
 }
 
 impl<'a> RequestLine<'a> {
@@ -26,10 +30,24 @@ impl<'a> RequestLine<'a> {
         if let Some(digits) = line.strip_prefix(b"ipp ".as_slice()) {
             return Some(RequestLine::Ipp(digits));
         }
-        let digits = line.strip_prefix(b"now ".as_slice())?;
-        let moment = read_moment(digits)?;
+        if let Some(text) = line.strip_prefix(b"dev ".as_slice()) {
+            return Some(RequestLine::Dev(text));
+        }
+        if let Some(row) = line.strip_prefix(b"grant ".as_slice()) {
+            return Some(RequestLine::Grant(row));
+        }
+        let moment = read_now(line)?;
         Some(RequestLine::Now(moment))
     }
+}
+
+/// The moment of a line `now N`.
+fn read_now(line: &[u8]) -> Option<u32>
+    ensures moment { IfSome result (λ n. IsMoment n × (line.now ≡ codes "now " ++ decimal n)) }
+    ensures none { IfNone result ((n : ℕ) → IsMoment n → line.now ≢ codes "now " ++ decimal n) }
+{
+    let digits = line.strip_prefix(b"now ".as_slice())?;
+    read_moment(digits)
 }
 
 /// The moment that stands there in decimal digits, without leading zeros.

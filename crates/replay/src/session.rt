@@ -1,21 +1,28 @@
 //! A queue in memory, and the lines that it answers.
 
-ghost use Rattle.std.specs.Prelude.{◌≡◌, ◌<◌, ◌≤◌, ℕ, List, IfOk, OnErr, OnOk, length};
+ghost use Rattle.std.specs.Prelude.{◌≡◌, ◌<◌, ◌≤◌, ◌++◌, ◌∷◌, [], ℕ, List, Result, Ok, IfOk, OnErr, OnOk, codes, length};
+ghost use Rattle.std.specs.Fmt.{decimal};
+ghost use Rattle.grants_csv.specs.Fault.{code_of};
 ghost use Rattle.std.specs.Bool.{OnFalse, OnTrue};
 ghost use Rattle.std.specs.Io.KnownBytes.{Appends};
 ghost use Rattle.ipp_ops.specs.Answer.{bytes_of};
+ghost use Rattle.replay.specs.Replay.{first};
 ghost use Rattle.replay.specs.RequestLine.{Says};
-ghost use Rattle.replay.specs.Session.{AnswersMessage, IsBad, IsReply, Takes};
+ghost use Rattle.replay.specs.Session.{AnswersLine, AnswersMessage, Imports, IsBad, IsReply, Takes, file_of, import_line};
 ghost use Rattle.replay.specs.declared.request_line.RequestLine.{RequestLine};
+ghost use Rattle.grants_csv.specs.declared.fault.ImportFault.{ImportFault};
+ghost use Rattle.grants_csv.specs.declared.importing.Imported.{Imported};
 
 use crate::fault::Fault;
 use crate::hexadecimal::{HexFault, put_hex, read_hex};
 use crate::lines::Line;
 use crate::request_line::RequestLine;
+use device_lines::{ReportAnswer, report};
+use grants_csv::{ImportCause, ImportFault, Imported, import};
 use ipp_ops::{Answer, TooShort, answer};
 use list_book::ListBook;
 use queue_core::settings::Settings;
-use std::alloc::Global;
+use std::alloc::{AllocError, Global};
 use std::io::Write;
 use std::marker::Model;
 
@@ -60,7 +67,7 @@ impl Model for Session {
 impl Session {
     /// The printer's queue, empty, at moment 1.
     pub fn new(alloc: Global) -> Result<Session, Fault>
-        ensures { IfOk result (λ s. s.now ≡ 1) }
+        ensures { IfOk result (λ s. s ≡ first) }
     {
         let settings = Settings::new(alloc, URI, NAME, ESTIMATE, EPOCH)?;
         let book = ListBook::new(alloc, settings.try_clone()?);
@@ -96,6 +103,8 @@ impl Session {
                 Err(HexFault::NotOfTheForm | HexFault::TooLong) => return Ok(false),
                 Err(HexFault::Memory) => return Err(Fault::Memory),
             },
+            RequestLine::Dev(text) => self.answer_device(alloc, text, output)?,
+            RequestLine::Grant(row) => self.import_row(alloc, row, output)?,
         }
         Ok(true)
     }
@@ -134,4 +143,104 @@ impl Session {
     {
         answer(alloc, &mut self.book, &self.settings, self.now, message)
     }
+
+    /// Writes the answer to a line of the device at the present moment.
+    fn answer_device<W: Write>(
+        &mut self,
+        alloc: Global,
+        text: &[u8],
+        output: &mut W,
+    ) -> Result<(), Fault>
+        ensures moment { self.new.now ≡ self.old.now }
+        ensures answered { OnOk result ((out : List ℕ)
+            × AnswersLine self.old.queue self.old.now (text.now ++ 10 ∷ []) self.new.queue out
+            × Appends (W.contents output.old) (W.contents output.new) out) }
+    {
+        let line = ended_line(alloc, text)?;
+        let answer = self.reported(line.as_slice());
+        output.write_all(answer.bytes())?;
+        Ok(())
+    }
+
+    /// The answer to a line of the device at the present moment.
+    fn reported(&mut self, line: &[u8]) -> ReportAnswer
+        ensures moment { self.new.now ≡ self.old.now }
+        ensures answer { AnswersLine self.old.queue self.old.now line.now self.new.queue result }
+    {
+        report(&mut self.book, self.now, line)
+    }
+
+    /// Imports the account file of one row at the present moment, and writes what came of it.
+    fn import_row<W: Write>(
+        &mut self,
+        alloc: Global,
+        row: &[u8],
+        output: &mut W,
+    ) -> Result<(), Fault>
+        ensures moment { self.new.now ≡ self.old.now }
+        ensures imported { OnOk result ((answer : Result Imported ImportFault)
+            × Imports self.old.queue self.old.now (file_of row.now) self.new.queue answer
+            × Appends (W.contents output.old) (W.contents output.new) (import_line answer)) }
+    {
+        let file = account_file(alloc, row)?;
+        let answer = self.imported(alloc, file.as_slice());
+        tell_import(output, &answer)?;
+        Ok(())
+    }
+
+    /// What came of the import of an account file at the present moment.
+    fn imported(&mut self, alloc: Global, file: &[u8]) -> Result<Imported, ImportFault>
+        ensures moment { self.new.now ≡ self.old.now }
+        ensures imports { Imports self.old.queue self.old.now file.now self.new.queue result }
+    {
+        import(alloc, &mut self.book, self.now, file)
+    }
+}
+
+/// A line with its line feed.
+fn ended_line(alloc: Global, text: &[u8]) -> Result<Vec<u8>, AllocError>
+    ensures { IfOk result (λ line. line.items ≡ text.now ++ 10 ∷ []) }
+{
+    let mut line = Vec::from_slice(alloc, text)?;
+    line.push(b'\n')?;
+    Ok(line)
+}
+
+/// The account file of one row.
+fn account_file(alloc: Global, row: &[u8]) -> Result<Vec<u8>, AllocError>
+    ensures { IfOk result (λ file. file.items ≡ file_of row.now) }
+{
+    let mut file = Vec::from_slice(alloc, b"batch,account,pages\n".as_slice())?;
+    file.extend_from_slice(row)?;
+    file.push(b'\n')?;
+    Ok(file)
+}
+
+/// Writes what came of an import.
+fn tell_import<W: Write>(
+    output: &mut W,
+    answer: &Result<Imported, ImportFault>,
+) -> Result<(), Fault>
+    ensures { OnOk result (Appends (W.contents output.old) (W.contents output.new) (import_line answer.now)) }
+{
+    match answer {
+        Ok(n) => tell_added(output, *n),
+        Err(fault) => tell_refused(output, fault.cause),
+    }
+}
+
+fn tell_added<W: Write>(output: &mut W, n: Imported) -> Result<(), Fault>
+    ensures { OnOk result (Appends (W.contents output.old) (W.contents output.new) (import_line (Ok n))) }
+{
+    let Imported { added, repeats } = n;
+    writeln!(output, "grant new {added} repeats {repeats}")?;
+    Ok(())
+}
+
+fn tell_refused<W: Write>(output: &mut W, cause: ImportCause) -> Result<(), Fault>
+    ensures { OnOk result (Appends (W.contents output.old) (W.contents output.new) (codes "grant refused " ++ decimal (code_of cause) ++ 10 ∷ [])) }
+{
+    let code = cause.code();
+    writeln!(output, "grant refused {code}")?;
+    Ok(())
 }

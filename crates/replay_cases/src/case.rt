@@ -7,7 +7,7 @@ use std::io::{Read, Write};
 
 /// A worked example of a replay.
 #[derive(Clone, Copy)]
-pub struct Case<'a> {
+pub(crate) struct Case<'a> {
     /// Its name, behind a space.
     pub name: &'a [u8],
     /// The lines of the replay.
@@ -19,7 +19,7 @@ pub struct Case<'a> {
 impl<'a> Case<'a> {
     /// The case of a text that has its name up to a line feed, its lines up to a `=`, and behind the next line feed the
     /// lines that are wanted.
-    pub fn read(text: &'a [u8]) -> Option<Case<'a>> {
+    pub(crate) fn read(text: &'a [u8]) -> Option<Case<'a>> {
         let (name, rest) = cut(text, b'\n')?;
         let (input, rest) = cut(rest, b'=')?;
         let (_, wanted) = cut(rest, b'\n')?;
@@ -31,7 +31,7 @@ impl<'a> Case<'a> {
     }
 
     /// What a replay of the case writes where its input gives at most so many bytes at a time, and a line `status N`.
-    pub fn outcome(&self, alloc: Global, size: usize) -> Result<Vec<u8>, Fault> {
+    pub(crate) fn outcome(&self, alloc: Global, size: usize) -> Result<Vec<u8>, Fault> {
         let mut input = Pieces {
             rest: self.input,
             size,
@@ -64,7 +64,10 @@ impl Read for Pieces<'_> {
 }
 
 /// The first line in which two texts differ, as it stands in each.
-pub fn first_difference<'a>(wanted: &'a [u8], came: &'a [u8]) -> Option<(&'a [u8], &'a [u8])> {
+pub(crate) fn first_difference<'a>(
+    wanted: &'a [u8],
+    came: &'a [u8],
+) -> Option<(&'a [u8], &'a [u8])> {
     wanted
         .split(|byte| *byte == b'\n')
         .zip(came.split(|byte| *byte == b'\n'))

@@ -51,8 +51,7 @@ fn run_case<O: Write, E: Write>(
     complaints: &mut E,
 ) -> Result<bool, Fault> {
     let Some(case) = Case::read(text) else {
-        complaints.write_all(b"no case: ")?;
-        complaints.write_all(text)?;
+        write_parts(complaints, &[b"no case: ".as_slice(), text])?;
         return Ok(false);
     };
     for size in SIZES {
@@ -62,9 +61,7 @@ fn run_case<O: Write, E: Write>(
             return Ok(false);
         }
     }
-    output.write_all(b"ok")?;
-    output.write_all(case.name)?;
-    output.write_all(b"\n")?;
+    write_parts(output, &[b"ok".as_slice(), case.name, b"\n"])?;
     Ok(true)
 }
 
@@ -75,12 +72,22 @@ fn tell_difference<E: Write>(
     complaints: &mut E,
 ) -> Result<(), Fault> {
     let (wanted, other) = first_difference(case.wanted, came).unwrap_or((case.wanted, came));
-    complaints.write_all(b"differs:")?;
-    complaints.write_all(case.name)?;
-    complaints.write_all(b"\nwanted: ")?;
-    complaints.write_all(wanted)?;
-    complaints.write_all(b"\ncame:   ")?;
-    complaints.write_all(other)?;
-    complaints.write_all(b"\n")?;
+    let parts = [
+        b"differs:".as_slice(),
+        case.name,
+        b"\nwanted: ",
+        wanted,
+        b"\ncame:   ",
+        other,
+        b"\n",
+    ];
+    write_parts(complaints, &parts)
+}
+
+/// Writes texts, one behind the other.
+fn write_parts<W: Write>(writer: &mut W, parts: &[&[u8]]) -> Result<(), Fault> {
+    for part in parts {
+        writer.write_all(part)?;
+    }
     Ok(())
 }

@@ -3,7 +3,9 @@
 ghost use Rattle.std.specs.Prelude.{◌≤◌};
 
 use queue_core::document::Format;
-use queue_core::event::{Call, Decision, Event, FreeList, NewJob, QueueCounts, Reply, Scene};
+use queue_core::event::{
+    Call, Decision, Event, FreeList, KnownList, NewJob, QueueCounts, Reply, Scene,
+};
 use queue_core::job::JobList;
 use queue_core::machine::decide;
 use queue_core::settings::Settings;
@@ -26,6 +28,8 @@ fn number_given(alloc: Global, next: u32) -> Result<Result<u32, u16>, Fail>
             stopped: 0,
             queued: 0,
         },
+        report: None,
+        known: KnownList::from_known(Vec::new(alloc)),
         next,
     };
     let call = Call::PrintJob {
@@ -45,7 +49,7 @@ fn number_given(alloc: Global, next: u32) -> Result<Result<u32, u16>, Fail>
     match reply {
         Reply::Jobs(jobs) => Ok(Ok(jobs.as_slice().first().ok_or("a job")?.number)),
         Reply::Refused(code) => Ok(Err(code)),
-        Reply::Done | Reply::Printer { .. } => Ok(Err(0)),
+        _ => Ok(Err(0)),
     }
 }
 

@@ -15,3 +15,5 @@ returns c =
     (c.live_for_call.ensures ∙ ap (live_for c.args.caller.now (call_of c.args.call.now)) c.as_slice-3.ensures.value)
     (c.counts.ensures ∙ ap (counts_for (call_of c.args.call.now)) c.as_slice-4.ensures.value)
     refl
+    (c.from_known.ensures ∙ c.new.ensures.items)
+    refl

@@ -1,5 +1,5 @@
 -- Each clause over worlds follows from what the machine's decision makes of the world that the scene was cut from.
-use Rattle.std.proofs.Common.{◌≡◌, sym, subst, rules}
+use Rattle.std.proofs.Common.{◌≡◌, sym, subst}
 use Rattle.std.specs.Prelude.{IfOk}
 use Rattle.queue_core.specs.Event.{Decision, event_of, decision_of}
 use Rattle.queue_core.specs.Limits.{IsSoundDecision}
@@ -7,25 +7,25 @@ use Rattle.queue_core.specs.Machine.{decision}
 use Rattle.queue_core.proofs.Steps.{step_keeps, decided_on, if_ok}
 use Rattle.queue_core.proofs.Within.{decision_within}
 use Rattle.queue_core.proofs.machine.decide.Goals as goal
-use Rattle.queue_core.proofs.machine.decide.Goals.{After-answer_call}
+use Rattle.queue_core.proofs.machine.decide.Goals.{After-decision_on}
 
-decides : (c : After-answer_call) → IfOk c.answer_call.result (λ d. decision_of d ≡ decision c.args.s.now c.args.now (event_of c.args.e.now))
-decides c = search rules
+decides : (c : After-decision_on) → IfOk c.decision_on.result (λ d. decision_of d ≡ decision c.args.s.now c.args.now (event_of c.args.e.now))
+decides c = c.decision_on.ensures
 
-within : (c : After-answer_call) (d : Decision) → d ≡ decision c.args.s.now c.args.now (event_of c.args.e.now) → IsSoundDecision d
-within c d is = subst IsSoundDecision (sym is) (decision_within c.args.s.now c.args.now (event_of c.args.e.now) c.requires.fair c.requires.moment c.requires.event)
+within : (c : After-decision_on) (d : Decision) → d ≡ decision c.args.s.now c.args.now (event_of c.args.e.now) → IsSoundDecision (event_of c.args.e.now) d
+within c d is = subst (IsSoundDecision (event_of c.args.e.now)) (sym is) (decision_within c.args.s.now c.args.now (event_of c.args.e.now) c.requires.fair c.requires.moment c.requires.event)
 
 pub returns-clause-limits : goal.returns-clause-limits
-returns-clause-limits c = if_ok c.answer_call.result _ _ (λ d is. (within c (decision_of d) is).reply) (decides c)
+returns-clause-limits c = if_ok c.decision_on.result _ _ (λ d is. (within c (decision_of d) is).reply) (decides c)
 
 pub returns-clause-rows : goal.returns-clause-rows
-returns-clause-rows c = if_ok c.answer_call.result _ _ (λ d is. (within c (decision_of d) is).change) (decides c)
+returns-clause-rows c = if_ok c.decision_on.result _ _ (λ d is. (within c (decision_of d) is).change) (decides c)
 
 pub returns-clause-sound : goal.returns-clause-sound
-returns-clause-sound c = if_ok c.answer_call.result _ _ (λ d is w same sound. (step_keeps w (decision_of d) sound (decided_on w c.args.s.now c.args.now (event_of c.args.e.now) (decision_of d) c.requires.moment c.requires.event same is)).sound) (decides c)
+returns-clause-sound c = if_ok c.decision_on.result _ _ (λ d is w same sound. (step_keeps w (decision_of d) sound (decided_on w c.args.s.now c.args.now (event_of c.args.e.now) (decision_of d) c.requires.moment c.requires.event same is)).sound) (decides c)
 
 pub returns-clause-moves : goal.returns-clause-moves
-returns-clause-moves c = if_ok c.answer_call.result _ _ (λ d is w same sound. (step_keeps w (decision_of d) sound (decided_on w c.args.s.now c.args.now (event_of c.args.e.now) (decision_of d) c.requires.moment c.requires.event same is)).moves) (decides c)
+returns-clause-moves c = if_ok c.decision_on.result _ _ (λ d is w same sound. (step_keeps w (decision_of d) sound (decided_on w c.args.s.now c.args.now (event_of c.args.e.now) (decision_of d) c.requires.moment c.requires.event same is)).moves) (decides c)
 
 pub returns-clause-balances : goal.returns-clause-balances
-returns-clause-balances c = if_ok c.answer_call.result _ _ (λ d is w same sound. (step_keeps w (decision_of d) sound (decided_on w c.args.s.now c.args.now (event_of c.args.e.now) (decision_of d) c.requires.moment c.requires.event same is)).sound.balances) (decides c)
+returns-clause-balances c = if_ok c.decision_on.result _ _ (λ d is w same sound. (step_keeps w (decision_of d) sound (decided_on w c.args.s.now c.args.now (event_of c.args.e.now) (decision_of d) c.requires.moment c.requires.event same is)).sound.balances) (decides c)

@@ -1,0 +1,4 @@
+pub mod Cuts
+pub mod Flags
+pub mod Numbers
+pub mod Readings

@@ -1,0 +1,39 @@
+use Rattle.std.proofs.Common.{refl, Ok, Err}
+use Rattle.queue_core.specs.Event.{tell}
+use Rattle.queue_core.specs.Machine.{step}
+use Rattle.device_lines.specs.Reports.{is_fault_line}
+use Rattle.device_lines.proofs.Flags.{on_false, on_true}
+use Rattle.device_lines.proofs.Readings.{refused_reads}
+use Rattle.device_lines.proofs.reporting.report.Goals as goal
+
+pub returns-in-Ok-step-clause-told : goal.returns-in-Ok-step-clause-told
+returns-in-Ok-step-clause-told g c = λ honest. on_false _ (is_fault_line c.in-Ok-step.answer) (λ w stands. (
+  (step w c.args.now (tell c.in-Ok.r)).world,
+  record {
+    reading = Ok c.in-Ok.r;
+    reads = (c.in-Ok.ensures.ok c.in-Ok.r).0 refl;
+    brings = (refl, c.in-Ok-step.ensures.answer honest w stands);
+  },
+  c.in-Ok-step.ensures.world honest w stands,
+))
+
+pub returns-in-Err-step-clause-failed : goal.returns-in-Err-step-clause-failed
+returns-in-Err-step-clause-failed g c = λ honest. on_true _ (is_fault_line c.fault.result) (λ w stands. (
+  record {
+    report = c.in-Ok.r;
+    reads = (c.in-Ok.ensures.ok c.in-Ok.r).0 refl;
+    text = c.fault.ensures;
+  },
+  c.in-Err-step.ensures.err w stands,
+))
+
+pub returns-in-Err-clause-told : goal.returns-in-Err-clause-told
+returns-in-Err-clause-told g c = λ honest. on_false _ (is_fault_line c.unread.result) (λ w stands. (
+  w,
+  record {
+    reading = Err c.in-Err.fault;
+    reads = refused_reads c.args.line.now c.in-Err.fault c.read_report.result c.in-Err.is c.read_report.ensures.syntax c.read_report.ensures.range;
+    brings = (refl, c.unread.ensures);
+  },
+  stands,
+))

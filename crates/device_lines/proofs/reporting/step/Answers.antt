@@ -1,0 +1,13 @@
+use Rattle.queue_core.specs.Event.{tell}
+use Rattle.device_lines.proofs.reporting.step.Goals as goal
+
+pub apply-requires : goal.apply-requires
+apply-requires g c = record {
+  decided = λ w honest stands. record {
+    now = c.args.now;
+    event = tell c.args.r;
+    moment = c.requires.moment;
+    limits = c.requires.report;
+    is = c.in_ok-decision.ensures.decides honest w stands;
+  };
+}

@@ -1,0 +1,4 @@
+pub mod Forms
+pub mod Lines
+pub mod Queue
+pub mod Reports

@@ -1,0 +1,62 @@
+-- What a line of the device brings about: an answer, and the world after it.
+use Rattle.std.specs.Prelude.{◌≡◌, ◌++◌, ℕ, Bool, List, Result, Ok, Err, codes, decimal, bytes_eq}
+use Rattle.queue_core.specs.Event.{tell}
+use Rattle.queue_core.specs.Machine.{step}
+use Rattle.queue_core.specs.World.{World}
+use Rattle.queue_core.specs.declared.event.Reply.{Reply}
+use Rattle.queue_core.specs.declared.event.Reply.TheVariants.{Told, NotTold}
+use Rattle.queue_core.specs.declared.event.Report.{Report}
+use Rattle.queue_core.specs.declared.event.ReportRefusal.{ReportRefusal}
+use Rattle.queue_core.specs.declared.event.ReportRefusal.TheVariants.{NoJob, State, Conflict}
+use Rattle.device_lines.specs.Lines.{Reads}
+use Rattle.device_lines.specs.declared.line.LineFault.{LineFault}
+use Rattle.device_lines.specs.declared.line.LineFault.TheVariants.{Syntax, Range}
+
+-- ---- the answers
+
+-- an accepted report: the job's state and count, as they are after it
+abbrev pub told_line : ℕ → ℕ → ℕ → List ℕ
+told_line job state count = codes "ok " ++ decimal job ++ codes " " ++ decimal state ++ codes " " ++ decimal count ++ codes "\n"
+
+-- a line that is no report
+abbrev pub unread_line : LineFault → List ℕ
+unread_line Syntax = codes "refused 1 syntax\n"
+unread_line Range = codes "refused 4 range\n"
+
+-- a report that is not accepted
+abbrev pub untold_line : ReportRefusal → List ℕ
+untold_line NoJob = codes "refused 2 no-job\n"
+untold_line State = codes "refused 3 state\n"
+untold_line Conflict = codes "refused 5 conflict\n"
+
+-- a fault of the book
+abbrev pub fault_line : List ℕ
+fault_line = codes "refused 6 fault\n"
+
+abbrev pub is_fault_line : List ℕ → Bool
+is_fault_line out = bytes_eq out fault_line
+
+-- out is what the device is answered where the machine replies so to its report of that job
+abbrev pub AnswersReport : ℕ → Reply → List ℕ → Type 0
+AnswersReport job (Told state count) out = out ≡ told_line job state count
+AnswersReport job (NotTold refusal) out = out ≡ untold_line refusal
+AnswersReport job _ out = ⊥
+
+-- ---- one line
+
+-- a report is one step of the machine; what can't be read leaves the world as it was
+abbrev pub BringsAbout : Result Report LineFault → World → ℕ → World → List ℕ → Type 0
+BringsAbout (Ok r) old now new out = (new ≡ (step old now (tell r)).world) × AnswersReport r.job (step old now (tell r)).reply out
+BringsAbout (Err fault) old now new out = (new ≡ old) × (out ≡ unread_line fault)
+
+-- out is the answer to the line, and new the world after it
+pub record IsReported (old : World) (now : ℕ) (line : List ℕ) (new : World) (out : List ℕ) : Type 0 where
+  pub reading : Result Report LineFault
+  pub reads : Reads line reading
+  pub brings : BringsAbout reading old now new out
+
+-- the line is read as a report, which the book could not take
+pub record IsUntaken (line : List ℕ) (out : List ℕ) : Type 0 where
+  pub report : Report
+  pub reads : Reads line (Ok report)
+  pub text : out ≡ fault_line

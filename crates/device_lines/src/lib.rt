@@ -1,0 +1,13 @@
+//! The device's side of a print queue: the lines in which it reports what it prints, their answers over any
+//! book, and its queue as text.
+#![tactic(auto)]
+
+mod line;
+mod queue;
+mod report_answer;
+mod reporting;
+
+pub use line::{LineFault, read_report};
+pub use queue::queue_text;
+pub use report_answer::ReportAnswer;
+pub use reporting::report;

@@ -1,0 +1,71 @@
+//! One line of the device, from its bytes to those of its answer.
+ghost use Rattle.std.specs.Prelude.{◌≡◌, Err, IfOk, OnOk, OnErr, false};
+ghost use Rattle.std.specs.Bool.{OnFalse, OnTrue};
+ghost use Rattle.queue_core.specs.Event.{tell};
+ghost use Rattle.queue_core.specs.Limits.{IsMoment, IsReport, IsReportReply};
+ghost use Rattle.queue_core.specs.Machine.{step as step_of};
+ghost use Rattle.queue_core.specs.World.{World};
+ghost use Rattle.device_lines.specs.Lines.{Reads};
+ghost use Rattle.device_lines.specs.Reports.{AnswersReport, IsReported, IsUntaken, is_fault_line, unread_line};
+ghost use Rattle.device_lines.specs.declared.line.LineFault.{LineFault};
+
+use crate::line::read_report;
+use crate::report_answer::ReportAnswer;
+use queue_core::book::{BookFault, QueueBook};
+use queue_core::event::{Event, Reply, Report};
+
+/// Answers one line of the device: it reads the line, and takes one step of the machine on its report. A
+/// line that is no report is refused and changes nothing; the book never sees it. A fault of the book is
+/// answered by `refused 6 fault`, which stands for nothing else, and changes nothing. It takes no memory of
+/// its own.
+pub fn report<B: QueueBook>(book: &mut B, now: u32, line: &[u8]) -> ReportAnswer
+    requires moment { IsMoment now }
+    ensures began { B.is_honest book.new → B.is_honest book.old }
+    ensures told { B.is_honest book.new → OnFalse (is_fault_line result) ((w : World) → B.stands book.old w
+        → (after : World) × IsReported w now line.now after result × B.stands book.new after) }
+    ensures failed { B.is_honest book.new → OnTrue (is_fault_line result) ((w : World) → B.stands book.old w
+        → IsUntaken line.now result × B.stands book.new w) }
+
+    // on any book, also one that is not honest
+    ensures unread { (f : LineFault) → Reads line.now (Err f) → (result ≡ unread_line f)
+        × ((w : World) → B.stands book.old w → B.stands book.new w) }
+{
+    match read_report(line) {
+        Ok(r) => match step(book, now, r) {
+            Ok(answer) => answer,
+            Err(_) => ReportAnswer::fault(),
+        },
+        Err(fault) => ReportAnswer::unread(fault),
+    }
+}
+
+/// One step of the machine on a report, or a fault and no change.
+fn step<B: QueueBook>(book: &mut B, now: u32, r: Report) -> Result<ReportAnswer, BookFault>
+    requires moment { IsMoment now }
+    requires report { IsReport r }
+    ensures began { B.is_honest book.new → B.is_honest book.old }
+    ensures answer { B.is_honest book.new → IfOk result (λ a. (w : World) → B.stands book.old w
+        → AnswersReport r.job (step_of w now (tell r)).reply a) }
+    ensures world { B.is_honest book.new → OnOk result ((w : World) → B.stands book.old w
+        → B.stands book.new (step_of w now (tell r)).world) }
+    ensures quiet { IfOk result (λ a. is_fault_line a ≡ false) }
+    ensures err { OnErr result ((w : World) → B.stands book.old w → B.stands book.new w) }
+{
+    let decision = book.decide(now, &Event::Tell(r))?;
+    let answer = answer_to(r.job, &decision.reply);
+    book.apply(decision)?;
+    Ok(answer)
+}
+
+/// What the device is answered where the machine replies so to its report of that job.
+fn answer_to(job: u32, reply: &Reply) -> ReportAnswer
+    requires { IsReportReply reply.now }
+    ensures answer { AnswersReport job reply.now result }
+    ensures quiet { is_fault_line result ≡ false }
+{
+    match reply {
+        Reply::Told { state, count } => ReportAnswer::told(job, *state, *count),
+        Reply::NotTold(refusal) => ReportAnswer::untold(*refusal),
+        _ => unreachable!(),
+    }
+}

@@ -1,0 +1,6 @@
+pub mod Tests
+pub mod Texts
+pub mod Numbers
+pub mod Forms
+pub mod Marks
+pub mod Rows

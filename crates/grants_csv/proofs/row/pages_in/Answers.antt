@@ -1,0 +1,15 @@
+use Rattle.std.specs.Prelude.{length, nat_le, not}
+use Rattle.std.specs.List.{list_all}
+use Rattle.std.specs.Char.{is_ascii_digit}
+use Rattle.grants_csv.specs.File.{has_leading_zero}
+use Rattle.std.proofs.Common.{◌&&◌}
+use Rattle.grants_csv.proofs.Numbers.{unparsed}
+use Rattle.grants_csv.proofs.Tests.{and_true}
+use Rattle.grants_csv.proofs.row.pages_in.Goals as goal
+
+pub returns-in-Err : goal.returns-in-Err
+returns-in-Err c =
+    let digits = c.args.digits.now in
+    let all = and_true (nat_le 1 (length digits) && list_all is_ascii_digit digits) (not (has_leading_zero digits)) c.requires in
+    let parts = and_true (nat_le 1 (length digits)) (list_all is_ascii_digit digits) all.0 in
+    unparsed digits c.in-Err.field-0 parts.0 parts.1 c.in-Err.ensures.value.0

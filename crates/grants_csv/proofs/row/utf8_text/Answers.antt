@@ -1,0 +1,20 @@
+use Rattle.std.proofs.Common.{◌≡◌, List, ℕ, Bool, true, false, ap, refl}
+use Rattle.std.specs.Prelude.{Some, None, if◌then◌else◌}
+use Rattle.std.specs.Str.{is_utf8}
+use Rattle.std.proofs.lemmas.Str.{is_utf8-from_IsUtf8}
+use Rattle.grants_csv.proofs.Texts.{no_text}
+use Rattle.grants_csv.proofs.row.utf8_text.Goals as goal
+
+text_chosen : (b : Bool) (text bytes : List ℕ) → b ≡ true → text ≡ bytes → Some text ≡ (if b then Some bytes else None)
+text_chosen true text bytes t e = ap Some e
+text_chosen false text bytes t e = absurd (cc)
+
+none_chosen : (b : Bool) (bytes : List ℕ) → b ≡ false → None ≡ (if b then Some bytes else None)
+none_chosen true bytes t = absurd (cc)
+none_chosen false bytes t = refl
+
+pub returns-in-Ok : goal.returns-in-Ok
+returns-in-Ok c = text_chosen (is_utf8 c.args.bytes.now) _ c.args.bytes.now (is_utf8-from_IsUtf8 c.args.bytes.now c.in-Ok.ensures.cases.1) c.in-Ok.ensures.cases.0
+
+pub returns-in-Err : goal.returns-in-Err
+returns-in-Err c = none_chosen (is_utf8 c.args.bytes.now) c.args.bytes.now (no_text c.args.bytes.now c.in-Err.ensures.cases.0)

@@ -1,0 +1,4 @@
+pub mod Fault
+pub mod File
+pub mod Records
+pub mod Import

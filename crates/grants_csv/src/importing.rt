@@ -1,0 +1,100 @@
+//! An account file enters a book.
+ghost use Rattle.std.specs.Prelude.{◌≡◌, ◌<◌, List, Err, Ok, IfErr, IfOk, OnErr, length};
+ghost use Rattle.queue_core.specs.Event.{grant};
+ghost use Rattle.queue_core.specs.Limits.{IsEvent, IsMoment};
+ghost use Rattle.queue_core.specs.Machine.{step};
+ghost use Rattle.queue_core.specs.World.{World};
+ghost use Rattle.queue_core.specs.declared.event.GrantRow.{GrantRow};
+ghost use Rattle.grants_csv.specs.Fault.{IsUnlessFault, at_row};
+ghost use Rattle.grants_csv.specs.File.{rows_of};
+ghost use Rattle.grants_csv.specs.declared.fault.ImportCause.TheVariants.{Range};
+ghost use Rattle.grants_csv.specs.Import.{Adds, Refuses};
+
+use crate::fault::{ImportCause, ImportFault};
+use crate::reading::read_grants;
+use queue_core::book::{BookFault, QueueBook};
+use queue_core::event::{Event, GrantFault, GrantRow, Reply};
+use std::alloc::Global;
+
+/// What an account file added: rows that are new, and rows that equal one accepted before.
+#[derive(Clone, Copy, Debug, PartialEq, Eq)]
+pub struct Imported {
+    pub added: u32,
+    pub repeats: u32,
+}
+
+impl From<BookFault> for ImportFault {
+    ghost use Rattle.grants_csv.specs.Fault.{fault};
+
+    ghost from_gives = { λ _ f. f ≡ fault };
+
+    fn from(_: BookFault) -> ImportFault {
+        ImportFault::FAULT
+    }
+}
+
+impl From<GrantFault> for ImportCause {
+    ghost use Rattle.grants_csv.specs.Import.{cause_of};
+
+    ghost from_gives = { λ g c. c ≡ cause_of g };
+
+    fn from(fault: GrantFault) -> ImportCause {
+        match fault {
+            GrantFault::Conflict => ImportCause::Conflict,
+            GrantFault::TooMany => ImportCause::TooMany,
+        }
+    }
+}
+
+/// One step of the machine on the rows of an account file: all of them are taken, or none.
+fn take_rows<B: QueueBook>(
+    book: &mut B,
+    now: u32,
+    rows: &[GrantRow],
+) -> Result<Imported, ImportFault>
+    requires moment { IsMoment now }
+    requires limits { IsEvent (grant rows.now) }
+    ensures began { B.is_honest book.new → B.is_honest book.old }
+    ensures added { B.is_honest book.new → IfOk result (λ n. (w : World) → B.stands book.old w → Adds (step w now (grant rows.now)).reply n) }
+    ensures world { B.is_honest book.new → IfOk result (λ n. (w : World) → B.stands book.old w → B.stands book.new (step w now (grant rows.now)).world) }
+    ensures refused { B.is_honest book.new → IfErr result (λ f. (w : World) → B.stands book.old w → Refuses (step w now (grant rows.now)).reply f) }
+    ensures err { OnErr result ((w : World) → B.stands book.old w → B.stands book.new w) }
+{
+    let decision = book.decide(now, &Event::Grant(rows))?;
+    match decision.reply {
+        Reply::Added { added, repeats } => {
+            book.apply(decision)?;
+            Ok(Imported { added, repeats })
+        }
+        Reply::NotAdded { fault, row } => {
+            let cause = ImportCause::from(fault);
+            Err(ImportFault { cause, row })
+        }
+        _ => unreachable!(),
+    }
+}
+
+/// Reads an account file and takes its rows as one event at this moment: all of them, or none. A row that
+/// equals one accepted before, in this file or earlier, is a repeat. A refusal says why and for which row,
+/// and the book stands for the world it stood for.
+pub fn import<B: QueueBook>(
+    alloc: Global,
+    book: &mut B,
+    now: u32,
+    bytes: &[u8],
+) -> Result<Imported, ImportFault>
+    requires { IsMoment now }
+    ensures began { B.is_honest book.new → B.is_honest book.old }
+    ensures added { B.is_honest book.new → IfOk result (λ n. (w : World) → B.stands book.old w
+        → (rows : List GrantRow) × (rows_of bytes.now ≡ Ok rows) × Adds (step w now (grant rows)).reply n × B.stands book.new (step w now (grant rows)).world) }
+
+    // on any book, also one that is not honest
+    ensures size { 16777216 < length bytes.now → result ≡ Err (at_row Range 0) }
+    ensures unread { (f : ImportFault) → rows_of bytes.now ≡ Err f → IsUnlessFault result (Err f) }
+    ensures refused { B.is_honest book.new → IfErr result (λ f. (rows : List GrantRow) (w : World) → rows_of bytes.now ≡ Ok rows → B.stands book.old w
+        → Refuses (step w now (grant rows)).reply f) }
+    ensures err { OnErr result ((w : World) → B.stands book.old w → B.stands book.new w) }
+{
+    let rows = read_grants(alloc, bytes)?;
+    take_rows(book, now, rows.as_slice())
+}

@@ -1,0 +1,12 @@
+//! Account files: the office grants pages by a file of comma-separated rows, and a book takes all of
+//! them or none.
+#![tactic(auto)]
+
+mod fault;
+mod importing;
+mod reading;
+mod row;
+
+pub use fault::{ImportCause, ImportFault};
+pub use importing::{Imported, import};
+pub use reading::read_grants;

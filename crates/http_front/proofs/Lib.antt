@@ -1,0 +1,5 @@
+pub mod WriteLemmas
+pub mod ReplyLemmas
+pub mod TurnedLemmas
+pub mod Runs
+pub mod RunLemmas

@@ -1,0 +1,134 @@
+-- The answers of the crates below, as parts of a turn.
+use Rattle.std.proofs.Common.{◌≡◌, Option, ℕ, ◌<◌, ◌≤◌, List, Bool, true, false, None, Some, Ok, Err, length, refl, rules, sym, ap, ◌∙◌, subst, arith}
+use Rattle.std.proofs.lemmas.Bool.{false≢true}
+use Rattle.std.proofs.Math.Nat.{lt_of_not-le}
+use Rattle.std.specs.Prelude.{codes, option_map, IsSome, Result}
+use Rattle.std.specs.Bool.{OnFalse, OnTrue}
+use Rattle.std.specs.Io.KnownBytes.{Appends}
+use Rattle.std.proofs.KnownBytes.{Appends-nil}
+use Rattle.queue_core.specs.World.{World}
+use Rattle.queue_core.specs.Settings.{SettingValues}
+use Rattle.queue_core.specs.Shown.{pending_jobs, document_at, head_of}
+use Rattle.queue_core.specs.declared.document.Document.{Document}
+use Rattle.queue_core.specs.declared.document.DocumentHead.{DocumentHead}
+use Rattle.ipp_reply.specs.Formats.{format_name}
+use Rattle.ipp_ops.specs.Answer.{Answers as IsIppReply, Fails, is_fault as is_ipp_fault}
+use Rattle.device_lines.specs.Queue.{queue_lines}
+use Rattle.device_lines.specs.Reports.{IsReported, IsUntaken, is_fault_line}
+use Rattle.http_wire.specs.Responses.{success_head, success_response, WritesFront}
+use Rattle.http_wire.specs.declared.end.Refusal.{Refusal}
+use Rattle.http_wire.specs.declared.target.Target.{Target}
+use Rattle.http_wire.specs.declared.target.Target.TheVariants.{Ipp, Report, Queue, Document as DocumentTarget}
+use Rattle.http_front.specs.Turns.{IsAnswered, IsIppAnswer, IsReportAnswer, acts_on, document_named}
+use Rattle.http_front.specs.Turned.{IsReplied, IsDeclined}
+use Rattle.http_front.specs.declared.outcome.Replied.{Replied}
+use Rattle.http_front.specs.declared.outcome.Replied.TheVariants.{Answered, Declined}
+use Rattle.http_front.specs.declared.outcome.Stopped.{Stopped}
+
+-- an answer that was written
+pub replied_ok : (now : ℕ) (w u : World) (target : Target) (content : List ℕ) (closes fault : Bool) (v x : Option (List ℕ)) (kind reply : List ℕ)
+    → IsAnswered now w target content fault kind reply u → Appends v x (success_response kind reply closes) → IsReplied now w u target content closes v x (Ok (Answered fault))
+replied_ok now w u target content closes fault v x kind reply a written =
+    (success_response kind reply closes, record { media_type = kind; reply = reply; answered = a; bytes_are = refl }, written)
+
+-- an answer of which a front was
+pub replied_err : (now : ℕ) (w u : World) (target : Target) (content : List ℕ) (closes fault : Bool) (f : Stopped) (v x : Option (List ℕ)) (kind reply : List ℕ)
+    → IsAnswered now w target content fault kind reply u → WritesFront v x (success_response kind reply closes) → f.acted ≡ acts_on target → f.is_fault ≡ fault
+    → IsReplied now w u target content closes v x (Err f)
+replied_err now w u target content closes fault f v x kind reply a written acted same = (
+  success_response kind reply closes,
+  record { media_type = kind; reply = reply; answered = subst (λ (b : Bool). IsAnswered now w target content b kind reply u) (sym same) a; bytes_are = refl },
+  written,
+  acted,
+)
+
+-- nothing was written
+pub replied_declined : (now : ℕ) (w : World) (target : Target) (content : List ℕ) (closes : Bool) (r : Refusal) (v : Option (List ℕ))
+    → IsDeclined w target content r → IsReplied now w w target content closes v v (Ok (Declined r))
+replied_declined now w target content closes r v d = (d, Appends-nil v, refl)
+
+-- ---- IPP
+
+-- no error, which comes exactly under 8 bytes
+pub headed_of : (n : ℕ) → (n < 8 → false ≡ true) → 8 ≤ n
+headed_of n h = let k : 7 < n = lt_of_not-le (λ (few : n ≤ 7). let lt : n < 8 = omega arith in false≢true (h lt)) in omega arith
+
+ipp_by : (old new : World → Type 0) (now : ℕ) (set : SettingValues) (content bytes : List ℕ) (b : Bool) → 8 ≤ length content → is_ipp_fault bytes ≡ b
+    → OnFalse b ((w : World) → old w → set ≡ w.settings → (after : World) × IsIppReply w now content after bytes × new after)
+    → OnTrue b ((w : World) → old w → set ≡ w.settings → Fails content bytes × new w)
+    → (w : World) → old w → set ≡ w.settings → (u : World) × new u × IsIppAnswer now w content b (codes "application/ipp") bytes u
+ipp_by old new now set content bytes true long e told failed w s t = let f = failed w s t in (w, f.1, record { headed = long; flag = sym e; type_is = refl; answers = (f.0, refl) })
+ipp_by old new now set content bytes false long e told failed w s t = let a = told w s t in (a.0, a.2, record { headed = long; flag = sym e; type_is = refl; answers = a.1 })
+
+pub ipp_answer : (old new : World → Type 0) (now : ℕ) (set : SettingValues) (content bytes body : List ℕ) (fault : Bool) → 8 ≤ length content
+    → OnFalse (is_ipp_fault bytes) ((w : World) → old w → set ≡ w.settings → (after : World) × IsIppReply w now content after bytes × new after)
+    → OnTrue (is_ipp_fault bytes) ((w : World) → old w → set ≡ w.settings → Fails content bytes × new w)
+    → fault ≡ is_ipp_fault bytes → body ≡ bytes
+    → (w : World) → old w → set ≡ w.settings → (u : World) × new u × IsAnswered now w Ipp content fault (codes "application/ipp") body u
+ipp_answer old new now set content bytes body fault long told failed e f w s t =
+    let a = ipp_by old new now set content bytes (is_ipp_fault bytes) long refl told failed w s t in (
+      a.0,
+      a.1,
+      subst (λ (b : Bool). IsIppAnswer now w content b (codes "application/ipp") body a.0) (sym e)
+          (subst (λ (l : List ℕ). IsIppAnswer now w content (is_ipp_fault bytes) (codes "application/ipp") l a.0) (sym f) a.2),
+    )
+
+-- ---- reports
+
+report_by : (old new : World → Type 0) (now : ℕ) (content bytes : List ℕ) (b : Bool) → is_fault_line bytes ≡ b
+    → OnFalse b ((w : World) → old w → (after : World) × IsReported w now content after bytes × new after)
+    → OnTrue b ((w : World) → old w → IsUntaken content bytes × new w)
+    → (w : World) → old w → (u : World) × new u × IsReportAnswer now w content b (codes "text/plain") bytes u
+report_by old new now content bytes true e told failed w s = let f = failed w s in (w, f.1, record { flag = sym e; type_is = refl; answers = (f.0, refl) })
+report_by old new now content bytes false e told failed w s = let a = told w s in (a.0, a.2, record { flag = sym e; type_is = refl; answers = a.1 })
+
+pub report_answer : (old new : World → Type 0) (now : ℕ) (content bytes body : List ℕ) (fault : Bool)
+    → OnFalse (is_fault_line bytes) ((w : World) → old w → (after : World) × IsReported w now content after bytes × new after)
+    → OnTrue (is_fault_line bytes) ((w : World) → old w → IsUntaken content bytes × new w)
+    → fault ≡ is_fault_line bytes → body ≡ bytes
+    → (w : World) → old w → (u : World) × new u × IsAnswered now w Report content fault (codes "text/plain") body u
+report_answer old new now content bytes body fault told failed e f w s =
+    let a = report_by old new now content bytes (is_fault_line bytes) refl told failed w s in (
+      a.0,
+      a.1,
+      subst (λ (b : Bool). IsReportAnswer now w content b (codes "text/plain") body a.0) (sym e)
+          (subst (λ (l : List ℕ). IsReportAnswer now w content (is_fault_line bytes) (codes "text/plain") l a.0) (sym f) a.2),
+    )
+
+-- ---- documents
+
+pub there_of : (o : Option Document) (h : DocumentHead) → Some h ≡ option_map head_of o → (d : Document) × (o ≡ Some d) × (h ≡ head_of d)
+there_of None h e = absurd (cc)
+there_of (Some d) h e = (d, refl, cc)
+
+pub is_there : (o : Option Document) (h : DocumentHead) → Some h ≡ option_map head_of o → IsSome o
+is_there None h e = absurd (cc)
+is_there (Some d) h e = search rules
+
+pub none_there : (o : Option Document) → None ≡ option_map head_of o → o ≡ None
+none_there None e = refl
+none_there (Some d) e = absurd (cc)
+
+pub no_number : (w : World) (n : Option (ℕ × ℕ)) → n ≡ None → document_named w n ≡ None
+no_number w None e = refl
+no_number w (Some p) e = absurd (cc)
+
+pub at_number : (w : World) (n : Option (ℕ × ℕ)) (job number : ℕ) (o : Option Document) → n ≡ Some (job, number) → document_at w job number ≡ o → document_named w n ≡ o
+at_number w n job number o e f = ap (document_named w) e ∙ f
+
+pub document_answer : (now : ℕ) (w : World) (n : Option (ℕ × ℕ)) (content : List ℕ) (d : Document) → document_named w n ≡ Some d
+    → IsAnswered now w (DocumentTarget n) content false (format_name d.format) d.bytes w
+document_answer now w n content d e = record { flag = refl; document = d; there = e; type_is = refl; reply_is = refl; after_is = refl }
+
+-- the head of the response that its head tells
+pub line_is : (kind : List ℕ) (h : DocumentHead) (d : Document) (closes : Bool) → kind ≡ format_name h.format → h ≡ head_of d
+    → success_head kind h.octets closes ≡ success_head (format_name d.format) (length d.bytes) closes
+line_is kind h d closes f g = ap (λ k. success_head k h.octets closes) f ∙ ap (λ (z : DocumentHead). success_head (format_name z.format) z.octets closes) g
+
+pub queue_answer : (now : ℕ) (w : World) (content reply : List ℕ) → reply ≡ queue_lines (pending_jobs w) → IsAnswered now w Queue content false (codes "text/plain") reply w
+queue_answer now w content reply e = record { flag = refl; type_is = refl; reply_is = e; after_is = refl }
+
+-- the same of a target by another name
+pub retarget : (now : ℕ) (w u : World) (t z : Target) (content : List ℕ) (closes : Bool) (v x : Option (List ℕ)) (result : Result Replied Stopped) → t ≡ z
+    → IsReplied now w u z content closes v x result → IsReplied now w u t content closes v x result
+retarget now w u t z content closes v x result e p = subst (λ (k : Target). IsReplied now w u k content closes v x result) (sym e) p

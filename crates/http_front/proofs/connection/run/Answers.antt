@@ -1,0 +1,66 @@
+use Rattle.std.proofs.Common.{◌+◌, ◌∙◌, arith, rules, ap, sym, subst, if◌then◌else◌, ◌^◌}
+use Rattle.http_wire.specs.Left.{left}
+use Rattle.http_wire.specs.declared.end.End.{End}
+use Rattle.http_front.specs.Connections.{IsServed}
+use Rattle.http_front.proofs.RunLemmas.{ran_none, ran_on, run_settings, served_done, served_ended, stopped_at}
+use Rattle.http_front.proofs.connection.run.Goals as goal
+
+pub turns-init : goal.turns-init
+turns-init g c = record { few = omega arith; acted_few = omega arith; below = omega arith; began = λ h. h; ran = λ h w st set. (w, st, ran_none _ _ _ _) }
+
+pub turns-preserved : goal.turns-preserved
+turns-preserved g c = record {
+  few = search rules;
+  acted_few = search rules;
+  below = c.mark-faults.ensures.within;
+  began = λ h. c.turns.invariant.began (c.turn.ensures.began h);
+  ran = λ h w st set.
+      let r = c.turns.invariant.ran (c.turn.ensures.began h) w st set in
+      let t = rw c.in-Ok-Answered.field-0-is at (c.in-Ok-Answered.ensures.turned h r.0 r.1 (run_settings c.args.s.now c.turns.k c.args.now w r.0 _ _ _ _ c.turns.acted c.turns.faults r.2 set)) in (
+        t.0,
+        t.1,
+        ran_on c.turns.k c.args.now w r.0 t.0 _ _ _ _ _ _ c.turns.acted c.turns.faults c.from-acted.result c.mark-faults.result c.in-Ok-Answered.acts c.in-Ok-Answered.is_fault c.in-Ok-Answered.closes
+            r.2 t.2 (search rules) c.mark-faults.ensures.exact c.if-closes.false,
+      );
+}
+
+pub returns-then-closes-clause-served : goal.returns-then-closes-clause-served
+returns-then-closes-clause-served g c = λ h w st set.
+    let r = c.turns.invariant.ran (c.turn.ensures.began h) w st set in
+    let t = rw c.in-Ok-Answered.field-0-is at (c.in-Ok-Answered.ensures.turned h r.0 r.1 (run_settings c.args.s.now c.turns.k c.args.now w r.0 _ _ _ _ c.turns.acted c.turns.faults r.2 set)) in (
+      t.0,
+      t.1,
+      served_done c.turns.k c.args.now w r.0 t.0
+          (left c.args.buffer.now (g.R.Read.remaining c.args.reader.now)) (left c.turns.buffer (g.R.Read.remaining c.turns.reader)) (left c.turn.new.buffer (g.R.Read.remaining c.turn.new.reader))
+          (g.W.Write.contents c.args.writer.now) (g.W.Write.contents c.turns.writer) (g.W.Write.contents c.turn.new.writer)
+          c.turns.acted c.turns.faults c.from-acted.result c.mark-faults.result c.in-Ok-Answered.acts c.in-Ok-Answered.is_fault c.in-Ok-Answered.closes
+          c.turns.invariant.few r.2 t.2 (search rules) c.mark-faults.ensures.exact c.if-closes.true,
+    )
+
+pub returns-in-Ok-Ended-clause-served : goal.returns-in-Ok-Ended-clause-served
+returns-in-Ok-Ended-clause-served g c = λ h w st set.
+    let r = c.turns.invariant.ran (c.turn.ensures.began h) w st set in
+    let t = rw c.in-Ok-Ended.field-0-is at (c.in-Ok-Ended.ensures.turned h r.0 r.1 (run_settings c.args.s.now c.turns.k c.args.now w r.0 _ _ _ _ c.turns.acted c.turns.faults r.2 set)) in (
+      t.0,
+      t.1,
+      subst (λ (z : End). IsServed c.args.now w t.0 (left c.args.buffer.now (g.R.Read.remaining c.args.reader.now)) (g.W.Write.contents c.args.writer.now) (g.W.Write.contents c.turn.new.writer)
+          (record { acted = c.turns.acted; faults = c.mark-faults-in-Ok-Ended.result; end = z })) (sym c.end.ensures)
+          (served_ended c.turns.k c.args.now w r.0 t.0
+          (left c.args.buffer.now (g.R.Read.remaining c.args.reader.now)) (left c.turns.buffer (g.R.Read.remaining c.turns.reader)) (left c.turn.new.buffer (g.R.Read.remaining c.turn.new.reader))
+          (g.W.Write.contents c.args.writer.now) (g.W.Write.contents c.turns.writer) (g.W.Write.contents c.turn.new.writer)
+          c.turns.acted c.turns.faults c.mark-faults-in-Ok-Ended.result c.in-Ok-Ended.finish c.turns.invariant.few r.2 t.2
+          (c.mark-faults-in-Ok-Ended.ensures.exact ∙ ap (λ b. c.turns.faults + (if b then 2 ^ c.turns.k else 0)) c.is_unavailable.ensures)),
+    )
+
+pub returns-in-Err-clause-broken : goal.returns-in-Err-clause-broken
+returns-in-Err-clause-broken g c = λ h w st set.
+    let r = c.turns.invariant.ran (c.turn.ensures.began h) w st set in
+    let t = c.in-Err.ensures.turned h r.0 r.1 (run_settings c.args.s.now c.turns.k c.args.now w r.0 _ _ _ _ c.turns.acted c.turns.faults r.2 set) in (
+      t.0,
+      t.1,
+      stopped_at c.turns.k c.args.now w r.0 t.0
+          (left c.args.buffer.now (g.R.Read.remaining c.args.reader.now)) (left c.turns.buffer (g.R.Read.remaining c.turns.reader))
+          (g.W.Write.contents c.args.writer.now) (g.W.Write.contents c.turns.writer) (g.W.Write.contents c.turn.new.writer)
+          c.turns.acted c.turns.faults c.from-acted-in-Err.result c.mark-faults-in-Err.result c.in-Err.stopped.acted c.in-Err.stopped.is_fault
+          c.turns.invariant.few r.2 t.2 (search rules) c.mark-faults-in-Err.ensures.exact,
+    )

@@ -1,0 +1,19 @@
+use Rattle.std.proofs.Common.{◌-◌, ◌^◌, ◌<◌, ◌≤◌, ◌≡◌}
+use Rattle.queue_core.specs.World.{World}
+use Rattle.http_wire.specs.Left.{left}
+use Rattle.http_front.proofs.Runs.{RanOn}
+use Rattle.http_front.proofs.connection.run.Given as goal
+
+abbrev pub invariant-turns : goal.invariant-turns
+invariant-turns g l = record {
+  few : l.k ≤ 31;
+  acted_few : l.acted ≤ l.k;
+  below : l.faults < 2 ^ l.k;
+  began : g.B.QueueBook.is_honest l.book → g.B.QueueBook.is_honest l.initial.book;
+  ran : g.B.QueueBook.is_honest l.book → (w : World) → g.B.QueueBook.stands l.initial.book w → l.s ≡ w.settings → (u : World) × g.B.QueueBook.stands l.book u
+      × RanOn l.k l.now w u (left l.initial.buffer (g.R.Read.remaining l.initial.reader)) (left l.buffer (g.R.Read.remaining l.reader))
+      (g.W.Write.contents l.initial.writer) (g.W.Write.contents l.writer) l.acted l.faults;
+}
+
+abbrev pub decreases-turns : goal.decreases-turns
+decreases-turns g l = 32 - l.k

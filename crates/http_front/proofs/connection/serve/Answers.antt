@@ -1,0 +1,21 @@
+use Rattle.std.proofs.Common.{◌≡◌, Option, ℕ, List, ap, subst, IfErr, IfOk}
+use Rattle.queue_core.specs.World.{World}
+use Rattle.http_wire.specs.Routes.{routes}
+use Rattle.http_front.specs.Connections.{IsServed, IsStopped}
+use Rattle.http_front.proofs.RunLemmas.{left_at_first, router_of}
+use Rattle.http_front.proofs.connection.serve.Goals as goal
+
+pub run-requires-clause-router : goal.run-requires-clause-router
+run-requires-clause-router g c = λ x e. router_of c.router.result c.ok-table.result c.as_ref.result x routes c.router.ensures c.ok-table.ensures.value c.as_ref.ensures.value e
+
+pub returns-clause-served : goal.returns-clause-served
+returns-clause-served g c = λ h.
+    subst (λ (r : Option (List ℕ)). IfOk c.run.result (λ z. (w : World) → g.B.QueueBook.stands c.args.book.now w → c.args.s.now ≡ w.settings → (u : World) × g.B.QueueBook.stands c.run.new.book u
+    × IsServed c.args.now w u r (g.W.Write.contents c.args.writer.now) (g.W.Write.contents c.run.new.writer) z))
+    (left_at_first c.new-buffer.result _ (g.R.Read.remaining c.args.reader.now) c.new-buffer.ensures (ap (λ p. g.R.Read.remaining p.now) c.new-counted.ensures)) (c.run.ensures.served h)
+
+pub returns-clause-broken : goal.returns-clause-broken
+returns-clause-broken g c = λ h.
+    subst (λ (r : Option (List ℕ)). IfErr c.run.result (λ z. (w : World) → g.B.QueueBook.stands c.args.book.now w → c.args.s.now ≡ w.settings → (u : World) × g.B.QueueBook.stands c.run.new.book u
+    × IsStopped c.args.now w u r (g.W.Write.contents c.args.writer.now) (g.W.Write.contents c.run.new.writer) z))
+    (left_at_first c.new-buffer.result _ (g.R.Read.remaining c.args.reader.now) c.new-buffer.ensures (ap (λ p. g.R.Read.remaining p.now) c.new-counted.ensures)) (c.run.ensures.broken h)

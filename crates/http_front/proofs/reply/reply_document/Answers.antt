@@ -1,0 +1,65 @@
+use Rattle.std.proofs.Common.{◌≡◌, refl, inl, inr, rules, length, subst, List, ℕ, None, Some, false}
+use Rattle.std.specs.Io.KnownBytes.{Appends}
+use Rattle.std.proofs.KnownBytes.{Appends-trans}
+use Rattle.ipp_reply.specs.Formats.{format_name}
+use Rattle.queue_core.specs.Shown.{document_at}
+use Rattle.http_wire.specs.Responses.{success_head, WritesFront}
+use Rattle.http_wire.specs.declared.end.Refusal.TheVariants.{NotFound, Unavailable}
+use Rattle.http_wire.specs.declared.target.Target.TheVariants.{Document}
+use Rattle.http_front.proofs.WriteLemmas.{front_taken, front_part, front_after}
+use Rattle.http_front.proofs.ReplyLemmas.{no_number, at_number, there_of, none_there, document_answer, line_is, replied_ok, replied_err, replied_declined}
+use Rattle.http_front.proofs.reply.reply_document.Goals as goal
+
+pub returns-in_default-clause-replied : goal.returns-in_default-clause-replied
+returns-in_default-clause-replied g c = λ honest w st now content.
+    replied_declined now w (Document c.args.n) content c.args.closes NotFound _ (inl (refl, no_number w c.args.n (search rules)))
+
+pub returns-in-Ok-None-clause-replied : goal.returns-in-Ok-None-clause-replied
+returns-in-Ok-None-clause-replied g c = λ honest w st now content.
+    let none = none_there (document_at w c.in-Some.job c.in-Some.number) (rw c.in-Ok-None.field-0-is at (c.in-Ok-None.ensures.head honest w (c.document_head.ensures.kept w st))) in
+    replied_declined now w (Document c.args.n) content c.args.closes NotFound _ (inl (refl, at_number w c.args.n c.in-Some.job c.in-Some.number None (search rules) none))
+
+pub returns-in-Err-clause-replied : goal.returns-in-Err-clause-replied
+returns-in-Err-clause-replied g c = λ honest w st now content. replied_declined now w (Document c.args.n) content c.args.closes Unavailable _ (inr refl)
+
+pub returns-in-Err-send_head-clause-replied : goal.returns-in-Err-send_head-clause-replied
+returns-in-Err-send_head-clause-replied g c = λ honest w st now content.
+    let t = there_of (document_at w c.in-Some.job c.in-Some.number) c.in-Ok-Some.head (rw c.in-Ok-Some.field-0-is at (c.in-Ok-Some.ensures.head honest w (c.document_head.ensures.kept w st))) in
+    let d = t.0 in
+    let there = at_number w c.args.n c.in-Some.job c.in-Some.number (Some d) (search rules) t.1 in
+    let line = line_is c.media_type_of.result.now c.in-Ok-Some.head d c.args.closes c.media_type_of.ensures.value t.2 in
+    let v = g.W.Write.contents c.args.writer.now in
+    let m = g.W.Write.contents c.send_head.new.writer in
+    replied_err now w w (Document c.args.n) content c.args.closes false c.stopped_by.result v m (format_name d.format) d.bytes (document_answer now w c.args.n content d there)
+    (front_part v m (success_head (format_name d.format) (length d.bytes) c.args.closes) d.bytes (subst (λ (l : List ℕ). WritesFront v m l) line c.in-Err-send_head.ensures.err))
+    c.stopped_by.ensures.acted c.stopped_by.ensures.is_fault
+
+pub returns-in-Ok-send_document-clause-replied : goal.returns-in-Ok-send_document-clause-replied
+returns-in-Ok-send_document-clause-replied g c = λ honest w st now content.
+    let kept = c.document_head.ensures.kept w st in
+    let t = there_of (document_at w c.in-Some.job c.in-Some.number) c.in-Ok-Some.head (rw c.in-Ok-Some.field-0-is at (c.in-Ok-Some.ensures.head (c.send_document.ensures.began honest) w kept)) in
+    let d = t.0 in
+    let there = at_number w c.args.n c.in-Some.job c.in-Some.number (Some d) (search rules) t.1 in
+    let line = line_is c.media_type_of.result.now c.in-Ok-Some.head d c.args.closes c.media_type_of.ensures.value t.2 in
+    let sent = c.in-Ok-send_document.ensures.ok honest w d (c.send_document.ensures.kept w kept) t.1 in
+    let v = g.W.Write.contents c.args.writer.now in
+    let m = g.W.Write.contents c.send_head.new.writer in
+    let x = g.W.Write.contents c.send_document.new.out in
+    replied_ok now w w (Document c.args.n) content c.args.closes false v x (format_name d.format) d.bytes (document_answer now w c.args.n content d there)
+    (Appends-trans v m x (success_head (format_name d.format) (length d.bytes) c.args.closes) d.bytes (subst (λ (l : List ℕ). Appends v m l) line c.in-Ok.ensures.ok) sent.1)
+
+pub returns-in-Err-send_document-clause-replied : goal.returns-in-Err-send_document-clause-replied
+returns-in-Err-send_document-clause-replied g c = λ honest w st now content.
+    let kept = c.document_head.ensures.kept w st in
+    let t = there_of (document_at w c.in-Some.job c.in-Some.number) c.in-Ok-Some.head (rw c.in-Ok-Some.field-0-is at (c.in-Ok-Some.ensures.head (c.send_document.ensures.began honest) w kept)) in
+    let d = t.0 in
+    let there = at_number w c.args.n c.in-Some.job c.in-Some.number (Some d) (search rules) t.1 in
+    let line = line_is c.media_type_of.result.now c.in-Ok-Some.head d c.args.closes c.media_type_of.ensures.value t.2 in
+    let sent = c.in-Err-send_document.ensures.err honest w d (c.send_document.ensures.kept w kept) t.1 in
+    let v = g.W.Write.contents c.args.writer.now in
+    let m = g.W.Write.contents c.send_head.new.writer in
+    let x = g.W.Write.contents c.send_document.new.out in
+    replied_err now w w (Document c.args.n) content c.args.closes false c.stopped_by-in-Err-send_document.result v x (format_name d.format) d.bytes (document_answer now w c.args.n content d there)
+    (front_after v m x (success_head (format_name d.format) (length d.bytes) c.args.closes) d.bytes (subst (λ (l : List ℕ). Appends v m l) line c.in-Ok.ensures.ok)
+    (front_taken m x d.bytes c.in-Err-send_document.fault.written sent.1))
+    c.stopped_by-in-Err-send_document.ensures.acted c.stopped_by-in-Err-send_document.ensures.is_fault

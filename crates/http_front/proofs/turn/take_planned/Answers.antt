@@ -1,0 +1,75 @@
+use Rattle.http_wire.specs.Left.{left}
+use Rattle.http_wire.specs.declared.end.Finish.TheVariants.{Refused}
+use Rattle.http_wire.specs.declared.end.Refusal.TheVariants.{Unavailable}
+use Rattle.http_front.proofs.TurnedLemmas.{planned_unsaid, planned_unread, planned_closed, planned_answered, planned_broken, end_in_body, end_unavailable, end_declined, body_as, said_on, same_world}
+use Rattle.http_front.proofs.turn.take_planned.Goals as goal
+
+pub returns-in-Err-clause-planned : goal.returns-in-Err-clause-planned
+returns-in-Err-clause-planned g c = λ honest w st set. (w, st, planned_unsaid c.args.now c.args.k w c.args.plan (left c.args.buffer.now (g.R.Read.remaining c.args.reader.now)) (left c.args.buffer.now (g.R.Read.remaining c.args.reader.now)) (g.W.Write.contents c.args.writer.now) (g.W.Write.contents c.send_continue.new.writer) c.stopped_by.result c.stopped_by.ensures.acted c.stopped_by.ensures.is_fault c.in-Err.ensures.err)
+
+pub returns-in-Ok-Ended-clause-planned : goal.returns-in-Ok-Ended-clause-planned
+returns-in-Ok-Ended-clause-planned g c = λ honest w st set.
+    let r = left c.args.buffer.now (g.R.Read.remaining c.args.reader.now) in
+    let s = left c.take_framed.new.buffer (g.R.Read.remaining c.take_framed.new.reader) in (
+      w,
+      st,
+      planned_closed c.args.now c.args.k w c.args.plan r s (g.W.Write.contents c.args.writer.now) (g.W.Write.contents c.send_continue.new.writer) (g.W.Write.contents c.close_with.new.writer) c.in-Ok-Ended.end c.close_with.result
+          (end_in_body w c.args.plan r c.in-Ok-Ended.end (rw c.in-Ok-Ended.field-0-is at c.in-Ok-Ended.ensures.taken)) c.in-Ok.ensures.ok c.close_with.ensures,
+    )
+
+pub returns-in-Err-Read-clause-planned : goal.returns-in-Err-Read-clause-planned
+returns-in-Err-Read-clause-planned g c = λ honest w st set. (w, st, planned_unread c.args.now c.args.k w c.args.plan (left c.args.buffer.now (g.R.Read.remaining c.args.reader.now)) (left c.take_framed.new.buffer (g.R.Read.remaining c.take_framed.new.reader)) (g.W.Write.contents c.args.writer.now) (g.W.Write.contents c.send_continue.new.writer) c.stopped_by-in-Err-Read.result c.stopped_by-in-Err-Read.ensures.acted c.stopped_by-in-Err-Read.ensures.is_fault c.in-Ok.ensures.ok)
+
+pub returns-in-Err-Memory-clause-planned : goal.returns-in-Err-Memory-clause-planned
+returns-in-Err-Memory-clause-planned g c = λ honest w st set.
+    let r = left c.args.buffer.now (g.R.Read.remaining c.args.reader.now) in
+    let s = left c.take_framed.new.buffer (g.R.Read.remaining c.take_framed.new.reader) in (
+      w,
+      st,
+      planned_closed c.args.now c.args.k w c.args.plan r s (g.W.Write.contents c.args.writer.now) (g.W.Write.contents c.send_continue.new.writer) (g.W.Write.contents c.close_with-in-Err-Memory.new.writer) (Refused Unavailable) c.close_with-in-Err-Memory.result
+          (end_unavailable w c.args.plan r) c.in-Ok.ensures.ok c.close_with-in-Err-Memory.ensures,
+    )
+
+pub returns-in-Ok-Answered-clause-planned : goal.returns-in-Ok-Answered-clause-planned
+returns-in-Ok-Answered-clause-planned g c = λ honest w st set.
+    let r = left c.args.buffer.now (g.R.Read.remaining c.args.reader.now) in
+    let s = left c.take_framed.new.buffer (g.R.Read.remaining c.take_framed.new.reader) in
+    let f = rw c.in-Ok-Whole.field-0-is at c.in-Ok-Whole.ensures.taken in
+    let t = rw c.in-Ok-Answered.field-0-is at (c.in-Ok-Answered.ensures.replied honest w st set) in (
+      t.0,
+      t.1,
+      planned_answered c.args.now c.args.k w t.0 c.args.plan r s (g.W.Write.contents c.args.writer.now) (g.W.Write.contents c.send_continue.new.writer) (g.W.Write.contents c.reply.new.writer)
+          f.0 c.as_slice.result.now t.2.0 c.acts_on_target.result c.in-Ok-Answered.is_fault c.closes_after-closes.result c.in-Ok.ensures.ok
+          (body_as c.args.plan.framing f.0 c.in-Ok-Whole.content.items c.as_slice.result.now f.1 c.as_slice.ensures.value) f.2 t.2.1 t.2.2 c.acts_on_target.ensures c.closes_after-closes.ensures,
+    )
+
+pub returns-in-Ok-Declined-clause-planned : goal.returns-in-Ok-Declined-clause-planned
+returns-in-Ok-Declined-clause-planned g c = λ honest w st set.
+    let r = left c.args.buffer.now (g.R.Read.remaining c.args.reader.now) in
+    let s = left c.take_framed.new.buffer (g.R.Read.remaining c.take_framed.new.reader) in
+    let v = g.W.Write.contents c.args.writer.now in
+    let m = g.W.Write.contents c.reply.new.writer in
+    let x = g.W.Write.contents c.close_with-in-Ok-Declined.new.writer in
+    let f = rw c.in-Ok-Whole.field-0-is at c.in-Ok-Whole.ensures.taken in
+    let t = rw c.in-Ok-Declined.field-0-is at (c.in-Ok-Declined.ensures.replied honest w st set) in
+    let z = c.in-Ok-Declined.refusal in (
+      t.0,
+      t.1,
+      same_world c.args.now c.args.k w t.0 c.args.plan r s v x c.close_with-in-Ok-Declined.result t.2.2
+          (planned_closed c.args.now c.args.k w c.args.plan r s v m x (Refused z) c.close_with-in-Ok-Declined.result
+          (end_declined w c.args.plan r s f.0 c.as_slice.result.now z f.2 (body_as c.args.plan.framing f.0 c.in-Ok-Whole.content.items c.as_slice.result.now f.1 c.as_slice.ensures.value) t.2.0)
+          (said_on v (g.W.Write.contents c.send_continue.new.writer) m c.args.plan c.in-Ok.ensures.ok t.2.1) c.close_with-in-Ok-Declined.ensures),
+    )
+
+pub returns-clause-planned : goal.returns-clause-planned
+returns-clause-planned g c = λ honest w st set.
+    let r = left c.args.buffer.now (g.R.Read.remaining c.args.reader.now) in
+    let s = left c.take_framed.new.buffer (g.R.Read.remaining c.take_framed.new.reader) in
+    let f = rw c.in-Ok-Whole.field-0-is at c.in-Ok-Whole.ensures.taken in
+    let t = c.in-Err-reply.ensures.replied honest w st set in (
+      t.0,
+      t.1,
+      planned_broken c.args.now c.args.k w t.0 c.args.plan r s (g.W.Write.contents c.args.writer.now) (g.W.Write.contents c.send_continue.new.writer) (g.W.Write.contents c.reply.new.writer)
+          f.0 c.as_slice.result.now t.2.0 c.in-Err-reply.stopped c.closes_after-closes.result c.in-Ok.ensures.ok
+          (body_as c.args.plan.framing f.0 c.in-Ok-Whole.content.items c.as_slice.result.now f.1 c.as_slice.ensures.value) f.2 t.2.1 t.2.2 t.2.3 c.closes_after-closes.ensures,
+    )

@@ -1,0 +1,96 @@
+-- A connection: one turn after another over the bytes that it reads, to an end.
+use Rattle.std.specs.Prelude.{◌≡◌, ◌+◌, ◌*◌, ◌<◌, ◌≤◌, ◌⊎◌, Bool, true, false, ℕ, List, [], ◌∷◌, ◌++◌, length, map, Option, IfSome, if◌then◌else◌}
+use Rattle.std.specs.List.{flat_map, count_by}
+use Rattle.std.specs.Io.KnownBytes.{Appends}
+use Rattle.queue_core.specs.World.{World}
+use Rattle.http_wire.specs.Ends.{is_unavailable, end_of}
+use Rattle.http_wire.specs.declared.end.End.{End}
+use Rattle.http_wire.specs.declared.end.Finish.{Finish}
+use Rattle.http_wire.specs.declared.end.Finish.TheVariants.{Done}
+use Rattle.http_front.specs.Turns.{Turn, IsTurn, request_bytes, answer_bytes, acts, closes_at}
+use Rattle.http_front.specs.Ends.{IsEnd, IsBegun}
+use Rattle.http_front.specs.declared.outcome.Served.{Served}
+use Rattle.http_front.specs.declared.outcome.ServeFault.{ServeFault}
+
+-- each is answered in the world that the one before it leaves
+abbrev pub AreTurns : ℕ → World → List Turn → Type 0
+AreTurns now w [] = Unit {0}
+AreTurns now w (t ∷ ts) = IsTurn now w t × AreTurns now t.after ts
+
+abbrev pub world_after : World → List Turn → World
+world_after w [] = w
+world_after w (t ∷ ts) = world_after t.after ts
+
+-- what is written, from request k on
+abbrev pub written_for : ℕ → List Turn → List ℕ
+written_for k [] = []
+written_for k (t ∷ ts) = answer_bytes k t ++ written_for (k + 1) ts
+
+-- the connection goes on after each, from request k on
+abbrev pub GoesOn : ℕ → List Turn → Type 0
+GoesOn k [] = Unit {0}
+GoesOn k (t ∷ ts) = (closes_at k t ≡ false) × GoesOn (k + 1) ts
+
+-- the last of these requests ends the connection, and it is the first that does
+abbrev pub HasClosed : List Turn → Type 0
+HasClosed turns = (front : List Turn) × (t : Turn) × (turns ≡ front ++ t ∷ []) × GoesOn 0 front × (closes_at (length front) t ≡ true)
+
+-- the number whose binary digits these are, the lowest first
+abbrev pub bits : List Bool → ℕ
+bits [] = 0
+bits (b ∷ bs) = (if b then 1 else 0) + 2 * bits bs
+
+abbrev pub flag_of : Turn → Bool
+flag_of t = t.is_fault
+
+-- ---- what a connection leaves
+
+-- how it may end behind these turns: after the last request that it may have, or where no further request is answered
+abbrev pub EndsAt : World → List Turn → List ℕ → Finish → List ℕ → Type 0
+EndsAt w turns rest end last = ((end ≡ Done) × (last ≡ []) × HasClosed turns) ⊎ (GoesOn 0 turns × IsEnd w rest end last)
+
+-- the answers to a stream: which requests were answered, what was written, the world after them and the end
+pub record Answers (now : ℕ) (w : World) (stream written : List ℕ) (u : World) (acted faults : ℕ) (end : End) : Type 0 where
+  pub turns : List Turn
+  pub rest : List ℕ
+  pub last : List ℕ
+  pub finish : Finish
+  pub end_is : end ≡ end_of finish
+  pub stream_is : stream ≡ flat_map request_bytes turns ++ rest
+  pub few : length turns ≤ 32
+  pub are : AreTurns now w turns
+  pub ends : EndsAt (world_after w turns) turns rest finish last
+  pub written_is : written ≡ written_for 0 turns ++ last
+  pub world : u ≡ world_after w turns
+  pub settings : u.settings ≡ w.settings
+  pub acted_is : acted ≡ count_by acts turns
+  pub faults_are : faults ≡ bits (map flag_of turns ++ is_unavailable finish ∷ [])
+
+-- the answers to a stream, when they were broken off: the requests that were answered, and what was begun at the bytes behind them;
+-- of all that, a front was written
+pub record Breaks (now : ℕ) (w : World) (stream written : List ℕ) (u : World) (acted faults : ℕ) : Type 0 where
+  pub turns : List Turn
+  pub rest : List ℕ
+  pub begun : List ℕ
+  pub acted_last : Bool
+  pub fault_last : Bool
+  pub unwritten : List ℕ
+  pub stream_is : stream ≡ flat_map request_bytes turns ++ rest
+  pub few : length turns < 32
+  pub are : AreTurns now w turns
+  pub goes_on : GoesOn 0 turns
+  pub begins : IsBegun now (length turns) (world_after w turns) rest begun u acted_last fault_last
+  pub settings : u.settings ≡ w.settings
+  pub written_is : written_for 0 turns ++ begun ≡ written ++ unwritten
+  pub acted_is : acted ≡ count_by acts turns + (if acted_last then 1 else 0)
+  pub faults_are : faults ≡ bits (map flag_of turns ++ fault_last ∷ [])
+
+-- where the reader tells its bytes, a connection was served: from the world w to u, and the writer's bytes from v to x
+abbrev pub IsServed : ℕ → World → World → Option (List ℕ) → Option (List ℕ) → Option (List ℕ) → Served → Type 0
+IsServed now w u r v x served =
+    IfSome r (λ stream. (written : List ℕ) × Appends v x written × Answers now w stream written u served.acted served.faults served.end)
+
+-- it was broken off
+abbrev pub IsStopped : ℕ → World → World → Option (List ℕ) → Option (List ℕ) → Option (List ℕ) → ServeFault → Type 0
+IsStopped now w u r v x fault =
+    IfSome r (λ stream. (written : List ℕ) × Appends v x written × Breaks now w stream written u fault.acted fault.faults)

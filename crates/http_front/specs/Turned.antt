@@ -1,0 +1,102 @@
+-- What the parts of one turn leave: of the bytes, of what is written, and of the world.
+use Rattle.std.specs.Prelude.{◌≡◌, ◌<◌, ◌⊎◌, ◌==◌, ◌||◌, Bool, false, ℕ, List, [], ◌++◌, Option, IfSome, Result, Ok, Err, ⊤}
+use Rattle.std.specs.Io.KnownBytes.{Appends, Consumes}
+use Rattle.queue_core.specs.World.{World}
+use Rattle.http_wire.specs.Bodies.{IsBody, EndsInBody}
+use Rattle.http_wire.specs.Ends.{is_unavailable}
+use Rattle.http_wire.specs.Responses.{interim_response, success_response, last_response, WritesFront}
+use Rattle.http_wire.specs.declared.end.Finish.{Finish}
+use Rattle.http_wire.specs.declared.end.Finish.TheVariants.{Refused}
+use Rattle.http_wire.specs.declared.end.Refusal.{Refusal}
+use Rattle.http_wire.specs.declared.end.Refusal.TheVariants.{Unavailable}
+use Rattle.http_wire.specs.declared.plan.Plan.{Plan}
+use Rattle.http_wire.specs.declared.target.Target.{Target}
+use Rattle.http_front.specs.Turns.{Turn, IsTurn, IsAnswered, acts, acts_on, closes_at, answer_bytes, request_bytes}
+use Rattle.http_front.specs.Ends.{Declines, IsEnd, IsBegun}
+use Rattle.http_front.specs.declared.outcome.Replied.{Replied}
+use Rattle.http_front.specs.declared.outcome.Replied.TheVariants.{Answered as ReplyAnswered, Declined as ReplyDeclined}
+use Rattle.http_front.specs.declared.outcome.Turned.{Turned}
+use Rattle.http_front.specs.declared.outcome.Turned.TheVariants.{Answered, Ended}
+use Rattle.http_front.specs.declared.outcome.Stopped.{Stopped}
+
+-- ---- a whole request
+
+-- these bytes answer it
+pub record IsReply (now : ℕ) (w : World) (target : Target) (content : List ℕ) (closes fault : Bool) (bytes : List ℕ) (after : World) : Type 0 where
+  pub media_type : List ℕ
+  pub reply : List ℕ
+  pub answered : IsAnswered now w target content fault media_type reply after
+  pub bytes_are : bytes ≡ success_response media_type reply closes
+
+-- it has no success, or can't be served
+abbrev pub IsDeclined : World → Target → List ℕ → Refusal → Type 0
+IsDeclined w target content r = Declines w target content r ⊎ (r ≡ Unavailable)
+
+-- it was answered, or is to be declined, or writing its answer was broken off
+abbrev pub IsReplied : ℕ → World → World → Target → List ℕ → Bool → Option (List ℕ) → Option (List ℕ) → Result Replied Stopped → Type 0
+IsReplied now w u target content closes v x (Ok (ReplyAnswered fault)) =
+    (bytes : List ℕ) × IsReply now w target content closes fault bytes u × Appends v x bytes
+IsReplied now w u target content closes v x (Ok (ReplyDeclined r)) = IsDeclined w target content r × Appends v x [] × (u ≡ w)
+IsReplied now w u target content closes v x (Err f) =
+    (bytes : List ℕ) × IsReply now w target content closes f.is_fault bytes u × WritesFront v x bytes × (f.acted ≡ acts_on target)
+
+-- ---- an end
+
+-- its response was written, or writing it was broken off
+abbrev pub IsClosed : Finish → Option (List ℕ) → Option (List ℕ) → Result Turned Stopped → Type 0
+IsClosed end v x (Ok t) = (t ≡ Ended end) × Appends v x (last_response end)
+IsClosed end v x (Err f) = (f.acted ≡ false) × (f.is_fault ≡ is_unavailable end) × WritesFront v x (last_response end)
+
+-- ---- behind a head
+
+-- how a connection may end behind a head with that plan
+pub data IsPlanEnd (w : World) (plan : Plan) (bytes : List ℕ) : Finish → Type 0 where
+  in_body : (end : Finish) → EndsInBody plan.framing bytes end → IsPlanEnd w plan bytes end
+  declined : (raw content rest : List ℕ) (r : Refusal) → bytes ≡ raw ++ rest → IsBody plan.framing raw content → Declines w plan.target content r
+      → IsPlanEnd w plan bytes (Refused r)
+  unavailable : IsPlanEnd w plan bytes (Refused Unavailable)
+
+-- a request behind its head was answered
+pub record IsPlanTurn (now k : ℕ) (w u : World) (plan : Plan) (acted fault closes : Bool) (raw bytes : List ℕ) : Type 0 where
+  pub content : List ℕ
+  pub body : IsBody plan.framing raw content
+  pub reply : IsReply now w plan.target content closes fault bytes u
+  pub acted_is : acted ≡ acts_on plan.target
+  pub closes_is : closes ≡ (plan.closes || (k == 31))
+
+-- what may have been begun behind a head with that plan
+pub data IsPlanBegun (now k : ℕ) (w u : World) (plan : Plan) (bytes : List ℕ) : List ℕ → Bool → Bool → Type 0 where
+  interim : u ≡ w → IsPlanBegun now k w u plan bytes (interim_response plan) false false
+  answered : (acted fault closes : Bool) (raw rest out : List ℕ) → bytes ≡ raw ++ rest → IsPlanTurn now k w u plan acted fault closes raw out
+      → IsPlanBegun now k w u plan bytes (interim_response plan ++ out) acted fault
+  ended : (end : Finish) → IsPlanEnd w plan bytes end → u ≡ w
+      → IsPlanBegun now k w u plan bytes (interim_response plan ++ last_response end) false (is_unavailable end)
+
+-- what a turn leaves behind its head
+abbrev pub IsPlanned : ℕ → ℕ → World → World → Plan → Option (List ℕ) → Option (List ℕ) → Option (List ℕ) → Option (List ℕ)
+    → Result Turned Stopped → Type 0
+IsPlanned now k w u plan r s v x (Ok (Answered acted fault closes)) =
+    (raw : List ℕ) × (bytes : List ℕ) × IsPlanTurn now k w u plan acted fault closes raw bytes × Consumes r s raw × Appends v x (interim_response plan ++ bytes)
+IsPlanned now k w u plan r s v x (Ok (Ended end)) =
+    IfSome r (λ bytes. IsPlanEnd w plan bytes end) × Appends v x (interim_response plan ++ last_response end) × (u ≡ w)
+IsPlanned now k w u plan r s v x (Err f) =
+    IfSome r (λ bytes. (begun : List ℕ) × IsPlanBegun now k w u plan bytes begun f.acted f.is_fault × WritesFront v x begun)
+
+-- ---- one turn
+
+-- what one turn leaves: from the bytes r, the writer's bytes v and the world w to s, x and u
+abbrev pub IsTurned : ℕ → ℕ → World → World → Option (List ℕ) → Option (List ℕ) → Option (List ℕ) → Option (List ℕ)
+    → Result Turned Stopped → Type 0
+IsTurned now k w u r s v x (Ok (Answered acted fault closes)) =
+    (t : Turn) × IsTurn now w t × (acted ≡ acts t) × (fault ≡ t.is_fault) × (closes ≡ closes_at k t)
+    × Consumes r s (request_bytes t) × Appends v x (answer_bytes k t) × (u ≡ t.after)
+IsTurned now k w u r s v x (Ok (Ended end)) =
+    IfSome r (λ bytes. (last : List ℕ) × IsEnd w bytes end last × Appends v x last) × (u ≡ w)
+IsTurned now k w u r s v x (Err f) =
+    IfSome r (λ bytes. (begun : List ℕ) × IsBegun now k w bytes begun u f.acted f.is_fault × WritesFront v x begun)
+
+-- the 32nd request is the last
+abbrev pub ClosesLast : ℕ → Result Turned Stopped → Type 0
+ClosesLast k (Ok (Answered acted fault closes)) = closes ≡ false → k < 31
+ClosesLast k (Ok (Ended end)) = ⊤
+ClosesLast k (Err f) = ⊤

@@ -1,0 +1,136 @@
+//! A whole connection: its requests one after another, to its end.
+ghost use Rattle.std.specs.Prelude.{◌≡◌, ◌+◌, ◌^◌, ◌<◌, ◌≤◌, IfErr, IfOk, if◌then◌else◌};
+ghost use Rattle.std.specs.Option.{ForSome};
+ghost use Rattle.queue_core.specs.Limits.{IsMoment};
+ghost use Rattle.queue_core.specs.World.{World};
+ghost use Rattle.http_wire.specs.Left.{left};
+ghost use Rattle.http_wire.specs.Routes.{routes};
+ghost use Rattle.http_front.specs.Connections.{IsServed, IsStopped};
+
+use crate::outcome::{ServeFault, Served, Turned};
+use crate::turn::turn;
+use http_wire::buffer::Buffer;
+use http_wire::counted::Counted;
+use http_wire::end::End;
+use http_wire::routes::{Route, router};
+use matchit::Router;
+use queue_core::book::QueueBook;
+use queue_core::settings::Settings;
+use std::alloc::Global;
+use std::io::{Read, Write};
+
+/// Sets bit k where request k was answered by a fault.
+fn mark(faults: u32, k: u32, is_fault: bool) -> u32
+    requires below { faults < 2 ^ k }
+    requires place { k < 32 }
+    ensures exact { result ≡ faults + (if is_fault then 2 ^ k else 0) }
+    ensures within { result < 2 ^ (k + 1) }
+{
+    if is_fault { faults + (1 << k) } else { faults }
+}
+
+/// Takes one turn after another, to the end of the connection.
+fn run<R: Read, W: Write, B: QueueBook>(
+    alloc: Global,
+    router: Option<&Router<Route>>,
+    reader: &mut R,
+    writer: &mut W,
+    book: &mut B,
+    s: &Settings,
+    buffer: &mut Buffer,
+    now: u32,
+) -> Result<Served, ServeFault>
+    requires router { ForSome router (λ r. r.now ≡ routes) }
+    requires moment { IsMoment now }
+    ensures began { B.is_honest book.new → B.is_honest book.old }
+    ensures served { B.is_honest book.new → IfOk result (λ served. (w : World) → B.stands book.old w → s.now ≡ w.settings
+        → (u : World) × B.stands book.new u
+        × IsServed now w u (left buffer.old (R.remaining reader.old)) (W.contents writer.old) (W.contents writer.new) served) }
+    ensures broken { B.is_honest book.new → IfErr result (λ fault. (w : World) → B.stands book.old w → s.now ≡ w.settings
+        → (u : World) × B.stands book.new u
+        × IsStopped now w u (left buffer.old (R.remaining reader.old)) (W.contents writer.old) (W.contents writer.new) fault) }
+    ensures few { IfOk result (λ served. served.acted ≤ 32) }
+    ensures few_stopped { IfErr result (λ fault. fault.acted ≤ 32) }
+{
+    let mut acted: u32 = 0;
+    let mut faults: u32 = 0;
+    let mut k: u32 = 0;
+    'turns: loop {
+        match turn(alloc, router, reader, writer, book, s, buffer, now, k) {
+            Ok(
+                Turned::Answered {
+                    acted: acts,
+                    is_fault,
+                    closes,
+                },
+            ) => {
+                acted += u32::from(acts);
+                faults = mark(faults, k, is_fault);
+                if closes {
+                    return Ok(Served {
+                        acted,
+                        faults,
+                        end: End::Done,
+                    });
+                }
+                k += 1;
+            }
+            Ok(Turned::Ended(finish)) => {
+                faults = mark(faults, k, finish.is_unavailable());
+                return Ok(Served {
+                    acted,
+                    faults,
+                    end: finish.end(),
+                });
+            }
+            Err(stopped) => {
+                acted += u32::from(stopped.acted);
+                faults = mark(faults, k, stopped.is_fault);
+                return Err(ServeFault {
+                    acted,
+                    faults,
+                    cause: stopped.cause,
+                });
+            }
+        }
+    }
+}
+
+/// Serves a connection at one moment: reads its requests, at most 32, and answers one after another, over a book whose queue has these
+/// settings. A request that can't be served is refused (RFC 9110, section 15), which ends the connection.
+///
+/// It is an error where a read or a write fails, or the book fails inside a document whose head was written. What was written then is a
+/// front of what was to be written, and a request that acted before its answer's writing failed has acted.
+pub fn serve<R: Read, W: Write, B: QueueBook>(
+    alloc: Global,
+    reader: &mut R,
+    writer: &mut W,
+    book: &mut B,
+    s: &Settings,
+    now: u32,
+) -> Result<Served, ServeFault>
+    requires { IsMoment now }
+    ensures began { B.is_honest book.new → B.is_honest book.old }
+    ensures served { B.is_honest book.new → IfOk result (λ served. (w : World) → B.stands book.old w → s.now ≡ w.settings
+        → (u : World) × B.stands book.new u
+        × IsServed now w u (R.remaining reader.old) (W.contents writer.old) (W.contents writer.new) served) }
+    ensures broken { B.is_honest book.new → IfErr result (λ fault. (w : World) → B.stands book.old w → s.now ≡ w.settings
+        → (u : World) × B.stands book.new u
+        × IsStopped now w u (R.remaining reader.old) (W.contents writer.old) (W.contents writer.new) fault) }
+    ensures few { IfOk result (λ served. served.acted ≤ 32) }
+    ensures few_stopped { IfErr result (λ fault. fault.acted ≤ 32) }
+{
+    let mut counted = Counted::new(reader);
+    let mut buffer = Buffer::new();
+    let table = router(alloc).ok();
+    run(
+        alloc,
+        table.as_ref(),
+        &mut counted,
+        writer,
+        book,
+        s,
+        &mut buffer,
+        now,
+    )
+}

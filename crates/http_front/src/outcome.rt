@@ -1,0 +1,67 @@
+//! What serving a connection comes to, and each turn of it.
+use http_wire::end::{End, Finish, Refusal};
+
+/// What a connection came to.
+#[derive(Clone, Copy, Debug, PartialEq, Eq)]
+pub struct Served {
+    /// How many requests were answered as an IPP message or as a line of the device, by a fault too.
+    pub acted: u32,
+    /// Bit k is set where request k, from 0, was answered by a fault: status code 0x0505, `refused 6 fault` or status 503.
+    pub faults: u32,
+    /// How it ended.
+    pub end: End,
+}
+
+/// What stopped a connection.
+#[derive(Clone, Copy, Debug, PartialEq, Eq)]
+pub enum ServeCause {
+    /// A read failed.
+    Read,
+    /// A write failed.
+    Write,
+    /// The book failed inside a document whose head was written.
+    Book,
+}
+
+/// A connection that was stopped. `acted` and `faults` are as in [`Served`], the request whose answer could not be written included.
+#[derive(Clone, Copy, Debug, PartialEq, Eq)]
+pub struct ServeFault {
+    pub acted: u32,
+    pub faults: u32,
+    pub cause: ServeCause,
+}
+
+/// A turn that was stopped.
+#[derive(Clone, Copy)]
+pub struct Stopped {
+    /// Its request was answered as an IPP message or as a line of the device.
+    pub acted: bool,
+    /// It was answered by a fault.
+    pub is_fault: bool,
+    pub cause: ServeCause,
+}
+
+/// What became of a whole request.
+#[derive(Clone, Copy)]
+pub enum Replied {
+    /// It was answered; whether by a fault.
+    Answered(bool),
+    /// Nothing was written yet, and this refusal is to be.
+    Declined(Refusal),
+}
+
+/// What a turn came to.
+#[derive(Clone, Copy)]
+pub enum Turned {
+    /// A request was answered.
+    Answered {
+        /// As an IPP message or as a line of the device.
+        acted: bool,
+        /// By a fault.
+        is_fault: bool,
+        /// The connection ends after it.
+        closes: bool,
+    },
+    /// The connection has ended.
+    Ended(Finish),
+}

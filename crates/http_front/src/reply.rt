@@ -1,0 +1,188 @@
+//! The answer to one whole request.
+ghost use Rattle.std.specs.Prelude.{◌≡◌, ◌≤◌, ℕ, List, false, length};
+ghost use Rattle.queue_core.specs.Limits.{IsMoment};
+ghost use Rattle.queue_core.specs.World.{World};
+ghost use Rattle.ipp_reply.specs.Formats as formats;
+ghost use Rattle.http_front.specs.Turned.{IsReplied};
+ghost use Rattle.http_wire.specs.declared.target.Target.TheVariants.{Ipp, Report, Queue, Document};
+
+use crate::outcome::{Replied, ServeCause, Stopped};
+use device_lines::{queue_text, report};
+use http_wire::end::{Refusal, WriteFault};
+use http_wire::respond::{send_head, send_success};
+use http_wire::target::Target;
+use ipp_ops::{TooShort, answer};
+use ipp_reply::format_name;
+use queue_core::book::{QueueBook, SendCause};
+use queue_core::document::Format;
+use queue_core::settings::Settings;
+use std::alloc::Global;
+use std::io::Write;
+
+/// Answers an IPP message.
+fn reply_ipp<W: Write, B: QueueBook>(
+    alloc: Global,
+    writer: &mut W,
+    book: &mut B,
+    s: &Settings,
+    now: u32,
+    content: &[u8],
+    closes: bool,
+) -> Result<Replied, Stopped>
+    requires moment { IsMoment now }
+    requires fits { length content.now ≤ 16777216 }
+    ensures began { B.is_honest book.new → B.is_honest book.old }
+    ensures replied { B.is_honest book.new → (w : World) → B.stands book.old w → s.now ≡ w.settings
+        → (u : World) × B.stands book.new u
+        × IsReplied now w u Ipp content.now closes (W.contents writer.old) (W.contents writer.new) result }
+{
+    match answer(alloc, book, s, now, content) {
+        Err(TooShort) => Ok(Replied::Declined(Refusal::BadRequest)),
+        Ok(a) => {
+            let is_fault = a.is_fault();
+            let bytes = a.bytes();
+            match send_success(writer, "application/ipp", bytes, closes) {
+                Ok(()) => Ok(Replied::Answered(is_fault)),
+                Err(WriteFault) => Err(Stopped {
+                    acted: true,
+                    is_fault,
+                    cause: ServeCause::Write,
+                }),
+            }
+        }
+    }
+}
+
+/// Answers a line of the device.
+fn reply_report<W: Write, B: QueueBook>(
+    writer: &mut W,
+    book: &mut B,
+    now: u32,
+    content: &[u8],
+    closes: bool,
+) -> Result<Replied, Stopped>
+    requires moment { IsMoment now }
+    ensures began { B.is_honest book.new → B.is_honest book.old }
+    ensures replied { B.is_honest book.new → (w : World) → B.stands book.old w
+        → (u : World) × B.stands book.new u
+        × IsReplied now w u Report content.now closes (W.contents writer.old) (W.contents writer.new) result }
+{
+    let a = report(book, now, content);
+    let is_fault = a.is_fault();
+    match send_success(writer, "text/plain", a.bytes(), closes) {
+        Ok(()) => Ok(Replied::Answered(is_fault)),
+        Err(WriteFault) => Err(Stopped {
+            acted: true,
+            is_fault,
+            cause: ServeCause::Write,
+        }),
+    }
+}
+
+/// Answers with the device's queue.
+fn reply_queue<W: Write, B: QueueBook>(
+    alloc: Global,
+    writer: &mut W,
+    book: &mut B,
+    closes: bool,
+) -> Result<Replied, Stopped>
+    ensures began { B.is_honest book.new → B.is_honest book.old }
+    ensures kept { (w : World) → B.stands book.old w → B.stands book.new w }
+    ensures replied { B.is_honest book.new → (w : World) → B.stands book.old w → (now : ℕ) (content : List ℕ)
+        → IsReplied now w w Queue content closes (W.contents writer.old) (W.contents writer.new) result }
+{
+    let Ok(jobs) = book.pending() else {
+        return Ok(Replied::Declined(Refusal::Unavailable));
+    };
+    let Ok(text) = queue_text(alloc, jobs.as_slice()) else {
+        return Ok(Replied::Declined(Refusal::Unavailable));
+    };
+    match send_success(writer, "text/plain", text.as_bytes(), closes) {
+        Ok(()) => Ok(Replied::Answered(false)),
+        Err(WriteFault) => Err(stopped_by(ServeCause::Write)),
+    }
+}
+
+/// A turn without an effect was stopped.
+pub fn stopped_by(cause: ServeCause) -> Stopped
+    ensures acted { result.acted ≡ false }
+    ensures is_fault { result.is_fault ≡ false }
+    ensures cause { result.cause ≡ cause }
+{
+    Stopped {
+        acted: false,
+        is_fault: false,
+        cause,
+    }
+}
+
+fn cause_of(cause: SendCause) -> ServeCause {
+    match cause {
+        SendCause::Book(_) => ServeCause::Book,
+        SendCause::Write => ServeCause::Write,
+    }
+}
+
+/// The media type of a format. It is short.
+fn media_type_of(format: Format) -> &'static str
+    ensures value { result.now ≡ formats.format_name format }
+    ensures short { length result.now ≤ 64 }
+{
+    format_name(format)
+}
+
+/// Answers with a document: its head first, by its length, and then its bytes as the book gives them.
+fn reply_document<W: Write, B: QueueBook>(
+    writer: &mut W,
+    book: &mut B,
+    n: Option<(u32, u32)>,
+    closes: bool,
+) -> Result<Replied, Stopped>
+    ensures began { B.is_honest book.new → B.is_honest book.old }
+    ensures kept { (w : World) → B.stands book.old w → B.stands book.new w }
+    ensures replied { B.is_honest book.new → (w : World) → B.stands book.old w → (now : ℕ) (content : List ℕ)
+        → IsReplied now w w (Document n) content closes (W.contents writer.old) (W.contents writer.new) result }
+{
+    let Some((job, number)) = n else {
+        return Ok(Replied::Declined(Refusal::NotFound));
+    };
+    let head = match book.document_head(job, number) {
+        Ok(Some(head)) => head,
+        Ok(None) => return Ok(Replied::Declined(Refusal::NotFound)),
+        Err(_) => return Ok(Replied::Declined(Refusal::Unavailable)),
+    };
+    match send_head(writer, media_type_of(head.format), head.octets, closes) {
+        Ok(()) => {}
+        Err(WriteFault) => return Err(stopped_by(ServeCause::Write)),
+    }
+    match book.send_document(job, number, writer) {
+        Ok(_) => Ok(Replied::Answered(false)),
+        Err(fault) => Err(stopped_by(cause_of(fault.cause))),
+    }
+}
+
+/// Answers a whole request.
+pub fn reply<W: Write, B: QueueBook>(
+    alloc: Global,
+    writer: &mut W,
+    book: &mut B,
+    s: &Settings,
+    now: u32,
+    target: Target,
+    content: &[u8],
+    closes: bool,
+) -> Result<Replied, Stopped>
+    requires moment { IsMoment now }
+    requires fits { length content.now ≤ 16777216 }
+    ensures began { B.is_honest book.new → B.is_honest book.old }
+    ensures replied { B.is_honest book.new → (w : World) → B.stands book.old w → s.now ≡ w.settings
+        → (u : World) × B.stands book.new u
+        × IsReplied now w u target content.now closes (W.contents writer.old) (W.contents writer.new) result }
+{
+    match target {
+        Target::Ipp => reply_ipp(alloc, writer, book, s, now, content, closes),
+        Target::Report => reply_report(writer, book, now, content, closes),
+        Target::Queue => reply_queue(alloc, writer, book, closes),
+        Target::Document(n) => reply_document(writer, book, n, closes),
+    }
+}

@@ -1,0 +1,148 @@
+//! One request and its answer.
+ghost use Rattle.std.specs.Prelude.{◌≡◌, ◌≤◌, ◌==◌, ◌||◌, length};
+ghost use Rattle.std.specs.Option.{ForSome};
+ghost use Rattle.queue_core.specs.Limits.{IsMoment};
+ghost use Rattle.queue_core.specs.World.{World};
+ghost use Rattle.http_wire.specs.Framing.{size_of};
+ghost use Rattle.http_wire.specs.Left.{left};
+ghost use Rattle.http_wire.specs.Routes.{routes};
+ghost use Rattle.http_front.specs.Turns.{acts_on};
+ghost use Rattle.http_front.specs.Turned.{IsClosed, IsPlanned, IsTurned, ClosesLast};
+
+use crate::outcome::{Replied, ServeCause, Stopped, Turned};
+use crate::reply::{reply, stopped_by};
+use http_wire::body::BodyFault;
+use http_wire::buffer::Buffer;
+use http_wire::end::{Finish, ReadFault, Refusal, WriteFault};
+use http_wire::framed::{Framed, take_framed};
+use http_wire::plan::Plan;
+use http_wire::receive::{Headed, take_head};
+use http_wire::respond::{send_continue, send_end};
+use http_wire::routes::Route;
+use http_wire::target::Target;
+use matchit::Router;
+use queue_core::book::QueueBook;
+use queue_core::settings::Settings;
+use std::alloc::Global;
+use std::io::{Read, Write};
+
+/// The number, from 0, of the last request that a connection may have.
+pub const LAST_REQUEST: u32 = 31;
+
+/// Writes what an end has for a response.
+fn close_with<W: Write>(writer: &mut W, end: Finish) -> Result<Turned, Stopped>
+    ensures { IsClosed end (W.contents writer.old) (W.contents writer.new) result }
+{
+    match send_end(writer, end) {
+        Ok(()) => Ok(Turned::Ended(end)),
+        Err(WriteFault) => Err(Stopped {
+            acted: false,
+            is_fault: end.is_unavailable(),
+            cause: ServeCause::Write,
+        }),
+    }
+}
+
+fn acts_on_target(target: Target) -> bool
+    ensures { result ≡ acts_on target }
+{
+    match target {
+        Target::Ipp | Target::Report => true,
+        Target::Queue | Target::Document(_) => false,
+    }
+}
+
+/// The connection ends after request k, from 0.
+fn closes_after(plan: Plan, k: u32) -> bool
+    ensures { result ≡ (plan.closes || (k == 31)) }
+{
+    plan.closes || k == LAST_REQUEST
+}
+
+/// Answers request k behind a head that passed the checks.
+fn take_planned<R: Read, W: Write, B: QueueBook>(
+    alloc: Global,
+    reader: &mut R,
+    writer: &mut W,
+    book: &mut B,
+    s: &Settings,
+    buffer: &mut Buffer,
+    plan: Plan,
+    now: u32,
+    k: u32,
+) -> Result<Turned, Stopped>
+    requires moment { IsMoment now }
+    requires size { size_of plan.framing ≤ 16777216 }
+    requires few { k ≤ 31 }
+    ensures began { B.is_honest book.new → B.is_honest book.old }
+    ensures planned { B.is_honest book.new → (w : World) → B.stands book.old w → s.now ≡ w.settings
+        → (u : World) × B.stands book.new u
+        × IsPlanned now k w u plan (left buffer.old (R.remaining reader.old)) (left buffer.new (R.remaining reader.new))
+        (W.contents writer.old) (W.contents writer.new) result }
+    ensures last { ClosesLast k result }
+{
+    match send_continue(writer, plan) {
+        Ok(()) => {}
+        Err(WriteFault) => return Err(stopped_by(ServeCause::Write)),
+    }
+    let content = match take_framed(alloc, reader, buffer, plan.framing) {
+        Ok(Framed::Whole(content)) => content,
+        Ok(Framed::Ended(end)) => return close_with(writer, end),
+        Err(BodyFault::Read) => return Err(stopped_by(ServeCause::Read)),
+        Err(BodyFault::Memory) => return close_with(writer, Finish::Refused(Refusal::Unavailable)),
+    };
+    let closes = closes_after(plan, k);
+    match reply(
+        alloc,
+        writer,
+        book,
+        s,
+        now,
+        plan.target,
+        content.as_slice(),
+        closes,
+    ) {
+        Ok(Replied::Answered(is_fault)) => Ok(Turned::Answered {
+            acted: acts_on_target(plan.target),
+            is_fault,
+            closes,
+        }),
+        Ok(Replied::Declined(refusal)) => close_with(writer, Finish::Refused(refusal)),
+        Err(stopped) => Err(stopped),
+    }
+}
+
+/// Takes and answers request k of a connection, from 0. Without a router, for want of memory, it can't.
+pub fn turn<R: Read, W: Write, B: QueueBook>(
+    alloc: Global,
+    router: Option<&Router<Route>>,
+    reader: &mut R,
+    writer: &mut W,
+    book: &mut B,
+    s: &Settings,
+    buffer: &mut Buffer,
+    now: u32,
+    k: u32,
+) -> Result<Turned, Stopped>
+    requires router { ForSome router (λ r. r.now ≡ routes) }
+    requires moment { IsMoment now }
+    requires few { k ≤ 31 }
+    ensures began { B.is_honest book.new → B.is_honest book.old }
+    ensures turned { B.is_honest book.new → (w : World) → B.stands book.old w → s.now ≡ w.settings
+        → (u : World) × B.stands book.new u
+        × IsTurned now k w u (left buffer.old (R.remaining reader.old)) (left buffer.new (R.remaining reader.new))
+        (W.contents writer.old) (W.contents writer.new) result }
+    ensures last { ClosesLast k result }
+{
+    let Some(router) = router else {
+        return close_with(writer, Finish::Refused(Refusal::Unavailable));
+    };
+    match take_head(router, reader, buffer) {
+        Ok(Headed::Planned(plan)) => {
+            take_planned(alloc, reader, writer, book, s, buffer, plan, now, k)
+        }
+        Ok(Headed::Ended(end)) => close_with(writer, end),
+        Ok(Headed::Failed(refusal)) => close_with(writer, Finish::Refused(refusal)),
+        Err(ReadFault) => Err(stopped_by(ServeCause::Read)),
+    }
+}

@@ -1,0 +1,166 @@
+-- What is read of the plain book's lists is what its world shows.
+use Rattle.std.proofs.Common.{◌≡◌, ℕ, zero, suc, ◌<◌, ◌≤◌, ◌+◌, ◌*◌, ◌^◌, ◌++◌, List, [], ◌∷◌, length, map, refl, ap, sym, ◌∙◌, arith, Bool, true, false, cond}
+use Rattle.std.specs.Prelude.{All, nat_eq, nat_lt, ◌&&◌, ◌||◌, Option, Some, None, find, option_map, fold, slice_get, ◌-◌}
+use Rattle.std.specs.List.{AllByRecursion as Each}
+use Rattle.std.specs.FinMap.{FinMap, IsAntisymmetric, empty, entries, from_sorted, entries-from_sorted, get, get-empty, get-from_sorted, same_map}
+use Rattle.std.proofs.lemmas.Map.Lookups.{exact_bytes, exact_pairs}
+use Rattle.list_book.proofs.Keyed.{grant_total}
+use Rattle.queue_core.specs.Grants.{pages_to}
+use Rattle.queue_core.specs.Job.{state}
+use Rattle.queue_core.specs.Limits.{IsSoundJob}
+use Rattle.queue_core.specs.Shown.{document_at, document_of, sheet_of}
+use Rattle.queue_core.specs.Sound.{IsSound, IsSoundEntry, Rise}
+use Rattle.queue_core.specs.World.{World, Entry, AreNew, grant_cmp, text_cmp, granted_in, known_grant, put_grant, rows, job_at}
+use Rattle.queue_core.specs.declared.job.Job.{Job}
+use Rattle.queue_core.specs.declared.document.Document.{Document}
+use Rattle.queue_core.specs.declared.document.KeptDocument.{KeptDocument}
+use Rattle.queue_core.specs.declared.event.GrantRow.{GrantRow}
+use Rattle.list_book.specs.declared.lists.Lists.{Lists}
+use Rattle.list_book.specs.Lists.{entry_of, entries_of, grants_map, known_in, nth_of, documents_of, free_map, sheet_in, world_of}
+use Rattle.list_book.proofs.Put.{rows_of}
+use Rattle.list_book.proofs.Ordered.{all_of}
+use Rattle.std.specs.Prelude.{bytes_eq, filter, sum_by, ℤ}
+use Rattle.std.proofs.lemmas.List.Sums.{sum_by-cons}
+use Rattle.std.proofs.Math.Nat.{mul-le-mul_left}
+use Rattle.queue_core.specs.Job.{owed, estimate, is_live}
+use Rattle.queue_core.specs.declared.event.Scene.{Scene}
+use Rattle.queue_core.specs.declared.sheet.AccountSheet.{AccountSheet}
+use Rattle.queue_core.specs.World.{cut, queue_counts}
+use Rattle.queue_core.specs.Event.{grant}
+
+-- ---- documents
+
+abbrev pub is_fetched : Job → Bool
+is_fetched j = nat_eq (state j) 3 || nat_eq (state j) 5 || nat_eq (state j) 6
+
+found : (b : Bool) (ds : List KeptDocument) (j : Job) (e : Option Entry) (o : Option Job) → e ≡ option_map (entry_of ds) o → cond b (Some (entry_of ds j)) e ≡ option_map (entry_of ds) (cond b (Some j) o)
+found true ds j e o same = refl
+found false ds j e o same = same
+
+entry_at : (ds : List KeptDocument) (js : List Job) (n : ℕ) → find (λ (e : Entry). nat_eq e.row.number n) (entries_of ds js) ≡ option_map (entry_of ds) (job_at n js)
+entry_at ds [] n = refl
+entry_at ds (j ∷ js) n = found (nat_eq j.number n) ds j _ (job_at n js) (entry_at ds js n)
+
+pub document_is : (l : Lists) (job n : ℕ) → document_at (world_of l) job n ≡ document_of (option_map (entry_of l.documents.items) (job_at job l.jobs.items)) n
+unfolding document_at
+document_is l job n = ap (λ e. document_of e n) (entry_at l.documents.items l.jobs.items job)
+
+both : {X : Type 0} (a b : Bool) (x y : Option X) → cond (a && b) x None ≡ cond a (cond b x None) None
+both true b x y = refl
+both false b x y = refl
+
+pub no_job : (l : Lists) (job n : ℕ) → None ≡ job_at job l.jobs.items → None ≡ document_at (world_of l) job n
+no_job l job n none = ap (λ o. document_of (option_map (entry_of l.documents.items) o) n) none ∙ sym (document_is l job n)
+
+pub fetched : (l : Lists) (j : Job) (job n : ℕ) → Some j ≡ job_at job l.jobs.items → cond (is_fetched j) (nth_of j.number n l.documents.items) None ≡ document_at (world_of l) job n
+fetched l j job n there =
+    sym (both (is_fetched j) (nat_lt 0 n) (slice_get (documents_of j.number l.documents.items) (n - 1)) None)
+    ∙ ap (λ o. document_of (option_map (entry_of l.documents.items) o) n) there ∙ sym (document_is l job n)
+
+-- ---- limits of a sound world
+
+rising : (first next : ℕ) (es : List Entry) → Rise first es next → length es + first ≤ next
+rising first next [] rise = omega (arith, rise)
+rising first next (e ∷ es) rise = let more = rising (e.row.number + 1) next es rise.1 in omega (arith, more, rise.0)
+
+pub few : (w : World) → IsSound w → length w.jobs < 2 ^ 31
+few w sound = let e = rising 1 w.next w.jobs sound.numbers in omega (arith, e, sound.next)
+
+length_of : (ds : List KeptDocument) (js : List Job) → length (entries_of ds js) ≡ length js
+length_of ds [] = refl
+length_of ds (j ∷ js) = ap (λ n. suc n) (length_of ds js)
+
+pub few_jobs : (l : Lists) → IsSound (world_of l) → length l.jobs.items < 2 ^ 31
+few_jobs l sound = let e = few (world_of l) sound in let same = length_of l.documents.items l.jobs.items in omega (arith, e, same)
+
+each_job : (ds : List KeptDocument) (js : List Job) → Each IsSoundEntry (entries_of ds js) → Each IsSoundJob js
+each_job ds [] each = tt
+each_job ds (j ∷ js) each = (each.0.row, each_job ds js each.1)
+
+either : (b : Bool) (x y n : ℕ) → x ≤ n → y ≤ n → cond b x y ≤ n
+either true x y n h k = h
+either false x y n h k = k
+
+estimate_fits : (j : Job) → IsSoundJob j → estimate j ≤ 100000 * 999
+estimate_fits j sound =
+    let a : j.impressions * j.copies ≤ j.impressions * 999 = mul-le-mul_left j.impressions sound.copies.1 in
+    let b : 999 * j.impressions ≤ 999 * 100000 = mul-le-mul_left 999 sound.impressions in
+    omega (arith, a, b)
+
+owed_fits : (j : Job) → IsSoundJob j → owed j ≤ 100000000
+owed_fits j sound =
+    let e = estimate_fits j sound in
+    either (is_live j) (cond j.hold 0 (estimate j - j.count)) 0 100000000 (either j.hold 0 (estimate j - j.count) 100000000 (omega arith) (omega (arith, e))) (omega arith)
+
+sum_fits : (f : Job → ℕ) (js : List Job) → Each IsSoundJob js → ((j : Job) → IsSoundJob j → f j ≤ 100000000) → sum_by f js ≤ length js * 100000000
+sum_fits f [] each fits = omega arith
+sum_fits f (j ∷ js) each fits = let here = fits j each.0 in let more = sum_fits f js each.1 fits in let e = sum_by-cons f j js in omega (arith, here, more, e)
+
+pub reserved_fits : (l : Lists) (a : List ℕ) → IsSound (world_of l) → sum_by (λ j. cond (bytes_eq j.owner a) (owed j) 0) l.jobs.items < 2 ^ 64
+reserved_fits l a sound =
+    let few = few_jobs l sound in
+    let sum = sum_fits (λ j. cond (bytes_eq j.owner a) (owed j) 0) l.jobs.items (each_job l.documents.items l.jobs.items sound.entries) (λ j s. either (bytes_eq j.owner a) (owed j) 0 100000000 (owed_fits j s) (omega arith)) in
+    omega (arith, few, sum)
+
+pub printed_fits : (l : Lists) (a : List ℕ) → IsSound (world_of l) → sum_by (λ j. cond (bytes_eq j.owner a) j.count 0) l.jobs.items < 2 ^ 64
+printed_fits l a sound =
+    let few = few_jobs l sound in
+    let sum = sum_fits (λ j. cond (bytes_eq j.owner a) j.count 0) l.jobs.items (each_job l.documents.items l.jobs.items sound.entries) (λ j s. either (bytes_eq j.owner a) j.count 0 100000000 s.count (omega arith)) in
+    omega (arith, few, sum)
+
+-- ---- grants
+
+-- new grants after new grants
+pub new_after : (m : FinMap grant_cmp ℕ) (xs ys : List GrantRow) → AreNew m xs → AreNew (fold put_grant m xs) ys → AreNew m (xs ++ ys)
+new_after m [] ys a b = b
+new_after m (x ∷ xs) ys a b = (a.0, new_after (put_grant m x) xs ys a.1 b)
+
+exact : IsAntisymmetric grant_cmp
+exact = exact_pairs text_cmp text_cmp exact_bytes exact_bytes
+
+no_entries : entries (empty {X = ℕ} {R = grant_cmp}) ≡ []
+no_entries =
+    let same : from_sorted {X = ℕ} {R = grant_cmp} [] ≡ empty = same_map grant_total exact _ _ (λ q. get-from_sorted grant_cmp [] q tt ∙ sym (get-empty grant_cmp q)) in
+    ap entries (sym same) ∙ entries-from_sorted grant_cmp [] tt
+
+nothing : (a : List ℕ) → granted_in a empty ≡ 0
+nothing a = ap (sum_by (λ (g : (List ℕ × List ℕ) × ℕ). cond (bytes_eq g.0.1 a) g.1 0)) no_entries
+
+pub total_is : (rows : List GrantRow) → ((a : List ℕ) → granted_in a (grants_map rows) ≡ granted_in a empty + pages_to a rows) → (a : List ℕ) → granted_in a (grants_map rows) ≡ pages_to a rows
+total_is rows adds a = let z = nothing a in let e = adds a in omega (arith, z, e)
+
+pub known_is : (l : Lists) (rows : List GrantRow) → ((a : List ℕ) → granted_in a (grants_map l.grants.items) ≡ pages_to a l.grants.items) → map (known_in l) rows ≡ map (known_grant (world_of l)) rows
+known_is l [] same = refl
+known_is l (g ∷ rows) same =
+    let rest = known_is l rows same in
+    let total = same g.account in
+    λ i. record { pages = get (grants_map l.grants.items) (g.batch, g.account); granted = sym total i; free = get (world_of l).free g.account } ∷ rest i
+
+pub grants_scene_is : (l : Lists) (rows : List GrantRow) (s : Scene) → s.settings ≡ l.settings → s.jobs ≡ [] → s.free ≡ [] → s.live ≡ 0 → s.counts ≡ queue_counts [] → s.report ≡ None → s.known ≡ map (known_grant (world_of l)) rows → s.next ≡ l.next → s ≡ cut (world_of l) (grant rows)
+grants_scene_is l rows s settings jobs free live counts report known next =
+    λ i. record { settings = settings i; jobs = jobs i; free = free i; live = live i; counts = counts i; report = report i; known = known i; next = next i }
+
+-- no account has more than 1,000,000,000 pages granted
+pub most_pages : (l : Lists) → IsSound (world_of l) → ((a : List ℕ) → granted_in a (grants_map l.grants.items) ≡ granted_in a empty + pages_to a l.grants.items) → (a : List ℕ) → pages_to a l.grants.items ≤ 1000000000
+most_pages l sound adds a = let e = total_is l.grants.items adds a in let most = sound.most a in omega (arith, e, most)
+
+-- the sheet is the world's
+pub sheet_is : (l : Lists) (a : List ℕ) → granted_in a (grants_map l.grants.items) ≡ pages_to a l.grants.items → option_map (sheet_in l a) (get (free_map l.free.items) a) ≡ sheet_of (world_of l) a
+unfolding sheet_of
+sheet_is l a total =
+    let same : map (λ e. e.row) (entries_of l.documents.items l.jobs.items) ≡ l.jobs.items = rows_of l.documents.items l.jobs.items in
+    λ i. option_map (λ free. record {
+      account = a;
+      granted = sym total i;
+      free = free;
+      reserved = sum_by (λ j. cond (bytes_eq j.owner a) (owed j) 0) (sym same i);
+      printed = sum_by (λ j. cond (bytes_eq j.owner a) j.count 0) (sym same i);
+      jobs = filter (λ j. bytes_eq j.owner a && (nat_lt 0 (owed j) || nat_lt 0 j.count)) (sym same i);
+    }) (get (free_map l.free.items) a)
+
+-- a sheet by its parts
+pub same_sheet : (l : Lists) (a : List ℕ) (free : ℤ) (s : AccountSheet) → s.account ≡ a → s.granted ≡ pages_to a l.grants.items → s.free ≡ free
+    → s.reserved ≡ sum_by (λ j. cond (bytes_eq j.owner a) (owed j) 0) l.jobs.items → s.printed ≡ sum_by (λ j. cond (bytes_eq j.owner a) j.count 0) l.jobs.items
+    → s.jobs ≡ filter (λ j. bytes_eq j.owner a && (nat_lt 0 (owed j) || nat_lt 0 j.count)) l.jobs.items → s ≡ sheet_in l a free
+same_sheet l a free s account granted pages reserved printed jobs =
+    λ i. record { account = account i; granted = granted i; free = pages i; reserved = reserved i; printed = printed i; jobs = jobs i }

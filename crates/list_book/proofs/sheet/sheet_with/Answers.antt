@@ -1,0 +1,19 @@
+use Rattle.std.proofs.Common.{◌≡◌, ap, sym, ◌∙◌, rules, cond, List}
+use Rattle.std.specs.Prelude.{bytes_eq, filter, sum_by, ◌&&◌, ◌||◌, nat_lt}
+use Rattle.queue_core.specs.Grants.{pages_to}
+use Rattle.queue_core.specs.Job.{owed}
+use Rattle.queue_core.specs.declared.job.Job.{Job}
+use Rattle.list_book.proofs.SeenLemmas.{same_sheet}
+use Rattle.list_book.proofs.sheet.sheet_with.Goals as goal
+
+pub returns : goal.returns
+returns c =
+    let a = c.args.account.now in
+    let jobs = c.as_slice-jobs.ensures.value in
+    same_sheet c.args.l.now a c.args.free _
+    c.in_ok-name.ensures
+    (c.from.ensures ∙ c.pages_granted.ensures ∙ ap (pages_to a) c.as_slice.ensures.value)
+    (search rules)
+    (c.reserved_in.ensures ∙ ap (sum_by (λ j. cond (bytes_eq j.owner a) (owed j) 0)) jobs)
+    (c.printed_in.ensures ∙ ap (sum_by (λ j. cond (bytes_eq j.owner a) j.count 0)) jobs)
+    (c.from_jobs.ensures ∙ c.in_ok-shown.ensures ∙ ap (λ (js : List Job). filter (λ j. bytes_eq j.owner a && (nat_lt 0 (owed j) || nat_lt 0 j.count)) js) jobs)

@@ -1,0 +1,85 @@
+//! What the plain book shows to the device.
+ghost use Rattle.std.specs.Prelude.{◌≡◌, ◌==◌, ◌||◌, IfOk, filter, option_map};
+ghost use Rattle.std.specs.Option.{option_copied};
+ghost use Rattle.queue_core.specs.Job.{state};
+ghost use Rattle.queue_core.specs.Shown.{document_at, head_of};
+ghost use Rattle.queue_core.specs.World.{job_at};
+ghost use Rattle.list_book.specs.Lists.{nth_of, world_of};
+
+use crate::lists::Lists;
+use queue_core::document::{Document, DocumentHead, KeptDocument};
+use queue_core::job::{Job, state_of};
+use std::alloc::{AllocError, Global};
+
+/// The jobs in state 3, by number.
+pub(crate) fn pending(alloc: Global, jobs: &[Job]) -> Result<Vec<Job>, AllocError>
+    ensures { IfOk result (λ v. v.items ≡ filter (λ j. state j == 3) jobs.now) }
+{
+    let mut pending = Vec::new(alloc);
+    for job in jobs {
+        if state_of(job) == 3 {
+            pending.push(job.try_clone()?)?;
+        }
+    }
+    Ok(pending)
+}
+
+fn numbered_job(jobs: &[Job], number: u32) -> Option<&Job>
+    ensures { option_copied result ≡ job_at number jobs.now }
+{
+    jobs.iter().find(|j| j.number == number)
+}
+
+/// The device may fetch the job's documents.
+fn is_fetched(j: &Job) -> bool
+    ensures { result ≡ (state j.now == 3 || state j.now == 5 || state j.now == 6) }
+{
+    let state = state_of(j);
+    state == 3 || state == 5 || state == 6
+}
+
+/// Document n of the job, counted from 1.
+fn nth_document(documents: &[KeptDocument], job: u32, n: u32) -> Option<&Document>
+    ensures { option_copied result ≡ nth_of job n documents.now }
+{
+    if n == 0 {
+        return None;
+    }
+    let mut rest = documents;
+    let mut left = n;
+    while let [d, behind @ ..] = rest {
+        if d.job == job {
+            if left == 1 {
+                return Some(&d.document);
+            }
+            left -= 1;
+        }
+        rest = behind;
+    }
+    None
+}
+
+/// Document n, counted from 1, of a job in state 3, 5 or 6.
+pub(crate) fn document(l: &Lists, job: u32, n: u32) -> Option<&Document>
+    ensures { option_copied result ≡ document_at (world_of l.now) job n }
+{
+    let Some(j) = numbered_job(l.jobs.as_slice(), job) else {
+        return None;
+    };
+    if is_fetched(j) {
+        nth_document(l.documents.as_slice(), j.number, n)
+    } else {
+        None
+    }
+}
+
+/// The format and the length of such a document.
+pub(crate) fn document_head(l: &Lists, job: u32, n: u32) -> Option<DocumentHead>
+    ensures { result ≡ option_map head_of (document_at (world_of l.now) job n) }
+{
+    let d = document(l, job, n)?;
+    Some(DocumentHead {
+        format: d.format,
+        octets: d.bytes.as_slice().len() as u64,
+    })
+}

@@ -1,0 +1,110 @@
+//! What the plain book tells an office of an account.
+ghost use Rattle.std.specs.Prelude.{◌≡◌, ◌≤◌, ◌<◌, ◌^◌, ◌&&◌, ◌||◌, IfOk, bytes_eq, filter, nat_lt, option_map, sum_by, if◌then◌else◌};
+ghost use Rattle.queue_core.specs.Grants.{pages_to};
+ghost use Rattle.queue_core.specs.Job.{owed};
+ghost use Rattle.std.specs.FinMap.{get};
+ghost use Rattle.list_book.specs.Lists.{free_map, sheet_in};
+
+use crate::lists::Lists;
+use crate::scene::{free_pages, pages_granted};
+use queue_core::job::{Job, JobList, is_live_job};
+use queue_core::sheet::AccountSheet;
+use queue_core::text::Text;
+use std::alloc::{AllocError, Global};
+
+/// The pages that are still set aside for a job.
+fn reserved_of(j: &Job) -> u64
+    ensures { result ≡ owed j.now }
+{
+    if j.hold || !is_live_job(j) {
+        return 0;
+    }
+    let estimate = u64::from(j.impressions) * u64::from(j.copies);
+    estimate.saturating_sub(u64::from(j.count))
+}
+
+/// The account's jobs that have pages reserved or printed.
+fn sheet_jobs(alloc: Global, jobs: &[Job], account: &str) -> Result<Vec<Job>, AllocError>
+    ensures { IfOk result (λ v. v.items ≡ filter (λ j. bytes_eq j.owner account.now && (nat_lt 0 (owed j) || nat_lt 0 j.count)) jobs.now) }
+{
+    let mut shown = Vec::new(alloc);
+    for job in jobs {
+        if job.owner.as_str() == account && (0 < reserved_of(job) || 0 < job.count) {
+            shown.push(job.try_clone()?)?;
+        }
+    }
+    Ok(shown)
+}
+
+/// The pages that are reserved in the account.
+fn reserved_in(jobs: &[Job], account: &str) -> u64
+    requires { sum_by (λ j. if bytes_eq j.owner account.now then owed j else 0) jobs.now < 2 ^ 64 }
+    ensures { result ≡ sum_by (λ j. if bytes_eq j.owner account.now then owed j else 0) jobs.now }
+{
+    let mut pages = 0;
+    for job in jobs {
+        if job.owner.as_str() == account {
+            pages += reserved_of(job);
+        }
+    }
+    pages
+}
+
+/// The pages that are printed in the account.
+fn printed_in(jobs: &[Job], account: &str) -> u64
+    requires { sum_by (λ j. if bytes_eq j.owner account.now then j.count else 0) jobs.now < 2 ^ 64 }
+    ensures { result ≡ sum_by (λ j. if bytes_eq j.owner account.now then j.count else 0) jobs.now }
+{
+    let mut pages = 0;
+    for job in jobs {
+        if job.owner.as_str() == account {
+            pages += u64::from(job.count);
+        }
+    }
+    pages
+}
+
+/// The sheet of an account that is there, with its free pages.
+fn sheet_with(
+    alloc: Global,
+    l: &Lists,
+    account: &str,
+    free: i64,
+) -> Result<AccountSheet, AllocError>
+    requires most { pages_to account.now l.now.grants.items ≤ 1000000000 }
+    requires reserved { sum_by (λ j. if bytes_eq j.owner account.now then owed j else 0) l.now.jobs.items < 2 ^ 64 }
+    requires printed { sum_by (λ j. if bytes_eq j.owner account.now then j.count else 0) l.now.jobs.items < 2 ^ 64 }
+    ensures { IfOk result (λ s. s ≡ sheet_in l.now account.now free) }
+{
+    let jobs = l.jobs.as_slice();
+    let shown = sheet_jobs(alloc, jobs, account)?;
+    let name = Text::copy_of(alloc, account)?;
+    Ok(AccountSheet {
+        account: name,
+        granted: u64::from(pages_granted(l.grants.as_slice(), account)),
+        free,
+        reserved: reserved_in(jobs, account),
+        printed: printed_in(jobs, account),
+        jobs: JobList::from_jobs(shown),
+    })
+}
+
+/// What is granted to the account, what of it is free, reserved and printed, where the account is there.
+pub(crate) fn sheet(
+    alloc: Global,
+    l: &Lists,
+    account: &str,
+) -> Result<Option<AccountSheet>, AllocError>
+    requires most { pages_to account.now l.now.grants.items ≤ 1000000000 }
+    requires reserved { sum_by (λ j. if bytes_eq j.owner account.now then owed j else 0) l.now.jobs.items < 2 ^ 64 }
+    requires printed { sum_by (λ j. if bytes_eq j.owner account.now then j.count else 0) l.now.jobs.items < 2 ^ 64 }
+    ensures { IfOk result (λ s. s ≡ option_map (sheet_in l.now account.now) (get (free_map l.now.free.items) account.now)) }
+{
+    match free_pages(l.free.as_slice(), account) {
+        Some(free) => {
+            let s = sheet_with(alloc, l, account, free)?;
+            Ok(Some(s))
+        }
+        None => Ok(None),
+    }
+}

@@ -1,0 +1,51 @@
+-- What a device's reports make of a job.
+use Rattle.std.specs.Prelude.{ℕ, ◌==◌, ◌&&◌, ◌||◌, Option, Some, None, is_some, max, Bool, true, false, if◌then◌else◌}
+use Rattle.queue_core.specs.declared.event.Kind.{Kind}
+use Rattle.queue_core.specs.declared.event.Kind.TheVariants.{Start, Stop, Resume, Count, Done, Fail, Halt}
+use Rattle.queue_core.specs.declared.event.Report.{Report}
+use Rattle.queue_core.specs.declared.job.Job.{Job}
+use Rattle.queue_core.specs.declared.job.Phase.{Phase}
+use Rattle.queue_core.specs.declared.job.Phase.TheVariants.{Waiting, Running, Stopped, Canceled, Aborted, Completed}
+use Rattle.queue_core.specs.declared.job.Why.{Why}
+use Rattle.queue_core.specs.declared.job.Why.TheVariants.{ByUser, AtDevice}
+
+abbrev pub kind_number : Kind → ℕ
+kind_number Start = 1
+kind_number Stop = 2
+kind_number Resume = 3
+kind_number Count = 4
+kind_number Done = 5
+kind_number Fail = 6
+kind_number Halt = 7
+
+-- of one job and sequence number, the same report
+abbrev pub is_same_report : Report → Report → Bool
+is_same_report a b = kind_number a.kind == kind_number b.kind && a.count == b.count
+
+-- the greatest count that was reported
+abbrev pub counted : ℕ → Job → Job
+counted count j = record j { count = max j.count count }
+
+abbrev pub ended_as : Phase → ℕ → Job → Job
+ended_as phase now j = record j { phase = phase; stopping = false; ended = Some now }
+
+-- its user ended it where a cancel was asked, and else the device
+abbrev pub why_halted : Bool → Why
+why_halted stopping = if stopping then ByUser else AtDevice
+
+-- what becomes of a job in that phase, where a report of that kind is taken of it
+abbrev pub moved_by : Kind → Phase → ℕ → Job → Option Job
+moved_by Start Waiting now j = if j.hold || j.incoming then None else Some (record j { phase = Running; begun = Some now })
+moved_by Stop Running now j = Some (record j { phase = Stopped })
+moved_by Resume Stopped now j = Some (record j { phase = Running })
+moved_by Count phase now j = if is_some j.begun then Some j else None
+moved_by Done Running now j = Some (ended_as Completed now j)
+moved_by Fail Running now j = Some (ended_as Aborted now j)
+moved_by Fail Stopped now j = Some (ended_as Aborted now j)
+moved_by Halt Running now j = Some (ended_as (Canceled (why_halted j.stopping)) now j)
+moved_by Halt Stopped now j = Some (ended_as (Canceled (why_halted j.stopping)) now j)
+moved_by _ _ now j = None
+
+-- the job after the report, where it is taken
+abbrev pub reported : Report → ℕ → Job → Option Job
+reported r now j = moved_by r.kind j.phase now (counted r.count j)

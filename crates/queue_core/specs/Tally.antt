@@ -1,0 +1,62 @@
+-- What the maps say of the new rows of an account file.
+use Rattle.std.specs.Prelude.{◌≡◌, ◌≤◌, ◌+◌, ℕ, length, ◌&&◌, List, [], ◌∷◌, ◌++◌, Bool, bytes_eq, find, option_map, unwrap_or}
+use Rattle.std.specs.Borrow.{Bor}
+use Rattle.std.specs.BTreeMap.{BTreeMap, get, get_by}
+use Rattle.std.specs.declared.cmp.Ordering.{Ordering}
+use Rattle.std.specs.Ordering.{nat_cmp, ordering_then}
+use Rattle.std.specs.Cmp.Lexicographic.{slice_cmp}
+use Rattle.queue_core.specs.Grants.{Row, repeated, refused_row, new_row, Taken, all_taken, none_taken, pages_to, free_after}
+use Rattle.queue_core.specs.declared.event.FreeRow.{FreeRow}
+use Rattle.queue_core.specs.declared.event.GrantRow.{GrantRow}
+use Rattle.queue_core.specs.declared.event.KnownGrant.{KnownGrant}
+use Rattle.queue_core.specs.declared.grants.Key.{Key}
+use Rattle.queue_core.specs.declared.grants.Tally.{Tally}
+use Rattle.queue_core.specs.declared.grants.RowState.{RowState}
+use Rattle.queue_core.specs.declared.grants.RowState.TheVariants.{Repeated, Refused, New}
+use Rattle.queue_core.specs.declared.grants.Taken.{Taken as TakenRef}
+use Rattle.queue_core.specs.declared.grants.Taken.TheVariants.{All, Not}
+
+-- by batch, then by account
+abbrev pub key_cmp : Key → Key → Ordering
+key_cmp a b = ordering_then (slice_cmp nat_cmp a.batch.now b.batch.now) (slice_cmp nat_cmp a.account.now b.account.now)
+
+-- the key of that row
+abbrev pub is_key_of : GrantRow → Key → Bool
+is_key_of r q = bytes_eq r.batch q.batch.now && bytes_eq r.account q.account.now
+
+-- the total of an account, 0 where there is none
+abbrev pub total_of : BTreeMap (Bor (List ℕ)) ℕ → List ℕ → ℕ
+total_of m a = unwrap_or (get_by (λ k. slice_cmp nat_cmp a k.now) m) 0
+
+-- the maps say what the rows are
+pub record IsTallied (t : Tally) : Type 0 where
+  pub pages : (q : Key) → get key_cmp t.pages q ≡ option_map (λ g. g.pages) (find (λ g. is_key_of g q) t.rows.items)
+  pub totals : (a : List ℕ) → total_of t.totals a ≡ pages_to a t.rows.items
+  pub most : (a : List ℕ) → pages_to a t.rows.items ≤ 1000000000
+
+abbrev pub row_in : RowState → Row
+row_in Repeated = repeated
+row_in (Refused fault) = refused_row fault
+row_in New = new_row
+
+-- the new rows once that becomes of one more
+abbrev pub rows_after : Row → List GrantRow → GrantRow → List GrantRow
+rows_after repeated rows r = rows
+rows_after (refused_row fault) rows r = rows
+rows_after new_row rows r = rows ++ r ∷ []
+
+-- the free pages of their accounts
+abbrev pub free_rows_after : Row → List FreeRow → List GrantRow → GrantRow → KnownGrant → List FreeRow
+free_rows_after repeated free rows r k = free
+free_rows_after (refused_row fault) free rows r k = free
+free_rows_after new_row free rows r k = free ++ free_after r k rows ∷ []
+
+-- what the code's answer says
+abbrev pub taken_in : TakenRef → Taken
+taken_in (All rows free repeats) = all_taken rows.items free.items repeats
+taken_in (Not fault row) = none_taken fault row
+
+-- so many rows at most
+abbrev pub IsWithin : TakenRef → ℕ → Type 0
+IsWithin (All rows free repeats) n = length rows.items + repeats ≤ n
+IsWithin (Not fault row) n = (1 ≤ row) × (row ≤ n)

@@ -1,0 +1,133 @@
+-- What Get-Jobs shows, job by job.
+use Rattle.std.proofs.Common.{◌≡◌, ℕ, zero, suc, ◌<◌, ◌+◌, List, [], ◌∷◌, refl, ap, sym, ◌∙◌, subst, arith, Bool, true, false, cond}
+use Rattle.std.specs.Prelude.{Option, Some, None, bytes_eq, filter, take, count_by, not, nat_le, ◌&&◌, ◌||◌}
+use Rattle.std.specs.List.{AllByRecursion as Each}
+use Rattle.std.proofs.lemmas.List.Sums.{sum_by-cons}
+use Rattle.queue_core.specs.Event.{ask, get_jobs}
+use Rattle.queue_core.specs.Job.{is_live_in, state_in}
+use Rattle.queue_core.specs.Machine.{step}
+use Rattle.queue_core.specs.Order.{IsLive, AreNewestFirst, AreByRank, AreRising, is_before}
+use Rattle.queue_core.specs.Sound.{IsSound, Rise}
+use Rattle.queue_core.specs.Visible.{in_order, is_among, is_newer, within_limit}
+use Rattle.queue_core.specs.World.{World, Entry, rows}
+use Rattle.queue_core.specs.declared.event.Reply.TheVariants.{Jobs}
+use Rattle.queue_core.specs.declared.event.WhichJobs.{WhichJobs}
+use Rattle.queue_core.specs.declared.event.WhichJobs.TheVariants.{NotCompleted, Completed as CompletedJobs}
+use Rattle.queue_core.specs.declared.job.Job.{Job}
+use Rattle.queue_core.specs.declared.job.Phase.{Phase}
+use Rattle.queue_core.specs.declared.job.Phase.TheVariants.{Waiting, Running, Stopped, Canceled, Aborted, Completed}
+use Rattle.queue_laws.specs.Jobs.{is_owned_by, is_of_kind}
+use Rattle.queue_laws.proofs.Asked.{all_above}
+use Rattle.queue_laws.proofs.Base.{rows_of, each_map, each_filter, passed, last_of}
+
+-- ---- kinds are states
+
+live_is : (p : Phase) (hold incoming : Bool) → is_live_in p ≡ (nat_le 3 (state_in p hold incoming) && nat_le (state_in p hold incoming) 6)
+live_is Waiting hold incoming = elim (hold || incoming) as (λ b. true ≡ (nat_le 3 (cond b 4 3) && nat_le (cond b 4 3) 6)) [ true ↦ refl | false ↦ refl ]
+live_is Running hold incoming = refl
+live_is Stopped hold incoming = refl
+live_is (Canceled why) hold incoming = refl
+live_is Aborted hold incoming = refl
+live_is Completed hold incoming = refl
+
+ended_is : (p : Phase) (hold incoming : Bool) → not (is_live_in p) ≡ (nat_le 7 (state_in p hold incoming) && nat_le (state_in p hold incoming) 9)
+ended_is Waiting hold incoming = elim (hold || incoming) as (λ b. false ≡ (nat_le 7 (cond b 4 3) && nat_le (cond b 4 3) 9)) [ true ↦ refl | false ↦ refl ]
+ended_is Running hold incoming = refl
+ended_is Stopped hold incoming = refl
+ended_is (Canceled why) hold incoming = refl
+ended_is Aborted hold incoming = refl
+ended_is Completed hold incoming = refl
+
+kind_is : (which : WhichJobs) (j : Job) → is_among which j ≡ is_of_kind which j
+kind_is NotCompleted j = live_is j.phase j.hold j.incoming
+kind_is CompletedJobs j = ended_is j.phase j.hold j.incoming
+
+-- ---- counts
+
+count_filter : (p q : Job → Bool) (js : List Job) → count_by p (filter q js) ≡ count_by (λ j. q j && p j) js
+count_filter p q [] = refl
+count_filter p q (j ∷ js) =
+    let more : count_by p (filter q js) ≡ count_by (λ j. q j && p j) js = count_filter p q js in
+    elim (q j) as (λ b. count_by p (cond b (j ∷ filter q js) (filter q js)) ≡ cond (b && p j) 1 0 + count_by (λ j. q j && p j) js) [
+      | true ↦ sum_by-cons (λ j. cond (p j) 1 0) j (filter q js) ∙ ap (λ n. cond (p j) 1 0 + n) more
+      | false ↦ omega arith
+    ]
+    ∙ sym (sum_by-cons (λ j. cond (q j && p j) 1 0) j js)
+
+-- ---- orders
+
+rising : (first next : ℕ) (es : List Entry) → Rise first es next → AreRising (rows_of es)
+rising first next [] rise = tt
+rising first next (e ∷ es) rise = (all_above e.row.number (e.row.number + 1) next es (omega arith) rise.1, rising (e.row.number + 1) next es rise.1)
+
+rising_filter : (q : Job → Bool) (js : List Job) → AreRising js → AreRising (filter q js)
+rising_filter q [] rise = tt
+rising_filter q (j ∷ js) rise = elim (q j) as (λ b. AreRising (cond b (j ∷ filter q js) (filter q js))) [
+  | true ↦ (each_filter (λ k. j.number < k.number) q js rise.0, rising_filter q js rise.1)
+  | false ↦ rising_filter q js rise.1
+]
+
+each_take : (P : Job → Type 0) (n : ℕ) (js : List Job) → Each P js → Each P (take n js)
+each_take P zero js each = tt
+each_take P (suc n) [] each = tt
+each_take P (suc n) (j ∷ js) each = (each.0, each_take P n js each.1)
+
+newest_take : (n : ℕ) (js : List Job) → AreNewestFirst js → AreNewestFirst (take n js)
+newest_take zero js newest = tt
+newest_take (suc n) [] newest = tt
+newest_take (suc n) (j ∷ js) newest = (each_take (λ k. is_newer k j ≡ false) n js newest.0, newest_take n js newest.1)
+
+rank_take : (n : ℕ) (js : List Job) → AreByRank js → AreByRank (take n js)
+rank_take zero js ranked = tt
+rank_take (suc n) [] ranked = tt
+rank_take (suc n) (j ∷ js) ranked = (each_take (λ k. is_before j k ≡ true) n js ranked.0, rank_take n js ranked.1)
+
+newest_within : (limit : Option ℕ) (js : List Job) → AreNewestFirst js → AreNewestFirst (within_limit limit js)
+newest_within None js newest = newest
+newest_within (Some n) js newest = newest_take n js newest
+
+rank_within : (limit : Option ℕ) (js : List Job) → AreByRank js → AreByRank (within_limit limit js)
+rank_within None js ranked = ranked
+rank_within (Some n) js ranked = rank_take n js ranked
+
+-- ---- the reply
+
+shown_same : (js ks : List Job) → Jobs js ≡ Jobs ks → js ≡ ks
+shown_same js ks e = cc
+
+abbrev chosen : World → List ℕ → WhichJobs → List Job
+chosen w caller which = filter (λ j. bytes_eq j.owner caller && is_among which j) (rows w)
+
+all_live : (w : World) (caller : List ℕ) → Each IsLive (chosen w caller NotCompleted)
+all_live w caller =
+    each_map (λ j. (bytes_eq j.owner caller && is_among NotCompleted j) ≡ true) IsLive (chosen w caller NotCompleted)
+    (λ j is. last_of (bytes_eq j.owner caller) (is_among NotCompleted j) is)
+    (passed (λ (j : Job). bytes_eq j.owner caller && is_among NotCompleted j) (rows w))
+
+abbrev pub CompletedAll : Type 0
+CompletedAll = (p : Job → Bool) (js : List Job) → count_by p (in_order CompletedJobs js) ≡ count_by p js
+
+abbrev pub LiveAll : Type 0
+LiveAll = (p : Job → Bool) (js : List Job) → Each IsLive js → count_by p (in_order NotCompleted js) ≡ count_by p js
+
+count_ordered : CompletedAll → LiveAll → (w : World) (caller : List ℕ) (which : WhichJobs) (p : Job → Bool) → count_by p (in_order which (chosen w caller which)) ≡ count_by p (chosen w caller which)
+count_ordered completed live w caller NotCompleted p = live p (chosen w caller NotCompleted) (all_live w caller)
+count_ordered completed live w caller CompletedJobs p = completed p (chosen w caller CompletedJobs)
+
+pub each_shown : CompletedAll → LiveAll → (w : World) (now : ℕ) (caller : List ℕ) (which : WhichJobs) (p : Job → Bool) (js : List Job) → (step w now (ask caller (get_jobs which None))).reply ≡ Jobs js → count_by p js ≡ count_by (λ j. is_owned_by caller j && is_of_kind which j && p j) (rows w)
+each_shown completed live w now caller which p js e =
+    let is : in_order which (chosen w caller which) ≡ js = shown_same (in_order which (chosen w caller which)) js e in
+    sym (ap (count_by p) is)
+    ∙ count_ordered completed live w caller which p
+    ∙ count_filter p (λ j. bytes_eq j.owner caller && is_among which j) (rows w)
+    ∙ (λ i. count_by (λ j. (bytes_eq j.owner caller && kind_is which j i) && p j) (rows w))
+
+pub completed_shown : ((js : List Job) → AreNewestFirst (in_order CompletedJobs js)) → (w : World) (now : ℕ) (caller : List ℕ) (limit : Option ℕ) (js : List Job) → (step w now (ask caller (get_jobs CompletedJobs limit))).reply ≡ Jobs js → AreNewestFirst js
+completed_shown newest w now caller limit js e =
+    let all : List Job = in_order CompletedJobs (chosen w caller CompletedJobs) in
+    subst AreNewestFirst (shown_same (within_limit limit all) js e) (newest_within limit all (newest (chosen w caller CompletedJobs)))
+
+pub live_shown : ((js : List Job) → AreRising js → AreByRank (in_order NotCompleted js)) → (w : World) (now : ℕ) (caller : List ℕ) (limit : Option ℕ) (js : List Job) → IsSound w → (step w now (ask caller (get_jobs NotCompleted limit))).reply ≡ Jobs js → AreByRank js
+live_shown ranked w now caller limit js sound e =
+    let all : List Job = in_order NotCompleted (chosen w caller NotCompleted) in
+    subst AreByRank (shown_same (within_limit limit all) js e) (rank_within limit all (ranked (chosen w caller NotCompleted) (rising_filter (λ j. bytes_eq j.owner caller && is_among NotCompleted j) (rows w) (rising 1 w.next w.jobs sound.numbers))))

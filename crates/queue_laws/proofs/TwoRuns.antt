@@ -1,0 +1,206 @@
+-- What others ask changes nothing of a caller's own but the next number, and nothing that the caller is told.
+use Rattle.std.proofs.Common.{◌≡◌, ℕ, ◌+◌, ◌⊎◌, List, [], ◌∷◌, refl, ap, sym, ◌∙◌, arith, subst, inl, inr, Bool, true, false, cond}
+use Rattle.std.specs.Prelude.{Option, Some, None, IsTrue, is_none, nat_eq, bytes_eq, not, unwrap_or, ◌&&◌, ◌||◌}
+use Rattle.std.specs.List.{AllByRecursion as Each}
+use Rattle.std.proofs.lemmas.Bool.Decides.{nat_tests}
+use Rattle.queue_core.specs.Settings.{SettingValues}
+use Rattle.queue_core.specs.Event.{Call, Event, ask, tell, grant}
+use Rattle.queue_core.specs.World.{World, cut}
+use Rattle.queue_core.specs.Machine.{decision, step}
+use Rattle.queue_core.specs.Runs.{Place, IsPlace, after}
+use Rattle.queue_core.specs.Sound.{IsSound}
+use Rattle.queue_core.specs.declared.event.GrantRow.{GrantRow}
+use Rattle.queue_core.specs.declared.event.Report.{Report}
+use Rattle.queue_core.specs.declared.event.Reply.{Reply}
+use Rattle.queue_laws.specs.Alike.{own_along, told, told_along, counts_all, is_others, draws, IsAlikePlace, IsAlike}
+use Rattle.queue_laws.specs.Own.{Own, own, own_jobs, has_number}
+use Rattle.queue_laws.proofs.Again.{KeepsSound}
+use Rattle.queue_laws.proofs.Asked.{asked_by}
+use Rattle.queue_laws.proofs.Base.{same_key, itself, left_none, right_none, either, negated}
+use Rattle.queue_laws.proofs.Callers.{others_made, own_made, own_made_on}
+use Rattle.queue_laws.proofs.Filed.{next_left as next_filed}
+use Rattle.queue_laws.proofs.Heard.{heard_others, heard_own, heard_reply, own_heard_on, seen_report}
+use Rattle.queue_laws.proofs.Seen.{seen, decided}
+use Rattle.queue_laws.proofs.Shared.{files_alike}
+use Rattle.queue_laws.proofs.Telling.{next_left as next_told}
+
+-- ---- what is drawn
+
+one_more : (n : ℕ) → nat_eq (n + 1) n ≡ false
+one_more n = grind (arith, nat_tests)
+
+-- a place draws one number or none
+drawn : (o : Option ℕ) (n : ℕ) → (o ≡ None) ⊎ (o ≡ Some (n + 1)) → unwrap_or o n ≡ cond (not (nat_eq (unwrap_or o n) n)) (n + 1) n
+drawn o n (inl is) = subst (λ (o : Option ℕ). unwrap_or o n ≡ cond (not (nat_eq (unwrap_or o n) n)) (n + 1) n) (sym is) (sym (ap (λ b. cond (not b) (n + 1) n) (itself n)))
+drawn o n (inr is) = subst (λ (o : Option ℕ). unwrap_or o n ≡ cond (not (nat_eq (unwrap_or o n) n)) (n + 1) n) (sym is) (sym (ap (λ b. cond (not b) (n + 1) n) (one_more n)))
+
+same_next : (m n : ℕ) → m ≡ n → m ≡ cond (not (nat_eq m n)) (n + 1) n
+same_next m n is = is ∙ sym (ap (λ b. cond (not b) (n + 1) n) (ap (λ t. nat_eq t n) is ∙ itself n))
+
+next_after : (w : World) (p : Place) → IsSound w → (after w p.now p.event).next ≡ cond (draws w p) (w.next + 1) w.next
+next_after w p sound =
+    elim p.event as (λ o. (after w p.now o).next ≡ cond (not (nat_eq (after w p.now o).next w.next)) (w.next + 1) w.next) [
+      | None ↦ sym (ap (λ b. cond (not b) (w.next + 1) w.next) (itself w.next))
+      | Some e ↦ elim e as (λ e. (after w p.now (Some e)).next ≡ cond (not (nat_eq (after w p.now (Some e)).next w.next)) (w.next + 1) w.next) [
+        | ask caller call ↦ drawn (decision (cut w (ask caller call)) p.now (ask caller call)).change.next w.next (asked_by w p.now caller call sound).next
+        | tell r ↦ same_next (step w p.now (tell r)).world.next w.next (next_told w p.now r)
+        | grant file ↦ same_next (step w p.now (grant file)).world.next w.next (next_filed w p.now file)
+      ]
+    ]
+
+-- ---- a place of others
+
+abbrev with_next : Own → ℕ → Own
+with_next o n = record o { next = n }
+
+-- of a place where others ask or nothing is asked
+others_after : (u : List ℕ) (w : World) (now : ℕ) (o : Option Event) → IsSound w → IsTrue (is_none o || is_others u o) → (own u (after w now o) ≡ with_next (own u w) (after w now o).next) × (told u w now o ≡ None)
+others_after u w now None sound other = (refl, refl)
+others_after u w now (Some (ask caller call)) sound other =
+    let not_u : bytes_eq caller u ≡ false = negated (bytes_eq caller u) other in (
+      others_made u caller w (decision (cut w (ask caller call)) now (ask caller call)).change not_u (asked_by w now caller call sound),
+      ap (λ b. cond (b && not (counts_all call)) (Some (step w now (ask caller call)).reply) None) not_u,
+    )
+others_after u w now (Some (tell r)) sound other = absurd (cc)
+others_after u w now (Some (grant file)) sound other = absurd (cc)
+
+-- ---- a place of the caller's own
+
+abbrev own_step : List ℕ → SettingValues → ℕ → Call → Own → Own
+own_step u s now call o = own_made_on u (decision (seen s o u call) now (ask u call)).change o
+
+own_after : (u : List ℕ) (w : World) (now : ℕ) (call : Call) → IsSound w → own u (after w now (Some (ask u call))) ≡ own_step u w.settings now call (own u w)
+own_after u w now call sound =
+    own_made u w (decision (cut w (ask u call)) now (ask u call)).change sound (asked_by w now u call sound)
+    ∙ ap (λ c. own_made_on u c (own u w)) (decided u w now call sound).0
+
+own_told : (u : List ℕ) (w : World) (now : ℕ) (call : Call) → IsSound w → counts_all call ≡ false → (step w now (ask u call)).reply ≡ (decision (seen w.settings (own u w) u call) now (ask u call)).reply
+own_told u w now call sound own = (decided u w now call sound).1 own
+
+none : (b : Bool) (r s : Reply) → cond (b && false) (Some r) None ≡ cond (b && false) (Some s) None
+none true r s = refl
+none false r s = refl
+
+no_event : (o : Option Event) (other : Bool) → (is_none o || other) ≡ true → other ≡ false → o ≡ None
+no_event None other e f = refl
+no_event (Some x) other e f = absurd (cc)
+
+draws_none : (w : World) (p : Place) → p.event ≡ None → draws w p ≡ false
+draws_none w p is = ap (λ o. not (nat_eq (after w p.now o).next w.next)) is ∙ ap not (itself w.next)
+
+-- ---- two runs
+
+-- what u can see is the same
+record SameFor (u : List ℕ) (w v : World) : Type 0 where
+  own : own u w ≡ own u v
+  settings : w.settings ≡ v.settings
+  left : IsSound w
+  right : IsSound v
+
+record Goes (u : List ℕ) (w v : World) (p q : Place) : Type 0 where
+  own : own u (after w p.now p.event) ≡ own u (after v q.now q.event)
+  told : told u w p.now p.event ≡ told u v q.now q.event
+
+-- each place leaves the settings
+settings_after : (w : World) (now : ℕ) (o : Option Event) → (after w now o).settings ≡ w.settings
+settings_after w now None = refl
+settings_after w now (Some e) = refl
+
+module _ (u : List ℕ) (w v : World) (same : SameFor u w v) where
+  next_same : w.next ≡ v.next
+  next_same = ap (λ (o : Own). o.next) same.own
+
+  -- others on both sides
+  others_go : (p q : Place) → IsTrue (is_none p.event || is_others u p.event) → IsTrue (is_none q.event || is_others u q.event) → draws w p ≡ draws v q → Goes u w v p q
+  others_go p q p_others q_others draw =
+      let left = others_after u w p.now p.event same.left p_others in
+      let right = others_after u v q.now q.event same.right q_others in
+      let next : (after w p.now p.event).next ≡ (after v q.now q.event).next =
+      next_after w p same.left ∙ (λ i. cond (draw i) (next_same i + 1) (next_same i)) ∙ sym (next_after v q same.right) in
+      record { own = left.0 ∙ (λ i. with_next (same.own i) (next i)) ∙ sym right.0; told = left.1 ∙ sym right.1 }
+
+  -- the caller on both sides
+  own_go : (now : ℕ) (call : Call) → Goes u w v (record { now = now; event = Some (ask u call) }) (record { now = now; event = Some (ask u call) })
+  own_go now call = record {
+    own = own_after u w now call same.left ∙ (λ i. own_step u (same.settings i) now call (same.own i)) ∙ sym (own_after u v now call same.right);
+    told = elim (counts_all call) as (λ b. counts_all call ≡ b → cond (bytes_eq u u && not b) (Some (step w now (ask u call)).reply) None ≡ cond (bytes_eq u u && not b) (Some (step v now (ask u call)).reply) None) [
+      | true ↦ λ is. none (bytes_eq u u) (step w now (ask u call)).reply (step v now (ask u call)).reply
+      | false ↦ λ is. ap (λ r. cond (bytes_eq u u && true) (Some r) None) (own_told u w now call same.left is ∙ (λ i. (decision (seen (same.settings i) (same.own i) u call) now (ask u call)).reply) ∙ sym (own_told u v now call same.right is))
+    ] refl;
+  }
+
+  jobs_same : own_jobs u w.jobs ≡ own_jobs u v.jobs
+  jobs_same = ap (λ (o : Own). o.jobs) same.own
+
+  -- a report on both sides
+  report_goes : (now : ℕ) (r : Report) (b : Bool) → has_number r.job (own_jobs u w.jobs) ≡ b → Goes u w v (record { now = now; event = Some (tell r) }) (record { now = now; event = Some (tell r) })
+  report_goes now r false apart = record {
+    own = heard_others u w now r same.left apart ∙ same.own ∙ sym (heard_others u v now r same.right (ap (has_number r.job) (sym jobs_same) ∙ apart));
+    told = ap (λ b. cond b (Some (step w now (tell r)).reply) None) apart ∙ sym (ap (λ b. cond b (Some (step v now (tell r)).reply) None) (ap (has_number r.job) (sym jobs_same) ∙ apart));
+  }
+  report_goes now r true mine =
+      let also : has_number r.job (own_jobs u v.jobs) ≡ true = ap (has_number r.job) (sym jobs_same) ∙ mine in
+      let reply : (step w now (tell r)).reply ≡ (step v now (tell r)).reply =
+      heard_reply u w now r same.left mine ∙ (λ i. (decision (seen_report u (same.settings i) (same.own i) r) now (tell r)).reply) ∙ sym (heard_reply u v now r same.right also) in
+      record {
+        own = heard_own u w now r same.left mine ∙ (λ i. own_heard_on u (same.settings i) now r (same.own i)) ∙ sym (heard_own u v now r same.right also);
+        told = λ i. cond (has_number r.job (jobs_same i)) (Some (reply i)) None;
+      }
+
+  grants_same : w.grants ≡ v.grants
+  grants_same = ap (λ (o : Own). o.grants) same.own
+
+  -- an account file on both sides
+  file_goes : (now : ℕ) (file : List GrantRow) → Goes u w v (record { now = now; event = Some (grant file) }) (record { now = now; event = Some (grant file) })
+  file_goes now file = let both = files_alike u w v now file same.own in record { own = both.0; told = ap Some both.1 }
+
+  -- one event on both sides
+  event_goes : (now : ℕ) (o : Option Event) → (IsTrue (is_others u o) → draws w (record { now = now; event = o }) ≡ draws v (record { now = now; event = o })) → Goes u w v (record { now = now; event = o }) (record { now = now; event = o })
+  event_goes now None draw = others_go (record { now = now; event = None }) (record { now = now; event = None }) refl refl (ap not (itself w.next ∙ sym (itself v.next)))
+  event_goes now (Some (ask caller call)) draw =
+      elim (bytes_eq caller u) as (λ b. bytes_eq caller u ≡ b → Goes u w v (record { now = now; event = Some (ask caller call) }) (record { now = now; event = Some (ask caller call) })) [
+        | true ↦ λ is. subst (λ a. Goes u w v (record { now = now; event = Some (ask a call) }) (record { now = now; event = Some (ask a call) })) (sym (same_key caller u is)) (own_go now call)
+        | false ↦ λ is.
+            let other : IsTrue (not (bytes_eq caller u)) = ap not is in
+            others_go (record { now = now; event = Some (ask caller call) }) (record { now = now; event = Some (ask caller call) }) other other (draw other)
+      ] refl
+  event_goes now (Some (tell r)) draw = report_goes now r (has_number r.job (own_jobs u w.jobs)) refl
+  event_goes now (Some (grant file)) draw = file_goes now file
+
+  -- nothing on both sides draws nothing
+  drawn_alike : (p q : Place) → IsTrue (is_none p.event || is_others u p.event) → IsTrue (is_none q.event || is_others u q.event) → (IsTrue (is_others u p.event || is_others u q.event) → draws w p ≡ draws v q) → draws w p ≡ draws v q
+  drawn_alike p q p_others q_others draw =
+      elim (is_others u p.event || is_others u q.event) as (λ b. (is_others u p.event || is_others u q.event) ≡ b → draws w p ≡ draws v q) [
+        | true ↦ λ is. draw is
+        | false ↦ λ is. draws_none w p (no_event p.event (is_others u p.event) p_others (left_none (is_others u p.event) (is_others u q.event) is)) ∙ sym (draws_none v q (no_event q.event (is_others u q.event) q_others (right_none (is_others u p.event) (is_others u q.event) is)))
+      ] refl
+
+  place_goes : (p q : Place) → IsAlikePlace u w v p q → Goes u w v p q
+  place_goes p q alike =
+      elim alike.event as (λ r. Goes u w v p q) [
+        | inl is ↦
+            let one : p ≡ q = λ i. record { now = alike.now i; event = is i } in
+            subst (λ r. Goes u w v p r) one (event_goes p.now p.event (λ other. alike.draw (either (is_others u p.event) (is_others u q.event) other) ∙ ap (draws v) (sym one)))
+        | inr others ↦ others_go p q others.0 others.1 (drawn_alike p q others.0 others.1 alike.draw)
+      ]
+
+  place_same : KeepsSound → (p q : Place) → IsPlace p → IsPlace q → Goes u w v p q → SameFor u (after w p.now p.event) (after v q.now q.event)
+  place_same keeps p q p_place q_place goes = record {
+    own = goes.own;
+    settings = settings_after w p.now p.event ∙ same.settings ∙ sym (settings_after v q.now q.event);
+    left = keeps w (p ∷ []) same.left (p_place, tt);
+    right = keeps v (q ∷ []) same.right (q_place, tt);
+  }
+
+runs_alike : KeepsSound → (u : List ℕ) (ps qs : List Place) (w v : World) → SameFor u w v → Each IsPlace ps → Each IsPlace qs → IsAlike u w v ps qs → (own_along u w ps ≡ own_along u v qs) × (told_along u w ps ≡ told_along u v qs)
+runs_alike keeps u [] [] w v same ps_places qs_places alike = (refl, refl)
+runs_alike keeps u [] (q ∷ qs) w v same ps_places qs_places alike = absurd alike
+runs_alike keeps u (p ∷ ps) [] w v same ps_places qs_places alike = absurd alike
+runs_alike keeps u (p ∷ ps) (q ∷ qs) w v same ps_places qs_places alike =
+    let goes = place_goes u w v same p q alike.0 in
+    let rest = runs_alike keeps u ps qs (after w p.now p.event) (after v q.now q.event) (place_same u w v same keeps p q ps_places.0 qs_places.0 goes) ps_places.1 qs_places.1 alike.1 in
+    (λ i. goes.own i ∷ rest.0 i, λ i. goes.told i ∷ rest.1 i)
+
+-- two runs from one world
+pub two_runs : KeepsSound → (u : List ℕ) (ps qs : List Place) (w : World) → IsSound w → Each IsPlace ps → Each IsPlace qs → IsAlike u w w ps qs → (own_along u w ps ≡ own_along u w qs) × (told_along u w ps ≡ told_along u w qs)
+two_runs keeps u ps qs w sound = runs_alike keeps u ps qs w w (record { own = refl; settings = refl; left = sound; right = sound })

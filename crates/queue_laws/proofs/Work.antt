@@ -1,0 +1,214 @@
+-- What a request leaves of the jobs that it changes.
+use Rattle.std.proofs.Common.{◌≡◌, ℕ, ◌+◌, List, [], ◌∷◌, map, refl, ap, sym, ◌∙◌, subst, arith, Bool, true, false, cond}
+use Rattle.std.specs.Prelude.{Option, Some, None, nat_eq, bytes_eq, filter, fold, ◌&&◌}
+use Rattle.std.specs.List.{list_all, AllByRecursion as Each}
+use Rattle.std.proofs.lemmas.Bool.Decides.{nat_tests}
+use Rattle.queue_core.specs.Job.{is_live, estimate}
+use Rattle.queue_core.specs.Event.{Call, Decision, NewDocument, ask, print_job, validate_job, create_job, send_document, cancel_job, cancel_my_jobs, hold_job, release_job, get_job_attributes, get_jobs, get_printer_attributes}
+use Rattle.queue_core.specs.World.{World, Entry, rows, cut, made_on, job_at, numbered, with_row, add_document, with_document, is_one_of}
+use Rattle.queue_core.specs.Machine.{decision, step, answered, refused, becomes, changed, entered, new_job, new_document, new_refusal, unless_refused, validate_job_row, canceled, canceled_in, is_cancelable, cancel_row, all_canceled, are_there, cancel_my_jobs_row, is_sendable, sent, send_in, hold_in, has_pages, let_print, release_in, of_own}
+use Rattle.queue_core.specs.Sound.{IsSound, Rise}
+use Rattle.queue_core.specs.declared.document.Format.{Format}
+use Rattle.queue_core.specs.declared.job.Job.{Job}
+use Rattle.queue_core.specs.declared.job.Phase.{Phase}
+use Rattle.queue_core.specs.declared.job.Phase.TheVariants.{Waiting, Running, Stopped, Canceled, Aborted, Completed}
+use Rattle.queue_core.specs.declared.event.Reply.TheVariants.{Done, Jobs}
+use Rattle.queue_core.specs.declared.event.Scene.{Scene}
+use Rattle.queue_laws.specs.Jobs.{IsSameWork}
+use Rattle.queue_laws.proofs.Asked.{each_at, same_canceled}
+use Rattle.queue_laws.proofs.Base.{at, rows_of, equal, below, first_below, first_named, each_filter}
+use Rattle.queue_laws.proofs.Callers.{document_row}
+
+-- ---- what stands at a number once a row is put
+
+shadow : (t : Bool) (x y z : Option Job) → cond t x z ≡ cond t x (cond t y z)
+shadow true x y z = refl
+shadow false x y z = refl
+
+swapped : (s t : Bool) (x y z : Option Job) → (s ≡ true → t ≡ true → ⊥) → cond s x (cond t y z) ≡ cond t y (cond s x z)
+swapped s t x y z =
+    elim s as (λ s. (s ≡ true → t ≡ true → ⊥) → cond s x (cond t y z) ≡ cond t y (cond s x z)) [
+      | true ↦ λ never. elim t as (λ t. (true ≡ true → t ≡ true → ⊥) → x ≡ cond t y x) [ true ↦ λ never. absurd (never refl refl) | false ↦ λ never. refl ] never
+      | false ↦ λ never. refl
+    ]
+
+not_both : (a b n : ℕ) → nat_eq a b ≡ false → nat_eq a n ≡ true → nat_eq b n ≡ true → ⊥
+not_both a b n e s t = grind (arith, nat_tests)
+
+at_row : (n : ℕ) (x : Job) (es : List Entry) → at n (with_row es x) ≡ cond (nat_eq x.number n) (Some x) (at n es)
+at_row n x [] = refl
+at_row n x (e ∷ es) =
+    elim (nat_eq e.row.number x.number) as (λ t. nat_eq e.row.number x.number ≡ t → at n (cond t (record e { row = x } ∷ es) (e ∷ with_row es x)) ≡ cond (nat_eq x.number n) (Some x) (cond (nat_eq e.row.number n) (Some e.row) (at n es))) [
+      | true ↦ λ is. shadow (nat_eq x.number n) (Some x) (Some e.row) (at n es) ∙ ap (λ m. cond (nat_eq x.number n) (Some x) (cond (nat_eq m n) (Some e.row) (at n es))) (sym (equal e.row.number x.number is))
+      | false ↦ λ is. ap (λ o. cond (nat_eq e.row.number n) (Some e.row) o) (at_row n x es) ∙ swapped (nat_eq e.row.number n) (nat_eq x.number n) (Some e.row) (Some x) (at n es) (not_both e.row.number x.number n is)
+    ] refl
+
+rows_document : (d : NewDocument) (es : List Entry) → rows_of (map (add_document d) es) ≡ rows_of es
+rows_document d [] = refl
+rows_document d (e ∷ es) = λ i. document_row d e i ∷ rows_document d es i
+
+rows_documents : (o : Option NewDocument) (es : List Entry) → rows_of (with_document es o) ≡ rows_of es
+rows_documents None es = refl
+rows_documents (Some d) es = rows_document d es
+
+some_same : (a b : Job) → Some a ≡ Some b → a ≡ b
+some_same a b e = cc
+
+no_some : (A : Type 0) (o : Option Job) (j : Job) → o ≡ None → o ≡ Some j → A
+no_some A o j none some = absurd (cc)
+
+-- no job has the next number
+none_next : (k first : ℕ) (es : List Entry) → Rise first es k → at k es ≡ None
+none_next k first [] rise = refl
+none_next k first (e ∷ es) rise =
+    let low = first_below (e.row.number + 1) k es rise.1 in
+    ap (λ t. cond t (Some e.row) (at k es)) (below e.row.number k (omega arith)) ∙ none_next k (e.row.number + 1) es rise.1
+
+canceled_same : (now : ℕ) (j : Job) (p : Phase) → IsSameWork (canceled_in p now j) j
+canceled_same now j Waiting = refl
+canceled_same now j Running = refl
+canceled_same now j Stopped = refl
+canceled_same now j (Canceled why) = refl
+canceled_same now j Aborted = refl
+canceled_same now j Completed = refl
+
+-- ---- changes
+
+module _ (w : World) (sound : IsSound w) where
+  -- the row is the same work as what stands at its number
+  abbrev IsWork : Job → Type 0
+  IsWork x = (j : Job) → at x.number w.jobs ≡ Some j → IsSameWork x j
+
+  abbrev AreWork : Decision → Type 0
+  AreWork d = Each IsWork d.change.jobs
+
+  one_work : (n : ℕ) (j x : Job) → at n w.jobs ≡ Some j → x.number ≡ n → IsSameWork x j → IsWork x
+  one_work n j x there number same k at_k = subst (IsSameWork x) (some_same j k (sym there ∙ ap (λ m. at m w.jobs) (sym number) ∙ at_k)) same
+
+  module _ (n : ℕ) where
+    stays_work : (xs : List Job) (es : List Entry) → Each IsWork xs → ((j k : Job) → at n w.jobs ≡ Some j → at n es ≡ Some k → IsSameWork k j) → (j k : Job) → at n w.jobs ≡ Some j → at n (fold with_row es xs) ≡ Some k → IsSameWork k j
+    stays_work [] es each before = before
+    stays_work (x ∷ xs) es each before = stays_work xs (with_row es x) each.1 (λ j k old then.
+        elim (nat_eq x.number n) as (λ t. nat_eq x.number n ≡ t → cond t (Some x) (at n es) ≡ Some k → IsSameWork k j) [
+          | true ↦ λ is e. subst (λ y. IsSameWork y j) (some_same x k e) (each.0 j (ap (λ m. at m w.jobs) (equal x.number n is) ∙ old))
+          | false ↦ λ is e. before j k old e
+        ] refl (sym (at_row n x es) ∙ then))
+
+    first_work : (j k : Job) → at n w.jobs ≡ Some j → at n w.jobs ≡ Some k → IsSameWork k j
+    first_work j k old then = subst (λ y. IsSameWork y j) (some_same j k (sym old ∙ then)) refl
+
+    work_left : (d : Decision) → AreWork d → (j k : Job) → at n w.jobs ≡ Some j → at n (made_on d.change w).jobs ≡ Some k → IsSameWork k j
+    work_left d each j k old then = stays_work d.change.jobs w.jobs each first_work j k old (sym (ap (job_at n) (rows_documents d.change.document (fold with_row w.jobs d.change.jobs))) ∙ then)
+
+  -- ---- a new job
+
+  entered_work : (s : Scene) (x : Job) (document : Option NewDocument) → x.number ≡ w.next → AreWork (unless_refused (new_refusal s) (entered s x document))
+  entered_work s x document number = elim (new_refusal s) as (λ o. AreWork (unless_refused o (entered s x document))) [
+    | None ↦ (λ j there. no_some (IsSameWork x j) (at x.number w.jobs) j (ap (λ m. at m w.jobs) number ∙ none_next w.next 1 w.jobs sound.numbers) there, tt)
+    | Some code ↦ tt
+  ]
+
+  validated_work : (s : Scene) → AreWork (validate_job_row s)
+  validated_work s = elim (new_refusal s) as (λ o. AreWork (unless_refused o (answered Done))) [ None ↦ tt | Some code ↦ tt ]
+
+  -- ---- a job of the caller's own
+
+  rows_work : (caller : List ℕ) (n : ℕ) (row : Job → Decision) → ((j : Job) → at n w.jobs ≡ Some j → j.number ≡ n → AreWork (row j)) → (js : List Job) → numbered n (rows w) ≡ js → AreWork (of_own caller row js)
+  rows_work caller n row each [] e = tt
+  rows_work caller n row each (j ∷ rest) e =
+      let found = first_named n (rows w) j rest e in
+      elim (bytes_eq j.owner caller) as (λ b. AreWork (cond b (row j) (refused 0x0406))) [ true ↦ each j found.0 found.1 | false ↦ tt ]
+
+  own_work : (caller : List ℕ) (n : ℕ) (row : Job → Decision) → ((j : Job) → at n w.jobs ≡ Some j → j.number ≡ n → AreWork (row j)) → AreWork (of_own caller row (numbered n (rows w)))
+  own_work caller n row each = rows_work caller n row each (numbered n (rows w)) refl
+
+  module _ (n : ℕ) (s : Scene) (j : Job) (there : at n w.jobs ≡ Some j) (number : j.number ≡ n) where
+    sent_work : (format : Format) (payload : List ℕ) (last : Bool) → AreWork (send_in s j format payload last)
+    sent_work format payload last =
+        elim (is_sendable j payload) as (λ b. AreWork (cond b (record { reply = Jobs (sent j payload last ∷ []); change = record (changed s (sent j payload last ∷ [])) { document = new_document j.number format payload } }) (refused 0x0404))) [
+          | true ↦ (one_work n j (sent j payload last) there number refl, tt)
+          | false ↦ tt
+        ]
+
+    canceled_work : (now : ℕ) → AreWork (cancel_row s now j)
+    canceled_work now = elim (is_cancelable j) as (λ b. AreWork (cond b (becomes s (canceled now j)) (refused 0x0404))) [
+      | true ↦ (one_work n j (canceled now j) there ((same_canceled now j j.phase).number ∙ number) (canceled_same now j j.phase), tt)
+      | false ↦ tt
+    ]
+
+    held_work : AreWork (hold_in j.phase s j)
+    held_work = elim j.phase as (λ p. AreWork (hold_in p s j)) [
+      | Waiting ↦ (one_work n j (record j { hold = true }) there number refl, tt)
+      | Running ↦ tt
+      | Stopped ↦ tt
+      | Canceled why ↦ tt
+      | Aborted ↦ tt
+      | Completed ↦ tt
+    ]
+
+    let_work : AreWork (let_print s j)
+    let_work = elim (has_pages s.free (estimate j)) as (λ b. AreWork (cond b (becomes s (record j { hold = false })) (refused 0x0404))) [
+      | true ↦ (one_work n j (record j { hold = false }) there number refl, tt)
+      | false ↦ tt
+    ]
+
+    released_work : AreWork (release_in j.phase s j)
+    released_work = elim j.phase as (λ p. AreWork (release_in p s j)) [
+      | Waiting ↦ elim j.hold as (λ b. AreWork (cond b (let_print s j) (answered Done))) [ true ↦ let_work | false ↦ tt ]
+      | Running ↦ tt
+      | Stopped ↦ tt
+      | Canceled why ↦ tt
+      | Aborted ↦ tt
+      | Completed ↦ tt
+    ]
+
+  -- ---- several of the caller's jobs
+
+  abbrev stands : Job → Type 0
+  stands j = at j.number w.jobs ≡ Some j
+
+  all_stand : (c : Job → Bool) → Each stands (filter c (rows w))
+  all_stand c = each_filter stands c (rows w) (each_at 1 w.next w.jobs sound.numbers)
+
+  each_work : (now : ℕ) (js : List Job) → Each stands js → Each IsWork (map (canceled now) js)
+  each_work now [] each = tt
+  each_work now (j ∷ js) each = (one_work j.number j (canceled now j) each.0 (same_canceled now j j.phase).number (canceled_same now j j.phase), each_work now js each.1)
+
+  named_work : (s : Scene) (now : ℕ) (numbers : List ℕ) → Each stands s.jobs → AreWork (cancel_my_jobs_row s now (Some numbers))
+  named_work s now numbers each =
+      elim (are_there s.jobs numbers) as (λ b. AreWork (cond b (cond (list_all is_cancelable s.jobs) (all_canceled s now s.jobs) (refused 0x0404)) (refused 0x0406))) [
+        | true ↦ elim (list_all is_cancelable s.jobs) as (λ b. AreWork (cond b (all_canceled s now s.jobs) (refused 0x0404))) [ true ↦ each_work now s.jobs each | false ↦ tt ]
+        | false ↦ tt
+      ]
+
+  -- ---- each call
+
+  asked_work : (now : ℕ) (caller : List ℕ) (call : Call) → AreWork (decision (cut w (ask caller call)) now (ask caller call))
+  asked_work now caller (print_job new format payload) =
+      let s : Scene = cut w (ask caller (print_job new format payload)) in
+      entered_work s (new_job s now caller false new payload) (new_document s.next format payload) refl
+  asked_work now caller (validate_job new) = validated_work (cut w (ask caller (validate_job new)))
+  asked_work now caller (create_job new) =
+      let s : Scene = cut w (ask caller (create_job new)) in
+      entered_work s (new_job s now caller true new []) None refl
+  asked_work now caller (send_document n format payload last) =
+      let s : Scene = cut w (ask caller (send_document n format payload last)) in
+      own_work caller n (λ j. send_in s j format payload last) (λ j there number. sent_work n s j there number format payload last)
+  asked_work now caller (cancel_job n) =
+      let s : Scene = cut w (ask caller (cancel_job n)) in
+      own_work caller n (λ j. cancel_row s now j) (λ j there number. canceled_work n s j there number now)
+  asked_work now caller (cancel_my_jobs None) =
+      each_work now (filter is_cancelable (filter (λ j. bytes_eq j.owner caller && is_live j) (rows w))) (each_filter stands is_cancelable (filter (λ j. bytes_eq j.owner caller && is_live j) (rows w)) (all_stand (λ j. bytes_eq j.owner caller && is_live j)))
+  asked_work now caller (cancel_my_jobs (Some numbers)) = named_work (cut w (ask caller (cancel_my_jobs (Some numbers)))) now numbers (all_stand (λ j. bytes_eq j.owner caller && is_one_of numbers j))
+  asked_work now caller (hold_job n) =
+      let s : Scene = cut w (ask caller (hold_job n)) in
+      own_work caller n (λ j. hold_in j.phase s j) (λ j there number. held_work n s j there number)
+  asked_work now caller (release_job n) =
+      let s : Scene = cut w (ask caller (release_job n)) in
+      own_work caller n (λ j. release_in j.phase s j) (λ j there number. released_work n s j there number)
+  asked_work now caller (get_job_attributes n) = own_work caller n (λ j. answered (Jobs (j ∷ []))) (λ j there number. tt)
+  asked_work now caller (get_jobs which limit) = tt
+  asked_work now caller get_printer_attributes = tt
+
+pub work_kept : (w : World) (now n : ℕ) (caller : List ℕ) (call : Call) (j k : Job) → IsSound w → at n w.jobs ≡ Some j → at n (step w now (ask caller call)).world.jobs ≡ Some k → IsSameWork k j
+work_kept w now n caller call j k sound old then = work_left w sound n (decision (cut w (ask caller call)) now (ask caller call)) (asked_work w sound now caller call) j k old then

@@ -1,0 +1,5 @@
+use Rattle.queue_laws.proofs.Work.{work_kept}
+use Rattle.queue_laws.proofs.alone.work_is_left_alone.Goals as goal
+
+pub returns : goal.returns
+returns c = work_kept

@@ -1,0 +1,65 @@
+-- What a caller is told, and when two lists of places differ in nothing but what other callers ask.
+use Rattle.std.specs.Prelude.{◌≡◌, List, [], ◌∷◌, Option, Some, None, ⊤, ◌⊎◌, not, is_none, ◌==◌, ◌&&◌, ◌||◌, bytes_eq, ℕ, Bool, true, false, IsTrue, if◌then◌else◌}
+use Rattle.queue_core.specs.Event.{Event, Call, ask, tell, grant, print_job, validate_job, create_job, send_document, cancel_job, cancel_my_jobs, hold_job, release_job, get_job_attributes, get_jobs, get_printer_attributes}
+use Rattle.queue_core.specs.World.{World}
+use Rattle.queue_core.specs.Machine.{step}
+use Rattle.queue_core.specs.Runs.{Place, after}
+use Rattle.queue_core.specs.declared.event.Reply.{Reply}
+use Rattle.queue_laws.specs.Own.{Own, own, own_jobs, has_number}
+
+-- what is the caller's own after each place
+abbrev pub own_along : List ℕ → World → List Place → List Own
+own_along u w [] = []
+own_along u w (p ∷ ps) = own u (after w p.now p.event) ∷ own_along u (after w p.now p.event) ps
+
+-- Get-Printer-Attributes counts everybody's jobs
+abbrev pub counts_all : Call → Bool
+counts_all get_printer_attributes = true
+counts_all (print_job new format payload) = false
+counts_all (validate_job new) = false
+counts_all (create_job new) = false
+counts_all (send_document n format payload last) = false
+counts_all (cancel_job n) = false
+counts_all (cancel_my_jobs numbers) = false
+counts_all (hold_job n) = false
+counts_all (release_job n) = false
+counts_all (get_job_attributes n) = false
+counts_all (get_jobs which limit) = false
+
+-- the reply to a request of the caller's own, those to Get-Printer-Attributes aside, the answer to a report on a job of
+-- the caller's own, and the answer to an account file
+abbrev pub told : List ℕ → World → ℕ → Option Event → Option Reply
+told u w now None = None
+told u w now (Some (ask caller call)) = if bytes_eq caller u && not (counts_all call) then Some (step w now (ask caller call)).reply else None
+told u w now (Some (tell r)) = if has_number r.job (own_jobs u w.jobs) then Some (step w now (tell r)).reply else None
+told u w now (Some (grant file)) = Some (step w now (grant file)).reply
+
+-- what is told at each place
+abbrev pub told_along : List ℕ → World → List Place → List (Option Reply)
+told_along u w [] = []
+told_along u w (p ∷ ps) = told u w p.now p.event ∷ told_along u (after w p.now p.event) ps
+
+-- a request of a caller other than u
+abbrev pub is_others : List ℕ → Option Event → Bool
+is_others u None = false
+is_others u (Some (ask caller call)) = not (bytes_eq caller u)
+is_others u (Some (tell r)) = false
+is_others u (Some (grant file)) = false
+
+-- a job number is drawn
+abbrev pub draws : World → Place → Bool
+draws w p = not ((after w p.now p.event).next == w.next)
+
+-- the places have one moment and one event, or each a request of a caller other than u or nothing;
+-- and where others ask, a number is drawn at both or at neither
+pub record IsAlikePlace (u : List ℕ) (w v : World) (p q : Place) : Type 0 where
+  pub now : p.now ≡ q.now
+  pub event : (p.event ≡ q.event) ⊎ (IsTrue (is_none p.event || is_others u p.event) × IsTrue (is_none q.event || is_others u q.event))
+  pub draw : IsTrue (is_others u p.event || is_others u q.event) → draws w p ≡ draws v q
+
+-- place by place, in the run of ps from w and the run of qs from v
+abbrev pub IsAlike : List ℕ → World → World → List Place → List Place → Type 0
+IsAlike u w v [] [] = ⊤
+IsAlike u w v [] (q ∷ qs) = ⊥
+IsAlike u w v (p ∷ ps) [] = ⊥
+IsAlike u w v (p ∷ ps) (q ∷ qs) = IsAlikePlace u w v p q × IsAlike u (after w p.now p.event) (after v q.now q.event) ps qs

@@ -1,0 +1,49 @@
+-- Jobs as their owners speak of them (RFC 8011, section 5.3.7).
+use Rattle.std.specs.Prelude.{◌≡◌, ℕ, List, Bool, ◌==◌, ◌&&◌, bytes_eq, count_by, filter, nat_le, not, Option, Some, None, take}
+use Rattle.std.specs.List.{list_any}
+use Rattle.queue_core.specs.Job.{state}
+use Rattle.queue_core.specs.World.{Entry}
+use Rattle.queue_core.specs.declared.event.WhichJobs.{WhichJobs}
+use Rattle.queue_core.specs.declared.event.WhichJobs.TheVariants.{NotCompleted, Completed}
+use Rattle.queue_core.specs.declared.job.Job.{Job}
+
+abbrev pub is_owned_by : List ℕ → Job → Bool
+is_owned_by caller j = bytes_eq j.owner caller
+
+-- states 3 to 6
+abbrev pub is_unfinished : Job → Bool
+is_unfinished j = nat_le 3 (state j) && nat_le (state j) 6
+
+-- states 7 to 9
+abbrev pub is_finished : Job → Bool
+is_finished j = nat_le 7 (state j) && nat_le (state j) 9
+
+abbrev pub is_of_kind : WhichJobs → Job → Bool
+is_of_kind NotCompleted j = is_unfinished j
+is_of_kind Completed j = is_finished j
+
+-- the caller's own of that kind, of all jobs
+abbrev pub own_of_kind : List ℕ → WhichJobs → List Job → List Job
+own_of_kind caller which js = filter (λ j. is_owned_by caller j && is_of_kind which j) js
+
+-- how many jobs of the caller's own are not finished
+abbrev pub unfinished_of : List ℕ → List Job → ℕ
+unfinished_of caller js = count_by (λ j. is_owned_by caller j && is_unfinished j) js
+
+-- the caller has a job of that number
+abbrev pub has_job : List ℕ → ℕ → List Job → Bool
+has_job caller n js = list_any (λ j. j.number == n && is_owned_by caller j) js
+
+-- the first so many, where a limit is given
+abbrev pub up_to : Option ℕ → List Job → List Job
+up_to None js = js
+up_to (Some n) js = take n js
+
+-- the jobs of other numbers, with their documents
+abbrev pub jobs_but : ℕ → List Entry → List Entry
+jobs_but n es = filter (λ e. not (e.row.number == n)) es
+
+-- the one is the other but for what may be asked of it: whether it is held, open for documents, stopping or canceled, and
+-- its documents
+abbrev pub IsSameWork : Job → Job → Type 0
+IsSameWork k j = record k { phase = j.phase; hold = j.hold; incoming = j.incoming; stopping = j.stopping; ended = j.ended; documents = j.documents; octets = j.octets } ≡ j

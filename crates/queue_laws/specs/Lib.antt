@@ -1,0 +1,9 @@
+pub mod Replies
+pub mod Jobs
+pub mod Calls
+pub mod Own
+pub mod Entering
+pub mod Reporting
+pub mod Granting
+pub mod Alike
+pub mod Thin

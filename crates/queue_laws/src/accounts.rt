@@ -1,0 +1,41 @@
+//! What account files change.
+ghost use Rattle.std.specs.Prelude.{ℕ, pos, ◌≡◌, ◌+◌, ◌+ℤ◌, List, Some, false, length, unwrap_or};
+ghost use Rattle.std.specs.FinMap.{get};
+ghost use Rattle.std.specs.List.{AllByRecursion};
+ghost use Rattle.queue_core.specs.Event.{grant};
+ghost use Rattle.queue_core.specs.Machine.{step};
+ghost use Rattle.queue_core.specs.Runs.{Place, run};
+ghost use Rattle.queue_core.specs.World.{World, granted};
+ghost use Rattle.queue_core.specs.declared.event.GrantRow.{GrantRow};
+ghost use Rattle.queue_core.specs.declared.event.Reply.TheVariants.{Added};
+ghost use Rattle.queue_laws.specs.Granting.{IsGranted, is_named, is_account_of};
+
+use queue_core::new_grants_add_up;
+
+/// An account file changes nothing but the grants under the batches and accounts of its rows, and the free pages of
+/// those accounts.
+pub fn account_files_change_accounts()
+    ensures settings { (w : World) (now : ℕ) (file : List GrantRow) → (step w now (grant file)).world.settings ≡ w.settings }
+    ensures jobs { (w : World) (now : ℕ) (file : List GrantRow) → (step w now (grant file)).world.jobs ≡ w.jobs }
+    ensures next { (w : World) (now : ℕ) (file : List GrantRow) → (step w now (grant file)).world.next ≡ w.next }
+    ensures reports { (w : World) (now : ℕ) (file : List GrantRow) → (step w now (grant file)).world.reports ≡ w.reports }
+    ensures other_grants { (w : World) (now : ℕ) (file : List GrantRow) (batch account : List ℕ) → is_named batch account file ≡ false → get (step w now (grant file)).world.grants (batch, account) ≡ get w.grants (batch, account) }
+    ensures other_accounts { (w : World) (now : ℕ) (file : List GrantRow) (account : List ℕ) → is_account_of account file ≡ false → get (step w now (grant file)).world.free account ≡ get w.free account }
+{}
+
+/// What was granted stays, and each row of a file that is accepted is granted afterwards. An account has as many
+/// more free pages as are granted to it: no row counts twice. The answer counts each row, as new or as a repeat.
+pub fn grants_count_once()
+    ensures stay { (w : World) (now : ℕ) (file : List GrantRow) (batch account : List ℕ) (pages : ℕ) → get w.grants (batch, account) ≡ Some pages → get (step w now (grant file)).world.grants (batch, account) ≡ Some pages }
+    ensures granted { (w : World) (now : ℕ) (file : List GrantRow) (added repeats : ℕ) → (step w now (grant file)).reply ≡ Added added repeats → AllByRecursion (IsGranted (step w now (grant file)).world.grants) file }
+    ensures free { (w : World) (now : ℕ) (file : List GrantRow) (a : List ℕ) → unwrap_or (get (step w now (grant file)).world.free a) (pos 0) +ℤ pos (granted a w) ≡ unwrap_or (get w.free a) (pos 0) +ℤ pos (granted a (step w now (grant file)).world) }
+    ensures counted { (w : World) (now : ℕ) (file : List GrantRow) (added repeats : ℕ) → (step w now (grant file)).reply ≡ Added added repeats → added + repeats ≡ length file }
+{
+    new_grants_add_up();
+}
+
+/// A file that was accepted is all repeats whenever it comes again, whatever happened in between, and changes
+/// nothing then.
+pub fn repeated_files_change_nothing()
+    ensures { (w : World) (now later : ℕ) (file : List GrantRow) (ps : List Place) (added repeats : ℕ) → (step w now (grant file)).reply ≡ Added added repeats → step (run (step w now (grant file)).world ps) later (grant file) ≡ record { world = run (step w now (grant file)).world ps; reply = Added 0 (length file) } }
+{}

@@ -1,0 +1,15 @@
+//! Laws of the print queue in the words of those who use it. Each is a contract on a function that no program calls:
+//! it speaks of `step`, the answer to an event and the queue after it, and of a queue's jobs, accounts, grants and
+//! reports, and of nothing by which the step is made.
+#![tactic(auto)]
+
+pub mod accounts;
+pub mod alone;
+pub mod device;
+pub mod entering;
+pub mod limits;
+pub mod others;
+pub mod refusals;
+pub mod repeats;
+pub mod showing;
+pub mod single;

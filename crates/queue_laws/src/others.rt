@@ -1,0 +1,34 @@
+//! What others ask is nothing to a caller.
+ghost use Rattle.std.specs.Prelude.{ℕ, ◌≡◌, List, Some, None, bytes_eq, true, false};
+ghost use Rattle.std.specs.List.{AllByRecursion};
+ghost use Rattle.queue_core.specs.Event.{Call, NewJob, ask, print_job};
+ghost use Rattle.queue_core.specs.Machine.{step};
+ghost use Rattle.queue_core.specs.Runs.{Place, IsPlace};
+ghost use Rattle.queue_core.specs.Sound.{IsSound};
+ghost use Rattle.queue_core.specs.World.{World};
+ghost use Rattle.queue_core.specs.declared.document.Format.{Format};
+ghost use Rattle.queue_laws.specs.Alike.{IsAlikePlace, IsAlike, own_along, told_along};
+ghost use Rattle.queue_laws.specs.Replies.{refuses};
+
+use crate::refusals::refusals_change_nothing;
+use queue_core::run_keeps;
+
+/// Others don't matter. Two lists of places are alike for a caller u where they are equal but for what callers other
+/// than u ask, and wherever others ask, a job number is drawn in both runs or in neither. From one sound world both
+/// leave what is u's own the same after every place, and at every place tell u, the device of u's jobs and the office
+/// the same, the replies to Get-Printer-Attributes aside.
+pub fn run_two()
+    ensures own { (u : List ℕ) (w : World) (ps qs : List Place) → IsSound w → AllByRecursion IsPlace ps → AllByRecursion IsPlace qs → IsAlike u w w ps qs → own_along u w ps ≡ own_along u w qs }
+    ensures told { (u : List ℕ) (w : World) (ps qs : List Place) → IsSound w → AllByRecursion IsPlace ps → AllByRecursion IsPlace qs → IsAlike u w w ps qs → told_along u w ps ≡ told_along u w qs }
+{
+    run_keeps();
+}
+
+/// Places of two runs that are alike for u: a Print-Job of one and of another who are not u, where neither is refused,
+/// whatever their jobs; and a request of another that is refused, beside nothing.
+pub fn others_requests_are_alike()
+    ensures printed { (u bob carol : List ℕ) (w v : World) (now : ℕ) (j k : NewJob) (f g : Format) (b c : List ℕ) → IsSound w → IsSound v → bytes_eq bob u ≡ false → bytes_eq carol u ≡ false → refuses (step w now (ask bob (print_job j f b))).reply ≡ false → refuses (step v now (ask carol (print_job k g c))).reply ≡ false → IsAlikePlace u w v (record { now = now; event = Some (ask bob (print_job j f b)) }) (record { now = now; event = Some (ask carol (print_job k g c)) }) }
+    ensures refused { (u bob : List ℕ) (w v : World) (now : ℕ) (call : Call) → bytes_eq bob u ≡ false → refuses (step w now (ask bob call)).reply ≡ true → IsAlikePlace u w v (record { now = now; event = Some (ask bob call) }) (record { now = now; event = None }) }
+{
+    refusals_change_nothing();
+}

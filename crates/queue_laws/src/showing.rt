@@ -1,0 +1,40 @@
+//! What Get-Jobs, Get-Job-Attributes and Get-Printer-Attributes show (RFC 8011, sections 4.2.5, 4.2.6 and 4.3.4).
+ghost use Rattle.std.specs.Prelude.{ℕ, ◌≡◌, ◌&&◌, [], ◌∷◌, Bool, true, List, Option, Some, None, count_by, take};
+ghost use Rattle.queue_core.specs.Event.{ask, get_jobs, get_job_attributes, get_printer_attributes};
+ghost use Rattle.queue_core.specs.Machine.{step};
+ghost use Rattle.queue_core.specs.Order.{AreNewestFirst, AreByRank};
+ghost use Rattle.queue_core.specs.Sound.{IsSound};
+ghost use Rattle.queue_core.specs.Visible.{in_order};
+ghost use Rattle.queue_core.specs.World.{World, rows, job_at};
+ghost use Rattle.queue_core.specs.declared.event.Reply.TheVariants.{Jobs};
+ghost use Rattle.queue_core.specs.declared.event.WhichJobs.{WhichJobs};
+ghost use Rattle.queue_core.specs.declared.event.WhichJobs.TheVariants.{NotCompleted, Completed as CompletedJobs};
+ghost use Rattle.queue_core.specs.declared.job.Job.{Job};
+ghost use Rattle.queue_laws.specs.Jobs.{own_of_kind, up_to, is_owned_by, is_of_kind};
+
+use queue_core::get_jobs_in_order;
+
+/// Get-Jobs shows the first jobs, up to the limit, of the caller's own jobs of that kind in their order, and
+/// changes nothing.
+pub fn own_jobs_are_shown()
+    ensures shown { (w : World) (now : ℕ) (caller : List ℕ) (which : WhichJobs) (limit : Option ℕ) → (step w now (ask caller (get_jobs which limit))).reply ≡ Jobs (up_to limit (in_order which (own_of_kind caller which (rows w)))) }
+    ensures kept { (w : World) (now : ℕ) (caller : List ℕ) (which : WhichJobs) (limit : Option ℕ) → (step w now (ask caller (get_jobs which limit))).world ≡ w }
+{}
+
+/// Without a limit it shows each job of the caller's own of that kind, once, and no other. Those that ended come
+/// from the newest on, the others by rank (those that the device has, those that it may start, those that wait)
+/// and number.
+pub fn own_jobs_are_in_order()
+    ensures each { (w : World) (now : ℕ) (caller : List ℕ) (which : WhichJobs) (p : Job → Bool) (js : List Job) → (step w now (ask caller (get_jobs which None))).reply ≡ Jobs js → count_by p js ≡ count_by (λ j. is_owned_by caller j && is_of_kind which j && p j) (rows w) }
+    ensures completed { (w : World) (now : ℕ) (caller : List ℕ) (limit : Option ℕ) (js : List Job) → (step w now (ask caller (get_jobs CompletedJobs limit))).reply ≡ Jobs js → AreNewestFirst js }
+    ensures not_completed { (w : World) (now : ℕ) (caller : List ℕ) (limit : Option ℕ) (js : List Job) → IsSound w → (step w now (ask caller (get_jobs NotCompleted limit))).reply ≡ Jobs js → AreByRank js }
+{
+    get_jobs_in_order();
+}
+
+/// Get-Job-Attributes shows the caller's own job as it is. It changes nothing, nor does Get-Printer-Attributes.
+pub fn own_job_is_shown()
+    ensures shown { (w : World) (now n : ℕ) (caller : List ℕ) (j : Job) → job_at n (rows w) ≡ Some j → is_owned_by caller j ≡ true → (step w now (ask caller (get_job_attributes n))).reply ≡ Jobs (j ∷ []) }
+    ensures kept { (w : World) (now n : ℕ) (caller : List ℕ) → (step w now (ask caller (get_job_attributes n))).world ≡ w }
+    ensures printer { (w : World) (now : ℕ) (caller : List ℕ) → (step w now (ask caller get_printer_attributes)).world ≡ w }
+{}
