@@ -20,7 +20,7 @@ use Rattle.http_wire.specs.declared.framing.Framing.{Framing}
 use Rattle.http_front.specs.Turns.{Turn, IsTurn, acts_on, answer_bytes}
 use Rattle.http_front.specs.Ends.{IsEnd, IsBegun}
 use Rattle.http_front.specs.Ends.{no_head, checked, in_body, declined, unavailable, unavailable_later, nothing, interim, answered, ended}
-use Rattle.http_front.specs.Turned.{IsReply, IsDeclined, IsClosed, IsPlanEnd, IsPlanTurn, IsPlanBegun, IsPlanned, IsTurned}
+use Rattle.http_front.specs.Turned.{IsReply, IsDeclined, IsClosed, IsPlanEnd, IsPlanTurn, IsPlanBegun, IsPlanned, IsTurned, PlanWorks, Works, acted_in}
 use Rattle.http_front.specs.Turned.{in_body as plan_in_body, declined as plan_declined, unavailable as plan_unavailable, interim as plan_interim, answered as plan_answered, ended as plan_ended}
 use Rattle.http_front.specs.declared.outcome.Stopped.{Stopped}
 use Rattle.http_front.specs.declared.outcome.Turned.{Turned}
@@ -220,3 +220,32 @@ said_on v m x plan a b = subst (λ (l : List ℕ). Appends v x l) (append-nil (i
 
 pub same_world : (now k : ℕ) (w u : World) (plan : Plan) (r s v x : Option (List ℕ)) (result : Result Turned Stopped) → u ≡ w → IsPlanned now k w w plan r s v x result → IsPlanned now k w u plan r s v x result
 same_world now k w u plan r s v x result e p = subst (λ (z : World). IsPlanned now k w z plan r s v x result) (sym e) p
+
+-- ---- the world alone
+
+-- an end acts on nothing
+pub closed_idle : (end : Finish) (v x : Option (List ℕ)) (result : Result Turned Stopped) → IsClosed end v x result → acted_in result ≡ false
+closed_idle end v x (Ok t) c = ap (λ (z : Turned). acted_in (Ok z)) c.0
+closed_idle end v x (Err f) c = c.0
+
+pub plan_idle : (now k : ℕ) (w u : World) (plan : Plan) (acted : Bool) → u ≡ w → acted ≡ false → PlanWorks now k w u plan acted
+plan_idle now k w u plan acted e a = inl (e, a)
+
+pub idle : (now : ℕ) (w : World) (acted : Bool) → acted ≡ false → Works now w w acted
+idle now w acted a = inl (refl, a)
+
+pub plan_works : (now k : ℕ) (w u : World) (plan : Plan) (raw content bytes : List ℕ) (acted fault closes : Bool) → IsBody plan.framing raw content
+    → IsReply now w plan.target content closes fault bytes u → acted ≡ acts_on plan.target → closes ≡ (plan.closes || (k == 31)) → PlanWorks now k w u plan acted
+plan_works now k w u plan raw content bytes acted fault closes body reply acted_is closes_is =
+    inr (fault, closes, raw, bytes, record { content = content; body = body; reply = reply; acted_is = acted_is; closes_is = closes_is })
+
+lift_works : (now k : ℕ) (w u : World) (h : RequestHead) (r q : Option (List ℕ)) (acted : Bool) → TakesHead r q h → refusal_of (head_of h) ≡ None
+    → PlanWorks now k w u (plan_of (head_of h)) acted → Works now w u acted
+lift_works now k w u h r q acted t passes (inl e) = inl e
+lift_works now k w u h r q acted t passes (inr p) =
+    inr (made now k w u h acted p.0 p.1 p.2 p.3 p.4, made_is now k w u h acted p.0 p.1 p.2 p.3 r q t passes p.4, refl, p.4.acted_is)
+
+pub lifted_works : (now k : ℕ) (w u : World) (plan : Plan) (r q : Option (List ℕ)) (acted : Bool)
+    → (h : RequestHead) × TakesHead r q h × (refusal_of (head_of h) ≡ None) × (plan ≡ plan_of (head_of h)) → PlanWorks now k w u plan acted → Works now w u acted
+lifted_works now k w u plan r q acted h p =
+    lift_works now k w u h.0 r q acted h.1 h.2 (subst (λ (z : Plan). PlanWorks now k w u z acted) h.3 p)

@@ -1,5 +1,5 @@
 -- A connection: one turn after another over the bytes that it reads, to an end.
-use Rattle.std.specs.Prelude.{◌≡◌, ◌+◌, ◌*◌, ◌<◌, ◌≤◌, ◌⊎◌, Bool, true, false, ℕ, List, [], ◌∷◌, ◌++◌, length, map, Option, IfSome, if◌then◌else◌}
+use Rattle.std.specs.Prelude.{◌≡◌, ◌+◌, ◌*◌, ◌<◌, ◌≤◌, ◌⊎◌, Bool, true, false, ℕ, List, [], ◌∷◌, ◌++◌, length, map, Option, IfSome, Result, Ok, Err, if◌then◌else◌}
 use Rattle.std.specs.List.{flat_map, count_by}
 use Rattle.std.specs.Io.KnownBytes.{Appends}
 use Rattle.queue_core.specs.World.{World}
@@ -94,3 +94,20 @@ IsServed now w u r v x served =
 abbrev pub IsStopped : ℕ → World → World → Option (List ℕ) → Option (List ℕ) → Option (List ℕ) → ServeFault → Type 0
 IsStopped now w u r v x fault =
     IfSome r (λ stream. (written : List ℕ) × Appends v x written × Breaks now w stream written u fault.acted fault.faults)
+
+-- ---- whatever the bytes were
+
+-- how many requests acted
+abbrev pub acted_of : Result Served ServeFault → ℕ
+acted_of (Ok served) = served.acted
+acted_of (Err fault) = fault.acted
+
+-- Known of any connection, also where its reader, as a socket, does not tell what it reads: some requests, at most so many, answered one
+-- after another, made u of the world w, and so many of them acted.
+pub record Worked (most now : ℕ) (w u : World) (acted : ℕ) : Type 0 where
+  pub turns : List Turn
+  pub few : length turns ≤ most
+  pub are : AreTurns now w turns
+  pub world : u ≡ world_after w turns
+  pub settings : u.settings ≡ w.settings
+  pub acted_is : acted ≡ count_by acts turns

@@ -100,3 +100,21 @@ abbrev pub ClosesLast : ℕ → Result Turned Stopped → Type 0
 ClosesLast k (Ok (Answered acted fault closes)) = closes ≡ false → k < 31
 ClosesLast k (Ok (Ended end)) = ⊤
 ClosesLast k (Err f) = ⊤
+
+-- ---- the world alone, whatever the bytes were
+
+-- how many requests of a turn have acted, if one
+abbrev pub acted_in : Result Turned Stopped → Bool
+acted_in (Ok (Answered acted fault closes)) = acted
+acted_in (Ok (Ended end)) = false
+acted_in (Err f) = f.acted
+
+-- behind a head with that plan nothing was changed, or a request was answered
+abbrev pub PlanWorks : ℕ → ℕ → World → World → Plan → Bool → Type 0
+PlanWorks now k w u plan acted =
+    ((u ≡ w) × (acted ≡ false))
+    ⊎ ((fault : Bool) × (closes : Bool) × (raw : List ℕ) × (bytes : List ℕ) × IsPlanTurn now k w u plan acted fault closes raw bytes)
+
+-- nothing was changed, or a request was answered
+abbrev pub Works : ℕ → World → World → Bool → Type 0
+Works now w u acted = ((u ≡ w) × (acted ≡ false)) ⊎ ((t : Turn) × IsTurn now w t × (u ≡ t.after) × (acted ≡ acts t))

@@ -5,7 +5,7 @@ ghost use Rattle.queue_core.specs.Limits.{IsMoment};
 ghost use Rattle.queue_core.specs.World.{World};
 ghost use Rattle.http_wire.specs.Left.{left};
 ghost use Rattle.http_wire.specs.Routes.{routes};
-ghost use Rattle.http_front.specs.Connections.{IsServed, IsStopped};
+ghost use Rattle.http_front.specs.Connections.{IsServed, IsStopped, Worked, acted_of};
 
 use crate::outcome::{ServeFault, Served, Turned};
 use crate::turn::turn;
@@ -49,6 +49,8 @@ fn run<R: Read, W: Write, B: QueueBook>(
     ensures broken { B.is_honest book.new → IfErr result (λ fault. (w : World) → B.stands book.old w → s.now ≡ w.settings
         → (u : World) × B.stands book.new u
         × IsStopped now w u (left buffer.old (R.remaining reader.old)) (W.contents writer.old) (W.contents writer.new) fault) }
+    ensures worked { B.is_honest book.new → (w : World) → B.stands book.old w → s.now ≡ w.settings
+        → (u : World) × B.stands book.new u × Worked 32 now w u (acted_of result) }
     ensures few { IfOk result (λ served. served.acted ≤ 32) }
     ensures few_stopped { IfErr result (λ fault. fault.acted ≤ 32) }
 {
@@ -101,6 +103,9 @@ fn run<R: Read, W: Write, B: QueueBook>(
 ///
 /// It is an error where a read or a write fails, or the book fails inside a document whose head was written. What was written then is a
 /// front of what was to be written, and a request that acted before its answer's writing failed has acted.
+///
+/// Of a reader that does not tell its bytes, as a socket, this is known: the queue is what at most 32 requests, answered one after
+/// another, made of it.
 pub fn serve<R: Read, W: Write, B: QueueBook>(
     alloc: Global,
     reader: &mut R,
@@ -117,6 +122,8 @@ pub fn serve<R: Read, W: Write, B: QueueBook>(
     ensures broken { B.is_honest book.new → IfErr result (λ fault. (w : World) → B.stands book.old w → s.now ≡ w.settings
         → (u : World) × B.stands book.new u
         × IsStopped now w u (R.remaining reader.old) (W.contents writer.old) (W.contents writer.new) fault) }
+    ensures worked { B.is_honest book.new → (w : World) → B.stands book.old w → s.now ≡ w.settings
+        → (u : World) × B.stands book.new u × Worked 32 now w u (acted_of result) }
     ensures few { IfOk result (λ served. served.acted ≤ 32) }
     ensures few_stopped { IfErr result (λ fault. fault.acted ≤ 32) }
 {

@@ -7,7 +7,7 @@ ghost use Rattle.http_wire.specs.Framing.{size_of};
 ghost use Rattle.http_wire.specs.Left.{left};
 ghost use Rattle.http_wire.specs.Routes.{routes};
 ghost use Rattle.http_front.specs.Turns.{acts_on};
-ghost use Rattle.http_front.specs.Turned.{IsClosed, IsPlanned, IsTurned, ClosesLast};
+ghost use Rattle.http_front.specs.Turned.{IsClosed, IsPlanned, IsTurned, ClosesLast, PlanWorks, Works, acted_in};
 
 use crate::outcome::{Replied, ServeCause, Stopped, Turned};
 use crate::reply::{reply, stopped_by};
@@ -79,6 +79,8 @@ fn take_planned<R: Read, W: Write, B: QueueBook>(
         → (u : World) × B.stands book.new u
         × IsPlanned now k w u plan (left buffer.old (R.remaining reader.old)) (left buffer.new (R.remaining reader.new))
         (W.contents writer.old) (W.contents writer.new) result }
+    ensures worked { B.is_honest book.new → (w : World) → B.stands book.old w → s.now ≡ w.settings
+        → (u : World) × B.stands book.new u × PlanWorks now k w u plan (acted_in result) }
     ensures last { ClosesLast k result }
 {
     match send_continue(writer, plan) {
@@ -132,6 +134,8 @@ pub fn turn<R: Read, W: Write, B: QueueBook>(
         → (u : World) × B.stands book.new u
         × IsTurned now k w u (left buffer.old (R.remaining reader.old)) (left buffer.new (R.remaining reader.new))
         (W.contents writer.old) (W.contents writer.new) result }
+    ensures worked { B.is_honest book.new → (w : World) → B.stands book.old w → s.now ≡ w.settings
+        → (u : World) × B.stands book.new u × Works now w u (acted_in result) }
     ensures last { ClosesLast k result }
 {
     let Some(router) = router else {

@@ -1,63 +1,134 @@
--- What is found under a key once a row was put.
-use Rattle.std.proofs.Common.{◌≡◌, ℕ, ◌<◌, ◌+◌, List, length, get_or, take, refl, ap, sym, ◌∙◌, Bool, true, false, cond, ◌&&◌}
-use Rattle.std.specs.Prelude.{Option, Some, None, nat_eq, bytes_eq, fold}
-use Rattle.std.specs.FinMap.{FinMap, empty, get, get-insert}
-use Rattle.std.specs.Ordering.{is_eq, eq_by_cmp, nat_cmp, ordering_then}
+-- What the plain book's tables have under a key: reports, grants and accounts.
+use Rattle.std.proofs.Common.{◌≡◌, ℕ, ◌+◌, List, [], ◌∷◌, refl, ap, sym, ◌∙◌, Bool, true, false, cond, ◌&&◌, rules}
+use Rattle.std.specs.Prelude.{Option, Some, None, IsSome, is_some, bytes_eq, nat_eq, option_map, ℤ}
+use Rattle.std.specs.Cmp.{IsTotalOrder, unsigned_tied}
+use Rattle.std.specs.Cmp.Lexicographic.{nat_list_cmp_total}
+use Rattle.std.specs.FinMap.{IsAntisymmetric, get, insert}
+use Rattle.std.specs.Map.{lookup}
+use Rattle.std.specs.Ordering.{eq_by_cmp, is_eq, nat_cmp, ordering_then}
 use Rattle.std.specs.declared.cmp.Ordering.{Ordering}
 use Rattle.std.specs.declared.cmp.Ordering.TheVariants.{Less, Equal, Greater}
-use Rattle.std.specs.Cmp.{unsigned_tied, IsTotalOrder}
-use Rattle.std.specs.Cmp.Lexicographic.{nat_list_cmp_total}
 use Rattle.std.proofs.lemmas.Cmp.{nat_cmp_total, then_total, on_total}
-use Rattle.std.proofs.lemmas.List.Sums.{fold_more}
+use Rattle.std.proofs.lemmas.Map.Lookups.{exact_unsigned, exact_bytes, exact_pairs}
 use Rattle.std.proofs.lemmas.Map.Text.{is_eq-slice_cmp}
-use Rattle.queue_core.specs.World.{grant_cmp, report_cmp, text_cmp, put_grant}
-use Rattle.queue_core.specs.declared.event.GrantRow.{GrantRow}
+use Rattle.std.proofs.lemmas.Slice.Eq.{bytes_eq-Decides}
+use Rattle.queue_core.specs.World.{grant_cmp, report_cmp, text_cmp}
 use Rattle.queue_core.specs.declared.event.KeptReport.{KeptReport}
-use Rattle.list_book.specs.Lists.{grants_map, reports_map, put_report}
-
-pub grant_total : IsTotalOrder grant_cmp
-grant_total = then_total (on_total (λ (p : List ℕ × List ℕ). p.0) nat_list_cmp_total) (on_total (λ (p : List ℕ × List ℕ). p.1) nat_list_cmp_total)
-
-report_total : IsTotalOrder report_cmp
-report_total = then_total (on_total (λ (p : ℕ × ℕ). p.0) nat_cmp_total) (on_total (λ (p : ℕ × ℕ). p.1) nat_cmp_total)
+use Rattle.list_book.specs.declared.accounts.Account.{Account}
+use Rattle.list_book.specs.Lists.{reports_map}
+use Rattle.list_book.specs.Tables.{Accounts, Grants, free_map, free_rows, grants_map}
+use Rattle.list_book.proofs.ByKey.{value_at, put_at_key, same_at_keys}
 
 both : (a b : Ordering) → is_eq (ordering_then a b) ≡ (is_eq a && is_eq b)
 both Less b = refl
 both Equal b = refl
 both Greater b = refl
 
-report_put : (m : FinMap report_cmp KeptReport) (k : KeptReport) (job seq : ℕ) → get (put_report m k) (job, seq) ≡ cond (nat_eq job k.report.job && nat_eq seq k.report.seq) (Some k) (get m (job, seq))
-report_put m k job seq =
-    get-insert report_total m (k.report.job, k.report.seq) k (job, seq)
-    ∙ ap (λ t. cond t (Some k) (get m (job, seq))) (both (nat_cmp job k.report.job) (nat_cmp seq k.report.seq)
-    ∙ ap (λ t. t && is_eq (nat_cmp seq k.report.seq)) (unsigned_tied job k.report.job)
-    ∙ ap (λ t. nat_eq job k.report.job && t) (unsigned_tied seq k.report.seq))
+-- ---- reports, by job and sequence number
 
-grant_put : (m : FinMap grant_cmp ℕ) (g : GrantRow) (batch account : List ℕ) → get (put_grant m g) (batch, account) ≡ cond (bytes_eq batch g.batch && bytes_eq account g.account) (Some g.pages) (get m (batch, account))
-grant_put m g batch account =
-    get-insert grant_total m (g.batch, g.account) g.pages (batch, account)
-    ∙ ap (λ t. cond t (Some g.pages) (get m (batch, account))) (both (text_cmp batch g.batch) (text_cmp account g.account)
-    ∙ ap (λ t. t && is_eq (text_cmp account g.account)) (is_eq-slice_cmp batch g.batch)
-    ∙ ap (λ t. bytes_eq batch g.batch && t) (is_eq-slice_cmp account g.account))
+abbrev pub Reports : Type 0
+Reports = List ((ℕ × ℕ) × KeptReport)
 
--- one more report
-pub report_more : (rows : List KeptReport) (i : ℕ) (d : KeptReport) (job seq : ℕ) → i < length rows → cond (nat_eq job (get_or rows i d).report.job && nat_eq seq (get_or rows i d).report.seq) (Some (get_or rows i d)) (get (reports_map (take i rows)) (job, seq)) ≡ get (reports_map (take (i + 1) rows)) (job, seq)
-report_more rows i d job seq h = sym (ap (λ m. get m (job, seq)) (fold_more put_report empty rows i d h) ∙ report_put (reports_map (take i rows)) (get_or rows i d) job seq)
+-- the two keys are one
+abbrev pub is_key : ℕ × ℕ → ℕ × ℕ → Bool
+is_key q k = nat_eq q.0 k.0 && nat_eq q.1 k.1
 
--- one more grant
-pub grant_more : (rows : List GrantRow) (i : ℕ) (d : GrantRow) (batch account : List ℕ) → i < length rows → cond (bytes_eq batch (get_or rows i d).batch && bytes_eq account (get_or rows i d).account) (Some (get_or rows i d).pages) (get (grants_map (take i rows)) (batch, account)) ≡ get (grants_map (take (i + 1) rows)) (batch, account)
-grant_more rows i d batch account h = sym (ap (λ m. get m (batch, account)) (fold_more put_grant empty rows i d h) ∙ grant_put (grants_map (take i rows)) (get_or rows i d) batch account)
+report_total : IsTotalOrder report_cmp
+report_total = then_total (on_total (λ (p : ℕ × ℕ). p.0) nat_cmp_total) (on_total (λ (p : ℕ × ℕ). p.1) nat_cmp_total)
 
--- one more turn of the loop over reports
-pub report_step : (rows : List KeptReport) (i : ℕ) (d : KeptReport) (job seq : ℕ) (old new : Option KeptReport) → i < length rows → old ≡ get (reports_map (take i rows)) (job, seq)
-    → new ≡ cond (nat_eq job (get_or rows i d).report.job && nat_eq seq (get_or rows i d).report.seq) (Some (get_or rows i d)) old → new ≡ get (reports_map (take (i + 1) rows)) (job, seq)
-report_step rows i d job seq old new h was is =
-    is ∙ ap (cond (nat_eq job (get_or rows i d).report.job && nat_eq seq (get_or rows i d).report.seq) (Some (get_or rows i d))) was ∙ report_more rows i d job seq h
+report_exact : IsAntisymmetric report_cmp
+report_exact = exact_pairs nat_cmp nat_cmp exact_unsigned exact_unsigned
 
--- one more turn of the loop over grants
-pub grant_step : (rows : List GrantRow) (i : ℕ) (g : GrantRow) (batch account : List ℕ) (old new : Option ℕ) → i < length rows → old ≡ get (grants_map (take i rows)) (batch, account) → g ≡ get_or rows i g
-    → new ≡ cond (bytes_eq batch g.batch && bytes_eq account g.account) (Some g.pages) old → new ≡ get (grants_map (take (i + 1) rows)) (batch, account)
-grant_step rows i g batch account old new h was there is =
-    is ∙ ap (cond (bytes_eq batch g.batch && bytes_eq account g.account) (Some g.pages)) was
-    ∙ ap (λ (r : GrantRow). cond (bytes_eq batch r.batch && bytes_eq account r.account) (Some r.pages) (get (grants_map (take i rows)) (batch, account))) there
-    ∙ grant_more rows i g batch account h
+report_tied : (q k : ℕ × ℕ) → eq_by_cmp report_cmp q k ≡ is_key q k
+report_tied q k =
+    both (nat_cmp q.0 k.0) (nat_cmp q.1 k.1)
+    ∙ ap (λ t. t && is_eq (nat_cmp q.1 k.1)) (unsigned_tied q.0 k.0)
+    ∙ ap (λ t. nat_eq q.0 k.0 && t) (unsigned_tied q.1 k.1)
+
+pub report_at : (es : Reports) (q : ℕ × ℕ) → get (reports_map es) q ≡ lookup (is_key q) es
+report_at es q = value_at report_cmp report_total report_exact is_key report_tied es q
+
+-- a table that has this report at its key, and else what the other has
+pub report_put : (es fs : Reports) (k : KeptReport) → ((q : ℕ × ℕ) → lookup (is_key q) fs ≡ cond (is_key (k.report.job, k.report.seq) q) (Some k) (lookup (is_key q) es)) → reports_map fs ≡ insert (reports_map es) (k.report.job, k.report.seq) k
+report_put es fs k puts = put_at_key report_cmp report_total report_exact is_key report_tied es fs (k.report.job, k.report.seq) k puts
+
+pub same_reports : (es fs : Reports) → ((q : ℕ × ℕ) → lookup (is_key q) fs ≡ lookup (is_key q) es) → reports_map fs ≡ reports_map es
+same_reports es fs alike = same_at_keys report_cmp report_total report_exact is_key report_tied es fs alike
+
+-- ---- grants, by batch and account
+
+abbrev pub is_grant_key : List ℕ × List ℕ → List ℕ × List ℕ → Bool
+is_grant_key q k = bytes_eq q.0 k.0 && bytes_eq q.1 k.1
+
+pub grant_total : IsTotalOrder grant_cmp
+grant_total = then_total (on_total (λ (p : List ℕ × List ℕ). p.0) nat_list_cmp_total) (on_total (λ (p : List ℕ × List ℕ). p.1) nat_list_cmp_total)
+
+pub grant_exact : IsAntisymmetric grant_cmp
+grant_exact = exact_pairs text_cmp text_cmp exact_bytes exact_bytes
+
+grant_tied : (q k : List ℕ × List ℕ) → eq_by_cmp grant_cmp q k ≡ is_grant_key q k
+grant_tied q k =
+    both (text_cmp q.0 k.0) (text_cmp q.1 k.1)
+    ∙ ap (λ t. t && is_eq (text_cmp q.1 k.1)) (is_eq-slice_cmp q.0 k.0)
+    ∙ ap (λ t. bytes_eq q.0 k.0 && t) (is_eq-slice_cmp q.1 k.1)
+
+pub grant_at : (es : Grants) (q : List ℕ × List ℕ) → get (grants_map es) q ≡ lookup (is_grant_key q) es
+grant_at es q = value_at grant_cmp grant_total grant_exact is_grant_key grant_tied es q
+
+pub grant_put : (es fs : Grants) (k : List ℕ × List ℕ) (pages : ℕ) → ((q : List ℕ × List ℕ) → lookup (is_grant_key q) fs ≡ cond (is_grant_key k q) (Some pages) (lookup (is_grant_key q) es)) → grants_map fs ≡ insert (grants_map es) k pages
+grant_put es fs k pages puts = put_at_key grant_cmp grant_total grant_exact is_grant_key grant_tied es fs k pages puts
+
+pub same_grants : (es fs : Grants) → ((q : List ℕ × List ℕ) → lookup (is_grant_key q) fs ≡ lookup (is_grant_key q) es) → grants_map fs ≡ grants_map es
+same_grants es fs alike = same_at_keys grant_cmp grant_total grant_exact is_grant_key grant_tied es fs alike
+
+-- ---- accounts, by name
+
+text_tied : (q k : List ℕ) → eq_by_cmp text_cmp q k ≡ bytes_eq q k
+text_tied q k = is_eq-slice_cmp q k
+
+shown : (b : Bool) (x : Account) (o : Option Account) (p : Option ℤ) → p ≡ option_map (λ y. y.free) o → cond b (Some x.free) p ≡ option_map (λ y. y.free) (cond b (Some x) o)
+shown true x o p e = refl
+shown false x o p e = e
+
+free_found : (q : List ℕ) (es : Accounts) → lookup (bytes_eq q) (free_rows es) ≡ option_map (λ y. y.free) (lookup (bytes_eq q) es)
+free_found q [] = refl
+free_found q (e ∷ es) = shown (bytes_eq q e.0) e.1 (lookup (bytes_eq q) es) _ (free_found q es)
+
+pub free_at : (es : Accounts) (q : List ℕ) → get (free_map es) q ≡ option_map (λ y. y.free) (lookup (bytes_eq q) es)
+free_at es q = value_at text_cmp nat_list_cmp_total exact_bytes bytes_eq text_tied (free_rows es) q ∙ free_found q es
+
+-- the account x stands at k in the table fs, and else what the other has
+abbrev pub PutsAccount : Accounts → Accounts → List ℕ → Account → Type 0
+PutsAccount es fs k x = (q : List ℕ) → lookup (bytes_eq q) fs ≡ cond (bytes_eq k q) (Some x) (lookup (bytes_eq q) es)
+
+pub free_put : (es fs : Accounts) (k : List ℕ) (x : Account) → PutsAccount es fs k x → free_map fs ≡ insert (free_map es) k x.free
+free_put es fs k x puts = put_at_key text_cmp nat_list_cmp_total exact_bytes bytes_eq text_tied (free_rows es) (free_rows fs) k x.free (λ q.
+    free_found q fs ∙ ap (option_map (λ y. y.free)) (puts q) ∙ sym (shown (bytes_eq k q) x (lookup (bytes_eq q) es) _ (free_found q es)))
+
+pub same_free : (es fs : Accounts) → ((q : List ℕ) → option_map (λ y. y.free) (lookup (bytes_eq q) fs) ≡ option_map (λ y. y.free) (lookup (bytes_eq q) es)) → free_map fs ≡ free_map es
+same_free es fs alike = same_at_keys text_cmp nat_list_cmp_total exact_bytes bytes_eq text_tied (free_rows es) (free_rows fs) (λ q. free_found q fs ∙ alike q ∙ sym (free_found q es))
+
+same_name : (a b : List ℕ) → bytes_eq a b ≡ true → a ≡ b
+same_name a b e = search (rules, bytes_eq-Decides)
+
+-- an account that has more pages granted, and else is as before
+abbrev pub with_more : Account → ℕ → Account
+with_more x pages = record { free = x.free; granted = x.granted + pages }
+
+pub free_stays : (es fs : Accounts) (k : List ℕ) (x : Account) (pages : ℕ) → lookup (bytes_eq k) es ≡ Some x → PutsAccount es fs k (with_more x pages) → free_map fs ≡ free_map es
+free_stays es fs k x pages there puts = same_free es fs (λ q.
+    ap (option_map (λ y. y.free)) (puts q)
+    ∙ elim (bytes_eq k q) as (λ b. bytes_eq k q ≡ b → option_map (λ y. y.free) (cond b (Some (with_more x pages)) (lookup (bytes_eq q) es)) ≡ option_map (λ y. y.free) (lookup (bytes_eq q) es)) [
+      | true ↦ λ e. ap (option_map (λ y. y.free)) (sym there ∙ ap (λ n. lookup (bytes_eq n) es) (same_name k q e))
+      | false ↦ λ e. refl
+    ] refl)
+
+pub free_found_at : (es : Accounts) (k : List ℕ) (x : Account) → Some x ≡ lookup (bytes_eq k) es → Some x.free ≡ get (free_map es) k
+free_found_at es k x there = sym (free_at es k ∙ ap (option_map (λ y. y.free)) (sym there))
+
+pub free_nowhere : (es : Accounts) (k : List ℕ) → None ≡ lookup (bytes_eq k) es → None ≡ get (free_map es) k
+free_nowhere es k none = sym (free_at es k ∙ ap (option_map (λ y. y.free)) (sym none))
+
+-- an account that has free pages is there
+pub is_there : (es : Accounts) (k : List ℕ) → IsSome (get (free_map es) k) → lookup (bytes_eq k) es ≡ None → ⊥
+is_there es k some none = let gone : is_some (get (free_map es) k) ≡ false = ap is_some (free_at es k ∙ ap (option_map (λ y. y.free)) none) in cc

@@ -1,5 +1,8 @@
-pub mod Put
 pub mod Ordered
+pub mod Put
+pub mod ByNumber
+pub mod ByKey
+pub mod Keyed
 pub mod SeenLemmas
 pub mod SentLemmas
-pub mod Keyed
+pub mod Totals

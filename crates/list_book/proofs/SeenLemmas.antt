@@ -1,24 +1,21 @@
 -- What is read of the plain book's lists is what its world shows.
-use Rattle.std.proofs.Common.{◌≡◌, ℕ, zero, suc, ◌<◌, ◌≤◌, ◌+◌, ◌*◌, ◌^◌, ◌++◌, List, [], ◌∷◌, length, map, refl, ap, sym, ◌∙◌, arith, Bool, true, false, cond}
-use Rattle.std.specs.Prelude.{All, nat_eq, nat_lt, ◌&&◌, ◌||◌, Option, Some, None, find, option_map, fold, slice_get, ◌-◌}
+use Rattle.std.proofs.Common.{◌≡◌, ℕ, suc, ◌<◌, ◌≤◌, ◌+◌, ◌*◌, ◌^◌, List, [], ◌∷◌, length, map, refl, ap, sym, ◌∙◌, arith, Bool, true, false, cond}
+use Rattle.std.specs.Prelude.{nat_eq, nat_lt, ◌&&◌, ◌||◌, Option, Some, None, find, option_map, slice_get, ◌-◌}
 use Rattle.std.specs.List.{AllByRecursion as Each}
-use Rattle.std.specs.FinMap.{FinMap, IsAntisymmetric, empty, entries, from_sorted, entries-from_sorted, get, get-empty, get-from_sorted, same_map}
-use Rattle.std.proofs.lemmas.Map.Lookups.{exact_bytes, exact_pairs}
-use Rattle.list_book.proofs.Keyed.{grant_total}
-use Rattle.queue_core.specs.Grants.{pages_to}
+use Rattle.std.specs.FinMap.{empty, entries, from_sorted, entries-from_sorted, get, get-empty, get-from_sorted, same_map}
+use Rattle.list_book.proofs.Keyed.{grant_exact, grant_total}
 use Rattle.queue_core.specs.Job.{state}
 use Rattle.queue_core.specs.Limits.{IsSoundJob}
 use Rattle.queue_core.specs.Shown.{document_at, document_of, sheet_of}
 use Rattle.queue_core.specs.Sound.{IsSound, IsSoundEntry, Rise}
-use Rattle.queue_core.specs.World.{World, Entry, AreNew, grant_cmp, text_cmp, granted_in, known_grant, put_grant, rows, job_at}
+use Rattle.queue_core.specs.World.{World, Entry, grant_cmp, granted_in, known_grant, rows, job_at}
 use Rattle.queue_core.specs.declared.job.Job.{Job}
-use Rattle.queue_core.specs.declared.document.Document.{Document}
 use Rattle.queue_core.specs.declared.document.KeptDocument.{KeptDocument}
 use Rattle.queue_core.specs.declared.event.GrantRow.{GrantRow}
 use Rattle.list_book.specs.declared.lists.Lists.{Lists}
-use Rattle.list_book.specs.Lists.{entry_of, entries_of, grants_map, known_in, nth_of, documents_of, free_map, sheet_in, world_of}
+use Rattle.list_book.specs.Lists.{AreTotals, entry_of, entries_of, nth_of, documents_of, sheet_in, world_of}
+use Rattle.list_book.specs.Tables.{free_map, grants_map, known_in, total_of}
 use Rattle.list_book.proofs.Put.{rows_of}
-use Rattle.list_book.proofs.Ordered.{all_of}
 use Rattle.std.specs.Prelude.{bytes_eq, filter, sum_by, ℤ}
 use Rattle.std.proofs.lemmas.List.Sums.{sum_by-cons}
 use Rattle.std.proofs.Math.Nat.{mul-le-mul_left}
@@ -110,56 +107,43 @@ printed_fits l a sound =
 
 -- ---- grants
 
--- new grants after new grants
-pub new_after : (m : FinMap grant_cmp ℕ) (xs ys : List GrantRow) → AreNew m xs → AreNew (fold put_grant m xs) ys → AreNew m (xs ++ ys)
-new_after m [] ys a b = b
-new_after m (x ∷ xs) ys a b = (a.0, new_after (put_grant m x) xs ys a.1 b)
-
-exact : IsAntisymmetric grant_cmp
-exact = exact_pairs text_cmp text_cmp exact_bytes exact_bytes
-
 no_entries : entries (empty {X = ℕ} {R = grant_cmp}) ≡ []
 no_entries =
-    let same : from_sorted {X = ℕ} {R = grant_cmp} [] ≡ empty = same_map grant_total exact _ _ (λ q. get-from_sorted grant_cmp [] q tt ∙ sym (get-empty grant_cmp q)) in
+    let same : from_sorted {X = ℕ} {R = grant_cmp} [] ≡ empty = same_map grant_total grant_exact _ _ (λ q. get-from_sorted grant_cmp [] q tt ∙ sym (get-empty grant_cmp q)) in
     ap entries (sym same) ∙ entries-from_sorted grant_cmp [] tt
 
-nothing : (a : List ℕ) → granted_in a empty ≡ 0
-nothing a = ap (sum_by (λ (g : (List ℕ × List ℕ) × ℕ). cond (bytes_eq g.0.1 a) g.1 0)) no_entries
+pub nothing_granted : (a : List ℕ) → granted_in a empty ≡ 0
+nothing_granted a = ap (sum_by (λ (g : (List ℕ × List ℕ) × ℕ). cond (bytes_eq g.0.1 a) g.1 0)) no_entries
 
-pub total_is : (rows : List GrantRow) → ((a : List ℕ) → granted_in a (grants_map rows) ≡ granted_in a empty + pages_to a rows) → (a : List ℕ) → granted_in a (grants_map rows) ≡ pages_to a rows
-total_is rows adds a = let z = nothing a in let e = adds a in omega (arith, z, e)
-
-pub known_is : (l : Lists) (rows : List GrantRow) → ((a : List ℕ) → granted_in a (grants_map l.grants.items) ≡ pages_to a l.grants.items) → map (known_in l) rows ≡ map (known_grant (world_of l)) rows
-known_is l [] same = refl
-known_is l (g ∷ rows) same =
-    let rest = known_is l rows same in
-    let total = same g.account in
-    λ i. record { pages = get (grants_map l.grants.items) (g.batch, g.account); granted = sym total i; free = get (world_of l).free g.account } ∷ rest i
+-- what the tables know is what the world gives
+pub known_is : (l : Lists) (rows : List GrantRow) → AreTotals l → map (known_in l.grants.entries l.accounts.entries) rows ≡ map (known_grant (world_of l)) rows
+known_is l [] totals = refl
+known_is l (g ∷ rows) totals =
+    let rest = known_is l rows totals in
+    let total = totals g.account in
+    λ i. record { pages = get (grants_map l.grants.entries) (g.batch, g.account); granted = total i; free = get (free_map l.accounts.entries) g.account } ∷ rest i
 
 pub grants_scene_is : (l : Lists) (rows : List GrantRow) (s : Scene) → s.settings ≡ l.settings → s.jobs ≡ [] → s.free ≡ [] → s.live ≡ 0 → s.counts ≡ queue_counts [] → s.report ≡ None → s.known ≡ map (known_grant (world_of l)) rows → s.next ≡ l.next → s ≡ cut (world_of l) (grant rows)
 grants_scene_is l rows s settings jobs free live counts report known next =
     λ i. record { settings = settings i; jobs = jobs i; free = free i; live = live i; counts = counts i; report = report i; known = known i; next = next i }
 
--- no account has more than 1,000,000,000 pages granted
-pub most_pages : (l : Lists) → IsSound (world_of l) → ((a : List ℕ) → granted_in a (grants_map l.grants.items) ≡ granted_in a empty + pages_to a l.grants.items) → (a : List ℕ) → pages_to a l.grants.items ≤ 1000000000
-most_pages l sound adds a = let e = total_is l.grants.items adds a in let most = sound.most a in omega (arith, e, most)
-
 -- the sheet is the world's
-pub sheet_is : (l : Lists) (a : List ℕ) → granted_in a (grants_map l.grants.items) ≡ pages_to a l.grants.items → option_map (sheet_in l a) (get (free_map l.free.items) a) ≡ sheet_of (world_of l) a
+pub sheet_is : (l : Lists) (a : List ℕ) → AreTotals l → option_map (sheet_in l a) (get (free_map l.accounts.entries) a) ≡ sheet_of (world_of l) a
 unfolding sheet_of
-sheet_is l a total =
+sheet_is l a totals =
+    let total = totals a in
     let same : map (λ e. e.row) (entries_of l.documents.items l.jobs.items) ≡ l.jobs.items = rows_of l.documents.items l.jobs.items in
     λ i. option_map (λ free. record {
       account = a;
-      granted = sym total i;
+      granted = total i;
       free = free;
       reserved = sum_by (λ j. cond (bytes_eq j.owner a) (owed j) 0) (sym same i);
       printed = sum_by (λ j. cond (bytes_eq j.owner a) j.count 0) (sym same i);
       jobs = filter (λ j. bytes_eq j.owner a && (nat_lt 0 (owed j) || nat_lt 0 j.count)) (sym same i);
-    }) (get (free_map l.free.items) a)
+    }) (get (free_map l.accounts.entries) a)
 
 -- a sheet by its parts
-pub same_sheet : (l : Lists) (a : List ℕ) (free : ℤ) (s : AccountSheet) → s.account ≡ a → s.granted ≡ pages_to a l.grants.items → s.free ≡ free
+pub same_sheet : (l : Lists) (a : List ℕ) (free : ℤ) (s : AccountSheet) → s.account ≡ a → s.granted ≡ total_of l.accounts.entries a → s.free ≡ free
     → s.reserved ≡ sum_by (λ j. cond (bytes_eq j.owner a) (owed j) 0) l.jobs.items → s.printed ≡ sum_by (λ j. cond (bytes_eq j.owner a) j.count 0) l.jobs.items
     → s.jobs ≡ filter (λ j. bytes_eq j.owner a && (nat_lt 0 (owed j) || nat_lt 0 j.count)) l.jobs.items → s ≡ sheet_in l a free
 same_sheet l a free s account granted pages reserved printed jobs =

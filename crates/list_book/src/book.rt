@@ -1,4 +1,4 @@
-//! The plain book, which keeps a queue in lists.
+//! The plain book, which keeps a queue in lists and tables.
 ghost use Rattle.std.specs.Prelude.{◌≡◌, ◌≤◌, ⊤, IfOk, IfErr, IsSome, OnOk, OnErr, Some, length, option_map, take};
 ghost use Rattle.std.specs.Io.KnownBytes.{Appends};
 ghost use Rattle.queue_core.specs.Book.{IsContent, IsDecisionOn};
@@ -23,6 +23,7 @@ use queue_core::{
     new_grants_add_up,
 };
 use std::alloc::Global;
+use std::collections::HashMap;
 use std::io::Write;
 use std::marker::Model;
 
@@ -42,14 +43,12 @@ impl Model for ListBook {
 
     ghost coded = { Prim.hlevel (codes, grants_code, free_code, reports_code (let kept : Coded KeptReport = Prim.hlevel codes in kept)) };
 
-    ghost use Rattle.list_book.specs.Lists.{world_of, IsTidy};
+    ghost use Rattle.list_book.specs.Lists.{AreTotals, IsTidy, world_of};
     ghost use Rattle.queue_core.specs.Sound.{IsSound};
-    ghost use Rattle.queue_core.specs.World.{AreNew};
-    ghost use Rattle.std.specs.FinMap.{empty};
 
     ghost view = { λ b. world_of b.lists };
 
-    ghost invariant = { λ b. IsTidy b.lists.jobs.items b.lists.documents.items × IsSound (world_of b.lists) × AreNew empty b.lists.grants.items };
+    ghost invariant = { λ b. IsTidy b.lists.jobs.items b.lists.documents.items × IsSound (world_of b.lists) × AreTotals b.lists };
 }
 
 impl ListBook {
@@ -70,9 +69,9 @@ impl ListBook {
                 jobs: Vec::new(alloc),
                 documents: Vec::new(alloc),
                 next: 1,
-                free: Vec::new(alloc),
-                grants: Vec::new(alloc),
-                reports: Vec::new(alloc),
+                accounts: HashMap::new(alloc),
+                grants: HashMap::new(alloc),
+                reports: HashMap::new(alloc),
             },
         }
     }
@@ -95,7 +94,6 @@ impl QueueBook for ListBook {
         ensures fault { IfErr result (λ f. f ≡ BookFault.Memory) }
     {
         cut_is_fair();
-        new_grants_add_up();
         let s = scene(self.alloc, &self.lists, e)?;
         let d = queue_core::decide(self.alloc, &s, now, e)?;
         Ok(d)
@@ -109,6 +107,7 @@ impl QueueBook for ListBook {
         ensures fault { IfErr result (λ f. f ≡ BookFault.Memory) }
     {
         decisions_are_sound();
+        new_grants_add_up();
         let Decision { reply: _, change } = d;
         let document = kept_document(self.alloc, &change.document)?;
         reserve(
@@ -161,7 +160,6 @@ impl QueueBook for ListBook {
         ensures sheet { ⊤ → IfOk result (λ s. (w : World) → IsContent self.new w → s ≡ sheet_of w account.now) }
         ensures fault { IfErr result (λ f. f ≡ BookFault.Memory) }
     {
-        new_grants_add_up();
         let s = sheet::sheet(self.alloc, &self.lists, account)?;
         Ok(s)
     }

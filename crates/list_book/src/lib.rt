@@ -1,8 +1,11 @@
-//! The plain book: a queue in lists, in memory.
+//! The plain book: a queue in lists and tables, in memory.
 #![tactic(auto)]
 
+mod accounts;
 pub mod book;
+mod grants;
 mod lists;
+mod name;
 mod scene;
 mod seen;
 mod send;

@@ -1,58 +1,77 @@
-//! The lists of the plain book, and how a change is written to them.
-ghost use Rattle.std.specs.Prelude.{◌≡◌, ◌≤◌, ◌<◌, ◌+◌, ◌++◌, ◌∷◌, [], IfOk, OnOk, bytes_eq, ◌==◌, option_map, IfNone, IfSome, IsSome, slice_set, slice_index_or, length, vec_len, vec_capacity, None, Some};
-ghost use Rattle.std.specs.FinMap.{get};
+//! The lists and tables of the plain book, and how a change is written to them.
+ghost use Rattle.std.specs.Prelude.{ℕ, List, ◌≡◌, ◌≢◌, ◌≤◌, ◌<◌, ◌+◌, ◌^◌, ◌++◌, ◌∷◌, [], fold, IfOk, OnOk, ◌==◌, option_map, IfNone, IfSome, IsSome, slice_set, slice_index_or, length, vec_len, vec_capacity};
+ghost use Rattle.std.specs.Bool.{OnFalse, OnTrue};
 ghost use Rattle.queue_core.specs.Event.{change_of, document_of};
-ghost use Rattle.queue_core.specs.World.{made_on, job_at};
-ghost use Rattle.list_book.specs.Lists.{put_by, put_row, put_rows, put_account, put_accounts, kept_of, with_kept, with_kept_report, HaveSameItems, HasRoom, free_map, world_of, IsTidy};
+ghost use Rattle.std.specs.HashMap.{spare};
+ghost use Rattle.queue_core.specs.Order.{AreRising};
+ghost use Rattle.queue_core.specs.Grants.{pages_to};
+ghost use Rattle.queue_core.specs.World.{made_on, job_at, numbered, put_free, with_report};
+ghost use Rattle.list_book.specs.Lists.{put_by, put_row, put_rows, kept_of, with_kept, reports_map, HaveSameItems, HasRoom, world_of, IsTidy};
+ghost use Rattle.list_book.specs.Tables.{HaveAccounts, free_map, total_of};
 
+use crate::accounts::{Accounts, put_free_rows, reserve_accounts};
+use crate::grants::{Grants, put_grants, reserve_grants};
 use queue_core::document::{Bytes, Document, KeptDocument};
-use queue_core::event::{Change, FreeRow, GrantRow, KeptReport, NewDocument};
+use queue_core::event::{Change, KeptReport, NewDocument};
 use queue_core::job::Job;
 use queue_core::settings::Settings;
 use std::alloc::{AllocError, Global};
+use std::collections::HashMap;
+
+/// The reports that were accepted, by job and sequence number.
+pub(crate) type Reports = HashMap<(u32, u32), KeptReport>;
 
 /// What a plain book holds: jobs in the order of their numbers, and their documents in the order in
-/// which they came.
+/// which they came; accounts, grants and reports in tables, which find a key in a few steps.
 #[derive(Drop)]
 pub(crate) struct Lists {
     pub(crate) settings: Settings,
     pub(crate) jobs: Vec<Job>,
     pub(crate) documents: Vec<KeptDocument>,
     pub(crate) next: u32,
-    pub(crate) free: Vec<FreeRow>,
-    pub(crate) grants: Vec<GrantRow>,
-    pub(crate) reports: Vec<KeptReport>,
+    pub(crate) accounts: Accounts,
+    pub(crate) grants: Grants,
+    pub(crate) reports: Reports,
 }
 
-pub(crate) fn account_place(free: &[FreeRow], account: &str) -> Option<usize>
-    ensures some { IfSome result (λ i. (i < length free.now) × ((x : FreeRow) → put_by (λ y. bytes_eq y.account account.now) x free.now ≡ slice_set free.now i x)) }
-    ensures none { IfNone result ((x : FreeRow) → put_by (λ y. bytes_eq y.account account.now) x free.now ≡ free.now ++ x ∷ []) }
-    ensures value { IfSome result (λ i. (d : FreeRow) → get (free_map free.now) account.now ≡ Some (slice_index_or free.now i d).free) }
-    ensures no_value { IfNone result (get (free_map free.now) account.now ≡ None) }
+/// How many jobs have a smaller number. It looks at few of them.
+fn smaller_than(jobs: &[Job], number: u32) -> usize
+    requires { AreRising jobs.now }
+    ensures within { result ≤ length jobs.now }
+    ensures before { (k : ℕ) (d : Job) → k < result → (slice_index_or jobs.now k d).number < number }
+    ensures behind { (k : ℕ) (d : Job) → result ≤ k → k < length jobs.now → number ≤ (slice_index_or jobs.now k d).number }
 {
-    for (i, y) in free.iter().enumerate() {
-        if y.account.as_str() == account {
-            return Some(i);
-        }
-    }
-    None
+    jobs.partition_point(|j| j.number < number)
 }
 
-/// Where the job of that number stands.
-fn place_of(jobs: &[Job], number: u32) -> Option<usize>
-    ensures some { IfSome result (λ i. (i < length jobs.now) × ((x : Job) → put_by (λ y. y.number == number) x jobs.now ≡ slice_set jobs.now i x)) }
+/// The job at that place is there and has the number.
+fn is_at(jobs: &[Job], i: usize, number: u32) -> bool
+    ensures yes { OnTrue result ((i < length jobs.now) × ((d : Job) → (slice_index_or jobs.now i d).number ≡ number)) }
+    ensures no { OnFalse result ((d : Job) → i < length jobs.now → (slice_index_or jobs.now i d).number ≢ number) }
+{
+    i < jobs.len() && jobs[i].number == number
+}
+
+/// Where the job of that number stands. It looks at few of them.
+pub(crate) fn place_of(jobs: &[Job], number: u32) -> Option<usize>
+    requires { AreRising jobs.now }
+    ensures within { IfSome result (λ i. i < length jobs.now) }
+    ensures some { IfSome result (λ i. (x : Job) → put_by (λ y. y.number == number) x jobs.now ≡ slice_set jobs.now i x) }
     ensures none { IfNone result ((x : Job) → put_by (λ y. y.number == number) x jobs.now ≡ jobs.now ++ x ∷ []) }
+    ensures there { IfSome result (λ i. (d : Job) → numbered number jobs.now ≡ slice_index_or jobs.now i d ∷ []) }
+    ensures nowhere { IfNone result (numbered number jobs.now ≡ []) }
 {
-    for (i, y) in jobs.iter().enumerate() {
-        if y.number == number {
-            return Some(i);
-        }
+    let i = smaller_than(jobs, number);
+    if is_at(jobs, i, number) {
+        Some(i)
+    } else {
+        None
     }
-    None
 }
 
 fn put_job(jobs: &mut Vec<Job>, job: Job)
     requires room { vec_len jobs.old < vec_capacity jobs.old }
+    requires rising { AreRising jobs.old.items }
     ensures put { jobs.new.items ≡ put_row jobs.old.items job }
     ensures len { vec_len jobs.new ≤ vec_len jobs.old + 1 }
     ensures capacity { vec_capacity jobs.new ≡ vec_capacity jobs.old }
@@ -63,33 +82,13 @@ fn put_job(jobs: &mut Vec<Job>, job: Job)
     }
 }
 
-fn put_free_row(free: &mut Vec<FreeRow>, row: FreeRow)
-    requires room { vec_len free.old < vec_capacity free.old }
-    ensures put { free.new.items ≡ put_account free.old.items row }
-    ensures len { vec_len free.new ≤ vec_len free.old + 1 }
-    ensures capacity { vec_capacity free.new ≡ vec_capacity free.old }
-{
-    match account_place(free.as_slice(), row.account.as_str()) {
-        Some(i) => free[i] = row,
-        None => free.push_reserved(row),
-    }
-}
-
 fn put_jobs(jobs: &mut Vec<Job>, changed: Vec<Job>)
     requires room { vec_len jobs.old + length changed.items ≤ vec_capacity jobs.old }
+    requires rising { AreRising (put_rows jobs.old.items changed.items) }
     ensures { jobs.new.items ≡ put_rows jobs.old.items changed.items }
 {
     for job in changed {
         put_job(jobs, job);
-    }
-}
-
-fn put_free_rows(free: &mut Vec<FreeRow>, changed: Vec<FreeRow>)
-    requires room { vec_len free.old + length changed.items ≤ vec_capacity free.old }
-    ensures { free.new.items ≡ put_accounts free.old.items changed.items }
-{
-    for row in changed {
-        put_free_row(free, row);
     }
 }
 
@@ -102,21 +101,15 @@ fn put_document(documents: &mut Vec<KeptDocument>, d: Option<KeptDocument>)
     }
 }
 
-fn put_grants(grants: &mut Vec<GrantRow>, new: Vec<GrantRow>)
-    requires room { vec_len grants.old + length new.items ≤ vec_capacity grants.old }
-    ensures { grants.new.items ≡ grants.old.items ++ new.items }
+fn put_report(reports: &mut Reports, report: Option<KeptReport>)
+    requires room { 0 < spare reports.old }
+    ensures { reports_map reports.new.entries ≡ with_report (reports_map reports.old.entries) report }
 {
-    for row in new {
-        grants.push_reserved(row);
-    }
-}
-
-fn put_report(reports: &mut Vec<KeptReport>, report: Option<KeptReport>)
-    requires room { vec_len reports.old < vec_capacity reports.old }
-    ensures { reports.new.items ≡ with_kept_report reports.old.items report }
-{
-    if let Some(report) = report {
-        reports.push_reserved(report);
+    if let Some(k) = report {
+        match reports.insert((k.report.job, k.report.seq), k) {
+            Ok(_) => {}
+            Err(_) => unreachable!(),
+        }
     }
 }
 
@@ -142,21 +135,30 @@ pub(crate) fn kept_document(
     }
 }
 
+/// Makes room for a report.
+fn reserve_report(reports: &mut Reports) -> Result<(), AllocError>
+    ensures same { reports_map reports.new.entries ≡ reports_map reports.old.entries }
+    ensures room { OnOk result (1 ≤ spare reports.new) }
+{
+    reports.reserve(1)?;
+    Ok(())
+}
+
 /// Makes room for all that a change brings, so that writing it needs no memory.
 pub(crate) fn reserve(
     l: &mut Lists,
     jobs: usize,
-    free: usize,
+    accounts: usize,
     grants: usize,
 ) -> Result<(), AllocError>
     ensures same { HaveSameItems l.old l.new }
-    ensures room { OnOk result (HasRoom l.new jobs free grants) }
+    ensures room { OnOk result (HasRoom l.new jobs accounts grants) }
 {
     l.jobs.reserve(jobs)?;
-    l.free.reserve(free)?;
-    l.grants.reserve(grants)?;
     l.documents.reserve(1)?;
-    l.reports.reserve(1)?;
+    reserve_accounts(&mut l.accounts, accounts)?;
+    reserve_grants(&mut l.grants, grants)?;
+    reserve_report(&mut l.reports)?;
     Ok(())
 }
 
@@ -164,16 +166,19 @@ pub(crate) fn reserve(
 pub(crate) fn write(l: &mut Lists, c: Change<'_>, document: Option<KeptDocument>)
     requires room { HasRoom l.old (length (change_of c).jobs) (length (change_of c).free) (length (change_of c).grants) }
     requires tidy { IsTidy l.old.jobs.items l.old.documents.items }
+    requires rising { AreRising (put_rows l.old.jobs.items (change_of c).jobs) }
     requires document { document ≡ option_map kept_of (change_of c).document }
     requires there { IfSome document (λ d. IsSome (job_at d.job (put_rows l.old.jobs.items (change_of c).jobs))) }
+    requires accounts { HaveAccounts (fold put_free (free_map l.old.accounts.entries) (change_of c).free) (change_of c).grants }
+    requires most { (a : List ℕ) → total_of l.old.accounts.entries a + pages_to a (change_of c).grants < 2 ^ 32 }
     ensures made { world_of l.new ≡ made_on (change_of c.entry) (world_of l.old) }
     ensures tidy { IsTidy l.new.jobs.items l.new.documents.items }
-    ensures grants { l.new.grants.items ≡ l.old.grants.items ++ (change_of c.entry).grants }
+    ensures totals { (a : List ℕ) → total_of l.new.accounts.entries a ≡ total_of l.old.accounts.entries a + pages_to a (change_of c.entry).grants }
 {
     put_document(&mut l.documents, document);
     put_jobs(&mut l.jobs, c.jobs.into_jobs());
-    put_free_rows(&mut l.free, c.free.into_rows());
-    put_grants(&mut l.grants, c.grants.into_rows());
+    put_free_rows(&mut l.accounts, c.free.into_rows());
+    put_grants(&mut l.grants, &mut l.accounts, c.grants.into_rows());
     put_report(&mut l.reports, c.report);
     l.next = c.next.unwrap_or(l.next);
 }

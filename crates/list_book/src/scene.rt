@@ -1,36 +1,37 @@
 //! What an event needs of the plain book.
-ghost use Rattle.std.specs.Prelude.{ℕ, List, [], ◌≡◌, ◌≤◌, map, ◌==◌, IfOk, Some, count_by, filter, bytes_eq, ◌&&◌, if◌then◌else◌};
+ghost use Rattle.std.specs.Prelude.{ℕ, [], ◌≡◌, ◌==◌, IfOk, count_by, filter, bytes_eq, ◌&&◌};
 ghost use Rattle.std.specs.BTreeSet.{contains};
-ghost use Rattle.std.specs.FinMap.{empty, get};
-ghost use Rattle.queue_core.specs.Grants.{pages_to};
+ghost use Rattle.std.specs.FinMap.{get};
 ghost use Rattle.std.specs.List.{list_any};
 ghost use Rattle.std.specs.Ordering.{nat_cmp};
 ghost use Rattle.queue_core.specs.Event.{ask, tell, grant, event_of, call_of};
 ghost use Rattle.queue_core.specs.Job.{is_live, is_running, is_stopped};
+ghost use Rattle.queue_core.specs.Order.{AreRising};
 ghost use Rattle.queue_core.specs.Visible.{is_among, visible};
-ghost use Rattle.queue_core.specs.World.{AreNew, cut, found_row, owner_row, queue_counts, is_one_of, numbered, jobs_for, live_for, counts_for};
-ghost use Rattle.list_book.specs.Lists.{free_map, grants_map, known_in, reports_map, world_of};
+ghost use Rattle.queue_core.specs.World.{cut, owner_row, queue_counts, is_one_of, numbered, jobs_for, live_for, counts_for};
+ghost use Rattle.list_book.specs.Lists.{AreTotals, reports_map, world_of};
+ghost use Rattle.list_book.specs.Tables.{free_map};
 
-use crate::lists::{Lists, account_place};
+use crate::accounts::{Accounts, free_rows_of};
+use crate::grants::known_rows;
+use crate::lists::{Lists, Reports, place_of};
 use crate::shown::{cut_at, ordered};
 use queue_core::event::{
-    Call, Event, FreeList, FreeRow, GrantRow, KeptReport, KnownGrant, KnownList, QueueCounts,
-    Report, Scene, WhichJobs,
+    Call, Event, FreeList, FreeRow, GrantRow, KeptReport, KnownList, QueueCounts, Report, Scene,
+    WhichJobs,
 };
 use queue_core::job::{Job, JobList, Phase, is_live_job};
-use queue_core::text::Text;
-use queue_core::{new_grants_add_up, number_set};
+use queue_core::number_set;
 use std::alloc::{AllocError, Global};
 use std::collections::BTreeSet;
 
 fn with_number(alloc: Global, jobs: &[Job], number: u32) -> Result<Vec<Job>, AllocError>
+    requires { AreRising jobs.now }
     ensures { IfOk result (λ v. v.items ≡ numbered number jobs.now) }
 {
     let mut named = Vec::new(alloc);
-    for job in jobs {
-        if job.number == number {
-            named.push(job.try_clone()?)?;
-        }
+    if let Some(i) = place_of(jobs, number) {
+        named.push(jobs[i].try_clone()?)?;
     }
     Ok(named)
 }
@@ -111,6 +112,7 @@ fn concerned(
     caller: &str,
     call: &Call<'_>,
 ) -> Result<Vec<Job>, AllocError>
+    requires { AreRising jobs.now }
     ensures { IfOk result (λ v. v.items ≡ jobs_for caller.now (call_of call.now) jobs.now) }
 {
     match call {
@@ -158,21 +160,6 @@ fn live_for_call(jobs: &[Job], caller: &str, call: &Call<'_>) -> usize
         }
         _ => 0,
     }
-}
-
-/// The account with its free pages, where it is there.
-fn free_rows_of(alloc: Global, free: &[FreeRow], account: &str) -> Result<Vec<FreeRow>, AllocError>
-    ensures { IfOk result (λ v. v.items ≡ found_row account.now (get (free_map free.now) account.now)) }
-{
-    let mut rows = Vec::new(alloc);
-    if let Some(i) = account_place(free, account) {
-        let account = Text::copy_of(alloc, account)?;
-        rows.push(FreeRow {
-            account,
-            free: free[i].free,
-        })?;
-    }
-    Ok(rows)
 }
 
 fn is_running_job(j: &Job) -> bool
@@ -241,11 +228,12 @@ fn scene_of_call(
     caller: &str,
     call: &Call<'_>,
 ) -> Result<Scene, AllocError>
+    requires { AreRising l.now.jobs.items }
     ensures { IfOk result (λ s. s ≡ cut (world_of l.now) (ask caller.now (call_of call.now))) }
 {
     let settings = l.settings.try_clone()?;
     let jobs = concerned(alloc, l.jobs.as_slice(), caller, call)?;
-    let free = free_rows_of(alloc, l.free.as_slice(), caller)?;
+    let free = free_rows_of(alloc, &l.accounts, caller)?;
     Ok(Scene {
         settings,
         jobs: JobList::from_jobs(jobs),
@@ -259,126 +247,49 @@ fn scene_of_call(
 }
 
 /// The account of the first job's owner.
-fn owner_rows(alloc: Global, free: &[FreeRow], jobs: &[Job]) -> Result<Vec<FreeRow>, AllocError>
-    ensures { IfOk result (λ v. v.items ≡ owner_row (free_map free.now) jobs.now) }
+fn owner_rows(alloc: Global, accounts: &Accounts, jobs: &[Job]) -> Result<Vec<FreeRow>, AllocError>
+    ensures { IfOk result (λ v. v.items ≡ owner_row (free_map accounts.now.entries) jobs.now) }
 {
     match jobs {
         [] => Ok(Vec::new(alloc)),
-        [job, ..] => free_rows_of(alloc, free, job.owner.as_str()),
-    }
-}
-
-/// This report, where it is of the job under the sequence number, and else the one before.
-fn or_report(before: Option<KeptReport>, k: &KeptReport, job: u32, seq: u32) -> Option<KeptReport>
-    ensures { result ≡ (if job == k.now.report.job && seq == k.now.report.seq then Some k.now else before) }
-{
-    if job == k.report.job && seq == k.report.seq {
-        Some(*k)
-    } else {
-        before
+        [job, ..] => free_rows_of(alloc, accounts, job.owner.as_str()),
     }
 }
 
 /// The report that is kept of the job under the sequence number.
-fn kept_report(reports: &[KeptReport], job: u32, seq: u32) -> Option<KeptReport>
-    ensures { result ≡ get (reports_map reports.now) (job, seq) }
+fn kept_report(reports: &Reports, job: u32, seq: u32) -> Option<KeptReport>
+    ensures { result ≡ get (reports_map reports.now.entries) (job, seq) }
 {
-    let mut kept = None;
-    for k in reports {
-        kept = or_report(kept, k, job, seq);
-    }
-    kept
+    reports.get(&(job, seq)).copied()
 }
 
 /// The rows that a report needs.
 fn scene_of_report(alloc: Global, l: &Lists, r: &Report) -> Result<Scene, AllocError>
+    requires { AreRising l.now.jobs.items }
     ensures { IfOk result (λ s. s ≡ cut (world_of l.now) (tell r.now)) }
 {
     let settings = l.settings.try_clone()?;
     let jobs = with_number(alloc, l.jobs.as_slice(), r.job)?;
-    let free = owner_rows(alloc, l.free.as_slice(), jobs.as_slice())?;
+    let free = owner_rows(alloc, &l.accounts, jobs.as_slice())?;
     Ok(Scene {
         settings,
         jobs: JobList::from_jobs(jobs),
         free: FreeList::from_rows(free),
         live: 0,
         counts: no_counts(),
-        report: kept_report(l.reports.as_slice(), r.job, r.seq),
+        report: kept_report(&l.reports, r.job, r.seq),
         known: KnownList::from_known(Vec::new(alloc)),
         next: l.next,
     })
 }
 
-/// The pages of this grant, where it is under the batch and to the account, and else those before.
-fn or_pages(before: Option<u32>, g: &GrantRow, batch: &str, account: &str) -> Option<u32>
-    ensures { result ≡ (if bytes_eq batch.now g.now.batch && bytes_eq account.now g.now.account then Some g.now.pages else before) }
-{
-    if batch == g.batch.as_str() && account == g.account.as_str() {
-        Some(g.pages)
-    } else {
-        before
-    }
-}
-
-/// The pages that are granted under the batch to the account.
-fn pages_under(grants: &[GrantRow], batch: &str, account: &str) -> Option<u32>
-    ensures { result ≡ get (grants_map grants.now) (batch.now, account.now) }
-{
-    let mut pages = None;
-    for g in grants {
-        pages = or_pages(pages, g, batch, account);
-    }
-    pages
-}
-
-/// The pages that are granted to the account in all.
-pub(crate) fn pages_granted(grants: &[GrantRow], account: &str) -> u32
-    requires { pages_to account.now grants.now ≤ 1000000000 }
-    ensures { result ≡ pages_to account.now grants.now }
-{
-    let mut pages = 0;
-    for g in grants {
-        if g.account.as_str() == account {
-            pages += g.pages;
-        }
-    }
-    pages
-}
-
-/// The account's free pages, where it is there.
-pub(crate) fn free_pages(free: &[FreeRow], account: &str) -> Option<i64>
-    ensures { result ≡ get (free_map free.now) account.now }
-{
-    let i = account_place(free, account)?;
-    Some(free[i].free)
-}
-
-/// What is known of each row of an account file.
-fn known_rows(alloc: Global, l: &Lists, rows: &[GrantRow]) -> Result<Vec<KnownGrant>, AllocError>
-    requires { (a : List ℕ) → pages_to a l.now.grants.items ≤ 1000000000 }
-    ensures { IfOk result (λ v. v.items ≡ map (known_in l.now) rows.now) }
-{
-    let mut known = Vec::new(alloc);
-    for row in rows {
-        let account = row.account.as_str();
-        known.push(KnownGrant {
-            pages: pages_under(l.grants.as_slice(), row.batch.as_str(), account),
-            granted: pages_granted(l.grants.as_slice(), account),
-            free: free_pages(l.free.as_slice(), account),
-        })?;
-    }
-    Ok(known)
-}
-
 /// The rows that an account file needs.
 fn scene_of_grants(alloc: Global, l: &Lists, rows: &[GrantRow]) -> Result<Scene, AllocError>
-    requires new { AreNew empty l.now.grants.items }
-    requires most { (a : List ℕ) → pages_to a l.now.grants.items ≤ 1000000000 }
+    requires { AreTotals l.now }
     ensures { IfOk result (λ s. s ≡ cut (world_of l.now) (grant rows.now)) }
 {
-    new_grants_add_up();
     let settings = l.settings.try_clone()?;
-    let known = known_rows(alloc, l, rows)?;
+    let known = known_rows(alloc, &l.grants, &l.accounts, rows)?;
     Ok(Scene {
         settings,
         jobs: JobList::from_jobs(Vec::new(alloc)),
@@ -393,8 +304,8 @@ fn scene_of_grants(alloc: Global, l: &Lists, rows: &[GrantRow]) -> Result<Scene,
 
 /// The rows that an event needs. The one error is want of memory.
 pub(crate) fn scene(alloc: Global, l: &Lists, e: &Event<'_>) -> Result<Scene, AllocError>
-    requires new { AreNew empty l.now.grants.items }
-    requires most { (a : List ℕ) → pages_to a l.now.grants.items ≤ 1000000000 }
+    requires totals { AreTotals l.now }
+    requires rising { AreRising l.now.jobs.items }
     ensures { IfOk result (λ s. s ≡ cut (world_of l.now) (event_of e.now)) }
 {
     match e {

@@ -1,15 +1,15 @@
 //! What the plain book tells an office of an account.
-ghost use Rattle.std.specs.Prelude.{◌≡◌, ◌≤◌, ◌<◌, ◌^◌, ◌&&◌, ◌||◌, IfOk, bytes_eq, filter, nat_lt, option_map, sum_by, if◌then◌else◌};
-ghost use Rattle.queue_core.specs.Grants.{pages_to};
+ghost use Rattle.std.specs.Prelude.{◌≡◌, ◌<◌, ◌^◌, ◌&&◌, ◌||◌, IfOk, bytes_eq, filter, nat_lt, option_map, sum_by, if◌then◌else◌};
 ghost use Rattle.queue_core.specs.Job.{owed};
 ghost use Rattle.std.specs.FinMap.{get};
-ghost use Rattle.list_book.specs.Lists.{free_map, sheet_in};
+ghost use Rattle.list_book.specs.Lists.{sheet_in};
+ghost use Rattle.list_book.specs.Tables.{free_map};
 
+use crate::accounts::{free_pages, pages_granted};
 use crate::lists::Lists;
-use crate::scene::{free_pages, pages_granted};
+use crate::name::Name;
 use queue_core::job::{Job, JobList, is_live_job};
 use queue_core::sheet::AccountSheet;
-use queue_core::text::Text;
 use std::alloc::{AllocError, Global};
 
 /// The pages that are still set aside for a job.
@@ -69,19 +69,20 @@ fn sheet_with(
     alloc: Global,
     l: &Lists,
     account: &str,
+    name: Name,
     free: i64,
 ) -> Result<AccountSheet, AllocError>
-    requires most { pages_to account.now l.now.grants.items ≤ 1000000000 }
+    requires name { name ≡ account.now }
     requires reserved { sum_by (λ j. if bytes_eq j.owner account.now then owed j else 0) l.now.jobs.items < 2 ^ 64 }
     requires printed { sum_by (λ j. if bytes_eq j.owner account.now then j.count else 0) l.now.jobs.items < 2 ^ 64 }
     ensures { IfOk result (λ s. s ≡ sheet_in l.now account.now free) }
 {
     let jobs = l.jobs.as_slice();
     let shown = sheet_jobs(alloc, jobs, account)?;
-    let name = Text::copy_of(alloc, account)?;
+    let granted = pages_granted(&l.accounts, &name);
     Ok(AccountSheet {
-        account: name,
-        granted: u64::from(pages_granted(l.grants.as_slice(), account)),
+        account: name.into_text(),
+        granted: u64::from(granted),
         free,
         reserved: reserved_in(jobs, account),
         printed: printed_in(jobs, account),
@@ -95,14 +96,14 @@ pub(crate) fn sheet(
     l: &Lists,
     account: &str,
 ) -> Result<Option<AccountSheet>, AllocError>
-    requires most { pages_to account.now l.now.grants.items ≤ 1000000000 }
     requires reserved { sum_by (λ j. if bytes_eq j.owner account.now then owed j else 0) l.now.jobs.items < 2 ^ 64 }
     requires printed { sum_by (λ j. if bytes_eq j.owner account.now then j.count else 0) l.now.jobs.items < 2 ^ 64 }
-    ensures { IfOk result (λ s. s ≡ option_map (sheet_in l.now account.now) (get (free_map l.now.free.items) account.now)) }
+    ensures { IfOk result (λ s. s ≡ option_map (sheet_in l.now account.now) (get (free_map l.now.accounts.entries) account.now)) }
 {
-    match free_pages(l.free.as_slice(), account) {
+    let name = Name::copy_of(alloc, account)?;
+    match free_pages(&l.accounts, &name) {
         Some(free) => {
-            let s = sheet_with(alloc, l, account, free)?;
+            let s = sheet_with(alloc, l, account, name, free)?;
             Ok(Some(s))
         }
         None => Ok(None),

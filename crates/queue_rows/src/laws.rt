@@ -1,11 +1,13 @@
 //! What rows tell, as laws that no program calls: each is a contract on an empty body.
-ghost use Rattle.std.specs.Prelude.{◌≡◌, Bool};
+ghost use Rattle.std.specs.Prelude.{◌≡◌, length, map, Bool};
 ghost use Rattle.queue_core.specs.declared.event.Kind.{Kind};
 ghost use Rattle.queue_core.specs.declared.job.Phase.{Phase};
 ghost use Rattle.queue_core.specs.Sound.{IsSound};
 ghost use Rattle.queue_core.specs.World.{World};
 ghost use Rattle.queue_rows.specs.Codes.{phase_number, why_number, kind_number, flag_number};
+ghost use Rattle.queue_rows.specs.Pieces.{length_in};
 ghost use Rattle.queue_rows.specs.Rows.{rows_of, bytes_of};
+ghost use Rattle.queue_rows.specs.Sound.{AreSoundRows};
 
 /// Two sound queues with the same rows, and the same bytes in their pieces, are one: the rows tell all of
 /// a queue.
@@ -18,4 +20,11 @@ pub fn numbers_tell_names()
     ensures phases { (p q : Phase) → phase_number p ≡ phase_number q → why_number p ≡ why_number q → p ≡ q }
     ensures kinds { (k l : Kind) → kind_number k ≡ kind_number l → k ≡ l }
     ensures flags { (a b : Bool) → flag_number a ≡ flag_number b → a ≡ b }
+{}
+
+/// The rows of a sound queue keep each clause over the rows, and the bytes of its pieces have the lengths
+/// that the rows say.
+pub fn sound_queues_have_sound_rows()
+    ensures rows { (w : World) → IsSound w → AreSoundRows (rows_of w) }
+    ensures lengths { (w : World) → map length (bytes_of w) ≡ map length_in (rows_of w).pieces }
 {}

@@ -1,13 +1,23 @@
 //! Streams that fail, text of bytes, and cases that are not answered as they are to be.
 
+mod accounts;
+mod bad_rows;
+mod desk;
+mod device;
+mod files;
+mod great_files;
+mod great_numbers;
 mod job_numbers;
+mod request;
 mod wire_bytes;
 mod words;
 
 use crate::run_cases;
 use replay::{Fault, HexFault, put_hex, read_hex, replay};
+use std::alloc::Global;
 use std::io;
 use std::io::{Read, Write};
+use std::process::Abort;
 use std::test::Fail;
 
 /// Gives some bytes, and then fails.
@@ -54,19 +64,34 @@ fn streams_that_fail(rt: HostRuntime) {
     );
 }
 
+/// The digits stand for these bytes.
+fn assert_read(rt: &impl Abort, alloc: Global, digits: &[u8], bytes: &[u8]) {
+    match read_hex(alloc, digits) {
+        Ok(came) => assert_eq!(rt; came.as_slice(), bytes),
+        Err(_) => panic!(rt; "no digits"),
+    }
+}
+
+#[test]
+fn messages_from_text(rt: HostRuntime) {
+    assert_read(&rt, rt.alloc(), b"00fFA9", &[0, 255, 169]);
+    assert!(rt; matches!(&read_hex(rt.alloc(), b"0"), Err(HexFault::NotOfTheForm)));
+}
+
 #[test]
 fn messages_as_text(rt: HostRuntime) -> Result<(), Fail> {
-    let bytes = read_hex(rt.alloc(), b"00fFA9").ok().ok_or("digits")?;
-    assert_eq!(rt; bytes.as_slice(), [0, 255, 169].as_slice());
     let mut text = Vec::new(rt.alloc());
-    put_hex(&mut text, bytes.as_slice())?;
+    put_hex(&mut text, &[0, 255, 169])?;
     assert_eq!(rt; text.as_slice(), b"00ffa9".as_slice());
+    Ok(())
+}
+
+#[test]
+fn a_long_message_as_text_and_back(rt: HostRuntime) -> Result<(), Fail> {
     let long = vec![in rt.alloc(); 171; 1000]?;
     let mut text = Vec::new(rt.alloc());
     put_hex(&mut text, long.as_slice())?;
-    let back = read_hex(rt.alloc(), text.as_slice()).ok().ok_or("digits")?;
-    assert!(rt; back.as_slice() == long.as_slice());
-    assert!(rt; matches!(&read_hex(rt.alloc(), b"0"), Err(HexFault::NotOfTheForm)));
+    assert_read(&rt, rt.alloc(), text.as_slice(), long.as_slice());
     Ok(())
 }
 

@@ -1,5 +1,6 @@
 //! The last job number, which no run of a test could reach by printing.
 
+ghost use Rattle.queue_core.specs.Limits.{IsFair};
 ghost use Rattle.std.specs.Prelude.{◌≤◌};
 
 use queue_core::document::Format;
@@ -12,13 +13,13 @@ use queue_core::settings::Settings;
 use std::alloc::Global;
 use std::test::Fail;
 
-/// The number that a Print-Job gets where this one is next, or the code that refuses it.
-fn number_given(alloc: Global, next: u32) -> Result<Result<u32, u16>, Fail>
+/// A queue without jobs, in which this number is the next one.
+fn empty_scene(alloc: Global, settings: Settings, next: u32) -> Scene
     requires { 1 ≤ next }
+    ensures { IsFair result }
 {
-    let settings = Settings::new(alloc, "ipp://localhost/ipp/print", "release", 20, 0)?;
     let _within_limits = settings.estimate();
-    let scene = Scene {
+    Scene {
         settings,
         jobs: JobList::from_jobs(Vec::new(alloc)),
         free: FreeList::from_rows(Vec::new(alloc)),
@@ -31,7 +32,13 @@ fn number_given(alloc: Global, next: u32) -> Result<Result<u32, u16>, Fail>
         report: None,
         known: KnownList::from_known(Vec::new(alloc)),
         next,
-    };
+    }
+}
+
+/// The reply to a Print-Job of alice.
+fn reply_to_print_job(alloc: Global, scene: &Scene) -> Result<Reply, Fail>
+    requires { IsFair scene.now }
+{
     let call = Call::PrintJob {
         job: NewJob {
             name: "untitled",
@@ -45,8 +52,17 @@ fn number_given(alloc: Global, next: u32) -> Result<Result<u32, u16>, Fail>
         caller: "alice",
         call,
     };
-    let Decision { reply, change: _ } = decide(alloc, &scene, 1, &event)?;
-    match reply {
+    let Decision { reply, change: _ } = decide(alloc, scene, 1, &event)?;
+    Ok(reply)
+}
+
+/// The number that a Print-Job gets where this one is next, or the code that refuses it.
+fn number_given(alloc: Global, next: u32) -> Result<Result<u32, u16>, Fail>
+    requires { 1 ≤ next }
+{
+    let settings = Settings::new(alloc, "ipp://localhost/ipp/print", "release", 20, 0)?;
+    let scene = empty_scene(alloc, settings, next);
+    match reply_to_print_job(alloc, &scene)? {
         Reply::Jobs(jobs) => Ok(Ok(jobs.as_slice().first().ok_or("a job")?.number)),
         Reply::Refused(code) => Ok(Err(code)),
         _ => Ok(Err(0)),

@@ -53,32 +53,40 @@ fn assert_group(rt: &impl Abort, group: &GroupView<'_>, rows: &[Row]) {
     }
 }
 
+/// The head of the smallest Print-Job.
+const PRINT_JOB_HEAD: Head = Head {
+    major: 1,
+    minor: 1,
+    code: 2,
+    request_id: 1,
+};
+
+/// Its attributes.
+const PRINT_JOB_ROWS: &[Row] = &[
+    (0x47, b"attributes-charset", b"utf-8"),
+    (0x48, b"attributes-natural-language", b"en"),
+    (0x45, b"printer-uri", b"ipp://localhost/ipp/print"),
+    (0x42, b"requesting-user-name", b"alice"),
+];
+
 /// The view is that of the smallest Print-Job.
 fn assert_print_job(rt: &impl Abort, view: &View<'_>) {
-    let wanted = Head {
-        major: 1,
-        minor: 1,
-        code: 2,
-        request_id: 1,
-    };
-    assert_eq!(rt; view.head, wanted);
-    assert_eq!(rt; head(PRINT_JOB), Some(wanted));
+    assert_eq!(rt; view.head, PRINT_JOB_HEAD);
     assert_eq!(rt; view.payload, b"hi".as_slice());
     assert_eq!(rt; view.groups.len(), 1);
-    let rows: [Row; 4] = [
-        (0x47, b"attributes-charset", b"utf-8"),
-        (0x48, b"attributes-natural-language", b"en"),
-        (0x45, b"printer-uri", b"ipp://localhost/ipp/print"),
-        (0x42, b"requesting-user-name", b"alice"),
-    ];
     for group in &view.groups {
-        assert_group(rt, group, &rows);
+        assert_group(rt, group, PRINT_JOB_ROWS);
     }
 }
 
 #[test]
-fn reads_the_smallest_print_job(rt: HostRuntime) {
+fn reads_the_head_of_the_smallest_print_job(rt: HostRuntime) {
     assert_eq!(rt; PRINT_JOB.len(), 145);
+    assert_eq!(rt; head(PRINT_JOB), Some(PRINT_JOB_HEAD));
+}
+
+#[test]
+fn reads_the_smallest_print_job(rt: HostRuntime) {
     match read(rt.alloc(), PRINT_JOB) {
         Ok(view) => assert_print_job(&rt, &view),
         Err(_) => panic!(rt; "not read"),
@@ -142,20 +150,30 @@ fn with_values(alloc: Global, tags: &[u8]) -> Result<Vec<u8>, Fail> {
     Ok(bytes)
 }
 
+/// Behind its first group the view has one of attributes `a` with 16 values.
+fn assert_sixteen(rt: &impl Abort, view: &View<'_>) {
+    assert_eq!(rt; view.groups.len(), 2);
+    for attribute in &view.groups[1].attrs {
+        assert_eq!(rt; attribute.name, b"a".as_slice());
+        assert_eq!(rt; attribute.values.len(), 16);
+    }
+}
+
 #[test]
 fn reads_collections_eight_deep(rt: HostRuntime) -> Result<(), Fail> {
     let eight = with_values(
         rt.alloc(),
         b"\x34\x34\x34\x34\x34\x34\x34\x34\x37\x37\x37\x37\x37\x37\x37\x37",
     )?;
-    let Ok(view) = read(rt.alloc(), &eight) else {
-        panic!(rt; "not read");
-    };
-    assert_eq!(rt; view.groups.len(), 2);
-    for attr in &view.groups[1].attrs {
-        assert_eq!(rt; attr.name, b"a".as_slice());
-        assert_eq!(rt; attr.values.len(), 16);
+    match read(rt.alloc(), &eight) {
+        Ok(view) => assert_sixteen(&rt, &view),
+        Err(_) => panic!(rt; "not read"),
     }
+    Ok(())
+}
+
+#[test]
+fn refuses_collections_nine_deep(rt: HostRuntime) -> Result<(), Fail> {
     let nine = with_values(rt.alloc(), &[0x34; 9])?;
     assert_eq!(rt; malformed_at(rt.alloc(), &nine), Some(184));
     Ok(())
@@ -176,6 +194,23 @@ fn add(message: &mut Message, name: &[u8], tag: u8, bytes: &[u8]) -> Result<(), 
     message.attribute(name, &[ValueView { tag, bytes }])
 }
 
+/// Adds the group that each reply begins with.
+fn put_operation_group(reply: &mut Message) -> Result<(), Memory> {
+    reply.group(1)?;
+    add(reply, b"attributes-charset", 0x47, b"utf-8")?;
+    add(reply, b"attributes-natural-language", 0x48, b"en")
+}
+
+/// Adds the group of a new job.
+fn put_job_group(reply: &mut Message) -> Result<(), Memory> {
+    reply.group(2)?;
+    add(reply, b"job-uri", 0x45, b"ipp://localhost/ipp/print/1")?;
+    add(reply, b"job-id", 0x21, &[0, 0, 0, 1])?;
+    add(reply, b"job-state", 0x23, &[0, 0, 0, 4])?;
+    let reason = b"job-hold-until-specified";
+    add(reply, b"job-state-reasons", 0x44, reason)
+}
+
 #[test]
 fn writes_the_reply_to_a_print_job(rt: HostRuntime) -> Result<(), Fail> {
     let head = Head {
@@ -185,19 +220,8 @@ fn writes_the_reply_to_a_print_job(rt: HostRuntime) -> Result<(), Fail> {
         request_id: 1,
     };
     let mut reply = Message::new(rt.alloc(), head);
-    reply.group(1)?;
-    add(&mut reply, b"attributes-charset", 0x47, b"utf-8")?;
-    add(&mut reply, b"attributes-natural-language", 0x48, b"en")?;
-    reply.group(2)?;
-    add(&mut reply, b"job-uri", 0x45, b"ipp://localhost/ipp/print/1")?;
-    add(&mut reply, b"job-id", 0x21, &[0, 0, 0, 1])?;
-    add(&mut reply, b"job-state", 0x23, &[0, 0, 0, 4])?;
-    add(
-        &mut reply,
-        b"job-state-reasons",
-        0x44,
-        b"job-hold-until-specified",
-    )?;
+    put_operation_group(&mut reply)?;
+    put_job_group(&mut reply)?;
     assert_eq!(rt; PRINT_JOB_REPLY.len(), 191);
     assert_eq!(rt; write(&reply)?.as_slice(), PRINT_JOB_REPLY);
     Ok(())

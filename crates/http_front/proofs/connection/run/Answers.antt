@@ -1,12 +1,12 @@
-use Rattle.std.proofs.Common.{◌+◌, ◌∙◌, arith, rules, ap, sym, subst, if◌then◌else◌, ◌^◌}
+use Rattle.std.proofs.Common.{false, ◌+◌, ◌∙◌, arith, rules, ap, sym, subst, if◌then◌else◌, ◌^◌}
 use Rattle.http_wire.specs.Left.{left}
 use Rattle.http_wire.specs.declared.end.End.{End}
 use Rattle.http_front.specs.Connections.{IsServed}
-use Rattle.http_front.proofs.RunLemmas.{ran_none, ran_on, run_settings, served_done, served_ended, stopped_at}
+use Rattle.http_front.proofs.RunLemmas.{worked_none, worked_on, worked_settings, worked_within, ran_none, ran_on, run_settings, served_done, served_ended, stopped_at}
 use Rattle.http_front.proofs.connection.run.Goals as goal
 
 pub turns-init : goal.turns-init
-turns-init g c = record { few = omega arith; acted_few = omega arith; below = omega arith; began = λ h. h; ran = λ h w st set. (w, st, ran_none _ _ _ _) }
+turns-init g c = record { few = omega arith; acted_few = omega arith; below = omega arith; began = λ h. h; ran = λ h w st set. (w, st, ran_none _ _ _ _); worked = λ h w st set. (w, st, worked_none _ _) }
 
 pub turns-preserved : goal.turns-preserved
 turns-preserved g c = record {
@@ -22,6 +22,10 @@ turns-preserved g c = record {
         ran_on c.turns.k c.args.now w r.0 t.0 _ _ _ _ _ _ c.turns.acted c.turns.faults c.from-acted.result c.mark-faults.result c.in-Ok-Answered.acts c.in-Ok-Answered.is_fault c.in-Ok-Answered.closes
             r.2 t.2 (search rules) c.mark-faults.ensures.exact c.if-closes.false,
       );
+  worked = λ h w st set.
+      let r = c.turns.invariant.worked (c.turn.ensures.began h) w st set in
+      let t = rw c.in-Ok-Answered.field-0-is at (c.in-Ok-Answered.ensures.worked h r.0 r.1 (worked_settings c.turns.k c.args.now w r.0 c.turns.acted c.args.s.now r.2 set)) in
+      (t.0, t.1, worked_on c.turns.k c.args.now w r.0 t.0 c.turns.acted _ c.in-Ok-Answered.acts r.2 t.2 (search rules));
 }
 
 pub returns-then-closes-clause-served : goal.returns-then-closes-clause-served
@@ -63,4 +67,34 @@ returns-in-Err-clause-broken g c = λ h w st set.
           (g.W.Write.contents c.args.writer.now) (g.W.Write.contents c.turns.writer) (g.W.Write.contents c.turn.new.writer)
           c.turns.acted c.turns.faults c.from-acted-in-Err.result c.mark-faults-in-Err.result c.in-Err.stopped.acted c.in-Err.stopped.is_fault
           c.turns.invariant.few r.2 t.2 (search rules) c.mark-faults-in-Err.ensures.exact,
+    )
+
+pub returns-then-closes-clause-worked : goal.returns-then-closes-clause-worked
+returns-then-closes-clause-worked g c = λ h w st set.
+    let r = c.turns.invariant.worked (c.turn.ensures.began h) w st set in
+    let t = rw c.in-Ok-Answered.field-0-is at (c.in-Ok-Answered.ensures.worked h r.0 r.1 (worked_settings c.turns.k c.args.now w r.0 c.turns.acted c.args.s.now r.2 set)) in (
+      t.0,
+      t.1,
+      worked_within (c.turns.k + 1) c.args.now w t.0 _ (let f = c.turns.invariant.few in omega (arith, f))
+          (worked_on c.turns.k c.args.now w r.0 t.0 c.turns.acted _ c.in-Ok-Answered.acts r.2 t.2 (search rules)),
+    )
+
+pub returns-in-Ok-Ended-clause-worked : goal.returns-in-Ok-Ended-clause-worked
+returns-in-Ok-Ended-clause-worked g c = λ h w st set.
+    let r = c.turns.invariant.worked (c.turn.ensures.began h) w st set in
+    let t = rw c.in-Ok-Ended.field-0-is at (c.in-Ok-Ended.ensures.worked h r.0 r.1 (worked_settings c.turns.k c.args.now w r.0 c.turns.acted c.args.s.now r.2 set)) in (
+      t.0,
+      t.1,
+      worked_within (c.turns.k + 1) c.args.now w t.0 c.turns.acted (let f = c.turns.invariant.few in omega (arith, f))
+          (worked_on c.turns.k c.args.now w r.0 t.0 c.turns.acted c.turns.acted false r.2 t.2 (omega arith)),
+    )
+
+pub returns-in-Err-clause-worked : goal.returns-in-Err-clause-worked
+returns-in-Err-clause-worked g c = λ h w st set.
+    let r = c.turns.invariant.worked (c.turn.ensures.began h) w st set in
+    let t = c.in-Err.ensures.worked h r.0 r.1 (worked_settings c.turns.k c.args.now w r.0 c.turns.acted c.args.s.now r.2 set) in (
+      t.0,
+      t.1,
+      worked_within (c.turns.k + 1) c.args.now w t.0 _ (let f = c.turns.invariant.few in omega (arith, f))
+          (worked_on c.turns.k c.args.now w r.0 t.0 c.turns.acted _ c.in-Err.stopped.acted r.2 t.2 (search rules)),
     )

@@ -1,6 +1,7 @@
 use Rattle.std.proofs.Common.{◌-◌, ◌^◌, ◌<◌, ◌≤◌, ◌≡◌}
 use Rattle.queue_core.specs.World.{World}
 use Rattle.http_wire.specs.Left.{left}
+use Rattle.http_front.specs.Connections.{Worked}
 use Rattle.http_front.proofs.Runs.{RanOn}
 use Rattle.http_front.proofs.connection.run.Given as goal
 
@@ -13,6 +14,8 @@ invariant-turns g l = record {
   ran : g.B.QueueBook.is_honest l.book → (w : World) → g.B.QueueBook.stands l.initial.book w → l.s ≡ w.settings → (u : World) × g.B.QueueBook.stands l.book u
       × RanOn l.k l.now w u (left l.initial.buffer (g.R.Read.remaining l.initial.reader)) (left l.buffer (g.R.Read.remaining l.reader))
       (g.W.Write.contents l.initial.writer) (g.W.Write.contents l.writer) l.acted l.faults;
+  worked : g.B.QueueBook.is_honest l.book → (w : World) → g.B.QueueBook.stands l.initial.book w → l.s ≡ w.settings → (u : World) × g.B.QueueBook.stands l.book u
+      × Worked l.k l.now w u l.acted;
 }
 
 abbrev pub decreases-turns : goal.decreases-turns

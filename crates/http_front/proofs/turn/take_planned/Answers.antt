@@ -1,7 +1,8 @@
+use Rattle.std.proofs.Common.{refl}
 use Rattle.http_wire.specs.Left.{left}
 use Rattle.http_wire.specs.declared.end.Finish.TheVariants.{Refused}
 use Rattle.http_wire.specs.declared.end.Refusal.TheVariants.{Unavailable}
-use Rattle.http_front.proofs.TurnedLemmas.{planned_unsaid, planned_unread, planned_closed, planned_answered, planned_broken, end_in_body, end_unavailable, end_declined, body_as, said_on, same_world}
+use Rattle.http_front.proofs.TurnedLemmas.{planned_unsaid, planned_unread, planned_closed, planned_answered, planned_broken, end_in_body, end_unavailable, end_declined, body_as, said_on, same_world, closed_idle, plan_idle, plan_works}
 use Rattle.http_front.proofs.turn.take_planned.Goals as goal
 
 pub returns-in-Err-clause-planned : goal.returns-in-Err-clause-planned
@@ -72,4 +73,44 @@ returns-clause-planned g c = λ honest w st set.
       planned_broken c.args.now c.args.k w t.0 c.args.plan r s (g.W.Write.contents c.args.writer.now) (g.W.Write.contents c.send_continue.new.writer) (g.W.Write.contents c.reply.new.writer)
           f.0 c.as_slice.result.now t.2.0 c.in-Err-reply.stopped c.closes_after-closes.result c.in-Ok.ensures.ok
           (body_as c.args.plan.framing f.0 c.in-Ok-Whole.content.items c.as_slice.result.now f.1 c.as_slice.ensures.value) f.2 t.2.1 t.2.2 t.2.3 c.closes_after-closes.ensures,
+    )
+
+pub returns-in-Err-clause-worked : goal.returns-in-Err-clause-worked
+returns-in-Err-clause-worked g c = λ honest w st set. (w, st, plan_idle c.args.now c.args.k w w c.args.plan _ refl c.stopped_by.ensures.acted)
+
+pub returns-in-Ok-Ended-clause-worked : goal.returns-in-Ok-Ended-clause-worked
+returns-in-Ok-Ended-clause-worked g c = λ honest w st set. (w, st, plan_idle c.args.now c.args.k w w c.args.plan _ refl (closed_idle _ _ _ c.close_with.result c.close_with.ensures))
+
+pub returns-in-Err-Read-clause-worked : goal.returns-in-Err-Read-clause-worked
+returns-in-Err-Read-clause-worked g c = λ honest w st set. (w, st, plan_idle c.args.now c.args.k w w c.args.plan _ refl c.stopped_by-in-Err-Read.ensures.acted)
+
+pub returns-in-Err-Memory-clause-worked : goal.returns-in-Err-Memory-clause-worked
+returns-in-Err-Memory-clause-worked g c = λ honest w st set. (w, st, plan_idle c.args.now c.args.k w w c.args.plan _ refl (closed_idle _ _ _ c.close_with-in-Err-Memory.result c.close_with-in-Err-Memory.ensures))
+
+pub returns-in-Ok-Answered-clause-worked : goal.returns-in-Ok-Answered-clause-worked
+returns-in-Ok-Answered-clause-worked g c = λ honest w st set.
+    let f = rw c.in-Ok-Whole.field-0-is at c.in-Ok-Whole.ensures.taken in
+    let t = rw c.in-Ok-Answered.field-0-is at (c.in-Ok-Answered.ensures.replied honest w st set) in (
+      t.0,
+      t.1,
+      plan_works c.args.now c.args.k w t.0 c.args.plan f.0 c.as_slice.result.now t.2.0 c.acts_on_target.result c.in-Ok-Answered.is_fault c.closes_after-closes.result
+          (body_as c.args.plan.framing f.0 c.in-Ok-Whole.content.items c.as_slice.result.now f.1 c.as_slice.ensures.value) t.2.1 c.acts_on_target.ensures c.closes_after-closes.ensures,
+    )
+
+pub returns-in-Ok-Declined-clause-worked : goal.returns-in-Ok-Declined-clause-worked
+returns-in-Ok-Declined-clause-worked g c = λ honest w st set.
+    let t = rw c.in-Ok-Declined.field-0-is at (c.in-Ok-Declined.ensures.replied honest w st set) in (
+      t.0,
+      t.1,
+      plan_idle c.args.now c.args.k w t.0 c.args.plan _ t.2.2 (closed_idle _ _ _ c.close_with-in-Ok-Declined.result c.close_with-in-Ok-Declined.ensures),
+    )
+
+pub returns-clause-worked : goal.returns-clause-worked
+returns-clause-worked g c = λ honest w st set.
+    let f = rw c.in-Ok-Whole.field-0-is at c.in-Ok-Whole.ensures.taken in
+    let t = c.in-Err-reply.ensures.replied honest w st set in (
+      t.0,
+      t.1,
+      plan_works c.args.now c.args.k w t.0 c.args.plan f.0 c.as_slice.result.now t.2.0 c.in-Err-reply.stopped.acted c.in-Err-reply.stopped.is_fault c.closes_after-closes.result
+          (body_as c.args.plan.framing f.0 c.in-Ok-Whole.content.items c.as_slice.result.now f.1 c.as_slice.ensures.value) t.2.1 t.2.3 c.closes_after-closes.ensures,
     )

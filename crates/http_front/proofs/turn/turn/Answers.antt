@@ -1,7 +1,7 @@
 use Rattle.http_wire.specs.Left.{left}
 use Rattle.http_wire.specs.declared.end.Finish.TheVariants.{Refused}
 use Rattle.http_wire.specs.declared.end.Refusal.TheVariants.{Unavailable}
-use Rattle.http_front.proofs.TurnedLemmas.{lifted, turned_closed, turned_unread, end_no_head, end_checked, end_unserved}
+use Rattle.http_front.proofs.TurnedLemmas.{lifted, lifted_works, closed_idle, idle, turned_closed, turned_unread, end_no_head, end_checked, end_unserved}
 use Rattle.http_front.proofs.turn.turn.Goals as goal
 
 pub returns-in_default-clause-turned : goal.returns-in_default-clause-turned
@@ -40,3 +40,27 @@ returns-in-Ok-Failed-clause-turned g c = λ honest w st set.
 pub returns-in-Err-clause-turned : goal.returns-in-Err-clause-turned
 returns-in-Err-clause-turned g c = λ honest w st set.
     (w, st, turned_unread c.args.now c.args.k w (left c.args.buffer.now (g.R.Read.remaining c.args.reader.now)) (left c.take_head.new.buffer (g.R.Read.remaining c.take_head.new.reader)) (g.W.Write.contents c.args.writer.now) c.stopped_by.result c.stopped_by.ensures.acted c.stopped_by.ensures.is_fault)
+
+pub returns-in_default-clause-worked : goal.returns-in_default-clause-worked
+returns-in_default-clause-worked g c = λ honest w st set.
+    (w, st, idle c.args.now w _ (closed_idle _ _ _ c.close_with.result c.close_with.ensures))
+
+pub returns-in-Ok-Planned-clause-worked : goal.returns-in-Ok-Planned-clause-worked
+returns-in-Ok-Planned-clause-worked g c = λ honest w st set.
+    let p = c.take_planned.ensures.worked honest w st set in (
+      p.0,
+      p.1,
+      lifted_works c.args.now c.args.k w p.0 c.in-Ok-Planned.plan (left c.args.buffer.now (g.R.Read.remaining c.args.reader.now)) (left c.take_head.new.buffer (g.R.Read.remaining c.take_head.new.reader)) _
+          (rw c.in-Ok-Planned.field-0-is at c.in-Ok-Planned.ensures.headed) p.2,
+    )
+
+pub returns-in-Ok-Ended-clause-worked : goal.returns-in-Ok-Ended-clause-worked
+returns-in-Ok-Ended-clause-worked g c = λ honest w st set.
+    (w, st, idle c.args.now w _ (closed_idle _ _ _ c.close_with-in-Ok-Ended.result c.close_with-in-Ok-Ended.ensures))
+
+pub returns-in-Ok-Failed-clause-worked : goal.returns-in-Ok-Failed-clause-worked
+returns-in-Ok-Failed-clause-worked g c = λ honest w st set.
+    (w, st, idle c.args.now w _ (closed_idle _ _ _ c.close_with-in-Ok-Failed.result c.close_with-in-Ok-Failed.ensures))
+
+pub returns-in-Err-clause-worked : goal.returns-in-Err-clause-worked
+returns-in-Err-clause-worked g c = λ honest w st set. (w, st, idle c.args.now w _ c.stopped_by.ensures.acted)

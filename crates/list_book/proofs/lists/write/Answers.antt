@@ -1,7 +1,9 @@
-use Rattle.std.proofs.Common.{◌≡◌, ◌++◌, ap, sym, ◌∙◌, refl}
+use Rattle.std.proofs.Common.{◌≡◌, ap, sym, ◌∙◌, refl}
+use Rattle.std.specs.Prelude.{fold}
 use Rattle.queue_core.specs.Event.{change_of}
-use Rattle.list_book.specs.Lists.{put_rows, put_accounts, with_kept, documents_of}
-use Rattle.queue_core.specs.World.{job_at}
+use Rattle.queue_core.specs.World.{job_at, put_free, put_grant}
+use Rattle.list_book.specs.Lists.{put_rows, with_kept, documents_of}
+use Rattle.list_book.specs.Tables.{free_map, grants_map}
 use Rattle.list_book.proofs.Put.{made_is, tidy_kept, with_rows_of}
 use Rattle.list_book.proofs.lists.write.Goals as goal
 use Rattle.list_book.proofs.lists.write.Goals.{After-l-1}
@@ -9,21 +11,21 @@ use Rattle.list_book.proofs.lists.write.Goals.{After-l-1}
 jobs : (c : After-l-1) → c.put_jobs.new.jobs.items ≡ put_rows c.args.l.now.jobs.items (change_of c.args.c).jobs
 jobs c = c.put_jobs.ensures ∙ ap (put_rows c.args.l.now.jobs.items) c.into_jobs.ensures
 
+free : (c : After-l-1) → free_map c.put_free_rows.new.accounts.entries ≡ fold put_free (free_map c.args.l.now.accounts.entries) (change_of c.args.c).free
+free c = c.put_free_rows.ensures.free ∙ ap (fold put_free (free_map c.args.l.now.accounts.entries)) c.into_rows.ensures
+
 pub returns-clause-made : goal.returns-clause-made
 returns-clause-made c =
-    made_is c.args.l.now (record { settings = c.args.l.now.settings; jobs = c.put_jobs.new.jobs; documents = c.put_document.new.documents; next = c.unwrap_or-l.result; free = c.put_free_rows.new.free; grants = c.put_grants.new.grants; reports = c.put_report.new.reports }) (change_of c.args.c) c.requires.tidy
+    made_is c.args.l.now (record { settings = c.args.l.now.settings; jobs = c.put_jobs.new.jobs; documents = c.put_document.new.documents; next = c.unwrap_or-l.result; accounts = c.put_grants.new.accounts; grants = c.put_grants.new.grants; reports = c.put_report.new.reports }) (change_of c.args.c) c.requires.tidy
     refl
     (jobs c)
     (c.put_document.ensures ∙ ap (with_kept c.args.l.now.documents.items) c.requires.document)
-    (c.put_free_rows.ensures ∙ ap (put_accounts c.args.l.now.free.items) c.into_rows.ensures)
+    (c.put_grants.ensures.free ∙ free c)
     (cc)
-    (c.put_grants.ensures ∙ ap (λ rows. c.args.l.now.grants.items ++ rows) c.into_rows-2.ensures)
+    (c.put_grants.ensures.grants ∙ ap (fold put_grant (grants_map c.args.l.now.grants.entries)) c.into_rows-2.ensures)
     c.put_report.ensures
 
 pub returns-clause-tidy : goal.returns-clause-tidy
 returns-clause-tidy c = λ n e.
     ap (documents_of n) c.put_document.ensures
     ∙ tidy_kept _ _ c.args.document (with_rows_of c.args.l.now.documents.items (change_of c.args.c).jobs c.args.l.now.jobs.items c.requires.tidy).1 c.requires.there n (sym (ap (job_at n) (jobs c)) ∙ e)
-
-pub returns-clause-grants : goal.returns-clause-grants
-returns-clause-grants c = c.put_grants.ensures ∙ ap (λ rows. c.args.l.now.grants.items ++ rows) c.into_rows-2.ensures

@@ -1,8 +1,6 @@
 use Rattle.std.proofs.Common.{ap, ◌∙◌, refl}
-use Rattle.std.specs.FinMap.{get}
 use Rattle.queue_core.specs.Event.{call_of}
-use Rattle.queue_core.specs.World.{jobs_for, live_for, counts_for, found_row}
-use Rattle.list_book.specs.Lists.{free_map}
+use Rattle.queue_core.specs.World.{jobs_for, live_for, counts_for}
 use Rattle.list_book.proofs.Put.{scene_is}
 use Rattle.list_book.proofs.scene.scene_of_call.Goals as goal
 
@@ -11,9 +9,9 @@ returns c =
     scene_is c.args.l.now c.args.caller.now (call_of c.args.call.now) _
     c.in_ok-settings.ensures
     (c.from_jobs.ensures ∙ c.in_ok-jobs.ensures ∙ ap (jobs_for c.args.caller.now (call_of c.args.call.now)) c.as_slice.ensures.value)
-    (c.from_rows.ensures ∙ c.in_ok-free.ensures ∙ ap (λ rs. found_row c.args.caller.now (get (free_map rs) c.args.caller.now)) c.as_slice-2.ensures.value)
-    (c.live_for_call.ensures ∙ ap (live_for c.args.caller.now (call_of c.args.call.now)) c.as_slice-3.ensures.value)
-    (c.counts.ensures ∙ ap (counts_for (call_of c.args.call.now)) c.as_slice-4.ensures.value)
+    (c.from_rows.ensures ∙ c.in_ok-free.ensures)
+    (c.live_for_call.ensures ∙ ap (live_for c.args.caller.now (call_of c.args.call.now)) c.as_slice-2.ensures.value)
+    (c.counts.ensures ∙ ap (counts_for (call_of c.args.call.now)) c.as_slice-3.ensures.value)
     refl
     (c.from_known.ensures ∙ c.new.ensures.items)
     refl

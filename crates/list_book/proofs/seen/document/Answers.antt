@@ -1,6 +1,5 @@
-use Rattle.std.proofs.Common.{◌≡◌, ap, sym, ◌∙◌, cond, true, false, rules}
-use Rattle.std.specs.Prelude.{None, Some, Option}
-use Rattle.queue_core.specs.declared.document.Document.{Document}
+use Rattle.std.proofs.Common.{ap, sym, ◌∙◌, cond}
+use Rattle.std.specs.Prelude.{None}
 use Rattle.queue_core.specs.World.{job_at}
 use Rattle.list_book.specs.Lists.{nth_of}
 use Rattle.list_book.proofs.SeenLemmas.{no_job, fetched}

@@ -1,4 +1,4 @@
-use Rattle.std.proofs.Common.{◌+◌, arith}
+use Rattle.std.proofs.Common.{arith}
 use Rattle.list_book.proofs.SentLemmas.{put_rest, rest_length}
 use Rattle.list_book.proofs.send.send.Goals as goal
 

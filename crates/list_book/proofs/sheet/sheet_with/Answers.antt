@@ -1,8 +1,8 @@
-use Rattle.std.proofs.Common.{◌≡◌, ap, sym, ◌∙◌, rules, cond, List}
+use Rattle.std.proofs.Common.{ap, ◌∙◌, rules, cond, List}
 use Rattle.std.specs.Prelude.{bytes_eq, filter, sum_by, ◌&&◌, ◌||◌, nat_lt}
-use Rattle.queue_core.specs.Grants.{pages_to}
 use Rattle.queue_core.specs.Job.{owed}
 use Rattle.queue_core.specs.declared.job.Job.{Job}
+use Rattle.list_book.specs.Tables.{total_of}
 use Rattle.list_book.proofs.SeenLemmas.{same_sheet}
 use Rattle.list_book.proofs.sheet.sheet_with.Goals as goal
 
@@ -11,8 +11,8 @@ returns c =
     let a = c.args.account.now in
     let jobs = c.as_slice-jobs.ensures.value in
     same_sheet c.args.l.now a c.args.free _
-    c.in_ok-name.ensures
-    (c.from.ensures ∙ c.pages_granted.ensures ∙ ap (pages_to a) c.as_slice.ensures.value)
+    (c.into_text.ensures ∙ c.requires.name)
+    (c.from.ensures ∙ c.pages_granted-granted.ensures ∙ ap (total_of c.args.l.now.accounts.entries) c.requires.name)
     (search rules)
     (c.reserved_in.ensures ∙ ap (sum_by (λ j. cond (bytes_eq j.owner a) (owed j) 0)) jobs)
     (c.printed_in.ensures ∙ ap (sum_by (λ j. cond (bytes_eq j.owner a) j.count 0)) jobs)

@@ -4,8 +4,7 @@ use Rattle.queue_core.specs.Limits.{IsFair}
 use Rattle.queue_core.specs.Machine.{decision}
 use Rattle.queue_core.specs.World.{World, cut}
 use Rattle.list_book.specs.Lists.{world_of}
-use Rattle.std.specs.FinMap.{empty}
-use Rattle.list_book.proofs.SeenLemmas.{most_pages}
+use Rattle.list_book.proofs.ByNumber.{rising_jobs}
 use Rattle.list_book.proofs.book.ListBookQueueBook.decide.Goals as goal
 
 pub decide-requires-clause-fair : goal.decide-requires-clause-fair
@@ -16,5 +15,5 @@ returns-clause-decides c = λ _ w h.
     c.in_ok-d.ensures.decides
     ∙ ap (λ s. decision s c.args.now (event_of c.args.e.now)) (c.in_ok-s.ensures ∙ ap (λ (v : World). cut v (event_of c.args.e.now)) (c.self.view_is ∙ h.0))
 
-pub scene-requires-clause-most : goal.scene-requires-clause-most
-scene-requires-clause-most c = most_pages c.self.inside.lists c.self.invariant.1 (λ a. c.new_grants_add_up.ensures a c.self.inside.lists.grants.items empty c.self.invariant.2)
+pub scene-requires-clause-rising : goal.scene-requires-clause-rising
+scene-requires-clause-rising c = rising_jobs c.self.inside.lists c.self.invariant.1

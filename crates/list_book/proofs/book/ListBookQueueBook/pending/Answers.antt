@@ -1,4 +1,4 @@
-use Rattle.std.proofs.Common.{◌≡◌, ap, sym, ◌∙◌}
+use Rattle.std.proofs.Common.{ap, sym, ◌∙◌}
 use Rattle.std.specs.Prelude.{filter, ◌==◌, List}
 use Rattle.queue_core.specs.Job.{state}
 use Rattle.queue_core.specs.Shown.{pending_in, pending_jobs}

@@ -1,0 +1,14 @@
+//! Connections by the bytes that a client sends and those that it is to get.
+
+mod answers;
+mod bodies;
+mod broken;
+mod cut;
+mod desk;
+mod documents;
+mod ends;
+mod faults;
+mod limits;
+mod messages;
+mod refusals;
+mod streams;

@@ -1,0 +1,103 @@
+-- Typed rows that stand for sound queues: the tables hold one.
+use Rattle.std.proofs.Common.{◌≡◌, ℕ, ℤ, pos, ◌+◌, ◌<◌, ◌≤◌, List, [], ◌∷◌, map, length, All, refl, sym, ap, subst, subst₂, ◌∙◌, arith, Less}
+use Rattle.std.specs.Ordering.{int_cmp}
+use Rattle.std.specs.List.Sorted.{IsPermutation}
+use Rattle.std.proofs.lemmas.List.Elements.{All-cons, All-tail}
+use Rattle.std.proofs.lemmas.Int.{ints}
+use Rattle.sqlite.specs.Effect.{Database}
+use Rattle.sqlite.specs.Order.{Row}
+use Rattle.queue_core.specs.Sound.{Rise}
+use Rattle.queue_core.specs.World.{Entry}
+use Rattle.queue_core.specs.declared.job.Job.{Job}
+use Rattle.queue_rows.specs.Pieces.{length_in}
+use Rattle.queue_rows.specs.Rows.{Tables, HaveWorld, StandForSoundWorlds, rows_of, bytes_of, job_row, meta_row}
+use Rattle.queue_rows.specs.declared.rows.MetaRow.{MetaRow}
+use Rattle.queue_rows.specs.declared.rows.PieceRow.{PieceRow}
+use Rattle.queue_tables.specs.Content.{Content, HasContent, content_of}
+use Rattle.queue_tables.specs.Kept.{AreKeyed}
+use Rattle.queue_tables.specs.Tables.{book_schema}
+use Rattle.queue_tables.specs.Values.{meta_values, meta_view, job_values, job_view, piece_view}
+use Rattle.queue_load.specs.Content.{content_in, piece_rows_in}
+use Rattle.queue_load.specs.Loaded.{IsLong, Piece, row_of, whole_piece}
+use Rattle.queue_load.specs.Queues.{HasQueue}
+use Rattle.queue_load.specs.Store.{AreTables}
+use Rattle.queue_load.proofs.Contents.{content_is}
+use Rattle.queue_load.proofs.KeyLemmas.{Rises, keyed_by}
+
+bytes_in : Piece → List ℕ
+bytes_in p = p.bytes
+
+beside_is : (ps : List Piece) → map whole_piece ps ≡ piece_rows_in (map row_of ps) (map bytes_in ps)
+unfolding bytes_in
+beside_is [] = refl
+beside_is (p ∷ ps) = ap (λ (rs : List Row). whole_piece p ∷ rs) (beside_is ps)
+
+long_is : (ps : List Piece) → All IsLong ps → map length (map bytes_in ps) ≡ map length_in (map row_of ps)
+unfolding bytes_in
+long_is [] all = refl
+long_is (p ∷ ps) all =
+    let first : length p.bytes ≡ p.row.length = all 0 p (omega arith) in
+    let more : map length (map bytes_in ps) ≡ map length_in (map row_of ps) = long_is ps (All-tail IsLong p ps all) in
+    λ i. first i ∷ more i
+
+-- ---- numbers of jobs rise
+
+abbrev number_of : Job → ℤ
+number_of j = pos j.number
+
+less_int : (a b : ℕ) → a < b → int_cmp (pos a) (pos b) ≡ Less
+less_int a b low = grind (arith, ints)
+
+later : (a b : ℕ) (es : List Entry) (next : ℕ) → b ≤ a → Rise a es next → Rise b es next
+later a b [] next low rise = omega (arith, low, rise)
+later a b (e ∷ es) next low rise = (omega (arith, low, rise.0), rise.1)
+
+above : (n : ℕ) (es : List Entry) (next : ℕ) → Rise (n + 1) es next → All (λ j. int_cmp (pos n) (number_of j) ≡ Less) (map job_row es)
+above n [] next rise = λ k d low. absurd (omega (arith, low))
+above n (e ∷ es) next rise =
+    let lower : Rise (n + 1) es next = later (e.row.number + 1) (n + 1) es next (omega (arith, rise.0)) rise.1 in
+    All-cons (λ j. int_cmp (pos n) (number_of j) ≡ Less) (job_row e) (map job_row es) (less_int n e.row.number (omega (arith, rise.0))) (above n es next lower)
+
+numbers_rise : (first : ℕ) (es : List Entry) (next : ℕ) → Rise first es next → Rises number_of (map job_row es)
+numbers_rise first [] next rise = tt
+numbers_rise first (e ∷ es) next rise = (above e.row.number es next rise.1, numbers_rise (e.row.number + 1) es next rise.1)
+
+abbrev one_of : MetaRow → ℤ
+one_of m = pos m.one
+
+-- ---- the whole
+
+module _ (t : Tables) (d : Database) (are : AreTables t d) (keyed : AreKeyed (d.trees 6)) where
+  bytes : List (List ℕ)
+  bytes = map bytes_in are.first.pieces.pieces
+
+  lengths : map length bytes ≡ map length_in t.pieces
+  unfolding bytes
+  lengths = long_is are.first.pieces.pieces are.first.pieces.long ∙ ap (map length_in) (sym are.first.pieces.items_are)
+
+  pieces_are : map whole_piece are.first.pieces.pieces ≡ piece_rows_in t.pieces bytes
+  unfolding bytes
+  pieces_are = beside_is are.first.pieces.pieces ∙ ap (λ (ps : List PieceRow). piece_rows_in ps (map bytes_in are.first.pieces.pieces)) (sym are.first.pieces.items_are)
+
+  holds : (have : HaveWorld t bytes) → HasContent (content_of have.world) d.trees
+  holds have =
+      let w = have.world in
+      let is : content_of w ≡ content_in t bytes = content_is w ∙ subst₂ (λ (u : Tables) (bs : List (List ℕ)). content_in (rows_of w) (bytes_of w) ≡ content_in u bs) have.rows have.bytes refl in
+      let meta_keyed : AreKeyed (d.trees 0) = keyed_by one_of meta_values meta_view (λ m. refl) (λ r. refl) (meta_row w ∷ []) (d.trees 0) ((λ k e low. absurd (omega (arith, low))), tt)
+      (subst (λ (ms : List MetaRow). IsPermutation (map meta_values ms) (map meta_view (d.trees 0))) (sym (ap (λ (u : Tables). u.meta) have.rows)) are.first.meta.same) in
+      let jobs_keyed : AreKeyed (d.trees 1) = keyed_by number_of job_values job_view (λ j. refl) (λ r. refl) (map job_row w.jobs) (d.trees 1) (numbers_rise 1 w.jobs w.next have.sound.numbers)
+      (subst (λ (js : List Job). IsPermutation (map job_values js) (map job_view (d.trees 1))) (sym (ap (λ (u : Tables). u.jobs) have.rows)) are.first.jobs.same) in
+      subst (λ (c : Content). HasContent c d.trees) (sym is) (record {
+        meta = record { same = are.first.meta.same; keyed = λ k. meta_keyed };
+        jobs = record { same = are.first.jobs.same; keyed = λ k. jobs_keyed };
+        documents = record { same = are.first.documents.same; keyed = λ k. absurd k };
+        pieces = record { same = subst (λ (rs : List Row). IsPermutation rs (map piece_view (d.trees 4))) pieces_are are.first.pieces.table.same; keyed = λ k. absurd k };
+        accounts = record { same = are.second.accounts.same; keyed = λ k. keyed };
+        grants = record { same = are.second.grants.same; keyed = λ k. absurd k };
+        reports = record { same = are.second.reports.same; keyed = λ k. absurd k };
+      })
+
+  pub queue_found : d.schema ≡ book_schema → StandForSoundWorlds t → HasQueue t d
+  queue_found schema stand =
+      let have = stand bytes lengths in
+      record { world = have.world; queue = record { sound = have.sound; schema = schema; rows = holds have }; rows = have.rows }

@@ -1,0 +1,16 @@
+pub mod Loading
+pub mod Results
+pub mod Texts
+pub mod Listing
+pub mod Whole
+pub mod Pieces
+pub mod Contents
+pub mod KeyLemmas
+pub mod Columns
+pub mod OrderLemmas
+pub mod Unique
+pub mod Rising
+pub mod Formed
+pub mod Injects
+pub mod Queues
+pub mod Found

@@ -1,0 +1,44 @@
+-- The table of pieces, of whose bytes only the length is kept.
+use Rattle.std.proofs.Common.{◌≡◌, List, [], ◌∷◌, map, length, All, refl, ap, arith}
+use Rattle.std.proofs.lemmas.List.Elements.{All-cons, All-tail}
+use Rattle.sqlite.specs.Order.{Row}
+use Rattle.sqlite.specs.State.{State}
+use Rattle.queue_rows.specs.declared.rows.PieceRow.{PieceRow}
+use Rattle.queue_tables.specs.Tables.{book_schema}
+use Rattle.queue_load.specs.Loaded.{ArePieces, IsLong, Piece, row_of, whole_piece}
+use Rattle.queue_load.specs.Reads.{HasRead, Tell}
+use Rattle.queue_load.specs.Tells.{TellsPiece}
+use Rattle.queue_load.proofs.Texts.{pieces_select, pieces_names, pieces_terms, pieces_order, pieces_is, pieces_plain, pieces_unlisted}
+use Rattle.queue_load.proofs.Whole.{table_read, wide_rows}
+
+-- a piece with its bytes tells of the row
+abbrev TellsWhole : Piece → Row → Type 0
+TellsWhole p r = length r ≡ 4 → r ≡ whole_piece p
+
+pub record AreWhole (items : List PieceRow) (rows : List Row) : Type 0 where
+  pub pieces : List Piece
+  pub items_are : items ≡ map row_of pieces
+  pub long : All IsLong pieces
+  pub told : Tell TellsWhole pieces rows
+
+wholes : (ps : List PieceRow) (rs : List Row) → Tell TellsPiece ps rs → All (λ r. length r ≡ 4) rs → AreWhole ps rs
+wholes [] [] told wide = record { pieces = []; items_are = refl; long = λ i d low. absurd (omega (arith, low)); told = tt }
+wholes [] (r ∷ rs) told wide = absurd told
+wholes (p ∷ ps) [] told wide = absurd told
+wholes (p ∷ ps) (r ∷ rs) told wide =
+    let it = told.0 (wide 0 r (omega arith)) in
+    let more = wholes ps rs told.1 (All-tail (λ r. length r ≡ 4) r rs wide) in
+    let one : Piece = record { row = p; bytes = it.bytes } in
+    record { pieces = one ∷ more.pieces; items_are = ap (λ (qs : List PieceRow). p ∷ qs) more.items_are; long = All-cons IsLong one more.pieces it.long more.long; told = (λ len. it.is, more.told) }
+
+pub pieces_read : (s : State) (items : List PieceRow) → s.now.schema ≡ book_schema → HasRead TellsPiece pieces_select s items → ArePieces items (s.now.trees 4)
+pieces_read s items has h =
+    let wide = wide_rows pieces_select pieces_names 4 pieces_terms pieces_order 3 pieces_is pieces_plain pieces_unlisted (λ db. refl) (λ r. refl) 4 (λ r. refl) s h.rows has h.all in
+    let it = wholes items h.rows h.told wide in
+    record {
+      pieces = it.pieces;
+      items_are = it.items_are;
+      long = it.long;
+      table = table_read pieces_select pieces_names 4 pieces_terms pieces_order 3 pieces_is pieces_plain pieces_unlisted (λ db. refl) (λ r. refl) TellsWhole whole_piece 4 (λ t r told. told) (λ r. refl) (λ a b. refl) s it.pieces has
+          (record { rows = h.rows; all = h.all; told = it.told });
+    }

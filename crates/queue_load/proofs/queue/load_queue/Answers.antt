@@ -1,0 +1,31 @@
+use Rattle.std.proofs.Common.{◌≡◌, IsTrue, false, rules, sym, ap, subst, ◌∙◌}
+use Rattle.sqlite.specs.Effect.{Database}
+use Rattle.sqlite.specs.Held.{state}
+use Rattle.queue_rows.specs.Rows.{tables_in}
+use Rattle.queue_tables.specs.Kept.{AreKeyed}
+use Rattle.queue_load.proofs.Loading.{err_after}
+use Rattle.queue_load.proofs.queue.load_queue.Goals as goal
+
+pub returns-in_err-rows-clause-damaged : goal.returns-in_err-rows-clause-damaged
+returns-in_err-rows-clause-damaged g c = λ fits clean.
+    let first = (state g.S.Store c.args.conn.now).now in
+    let told = c.in_err-rows.ensures.damaged fits clean in
+    err_after _ c.in_err-rows.field-0.0 _ c.from_residual.ensures.1 (λ d w name holds. told d (c.queues_are_loadable.ensures w first name holds))
+
+pub returns-then-not-branch-clause-damaged : goal.returns-then-not-branch-clause-damaged
+returns-then-not-branch-clause-damaged g c = λ fits clean d w name holds.
+    let first = (state g.S.Store c.args.conn.now).now in
+    let are = c.in_ok-rows.ensures.read fits clean in
+    let unsound : c.in_ok-are_sound_rows.field-0 ≡ false = search rules in
+    c.in_ok-are_sound_rows.ensures.damaged unsound w holds.sound (sym (c.tables_give_their_queue.ensures w first (tables_in c.in_ok-rows.rows) holds are))
+
+pub returns-clause-queue : goal.returns-clause-queue
+returns-clause-queue g c = λ fits clean.
+    let first = (state g.S.Store c.args.conn.now).now in
+    let mid_clean = c.check_accounts.ensures.clean clean in
+    let are = c.in_ok-rows.ensures.read fits mid_clean in
+    let is = (c.in_ok-rows.ensures.same fits mid_clean).0.now_is in
+    let schema = fits (c.load_rows.ensures.clean mid_clean) are.tables in
+    let keyed = c.in_ok-check_accounts.ensures.keyed (λ e. ap (λ (d : Database). d.schema) is ∙ schema) clean in
+    let sound : IsTrue c.in_ok-are_sound_rows.field-0 = search rules in
+    c.sound_rows_are_a_queue.ensures (tables_in c.in_ok-rows.rows) first schema are (subst (λ (d : Database). AreKeyed (d.trees 6)) is keyed) (c.in_ok-are_sound_rows.ensures.sound sound)

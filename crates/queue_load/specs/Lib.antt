@@ -1,0 +1,7 @@
+pub mod Reads
+pub mod Tells
+pub mod Loaded
+pub mod Content
+pub mod Store
+pub mod Keyed
+pub mod Queues

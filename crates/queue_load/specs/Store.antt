@@ -1,0 +1,84 @@
+-- What a store is loaded from.
+use Rattle.std.specs.Prelude.{◌≡◌, ◌&&◌, Bool, is_some, IsTrue, List, All, map, codes, IsPermutation}
+use Rattle.sqlite.specs.Effect.{Database}
+use Rattle.sqlite.specs.Schema.{Schema}
+use Rattle.sqlite.specs.State.{State, HasCleanDisk}
+use Rattle.sqlite.specs.Tree.{Trees}
+use Rattle.sqlite_schema.specs.Names.{table_named}
+use Rattle.queue_core.specs.declared.event.GrantRow.{GrantRow}
+use Rattle.queue_core.specs.declared.event.KeptReport.{KeptReport}
+use Rattle.queue_core.specs.declared.job.Job.{Job}
+use Rattle.queue_rows.specs.Rows.{Tables}
+use Rattle.queue_rows.specs.declared.rows.AccountRow.{AccountRow}
+use Rattle.queue_rows.specs.declared.rows.DocumentRow.{DocumentRow}
+use Rattle.queue_rows.specs.declared.rows.MetaRow.{MetaRow}
+use Rattle.queue_tables.specs.Forms.{IsFormedJob}
+use Rattle.queue_tables.specs.Tables.{book_schema}
+use Rattle.queue_tables.specs.Values.{meta_values, meta_view, job_values, job_view, document_values, document_view, piece_view, account_view, grant_values, grant_view, report_values, report_view}
+use Rattle.queue_load.specs.Loaded.{ArePieces, IsBare, IsFormedWhole, IsTable, Piece, whole_piece}
+use Rattle.queue_load.specs.Tells.{account_row_values, IsFormedMeta, IsFormedDocument, IsFormedAccount, IsFormedGrant, IsFormedReport}
+
+abbrev pub has_all : Schema → Bool
+has_all s =
+    is_some (table_named s (codes "meta")) && is_some (table_named s (codes "jobs")) && is_some (table_named s (codes "documents")) && is_some (table_named s (codes "pieces"))
+    && is_some (table_named s (codes "accounts")) && is_some (table_named s (codes "grants")) && is_some (table_named s (codes "reports"))
+
+-- a table is missing, or all are as `create` makes them
+abbrev pub FitsBook : Schema → Type 0
+FitsBook s = IsTrue (has_all s) → s ≡ book_schema
+
+-- the premise on a connection: its tables are those of `create`, or one is missing
+abbrev pub FitsIn : State → Type 0
+FitsIn s = HasCleanDisk s → FitsBook s.now.schema
+
+-- ---- typed rows that are the tables, in the order of their keys
+
+pub record AreJobTables (t : Tables) (db : Trees) : Type 0 where
+  pub meta : IsTable meta_values meta_view 1 t.meta (db 0)
+  pub jobs : IsTable job_values job_view 1 t.jobs (db 1)
+  pub bare : All IsBare t.jobs
+  pub documents : IsTable document_values document_view 2 t.documents (db 2)
+  pub pieces : ArePieces t.pieces (db 4)
+
+pub record AreAccountTables (t : Tables) (db : Trees) : Type 0 where
+  pub accounts : IsTable account_row_values account_view 1 t.accounts (db 6)
+  pub grants : IsTable grant_values grant_view 2 t.grants (db 8)
+  pub reports : IsTable report_values report_view 2 t.reports (db 10)
+
+pub record AreTables (t : Tables) (d : Database) : Type 0 where
+  pub tables : IsTrue (has_all d.schema)
+  pub first : AreJobTables t d.trees
+  pub second : AreAccountTables t d.trees
+
+-- ---- tables whose rows have their forms
+
+pub record HasJobTables (db : Trees) : Type 0 where
+  pub meta : List MetaRow
+  pub formed_meta : All IsFormedMeta meta
+  pub are_meta : IsPermutation (map meta_values meta) (map meta_view (db 0))
+  pub jobs : List Job
+  pub formed_jobs : All IsFormedJob jobs
+  pub are_jobs : IsPermutation (map job_values jobs) (map job_view (db 1))
+  pub documents : List DocumentRow
+  pub formed_documents : All IsFormedDocument documents
+  pub are_documents : IsPermutation (map document_values documents) (map document_view (db 2))
+  pub pieces : List Piece
+  pub formed_pieces : All IsFormedWhole pieces
+  pub are_pieces : IsPermutation (map whole_piece pieces) (map piece_view (db 4))
+
+pub record HasAccountTables (db : Trees) : Type 0 where
+  pub accounts : List AccountRow
+  pub formed_accounts : All IsFormedAccount accounts
+  pub are_accounts : IsPermutation (map account_row_values accounts) (map account_view (db 6))
+  pub grants : List GrantRow
+  pub formed_grants : All IsFormedGrant grants
+  pub are_grants : IsPermutation (map grant_values grants) (map grant_view (db 8))
+  pub reports : List KeptReport
+  pub formed_reports : All IsFormedReport reports
+  pub are_reports : IsPermutation (map report_values reports) (map report_view (db 10))
+
+-- all tables are there, and their rows have their forms
+pub record IsLoadable (d : Database) : Type 0 where
+  pub tables : IsTrue (has_all d.schema)
+  pub first : HasJobTables d.trees
+  pub second : HasAccountTables d.trees

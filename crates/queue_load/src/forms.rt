@@ -1,0 +1,106 @@
+//! The rows of each table, from their columns.
+ghost use Rattle.std.specs.Prelude.{◌≡◌, ◌≢◌, ◌<◌, ℕ, List, length, IfOk, IfErr, MatchOption};
+ghost use Rattle.sqlite.specs.Order.{column};
+ghost use Rattle.sqlite.specs.declared.types.Value.TheVariants.{Text as Words, Blob};
+ghost use Rattle.queue_core.specs.declared.document.Format.{Format as FormatValue};
+ghost use Rattle.queue_core.specs.declared.event.Kind.{Kind as KindValue};
+ghost use Rattle.queue_rows.specs.Codes.{kind_number};
+ghost use Rattle.queue_tables.specs.Values.{format_text, number};
+ghost use Rattle.queue_tables.specs.declared.fault.Fault.TheVariants.{Damaged, Disk};
+
+use queue_core::document::Format;
+use queue_core::event::Kind;
+use queue_rows::codes::kind_of;
+use queue_tables::fault::Fault;
+use queue_tables::read::value;
+use sqlite::Row;
+use sqlite::types::ValueRef;
+
+/// The format of that media type, where it is a supported one.
+pub fn format_of(text: &[u8]) -> Option<Format>
+    ensures { MatchOption result ((f : FormatValue) → text.now ≢ format_text f) (λ f. text.now ≡ format_text f) }
+{
+    if text == b"application/octet-stream".as_slice() {
+        return Some(Format::OctetStream);
+    }
+    if text == b"application/pdf".as_slice() {
+        return Some(Format::Pdf);
+    }
+    if text == b"application/postscript".as_slice() {
+        return Some(Format::Postscript);
+    }
+    if text == b"image/jpeg".as_slice() {
+        return Some(Format::Jpeg);
+    }
+    if text == b"image/pwg-raster".as_slice() {
+        return Some(Format::PwgRaster);
+    }
+    if text == b"image/urf".as_slice() {
+        return Some(Format::Urf);
+    }
+    if text == b"text/plain".as_slice() {
+        return Some(Format::PlainText);
+    }
+    None
+}
+
+/// The format of a column.
+pub(crate) fn format(row: &Row, at: usize) -> Result<Format, Fault>
+    ensures ok { IfOk result (λ f. column row.now at ≡ Words (format_text f)) }
+    ensures err { IfErr result (λ e. e ≡ Damaged → at < length row.now → (f : FormatValue) → column row.now at ≢ Words (format_text f)) }
+    ensures never { IfErr result (λ e. e ≢ Disk) }
+{
+    let text = match row.get_ref(at) {
+        Ok(ValueRef::Text(text)) => text,
+        Ok(_) => return Err(Fault::Damaged),
+        Err(_) => return Err(Fault::Damaged),
+    };
+    match format_of(text) {
+        Some(f) => Ok(f),
+        None => Err(Fault::Damaged),
+    }
+}
+
+/// The kind of a report, of a column.
+pub(crate) fn kind(row: &Row, at: usize) -> Result<Kind, Fault>
+    ensures ok { IfOk result (λ k. column row.now at ≡ number (kind_number k)) }
+    ensures err { IfErr result (λ e. e ≡ Damaged → at < length row.now → (k : KindValue) → column row.now at ≢ number (kind_number k)) }
+    ensures never { IfErr result (λ e. e ≢ Disk) }
+{
+    let code: i64 = value(row, at)?;
+    match kind_of(code) {
+        Some(k) => Ok(k),
+        None => Err(Fault::Damaged),
+    }
+}
+
+/// The length of a blob, of a column.
+pub(crate) fn blob_length(row: &Row, at: usize) -> Result<u32, Fault>
+    ensures ok { IfOk result (λ n. (b : List ℕ) × (column row.now at ≡ Blob b) × (length b ≡ n)) }
+    ensures err { IfErr result (λ e. e ≡ Damaged → at < length row.now → (b : List ℕ) → length b < 4294967296 → column row.now at ≢ Blob b) }
+    ensures never { IfErr result (λ e. e ≢ Disk) }
+{
+    match row.get_ref(at) {
+        Ok(ValueRef::Blob(bytes)) => {
+            if bytes.len() > 4_294_967_295 {
+                return Err(Fault::Damaged);
+            }
+            Ok(bytes.len() as u32)
+        }
+        Ok(_) => Err(Fault::Damaged),
+        Err(_) => Err(Fault::Damaged),
+    }
+}
+
+/// A number of one byte, of a column.
+pub(crate) fn small(row: &Row, at: usize) -> Result<u8, Fault>
+    ensures ok { IfOk result (λ n. column row.now at ≡ number n) }
+    ensures err { IfErr result (λ e. e ≡ Damaged → at < length row.now → (n : ℕ) → n < 256 → column row.now at ≢ number n) }
+    ensures never { IfErr result (λ e. e ≢ Disk) }
+{
+    let n: u32 = value(row, at)?;
+    if n > 255 {
+        return Err(Fault::Damaged);
+    }
+    Ok(n as u8)
+}

@@ -1,0 +1,38 @@
+//! What the tables of a queue are, as laws: each is a contract on a body that does nothing.
+ghost use Rattle.std.specs.Prelude.{◌≡◌};
+ghost use Rattle.std.specs.Str.{IsUtf8};
+ghost use Rattle.sqlite.specs.Effect.{Database};
+ghost use Rattle.queue_core.specs.World.{World};
+ghost use Rattle.queue_load.specs.Content.{HaveRows};
+ghost use Rattle.queue_load.specs.Queues.{HasQueue, IsQueueIn};
+ghost use Rattle.queue_load.specs.Store.{AreTables, IsLoadable};
+ghost use Rattle.queue_rows.specs.Rows.{rows_of, StandForSoundWorlds, Tables};
+ghost use Rattle.queue_tables.specs.Kept.{AreKeyed};
+ghost use Rattle.queue_tables.specs.Tables.{book_schema};
+
+use queue_rows::laws::{numbers_tell_names, sound_queues_have_sound_rows};
+
+/// What the tables of a world hold are its rows, one by one, and the bytes of its pieces.
+pub fn tables_have_rows()
+    ensures { HaveRows }
+{}
+
+/// Tables that hold a sound queue, whose printer's name is a text, have the forms that are read.
+pub fn queues_are_loadable()
+    ensures { (w : World) (d : Database) → IsUtf8 w.settings.name → IsQueueIn w d → IsLoadable d }
+{
+    sound_queues_have_sound_rows();
+}
+
+/// Typed rows that are the tables of a sound queue are its rows, one by one.
+pub fn tables_give_their_queue()
+    ensures { (w : World) (d : Database) (t : Tables) → IsQueueIn w d → AreTables t d → t ≡ rows_of w }
+{
+    numbers_tell_names();
+    sound_queues_have_sound_rows();
+}
+
+/// Tables hold a sound queue where their rows stand for such ones, and the accounts have rowids of their own.
+pub fn sound_rows_are_a_queue()
+    ensures { (t : Tables) (d : Database) → d.schema ≡ book_schema → AreTables t d → AreKeyed (d.trees 6) → StandForSoundWorlds t → HasQueue t d }
+{}

@@ -1,0 +1,55 @@
+//! A whole table, read a row at a time.
+ghost use Rattle.std.specs.Prelude.{◌≡◌, ◌≢◌, false, List, [], IfOk, IfErr, OnOk};
+ghost use Rattle.sqlite.specs.Given.{IsPlain};
+ghost use Rattle.sqlite.specs.Held.{state};
+ghost use Rattle.sqlite.specs.Listing.{understood};
+ghost use Rattle.sqlite.specs.Order.{Row as Columns};
+ghost use Rattle.sqlite.specs.State.{HasCleanDisk, IsUnchanged};
+ghost use Rattle.queue_load.specs.Reads.{FindsFormless, HasBook, HasRead, LeavesRows};
+ghost use Rattle.queue_tables.specs.Tables.{book_schema};
+ghost use Rattle.queue_tables.specs.declared.fault.Fault.TheVariants.{Damaged, Disk};
+
+use queue_tables::fault::Fault;
+use sqlite::{Alter, Connection, Row};
+use std::alloc::Global;
+
+/// A row of a table, typed.
+pub trait TableRow: Drop {
+    /// The value tells of the columns.
+    ghost tells: { Self → Columns → Type 0 };
+
+    /// No value of the type tells of the columns.
+    ghost is_formless: { Columns → Type 0 };
+
+    /// The value of the columns that a SELECT shows. Damaged is told only where there is none.
+    fn read(alloc: Global, row: &Row) -> Result<Self, Fault>
+        ensures ok { IfOk result (λ t. tells t row.now) }
+        ensures err { IfErr result (λ e. e ≡ Damaged → is_formless row.now) }
+        ensures never { IfErr result (λ e. e ≢ Disk) };
+}
+
+/// The rows that a SELECT without parameters shows, in its order. Damaged is told only where one of them is
+/// formless.
+pub(crate) fn read_table<S: Alter, T: TableRow>(
+    alloc: Global,
+    conn: &mut Connection<S>,
+    sql: &str,
+) -> Result<Vec<T>, Fault>
+    requires plain { IsPlain (understood book_schema sql.now) }
+    ensures clean { HasCleanDisk (state S.Store conn.new) → HasCleanDisk (state S.Store conn.old) }
+    ensures mode { conn.old.in_transaction ≡ false → conn.new.in_transaction ≡ false }
+    ensures read { HasBook (state S.Store conn.old) → HasCleanDisk (state S.Store conn.new) → IfOk result (λ v. HasRead T.tells sql.now (state S.Store conn.old) v.items) }
+    ensures formless { HasBook (state S.Store conn.old) → HasCleanDisk (state S.Store conn.new) → IfErr result (λ e. e ≡ Damaged → FindsFormless T.is_formless sql.now (state S.Store conn.old)) }
+    ensures same { HasBook (state S.Store conn.old) → HasCleanDisk (state S.Store conn.new) → OnOk result (IsUnchanged (state S.Store conn.old) (state S.Store conn.new)) }
+    ensures left { HasBook (state S.Store conn.old) → HasCleanDisk (state S.Store conn.new) → LeavesRows (state S.Store conn.old) (state S.Store conn.new) }
+{
+    let mut items = Vec::new(alloc);
+    let mut rows = conn.query(sql, &[])?;
+    'rows: for _ in 0..u64::MAX {
+        let Some(row) = rows.next()? else {
+            return Ok(items);
+        };
+        items.push(T::read(alloc, row)?)?;
+    }
+    Err(Fault::Disk)
+}

@@ -1,0 +1,100 @@
+-- What the UPDATEs of an account do.
+use Rattle.std.proofs.Common.{◌≡◌, inl, inr, ℕ, ℤ, ◌+ℤ◌, List, [], ◌∷◌, filter, length, true, Ok, refl, ap}
+use Rattle.sqlite.specs.declared.types.Value.TheVariants.{Int, Text as Words}
+use Rattle.sqlite.specs.Order.{Row, column}
+use Rattle.sqlite.specs.Ops.{binary, fits_i64}
+use Rattle.sqlite.specs.Cast.{cast_row}
+use Rattle.sqlite_sql.specs.declared.ops.BinaryOp.TheVariants.{Arith}
+use Rattle.sqlite_sql.specs.declared.ops.ArithOp.TheVariants.{Add}
+use Rattle.sqlite.specs.Tree.{rowid}
+use Rattle.sqlite.specs.State.{State, ExecutesInside}
+use Rattle.queue_tables.specs.Plain.{table_of, shown_of}
+use Rattle.queue_tables.specs.Tables.{book_schema, accounts}
+use Rattle.queue_tables.specs.Kept.{replaced}
+use Rattle.queue_tables.specs.Values.{account_values, account_view}
+use Rattle.queue_tables.specs.Content.{Content, Holds}
+use Rattle.queue_tables.specs.Steps.{CanAdd, HasAccount, is_named, with_sums, plus}
+use Rattle.queue_tables.proofs.Casts.{cast_int}
+use Rattle.queue_tables.proofs.Statements.{update_sums_text, update_sums_terms, update_sums_where, update_sums_is, update_sums_plain, update_free_text, update_free_terms, update_free_where, update_free_is, update_free_plain, accounts_still}
+use Rattle.queue_tables.proofs.Changing.{updates_row, updates_none, updates_count}
+use Rattle.queue_tables.proofs.Held.{holds_accounts}
+
+-- a sum that 64 bits hold
+pub sum_is : (m n : ℤ) → fits_i64 (m +ℤ n) ≡ true → binary (Arith Add) (Int m) (Int n) ≡ Int (m +ℤ n)
+unfolding binary
+sum_is m n fits = rw fits refl
+
+-- an account's row with its rowid
+abbrev pub anew : List ℕ → ℤ → ℤ → ℤ → ℤ → Row
+anew named free set_aside done id = Int id ∷ Words named ∷ Int free ∷ Int set_aside ∷ Int done ∷ []
+
+pub cast_account : (named : List ℕ) (free set_aside done id : ℤ) → cast_row (table_of accounts) (anew named free set_aside done id) ≡ anew named free set_aside done id
+cast_account named free set_aside done id = rw (cast_int id, cast_int free, cast_int set_aside, cast_int done) refl
+
+-- ---- the sums
+
+abbrev sums_params : List ℕ → ℤ → ℤ → Row
+sums_params name set_aside done = Words name ∷ Int set_aside ∷ Int done ∷ []
+
+sums_shown : (name named : List ℕ) (free was_set_aside was_done set_aside done : ℤ) (r : Row) (id : ℤ) → rowid r ≡ Int id → account_view r ≡ account_values named free was_set_aside was_done
+    → fits_i64 (was_set_aside +ℤ set_aside) ≡ true → fits_i64 (was_done +ℤ done) ≡ true
+    → shown_of update_sums_terms (sums_params name set_aside done) r ≡ Int id ∷ anew named free (was_set_aside +ℤ set_aside) (was_done +ℤ done) id
+sums_shown name named free was_set_aside was_done set_aside done r id keyed is p q =
+    let a : column r 1 ≡ Words named = ap (λ (v : Row). column v 0) is in
+    let b : column r 2 ≡ Int free = ap (λ (v : Row). column v 1) is in
+    let c : column r 3 ≡ Int was_set_aside = ap (λ (v : Row). column v 2) is in
+    let d : column r 4 ≡ Int was_done = ap (λ (v : Row). column v 3) is in
+    rw (keyed, a, b, c, d, sum_is was_set_aside set_aside p, sum_is was_done done q) refl
+
+pub adds_sums : (old new : State) (name : List ℕ) (set_aside done : ℤ) (count : ℕ) (c : Content) → Holds c old → CanAdd name set_aside done c
+    → ExecutesInside 0 update_sums_text (sums_params name set_aside done) old new (Ok count) → Holds (with_sums name set_aside done c) new
+adds_sums old new name set_aside done count c has (inl none) h =
+    holds_accounts c _ old new has (updates_none book_schema update_sums_text 4 accounts update_sums_where update_sums_terms update_sums_is update_sums_plain refl (λ db. refl) accounts_still
+    account_view c.accounts (is_named name) (λ v. column v 0 ∷ column v 1 ∷ plus set_aside (column v 2) ∷ plus done (column v 3) ∷ [])
+    old new (sums_params name set_aside done) count has.schema (λ r. refl) has.rows.accounts none h.0) h.1.is_open
+adds_sums old new name set_aside done count c has (inr can) h =
+    let it = can.0 in
+    holds_accounts c _ old new has (updates_row book_schema update_sums_text 4 accounts update_sums_where update_sums_terms update_sums_is update_sums_plain refl (λ db. refl) accounts_still
+    account_view c.accounts (is_named name) (λ v. column v 0 ∷ column v 1 ∷ plus set_aside (column v 2) ∷ plus done (column v 3) ∷ [])
+    old new (sums_params name set_aside done) (account_values it.named it.free it.set_aside it.done) (anew it.named it.free (it.set_aside +ℤ set_aside) (it.done +ℤ done)) count has.schema (λ r. refl)
+    (λ r id keyed is. (sums_shown name it.named it.free it.set_aside it.done set_aside done r id keyed is can.1 can.2, cast_account it.named it.free (it.set_aside +ℤ set_aside) (it.done +ℤ done) id, refl, refl))
+    has.rows.accounts it.once h.0) h.1.is_open
+
+-- ---- the free pages
+
+abbrev pub free_params : List ℕ → ℤ → Row
+free_params name free = Words name ∷ Int free ∷ []
+
+abbrev pub free_put : ℤ → Row → Row
+free_put free v = column v 0 ∷ Int free ∷ column v 2 ∷ column v 3 ∷ []
+
+free_shown : (name named : List ℕ) (free was_free set_aside done : ℤ) (r : Row) (id : ℤ) → rowid r ≡ Int id → account_view r ≡ account_values named was_free set_aside done
+    → shown_of update_free_terms (free_params name free) r ≡ Int id ∷ anew named free set_aside done id
+free_shown name named free was_free set_aside done r id keyed is =
+    let a : column r 1 ≡ Words named = ap (λ (v : Row). column v 0) is in
+    let c : column r 3 ≡ Int set_aside = ap (λ (v : Row). column v 2) is in
+    let d : column r 4 ≡ Int done = ap (λ (v : Row). column v 3) is in
+    rw (keyed, a, c, d) refl
+
+-- how many rows the UPDATE of free pages has put anew
+pub counts_frees : (old new : State) (name : List ℕ) (free : ℤ) (count : ℕ) (c : Content) → Holds c old → ExecutesInside 0 update_free_text (free_params name free) old new (Ok count)
+    → count ≡ length (filter (is_named name) c.accounts)
+counts_frees old new name free count c has h =
+    updates_count book_schema update_free_text 4 accounts update_free_where update_free_terms update_free_is update_free_plain refl (λ db. refl) accounts_still
+    account_view c.accounts (is_named name) (free_put free) old new (free_params name free) count has.schema (λ r. refl) has.rows.accounts h.0
+
+pub puts_free_row : (old new : State) (name : List ℕ) (free : ℤ) (count : ℕ) (c : Content) → Holds c old → (it : HasAccount name c)
+    → ExecutesInside 0 update_free_text (free_params name free) old new (Ok count) → Holds (record c { accounts = replaced (is_named name) (free_put free) c.accounts }) new
+puts_free_row old new name free count c has it h =
+    holds_accounts c _ old new has (updates_row book_schema update_free_text 4 accounts update_free_where update_free_terms update_free_is update_free_plain refl (λ db. refl) accounts_still
+    account_view c.accounts (is_named name) (free_put free)
+    old new (free_params name free) (account_values it.named it.free it.set_aside it.done) (anew it.named free it.set_aside it.done) count has.schema (λ r. refl)
+    (λ r id keyed is. (free_shown name it.named free it.free it.set_aside it.done r id keyed is, cast_account it.named free it.set_aside it.done id, refl, refl))
+    has.rows.accounts it.once h.0) h.1.is_open
+
+pub misses_free_row : (old new : State) (name : List ℕ) (free : ℤ) (count : ℕ) (c : Content) → Holds c old → filter (is_named name) c.accounts ≡ []
+    → ExecutesInside 0 update_free_text (free_params name free) old new (Ok count) → Holds (record c { accounts = replaced (is_named name) (free_put free) c.accounts }) new
+misses_free_row old new name free count c has none h =
+    holds_accounts c _ old new has (updates_none book_schema update_free_text 4 accounts update_free_where update_free_terms update_free_is update_free_plain refl (λ db. refl) accounts_still
+    account_view c.accounts (is_named name) (free_put free)
+    old new (free_params name free) count has.schema (λ r. refl) has.rows.accounts none h.0) h.1.is_open

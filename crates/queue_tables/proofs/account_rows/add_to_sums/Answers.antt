@@ -1,0 +1,8 @@
+use Rattle.sqlite.specs.Held.{state}
+use Rattle.queue_tables.proofs.Sums.{adds_sums}
+use Rattle.queue_tables.proofs.account_rows.add_to_sums.Goals as goal
+
+pub returns-clause-done : goal.returns-clause-done
+returns-clause-done g c clean = λ content has can.
+    adds_sums (state g.S.Store c.args.tx.now.conn.now) (state g.S.Store c.run.new.tx.conn.now) c.args.name.now c.args.more.now.reserved c.args.more.now.printed c.in_ok-run.field-0 content has can
+    (rw (c.params-to_sql.ensures, c.params-to_sql-2.ensures, c.params-to_sql-3.ensures, c.in_ok-run.was) at (c.run.ensures.ran clean))

@@ -1,0 +1,17 @@
+use Rattle.std.proofs.Common.{Option, option_map, sym, subst}
+use Rattle.sqlite.specs.Held.{state}
+use Rattle.queue_core.specs.Event.{document_of}
+use Rattle.queue_core.specs.declared.event.NewDocument.{NewDocument}
+use Rattle.queue_tables.specs.Content.{Holds, content_of}
+use Rattle.queue_tables.specs.Steps.{with_added}
+use Rattle.queue_tables.proofs.Ending.{on_ok}
+use Rattle.queue_tables.proofs.change.put_any_document.Goals as goal
+
+pub returns-in-Some-clause-done : goal.returns-in-Some-clause-done
+returns-in-Some-clause-done g c clean =
+    on_ok c.put_document.result _ _ (λ puts w distinct has.
+    subst (λ (o : Option NewDocument). Holds (content_of (with_added (option_map document_of o) w)) (state g.S.Store c.put_document.new.tx.conn.now)) (sym c.in-Some.is) (puts w distinct has)) (c.put_document.ensures.done clean)
+
+pub returns-in-None-clause-done : goal.returns-in-None-clause-done
+returns-in-None-clause-done g c clean w distinct has =
+    subst (λ (o : Option NewDocument). Holds (content_of (with_added (option_map document_of o) w)) (state g.S.Store c.args.tx.now.conn.now)) (sym c.in-None.is) has

@@ -1,0 +1,19 @@
+use Rattle.sqlite.specs.Held.{state}
+use Rattle.queue_tables.specs.Values.{job_values}
+use Rattle.queue_tables.specs.Content.{content_of}
+use Rattle.queue_tables.specs.Steps.{with_job_row}
+use Rattle.queue_tables.proofs.Ending.{on_ok}
+use Rattle.queue_tables.proofs.Entries.{summable-with_row}
+use Rattle.queue_tables.proofs.Puts.{can_enter, entered}
+use Rattle.queue_tables.proofs.put.enter_job.Goals as goal
+
+pub returns-clause-done : goal.returns-clause-done
+returns-clause-done g c clean =
+    let j = c.args.job.now in
+    let a = c.in_ok-taken.ensures.amounts in
+    on_ok c.add_to_sums.result _ _ (λ adds w s none few has. (
+      summable-with_row j w.jobs a s few,
+      entered j w (state g.S.Store c.add_to_sums.new.tx.conn.now) none
+          (adds (with_job_row (job_values j) (content_of w)) (c.in_ok-insert_job.ensures.done (c.add_to_sums.ensures.clean clean) (content_of w) has) (can_enter j w s a)),
+    ))
+    (rw (c.as_str.ensures, c.in_ok-taken.ensures.reserved, c.in_ok-taken.ensures.printed) at (c.add_to_sums.ensures.done clean))

@@ -1,0 +1,28 @@
+use Rattle.std.proofs.Common.{rules, arith, fold, take, List, subst}
+use Rattle.sqlite.specs.Held.{state}
+use Rattle.queue_core.specs.World.{with_row}
+use Rattle.queue_core.specs.declared.job.Job.{Job}
+use Rattle.queue_tables.specs.Content.{Holds, content_of}
+use Rattle.queue_tables.specs.Steps.{IsSummable, with_puts}
+use Rattle.std.proofs.lemmas.List.{take_all}
+use Rattle.queue_tables.proofs.Puts.{put_more, few_more}
+use Rattle.queue_tables.proofs.put.put_jobs.Goals as goal
+
+pub loop-k-preserved : goal.loop-k-preserved
+loop-k-preserved g c = (
+  search rules,
+  search rules,
+  search rules,
+  search rules,
+  λ clean w s few has.
+      let js = c.args.jobs.now in
+      let x = c.index-jobs-k.result in
+      let at = c.loop-k.invariant.4 (c.in_ok-put_job.ensures.clean clean) w s few has in
+      put_more js c.loop-k.k x w (state g.S.Store c.put_job.new.tx.conn.now) (omega arith) c.index-jobs-k.is
+      (c.in_ok-put_job.ensures.done clean (with_puts (take c.loop-k.k js) w) at.0 (few_more js c.loop-k.k x w.jobs (omega arith) c.index-jobs-k.is few) at.1),
+)
+
+pub returns-clause-done : goal.returns-clause-done
+returns-clause-done g c clean = λ w s few has.
+    let js = c.args.jobs.now in
+    subst (λ (ks : List Job). IsSummable (fold with_row w.jobs ks) × Holds (content_of (with_puts ks w)) (state g.S.Store c.loop-k.tx.conn.now)) (take_all c.loop-k.k js (omega arith)) (c.loop-k.invariant.4 clean w s few has)

@@ -1,0 +1,68 @@
+-- What the tables hold, and which world they stand for.
+use Rattle.std.specs.Prelude.{◌≡◌, ⊤, ℕ, pos, ◌+◌, List, [], ◌∷◌, ◌++◌, map, flat_map, length, IsTrue}
+use Rattle.std.specs.List.{range_with_len}
+use Rattle.std.specs.FinMap.{entries}
+use Rattle.sqlite.specs.Order.{Row}
+use Rattle.sqlite.specs.Tree.{Trees}
+use Rattle.sqlite.specs.State.{State}
+use Rattle.queue_core.specs.declared.document.Document.{Document}
+use Rattle.queue_core.specs.World.{World, rows}
+use Rattle.queue_core.specs.Sound.{reserved, printed}
+use Rattle.queue_rows.specs.Documents.{documents_from}
+use Rattle.queue_rows.specs.Pieces.{pieces_in, piece_at}
+use Rattle.queue_rows.specs.Rows.{meta_row, grant_row}
+use Rattle.queue_tables.specs.Kept.{HasRows}
+use Rattle.queue_tables.specs.Tables.{book_schema}
+use Rattle.queue_tables.specs.Values.{meta_values, meta_view, job_values, job_view, document_values, document_view, piece_values, piece_view, account_values, account_view, grant_values, grant_view, report_values, report_view}
+
+-- the values in the rows of each table
+pub record Content : Type 0 where
+  pub meta : List Row
+  pub jobs : List Row
+  pub documents : List Row
+  pub pieces : List Row
+  pub accounts : List Row
+  pub grants : List Row
+  pub reports : List Row
+
+-- the rows of a job's documents, which count from a number on
+abbrev pub document_rows : ℕ → ℕ → List Document → List Row
+document_rows job doc ds = map document_values (documents_from job doc ds)
+
+-- the pieces of a document, which count from 0
+abbrev pub piece_rows : ℕ → ℕ → List ℕ → List Row
+piece_rows job doc bytes = map (λ k. piece_values job doc k (piece_at bytes k)) (range_with_len 0 (pieces_in (length bytes)))
+
+-- the pieces of documents, which count from a number on
+abbrev pub pieces_from : ℕ → ℕ → List Document → List Row
+pieces_from job doc [] = []
+pieces_from job doc (d ∷ ds) = piece_rows job doc d.bytes ++ pieces_from job (doc + 1) ds
+
+-- the rows of a world: its settings with the next number, its jobs, their documents and those's pieces, its accounts with the
+-- sums over their jobs, its grants and its reports
+abbrev pub content_of : World → Content
+content_of w = record {
+  meta = meta_values (meta_row w) ∷ [];
+  jobs = map job_values (rows w);
+  documents = flat_map (λ e. document_rows e.row.number 1 e.documents) w.jobs;
+  pieces = flat_map (λ e. pieces_from e.row.number 1 e.documents) w.jobs;
+  accounts = map (λ a. account_values a.0 a.1 (pos (reserved a.0 w)) (pos (printed a.0 w))) (entries w.free);
+  grants = map (λ g. grant_values (grant_row g)) (entries w.grants);
+  reports = map (λ r. report_values r.1) (entries w.reports);
+}
+
+-- the trees have these rows, in whatever order; those that are put anew are told apart by their rowids
+pub record HasContent (c : Content) (db : Trees) : Type 0 where
+  pub meta : HasRows ⊤ meta_view c.meta (db 0)
+  pub jobs : HasRows ⊤ job_view c.jobs (db 1)
+  pub documents : HasRows ⊥ document_view c.documents (db 2)
+  pub pieces : HasRows ⊥ piece_view c.pieces (db 4)
+  pub accounts : HasRows ⊤ account_view c.accounts (db 6)
+  pub grants : HasRows ⊥ grant_view c.grants (db 8)
+  pub reports : HasRows ⊥ report_view c.reports (db 10)
+
+-- the connection is open, and its tables have these rows
+pub record Holds (c : Content) (s : State) : Type 0 where
+  pub schema : s.now.schema ≡ book_schema
+  pub rows : HasContent c s.now.trees
+  pub live : IsTrue s.is_open

@@ -1,0 +1,145 @@
+-- What single statements make of the rows, and the worlds that the tables show between them. Those need not be sound.
+use Rattle.std.specs.Prelude.{◌≡◌, ◌⊎◌, ℕ, ℤ, ◌+ℤ◌, ◌≤◌, ◌^◌, List, [], ◌∷◌, ◌++◌, Option, None, ⊤, Bool, true, false, ◌==◌, ◌&&◌, length, map, filter, fold, if◌then◌else◌}
+use Rattle.std.specs.List.{list_any, range_with_len, AllByRecursion as Each}
+use Rattle.std.specs.FinMap.{get}
+use Rattle.sqlite.specs.declared.types.Value.{Value}
+use Rattle.sqlite.specs.declared.types.Value.TheVariants.{Null, Int, Real, Text as Words, Blob}
+use Rattle.sqlite.specs.Order.{Row, column}
+use Rattle.sqlite.specs.Ops.{binary, is_true, fits_i64}
+use Rattle.sqlite_sql.specs.declared.ops.BinaryOp.TheVariants.{Compare}
+use Rattle.sqlite_sql.specs.declared.ops.CompareOp.TheVariants.{Eq}
+use Rattle.sqlite.specs.Collation.TheVariants.{Binary}
+use Rattle.queue_core.specs.declared.job.Job.{Job}
+use Rattle.queue_core.specs.declared.event.FreeRow.{FreeRow}
+use Rattle.queue_core.specs.declared.event.GrantRow.{GrantRow}
+use Rattle.queue_core.specs.declared.event.KeptReport.{KeptReport}
+use Rattle.queue_core.specs.World.{World, Entry, with_row, put_free, put_grant, with_report, with_document}
+use Rattle.queue_core.specs.Event.{NewDocument}
+use Rattle.queue_core.specs.Balance.{AreAmounts}
+use Rattle.queue_core.specs.Sound.{reserved, printed}
+use Rattle.queue_rows.specs.Pieces.{piece_at}
+use Rattle.queue_tables.specs.Kept.{replaced}
+use Rattle.queue_tables.specs.Values.{number, job_values, piece_values, account_values}
+use Rattle.queue_tables.specs.Content.{Content}
+
+-- ---- a new row
+
+abbrev pub with_meta_row : Row → Content → Content
+with_meta_row v c = record c { meta = c.meta ++ v ∷ [] }
+
+abbrev pub with_job_row : Row → Content → Content
+with_job_row v c = record c { jobs = c.jobs ++ v ∷ [] }
+
+abbrev pub with_document_row : Row → Content → Content
+with_document_row v c = record c { documents = c.documents ++ v ∷ [] }
+
+abbrev pub with_piece_row : Row → Content → Content
+with_piece_row v c = record c { pieces = c.pieces ++ v ∷ [] }
+
+abbrev pub with_account_row : Row → Content → Content
+with_account_row v c = record c { accounts = c.accounts ++ v ∷ [] }
+
+abbrev pub with_grant_row : Row → Content → Content
+with_grant_row v c = record c { grants = c.grants ++ v ∷ [] }
+
+abbrev pub with_report_row : Row → Content → Content
+with_report_row v c = record c { reports = c.reports ++ v ∷ [] }
+
+-- the first so many pieces of a document
+abbrev pub with_pieces : ℕ → ℕ → List ℕ → ℕ → Content → Content
+with_pieces job doc bytes count c = record c { pieces = c.pieces ++ map (λ k. piece_values job doc k (piece_at bytes k)) (range_with_len 0 count) }
+
+-- ---- a row that is put anew
+
+-- the first column is this number
+abbrev pub is_numbered : ℕ → Row → Bool
+is_numbered n v = is_true (binary (Compare Eq Binary) (column v 0) (number n)) && true
+
+-- the first column is this name
+abbrev pub is_named : List ℕ → Row → Bool
+is_named name v = is_true (binary (Compare Eq Binary) (column v 0) (Words name)) && true
+
+abbrev pub with_job_anew : Job → Content → Content
+with_job_anew j c = record c { jobs = replaced (is_numbered j.number) (λ v. job_values j) c.jobs }
+
+-- the account has one row
+pub record HasAccount (name : List ℕ) (c : Content) : Type 0 where
+  pub named : List ℕ
+  pub free : ℤ
+  pub set_aside : ℤ
+  pub done : ℤ
+  pub once : filter (is_named name) c.accounts ≡ account_values named free set_aside done ∷ []
+
+-- pages added to those of a row
+abbrev pub plus : ℤ → Value → Value
+plus n (Int m) = Int (m +ℤ n)
+plus n Null = Null
+plus n (Real x) = Real x
+plus n (Words t) = Words t
+plus n (Blob b) = Blob b
+
+abbrev pub with_sums : List ℕ → ℤ → ℤ → Content → Content
+with_sums name set_aside done c = record c { accounts = replaced (is_named name) (λ v. column v 0 ∷ column v 1 ∷ plus set_aside (column v 2) ∷ plus done (column v 3) ∷ []) c.accounts }
+
+-- there is no such account, or its sums stay within 64 bits
+abbrev pub CanAdd : List ℕ → ℤ → ℤ → Content → Type 0
+CanAdd name set_aside done c =
+    (filter (is_named name) c.accounts ≡ [])
+    ⊎ ((it : HasAccount name c) × (fits_i64 (it.set_aside +ℤ set_aside) ≡ true) × (fits_i64 (it.done +ℤ done) ≡ true))
+
+-- ---- worlds between two statements
+
+-- nothing of its documents
+abbrev pub bare : Job → Job
+bare j = record j { documents = 0; octets = 0 }
+
+-- a job has this number
+abbrev pub has_number : ℕ → List Entry → Bool
+has_number n es = list_any (λ e. e.row.number == n) es
+
+-- no number stands twice
+abbrev pub AreDistinct : List Entry → Type 0
+AreDistinct [] = ⊤
+AreDistinct (e ∷ es) = (has_number e.row.number es ≡ false) × AreDistinct es
+
+-- what keeps the sums of the accounts within 64 bits
+pub record IsSummable (es : List Entry) : Type 0 where
+  pub distinct : AreDistinct es
+  pub amounts : Each (λ e. AreAmounts e.row) es
+  pub few : length es ≤ 2 ^ 31
+
+-- no pages are reserved or printed of an owner without an account
+abbrev pub AreCovered : World → Type 0
+AreCovered w = (a : List ℕ) → get w.free a ≡ None → (reserved a w ≡ 0) × (printed a w ≡ 0)
+
+abbrev pub with_put : Job → World → World
+with_put j w = record w { jobs = with_row w.jobs j }
+
+abbrev pub with_puts : List Job → World → World
+with_puts js w = record w { jobs = fold with_row w.jobs js }
+
+abbrev pub with_free : FreeRow → World → World
+with_free a w = record w { free = put_free w.free a }
+
+abbrev pub with_frees : List FreeRow → World → World
+with_frees rows w = record w { free = fold put_free w.free rows }
+
+abbrev pub with_grant : GrantRow → World → World
+with_grant g w = record w { grants = put_grant w.grants g }
+
+abbrev pub with_grants : List GrantRow → World → World
+with_grants gs w = record w { grants = fold put_grant w.grants gs }
+
+abbrev pub with_kept : Option KeptReport → World → World
+with_kept k w = record w { reports = with_report w.reports k }
+
+abbrev pub with_next : ℕ → World → World
+with_next n w = record w { next = n }
+
+abbrev pub with_added : Option NewDocument → World → World
+with_added d w = record w { jobs = with_document w.jobs d }
+
+-- how many documents the job of that number has
+abbrev pub documents_at : ℕ → List Entry → ℕ
+documents_at n [] = 0
+documents_at n (e ∷ es) = if e.row.number == n then length e.documents else documents_at n es

@@ -1,0 +1,114 @@
+//! The statements on accounts.
+ghost use Rattle.std.specs.Prelude.{◌≡◌, ◌≢◌, OnOk, IfOk, IsTrue, None, pos, filter, [], ◌∷◌, IfNone, length};
+ghost use Rattle.std.specs.FinMap.{get};
+ghost use Rattle.sqlite.specs.State.{HasCleanDisk, KeepsCommit};
+ghost use Rattle.sqlite.specs.Held.{state};
+ghost use Rattle.queue_core.specs.World.{World};
+ghost use Rattle.queue_tables.specs.Content.{Content, Holds, content_of};
+ghost use Rattle.queue_tables.specs.Steps.{AreCovered, CanAdd, with_account_row, with_free, with_frees, with_sums};
+ghost use Rattle.queue_tables.specs.Values.{account_values};
+
+use crate::fault::Fault;
+use crate::run::run;
+use queue_core::event::FreeRow;
+use sqlite::{Alter, Transaction, params};
+
+/// Pages that are added to the sums of an account, below zero where they are taken off.
+#[derive(Debug, Drop)]
+pub(crate) struct SumChange {
+    pub reserved: i64,
+    pub printed: i64,
+}
+
+/// Adds to the sums of an account, where it is there.
+pub(crate) fn add_to_sums<S: Alter>(
+    tx: &mut Transaction<'_, S>,
+    name: &str,
+    more: &SumChange,
+) -> Result<(), Fault>
+    ensures same_reference { tx.new.conn.ghost_name ≡ tx.old.conn.ghost_name }
+    ensures clean { HasCleanDisk (state S.Store tx.new.conn.now) → HasCleanDisk (state S.Store tx.old.conn.now) }
+    ensures kept { HasCleanDisk (state S.Store tx.new.conn.now) → IsTrue (state S.Store tx.old.conn.now).in_transaction → KeepsCommit (state S.Store tx.old.conn.now) (state S.Store tx.new.conn.now) }
+    ensures inside { HasCleanDisk (state S.Store tx.new.conn.now) → OnOk result (IsTrue (state S.Store tx.old.conn.now).in_transaction → IsTrue (state S.Store tx.new.conn.now).in_transaction) }
+    ensures done { HasCleanDisk (state S.Store tx.new.conn.now) → OnOk result ((c : Content) → Holds c (state S.Store tx.old.conn.now) → CanAdd name.now more.now.reserved more.now.printed c → Holds (with_sums name.now more.now.reserved more.now.printed c) (state S.Store tx.new.conn.now)) }
+{
+    run(
+        tx,
+        "UPDATE accounts SET reserved = reserved + ?2, printed = printed + ?3 WHERE name = ?1",
+        params![name, &more.reserved, &more.printed],
+    )?;
+    Ok(())
+}
+
+/// Adds an account whose owner has no pages reserved or printed.
+fn insert_account<S: Alter>(tx: &mut Transaction<'_, S>, account: &FreeRow) -> Result<(), Fault>
+    ensures same_reference { tx.new.conn.ghost_name ≡ tx.old.conn.ghost_name }
+    ensures clean { HasCleanDisk (state S.Store tx.new.conn.now) → HasCleanDisk (state S.Store tx.old.conn.now) }
+    ensures kept { HasCleanDisk (state S.Store tx.new.conn.now) → IsTrue (state S.Store tx.old.conn.now).in_transaction → KeepsCommit (state S.Store tx.old.conn.now) (state S.Store tx.new.conn.now) }
+    ensures inside { HasCleanDisk (state S.Store tx.new.conn.now) → OnOk result (IsTrue (state S.Store tx.old.conn.now).in_transaction → IsTrue (state S.Store tx.new.conn.now).in_transaction) }
+    ensures done { HasCleanDisk (state S.Store tx.new.conn.now) → OnOk result ((c : Content) → Holds c (state S.Store tx.old.conn.now) → Holds (with_account_row (account_values account.now.account account.now.free (pos 0) (pos 0)) c) (state S.Store tx.new.conn.now)) }
+{
+    let none = SumChange {
+        reserved: 0,
+        printed: 0,
+    };
+    run(
+        tx,
+        "INSERT INTO accounts (name, free, reserved, printed) VALUES (?1, ?2, ?3, ?4)",
+        params![
+            account.account.as_str(),
+            &account.free,
+            &none.reserved,
+            &none.printed
+        ],
+    )?;
+    Ok(())
+}
+
+/// Puts the free pages of an account, where it is there, and tells how many rows that are.
+fn update_free<S: Alter>(tx: &mut Transaction<'_, S>, account: &FreeRow) -> Result<usize, Fault>
+    ensures same_reference { tx.new.conn.ghost_name ≡ tx.old.conn.ghost_name }
+    ensures clean { HasCleanDisk (state S.Store tx.new.conn.now) → HasCleanDisk (state S.Store tx.old.conn.now) }
+    ensures kept { HasCleanDisk (state S.Store tx.new.conn.now) → IsTrue (state S.Store tx.old.conn.now).in_transaction → KeepsCommit (state S.Store tx.old.conn.now) (state S.Store tx.new.conn.now) }
+    ensures inside { HasCleanDisk (state S.Store tx.new.conn.now) → OnOk result (IsTrue (state S.Store tx.old.conn.now).in_transaction → IsTrue (state S.Store tx.new.conn.now).in_transaction) }
+    ensures put { HasCleanDisk (state S.Store tx.new.conn.now) → IfOk result (λ count. (w : World) → Holds (content_of w) (state S.Store tx.old.conn.now) → count ≢ 0 → Holds (content_of (with_free account.now w)) (state S.Store tx.new.conn.now)) }
+    ensures lacking { HasCleanDisk (state S.Store tx.new.conn.now) → IfOk result (λ count. (w : World) → Holds (content_of w) (state S.Store tx.old.conn.now) → count ≡ 0 → (get w.free account.now.account ≡ None) × Holds (content_of w) (state S.Store tx.new.conn.now)) }
+{
+    run(
+        tx,
+        "UPDATE accounts SET free = ?2 WHERE name = ?1",
+        params![account.account.as_str(), &account.free],
+    )
+}
+
+/// Puts the free pages of an account, or adds it where it is not there.
+fn put_free<S: Alter>(tx: &mut Transaction<'_, S>, account: &FreeRow) -> Result<(), Fault>
+    ensures same_reference { tx.new.conn.ghost_name ≡ tx.old.conn.ghost_name }
+    ensures clean { HasCleanDisk (state S.Store tx.new.conn.now) → HasCleanDisk (state S.Store tx.old.conn.now) }
+    ensures kept { HasCleanDisk (state S.Store tx.new.conn.now) → IsTrue (state S.Store tx.old.conn.now).in_transaction → KeepsCommit (state S.Store tx.old.conn.now) (state S.Store tx.new.conn.now) }
+    ensures inside { HasCleanDisk (state S.Store tx.new.conn.now) → OnOk result (IsTrue (state S.Store tx.old.conn.now).in_transaction → IsTrue (state S.Store tx.new.conn.now).in_transaction) }
+    ensures done { HasCleanDisk (state S.Store tx.new.conn.now) → OnOk result ((w : World) → AreCovered w → Holds (content_of w) (state S.Store tx.old.conn.now) → Holds (content_of (with_free account.now w)) (state S.Store tx.new.conn.now)) }
+{
+    let count = update_free(tx, account)?;
+    if count > 0 {
+        return Ok(());
+    }
+    insert_account(tx, account)
+}
+
+/// Puts the free pages of accounts in turn.
+pub(crate) fn put_frees<S: Alter>(
+    tx: &mut Transaction<'_, S>,
+    accounts: &[FreeRow],
+) -> Result<(), Fault>
+    ensures same_reference { tx.new.conn.ghost_name ≡ tx.old.conn.ghost_name }
+    ensures clean { HasCleanDisk (state S.Store tx.new.conn.now) → HasCleanDisk (state S.Store tx.old.conn.now) }
+    ensures kept { HasCleanDisk (state S.Store tx.new.conn.now) → IsTrue (state S.Store tx.old.conn.now).in_transaction → KeepsCommit (state S.Store tx.old.conn.now) (state S.Store tx.new.conn.now) }
+    ensures inside { HasCleanDisk (state S.Store tx.new.conn.now) → OnOk result (IsTrue (state S.Store tx.old.conn.now).in_transaction → IsTrue (state S.Store tx.new.conn.now).in_transaction) }
+    ensures done { HasCleanDisk (state S.Store tx.new.conn.now) → OnOk result ((w : World) → AreCovered w → Holds (content_of w) (state S.Store tx.old.conn.now) → Holds (content_of (with_frees accounts.now w)) (state S.Store tx.new.conn.now)) }
+{
+    for k in 0..accounts.len() {
+        put_free(tx, &accounts[k])?;
+    }
+    Ok(())
+}

@@ -1,0 +1,102 @@
+//! The tables after a decision.
+ghost use Rattle.std.specs.Prelude.{◌≡◌, OnOk, IsTrue, IfSome, None, option_map, unwrap_or};
+ghost use Rattle.std.specs.FinMap.{get};
+ghost use Rattle.sqlite.specs.State.{HasCleanDisk, KeepsCommit};
+ghost use Rattle.sqlite.specs.Held.{state};
+ghost use Rattle.queue_core.specs.Book.{IsDecisionOn};
+ghost use Rattle.queue_core.specs.Event.{change_of, decision_of, document_of};
+ghost use Rattle.queue_core.specs.Sound.{IsSound};
+ghost use Rattle.queue_core.specs.World.{World, made_on};
+ghost use Rattle.queue_tables.specs.Content.{Holds, content_of};
+ghost use Rattle.queue_tables.specs.Steps.{AreDistinct, with_added, with_kept, with_next};
+
+use crate::account_rows::put_frees;
+use crate::document_rows::put_document;
+use crate::fault::Fault;
+use crate::grant_rows::insert_grants;
+use crate::meta_rows::update_next;
+use crate::put::put_jobs;
+use crate::report_rows::insert_report;
+use queue_core::event::{Change, Decision, KeptReport, NewDocument};
+use queue_core::laws::decisions_are_sound;
+use sqlite::{Alter, Transaction};
+use std::alloc::Global;
+
+/// Adds the document, where there is one.
+fn put_any_document<S: Alter>(
+    alloc: Global,
+    tx: &mut Transaction<'_, S>,
+    document: &Option<NewDocument<'_>>,
+) -> Result<(), Fault>
+    ensures same_reference { tx.new.conn.ghost_name ≡ tx.old.conn.ghost_name }
+    ensures clean { HasCleanDisk (state S.Store tx.new.conn.now) → HasCleanDisk (state S.Store tx.old.conn.now) }
+    ensures kept { HasCleanDisk (state S.Store tx.new.conn.now) → IsTrue (state S.Store tx.old.conn.now).in_transaction → KeepsCommit (state S.Store tx.old.conn.now) (state S.Store tx.new.conn.now) }
+    ensures inside { HasCleanDisk (state S.Store tx.new.conn.now) → OnOk result (IsTrue (state S.Store tx.old.conn.now).in_transaction → IsTrue (state S.Store tx.new.conn.now).in_transaction) }
+    ensures done { HasCleanDisk (state S.Store tx.new.conn.now) → OnOk result ((w : World) → AreDistinct w.jobs → Holds (content_of w) (state S.Store tx.old.conn.now) → Holds (content_of (with_added (option_map document_of document.now) w)) (state S.Store tx.new.conn.now)) }
+{
+    match document {
+        Some(d) => put_document(alloc, tx, d),
+        None => {
+            let _changes = tx.changes();
+            Ok(())
+        }
+    }
+}
+
+/// Adds the report, where there is one.
+fn put_any_report<S: Alter>(
+    tx: &mut Transaction<'_, S>,
+    report: &Option<KeptReport>,
+) -> Result<(), Fault>
+    ensures same_reference { tx.new.conn.ghost_name ≡ tx.old.conn.ghost_name }
+    ensures clean { HasCleanDisk (state S.Store tx.new.conn.now) → HasCleanDisk (state S.Store tx.old.conn.now) }
+    ensures kept { HasCleanDisk (state S.Store tx.new.conn.now) → IsTrue (state S.Store tx.old.conn.now).in_transaction → KeepsCommit (state S.Store tx.old.conn.now) (state S.Store tx.new.conn.now) }
+    ensures inside { HasCleanDisk (state S.Store tx.new.conn.now) → OnOk result (IsTrue (state S.Store tx.old.conn.now).in_transaction → IsTrue (state S.Store tx.new.conn.now).in_transaction) }
+    ensures done { HasCleanDisk (state S.Store tx.new.conn.now) → OnOk result ((w : World) → IfSome report.now (λ k. get w.reports (k.report.job, k.report.seq) ≡ None) → Holds (content_of w) (state S.Store tx.old.conn.now) → Holds (content_of (with_kept report.now w)) (state S.Store tx.new.conn.now)) }
+{
+    match report {
+        Some(kept) => insert_report(tx, kept),
+        None => {
+            let _changes = tx.changes();
+            Ok(())
+        }
+    }
+}
+
+/// Puts the number of the next new job, where there is one.
+fn put_any_next<S: Alter>(tx: &mut Transaction<'_, S>, next: Option<u32>) -> Result<(), Fault>
+    ensures same_reference { tx.new.conn.ghost_name ≡ tx.old.conn.ghost_name }
+    ensures clean { HasCleanDisk (state S.Store tx.new.conn.now) → HasCleanDisk (state S.Store tx.old.conn.now) }
+    ensures kept { HasCleanDisk (state S.Store tx.new.conn.now) → IsTrue (state S.Store tx.old.conn.now).in_transaction → KeepsCommit (state S.Store tx.old.conn.now) (state S.Store tx.new.conn.now) }
+    ensures inside { HasCleanDisk (state S.Store tx.new.conn.now) → OnOk result (IsTrue (state S.Store tx.old.conn.now).in_transaction → IsTrue (state S.Store tx.new.conn.now).in_transaction) }
+    ensures done { HasCleanDisk (state S.Store tx.new.conn.now) → OnOk result ((w : World) → Holds (content_of w) (state S.Store tx.old.conn.now) → Holds (content_of (with_next (unwrap_or next w.next) w)) (state S.Store tx.new.conn.now)) }
+{
+    match next {
+        Some(n) => update_next(tx, n),
+        None => {
+            let _changes = tx.changes();
+            Ok(())
+        }
+    }
+}
+
+/// Puts what a decision makes of the rows, within a transaction. It commits nothing.
+pub fn write_change<S: Alter>(
+    alloc: Global,
+    tx: &mut Transaction<'_, S>,
+    d: &Decision<'_>,
+) -> Result<(), Fault>
+    ensures same_reference { tx.new.conn.ghost_name ≡ tx.old.conn.ghost_name }
+    ensures clean { HasCleanDisk (state S.Store tx.new.conn.now) → HasCleanDisk (state S.Store tx.old.conn.now) }
+    ensures kept { HasCleanDisk (state S.Store tx.new.conn.now) → IsTrue (state S.Store tx.old.conn.now).in_transaction → KeepsCommit (state S.Store tx.old.conn.now) (state S.Store tx.new.conn.now) }
+    ensures inside { HasCleanDisk (state S.Store tx.new.conn.now) → OnOk result (IsTrue (state S.Store tx.old.conn.now).in_transaction → IsTrue (state S.Store tx.new.conn.now).in_transaction) }
+    ensures made { HasCleanDisk (state S.Store tx.new.conn.now) → OnOk result ((w : World) → IsSound w → IsDecisionOn w (decision_of d.now) → Holds (content_of w) (state S.Store tx.old.conn.now) → Holds (content_of (made_on (change_of d.now.change) w)) (state S.Store tx.new.conn.now)) }
+{
+    decisions_are_sound();
+    put_frees(tx, d.change.free.as_slice())?;
+    put_jobs(alloc, tx, d.change.jobs.as_slice())?;
+    put_any_document(alloc, tx, &d.change.document)?;
+    insert_grants(tx, d.change.grants.as_slice())?;
+    put_any_report(tx, &d.change.report)?;
+    put_any_next(tx, d.change.next)
+}

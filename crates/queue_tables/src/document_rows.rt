@@ -1,0 +1,123 @@
+//! The statements on documents.
+ghost use Rattle.std.specs.Prelude.{◌≡◌, ◌≤◌, ◌+◌, IfOk, OnOk, IsTrue, Some, length, ◌∷◌, []};
+ghost use Rattle.sqlite.specs.State.{HasCleanDisk, KeepsCommit};
+ghost use Rattle.sqlite.specs.Held.{state};
+ghost use Rattle.sqlite.specs.declared.types.Value.TheVariants.{Text as Words};
+ghost use Rattle.queue_core.specs.Event.{document_of};
+ghost use Rattle.queue_core.specs.World.{World, rows, job_at};
+ghost use Rattle.queue_core.specs.declared.job.Job.{Job as JobValue};
+ghost use Rattle.queue_tables.specs.Content.{Content, Holds, content_of};
+ghost use Rattle.queue_tables.specs.Steps.{AreDistinct, documents_at, with_added, with_document_row};
+ghost use Rattle.queue_tables.specs.Values.{format_text, number};
+
+use crate::fault::Fault;
+use crate::job_rows::find_job;
+use crate::piece_rows::insert_pieces;
+use crate::run::{run, select_inside};
+use queue_core::document::Format;
+use queue_core::event::NewDocument;
+use sqlite::{Alter, Transaction, params};
+use std::alloc::Global;
+
+/// The greatest number of documents of a job.
+const MANY: usize = 16;
+
+/// The greatest length of a document in bytes.
+const LONG: usize = 16_777_216;
+
+/// The column `format`, a MIME media type.
+pub fn format_name(format: Format) -> &'static str
+    ensures { result.now ≡ format_text format }
+{
+    match format {
+        Format::OctetStream => "application/octet-stream",
+        Format::Pdf => "application/pdf",
+        Format::Postscript => "application/postscript",
+        Format::Jpeg => "image/jpeg",
+        Format::PwgRaster => "image/pwg-raster",
+        Format::Urf => "image/urf",
+        Format::PlainText => "text/plain",
+    }
+}
+
+/// Adds the row of a document.
+fn insert_document<S: Alter>(
+    tx: &mut Transaction<'_, S>,
+    job: u32,
+    doc: u32,
+    format: Format,
+    octets: u32,
+) -> Result<(), Fault>
+    ensures same_reference { tx.new.conn.ghost_name ≡ tx.old.conn.ghost_name }
+    ensures clean { HasCleanDisk (state S.Store tx.new.conn.now) → HasCleanDisk (state S.Store tx.old.conn.now) }
+    ensures kept { HasCleanDisk (state S.Store tx.new.conn.now) → IsTrue (state S.Store tx.old.conn.now).in_transaction → KeepsCommit (state S.Store tx.old.conn.now) (state S.Store tx.new.conn.now) }
+    ensures inside { HasCleanDisk (state S.Store tx.new.conn.now) → OnOk result (IsTrue (state S.Store tx.old.conn.now).in_transaction → IsTrue (state S.Store tx.new.conn.now).in_transaction) }
+    ensures done { HasCleanDisk (state S.Store tx.new.conn.now) → OnOk result ((c : Content) → Holds c (state S.Store tx.old.conn.now) → Holds (with_document_row (number job ∷ number doc ∷ Words (format_text format) ∷ number octets ∷ []) c) (state S.Store tx.new.conn.now)) }
+{
+    run(
+        tx,
+        "INSERT INTO documents (job, doc, format, octets) VALUES (?1, ?2, ?3, ?4)",
+        params![job, doc, format_name(format), octets],
+    )?;
+    Ok(())
+}
+
+/// How many documents the job of that number has.
+fn count_documents<S: Alter>(tx: &mut Transaction<'_, S>, job: u32) -> Result<u32, Fault>
+    ensures same_reference { tx.new.conn.ghost_name ≡ tx.old.conn.ghost_name }
+    ensures clean { HasCleanDisk (state S.Store tx.new.conn.now) → HasCleanDisk (state S.Store tx.old.conn.now) }
+    ensures kept { HasCleanDisk (state S.Store tx.new.conn.now) → IsTrue (state S.Store tx.old.conn.now).in_transaction → KeepsCommit (state S.Store tx.old.conn.now) (state S.Store tx.new.conn.now) }
+    ensures inside { HasCleanDisk (state S.Store tx.new.conn.now) → OnOk result (IsTrue (state S.Store tx.old.conn.now).in_transaction → IsTrue (state S.Store tx.new.conn.now).in_transaction) }
+    ensures few { IfOk result (λ n. n ≤ 16) }
+    ensures counted { HasCleanDisk (state S.Store tx.new.conn.now) → IfOk result (λ n. (w : World) → AreDistinct w.jobs → Holds (content_of w) (state S.Store tx.old.conn.now) → (n ≡ documents_at job w.jobs) × Holds (content_of w) (state S.Store tx.new.conn.now)) }
+{
+    let found = select_inside(
+        tx,
+        "SELECT octets FROM documents WHERE job = ?1 ORDER BY doc",
+        params![job],
+    )?;
+    if found.len() > MANY {
+        return Err(Fault::Damaged);
+    }
+    Ok(found.len() as u32)
+}
+
+/// Adds a document after those that the job has.
+fn add_document<S: Alter>(
+    tx: &mut Transaction<'_, S>,
+    job: u32,
+    format: Format,
+    bytes: &[u8],
+) -> Result<(), Fault>
+    requires { length bytes.now ≤ 16777216 }
+    ensures same_reference { tx.new.conn.ghost_name ≡ tx.old.conn.ghost_name }
+    ensures clean { HasCleanDisk (state S.Store tx.new.conn.now) → HasCleanDisk (state S.Store tx.old.conn.now) }
+    ensures kept { HasCleanDisk (state S.Store tx.new.conn.now) → IsTrue (state S.Store tx.old.conn.now).in_transaction → KeepsCommit (state S.Store tx.old.conn.now) (state S.Store tx.new.conn.now) }
+    ensures inside { HasCleanDisk (state S.Store tx.new.conn.now) → OnOk result (IsTrue (state S.Store tx.old.conn.now).in_transaction → IsTrue (state S.Store tx.new.conn.now).in_transaction) }
+    ensures done { HasCleanDisk (state S.Store tx.new.conn.now) → OnOk result ((w : World) (was : JobValue) → AreDistinct w.jobs → job_at job (rows w) ≡ Some was → Holds (content_of w) (state S.Store tx.old.conn.now) → Holds (content_of (with_added (Some (record { job = job; format = format; bytes = bytes.now })) w)) (state S.Store tx.new.conn.now)) }
+{
+    let count = count_documents(tx, job)?;
+    insert_document(tx, job, count + 1, format, bytes.len() as u32)?;
+    insert_pieces(tx, job, count + 1, bytes)
+}
+
+/// Adds the document of a change, where its job is there.
+pub(crate) fn put_document<S: Alter>(
+    alloc: Global,
+    tx: &mut Transaction<'_, S>,
+    d: &NewDocument<'_>,
+) -> Result<(), Fault>
+    ensures same_reference { tx.new.conn.ghost_name ≡ tx.old.conn.ghost_name }
+    ensures clean { HasCleanDisk (state S.Store tx.new.conn.now) → HasCleanDisk (state S.Store tx.old.conn.now) }
+    ensures kept { HasCleanDisk (state S.Store tx.new.conn.now) → IsTrue (state S.Store tx.old.conn.now).in_transaction → KeepsCommit (state S.Store tx.old.conn.now) (state S.Store tx.new.conn.now) }
+    ensures inside { HasCleanDisk (state S.Store tx.new.conn.now) → OnOk result (IsTrue (state S.Store tx.old.conn.now).in_transaction → IsTrue (state S.Store tx.new.conn.now).in_transaction) }
+    ensures done { HasCleanDisk (state S.Store tx.new.conn.now) → OnOk result ((w : World) → AreDistinct w.jobs → Holds (content_of w) (state S.Store tx.old.conn.now) → Holds (content_of (with_added (Some (document_of d.now)) w)) (state S.Store tx.new.conn.now)) }
+{
+    if d.bytes.len() > LONG {
+        return Err(Fault::Damaged);
+    }
+    match find_job(alloc, tx, d.job)? {
+        None => Err(Fault::Damaged),
+        Some(_job) => add_document(tx, d.job, d.format, d.bytes),
+    }
+}

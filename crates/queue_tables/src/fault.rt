@@ -1,0 +1,94 @@
+//! Why the tables can't be read or written.
+ghost use Rattle.std.specs.Prelude.{◌≡◌};
+ghost use Rattle.queue_tables.specs.Faults.{write_fault, form_fault};
+
+use queue_core::book::BookFault;
+use sqlite::{Error, ErrorCode};
+use std::alloc::{AllocError, AllocFailed};
+
+/// Why the tables can't be read or written.
+#[derive(Clone, Copy, Debug, PartialEq, Eq)]
+pub enum Fault {
+    Memory,
+    /// The disk, or its size, refused.
+    Disk,
+    /// A row has not the form of its table, or another row of its key is there.
+    Damaged,
+}
+
+/// A query that was not run to its end.
+impl From<Error> for Fault {
+    ghost use Rattle.std.specs.Prelude.{◌≡◌};
+    ghost use Rattle.queue_tables.specs.Faults.{read_fault};
+
+    ghost from_gives = { λ e f. f ≡ read_fault e };
+
+    fn from(e: Error) -> Fault {
+        match e {
+            Error::SqliteFailure(ErrorCode::OutOfMemory) => Fault::Memory,
+            _ => Fault::Disk,
+        }
+    }
+}
+
+impl From<AllocError> for Fault {
+    ghost use Rattle.std.specs.Prelude.{◌≡◌};
+    ghost use Rattle.queue_tables.specs.declared.fault.Fault.TheVariants.{Memory};
+
+    ghost from_gives = { λ _ f. f ≡ Memory };
+
+    fn from(_: AllocError) -> Fault {
+        Fault::Memory
+    }
+}
+
+impl<T: Drop> From<AllocFailed<T>> for Fault {
+    ghost use Rattle.std.specs.Prelude.{◌≡◌};
+    ghost use Rattle.queue_tables.specs.declared.fault.Fault.TheVariants.{Memory};
+
+    ghost from_gives = { λ _ f. f ≡ Memory };
+
+    fn from(_: AllocFailed<T>) -> Fault {
+        Fault::Memory
+    }
+}
+
+impl From<Fault> for BookFault {
+    ghost use Rattle.std.specs.Prelude.{◌≡◌};
+    ghost use Rattle.queue_tables.specs.Faults.{told_as};
+
+    ghost from_gives = { λ f b. b ≡ told_as f };
+
+    fn from(f: Fault) -> BookFault {
+        match f {
+            Fault::Memory => BookFault::Memory,
+            Fault::Disk => BookFault::Disk,
+            Fault::Damaged => BookFault::Damaged,
+        }
+    }
+}
+
+/// A value that was read and has not the form of its column.
+pub fn fault_of_value(e: Error) -> Fault
+    ensures { result ≡ form_fault e }
+{
+    match e {
+        Error::SqliteFailure(ErrorCode::OutOfMemory) => Fault::Memory,
+        _ => Fault::Damaged,
+    }
+}
+
+/// A statement that writes was refused: a refusal that is neither for memory nor for the disk is one of a row.
+pub fn fault_of_write(e: Error) -> Fault
+    ensures { result ≡ write_fault e }
+{
+    match e {
+        Error::SqliteFailure(ErrorCode::OutOfMemory) => Fault::Memory,
+        Error::SqliteFailure(ErrorCode::SystemIoFailure) => Fault::Disk,
+        Error::SqliteFailure(ErrorCode::DiskFull) => Fault::Disk,
+        Error::SqliteFailure(ErrorCode::TooBig) => Fault::Disk,
+        Error::SqliteFailure(ErrorCode::NoRowid) => Fault::Disk,
+        Error::SqliteFailure(ErrorCode::Closed) => Fault::Disk,
+        _ => Fault::Damaged,
+    }
+}

@@ -1,0 +1,107 @@
+//! The statements on jobs.
+ghost use Rattle.std.specs.Prelude.{◌≡◌, OnOk, IfOk, IsTrue, filter, option_map, [], ◌∷◌};
+ghost use Rattle.sqlite.specs.State.{HasCleanDisk, KeepsCommit};
+ghost use Rattle.sqlite.specs.Held.{state};
+ghost use Rattle.queue_core.specs.declared.job.Job.{Job as JobValue};
+ghost use Rattle.queue_core.specs.World.{World, rows, job_at};
+ghost use Rattle.queue_tables.specs.Content.{Content, Holds, content_of};
+ghost use Rattle.queue_tables.specs.Steps.{AreDistinct, bare, is_numbered, with_job_anew, with_job_row};
+ghost use Rattle.queue_tables.specs.Values.{job_values};
+
+use crate::codes::{phase_number_of, why_number_of};
+use crate::fault::Fault;
+use crate::read::read_job;
+use crate::run::{run, select_inside};
+use queue_core::job::Job;
+use queue_rows::laws::numbers_tell_names;
+use sqlite::{Alter, Transaction, params};
+use std::alloc::Global;
+
+/// Adds a job.
+pub(crate) fn insert_job<S: Alter>(tx: &mut Transaction<'_, S>, job: &Job) -> Result<(), Fault>
+    ensures same_reference { tx.new.conn.ghost_name ≡ tx.old.conn.ghost_name }
+    ensures clean { HasCleanDisk (state S.Store tx.new.conn.now) → HasCleanDisk (state S.Store tx.old.conn.now) }
+    ensures kept { HasCleanDisk (state S.Store tx.new.conn.now) → IsTrue (state S.Store tx.old.conn.now).in_transaction → KeepsCommit (state S.Store tx.old.conn.now) (state S.Store tx.new.conn.now) }
+    ensures inside { HasCleanDisk (state S.Store tx.new.conn.now) → OnOk result (IsTrue (state S.Store tx.old.conn.now).in_transaction → IsTrue (state S.Store tx.new.conn.now).in_transaction) }
+    ensures done { HasCleanDisk (state S.Store tx.new.conn.now) → OnOk result ((c : Content) → Holds c (state S.Store tx.old.conn.now) → Holds (with_job_row (job_values job.now) c) (state S.Store tx.new.conn.now)) }
+{
+    run(
+        tx,
+        "INSERT INTO jobs (number, owner, name, copies, impressions, hold, incoming, phase, why, stopping, count, created, begun, ended) VALUES (?1, ?2, ?3, ?4, ?5, ?6, ?7, ?8, ?9, ?10, ?11, ?12, ?13, ?14)",
+        params![
+            job.number,
+            job.owner.as_str(),
+            job.name.as_str(),
+            job.copies,
+            job.impressions,
+            job.hold,
+            job.incoming,
+            phase_number_of(job.phase),
+            why_number_of(job.phase),
+            job.stopping,
+            job.count,
+            job.created,
+            job.begun,
+            job.ended
+        ],
+    )?;
+    Ok(())
+}
+
+/// Puts the columns of a job anew.
+pub(crate) fn update_job<S: Alter>(tx: &mut Transaction<'_, S>, job: &Job) -> Result<(), Fault>
+    ensures same_reference { tx.new.conn.ghost_name ≡ tx.old.conn.ghost_name }
+    ensures clean { HasCleanDisk (state S.Store tx.new.conn.now) → HasCleanDisk (state S.Store tx.old.conn.now) }
+    ensures kept { HasCleanDisk (state S.Store tx.new.conn.now) → IsTrue (state S.Store tx.old.conn.now).in_transaction → KeepsCommit (state S.Store tx.old.conn.now) (state S.Store tx.new.conn.now) }
+    ensures inside { HasCleanDisk (state S.Store tx.new.conn.now) → OnOk result (IsTrue (state S.Store tx.old.conn.now).in_transaction → IsTrue (state S.Store tx.new.conn.now).in_transaction) }
+    ensures done { HasCleanDisk (state S.Store tx.new.conn.now) → OnOk result ((c : Content) (was : JobValue) → Holds c (state S.Store tx.old.conn.now) → filter (is_numbered job.now.number) c.jobs ≡ job_values was ∷ [] → was.number ≡ job.now.number → Holds (with_job_anew job.now c) (state S.Store tx.new.conn.now)) }
+{
+    run(
+        tx,
+        "UPDATE jobs SET owner = ?2, name = ?3, copies = ?4, impressions = ?5, hold = ?6, incoming = ?7, phase = ?8, why = ?9, stopping = ?10, count = ?11, created = ?12, begun = ?13, ended = ?14 WHERE number = ?1",
+        params![
+            job.number,
+            job.owner.as_str(),
+            job.name.as_str(),
+            job.copies,
+            job.impressions,
+            job.hold,
+            job.incoming,
+            phase_number_of(job.phase),
+            why_number_of(job.phase),
+            job.stopping,
+            job.count,
+            job.created,
+            job.begun,
+            job.ended
+        ],
+    )?;
+    Ok(())
+}
+
+/// The job of that number without its documents, where it is there.
+pub(crate) fn find_job<S: Alter>(
+    alloc: Global,
+    tx: &mut Transaction<'_, S>,
+    number: u32,
+) -> Result<Option<Job>, Fault>
+    ensures same_reference { tx.new.conn.ghost_name ≡ tx.old.conn.ghost_name }
+    ensures clean { HasCleanDisk (state S.Store tx.new.conn.now) → HasCleanDisk (state S.Store tx.old.conn.now) }
+    ensures kept { HasCleanDisk (state S.Store tx.new.conn.now) → IsTrue (state S.Store tx.old.conn.now).in_transaction → KeepsCommit (state S.Store tx.old.conn.now) (state S.Store tx.new.conn.now) }
+    ensures inside { HasCleanDisk (state S.Store tx.new.conn.now) → OnOk result (IsTrue (state S.Store tx.old.conn.now).in_transaction → IsTrue (state S.Store tx.new.conn.now).in_transaction) }
+    ensures found { HasCleanDisk (state S.Store tx.new.conn.now) → IfOk result (λ found. (w : World) → AreDistinct w.jobs → Holds (content_of w) (state S.Store tx.old.conn.now) → (found ≡ option_map bare (job_at number (rows w))) × Holds (content_of w) (state S.Store tx.new.conn.now)) }
+{
+    numbers_tell_names();
+    let found = select_inside(
+        tx,
+        "SELECT number, owner, name, copies, impressions, hold, incoming, phase, why, stopping, count, created, begun, ended FROM jobs WHERE number = ?1",
+        params![number],
+    )?;
+    match found.first() {
+        None => Ok(None),
+        Some(row) => {
+            let job = read_job(alloc, row)?;
+            Ok(Some(job))
+        }
+    }
+}

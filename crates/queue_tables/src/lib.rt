@@ -1,0 +1,23 @@
+//! The tables in which a queue is kept: their schema, what each column holds, the change that a decision makes
+//! of their rows, and the rows as they are read.
+#![tactic(auto)]
+
+mod account_rows;
+pub mod change;
+mod codes;
+mod document_rows;
+pub mod fault;
+mod grant_rows;
+mod job_rows;
+pub mod meta_rows;
+mod pages;
+mod piece_rows;
+mod put;
+pub mod read;
+mod report_rows;
+mod run;
+pub mod transaction;
+
+pub use change::write_change;
+pub use fault::Fault;
+pub use transaction::make;

@@ -1,0 +1,60 @@
+//! The statements on pieces of documents.
+ghost use Rattle.std.specs.Prelude.{◌≡◌, ◌≤◌, OnOk, IsTrue, length};
+ghost use Rattle.sqlite.specs.State.{HasCleanDisk, KeepsCommit};
+ghost use Rattle.sqlite.specs.Held.{state};
+ghost use Rattle.queue_rows.specs.Pieces.{pieces_in};
+ghost use Rattle.queue_tables.specs.Content.{Content, Holds};
+ghost use Rattle.queue_tables.specs.Steps.{with_piece_row, with_pieces};
+ghost use Rattle.queue_tables.specs.Values.{piece_values};
+
+use crate::fault::Fault;
+use crate::run::run;
+use sqlite::{Alter, Transaction, params};
+
+/// The bytes of a full piece.
+const PIECE: usize = 65_536;
+
+/// Adds a piece.
+fn insert_piece<S: Alter>(
+    tx: &mut Transaction<'_, S>,
+    job: u32,
+    doc: u32,
+    piece: u32,
+    bytes: &[u8],
+) -> Result<(), Fault>
+    ensures same_reference { tx.new.conn.ghost_name ≡ tx.old.conn.ghost_name }
+    ensures clean { HasCleanDisk (state S.Store tx.new.conn.now) → HasCleanDisk (state S.Store tx.old.conn.now) }
+    ensures kept { HasCleanDisk (state S.Store tx.new.conn.now) → IsTrue (state S.Store tx.old.conn.now).in_transaction → KeepsCommit (state S.Store tx.old.conn.now) (state S.Store tx.new.conn.now) }
+    ensures inside { HasCleanDisk (state S.Store tx.new.conn.now) → OnOk result (IsTrue (state S.Store tx.old.conn.now).in_transaction → IsTrue (state S.Store tx.new.conn.now).in_transaction) }
+    ensures done { HasCleanDisk (state S.Store tx.new.conn.now) → OnOk result ((c : Content) → Holds c (state S.Store tx.old.conn.now) → Holds (with_piece_row (piece_values job doc piece bytes.now) c) (state S.Store tx.new.conn.now)) }
+{
+    run(
+        tx,
+        "INSERT INTO pieces (job, doc, piece, bytes) VALUES (?1, ?2, ?3, ?4)",
+        params![job, doc, piece, bytes],
+    )?;
+    Ok(())
+}
+
+/// Adds the pieces of a document.
+pub(crate) fn insert_pieces<S: Alter>(
+    tx: &mut Transaction<'_, S>,
+    job: u32,
+    doc: u32,
+    bytes: &[u8],
+) -> Result<(), Fault>
+    requires { length bytes.now ≤ 16777216 }
+    ensures same_reference { tx.new.conn.ghost_name ≡ tx.old.conn.ghost_name }
+    ensures clean { HasCleanDisk (state S.Store tx.new.conn.now) → HasCleanDisk (state S.Store tx.old.conn.now) }
+    ensures kept { HasCleanDisk (state S.Store tx.new.conn.now) → IsTrue (state S.Store tx.old.conn.now).in_transaction → KeepsCommit (state S.Store tx.old.conn.now) (state S.Store tx.new.conn.now) }
+    ensures inside { HasCleanDisk (state S.Store tx.new.conn.now) → OnOk result (IsTrue (state S.Store tx.old.conn.now).in_transaction → IsTrue (state S.Store tx.new.conn.now).in_transaction) }
+    ensures done { HasCleanDisk (state S.Store tx.new.conn.now) → OnOk result ((c : Content) → Holds c (state S.Store tx.old.conn.now) → Holds (with_pieces job doc bytes.now (pieces_in (length bytes.now)) c) (state S.Store tx.new.conn.now)) }
+{
+    let count = bytes.len().div_ceil(PIECE);
+    for k in 0..count {
+        let start = k * PIECE;
+        let end = bytes.len().min(start + PIECE);
+        insert_piece(tx, job, doc, k as u32, &bytes[start..end])?;
+    }
+    Ok(())
+}

@@ -1,0 +1,105 @@
+//! Rows as they are read, column by column.
+ghost use Rattle.std.specs.Prelude.{◌≡◌, ◌≢◌, ◌<◌, ◌^◌, length, Bool, Option, IfOk, IfErr, IfSome};
+ghost use Rattle.sqlite.specs.Order.{column};
+ghost use Rattle.sqlite.specs.declared.types.Value.TheVariants.{Text as Words};
+ghost use Rattle.std.specs.Str.{IsUtf8};
+ghost use Rattle.std.specs.Prelude.{ℕ, List};
+ghost use Rattle.queue_core.specs.declared.job.Job.{Job as JobValue};
+ghost use Rattle.queue_core.specs.declared.job.Phase.{Phase as PhaseValue};
+ghost use Rattle.queue_rows.specs.Codes.{phase_number, why_number};
+ghost use Rattle.queue_tables.specs.Forms.{IsFormedJob};
+ghost use Rattle.queue_tables.specs.Values.{job_values, moment, number, truth};
+
+use crate::fault::{Fault, fault_of_value};
+use queue_core::job::{Job, Phase};
+use queue_core::text::Text;
+use queue_rows::codes::{flag_of, phase_of};
+use sqlite::Row;
+use sqlite::types::FromSql;
+use std::alloc::Global;
+
+/// One value. Damaged is told only where the column has not this form.
+pub fn value<T: FromSql>(row: &Row, at: usize) -> Result<T, Fault>
+    ensures ok { IfOk result (λ x. T.FromSql.reads_as (column row.now at) x) }
+    ensures err { IfErr result (λ e. e ≡ Fault.Damaged → at < length row.now → ¬ T.FromSql.is_readable (column row.now at)) }
+    ensures never { IfErr result (λ e. e ≢ Fault.Disk) }
+{
+    match row.get(at) {
+        Ok(x) => Ok(x),
+        Err(e) => Err(fault_of_value(e)),
+    }
+}
+
+/// A text.
+pub fn text(alloc: Global, row: &Row, at: usize) -> Result<Text, Fault>
+    ensures ok { IfOk result (λ t. column row.now at ≡ Words t) }
+    ensures err { IfErr result (λ e. e ≡ Fault.Damaged → at < length row.now → (t : List ℕ) → IsUtf8 t → column row.now at ≢ Words t) }
+    ensures never { IfErr result (λ e. e ≢ Fault.Disk) }
+{
+    let text: String = value(row, at)?;
+    let text = Text::copy_of(alloc, text.as_str())?;
+    Ok(text)
+}
+
+/// A truth value, which is 0 or 1.
+pub fn flag(row: &Row, at: usize) -> Result<bool, Fault>
+    ensures ok { IfOk result (λ b. column row.now at ≡ truth b) }
+    ensures err { IfErr result (λ e. e ≡ Fault.Damaged → at < length row.now → (b : Bool) → column row.now at ≢ truth b) }
+    ensures never { IfErr result (λ e. e ≢ Fault.Disk) }
+{
+    let code: i64 = value(row, at)?;
+    match flag_of(code) {
+        Some(b) => Ok(b),
+        None => Err(Fault::Damaged),
+    }
+}
+
+/// The phase of two columns.
+pub fn phase(row: &Row, at: usize, why_at: usize) -> Result<Phase, Fault>
+    ensures ok { IfOk result (λ p. (column row.now at ≡ number (phase_number p)) × (column row.now why_at ≡ number (why_number p))) }
+    ensures err { IfErr result (λ e. e ≡ Fault.Damaged → at < length row.now → why_at < length row.now → (p : PhaseValue) → column row.now at ≡ number (phase_number p) → column row.now why_at ≢ number (why_number p)) }
+    ensures never { IfErr result (λ e. e ≢ Fault.Disk) }
+{
+    let code: i64 = value(row, at)?;
+    let why: i64 = value(row, why_at)?;
+    match phase_of(code, why) {
+        Some(p) => Ok(p),
+        None => Err(Fault::Damaged),
+    }
+}
+
+/// A moment, or NULL where there is none.
+pub fn moment_at(row: &Row, at: usize) -> Result<Option<u32>, Fault>
+    ensures ok { IfOk result (λ o. column row.now at ≡ moment o) }
+    ensures err { IfErr result (λ e. e ≡ Fault.Damaged → at < length row.now → (o : Option ℕ) → IfSome o (λ n. n < 2 ^ 32) → column row.now at ≢ moment o) }
+    ensures never { IfErr result (λ e. e ≢ Fault.Disk) }
+{
+    value(row, at)
+}
+
+/// A job without its documents, from the columns that a SELECT shows. Damaged is told only where they are
+/// no job's.
+pub fn read_job(alloc: Global, row: &Row) -> Result<Job, Fault>
+    ensures ok { IfOk result (λ j. length row.now ≡ 14 → row.now ≡ job_values j) }
+    ensures bare { IfOk result (λ j. (j.documents ≡ 0) × (j.octets ≡ 0)) }
+    ensures err { IfErr result (λ e. e ≡ Fault.Damaged → (j : JobValue) → IsFormedJob j → row.now ≢ job_values j) }
+    ensures never { IfErr result (λ e. e ≢ Fault.Disk) }
+{
+    Ok(Job {
+        number: value(row, 0)?,
+        owner: text(alloc, row, 1)?,
+        name: text(alloc, row, 2)?,
+        copies: value(row, 3)?,
+        impressions: value(row, 4)?,
+        hold: flag(row, 5)?,
+        incoming: flag(row, 6)?,
+        phase: phase(row, 7, 8)?,
+        stopping: flag(row, 9)?,
+        count: value(row, 10)?,
+        created: value(row, 11)?,
+        begun: moment_at(row, 12)?,
+        ended: moment_at(row, 13)?,
+        documents: 0,
+        octets: 0,
+    })
+}

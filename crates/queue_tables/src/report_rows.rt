@@ -1,0 +1,43 @@
+//! The statements on kept reports.
+ghost use Rattle.std.specs.Prelude.{◌≡◌, OnOk, IsTrue, None, Some};
+ghost use Rattle.std.specs.FinMap.{get};
+ghost use Rattle.sqlite.specs.State.{HasCleanDisk, KeepsCommit};
+ghost use Rattle.sqlite.specs.Held.{state};
+ghost use Rattle.queue_core.specs.World.{World};
+ghost use Rattle.queue_tables.specs.Content.{Content, Holds, content_of};
+ghost use Rattle.queue_tables.specs.Steps.{with_kept};
+ghost use Rattle.queue_tables.specs.Values.{report_values};
+
+use crate::codes::kind_number_of;
+use crate::fault::Fault;
+use crate::run::run;
+use queue_core::event::KeptReport;
+use sqlite::{Alter, Transaction, params};
+
+/// Adds a report, of whose job and sequence number none is kept.
+pub(crate) fn insert_report<S: Alter>(
+    tx: &mut Transaction<'_, S>,
+    kept: &KeptReport,
+) -> Result<(), Fault>
+    ensures same_reference { tx.new.conn.ghost_name ≡ tx.old.conn.ghost_name }
+    ensures clean { HasCleanDisk (state S.Store tx.new.conn.now) → HasCleanDisk (state S.Store tx.old.conn.now) }
+    ensures kept { HasCleanDisk (state S.Store tx.new.conn.now) → IsTrue (state S.Store tx.old.conn.now).in_transaction → KeepsCommit (state S.Store tx.old.conn.now) (state S.Store tx.new.conn.now) }
+    ensures inside { HasCleanDisk (state S.Store tx.new.conn.now) → OnOk result (IsTrue (state S.Store tx.old.conn.now).in_transaction → IsTrue (state S.Store tx.new.conn.now).in_transaction) }
+    ensures done { HasCleanDisk (state S.Store tx.new.conn.now) → OnOk result ((w : World) → get w.reports (kept.now.report.job, kept.now.report.seq) ≡ None → Holds (content_of w) (state S.Store tx.old.conn.now) → Holds (content_of (with_kept (Some kept.now) w)) (state S.Store tx.new.conn.now)) }
+{
+    let kind = kind_number_of(kept.report.kind);
+    let told = u32::from(kept.state);
+    run(
+        tx,
+        "INSERT INTO reports (job, seq, kind, count, state, total) VALUES (?1, ?2, ?3, ?4, ?5, ?6)",
+        params![
+            kept.report.job,
+            kept.report.seq,
+            kind,
+            kept.report.count,
+            told,
+            kept.total
+        ],
+    )?;
+    Ok(())
+}

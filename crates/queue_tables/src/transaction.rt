@@ -1,0 +1,39 @@
+//! A decision in one transaction.
+ghost use Rattle.std.specs.Prelude.{◌≡◌, OnOk, OnErr, IsTrue};
+ghost use Rattle.sqlite.specs.State.{HasCleanDisk};
+ghost use Rattle.sqlite.specs.Held.{state};
+ghost use Rattle.queue_core.specs.Book.{IsDecisionOn};
+ghost use Rattle.queue_core.specs.Event.{change_of, decision_of};
+ghost use Rattle.queue_core.specs.Sound.{IsSound};
+ghost use Rattle.queue_core.specs.World.{World, made_on};
+ghost use Rattle.queue_tables.specs.Content.{Holds, content_of};
+
+use crate::change::write_change;
+use crate::fault::{Fault, fault_of_write};
+use queue_core::event::Decision;
+use sqlite::{Alter, Connection};
+use std::alloc::Global;
+
+/// Makes a decision of the machine on the world that the tables stand for: all of its change in one
+/// transaction. After a refusal they stand for the same world as before, where the connection is still open.
+pub fn make<S: Alter>(
+    alloc: Global,
+    conn: &mut Connection<S>,
+    d: &Decision<'_>,
+) -> Result<(), Fault>
+    ensures clean { HasCleanDisk (state S.Store conn.new) → HasCleanDisk (state S.Store conn.old) }
+    ensures opened { HasCleanDisk (state S.Store conn.new) → IsTrue (state S.Store conn.new).is_open → IsTrue (state S.Store conn.old).is_open }
+    ensures live { HasCleanDisk (state S.Store conn.new) → OnOk result (IsTrue (state S.Store conn.new).is_open) }
+    ensures made { HasCleanDisk (state S.Store conn.new) → OnOk result ((w : World) → IsSound w → IsDecisionOn w (decision_of d.now) → Holds (content_of w) (state S.Store conn.old) → Holds (content_of (made_on (change_of d.now.change) w)) (state S.Store conn.new)) }
+    ensures refused { HasCleanDisk (state S.Store conn.new) → OnErr result ((w : World) → Holds (content_of w) (state S.Store conn.old) → IsTrue (state S.Store conn.new).is_open → Holds (content_of w) (state S.Store conn.new)) }
+{
+    if !conn.is_autocommit() {
+        return Err(Fault::Disk);
+    }
+    let mut tx = conn.transaction();
+    write_change(alloc, &mut tx, d)?;
+    match tx.commit() {
+        Ok(()) => Ok(()),
+        Err(e) => Err(fault_of_write(e)),
+    }
+}

@@ -1,0 +1,101 @@
+//! Pages that enter accounts, and statements of accounts.
+
+use crate::tests::desk::Step::{Ask, Dev, Grant, Look, NoSheet, Sheet, Statement};
+use crate::tests::desk::{Step, take_rows};
+use crate::tests::request::Request::{Cancel, Hold, Print, Release};
+use std::test::Fail;
+
+#[test]
+fn pages_of_waiting_jobs(rt: HostRuntime) -> Result<(), Fail> {
+    const ROWS: &[&[Step<'static>]] = &[
+        // more pages, and the same again
+        &[
+            Grant(b"f24,alice,30\n", Ok((1, 0))),
+            Ask("alice", Print, 0x0000),
+            Ask("alice", Release(1), 0x0000),
+            Sheet("alice", (30, 10, 20, 0)),
+            Grant(b"f25,alice,10\n", Ok((1, 0))),
+            Grant(b"f25,alice,10\n", Ok((0, 1))),
+            Sheet("alice", (40, 20, 20, 0)),
+        ],
+        // the job is held
+        &[
+            Grant(b"f24,alice,30\n", Ok((1, 0))),
+            Ask("alice", Print, 0x0000),
+            Ask("alice", Release(1), 0x0000),
+            Ask("alice", Hold(1), 0x0000),
+            Look("alice", 1, 4, &["job-hold-until-specified"]),
+            Sheet("alice", (30, 30, 0, 0)),
+            Ask("alice", Hold(1), 0x0000),
+            Sheet("alice", (30, 30, 0, 0)),
+        ],
+        // the job is canceled
+        &[
+            Grant(b"f24,alice,30\n", Ok((1, 0))),
+            Ask("alice", Print, 0x0000),
+            Ask("alice", Release(1), 0x0000),
+            Ask("alice", Cancel(1), 0x0000),
+            Sheet("alice", (30, 30, 0, 0)),
+        ],
+        // a caller without an account
+        &[
+            Ask("bob", Print, 0x0000),
+            NoSheet("bob"),
+            Ask("bob", Release(1), 0x0404),
+            Look("bob", 1, 4, &["job-hold-until-specified"]),
+            NoSheet("bob"),
+            Grant(b"f24,bob,19\n", Ok((1, 0))),
+            Ask("bob", Release(1), 0x0404),
+            Grant(b"f25,bob,1\n", Ok((1, 0))),
+            Ask("bob", Release(1), 0x0000),
+            Sheet("bob", (20, 0, 20, 0)),
+        ],
+    ];
+    take_rows(&rt, rt.alloc(), &[], ROWS)
+}
+
+#[test]
+fn statements_of_a_job_that_prints(rt: HostRuntime) -> Result<(), Fail> {
+    const ROWS: &[&[Step<'static>]] = &[&[
+        Grant(b"f24,alice,30\n", Ok((1, 0))),
+        Statement(
+            "alice",
+            "account alice\n\
+                granted               30\n\
+                free                  30\n\
+                reserved               0\n\
+                printed                0\n\
+                \x20      job state  reserved   printed\n\
+                \x20    total               0         0\n",
+        ),
+        Ask("alice", Print, 0x0000),
+        Ask("alice", Print, 0x0000),
+        Ask("alice", Release(1), 0x0000),
+        Dev("1 1 start 0", "ok 1 5 0"),
+        Dev("1 2 count 12", "ok 1 5 12"),
+        Statement(
+            "alice",
+            "account alice\n\
+                granted               30\n\
+                free                  10\n\
+                reserved               8\n\
+                printed               12\n\
+                \x20      job state  reserved   printed\n\
+                \x20        1     5         8        12\n\
+                \x20    total               8        12\n",
+        ),
+        Dev("1 3 done 25", "ok 1 9 25"),
+        Statement(
+            "alice",
+            "account alice\n\
+                granted               30\n\
+                free                   5\n\
+                reserved               0\n\
+                printed               25\n\
+                \x20      job state  reserved   printed\n\
+                \x20        1     9         0        25\n\
+                \x20    total               0        25\n",
+        ),
+    ]];
+    take_rows(&rt, rt.alloc(), &[], ROWS)
+}
