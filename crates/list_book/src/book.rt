@@ -7,6 +7,7 @@ ghost use Rattle.queue_core.specs.Limits.{IsMoment, IsEvent, IsReplyTo};
 ghost use Rattle.queue_core.specs.Machine.{decision};
 ghost use Rattle.queue_core.specs.Shown.{document_at, head_of, pending_jobs, sheet_of};
 ghost use Rattle.queue_core.specs.World.{World, cut, made_on};
+ghost use Rattle.queue_core.specs.declared.book.SendCause.TheVariants.{Write as ByWriter};
 ghost use Rattle.queue_core.specs.declared.document.Document.{Document};
 
 use crate::lists::{Lists, kept_document, reserve, write};
@@ -145,8 +146,9 @@ impl QueueBook for ListBook {
         ensures kept { (w : World) → IsContent self.old w → IsContent self.new w }
         ensures ok { ⊤ → IfOk result (λ sent. (w : World) (d : Document) → IsContent self.new w → document_at w job n ≡ Some d
             → (sent ≡ length d.bytes) × Appends (W.contents out.old) (W.contents out.new) d.bytes) }
-        ensures err { ⊤ → IfErr result (λ f. (w : World) (d : Document) → IsContent self.new w → document_at w job n ≡ Some d
+        ensures err { ⊤ → IfErr result (λ f. (w : World) (d : Document) → IsContent self.old w → document_at w job n ≡ Some d
             → (f.written ≤ length d.bytes) × Appends (W.contents out.old) (W.contents out.new) (take f.written d.bytes)) }
+        ensures fault { IfErr result (λ f. f.cause ≡ ByWriter) }
     {
         match seen::document(&self.lists, job, n) {
             Some(d) => send(out, d.bytes.as_slice()),

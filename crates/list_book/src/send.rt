@@ -1,13 +1,15 @@
 //! Writing a document to whoever fetches it.
 ghost use Rattle.std.specs.Prelude.{◌≡◌, ◌≤◌, IfOk, IfErr, length, take};
 ghost use Rattle.std.specs.Io.KnownBytes.{Appends};
+ghost use Rattle.queue_core.specs.declared.book.SendCause.TheVariants.{Write as ByWriter};
 
 use queue_core::{SendCause, SendFault};
 use std::io::Write;
 
 /// The writer failed behind so many bytes.
 fn broken_off(written: usize) -> SendFault
-    ensures { result.written ≡ written }
+    ensures written { result.written ≡ written }
+    ensures cause { result.cause ≡ ByWriter }
 {
     SendFault {
         written: written as u64,
@@ -22,6 +24,7 @@ pub(crate) fn send<W: Write>(out: &mut W, bytes: &[u8]) -> Result<u64, SendFault
     ensures ok { IfOk result (λ n. Appends (W.contents out.old) (W.contents out.new) bytes.now) }
     ensures within { IfErr result (λ f. f.written ≤ length bytes.now) }
     ensures err { IfErr result (λ f. Appends (W.contents out.old) (W.contents out.new) (take f.written bytes.now)) }
+    ensures cause { IfErr result (λ f. f.cause ≡ ByWriter) }
 {
     let mut at = 0;
     'write: while at < bytes.len() {

@@ -101,7 +101,7 @@ pub trait QueueBook {
         ensures kept { (w : World) → stands self.old w → stands self.new w }
         ensures ok { is_honest self.new → IfOk result (λ sent. (w : World) (d : Document) → stands self.new w → document_at w job n ≡ Some d
             → (sent ≡ length d.bytes) × Appends (W.contents out.old) (W.contents out.new) d.bytes) }
-        ensures err { is_honest self.new → IfErr result (λ f. (w : World) (d : Document) → stands self.new w → document_at w job n ≡ Some d
+        ensures err { is_honest self.new → IfErr result (λ f. (w : World) (d : Document) → stands self.old w → document_at w job n ≡ Some d
             → (f.written ≤ length d.bytes) × Appends (W.contents out.old) (W.contents out.new) (take f.written d.bytes)) };
 
     /// What is told of an account, where it is there.

@@ -53,7 +53,7 @@ fn fits_phase(j: &Job) -> bool
 }
 
 /// The job is within its own limits, and says nothing of its documents.
-fn is_job_row(j: &Job) -> bool
+pub fn is_job_row(j: &Job) -> bool
     ensures { IsTrue result ↔ IsJobRow j.now }
 {
     let texts = is_owner(j.owner.as_str()) && is_job_name(j.name.as_str());

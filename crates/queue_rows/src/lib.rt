@@ -8,7 +8,7 @@ mod balances;
 pub mod codes;
 mod documents;
 mod grants;
-mod jobs;
+pub mod jobs;
 pub mod laws;
 mod meta;
 mod owners;

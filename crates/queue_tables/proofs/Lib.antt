@@ -24,3 +24,4 @@ pub mod Pieces
 pub mod Kept
 pub mod Decided
 pub mod Columns
+pub mod Queries

@@ -6,3 +6,4 @@ pub mod Content
 pub mod Steps
 pub mod Forms
 pub mod Faults
+pub mod Queries

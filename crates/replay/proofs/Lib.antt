@@ -1,3 +1,5 @@
 pub mod DecimalLemmas
 pub mod HexadecimalLemmas
 pub mod LineLemmas
+pub mod MemoryLemmas
+pub mod SessionLemmas

@@ -1,5 +1,5 @@
 -- How a line grows by the pieces that come, and what an input loses by it.
-use Rattle.std.proofs.Common.{◌≡◌, ℕ, ◌+◌, ◌-◌, ◌≤◌, ◌==◌, min, Bool, true, false, not, ◌||◌, List, [], ◌∷◌, ◌++◌, length, take, drop, slice_range, Option, Some, None, sym, ap, subst, ◌∙◌, append_assoc, append-nil, arith, inl, inr, length-take, length-append}
+use Rattle.std.proofs.Common.{◌≡◌, ℕ, ◌+◌, ◌-◌, ◌≤◌, ◌==◌, min, Bool, true, false, not, ◌||◌, List, [], ◌∷◌, ◌++◌, length, take, drop, slice_range, Option, Some, None, sym, ap, subst, refl, ◌∙◌, append_assoc, append-nil, arith, inl, inr, length-take, length-append}
 use Rattle.std.specs.Prelude.{nat_lt}
 use Rattle.std.specs.Bool.{MatchBool, OnFalse}
 use Rattle.std.specs.Io.KnownBytes.{Consumes, IsAtEnd, prepend_known}
@@ -10,6 +10,7 @@ use Rattle.std.proofs.lemmas.Bool.Decides.{nat_tests}
 use Rattle.std.proofs.lemmas.List.{drop-take, take-append-le, take_all, take_min}
 use Rattle.std.proofs.lemmas.List.Elements.{All-append}
 use Rattle.replay.specs.Line.{GivesLine, IsFrontOf, IsOneLine}
+use Rattle.replay.specs.Unread.{Unread, left}
 use Rattle.replay.specs.declared.lines.Line.{Line}
 use lib.Seq.{drop-drop}
 
@@ -117,3 +118,8 @@ input_ended old new line bytes one taken end front false is =
       taken = inr (omega (arith, len), taken, end);
       front = front;
     }
+
+-- nothing has come yet
+pub left_all : (unread : Unread) (remaining : Option (List ℕ)) → unread.come ≡ [] → left unread remaining ≡ remaining
+left_all unread None is = refl
+left_all unread (Some rest) is = rw is refl

@@ -22,6 +22,10 @@ pub record State : Type 0 where
   pub now : ℕ
   pub queue : World
 
+-- the queue is this world, and requests come at this moment
+abbrev pub state : ℕ → World → State
+state now w = record { now = now; queue = w }
+
 -- out is the reply to the message at this moment, and new the queue after it; or out tells of a fault, and the queue stays
 abbrev pub IsReply : World → ℕ → List ℕ → World → List ℕ → Type 0
 IsReply old now message new out = Answers old now message new out ⊎ (Fails message out × (new ≡ old))
@@ -65,11 +69,14 @@ Takes (Grant row) old new text = (new.now ≡ old.now)
     × ((answer : Result Imported ImportFault) × Imports old.queue old.now (file_of row.now) new.queue answer × (text ≡ import_line answer))
 
 -- the digits stand for no message of at most 16,777,216 bytes
+abbrev pub IsNoMessage : List ℕ → Type 0
+IsNoMessage digits = IsErr (decode_of digits) ⊎ IsOkAnd (decode_of digits) (λ message. 16777216 < length message)
+
 abbrev pub IsRefused : RequestLine → Type 0
 IsRefused (Now n) = ⊥
 IsRefused (Dev line) = ⊥
 IsRefused (Grant row) = ⊥
-IsRefused (Ipp digits) = IsErr (decode_of digits.now) ⊎ IsOkAnd (decode_of digits.now) (λ message. 16777216 < length message)
+IsRefused (Ipp digits) = IsNoMessage digits.now
 
 -- the line is of no form, or has a message that is refused
 abbrev pub IsBad : List ℕ → Type 0

@@ -1,5 +1,6 @@
 //! Why the program can't go on.
 
+use queue_core::book::BookFault;
 use queue_core::settings::SettingFault;
 use std::alloc::{AllocError, AllocFailed};
 use std::io;
@@ -11,6 +12,12 @@ pub enum Fault {
     /// There was no memory.
     #[error("memory")]
     Memory,
+    /// The store of the queue, or its size, refused.
+    #[error("disk")]
+    Disk,
+    /// The tables don't stand for a queue.
+    #[error("damaged")]
+    Damaged,
     /// A setting of the printer is not within its limits.
     #[error("bad setting")]
     BadSetting,
@@ -45,6 +52,16 @@ impl From<SettingFault> for Fault {
         match fault {
             SettingFault::Bad => Fault::BadSetting,
             SettingFault::Memory => Fault::Memory,
+        }
+    }
+}
+
+impl From<BookFault> for Fault {
+    fn from(fault: BookFault) -> Fault {
+        match fault {
+            BookFault::Memory => Fault::Memory,
+            BookFault::Disk => Fault::Disk,
+            BookFault::Damaged => Fault::Damaged,
         }
     }
 }

@@ -3,11 +3,15 @@
 
 mod fault;
 mod hexadecimal;
+mod in_memory;
 mod lines;
 mod replaying;
 mod request_line;
 mod session;
+mod settings;
 
 pub use fault::Fault;
 pub use hexadecimal::{HexFault, MAX_BYTES, put_hex, read_hex};
-pub use replaying::replay;
+pub use in_memory::replay;
+pub use replaying::replay_over;
+pub use settings::replay_settings;

@@ -1,66 +1,72 @@
-//! A replay: requests that stand on lines, and the lines that answer them.
+//! A replay over any book: requests that stand on lines, and the lines that answer them.
 
-ghost use Rattle.std.specs.Prelude.{◌≤◌, ℕ, List, IfOk, OnOk};
+ghost use Rattle.std.specs.Prelude.{◌≡◌, ◌≤◌, ℕ, List, IfOk, OnOk};
 ghost use Rattle.std.specs.Io.KnownBytes.{Appends};
+ghost use Rattle.queue_core.specs.World.{World};
 ghost use Rattle.replay.specs.Replay.{Replays, bad_line, first};
+ghost use Rattle.replay.specs.Session.{State};
 ghost use Rattle.replay.specs.Unread.{left};
 
 use crate::fault::Fault;
 use crate::lines::{Line, LineReader};
-use crate::session::Session;
+use crate::session::take_line;
+use queue_core::book::QueueBook;
+use queue_core::settings::Settings;
 use std::alloc::Global;
 use std::io::{Read, Write};
 
-/// Answers the lines of an input until it ends, and gives the program's exit status: 0, or 1 where
-/// a line is of no form. That line is answered by `bad line K`, where lines count from 1, and none
-/// behind it is read. Answers are flushed before the program waits for more of the input. The queue
-/// is a book in memory, empty at first.
-pub fn replay<R: Read, W: Write>(alloc: Global, input: &mut R, output: &mut W) -> Result<u8, Fault>
-    ensures status { IfOk result (λ status. status ≤ 1) }
-    ensures answered { IfOk result (λ status. (text : List ℕ) × Replays (R.remaining input.old) first status text
-        × Appends (W.contents output.old) (W.contents output.new) text) }
-{
-    let mut session = Session::new(alloc)?;
-    answer_input(alloc, &mut session, input, output)
-}
+/// The moment before the first line that tells one.
+const FIRST_MOMENT: u32 = 1;
 
-/// Answers the lines of an input until it ends.
-fn answer_input<R: Read, W: Write>(
+/// Answers the lines of an input over a book, whose settings these are, until the input ends, and gives the program's exit
+/// status: 0, or 1 where a line is of no form. That line is answered by `bad line K`, where lines count from 1, and none
+/// behind it is read. Answers are flushed before the program waits for more of the input.
+pub fn replay_over<R: Read, W: Write, B: QueueBook>(
     alloc: Global,
-    session: &mut Session,
     input: &mut R,
     output: &mut W,
+    book: &mut B,
+    settings: &Settings,
 ) -> Result<u8, Fault>
+    ensures began { B.is_honest book.new → B.is_honest book.old }
     ensures status { IfOk result (λ status. status ≤ 1) }
-    ensures answered { IfOk result (λ status. (text : List ℕ) × Replays (R.remaining input.old) session.old status text
+    ensures answered { B.is_honest book.new → IfOk result (λ status. (w : World) → B.stands book.old w → settings.now ≡ w.settings
+        → (last : State) × (text : List ℕ) × Replays (R.remaining input.old) (first w) status text last × B.stands book.new last.queue
         × Appends (W.contents output.old) (W.contents output.new) text) }
 {
     let mut lines = LineReader::new(alloc)?;
     let mut line = Line::new(alloc);
-    answer_lines(alloc, session, &mut lines, &mut line, input, output)
+    answer_lines(alloc, input, output, book, settings, &mut lines, &mut line)
 }
 
 /// Answers the lines that are left. The line is room for each.
-fn answer_lines<R: Read, W: Write>(
+fn answer_lines<R: Read, W: Write, B: QueueBook>(
     alloc: Global,
-    session: &mut Session,
-    lines: &mut LineReader,
-    line: &mut Line,
     input: &mut R,
     output: &mut W,
+    book: &mut B,
+    settings: &Settings,
+    lines: &mut LineReader,
+    line: &mut Line,
 ) -> Result<u8, Fault>
+    ensures began { B.is_honest book.new → B.is_honest book.old }
     ensures status { IfOk result (λ status. status ≤ 1) }
-    ensures answered { IfOk result (λ status. (text : List ℕ) × Replays (left lines.old (R.remaining input.old)) session.old status text
+    ensures answered { B.is_honest book.new → IfOk result (λ status. (w : World) → B.stands book.old w → settings.now ≡ w.settings
+        → (last : State) × (text : List ℕ) × Replays (left lines.old (R.remaining input.old)) (first w) status text last × B.stands book.new last.queue
         × Appends (W.contents output.old) (W.contents output.new) text) }
 {
+    let mut now = FIRST_MOMENT;
     for number in 1..u64::MAX {
         if !lines.next_line(input, output, line)? {
             output.flush()?;
             return Ok(0);
         }
-        if line.is_cut || !session.take_line(alloc, line.bytes.as_slice(), output)? {
-            tell_bad_line(output, number)?;
-            return Ok(1);
+        match take_line(alloc, book, settings, now, line, output)? {
+            Some(next) => now = next,
+            None => {
+                tell_bad_line(output, number)?;
+                return Ok(1);
+            }
         }
     }
     Err(Fault::Io)

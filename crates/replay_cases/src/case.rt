@@ -1,9 +1,46 @@
 //! A worked example: the lines of a replay, and what they are answered.
 
-use replay::{Fault, replay};
+use list_book::ListBook;
+use replay::{Fault, replay, replay_over, replay_settings};
 use std::alloc::Global;
 use std::io;
 use std::io::{Read, Write};
+
+/// Where a replay keeps its queue.
+#[derive(Clone, Copy)]
+pub(crate) enum Book {
+    /// In lists.
+    Lists,
+    /// In the tables of a store in memory.
+    Tables,
+}
+
+impl Book {
+    /// What it is called where an answer differs.
+    pub(crate) fn name(self) -> &'static [u8] {
+        match self {
+            Book::Lists => b"lists",
+            Book::Tables => b"tables",
+        }
+    }
+
+    /// Answers the lines of an input over an empty queue.
+    fn replay<R: Read, W: Write>(
+        self,
+        alloc: Global,
+        input: &mut R,
+        output: &mut W,
+    ) -> Result<u8, Fault> {
+        match self {
+            Book::Lists => {
+                let settings = replay_settings(alloc)?;
+                let mut book = ListBook::new(alloc, settings.try_clone()?);
+                replay_over(alloc, input, output, &mut book, &settings)
+            }
+            Book::Tables => replay(alloc, input, output),
+        }
+    }
+}
 
 /// A worked example of a replay.
 #[derive(Clone, Copy)]
@@ -30,14 +67,15 @@ impl<'a> Case<'a> {
         })
     }
 
-    /// What a replay of the case writes where its input gives at most so many bytes at a time, and a line `status N`.
-    pub(crate) fn outcome(&self, alloc: Global, size: usize) -> Result<Vec<u8>, Fault> {
+    /// What a replay of the case over such a book writes where its input gives at most so many bytes at a time, and a line
+    /// `status N`.
+    pub(crate) fn outcome(&self, alloc: Global, book: Book, size: usize) -> Result<Vec<u8>, Fault> {
         let mut input = Pieces {
             rest: self.input,
             size,
         };
         let mut output = Vec::new(alloc);
-        let status = replay(alloc, &mut input, &mut output)?;
+        let status = book.replay(alloc, &mut input, &mut output)?;
         writeln!(output, "status {status}")?;
         Ok(output)
     }

@@ -1,20 +1,24 @@
-//! Runs worked examples of replays, each over an empty queue of its own, and compares what they write with what is wanted.
+//! Runs worked examples of replays, each over empty queues of its own in lists and in tables, and compares what they write with
+//! what is wanted.
 //!
 //! In the input a case is a line `# NAME`, the lines of a replay, a line `=`, the lines that are to answer them and a line
 //! `status N`. A case that is answered so is a line `ok NAME` of the output. Of one that is not, the first line that
-//! differs goes to standard error, as it was wanted and as it came, and the program ends with status 1.
+//! differs goes to standard error, as it was wanted and as it came over which book, and the program ends with status 1.
 #![tactic(auto)]
 
 mod case;
 #[cfg(test)]
 mod tests;
 
-use case::{Case, first_difference};
+use case::{Book, Case, first_difference};
 use replay::Fault;
 use std::alloc::Global;
 use std::io;
 use std::io::{BufWriter, Read, Write};
 use std::process::ExitCode;
+
+/// The books that a case is run over.
+const BOOKS: [Book; 2] = [Book::Lists, Book::Tables];
 
 /// How many bytes the input of a replay gives at a time: one, or all that there are room for.
 const SIZES: [usize; 2] = [1, usize::MAX];
@@ -54,26 +58,45 @@ fn run_case<O: Write, E: Write>(
         write_parts(complaints, &[b"no case: ".as_slice(), text])?;
         return Ok(false);
     };
+    let mut is_well = true;
+    for book in BOOKS {
+        is_well &= run_over(alloc, &case, book, complaints)?;
+    }
+    if is_well {
+        write_parts(output, &[b"ok".as_slice(), case.name, b"\n"])?;
+    }
+    Ok(is_well)
+}
+
+/// Runs one case over a book, and says whether it is answered as it is to be.
+fn run_over<E: Write>(
+    alloc: Global,
+    case: &Case<'_>,
+    book: Book,
+    complaints: &mut E,
+) -> Result<bool, Fault> {
     for size in SIZES {
-        let came = case.outcome(alloc, size)?;
+        let came = case.outcome(alloc, book, size)?;
         if came.as_slice() != case.wanted {
-            tell_difference(&case, came.as_slice(), complaints)?;
+            tell_difference(case, book, came.as_slice(), complaints)?;
             return Ok(false);
         }
     }
-    write_parts(output, &[b"ok".as_slice(), case.name, b"\n"])?;
     Ok(true)
 }
 
-/// Writes the name of a case, and the first line that differs.
+/// Writes the names of a case and of the book, and the first line that differs.
 fn tell_difference<E: Write>(
     case: &Case<'_>,
+    book: Book,
     came: &[u8],
     complaints: &mut E,
 ) -> Result<(), Fault> {
     let (wanted, other) = first_difference(case.wanted, came).unwrap_or((case.wanted, came));
     let parts = [
-        b"differs:".as_slice(),
+        b"differs over ".as_slice(),
+        book.name(),
+        b":",
         case.name,
         b"\nwanted: ",
         wanted,

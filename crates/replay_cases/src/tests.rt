@@ -106,9 +106,12 @@ fn cases_that_differ(rt: HostRuntime) -> Result<(), Fail> {
     let mut complaints = Vec::new(rt.alloc());
     assert!(rt; !run_cases(rt.alloc(), text, &mut output, &mut complaints)?);
     assert_eq!(rt; output.as_slice(), b"ok short\n".as_slice());
-    let wanted = "differs: another answer\nwanted: ipp 0101\ncame:   ipp short\n\
-        differs: another status\nwanted: status 0\ncame:   status 1\n\
-        differs: an answer more\nwanted: status 0\ncame:   ipp short\n\
+    let wanted = "differs over lists: another answer\nwanted: ipp 0101\ncame:   ipp short\n\
+        differs over tables: another answer\nwanted: ipp 0101\ncame:   ipp short\n\
+        differs over lists: another status\nwanted: status 0\ncame:   status 1\n\
+        differs over tables: another status\nwanted: status 0\ncame:   status 1\n\
+        differs over lists: an answer more\nwanted: status 0\ncame:   ipp short\n\
+        differs over tables: an answer more\nwanted: status 0\ncame:   ipp short\n\
         no case:  no lines that are wanted\n";
     assert_eq!(rt; complaints.as_slice(), wanted.as_bytes());
     Ok(())

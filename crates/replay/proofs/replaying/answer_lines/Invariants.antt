@@ -1,11 +1,19 @@
 use Rattle.std.proofs.Common.{◌≡◌, ◌+◌, List, ℕ}
 use Rattle.std.specs.Io.KnownBytes.{Appends}
-use Rattle.replay.specs.Replay.{Taken}
+use Rattle.queue_core.specs.Limits.{IsMoment}
+use Rattle.queue_core.specs.World.{World}
+use Rattle.replay.specs.Replay.{Taken, first}
+use Rattle.replay.specs.Session.{state}
 use Rattle.replay.specs.Unread.{left}
 use Rattle.replay.proofs.replaying.answer_lines.Given as goal
 
 -- the lines before this one are taken and answered
 abbrev pub invariant-loop-number : goal.invariant-loop-number
-invariant-loop-number g l = (count : ℕ) × (count + 1 ≡ l.number) × (text : List ℕ)
-    × Taken (left l.fn.lines (g.R.Read.remaining l.fn.input)) l.fn.session count text (left l.lines (g.R.Read.remaining l.input)) l.session
-    × Appends (g.W.Write.contents l.fn.output) (g.W.Write.contents l.output) text
+invariant-loop-number g l = record {
+  began : g.B.QueueBook.is_honest l.book → g.B.QueueBook.is_honest l.fn.book;
+  moment : IsMoment l.now;
+  taken : g.B.QueueBook.is_honest l.book → (w : World) → g.B.QueueBook.stands l.fn.book w → l.settings ≡ w.settings
+      → (u : World) × (count : ℕ) × (text : List ℕ) × (count + 1 ≡ l.number)
+      × Taken (left l.fn.lines (g.R.Read.remaining l.fn.input)) (first w) count text (left l.lines (g.R.Read.remaining l.input)) (state l.now u)
+      × g.B.QueueBook.stands l.book u × (l.settings ≡ u.settings) × Appends (g.W.Write.contents l.fn.output) (g.W.Write.contents l.output) text;
+}

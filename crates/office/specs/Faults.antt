@@ -1,0 +1,15 @@
+-- Why a book can't do what the office asks.
+use Rattle.std.specs.Prelude.{◌≡◌, ◌⊎◌}
+use Rattle.queue_core.specs.declared.book.BookFault.{BookFault}
+use Rattle.queue_core.specs.declared.book.BookFault.TheVariants as book
+use Rattle.office.specs.declared.fault.OfficeFault.{OfficeFault}
+use Rattle.office.specs.declared.fault.OfficeFault.TheVariants.{Memory, Disk, Damaged, Io}
+
+abbrev pub fault_of_book : BookFault → OfficeFault
+fault_of_book book.Memory = Memory
+fault_of_book book.Disk = Disk
+fault_of_book book.Damaged = Damaged
+
+-- a file or a stream failed
+abbrev pub IsOfStream : OfficeFault → Type 0
+IsOfStream f = (f ≡ Memory) ⊎ (f ≡ Io)

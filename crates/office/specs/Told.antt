@@ -1,0 +1,27 @@
+-- What the office is told.
+use Rattle.std.specs.Prelude.{◌≡◌, ℕ, List, [], ◌∷◌, ◌++◌, Ok, Option, codes, take}
+use Rattle.std.specs.Fmt.{decimal}
+use Rattle.std.specs.Option.{IfSome}
+use Rattle.grants_csv.specs.File.{rows_of}
+use Rattle.grants_csv.specs.Import.{Adds}
+use Rattle.grants_csv.specs.declared.importing.Imported.{Imported}
+use Rattle.queue_core.specs.Event.{grant}
+use Rattle.queue_core.specs.Machine.{step}
+use Rattle.queue_core.specs.World.{World}
+use Rattle.queue_core.specs.declared.event.GrantRow.{GrantRow}
+
+-- the most bytes of a file that are read: one more than a file may have
+abbrev pub most_read : ℕ
+most_read = 16777217
+
+-- `new N repeats M`
+abbrev pub import_line : Imported → List ℕ
+import_line n = codes "new " ++ decimal n.added ++ codes " repeats " ++ decimal n.repeats ++ 10 ∷ []
+
+-- the bytes are the front of a file that is read, as far as its reader tells what it has
+abbrev pub AreReadOf : Option (List ℕ) → List ℕ → Type 0
+AreReadOf known bytes = IfSome known (λ file. bytes ≡ take most_read file)
+
+-- the rows of these bytes are taken as one event at this moment, so many of them new, and this is the queue after it
+abbrev pub IsTaken : ℕ → World → World → List ℕ → Imported → Type 0
+IsTaken now old new bytes n = (rows : List GrantRow) × (rows_of bytes ≡ Ok rows) × Adds (step old now (grant rows)).reply n × (new ≡ (step old now (grant rows)).world)

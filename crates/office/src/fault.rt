@@ -1,0 +1,78 @@
+//! Why the office is not served.
+ghost use Rattle.std.specs.Prelude.{◌≡◌};
+ghost use Rattle.office.specs.declared.fault.OfficeFault.TheVariants as faults;
+ghost use Rattle.office.specs.Faults.{fault_of_book};
+
+use grants_csv::{ImportCause, ImportFault};
+use queue_core::book::BookFault;
+use std::alloc::AllocError;
+use std::io;
+use thiserror::Error;
+
+/// Why the office is not served.
+#[derive(Debug, Clone, Copy, PartialEq, Eq, Error)]
+pub enum OfficeFault {
+    /// There was no memory.
+    #[error("memory")]
+    Memory,
+    /// The disk, or its size, refused.
+    #[error("disk")]
+    Disk,
+    /// The tables don't stand for a queue.
+    #[error("damaged")]
+    Damaged,
+    /// Nothing was ever granted to the account.
+    #[error("no account")]
+    NoAccount,
+    /// The account file was refused, by its number, 1 to 6, for that row, 0 for the file.
+    #[error("import fault {code} at row {row}")]
+    Import { code: u8, row: u32 },
+    /// A file or a stream couldn't be read or written.
+    #[error("io")]
+    Io,
+}
+
+impl From<AllocError> for OfficeFault {
+    ghost from_gives = { λ _ fault. fault ≡ faults.Memory };
+
+    fn from(_error: AllocError) -> OfficeFault {
+        OfficeFault::Memory
+    }
+}
+
+impl From<BookFault> for OfficeFault {
+    ghost from_gives = { λ told fault. fault ≡ fault_of_book told };
+
+    fn from(told: BookFault) -> OfficeFault {
+        match told {
+            BookFault::Memory => OfficeFault::Memory,
+            BookFault::Disk => OfficeFault::Disk,
+            BookFault::Damaged => OfficeFault::Damaged,
+        }
+    }
+}
+
+impl From<ImportFault> for OfficeFault {
+    ghost use Rattle.grants_csv.specs.Fault.{code_of};
+
+    ghost from_gives = { λ told fault. fault ≡ faults.Import (code_of told.cause) told.row };
+
+    fn from(told: ImportFault) -> OfficeFault {
+        let code = told.cause.code();
+        let row = told.row;
+        OfficeFault::Import { code, row }
+    }
+}
+
+impl From<io::Error> for OfficeFault {
+    ghost use Rattle.office.specs.Faults.{IsOfStream};
+
+    ghost from_gives = { λ _ fault. IsOfStream fault };
+
+    fn from(error: io::Error) -> OfficeFault {
+        match error.kind() {
+            io::ErrorKind::OutOfMemory => OfficeFault::Memory,
+            _ => OfficeFault::Io,
+        }
+    }
+}

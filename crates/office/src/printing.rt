@@ -1,0 +1,49 @@
+//! The statement of an account is printed.
+ghost use Rattle.std.specs.Prelude.{◌≡◌, IfOk, OnOk, IfErr, None, Some};
+ghost use Rattle.std.specs.Io.KnownBytes.{Appends};
+ghost use Rattle.office.specs.declared.fault.OfficeFault.TheVariants.{NoAccount};
+ghost use Rattle.office.specs.Faults.{IsOfStream};
+ghost use Rattle.page_statements.specs.Statement.{sheet_text};
+ghost use Rattle.queue_core.specs.Shown.{sheet_of};
+ghost use Rattle.queue_core.specs.World.{World};
+ghost use Rattle.queue_core.specs.declared.sheet.AccountSheet.{AccountSheet as Sheet};
+
+use crate::fault::OfficeFault;
+use page_statements::statement;
+use queue_core::book::QueueBook;
+use queue_core::sheet::AccountSheet;
+use std::alloc::Global;
+use std::io::Write;
+
+/// Writes the statement of a sheet.
+fn write_sheet<W: Write>(
+    alloc: Global,
+    writer: &mut W,
+    sheet: &AccountSheet,
+) -> Result<(), OfficeFault>
+    ensures written { OnOk result (Appends (W.contents writer.old) (W.contents writer.new) (sheet_text sheet.now)) }
+    ensures failed { IfErr result IsOfStream }
+{
+    let text = statement(alloc, sheet)?;
+    writer.write_all(text.as_bytes())?;
+    Ok(())
+}
+
+/// Writes the statement of an account. The account is unknown exactly where nothing was ever granted to it.
+pub fn print_statement<W: Write, B: QueueBook>(
+    alloc: Global,
+    writer: &mut W,
+    book: &mut B,
+    account: &str,
+) -> Result<(), OfficeFault>
+    ensures began { B.is_honest book.new → B.is_honest book.old }
+    ensures kept { (w : World) → B.stands book.old w → B.stands book.new w }
+    ensures printed { B.is_honest book.new → OnOk result ((w : World) → B.stands book.old w
+        → (s : Sheet) × (sheet_of w account.now ≡ Some s) × Appends (W.contents writer.old) (W.contents writer.new) (sheet_text s)) }
+    ensures unknown { B.is_honest book.new → IfErr result (λ f. f ≡ NoAccount → (w : World) → B.stands book.old w → sheet_of w account.now ≡ None) }
+{
+    match book.sheet(account)? {
+        Some(sheet) => write_sheet(alloc, writer, &sheet),
+        None => Err(OfficeFault::NoAccount),
+    }
+}

@@ -1,0 +1,12 @@
+use Rattle.std.proofs.Common.{sym, subst}
+use Rattle.http_front.specs.Connections.{Worked}
+use Rattle.print_server.proofs.ConnectionLemmas.{worked_none}
+use Rattle.print_server.proofs.serving.serve_stream.Goals as goal
+
+pub returns-then-is_err-clause-worked : goal.returns-then-is_err-clause-worked
+returns-then-is_err-clause-worked g c = λ h w st set. (w, st, worked_none c.args.now w)
+
+pub returns-clause-worked : goal.returns-clause-worked
+returns-clause-worked g c = λ h w st set.
+    let u = c.serve-served.ensures.worked h w st set in
+    (u.0, u.1, subst (λ n. Worked 32 c.args.now w u.0 n) (sym c.acted_of.ensures) u.2)

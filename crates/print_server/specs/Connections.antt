@@ -1,0 +1,34 @@
+-- What connections, one after another, make of the queue.
+use Rattle.std.specs.Prelude.{◌≡◌, ℕ, Bool, true, false, List, [], ◌∷◌, Result, Ok, Err}
+use Rattle.queue_core.specs.Limits.{IsMoment}
+use Rattle.queue_core.specs.World.{World}
+use Rattle.http_wire.specs.declared.end.End.{End}
+use Rattle.http_wire.specs.declared.end.End.TheVariants.{Done, Refused}
+use Rattle.http_front.specs.Connections.{Worked}
+use Rattle.http_front.specs.declared.outcome.Served.{Served}
+use Rattle.http_front.specs.declared.outcome.ServeFault.{ServeFault}
+
+-- the most requests of a connection
+abbrev pub most_requests : ℕ
+most_requests = 32
+
+-- at some moment a connection's requests, so many of which acted, made u of the world w
+pub record IsConnection (w : World) (acted : ℕ) (u : World) : Type 0 where
+  pub now : ℕ
+  pub moment : IsMoment now
+  pub worked : Worked most_requests now w u acted
+
+-- connections with these counts, one after another, made u of the world w
+abbrev pub AreConnections : World → List ℕ → World → Type 0
+AreConnections w [] u = u ≡ w
+AreConnections w (acted ∷ rest) u = (v : World) × IsConnection w acted v × AreConnections v rest u
+
+-- the server was the one to end it: its last request was answered, or one was refused
+abbrev pub ends_here : End → Bool
+ends_here Done = true
+ends_here (Refused code) = true
+ends_here end = false
+
+abbrev pub is_ended_here : Result Served ServeFault → Bool
+is_ended_here (Ok served) = ends_here served.end
+is_ended_here (Err fault) = false

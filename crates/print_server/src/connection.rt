@@ -1,0 +1,47 @@
+//! What a connection came to, and what its client still sends.
+ghost use Rattle.std.specs.Prelude.{◌≡◌};
+ghost use Rattle.http_front.specs.Connections.{acted_of};
+ghost use Rattle.print_server.specs.Connections.{is_ended_here};
+
+use http_front::{End, ServeFault, Served};
+use std::io::Read;
+
+/// The most reads of what a client sends behind its last request.
+const DRAIN_READS: u32 = 256;
+
+/// The most bytes of such a read.
+const DRAIN_BYTES: usize = 65_536;
+
+/// How many requests of a connection acted, whether it ended or was broken off.
+pub fn acted_of(served: Result<Served, ServeFault>) -> u32
+    ensures { result ≡ acted_of served }
+{
+    match served {
+        Ok(served) => served.acted,
+        Err(fault) => fault.acted,
+    }
+}
+
+/// The server has ended the connection, and its client may still be sending.
+pub fn is_ended_here(served: Result<Served, ServeFault>) -> bool
+    ensures { result ≡ is_ended_here served }
+{
+    match served {
+        Ok(served) => match served.end {
+            End::Done | End::Refused(_) => true,
+            End::Closed | End::Cut => false,
+        },
+        Err(_) => false,
+    }
+}
+
+/// Reads past what a client still sends: to its end, to a read that fails, or through 256 reads of at most 65,536 bytes.
+pub fn drain<R: Read>(reader: &mut R) {
+    let mut bytes = [0; DRAIN_BYTES];
+    for _ in 0..DRAIN_READS {
+        match reader.read(bytes.as_mut_slice()) {
+            Ok(0) | Err(_) => return,
+            Ok(_) => {}
+        }
+    }
+}

@@ -1,0 +1,18 @@
+//! A print queue served over HTTP on the loopback interface: connections one after another, over any book of the queue.
+//!
+//! [`listen`] opens a port (`listening`), and [`serve_connections`] takes its connections in turn (`serving`). All that is not a socket
+//! is a function over values, or over a reader and a writer: the moment of a connection (`moment`), what a connection comes to
+//! (`connection`) and the lines that are printed (`lines`).
+//!
+//! A client that goes away, resets or stays silent ends its own connection alone.
+#![tactic(auto)]
+
+mod connection;
+mod lines;
+mod listening;
+mod moment;
+mod serving;
+
+pub use listening::listen;
+pub use moment::present_moment;
+pub use serving::serve_connections;

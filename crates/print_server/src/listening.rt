@@ -1,0 +1,36 @@
+//! The port that connections are made to.
+ghost use Rattle.std.specs.Prelude.{OnOk};
+ghost use Rattle.std.specs.Io.KnownBytes.{Appends};
+ghost use Rattle.print_server.specs.Lines.{listening_line};
+
+use crate::lines::tell_listening;
+use std::io;
+use std::io::Write;
+use std::net::{Ipv4Addr, Net, SocketAddr, TcpListener, TcpStream};
+
+/// How often in a row taking a connection may fail before the server gives up.
+const ACCEPT_TRIES: u32 = 100;
+
+/// Listens on a port of the loopback interface, and prints `listening 127.0.0.1:PORT`.
+///
+/// It is an error where the port can't be listened on, or the line can't be written.
+pub fn listen<R: Net, O: Write>(net: &R, out: &mut O, port: u16) -> io::Result<R::Listener>
+    ensures { OnOk result (Appends (O.contents out.old) (O.contents out.new) (listening_line port)) }
+{
+    let address = SocketAddr::from((Ipv4Addr::LOCALHOST, port));
+    let listener = TcpListener::bind(net, address)?;
+    tell_listening(out, port)?;
+    Ok(listener)
+}
+
+/// The next connection. A connection that fails while it is taken is passed over, as it may have been reset by its client; a listener
+/// that fails again and again is an error.
+pub fn next_stream(listener: &TcpListener) -> io::Result<TcpStream> {
+    for _ in 1..ACCEPT_TRIES {
+        if let Ok((stream, _)) = listener.accept() {
+            return Ok(stream);
+        }
+    }
+    let (stream, _) = listener.accept()?;
+    Ok(stream)
+}

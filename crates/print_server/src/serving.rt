@@ -1,0 +1,128 @@
+//! Connections one after another.
+ghost use Rattle.std.specs.Prelude.{◌≡◌, ◌≤◌, List, ℕ, OnOk, OnErr, length};
+ghost use Rattle.std.specs.Io.KnownBytes.{Appends};
+ghost use Rattle.queue_core.specs.Limits.{IsMoment};
+ghost use Rattle.queue_core.specs.World.{World};
+ghost use Rattle.http_front.specs.Connections.{Worked};
+ghost use Rattle.print_server.specs.Connections.{AreConnections};
+ghost use Rattle.print_server.specs.Lines.{served_lines};
+
+use crate::connection::{acted_of, drain, is_ended_here};
+use crate::lines::tell_served;
+use crate::listening::next_stream;
+use crate::moment::present_moment;
+use http_front::serve;
+use queue_core::book::QueueBook;
+use queue_core::settings::Settings;
+use std::alloc::Global;
+use std::io;
+use std::io::Write;
+use std::net::{Shutdown, TcpListener, TcpStream};
+use std::rt::Clock;
+use std::time::Duration;
+
+/// How long one read waits for what a client sends behind its last request.
+const LINGER_SECONDS: u64 = 1;
+
+/// Readies a stream: no read and no write waits longer than so many seconds, and small writes go out at once.
+fn prepare(stream: &TcpStream, timeout: u32) -> io::Result<()>
+    requires { 1 ≤ timeout }
+{
+    let wait = Some(Duration::from_secs(u64::from(timeout)));
+    stream.set_read_timeout(wait)?;
+    stream.set_write_timeout(wait)?;
+    stream.set_nodelay(true)
+}
+
+/// Ends a stream whose client may still be sending: says that no more comes, and reads past what does. A stream that is closed with bytes
+/// unread is reset, and its client may then lose the answer that it was sent (RFC 9112, section 9.6).
+fn linger(stream: &TcpStream) -> io::Result<()> {
+    stream.shutdown(Shutdown::Write)?;
+    stream.set_read_timeout(Some(Duration::from_secs(LINGER_SECONDS)))?;
+    let mut reader = stream;
+    drain(&mut reader);
+    Ok(())
+}
+
+/// Serves a connection at a moment and closes it, and tells how many of its requests acted. One that can't be readied has gone away.
+fn serve_stream<B: QueueBook>(
+    alloc: Global,
+    stream: TcpStream,
+    book: &mut B,
+    s: &Settings,
+    timeout: u32,
+    now: u32,
+) -> u32
+    requires wait { 1 ≤ timeout }
+    requires moment { IsMoment now }
+    ensures began { B.is_honest book.new → B.is_honest book.old }
+    ensures worked { B.is_honest book.new → (w : World) → B.stands book.old w → s.now ≡ w.settings
+        → (u : World) × B.stands book.new u × Worked 32 now w u result }
+    ensures few { result ≤ 32 }
+{
+    if prepare(&stream, timeout).is_err() {
+        return 0;
+    }
+    let mut reader = &stream;
+    let mut writer = &stream;
+    let served = serve(alloc, &mut reader, &mut writer, book, s, now);
+    if is_ended_here(served) {
+        // whatever comes of it, the connection ends here
+        let _ = linger(&stream);
+    }
+    acted_of(served)
+}
+
+/// Takes the next connection, serves it at the moment when it was taken, and prints `served ACTED`.
+fn serve_next<R: Clock, O: Write, B: QueueBook>(
+    alloc: Global,
+    clock: &R,
+    listener: &TcpListener,
+    out: &mut O,
+    book: &mut B,
+    s: &Settings,
+    timeout: u32,
+) -> io::Result<()>
+    requires { 1 ≤ timeout }
+    ensures began { B.is_honest book.new → B.is_honest book.old }
+    ensures ok { B.is_honest book.new → OnOk result ((w : World) → B.stands book.old w → s.now ≡ w.settings
+        → (u : World) × B.stands book.new u × (counts : List ℕ) × AreConnections w counts u × (length counts ≡ 1)
+        × Appends (O.contents out.old) (O.contents out.new) (served_lines counts)) }
+    ensures err { B.is_honest book.new → OnErr result ((w : World) → B.stands book.old w → s.now ≡ w.settings
+        → (u : World) × B.stands book.new u × (counts : List ℕ) × AreConnections w counts u × (length counts ≤ 1)) }
+{
+    let stream = next_stream(listener)?;
+    let now = present_moment(clock, s.epoch())?;
+    let acted = serve_stream(alloc, stream, book, s, timeout, now);
+    tell_served(out, acted)
+}
+
+/// Serves so many connections of a listener, one after another, over a book whose queue has these settings, and prints `served ACTED` as each
+/// of them ends. No read and no write of a connection waits longer than so many seconds; a timeout ends that connection alone.
+///
+/// It is an error where no connection can be taken, the clock can't be read or the line can't be written. The connections before it stay served.
+pub fn serve_connections<R: Clock, O: Write, B: QueueBook>(
+    alloc: Global,
+    clock: &R,
+    listener: &TcpListener,
+    out: &mut O,
+    book: &mut B,
+    s: &Settings,
+    timeout: u32,
+    connections: u32,
+) -> io::Result<()>
+    requires { 1 ≤ timeout }
+    ensures began { B.is_honest book.new → B.is_honest book.old }
+    // every connection was served, and its count printed
+    ensures ok { B.is_honest book.new → OnOk result ((w : World) → B.stands book.old w → s.now ≡ w.settings
+        → (u : World) × B.stands book.new u × (counts : List ℕ) × AreConnections w counts u × (length counts ≡ connections)
+        × Appends (O.contents out.old) (O.contents out.new) (served_lines counts)) }
+    // some were
+    ensures err { B.is_honest book.new → OnErr result ((w : World) → B.stands book.old w → s.now ≡ w.settings
+        → (u : World) × B.stands book.new u × (counts : List ℕ) × AreConnections w counts u × (length counts ≤ connections)) }
+{
+    for _round in 0..connections {
+        serve_next(alloc, clock, listener, out, book, s, timeout)?;
+    }
+    Ok(())
+}

@@ -1,0 +1,253 @@
+-- The jobs of an owner that ended, from the last one on.
+use Rattle.std.proofs.Common.{◌≡◌, ◌⊎◌, inl, inr, ℕ, zero, suc, pos, ◌<◌, ◌≤◌, List, [], ◌∷◌, map, filter, take, Bool, true, false, not, ◌&&◌, ◌||◌, ◌==◌, Option, Some, None, refl, sym, ap, subst, ◌∙◌, arith, bytes_eq, nat_lt, Less, Greater, is_gt}
+use Rattle.std.specs.Prelude.{IsSome, IfSome}
+use Rattle.std.specs.Ordering.{int_cmp}
+use Rattle.std.specs.Cmp.{int_cmp_is, tied_itself}
+use Rattle.std.specs.List.{AllByRecursion as Each}
+use Rattle.std.specs.List.Sorted.{IsPermutation}
+use Rattle.std.proofs.lemmas.Bool.{cases_Bool, eqb-true, eqb-false}
+use Rattle.std.proofs.lemmas.Bool.Decides.{nat_tests}
+use Rattle.std.proofs.lemmas.Int.{ints}
+use Rattle.std.proofs.lemmas.List.Sorted.{IsPermutation-refl, IsPermutation-trans, IsPermutation-cons, IsPermutation-map}
+use Rattle.sqlite.specs.declared.types.Value.TheVariants.{Int, Text as Words}
+use Rattle.sqlite.specs.Order.{Row, column}
+use Rattle.sqlite.specs.Ops.{binary, is_true}
+use Rattle.sqlite.specs.Collation.TheVariants.{Binary}
+use Rattle.sqlite.specs.State.{State}
+use Rattle.sqlite_sql.specs.Query.{key_cmp}
+use Rattle.sqlite_sql.proofs.QueryLemmas.{key_cmp_total}
+use Rattle.sqlite_sql.specs.declared.ops.BinaryOp.TheVariants.{Compare}
+use Rattle.sqlite_sql.specs.declared.ops.CompareOp.TheVariants.{Eq, Gt}
+use Rattle.sqlite_value.proofs.OrderLemmas.{value_cmp_total}
+use Rattle.sqlite_trees.specs.Tree.{IsAscending}
+use Rattle.sqlite_keyed.proofs.ListLemmas.{all_weaker, all-filter, ascending-map}
+use Rattle.queue_core.specs.declared.job.Job.{Job}
+use Rattle.queue_core.specs.declared.job.Phase.{Phase}
+use Rattle.queue_core.specs.declared.job.Phase.TheVariants.{Waiting, Running, Stopped, Canceled, Aborted, Completed as CompletedPhase}
+use Rattle.queue_core.specs.declared.event.WhichJobs.TheVariants.{Completed}
+use Rattle.queue_core.specs.Job.{is_live, is_live_in}
+use Rattle.queue_core.specs.Limits.{IsMoment, IsSoundJob, FitsPhase}
+use Rattle.queue_core.specs.Sound.{IsSound, IsSoundEntry}
+use Rattle.queue_core.specs.Visible.{by_end, placed, is_newer, visible}
+use Rattle.queue_core.specs.World.{World, Entry, rows, job_at}
+use Rattle.queue_core.proofs.Ordered.{all_of, each-placed, each-visible}
+use Rattle.queue_tables.specs.Content.{Holds, content_of}
+use Rattle.queue_tables.specs.Values.{number, moment, job_values, job_view}
+use Rattle.queue_tables.proofs.Entries.{rows_in}
+use Rattle.queue_tables.proofs.Permuting.{swap_front}
+use Rattle.queue_scenes.specs.Jobs.{AreRowsOf, ShowsJobs}
+use Rattle.queue_scenes.proofs.Lists.{each_row, world_rising, same_rows}
+use Rattle.queue_scenes.proofs.Numbers.{AreRising, rising_filter, less_value}
+use Rattle.queue_scenes.proofs.Ordered.{shows_in_order, shows_first}
+use Rattle.queue_scenes.proofs.Statements.{descending, select_ended_text, select_ended_names, select_ended_where, select_ended_terms, select_ended_order, select_ended_is, select_ended_plain, select_ended_unlisted, select_ended_first_text, select_ended_first_is, select_ended_first_plain, select_ended_first_unlisted}
+use Rattle.queue_scenes.proofs.Tests.{names, greater, and_true}
+
+-- ---- a job that ended has the moment of its end
+
+pub HasEnd : Job → Type 0
+HasEnd j = (n : ℕ) × (j.ended ≡ Some n)
+
+-- owner = ?1 AND ended > 0
+unfoldable pub is_ended_row : List ℕ → Row → Bool
+is_ended_row name v = is_true (binary (Compare Eq Binary) (column v 1) (Words name)) && (is_true (binary (Compare Gt Binary) (column v 13) (Int (pos 0))) && true)
+
+later : (n : ℕ) → 1 ≤ n → is_gt (int_cmp (pos n) (pos 0)) ≡ true
+later n low = ap is_gt (sym (int_cmp_is (pos n) (pos 0) Greater (omega (arith, ints))))
+
+none_later : (o : Option ℕ) → o ≡ None → is_true (binary (Compare Gt Binary) (moment o) (Int (pos 0))) ≡ false
+unfolding binary
+none_later o none = rw none refl
+
+some_later : (o : Option ℕ) → IsSome o → IfSome o IsMoment → is_true (binary (Compare Gt Binary) (moment o) (Int (pos 0))) ≡ true
+some_later None some within = absurd cc
+some_later (Some n) some within = greater n 0 ∙ later n within.0
+
+ended_in : (p : Phase) (j : Job) → FitsPhase p j → IfSome j.ended IsMoment → is_true (binary (Compare Gt Binary) (moment j.ended) (Int (pos 0))) ≡ not (is_live_in p)
+ended_in Waiting j fits within = none_later j.ended fits.2
+ended_in Running j fits within = none_later j.ended fits.3
+ended_in Stopped j fits within = none_later j.ended fits.3
+ended_in (Canceled why) j fits within = some_later j.ended fits.2 within
+ended_in Aborted j fits within = some_later j.ended fits.2 within
+ended_in CompletedPhase j fits within = some_later j.ended fits.2 within
+
+ended-row : (name : List ℕ) (j : Job) → IsSoundJob j → is_ended_row name (job_values j) ≡ (bytes_eq j.owner name && not (is_live j))
+unfolding is_ended_row
+ended-row name j sound = rw (names j.owner name, ended_in j.phase j sound.phase sound.ended, and_true _) refl
+
+some_end : (o : Option ℕ) → IsSome o → (n : ℕ) × (o ≡ Some n)
+some_end None some = absurd cc
+some_end (Some n) some = (n, refl)
+
+end_in : (p : Phase) (j : Job) → FitsPhase p j → not (is_live_in p) ≡ true → IsSome j.ended
+end_in Waiting j fits over = absurd cc
+end_in Running j fits over = absurd cc
+end_in Stopped j fits over = absurd cc
+end_in (Canceled why) j fits over = fits.2
+end_in Aborted j fits over = fits.2
+end_in CompletedPhase j fits over = fits.2
+
+second : (a b : Bool) → (a && b) ≡ true → b ≡ true
+second true b e = e
+second false b e = absurd cc
+
+each_sound : (es : List Entry) → Each IsSoundEntry es → Each IsSoundJob (rows_in es)
+each_sound [] all = tt
+each_sound (e ∷ es) all = (all.0.row, each_sound es all.1)
+
+ended_kept : (name : List ℕ) (js : List Job) → Each IsSoundJob js → filter (is_ended_row name) (map job_values js) ≡ map job_values (filter (λ (j : Job). bytes_eq j.owner name && not (is_live j)) js)
+ended_kept name [] all = refl
+ended_kept name (j ∷ js) all = elim (cases_Bool (bytes_eq j.owner name && not (is_live j))) [
+  | inl passed ↦ rw (ended-row name j all.0 ∙ passed, passed, ended_kept name js all.1) refl
+  | inr failed ↦ rw (ended-row name j all.0 ∙ failed, failed, ended_kept name js all.1) refl
+]
+
+ends : (name : List ℕ) (js : List Job) → Each IsSoundJob js → Each HasEnd (filter (λ (j : Job). bytes_eq j.owner name && not (is_live j)) js)
+unfolding HasEnd
+ends name [] all = tt
+ends name (j ∷ js) all = elim (cases_Bool (bytes_eq j.owner name && not (is_live j))) [
+  | inl passed ↦ rw passed (some_end j.ended (end_in j.phase j all.0.phase (second (bytes_eq j.owner name) (not (is_live j)) passed)), ends name js all.1)
+  | inr failed ↦ rw failed (ends name js all.1)
+]
+
+-- ---- ORDER BY ended DESC, number DESC
+
+abbrev pub end_key : Row → Row
+end_key v = column v 13 ∷ column v 0 ∷ []
+
+abbrev pub IsBefore : Job → Job → Type 0
+IsBefore a b = key_cmp 0 (descending ∷ descending ∷ []) (end_key (job_values a)) (end_key (job_values b)) ≡ Less
+
+-- the one that ended last, and of two the greater number
+abbrev IsLater : ℕ → ℕ → ℕ → ℕ → Type 0
+IsLater ea na eb nb = (eb < ea) ⊎ ((ea ≡ eb) × (nb < na))
+
+keys_less : (ea na eb nb : ℕ) → IsLater ea na eb nb → key_cmp 0 (descending ∷ descending ∷ []) (Int (pos ea) ∷ Int (pos na) ∷ []) (Int (pos eb) ∷ Int (pos nb) ∷ []) ≡ Less
+keys_less ea na eb nb (inl less) = rw (less_value eb ea less) refl
+keys_less ea na eb nb (inr h) = rw (h.0, tied_itself value_cmp_total (Int (pos eb)), less_value nb na h.1) refl
+
+less_from : (m n : ℕ) → nat_lt m n ≡ true → m < n
+less_from m n e = grind (arith, nat_tests)
+
+not_less_from : (m n : ℕ) → nat_lt m n ≡ false → n ≤ m
+not_less_from m n e = grind (arith, nat_tests)
+
+either : (a b c : Bool) → (a || (b && c)) ≡ true → (a ≡ true) ⊎ ((b ≡ true) × (c ≡ true))
+either true b c e = inl refl
+either false true c e = inr (refl, e)
+either false false c e = absurd cc
+
+neither : (a b c : Bool) → (a || (b && c)) ≡ false → (a ≡ false) × ((b ≡ false) ⊎ (c ≡ false))
+neither true b c e = absurd cc
+neither false true c e = (refl, inr e)
+neither false false c e = (refl, inl refl)
+
+newer_later : (ea na eb nb : ℕ) → (nat_lt eb ea || (ea == eb && nat_lt nb na)) ≡ true → IsLater ea na eb nb
+newer_later ea na eb nb e = elim (either (nat_lt eb ea) (ea == eb) (nat_lt nb na) e) [
+  | inl less ↦ inl (less_from eb ea less)
+  | inr both ↦ inr (eqb-true ea eb both.0, less_from nb na both.1)
+]
+
+older_later : (ea na eb nb : ℕ) → (na ≡ nb → ⊥) → (nat_lt eb ea || (ea == eb && nat_lt nb na)) ≡ false → IsLater eb nb ea na
+older_later ea na eb nb apart e =
+    let parts = neither (nat_lt eb ea) (ea == eb) (nat_lt nb na) e in
+    let at_most : ea ≤ eb = not_less_from eb ea parts.0 in
+    elim (cases_Bool (ea == eb)) [
+      | inl same ↦
+          let is : ea ≡ eb = eqb-true ea eb same in
+          elim (parts.1) [
+            | inl other ↦ absurd (let no : true ≡ false = sym same ∙ other in cc)
+            | inr low ↦ let under : na ≤ nb = not_less_from nb na low in inr (sym is, (let ne : (na ≡ nb) → ⊥ = apart in omega (arith, under, ne)))
+          ]
+      | inr other ↦ let ne : (ea ≡ eb) → ⊥ = eqb-false ea eb other in inl (omega (arith, at_most, ne))
+    ]
+
+newer_before : (a b : Job) → HasEnd a → HasEnd b → is_newer a b ≡ true → IsBefore a b
+unfolding HasEnd
+newer_before a b x y newer = rw (x.1, y.1) (keys_less x.0 a.number y.0 b.number (newer_later x.0 a.number y.0 b.number (rw (x.1, y.1) at newer)))
+
+older_before : (a b : Job) → HasEnd a → HasEnd b → (a.number ≡ b.number → ⊥) → is_newer a b ≡ false → IsBefore b a
+unfolding HasEnd
+older_before a b x y apart older = rw (y.1, x.1) (keys_less y.0 b.number x.0 a.number (older_later x.0 a.number y.0 b.number apart (rw (x.1, y.1) at older)))
+
+before_then : (a b c : Job) → IsBefore a b → IsBefore b c → IsBefore a c
+before_then a b c first next = (key_cmp_total (descending ∷ descending ∷ []) 0).trans (end_key (job_values a)) (end_key (job_values b)) (end_key (job_values c)) first next
+
+Differs : Job → Job → Type 0
+Differs a b = a.number ≡ b.number → ⊥
+
+all_newer : (k : Job) (j : Job) (ks : List Job) → IsBefore j k → Each (IsBefore k) ks → Each (IsBefore j) (k ∷ ks)
+all_newer k j ks here all = (here, all_weaker (IsBefore k) (IsBefore j) (λ x behind. before_then j k x here behind) ks all)
+
+placed_ascends : (j : Job) (ks : List Job) → HasEnd j → Each HasEnd ks → Each (Differs j) ks → IsAscending IsBefore ks → IsAscending IsBefore (placed j ks)
+unfolding Differs
+placed_ascends j [] has all apart up = (tt, tt)
+placed_ascends j (k ∷ ks) has all apart up = elim (cases_Bool (is_newer k j)) [
+  | inl newer ↦ rw newer (each-placed (IsBefore k) j ks (newer_before k j all.0 has newer) up.0, placed_ascends j ks has all.1 apart.1 up.1)
+  | inr older ↦ rw older (all_newer k j ks (older_before k j all.0 has (λ same. apart.0 (sym same)) older) up.0, up)
+]
+
+each_by_end : (P : Job → Type 0) (js : List Job) → Each P js → Each P (by_end js)
+each_by_end P js all = each-visible P None Completed js all
+
+pub by_end_ascends : (js : List Job) → AreRising js → Each HasEnd js → IsAscending IsBefore (by_end js)
+unfolding Differs
+by_end_ascends [] rise all = tt
+by_end_ascends (j ∷ js) rise all =
+    placed_ascends j (by_end js) all.0 (each_by_end HasEnd js all.1) (each_by_end (Differs j) js (all_weaker (λ (k : Job). j.number < k.number) (Differs j) (λ k low same. omega (arith, low, same)) js rise.0)) (by_end_ascends js rise.1 all.1)
+
+-- ---- the same jobs
+
+placed_permuted : (j : Job) (ks : List Job) → IsPermutation (j ∷ ks) (placed j ks)
+placed_permuted j [] = IsPermutation-refl (j ∷ [])
+placed_permuted j (k ∷ ks) = elim (cases_Bool (is_newer k j)) [
+  | inl newer ↦ rw newer (IsPermutation-trans (j ∷ k ∷ ks) (k ∷ j ∷ ks) (k ∷ placed j ks) (swap_front j k ks) (IsPermutation-cons k (j ∷ ks) (placed j ks) (placed_permuted j ks)))
+  | inr older ↦ rw older (IsPermutation-refl (j ∷ k ∷ ks))
+]
+
+by_end_permuted : (js : List Job) → IsPermutation js (by_end js)
+by_end_permuted [] = IsPermutation-refl []
+by_end_permuted (j ∷ js) = IsPermutation-trans (j ∷ js) (j ∷ by_end js) (placed j (by_end js)) (IsPermutation-cons j js (by_end js) (by_end_permuted js)) (placed_permuted j (by_end js))
+
+-- ---- what the SELECTs show
+
+pub ended_of : List ℕ → World → List Job
+ended_of name w = filter (λ (j : Job). bytes_eq j.owner name && not (is_live j)) (rows w)
+
+ended_listed : (name : List ℕ) (w : World) → IsSound w → IsPermutation (filter (is_ended_row name) (map job_values (rows w))) (map job_values (by_end (ended_of name w)))
+unfolding ended_of
+ended_listed name w sound =
+    subst (λ (vs : List Row). IsPermutation vs (map job_values (by_end (ended_of name w)))) (sym (ended_kept name (rows w) (each_sound w.jobs sound.entries)))
+    (IsPermutation-map job_values (ended_of name w) (by_end (ended_of name w)) (by_end_permuted (ended_of name w)))
+
+ended_ascends : (name : List ℕ) (w : World) → IsSound w → IsAscending (λ u v. key_cmp 0 (descending ∷ descending ∷ []) (end_key u) (end_key v) ≡ Less) (map job_values (by_end (ended_of name w)))
+unfolding ended_of
+ended_ascends name w sound =
+    ascending-map (λ u v. key_cmp 0 (descending ∷ descending ∷ []) (end_key u) (end_key v) ≡ Less) job_values (by_end (ended_of name w))
+    (by_end_ascends (ended_of name w) (rising_filter (λ (j : Job). bytes_eq j.owner name && not (is_live j)) (rows w) (world_rising w sound)) (ends name (rows w) (each_sound w.jobs sound.entries)))
+
+pub ended_rows : (name : List ℕ) (limit : Option ℕ) (w : World) → IsSound w → AreRowsOf w (visible name Completed limit (rows w))
+ended_rows name limit w sound =
+    all_of (λ (j : Job). job_at j.number (rows w) ≡ Some j) (visible name Completed limit (rows w))
+    (each-visible (λ (j : Job). job_at j.number (rows w) ≡ Some j) limit Completed (filter (λ (j : Job). bytes_eq j.owner name && not (is_live j)) (rows w))
+    (all-filter (λ (j : Job). job_at j.number (rows w) ≡ Some j) (λ (j : Job). bytes_eq j.owner name && not (is_live j)) (rows w) (each_row w sound)))
+
+pub shows_ended : (name : List ℕ) (old : State) (w : World) → IsSound w → Holds (content_of w) old → ShowsJobs select_ended_text (Words name ∷ []) old (visible name Completed None (rows w))
+unfolding is_ended_row ended_of
+shows_ended name old w sound has shown_rows h =
+    shows_in_order 1 select_ended_where select_ended_terms select_ended_order (Words name ∷ []) job_view (is_ended_row name) (λ (v : Row). v) end_key (λ r. refl) (λ r. refl) (λ r. refl)
+    select_ended_text select_ended_names select_ended_plain select_ended_unlisted (λ db. refl) select_ended_is old old (map job_values (rows w)) shown_rows (map job_values (by_end (ended_of name w))) has.schema has.rows.jobs
+    (ended_listed name w sound) (ended_ascends name w sound) h
+    ∙ same_rows (map job_values (by_end (ended_of name w)))
+
+taken_rows : (n : ℕ) (js : List Job) → take n (map job_values js) ≡ map job_values (take n js)
+taken_rows zero js = refl
+taken_rows (suc n) [] = refl
+taken_rows (suc n) (j ∷ js) = ap (λ (vs : List Row). job_values j ∷ vs) (taken_rows n js)
+
+pub shows_ended_first : (name : List ℕ) (n : ℕ) (old : State) (w : World) → IsSound w → Holds (content_of w) old → ShowsJobs select_ended_first_text (Words name ∷ number n ∷ []) old (visible name Completed (Some n) (rows w))
+unfolding is_ended_row ended_of
+shows_ended_first name n old w sound has shown_rows h =
+    shows_first 1 select_ended_where select_ended_terms select_ended_order (Words name ∷ number n ∷ []) job_view (is_ended_row name) (λ (v : Row). v) end_key (λ r. refl) (λ r. refl) (λ r. refl)
+    select_ended_first_text select_ended_names select_ended_first_plain select_ended_first_unlisted (λ db. refl) 1 n select_ended_first_is refl old old (map job_values (rows w)) shown_rows (map job_values (by_end (ended_of name w))) has.schema has.rows.jobs
+    (ended_listed name w sound) (ended_ascends name w sound) h
+    ∙ ap (take n) (same_rows (map job_values (by_end (ended_of name w)))) ∙ taken_rows n (by_end (ended_of name w))

@@ -1,0 +1,176 @@
+-- What is found by a key: the next number, an account, a grant, a report.
+use Rattle.std.proofs.Common.{◌≡◌, ℕ, ℤ, pos, List, [], ◌∷◌, map, filter, Bool, true, ◌&&◌, ◌==◌, get_or, Option, Some, None, refl, sym, ap, ap₂, subst, ◌∙◌, is_eq, Ordering, Less, Equal, Greater, bytes_eq, slice_get}
+use Rattle.std.specs.FinMap.{get, get-entries, entries, entries_sorted}
+use Rattle.std.specs.Option.{IfSome}
+use Rattle.std.specs.Ordering.{ordering_then, nat_cmp}
+use Rattle.std.specs.Cmp.{both_ways, unsigned_tied}
+use Rattle.std.specs.List.{AllByRecursion as Each}
+use Rattle.std.specs.List.Sorted.{IsPermutation}
+use Rattle.std.proofs.lemmas.Bool.{eqb-true, eq-eqb}
+use Rattle.std.proofs.lemmas.List.Elements.{recursion_from_All}
+use Rattle.std.proofs.lemmas.Map.Text.{is_eq-slice_cmp}
+use Rattle.sqlite.specs.declared.types.Value.TheVariants.{Int, Text as Words}
+use Rattle.sqlite.specs.Order.{Row, column}
+use Rattle.sqlite.specs.Ops.{binary, is_true}
+use Rattle.sqlite.specs.Collation.TheVariants.{Binary}
+use Rattle.sqlite_sql.specs.declared.ops.BinaryOp.TheVariants.{Compare}
+use Rattle.sqlite_sql.specs.declared.ops.CompareOp.TheVariants.{Eq}
+use Rattle.sqlite.specs.State.{State, Shown}
+use Rattle.sqlite.proofs.Callers.{one_permutation}
+use Rattle.queue_core.specs.Sound.{IsSound, IsKept}
+use Rattle.queue_core.specs.World.{World, grant_cmp, report_cmp, text_cmp}
+use Rattle.queue_core.specs.declared.event.KeptReport.{KeptReport}
+use Rattle.queue_rows.specs.Codes.{kind_number}
+use Rattle.queue_rows.specs.Rows.{meta_row, grant_row}
+use Rattle.queue_rows.proofs.WorldMaps.{found_there}
+use Rattle.queue_rows.proofs.WorldRows.{grant_same, report_same, report_total}
+use Rattle.queue_tables.specs.Content.{Holds, content_of}
+use Rattle.queue_tables.specs.Steps.{is_named, is_numbered}
+use Rattle.queue_tables.specs.Tables.{book_schema}
+use Rattle.queue_tables.specs.Values.{number, meta_values, meta_view, account_view, grant_values, grant_view, report_values, report_view}
+use Rattle.queue_tables.proofs.Frees.{account_in, found_account, reserved_in, printed_in}
+use Rattle.queue_tables.proofs.Numbers.{numbered_meta}
+use Rattle.queue_tables.proofs.Puts.{turned}
+use Rattle.queue_tables.proofs.Showing.{shows_all}
+use Rattle.queue_scenes.proofs.Lookup.{entry_of, found_in, rows_passing, map_alike, exactly}
+use Rattle.queue_scenes.proofs.Statements.{select_next_text, select_next_names, select_next_where, select_next_terms, select_next_order, select_next_is, select_next_plain, select_next_unlisted, select_account_text, select_account_names, select_account_where, select_account_terms, select_account_order, select_account_is, select_account_plain, select_account_unlisted, select_grant_text, select_grant_names, select_grant_where, select_grant_terms, select_grant_order, select_grant_is, select_grant_plain, select_grant_unlisted, select_report_text, select_report_names, select_report_where, select_report_terms, select_report_order, select_report_is, select_report_plain, select_report_unlisted}
+use Rattle.queue_scenes.proofs.Tests.{equals, names, and_true}
+
+-- ---- the next number
+
+pub next_shown : (old new : State) (rows : List Row) (w : World) → Holds (content_of w) old → Shown select_next_text [] old new rows → rows ≡ (number w.next ∷ []) ∷ []
+next_shown old new rows w has h =
+    let p = shows_all book_schema select_next_text select_next_names 0 select_next_where select_next_terms select_next_order select_next_is select_next_plain select_next_unlisted (λ db. refl)
+    old new [] meta_view (is_numbered 1) (λ v. column v 6 ∷ []) (content_of w).meta rows has.schema (λ r. refl) (λ r. refl) has.rows.meta h in
+    let one : filter (is_numbered 1) (content_of w).meta ≡ meta_values (meta_row w) ∷ [] = rw (numbered_meta (meta_row w) refl) refl in
+    one_permutation (number w.next ∷ []) rows (subst (λ (vs : List Row). IsPermutation (map (λ (v : Row). column v 6 ∷ []) vs) rows) one p)
+
+-- ---- an account
+
+-- its pages, by its name
+abbrev pub pages_row : World → List ℕ × ℤ → Row
+pages_row w a = Int a.1 ∷ Int (reserved_in w a.0) ∷ Int (printed_in w a.0) ∷ []
+
+one_account : (w : World) (name : List ℕ) (o : Option ℤ)
+    → map (λ (v : Row). column v 1 ∷ column v 2 ∷ column v 3 ∷ []) (found_account name (reserved_in w) (printed_in w) o) ≡ map (pages_row w) (entry_of name o)
+one_account w name None = refl
+one_account w name (Some free) = refl
+
+pub account_shown : (old new : State) (name : List ℕ) (rows : List Row) (w : World) → Holds (content_of w) old → Shown select_account_text (Words name ∷ []) old new rows
+    → rows ≡ map (pages_row w) (entry_of name (get w.free name))
+account_shown old new name rows w has h =
+    let out : Row → Row = λ v. column v 1 ∷ column v 2 ∷ column v 3 ∷ [] in
+    let p = shows_all book_schema select_account_text select_account_names 6 select_account_where select_account_terms select_account_order select_account_is select_account_plain select_account_unlisted (λ db. refl)
+    old new (Words name ∷ []) account_view (is_named name) out (content_of w).accounts rows has.schema (λ r. refl) (λ r. refl) has.rows.accounts h in
+    exactly name (pages_row w) (get w.free name) rows
+    (subst (λ (vs : List Row). IsPermutation vs rows) (ap (map out) (account_in w name) ∙ one_account w name (get w.free name)) p)
+
+-- ---- keys of two columns
+
+then_eq : (r s : Ordering) → is_eq (ordering_then r s) ≡ (is_eq r && is_eq s)
+then_eq Less s = refl
+then_eq Equal s = refl
+then_eq Greater s = refl
+
+other_way : (m n : ℕ) → (m == n) ≡ (n == m)
+other_way m n = both_ways (m == n) (n == m) (λ e. eq-eqb n m (sym (eqb-true m n e))) (λ e. eq-eqb m n (sym (eqb-true n m e)))
+
+-- batch = ?1 AND account = ?2
+pub is_grant_of : List ℕ → List ℕ → Row → Bool
+is_grant_of batch account v = is_true (binary (Compare Eq Binary) (column v 0) (Words batch)) && (is_true (binary (Compare Eq Binary) (column v 1) (Words account)) && true)
+
+abbrev grant_passes : List ℕ → List ℕ → (List ℕ × List ℕ) × ℕ → Bool
+grant_passes batch account g = bytes_eq g.0.0 batch && bytes_eq g.0.1 account
+
+grant-row : (batch account : List ℕ) (g : (List ℕ × List ℕ) × ℕ) → is_grant_of batch account (grant_values (grant_row g)) ≡ grant_passes batch account g
+unfolding is_grant_of
+grant-row batch account g = rw (names g.0.0 batch, names g.0.1 account, and_true _) refl
+
+grant_by_key : (batch account : List ℕ) (g : (List ℕ × List ℕ) × ℕ) → grant_passes batch account g ≡ is_eq (grant_cmp (batch, account) g.0)
+grant_by_key batch account g =
+    ap₂ ◌&&◌ (turned g.0.0 batch ∙ sym (is_eq-slice_cmp batch g.0.0)) (turned g.0.1 account ∙ sym (is_eq-slice_cmp account g.0.1)) ∙ sym (then_eq (text_cmp batch g.0.0) (text_cmp account g.0.1))
+
+abbrev pub grant_pages_row : (List ℕ × List ℕ) × ℕ → Row
+grant_pages_row g = number g.1 ∷ []
+
+one_grant : (k : List ℕ × List ℕ) (o : Option ℕ) → map (λ (v : Row). column v 2 ∷ []) (map (λ g. grant_values (grant_row g)) (entry_of k o)) ≡ map grant_pages_row (entry_of k o)
+one_grant k None = refl
+one_grant k (Some pages) = refl
+
+pub grant_shown : (old new : State) (batch account : List ℕ) (rows : List Row) (w : World) → Holds (content_of w) old → Shown select_grant_text (Words batch ∷ Words account ∷ []) old new rows
+    → rows ≡ map grant_pages_row (entry_of (batch, account) (get w.grants (batch, account)))
+unfolding is_grant_of
+grant_shown old new batch account rows w has h =
+    let out : Row → Row = λ v. column v 2 ∷ [] in
+    let p = shows_all book_schema select_grant_text select_grant_names 8 select_grant_where select_grant_terms select_grant_order select_grant_is select_grant_plain select_grant_unlisted (λ db. refl)
+    old new (Words batch ∷ Words account ∷ []) grant_view (is_grant_of batch account) out (content_of w).grants rows has.schema (λ r. refl) (λ r. refl) has.rows.grants h in
+    let kept : filter (is_grant_of batch account) (content_of w).grants ≡ map (λ g. grant_values (grant_row g)) (entry_of (batch, account) (get w.grants (batch, account)))
+    = rows_passing (λ g. grant_values (grant_row g)) (is_grant_of batch account) (grant_passes batch account) (grant-row batch account) (entries w.grants)
+    ∙ ap (map (λ g. grant_values (grant_row g))) (found_in grant_cmp grant_same (batch, account) (grant_passes batch account) (grant_by_key batch account) w.grants) in
+    exactly (batch, account) grant_pages_row (get w.grants (batch, account)) rows
+    (subst (λ (vs : List Row). IsPermutation vs rows) (ap (map out) kept ∙ one_grant (batch, account) (get w.grants (batch, account))) p)
+
+-- ---- reports
+
+-- job = ?1 AND seq = ?2
+pub is_report_of : ℕ → ℕ → Row → Bool
+is_report_of job seq v = is_true (binary (Compare Eq Binary) (column v 0) (Int (pos job))) && (is_true (binary (Compare Eq Binary) (column v 1) (Int (pos seq))) && true)
+
+-- the row of a report under its key
+abbrev keyed_values : (ℕ × ℕ) × KeptReport → Row
+keyed_values r = number r.0.0 ∷ number r.0.1 ∷ number (kind_number r.1.report.kind) ∷ number r.1.report.count ∷ number r.1.state ∷ number r.1.total ∷ []
+
+abbrev report_passes : ℕ → ℕ → (ℕ × ℕ) × KeptReport → Bool
+report_passes job seq r = (r.0.0 == job) && (r.0.1 == seq)
+
+report-row : (job seq : ℕ) (r : (ℕ × ℕ) × KeptReport) → is_report_of job seq (keyed_values r) ≡ report_passes job seq r
+unfolding is_report_of
+report-row job seq r = rw (equals r.0.0 job, equals r.0.1 seq, and_true _) refl
+
+report_by_key : (job seq : ℕ) (r : (ℕ × ℕ) × KeptReport) → report_passes job seq r ≡ is_eq (report_cmp (job, seq) r.0)
+report_by_key job seq r =
+    ap₂ ◌&&◌ (other_way r.0.0 job ∙ sym (unsigned_tied job r.0.0)) (other_way r.0.1 seq ∙ sym (unsigned_tied seq r.0.1)) ∙ sym (then_eq (nat_cmp job r.0.0) (nat_cmp seq r.0.1))
+
+kept_of_some : (w : World) (n m : ℕ) (o : Option KeptReport) (k : KeptReport) → o ≡ Some k → IfSome o (IsKept w n m) → IsKept w n m k
+kept_of_some w n m o k is kept = subst (λ (p : Option KeptReport). IfSome p (IsKept w n m)) is kept
+
+-- each report of a sound world says its key
+reports_keyed : (w : World) → IsSound w → Each (λ (r : (ℕ × ℕ) × KeptReport). report_values r.1 ≡ keyed_values r) (entries w.reports)
+reports_keyed w sound = recursion_from_All (λ (r : (ℕ × ℕ) × KeptReport). report_values r.1 ≡ keyed_values r) (entries w.reports) (λ k d low.
+    let e = get_or (entries w.reports) k d in
+    let there : get w.reports e.0 ≡ Some e.1 = get-entries w.reports e.0 ∙ found_there report_cmp report_total (entries w.reports) k d low (entries_sorted w.reports) in
+    let kept = kept_of_some w e.0.0 e.0.1 (get w.reports e.0) e.1 there (sound.reports e.0.0 e.0.1) in
+    ap₂ (λ (n m : ℕ). number n ∷ number m ∷ number (kind_number e.1.report.kind) ∷ number e.1.report.count ∷ number e.1.state ∷ number e.1.total ∷ []) kept.job kept.seq)
+
+abbrev pub told_row : (ℕ × ℕ) × KeptReport → Row
+told_row r = number (kind_number r.1.report.kind) ∷ number r.1.report.count ∷ number r.1.state ∷ number r.1.total ∷ []
+
+one_report : (k : ℕ × ℕ) (o : Option KeptReport) → map (λ (v : Row). column v 2 ∷ column v 3 ∷ column v 4 ∷ column v 5 ∷ []) (map keyed_values (entry_of k o)) ≡ map told_row (entry_of k o)
+one_report k None = refl
+one_report k (Some r) = refl
+
+pub report_shown : (old new : State) (job seq : ℕ) (rows : List Row) (w : World) → IsSound w → Holds (content_of w) old → Shown select_report_text (number job ∷ number seq ∷ []) old new rows
+    → rows ≡ map told_row (entry_of (job, seq) (get w.reports (job, seq)))
+unfolding is_report_of
+report_shown old new job seq rows w sound has h =
+    let out : Row → Row = λ v. column v 2 ∷ column v 3 ∷ column v 4 ∷ column v 5 ∷ [] in
+    let p = shows_all book_schema select_report_text select_report_names 10 select_report_where select_report_terms select_report_order select_report_is select_report_plain select_report_unlisted (λ db. refl)
+    old new (number job ∷ number seq ∷ []) report_view (is_report_of job seq) out (content_of w).reports rows has.schema (λ r. refl) (λ r. refl) has.rows.reports h in
+    let kept : filter (is_report_of job seq) (content_of w).reports ≡ map keyed_values (entry_of (job, seq) (get w.reports (job, seq)))
+    = ap (filter (is_report_of job seq)) (map_alike (λ (r : (ℕ × ℕ) × KeptReport). report_values r.1) keyed_values (entries w.reports) (reports_keyed w sound))
+    ∙ rows_passing keyed_values (is_report_of job seq) (report_passes job seq) (report-row job seq) (entries w.reports)
+    ∙ ap (map keyed_values) (found_in report_cmp report_same (job, seq) (report_passes job seq) (report_by_key job seq) w.reports) in
+    exactly (job, seq) told_row (get w.reports (job, seq)) rows
+    (subst (λ (vs : List Row). IsPermutation vs rows) (ap (map out) kept ∙ one_report (job, seq) (get w.reports (job, seq))) p)
+
+-- a report that was found is of that key
+pub report_keyed : (w : World) → IsSound w → (job seq : ℕ) (k : KeptReport) → get w.reports (job, seq) ≡ Some k → (k.report.job ≡ job) × (k.report.seq ≡ seq)
+report_keyed w sound job seq k there = let kept = kept_of_some w job seq (get w.reports (job, seq)) k there (sound.reports job seq) in (kept.job, kept.seq)
+
+-- ---- first rows
+
+pub first_is : (rs : List Row) (row one : Row) → slice_get rs 0 ≡ Some row → rs ≡ one ∷ [] → row ≡ one
+first_is rs row one some is =
+    let e : ◌≡◌ {A = Option Row} (Some one) (Some row) = subst (λ (l : List Row). slice_get l 0 ≡ Some row) is some in
+    let same : one ≡ row = cc in
+    sym same

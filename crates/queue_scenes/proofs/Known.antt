@@ -1,0 +1,74 @@
+-- What is known of a row of an account file, by the account's row.
+use Rattle.std.proofs.Common.{◌≡◌, inl, inr, ℕ, ℤ, pos, ◌+ℤ◌, ◌+◌, ◌<◌, List, [], ◌∷◌, ◌++◌, map, take, length, get_or, sum_by, Bool, true, false, cond, Option, Some, None, IfSome, refl, sym, ap, subst, ◌∙◌, arith, bytes_eq}
+use Rattle.std.specs.Prelude.{option_map, IsSome, IsNone, is_some}
+use Rattle.std.specs.FinMap.{get, get-entries, entries, entries_sorted}
+use Rattle.std.specs.List.{AllByRecursion as Each}
+use Rattle.std.proofs.lemmas.Bool.{cases_Bool}
+use Rattle.std.proofs.lemmas.Int.{ints}
+use Rattle.std.proofs.lemmas.List.{take_more}
+use Rattle.std.proofs.lemmas.List.Elements.{recursion_from_All}
+use Rattle.std.proofs.lemmas.List.Sums.{sum_by-cons}
+use Rattle.queue_core.specs.Sound.{IsSound, reserved, printed}
+use Rattle.queue_core.specs.World.{World, grant_cmp, granted, known_grant}
+use Rattle.queue_core.specs.declared.event.GrantRow.{GrantRow}
+use Rattle.queue_core.specs.declared.event.KnownGrant.{KnownGrant}
+use Rattle.queue_rows.proofs.WorldMaps.{found_there}
+use Rattle.queue_rows.proofs.WorldRows.{grant_total}
+use Rattle.queue_tables.proofs.Accounts.{same_text}
+use Rattle.queue_scenes.specs.Accounts.{pages_in}
+use Rattle.queue_scenes.specs.declared.accounts.Pages.{Pages}
+
+-- ---- an account without a row has no grant
+
+sum_none : {X : Type 0} (f : X → ℕ) (xs : List X) → Each (λ x. f x ≡ 0) xs → sum_by f xs ≡ 0
+sum_none f [] all = refl
+sum_none f (x ∷ xs) all = let more = sum_none f xs all.1 in let here = all.0 in let a = sum_by-cons f x xs in omega (arith, more, here, a)
+
+abbrev part : List ℕ → (List ℕ × List ℕ) × ℕ → ℕ
+part a g = cond (bytes_eq g.0.1 a) g.1 0
+
+none_is_some : {X : Type 0} (o : Option X) → o ≡ None → IsSome o → ⊥
+none_is_some o none some = let e : is_some o ≡ false = ap is_some none in absurd (let no : true ≡ false = sym some ∙ e in cc)
+
+none_granted : (w : World) → IsSound w → (a : List ℕ) → get w.free a ≡ None → granted a w ≡ 0
+none_granted w sound a none = sum_none (part a) (entries w.grants) (recursion_from_All (λ (g : (List ℕ × List ℕ) × ℕ). part a g ≡ 0) (entries w.grants) (λ k d low.
+    let e = get_or (entries w.grants) k d in
+    elim (cases_Bool (bytes_eq e.0.1 a)) [
+      | inl same ↦
+          let there : get w.grants e.0 ≡ Some e.1 = get-entries w.grants e.0 ∙ found_there grant_cmp grant_total (entries w.grants) k d low (entries_sorted w.grants) in
+          let some : IsSome (get w.grants (e.0.0, a)) = subst (λ (n : List ℕ). IsSome (get w.grants (e.0.0, n))) (same_text e.0.1 a same) (ap is_some there) in
+          absurd (none_is_some (get w.free a) none ((sound.accounts a).1 (e.0.0, some)))
+      | inr apart ↦ ap (λ (b : Bool). cond b e.1 0) apart
+    ]))
+
+-- ---- the pages of an account are those that it was granted
+
+free_back : (w : World) (a : List ℕ) (o : Option ℤ) → option_map (λ (p : Pages). p.free) (option_map (pages_in w a) o) ≡ o
+free_back w a None = refl
+free_back w a (Some free) = refl
+
+granted_is : (w : World) → IsSound w → (a : List ℕ) (o : Option ℤ) (n : ℕ) → get w.free a ≡ o → IfSome o (λ free. pos (granted a w) ≡ free +ℤ pos (reserved a w + printed a w))
+    → (IsNone (option_map (pages_in w a) o) → n ≡ 0) → IfSome (option_map (pages_in w a) o) (λ p. pos n ≡ (p.free +ℤ p.reserved) +ℤ p.printed) → n ≡ granted a w
+granted_is w sound a None n is balance none sum = none refl ∙ sym (none_granted w sound a is)
+granted_is w sound a (Some free) n is balance none sum = omega (arith, ints, balance, sum)
+
+pub known_is : (w : World) → IsSound w → (row : GrantRow) (batch account : List ℕ) → batch ≡ row.batch → account ≡ row.account → (pages : Option ℕ) (found : Option Pages) (n : ℕ) (free : Option ℤ)
+    → pages ≡ get w.grants (batch, account) → found ≡ option_map (pages_in w account) (get w.free account) → (IsNone found → n ≡ 0) → IfSome found (λ p. pos n ≡ (p.free +ℤ p.reserved) +ℤ p.printed)
+    → free ≡ option_map (λ (p : Pages). p.free) found → record { pages = pages; granted = n; free = free } ≡ known_grant w row
+known_is w sound row batch account batch_is account_is pages found n free pages_are found_is none sum free_is =
+    let a : pages ≡ get w.grants (row.batch, row.account) = pages_are ∙ (λ i. get w.grants (batch_is i, account_is i)) in
+    let at = get w.free account in
+    let b : n ≡ granted account w = granted_is w sound account at n refl (sound.balances account) (subst (λ (o : Option Pages). IsNone o → n ≡ 0) found_is none) (subst (λ (o : Option Pages). IfSome o (λ p. pos n ≡ (p.free +ℤ p.reserved) +ℤ p.printed)) found_is sum) in
+    let b2 : n ≡ granted row.account w = b ∙ ap (λ (t : List ℕ). granted t w) account_is in
+    let c : free ≡ get w.free row.account = free_is ∙ ap (option_map (λ (p : Pages). p.free)) found_is ∙ free_back w account at ∙ ap (get w.free) account_is in
+    λ i. record { pages = a i; granted = b2 i; free = c i }
+
+-- ---- one row after another
+
+pub known_more : (w : World) (rows : List GrantRow) (i : ℕ) (row : GrantRow) → i < length rows → row ≡ get_or rows i row → map (known_grant w) (take i rows) ++ known_grant w row ∷ [] ≡ map (known_grant w) (take (i + 1) rows)
+known_more w rows i row low is =
+    sym (ap (map (known_grant w)) (take_more rows i row low ∙ ap (λ (g : GrantRow). take i rows ++ g ∷ []) (sym is)) ∙ map_push (take i rows) row)
+  where
+    map_push : (gs : List GrantRow) (g : GrantRow) → map (known_grant w) (gs ++ g ∷ []) ≡ map (known_grant w) gs ++ known_grant w g ∷ []
+    map_push [] g = refl
+    map_push (x ∷ gs) g = ap (λ (ks : List KnownGrant). known_grant w x ∷ ks) (map_push gs g)

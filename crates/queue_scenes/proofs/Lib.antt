@@ -1,0 +1,16 @@
+pub mod Leaving
+pub mod Statements
+pub mod Ordered
+pub mod Tests
+pub mod Lookup
+pub mod Found
+pub mod Numbers
+pub mod Sizes
+pub mod Whole
+pub mod Lists
+pub mod Counting
+pub mod Ended
+pub mod Known
+pub mod Told
+pub mod Picked
+pub mod Cut

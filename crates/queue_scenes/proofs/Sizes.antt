@@ -1,0 +1,104 @@
+-- The documents of a job, by their rows.
+use Rattle.std.proofs.Common.{◌≡◌, inl, inr, ℕ, ◌+◌, List, [], ◌∷◌, ◌++◌, map, filter, length, true, false, ◌==◌, Option, Some, refl, sym, ap, subst, ◌∙◌, arith, sum_by, append-nil}
+use Rattle.std.specs.List.{AllByRecursion as Each}
+use Rattle.std.specs.List.Sorted.{IsPermutation}
+use Rattle.std.proofs.lemmas.Bool.{cases_Bool, eqb-true, or_parts}
+use Rattle.std.proofs.lemmas.List.Elements.{filter-append}
+use Rattle.std.proofs.lemmas.List.Sums.{sum_by-cons}
+use Rattle.std.proofs.lemmas.List.Sorted.{length_permutation, sum_by-IsPermutation}
+use Rattle.sqlite.specs.Order.{Row, column}
+use Rattle.sqlite.specs.State.{State, Shown}
+use Rattle.queue_core.specs.declared.job.Job.{Job}
+use Rattle.queue_core.specs.declared.document.Document.{Document}
+use Rattle.queue_core.specs.Sound.{IsSound, IsSoundEntry}
+use Rattle.queue_core.specs.World.{World, Entry, job_at, rows}
+use Rattle.queue_tables.specs.Content.{Holds, content_of, document_rows}
+use Rattle.queue_tables.specs.Steps.{AreDistinct, has_number, is_numbered}
+use Rattle.queue_tables.specs.Tables.{book_schema}
+use Rattle.queue_tables.specs.Values.{number, document_values, document_view}
+use Rattle.queue_tables.proofs.Documents.{row_of, all_documents}
+use Rattle.queue_tables.proofs.Entries.{rows_in, distinct_of}
+use Rattle.queue_tables.proofs.Numbers.{numbered_document}
+use Rattle.queue_tables.proofs.Showing.{shows_all}
+use Rattle.queue_tables.proofs.Statements.{select_octets_text, select_octets_terms, select_octets_where, select_octets_order, select_octets_names, select_octets_is, select_octets_plain, select_octets_unlisted}
+use Rattle.queue_scenes.specs.Sizes.{size_in}
+
+-- ---- the rows of one job's documents
+
+all_of_job : (n m from : ℕ) (ds : List Document) → (m == n) ≡ true → filter (is_numbered n) (document_rows m from ds) ≡ document_rows m from ds
+all_of_job n m from [] same = refl
+all_of_job n m from (d ∷ ds) same = rw (numbered_document n (row_of m from d) ∙ same) (ap (λ (rs : List Row). document_values (row_of m from d) ∷ rs) (all_of_job n m (from + 1) ds same))
+
+none_of_job : (n m from : ℕ) (ds : List Document) → (m == n) ≡ false → filter (is_numbered n) (document_rows m from ds) ≡ []
+none_of_job n m from [] apart = refl
+none_of_job n m from (d ∷ ds) apart = rw (numbered_document n (row_of m from d) ∙ apart) (none_of_job n m (from + 1) ds apart)
+
+no_rows : (n : ℕ) (es : List Entry) → has_number n es ≡ false → filter (is_numbered n) (all_documents es) ≡ []
+no_rows n [] none = refl
+no_rows n (e ∷ es) none =
+    let parts = or_parts (e.row.number == n) (has_number n es) none in
+    filter-append (is_numbered n) (document_rows e.row.number 1 e.documents) (all_documents es)
+    ∙ ap (λ (rs : List Row). rs ++ filter (is_numbered n) (all_documents es)) (none_of_job n e.row.number 1 e.documents parts.0)
+    ∙ no_rows n es parts.1
+
+-- the entry of a job, with the rows of its documents
+pub record HasEntry (n : ℕ) (es : List Entry) (k : Job) : Type 0 where
+  pub entry : Entry
+  pub row : entry.row ≡ k
+  pub sound : IsSoundEntry entry
+  pub documents : filter (is_numbered n) (all_documents es) ≡ document_rows entry.row.number 1 entry.documents
+
+pub entry_there : (n : ℕ) (es : List Entry) (k : Job) → AreDistinct es → Each IsSoundEntry es → job_at n (rows_in es) ≡ Some k → HasEntry n es k
+entry_there n [] k d sound there = absurd cc
+entry_there n (e ∷ es) k d sound there = elim (cases_Bool (e.row.number == n)) [
+  | inl same ↦
+      let rest = no_rows n es (subst (λ m. has_number m es ≡ false) (eqb-true e.row.number n same) d.0) in
+      let is : ◌≡◌ {A = Option Job} (Some e.row) (Some k) = rw same at there in
+      record {
+        entry = e;
+        row = (let row_is : e.row ≡ k = cc in row_is);
+        sound = sound.0;
+        documents = filter-append (is_numbered n) (document_rows e.row.number 1 e.documents) (all_documents es) ∙ ap (λ (rs : List Row). filter (is_numbered n) (document_rows e.row.number 1 e.documents) ++ rs) rest
+            ∙ append-nil (filter (is_numbered n) (document_rows e.row.number 1 e.documents)) ∙ all_of_job n e.row.number 1 e.documents same;
+      }
+  | inr apart ↦
+      let more = entry_there n es k d.1 sound.1 (rw apart at there) in
+      record {
+        entry = more.entry;
+        row = more.row;
+        sound = more.sound;
+        documents = filter-append (is_numbered n) (document_rows e.row.number 1 e.documents) (all_documents es)
+            ∙ ap (λ (rs : List Row). rs ++ filter (is_numbered n) (all_documents es)) (none_of_job n e.row.number 1 e.documents apart) ∙ more.documents;
+      }
+]
+
+-- ---- their number and their lengths
+
+octets_out : Row → Row
+octets_out v = column v 3 ∷ []
+
+count_rows : (job from : ℕ) (ds : List Document) → length (map octets_out (document_rows job from ds)) ≡ length ds
+count_rows job from [] = refl
+count_rows job from (d ∷ ds) = let more = count_rows job (from + 1) ds in omega (arith, more)
+
+sum_rows : (job from : ℕ) (ds : List Document) → sum_by size_in (map octets_out (document_rows job from ds)) ≡ sum_by (λ (d : Document). length d.bytes) ds
+unfolding octets_out
+sum_rows job from [] = refl
+sum_rows job from (d ∷ ds) =
+    let more = sum_rows job (from + 1) ds in
+    let a = sum_by-cons size_in (number (length d.bytes) ∷ []) (map octets_out (document_rows job (from + 1) ds)) in
+    let b = sum_by-cons (λ (d : Document). length d.bytes) d ds in
+    omega (arith, more, a, b)
+
+pub sizes_shown : (old new : State) (n : ℕ) (shown_rows : List Row) (w : World) (k : Job) → IsSound w → Holds (content_of w) old → job_at n (rows w) ≡ Some k → Shown select_octets_text (number n ∷ []) old new shown_rows
+    → (length shown_rows ≡ k.documents) × (sum_by size_in shown_rows ≡ k.octets)
+unfolding octets_out
+sizes_shown old new n shown_rows w k sound has there h =
+    let it = entry_there n w.jobs k (distinct_of 1 w.jobs w.next sound.numbers) sound.entries there in
+    let docs = document_rows it.entry.row.number 1 it.entry.documents in
+    let p = shows_all book_schema select_octets_text select_octets_names 2 select_octets_where select_octets_terms select_octets_order select_octets_is select_octets_plain select_octets_unlisted (λ db. refl)
+    old new (number n ∷ []) document_view (is_numbered n) octets_out (content_of w).documents shown_rows has.schema (λ r. refl) (λ r. refl) has.rows.documents h in
+    let all : IsPermutation (map octets_out docs) shown_rows = subst (λ (vs : List Row). IsPermutation (map octets_out vs) shown_rows) it.documents p in (
+      length_permutation (map octets_out docs) shown_rows all ∙ count_rows it.entry.row.number 1 it.entry.documents ∙ sym it.sound.documents ∙ ap (λ (j : Job). j.documents) it.row,
+      sum_by-IsPermutation size_in (map octets_out docs) shown_rows all ∙ sum_rows it.entry.row.number 1 it.entry.documents ∙ sym it.sound.octets ∙ ap (λ (j : Job). j.octets) it.row,
+    )

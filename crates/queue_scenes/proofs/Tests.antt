@@ -1,0 +1,122 @@
+-- What WHERE asks of a job's row, by the job.
+use Rattle.std.proofs.Common.{◌≡◌, ℕ, pos, List, Bool, true, false, ◌&&◌, ◌==◌, Some, refl, bytes_eq, is_lt, is_gt}
+use Rattle.std.specs.Ordering.{int_cmp}
+use Rattle.std.proofs.lemmas.Map.Text.{is_eq-slice_cmp}
+use Rattle.sqlite.specs.declared.types.Value.TheVariants.{Int, Text as Words}
+use Rattle.sqlite.specs.Order.{Row, column}
+use Rattle.sqlite.specs.Ops.{binary, is_true, from_truth}
+use Rattle.sqlite.specs.Collation.TheVariants.{Binary}
+use Rattle.sqlite_sql.specs.declared.ops.BinaryOp.TheVariants.{Compare}
+use Rattle.sqlite_sql.specs.declared.ops.CompareOp.TheVariants.{Lt, Eq, Gt}
+use Rattle.sqlite_value.proofs.OrderLemmas.{value_cmp-Int, value_cmp-Text}
+use Rattle.queue_core.specs.declared.job.Job.{Job}
+use Rattle.queue_core.specs.declared.job.Phase.{Phase}
+use Rattle.queue_core.specs.declared.job.Phase.TheVariants.{Waiting, Running, Stopped, Canceled, Aborted, Completed}
+use Rattle.queue_core.specs.Job.{is_live, is_live_in, is_running, is_running_in, is_stopped, is_stopped_in, state, state_in}
+use Rattle.queue_rows.specs.Codes.{phase_number, flag_number}
+use Rattle.queue_tables.specs.Values.{job_values}
+use Rattle.queue_tables.proofs.Numbers.{same_number}
+
+-- ---- one comparison
+
+bare : (b : Bool) → is_true (from_truth (Some b)) ≡ b
+bare true = refl
+bare false = refl
+
+pub and_true : (b : Bool) → (b && true) ≡ b
+and_true true = refl
+and_true false = refl
+
+pub equals : (m n : ℕ) → is_true (binary (Compare Eq Binary) (Int (pos m)) (Int (pos n))) ≡ (m == n)
+unfolding binary
+equals m n = rw (value_cmp-Int (pos m) (pos n), bare _) (same_number m n)
+
+pub names : (s t : List ℕ) → is_true (binary (Compare Eq Binary) (Words s) (Words t)) ≡ bytes_eq s t
+unfolding binary
+names s t = rw (value_cmp-Text s t, bare _) (is_eq-slice_cmp s t)
+
+pub less : (m n : ℕ) → is_true (binary (Compare Lt Binary) (Int (pos m)) (Int (pos n))) ≡ is_lt (int_cmp (pos m) (pos n))
+unfolding binary
+less m n = rw (value_cmp-Int (pos m) (pos n), bare _) refl
+
+pub greater : (m n : ℕ) → is_true (binary (Compare Gt Binary) (Int (pos m)) (Int (pos n))) ≡ is_gt (int_cmp (pos m) (pos n))
+unfolding binary
+greater m n = rw (value_cmp-Int (pos m) (pos n), bare _) refl
+
+-- ---- phases
+
+live_by_number : (p : Phase) → is_lt (int_cmp (pos (phase_number p)) (pos 7)) ≡ is_live_in p
+live_by_number Waiting = refl
+live_by_number Running = refl
+live_by_number Stopped = refl
+live_by_number (Canceled why) = refl
+live_by_number Aborted = refl
+live_by_number Completed = refl
+
+running_by_number : (p : Phase) → (phase_number p == 1) ≡ is_running_in p
+running_by_number Waiting = refl
+running_by_number Running = refl
+running_by_number Stopped = refl
+running_by_number (Canceled why) = refl
+running_by_number Aborted = refl
+running_by_number Completed = refl
+
+stopped_by_number : (p : Phase) → (phase_number p == 2) ≡ is_stopped_in p
+stopped_by_number Waiting = refl
+stopped_by_number Running = refl
+stopped_by_number Stopped = refl
+stopped_by_number (Canceled why) = refl
+stopped_by_number Aborted = refl
+stopped_by_number Completed = refl
+
+pending_by_numbers : (p : Phase) (h i : Bool) → ((phase_number p == 0) && ((flag_number h == 0) && (flag_number i == 0))) ≡ (state_in p h i == 3)
+pending_by_numbers Waiting true i = refl
+pending_by_numbers Waiting false true = refl
+pending_by_numbers Waiting false false = refl
+pending_by_numbers Running h i = refl
+pending_by_numbers Stopped h i = refl
+pending_by_numbers (Canceled why) h i = refl
+pending_by_numbers Aborted h i = refl
+pending_by_numbers Completed h i = refl
+
+-- ---- WHERE, on what the row shows
+
+-- phase = 1
+unfoldable pub is_running_row : Row → Bool
+is_running_row v = is_true (binary (Compare Eq Binary) (column v 7) (Int (pos 1))) && true
+
+pub running-row : (j : Job) → is_running_row (job_values j) ≡ is_running j
+unfolding is_running_row
+running-row j = rw (equals (phase_number j.phase) 1, and_true _) (running_by_number j.phase)
+
+-- phase = 2
+unfoldable pub is_stopped_row : Row → Bool
+is_stopped_row v = is_true (binary (Compare Eq Binary) (column v 7) (Int (pos 2))) && true
+
+pub stopped-row : (j : Job) → is_stopped_row (job_values j) ≡ is_stopped j
+unfolding is_stopped_row
+stopped-row j = rw (equals (phase_number j.phase) 2, and_true _) (stopped_by_number j.phase)
+
+-- phase < 7
+unfoldable pub is_live_row : Row → Bool
+is_live_row v = is_true (binary (Compare Lt Binary) (column v 7) (Int (pos 7))) && true
+
+pub live-row : (j : Job) → is_live_row (job_values j) ≡ is_live j
+unfolding is_live_row
+live-row j = rw (less (phase_number j.phase) 7, and_true _) (live_by_number j.phase)
+
+-- owner = ?1 AND phase < 7
+unfoldable pub is_own_live_row : List ℕ → Row → Bool
+is_own_live_row name v = is_true (binary (Compare Eq Binary) (column v 1) (Words name)) && (is_true (binary (Compare Lt Binary) (column v 7) (Int (pos 7))) && true)
+
+pub own_live-row : (name : List ℕ) (j : Job) → is_own_live_row name (job_values j) ≡ (bytes_eq j.owner name && is_live j)
+unfolding is_own_live_row
+own_live-row name j = rw (names j.owner name, less (phase_number j.phase) 7, and_true _, live_by_number j.phase) refl
+
+-- phase = 0 AND hold = 0 AND incoming = 0
+unfoldable pub is_pending_row : Row → Bool
+is_pending_row v = is_true (binary (Compare Eq Binary) (column v 7) (Int (pos 0))) && (is_true (binary (Compare Eq Binary) (column v 5) (Int (pos 0))) && (is_true (binary (Compare Eq Binary) (column v 6) (Int (pos 0))) && true))
+
+pub pending-row : (j : Job) → is_pending_row (job_values j) ≡ (state j == 3)
+unfolding is_pending_row
+pending-row j = rw (equals (phase_number j.phase) 0, equals (flag_number j.hold) 0, equals (flag_number j.incoming) 0, and_true _) (pending_by_numbers j.phase j.hold j.incoming)

@@ -1,0 +1,22 @@
+use Rattle.std.proofs.Common.{◌≡◌, Some, ap, sym, rules, ◌∙◌}
+use Rattle.std.specs.FinMap.{get}
+use Rattle.sqlite.specs.Held.{state}
+use Rattle.queue_scenes.proofs.Found.{grant_shown, grant_pages_row}
+use Rattle.queue_scenes.proofs.Lookup.{none_found, some_found}
+use Rattle.queue_scenes.proofs.Statements.{select_grant_query}
+use Rattle.queue_scenes.proofs.grants.pages_under.Goals as goal
+
+pub select-requires : goal.select-requires
+select-requires g c = record { query = select_grant_query }
+
+pub returns-in-None-clause-found : goal.returns-in-None-clause-found
+returns-in-None-clause-found g c clean w has =
+    let rows = grant_shown (state g.S.Store c.args.conn.now) (state g.S.Store c.select.new.conn) c.args.batch.now c.args.account.now c.in_ok-found.found.items w has (rw (c.params-to_sql.ensures, c.params-to_sql-2.ensures) at (c.in_ok-found.ensures.shown clean)) in
+    sym (none_found (c.args.batch.now, c.args.account.now) grant_pages_row (get w.grants (c.args.batch.now, c.args.account.now)) c.in_ok-found.found.items (search rules) rows)
+
+pub returns-clause-found : goal.returns-clause-found
+returns-clause-found g c clean w has =
+    let rows = grant_shown (state g.S.Store c.args.conn.now) (state g.S.Store c.select.new.conn) c.args.batch.now c.args.account.now c.in_ok-found.found.items w has (rw (c.params-to_sql.ensures, c.params-to_sql-2.ensures) at (c.in_ok-found.ensures.shown clean)) in
+    let at = some_found (c.args.batch.now, c.args.account.now) grant_pages_row (get w.grants (c.args.batch.now, c.args.account.now)) c.in_ok-found.found.items c.in-Some.row.now (search rules) rows in
+    let value : c.in_ok-pages-in-Some.pages ≡ at.0 = search (rules, at.2) in
+    ap Some value ∙ sym at.1

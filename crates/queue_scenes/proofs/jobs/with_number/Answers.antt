@@ -1,0 +1,16 @@
+use Rattle.std.proofs.Common.{◌==◌}
+use Rattle.sqlite.specs.Held.{state}
+use Rattle.queue_core.specs.World.{numbered, rows}
+use Rattle.queue_core.specs.declared.job.Job.{Job}
+use Rattle.queue_tables.proofs.Ending.{if_ok}
+use Rattle.queue_scenes.proofs.Statements.{select_job_query}
+use Rattle.queue_scenes.proofs.Lists.{filtered_rows, shows_numbered}
+use Rattle.queue_scenes.proofs.jobs.with_number.Goals as goal
+
+pub select_jobs-requires : goal.select_jobs-requires
+select_jobs-requires g c = record { query = select_job_query }
+
+pub returns-clause-found : goal.returns-clause-found
+returns-clause-found g c clean =
+    if_ok c.select_jobs.result _ _ (λ v it w sound has. it w (numbered c.args.number (rows w)) sound has (filtered_rows w sound (λ (j : Job). j.number == c.args.number)) (shows_numbered c.args.number (state g.S.Store c.args.conn.now) w sound has))
+    (rw (c.params-to_sql.ensures) at (c.select_jobs.ensures.found clean))

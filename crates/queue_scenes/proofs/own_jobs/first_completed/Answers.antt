@@ -1,0 +1,18 @@
+use Rattle.std.proofs.Common.{Some}
+use Rattle.sqlite.specs.Held.{state}
+use Rattle.queue_core.specs.Visible.{visible}
+use Rattle.queue_core.specs.World.{rows}
+use Rattle.queue_core.specs.declared.event.WhichJobs.TheVariants.{Completed}
+use Rattle.queue_tables.proofs.Ending.{if_ok}
+use Rattle.queue_scenes.proofs.Ended.{ended_rows, shows_ended_first}
+use Rattle.queue_scenes.proofs.Statements.{select_ended_first_query}
+use Rattle.queue_scenes.proofs.own_jobs.first_completed.Goals as goal
+
+pub select_jobs-requires : goal.select_jobs-requires
+select_jobs-requires g c = record { query = select_ended_first_query }
+
+pub returns-clause-found : goal.returns-clause-found
+returns-clause-found g c clean =
+    if_ok c.select_jobs.result _ _ (λ v it w sound has.
+    it w (visible c.args.owner.now Completed (Some c.args.most) (rows w)) sound has (ended_rows c.args.owner.now (Some c.args.most) w sound) (shows_ended_first c.args.owner.now c.args.most (state g.S.Store c.args.conn.now) w sound has))
+    (rw (c.params-to_sql.ensures, c.params-to_sql-2.ensures) at (c.select_jobs.ensures.found clean))

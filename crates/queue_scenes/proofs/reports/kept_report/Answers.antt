@@ -1,0 +1,29 @@
+use Rattle.std.proofs.Common.{◌≡◌, ℕ, Some, ap, sym, rules, ◌∙◌}
+use Rattle.std.specs.FinMap.{get}
+use Rattle.sqlite.specs.Held.{state}
+use Rattle.sqlite.specs.Order.{Row, column}
+use Rattle.queue_core.specs.declared.event.KeptReport.{KeptReport}
+use Rattle.queue_scenes.proofs.Found.{report_shown, report_keyed, told_row}
+use Rattle.queue_scenes.proofs.Lookup.{none_found, some_found}
+use Rattle.queue_scenes.proofs.Statements.{select_report_query}
+use Rattle.queue_scenes.proofs.Told.{same_report}
+use Rattle.queue_scenes.proofs.reports.kept_report.Goals as goal
+
+pub select-requires : goal.select-requires
+select-requires g c = record { query = select_report_query }
+
+pub returns-in-None-clause-found : goal.returns-in-None-clause-found
+returns-in-None-clause-found g c clean w sound has =
+    let rows = report_shown (state g.S.Store c.args.conn.now) (state g.S.Store c.select.new.conn) c.args.job c.args.seq c.in_ok-found.found.items w sound has (rw (c.params-to_sql.ensures, c.params-to_sql-2.ensures) at (c.in_ok-found.ensures.shown clean)) in
+    sym (none_found (c.args.job, c.args.seq) told_row (get w.reports (c.args.job, c.args.seq)) c.in_ok-found.found.items (search rules) rows)
+
+pub returns-clause-found : goal.returns-clause-found
+returns-clause-found g c clean w sound has =
+    let rows = report_shown (state g.S.Store c.args.conn.now) (state g.S.Store c.select.new.conn) c.args.job c.args.seq c.in_ok-found.found.items w sound has (rw (c.params-to_sql.ensures, c.params-to_sql-2.ensures) at (c.in_ok-found.ensures.shown clean)) in
+    let at = some_found (c.args.job, c.args.seq) told_row (get w.reports (c.args.job, c.args.seq)) c.in_ok-found.found.items c.in-Some.row.now (search rules) rows in
+    let cell = λ (i : ℕ). ap (λ (v : Row). column v i) at.2 in
+    let key = report_keyed w sound c.args.job c.args.seq at.0 at.1 in
+    let read = c.in_ok-kept-in-Some.ensures in
+    let same : c.in_ok-kept-in-Some.kept ≡ at.0 = same_report c.numbers_tell_names.ensures.kinds c.in_ok-kept-in-Some.kept at.0 (read.job ∙ sym key.0) (read.seq ∙ sym key.1)
+    (sym read.kind ∙ cell 0) (sym read.count ∙ cell 1) (sym read.told ∙ cell 2) (sym read.total ∙ cell 3) in
+    ap (λ (k : KeptReport). Some k) same ∙ sym at.1

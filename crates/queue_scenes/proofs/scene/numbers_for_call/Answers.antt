@@ -1,0 +1,25 @@
+use Rattle.sqlite.specs.Held.{state}
+use Rattle.queue_tables.specs.Content.{content_of}
+use Rattle.queue_scenes.proofs.Leaving.{leaves_then, leaves_three}
+use Rattle.queue_scenes.proofs.scene.numbers_for_call.Goals as goal
+
+pub returns-in_err-counts-clause-leaves : goal.returns-in_err-counts-clause-leaves
+returns-in_err-counts-clause-leaves g c = leaves_then (state g.S.Store c.args.conn.now) (state g.S.Store c.live_for_call.new.conn) (state g.S.Store c.counts_for_call.new.conn) c.live_for_call.ensures.leaves c.counts_for_call.ensures.leaves
+
+pub returns-in_err-next-clause-leaves : goal.returns-in_err-next-clause-leaves
+returns-in_err-next-clause-leaves g c =
+    leaves_three (state g.S.Store c.args.conn.now) (state g.S.Store c.live_for_call.new.conn) (state g.S.Store c.counts_for_call.new.conn) (state g.S.Store c.next_number.new.conn)
+    c.live_for_call.ensures.leaves c.counts_for_call.ensures.leaves c.next_number.ensures.leaves
+
+pub returns-clause-leaves : goal.returns-clause-leaves
+returns-clause-leaves g c =
+    leaves_three (state g.S.Store c.args.conn.now) (state g.S.Store c.live_for_call.new.conn) (state g.S.Store c.counts_for_call.new.conn) (state g.S.Store c.next_number.new.conn)
+    c.live_for_call.ensures.leaves c.counts_for_call.ensures.leaves c.next_number.ensures.leaves
+
+pub returns-clause-found : goal.returns-clause-found
+returns-clause-found g c clean w has =
+    let second = c.next_number.ensures.leaves.clean clean in
+    let first = c.counts_for_call.ensures.leaves.clean second in
+    let has_first = c.live_for_call.ensures.leaves.kept first (content_of w) has (c.in_ok-live.ensures.live first has.live) in
+    let has_second = c.counts_for_call.ensures.leaves.kept second (content_of w) has_first (c.in_ok-counts.ensures.live second has_first.live) in
+    (c.in_ok-live.ensures.found first w has, c.in_ok-counts.ensures.found second w has_first, c.in_ok-next.ensures.found clean w has_second)

@@ -1,0 +1,61 @@
+use Rattle.std.proofs.Common.{List, All, refl, sym, subst, ◌∙◌, arith}
+use Rattle.sqlite.specs.Held.{state}
+use Rattle.queue_core.specs.Event.{ask, call_of}
+use Rattle.queue_core.specs.Limits.{IsAmount, IsKnown}
+use Rattle.queue_core.specs.World.{cut}
+use Rattle.queue_core.specs.declared.event.FreeRow.{FreeRow}
+use Rattle.queue_core.specs.declared.event.KnownGrant.{KnownGrant}
+use Rattle.queue_tables.specs.Content.{content_of}
+use Rattle.queue_scenes.proofs.Cut.{same_scene}
+use Rattle.queue_scenes.proofs.Leaving.{leaves_then, leaves_three}
+use Rattle.queue_scenes.proofs.scene.scene_of_call.Goals as goal
+
+pub returns-in_err-free-clause-leaves : goal.returns-in_err-free-clause-leaves
+returns-in_err-free-clause-leaves g c = leaves_then (state g.S.Store c.args.conn.now) (state g.S.Store c.numbers_for_call.new.conn) (state g.S.Store c.free_rows.new.conn) c.numbers_for_call.ensures.leaves c.free_rows.ensures.leaves
+
+pub returns-in_err-jobs-clause-leaves : goal.returns-in_err-jobs-clause-leaves
+returns-in_err-jobs-clause-leaves g c =
+    leaves_three (state g.S.Store c.args.conn.now) (state g.S.Store c.numbers_for_call.new.conn) (state g.S.Store c.free_rows.new.conn) (state g.S.Store c.few_concerned.new.conn)
+    c.numbers_for_call.ensures.leaves c.free_rows.ensures.leaves c.few_concerned.ensures.leaves
+
+pub returns-in_err-settings-clause-leaves : goal.returns-in_err-settings-clause-leaves
+returns-in_err-settings-clause-leaves g c =
+    leaves_three (state g.S.Store c.args.conn.now) (state g.S.Store c.numbers_for_call.new.conn) (state g.S.Store c.free_rows.new.conn) (state g.S.Store c.few_concerned.new.conn)
+    c.numbers_for_call.ensures.leaves c.free_rows.ensures.leaves c.few_concerned.ensures.leaves
+
+pub returns-clause-leaves : goal.returns-clause-leaves
+returns-clause-leaves g c =
+    leaves_three (state g.S.Store c.args.conn.now) (state g.S.Store c.numbers_for_call.new.conn) (state g.S.Store c.free_rows.new.conn) (state g.S.Store c.few_concerned.new.conn)
+    c.numbers_for_call.ensures.leaves c.free_rows.ensures.leaves c.few_concerned.ensures.leaves
+
+pub returns-clause-live : goal.returns-clause-live
+returns-clause-live g c clean = c.in_ok-jobs.ensures.live clean (c.in_ok-free.ensures.live (c.few_concerned.ensures.leaves.clean clean))
+
+pub returns-clause-fair : goal.returns-clause-fair
+returns-clause-fair g c = record {
+  settings = c.in_ok-settings.ensures.limits;
+  jobs = c.in_ok-jobs.ensures.sound;
+  few = c.in_ok-jobs.ensures.few;
+  free = subst (λ (rs : List FreeRow). All (λ a. IsAmount a.free) rs) (sym c.from_rows.ensures) c.in_ok-free.ensures.within;
+  next = c.in_ok-numbers.ensures.least;
+  queued = c.in_ok-numbers.ensures.few;
+  report = tt;
+  known = subst (λ (ks : List KnownGrant). All IsKnown ks) (sym (c.from_known.ensures ∙ c.new.ensures.items)) (λ k d low. absurd (omega (arith, low)));
+}
+
+pub returns-clause-found : goal.returns-clause-found
+returns-clause-found g c clean w sound has settings_are =
+    let second = c.few_concerned.ensures.leaves.clean clean in
+    let first = c.free_rows.ensures.leaves.clean second in
+    let has_first = c.numbers_for_call.ensures.leaves.kept first (content_of w) has (c.in_ok-numbers.ensures.live first) in
+    let has_second = c.free_rows.ensures.leaves.kept second (content_of w) has_first (c.in_ok-free.ensures.live second) in
+    let numbers = c.in_ok-numbers.ensures.found first w has in
+    same_scene _ (cut w (ask c.args.caller.now (call_of c.args.call.now)))
+    (c.in_ok-settings.ensures.same ∙ settings_are)
+    (c.in_ok-jobs.ensures.found clean w sound has_second)
+    (c.from_rows.ensures ∙ c.in_ok-free.ensures.found second w has_first)
+    numbers.0
+    numbers.1
+    refl
+    (c.from_known.ensures ∙ c.new.ensures.items)
+    numbers.2

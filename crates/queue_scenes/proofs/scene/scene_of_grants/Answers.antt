@@ -1,0 +1,53 @@
+use Rattle.std.proofs.Common.{◌<◌, ◌^◌, List, All, length, refl, sym, subst, ◌∙◌, arith}
+use Rattle.sqlite.specs.Held.{state}
+use Rattle.queue_core.specs.Event.{grant}
+use Rattle.queue_core.specs.Limits.{IsAmount, IsKnown, IsSoundJob}
+use Rattle.queue_core.specs.World.{cut}
+use Rattle.queue_core.specs.declared.event.FreeRow.{FreeRow}
+use Rattle.queue_core.specs.declared.event.KnownGrant.{KnownGrant}
+use Rattle.queue_core.specs.declared.event.QueueCounts.{QueueCounts}
+use Rattle.queue_core.specs.declared.job.Job.{Job}
+use Rattle.queue_tables.specs.Content.{content_of}
+use Rattle.queue_scenes.proofs.Cut.{same_scene}
+use Rattle.queue_scenes.proofs.Leaving.{leaves_then}
+use Rattle.queue_scenes.proofs.scene.scene_of_grants.Goals as goal
+
+pub returns-in_err-known-clause-leaves : goal.returns-in_err-known-clause-leaves
+returns-in_err-known-clause-leaves g c = leaves_then (state g.S.Store c.args.conn.now) (state g.S.Store c.next_number.new.conn) (state g.S.Store c.known_rows.new.conn) c.next_number.ensures.leaves c.known_rows.ensures.leaves
+
+pub returns-in_err-settings-clause-leaves : goal.returns-in_err-settings-clause-leaves
+returns-in_err-settings-clause-leaves g c = leaves_then (state g.S.Store c.args.conn.now) (state g.S.Store c.next_number.new.conn) (state g.S.Store c.known_rows.new.conn) c.next_number.ensures.leaves c.known_rows.ensures.leaves
+
+pub returns-clause-leaves : goal.returns-clause-leaves
+returns-clause-leaves g c = leaves_then (state g.S.Store c.args.conn.now) (state g.S.Store c.next_number.new.conn) (state g.S.Store c.known_rows.new.conn) c.next_number.ensures.leaves c.known_rows.ensures.leaves
+
+pub returns-clause-live : goal.returns-clause-live
+returns-clause-live g c clean = c.in_ok-known.ensures.live clean (c.in_ok-next.ensures.live (c.known_rows.ensures.leaves.clean clean))
+
+pub returns-clause-fair : goal.returns-clause-fair
+returns-clause-fair g c =
+    let jobs = c.from_jobs.ensures ∙ c.new.ensures.items in
+    record {
+      settings = c.in_ok-settings.ensures.limits;
+      jobs = subst (λ (js : List Job). All IsSoundJob js) (sym jobs) (λ k d low. absurd (omega (arith, low)));
+      few = subst (λ (js : List Job). length js < 2 ^ 31) (sym jobs) (omega arith);
+      free = subst (λ (rs : List FreeRow). All (λ a. IsAmount a.free) rs) (sym (c.from_rows.ensures ∙ c.new-2.ensures.items)) (λ k d low. absurd (omega (arith, low)));
+      next = c.in_ok-next.ensures.least;
+      queued = subst (λ (n : QueueCounts). n.queued < 2 ^ 31) (sym c.no_counts.ensures) (omega arith);
+      report = tt;
+      known = subst (λ (ks : List KnownGrant). All IsKnown ks) (sym c.from_known.ensures) c.in_ok-known.ensures.within;
+    }
+
+pub returns-clause-found : goal.returns-clause-found
+returns-clause-found g c clean w sound has settings_are =
+    let first = c.known_rows.ensures.leaves.clean clean in
+    let has_first = c.next_number.ensures.leaves.kept first (content_of w) has (c.in_ok-next.ensures.live first) in
+    same_scene _ (cut w (grant c.args.rows.now))
+    (c.in_ok-settings.ensures.same ∙ settings_are)
+    (c.from_jobs.ensures ∙ c.new.ensures.items)
+    (c.from_rows.ensures ∙ c.new-2.ensures.items)
+    refl
+    c.no_counts.ensures
+    refl
+    (c.from_known.ensures ∙ c.in_ok-known.ensures.found clean w sound has_first)
+    (c.in_ok-next.ensures.found first w has)

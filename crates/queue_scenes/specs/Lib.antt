@@ -1,0 +1,5 @@
+pub mod Leaving
+pub mod Accounts
+pub mod Sizes
+pub mod Jobs
+pub mod Counts

@@ -1,0 +1,67 @@
+//! How many jobs there are, by their phases.
+ghost use Rattle.std.specs.Prelude.{◌≡◌, ◌<◌, ◌^◌, ℕ, IfOk, OnOk, IsTrue};
+ghost use Rattle.sqlite.specs.Held.{state};
+ghost use Rattle.sqlite.specs.State.{HasCleanDisk};
+ghost use Rattle.sqlite.specs.Values.{bound};
+ghost use Rattle.queue_core.specs.World.{World, live_jobs, queue_counts, rows};
+ghost use Rattle.queue_scenes.specs.Counts.{ShowsMany};
+ghost use Rattle.queue_scenes.specs.Leaving.{LeavesRows};
+ghost use Rattle.queue_tables.specs.Content.{Content, Holds, content_of};
+ghost use Rattle.queue_tables.specs.Queries.{IsQueryText};
+
+use crate::select::select;
+use queue_core::event::QueueCounts;
+use queue_tables::fault::Fault;
+use sqlite::types::ValueRef;
+use sqlite::{Alter, Connection, params};
+
+/// One more than the greatest job number.
+const TOO_MANY: usize = 2_147_483_648;
+
+/// How many rows a SELECT shows.
+fn count<S: Alter>(
+    conn: &mut Connection<S>,
+    sql: &str,
+    params: &[ValueRef<'_>],
+) -> Result<usize, Fault>
+    requires query { IsQueryText sql.now }
+    ensures leaves { LeavesRows (state S.Store conn.old) (state S.Store conn.new) }
+    ensures live { HasCleanDisk (state S.Store conn.new) → OnOk result (IsTrue (state S.Store conn.new).is_open) }
+    ensures found { HasCleanDisk (state S.Store conn.new) → IfOk result (λ n. (c : Content) (m : ℕ) → Holds c (state S.Store conn.old) → ShowsMany sql.now (bound params.now) (state S.Store conn.old) m → n ≡ m) }
+{
+    let found = select(conn, sql, params)?;
+    Ok(found.len())
+}
+
+/// How many jobs of the caller are in states 3 to 6.
+pub(crate) fn live_count<S: Alter>(conn: &mut Connection<S>, caller: &str) -> Result<usize, Fault>
+    ensures leaves { LeavesRows (state S.Store conn.old) (state S.Store conn.new) }
+    ensures live { HasCleanDisk (state S.Store conn.new) → OnOk result (IsTrue (state S.Store conn.new).is_open) }
+    ensures found { HasCleanDisk (state S.Store conn.new) → IfOk result (λ n. (w : World) → Holds (content_of w) (state S.Store conn.old) → n ≡ live_jobs caller.now (rows w)) }
+{
+    count(
+        conn,
+        "SELECT number FROM jobs WHERE owner = ?1 AND phase < 7",
+        params![caller],
+    )
+}
+
+/// How many jobs are in states 5, 6, and 3 to 6. It is damaged where those are more than there are job numbers.
+pub(crate) fn all_counts<S: Alter>(conn: &mut Connection<S>) -> Result<QueueCounts, Fault>
+    ensures leaves { LeavesRows (state S.Store conn.old) (state S.Store conn.new) }
+    ensures live { HasCleanDisk (state S.Store conn.new) → OnOk result (IsTrue (state S.Store conn.new).is_open) }
+    ensures few { IfOk result (λ c. c.queued < 2 ^ 31) }
+    ensures found { HasCleanDisk (state S.Store conn.new) → IfOk result (λ c. (w : World) → Holds (content_of w) (state S.Store conn.old) → c ≡ queue_counts (rows w)) }
+{
+    let running = count(conn, "SELECT number FROM jobs WHERE phase = 1", &[])?;
+    let stopped = count(conn, "SELECT number FROM jobs WHERE phase = 2", &[])?;
+    let queued = count(conn, "SELECT number FROM jobs WHERE phase < 7", &[])?;
+    if queued >= TOO_MANY {
+        return Err(Fault::Damaged);
+    }
+    Ok(QueueCounts {
+        running,
+        stopped,
+        queued,
+    })
+}

@@ -1,0 +1,97 @@
+//! Jobs as they are read, each with the sizes of its documents.
+ghost use Rattle.std.specs.Prelude.{◌≡◌, List, Some, All, map, IfOk, OnOk, IsTrue};
+ghost use Rattle.sqlite.specs.Held.{state};
+ghost use Rattle.sqlite.specs.State.{HasCleanDisk};
+ghost use Rattle.sqlite.specs.Values.{bound};
+ghost use Rattle.queue_core.specs.Limits.{IsSoundJob};
+ghost use Rattle.queue_core.specs.Sound.{IsSound};
+ghost use Rattle.queue_core.specs.World.{World, job_at, numbered, rows};
+ghost use Rattle.queue_core.specs.declared.job.Job.{Job as JobValue};
+ghost use Rattle.queue_scenes.specs.Jobs.{AreRowsOf, ShowsJobs};
+ghost use Rattle.queue_scenes.specs.Leaving.{LeavesRows};
+ghost use Rattle.queue_tables.specs.Content.{Holds, content_of};
+ghost use Rattle.queue_tables.specs.Queries.{IsQueryText};
+ghost use Rattle.queue_tables.specs.Values.{job_values};
+
+use crate::documents::sizes_of;
+use crate::select::select;
+use queue_core::job::Job;
+use queue_rows::jobs::is_job_row;
+use queue_rows::laws::numbers_tell_names;
+use queue_tables::fault::Fault;
+use queue_tables::read::read_job;
+use sqlite::types::ValueRef;
+use sqlite::{Alter, Connection, Row, params};
+use std::alloc::Global;
+
+/// The job of a row, with the sizes of its documents. It is damaged where it is not within a job's limits.
+fn whole_job<S: Alter>(alloc: Global, conn: &mut Connection<S>, row: &Row) -> Result<Job, Fault>
+    ensures leaves { LeavesRows (state S.Store conn.old) (state S.Store conn.new) }
+    ensures live { HasCleanDisk (state S.Store conn.new) → OnOk result (IsTrue (state S.Store conn.new).is_open) }
+    ensures sound { IfOk result IsSoundJob }
+    ensures found { HasCleanDisk (state S.Store conn.new) → IfOk result (λ j. (w : World) (k : JobValue) → IsSound w → Holds (content_of w) (state S.Store conn.old) → job_at k.number (rows w) ≡ Some k → row.now ≡ job_values k → j ≡ k) }
+{
+    numbers_tell_names();
+    let mut job = read_job(alloc, row)?;
+    if !is_job_row(&job) {
+        return Err(Fault::Damaged);
+    }
+    let sizes = sizes_of(conn, job.number)?;
+    job.documents = sizes.documents;
+    job.octets = sizes.octets;
+    Ok(job)
+}
+
+/// The jobs of the rows, in their order.
+fn whole_jobs<S: Alter>(
+    alloc: Global,
+    conn: &mut Connection<S>,
+    rows: &[Row],
+) -> Result<Vec<Job>, Fault>
+    ensures leaves { LeavesRows (state S.Store conn.old) (state S.Store conn.new) }
+    ensures live { HasCleanDisk (state S.Store conn.new) → OnOk result (IsTrue (state S.Store conn.old).is_open → IsTrue (state S.Store conn.new).is_open) }
+    ensures sound { IfOk result (λ v. All IsSoundJob v.items) }
+    ensures found { HasCleanDisk (state S.Store conn.new) → IfOk result (λ v. (w : World) (js : List JobValue) → IsSound w → Holds (content_of w) (state S.Store conn.old) → AreRowsOf w js → rows.now ≡ map job_values js → v.items ≡ js) }
+{
+    let mut jobs = Vec::new(alloc);
+    for row in rows {
+        jobs.push(whole_job(alloc, conn, row)?)?;
+    }
+    Ok(jobs)
+}
+
+/// The jobs that a SELECT of all columns shows, in its order.
+pub(crate) fn select_jobs<S: Alter>(
+    alloc: Global,
+    conn: &mut Connection<S>,
+    sql: &str,
+    params: &[ValueRef<'_>],
+) -> Result<Vec<Job>, Fault>
+    requires query { IsQueryText sql.now }
+    ensures leaves { LeavesRows (state S.Store conn.old) (state S.Store conn.new) }
+    ensures live { HasCleanDisk (state S.Store conn.new) → OnOk result (IsTrue (state S.Store conn.new).is_open) }
+    ensures sound { IfOk result (λ v. All IsSoundJob v.items) }
+    ensures found { HasCleanDisk (state S.Store conn.new) → IfOk result (λ v. (w : World) (js : List JobValue) → IsSound w → Holds (content_of w) (state S.Store conn.old) → AreRowsOf w js → ShowsJobs sql.now (bound params.now) (state S.Store conn.old) js → v.items ≡ js) }
+{
+    let rows = select(conn, sql, params)?;
+    whole_jobs(alloc, conn, rows.as_slice())
+}
+
+/// The job of that number, or none.
+pub(crate) fn with_number<S: Alter>(
+    alloc: Global,
+    conn: &mut Connection<S>,
+    number: u32,
+) -> Result<Vec<Job>, Fault>
+    ensures leaves { LeavesRows (state S.Store conn.old) (state S.Store conn.new) }
+    ensures live { HasCleanDisk (state S.Store conn.new) → OnOk result (IsTrue (state S.Store conn.new).is_open) }
+    ensures sound { IfOk result (λ v. All IsSoundJob v.items) }
+    ensures found { HasCleanDisk (state S.Store conn.new) → IfOk result (λ v. (w : World) → IsSound w → Holds (content_of w) (state S.Store conn.old) → v.items ≡ numbered number (rows w)) }
+{
+    select_jobs(
+        alloc,
+        conn,
+        "SELECT number, owner, name, copies, impressions, hold, incoming, phase, why, stopping, count, created, begun, ended FROM jobs WHERE number = ?1",
+        params![number],
+    )
+}

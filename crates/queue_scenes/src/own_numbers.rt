@@ -1,0 +1,87 @@
+//! The jobs of one owner that have given numbers.
+ghost use Rattle.std.specs.Prelude.{◌≡◌, ◌++◌, ◌==◌, ◌&&◌, ℕ, All, bytes_eq, filter, IfOk, OnOk, IsTrue};
+ghost use Rattle.std.specs.List.{list_any};
+ghost use Rattle.std.specs.List.Sorted.{IsStrictlySortedBy};
+ghost use Rattle.std.specs.Ordering.{nat_cmp};
+ghost use Rattle.sqlite.specs.Held.{state};
+ghost use Rattle.sqlite.specs.State.{HasCleanDisk};
+ghost use Rattle.queue_core.specs.Limits.{IsSoundJob};
+ghost use Rattle.queue_core.specs.Sound.{IsSound};
+ghost use Rattle.queue_core.specs.World.{World, is_one_of, rows};
+ghost use Rattle.queue_core.specs.declared.job.Job.{Job as JobValue};
+ghost use Rattle.queue_scenes.specs.Leaving.{LeavesRows};
+ghost use Rattle.queue_tables.specs.Content.{Holds, content_of};
+
+use crate::jobs::with_number;
+use queue_core::job::Job;
+use queue_core::number_set;
+use queue_tables::fault::Fault;
+use sqlite::{Alter, Connection};
+use std::alloc::{AllocError, Global};
+use std::collections::BTreeSet;
+
+/// The numbers of a set, which rise.
+fn keys_of(alloc: Global, set: &BTreeSet<u32>) -> Result<Vec<u32>, AllocError>
+    ensures kept { IfOk result (λ v. v.items ≡ set.now.keys) }
+    ensures rising { IfOk result (λ v. IsStrictlySortedBy nat_cmp v.items) }
+{
+    set.iter().copied().collect(alloc)
+}
+
+/// The numbers in their order, none twice.
+fn in_order(alloc: Global, numbers: &[u32]) -> Result<Vec<u32>, AllocError>
+    ensures rising { IfOk result (λ v. IsStrictlySortedBy nat_cmp v.items) }
+    ensures same { IfOk result (λ v. (q : ℕ) → list_any (λ n. n == q) v.items ≡ list_any (λ n. n == q) numbers.now) }
+{
+    let set = number_set(alloc, numbers)?;
+    keys_of(alloc, &set)
+}
+
+/// Adds those of the jobs that are the owner's.
+fn push_owned(own: &mut Vec<Job>, jobs: &[Job], owner: &str) -> Result<(), AllocError>
+    ensures { OnOk result (own.new.items ≡ own.old.items ++ filter (λ (j : JobValue). bytes_eq j.owner owner.now) jobs.now) }
+{
+    for job in jobs {
+        if job.owner.as_str() == owner {
+            own.push(job.try_clone()?)?;
+        }
+    }
+    Ok(())
+}
+
+/// The owner's jobs of the numbers, which rise.
+fn owned_of<S: Alter>(
+    alloc: Global,
+    conn: &mut Connection<S>,
+    owner: &str,
+    numbers: &[u32],
+) -> Result<Vec<Job>, Fault>
+    requires { IsStrictlySortedBy nat_cmp numbers.now }
+    ensures leaves { LeavesRows (state S.Store conn.old) (state S.Store conn.new) }
+    ensures live { HasCleanDisk (state S.Store conn.new) → IsTrue (state S.Store conn.old).is_open → OnOk result (IsTrue (state S.Store conn.new).is_open) }
+    ensures sound { IfOk result (λ v. All IsSoundJob v.items) }
+    ensures found { HasCleanDisk (state S.Store conn.new) → IfOk result (λ v. (w : World) → IsSound w → Holds (content_of w) (state S.Store conn.old) → v.items ≡ filter (λ (j : JobValue). bytes_eq j.owner owner.now && list_any (λ n. n == j.number) numbers.now) (rows w)) }
+{
+    let mut own = Vec::new(alloc);
+    for number in numbers {
+        let found = with_number(alloc, conn, *number)?;
+        push_owned(&mut own, found.as_slice(), owner)?;
+    }
+    Ok(own)
+}
+
+/// The owner's jobs of the numbers, by number.
+pub(crate) fn numbered_jobs<S: Alter>(
+    alloc: Global,
+    conn: &mut Connection<S>,
+    owner: &str,
+    numbers: &[u32],
+) -> Result<Vec<Job>, Fault>
+    ensures leaves { LeavesRows (state S.Store conn.old) (state S.Store conn.new) }
+    ensures live { HasCleanDisk (state S.Store conn.new) → IsTrue (state S.Store conn.old).is_open → OnOk result (IsTrue (state S.Store conn.new).is_open) }
+    ensures sound { IfOk result (λ v. All IsSoundJob v.items) }
+    ensures found { HasCleanDisk (state S.Store conn.new) → IfOk result (λ v. (w : World) → IsSound w → Holds (content_of w) (state S.Store conn.old) → v.items ≡ filter (λ (j : JobValue). bytes_eq j.owner owner.now && is_one_of numbers.now j) (rows w)) }
+{
+    let wanted = in_order(alloc, numbers)?;
+    owned_of(alloc, conn, owner, wanted.as_slice())
+}

@@ -1,0 +1,33 @@
+//! The jobs that the device may start.
+ghost use Rattle.std.specs.Prelude.{◌≡◌, IfOk, OnOk, IsTrue};
+ghost use Rattle.sqlite.specs.Held.{state};
+ghost use Rattle.sqlite.specs.State.{HasCleanDisk};
+ghost use Rattle.queue_core.specs.Shown.{pending_jobs};
+ghost use Rattle.queue_core.specs.Sound.{IsSound};
+ghost use Rattle.queue_core.specs.World.{World};
+ghost use Rattle.queue_tables.specs.Content.{Content, Holds, content_of};
+
+use crate::jobs::select_jobs;
+use queue_core::job::JobList;
+use queue_tables::fault::Fault;
+use sqlite::{Alter, Connection};
+use std::alloc::Global;
+
+/// The jobs in state 3, by number. Whatever rows the tables hold, they hold after it, where the connection is open
+/// still; and whatever they hold after it, they held before.
+pub fn pending<S: Alter>(alloc: Global, conn: &mut Connection<S>) -> Result<JobList, Fault>
+    ensures clean { HasCleanDisk (state S.Store conn.new) → HasCleanDisk (state S.Store conn.old) }
+    ensures opened { HasCleanDisk (state S.Store conn.new) → IsTrue (state S.Store conn.new).is_open → IsTrue (state S.Store conn.old).is_open }
+    ensures live { HasCleanDisk (state S.Store conn.new) → OnOk result (IsTrue (state S.Store conn.new).is_open) }
+    ensures kept { HasCleanDisk (state S.Store conn.new) → (c : Content) → Holds c (state S.Store conn.old) → IsTrue (state S.Store conn.new).is_open → Holds c (state S.Store conn.new) }
+    ensures back { HasCleanDisk (state S.Store conn.new) → (c : Content) → Holds c (state S.Store conn.new) → Holds c (state S.Store conn.old) }
+    ensures shows { HasCleanDisk (state S.Store conn.new) → IfOk result (λ js. (w : World) → IsSound w → Holds (content_of w) (state S.Store conn.old) → js ≡ pending_jobs w) }
+{
+    let jobs = select_jobs(
+        alloc,
+        conn,
+        "SELECT number, owner, name, copies, impressions, hold, incoming, phase, why, stopping, count, created, begun, ended FROM jobs WHERE phase = 0 AND hold = 0 AND incoming = 0 ORDER BY number",
+        &[],
+    )?;
+    Ok(JobList::from_jobs(jobs))
+}

@@ -1,0 +1,98 @@
+//! A kept report, by its job and sequence number.
+ghost use Rattle.std.specs.Prelude.{◌≡◌, ◌≤◌, IfOk, OnOk, IfSome, IsTrue};
+ghost use Rattle.std.specs.FinMap.{get};
+ghost use Rattle.sqlite.specs.Held.{state};
+ghost use Rattle.sqlite.specs.Order.{column};
+ghost use Rattle.sqlite.specs.State.{HasCleanDisk};
+ghost use Rattle.queue_core.specs.Sound.{IsSound};
+ghost use Rattle.queue_core.specs.World.{World};
+ghost use Rattle.queue_rows.specs.Codes.{kind_number};
+ghost use Rattle.queue_scenes.specs.Leaving.{LeavesRows};
+ghost use Rattle.queue_tables.specs.Content.{Holds, content_of};
+ghost use Rattle.queue_tables.specs.Values.{number};
+
+use crate::select::select;
+use queue_core::event::{KeptReport, Kind, Report};
+use queue_rows::codes::kind_of;
+use queue_rows::laws::numbers_tell_names;
+use queue_tables::fault::Fault;
+use queue_tables::read::value;
+use sqlite::{Alter, Connection, Row, params};
+
+/// The kind of a report, in its column.
+fn kind_at(row: &Row, at: usize) -> Result<Kind, Fault>
+    ensures { IfOk result (λ k. column row.now at ≡ number (kind_number k)) }
+{
+    let code: i64 = value(row, at)?;
+    match kind_of(code) {
+        Some(kind) => Ok(kind),
+        None => Err(Fault::Damaged),
+    }
+}
+
+/// The state of a job, in its column.
+fn state_at(row: &Row, at: usize) -> Result<u8, Fault>
+    ensures is { IfOk result (λ n. column row.now at ≡ number n) }
+    ensures within { IfOk result (λ n. (3 ≤ n) × (n ≤ 9)) }
+{
+    let state: u32 = value(row, at)?;
+    if state < 3 || state > 9 {
+        return Err(Fault::Damaged);
+    }
+    Ok(state as u8)
+}
+
+/// The report in a row under that key. It is damaged where its answer is out of bounds.
+fn read_report(row: &Row, job: u32, seq: u32) -> Result<KeptReport, Fault>
+    ensures job { IfOk result (λ k. k.report.job ≡ job) }
+    ensures seq { IfOk result (λ k. k.report.seq ≡ seq) }
+    ensures kind { IfOk result (λ k. column row.now 0 ≡ number (kind_number k.report.kind)) }
+    ensures count { IfOk result (λ k. column row.now 1 ≡ number k.report.count) }
+    ensures told { IfOk result (λ k. column row.now 2 ≡ number k.state) }
+    ensures total { IfOk result (λ k. column row.now 3 ≡ number k.total) }
+    ensures within { IfOk result (λ k. (3 ≤ k.state) × (k.state ≤ 9) × (k.total ≤ 100000000)) }
+{
+    let kind = kind_at(row, 0)?;
+    let count = value(row, 1)?;
+    let state = state_at(row, 2)?;
+    let total = value(row, 3)?;
+    if total > 100_000_000 {
+        return Err(Fault::Damaged);
+    }
+    Ok(KeptReport {
+        report: Report {
+            job,
+            seq,
+            kind,
+            count,
+        },
+        state,
+        total,
+    })
+}
+
+/// The report that is kept of the job under the sequence number.
+pub(crate) fn kept_report<S: Alter>(
+    conn: &mut Connection<S>,
+    job: u32,
+    seq: u32,
+) -> Result<Option<KeptReport>, Fault>
+    ensures leaves { LeavesRows (state S.Store conn.old) (state S.Store conn.new) }
+    ensures live { HasCleanDisk (state S.Store conn.new) → OnOk result (IsTrue (state S.Store conn.new).is_open) }
+    ensures within { IfOk result (λ found. IfSome found (λ k. (3 ≤ k.state) × (k.state ≤ 9) × (k.total ≤ 100000000))) }
+    ensures found { HasCleanDisk (state S.Store conn.new) → IfOk result (λ found. (w : World) → IsSound w → Holds (content_of w) (state S.Store conn.old) → found ≡ get w.reports (job, seq)) }
+{
+    numbers_tell_names();
+    let found = select(
+        conn,
+        "SELECT kind, count, state, total FROM reports WHERE job = ?1 AND seq = ?2",
+        params![job, seq],
+    )?;
+    match found.first() {
+        None => Ok(None),
+        Some(row) => {
+            let kept = read_report(row, job, seq)?;
+            Ok(Some(kept))
+        }
+    }
+}

@@ -1,0 +1,309 @@
+//! The rows that an event needs.
+ghost use Rattle.std.specs.Prelude.{◌≡◌, ◌≤◌, ◌<◌, ◌^◌, [], All, length, IfOk, OnOk, IsTrue};
+ghost use Rattle.sqlite.specs.Held.{state};
+ghost use Rattle.sqlite.specs.State.{HasCleanDisk};
+ghost use Rattle.queue_core.specs.Event.{ask, tell, grant, event_of, call_of};
+ghost use Rattle.queue_core.specs.Limits.{IsAmount, IsFair, IsSoundJob};
+ghost use Rattle.queue_core.specs.Settings.{AreSettings};
+ghost use Rattle.queue_core.specs.Sound.{IsSound};
+ghost use Rattle.queue_core.specs.World.{World, cut, counts_for, jobs_for, live_for, numbered, owner_row, queue_counts, rows};
+ghost use Rattle.queue_scenes.specs.Leaving.{LeavesRows};
+ghost use Rattle.queue_tables.specs.Content.{Content, Holds, content_of};
+
+use crate::accounts::free_rows;
+use crate::counts::{all_counts, live_count};
+use crate::grants::known_rows;
+use crate::jobs::with_number;
+use crate::meta::next_number;
+use crate::own_jobs::{completed, live_jobs, not_completed};
+use crate::own_numbers::numbered_jobs;
+use crate::reports::kept_report;
+use queue_core::event::{
+    Call, Event, FreeList, FreeRow, GrantRow, KnownList, QueueCounts, Report, Scene, WhichJobs,
+};
+use queue_core::job::{Job, JobList};
+use queue_core::settings::Settings;
+use queue_tables::fault::Fault;
+use sqlite::{Alter, Connection};
+use std::alloc::{AllocError, Global};
+
+/// One more than the greatest job number.
+const TOO_MANY: usize = 2_147_483_648;
+
+/// The jobs that the caller's call speaks of.
+fn concerned<S: Alter>(
+    alloc: Global,
+    conn: &mut Connection<S>,
+    caller: &str,
+    call: &Call<'_>,
+) -> Result<Vec<Job>, Fault>
+    ensures leaves { LeavesRows (state S.Store conn.old) (state S.Store conn.new) }
+    ensures live { HasCleanDisk (state S.Store conn.new) → IsTrue (state S.Store conn.old).is_open → OnOk result (IsTrue (state S.Store conn.new).is_open) }
+    ensures sound { IfOk result (λ v. All IsSoundJob v.items) }
+    ensures found { HasCleanDisk (state S.Store conn.new) → IfOk result (λ v. (w : World) → IsSound w → Holds (content_of w) (state S.Store conn.old) → v.items ≡ jobs_for caller.now (call_of call.now) (rows w)) }
+{
+    match call {
+        Call::PrintJob { .. }
+        | Call::ValidateJob { .. }
+        | Call::CreateJob { .. }
+        | Call::GetPrinterAttributes => Ok(Vec::new(alloc)),
+        Call::SendDocument { job, .. }
+        | Call::CancelJob { job }
+        | Call::HoldJob { job }
+        | Call::ReleaseJob { job }
+        | Call::GetJobAttributes { job } => with_number(alloc, conn, *job),
+        Call::CancelMyJobs {
+            jobs: Some(numbers),
+        } => numbered_jobs(alloc, conn, caller, numbers.as_slice()),
+        Call::CancelMyJobs { jobs: None } => live_jobs(alloc, conn, caller),
+        Call::GetJobs { which, limit } => match which {
+            WhichJobs::NotCompleted => not_completed(alloc, conn, caller, *limit),
+            WhichJobs::Completed => completed(alloc, conn, caller, *limit),
+        },
+    }
+}
+
+/// The jobs that the caller's call speaks of. They are damaged where they are more than there are job numbers.
+fn few_concerned<S: Alter>(
+    alloc: Global,
+    conn: &mut Connection<S>,
+    caller: &str,
+    call: &Call<'_>,
+) -> Result<JobList, Fault>
+    ensures leaves { LeavesRows (state S.Store conn.old) (state S.Store conn.new) }
+    ensures live { HasCleanDisk (state S.Store conn.new) → IsTrue (state S.Store conn.old).is_open → OnOk result (IsTrue (state S.Store conn.new).is_open) }
+    ensures sound { IfOk result (λ js. All IsSoundJob js) }
+    ensures few { IfOk result (λ js. length js < 2 ^ 31) }
+    ensures found { HasCleanDisk (state S.Store conn.new) → IfOk result (λ js. (w : World) → IsSound w → Holds (content_of w) (state S.Store conn.old) → js ≡ jobs_for caller.now (call_of call.now) (rows w)) }
+{
+    let jobs = concerned(alloc, conn, caller, call)?;
+    if jobs.len() >= TOO_MANY {
+        return Err(Fault::Damaged);
+    }
+    Ok(JobList::from_jobs(jobs))
+}
+
+/// The numbers of a scene.
+#[derive(Clone, Copy)]
+struct Numbers {
+    live: usize,
+    counts: QueueCounts,
+    next: u32,
+}
+
+/// Counts of a queue that nobody asks for.
+fn no_counts() -> QueueCounts
+    ensures { result ≡ queue_counts [] }
+{
+    QueueCounts {
+        running: 0,
+        stopped: 0,
+        queued: 0,
+    }
+}
+
+/// How many live jobs the caller has, for a call that asks for a new one.
+fn live_for_call<S: Alter>(
+    conn: &mut Connection<S>,
+    caller: &str,
+    call: &Call<'_>,
+) -> Result<usize, Fault>
+    ensures leaves { LeavesRows (state S.Store conn.old) (state S.Store conn.new) }
+    ensures live { HasCleanDisk (state S.Store conn.new) → IsTrue (state S.Store conn.old).is_open → OnOk result (IsTrue (state S.Store conn.new).is_open) }
+    ensures found { HasCleanDisk (state S.Store conn.new) → IfOk result (λ n. (w : World) → Holds (content_of w) (state S.Store conn.old) → n ≡ live_for caller.now (call_of call.now) (rows w)) }
+{
+    match call {
+        Call::PrintJob { .. } | Call::ValidateJob { .. } | Call::CreateJob { .. } => {
+            live_count(conn, caller)
+        }
+        _ => Ok(0),
+    }
+}
+
+/// The counts of the queue, for a call that needs them.
+fn counts_for_call<S: Alter>(
+    conn: &mut Connection<S>,
+    call: &Call<'_>,
+) -> Result<QueueCounts, Fault>
+    ensures leaves { LeavesRows (state S.Store conn.old) (state S.Store conn.new) }
+    ensures live { HasCleanDisk (state S.Store conn.new) → IsTrue (state S.Store conn.old).is_open → OnOk result (IsTrue (state S.Store conn.new).is_open) }
+    ensures few { IfOk result (λ c. c.queued < 2 ^ 31) }
+    ensures found { HasCleanDisk (state S.Store conn.new) → IfOk result (λ c. (w : World) → Holds (content_of w) (state S.Store conn.old) → c ≡ counts_for (call_of call.now) (rows w)) }
+{
+    match call {
+        Call::GetPrinterAttributes => all_counts(conn),
+        _ => Ok(no_counts()),
+    }
+}
+
+/// The numbers that the caller's call needs.
+fn numbers_for_call<S: Alter>(
+    conn: &mut Connection<S>,
+    caller: &str,
+    call: &Call<'_>,
+) -> Result<Numbers, Fault>
+    ensures leaves { LeavesRows (state S.Store conn.old) (state S.Store conn.new) }
+    ensures live { HasCleanDisk (state S.Store conn.new) → OnOk result (IsTrue (state S.Store conn.new).is_open) }
+    ensures few { IfOk result (λ n. n.counts.queued < 2 ^ 31) }
+    ensures least { IfOk result (λ n. 1 ≤ n.next) }
+    ensures found { HasCleanDisk (state S.Store conn.new) → IfOk result (λ n. (w : World) → Holds (content_of w) (state S.Store conn.old) → (n.live ≡ live_for caller.now (call_of call.now) (rows w)) × (n.counts ≡ counts_for (call_of call.now) (rows w)) × (n.next ≡ w.next)) }
+{
+    let live = live_for_call(conn, caller, call)?;
+    let counts = counts_for_call(conn, call)?;
+    let next = next_number(conn)?;
+    Ok(Numbers { live, counts, next })
+}
+
+/// A copy of the settings, which are within their limits.
+fn copy_of(settings: &Settings) -> Result<Settings, AllocError>
+    ensures same { IfOk result (λ s. s ≡ settings.now) }
+    ensures limits { IfOk result AreSettings }
+{
+    let _ = settings.estimate();
+    settings.try_clone()
+}
+
+/// The rows that a caller's call needs.
+fn scene_of_call<S: Alter>(
+    alloc: Global,
+    conn: &mut Connection<S>,
+    settings: &Settings,
+    caller: &str,
+    call: &Call<'_>,
+) -> Result<Scene, Fault>
+    ensures leaves { LeavesRows (state S.Store conn.old) (state S.Store conn.new) }
+    ensures live { HasCleanDisk (state S.Store conn.new) → OnOk result (IsTrue (state S.Store conn.new).is_open) }
+    ensures fair { IfOk result IsFair }
+    ensures found { HasCleanDisk (state S.Store conn.new) → IfOk result (λ s. (w : World) → IsSound w → Holds (content_of w) (state S.Store conn.old) → settings.now ≡ w.settings → s ≡ cut w (ask caller.now (call_of call.now))) }
+{
+    let numbers = numbers_for_call(conn, caller, call)?;
+    let free = free_rows(alloc, conn, caller)?;
+    let jobs = few_concerned(alloc, conn, caller, call)?;
+    let settings = copy_of(settings)?;
+    Ok(Scene {
+        settings,
+        jobs,
+        free: FreeList::from_rows(free),
+        live: numbers.live,
+        counts: numbers.counts,
+        report: None,
+        known: KnownList::from_known(Vec::new(alloc)),
+        next: numbers.next,
+    })
+}
+
+/// The account of the first job's owner.
+fn owner_rows<S: Alter>(
+    alloc: Global,
+    conn: &mut Connection<S>,
+    jobs: &[Job],
+) -> Result<Vec<FreeRow>, Fault>
+    ensures leaves { LeavesRows (state S.Store conn.old) (state S.Store conn.new) }
+    ensures live { HasCleanDisk (state S.Store conn.new) → IsTrue (state S.Store conn.old).is_open → OnOk result (IsTrue (state S.Store conn.new).is_open) }
+    ensures within { IfOk result (λ v. All (λ a. IsAmount a.free) v.items) }
+    ensures found { HasCleanDisk (state S.Store conn.new) → IfOk result (λ v. (w : World) → Holds (content_of w) (state S.Store conn.old) → v.items ≡ owner_row w.free jobs.now) }
+{
+    match jobs {
+        [] => Ok(Vec::new(alloc)),
+        [job, ..] => free_rows(alloc, conn, job.owner.as_str()),
+    }
+}
+
+/// The job that a report speaks of. It is damaged where two have its number.
+fn job_of_report<S: Alter>(
+    alloc: Global,
+    conn: &mut Connection<S>,
+    number: u32,
+) -> Result<Vec<Job>, Fault>
+    ensures leaves { LeavesRows (state S.Store conn.old) (state S.Store conn.new) }
+    ensures live { HasCleanDisk (state S.Store conn.new) → OnOk result (IsTrue (state S.Store conn.new).is_open) }
+    ensures sound { IfOk result (λ v. All IsSoundJob v.items) }
+    ensures few { IfOk result (λ v. length v.items ≤ 1) }
+    ensures found { HasCleanDisk (state S.Store conn.new) → IfOk result (λ v. (w : World) → IsSound w → Holds (content_of w) (state S.Store conn.old) → v.items ≡ numbered number (rows w)) }
+{
+    let jobs = with_number(alloc, conn, number)?;
+    if jobs.len() > 1 {
+        return Err(Fault::Damaged);
+    }
+    Ok(jobs)
+}
+
+/// The rows that a report needs.
+fn scene_of_report<S: Alter>(
+    alloc: Global,
+    conn: &mut Connection<S>,
+    settings: &Settings,
+    r: &Report,
+) -> Result<Scene, Fault>
+    ensures leaves { LeavesRows (state S.Store conn.old) (state S.Store conn.new) }
+    ensures live { HasCleanDisk (state S.Store conn.new) → OnOk result (IsTrue (state S.Store conn.new).is_open) }
+    ensures fair { IfOk result IsFair }
+    ensures found { HasCleanDisk (state S.Store conn.new) → IfOk result (λ s. (w : World) → IsSound w → Holds (content_of w) (state S.Store conn.old) → settings.now ≡ w.settings → s ≡ cut w (tell r.now)) }
+{
+    let next = next_number(conn)?;
+    let report = kept_report(conn, r.job, r.seq)?;
+    let jobs = job_of_report(alloc, conn, r.job)?;
+    let free = owner_rows(alloc, conn, jobs.as_slice())?;
+    let settings = copy_of(settings)?;
+    Ok(Scene {
+        settings,
+        jobs: JobList::from_jobs(jobs),
+        free: FreeList::from_rows(free),
+        live: 0,
+        counts: no_counts(),
+        report,
+        known: KnownList::from_known(Vec::new(alloc)),
+        next,
+    })
+}
+
+/// The rows that an account file needs.
+fn scene_of_grants<S: Alter>(
+    alloc: Global,
+    conn: &mut Connection<S>,
+    settings: &Settings,
+    rows: &[GrantRow],
+) -> Result<Scene, Fault>
+    ensures leaves { LeavesRows (state S.Store conn.old) (state S.Store conn.new) }
+    ensures live { HasCleanDisk (state S.Store conn.new) → OnOk result (IsTrue (state S.Store conn.new).is_open) }
+    ensures fair { IfOk result IsFair }
+    ensures found { HasCleanDisk (state S.Store conn.new) → IfOk result (λ s. (w : World) → IsSound w → Holds (content_of w) (state S.Store conn.old) → settings.now ≡ w.settings → s ≡ cut w (grant rows.now)) }
+{
+    let next = next_number(conn)?;
+    let known = known_rows(alloc, conn, rows)?;
+    let settings = copy_of(settings)?;
+    Ok(Scene {
+        settings,
+        jobs: JobList::from_jobs(Vec::new(alloc)),
+        free: FreeList::from_rows(Vec::new(alloc)),
+        live: 0,
+        counts: no_counts(),
+        report: None,
+        known: KnownList::from_known(known),
+        next,
+    })
+}
+
+/// The rows that an event needs, under the settings of the queue. Whatever rows the tables hold, they hold after it,
+/// where the connection is open still; whatever they hold after it, they held before; and a scene is within its limits
+/// on any disk.
+pub fn scene<S: Alter>(
+    alloc: Global,
+    conn: &mut Connection<S>,
+    settings: &Settings,
+    e: &Event<'_>,
+) -> Result<Scene, Fault>
+    ensures clean { HasCleanDisk (state S.Store conn.new) → HasCleanDisk (state S.Store conn.old) }
+    ensures opened { HasCleanDisk (state S.Store conn.new) → IsTrue (state S.Store conn.new).is_open → IsTrue (state S.Store conn.old).is_open }
+    ensures live { HasCleanDisk (state S.Store conn.new) → OnOk result (IsTrue (state S.Store conn.new).is_open) }
+    ensures kept { HasCleanDisk (state S.Store conn.new) → (c : Content) → Holds c (state S.Store conn.old) → IsTrue (state S.Store conn.new).is_open → Holds c (state S.Store conn.new) }
+    ensures back { HasCleanDisk (state S.Store conn.new) → (c : Content) → Holds c (state S.Store conn.new) → Holds c (state S.Store conn.old) }
+    ensures fair { IfOk result IsFair }
+    ensures shows { HasCleanDisk (state S.Store conn.new) → IfOk result (λ s. (w : World) → IsSound w → Holds (content_of w) (state S.Store conn.old) → settings.now ≡ w.settings → s ≡ cut w (event_of e.now)) }
+{
+    match e {
+        Event::Ask { caller, call } => scene_of_call(alloc, conn, settings, caller, call),
+        Event::Tell(r) => scene_of_report(alloc, conn, settings, r),
+        Event::Grant(rows) => scene_of_grants(alloc, conn, settings, rows),
+    }
+}

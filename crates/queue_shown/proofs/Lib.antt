@@ -1,0 +1,13 @@
+pub mod Texts
+pub mod Frames
+pub mod Firsts
+pub mod Unique
+pub mod Ordered
+pub mod DocumentParts
+pub mod Fetching
+pub mod Writes
+pub mod Sending
+pub mod PiecesSent
+pub mod AccountRows
+pub mod OwnedJobs
+pub mod SheetLemmas

@@ -1,0 +1,227 @@
+-- The jobs of an owner, by number, and what the documents of one add up to.
+use Rattle.std.proofs.Common.{◌≡◌, inl, inr, ℕ, pos, ◌+◌, ◌<◌, List, [], ◌∷◌, map, filter, length, All, Bool, true, false, ◌&&◌, ◌||◌, ◌==◌, nat_lt, Option, None, Some, sum_by, bytes_eq, refl, sym, ap, subst, ◌∙◌, arith, append-nil, nat_cmp}
+use Rattle.std.specs.List.{AllByRecursion as Each}
+use Rattle.std.specs.List.Sorted.{IsPermutation}
+use Rattle.std.proofs.lemmas.Bool.{cases_Bool, eqb-true, eq-eqb, or_parts}
+use Rattle.std.proofs.lemmas.List.Elements.{All-cons, All-tail, filter-append}
+use Rattle.std.proofs.lemmas.List.Sorted.{length_permutation, sum_by-IsPermutation}
+use Rattle.std.proofs.lemmas.List.Sums.{sum_by-cons}
+use Rattle.std.proofs.lemmas.Map.Text.{is_eq-slice_cmp}
+use Rattle.sqlite_sql.specs.declared.ops.BinaryOp.TheVariants.{Compare}
+use Rattle.sqlite_sql.specs.declared.ops.CompareOp.TheVariants.{Eq}
+use Rattle.sqlite_value.proofs.OrderLemmas.{value_cmp-Int, value_cmp-Text}
+use Rattle.sqlite.specs.Collation.TheVariants.{Binary}
+use Rattle.sqlite.specs.declared.types.Value.TheVariants.{Text as Words}
+use Rattle.sqlite.specs.Ops.{binary, is_true}
+use Rattle.sqlite.specs.Order.{Row, column}
+use Rattle.sqlite.specs.Query.{Query, Output, output_cmp}
+use Rattle.sqlite.specs.State.{State, Shown}
+use Rattle.queue_core.specs.Job.{owed}
+use Rattle.queue_core.specs.Sound.{IsSound, IsSoundEntry, Rise}
+use Rattle.queue_core.specs.World.{World, Entry, rows, job_at}
+use Rattle.queue_core.specs.declared.document.Document.{Document}
+use Rattle.queue_core.specs.declared.job.Job.{Job}
+use Rattle.queue_tables.specs.Content.{Holds, content_of, document_rows}
+use Rattle.queue_tables.specs.Plain.{plain_query}
+use Rattle.queue_tables.specs.Steps.{AreDistinct, bare, has_number, is_numbered}
+use Rattle.queue_tables.specs.Tables.{book_schema}
+use Rattle.queue_tables.specs.Values.{number, job_values, job_view, document_values, document_view}
+use Rattle.queue_tables.proofs.Documents.{row_of, all_documents}
+use Rattle.queue_tables.proofs.Entries.{rows_in, distinct_of}
+use Rattle.queue_tables.proofs.Numbers.{passed, numbered_document}
+use Rattle.queue_tables.proofs.Showing.{shows_all}
+use Rattle.queue_tables.proofs.Writing.{reads_rows}
+use Rattle.queue_shown.specs.Pages.{AreIn, first_number, has_pages}
+use Rattle.queue_shown.proofs.Ordered.{nat_int, then_equal, listed_values, in_order}
+use Rattle.queue_shown.proofs.Texts.{select_owned_text, select_owned_names, select_owned_terms, select_owned_where, select_owned_order, select_owned_is, select_owned_plain, select_owned_unlisted, select_octets_text, select_octets_names, select_octets_terms, select_octets_where, select_octets_order, select_octets_is, select_octets_plain, select_octets_unlisted}
+use Rattle.queue_shown.proofs.Unique.{Rises}
+
+-- ---- the rows of an owner's jobs
+
+-- WHERE owner = ?1
+abbrev is_owned : List ℕ → Row → Bool
+is_owned a v = is_true (binary (Compare Eq Binary) (column v 1) (Words a)) && true
+
+abbrev owns : List ℕ → Job → Bool
+owns a j = bytes_eq j.owner a
+
+owned_row : (a : List ℕ) (j : Job) → is_owned a (job_values j) ≡ owns a j
+unfolding binary
+owned_row a j = rw (value_cmp-Text j.owner a) (passed _) ∙ is_eq-slice_cmp j.owner a
+
+abbrev out : Row → Output
+out v = (column v 0 ∷ [], v)
+
+abbrev sent : Job → Output
+sent j = (number j.number ∷ [], job_values j)
+
+owned_out : (a : List ℕ) (js : List Job) → map out (filter (is_owned a) (map job_values js)) ≡ map sent (filter (owns a) js)
+owned_out a [] = refl
+owned_out a (j ∷ js) = elim (cases_Bool (owns a j)) [
+  | inl own ↦ rw (owned_row a j ∙ own, own) (ap (λ (os : List Output). sent j ∷ os) (owned_out a js))
+  | inr other ↦ rw (owned_row a j ∙ other, other) (owned_out a js)
+]
+
+abbrev query : Query
+query = plain_query 1 select_owned_where select_owned_terms select_owned_order
+
+by_number : (i j : Job) → output_cmp query (sent i) (sent j) ≡ nat_cmp i.number j.number
+by_number i j = rw (value_cmp-Int (pos i.number) (pos j.number), nat_int i.number j.number) (then_equal (nat_cmp i.number j.number))
+
+shown_rows : (js : List Job) → map (λ (o : Output). o.1) (map sent js) ≡ map job_values js
+shown_rows [] = refl
+shown_rows (j ∷ js) = ap (λ (rs : List Row). job_values j ∷ rs) (shown_rows js)
+
+-- ---- numbers rise
+
+abbrev num : Job → ℕ
+num j = j.number
+
+all_above : (n first : ℕ) (es : List Entry) (next : ℕ) → n < first → Rise first es next → All (λ j. n < num j) (rows_in es)
+all_above n first [] next low rise = λ i d small. absurd (omega (arith, small))
+all_above n first (e ∷ es) next low rise =
+    All-cons (λ j. n < num j) e.row (rows_in es) (omega (arith, low, rise.0)) (all_above n (e.row.number + 1) es next (omega (arith, low, rise.0)) rise.1)
+
+rows_rise : (first : ℕ) (es : List Entry) (next : ℕ) → Rise first es next → Rises num (rows_in es)
+rows_rise first [] next rise = tt
+rows_rise first (e ∷ es) next rise = (all_above e.row.number (e.row.number + 1) es next (omega arith) rise.1, rows_rise (e.row.number + 1) es next rise.1)
+
+pub each_all : (P : Job → Type 0) (js : List Job) → Each P js → All P js
+each_all P [] each = λ i d small. absurd (omega (arith, small))
+each_all P (j ∷ js) each = All-cons P j js each.0 (each_all P js each.1)
+
+kept_all : (P : Job → Type 0) (p : Job → Bool) (js : List Job) → All P js → All P (filter p js)
+kept_all P p [] all = all
+kept_all P p (j ∷ js) all = elim (cases_Bool (p j)) [
+  | inl through ↦ rw through (All-cons P j (filter p js) (all 0 j (omega arith)) (kept_all P p js (All-tail P j js all)))
+  | inr apart ↦ rw apart (kept_all P p js (All-tail P j js all))
+]
+
+kept_rise : (p : Job → Bool) (js : List Job) → Rises num js → Rises num (filter p js)
+kept_rise p [] rise = tt
+kept_rise p (j ∷ js) rise = elim (cases_Bool (p j)) [
+  | inl through ↦ rw through (kept_all (λ i. num j < num i) p js rise.0, kept_rise p js rise.1)
+  | inr apart ↦ rw apart (kept_rise p js rise.1)
+]
+
+-- ---- each job is the one of its number
+
+absent : (n : ℕ) (es : List Entry) → has_number n es ≡ false → job_at n (rows_in es) ≡ None
+absent n [] none = refl
+absent n (e ∷ es) none =
+    let parts = or_parts (e.row.number == n) (has_number n es) none in
+    rw (parts.0) (absent n es parts.1)
+
+later : (n : ℕ) (j : Job) (e : Entry) (es : List Entry) → has_number e.row.number es ≡ false → job_at n (rows_in es) ≡ Some j → job_at n (rows_in (e ∷ es)) ≡ Some j
+later n j e es none there = elim (cases_Bool (e.row.number == n)) [
+  | inl here ↦
+      absurd (let gone = absent n es (subst (λ m. has_number m es ≡ false) (eqb-true e.row.number n here) none) in let both : ◌≡◌ {A = Option Job} None (Some j) = sym gone ∙ there in cc)
+  | inr apart ↦ rw apart there
+]
+
+each_found : (es : List Entry) (all : List Job) → ((n : ℕ) (j : Job) → job_at n (rows_in es) ≡ Some j → job_at n all ≡ Some j) → AreDistinct es → Each (λ j. job_at j.number all ≡ Some j) (rows_in es)
+each_found [] all same distinct = tt
+each_found (e ∷ es) all same distinct = (
+  same e.row.number e.row (rw (eq-eqb e.row.number e.row.number refl) refl),
+  each_found es all (λ n j there. same n j (later n j e es distinct.0 there)) distinct.1,
+)
+
+pub owned_in : (w : World) (a : List ℕ) → AreDistinct w.jobs → AreIn w (filter (λ j. bytes_eq j.owner a) (rows w))
+owned_in w a distinct =
+    kept_all (λ j. job_at j.number (rows w) ≡ Some j) (owns a) (rows w) (each_all (λ j. job_at j.number (rows w) ≡ Some j) (rows w) (each_found w.jobs (rows w) (λ n j there. there) distinct))
+
+-- ---- the rows that are shown
+
+pub reads_owned : (old new : State) (a : List ℕ) (found : List Row) (w : World) → IsSound w → Holds (content_of w) old → Shown select_owned_text (Words a ∷ []) old new found
+    → found ≡ map job_values (filter (λ j. bytes_eq j.owner a) (rows w))
+reads_owned old new a found w sound has h =
+    let l = reads_rows book_schema select_owned_text select_owned_names 1 select_owned_where select_owned_terms select_owned_order select_owned_is select_owned_plain select_owned_unlisted (λ db. refl) old new (Words a ∷ []) found has.schema h in
+    let it = listed_values 1 select_owned_where select_owned_terms select_owned_order (Words a ∷ []) job_view (is_owned a) out (λ r. refl) (λ r. refl) (content_of w).jobs (old.now.trees 1) found has.rows.jobs l in
+    let js = filter (owns a) (rows w) in
+    let same : IsPermutation (map sent js) it.0 = subst (λ (t : List Output). IsPermutation t it.0) (owned_out a (rows w)) it.1 in
+    let equal : map sent js ≡ it.0 = in_order num sent query (λ j. refl) by_number js it.0 (kept_rise (owns a) (rows w) (rows_rise 1 w.jobs w.next sound.numbers)) same it.2 in
+    it.3 ∙ ap (map (λ (o : Output). o.1)) (sym equal) ∙ shown_rows js
+
+-- those that are told of
+pub told_owned : (a : List ℕ) (js : List Job) → filter has_pages (filter (λ j. bytes_eq j.owner a) js) ≡ filter (λ j. bytes_eq j.owner a && (nat_lt 0 (owed j) || nat_lt 0 j.count)) js
+told_owned a [] = refl
+told_owned a (j ∷ js) = elim (cases_Bool (bytes_eq j.owner a)) [
+  | inl own ↦ elim (cases_Bool (has_pages j)) [
+    | inl told ↦ rw (own, told) (ap (λ (ks : List Job). j ∷ ks) (told_owned a js))
+    | inr idle ↦ rw (own, idle) (told_owned a js)
+  ]
+  | inr other ↦ rw other (told_owned a js)
+]
+
+-- ---- the documents of one job
+
+other_job : (n m from : ℕ) (ds : List Document) → (m == n) ≡ false → filter (is_numbered n) (document_rows m from ds) ≡ []
+other_job n m from [] apart = refl
+other_job n m from (d ∷ ds) apart = rw (numbered_document n (row_of m from d) ∙ apart) (other_job n m (from + 1) ds apart)
+
+same_job : (n m from : ℕ) (ds : List Document) → (m == n) ≡ true → filter (is_numbered n) (document_rows m from ds) ≡ document_rows m from ds
+same_job n m from [] same = refl
+same_job n m from (d ∷ ds) same = rw (numbered_document n (row_of m from d) ∙ same) (ap (λ (rs : List Row). document_values (row_of m from d) ∷ rs) (same_job n m (from + 1) ds same))
+
+no_rows : (n : ℕ) (es : List Entry) → has_number n es ≡ false → filter (is_numbered n) (all_documents es) ≡ []
+no_rows n [] none = refl
+no_rows n (e ∷ es) none =
+    let parts = or_parts (e.row.number == n) (has_number n es) none in
+    filter-append (is_numbered n) (document_rows e.row.number 1 e.documents) (all_documents es) ∙ rw (other_job n e.row.number 1 e.documents parts.0, no_rows n es parts.1) refl
+
+-- the job's documents
+pub record HasDocuments (n : ℕ) (j : Job) (es : List Entry) : Type 0 where
+  pub documents : List Document
+  pub count : j.documents ≡ length documents
+  pub octets : j.octets ≡ sum_by (λ d. length d.bytes) documents
+  pub rows : filter (is_numbered n) (all_documents es) ≡ document_rows j.number 1 documents
+
+documents_of : (n : ℕ) (j : Job) (es : List Entry) → AreDistinct es → Each IsSoundEntry es → job_at n (rows_in es) ≡ Some j → HasDocuments n j es
+documents_of n j [] distinct sound there = absurd cc
+documents_of n j (e ∷ es) distinct sound there = elim (cases_Bool (e.row.number == n)) [
+  | inl same ↦
+      let is : e.row ≡ j = (let whole : ◌≡◌ {A = Option Job} (Some e.row) (Some j) = rw same at there in cc) in
+      let rest = no_rows n es (subst (λ m. has_number m es ≡ false) (eqb-true e.row.number n same) distinct.0) in
+      let split : filter (is_numbered n) (all_documents (e ∷ es)) ≡ document_rows e.row.number 1 e.documents
+      = filter-append (is_numbered n) (document_rows e.row.number 1 e.documents) (all_documents es) ∙ rw (same_job n e.row.number 1 e.documents same, rest) (append-nil _) in
+      subst (λ (k : Job). HasDocuments n k (e ∷ es)) is (record { documents = e.documents; count = sound.0.documents; octets = sound.0.octets; rows = split })
+  | inr apart ↦
+      let more = documents_of n j es distinct.1 sound.1 (rw apart at there) in
+      record {
+        documents = more.documents;
+        count = more.count;
+        octets = more.octets;
+        rows = filter-append (is_numbered n) (document_rows e.row.number 1 e.documents) (all_documents es) ∙ rw (other_job n e.row.number 1 e.documents apart) more.rows;
+      }
+]
+
+abbrev octets_out : Row → Row
+octets_out v = column v 3 ∷ []
+
+length_out : (m from : ℕ) (ds : List Document) → length (map octets_out (document_rows m from ds)) ≡ length ds
+length_out m from [] = refl
+length_out m from (d ∷ ds) = let more = length_out m (from + 1) ds in omega (arith, more)
+
+sum_out : (m from : ℕ) (ds : List Document) → sum_by first_number (map octets_out (document_rows m from ds)) ≡ sum_by (λ d. length d.bytes) ds
+sum_out m from [] = refl
+sum_out m from (d ∷ ds) =
+    let more = sum_out m (from + 1) ds in
+    let all = sum_by-cons (λ (e : Document). length e.bytes) d ds in
+    let first = sum_by-cons first_number (octets_out (document_values (row_of m from d))) (map octets_out (document_rows m (from + 1) ds)) in
+    omega (arith, more, all, first)
+
+-- their number, and the sum of their lengths
+pub reads_octets : (old new : State) (found : List Row) (w : World) (j : Job) → IsSound w → Holds (content_of w) old → job_at j.number (rows w) ≡ Some j → Shown select_octets_text (number j.number ∷ []) old new found
+    → (length found ≡ j.documents) × (sum_by first_number found ≡ j.octets)
+reads_octets old new found w j sound has there h =
+    let p = shows_all book_schema select_octets_text select_octets_names 2 select_octets_where select_octets_terms select_octets_order select_octets_is select_octets_plain select_octets_unlisted (λ db. refl)
+    old new (number j.number ∷ []) document_view (is_numbered j.number) octets_out (content_of w).documents found has.schema (λ r. refl) (λ r. refl) has.rows.documents h in
+    let it = documents_of j.number j w.jobs (distinct_of 1 w.jobs w.next sound.numbers) sound.entries there in
+    let q : IsPermutation (map octets_out (document_rows j.number 1 it.documents)) found = subst (λ (k : List Row). IsPermutation (map octets_out k) found) it.rows p in (
+      length_permutation _ _ q ∙ length_out j.number 1 it.documents ∙ sym it.count,
+      sum_by-IsPermutation first_number _ found q ∙ sum_out j.number 1 it.documents ∙ sym it.octets,
+    )
+
+-- the job with those two
+pub counted_job : (was j : Job) (count octets : ℕ) → was ≡ bare j → count ≡ j.documents → octets ≡ j.octets → record was { documents = count; octets = octets } ≡ j
+counted_job was j count octets is c o = ap (λ (k : Job). record k { documents = count; octets = octets }) is ∙ ap (λ n. record j { documents = n; octets = octets }) c ∙ ap (λ n. record j { octets = n }) o

@@ -1,0 +1,77 @@
+-- The sheet of an account, job by job.
+use Rattle.std.proofs.Common.{◌≡◌, ℕ, ℤ, zero, suc, ◌+◌, ◌<◌, List, [], ◌∷◌, ◌++◌, map, filter, length, take, get_or, Bool, true, false, if◌then◌else◌, Option, None, Some, option_map, refl, sym, ap, subst, ◌∙◌, arith, append-nil}
+use Rattle.std.specs.FinMap.{get}
+use Rattle.std.proofs.lemmas.List.Elements.{filter_more}
+use Rattle.sqlite.specs.Order.{Row}
+use Rattle.sqlite.specs.declared.types.Value.{Value}
+use Rattle.queue_core.specs.Shown.{sheet_of, sheet_jobs}
+use Rattle.queue_core.specs.World.{World, granted, rows, job_at}
+use Rattle.queue_core.specs.declared.job.Job.{Job}
+use Rattle.queue_core.specs.declared.job.Phase.{Phase}
+use Rattle.queue_core.specs.declared.sheet.AccountSheet.{AccountSheet}
+use Rattle.queue_rows.specs.Codes.{phase_number, why_number, flag_number}
+use Rattle.queue_tables.specs.Steps.{bare}
+use Rattle.queue_tables.specs.Values.{job_values}
+use Rattle.queue_tables.proofs.JobPut.{same_job}
+use Rattle.queue_shown.specs.declared.account.AccountPages.{AccountPages}
+use Rattle.queue_shown.specs.Pages.{AreIn, has_pages, pages_of}
+
+-- ---- one row
+
+-- the job that was read is the row's, without its documents
+pub read_bare : ((p q : Phase) → phase_number p ≡ phase_number q → why_number p ≡ why_number q → p ≡ q) → ((a b : Bool) → flag_number a ≡ flag_number b → a ≡ b)
+    → (row : Row) (k j : Job) → (length row ≡ 14 → row ≡ job_values k) → (k.documents ≡ 0) × (k.octets ≡ 0) → row ≡ job_values j → k ≡ bare j
+read_bare phases flags row k j reads plain is =
+    let read : row ≡ job_values k = reads (ap (length {A = Value}) is) in
+    same_job phases flags k j (sym read ∙ is) plain.0 plain.1
+
+pub idle_left : (k j : Job) (xs : List Job) → k ≡ bare j → has_pages k ≡ false → xs ≡ xs ++ (if has_pages j then j ∷ [] else [])
+idle_left k j xs is idle =
+    let none : has_pages j ≡ false = ap has_pages (sym is) ∙ idle in
+    rw none (sym (append-nil xs))
+
+pub told_pushed : (k j new : Job) (xs : List Job) → k ≡ bare j → has_pages k ≡ true → new ≡ j → xs ++ new ∷ [] ≡ xs ++ (if has_pages j then j ∷ [] else [])
+told_pushed k j new xs is told same =
+    let some : has_pages j ≡ true = ap has_pages (sym is) ∙ told in
+    rw some (ap (λ (i : Job). xs ++ i ∷ []) same)
+
+-- ---- one row after another
+
+pub nth_job : (js : List Job) (k : ℕ) (row : Row) → k < length js → row ≡ get_or (map job_values js) k row → (j : Job) × (row ≡ job_values j) × (get_or js k j ≡ j)
+nth_job [] k row low is = absurd (omega (arith, low))
+nth_job (j ∷ js) zero row low is = (j, is, refl)
+nth_job (j ∷ js) (suc k) row low is = nth_job js k row (omega (arith, low)) is
+
+pub nth_in : (w : World) (js : List Job) (k : ℕ) (j : Job) → k < length js → get_or js k j ≡ j → AreIn w js → job_at j.number (rows w) ≡ Some j
+nth_in w js k j low is all = subst (λ (i : Job). job_at i.number (rows w) ≡ Some i) is (all k j low)
+
+pub told_more : (js : List Job) (k : ℕ) (j : Job) (xs ys : List Job) → k < length js → get_or js k j ≡ j → xs ≡ filter has_pages (take k js) → ys ≡ xs ++ (if has_pages j then j ∷ [] else []) → ys ≡ filter has_pages (take (k + 1) js)
+told_more js k j xs ys low is front more =
+    more ∙ ap (λ (zs : List Job). zs ++ (if has_pages j then j ∷ [] else [])) front
+    ∙ ap (λ (i : Job). filter has_pages (take k js) ++ (if has_pages i then i ∷ [] else [])) (sym is)
+    ∙ sym (filter_more has_pages js k j low)
+
+-- ---- the whole
+
+abbrev sheet_with : World → List ℕ → AccountPages → AccountSheet
+sheet_with w a p = record { account = a; granted = granted a w; free = p.free; reserved = p.reserved; printed = p.printed; jobs = sheet_jobs w a }
+
+pub no_sheet : (w : World) (a : List ℕ) → None ≡ option_map (pages_of w a) (get w.free a) → None ≡ sheet_of w a
+unfolding sheet_of
+no_sheet w a is = at (get w.free a) is
+  where
+    at : (o : Option ℤ) → None ≡ option_map (pages_of w a) o → None ≡ option_map (λ (free : ℤ). sheet_with w a (pages_of w a free)) o
+    at None e = refl
+    at (Some free) e = absurd cc
+
+pub whole_sheet : (w : World) (a : List ℕ) (p : AccountPages) (s : AccountSheet) → Some p ≡ option_map (pages_of w a) (get w.free a) → s.account ≡ a → s.granted ≡ granted a w → s.free ≡ p.free → s.reserved ≡ p.reserved → s.printed ≡ p.printed
+    → s.jobs ≡ sheet_jobs w a → Some s ≡ sheet_of w a
+unfolding sheet_of
+whole_sheet w a p s found n t f r q j = at (get w.free a) found
+  where
+    at : (o : Option ℤ) → Some p ≡ option_map (pages_of w a) o → Some s ≡ option_map (λ (free : ℤ). sheet_with w a (pages_of w a free)) o
+    at None e = absurd cc
+    at (Some free) e =
+        let first : s ≡ sheet_with w a p = λ x. record { account = n x; granted = t x; free = f x; reserved = r x; printed = q x; jobs = j x } in
+        let same : p ≡ pages_of w a free = cc in
+        ap (λ (x : AccountSheet). Some x) (first ∙ ap (sheet_with w a) same)

@@ -1,0 +1,26 @@
+use Rattle.std.proofs.Common.{◌∙◌, sym, ap, rules, option_map, Some}
+use Rattle.std.specs.FinMap.{get}
+use Rattle.sqlite.specs.Held.{state}
+use Rattle.queue_shown.specs.declared.account.AccountPages.{AccountPages}
+use Rattle.queue_shown.specs.Pages.{pages_of}
+use Rattle.queue_shown.proofs.AccountRows.{pages_values, reads_account, pages_are}
+use Rattle.queue_shown.proofs.Firsts.{first_none, first_some}
+use Rattle.queue_shown.proofs.Texts.{select_account_plain, select_account_query}
+use Rattle.queue_shown.proofs.account.find_account.Goals as goal
+
+pub select-requires : goal.select-requires
+select-requires g c = record { plain = select_account_plain; query = select_account_query }
+
+pub returns-in-None-clause-found : goal.returns-in-None-clause-found
+returns-in-None-clause-found g c clean w has =
+    let a = c.args.account.now in
+    let is = reads_account (state g.S.Store c.args.conn.now) (state g.S.Store c.select.new.conn) a c.in_ok-found.found.items w has (rw (c.params-to_sql.ensures) at (c.in_ok-found.ensures.shown clean)) in
+    ap (option_map (pages_of w a)) (sym (first_none (pages_values w a) c.in_ok-found.found.items (get w.free a) (search rules) is))
+
+pub returns-clause-found : goal.returns-clause-found
+returns-clause-found g c clean w has =
+    let a = c.args.account.now in
+    let is = reads_account (state g.S.Store c.args.conn.now) (state g.S.Store c.select.new.conn) a c.in_ok-found.found.items w has (rw (c.params-to_sql.ensures) at (c.in_ok-found.ensures.shown clean)) in
+    let some = first_some (pages_values w a) c.in_ok-found.found.items c.in-Some.row.now (get w.free a) (search rules) is in
+    let read = c.in_ok-pages-in-Some.ensures in
+    ap (λ (x : AccountPages). Some x) (pages_are w a some.0 c.in-Some.row.now c.in_ok-pages-in-Some.pages some.2 read.free read.reserved read.printed) ∙ ap (option_map (pages_of w a)) (sym some.1)

@@ -1,0 +1,27 @@
+use Rattle.std.proofs.Common.{◌∙◌, sym, ap, rules, option_map, Some}
+use Rattle.sqlite.specs.Held.{state}
+use Rattle.queue_core.specs.Shown.{head_of}
+use Rattle.queue_core.specs.declared.document.DocumentHead.{DocumentHead}
+use Rattle.queue_shown.specs.Fetched.{document_in}
+use Rattle.queue_shown.specs.Heads.{head_values}
+use Rattle.queue_shown.proofs.Fetching.{reads_head}
+use Rattle.queue_shown.proofs.Firsts.{first_none, first_some}
+use Rattle.queue_shown.proofs.Texts.{select_head_plain, select_head_query}
+use Rattle.queue_shown.proofs.head.find_head.Goals as goal
+
+pub select-requires : goal.select-requires
+select-requires g c = record { plain = select_head_plain; query = select_head_query }
+
+pub returns-in-None-clause-found : goal.returns-in-None-clause-found
+returns-in-None-clause-found g c clean w distinct has =
+    let is = reads_head (state g.S.Store c.args.conn.now) (state g.S.Store c.select.new.conn) c.args.job c.args.n c.in_ok-found.found.items w distinct has
+    (rw (c.params-to_sql.ensures, c.params-to_sql-2.ensures) at (c.in_ok-found.ensures.shown clean)) in
+    let none = first_none head_values c.in_ok-found.found.items (document_in w.jobs c.args.job c.args.n) (search rules) is in
+    ap (option_map head_of) (sym none)
+
+pub returns-clause-found : goal.returns-clause-found
+returns-clause-found g c clean w distinct has =
+    let is = reads_head (state g.S.Store c.args.conn.now) (state g.S.Store c.select.new.conn) c.args.job c.args.n c.in_ok-found.found.items w distinct has
+    (rw (c.params-to_sql.ensures, c.params-to_sql-2.ensures) at (c.in_ok-found.ensures.shown clean)) in
+    let some = first_some head_values c.in_ok-found.found.items c.in-Some.row.now (document_in w.jobs c.args.job c.args.n) (search rules) is in
+    ap (λ (x : DocumentHead). Some x) (c.in_ok-head-in-Some.ensures some.0 some.2) ∙ ap (option_map head_of) (sym some.1)

@@ -1,0 +1,40 @@
+use Rattle.std.proofs.Common.{◌<◌, ◌≤◌, ◌∙◌, ap, length, List, get_or, filter, arith}
+use Rattle.std.proofs.lemmas.List.{length-map, take_all}
+use Rattle.sqlite.specs.Effect.{Database}
+use Rattle.sqlite.specs.Order.{Row}
+use Rattle.queue_tables.specs.Content.{content_of}
+use Rattle.queue_tables.specs.Values.{job_values}
+use Rattle.queue_shown.specs.Pages.{has_pages}
+use Rattle.queue_shown.proofs.SheetLemmas.{nth_job, nth_in, told_more}
+use Rattle.queue_shown.proofs.sheets.jobs_of.Goals as goal
+
+pub loop-row-preserved : goal.loop-row-preserved
+loop-row-preserved g c =
+    let before = c.loop-row.invariant in
+    let step = c.in_ok-push_told.ensures in record {
+      clean = λ clean. before.clean (step.clean clean);
+      opened = λ clean is_open. before.opened (step.clean clean) (step.opened clean is_open);
+      live = λ clean was_open. step.live clean (before.live (step.clean clean) was_open);
+      same = λ clean is_open schema.
+          let mid = before.same (step.clean clean) (step.opened clean is_open) schema in
+          step.same clean is_open (ap (λ (d : Database). d.schema) mid ∙ schema) ∙ mid;
+      kept = λ clean is_open content has. step.kept clean is_open content (before.kept (step.clean clean) (step.opened clean is_open) content has);
+      back = λ clean content has. before.back (step.clean clean) content (step.back clean content has);
+      told = λ clean w js sound has all is.
+          let early = step.clean clean in
+          let low : c.loop-row.row-index < length js = (let below = c.loop-row-test.true in let size = ap (length {A = Row}) is in omega (arith, below, size, length-map js job_values)) in
+          let here = nth_job js c.loop-row.row-index c.row-item.result low (c.row-item.is ∙ ap (λ (rs : List Row). get_or rs c.loop-row.row-index c.row-item.result) is) in
+          let mid = before.kept early (before.live early has.live) (content_of w) has in
+          told_more js c.loop-row.row-index here.0 _ _ low here.2 (before.told early w js sound has all is) (step.told clean w here.0 sound mid (nth_in w js c.loop-row.row-index here.0 low here.2 all) here.1);
+    }
+
+pub returns-in_err-push_told-clause-back : goal.returns-in_err-push_told-clause-back
+returns-in_err-push_told-clause-back g c clean content has =
+    let step = c.in_err-push_told.ensures in
+    c.loop-row.invariant.back (step.clean clean) content (step.back clean content has)
+
+pub returns-clause-told : goal.returns-clause-told
+returns-clause-told g c clean w js sound has all is =
+    let size = ap (length {A = Row}) is in
+    let whole : length js ≤ c.loop-row.row-index = (let past = c.loop-row-test.false in omega (arith, past, size, length-map js job_values)) in
+    c.loop-row.invariant.told clean w js sound has all is ∙ ap (filter has_pages) (take_all c.loop-row.row-index js whole)

@@ -1,0 +1,4 @@
+pub mod Fetched
+pub mod Heads
+pub mod Pages
+pub mod Sent

@@ -1,0 +1,107 @@
+//! The pages of an account, and those that were granted to it.
+ghost use Rattle.std.specs.Prelude.{◌≡◌, pos, IfOk, OnOk, IsTrue, option_map, sum_by};
+ghost use Rattle.std.specs.FinMap.{get};
+ghost use Rattle.sqlite.specs.Held.{state};
+ghost use Rattle.sqlite.specs.Order.{column};
+ghost use Rattle.sqlite.specs.State.{HasCleanDisk};
+ghost use Rattle.sqlite.specs.declared.types.Value.TheVariants.{Int};
+ghost use Rattle.queue_core.specs.World.{World, granted};
+ghost use Rattle.queue_shown.specs.Pages.{first_number, pages_of};
+ghost use Rattle.queue_tables.specs.Content.{Content, Holds, content_of};
+ghost use Rattle.queue_tables.specs.Tables.{book_schema};
+
+use crate::select::select;
+use queue_tables::fault::Fault;
+use queue_tables::read::value;
+use sqlite::{Alter, Connection, Row, params};
+
+/// The pages of an account: free ones, which may be below zero, and the sums over its owner's jobs.
+#[derive(Clone, Copy)]
+pub(crate) struct AccountPages {
+    pub free: i64,
+    pub reserved: u64,
+    pub printed: u64,
+}
+
+/// The pages in those columns.
+fn read_pages(row: &Row) -> Result<AccountPages, Fault>
+    ensures free { IfOk result (λ p. column row.now 0 ≡ Int p.free) }
+    ensures reserved { IfOk result (λ p. column row.now 1 ≡ Int (pos p.reserved)) }
+    ensures printed { IfOk result (λ p. column row.now 2 ≡ Int (pos p.printed)) }
+{
+    let free = value(row, 0)?;
+    let reserved = value(row, 1)?;
+    let printed = value(row, 2)?;
+    Ok(AccountPages {
+        free,
+        reserved,
+        printed,
+    })
+}
+
+/// The pages of the account of that name, where it is there.
+pub(crate) fn find_account<S: Alter>(
+    conn: &mut Connection<S>,
+    account: &str,
+) -> Result<Option<AccountPages>, Fault>
+    ensures clean { HasCleanDisk (state S.Store conn.new) → HasCleanDisk (state S.Store conn.old) }
+    ensures opened { HasCleanDisk (state S.Store conn.new) → IsTrue (state S.Store conn.new).is_open → IsTrue (state S.Store conn.old).is_open }
+    ensures live { HasCleanDisk (state S.Store conn.new) → OnOk result (IsTrue (state S.Store conn.new).is_open) }
+    ensures same { HasCleanDisk (state S.Store conn.new) → IsTrue (state S.Store conn.new).is_open → (state S.Store conn.old).now.schema ≡ book_schema → (state S.Store conn.new).now ≡ (state S.Store conn.old).now }
+    ensures kept { HasCleanDisk (state S.Store conn.new) → IsTrue (state S.Store conn.new).is_open → (c : Content) → Holds c (state S.Store conn.old) → Holds c (state S.Store conn.new) }
+    ensures back { HasCleanDisk (state S.Store conn.new) → (c : Content) → Holds c (state S.Store conn.new) → Holds c (state S.Store conn.old) }
+    ensures found { HasCleanDisk (state S.Store conn.new) → IfOk result (λ found. (w : World) → Holds (content_of w) (state S.Store conn.old) → found ≡ option_map (pages_of w account.now) (get w.free account.now)) }
+{
+    let found = select(
+        conn,
+        "SELECT free, reserved, printed FROM accounts WHERE name = ?1",
+        params![account],
+    )?;
+    match found.first() {
+        None => Ok(None),
+        Some(row) => {
+            let pages = read_pages(row)?;
+            Ok(Some(pages))
+        }
+    }
+}
+
+/// The number in the first column.
+fn number_of(row: &Row) -> Result<u32, Fault>
+    ensures { IfOk result (λ n. n ≡ first_number row.now) }
+{
+    value(row, 0)
+}
+
+/// The sum of the numbers in the first column.
+pub(crate) fn sum_of(rows: &[Row]) -> Result<u64, Fault>
+    ensures { IfOk result (λ n. n ≡ sum_by first_number rows.now) }
+{
+    let mut sum: u64 = 0;
+    for row in rows {
+        let number = number_of(row)?;
+        let Some(more) = sum.checked_add(u64::from(number)) else {
+            return Err(Fault::Damaged);
+        };
+        sum = more;
+    }
+    Ok(sum)
+}
+
+/// The pages that were granted to an account.
+pub(crate) fn granted_to<S: Alter>(conn: &mut Connection<S>, account: &str) -> Result<u64, Fault>
+    ensures clean { HasCleanDisk (state S.Store conn.new) → HasCleanDisk (state S.Store conn.old) }
+    ensures opened { HasCleanDisk (state S.Store conn.new) → IsTrue (state S.Store conn.new).is_open → IsTrue (state S.Store conn.old).is_open }
+    ensures live { HasCleanDisk (state S.Store conn.new) → OnOk result (IsTrue (state S.Store conn.new).is_open) }
+    ensures same { HasCleanDisk (state S.Store conn.new) → IsTrue (state S.Store conn.new).is_open → (state S.Store conn.old).now.schema ≡ book_schema → (state S.Store conn.new).now ≡ (state S.Store conn.old).now }
+    ensures kept { HasCleanDisk (state S.Store conn.new) → IsTrue (state S.Store conn.new).is_open → (c : Content) → Holds c (state S.Store conn.old) → Holds c (state S.Store conn.new) }
+    ensures back { HasCleanDisk (state S.Store conn.new) → (c : Content) → Holds c (state S.Store conn.new) → Holds c (state S.Store conn.old) }
+    ensures told { HasCleanDisk (state S.Store conn.new) → IfOk result (λ n. (w : World) → Holds (content_of w) (state S.Store conn.old) → n ≡ granted account.now w) }
+{
+    let found = select(
+        conn,
+        "SELECT pages FROM grants WHERE account = ?1",
+        params![account],
+    )?;
+    sum_of(found.as_slice())
+}

@@ -1,0 +1,125 @@
+//! The head of a document: its format and its length.
+ghost use Rattle.std.specs.Prelude.{◌≡◌, IfOk, OnOk, IsTrue, option_map};
+ghost use Rattle.sqlite.specs.Held.{state};
+ghost use Rattle.sqlite.specs.State.{HasCleanDisk};
+ghost use Rattle.queue_core.specs.Shown.{document_at, head_of};
+ghost use Rattle.queue_core.specs.Sound.{IsSound};
+ghost use Rattle.queue_core.specs.World.{World, rows, job_at};
+ghost use Rattle.queue_core.specs.declared.document.Document.{Document};
+ghost use Rattle.queue_core.specs.declared.job.Job.{Job as JobValue};
+ghost use Rattle.queue_shown.specs.Fetched.{document_in, is_fetched, is_fetched_job, state_values};
+ghost use Rattle.queue_shown.specs.Heads.{head_values};
+ghost use Rattle.queue_tables.specs.Content.{Content, Holds, content_of};
+ghost use Rattle.queue_tables.specs.Steps.{AreDistinct};
+ghost use Rattle.queue_tables.specs.Tables.{book_schema};
+
+use crate::format::format;
+use crate::select::select;
+use queue_core::document::DocumentHead;
+use queue_core::job::Phase;
+use queue_rows::laws::numbers_tell_names;
+use queue_tables::fault::Fault;
+use queue_tables::read::{flag, phase, value};
+use sqlite::{Alter, Connection, Row, params};
+
+/// Whether the device may fetch the documents of a job in that phase.
+fn is_open_in(phase: Phase, hold: bool, incoming: bool) -> bool
+    ensures { (j : JobValue) → j.phase ≡ phase → j.hold ≡ hold → j.incoming ≡ incoming → result ≡ is_fetched j }
+{
+    match phase {
+        Phase::Waiting => !hold && !incoming,
+        Phase::Running | Phase::Stopped => true,
+        Phase::Canceled(_) | Phase::Aborted | Phase::Completed => false,
+    }
+}
+
+/// Whether the device may fetch the documents of the job of those columns.
+fn is_fetched_row(row: &Row) -> Result<bool, Fault>
+    ensures { IfOk result (λ b. (j : JobValue) → row.now ≡ state_values j → b ≡ is_fetched j) }
+{
+    numbers_tell_names();
+    let hold = flag(row, 0)?;
+    let incoming = flag(row, 1)?;
+    let phase = phase(row, 2, 3)?;
+    Ok(is_open_in(phase, hold, incoming))
+}
+
+/// Whether the device may fetch the documents of the job of that number.
+fn may_fetch<S: Alter>(conn: &mut Connection<S>, job: u32) -> Result<bool, Fault>
+    ensures clean { HasCleanDisk (state S.Store conn.new) → HasCleanDisk (state S.Store conn.old) }
+    ensures opened { HasCleanDisk (state S.Store conn.new) → IsTrue (state S.Store conn.new).is_open → IsTrue (state S.Store conn.old).is_open }
+    ensures live { HasCleanDisk (state S.Store conn.new) → OnOk result (IsTrue (state S.Store conn.new).is_open) }
+    ensures same { HasCleanDisk (state S.Store conn.new) → IsTrue (state S.Store conn.new).is_open → (state S.Store conn.old).now.schema ≡ book_schema → (state S.Store conn.new).now ≡ (state S.Store conn.old).now }
+    ensures kept { HasCleanDisk (state S.Store conn.new) → IsTrue (state S.Store conn.new).is_open → (c : Content) → Holds c (state S.Store conn.old) → Holds c (state S.Store conn.new) }
+    ensures back { HasCleanDisk (state S.Store conn.new) → (c : Content) → Holds c (state S.Store conn.new) → Holds c (state S.Store conn.old) }
+    ensures told { HasCleanDisk (state S.Store conn.new) → IfOk result (λ b. (w : World) → AreDistinct w.jobs → Holds (content_of w) (state S.Store conn.old) → b ≡ is_fetched_job (job_at job (rows w))) }
+{
+    let found = select(
+        conn,
+        "SELECT hold, incoming, phase, why FROM jobs WHERE number = ?1",
+        params![job],
+    )?;
+    match found.first() {
+        None => Ok(false),
+        Some(row) => is_fetched_row(row),
+    }
+}
+
+/// The head of a document of those columns.
+fn read_head(row: &Row) -> Result<DocumentHead, Fault>
+    ensures { IfOk result (λ h. (d : Document) → row.now ≡ head_values d → h ≡ head_of d) }
+{
+    let format = format(row, 0)?;
+    let octets = value(row, 1)?;
+    Ok(DocumentHead { format, octets })
+}
+
+/// The head of document n, from 1, of the job of that number.
+fn find_head<S: Alter>(
+    conn: &mut Connection<S>,
+    job: u32,
+    n: u32,
+) -> Result<Option<DocumentHead>, Fault>
+    ensures clean { HasCleanDisk (state S.Store conn.new) → HasCleanDisk (state S.Store conn.old) }
+    ensures opened { HasCleanDisk (state S.Store conn.new) → IsTrue (state S.Store conn.new).is_open → IsTrue (state S.Store conn.old).is_open }
+    ensures live { HasCleanDisk (state S.Store conn.new) → OnOk result (IsTrue (state S.Store conn.new).is_open) }
+    ensures same { HasCleanDisk (state S.Store conn.new) → IsTrue (state S.Store conn.new).is_open → (state S.Store conn.old).now.schema ≡ book_schema → (state S.Store conn.new).now ≡ (state S.Store conn.old).now }
+    ensures kept { HasCleanDisk (state S.Store conn.new) → IsTrue (state S.Store conn.new).is_open → (c : Content) → Holds c (state S.Store conn.old) → Holds c (state S.Store conn.new) }
+    ensures back { HasCleanDisk (state S.Store conn.new) → (c : Content) → Holds c (state S.Store conn.new) → Holds c (state S.Store conn.old) }
+    ensures found { HasCleanDisk (state S.Store conn.new) → IfOk result (λ h. (w : World) → AreDistinct w.jobs → Holds (content_of w) (state S.Store conn.old) → h ≡ option_map head_of (document_in w.jobs job n)) }
+{
+    let found = select(
+        conn,
+        "SELECT format, octets FROM documents WHERE job = ?1 AND doc = ?2",
+        params![job, n],
+    )?;
+    match found.first() {
+        None => Ok(None),
+        Some(row) => {
+            let head = read_head(row)?;
+            Ok(Some(head))
+        }
+    }
+}
+
+/// The format and the length of document n, counted from 1, of a job in state 3, 5 or 6. It writes nothing:
+/// the tables stay as they were, where the connection is still open. Within a transaction it answers Disk.
+pub fn document_head<S: Alter>(
+    conn: &mut Connection<S>,
+    job: u32,
+    n: u32,
+) -> Result<Option<DocumentHead>, Fault>
+    ensures clean { HasCleanDisk (state S.Store conn.new) → HasCleanDisk (state S.Store conn.old) }
+    ensures opened { HasCleanDisk (state S.Store conn.new) → IsTrue (state S.Store conn.new).is_open → IsTrue (state S.Store conn.old).is_open }
+    ensures live { HasCleanDisk (state S.Store conn.new) → OnOk result (IsTrue (state S.Store conn.new).is_open) }
+    ensures same { HasCleanDisk (state S.Store conn.new) → IsTrue (state S.Store conn.new).is_open → (state S.Store conn.old).now.schema ≡ book_schema → (state S.Store conn.new).now ≡ (state S.Store conn.old).now }
+    ensures kept { HasCleanDisk (state S.Store conn.new) → IsTrue (state S.Store conn.new).is_open → (c : Content) → Holds c (state S.Store conn.old) → Holds c (state S.Store conn.new) }
+    ensures back { HasCleanDisk (state S.Store conn.new) → (c : Content) → Holds c (state S.Store conn.new) → Holds c (state S.Store conn.old) }
+    ensures head { HasCleanDisk (state S.Store conn.new) → IfOk result (λ h. (w : World) → IsSound w → Holds (content_of w) (state S.Store conn.old) → h ≡ option_map head_of (document_at w job n)) }
+{
+    let is_shown = may_fetch(conn, job)?;
+    if !is_shown {
+        return Ok(None);
+    }
+    find_head(conn, job, n)
+}

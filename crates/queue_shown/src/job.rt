@@ -1,0 +1,55 @@
+//! A job by its row, with what its documents add up to.
+ghost use Rattle.std.specs.Prelude.{◌≡◌, Some, IfOk, OnOk, IsTrue, length};
+ghost use Rattle.sqlite.specs.Held.{state};
+ghost use Rattle.sqlite.specs.State.{HasCleanDisk};
+ghost use Rattle.queue_core.specs.Sound.{IsSound};
+ghost use Rattle.queue_core.specs.World.{World, job_at, rows as rows_of};
+ghost use Rattle.queue_core.specs.declared.job.Job.{Job as JobValue};
+ghost use Rattle.queue_tables.specs.Content.{Content, Holds, content_of};
+ghost use Rattle.queue_tables.specs.Steps.{bare};
+ghost use Rattle.queue_tables.specs.Tables.{book_schema};
+
+use crate::account::sum_of;
+use crate::select::select;
+use queue_core::job::Job;
+use queue_tables::fault::Fault;
+use sqlite::{Alter, Connection, Row, params};
+
+/// The greatest number of documents of a job.
+const MANY: usize = 16;
+
+/// How many rows there are, a row for each document.
+fn count_of(rows: &[Row]) -> Result<u32, Fault>
+    ensures { IfOk result (λ n. n ≡ length rows.now) }
+{
+    if rows.len() > MANY {
+        return Err(Fault::Damaged);
+    }
+    Ok(rows.len() as u32)
+}
+
+/// Puts into a job, which was read without its documents, how many it has and the sum of their lengths.
+pub(crate) fn count_documents<S: Alter>(
+    conn: &mut Connection<S>,
+    job: &mut Job,
+) -> Result<(), Fault>
+    ensures clean { HasCleanDisk (state S.Store conn.new) → HasCleanDisk (state S.Store conn.old) }
+    ensures opened { HasCleanDisk (state S.Store conn.new) → IsTrue (state S.Store conn.new).is_open → IsTrue (state S.Store conn.old).is_open }
+    ensures live { HasCleanDisk (state S.Store conn.new) → OnOk result (IsTrue (state S.Store conn.new).is_open) }
+    ensures same { HasCleanDisk (state S.Store conn.new) → IsTrue (state S.Store conn.new).is_open → (state S.Store conn.old).now.schema ≡ book_schema → (state S.Store conn.new).now ≡ (state S.Store conn.old).now }
+    ensures kept { HasCleanDisk (state S.Store conn.new) → IsTrue (state S.Store conn.new).is_open → (c : Content) → Holds c (state S.Store conn.old) → Holds c (state S.Store conn.new) }
+    ensures back { HasCleanDisk (state S.Store conn.new) → (c : Content) → Holds c (state S.Store conn.new) → Holds c (state S.Store conn.old) }
+    ensures counted { HasCleanDisk (state S.Store conn.new) → OnOk result ((w : World) (j : JobValue) → IsSound w → Holds (content_of w) (state S.Store conn.old) → job_at j.number (rows_of w) ≡ Some j → job.old ≡ bare j → job.new ≡ j) }
+{
+    let found = select(
+        conn,
+        "SELECT octets FROM documents WHERE job = ?1 ORDER BY doc",
+        params![job.number],
+    )?;
+    let rows = found.as_slice();
+    let documents = count_of(rows)?;
+    let octets = sum_of(rows)?;
+    job.documents = documents;
+    job.octets = octets;
+    Ok(())
+}

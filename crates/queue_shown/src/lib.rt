@@ -1,0 +1,15 @@
+//! What the tables show to the device and the office: the head and the bytes of a document, and the sheet of
+//! an account.
+#![tactic(auto)]
+
+mod account;
+mod format;
+pub mod head;
+mod job;
+mod select;
+pub mod send;
+pub mod sheets;
+
+pub use head::document_head;
+pub use send::send_document;
+pub use sheets::sheet;

@@ -1,0 +1,139 @@
+//! A document, written a piece at a time while its rows borrow the connection.
+ghost use Rattle.std.specs.Prelude.{◌≡◌, ◌+◌, ◌<◌, ◌≤◌, ◌^◌, ℕ, [], ◌∷◌, Some, length, take, IfOk, IfErr, OnOk, OnErr, IsTrue};
+ghost use Rattle.std.specs.Io.KnownBytes.{Appends};
+ghost use Rattle.sqlite.specs.Held.{state};
+ghost use Rattle.sqlite.specs.State.{HasCleanDisk, IsUnchanged};
+ghost use Rattle.queue_core.specs.Shown.{document_at};
+ghost use Rattle.queue_core.specs.Sound.{IsSound};
+ghost use Rattle.queue_core.specs.World.{World};
+ghost use Rattle.queue_core.specs.declared.document.Document.{Document};
+ghost use Rattle.queue_shown.specs.Sent.{HasBook, HasSent, HasSentFront, LeavesRows, piece_bytes};
+ghost use Rattle.queue_tables.specs.Content.{Content, Holds, content_of};
+ghost use Rattle.queue_tables.specs.Tables.{book_schema};
+ghost use Rattle.queue_tables.specs.Values.{number};
+
+use queue_core::{BookFault, SendCause, SendFault};
+use queue_tables::fault::Fault;
+use sqlite::types::ValueRef;
+use sqlite::{Alter, Connection, Error, Row, params};
+use std::io::Write;
+
+/// Why the pieces were not written to the last.
+#[derive(Clone, Copy)]
+enum Stop {
+    Tables(Fault),
+    /// The writer failed.
+    Write,
+}
+
+impl From<Error> for Stop {
+    fn from(e: Error) -> Stop {
+        Stop::Tables(Fault::from(e))
+    }
+}
+
+fn cause_of(stop: Stop) -> SendCause {
+    match stop {
+        Stop::Tables(fault) => SendCause::Book(BookFault::from(fault)),
+        Stop::Write => SendCause::Write,
+    }
+}
+
+/// Writes all the bytes, by as many writes as it takes. After a fault a front of them was written.
+fn put<W: Write>(out: &mut W, bytes: &[u8], written: &mut u64) -> Result<(), Stop>
+    requires { written.old + length bytes.now < 2 ^ 64 }
+    ensures ok { OnOk result (Appends (W.contents out.old) (W.contents out.new) bytes.now × (written.new ≡ written.old + length bytes.now)) }
+    ensures err { OnErr result ((n : ℕ) × (n ≤ length bytes.now) × Appends (W.contents out.old) (W.contents out.new) (take n bytes.now) × (written.new ≡ written.old + n)) }
+{
+    let mut at = 0;
+    'write: while at < bytes.len() {
+        match out.write(&bytes[at..]) {
+            Ok(0) => return Err(Stop::Write),
+            Ok(n) => {
+                at += n;
+                *written += n as u64;
+            }
+            Err(_) => return Err(Stop::Write),
+        }
+    }
+    Ok(())
+}
+
+/// Writes the bytes of a row.
+fn put_piece<W: Write>(row: &Row, out: &mut W, written: &mut u64) -> Result<(), Stop>
+    ensures ok { OnOk result (Appends (W.contents out.old) (W.contents out.new) (piece_bytes row.now) × (written.new ≡ written.old + length (piece_bytes row.now))) }
+    ensures err { OnErr result ((n : ℕ) × (n ≤ length (piece_bytes row.now)) × Appends (W.contents out.old) (W.contents out.new) (take n (piece_bytes row.now)) × (written.new ≡ written.old + n)) }
+{
+    let bytes = match row.get_ref(0) {
+        Ok(ValueRef::Blob(bytes)) => bytes,
+        Ok(_) => return Err(Stop::Tables(Fault::Damaged)),
+        Err(_) => return Err(Stop::Tables(Fault::Damaged)),
+    };
+    if written.checked_add(bytes.len() as u64).is_none() {
+        return Err(Stop::Tables(Fault::Disk));
+    }
+    put(out, bytes, written)
+}
+
+/// Writes the pieces of a document in order.
+fn send_pieces<S: Alter, W: Write>(
+    conn: &mut Connection<S>,
+    job: u32,
+    doc: u32,
+    out: &mut W,
+    written: &mut u64,
+) -> Result<(), Stop>
+    requires { written.old ≡ 0 }
+    ensures clean { HasCleanDisk (state S.Store conn.new) → HasCleanDisk (state S.Store conn.old) }
+    ensures opened { HasCleanDisk (state S.Store conn.new) → IsTrue (state S.Store conn.new).is_open → IsTrue (state S.Store conn.old).is_open }
+    ensures live { HasCleanDisk (state S.Store conn.new) → OnOk result (IsTrue (state S.Store conn.new).is_open) }
+    ensures sent { HasBook (state S.Store conn.old) → HasCleanDisk (state S.Store conn.new) → OnOk result (HasSent (number job ∷ number doc ∷ []) (state S.Store conn.old) (W.contents out.old) (W.contents out.new) written.new) }
+    ensures front { HasBook (state S.Store conn.old) → HasCleanDisk (state S.Store conn.new) → OnErr result (HasSentFront (number job ∷ number doc ∷ []) (state S.Store conn.old) (W.contents out.old) (W.contents out.new) written.new) }
+    ensures left { HasCleanDisk (state S.Store conn.new) → LeavesRows (state S.Store conn.old) (state S.Store conn.new) }
+{
+    let mut rows = conn.query(
+        "SELECT bytes FROM pieces WHERE job = ?1 AND doc = ?2 ORDER BY piece",
+        params![job, doc],
+    )?;
+    'rows: for _ in 0..u64::MAX {
+        let Some(row) = rows.next()? else {
+            return Ok(());
+        };
+        put_piece(row, out, written)?;
+    }
+    Err(Stop::Tables(Fault::Disk))
+}
+
+/// Writes the bytes of document n, counted from 1, of a job in state 3, 5 or 6, and says how many they are.
+/// After a fault a front of them was written. Never more than a piece of them is held. The tables stay as they
+/// were, where the connection is still open. Within a transaction it answers Disk.
+pub fn send_document<S: Alter, W: Write>(
+    conn: &mut Connection<S>,
+    job: u32,
+    n: u32,
+    out: &mut W,
+) -> Result<u64, SendFault>
+    ensures clean { HasCleanDisk (state S.Store conn.new) → HasCleanDisk (state S.Store conn.old) }
+    ensures opened { HasCleanDisk (state S.Store conn.new) → IsTrue (state S.Store conn.new).is_open → IsTrue (state S.Store conn.old).is_open }
+    ensures live { HasCleanDisk (state S.Store conn.new) → OnOk result (IsTrue (state S.Store conn.new).is_open) }
+    ensures same { HasCleanDisk (state S.Store conn.new) → IsTrue (state S.Store conn.new).is_open → (state S.Store conn.old).now.schema ≡ book_schema → (state S.Store conn.new).now ≡ (state S.Store conn.old).now }
+    ensures kept { HasCleanDisk (state S.Store conn.new) → IsTrue (state S.Store conn.new).is_open → (c : Content) → Holds c (state S.Store conn.old) → Holds c (state S.Store conn.new) }
+    ensures back { HasCleanDisk (state S.Store conn.new) → (c : Content) → Holds c (state S.Store conn.new) → Holds c (state S.Store conn.old) }
+    ensures ok { HasCleanDisk (state S.Store conn.new) → IfOk result (λ sent. (w : World) (d : Document) → IsSound w → Holds (content_of w) (state S.Store conn.old) → document_at w job n ≡ Some d → (sent ≡ length d.bytes) × Appends (W.contents out.old) (W.contents out.new) d.bytes) }
+    ensures err { HasCleanDisk (state S.Store conn.new) → IfErr result (λ f. (w : World) (d : Document) → IsSound w → Holds (content_of w) (state S.Store conn.old) → document_at w job n ≡ Some d → (f.written ≤ length d.bytes) × Appends (W.contents out.old) (W.contents out.new) (take f.written d.bytes)) }
+{
+    if !conn.is_autocommit() {
+        return Err(SendFault {
+            written: 0,
+            cause: SendCause::Book(BookFault::Disk),
+        });
+    }
+    let mut written = 0;
+    match send_pieces(conn, job, n, out, &mut written) {
+        Ok(()) => Ok(written),
+        Err(stop) => Err(SendFault {
+            written,
+            cause: cause_of(stop),
+        }),
+    }
+}

@@ -1,0 +1,145 @@
+//! What the office is told of an account.
+ghost use Rattle.std.specs.Prelude.{◌≡◌, List, [], ◌∷◌, ◌++◌, Some, IfOk, OnOk, IsTrue, filter, if◌then◌else◌, map};
+ghost use Rattle.sqlite.specs.Held.{state};
+ghost use Rattle.sqlite.specs.State.{HasCleanDisk};
+ghost use Rattle.queue_core.specs.Job.{owed};
+ghost use Rattle.queue_core.specs.Shown.{sheet_jobs, sheet_of};
+ghost use Rattle.queue_core.specs.Sound.{IsSound};
+ghost use Rattle.queue_core.specs.World.{World, job_at, rows};
+ghost use Rattle.queue_core.specs.declared.job.Job.{Job as JobValue};
+ghost use Rattle.queue_shown.specs.Pages.{AreIn, has_pages};
+ghost use Rattle.queue_tables.specs.Content.{Content, Holds, content_of};
+ghost use Rattle.queue_tables.specs.Tables.{book_schema};
+ghost use Rattle.queue_tables.specs.Values.{job_values};
+
+use crate::account::{find_account, granted_to};
+use crate::job::count_documents;
+use crate::select::select;
+use queue_core::job::{Job, JobList, is_live_job};
+use queue_core::sheet::AccountSheet;
+use queue_core::text::Text;
+use queue_rows::laws::numbers_tell_names;
+use queue_tables::fault::Fault;
+use queue_tables::read::read_job;
+use sqlite::{Alter, Connection, Row, params};
+use std::alloc::Global;
+
+/// The pages that are still set aside for a job.
+fn reserved_for(job: &Job) -> u64
+    ensures { result ≡ owed job.now }
+{
+    if job.hold || !is_live_job(job) {
+        return 0;
+    }
+    let estimate = u64::from(job.impressions) * u64::from(job.copies);
+    estimate.saturating_sub(u64::from(job.count))
+}
+
+/// The job has pages reserved or printed.
+fn is_told(job: &Job) -> bool
+    ensures { result ≡ has_pages job.now }
+{
+    0 < reserved_for(job) || 0 < job.count
+}
+
+/// Adds the job of that row where it has pages reserved or printed.
+fn push_told<S: Alter>(
+    alloc: Global,
+    conn: &mut Connection<S>,
+    row: &Row,
+    jobs: &mut Vec<Job>,
+) -> Result<(), Fault>
+    ensures clean { HasCleanDisk (state S.Store conn.new) → HasCleanDisk (state S.Store conn.old) }
+    ensures opened { HasCleanDisk (state S.Store conn.new) → IsTrue (state S.Store conn.new).is_open → IsTrue (state S.Store conn.old).is_open }
+    ensures live { HasCleanDisk (state S.Store conn.new) → OnOk result (IsTrue (state S.Store conn.old).is_open → IsTrue (state S.Store conn.new).is_open) }
+    ensures same { HasCleanDisk (state S.Store conn.new) → IsTrue (state S.Store conn.new).is_open → (state S.Store conn.old).now.schema ≡ book_schema → (state S.Store conn.new).now ≡ (state S.Store conn.old).now }
+    ensures kept { HasCleanDisk (state S.Store conn.new) → IsTrue (state S.Store conn.new).is_open → (c : Content) → Holds c (state S.Store conn.old) → Holds c (state S.Store conn.new) }
+    ensures back { HasCleanDisk (state S.Store conn.new) → (c : Content) → Holds c (state S.Store conn.new) → Holds c (state S.Store conn.old) }
+    ensures told { HasCleanDisk (state S.Store conn.new) → OnOk result ((w : World) (j : JobValue) → IsSound w → Holds (content_of w) (state S.Store conn.old) → job_at j.number (rows w) ≡ Some j → row.now ≡ job_values j → jobs.new.items ≡ jobs.old.items ++ (if has_pages j then j ∷ [] else [])) }
+{
+    numbers_tell_names();
+    let mut job = read_job(alloc, row)?;
+    if !is_told(&job) {
+        return Ok(());
+    }
+    count_documents(conn, &mut job)?;
+    jobs.push(job)?;
+    Ok(())
+}
+
+/// The jobs of those rows that have pages reserved or printed.
+fn jobs_of<S: Alter>(
+    alloc: Global,
+    conn: &mut Connection<S>,
+    found: &[Row],
+) -> Result<Vec<Job>, Fault>
+    ensures clean { HasCleanDisk (state S.Store conn.new) → HasCleanDisk (state S.Store conn.old) }
+    ensures opened { HasCleanDisk (state S.Store conn.new) → IsTrue (state S.Store conn.new).is_open → IsTrue (state S.Store conn.old).is_open }
+    ensures live { HasCleanDisk (state S.Store conn.new) → OnOk result (IsTrue (state S.Store conn.old).is_open → IsTrue (state S.Store conn.new).is_open) }
+    ensures same { HasCleanDisk (state S.Store conn.new) → IsTrue (state S.Store conn.new).is_open → (state S.Store conn.old).now.schema ≡ book_schema → (state S.Store conn.new).now ≡ (state S.Store conn.old).now }
+    ensures kept { HasCleanDisk (state S.Store conn.new) → IsTrue (state S.Store conn.new).is_open → (c : Content) → Holds c (state S.Store conn.old) → Holds c (state S.Store conn.new) }
+    ensures back { HasCleanDisk (state S.Store conn.new) → (c : Content) → Holds c (state S.Store conn.new) → Holds c (state S.Store conn.old) }
+    ensures told { HasCleanDisk (state S.Store conn.new) → IfOk result (λ v. (w : World) (js : List JobValue) → IsSound w → Holds (content_of w) (state S.Store conn.old) → AreIn w js → found.now ≡ map job_values js → v.items ≡ filter has_pages js) }
+{
+    let mut jobs = Vec::new(alloc);
+    for row in found {
+        push_told(alloc, conn, row, &mut jobs)?;
+    }
+    Ok(jobs)
+}
+
+/// The jobs of an account that have pages reserved or printed, by number.
+fn told_jobs<S: Alter>(
+    alloc: Global,
+    conn: &mut Connection<S>,
+    account: &str,
+) -> Result<JobList, Fault>
+    ensures clean { HasCleanDisk (state S.Store conn.new) → HasCleanDisk (state S.Store conn.old) }
+    ensures opened { HasCleanDisk (state S.Store conn.new) → IsTrue (state S.Store conn.new).is_open → IsTrue (state S.Store conn.old).is_open }
+    ensures live { HasCleanDisk (state S.Store conn.new) → OnOk result (IsTrue (state S.Store conn.new).is_open) }
+    ensures same { HasCleanDisk (state S.Store conn.new) → IsTrue (state S.Store conn.new).is_open → (state S.Store conn.old).now.schema ≡ book_schema → (state S.Store conn.new).now ≡ (state S.Store conn.old).now }
+    ensures kept { HasCleanDisk (state S.Store conn.new) → IsTrue (state S.Store conn.new).is_open → (c : Content) → Holds c (state S.Store conn.old) → Holds c (state S.Store conn.new) }
+    ensures back { HasCleanDisk (state S.Store conn.new) → (c : Content) → Holds c (state S.Store conn.new) → Holds c (state S.Store conn.old) }
+    ensures told { HasCleanDisk (state S.Store conn.new) → IfOk result (λ js. (w : World) → IsSound w → Holds (content_of w) (state S.Store conn.old) → js ≡ sheet_jobs w account.now) }
+{
+    let found = select(
+        conn,
+        "SELECT number, owner, name, copies, impressions, hold, incoming, phase, why, stopping, count, created, begun, ended FROM jobs WHERE owner = ?1 ORDER BY number",
+        params![account],
+    )?;
+    let jobs = jobs_of(alloc, conn, found.as_slice())?;
+    Ok(JobList::from_jobs(jobs))
+}
+
+/// What is granted to an account, what of it is free, reserved and printed, and its jobs, where the account is
+/// there. It writes nothing: the tables stay as they were, where the connection is still open. Within a
+/// transaction it answers Disk.
+pub fn sheet<S: Alter>(
+    alloc: Global,
+    conn: &mut Connection<S>,
+    account: &str,
+) -> Result<Option<AccountSheet>, Fault>
+    ensures clean { HasCleanDisk (state S.Store conn.new) → HasCleanDisk (state S.Store conn.old) }
+    ensures opened { HasCleanDisk (state S.Store conn.new) → IsTrue (state S.Store conn.new).is_open → IsTrue (state S.Store conn.old).is_open }
+    ensures live { HasCleanDisk (state S.Store conn.new) → OnOk result (IsTrue (state S.Store conn.new).is_open) }
+    ensures same { HasCleanDisk (state S.Store conn.new) → IsTrue (state S.Store conn.new).is_open → (state S.Store conn.old).now.schema ≡ book_schema → (state S.Store conn.new).now ≡ (state S.Store conn.old).now }
+    ensures kept { HasCleanDisk (state S.Store conn.new) → IsTrue (state S.Store conn.new).is_open → (c : Content) → Holds c (state S.Store conn.old) → Holds c (state S.Store conn.new) }
+    ensures back { HasCleanDisk (state S.Store conn.new) → (c : Content) → Holds c (state S.Store conn.new) → Holds c (state S.Store conn.old) }
+    ensures sheet { HasCleanDisk (state S.Store conn.new) → IfOk result (λ s. (w : World) → IsSound w → Holds (content_of w) (state S.Store conn.old) → s ≡ sheet_of w account.now) }
+{
+    let found = find_account(conn, account)?;
+    let Some(pages) = found else {
+        return Ok(None);
+    };
+    let granted = granted_to(conn, account)?;
+    let jobs = told_jobs(alloc, conn, account)?;
+    let name = Text::copy_of(alloc, account)?;
+    Ok(Some(AccountSheet {
+        account: name,
+        granted,
+        free: pages.free,
+        reserved: pages.reserved,
+        printed: pages.printed,
+        jobs,
+    }))
+}

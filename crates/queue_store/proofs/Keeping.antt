@@ -1,0 +1,30 @@
+-- What a call leaves of the world that a book keeps.
+use Rattle.std.proofs.Common.{ℕ, inl, inr, IsSome, IsTrue, refl, sym, ◌∙◌}
+use Rattle.std.proofs.lemmas.Bool.{cases_Bool}
+use Rattle.sqlite.specs.State.{State, HasCleanDisk}
+use Rattle.queue_core.specs.Settings.{SettingValues}
+use Rattle.queue_core.specs.Shown.{document_at}
+use Rattle.queue_core.specs.Sound.{IsSound}
+use Rattle.queue_core.specs.World.{World, empty_queue}
+use Rattle.queue_tables.specs.Content.{Content, Holds, content_of}
+use Rattle.queue_store.specs.Kept.{Keeps}
+
+module _ (old new : State) where
+  -- where the rows are kept, so is the world
+  pub still_keeps : (settings : SettingValues) (w : World) → (HasCleanDisk new → HasCleanDisk old) → (HasCleanDisk new → IsTrue new.is_open → IsTrue old.is_open)
+      → (HasCleanDisk new → (c : Content) → Holds c old → IsTrue new.is_open → Holds c new) → (HasCleanDisk old → Keeps old settings w) → HasCleanDisk new → Keeps new settings w
+  still_keeps settings w clean opened kept stood honest =
+      let was = stood (clean honest) in
+      record { sound = was.sound; settings_are = was.settings_are; holds = λ is_open. kept honest (content_of w) (was.holds (opened honest is_open)) is_open }
+
+-- a book that stands for an empty queue, as one on a shut connection does, has no document
+pub open_with_document : (s : State) (settings : SettingValues) (job n : ℕ) → HasCleanDisk s → IsSound (empty_queue settings)
+    → ((w : World) → HasCleanDisk s → (HasCleanDisk s → Keeps s settings w) → IsSome (document_at w job n)) → IsTrue s.is_open
+unfolding document_at
+open_with_document s settings job n honest sound there = elim (cases_Bool s.is_open) [
+  | inl shown ↦ shown
+  | inr shut ↦ absurd (none (there (empty_queue settings) honest (λ h. record { sound = sound; settings_are = refl; holds = λ shown. absurd (let never = sym shut ∙ shown in cc) })))
+]
+  where
+    none : IsSome (document_at (empty_queue settings) job n) → ⊥
+    none h = cc

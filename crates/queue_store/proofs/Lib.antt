@@ -1,0 +1,5 @@
+pub mod Results
+pub mod Made
+pub mod Empty
+pub mod Keeping
+pub mod Adopting

@@ -1,0 +1,22 @@
+use Rattle.std.proofs.Common.{ap, ◌∙◌}
+use Rattle.sqlite.specs.Held.{state}
+use Rattle.queue_core.specs.Event.{event_of}
+use Rattle.queue_core.specs.Machine.{decision}
+use Rattle.queue_tables.specs.Content.{content_of}
+use Rattle.queue_store.proofs.Keeping.{still_keeps}
+use Rattle.queue_store.proofs.queue_book.TableBookQueueBook.decide.Goals as goal
+
+pub returns-in_err-s-clause-kept : goal.returns-in_err-s-clause-kept
+returns-in_err-s-clause-kept g c w stood = still_keeps (state g.S.Store c.args.self.now.conn) (state g.S.Store c.scene.new.conn) c.args.self.now.settings w c.scene.ensures.clean c.scene.ensures.opened c.scene.ensures.kept stood
+
+pub returns-in_err-d-clause-kept : goal.returns-in_err-d-clause-kept
+returns-in_err-d-clause-kept g c w stood = still_keeps (state g.S.Store c.args.self.now.conn) (state g.S.Store c.scene.new.conn) c.args.self.now.settings w c.scene.ensures.clean c.scene.ensures.opened c.scene.ensures.kept stood
+
+pub returns-clause-kept : goal.returns-clause-kept
+returns-clause-kept g c w stood = still_keeps (state g.S.Store c.args.self.now.conn) (state g.S.Store c.scene.new.conn) c.args.self.now.settings w c.scene.ensures.clean c.scene.ensures.opened c.scene.ensures.kept stood
+
+pub returns-clause-decides : goal.returns-clause-decides
+returns-clause-decides g c honest w stands =
+    let now = stands honest in
+    let held = c.scene.ensures.back honest (content_of w) (now.holds (c.in_ok-s.ensures.live honest)) in
+    c.in_ok-d.ensures.decides ∙ ap (λ s. decision s c.args.now (event_of c.args.e.now)) (c.in_ok-s.ensures.shows honest w now.sound held now.settings_are)

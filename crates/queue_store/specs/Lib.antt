@@ -1,0 +1,4 @@
+pub mod Kept
+pub mod Made
+pub mod New
+pub mod Opened

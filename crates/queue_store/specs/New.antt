@@ -1,0 +1,26 @@
+-- A new book.
+use Rattle.std.specs.Prelude.{[], ◌∷◌, ◌||◌, Bool, is_some, codes}
+use Rattle.sqlite.specs.Schema.{Schema}
+use Rattle.sqlite_schema.specs.Names.{table_named}
+use Rattle.queue_core.specs.Settings.{SettingValues}
+use Rattle.queue_core.specs.World.{empty_queue}
+use Rattle.queue_rows.specs.Rows.{meta_row}
+use Rattle.queue_rows.specs.declared.rows.MetaRow.{MetaRow}
+use Rattle.queue_tables.specs.Content.{Content}
+use Rattle.queue_tables.specs.Values.{meta_values}
+
+abbrev pub no_content : Content
+no_content = record { meta = []; jobs = []; documents = []; pieces = []; accounts = []; grants = []; reports = [] }
+
+abbrev pub new_content : MetaRow → Content
+new_content m = record no_content { meta = meta_values m ∷ [] }
+
+-- the row of a new book
+abbrev pub new_meta : SettingValues → MetaRow
+new_meta s = meta_row (empty_queue s)
+
+-- the name of a table is taken
+abbrev pub has_any : Schema → Bool
+has_any s =
+    is_some (table_named s (codes "meta")) || is_some (table_named s (codes "jobs")) || is_some (table_named s (codes "documents")) || is_some (table_named s (codes "pieces"))
+    || is_some (table_named s (codes "accounts")) || is_some (table_named s (codes "grants")) || is_some (table_named s (codes "reports"))

@@ -1,0 +1,86 @@
+//! A book from tables that are there.
+ghost use Rattle.std.specs.Prelude.{◌≡◌, ◌∷◌, [], IfErr, IfOk, OnOk, IsTrue};
+ghost use Rattle.std.specs.Str.{IsUtf8};
+ghost use Rattle.sqlite.specs.Held.{state};
+ghost use Rattle.sqlite.specs.State.{HasCleanDisk};
+ghost use Rattle.queue_core.specs.Settings.{AreSettings};
+ghost use Rattle.queue_core.specs.World.{World};
+ghost use Rattle.queue_rows.specs.Meta.{settings_in};
+ghost use Rattle.queue_rows.specs.Rows.{tables_in};
+ghost use Rattle.queue_rows.specs.declared.rows.MetaRow.{MetaRow as MetaValue};
+ghost use Rattle.queue_load.specs.Queues.{IsQueueIn};
+ghost use Rattle.queue_load.specs.Store.{FitsIn};
+ghost use Rattle.queue_store.specs.Kept.{HasWorld, IsHonest, StandsForOne, shown_by};
+ghost use Rattle.queue_tables.specs.declared.fault.Fault.TheVariants.{Damaged};
+
+use crate::book::TableBook;
+use queue_core::book::BookFault;
+use queue_core::settings::{SettingFault, Settings};
+use queue_load::queue::load_queue;
+use queue_rows::rows::Rows;
+use queue_tables::fault::Fault;
+use sqlite::{Alter, Connection};
+use std::alloc::Global;
+
+/// The settings in the row of the book itself. Damaged is told only where they are not within their limits.
+fn settings_of(alloc: Global, rows: &Rows) -> Result<Settings, Fault>
+    ensures ok { IfOk result (λ s. (m : MetaValue) → (tables_in rows.now).meta ≡ m ∷ [] → s ≡ settings_in m) }
+    ensures damaged { IfErr result (λ e. e ≡ Damaged → (m : MetaValue) → (tables_in rows.now).meta ≡ m ∷ [] → ¬ AreSettings (settings_in m)) }
+{
+    let [meta] = rows.meta.as_slice() else {
+        return Err(Fault::Damaged);
+    };
+    match Settings::new(
+        alloc,
+        meta.uri.as_str(),
+        meta.name.as_str(),
+        meta.estimate,
+        meta.epoch,
+    ) {
+        Ok(settings) => Ok(settings),
+        Err(SettingFault::Memory) => Err(Fault::Memory),
+        Err(SettingFault::Bad) => Err(Fault::Damaged),
+    }
+}
+
+/// The settings of the sound queue that the tables hold. Damaged is told only where they hold none whose printer's
+/// name is a text. Within a transaction it is refused as a disk that fails.
+fn settings_in_tables<S: Alter>(alloc: Global, conn: &mut Connection<S>) -> Result<Settings, Fault>
+    ensures clean { HasCleanDisk (state S.Store conn.new) → HasCleanDisk (state S.Store conn.old) }
+    ensures stands { FitsIn (state S.Store conn.old) → HasCleanDisk (state S.Store conn.new) → IfOk result (HasWorld (state S.Store conn.new)) }
+    ensures damaged { FitsIn (state S.Store conn.old) → HasCleanDisk (state S.Store conn.new) → IfErr result (λ e. e ≡ Damaged → (w : World) → IsUtf8 w.settings.name → ¬ IsQueueIn w (state S.Store conn.old).now) }
+    ensures same { FitsIn (state S.Store conn.old) → HasCleanDisk (state S.Store conn.new) → OnOk result ((state S.Store conn.new).now ≡ (state S.Store conn.old).now) }
+    ensures left { FitsIn (state S.Store conn.old) → HasCleanDisk (state S.Store conn.new) → IsTrue (state S.Store conn.new).is_open → (state S.Store conn.new).now ≡ (state S.Store conn.old).now }
+{
+    if !conn.is_autocommit() {
+        return Err(Fault::Disk);
+    }
+    let rows = load_queue(alloc, conn)?;
+    settings_of(alloc, &rows)
+}
+
+impl<S: Alter> TableBook<S> {
+    /// The book that the tables hold, where those that are there are as `create` makes them. Damaged is told only
+    /// where they hold no sound queue, or one whose printer's name is no text. A refusal hands the connection
+    /// back, with its tables as they were.
+    pub fn adopt(
+        alloc: Global,
+        mut conn: Connection<S>,
+    ) -> Result<TableBook<S>, (BookFault, Connection<S>)>
+        ensures clean { IfOk result (λ b. IsHonest S.Store b → HasCleanDisk (state S.Store conn)) }
+        ensures began { IfErr result (λ e. HasCleanDisk (state S.Store e.1) → HasCleanDisk (state S.Store conn)) }
+        ensures stands { FitsIn (state S.Store conn) → IfOk result (λ b. StandsForOne S.Store b) }
+        ensures same { FitsIn (state S.Store conn) → IfOk result (λ b. IsHonest S.Store b → (shown_by S.Store b).now ≡ (state S.Store conn).now) }
+        ensures damaged { FitsIn (state S.Store conn) → IfErr result (λ e. HasCleanDisk (state S.Store e.1) → e.0 ≡ BookFault.Damaged → (w : World) → IsUtf8 w.settings.name → ¬ IsQueueIn w (state S.Store conn).now) }
+        ensures handed { FitsIn (state S.Store conn) → IfErr result (λ e. HasCleanDisk (state S.Store e.1) → IsTrue (state S.Store e.1).is_open → (state S.Store e.1).now ≡ (state S.Store conn).now) }
+    {
+        match settings_in_tables(alloc, &mut conn) {
+            Ok(settings) => Ok(TableBook {
+                alloc,
+                conn,
+                settings,
+            }),
+            Err(fault) => Err((BookFault::from(fault), conn)),
+        }
+    }
+}

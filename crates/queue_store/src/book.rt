@@ -1,0 +1,140 @@
+//! The book in tables.
+ghost use Rattle.std.specs.Prelude.{◌≡◌, ◌≢◌, IfErr, IfOk, IsTrue};
+ghost use Rattle.sqlite.specs.Held.{state};
+ghost use Rattle.sqlite.specs.State.{HasCleanDisk};
+ghost use Rattle.queue_core.specs.World.{World, empty_queue};
+ghost use Rattle.queue_core.specs.declared.book.BookFault.TheVariants.{Damaged};
+ghost use Rattle.queue_store.specs.Kept.{IsHonest, StandsFor, connection_of, shown_by};
+ghost use Rattle.queue_store.specs.New.{has_any, new_meta};
+ghost use Rattle.queue_tables.specs.Content.{Holds, content_of};
+ghost use Rattle.queue_tables.specs.Tables.{no_schema};
+
+use crate::create::make_tables;
+use queue_core::book::BookFault;
+use queue_core::empty_is_sound;
+use queue_core::settings::Settings;
+use queue_core::text::Text;
+use queue_rows::rows::MetaRow;
+use queue_tables::fault::Fault;
+use sqlite::{Alter, Connection};
+use std::alloc::{AllocError, Global};
+
+/// A book kept in the tables of a connection.
+#[derive(Drop)]
+pub struct TableBook<S: Alter> {
+    pub(crate) alloc: Global,
+    pub(crate) conn: Connection<S>,
+    /// Those of the queue. They never change.
+    pub(crate) settings: Settings,
+}
+
+/// The store has no tables, indexes or views.
+fn is_blank<S: Alter>(conn: &Connection<S>) -> bool
+    ensures { IsTrue result → (state S.Store conn.now).now.schema ≡ no_schema }
+{
+    let schema = conn.schema();
+    schema.tables.as_slice().is_empty()
+        && schema.indexes.as_slice().is_empty()
+        && schema.views.as_slice().is_empty()
+}
+
+/// The name of a table of the book is taken.
+fn has_any_table<S: Alter>(conn: &Connection<S>) -> bool
+    ensures { result ≡ has_any (state S.Store conn.now).now.schema }
+{
+    let schema = conn.schema();
+    schema.table_named(b"meta").is_some()
+        || schema.table_named(b"jobs").is_some()
+        || schema.table_named(b"documents").is_some()
+        || schema.table_named(b"pieces").is_some()
+        || schema.table_named(b"accounts").is_some()
+        || schema.table_named(b"grants").is_some()
+        || schema.table_named(b"reports").is_some()
+}
+
+/// The row of a new book with these settings.
+fn first_row(alloc: Global, settings: &Settings) -> Result<MetaRow, AllocError>
+    ensures { IfOk result (λ m. m ≡ new_meta settings.now) }
+{
+    let uri = Text::copy_of(alloc, settings.uri())?;
+    let name = Text::copy_of(alloc, settings.name())?;
+    Ok(MetaRow {
+        one: 1,
+        schema: 1,
+        uri,
+        name,
+        estimate: settings.estimate(),
+        epoch: settings.epoch(),
+        next_number: 1,
+    })
+}
+
+/// Makes the tables of a book with these settings in a blank store.
+fn make_new<S: Alter>(
+    alloc: Global,
+    conn: &mut Connection<S>,
+    settings: &Settings,
+) -> Result<(), Fault>
+    ensures clean { HasCleanDisk (state S.Store conn.new) → HasCleanDisk (state S.Store conn.old) }
+    ensures made { HasCleanDisk (state S.Store conn.new) → IfOk result (λ u. Holds (content_of (empty_queue settings.now)) (state S.Store conn.new)) }
+    ensures refused { HasCleanDisk (state S.Store conn.new) → IfErr result (λ e. IsTrue (state S.Store conn.new).is_open → (state S.Store conn.new).now ≡ (state S.Store conn.old).now) }
+    ensures damaged { IfErr result (λ e. e ≡ Fault.Damaged → IsTrue (has_any (state S.Store conn.old).now.schema)) }
+{
+    let _settled = conn.is_autocommit();
+    if has_any_table(conn) {
+        return Err(Fault::Damaged);
+    }
+    if !is_blank(conn) {
+        return Err(Fault::Disk);
+    }
+    let meta = first_row(alloc, settings)?;
+    make_tables(conn, &meta)
+}
+
+impl<S: Alter> TableBook<S> {
+    /// A new book with these settings, without jobs, accounts and reports, in a store without tables. Damaged is
+    /// told only where the name of one of its tables is taken. A refusal hands the connection back, with its
+    /// tables as they were.
+    pub fn create(
+        alloc: Global,
+        mut conn: Connection<S>,
+        settings: Settings,
+    ) -> Result<TableBook<S>, (BookFault, Connection<S>)>
+        ensures clean { IfOk result (λ b. IsHonest S.Store b → HasCleanDisk (state S.Store conn)) }
+        ensures began { IfErr result (λ e. HasCleanDisk (state S.Store e.1) → HasCleanDisk (state S.Store conn)) }
+        ensures stands { IfOk result (λ b. StandsFor S.Store b (empty_queue settings)) }
+        ensures live { IfOk result (λ b. IsHonest S.Store b → IsTrue (shown_by S.Store b).is_open) }
+        ensures damaged { IfErr result (λ e. e.0 ≡ Damaged → IsTrue (has_any (state S.Store conn).now.schema)) }
+        ensures handed { IfErr result (λ e. HasCleanDisk (state S.Store e.1) → IsTrue (state S.Store e.1).is_open → (state S.Store e.1).now ≡ (state S.Store conn).now) }
+    {
+        empty_is_sound();
+        let _estimate = settings.estimate();
+        match make_new(alloc, &mut conn, &settings) {
+            Ok(()) => Ok(TableBook {
+                alloc,
+                conn,
+                settings,
+            }),
+            Err(fault) => Err((BookFault::from(fault), conn)),
+        }
+    }
+
+    /// A copy of the queue's settings.
+    pub fn settings(&self) -> Result<Settings, AllocError>
+        ensures { IfOk result (λ s. (w : World) → IsHonest S.Store self.now → StandsFor S.Store self.now w → s ≡ w.settings) }
+    {
+        self.settings.try_clone()
+    }
+
+    /// The connection, whose tables stand for the book. It takes no memory.
+    pub fn close(self) -> Connection<S>
+        ensures { result ≡ connection_of self }
+    {
+        let TableBook {
+            alloc: _,
+            conn,
+            settings: _,
+        } = self;
+        conn
+    }
+}

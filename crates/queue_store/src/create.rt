@@ -1,0 +1,147 @@
+//! A new book: its tables, and the row of its settings.
+ghost use Rattle.std.specs.Prelude.{◌≡◌, ◌≢◌, [], IfErr, IfOk, Ok, OnErr, OnOk, IsTrue};
+ghost use Rattle.sqlite.specs.State.{ExecutesInside};
+ghost use Rattle.sqlite.specs.State.{HasCleanDisk, KeepsCommit};
+ghost use Rattle.sqlite.specs.Held.{state};
+ghost use Rattle.queue_rows.specs.declared.rows.MetaRow.{MetaRow as MetaValue};
+ghost use Rattle.queue_store.specs.Made.{IsMade, schema4, schema7, schema10};
+ghost use Rattle.queue_store.specs.New.{new_content};
+ghost use Rattle.queue_tables.specs.Content.{Content, Holds};
+ghost use Rattle.queue_tables.specs.Steps.{with_meta_row};
+ghost use Rattle.queue_tables.specs.Tables.{no_schema};
+ghost use Rattle.queue_tables.specs.Values.{meta_values};
+ghost use Rattle.queue_tables.specs.declared.fault.Fault.TheVariants.{Damaged};
+
+use queue_rows::rows::MetaRow;
+use queue_tables::fault::Fault;
+use queue_tables::meta_rows::insert_meta;
+use sqlite::{Alter, Connection, Transaction};
+
+/// Runs a statement that makes a table or an index.
+fn define<S: Alter>(tx: &mut Transaction<'_, S>, sql: &str) -> Result<usize, Fault>
+    ensures same_reference { tx.new.conn.ghost_name ≡ tx.old.conn.ghost_name }
+    ensures clean { HasCleanDisk (state S.Store tx.new.conn.now) → HasCleanDisk (state S.Store tx.old.conn.now) }
+    ensures kept { HasCleanDisk (state S.Store tx.new.conn.now) → IsTrue (state S.Store tx.old.conn.now).in_transaction → KeepsCommit (state S.Store tx.old.conn.now) (state S.Store tx.new.conn.now) }
+    ensures inside { HasCleanDisk (state S.Store tx.new.conn.now) → OnOk result (IsTrue (state S.Store tx.old.conn.now).in_transaction → IsTrue (state S.Store tx.new.conn.now).in_transaction) }
+    ensures ran { HasCleanDisk (state S.Store tx.new.conn.now) → IfOk result (λ count. ExecutesInside 0 sql.now [] (state S.Store tx.old.conn.now) (state S.Store tx.new.conn.now) (Ok count)) }
+    ensures never { IfErr result (λ e. e ≢ Damaged) }
+{
+    let count = tx.execute(sql, &[])?;
+    Ok(count)
+}
+
+/// The tables of the book itself and of jobs, documents and pieces.
+fn create_first<S: Alter>(tx: &mut Transaction<'_, S>) -> Result<(), Fault>
+    ensures same_reference { tx.new.conn.ghost_name ≡ tx.old.conn.ghost_name }
+    ensures clean { HasCleanDisk (state S.Store tx.new.conn.now) → HasCleanDisk (state S.Store tx.old.conn.now) }
+    ensures kept { HasCleanDisk (state S.Store tx.new.conn.now) → IsTrue (state S.Store tx.old.conn.now).in_transaction → KeepsCommit (state S.Store tx.old.conn.now) (state S.Store tx.new.conn.now) }
+    ensures inside { HasCleanDisk (state S.Store tx.new.conn.now) → OnOk result (IsTrue (state S.Store tx.old.conn.now).in_transaction → IsTrue (state S.Store tx.new.conn.now).in_transaction) }
+    ensures done { HasCleanDisk (state S.Store tx.new.conn.now) → OnOk result ((state S.Store tx.old.conn.now).now.schema ≡ no_schema → IsMade schema4 (state S.Store tx.new.conn.now)) }
+    ensures never { IfErr result (λ e. e ≢ Damaged) }
+{
+    define(
+        tx,
+        "CREATE TABLE meta (one INTEGER PRIMARY KEY, schema INTEGER NOT NULL, uri TEXT NOT NULL, name TEXT NOT NULL, estimate INTEGER NOT NULL, epoch INTEGER NOT NULL, next_number INTEGER NOT NULL) STRICT",
+    )?;
+    define(
+        tx,
+        "CREATE TABLE jobs (number INTEGER PRIMARY KEY, owner TEXT NOT NULL, name TEXT NOT NULL, copies INTEGER NOT NULL, impressions INTEGER NOT NULL, hold INTEGER NOT NULL, incoming INTEGER NOT NULL, phase INTEGER NOT NULL, why INTEGER NOT NULL, stopping INTEGER NOT NULL, count INTEGER NOT NULL, created INTEGER NOT NULL, begun INTEGER, ended INTEGER) STRICT",
+    )?;
+    define(
+        tx,
+        "CREATE TABLE documents (job INTEGER NOT NULL REFERENCES jobs (number), doc INTEGER NOT NULL, format TEXT NOT NULL, octets INTEGER NOT NULL, PRIMARY KEY (job, doc)) STRICT",
+    )?;
+    define(
+        tx,
+        "CREATE TABLE pieces (job INTEGER NOT NULL, doc INTEGER NOT NULL, piece INTEGER NOT NULL, bytes BLOB NOT NULL, PRIMARY KEY (job, doc, piece), FOREIGN KEY (job, doc) REFERENCES documents (job, doc)) STRICT",
+    )?;
+    Ok(())
+}
+
+/// The tables of accounts, grants and reports.
+fn create_second<S: Alter>(tx: &mut Transaction<'_, S>) -> Result<(), Fault>
+    ensures same_reference { tx.new.conn.ghost_name ≡ tx.old.conn.ghost_name }
+    ensures clean { HasCleanDisk (state S.Store tx.new.conn.now) → HasCleanDisk (state S.Store tx.old.conn.now) }
+    ensures kept { HasCleanDisk (state S.Store tx.new.conn.now) → IsTrue (state S.Store tx.old.conn.now).in_transaction → KeepsCommit (state S.Store tx.old.conn.now) (state S.Store tx.new.conn.now) }
+    ensures inside { HasCleanDisk (state S.Store tx.new.conn.now) → OnOk result (IsTrue (state S.Store tx.old.conn.now).in_transaction → IsTrue (state S.Store tx.new.conn.now).in_transaction) }
+    ensures done { HasCleanDisk (state S.Store tx.new.conn.now) → OnOk result (IsMade schema4 (state S.Store tx.old.conn.now) → IsMade schema7 (state S.Store tx.new.conn.now)) }
+    ensures never { IfErr result (λ e. e ≢ Damaged) }
+{
+    define(
+        tx,
+        "CREATE TABLE accounts (name TEXT NOT NULL PRIMARY KEY, free INTEGER NOT NULL, reserved INTEGER NOT NULL, printed INTEGER NOT NULL) STRICT",
+    )?;
+    define(
+        tx,
+        "CREATE TABLE grants (batch TEXT NOT NULL, account TEXT NOT NULL REFERENCES accounts (name), pages INTEGER NOT NULL, PRIMARY KEY (batch, account)) STRICT",
+    )?;
+    define(
+        tx,
+        "CREATE TABLE reports (job INTEGER NOT NULL REFERENCES jobs (number), seq INTEGER NOT NULL, kind INTEGER NOT NULL, count INTEGER NOT NULL, state INTEGER NOT NULL, total INTEGER NOT NULL, PRIMARY KEY (job, seq)) STRICT",
+    )?;
+    Ok(())
+}
+
+/// The indexes.
+fn create_indexes<S: Alter>(tx: &mut Transaction<'_, S>) -> Result<(), Fault>
+    ensures same_reference { tx.new.conn.ghost_name ≡ tx.old.conn.ghost_name }
+    ensures clean { HasCleanDisk (state S.Store tx.new.conn.now) → HasCleanDisk (state S.Store tx.old.conn.now) }
+    ensures kept { HasCleanDisk (state S.Store tx.new.conn.now) → IsTrue (state S.Store tx.old.conn.now).in_transaction → KeepsCommit (state S.Store tx.old.conn.now) (state S.Store tx.new.conn.now) }
+    ensures inside { HasCleanDisk (state S.Store tx.new.conn.now) → OnOk result (IsTrue (state S.Store tx.old.conn.now).in_transaction → IsTrue (state S.Store tx.new.conn.now).in_transaction) }
+    ensures done { HasCleanDisk (state S.Store tx.new.conn.now) → OnOk result (IsMade schema7 (state S.Store tx.old.conn.now) → IsMade schema10 (state S.Store tx.new.conn.now) × IsTrue (state S.Store tx.new.conn.now).is_open) }
+    ensures never { IfErr result (λ e. e ≢ Damaged) }
+{
+    define(tx, "CREATE INDEX jobs_by_owner ON jobs (owner, phase)")?;
+    define(tx, "CREATE INDEX jobs_by_end ON jobs (owner, ended)")?;
+    define(tx, "CREATE INDEX jobs_by_phase ON jobs (phase)")?;
+    Ok(())
+}
+
+/// The first row of the book itself.
+fn add_meta<S: Alter>(tx: &mut Transaction<'_, S>, meta: &MetaRow) -> Result<(), Fault>
+    ensures same_reference { tx.new.conn.ghost_name ≡ tx.old.conn.ghost_name }
+    ensures clean { HasCleanDisk (state S.Store tx.new.conn.now) → HasCleanDisk (state S.Store tx.old.conn.now) }
+    ensures kept { HasCleanDisk (state S.Store tx.new.conn.now) → IsTrue (state S.Store tx.old.conn.now).in_transaction → KeepsCommit (state S.Store tx.old.conn.now) (state S.Store tx.new.conn.now) }
+    ensures inside { HasCleanDisk (state S.Store tx.new.conn.now) → OnOk result (IsTrue (state S.Store tx.old.conn.now).in_transaction → IsTrue (state S.Store tx.new.conn.now).in_transaction) }
+    ensures done { HasCleanDisk (state S.Store tx.new.conn.now) → OnOk result ((c : Content) → Holds c (state S.Store tx.old.conn.now) → Holds (with_meta_row (meta_values meta.now) c) (state S.Store tx.new.conn.now)) }
+    ensures never { IfErr result (λ e. e ≢ Damaged) }
+{
+    match insert_meta(tx, meta) {
+        Ok(()) => Ok(()),
+        Err(Fault::Memory) => Err(Fault::Memory),
+        Err(_) => Err(Fault::Disk),
+    }
+}
+
+/// All tables and indexes, and the first row.
+fn create_all<S: Alter>(tx: &mut Transaction<'_, S>, meta: &MetaRow) -> Result<(), Fault>
+    ensures same_reference { tx.new.conn.ghost_name ≡ tx.old.conn.ghost_name }
+    ensures clean { HasCleanDisk (state S.Store tx.new.conn.now) → HasCleanDisk (state S.Store tx.old.conn.now) }
+    ensures kept { HasCleanDisk (state S.Store tx.new.conn.now) → IsTrue (state S.Store tx.old.conn.now).in_transaction → KeepsCommit (state S.Store tx.old.conn.now) (state S.Store tx.new.conn.now) }
+    ensures inside { HasCleanDisk (state S.Store tx.new.conn.now) → OnOk result (IsTrue (state S.Store tx.old.conn.now).in_transaction → IsTrue (state S.Store tx.new.conn.now).in_transaction) }
+    ensures done { HasCleanDisk (state S.Store tx.new.conn.now) → OnOk result ((state S.Store tx.old.conn.now).now.schema ≡ no_schema → Holds (new_content meta.now) (state S.Store tx.new.conn.now)) }
+    ensures never { IfErr result (λ e. e ≢ Damaged) }
+{
+    create_first(tx)?;
+    create_second(tx)?;
+    create_indexes(tx)?;
+    add_meta(tx, meta)
+}
+
+/// Makes the tables of a book without jobs in a store without any, in one transaction.
+pub(crate) fn make_tables<S: Alter>(conn: &mut Connection<S>, meta: &MetaRow) -> Result<(), Fault>
+    ensures clean { HasCleanDisk (state S.Store conn.new) → HasCleanDisk (state S.Store conn.old) }
+    ensures made { HasCleanDisk (state S.Store conn.new) → OnOk result ((state S.Store conn.old).now.schema ≡ no_schema → Holds (new_content meta.now) (state S.Store conn.new)) }
+    ensures refused { HasCleanDisk (state S.Store conn.new) → OnErr result (IsTrue (state S.Store conn.new).is_open → (state S.Store conn.new).now ≡ (state S.Store conn.old).now) }
+    ensures never { IfErr result (λ e. e ≢ Damaged) }
+{
+    if !conn.is_autocommit() {
+        return Err(Fault::Disk);
+    }
+    let mut tx = conn.transaction();
+    create_all(&mut tx, meta)?;
+    match tx.commit() {
+        Ok(()) => Ok(()),
+        Err(e) => Err(Fault::from(e)),
+    }
+}

@@ -1,0 +1,10 @@
+//! The book that is kept in the tables of a store.
+#![tactic(auto)]
+
+mod adopt;
+mod book;
+mod create;
+mod open;
+mod queue_book;
+
+pub use book::TableBook;
