@@ -7,6 +7,12 @@ use Rattle.office.proofs.account_file.import_file.Goals as goal
 
 pub returns-clause-taken : goal.returns-clause-taken
 returns-clause-taken g c = λ honest. then c.tell.result c.tell.ensures.told (λ told w stands.
-    let a = c.in_ok-n.ensures.added honest w stands in
-    (c.in_ok-bytes.bytes.items, c.in_ok-bytes.ensures.bytes, c.in_ok-n.n, (step w c.args.now (grant a.0)).world,
-    (a.0, ap rows_of (sym c.as_slice.ensures.value) ∙ a.1, a.2, refl), a.3, told))
+    let a = c.in_ok-n.ensures.added honest w stands in (
+      c.in_ok-bytes.bytes.items,
+      c.in_ok-bytes.ensures.bytes,
+      c.in_ok-n.n,
+      (step w c.args.now (grant a.0)).world,
+      (a.0, ap rows_of (sym c.as_slice.ensures.value) ∙ a.1, a.2, refl),
+      a.3,
+      told,
+    ))
