@@ -93,12 +93,13 @@ fn tell_difference<E: Write>(
     complaints: &mut E,
 ) -> Result<(), Fault> {
     let (wanted, other) = first_difference(case.wanted, came).unwrap_or((case.wanted, came));
+    write_parts(
+        complaints,
+        &[b"differs over ".as_slice(), book.name(), b":"],
+    )?;
     let parts = [
-        b"differs over ".as_slice(),
-        book.name(),
-        b":",
         case.name,
-        b"\nwanted: ",
+        b"\nwanted: ".as_slice(),
         wanted,
         b"\ncame:   ",
         other,
