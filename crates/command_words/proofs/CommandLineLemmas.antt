@@ -1,12 +1,12 @@
 -- What a parse by the program's definition gives.
-use Rattle.std.proofs.Common.{◌≡◌, Bool, true, false, List, Some, None, Option, refl, sym, ap, subst, ◌∙◌, cond, inl, inr}
-use Rattle.std.specs.Prelude.{codes, option_map, Box}
+use Rattle.std.proofs.Common.{◌≡◌, ◌⊎◌, Bool, true, false, List, Some, None, Option, [], ◌∷◌, refl, sym, ap, subst, ◌∙◌, cond, inl, inr}
+use Rattle.std.specs.Prelude.{codes, find, option_map, Box}
 use Rattle.clap.specs.Built.{IsParsedFrom}
 use Rattle.clap.specs.Faults.{fault_of, is_simple_and_free}
 use Rattle.clap.specs.Kinds.{HasKind, Kinds}
 use Rattle.clap.specs.Matches.{found_of, has_subcommand, subcommand_name_of}
-use Rattle.clap.specs.Simple.{App, HasMatchesOf, Shape, argument_words, built, entered, is_simple, names_of, rows_at, subcommand_of, subcommand_rows, subcommand_rows_of}
-use Rattle.clap.specs.Walk.{Row, Text, rows_of, stop_after}
+use Rattle.clap.specs.Simple.{App, HasMatchesOf, Shape, argument_words, built, entered, is_simple, names_of, rows_at, subcommand_of, label_of, subcommand_rows, subcommand_rows_of}
+use Rattle.clap.specs.Walk.{Row, Text, answers_to, rows_of, stop_after}
 use Rattle.clap.specs.declared.builder.command.Command.{Command as Definition}
 use Rattle.clap.specs.declared.error.Error.{Error}
 use Rattle.clap.specs.declared.parser.matches.ArgMatches.{ArgMatches}
@@ -42,6 +42,9 @@ refused_words a words error own is kinds from =
     refused (fault_of definition words) error own
     (subst (λ (a : App). HasKind (fault_of a words) error) is (kinds (ap is_simple_and_free is ∙ definition_is_free))) from
 
+pub taken_words : (a : App) (words : List Text) → a ≡ definition → (is_simple_and_free a ≡ true → fault_of a words ≡ []) → fault_of definition words ≡ []
+taken_words a words is taken = subst (λ (z : App). fault_of z words ≡ []) is (taken (ap is_simple_and_free is ∙ definition_is_free))
+
 pub met_by_definition : (a : App) (words : List Text) (m : ArgMatches) → a ≡ definition → HasMatchesOf a words m
     → subcommand_rows_of m ≡ subcommand_of definition words
 met_by_definition a words m is matches =
@@ -53,18 +56,29 @@ meets_subcommand c m d p =
     let parsed = p.parsed (p.from.globals ∙ d.globals) in
     parsed.checked.subcommand (p.from.needs_subcommand ∙ d.required)
 
--- a look-up in a list of one
-name_found : (b : Bool) (s : Shape) (words : List Text) (met : Text × List Row)
-    → option_map (λ s. rows_at s words) (cond b (Some s) None) ≡ Some met → met.0 ≡ s.name
-name_found true s words met h =
+-- the name is one of theirs
+abbrev IsNameIn : List Shape → Text → Type 0
+IsNameIn [] name = ⊥
+IsNameIn (s ∷ rest) name = (name ≡ s.name) ⊎ IsNameIn rest name
+
+step_named : (b : Bool) (s : Shape) (rest : List Shape) (found : Option Shape) (words : List Text) (met : Text × List Row)
+    → (option_map (λ s. rows_at s words) found ≡ Some met → IsNameIn rest met.0)
+    → option_map (λ s. rows_at s words) (cond b (Some s) found) ≡ Some met → (met.0 ≡ s.name) ⊎ IsNameIn rest met.0
+step_named true s rest found words met later h =
     let is : rows_at s words ≡ met = cc h in
-    ap (λ (found : Text × List Row). found.0) (sym is)
-name_found false s words met h = cc h
+    inl (ap (λ (found : Text × List Row). found.0) (sym is))
+step_named false s rest found words met later h = inr (later h)
+
+-- what a look-up finds has the name of an element
+found_named : (test : Shape → Bool) (subs : List Shape) (words : List Text) (met : Text × List Row)
+    → option_map (λ s. rows_at s words) (find test subs) ≡ Some met → IsNameIn subs met.0
+found_named test [] words met h = cc h
+found_named test (s ∷ rest) words met h = step_named (test s) s rest (find test rest) words met (found_named test rest words met) h
 
 entered_name : (stop : Option (Text × List Text)) (met : Text × List Row) → entered (built definition) stop ≡ Some met
-    → met.0 ≡ codes "replay"
+    → IsNameIn definition.subs met.0
 entered_name None met h = cc h
-entered_name (Some stop) met h = name_found _ _ stop.1 met h
+entered_name (Some stop) met h = found_named (λ s. answers_to stop.0 (label_of s)) (built definition).subs stop.1 met h
 
 -- what a subcommand's matches say of its name
 rows_named : {Z : Type 0} (met : Option (Box SubCommand Z)) (target : Option (Text × List Row)) (name : Text)
@@ -80,8 +94,10 @@ rows_named (Some met) target name is named =
 abbrev stop : List Text → Option (Text × List Text)
 stop words = stop_after (built definition).top.rules (names_of (built definition)) (argument_words definition words)
 
-pub only_replay : (m : ArgMatches) (words : List Text) (name : Text) → subcommand_rows_of m ≡ subcommand_of definition words
-    → subcommand_name_of m ≡ Some name → name ≡ codes "replay"
-only_replay m words name rows named =
+-- the subcommand is one of the definition's
+pub one_of_five : (m : ArgMatches) (words : List Text) (name : Text) → subcommand_rows_of m ≡ subcommand_of definition words
+    → subcommand_name_of m ≡ Some name
+    → (name ≡ codes "init") ⊎ ((name ≡ codes "import") ⊎ ((name ≡ codes "statement") ⊎ ((name ≡ codes "serve") ⊎ ((name ≡ codes "replay") ⊎ ⊥))))
+one_of_five m words name rows named =
     let met = rows_named (out-ArgMatches m).subcommand _ name rows named in
     entered_name (stop words) (name, met.0) met.1

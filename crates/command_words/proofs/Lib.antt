@@ -1,1 +1,3 @@
 pub mod CommandLineLemmas
+pub mod DefinitionLemmas
+pub mod ValueLemmas

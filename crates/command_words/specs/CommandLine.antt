@@ -1,17 +1,63 @@
--- The program's command line, as `clap` sees it, and what its subcommands stand for.
-use Rattle.std.specs.Prelude.{◌≡◌, ◌≢◌, true, false, codes, List}
+-- The program's command line, as `clap` sees it.
+use Rattle.std.specs.Prelude.{◌≡◌, ◌≢◌, ℕ, true, false, codes, List, [], ◌∷◌, Some}
 use Rattle.clap.specs.Kinds.{IsAmong, Kinds}
-use Rattle.clap.specs.Simple.{App, Shape, app_of, new_app, new_shape, with_subcommand}
+use Rattle.clap.specs.Simple.{App, Shape, app_of, new_rule, new_shape}
 use Rattle.clap.specs.Values.{kind_of}
-use Rattle.clap.specs.Walk.{Row, Text}
+use Rattle.clap.specs.Walk.{Rule, Text}
+use Rattle.clap.specs.declared.builder.action.ArgAction.TheVariants.{Set}
+use Rattle.clap.specs.declared.builder.value_parser.ValueParser.TheVariants.{Unsigned}
 use Rattle.clap.specs.declared.builder.command.Command.{Command as Definition}
 use Rattle.clap.specs.declared.builder.command.Command.TheViews.{out-Command}
 use Rattle.clap.specs.declared.error.Error.{Error}
 use Rattle.clap.specs.declared.error.kind.ErrorKind.TheVariants as kind
-use Rattle.command_words.specs.declared.outcome.Command.{Command}
-use Rattle.command_words.specs.declared.outcome.Command.TheVariants.{Replay}
 use Rattle.command_words.specs.declared.outcome.CommandFault.{CommandFault}
 use Rattle.command_words.specs.declared.outcome.CommandFault.TheVariants as fault
+
+-- ---- arguments
+
+-- a word with no name, that has to be there
+abbrev pub place_rule : Text → Rule
+place_rule name = record (new_rule name) { value_names = 1; action = Some Set; required = true }
+
+-- an option `--name` with a text, that has to be there
+abbrev pub text_rule : Text → Rule
+text_rule name = record (place_rule name) { long = Some name }
+
+-- one with a number from `least` to `most`
+abbrev pub number_rule : Text → ℕ → ℕ → Rule
+number_rule name least most = record (text_rule name) { parser = Some (Unsigned least most) }
+
+-- one that may be left out, and then has the usual value
+abbrev pub optional_rule : Text → ℕ → ℕ → Text → Rule
+optional_rule name least most usual = record (number_rule name least most) { required = false; defaults = usual ∷ [] }
+
+-- ---- subcommands
+
+abbrev pub words : Text → List Rule → Shape
+words name rules = record (new_shape name) { rules = rules }
+
+abbrev pub store_rule : Rule
+store_rule = text_rule (codes "store")
+
+abbrev pub init_words : Shape
+init_words = words (codes "init")
+    (store_rule ∷ text_rule (codes "uri") ∷ text_rule (codes "name") ∷ optional_rule (codes "estimate") 0 100000 (codes "20") ∷ [])
+
+abbrev pub import_words : Shape
+import_words = words (codes "import") (store_rule ∷ place_rule (codes "file") ∷ [])
+
+abbrev pub statement_words : Shape
+statement_words = words (codes "statement") (store_rule ∷ place_rule (codes "account") ∷ [])
+
+abbrev pub serve_words : Shape
+serve_words = words (codes "serve")
+    (store_rule ∷ number_rule (codes "port") 1 65535 ∷ number_rule (codes "connections") 1 4294967295
+    ∷ optional_rule (codes "timeout") 1 3600 (codes "5") ∷ [])
+
+abbrev pub replay_words : Shape
+replay_words = words (codes "replay") []
+
+-- ---- the program
 
 -- the program by itself: it wants a subcommand, and without a word it says which there are
 abbrev pub program : Shape
@@ -23,11 +69,23 @@ program = record (new_shape (codes "printd")) {
 
 -- the program and its subcommands
 abbrev pub definition : App
-definition = with_subcommand (record (new_app (codes "printd")) { top = program }) (new_shape (codes "replay"))
+definition = record {
+  top = record program { is_leaf = false };
+  subs = init_words ∷ import_words ∷ statement_words ∷ serve_words ∷ replay_words ∷ [];
+}
 
--- the command is what a subcommand's name and the values of its arguments stand for
-abbrev pub IsCommand : Command → Text × List Row → Type 0
-IsCommand Replay met = met.0 ≡ codes "replay"
+-- `clap` has this subcommand
+pub record IsPart (s : Shape) (c : Definition) : Type 0 where
+  pub app : app_of c ≡ record { top = s; subs = [] }
+  pub globals : (out-Command c).has_globals ≡ false
+
+-- `clap` has the definition
+pub record IsDefined (c : Definition) : Type 0 where
+  pub app : app_of c ≡ definition
+  pub globals : (out-Command c).has_globals ≡ false
+  pub required : (out-Command c).subcommand_required ≡ true
+
+-- ---- faults
 
 -- what becomes of an error of `clap`
 abbrev pub IsFaultOf : Error → CommandFault → Type 0
@@ -38,9 +96,3 @@ IsFaultOf error (fault.Words own) = (own ≡ error) × (kind_of error ≢ kind.O
 abbrev pub IsWordsFault : Kinds → CommandFault → Type 0
 IsWordsFault kinds fault.Memory = Unit {0}
 IsWordsFault kinds (fault.Words error) = IsAmong (kind_of error) kinds
-
--- `clap` has the definition
-pub record IsDefined (c : Definition) : Type 0 where
-  pub app : app_of c ≡ definition
-  pub globals : (out-Command c).has_globals ≡ false
-  pub required : (out-Command c).subcommand_required ≡ true

@@ -2,7 +2,9 @@
 #![tactic(auto)]
 
 mod command_line;
+mod definition;
 mod outcome;
+mod values;
 
 pub use command_line::command;
-pub use outcome::{Command, CommandFault};
+pub use outcome::{Command, CommandFault, Import, Init, Serve, Statement};

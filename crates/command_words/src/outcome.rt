@@ -8,9 +8,61 @@ use clap::Error;
 use clap::error::ErrorKind;
 use std::alloc::AllocError;
 
+/// A new store, and the printer's settings in it. Whether they are within their limits is not said yet.
+#[derive(Debug, Clone, Copy, PartialEq, Eq)]
+pub struct Init<'a> {
+    /// The path of the file that keeps the queue.
+    pub store: &'a str,
+    /// The printer's URI.
+    pub uri: &'a str,
+    /// The printer's name.
+    pub name: &'a str,
+    /// The impressions of a job that does not say them, 0 to 100,000 pages.
+    pub estimate: u32,
+}
+
+/// Connections that are to be served.
+#[derive(Debug, Clone, Copy, PartialEq, Eq)]
+pub struct Serve<'a> {
+    /// The path of the store.
+    pub store: &'a str,
+    /// The port of the loopback interface, 1 to 65,535.
+    pub port: u16,
+    /// How many connections are served before the program ends, 1 to 4,294,967,295.
+    pub connections: u32,
+    /// How many seconds a read or a write of a connection may wait, 1 to 3,600.
+    pub timeout: u32,
+}
+
+/// An account file that is to be taken.
+#[derive(Debug, Clone, Copy, PartialEq, Eq)]
+pub struct Import<'a> {
+    /// The path of the store.
+    pub store: &'a str,
+    /// The path of the file.
+    pub file: &'a str,
+}
+
+/// An account whose statement is to be printed.
+#[derive(Debug, Clone, Copy, PartialEq, Eq)]
+pub struct Statement<'a> {
+    /// The path of the store.
+    pub store: &'a str,
+    /// The account's name.
+    pub account: &'a str,
+}
+
 /// What the program is to do.
 #[derive(Debug, Clone, Copy, PartialEq, Eq)]
-pub enum Command {
+pub enum Command<'a> {
+    /// Make a new store.
+    Init(Init<'a>),
+    /// Take an account file.
+    Import(Import<'a>),
+    /// Print an account's statement.
+    Statement(Statement<'a>),
+    /// Serve connections.
+    Serve(Serve<'a>),
     /// Answer the requests on standard input, line by line.
     Replay,
 }

@@ -1,0 +1,18 @@
+-- The texts that tell of a refusal.
+use Rattle.std.specs.Prelude.{ℕ, List, ◌++◌, codes}
+use Rattle.std.specs.Fmt.{decimal}
+use Rattle.command_ends.specs.declared.fault.Fault.{Fault}
+use Rattle.command_ends.specs.declared.fault.Fault.TheVariants.{Memory, Disk, Damaged, NoAccount, Import, BadSetting, Io}
+
+abbrev pub fault_text : Fault → List ℕ
+fault_text Memory = codes "memory"
+fault_text Disk = codes "disk"
+fault_text Damaged = codes "damaged"
+fault_text NoAccount = codes "no account"
+fault_text (Import code row) = codes "import fault " ++ decimal code ++ codes " at row " ++ decimal row
+fault_text BadSetting = codes "bad setting"
+fault_text Io = codes "io"
+
+-- the one line of a refusal
+abbrev pub refusal_line : Fault → List ℕ
+refusal_line fault = codes "printd: " ++ fault_text fault ++ codes "\n"

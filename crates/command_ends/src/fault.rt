@@ -1,0 +1,130 @@
+//! Why a command is refused.
+ghost use Rattle.std.specs.Prelude.{◌≡◌};
+ghost use Rattle.command_ends.specs.declared.fault.Fault.TheVariants as faults;
+ghost use Rattle.command_ends.specs.Faults.{fault_of_book, fault_of_office, fault_of_setting};
+
+use office::OfficeFault;
+use queue_core::book::BookFault;
+use queue_core::settings::SettingFault;
+use std::alloc::{AllocError, AllocFailed};
+use std::{error, fmt, io};
+
+/// Why a command is refused.
+#[derive(Debug, Clone, Copy, PartialEq, Eq)]
+pub enum Fault {
+    /// There was no memory.
+    Memory,
+    /// The disk, or its size, refused, or the store is not there or in use.
+    Disk,
+    /// The store does not stand for a queue, or one is there already.
+    Damaged,
+    /// Nothing was ever granted to the account.
+    NoAccount,
+    /// The account file was refused, by its number, 1 to 6, for that row, 0 for the file.
+    Import { code: u8, row: u32 },
+    /// A setting of the printer is not within its limits.
+    BadSetting,
+    /// A port, a file or a standard stream can't be opened, read or written.
+    Io,
+}
+
+/// Its text in the line that tells it.
+impl fmt::Display for Fault {
+    ghost use Rattle.std.specs.Prelude.{Some};
+    ghost use Rattle.command_ends.specs.Texts.{fault_text};
+
+    ghost output = { λ fault. Some (fault_text fault) };
+
+    fn fmt<W: fmt::Write>(&self, f: &mut fmt::Formatter<W>) -> fmt::Result {
+        match *self {
+            Fault::Memory => f.write_str("memory"),
+            Fault::Disk => f.write_str("disk"),
+            Fault::Damaged => f.write_str("damaged"),
+            Fault::NoAccount => f.write_str("no account"),
+            Fault::Import { code, row } => write!(f, "import fault {code} at row {row}"),
+            Fault::BadSetting => f.write_str("bad setting"),
+            Fault::Io => f.write_str("io"),
+        }
+    }
+}
+
+impl error::Error for Fault {}
+
+impl From<AllocError> for Fault {
+    ghost from_gives = { λ _ fault. fault ≡ faults.Memory };
+
+    fn from(_error: AllocError) -> Fault {
+        Fault::Memory
+    }
+}
+
+impl<T: Drop> From<AllocFailed<T>> for Fault {
+    ghost from_gives = { λ _ fault. fault ≡ faults.Memory };
+
+    fn from(_error: AllocFailed<T>) -> Fault {
+        Fault::Memory
+    }
+}
+
+impl From<BookFault> for Fault {
+    ghost from_gives = { λ told fault. fault ≡ fault_of_book told };
+
+    fn from(told: BookFault) -> Fault {
+        match told {
+            BookFault::Memory => Fault::Memory,
+            BookFault::Disk => Fault::Disk,
+            BookFault::Damaged => Fault::Damaged,
+        }
+    }
+}
+
+impl From<SettingFault> for Fault {
+    ghost from_gives = { λ told fault. fault ≡ fault_of_setting told };
+
+    fn from(told: SettingFault) -> Fault {
+        match told {
+            SettingFault::Bad => Fault::BadSetting,
+            SettingFault::Memory => Fault::Memory,
+        }
+    }
+}
+
+impl From<OfficeFault> for Fault {
+    ghost from_gives = { λ told fault. fault ≡ fault_of_office told };
+
+    fn from(told: OfficeFault) -> Fault {
+        match told {
+            OfficeFault::Memory => Fault::Memory,
+            OfficeFault::Disk => Fault::Disk,
+            OfficeFault::Damaged => Fault::Damaged,
+            OfficeFault::NoAccount => Fault::NoAccount,
+            OfficeFault::Import { code, row } => Fault::Import { code, row },
+            OfficeFault::Io => Fault::Io,
+        }
+    }
+}
+
+impl From<replay::Fault> for Fault {
+    fn from(told: replay::Fault) -> Fault {
+        match told {
+            replay::Fault::Memory => Fault::Memory,
+            replay::Fault::Disk => Fault::Disk,
+            replay::Fault::Damaged => Fault::Damaged,
+            replay::Fault::BadSetting => Fault::BadSetting,
+            replay::Fault::Io => Fault::Io,
+        }
+    }
+}
+
+impl From<io::Error> for Fault {
+    ghost use Rattle.command_ends.specs.Faults.{IsOfStream};
+
+    ghost from_gives = { λ _ fault. IsOfStream fault };
+
+    fn from(error: io::Error) -> Fault {
+        match error.kind() {
+            io::ErrorKind::OutOfMemory => Fault::Memory,
+            _ => Fault::Io,
+        }
+    }
+}

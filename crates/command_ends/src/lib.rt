@@ -1,0 +1,8 @@
+//! How a command of the program ends: why it is refused, what is told of it, and its exit status.
+#![tactic(auto)]
+
+mod ending;
+mod fault;
+
+pub use ending::{end, tell, tell_words};
+pub use fault::Fault;

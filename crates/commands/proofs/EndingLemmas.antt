@@ -1,0 +1,36 @@
+-- The exit status of a program whose words are read.
+use Rattle.std.proofs.Common.{◌≡◌, ◌≢◌, ◌≤◌, ℕ, List, Option, Some, None, Result, Ok, Err, IfOk, IfErr, IsSomeAnd, subst, arith}
+use Rattle.clap.specs.Kinds.{IsAmong, Kinds}
+use Rattle.clap.specs.Walk.{Row, Text}
+use Rattle.clap.specs.declared.error.kind.ErrorKind.{ErrorKind}
+use Rattle.clap.specs.declared.error.kind.ErrorKind.TheVariants.{DisplayHelp, DisplayVersion}
+use Rattle.command_words.specs.Values.{IsCommand}
+use Rattle.command_words.specs.declared.outcome.Command.{Command}
+use Rattle.command_words.specs.declared.outcome.Command.TheVariants.{Init, Import, Statement, Serve, Replay}
+use Rattle.commands.specs.Words.{AreWrong, MayServe}
+
+-- a command that words name may be done
+pub may_serve : (c : Command) (met : Option (Text × List Row)) → IsSomeAnd met (IsCommand c) → MayServe c
+may_serve c None named = absurd named
+may_serve (Init words) (Some met) named = tt
+may_serve (Import words) (Some met) named = tt
+may_serve (Statement words) (Some met) named = tt
+may_serve (Serve words) (Some met) named = named.1.timeout_fits.0
+may_serve Replay (Some met) named = tt
+
+-- a fault of wrong words asks for no text
+pub asks_nothing : (faults : Kinds) (kind : ErrorKind) → IsAmong kind faults → AreWrong faults → (kind ≢ DisplayHelp) × (kind ≢ DisplayVersion)
+asks_nothing faults kind among wrong =
+    let P : ErrorKind → Type 0 = λ k. IsAmong k faults in
+    ((λ e. wrong.1 (subst P e among)), λ e. wrong.2 (subst P e among))
+
+-- the status of a command is its own, or 1
+pub at_most : {E : Type 0} (X : Type 0) (outcome : Result ℕ E) (status most : ℕ) → IfOk outcome (λ own. (status ≡ own) × X) → IfErr outcome (λ fault. status ≡ 1)
+    → IfOk outcome (λ own. own ≤ most) → 1 ≤ most → status ≤ most
+at_most X (Ok own) status most done refused bound some = let same : status ≡ own = done.0 in let fits : own ≤ most = bound in omega arith
+at_most X (Err fault) status most done refused bound some = let is : status ≡ 1 = refused in omega arith
+
+pub at_least_one : {A B E : Type 0} (X : Type 0) (outcome : Result ℕ E) (status : ℕ) → IfOk outcome (λ own. (status ≡ own) × X) → IfErr outcome (λ fault. status ≡ 1)
+    → IfOk outcome (λ own. A → B → own ≡ 2) → A → B → 1 ≤ status
+at_least_one X (Ok own) status done refused two a b = let same : status ≡ own = done.0 in let is : own ≡ 2 = two a b in omega arith
+at_least_one X (Err fault) status done refused two a b = let is : status ≡ 1 = refused in omega arith

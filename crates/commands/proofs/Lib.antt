@@ -1,0 +1,2 @@
+pub mod EndingLemmas
+pub mod StoreLemmas

@@ -1,0 +1,31 @@
+use Rattle.std.proofs.Common.{◌≤◌, lit≤, arith}
+use Rattle.commands.proofs.EndingLemmas.{asks_nothing, at_least_one, at_most, may_serve}
+use Rattle.commands.proofs.program.run.Goals as goal
+
+pub do_command-done-requires : goal.do_command-done-requires
+do_command-done-requires g c = may_serve c.in-Ok.command _ c.in-Ok.ensures.named
+
+pub returns-in-Ok-clause-named : goal.returns-in-Ok-clause-named
+returns-in-Ok-clause-named g c = λ none. at_most _ c.do_command-done.result c.end.result 1 c.end.ensures.done c.end.ensures.refused c.do_command-done.ensures (lit≤ tt)
+
+pub returns-in-Ok-clause-wrong : goal.returns-in-Ok-clause-wrong
+returns-in-Ok-clause-wrong g c = λ wrong. absurd (wrong.0 c.in-Ok.ensures.taken)
+
+pub returns-in-Ok-clause-status : goal.returns-in-Ok-clause-status
+returns-in-Ok-clause-status g c =
+    let few : c.end.result ≤ 1 = at_most _ c.do_command-done.result c.end.result 1 c.end.ensures.done c.end.ensures.refused c.do_command-done.ensures (lit≤ tt) in omega arith
+
+pub returns-in-Err-Words-clause-named : goal.returns-in-Err-Words-clause-named
+returns-in-Err-Words-clause-named g c = λ none.
+    let among = rw c.in-Err-Words.field-0-is at c.in-Err-Words.ensures.refused in
+    absurd (rw none at among)
+
+pub returns-in-Err-Words-clause-wrong : goal.returns-in-Err-Words-clause-wrong
+returns-in-Err-Words-clause-wrong g c = λ wrong.
+    let among = rw c.in-Err-Words.field-0-is at c.in-Err-Words.ensures.refused in
+    let asks = asks_nothing _ _ among wrong in
+    at_least_one _ c.tell_words-told.result c.end-in-Err-Words.result c.end-in-Err-Words.ensures.done c.end-in-Err-Words.ensures.refused c.tell_words-told.ensures.wrong asks.0 asks.1
+
+pub returns-in-Err-Words-clause-status : goal.returns-in-Err-Words-clause-status
+returns-in-Err-Words-clause-status g c =
+    at_most _ c.tell_words-told.result c.end-in-Err-Words.result 2 c.end-in-Err-Words.ensures.done c.end-in-Err-Words.ensures.refused c.tell_words-told.ensures.status (lit≤ tt)

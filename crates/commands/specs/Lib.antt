@@ -1,0 +1,3 @@
+pub mod Found
+pub mod Store
+pub mod Words

@@ -1,0 +1,60 @@
+//! The program: its words, the command that they name and the exit status.
+ghost use Rattle.std.specs.Prelude.{◌≡◌, ◌≤◌, [], IfOk, map};
+ghost use Rattle.clap.specs.Words.{fault_of};
+ghost use Rattle.command_words.specs.CommandLine.{definition};
+ghost use Rattle.commands.specs.Words.{AreWrong, MayServe};
+
+use crate::office_commands::{import, statement};
+use crate::serving::serve;
+use crate::store::{FileBook, make_store};
+use command_ends::{Fault, end, tell_words};
+use command_words::{Command, CommandFault, command};
+use replay::replay;
+use sqlite_std_file::Unknown;
+use std::io::{Input, Write};
+use std::rt::HostRuntime;
+
+/// Closes the store of a command.
+fn close(done: Result<FileBook<Unknown>, Fault>) -> Result<(), Fault> {
+    let _conn = done?.close();
+    Ok(())
+}
+
+/// Does what a command asks, and gives the exit status.
+fn do_command<O: Write>(rt: &HostRuntime, command: Command<'_>, out: &mut O) -> Result<u8, Fault>
+    requires { MayServe command }
+    ensures { IfOk result (λ status. status ≤ 1) }
+{
+    match command {
+        Command::Init(words) => close(make_store(rt, words, Unknown))?,
+        Command::Import(words) => close(import(rt, words, out, Unknown))?,
+        Command::Statement(words) => close(statement(rt, words, out, Unknown))?,
+        Command::Serve(words) => close(serve(rt, words, out, Unknown))?,
+        Command::Replay => return Ok(replay(rt.alloc(), &mut rt.reader(), out)?),
+    }
+    out.flush()?;
+    Ok(0)
+}
+
+/// Does what the program's words ask, the first of which is its own name, and gives the exit status: 0 where it is done, 1 where it is
+/// refused, 2 where the words name no command.
+///
+/// What a command prints goes to `out`, and so does a help text that was asked for. A refusal is one line on `err`, `printd: FAULT`, and
+/// words that name no command have `clap`'s text there. A replay that ends at a bad line has status 1 and no line on `err`.
+pub fn run<O: Write, E: Write>(rt: &HostRuntime, words: &[&str], out: &mut O, err: &mut E) -> u8
+    ensures named { fault_of definition (map (λ w. w.now) words.now) ≡ [] → result ≤ 1 }
+    ensures wrong { AreWrong (fault_of definition (map (λ w. w.now) words.now)) → 1 ≤ result }
+    ensures status { result ≤ 2 }
+{
+    match command(rt.alloc(), words) {
+        Ok(command) => {
+            let done = do_command(rt, command, out);
+            end(err, done)
+        }
+        Err(CommandFault::Words(error)) => {
+            let told = tell_words(out, err, &error);
+            end(err, told)
+        }
+        Err(CommandFault::Memory) => end(err, Err(Fault::Memory)),
+    }
+}

@@ -1,0 +1,67 @@
+//! Connections over a store.
+ghost use Rattle.std.specs.Prelude.{◌≡◌, ◌≤◌, ◌++◌, ℕ, List, IfOk, OnOk, length};
+ghost use Rattle.std.specs.Io.KnownBytes.{Appends};
+ghost use Rattle.sqlite.specs.Files.{over_files};
+ghost use Rattle.sqlite_wal.specs.Files.{image_at};
+ghost use Rattle.print_server.specs.Connections.{AreConnections};
+ghost use Rattle.print_server.specs.Lines.{listening_line, served_lines};
+ghost use Rattle.queue_core.specs.World.{World};
+ghost use Rattle.queue_store.specs.Kept.{IsHonest, StandsFor};
+ghost use Rattle.queue_store.specs.Opened.{FitsFile};
+ghost use Rattle.commands.specs.Store.{IsKeptIn};
+
+use crate::store::{FileBook, open_store};
+use command_ends::Fault;
+use command_words::Serve;
+use print_server::{listen, serve_connections};
+use queue_store::TableBook;
+use sqlite::Alter;
+use sqlite_std_file::Start;
+use std::io::Write;
+use std::rt::HostRuntime;
+
+/// Listens on the port, and serves connections over a book.
+fn serve_book<S: Alter, W: Write>(
+    rt: &HostRuntime,
+    words: Serve<'_>,
+    output: &mut W,
+    book: &mut TableBook<S>,
+) -> Result<(), Fault>
+    requires { 1 ≤ words.timeout }
+    ensures began { IsHonest S.Store book.new → IsHonest S.Store book.old }
+    ensures served { IsHonest S.Store book.new → OnOk result ((w : World) → StandsFor S.Store book.old w
+        → (u : World) × StandsFor S.Store book.new u × (counts : List ℕ) × AreConnections w counts u × (length counts ≡ words.entry.connections)
+        × Appends (W.contents output.old) (W.contents output.new) (listening_line words.entry.port ++ served_lines counts)) }
+{
+    let settings = book.settings()?;
+    let listener = listen(rt, output, words.port)?;
+    serve_connections(
+        rt.alloc(),
+        rt,
+        &listener,
+        output,
+        book,
+        &settings,
+        words.timeout,
+        words.connections,
+    )?;
+    Ok(())
+}
+
+/// Serves connections over the store.
+pub fn serve<S: Start, W: Write>(
+    rt: &HostRuntime,
+    words: Serve<'_>,
+    output: &mut W,
+    start: S,
+) -> Result<FileBook<S>, Fault>
+    requires { 1 ≤ words.timeout }
+    ensures { FitsFile (image_at S.Start) → IfOk result (λ b. IsHonest over_files b
+        → (w : World) × IsKeptIn (image_at S.Start) w × (u : World) × StandsFor over_files b u
+        × (counts : List ℕ) × AreConnections w counts u × (length counts ≡ words.entry.connections)
+        × Appends (W.contents output.old) (W.contents output.new) (listening_line words.entry.port ++ served_lines counts)) }
+{
+    let mut book = open_store(rt, words.store, start)?;
+    serve_book(rt, words, output, &mut book)?;
+    Ok(book)
+}

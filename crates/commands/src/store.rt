@@ -1,0 +1,160 @@
+//! The store at a path: a new one, or one that is there.
+ghost use Rattle.std.specs.Prelude.{◌≡◌, ◌≢◌, ℤ, IfErr, IfOk};
+ghost use Rattle.std.specs.Option.{IfSome};
+ghost use Rattle.sqlite.specs.Files.{over_files};
+ghost use Rattle.sqlite_wal.specs.Files.{image_at};
+ghost use Rattle.queue_core.specs.Settings.{AreSettings};
+ghost use Rattle.queue_core.specs.World.{World, empty_queue};
+ghost use Rattle.queue_store.specs.Kept.{IsHonest, StandsFor};
+ghost use Rattle.queue_store.specs.Opened.{FitsFile, open_fault};
+ghost use Rattle.command_ends.specs.Faults.{fault_of_book};
+ghost use Rattle.commands.specs.Store.{IsKeptIn, settings_of};
+ghost use Rattle.commands.specs.Found.{found_in};
+ghost use Rattle.command_ends.specs.declared.fault.Fault.TheVariants.{BadSetting};
+
+use command_ends::Fault;
+use command_words::Init;
+use queue_core::settings::Settings;
+use queue_store::TableBook;
+use sqlite::{Connection, Error, ErrorCode};
+use sqlite_std_file::{FileFrom, Start};
+use sqlite_store::FileStore;
+use std::alloc::Global;
+use std::io::{ErrorKind, Read};
+use std::rt::{Clock, HostRuntime};
+use std::{fs, io};
+
+/// A book in the tables of a file. `S` stands for what the file and its log hold as they are opened.
+pub type FileBook<S> = TableBook<FileStore<FileFrom<S>>>;
+
+/// A store at a path, open.
+type FileConnection<S> = Connection<FileStore<FileFrom<S>>>;
+
+// ---- what is at a path
+
+/// What a database file begins with.
+const DATABASE_MARK: &[u8] = b"SQLite format 3\0";
+
+/// What a path has, as far as the first bytes tell.
+#[derive(Debug, Clone, Copy, PartialEq, Eq)]
+pub enum Found {
+    Nothing,
+    EmptyFile,
+    Database,
+    OtherFile,
+}
+
+/// What a file is by its first bytes.
+fn look_at<R: Read + Drop>(alloc: Global, file: R) -> io::Result<Found>
+    ensures { IfOk result (λ found. IfSome (R.remaining file) (λ bytes. found ≡ found_in bytes)) }
+{
+    let mut front = Vec::new(alloc);
+    file.take(16).read_to_end(&mut front)?;
+    if front.as_slice() == DATABASE_MARK {
+        Ok(Found::Database)
+    } else if front.is_empty() {
+        Ok(Found::EmptyFile)
+    } else {
+        Ok(Found::OtherFile)
+    }
+}
+
+/// What is at a path. Nothing is made or written. What is no regular file, as a folder or a pipe, is an error.
+fn look_at_path(rt: &HostRuntime, path: &str) -> io::Result<Found> {
+    match fs::metadata(rt, path) {
+        Ok(about) if about.is_file() => look_at(rt.alloc(), fs::open(rt, path)?),
+        Ok(_) => Err(ErrorKind::Unsupported.into()),
+        Err(error) if error.kind() == ErrorKind::NotFound => Ok(Found::Nothing),
+        Err(error) => Err(error),
+    }
+}
+
+/// What is at the path of a store, where an error is one of the disk.
+fn found_at(rt: &HostRuntime, path: &str) -> Result<Found, Fault>
+    ensures { IfErr result (λ f. f ≢ BadSetting) }
+{
+    match look_at_path(rt, path) {
+        Ok(found) => Ok(found),
+        Err(error) if error.kind() == ErrorKind::OutOfMemory => Err(Fault::Memory),
+        Err(_) => Err(Fault::Disk),
+    }
+}
+
+// ---- a new store
+
+/// The present second since 1970.
+fn present_second<C: Clock>(clock: &C) -> io::Result<i64> {
+    let second = clock.since_1970()?.as_secs();
+    Ok(i64::try_from(second).unwrap_or(i64::MAX))
+}
+
+/// The settings of a new store, whose epoch is the present second.
+fn new_settings<C: Clock>(alloc: Global, clock: &C, words: Init<'_>) -> Result<Settings, Fault>
+    ensures ok { IfOk result (λ s. (epoch : ℤ) × (s ≡ settings_of words.entry epoch)) }
+    ensures bad { IfErr result (λ f. f ≡ BadSetting → (epoch : ℤ) → ¬ AreSettings (settings_of words.entry epoch)) }
+{
+    let epoch = present_second(clock)?;
+    let settings = Settings::new(alloc, words.uri, words.name, words.estimate, epoch)?;
+    Ok(settings)
+}
+
+/// Files that were not opened.
+fn fault_of_open(error: Error) -> Fault
+    ensures { result ≡ fault_of_book (open_fault error) }
+{
+    match error {
+        Error::SqliteFailure(ErrorCode::OutOfMemory) => Fault::Memory,
+        Error::SqliteFailure(ErrorCode::NotADatabase) => Fault::Damaged,
+        Error::SqliteFailure(ErrorCode::DatabaseCorrupt) => Fault::Damaged,
+        _ => Fault::Disk,
+    }
+}
+
+/// Opens the files of a new store, and makes them where they are missing.
+fn open_new<S: Start>(rt: &HostRuntime, path: &str, start: S) -> Result<FileConnection<S>, Fault>
+    ensures { IfErr result (λ f. f ≢ BadSetting) }
+{
+    match found_at(rt, path)? {
+        Found::Nothing | Found::EmptyFile | Found::Database => {}
+        Found::OtherFile => return Err(Fault::Damaged),
+    }
+    match Connection::open_from(rt, path, false, start) {
+        Ok(conn) => Ok(conn),
+        Err((error, _left)) => Err(fault_of_open(error)),
+    }
+}
+
+/// Makes a store with these settings, whose epoch is the present second: it stands for the empty queue. A setting that is not within its limits
+/// makes no file. Damaged is told where a store or another file is there.
+pub fn make_store<S: Start>(
+    rt: &HostRuntime,
+    words: Init<'_>,
+    start: S,
+) -> Result<FileBook<S>, Fault>
+    ensures made { IfOk result (λ b. (epoch : ℤ) × StandsFor over_files b (empty_queue (settings_of words.entry epoch))) }
+    ensures bad { IfErr result (λ f. f ≡ BadSetting → (epoch : ℤ) → ¬ AreSettings (settings_of words.entry epoch)) }
+{
+    let settings = new_settings(rt.alloc(), rt, words)?;
+    let conn = open_new(rt, words.store, start)?;
+    match TableBook::create(rt.alloc(), conn, settings) {
+        Ok(book) => Ok(book),
+        Err((fault, _conn)) => Err(Fault::from(fault)),
+    }
+}
+
+// ---- a store that is there
+
+/// Opens the store that is at a path, and makes none where there is none. Where its tables are those of a store, it stands for the queue that the
+/// files keep. Disk is told where there is no file, or it can't be opened or is in use; Damaged where it is no database, or keeps no queue.
+pub fn open_store<S: Start>(rt: &HostRuntime, path: &str, start: S) -> Result<FileBook<S>, Fault>
+    ensures { FitsFile (image_at S.Start) → IfOk result (λ b. IsHonest over_files b
+        → (w : World) × IsKeptIn (image_at S.Start) w × StandsFor over_files b w) }
+{
+    match found_at(rt, path)? {
+        Found::Database => {}
+        Found::Nothing => return Err(Fault::Disk),
+        Found::EmptyFile | Found::OtherFile => return Err(Fault::Damaged),
+    }
+    let book = TableBook::open_from(rt, path, start)?;
+    Ok(book)
+}
