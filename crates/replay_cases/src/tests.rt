@@ -1,14 +1,5 @@
 //! Streams that fail, text of bytes, and cases that are not answered as they are to be.
 
-mod accounts;
-mod bad_rows;
-mod desk;
-mod device;
-mod files;
-mod great_files;
-mod great_numbers;
-mod job_numbers;
-mod request;
 mod wire_bytes;
 mod words;
 

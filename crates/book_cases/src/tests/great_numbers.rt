@@ -6,6 +6,7 @@ use queue_core::job::{Job, JobList, Phase};
 use queue_core::sheet::AccountSheet;
 use queue_core::text::Text;
 use std::alloc::Global;
+use std::slice;
 use std::test::Fail;
 
 /// A job of this number in this phase, of which so many pages are printed.
@@ -34,29 +35,30 @@ fn job_of(alloc: Global, number: u32, phase: Phase, count: u32) -> Result<Job, F
 #[test]
 fn a_queue_of_great_numbers(rt: HostRuntime) -> Result<(), Fail> {
     let job = job_of(rt.alloc(), 2_147_483_647, Phase::Waiting, 0)?;
-    let text = queue_text(rt.alloc(), &[job])?;
+    let text = queue_text(rt.alloc(), slice::from_ref(&job))?;
     assert_eq!(rt; text.as_str(), "2147483647 999 16 268435456\n");
     Ok(())
 }
 
-/// Two jobs of great numbers.
-fn wide_jobs(alloc: Global) -> Result<JobList, Fail> {
-    let mut jobs = Vec::new(alloc);
+/// Adds two jobs of great numbers.
+fn put_wide_jobs(alloc: Global, jobs: &mut Vec<Job>) -> Result<(), Fail> {
     jobs.push(job_of(alloc, 2_147_483_647, Phase::Waiting, 0)?)?;
     jobs.push(job_of(alloc, 7, Phase::Aborted, 100_000_000)?)?;
-    Ok(JobList::from_jobs(jobs))
+    Ok(())
 }
 
 /// An account of great numbers, with those jobs.
 fn wide_sheet(alloc: Global) -> Result<AccountSheet, Fail> {
-    let jobs = wide_jobs(alloc)?;
+    let account = Text::copy_of(alloc, "J\u{fc}rg")?;
+    let mut jobs = Vec::new(alloc);
+    put_wide_jobs(alloc, &mut jobs)?;
     Ok(AccountSheet {
-        account: Text::copy_of(alloc, "J\u{fc}rg")?,
+        account,
         granted: 1_000_000_000,
         free: -2_000_000_000_000_000,
         reserved: 99_900_000,
         printed: 100_000_000,
-        jobs,
+        jobs: JobList::from_jobs(jobs),
     })
 }
 

@@ -1,12 +1,12 @@
 //! Pages that enter accounts, and statements of accounts.
 
-use crate::tests::desk::Step::{Ask, Dev, Grant, Look, NoSheet, Sheet, Statement};
-use crate::tests::desk::{Step, take_rows};
-use crate::tests::request::Request::{Cancel, Hold, Print, Release};
-use std::test::Fail;
+use book_desk::Request::{Cancel, Hold, Print, Release};
+use book_desk::Step::{Ask, Dev, Grant, Look, NoSheet, Sheet, Statement};
+use book_desk::{RowFault, Step};
+use book_shelves::TestBooks;
 
 #[test]
-fn pages_of_waiting_jobs(rt: HostRuntime) -> Result<(), Fail> {
+fn pages_of_waiting_jobs(rt: HostRuntime) -> Result<(), RowFault> {
     const ROWS: &[&[Step<'static>]] = &[
         // more pages, and the same again
         &[
@@ -51,11 +51,11 @@ fn pages_of_waiting_jobs(rt: HostRuntime) -> Result<(), Fail> {
             Sheet("bob", (20, 0, 20, 0)),
         ],
     ];
-    take_rows(&rt, rt.alloc(), &[], ROWS)
+    TestBooks::new(&rt, "pages_of_waiting_jobs").take_rows(&[], ROWS)
 }
 
 #[test]
-fn statements_of_a_job_that_prints(rt: HostRuntime) -> Result<(), Fail> {
+fn statements_of_a_job_that_prints(rt: HostRuntime) -> Result<(), RowFault> {
     const ROWS: &[&[Step<'static>]] = &[&[
         Grant(b"f24,alice,30\n", Ok((1, 0))),
         Statement(
@@ -97,5 +97,5 @@ fn statements_of_a_job_that_prints(rt: HostRuntime) -> Result<(), Fail> {
                 \x20    total               0        25\n",
         ),
     ]];
-    take_rows(&rt, rt.alloc(), &[], ROWS)
+    TestBooks::new(&rt, "statements_of_a_job_that_prints").take_rows(&[], ROWS)
 }

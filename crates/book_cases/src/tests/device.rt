@@ -1,18 +1,9 @@
 //! What the device reports, what its reports do to accounts, and what it may fetch.
 
-use crate::tests::desk::Step::{Ask, Dev, Document, Grant, Look, Queue, Sheet, Statement};
-use crate::tests::desk::{Desk, Step, take_rows};
-use crate::tests::request::Request;
-use crate::tests::request::Request::{
-    Cancel, CancelMine, Create, Hold, Print, PrintSized, Release, Send,
-};
-use queue_core::book::{SendCause, SendFault};
-use queue_core::document::{DocumentHead, Format};
-use std::alloc::Global;
-use std::io;
-use std::io::Write;
-use std::process::Abort;
-use std::test::Fail;
+use book_desk::Request::{Cancel, CancelMine, Create, Hold, Print, PrintSized, Release, Send};
+use book_desk::Step::{Ask, Dev, Document, Grant, Look, Queue, Sheet, Statement};
+use book_desk::{Request, RowFault, Step};
+use book_shelves::TestBooks;
 
 /// Job 1 of alice, who has 30 pages, is released, and the device begins it.
 const RUNNING: &[Step<'static>] = &[
@@ -26,7 +17,7 @@ const RUNNING: &[Step<'static>] = &[
 ];
 
 #[test]
-fn counts_and_an_end_past_what_was_reserved(rt: HostRuntime) -> Result<(), Fail> {
+fn counts_and_an_end_past_what_was_reserved(rt: HostRuntime) -> Result<(), RowFault> {
     const ROWS: &[&[Step<'static>]] = &[&[
         Grant(b"f24,alice,30\n", Ok((1, 0))),
         Ask("alice", Print, 0x0000),
@@ -52,11 +43,11 @@ fn counts_and_an_end_past_what_was_reserved(rt: HostRuntime) -> Result<(), Fail>
         Sheet("alice", (30, 5, 0, 25)),
         Look("alice", 1, 9, &["job-completed-successfully"]),
     ]];
-    take_rows(&rt, rt.alloc(), &[], ROWS)
+    TestBooks::new(&rt, "counts_and_an_end_past_what_was_reserved").take_rows(&[], ROWS)
 }
 
 #[test]
-fn an_account_below_zero(rt: HostRuntime) -> Result<(), Fail> {
+fn an_account_below_zero(rt: HostRuntime) -> Result<(), RowFault> {
     const ROWS: &[&[Step<'static>]] = &[
         &[
             Dev("1 2 done 45", "ok 1 9 45"),
@@ -87,11 +78,11 @@ fn an_account_below_zero(rt: HostRuntime) -> Result<(), Fail> {
             Sheet("alice", (30, -99_999_970, 0, 100_000_000)),
         ],
     ];
-    take_rows(&rt, rt.alloc(), RUNNING, ROWS)
+    TestBooks::new(&rt, "an_account_below_zero").take_rows(RUNNING, ROWS)
 }
 
 #[test]
-fn counts_behind_the_end(rt: HostRuntime) -> Result<(), Fail> {
+fn counts_behind_the_end(rt: HostRuntime) -> Result<(), RowFault> {
     const ROWS: &[&[Step<'static>]] = &[&[
         Dev("1 3 done 5", "ok 1 9 5"),
         Sheet("alice", (30, 25, 0, 5)),
@@ -107,11 +98,11 @@ fn counts_behind_the_end(rt: HostRuntime) -> Result<(), Fail> {
         Dev("1 6 count 40", "ok 1 9 40"),
         Sheet("alice", (30, -10, 0, 40)),
     ]];
-    take_rows(&rt, rt.alloc(), RUNNING, ROWS)
+    TestBooks::new(&rt, "counts_behind_the_end").take_rows(RUNNING, ROWS)
 }
 
 #[test]
-fn jobs_that_stop_and_halt(rt: HostRuntime) -> Result<(), Fail> {
+fn jobs_that_stop_and_halt(rt: HostRuntime) -> Result<(), RowFault> {
     const ROWS: &[&[Step<'static>]] = &[
         &[
             Ask("alice", Cancel(1), 0x0000),
@@ -155,11 +146,11 @@ fn jobs_that_stop_and_halt(rt: HostRuntime) -> Result<(), Fail> {
             Sheet("alice", (30, 27, 0, 3)),
         ],
     ];
-    take_rows(&rt, rt.alloc(), RUNNING, ROWS)
+    TestBooks::new(&rt, "jobs_that_stop_and_halt").take_rows(RUNNING, ROWS)
 }
 
 #[test]
-fn jobs_that_end_while_they_stop(rt: HostRuntime) -> Result<(), Fail> {
+fn jobs_that_end_while_they_stop(rt: HostRuntime) -> Result<(), RowFault> {
     const ROWS: &[&[Step<'static>]] = &[
         &[
             Ask("alice", Cancel(1), 0x0000),
@@ -196,11 +187,11 @@ fn jobs_that_end_while_they_stop(rt: HostRuntime) -> Result<(), Fail> {
             Sheet("alice", (30, 24, 0, 6)),
         ],
     ];
-    take_rows(&rt, rt.alloc(), RUNNING, ROWS)
+    TestBooks::new(&rt, "jobs_that_end_while_they_stop").take_rows(RUNNING, ROWS)
 }
 
 #[test]
-fn requests_of_a_running_job(rt: HostRuntime) -> Result<(), Fail> {
+fn requests_of_a_running_job(rt: HostRuntime) -> Result<(), RowFault> {
     const ROWS: &[&[Step<'static>]] = &[
         &[
             Ask("alice", CancelMine(None), 0x0000),
@@ -226,7 +217,7 @@ fn requests_of_a_running_job(rt: HostRuntime) -> Result<(), Fail> {
             Sheet("alice", (30, 10, 20, 0)),
         ],
     ];
-    take_rows(&rt, rt.alloc(), RUNNING, ROWS)
+    TestBooks::new(&rt, "requests_of_a_running_job").take_rows(RUNNING, ROWS)
 }
 
 /// 20 pages of each of three copies.
@@ -256,7 +247,7 @@ const LAST: Request = Send {
 };
 
 #[test]
-fn jobs_that_the_device_may_start(rt: HostRuntime) -> Result<(), Fail> {
+fn jobs_that_the_device_may_start(rt: HostRuntime) -> Result<(), RowFault> {
     const ROWS: &[&[Step<'static>]] = &[&[
         Queue(""),
         Grant(b"f24,alice,200\n", Ok((1, 0))),
@@ -276,7 +267,7 @@ fn jobs_that_the_device_may_start(rt: HostRuntime) -> Result<(), Fail> {
         Ask("alice", Hold(3), 0x0000),
         Queue("4 1 2 7\n"),
     ]];
-    take_rows(&rt, rt.alloc(), &[], ROWS)
+    TestBooks::new(&rt, "jobs_that_the_device_may_start").take_rows(&[], ROWS)
 }
 
 /// That job 1 has no document.
@@ -287,7 +278,7 @@ const NOTHING: Request = Send {
 };
 
 #[test]
-fn a_job_without_documents(rt: HostRuntime) -> Result<(), Fail> {
+fn a_job_without_documents(rt: HostRuntime) -> Result<(), RowFault> {
     const ROWS: &[&[Step<'static>]] = &[&[
         Grant(b"f24,alice,30\n", Ok((1, 0))),
         Ask("alice", Create, 0x0000),
@@ -301,11 +292,11 @@ fn a_job_without_documents(rt: HostRuntime) -> Result<(), Fail> {
         Queue("1 1 0 0\n"),
         Document(1, 1, None),
     ]];
-    take_rows(&rt, rt.alloc(), &[], ROWS)
+    TestBooks::new(&rt, "a_job_without_documents").take_rows(&[], ROWS)
 }
 
 #[test]
-fn documents_that_the_device_may_fetch(rt: HostRuntime) -> Result<(), Fail> {
+fn documents_that_the_device_may_fetch(rt: HostRuntime) -> Result<(), RowFault> {
     const ROWS: &[&[Step<'static>]] = &[&[
         Grant(b"f24,alice,30\n", Ok((1, 0))),
         Ask("alice", Print, 0x0000),
@@ -323,101 +314,5 @@ fn documents_that_the_device_may_fetch(rt: HostRuntime) -> Result<(), Fail> {
         Dev("1 4 done 0", "ok 1 9 0"),
         Document(1, 1, None),
     ]];
-    take_rows(&rt, rt.alloc(), &[], ROWS)
-}
-
-/// The one document of job 1.
-const SEVEN: Request = Send {
-    job: 1,
-    document: b"seven..",
-    last: true,
-};
-
-/// A queue in which job 1 may be fetched, with a document of seven bytes.
-fn with_document(rt: &impl Abort, alloc: Global) -> Result<Desk, Fail> {
-    let mut desk = Desk::new(alloc)?;
-    desk.take(
-        rt,
-        0,
-        &[
-            Grant(b"f24,alice,30\n", Ok((1, 0))),
-            Ask("alice", Create, 0x0000),
-            Ask("alice", SEVEN, 0x0000),
-            Ask("alice", Release(1), 0x0000),
-        ],
-    )?;
-    Ok(desk)
-}
-
-/// Takes so many bytes, and then fails.
-#[derive(Drop)]
-struct Cut {
-    taken: Vec<u8>,
-    room: usize,
-}
-
-impl Write for Cut {
-    fn write(&mut self, buf: &[u8]) -> io::Result<usize> {
-        if self.room == 0 {
-            return Err(io::Error::other("cut"));
-        }
-        let n = buf.len().min(self.room);
-        self.taken.extend_from_slice(&buf[..n])?;
-        self.room -= n;
-        Ok(n)
-    }
-
-    fn flush(&mut self) -> io::Result<()> {
-        Ok(())
-    }
-}
-
-/// Sends the document to a writer that has so much room, and this of it then.
-fn send(
-    rt: &impl Abort,
-    alloc: Global,
-    desk: &mut Desk,
-    room: usize,
-    wanted: Result<u64, SendFault>,
-    taken: &[u8],
-) -> Result<(), Fail> {
-    let mut out = Cut {
-        taken: Vec::new(alloc),
-        room,
-    };
-    let sent = desk.send_document(1, 1, &mut out)?;
-    assert_eq!(rt; sent, wanted);
-    assert_eq!(rt; out.taken.as_slice(), taken);
-    Ok(())
-}
-
-/// Has its head told.
-fn look_at_head(rt: &impl Abort, desk: &mut Desk) -> Result<(), Fail> {
-    let wanted = DocumentHead {
-        format: Format::OctetStream,
-        octets: 7,
-    };
-    assert_eq!(rt; desk.document_head(1, 1)?, Some(wanted));
-    Ok(())
-}
-
-#[test]
-fn a_document_that_is_sent(rt: HostRuntime) -> Result<(), Fail> {
-    let mut desk = with_document(&rt, rt.alloc())?;
-    look_at_head(&rt, &mut desk)?;
-    send(&rt, rt.alloc(), &mut desk, 8, Ok(7), b"seven..")
-}
-
-#[test]
-fn a_document_that_is_cut(rt: HostRuntime) -> Result<(), Fail> {
-    let mut desk = with_document(&rt, rt.alloc())?;
-    let fronts: [(u64, &[u8]); 3] = [(0, b""), (4, b"seve"), (6, b"seven.")];
-    for (written, front) in fronts {
-        let fault = SendFault {
-            written,
-            cause: SendCause::Write,
-        };
-        send(&rt, rt.alloc(), &mut desk, front.len(), Err(fault), front)?;
-    }
-    Ok(())
+    TestBooks::new(&rt, "documents_that_the_device_may_fetch").take_rows(&[], ROWS)
 }

@@ -4,7 +4,7 @@ use std::alloc::{AllocError, Global};
 
 /// What a caller asks.
 #[derive(Clone, Copy)]
-pub(super) enum Request {
+pub enum Request {
     /// Print-Job with the document `hi`.
     Print,
     /// Print-Job of so many impressions and copies.
@@ -30,6 +30,39 @@ pub(super) enum Request {
     CancelMine(Option<u32>),
     /// Get-Job-Attributes of the state and its reasons.
     Look(u32),
+    /// Get-Jobs of the numbers.
+    Jobs(JobsWanted),
+}
+
+/// The jobs that Get-Jobs lists.
+#[derive(Clone, Copy)]
+pub enum JobsWanted {
+    /// Those that did not end.
+    Live,
+    /// The first so many of those that did not end.
+    FirstLive(u32),
+    /// Those that ended.
+    Ended,
+    /// The first so many of those that ended.
+    FirstEnded(u32),
+}
+
+impl JobsWanted {
+    /// The value of `which-jobs`.
+    fn which(self) -> &'static str {
+        match self {
+            JobsWanted::Live | JobsWanted::FirstLive(_) => "not-completed",
+            JobsWanted::Ended | JobsWanted::FirstEnded(_) => "completed",
+        }
+    }
+
+    /// The value of `limit`.
+    fn limit(self) -> Option<u32> {
+        match self {
+            JobsWanted::Live | JobsWanted::Ended => None,
+            JobsWanted::FirstLive(count) | JobsWanted::FirstEnded(count) => Some(count),
+        }
+    }
 }
 
 impl Request {
@@ -41,6 +74,7 @@ impl Request {
             Request::Send { .. } => 0x06,
             Request::Cancel(_) => 0x08,
             Request::Look(_) => 0x09,
+            Request::Jobs(_) => 0x0a,
             Request::Hold(_) => 0x0c,
             Request::Release(_) => 0x0d,
             Request::CancelMine(_) => 0x39,
@@ -53,7 +87,8 @@ impl Request {
             Request::Print
             | Request::PrintSized { .. }
             | Request::Create
-            | Request::CancelMine(_) => None,
+            | Request::CancelMine(_)
+            | Request::Jobs(_) => None,
             Request::Send { job, .. }
             | Request::Release(job)
             | Request::Hold(job)
@@ -114,6 +149,7 @@ fn put_own(bytes: &mut Vec<u8>, request: Request) -> Result<(), AllocError> {
             put(bytes, 0x44, "requested-attributes", b"job-state")?;
             put(bytes, 0x44, "", b"job-state-reasons")
         }
+        Request::Jobs(wanted) => put_wanted(bytes, wanted),
         _ => Ok(()),
     }
 }
@@ -125,8 +161,18 @@ fn put_size(bytes: &mut Vec<u8>, impressions: u32, copies: u32) -> Result<(), Al
     put(bytes, 0x21, "copies", &copies.to_be_bytes())
 }
 
+/// Adds the jobs that are wanted, of which the numbers are asked.
+fn put_wanted(bytes: &mut Vec<u8>, wanted: JobsWanted) -> Result<(), AllocError> {
+    put(bytes, 0x44, "requested-attributes", b"job-id")?;
+    put(bytes, 0x44, "which-jobs", wanted.which().as_bytes())?;
+    match wanted.limit() {
+        Some(count) => put(bytes, 0x21, "limit", &count.to_be_bytes()),
+        None => Ok(()),
+    }
+}
+
 /// The bytes of a caller's request.
-pub(super) fn message(
+pub(crate) fn message(
     alloc: Global,
     caller: &str,
     request: Request,
@@ -146,7 +192,7 @@ fn put_message(bytes: &mut Vec<u8>, caller: &str, request: Request) -> Result<()
 }
 
 /// The bytes of the reply to [`Request::Look`].
-pub(super) fn state_reply(
+pub(crate) fn state_reply(
     alloc: Global,
     state: u8,
     reasons: &[&str],
@@ -164,6 +210,22 @@ fn put_state(bytes: &mut Vec<u8>, state: u8, reasons: &[&str]) -> Result<(), All
     for reason in reasons {
         put(bytes, 0x44, name, reason.as_bytes())?;
         name = "";
+    }
+    bytes.extend_from_slice(b"\x03")
+}
+
+/// The bytes of the reply to [`Request::Jobs`].
+pub(crate) fn jobs_reply(alloc: Global, numbers: &[u32]) -> Result<Vec<u8>, AllocError> {
+    let mut bytes = Vec::from_slice(alloc, b"\x01\x01\x00\x00\x00\x00\x00\x01")?;
+    put_jobs(&mut bytes, numbers)?;
+    Ok(bytes)
+}
+
+fn put_jobs(bytes: &mut Vec<u8>, numbers: &[u32]) -> Result<(), AllocError> {
+    put_language(bytes)?;
+    for number in numbers {
+        bytes.extend_from_slice(b"\x02")?;
+        put(bytes, 0x21, "job-id", &number.to_be_bytes())?;
     }
     bytes.extend_from_slice(b"\x03")
 }

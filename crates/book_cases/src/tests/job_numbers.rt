@@ -1,0 +1,132 @@
+//! The last job number, which no run of a test could reach by printing alone.
+
+ghost use Rattle.queue_core.specs.Limits.{IsFair};
+ghost use Rattle.std.specs.Prelude.{◌≤◌};
+
+use book_desk::Request::{Create, Print};
+use book_desk::Step::{Ask, Jobs, Look};
+use book_desk::{JobsWanted, RowFault, Shelf, Step, StepFault, take_row};
+use book_shelves::{adopt, tables_in_memory};
+use queue_core::book::BookFault;
+use queue_core::document::Format;
+use queue_core::event::{
+    Call, Decision, Event, FreeList, KnownList, NewJob, QueueCounts, Reply, Scene,
+};
+use queue_core::job::JobList;
+use queue_core::machine::decide;
+use queue_core::settings::Settings;
+use queue_store::TableBook;
+use sqlite::{Alter, Connection, MemStore};
+use std::alloc::Global;
+use std::test::Fail;
+
+/// A queue without jobs, in which this number is the next one.
+fn empty_scene(alloc: Global, settings: Settings, next: u32) -> Scene
+    requires { 1 ≤ next }
+    ensures { IsFair result }
+{
+    let _within_limits = settings.estimate();
+    Scene {
+        settings,
+        jobs: JobList::from_jobs(Vec::new(alloc)),
+        free: FreeList::from_rows(Vec::new(alloc)),
+        live: 0,
+        counts: QueueCounts {
+            running: 0,
+            stopped: 0,
+            queued: 0,
+        },
+        report: None,
+        known: KnownList::from_known(Vec::new(alloc)),
+        next,
+    }
+}
+
+/// The number of a reply's first job, or the code that it refuses with, which is 0 where it has neither.
+fn number_of(reply: &Reply) -> Result<u32, u16> {
+    match reply {
+        Reply::Jobs(jobs) => jobs.as_slice().first().map(|job| job.number).ok_or(0),
+        Reply::Refused(code) => Err(*code),
+        _ => Err(0),
+    }
+}
+
+/// The number that a Print-Job of alice gets, or the code that refuses it.
+fn number_in(alloc: Global, scene: &Scene) -> Result<Result<u32, u16>, Fail>
+    requires { IsFair scene.now }
+{
+    let call = Call::PrintJob {
+        job: NewJob {
+            name: "untitled",
+            copies: 1,
+            impressions: None,
+        },
+        format: Format::OctetStream,
+        payload: b"hi",
+    };
+    let event = Event::Ask {
+        caller: "alice",
+        call,
+    };
+    let Decision { reply, change: _ } = decide(alloc, scene, 1, &event)?;
+    Ok(number_of(&reply))
+}
+
+/// The number that a Print-Job gets where this one is next, or the code that refuses it.
+fn number_given(alloc: Global, next: u32) -> Result<Result<u32, u16>, Fail>
+    requires { 1 ≤ next }
+{
+    let settings = Settings::new(alloc, "ipp://localhost/ipp/print", "release", 20, 0)?;
+    let scene = empty_scene(alloc, settings, next);
+    number_in(alloc, &scene)
+}
+
+#[test]
+fn last_job_number_and_the_one_after_it(rt: HostRuntime) -> Result<(), Fail> {
+    let alloc = rt.alloc();
+    assert_eq!(rt; number_given(alloc, 2_147_483_647)?, Ok(2_147_483_647));
+    assert_eq!(rt; number_given(alloc, 2_147_483_648)?, Err(0x0506));
+    Ok(())
+}
+
+/// Makes the last number the next one.
+fn skip_numbers<S: Alter>(conn: &mut Connection<S>) -> Result<(), StepFault> {
+    match conn.execute("UPDATE meta SET next_number = 2147483647", &[]) {
+        Ok(_count) => Ok(()),
+        Err(_error) => Err(StepFault::Book(BookFault::Disk)),
+    }
+}
+
+/// Books in tables in memory, in which the last number is the next one.
+struct AtLastNumber;
+
+impl Shelf for AtLastNumber {
+    type Book = TableBook<MemStore>;
+
+    fn name(&self) -> &'static str {
+        "tables at the last number"
+    }
+
+    fn new_book(&self, alloc: Global, settings: Settings) -> Result<Self::Book, StepFault> {
+        let mut conn = tables_in_memory(alloc, settings)?.close();
+        skip_numbers(&mut conn)?;
+        adopt(alloc, conn)
+    }
+
+    fn next_book(&self, alloc: Global, book: Self::Book) -> Result<Self::Book, StepFault> {
+        adopt(alloc, book.close())
+    }
+}
+
+#[test]
+fn last_job_number_in_tables(rt: HostRuntime) -> Result<(), RowFault> {
+    const STEPS: &[Step<'static>] = &[
+        Ask("alice", Print, 0x0000),
+        Look("alice", 2_147_483_647, 4, &["job-hold-until-specified"]),
+        Ask("alice", Print, 0x0506),
+        Ask("bob", Create, 0x0506),
+        Jobs("alice", JobsWanted::Live, &[2_147_483_647]),
+        Jobs("bob", JobsWanted::Live, &[]),
+    ];
+    take_row(rt.alloc(), &AtLastNumber, 0, &[], STEPS)
+}

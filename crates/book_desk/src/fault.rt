@@ -1,0 +1,85 @@
+//! Why a row of a test is not well.
+
+use ipp_ops::TooShort;
+use queue_core::book::BookFault;
+use queue_core::settings::SettingFault;
+use std::alloc::{AllocError, AllocFailed};
+
+/// Why a step is not well.
+#[derive(Debug, Drop)]
+pub enum StepFault {
+    /// What came is not what was wanted.
+    Differs { wanted: String, came: String },
+    /// The book could not do it.
+    Book(BookFault),
+    /// There was no memory.
+    Memory,
+    /// The printer's settings are not within their limits.
+    Settings,
+    /// A request is too long, or too short to be one.
+    Request,
+    /// There is no such document.
+    NoDocument,
+}
+
+impl From<AllocError> for StepFault {
+    fn from(_error: AllocError) -> StepFault {
+        StepFault::Memory
+    }
+}
+
+impl<T: Drop> From<AllocFailed<T>> for StepFault {
+    fn from(_error: AllocFailed<T>) -> StepFault {
+        StepFault::Memory
+    }
+}
+
+impl From<BookFault> for StepFault {
+    fn from(fault: BookFault) -> StepFault {
+        StepFault::Book(fault)
+    }
+}
+
+impl From<SettingFault> for StepFault {
+    fn from(fault: SettingFault) -> StepFault {
+        match fault {
+            SettingFault::Bad => StepFault::Settings,
+            SettingFault::Memory => StepFault::Memory,
+        }
+    }
+}
+
+impl From<TooShort> for StepFault {
+    fn from(_fault: TooShort) -> StepFault {
+        StepFault::Request
+    }
+}
+
+/// A step that is not well, by its book, its row and its number in the row, both from 0. The steps that a row begins
+/// with are counted, too.
+#[derive(Debug, Drop)]
+pub struct RowFault {
+    pub book: &'static str,
+    pub row: usize,
+    pub step: usize,
+    pub fault: StepFault,
+}
+
+/// A row of a test in a book.
+#[derive(Clone, Copy)]
+pub(crate) struct Place {
+    pub book: &'static str,
+    pub row: usize,
+}
+
+impl Place {
+    /// What a step of the row is not well for.
+    pub(crate) fn fault(self, step: usize, fault: StepFault) -> RowFault {
+        RowFault {
+            book: self.book,
+            row: self.row,
+            step,
+            fault,
+        }
+    }
+}

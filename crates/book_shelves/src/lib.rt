@@ -1,0 +1,9 @@
+//! The books that tests of a print queue run over alike: in lists, in tables in memory, in tables in memory that are
+//! closed and adopted before every step, and in tables in a file.
+#![tactic(auto)]
+
+mod books;
+mod shelves;
+
+pub use books::{TestBooks, take_in_memory};
+pub use shelves::{Adopted, InFile, InLists, InTables, adopt, tables_in_memory};

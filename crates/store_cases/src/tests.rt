@@ -1,0 +1,14 @@
+//! Stores: what comes back from them, and what is refused of them.
+
+mod adopted;
+mod columns;
+mod compare;
+mod desk;
+mod files;
+mod judge;
+mod pieces;
+mod queue;
+mod request;
+mod rows;
+mod shown;
+mod tables;
