@@ -1,18 +1,19 @@
-//! Streams that are cut short.
+//! Streams that are cut short, over each book.
 
-use crate::tests::bodies::{WAITING_HEAD, in_chunks_of_one_byte};
-use crate::tests::desk::Wanted::Success;
-use crate::tests::desk::{Connection, Desk, POST_JOB, joined};
-use crate::tests::messages::{BAD_REQUEST, JOB_1, PRINT_JOB};
+use http_desk::books::{DeskBook, MemoryBook};
+use http_desk::compare::Mismatch;
+use http_desk::connection::Wanted::Success;
+use http_desk::connection::{Connection, Wanted, in_chunks_of_one_byte, joined};
+use http_desk::desk::Desk;
+use http_desk::messages::{BAD_REQUEST, JOB_1, JOB_2, PRINT_JOB};
+use http_desk::requests::{IPP, POST_JOB, POST_WAITING};
 use http_front::{End, Served};
+use list_book::ListBook;
 use std::alloc::Global;
-use std::process::Abort;
-use std::test::Fail;
 
-/// A front of a request isn't answered: these bytes alone are written, and the next Print-Job is job 1.
-fn cut_to(rt: &impl Abort, alloc: Global, stream: &[u8], answers: &[u8]) -> Result<(), Fail> {
-    let mut desk = Desk::new(alloc)?;
-    let end = if stream.is_empty() {
+/// A front of a request isn't answered: these bytes alone are written.
+fn cut_to<B: DeskBook>(desk: &mut Desk<B>, front: &[u8], answers: &[u8]) -> Result<(), Mismatch> {
+    let end = if front.is_empty() {
         End::Closed
     } else {
         End::Cut
@@ -22,64 +23,119 @@ fn cut_to(rt: &impl Abort, alloc: Global, stream: &[u8], answers: &[u8]) -> Resu
         faults: 0,
         end,
     };
-    desk.take_bytes(rt, stream, served, answers, 4096)?;
-    desk.take_bytes(rt, stream, served, answers, 1)?;
-    desk.take_job(rt, 1)
+    desk.take_bytes(front, served, answers, 4096)?;
+    desk.take_bytes(front, served, answers, 1)
 }
 
-#[test]
-fn a_request_cut_at_each_length(rt: HostRuntime) -> Result<(), Fail> {
-    let alloc = rt.alloc();
-    let request = joined(alloc, &[POST_JOB, PRINT_JOB])?;
+/// A request is cut at each length. From the end of a head of so many bytes on, these are the answers.
+fn cut_each<B: DeskBook>(
+    desk: &mut Desk<B>,
+    request: &[u8],
+    head: usize,
+    answers: &[u8],
+) -> Result<(), Mismatch> {
     for length in 0..request.len() {
-        let front = request.as_slice().get(..length).ok_or("a front")?;
-        cut_to(&rt, alloc, front, b"")?;
-    }
-    Ok(())
-}
-
-#[test]
-fn chunks_cut_at_each_length(rt: HostRuntime) -> Result<(), Fail> {
-    let alloc = rt.alloc();
-    let request = in_chunks_of_one_byte(alloc)?;
-    for length in 0..request.len() {
-        let front = request.as_slice().get(..length).ok_or("a front")?;
-        let answers = if length < WAITING_HEAD.len() {
+        let written = if length < head {
             b"".as_slice()
         } else {
-            b"HTTP/1.1 100 Continue\r\n\r\n"
+            answers
         };
-        cut_to(&rt, alloc, front, answers)?;
+        cut_to(desk, &request[..length], written)?;
     }
     Ok(())
+}
+
+/// No request that is cut so leaves a job: the next Print-Job is job 1.
+fn cut_request<B: DeskBook>(
+    alloc: Global,
+    request: &[u8],
+    head: usize,
+    answers: &[u8],
+) -> Result<(), Mismatch> {
+    let mut desk = Desk::<B>::new(alloc)?;
+    cut_each(&mut desk, request, head, answers)?;
+    desk.take_job(1)
+}
+
+/// It is cut so over each book.
+fn cut_over_both(
+    alloc: Global,
+    request: &[u8],
+    head: usize,
+    answers: &[u8],
+) -> Result<(), Mismatch> {
+    cut_request::<ListBook>(alloc, request, head, answers)?;
+    cut_request::<MemoryBook>(alloc, request, head, answers)
+}
+
+#[test]
+fn a_request_cut_at_each_length(rt: HostRuntime) -> Result<(), Mismatch> {
+    let request = joined(rt.alloc(), &[POST_JOB, PRINT_JOB])?;
+    cut_over_both(rt.alloc(), request.as_slice(), 0, b"")
+}
+
+#[test]
+fn chunks_cut_at_each_length(rt: HostRuntime) -> Result<(), Mismatch> {
+    let leave = b"HTTP/1.1 100 Continue\r\n\r\n";
+    let head = POST_WAITING.len();
+    let request = in_chunks_of_one_byte(rt.alloc(), POST_WAITING, PRINT_JOB)?;
+    cut_over_both(rt.alloc(), request.as_slice(), head, leave)
+}
+
+/// A message behind its head is answered so.
+fn take_message<B: DeskBook>(
+    desk: &mut Desk<B>,
+    head: &[u8],
+    message: &[u8],
+    wanted: &[Wanted<'_>],
+) -> Result<(), Mismatch> {
+    let connection = Connection {
+        stream: &[head, message],
+        acted: 1,
+        end: End::Closed,
+        wanted,
+    };
+    desk.take(&connection, 4096)
 }
 
 /// The smallest Print-Job, cut to so many bytes, is answered so.
-fn cut_message(
-    rt: &impl Abort,
+fn cut_message<B: DeskBook>(
     alloc: Global,
-    message: &[u8],
-    reply: &'static [u8],
-) -> Result<(), Fail> {
-    let length = message.len();
+    desk: &mut Desk<B>,
+    length: usize,
+    wanted: &[Wanted<'_>],
+) -> Result<(), Mismatch> {
     let head = format!(in alloc;
         "POST /ipp/print HTTP/1.1\r\nContent-Type: application/ipp\r\nContent-Length: {length}\r\n\r\n"
     )?;
-    let connection = Connection {
-        stream: &[head.as_bytes(), message],
-        acted: 1,
-        end: End::Closed,
-        wanted: &[Success("application/ipp", reply)],
-    };
-    Desk::new(alloc)?.take(rt, &connection, 4096)
+    let message = PRINT_JOB.get(..length).unwrap_or(PRINT_JOB);
+    take_message(desk, head.as_bytes(), message, wanted)
+}
+
+const REFUSED: &[Wanted<'static>] = &[Success(IPP, BAD_REQUEST)];
+
+/// Cut inside its attributes it is refused.
+fn cut_attributes<B: DeskBook>(alloc: Global, desk: &mut Desk<B>) -> Result<(), Mismatch> {
+    for length in 8..143 {
+        cut_message(alloc, desk, length, REFUSED)?;
+    }
+    Ok(())
+}
+
+const FIRST: &[Wanted<'static>] = &[Success(IPP, JOB_1)];
+
+const SECOND: &[Wanted<'static>] = &[Success(IPP, JOB_2)];
+
+/// Cut inside its attributes it makes no job. With a part of its document, or none, it makes one.
+fn cut_messages<B: DeskBook>(alloc: Global) -> Result<(), Mismatch> {
+    let mut desk = Desk::<B>::new(alloc)?;
+    cut_attributes(alloc, &mut desk)?;
+    cut_message(alloc, &mut desk, 143, FIRST)?;
+    cut_message(alloc, &mut desk, 144, SECOND)
 }
 
 #[test]
-fn a_message_cut_at_each_length(rt: HostRuntime) -> Result<(), Fail> {
-    for length in 8..145 {
-        let message = PRINT_JOB.get(..length).ok_or("a front")?;
-        let reply = if length < 143 { BAD_REQUEST } else { JOB_1 };
-        cut_message(&rt, rt.alloc(), message, reply)?;
-    }
-    Ok(())
+fn a_message_cut_at_each_length(rt: HostRuntime) -> Result<(), Mismatch> {
+    cut_messages::<ListBook>(rt.alloc())?;
+    cut_messages::<MemoryBook>(rt.alloc())
 }

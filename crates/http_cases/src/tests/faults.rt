@@ -1,9 +1,15 @@
 //! A book that can't do what it is asked.
 
-use crate::tests::desk::Wanted::{Refusal, Success};
-use crate::tests::desk::{Connection, Desk, POST_JOB, Wanted, joined, settings, wanted_bytes};
-use crate::tests::messages::{DONE, FAULT, PRINT_JOB, RELEASE_JOB};
-use http_front::{End, ServeCause, ServeFault, Served, serve};
+use http_desk::books::{DeskBook, MemoryBook};
+use http_desk::compare::Mismatch;
+use http_desk::connection::Wanted::{Refusal, Success};
+use http_desk::connection::{Connection, Wanted, joined, wanted_bytes};
+use http_desk::desk::Desk;
+use http_desk::messages::{DONE, FAULT, PRINT_JOB, RELEASE_JOB};
+use http_desk::requests::{
+    GET_DOCUMENT, GET_QUEUE, IPP, OCTETS, POST_JOB, POST_RELEASE, REPORT_START, TEXT,
+};
+use http_front::{End, ServeCause, ServeFault, Served};
 use list_book::ListBook;
 use queue_core::book::{BookFault, QueueBook, SendCause, SendFault};
 use queue_core::document::DocumentHead;
@@ -12,16 +18,14 @@ use queue_core::job::JobList;
 use queue_core::sheet::AccountSheet;
 use std::alloc::Global;
 use std::io::Write;
-use std::process::Abort;
-use std::test::Fail;
 
-/// A plain book that refuses to change, to tell the device's queue, and to send a document past its first byte.
+/// A book that refuses to change, to tell the device's queue, and to send a document past its first byte.
 #[derive(Drop)]
-struct BrokenBook {
-    inner: ListBook,
+struct BrokenBook<B> {
+    inner: B,
 }
 
-impl QueueBook for BrokenBook {
+impl<B: QueueBook> QueueBook for BrokenBook<B> {
     ghost stands = { λ b w. ⊥ };
 
     ghost is_honest = { λ b. ⊥ };
@@ -64,96 +68,79 @@ impl QueueBook for BrokenBook {
 
 /// Job 1 of alice is released.
 const RELEASE: Connection<'static> = Connection {
-    stream: &[
-        b"POST /ipp/print HTTP/1.1\r\nContent-Type: application/ipp\r\nContent-Length: 158\r\n\r\n",
-        RELEASE_JOB,
-    ],
+    stream: &[POST_RELEASE, RELEASE_JOB],
     acted: 1,
     end: End::Closed,
-    wanted: &[Success("application/ipp", DONE)],
+    wanted: &[Success(IPP, DONE)],
 };
 
-/// A broken book in which job 1 of alice is released.
-fn released(rt: &impl Abort, alloc: Global) -> Result<BrokenBook, Fail> {
-    let mut desk = Desk::new(alloc)?;
-    desk.grant(rt);
-    desk.take_job(rt, 1)?;
-    desk.take(rt, &RELEASE, 4096)?;
-    Ok(BrokenBook {
-        inner: desk.into_book(),
-    })
+/// A book in which that is so.
+fn released<B: DeskBook>(alloc: Global) -> Result<B, Mismatch> {
+    let mut desk = Desk::<B>::granted(alloc)?;
+    desk.take_job(1)?;
+    desk.take(&RELEASE, 4096)?;
+    Ok(desk.into_book())
 }
 
-/// A stream to that book is served so, with these bytes as its answers.
-fn serve_broken(
-    rt: &impl Abort,
+/// A stream to such a book, which is broken from then on, is served so, with these bytes as its answers.
+fn serve_broken<B: DeskBook>(
     alloc: Global,
     stream: &[u8],
     wanted: Result<Served, ServeFault>,
     answers: &[u8],
-) -> Result<(), Fail> {
-    let settings = settings(alloc)?;
-    let mut book = released(rt, alloc)?;
+) -> Result<(), Mismatch> {
+    let inner = released::<B>(alloc)?;
+    let mut desk = Desk::over(alloc, BrokenBook { inner }, B::name())?;
     let mut reader = stream;
-    let mut out = Vec::new(alloc);
-    let served = serve(alloc, &mut reader, &mut out, &mut book, &settings, 1);
-    assert_eq!(rt; served, wanted);
-    assert_eq!(rt; out.as_slice(), answers);
-    Ok(())
+    desk.take_reader(&mut reader, wanted, answers, stream.len())
 }
 
 /// A request that changes nothing, and three that fail: two changes, and a look at the queue, which ends the connection.
 const STREAM: &[&[u8]] = &[
     b"POST /device/report HTTP/1.1\r\nContent-Type: text/plain\r\nContent-Length: 1\r\n\r\nx",
-    b"POST /device/report HTTP/1.1\r\nContent-Type: text/plain\r\nContent-Length: 12\r\n\r\n1 1 start 0\n",
+    REPORT_START,
     POST_JOB,
     PRINT_JOB,
-    b"GET /device/queue HTTP/1.1\r\n\r\n",
+    GET_QUEUE,
     POST_JOB,
     PRINT_JOB,
 ];
 
 const ANSWERS: &[Wanted<'static>] = &[
-    Success("text/plain", b"refused 1 syntax\n"),
-    Success("text/plain", b"refused 6 fault\n"),
-    Success("application/ipp", FAULT),
+    Success(TEXT, b"refused 1 syntax\n"),
+    Success(TEXT, b"refused 6 fault\n"),
+    Success(IPP, FAULT),
     Refusal("503 Service Unavailable"),
 ];
 
+/// What they come to.
+const SERVED: Result<Served, ServeFault> = Ok(Served {
+    acted: 3,
+    faults: 0b1110,
+    end: End::Refused(503),
+});
+
 #[test]
-fn changes_and_a_queue_that_fail(rt: HostRuntime) -> Result<(), Fail> {
+fn changes_and_a_queue_that_fail(rt: HostRuntime) -> Result<(), Mismatch> {
     let alloc = rt.alloc();
     let stream = joined(alloc, STREAM)?;
     let answers = wanted_bytes(alloc, ANSWERS)?;
-    let served = Served {
-        acted: 3,
-        faults: 0b1110,
-        end: End::Refused(503),
-    };
-    serve_broken(
-        &rt,
-        alloc,
-        stream.as_slice(),
-        Ok(served),
-        answers.as_slice(),
-    )
+    serve_broken::<ListBook>(alloc, stream.as_slice(), SERVED, answers.as_slice())?;
+    serve_broken::<MemoryBook>(alloc, stream.as_slice(), SERVED, answers.as_slice())
 }
 
+/// A document broken off behind its first byte.
+const BROKEN_OFF: Result<Served, ServeFault> = Err(ServeFault {
+    acted: 0,
+    faults: 0,
+    cause: ServeCause::Book,
+});
+
 #[test]
-fn a_document_that_fails(rt: HostRuntime) -> Result<(), Fail> {
+fn a_document_that_fails(rt: HostRuntime) -> Result<(), Mismatch> {
     let alloc = rt.alloc();
-    let answer = wanted_bytes(alloc, &[Success("application/octet-stream", b"hi")])?;
-    let (_, front) = answer.as_slice().split_last().ok_or("an answer")?;
-    let fault = ServeFault {
-        acted: 0,
-        faults: 0,
-        cause: ServeCause::Book,
-    };
-    serve_broken(
-        &rt,
-        alloc,
-        b"GET /device/document/1/1 HTTP/1.1\r\n\r\n",
-        Err(fault),
-        front,
-    )
+    let answer = wanted_bytes(alloc, &[Success(OCTETS, b"hi")])?;
+    let front = answer.as_slice().strip_suffix(b"i").unwrap_or(b"");
+    serve_broken::<ListBook>(alloc, GET_DOCUMENT, BROKEN_OFF, front)?;
+    serve_broken::<MemoryBook>(alloc, GET_DOCUMENT, BROKEN_OFF, front)
 }

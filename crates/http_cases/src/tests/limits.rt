@@ -1,12 +1,16 @@
 //! Heads, chunks and lengths at their limits.
 
-use crate::tests::desk::Wanted::Success;
-use crate::tests::desk::{Connection, Desk, Wanted, filled};
-use crate::tests::refusals::{BAD, HEAD_TOO_LARGE, refuse};
-use http_front::End;
+use crate::tests::refusals::{BAD, HEAD_TOO_LARGE, TOO_LARGE, refuse};
+use http_desk::books::DeskBook;
+use http_desk::compare::Mismatch;
+use http_desk::connection::Wanted::Success;
+use http_desk::connection::{Connection, Wanted, closed, filled, wanted_bytes};
+use http_desk::desk::{Desk, keep_empty};
+use http_desk::requests::TEXT;
+use http_desk::streams::{EndlessReader, SPEEDS, speeds_for};
+use http_front::{End, Served};
+use list_book::ListBook;
 use std::alloc::Global;
-use std::process::Abort;
-use std::test::Fail;
 
 /// A stream: its front, what is behind that, a part and how often it stands there, and its end.
 type Long = (
@@ -16,134 +20,265 @@ type Long = (
     &'static [u8],
 );
 
-/// Each of these streams is served, with so many requests acted and this one answer.
+/// This stream is served at each of its speeds, with so many requests acted and these answers, and the queue stays empty.
+fn serve_one(alloc: Global, acted: u32, wanted: &[Wanted<'_>], row: &Long) -> Result<(), Mismatch> {
+    let (front, behind, (part, count), end) = *row;
+    let rest = filled(alloc, behind, part, count, end)?;
+    let stream = [front, rest.as_slice()];
+    keep_empty::<ListBook>(
+        alloc,
+        &closed(&stream, acted, wanted),
+        speeds_for(rest.len()),
+    )
+}
+
+/// Each of these streams is served so.
 fn serve_long(
-    rt: &impl Abort,
     alloc: Global,
     acted: u32,
-    wanted: Wanted<'_>,
+    wanted: &[Wanted<'_>],
     rows: &[Long],
-) -> Result<(), Fail> {
-    for (front, behind, (part, count), end) in rows {
-        let rest = filled(alloc, behind, part, *count, end)?;
-        let connection = Connection {
-            stream: &[front, rest.as_slice()],
-            acted,
-            end: End::Closed,
-            wanted: &[wanted],
-        };
-        Desk::new(alloc)?.take(rt, &connection, 4096)?;
+) -> Result<(), Mismatch> {
+    for row in rows {
+        serve_one(alloc, acted, wanted, row)?;
     }
     Ok(())
+}
+
+/// This stream is refused so.
+fn refuse_one(alloc: Global, code: u16, wanted: &[Wanted<'_>], row: &Long) -> Result<(), Mismatch> {
+    let (front, behind, (part, count), end) = *row;
+    let rest = filled(alloc, behind, part, count, end)?;
+    refuse(alloc, front, rest.as_slice(), code, wanted)
 }
 
 /// Each of these streams is refused so.
 fn refuse_long(
-    rt: &impl Abort,
     alloc: Global,
     code: u16,
-    wanted: Wanted<'_>,
+    wanted: &[Wanted<'_>],
     rows: &[Long],
-) -> Result<(), Fail> {
-    for (front, behind, (part, count), end) in rows {
-        let rest = filled(alloc, behind, part, *count, end)?;
-        refuse(rt, alloc, (front, rest.as_slice()), code, &[wanted], 4096)?;
+) -> Result<(), Mismatch> {
+    for row in rows {
+        refuse_one(alloc, code, wanted, row)?;
     }
     Ok(())
 }
 
-const GET_QUEUE: &[u8] = b"GET /device/queue HTTP/1.1\r\n";
+/// The request line of a GET of the device's queue.
+const QUEUE_LINE: &[u8] = b"GET /device/queue HTTP/1.1\r\n";
 
 /// How many bytes a field `a` may have for a head of 16,384 bytes.
-const ROOM: usize = 16_384 - GET_QUEUE.len() - 6;
+const ROOM: usize = 16_384 - QUEUE_LINE.len() - 6;
+
+/// A head of 64 fields, and one of 16,384 bytes.
+const HEADS_AT_LIMITS: [Long; 2] = [
+    (QUEUE_LINE, b"", (b"a:b\r\n", 64), b"\r\n"),
+    (QUEUE_LINE, b"a:", (b"b", ROOM), b"\r\n\r\n"),
+];
 
 #[test]
-fn heads_at_their_limits(rt: HostRuntime) -> Result<(), Fail> {
-    serve_long(
-        &rt,
-        rt.alloc(),
-        0,
-        Success("text/plain", b""),
-        &[
-            (GET_QUEUE, b"", (b"a:b\r\n", 64), b"\r\n"),
-            (GET_QUEUE, b"a:", (b"b", ROOM), b"\r\n\r\n"),
-        ],
-    )
+fn heads_at_their_limits(rt: HostRuntime) -> Result<(), Mismatch> {
+    serve_long(rt.alloc(), 0, &[Success(TEXT, b"")], &HEADS_AT_LIMITS)
 }
 
+/// The front of a head that fails the checks behind its limits.
+const CROOKED: &[u8] =
+    b"PUT /nothing HTTP/1.1\r\nContent-Length: 99999999\r\nTransfer-Encoding: gzip\r\n";
+
+/// Heads of 65 fields, of 16,385 bytes and more, and of no end.
+const HEADS_PAST_LIMITS: [Long; 5] = [
+    (QUEUE_LINE, b"", (b"a:b\r\n", 65), b"\r\n"),
+    (QUEUE_LINE, b"a:", (b"b", ROOM + 1), b"\r\n\r\n"),
+    (CROOKED, b"", (b"a:b\r\n", 63), b"\r\n"),
+    (CROOKED, b"a:", (b"b", 16_384), b"\r\n\r\n"),
+    (b"", b"", (b"a", 20_000), b""),
+];
+
 #[test]
-fn heads_past_their_limits(rt: HostRuntime) -> Result<(), Fail> {
-    refuse_long(
-        &rt,
-        rt.alloc(),
-        431,
-        HEAD_TOO_LARGE,
-        &[
-            (GET_QUEUE, b"", (b"a:b\r\n", 65), b"\r\n"),
-            (GET_QUEUE, b"a:", (b"b", ROOM + 1), b"\r\n\r\n"),
-            (b"", b"", (b"a", 20_000), b""),
-        ],
-    )
+fn heads_past_their_limits(rt: HostRuntime) -> Result<(), Mismatch> {
+    refuse_long(rt.alloc(), 431, &[HEAD_TOO_LARGE], &HEADS_PAST_LIMITS)
 }
 
 /// A POST of one byte, up to its chunk's extension.
 const CHUNK: &[u8] =
     b"POST /device/report HTTP/1.1\r\nContent-Type: text/plain\r\nTransfer-Encoding: chunked\r\n\r\n1;";
 
-#[test]
-fn chunks_at_their_limits(rt: HostRuntime) -> Result<(), Fail> {
-    serve_long(
-        &rt,
-        rt.alloc(),
-        1,
-        Success("text/plain", b"refused 1 syntax\n"),
-        &[
-            (CHUNK, b"", (b"a", 1020), b"\r\nx\r\n0\r\n\r\n"),
-            (CHUNK, b"\r\nx\r\n0\r\n", (b"a:b\r\n", 64), b"\r\n"),
-        ],
-    )
-}
+/// How many bytes a field `a` may have for a trailer section of 16,384 bytes.
+const TRAILER_ROOM: usize = 16_384 - 6;
+
+/// A chunk line of 1,024 bytes, a trailer section of 64 fields, and one of 16,384 bytes.
+const CHUNKS_AT_LIMITS: [Long; 3] = [
+    (CHUNK, b"", (b"a", 1020), b"\r\nx\r\n0\r\n\r\n"),
+    (CHUNK, b"\r\nx\r\n0\r\n", (b"a:b\r\n", 64), b"\r\n"),
+    (
+        CHUNK,
+        b"\r\nx\r\n0\r\na:",
+        (b"b", TRAILER_ROOM),
+        b"\r\n\r\n",
+    ),
+];
 
 #[test]
-fn chunks_past_their_limits(rt: HostRuntime) -> Result<(), Fail> {
-    refuse_long(
-        &rt,
-        rt.alloc(),
-        400,
-        BAD,
-        &[
-            (CHUNK, b"", (b"a", 1021), b"\r\nx\r\n0\r\n\r\n"),
-            (CHUNK, b"", (b"a", 1023), b""),
-            (CHUNK, b"\r\nx\r\n0\r\n", (b"a:b\r\n", 65), b"\r\n"),
-            (
-                CHUNK,
-                b"\r\nx\r\n0\r\na:bbbbbbbbbbbbb\r\nc:",
-                (b"b", 16_385),
-                b"\r\n\r\n",
-            ),
-        ],
-    )
+fn chunks_at_their_limits(rt: HostRuntime) -> Result<(), Mismatch> {
+    let wanted = [Success(TEXT, b"refused 1 syntax\n")];
+    serve_long(rt.alloc(), 1, &wanted, &CHUNKS_AT_LIMITS)
 }
 
-/// A body that may still come.
-fn cut_body(rt: &impl Abort, alloc: Global, stream: &[u8]) -> Result<(), Fail> {
-    let connection = Connection {
-        stream: &[stream],
+/// Chunk lines of 1,025 bytes and of no end, and trailer sections of 65 fields, of 16,385 bytes and more, and of no end.
+const CHUNKS_PAST_LIMITS: [Long; 6] = [
+    (CHUNK, b"", (b"a", 1021), b"\r\nx\r\n0\r\n\r\n"),
+    (CHUNK, b"", (b"a", 1023), b""),
+    (CHUNK, b"\r\nx\r\n0\r\n", (b"a:b\r\n", 65), b"\r\n"),
+    (
+        CHUNK,
+        b"\r\nx\r\n0\r\na:",
+        (b"b", TRAILER_ROOM + 1),
+        b"\r\n\r\n",
+    ),
+    (
+        CHUNK,
+        b"\r\nx\r\n0\r\na:bbbbbbbbbbbbb\r\nc:",
+        (b"b", 16_385),
+        b"\r\n\r\n",
+    ),
+    (CHUNK, b"\r\nx\r\n0\r\na:", (b"b", 20_000), b""),
+];
+
+#[test]
+fn chunks_past_their_limits(rt: HostRuntime) -> Result<(), Mismatch> {
+    refuse_long(rt.alloc(), 400, &[BAD], &CHUNKS_PAST_LIMITS)
+}
+
+/// What reads give without end, behind a front, is refused so, and no more than so many bytes behind the front are asked for.
+fn refuse_endless_at<B: DeskBook>(
+    alloc: Global,
+    (front, room): (&[u8], usize),
+    code: u16,
+    answer: &[u8],
+    most: usize,
+) -> Result<(), Mismatch> {
+    let served = Served {
         acted: 0,
-        end: End::Cut,
-        wanted: &[],
+        faults: 0,
+        end: End::Refused(code),
     };
-    Desk::new(alloc)?.take(rt, &connection, 4096)
+    let mut reader = EndlessReader {
+        rest: front,
+        byte: b'a',
+        most,
+        given: 0,
+    };
+    let mut desk = Desk::<B>::new(alloc)?;
+    desk.take_reader(&mut reader, Ok(served), answer, most)?;
+    let bytes = front.len().saturating_add(room);
+    desk.place(most).few_reads(reader.given, bytes)
 }
 
-#[test]
-fn lengths_that_may_still_come(rt: HostRuntime) -> Result<(), Fail> {
-    for stream in [
-        b"POST /ipp/print HTTP/1.1\r\nContent-Type: application/ipp\r\nContent-Length: 16777216\r\n\r\n".as_slice(),
-        b"POST /ipp/print HTTP/1.1\r\nContent-Type: application/ipp\r\nTransfer-Encoding: chunked\r\n\r\n1000000\r\n",
-        b"POST /ipp/print HTTP/1.1\r\nContent-Type: application/ipp\r\nTransfer-Encoding: chunked\r\n\r\n1\r\nx\r\nffffff;\r\n",
-    ] {
-        cut_body(&rt, rt.alloc(), stream)?;
+/// It is refused so at each of the speeds of so many bytes.
+fn refuse_at_each_speed(
+    alloc: Global,
+    (front, room): (&[u8], usize),
+    code: u16,
+    answer: &[u8],
+) -> Result<(), Mismatch> {
+    for most in speeds_for(room) {
+        refuse_endless_at::<ListBook>(alloc, (front, room), code, answer, *most)?;
     }
     Ok(())
+}
+
+/// It is refused by this answer.
+fn refuse_endless(
+    alloc: Global,
+    stream: (&[u8], usize),
+    code: u16,
+    wanted: Wanted<'_>,
+) -> Result<(), Mismatch> {
+    let answer = wanted_bytes(alloc, &[wanted])?;
+    refuse_at_each_speed(alloc, stream, code, answer.as_slice())
+}
+
+#[test]
+fn input_without_end(rt: HostRuntime) -> Result<(), Mismatch> {
+    refuse_endless(rt.alloc(), (b"", 20_480), 431, HEAD_TOO_LARGE)?;
+    refuse_endless(rt.alloc(), (QUEUE_LINE, 20_480), 431, HEAD_TOO_LARGE)?;
+    refuse_endless(rt.alloc(), (CHUNK, 5_120), 400, BAD)
+}
+
+/// The heads of bodies of 16,777,216 bytes, and one whose chunks have as many.
+const MAY_COME: [&[u8]; 3] = [
+    b"POST /ipp/print HTTP/1.1\r\nContent-Type: application/ipp\r\nContent-Length: 16777216\r\n\r\n",
+    b"POST /ipp/print HTTP/1.1\r\nContent-Type: application/ipp\r\nTransfer-Encoding: chunked\r\n\r\n1000000\r\n",
+    b"POST /ipp/print HTTP/1.1\r\nContent-Type: application/ipp\r\nTransfer-Encoding: chunked\r\n\r\n1\r\nx\r\nffffff;\r\n",
+];
+
+#[test]
+fn lengths_that_may_still_come(rt: HostRuntime) -> Result<(), Mismatch> {
+    for stream in MAY_COME {
+        let connection = Connection {
+            stream: &[stream],
+            acted: 0,
+            end: End::Cut,
+            wanted: &[],
+        };
+        keep_empty::<ListBook>(rt.alloc(), &connection, &SPEEDS)?;
+    }
+    Ok(())
+}
+
+/// The head of a POST whose body comes in chunks.
+const CHUNKED: &[u8] =
+    b"POST /device/report HTTP/1.1\r\nContent-Type: text/plain\r\nTransfer-Encoding: chunked\r\n\r\n";
+
+/// A POST in 65,344 chunks of one byte, each 1,027 bytes long by its extension, and a last one whose extension has so many bytes: with
+/// 570 of them the body has 67,108,864 bytes as it stands in the stream.
+fn in_long_chunks(alloc: Global, extension: usize) -> Result<Vec<u8>, Mismatch> {
+    let chunk = filled(alloc, b"1;", b"a", 1020, b"\r\nx\r\n")?;
+    let last = filled(alloc, b"0;", b"a", extension, b"\r\n\r\n")?;
+    filled(alloc, CHUNKED, chunk.as_slice(), 65_344, last.as_slice())
+}
+
+/// Bytes come to this in an empty queue, where a read gives 4,096 of them.
+fn take_long<B: DeskBook>(
+    alloc: Global,
+    stream: &[u8],
+    served: Served,
+    answer: &[u8],
+) -> Result<(), Mismatch> {
+    let mut desk = Desk::<B>::new(alloc)?;
+    desk.take_bytes(stream, served, answer, 4096)
+}
+
+/// A POST in such chunks comes to this.
+fn take_long_chunks(
+    alloc: Global,
+    extension: usize,
+    served: Served,
+    wanted: Wanted<'_>,
+) -> Result<(), Mismatch> {
+    let stream = in_long_chunks(alloc, extension)?;
+    let answer = wanted_bytes(alloc, &[wanted])?;
+    take_long::<ListBook>(alloc, stream.as_slice(), served, answer.as_slice())
+}
+
+#[test]
+fn a_chunked_body_at_its_raw_limit(rt: HostRuntime) -> Result<(), Mismatch> {
+    let served = Served {
+        acted: 1,
+        faults: 0,
+        end: End::Closed,
+    };
+    let answer = Success(TEXT, b"refused 1 syntax\n");
+    take_long_chunks(rt.alloc(), 570, served, answer)
+}
+
+#[test]
+fn a_chunked_body_past_its_raw_limit(rt: HostRuntime) -> Result<(), Mismatch> {
+    let served = Served {
+        acted: 0,
+        faults: 0,
+        end: End::Refused(413),
+    };
+    take_long_chunks(rt.alloc(), 571, served, TOO_LARGE)
 }

@@ -1,13 +1,15 @@
 //! Requests that are refused: each fails one check, and those behind it.
 
-use crate::tests::bodies::WAITING_HEAD;
-use crate::tests::desk::Wanted::{Continue, Refusal};
-use crate::tests::desk::{Connection, Desk, POST_JOB, SPEEDS, Wanted};
-use crate::tests::messages::PRINT_JOB;
+use http_desk::compare::Mismatch;
+use http_desk::connection::Wanted::{Continue, Refusal};
+use http_desk::connection::{Connection, Wanted};
+use http_desk::desk::keep_empty;
+use http_desk::messages::PRINT_JOB;
+use http_desk::requests::{POST_JOB, POST_WAITING};
+use http_desk::streams::speeds_for;
 use http_front::End;
+use list_book::ListBook;
 use std::alloc::Global;
-use std::process::Abort;
-use std::test::Fail;
 
 pub(super) const BAD: Wanted<'static> = Refusal("400 Bad Request");
 
@@ -19,259 +21,211 @@ const GET_ALLOWED: Wanted<'static> = Refusal("405 Method Not Allowed\r\nAllow: G
 
 const NO_LENGTH: Wanted<'static> = Refusal("411 Length Required");
 
-const TOO_LARGE: Wanted<'static> = Refusal("413 Payload Too Large");
+pub(super) const TOO_LARGE: Wanted<'static> = Refusal("413 Payload Too Large");
 
 const OTHER_TYPE: Wanted<'static> = Refusal("415 Unsupported Media Type");
 
 pub(super) const HEAD_TOO_LARGE: Wanted<'static> = Refusal("431 Request Header Fields Too Large");
 
-/// A stream, by its front and what is behind that, is refused so; a request behind it isn't acted on, and the queue stays empty.
+/// A stream, by its front and what is behind that, is refused so at each of its speeds; a request behind it isn't acted on, and the
+/// queue stays empty.
 pub(super) fn refuse(
-    rt: &impl Abort,
     alloc: Global,
-    (front, stream): (&[u8], &[u8]),
+    front: &[u8],
+    rest: &[u8],
     code: u16,
     wanted: &[Wanted<'_>],
-    most: usize,
-) -> Result<(), Fail> {
-    let mut desk = Desk::new(alloc)?;
+) -> Result<(), Mismatch> {
     let connection = Connection {
-        stream: &[front, stream, POST_JOB, PRINT_JOB],
+        stream: &[front, rest, POST_JOB, PRINT_JOB],
         acted: 0,
         end: End::Refused(code),
         wanted,
     };
-    desk.take(rt, &connection, most)?;
-    desk.take_job(rt, 1)
+    keep_empty::<ListBook>(alloc, &connection, speeds_for(rest.len()))
 }
 
-/// Each of these streams behind that front is refused so, at each speed.
+/// Each of these streams behind that front is refused so.
 fn refuse_behind(
-    rt: &impl Abort,
     alloc: Global,
     front: &[u8],
     code: u16,
     wanted: &[Wanted<'_>],
     streams: &[&[u8]],
-) -> Result<(), Fail> {
+) -> Result<(), Mismatch> {
     for stream in streams {
-        for most in SPEEDS {
-            refuse(rt, alloc, (front, stream), code, wanted, most)?;
-        }
+        refuse(alloc, front, stream, code, wanted)?;
     }
     Ok(())
 }
 
-/// Each of these streams is refused so, at each speed.
+/// Each of these streams is refused so.
 fn refuse_all(
-    rt: &impl Abort,
     alloc: Global,
     code: u16,
     wanted: Wanted<'_>,
     streams: &[&[u8]],
-) -> Result<(), Fail> {
-    refuse_behind(rt, alloc, b"", code, &[wanted], streams)
+) -> Result<(), Mismatch> {
+    refuse_behind(alloc, b"", code, &[wanted], streams)
 }
 
-#[test]
-fn heads_that_cannot_be_read(rt: HostRuntime) -> Result<(), Fail> {
-    refuse_all(
-        &rt,
-        rt.alloc(),
-        400,
-        BAD,
-        &[
-            b"GET /\x80 HTTP/1.1\r\n\r\n",
-            b"\x00",
-            b"GET /device/queue HTTP/2.0\r\n\r\n",
-            b"a b c d\r\n\r\n",
-            b"GET /device/queue HTTP/1.1\r\na b\r\n\r\n",
-        ],
-    )
-}
+const UNREADABLE_HEADS: &[&[u8]] = &[
+    b"GET /\x80 HTTP/1.1\r\n\r\n",
+    b"\x00",
+    b"GET /device/queue HTTP/2.0\r\n\r\n",
+    b"a b c d\r\n\r\n",
+    b"GET /device/queue HTTP/1.1\r\na b\r\n\r\n",
+];
 
 #[test]
-fn lengths_that_cannot_be_read(rt: HostRuntime) -> Result<(), Fail> {
-    refuse_all(
-        &rt,
-        rt.alloc(),
-        400,
-        BAD,
-        &[
-            b"PUT /nothing HTTP/1.1\r\nContent-Length: 5\r\nTransfer-Encoding: chunked\r\n\r\n",
-            b"PUT /nothing HTTP/1.1\r\nTransfer-Encoding: gzip, chunked\r\n\r\n",
-            b"PUT /nothing HTTP/1.1\r\nTransfer-Encoding: identity\r\n\r\n",
-            b"PUT /nothing HTTP/1.1\r\nTransfer-Encoding: chunked\r\nTransfer-Encoding: chunked\r\n\r\n",
-            b"PUT /nothing HTTP/1.1\r\nContent-Length: +5\r\n\r\n",
-            b"PUT /nothing HTTP/1.1\r\nContent-Length: 5, 5\r\n\r\n",
-            b"PUT /nothing HTTP/1.1\r\nContent-Length: 000000000000000000005\r\n\r\n",
-            b"PUT /nothing HTTP/1.1\r\nContent-Length: 5\r\nContent-Length: 05\r\n\r\n",
-            b"PUT /nothing HTTP/1.1\r\nContent-Length:\r\n\r\n",
-        ],
-    )
+fn heads_that_cannot_be_read(rt: HostRuntime) -> Result<(), Mismatch> {
+    refuse_all(rt.alloc(), 400, BAD, UNREADABLE_HEADS)
 }
 
-#[test]
-fn targets_without_a_route(rt: HostRuntime) -> Result<(), Fail> {
-    refuse_all(
-        &rt,
-        rt.alloc(),
-        404,
-        NOT_FOUND,
-        &[
-            b"PUT /nothing HTTP/1.1\r\nContent-Length: 99999999\r\n\r\n",
-            b"PUT / HTTP/1.1\r\nContent-Length: 99999999\r\n\r\n",
-            b"PUT /IPP/print HTTP/1.1\r\nContent-Length: 99999999\r\n\r\n",
-            b"PUT /ipp/print/ HTTP/1.1\r\n\r\n",
-            b"PUT /ipp/print/a/b HTTP/1.1\r\n\r\n",
-            b"PUT /device/document/1 HTTP/1.1\r\n\r\n",
-            b"PUT http://h HTTP/1.1\r\n\r\n",
-            b"PUT HTTP://h/device/queue HTTP/1.1\r\n\r\n",
-            b"OPTIONS * HTTP/1.1\r\n\r\n",
-        ],
-    )
-}
+const UNREADABLE_LENGTHS: &[&[u8]] = &[
+    b"POST /ipp/print HTTP/1.1\r\nExpect: 100-continue\r\nContent-Type: application/ipp\r\nContent-Length: 145\r\nTransfer-Encoding: chunked\r\n\r\n",
+    b"PUT /nothing HTTP/1.1\r\nContent-Length: 5\r\nTransfer-Encoding: chunked\r\n\r\n",
+    b"PUT /nothing HTTP/1.1\r\nTransfer-Encoding: gzip, chunked\r\n\r\n",
+    b"PUT /nothing HTTP/1.1\r\nTransfer-Encoding: identity\r\n\r\n",
+    b"PUT /nothing HTTP/1.1\r\nTransfer-Encoding: chunked\r\nTransfer-Encoding: chunked\r\n\r\n",
+    b"PUT /nothing HTTP/1.1\r\nContent-Length: +5\r\n\r\n",
+    b"PUT /nothing HTTP/1.1\r\nContent-Length: 5, 5\r\n\r\n",
+    b"PUT /nothing HTTP/1.1\r\nContent-Length: 000000000000000000005\r\n\r\n",
+    b"PUT /nothing HTTP/1.1\r\nContent-Length: 5\r\nContent-Length: 05\r\n\r\n",
+    b"PUT /nothing HTTP/1.1\r\nContent-Length:\r\n\r\n",
+];
 
 #[test]
-fn other_methods_than_post(rt: HostRuntime) -> Result<(), Fail> {
-    refuse_all(
-        &rt,
-        rt.alloc(),
-        405,
-        POST_ALLOWED,
-        &[
-            b"PUT /ipp/print HTTP/1.1\r\nContent-Length: 99999999\r\n\r\n",
-            b"GET /ipp/print HTTP/1.1\r\nContent-Length: 99999999\r\n\r\n",
-            b"post /ipp/print/1 HTTP/1.1\r\n\r\n",
-            b"HEAD /device/report HTTP/1.1\r\n\r\n",
-        ],
-    )
+fn lengths_that_cannot_be_read(rt: HostRuntime) -> Result<(), Mismatch> {
+    refuse_all(rt.alloc(), 400, BAD, UNREADABLE_LENGTHS)
 }
 
-#[test]
-fn other_methods_than_get(rt: HostRuntime) -> Result<(), Fail> {
-    refuse_all(
-        &rt,
-        rt.alloc(),
-        405,
-        GET_ALLOWED,
-        &[
-            b"HEAD /device/queue HTTP/1.1\r\nContent-Length: 1\r\n\r\n",
-            b"POST /device/queue HTTP/1.1\r\n\r\n",
-            b"DELETE /device/document/a/b HTTP/1.1\r\nContent-Length: 99999999\r\n\r\n",
-        ],
-    )
-}
+const WITHOUT_A_ROUTE: &[&[u8]] = &[
+    b"POST /nothing HTTP/1.1\r\nExpect: 100-continue\r\nContent-Type: application/ipp\r\nContent-Length: 145\r\n\r\n",
+    b"PUT /nothing HTTP/1.1\r\nContent-Length: 99999999\r\n\r\n",
+    b"PUT / HTTP/1.1\r\nContent-Length: 99999999\r\n\r\n",
+    b"PUT /IPP/print HTTP/1.1\r\nContent-Length: 99999999\r\n\r\n",
+    b"PUT /ipp/print/ HTTP/1.1\r\n\r\n",
+    b"PUT /ipp/print/a/b HTTP/1.1\r\n\r\n",
+    b"PUT /device/document/1 HTTP/1.1\r\n\r\n",
+    b"PUT http://h HTTP/1.1\r\n\r\n",
+    b"PUT HTTP://h/device/queue HTTP/1.1\r\n\r\n",
+    b"OPTIONS * HTTP/1.1\r\n\r\n",
+];
 
 #[test]
-fn bodies_that_may_not_come(rt: HostRuntime) -> Result<(), Fail> {
-    refuse_all(
-        &rt,
-        rt.alloc(),
-        400,
-        BAD,
-        &[
-            b"GET /device/queue HTTP/1.1\r\nContent-Length: 1\r\n\r\n",
-            b"GET /device/queue HTTP/1.1\r\nContent-Length: 99999999\r\n\r\n",
-            b"GET /device/document/01/1 HTTP/1.1\r\nTransfer-Encoding: chunked\r\n\r\n",
-        ],
-    )
+fn targets_without_a_route(rt: HostRuntime) -> Result<(), Mismatch> {
+    refuse_all(rt.alloc(), 404, NOT_FOUND, WITHOUT_A_ROUTE)
 }
 
-#[test]
-fn bodies_without_a_length(rt: HostRuntime) -> Result<(), Fail> {
-    refuse_all(
-        &rt,
-        rt.alloc(),
-        411,
-        NO_LENGTH,
-        &[
-            b"POST /ipp/print HTTP/1.1\r\n\r\n",
-            b"POST /device/report HTTP/1.1\r\nContent-Encoding: gzip\r\n\r\n",
-        ],
-    )
-}
+const NOT_BY_POST: &[&[u8]] = &[
+    b"PUT /ipp/print HTTP/1.1\r\nExpect: 100-continue\r\nContent-Type: application/ipp\r\nContent-Length: 145\r\n\r\n",
+    b"PUT /ipp/print HTTP/1.1\r\nContent-Length: 99999999\r\n\r\n",
+    b"GET /ipp/print HTTP/1.1\r\nContent-Length: 99999999\r\n\r\n",
+    b"post /ipp/print/1 HTTP/1.1\r\n\r\n",
+    b"HEAD /device/report HTTP/1.1\r\n\r\n",
+];
 
 #[test]
-fn bodies_of_too_many_bytes(rt: HostRuntime) -> Result<(), Fail> {
-    refuse_all(
-        &rt,
-        rt.alloc(),
-        413,
-        TOO_LARGE,
-        &[
-            b"POST /ipp/print HTTP/1.1\r\nContent-Length: 16777217\r\n\r\n",
-            b"POST /ipp/print HTTP/1.1\r\nContent-Length: 99999999999999999999\r\n\r\n",
-        ],
-    )
+fn other_methods_than_post(rt: HostRuntime) -> Result<(), Mismatch> {
+    refuse_all(rt.alloc(), 405, POST_ALLOWED, NOT_BY_POST)
 }
 
-#[test]
-fn other_types(rt: HostRuntime) -> Result<(), Fail> {
-    refuse_all(
-        &rt,
-        rt.alloc(),
-        415,
-        OTHER_TYPE,
-        &[
-            b"POST /ipp/print HTTP/1.1\r\nContent-Length: 16777216\r\n\r\n",
-            b"POST /ipp/print HTTP/1.1\r\nContent-Type: text/plain\r\nContent-Length: 7\r\n\r\n",
-            b"POST /device/report HTTP/1.1\r\nContent-Type: application/ipp\r\nContent-Length: 7\r\n\r\n",
-            b"POST /ipp/print HTTP/1.1\r\nContent-Type: application/ipp\r\nContent-Type: text/plain\r\nContent-Length: 7\r\n\r\n",
-            b"POST /ipp/print HTTP/1.1\r\nContent-Type: application/ipp\t;x\r\nContent-Length: 7\r\n\r\n",
-            b"POST /ipp/print HTTP/1.1\r\nContent-Type: application/ipp\r\nContent-Encoding: gzip\r\nContent-Length: 7\r\n\r\n",
-            b"POST /ipp/print HTTP/1.1\r\nContent-Type: application/ipp\r\nContent-Encoding:\r\nContent-Length: 7\r\n\r\n",
-            b"POST /ipp/print HTTP/1.1\r\nContent-Type: application/ipp\r\nContent-Encoding: identity\r\nContent-Encoding: gzip\r\nTransfer-Encoding: chunked\r\n\r\nzz\r\n",
-        ],
-    )
-}
+const NOT_BY_GET: &[&[u8]] = &[
+    b"HEAD /device/queue HTTP/1.1\r\nContent-Length: 1\r\n\r\n",
+    b"POST /device/queue HTTP/1.1\r\n\r\n",
+    b"DELETE /device/document/a/b HTTP/1.1\r\nContent-Length: 99999999\r\n\r\n",
+];
 
 #[test]
-fn bodies_that_are_no_message(rt: HostRuntime) -> Result<(), Fail> {
-    refuse_all(
-        &rt,
-        rt.alloc(),
-        400,
-        BAD,
-        &[
-            b"POST /ipp/print HTTP/1.1\r\nContent-Type: application/ipp\r\nContent-Length: 7\r\n\r\n\x01\x01\x00\x02\x00\x00\x00",
-            b"POST /ipp/print HTTP/1.1\r\nContent-Type: application/ipp\r\nContent-Length: 0\r\n\r\n",
-            b"POST /ipp/print HTTP/1.1\r\nContent-Type: application/ipp\r\nTransfer-Encoding: chunked\r\n\r\n0\r\n\r\n",
-        ],
-    )
+fn other_methods_than_get(rt: HostRuntime) -> Result<(), Mismatch> {
+    refuse_all(rt.alloc(), 405, GET_ALLOWED, NOT_BY_GET)
 }
 
-#[test]
-fn chunks_that_cannot_be_read(rt: HostRuntime) -> Result<(), Fail> {
-    refuse_behind(
-        &rt,
-        rt.alloc(),
-        WAITING_HEAD,
-        400,
-        &[Continue, BAD],
-        &[
-            b"zz\r\n",
-            b"\r\n",
-            b"1\r\nab",
-            b"1\r\na\n",
-            b"00000000000000001\r\n",
-            b"0\r\na b\r\n\r\n",
-        ],
-    )
-}
+const BODIES_OF_GET: &[&[u8]] = &[
+    b"GET /device/queue HTTP/1.1\r\nContent-Length: 1\r\n\r\n",
+    b"GET /device/queue HTTP/1.1\r\nContent-Length: 99999999\r\n\r\n",
+    b"GET /device/document/01/1 HTTP/1.1\r\nTransfer-Encoding: chunked\r\n\r\n",
+];
 
 #[test]
-fn chunks_of_too_many_bytes(rt: HostRuntime) -> Result<(), Fail> {
-    refuse_behind(
-        &rt,
-        rt.alloc(),
-        WAITING_HEAD,
-        413,
-        &[Continue, TOO_LARGE],
-        &[
-            b"1000001\r\n",
-            b"FFFFFFFFFFFFFFFF\r\n",
-            b"1\r\na\r\n1000000\r\n",
-        ],
-    )
+fn bodies_that_may_not_come(rt: HostRuntime) -> Result<(), Mismatch> {
+    refuse_all(rt.alloc(), 400, BAD, BODIES_OF_GET)
+}
+
+const WITHOUT_A_LENGTH: &[&[u8]] = &[
+    b"POST /ipp/print HTTP/1.1\r\nExpect: 100-continue\r\n\r\n",
+    b"POST /ipp/print HTTP/1.1\r\n\r\n",
+    b"POST /device/report HTTP/1.1\r\nContent-Encoding: gzip\r\n\r\n",
+];
+
+#[test]
+fn bodies_without_a_length(rt: HostRuntime) -> Result<(), Mismatch> {
+    refuse_all(rt.alloc(), 411, NO_LENGTH, WITHOUT_A_LENGTH)
+}
+
+const TOO_LONG: &[&[u8]] = &[
+    b"POST /ipp/print HTTP/1.1\r\nExpect: 100-continue\r\nContent-Type: application/ipp\r\nContent-Length: 16777217\r\n\r\n",
+    b"POST /ipp/print HTTP/1.1\r\nContent-Length: 16777217\r\n\r\n",
+    b"POST /ipp/print HTTP/1.1\r\nContent-Length: 99999999999999999999\r\n\r\n",
+];
+
+#[test]
+fn bodies_of_too_many_bytes(rt: HostRuntime) -> Result<(), Mismatch> {
+    refuse_all(rt.alloc(), 413, TOO_LARGE, TOO_LONG)
+}
+
+const OTHER_TYPES: &[&[u8]] = &[
+    b"POST /ipp/print HTTP/1.1\r\nExpect: 100-continue\r\nContent-Type: text/plain\r\nContent-Length: 145\r\n\r\n",
+    b"POST /ipp/print HTTP/1.1\r\nContent-Length: 16777216\r\n\r\n",
+    b"POST /ipp/print HTTP/1.1\r\nContent-Type: text/plain\r\nContent-Length: 7\r\n\r\n",
+    b"POST /device/report HTTP/1.1\r\nContent-Type: application/ipp\r\nContent-Length: 7\r\n\r\n",
+    b"POST /ipp/print HTTP/1.1\r\nContent-Type: application/ipp\r\nContent-Type: text/plain\r\nContent-Length: 7\r\n\r\n",
+    b"POST /ipp/print HTTP/1.1\r\nContent-Type: application/ipp\t;x\r\nContent-Length: 7\r\n\r\n",
+    b"POST /ipp/print HTTP/1.1\r\nContent-Type: application/ipp\r\nContent-Encoding: gzip\r\nContent-Length: 7\r\n\r\n",
+    b"POST /ipp/print HTTP/1.1\r\nContent-Type: application/ipp\r\nContent-Encoding:\r\nContent-Length: 7\r\n\r\n",
+    b"POST /ipp/print HTTP/1.1\r\nContent-Type: application/ipp\r\nContent-Encoding: identity\r\nContent-Encoding: gzip\r\nTransfer-Encoding: chunked\r\n\r\nzz\r\n",
+];
+
+#[test]
+fn other_types(rt: HostRuntime) -> Result<(), Mismatch> {
+    refuse_all(rt.alloc(), 415, OTHER_TYPE, OTHER_TYPES)
+}
+
+const NO_MESSAGES: &[&[u8]] = &[
+    b"POST /ipp/print HTTP/1.1\r\nContent-Type: application/ipp\r\nContent-Length: 7\r\n\r\n\x01\x01\x00\x02\x00\x00\x00",
+    b"POST /ipp/print HTTP/1.1\r\nContent-Type: application/ipp\r\nContent-Length: 0\r\n\r\n",
+    b"POST /ipp/print HTTP/1.1\r\nContent-Type: application/ipp\r\nTransfer-Encoding: chunked\r\n\r\n0\r\n\r\n",
+];
+
+#[test]
+fn bodies_that_are_no_message(rt: HostRuntime) -> Result<(), Mismatch> {
+    refuse_all(rt.alloc(), 400, BAD, NO_MESSAGES)
+}
+
+const UNREADABLE_CHUNKS: &[&[u8]] = &[
+    b"zz\r\n",
+    b"\r\n",
+    b"1\r\nab",
+    b"1\r\na\n",
+    b"00000000000000001\r\n",
+    b"0\r\na b\r\n\r\n",
+];
+
+#[test]
+fn chunks_that_cannot_be_read(rt: HostRuntime) -> Result<(), Mismatch> {
+    let wanted = [Continue, BAD];
+    refuse_behind(rt.alloc(), POST_WAITING, 400, &wanted, UNREADABLE_CHUNKS)
+}
+
+const TOO_LARGE_CHUNKS: &[&[u8]] = &[
+    b"1000001\r\n",
+    b"FFFFFFFFFFFFFFFF\r\n",
+    b"1\r\na\r\n1000000\r\n",
+];
+
+#[test]
+fn chunks_of_too_many_bytes(rt: HostRuntime) -> Result<(), Mismatch> {
+    let wanted = [Continue, TOO_LARGE];
+    refuse_behind(rt.alloc(), POST_WAITING, 413, &wanted, TOO_LARGE_CHUNKS)
 }

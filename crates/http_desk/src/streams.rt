@@ -1,11 +1,22 @@
-//! Readers and writers that are slow, or fail.
+//! Readers and writers that are slow, have no end, or fail.
 
 use std::io;
 use std::io::{Read, Write};
 
+/// How many bytes a read gives at most.
+pub const SPEEDS: [usize; 4] = [1, 2, 7, 4096];
+
+/// The same where a stream is long: what is there of a head or a line is looked at anew behind each read.
+const LONG_SPEEDS: [usize; 2] = [100, 4096];
+
+/// The speeds at which a stream of so many bytes comes.
+pub fn speeds_for(length: usize) -> &'static [usize] {
+    if length < 8192 { &SPEEDS } else { &LONG_SPEEDS }
+}
+
 /// Gives at most so many bytes at each read, and counts the reads.
 #[derive(Drop)]
-pub(super) struct SlowReader<'a> {
+pub struct SlowReader<'a> {
     pub rest: &'a [u8],
     pub most: usize,
     pub reads: usize,
@@ -19,9 +30,33 @@ impl Read for SlowReader<'_> {
     }
 }
 
+/// Gives some bytes, and then one byte for ever, at most so many at each read. It counts the bytes that it gave.
+#[derive(Drop)]
+pub struct EndlessReader<'a> {
+    pub rest: &'a [u8],
+    pub byte: u8,
+    pub most: usize,
+    pub given: usize,
+}
+
+impl Read for EndlessReader<'_> {
+    fn read(&mut self, buf: &mut [u8]) -> io::Result<usize> {
+        let wanted = buf.len().min(self.most);
+        let part = &mut buf[..wanted];
+        let count = if self.rest.is_empty() {
+            part.fill(self.byte);
+            wanted
+        } else {
+            self.rest.read(part)?
+        };
+        self.given = self.given.saturating_add(count);
+        Ok(count)
+    }
+}
+
 /// Gives some bytes, and then fails.
 #[derive(Drop)]
-pub(super) struct BrokenReader<'a> {
+pub struct BrokenReader<'a> {
     pub rest: &'a [u8],
 }
 
@@ -36,7 +71,7 @@ impl Read for BrokenReader<'_> {
 
 /// Takes so many bytes in all and at most so many at each write, and then fails.
 #[derive(Drop)]
-pub(super) struct BrokenWriter {
+pub struct BrokenWriter {
     pub room: usize,
     pub most: usize,
     pub taken: Vec<u8>,

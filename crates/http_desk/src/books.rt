@@ -1,0 +1,46 @@
+//! The books that a desk is run over: the plain one, and one in tables in memory.
+
+use crate::compare::{Mismatch, no_book};
+use list_book::ListBook;
+use queue_core::book::QueueBook;
+use queue_core::settings::Settings;
+use queue_store::TableBook;
+use sqlite::Connection;
+use sqlite_trees::memory::MemStore;
+use std::alloc::Global;
+
+/// A book in tables in memory.
+pub type MemoryBook = TableBook<MemStore>;
+
+/// A book that a desk can begin with.
+pub trait DeskBook: QueueBook + Drop + Sized {
+    /// What it is called where a comparison fails.
+    fn name() -> &'static str;
+
+    /// The book of an empty queue with these settings.
+    fn empty(alloc: Global, settings: Settings) -> Result<Self, Mismatch>;
+}
+
+impl DeskBook for ListBook {
+    fn name() -> &'static str {
+        "lists"
+    }
+
+    fn empty(alloc: Global, settings: Settings) -> Result<ListBook, Mismatch> {
+        Ok(ListBook::new(alloc, settings))
+    }
+}
+
+impl DeskBook for MemoryBook {
+    fn name() -> &'static str {
+        "tables"
+    }
+
+    fn empty(alloc: Global, settings: Settings) -> Result<MemoryBook, Mismatch> {
+        let conn = Connection::open_in_memory(alloc)?;
+        match TableBook::create(alloc, conn, settings) {
+            Ok(book) => Ok(book),
+            Err((fault, _conn)) => Err(no_book("tables", fault)),
+        }
+    }
+}

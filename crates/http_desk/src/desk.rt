@@ -1,0 +1,250 @@
+//! A queue in a book, and the connections that a test makes to it.
+
+use crate::books::{DeskBook, MemoryBook};
+use crate::compare::{Mismatch, Place};
+use crate::connection::{Connection, Wanted, closed, joined, wanted_bytes};
+use crate::messages::{PRINT_JOB, job_reply};
+use crate::requests::{IPP, POST_JOB};
+use crate::streams::{BrokenWriter, SPEEDS, SlowReader};
+use grants_csv::{Imported, import};
+use http_front::{ServeCause, ServeFault, Served, serve};
+use list_book::ListBook;
+use queue_core::book::QueueBook;
+use queue_core::settings::Settings;
+use std::alloc::Global;
+use std::io::{Read, Write};
+
+/// What every connection and file comes at.
+const MOMENT: u32 = 1;
+
+/// A printer with an estimate of 20 pages.
+pub fn settings(alloc: Global) -> Result<Settings, Mismatch> {
+    let settings = Settings::new(alloc, "ipp://localhost/ipp/print", "release", 20, 0)?;
+    Ok(settings)
+}
+
+/// A queue of a printer with an estimate of 20 pages, in a book.
+#[derive(Drop)]
+pub struct Desk<B: QueueBook> {
+    alloc: Global,
+    settings: Settings,
+    book: B,
+    name: &'static str,
+}
+
+impl<B: DeskBook> Desk<B> {
+    /// An empty queue.
+    pub fn new(alloc: Global) -> Result<Desk<B>, Mismatch> {
+        let book = B::empty(alloc, settings(alloc)?)?;
+        Desk::over(alloc, book, B::name())
+    }
+
+    /// A queue in which alice has 30 pages.
+    pub fn granted(alloc: Global) -> Result<Desk<B>, Mismatch> {
+        let mut desk = Desk::new(alloc)?;
+        desk.grant()?;
+        Ok(desk)
+    }
+}
+
+impl<B: QueueBook + Drop> Desk<B> {
+    /// The queue of a book of such a printer, by its name.
+    pub fn over(alloc: Global, book: B, name: &'static str) -> Result<Desk<B>, Mismatch> {
+        let settings = settings(alloc)?;
+        Ok(Desk {
+            alloc,
+            settings,
+            book,
+            name,
+        })
+    }
+
+    /// The book.
+    pub fn into_book(self) -> B {
+        let Desk {
+            alloc: _,
+            settings: _,
+            book,
+            name: _,
+        } = self;
+        book
+    }
+
+    /// Where a comparison is made, with so many bytes a read at most.
+    pub fn place(&self, most: usize) -> Place {
+        Place {
+            book: self.name,
+            most,
+        }
+    }
+
+    /// Grants alice 30 pages.
+    fn grant(&mut self) -> Result<(), Mismatch> {
+        let file = b"batch,account,pages\nf24,alice,30\n";
+        match import(self.alloc, &mut self.book, MOMENT, file) {
+            Ok(
+                Imported {
+                    added: 1,
+                    repeats: 0,
+                },
+            ) => Ok(()),
+            _ => Err(Mismatch::Book { book: self.name }),
+        }
+    }
+
+    /// Serves a connection.
+    fn serve<R: Read, W: Write>(
+        &mut self,
+        reader: &mut R,
+        writer: &mut W,
+    ) -> Result<Served, ServeFault> {
+        serve(
+            self.alloc,
+            reader,
+            writer,
+            &mut self.book,
+            &self.settings,
+            MOMENT,
+        )
+    }
+
+    /// A connection is served as it is to be, where a read gives at most so many bytes.
+    pub fn take(&mut self, connection: &Connection<'_>, most: usize) -> Result<(), Mismatch> {
+        let stream = joined(self.alloc, connection.stream)?;
+        let wanted = wanted_bytes(self.alloc, connection.wanted)?;
+        let served = Served {
+            acted: connection.acted,
+            faults: 0,
+            end: connection.end,
+        };
+        self.take_bytes(stream.as_slice(), served, wanted.as_slice(), most)
+    }
+
+    /// A stream is served so, with these bytes as its answers, and no read more than it has bytes but for one.
+    pub fn take_bytes(
+        &mut self,
+        stream: &[u8],
+        wanted: Served,
+        answers: &[u8],
+        most: usize,
+    ) -> Result<(), Mismatch> {
+        let mut reader = SlowReader {
+            rest: stream,
+            most,
+            reads: 0,
+        };
+        self.take_reader(&mut reader, Ok(wanted), answers, most)?;
+        let reads = stream.len().saturating_add(1);
+        self.place(most).few_reads(reader.reads, reads)
+    }
+
+    /// What a reader gives, at most so many bytes at a time, comes to this outcome, with these bytes as its answers.
+    pub fn take_reader<R: Read>(
+        &mut self,
+        reader: &mut R,
+        wanted: Result<Served, ServeFault>,
+        answers: &[u8],
+        most: usize,
+    ) -> Result<(), Mismatch> {
+        let mut out = Vec::new(self.alloc);
+        let served = self.serve(reader, &mut out);
+        let place = self.place(most);
+        place.same_bytes(answers, out.as_slice())?;
+        place.same_outcome(wanted, served)
+    }
+
+    /// A stream's answers go to a writer that takes so many bytes in all, and at most so many at once: it has that front of
+    /// them when it fails, and so many requests have acted.
+    pub fn take_writer(
+        &mut self,
+        stream: &[u8],
+        (room, most): (usize, usize),
+        acted: u32,
+        answers: &[u8],
+    ) -> Result<(), Mismatch> {
+        let mut reader = stream;
+        let mut writer = BrokenWriter {
+            room,
+            most,
+            taken: Vec::new(self.alloc),
+        };
+        let served = self.serve(&mut reader, &mut writer);
+        let fault = ServeFault {
+            acted,
+            faults: 0,
+            cause: ServeCause::Write,
+        };
+        let place = self.place(room);
+        place.same_outcome(Err(fault), served)?;
+        let front = answers.get(..room).unwrap_or(answers);
+        place.same_bytes(front, writer.taken.as_slice())
+    }
+
+    /// Connections, one after another.
+    pub fn take_each(
+        &mut self,
+        connections: &[Connection<'_>],
+        most: usize,
+    ) -> Result<(), Mismatch> {
+        for connection in connections {
+            self.take(connection, most)?;
+        }
+        Ok(())
+    }
+
+    /// The next Print-Job gets this number, of 1 to 3.
+    pub fn take_job(&mut self, number: u32) -> Result<(), Mismatch> {
+        let wanted = [Wanted::Success(IPP, job_reply(number))];
+        self.take(&closed(&[POST_JOB, PRINT_JOB], 1, &wanted), 4096)
+    }
+}
+
+/// Connections, one after another to a queue in such a book, in which alice has 30 pages.
+fn take_at<B: DeskBook>(
+    alloc: Global,
+    connections: &[Connection<'_>],
+    most: usize,
+) -> Result<(), Mismatch> {
+    let mut desk = Desk::<B>::granted(alloc)?;
+    desk.take_each(connections, most)
+}
+
+/// Connections to such a queue, at each speed.
+pub fn take_all<B: DeskBook>(
+    alloc: Global,
+    connections: &[Connection<'_>],
+) -> Result<(), Mismatch> {
+    for most in SPEEDS {
+        take_at::<B>(alloc, connections, most)?;
+    }
+    Ok(())
+}
+
+/// Connections to such a queue in each book, at each speed.
+pub fn take_all_over_both(alloc: Global, connections: &[Connection<'_>]) -> Result<(), Mismatch> {
+    take_all::<ListBook>(alloc, connections)?;
+    take_all::<MemoryBook>(alloc, connections)
+}
+
+/// A connection to an empty queue leaves it empty: the next Print-Job is job 1.
+fn keep_empty_at<B: DeskBook>(
+    alloc: Global,
+    connection: &Connection<'_>,
+    most: usize,
+) -> Result<(), Mismatch> {
+    let mut desk = Desk::<B>::new(alloc)?;
+    desk.take(connection, most)?;
+    desk.take_job(1)
+}
+
+/// A connection to an empty queue leaves it empty, at each of these speeds.
+pub fn keep_empty<B: DeskBook>(
+    alloc: Global,
+    connection: &Connection<'_>,
+    speeds: &[usize],
+) -> Result<(), Mismatch> {
+    for most in speeds {
+        keep_empty_at::<B>(alloc, connection, *most)?;
+    }
+    Ok(())
+}

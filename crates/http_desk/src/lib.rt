@@ -1,0 +1,16 @@
+//! What the tests of HTTP connections share: a queue in a book of either kind, the requests that are sent to it, and the answers that are wanted.
+//!
+//! A `desk` has a queue and serves connections to it, over any book that keeps a queue; `books` has those that it is run over. A connection
+//! is data (`connection`): the bytes that a client sends and what it is to get. Requests and IPP messages stand in `requests` and `messages`,
+//! readers and writers that are slow or fail in `streams`. A comparison that fails is told with the name of its book (`compare`).
+//!
+//! What is promised is that a comparison succeeds just where what it compares is the same. All else is seen when the tests run.
+#![tactic(auto)]
+
+pub mod books;
+pub mod compare;
+pub mod connection;
+pub mod desk;
+pub mod messages;
+pub mod requests;
+pub mod streams;

@@ -1,0 +1,7 @@
+//! Clients of a server, in turn.
+
+mod clients;
+mod listening;
+mod moments;
+mod patience;
+mod server;
