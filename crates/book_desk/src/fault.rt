@@ -2,7 +2,7 @@
 
 use ipp_ops::TooShort;
 use queue_core::book::BookFault;
-use queue_core::settings::SettingFault;
+use queue_types::settings::SettingFault;
 use std::alloc::{AllocError, AllocFailed};
 
 /// Why a step is not well.

@@ -4,7 +4,7 @@ use crate::desk::Desk;
 use crate::fault::{Place, RowFault, StepFault};
 use crate::step::Step;
 use queue_core::book::QueueBook;
-use queue_core::settings::Settings;
+use queue_types::settings::Settings;
 use std::alloc::Global;
 
 /// A way to keep a queue.

@@ -1,5 +1,5 @@
 //! The books that tests of a print queue run over alike: in lists, in tables in memory, in tables in memory that are
-//! closed and adopted before every step, and in tables in a file.
+//! closed and adopted before every step, and in tables in a file that is opened again before every step.
 #![tactic(auto)]
 
 mod books;

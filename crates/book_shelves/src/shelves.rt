@@ -3,12 +3,12 @@
 use book_desk::{Shelf, StepFault};
 use list_book::ListBook;
 use queue_core::book::BookFault;
-use queue_core::settings::Settings;
 use queue_store::TableBook;
+use queue_types::settings::Settings;
 use sqlite::{Alter, Connection, MemStore};
 use sqlite_std_file::{FileFrom, Unknown};
 use sqlite_store::FileStore;
-use std::alloc::Global;
+use std::alloc::{AllocError, Global};
 use std::fs;
 
 /// Books in lists.
@@ -104,11 +104,22 @@ impl Shelf for Adopted {
     }
 }
 
-/// Books in tables in a file of a folder. A new one empties the folder.
+/// Books in tables in a file of a folder that are let go, without being closed, and opened again before every step. A new
+/// one empties the folder.
 #[derive(Drop)]
 pub struct InFile<'a> {
     pub(crate) rt: &'a HostRuntime,
     pub(crate) folder: &'a str,
+}
+
+/// A book that was opened, where it could be.
+fn found<B: Drop>(opened: Result<B, BookFault>) -> Result<B, StepFault> {
+    opened.map_err(StepFault::Book)
+}
+
+/// The book that the file at a path holds.
+fn book_at(rt: &HostRuntime, path: &str) -> Result<TableBook<TableFile>, BookFault> {
+    TableBook::open_from(rt, path, Unknown)
 }
 
 /// The store of tables in a file.
@@ -124,6 +135,11 @@ impl InFile<'_> {
         }
     }
 
+    /// The path of the file.
+    fn path(&self, alloc: Global) -> Result<String, AllocError> {
+        format!(in alloc; "{}/queue", self.folder)
+    }
+
     /// The tables of the file at a path.
     fn open(&self, path: &str) -> Result<Connection<TableFile>, StepFault> {
         match Connection::open_from(self.rt, path, false, Unknown) {
@@ -135,7 +151,7 @@ impl InFile<'_> {
     /// The tables of a new file in the folder, which has nothing else.
     fn open_new(&self, alloc: Global) -> Result<Connection<TableFile>, StepFault> {
         self.empty_folder()?;
-        let path = format!(in alloc; "{}/queue", self.folder)?;
+        let path = self.path(alloc)?;
         self.open(path.as_str())
     }
 }
@@ -151,7 +167,9 @@ impl Shelf for InFile<'_> {
         new_tables(alloc, self.open_new(alloc), settings)
     }
 
-    fn next_book(&self, _alloc: Global, book: Self::Book) -> Result<Self::Book, StepFault> {
-        Ok(book)
+    fn next_book(&self, alloc: Global, book: Self::Book) -> Result<Self::Book, StepFault> {
+        drop(book);
+        let path = self.path(alloc)?;
+        found(book_at(self.rt, path.as_str()))
     }
 }

@@ -2,10 +2,12 @@
 use Rattle.std.specs.Prelude.{◌≡◌, ◌⊎◌}
 use Rattle.queue_core.specs.declared.book.BookFault.{BookFault}
 use Rattle.queue_core.specs.declared.book.BookFault.TheVariants as book
-use Rattle.queue_core.specs.declared.settings.SettingFault.{SettingFault}
-use Rattle.queue_core.specs.declared.settings.SettingFault.TheVariants as setting
+use Rattle.queue_types.specs.declared.settings.SettingFault.{SettingFault}
+use Rattle.queue_types.specs.declared.settings.SettingFault.TheVariants as setting
 use Rattle.office.specs.declared.fault.OfficeFault.{OfficeFault}
 use Rattle.office.specs.declared.fault.OfficeFault.TheVariants as office
+use Rattle.replay.specs.declared.fault.Fault.{Fault as ReplayFault}
+use Rattle.replay.specs.declared.fault.Fault.TheVariants as replay
 use Rattle.command_ends.specs.declared.fault.Fault.{Fault}
 use Rattle.command_ends.specs.declared.fault.Fault.TheVariants.{Memory, Disk, Damaged, NoAccount, Import, BadSetting, Io}
 
@@ -25,6 +27,13 @@ fault_of_office office.Damaged = Damaged
 fault_of_office office.NoAccount = NoAccount
 fault_of_office (office.Import code row) = Import code row
 fault_of_office office.Io = Io
+
+abbrev pub fault_of_replay : ReplayFault → Fault
+fault_of_replay replay.Memory = Memory
+fault_of_replay replay.Disk = Disk
+fault_of_replay replay.Damaged = Damaged
+fault_of_replay replay.BadSetting = BadSetting
+fault_of_replay replay.Io = Io
 
 -- a file or a stream failed
 abbrev pub IsOfStream : Fault → Type 0

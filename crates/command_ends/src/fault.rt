@@ -1,11 +1,11 @@
 //! Why a command is refused.
 ghost use Rattle.std.specs.Prelude.{◌≡◌};
 ghost use Rattle.command_ends.specs.declared.fault.Fault.TheVariants as faults;
-ghost use Rattle.command_ends.specs.Faults.{fault_of_book, fault_of_office, fault_of_setting};
+ghost use Rattle.command_ends.specs.Faults.{fault_of_book, fault_of_office, fault_of_replay, fault_of_setting};
 
 use office::OfficeFault;
 use queue_core::book::BookFault;
-use queue_core::settings::SettingFault;
+use queue_types::settings::SettingFault;
 use std::alloc::{AllocError, AllocFailed};
 use std::{error, fmt, io};
 
@@ -105,6 +105,8 @@ impl From<OfficeFault> for Fault {
 }
 
 impl From<replay::Fault> for Fault {
+    ghost from_gives = { λ told fault. fault ≡ fault_of_replay told };
+
     fn from(told: replay::Fault) -> Fault {
         match told {
             replay::Fault::Memory => Fault::Memory,

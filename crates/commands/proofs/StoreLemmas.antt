@@ -5,12 +5,12 @@ use Rattle.sqlite.specs.Files.{HoldsDatabase}
 use Rattle.sqlite_trees.specs.Tree.{Trees}
 use Rattle.sqlite_trees.specs.declared.store.Store.{Ghosts}
 use Rattle.sqlite_wal.specs.Recovery.{Image}
-use Rattle.queue_core.specs.Settings.{AreSettings}
+use Rattle.queue_types.specs.Settings.{AreSettings}
 use Rattle.queue_core.specs.World.{World}
 use Rattle.queue_core.specs.declared.book.BookFault.{BookFault}
 use Rattle.queue_core.specs.declared.book.BookFault.TheVariants as book
-use Rattle.queue_core.specs.declared.settings.SettingFault.{SettingFault}
-use Rattle.queue_core.specs.declared.settings.SettingFault.TheVariants as setting
+use Rattle.queue_types.specs.declared.settings.SettingFault.{SettingFault}
+use Rattle.queue_types.specs.declared.settings.SettingFault.TheVariants as setting
 use Rattle.queue_tables.specs.Content.{HasContent, content_of}
 use Rattle.queue_store.specs.Kept.{HasWorld, IsHonest, StandsFor, shown_by}
 use Rattle.queue_store.specs.declared.book.TableBook.{TableBook}

@@ -4,7 +4,7 @@ use Rattle.command_words.specs.declared.outcome.Init.{Init}
 use Rattle.sqlite.specs.Files.{HoldsDatabase}
 use Rattle.sqlite_trees.specs.Tree.{Trees}
 use Rattle.sqlite_wal.specs.Recovery.{Image}
-use Rattle.queue_core.specs.Settings.{SettingValues}
+use Rattle.queue_types.specs.Settings.{SettingValues}
 use Rattle.queue_core.specs.World.{World}
 use Rattle.queue_tables.specs.Content.{HasContent, content_of}
 

@@ -9,7 +9,7 @@ ghost use Rattle.page_statements.specs.Statement.{sheet_text};
 ghost use Rattle.queue_core.specs.Limits.{IsMoment};
 ghost use Rattle.queue_core.specs.Shown.{sheet_of};
 ghost use Rattle.queue_core.specs.World.{World};
-ghost use Rattle.queue_core.specs.declared.sheet.AccountSheet.{AccountSheet as Sheet};
+ghost use Rattle.queue_types.specs.declared.sheet.AccountSheet.{AccountSheet as Sheet};
 ghost use Rattle.queue_store.specs.Kept.{IsHonest, StandsFor};
 ghost use Rattle.queue_store.specs.Opened.{FitsFile};
 ghost use Rattle.commands.specs.Store.{IsKeptIn};

@@ -3,7 +3,7 @@ ghost use Rattle.std.specs.Prelude.{◌≡◌, ◌≢◌, ℤ, IfErr, IfOk};
 ghost use Rattle.std.specs.Option.{IfSome};
 ghost use Rattle.sqlite.specs.Files.{over_files};
 ghost use Rattle.sqlite_wal.specs.Files.{image_at};
-ghost use Rattle.queue_core.specs.Settings.{AreSettings};
+ghost use Rattle.queue_types.specs.Settings.{AreSettings};
 ghost use Rattle.queue_core.specs.World.{World, empty_queue};
 ghost use Rattle.queue_store.specs.Kept.{IsHonest, StandsFor};
 ghost use Rattle.queue_store.specs.Opened.{FitsFile, open_fault};
@@ -14,8 +14,8 @@ ghost use Rattle.command_ends.specs.declared.fault.Fault.TheVariants.{BadSetting
 
 use command_ends::Fault;
 use command_words::Init;
-use queue_core::settings::Settings;
 use queue_store::TableBook;
+use queue_types::settings::Settings;
 use sqlite::{Connection, Error, ErrorCode};
 use sqlite_std_file::{FileFrom, Start};
 use sqlite_store::FileStore;

@@ -1,8 +1,8 @@
 -- A line spells at most one report, so what it is read as is the one reading.
 use Rattle.std.proofs.Common.{◌≡◌, ◌↔◌, ◌<◌, ◌^◌, ◌++◌, ◌∷◌, ℕ, List, [], Option, Some, None, IfSome, IfNone, Result, Ok, Err, ok_or, decimal, append_assoc, refl, sym, ap, ◌∙◌, subst, arith}
 use Rattle.queue_core.specs.Limits.{IsReport}
-use Rattle.queue_core.specs.declared.event.Kind.{Kind}
-use Rattle.queue_core.specs.declared.event.Report.{Report}
+use Rattle.queue_types.specs.declared.event.Kind.{Kind}
+use Rattle.queue_types.specs.declared.event.Report.{Report}
 use Rattle.device_lines.specs.Forms.{report_of}
 use Rattle.device_lines.specs.Lines.{Spells, Reads, kind_word, line_of}
 use Rattle.device_lines.specs.declared.line.Form.{Form}

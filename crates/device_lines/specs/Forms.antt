@@ -1,5 +1,5 @@
 -- What a line of the form says, before its numbers are looked at.
-use Rattle.queue_core.specs.declared.event.Report.{Report}
+use Rattle.queue_types.specs.declared.event.Report.{Report}
 use Rattle.device_lines.specs.declared.line.Form.{Form}
 
 -- as a report, whose numbers may be past the limits

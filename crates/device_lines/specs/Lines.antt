@@ -1,9 +1,9 @@
 -- What a line of the device says: JOB SEQ KIND COUNT and a line feed.
 use Rattle.std.specs.Prelude.{◌≡◌, ◌<◌, ◌^◌, ◌++◌, ℕ, List, Result, Ok, Err, codes, decimal}
 use Rattle.queue_core.specs.Limits.{IsReport}
-use Rattle.queue_core.specs.declared.event.Kind.{Kind}
-use Rattle.queue_core.specs.declared.event.Kind.TheVariants.{Start, Stop, Resume, Count, Done, Fail, Halt}
-use Rattle.queue_core.specs.declared.event.Report.{Report}
+use Rattle.queue_types.specs.declared.event.Kind.{Kind}
+use Rattle.queue_types.specs.declared.event.Kind.TheVariants.{Start, Stop, Resume, Count, Done, Fail, Halt}
+use Rattle.queue_types.specs.declared.event.Report.{Report}
 use Rattle.device_lines.specs.declared.line.LineFault.{LineFault}
 use Rattle.device_lines.specs.declared.line.LineFault.TheVariants.{Syntax, Range}
 

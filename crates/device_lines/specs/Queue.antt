@@ -1,6 +1,6 @@
 -- The device's queue as text.
 use Rattle.std.specs.Prelude.{ℕ, List, ◌++◌, codes, decimal, flat_map}
-use Rattle.queue_core.specs.declared.job.Job.{Job}
+use Rattle.queue_types.specs.declared.job.Job.{Job}
 
 -- JOB COPIES DOCUMENTS OCTETS and a line feed
 abbrev pub job_line : Job → List ℕ

@@ -1,13 +1,13 @@
 -- What a line of the device brings about: an answer, and the world after it.
 use Rattle.std.specs.Prelude.{◌≡◌, ◌++◌, ℕ, Bool, List, Result, Ok, Err, codes, decimal, bytes_eq}
-use Rattle.queue_core.specs.Event.{tell}
+use Rattle.queue_types.specs.Event.{tell}
 use Rattle.queue_core.specs.Machine.{step}
 use Rattle.queue_core.specs.World.{World}
-use Rattle.queue_core.specs.declared.event.Reply.{Reply}
-use Rattle.queue_core.specs.declared.event.Reply.TheVariants.{Told, NotTold}
-use Rattle.queue_core.specs.declared.event.Report.{Report}
-use Rattle.queue_core.specs.declared.event.ReportRefusal.{ReportRefusal}
-use Rattle.queue_core.specs.declared.event.ReportRefusal.TheVariants.{NoJob, State, Conflict}
+use Rattle.queue_types.specs.declared.event.Reply.{Reply}
+use Rattle.queue_types.specs.declared.event.Reply.TheVariants.{Told, NotTold}
+use Rattle.queue_types.specs.declared.event.Report.{Report}
+use Rattle.queue_types.specs.declared.event.ReportRefusal.{ReportRefusal}
+use Rattle.queue_types.specs.declared.event.ReportRefusal.TheVariants.{NoJob, State, Conflict}
 use Rattle.device_lines.specs.Lines.{Reads}
 use Rattle.device_lines.specs.declared.line.LineFault.{LineFault}
 use Rattle.device_lines.specs.declared.line.LineFault.TheVariants.{Syntax, Range}

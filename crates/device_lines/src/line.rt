@@ -2,13 +2,13 @@
 ghost use Rattle.std.specs.Prelude.{◌≡◌, ◌≢◌, ◌<◌, ◌^◌, ◌==◌, ◌↔◌, IsTrue, ◌++◌, ◌∷◌, ℕ, List, IfSome, IfNone, Ok, Err, decimal, not};
 ghost use Rattle.std.specs.List.{AllPass};
 ghost use Rattle.queue_core.specs.Limits.{IsPositive, IsReport};
-ghost use Rattle.queue_core.specs.declared.event.Kind.{Kind};
-ghost use Rattle.queue_core.specs.declared.event.Report.{Report};
+ghost use Rattle.queue_types.specs.declared.event.Kind.{Kind};
+ghost use Rattle.queue_types.specs.declared.event.Report.{Report};
 ghost use Rattle.device_lines.specs.Forms.{report_of};
 ghost use Rattle.device_lines.specs.Lines.{Reads, Spells, kind_word};
 
 use itoa::Buffer;
-use queue_core::event::{Kind, Report};
+use queue_types::event::{Kind, Report};
 use std::str;
 
 /// The greatest number of a job, and of a report of it.

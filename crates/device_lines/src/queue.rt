@@ -3,7 +3,7 @@ ghost use Rattle.std.specs.Prelude.{◌≡◌, ◌++◌, IfOk, OnOk, decimal, st
 ghost use Rattle.device_lines.specs.Queue.{job_line, queue_lines};
 
 use itoa::Buffer;
-use queue_core::job::Job;
+use queue_types::job::Job;
 use std::alloc::{AllocError, Global};
 
 /// The jobs as text: for each a line `JOB COPIES DOCUMENTS OCTETS` with its number, the copies that are

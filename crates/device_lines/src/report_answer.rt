@@ -5,7 +5,7 @@ ghost use Rattle.device_lines.specs.Reports.{fault_line, is_fault_line, told_lin
 use crate::line::LineFault;
 use arrayvec::ArrayString;
 use itoa::Buffer;
-use queue_core::event::ReportRefusal;
+use queue_types::event::ReportRefusal;
 use std::marker::Model;
 
 /// More bytes than the longest answer has.

@@ -1,7 +1,7 @@
 //! One line of the device, from its bytes to those of its answer.
 ghost use Rattle.std.specs.Prelude.{◌≡◌, Err, IfOk, OnOk, OnErr, false};
 ghost use Rattle.std.specs.Bool.{OnFalse, OnTrue};
-ghost use Rattle.queue_core.specs.Event.{tell};
+ghost use Rattle.queue_types.specs.Event.{tell};
 ghost use Rattle.queue_core.specs.Limits.{IsMoment, IsReport, IsReportReply};
 ghost use Rattle.queue_core.specs.Machine.{step as step_of};
 ghost use Rattle.queue_core.specs.World.{World};
@@ -12,7 +12,7 @@ ghost use Rattle.device_lines.specs.declared.line.LineFault.{LineFault};
 use crate::line::read_report;
 use crate::report_answer::ReportAnswer;
 use queue_core::book::{BookFault, QueueBook};
-use queue_core::event::{Event, Reply, Report};
+use queue_types::event::{Event, Reply, Report};
 
 /// Answers one line of the device: it reads the line, and takes one step of the machine on its report. A
 /// line that is no report is refused and changes nothing; the book never sees it. A fault of the book is

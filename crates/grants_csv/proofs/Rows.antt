@@ -7,7 +7,7 @@ use Rattle.csv.specs.Machine.{Read, next_record}
 use Rattle.csv.specs.Reading.{default_config, records_from, records_next}
 use Rattle.csv.specs.declared.parser.State.{State}
 use Rattle.csv.specs.declared.reader.Reader.{Reader}
-use Rattle.queue_core.specs.declared.event.GrantRow.{GrantRow}
+use Rattle.queue_types.specs.declared.event.GrantRow.{GrantRow}
 use Rattle.grants_csv.specs.Fault.{IsUnlessFault, at_row, fault}
 use Rattle.grants_csv.specs.File.{add_row, is_header, row_of, rows_from, rows_under}
 use Rattle.grants_csv.specs.Records.{Gives, IsAt}

@@ -1,9 +1,9 @@
 -- What importing an account file answers.
 use Rattle.std.specs.Prelude.{◌≡◌, ◌⊎◌}
-use Rattle.queue_core.specs.declared.event.GrantFault.{GrantFault}
-use Rattle.queue_core.specs.declared.event.GrantFault.TheVariants as grant
-use Rattle.queue_core.specs.declared.event.Reply.{Reply}
-use Rattle.queue_core.specs.declared.event.Reply.TheVariants.{Added, NotAdded}
+use Rattle.queue_types.specs.declared.event.GrantFault.{GrantFault}
+use Rattle.queue_types.specs.declared.event.GrantFault.TheVariants as grant
+use Rattle.queue_types.specs.declared.event.Reply.{Reply}
+use Rattle.queue_types.specs.declared.event.Reply.TheVariants.{Added, NotAdded}
 use Rattle.grants_csv.specs.Fault.{at_row, fault}
 use Rattle.grants_csv.specs.declared.fault.ImportCause.{ImportCause}
 use Rattle.grants_csv.specs.declared.fault.ImportCause.TheVariants.{Conflict, TooMany}

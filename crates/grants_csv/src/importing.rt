@@ -1,10 +1,10 @@
 //! An account file enters a book.
 ghost use Rattle.std.specs.Prelude.{◌≡◌, ◌<◌, List, Err, Ok, IfErr, IfOk, OnErr, length};
-ghost use Rattle.queue_core.specs.Event.{grant};
+ghost use Rattle.queue_types.specs.Event.{grant};
 ghost use Rattle.queue_core.specs.Limits.{IsEvent, IsMoment};
 ghost use Rattle.queue_core.specs.Machine.{step};
 ghost use Rattle.queue_core.specs.World.{World};
-ghost use Rattle.queue_core.specs.declared.event.GrantRow.{GrantRow};
+ghost use Rattle.queue_types.specs.declared.event.GrantRow.{GrantRow};
 ghost use Rattle.grants_csv.specs.Fault.{IsUnlessFault, at_row};
 ghost use Rattle.grants_csv.specs.File.{rows_of};
 ghost use Rattle.grants_csv.specs.declared.fault.ImportCause.TheVariants.{Range};
@@ -13,7 +13,7 @@ ghost use Rattle.grants_csv.specs.Import.{Adds, Refuses};
 use crate::fault::{ImportCause, ImportFault};
 use crate::reading::read_grants;
 use queue_core::book::{BookFault, QueueBook};
-use queue_core::event::{Event, GrantFault, GrantRow, Reply};
+use queue_types::event::{Event, GrantFault, GrantRow, Reply};
 use std::alloc::Global;
 
 /// What an account file added: rows that are new, and rows that equal one accepted before.

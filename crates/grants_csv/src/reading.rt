@@ -14,7 +14,7 @@ ghost use Rattle.grants_csv.specs.Records.{Gives, IsAt, has_byte_order_mark};
 use crate::fault::{ImportCause, ImportFault};
 use crate::row::read_row;
 use csv::{ByteRecord, Reader, ReaderBuilder};
-use queue_core::event::{GrantList, GrantRow};
+use queue_types::event::{GrantList, GrantRow};
 use std::alloc::{AllocError, Global};
 
 /// The bytes of the longest file.

@@ -11,8 +11,8 @@ ghost use Rattle.grants_csv.specs.File as file;
 
 use crate::fault::{ImportCause, ImportFault};
 use csv::ByteRecord;
-use queue_core::event::GrantRow;
-use queue_core::text::Text;
+use queue_types::event::GrantRow;
+use queue_types::text::Text;
 use std::alloc::Global;
 
 /// The pages of the greatest grant.

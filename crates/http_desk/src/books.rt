@@ -3,8 +3,8 @@
 use crate::compare::{Mismatch, no_book};
 use list_book::ListBook;
 use queue_core::book::QueueBook;
-use queue_core::settings::Settings;
 use queue_store::TableBook;
+use queue_types::settings::Settings;
 use sqlite::Connection;
 use sqlite_trees::memory::MemStore;
 use std::alloc::Global;

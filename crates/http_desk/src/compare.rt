@@ -3,7 +3,7 @@ ghost use Rattle.std.specs.Prelude.{◌≡◌, ◌≤◌, ◌↔◌, IsOk, IsTru
 
 use http_front::{ServeFault, Served};
 use queue_core::book::BookFault;
-use queue_core::settings::SettingFault;
+use queue_types::settings::SettingFault;
 use std::alloc::AllocError;
 use std::{fmt, io};
 

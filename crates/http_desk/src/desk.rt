@@ -10,7 +10,7 @@ use grants_csv::{Imported, import};
 use http_front::{ServeCause, ServeFault, Served, serve};
 use list_book::ListBook;
 use queue_core::book::QueueBook;
-use queue_core::settings::Settings;
+use queue_types::settings::Settings;
 use std::alloc::Global;
 use std::io::{Read, Write};
 

@@ -7,18 +7,18 @@ use Rattle.std.specs.Bool.{OnFalse, OnTrue}
 use Rattle.std.specs.Io.KnownBytes.{Appends}
 use Rattle.std.proofs.KnownBytes.{Appends-nil}
 use Rattle.queue_core.specs.World.{World}
-use Rattle.queue_core.specs.Settings.{SettingValues}
+use Rattle.queue_types.specs.Settings.{SettingValues}
 use Rattle.queue_core.specs.Shown.{pending_jobs, document_at, head_of}
-use Rattle.queue_core.specs.declared.document.Document.{Document}
-use Rattle.queue_core.specs.declared.document.DocumentHead.{DocumentHead}
-use Rattle.ipp_reply.specs.Formats.{format_name}
+use Rattle.queue_types.specs.declared.document.Document.{Document}
+use Rattle.queue_types.specs.declared.document.DocumentHead.{DocumentHead}
+use Rattle.queue_types.specs.Formats.{format_name}
 use Rattle.ipp_ops.specs.Answer.{Answers as IsIppReply, Fails, is_fault as is_ipp_fault}
 use Rattle.device_lines.specs.Queue.{queue_lines}
 use Rattle.device_lines.specs.Reports.{IsReported, IsUntaken, is_fault_line}
 use Rattle.http_wire.specs.Responses.{success_head, success_response, WritesFront}
-use Rattle.http_wire.specs.declared.end.Refusal.{Refusal}
-use Rattle.http_wire.specs.declared.target.Target.{Target}
-use Rattle.http_wire.specs.declared.target.Target.TheVariants.{Ipp, Report, Queue, Document as DocumentTarget}
+use Rattle.http_head.specs.declared.end.Refusal.{Refusal}
+use Rattle.http_head.specs.declared.target.Target.{Target}
+use Rattle.http_head.specs.declared.target.Target.TheVariants.{Ipp, Report, Queue, Document as DocumentTarget}
 use Rattle.http_front.specs.Turns.{IsAnswered, IsIppAnswer, IsReportAnswer, acts_on, document_named}
 use Rattle.http_front.specs.Turned.{IsReplied, IsDeclined}
 use Rattle.http_front.specs.declared.outcome.Replied.{Replied}

@@ -10,20 +10,20 @@ use Rattle.std.proofs.lemmas.List.Sums.{sum_by-append, sum_by-cons}
 use Rattle.std.proofs.Math.Nat.{pow-suc}
 use Rattle.std.proofs.KnownBytes.{Consumes-nil, Appends-nil, Appends-trans, Consumes-trans}
 use Rattle.queue_core.specs.World.{World}
-use Rattle.queue_core.specs.Settings.{SettingValues}
-use Rattle.queue_core.specs.declared.event.Report.{Report as DeviceReport}
+use Rattle.queue_types.specs.Settings.{SettingValues}
+use Rattle.queue_types.specs.declared.event.Report.{Report as DeviceReport}
 use Rattle.ipp_ops.specs.Answer.{outcome}
 use Rattle.ipp_ops.specs.Verdict.{Verdict, passed, refused}
 use Rattle.ipp_wire.specs.Message.{head_of}
 use Rattle.device_lines.specs.Reports.{BringsAbout}
 use Rattle.device_lines.specs.declared.line.LineFault.{LineFault}
-use Rattle.http_wire.specs.Left.{left}
-use Rattle.http_wire.specs.Ends.{is_unavailable, end_of}
+use Rattle.http_head.specs.Left.{left}
+use Rattle.http_head.specs.Ends.{is_unavailable, end_of}
 use Rattle.http_wire.specs.Responses.{WritesFront}
-use Rattle.http_wire.specs.declared.end.Finish.{Finish}
-use Rattle.http_wire.specs.declared.end.Finish.TheVariants.{Done}
-use Rattle.http_wire.specs.declared.target.Target.{Target}
-use Rattle.http_wire.specs.declared.target.Target.TheVariants.{Ipp, Report, Queue, Document as DocumentTarget}
+use Rattle.http_head.specs.declared.end.Finish.{Finish}
+use Rattle.http_head.specs.declared.end.Finish.TheVariants.{Done}
+use Rattle.http_head.specs.declared.target.Target.{Target}
+use Rattle.http_head.specs.declared.target.Target.TheVariants.{Ipp, Report, Queue, Document as DocumentTarget}
 use Rattle.http_front.specs.Turns.{Turn, plan, IsTurn, IsAnswered, request_bytes, answer_bytes, acts, closes_at}
 use Rattle.http_front.specs.Ends.{IsEnd, IsBegun, nothing, interim, answered, ended}
 use Rattle.http_front.specs.Connections.{AreTurns, GoesOn, EndsAt, Answers, Breaks, Worked, written_for, world_after, bits, flag_of}

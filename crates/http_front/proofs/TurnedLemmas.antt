@@ -6,17 +6,17 @@ use Rattle.std.proofs.KnownBytes.{Appends-nil, Appends-trans, Consumes-trans}
 use Rattle.httparse.specs.Grammar.{RequestHead, print_request}
 use Rattle.queue_core.specs.World.{World}
 use Rattle.http_wire.specs.Bodies.{IsBody, EndsInBody}
-use Rattle.http_wire.specs.Head.{BeginsHead, EndsWithoutHead}
-use Rattle.http_wire.specs.Checks.{head_of, plan_of, refusal_of}
-use Rattle.http_wire.specs.Received.{TakesHead}
-use Rattle.http_wire.specs.Ends.{is_unavailable}
+use Rattle.http_head.specs.Head.{BeginsHead, EndsWithoutHead}
+use Rattle.http_head.specs.Checks.{head_of, plan_of, refusal_of}
+use Rattle.http_head.specs.Received.{TakesHead}
+use Rattle.http_head.specs.Ends.{is_unavailable}
 use Rattle.http_wire.specs.Responses.{interim_response, success_response, last_response, WritesFront}
-use Rattle.http_wire.specs.declared.end.Finish.{Finish}
-use Rattle.http_wire.specs.declared.end.Finish.TheVariants.{Refused}
-use Rattle.http_wire.specs.declared.end.Refusal.{Refusal}
-use Rattle.http_wire.specs.declared.end.Refusal.TheVariants.{Unavailable}
-use Rattle.http_wire.specs.declared.plan.Plan.{Plan}
-use Rattle.http_wire.specs.declared.framing.Framing.{Framing}
+use Rattle.http_head.specs.declared.end.Finish.{Finish}
+use Rattle.http_head.specs.declared.end.Finish.TheVariants.{Refused}
+use Rattle.http_head.specs.declared.end.Refusal.{Refusal}
+use Rattle.http_head.specs.declared.end.Refusal.TheVariants.{Unavailable}
+use Rattle.http_head.specs.declared.plan.Plan.{Plan}
+use Rattle.http_head.specs.declared.framing.Framing.{Framing}
 use Rattle.http_front.specs.Turns.{Turn, IsTurn, acts_on, answer_bytes}
 use Rattle.http_front.specs.Ends.{IsEnd, IsBegun}
 use Rattle.http_front.specs.Ends.{no_head, checked, in_body, declined, unavailable, unavailable_later, nothing, interim, answered, ended}

@@ -2,17 +2,17 @@
 use Rattle.std.specs.Prelude.{◌≡◌, ◌<◌, Bool, false, ℕ, List, [], ◌++◌, length, None, Some}
 use Rattle.httparse.specs.Grammar.{RequestHead}
 use Rattle.queue_core.specs.World.{World}
-use Rattle.http_wire.specs.Head.{BeginsHead, EndsWithoutHead}
-use Rattle.http_wire.specs.Checks.{head_of, plan_of, refusal_of}
+use Rattle.http_head.specs.Head.{BeginsHead, EndsWithoutHead}
+use Rattle.http_head.specs.Checks.{head_of, plan_of, refusal_of}
 use Rattle.http_wire.specs.Bodies.{IsBody, EndsInBody}
-use Rattle.http_wire.specs.Ends.{is_unavailable}
+use Rattle.http_head.specs.Ends.{is_unavailable}
 use Rattle.http_wire.specs.Responses.{interim_response, refusal_response, last_response}
-use Rattle.http_wire.specs.declared.end.Finish.{Finish}
-use Rattle.http_wire.specs.declared.end.Finish.TheVariants.{Refused}
-use Rattle.http_wire.specs.declared.end.Refusal.{Refusal}
-use Rattle.http_wire.specs.declared.end.Refusal.TheVariants.{BadRequest, NotFound, Unavailable}
-use Rattle.http_wire.specs.declared.target.Target.{Target}
-use Rattle.http_wire.specs.declared.target.Target.TheVariants.{Ipp, Report, Queue, Document as DocumentTarget}
+use Rattle.http_head.specs.declared.end.Finish.{Finish}
+use Rattle.http_head.specs.declared.end.Finish.TheVariants.{Refused}
+use Rattle.http_head.specs.declared.end.Refusal.{Refusal}
+use Rattle.http_head.specs.declared.end.Refusal.TheVariants.{BadRequest, NotFound, Unavailable}
+use Rattle.http_head.specs.declared.target.Target.{Target}
+use Rattle.http_head.specs.declared.target.Target.TheVariants.{Ipp, Report, Queue, Document as DocumentTarget}
 use Rattle.http_front.specs.Turns.{Turn, IsTurn, document_named, acts, answer_bytes, request_bytes}
 
 -- a whole request that has no success: a message without room for its head, or a document that isn't there

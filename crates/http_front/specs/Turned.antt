@@ -3,14 +3,14 @@ use Rattle.std.specs.Prelude.{◌≡◌, ◌<◌, ◌⊎◌, ◌==◌, ◌||◌,
 use Rattle.std.specs.Io.KnownBytes.{Appends, Consumes}
 use Rattle.queue_core.specs.World.{World}
 use Rattle.http_wire.specs.Bodies.{IsBody, EndsInBody}
-use Rattle.http_wire.specs.Ends.{is_unavailable}
+use Rattle.http_head.specs.Ends.{is_unavailable}
 use Rattle.http_wire.specs.Responses.{interim_response, success_response, last_response, WritesFront}
-use Rattle.http_wire.specs.declared.end.Finish.{Finish}
-use Rattle.http_wire.specs.declared.end.Finish.TheVariants.{Refused}
-use Rattle.http_wire.specs.declared.end.Refusal.{Refusal}
-use Rattle.http_wire.specs.declared.end.Refusal.TheVariants.{Unavailable}
-use Rattle.http_wire.specs.declared.plan.Plan.{Plan}
-use Rattle.http_wire.specs.declared.target.Target.{Target}
+use Rattle.http_head.specs.declared.end.Finish.{Finish}
+use Rattle.http_head.specs.declared.end.Finish.TheVariants.{Refused}
+use Rattle.http_head.specs.declared.end.Refusal.{Refusal}
+use Rattle.http_head.specs.declared.end.Refusal.TheVariants.{Unavailable}
+use Rattle.http_head.specs.declared.plan.Plan.{Plan}
+use Rattle.http_head.specs.declared.target.Target.{Target}
 use Rattle.http_front.specs.Turns.{Turn, IsTurn, IsAnswered, acts, acts_on, closes_at, answer_bytes, request_bytes}
 use Rattle.http_front.specs.Ends.{Declines, IsEnd, IsBegun}
 use Rattle.http_front.specs.declared.outcome.Replied.{Replied}

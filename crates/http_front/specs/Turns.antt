@@ -3,18 +3,18 @@ use Rattle.std.specs.Prelude.{◌≡◌, ◌≤◌, ◌==◌, ◌||◌, Bool, tr
 use Rattle.httparse.specs.Grammar.{RequestHead, IsRequestHead, print_request}
 use Rattle.queue_core.specs.World.{World}
 use Rattle.queue_core.specs.Shown.{pending_jobs, document_at}
-use Rattle.queue_core.specs.declared.document.Document.{Document}
-use Rattle.ipp_reply.specs.Formats.{format_name}
+use Rattle.queue_types.specs.declared.document.Document.{Document}
+use Rattle.queue_types.specs.Formats.{format_name}
 use Rattle.ipp_ops.specs.Answer.{Answers as IsIppReply, Fails, is_fault as is_ipp_fault}
 use Rattle.device_lines.specs.Queue.{queue_lines}
 use Rattle.device_lines.specs.Reports.{IsReported, IsUntaken, is_fault_line}
-use Rattle.http_wire.specs.Limits.{head_limit, field_limit}
-use Rattle.http_wire.specs.Checks.{head_of, plan_of, refusal_of}
+use Rattle.http_head.specs.Limits.{head_limit, field_limit}
+use Rattle.http_head.specs.Checks.{head_of, plan_of, refusal_of}
 use Rattle.http_wire.specs.Bodies.{IsBody}
 use Rattle.http_wire.specs.Responses.{interim_response, success_response}
-use Rattle.http_wire.specs.declared.plan.Plan.{Plan}
-use Rattle.http_wire.specs.declared.target.Target.{Target}
-use Rattle.http_wire.specs.declared.target.Target.TheVariants.{Ipp, Report, Queue, Document as DocumentTarget}
+use Rattle.http_head.specs.declared.plan.Plan.{Plan}
+use Rattle.http_head.specs.declared.target.Target.{Target}
+use Rattle.http_head.specs.declared.target.Target.TheVariants.{Ipp, Report, Queue, Document as DocumentTarget}
 
 -- a request: its head, its body as it stands in the stream, and the body's content; and its answer: whether it is a fault, its media
 -- type and its content, and the world after it

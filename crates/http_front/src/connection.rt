@@ -3,19 +3,19 @@ ghost use Rattle.std.specs.Prelude.{◌≡◌, ◌+◌, ◌^◌, ◌<◌, ◌≤
 ghost use Rattle.std.specs.Option.{ForSome};
 ghost use Rattle.queue_core.specs.Limits.{IsMoment};
 ghost use Rattle.queue_core.specs.World.{World};
-ghost use Rattle.http_wire.specs.Left.{left};
-ghost use Rattle.http_wire.specs.Routes.{routes};
+ghost use Rattle.http_head.specs.Left.{left};
+ghost use Rattle.http_head.specs.Routes.{routes};
 ghost use Rattle.http_front.specs.Connections.{IsServed, IsStopped, Worked, acted_of};
 
 use crate::outcome::{ServeFault, Served, Turned};
 use crate::turn::turn;
-use http_wire::buffer::Buffer;
+use http_head::buffer::Buffer;
+use http_head::end::End;
+use http_head::routes::{Route, router};
 use http_wire::counted::Counted;
-use http_wire::end::End;
-use http_wire::routes::{Route, router};
 use matchit::Router;
 use queue_core::book::QueueBook;
-use queue_core::settings::Settings;
+use queue_types::settings::Settings;
 use std::alloc::Global;
 use std::io::{Read, Write};
 

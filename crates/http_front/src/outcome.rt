@@ -1,5 +1,5 @@
 //! What serving a connection comes to, and each turn of it.
-use http_wire::end::{End, Finish, Refusal};
+use http_head::end::{End, Finish, Refusal};
 
 /// What a connection came to.
 #[derive(Clone, Copy, Debug, PartialEq, Eq)]

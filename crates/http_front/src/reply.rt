@@ -2,20 +2,19 @@
 ghost use Rattle.std.specs.Prelude.{◌≡◌, ◌≤◌, ℕ, List, false, length};
 ghost use Rattle.queue_core.specs.Limits.{IsMoment};
 ghost use Rattle.queue_core.specs.World.{World};
-ghost use Rattle.ipp_reply.specs.Formats as formats;
+ghost use Rattle.queue_types.specs.Formats as formats;
 ghost use Rattle.http_front.specs.Turned.{IsReplied};
-ghost use Rattle.http_wire.specs.declared.target.Target.TheVariants.{Ipp, Report, Queue, Document};
+ghost use Rattle.http_head.specs.declared.target.Target.TheVariants.{Ipp, Report, Queue, Document};
 
 use crate::outcome::{Replied, ServeCause, Stopped};
 use device_lines::{queue_text, report};
-use http_wire::end::{Refusal, WriteFault};
+use http_head::end::{Refusal, WriteFault};
+use http_head::target::Target;
 use http_wire::respond::{send_head, send_success};
-use http_wire::target::Target;
 use ipp_ops::{TooShort, answer};
-use ipp_reply::format_name;
 use queue_core::book::{QueueBook, SendCause};
-use queue_core::document::Format;
-use queue_core::settings::Settings;
+use queue_types::document::Format;
+use queue_types::settings::Settings;
 use std::alloc::Global;
 use std::io::Write;
 
@@ -128,7 +127,7 @@ fn media_type_of(format: Format) -> &'static str
     ensures value { result.now ≡ formats.format_name format }
     ensures short { length result.now ≤ 64 }
 {
-    format_name(format)
+    format.name()
 }
 
 /// Answers with a document: its head first, by its length, and then its bytes as the book gives them.

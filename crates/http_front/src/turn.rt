@@ -3,26 +3,26 @@ ghost use Rattle.std.specs.Prelude.{◌≡◌, ◌≤◌, ◌==◌, ◌||◌, le
 ghost use Rattle.std.specs.Option.{ForSome};
 ghost use Rattle.queue_core.specs.Limits.{IsMoment};
 ghost use Rattle.queue_core.specs.World.{World};
-ghost use Rattle.http_wire.specs.Framing.{size_of};
-ghost use Rattle.http_wire.specs.Left.{left};
-ghost use Rattle.http_wire.specs.Routes.{routes};
+ghost use Rattle.http_head.specs.Framing.{size_of};
+ghost use Rattle.http_head.specs.Left.{left};
+ghost use Rattle.http_head.specs.Routes.{routes};
 ghost use Rattle.http_front.specs.Turns.{acts_on};
 ghost use Rattle.http_front.specs.Turned.{IsClosed, IsPlanned, IsTurned, ClosesLast, PlanWorks, Works, acted_in};
 
 use crate::outcome::{Replied, ServeCause, Stopped, Turned};
 use crate::reply::{reply, stopped_by};
+use http_head::buffer::Buffer;
+use http_head::end::{Finish, ReadFault, Refusal, WriteFault};
+use http_head::plan::Plan;
+use http_head::receive::{Headed, take_head};
+use http_head::routes::Route;
+use http_head::target::Target;
 use http_wire::body::BodyFault;
-use http_wire::buffer::Buffer;
-use http_wire::end::{Finish, ReadFault, Refusal, WriteFault};
 use http_wire::framed::{Framed, take_framed};
-use http_wire::plan::Plan;
-use http_wire::receive::{Headed, take_head};
 use http_wire::respond::{send_continue, send_end};
-use http_wire::routes::Route;
-use http_wire::target::Target;
 use matchit::Router;
 use queue_core::book::QueueBook;
-use queue_core::settings::Settings;
+use queue_types::settings::Settings;
 use std::alloc::Global;
 use std::io::{Read, Write};
 

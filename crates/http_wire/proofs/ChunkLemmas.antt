@@ -7,14 +7,14 @@ use Rattle.std.proofs.lemmas.Grind.{flat_map-append}
 use Rattle.std.proofs.lemmas.List.Elements.{All-push, All-nil}
 use Rattle.httparse.specs.Ascii.{crlf_bytes}
 use Rattle.httparse.specs.Grammar.{ChunkLine, print_chunk_line, chunk_size, print_section}
-use Rattle.http_wire.specs.Limits.{content_limit, raw_limit, line_limit, trailer_limit}
+use Rattle.http_head.specs.Limits.{content_limit, raw_limit, line_limit, trailer_limit}
 use Rattle.http_wire.specs.Chunks.{Chunk, IsChunk, AreChunks, IsShortLine, chunks_bytes, chunks_content, chunk_bytes, content_of, chunked_bytes, chunked_content}
 use Rattle.http_wire.specs.ChunkEnds.{BeginsWithChunks, EndsAtLine, EndsAtTrailers, EndsAtLineEnd, EndsInChunk, EndsInChunks, at_line, too_large, in_chunk, at_trailers, bound_behind}
 use Rattle.http_wire.specs.ChunkParts.{TakesLine, TakesChunks, TakesToLast, TakesTrailers, TakesChunked, IsLineEnd, IsChunkTaken}
 use Rattle.http_wire.specs.Bodies.{TakesMore}
-use Rattle.http_wire.specs.declared.end.Finish.{Finish}
-use Rattle.http_wire.specs.declared.end.Finish.TheVariants.{Closed, Cut, Done, Refused}
-use Rattle.http_wire.specs.declared.end.Refusal.TheVariants.{TooLarge}
+use Rattle.http_head.specs.declared.end.Finish.{Finish}
+use Rattle.http_head.specs.declared.end.Finish.TheVariants.{Closed, Cut, Done, Refused}
+use Rattle.http_head.specs.declared.end.Refusal.TheVariants.{TooLarge}
 
 -- ---- chunks that were taken
 

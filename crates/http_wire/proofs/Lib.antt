@@ -1,7 +1,4 @@
-pub mod LeftLemmas
-pub mod HeadLemmas
+pub mod BodyLemmas
 pub mod WriteLemmas
-pub mod FieldLemmas
-pub mod PlanLemmas
 pub mod ChunkLemmas
 pub mod LineLemmas

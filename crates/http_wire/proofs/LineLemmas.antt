@@ -7,14 +7,14 @@ use Rattle.std.proofs.Math.Seq.{drop-append_seam}
 use Rattle.httparse.specs.Grammar.{ChunkLine, HasNoChunkLine, NeverHasChunkLine, print_chunk_line, Field, print_section, HasNoSection}
 use Rattle.httparse.specs.Spans.{IsChunkLineAt, SectionOverflows, IsSectionOf, AreFieldsAt, header_bytes, name_and_value}
 use Rattle.httparse.specs.declared.spans.HeaderSpan.{HeaderSpan}
-use Rattle.http_wire.specs.Left.{left}
-use Rattle.http_wire.specs.Limits.{line_limit, trailer_limit, field_limit}
+use Rattle.http_head.specs.Left.{left}
+use Rattle.http_head.specs.Limits.{line_limit, trailer_limit, field_limit}
 use Rattle.http_wire.specs.ChunkEnds.{HasNoLineWithin, HasNoTrailersWithin, EndsAtLine, EndsAtTrailers}
 use Rattle.http_wire.specs.ChunkParts.{TakesLine, TakesTrailers, AreTrailersAt}
 use Rattle.http_wire.specs.declared.chunk.Bound.{Bound}
-use Rattle.http_wire.specs.declared.end.Finish.TheVariants.{Cut, Refused}
-use Rattle.http_wire.specs.declared.end.Refusal.TheVariants.{BadRequest}
-use Rattle.http_wire.proofs.HeadLemmas.{front_of, head_consumed}
+use Rattle.http_head.specs.declared.end.Finish.TheVariants.{Cut, Refused}
+use Rattle.http_head.specs.declared.end.Refusal.TheVariants.{BadRequest}
+use Rattle.http_head.proofs.HeadLemmas.{front_of, head_consumed}
 
 -- ---- windows
 

@@ -1,8 +1,13 @@
 -- What was written in several pieces, and what was written when a piece failed.
-use Rattle.std.proofs.Common.{Option, ℕ, List, ◌++◌, take, drop, sym, ap, ◌∙◌, append_assoc, take-append-drop}
+use Rattle.std.proofs.Common.{Option, ℕ, List, [], ◌++◌, ◌≤◌, length, arith, take, drop, sym, ap, ◌∙◌, append_assoc, take-append-drop}
+use Rattle.std.specs.Prelude.{unwrap_or}
 use Rattle.std.specs.Io.KnownBytes.{Appends}
 use Rattle.std.proofs.KnownBytes.{Appends-trans}
 use Rattle.http_wire.specs.Responses.{WritesFront}
+use Rattle.http.specs.StatusCode.{reason_phrase}
+use Rattle.http_head.specs.declared.end.Refusal.{Refusal}
+use Rattle.http_head.specs.declared.end.Refusal.TheVariants.{BadRequest, NotFound, PostAllowed, GetAllowed, LengthRequired, TooLarge, UnsupportedType, HeadTooLarge, Unavailable}
+use Rattle.http_head.specs.Ends.{code_of}
 
 -- the first n bytes are a front
 pub front_taken : (a b : Option (List ℕ)) (xs : List ℕ) (n : ℕ) → Appends a b (take n xs) → WritesFront a b xs
@@ -23,3 +28,14 @@ front_after a b c xs ys p f = record {
   written = Appends-trans a b c xs f.front p f.written;
   is = ap (λ l. xs ++ l) f.is ∙ sym (append_assoc xs f.front f.rest);
 }
+
+pub phrase_short : (r : Refusal) → length (unwrap_or (reason_phrase (code_of r)) []) ≤ 40
+phrase_short BadRequest = omega arith
+phrase_short NotFound = omega arith
+phrase_short PostAllowed = omega arith
+phrase_short GetAllowed = omega arith
+phrase_short LengthRequired = omega arith
+phrase_short TooLarge = omega arith
+phrase_short UnsupportedType = omega arith
+phrase_short HeadTooLarge = omega arith
+phrase_short Unavailable = omega arith

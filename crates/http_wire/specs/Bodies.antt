@@ -1,13 +1,13 @@
 -- The body of a message by its framing (RFC 9112, section 6), and where a connection may end in one.
 use Rattle.std.specs.Prelude.{◌≡◌, ◌<◌, ◌≤◌, ◌++◌, ℕ, List, [], length, Option, IfSome, ⊤}
 use Rattle.std.specs.Io.KnownBytes.{Consumes}
-use Rattle.http_wire.specs.Limits.{content_limit}
+use Rattle.http_head.specs.Limits.{content_limit}
 use Rattle.http_wire.specs.Chunks.{ChunkedBody, IsChunkedBody, chunked_bytes, chunked_content}
 use Rattle.http_wire.specs.ChunkEnds.{EndsInChunks}
-use Rattle.http_wire.specs.declared.end.Finish.{Finish}
-use Rattle.http_wire.specs.declared.end.Finish.TheVariants.{Cut}
-use Rattle.http_wire.specs.declared.framing.Framing.{Framing}
-use Rattle.http_wire.specs.declared.framing.Framing.TheVariants.{Nothing, Sized, Chunked}
+use Rattle.http_head.specs.declared.end.Finish.{Finish}
+use Rattle.http_head.specs.declared.end.Finish.TheVariants.{Cut}
+use Rattle.http_head.specs.declared.framing.Framing.{Framing}
+use Rattle.http_head.specs.declared.framing.Framing.TheVariants.{Nothing, Sized, Chunked}
 use Rattle.http_wire.specs.declared.framed.Framed.{Framed}
 use Rattle.http_wire.specs.declared.framed.Framed.TheVariants.{Whole, Ended}
 

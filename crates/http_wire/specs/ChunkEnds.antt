@@ -2,12 +2,12 @@
 use Rattle.std.specs.Prelude.{◌≡◌, ◌≢◌, ◌+◌, ◌-◌, ◌<◌, ◌≤◌, ◌⊎◌, ℕ, List, ◌++◌, length, nat_lt, if◌then◌else◌}
 use Rattle.httparse.specs.Ascii.{crlf_bytes}
 use Rattle.httparse.specs.Grammar.{ChunkLine, IsChunkLine, print_chunk_line, chunk_size, HasNoChunkLine, NeverHasChunkLine, Field, LineEnd, print_section}
-use Rattle.http_wire.specs.Limits.{line_limit, content_limit, raw_limit, trailer_limit}
+use Rattle.http_head.specs.Limits.{line_limit, content_limit, raw_limit, trailer_limit}
 use Rattle.http_wire.specs.Chunks.{Chunk, AreChunks, IsShortLine, chunks_bytes, chunks_content, AreTrailers}
 use Rattle.http_wire.specs.declared.chunk.Bound.{Bound}
-use Rattle.http_wire.specs.declared.end.Finish.{Finish}
-use Rattle.http_wire.specs.declared.end.Finish.TheVariants.{Closed, Cut, Done, Refused}
-use Rattle.http_wire.specs.declared.end.Refusal.TheVariants.{BadRequest, TooLarge}
+use Rattle.http_head.specs.declared.end.Finish.{Finish}
+use Rattle.http_head.specs.declared.end.Finish.TheVariants.{Closed, Cut, Done, Refused}
+use Rattle.http_head.specs.declared.end.Refusal.TheVariants.{BadRequest, TooLarge}
 
 -- how many bytes a part with a limit of its own may have behind that many raw bytes of the body, and the refusal where it has no
 -- end within them: what the raw limit leaves, where that is less

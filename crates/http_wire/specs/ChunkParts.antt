@@ -4,10 +4,10 @@ use Rattle.std.specs.Io.KnownBytes.{Consumes}
 use Rattle.httparse.specs.Ascii.{crlf_bytes}
 use Rattle.httparse.specs.Grammar.{ChunkLine, print_chunk_line, chunk_size, Field, LineEnd, print_section}
 use Rattle.httparse.specs.Spans.{IsChunkLineAt}
-use Rattle.http_wire.specs.Limits.{content_limit, raw_limit}
+use Rattle.http_head.specs.Limits.{content_limit, raw_limit}
 use Rattle.http_wire.specs.Chunks.{Chunk, ChunkedBody, AreChunks, IsShortLine, IsChunkedBody, AreTrailers, chunks_bytes, chunks_content, chunked_bytes, chunked_content}
 use Rattle.http_wire.specs.ChunkEnds.{EndsAtLine, EndsAtTrailers, EndsAtLineEnd, EndsInChunk, EndsInChunks}
-use Rattle.http_wire.specs.declared.end.Finish.{Finish}
+use Rattle.http_head.specs.declared.end.Finish.{Finish}
 use Rattle.http_wire.specs.declared.chunk.Bound.{Bound}
 use Rattle.http_wire.specs.declared.chunk.Line.{Line}
 use Rattle.http_wire.specs.declared.chunk.Line.TheVariants.{Ended as LineEnded, Whole as LineWhole}

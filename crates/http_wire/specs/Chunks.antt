@@ -3,7 +3,7 @@ use Rattle.std.specs.Prelude.{◌≡◌, ℕ, ◌<◌, ◌≤◌, List, ◌++◌
 use Rattle.std.specs.List.{flat_map}
 use Rattle.httparse.specs.Ascii.{crlf_bytes}
 use Rattle.httparse.specs.Grammar.{ChunkLine, IsChunkLine, print_chunk_line, chunk_size, Field, IsField, LineEnd, print_section}
-use Rattle.http_wire.specs.Limits.{line_limit, content_limit, raw_limit, field_limit, trailer_limit}
+use Rattle.http_head.specs.Limits.{line_limit, content_limit, raw_limit, field_limit, trailer_limit}
 
 -- a chunk: its line, and its content, which the standard calls chunk-data
 pub record Chunk : Type 0 where

@@ -1,15 +1,3 @@
-pub mod Limits
-pub mod Ends
-pub mod Left
-pub mod Head
-pub mod Found
-pub mod Routes
-pub mod Fields
-pub mod Targets
-pub mod Framing
-pub mod Checks
-pub mod Planned
-pub mod Received
 pub mod Chunks
 pub mod ChunkEnds
 pub mod ChunkParts

@@ -1,11 +1,11 @@
 //! A body whose length is told.
 ghost use Rattle.std.specs.Prelude.{◌≡◌, ◌<◌, [], length, true, false, ⊤, IfOk, IfSome, MatchOption};
 ghost use Rattle.std.specs.Io.KnownBytes.{Consumes, Keeps, IsAtEnd};
-ghost use Rattle.http_wire.specs.Left.{left};
+ghost use Rattle.http_head.specs.Left.{left};
 ghost use Rattle.http_wire.specs.Bodies.{TakesMore};
 
-use crate::buffer::Buffer;
-use crate::end::ReadFault;
+use http_head::buffer::Buffer;
+use http_head::end::ReadFault;
 use std::alloc::Global;
 use std::io::Read;
 

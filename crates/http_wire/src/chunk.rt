@@ -3,12 +3,12 @@ ghost use Rattle.std.specs.Prelude.{◌≡◌, ◌+◌, ◌<◌, ◌≤◌, leng
 ghost use Rattle.std.specs.Io.KnownBytes.{Keeps};
 ghost use Rattle.http_wire.specs.ChunkEnds as ends;
 ghost use Rattle.http_wire.specs.ChunkParts.{IsLine, IsLineTaken, IsLineEnd, IsChunkTaken};
-ghost use Rattle.http_wire.specs.Left.{left};
+ghost use Rattle.http_head.specs.Left.{left};
 ghost use Rattle.http_wire.specs.LineEnds.{IsLineEndState};
 
 use crate::body::{BodyFault, take_more};
-use crate::buffer::Buffer;
-use crate::end::{Finish, ReadFault, Refusal};
+use http_head::buffer::Buffer;
+use http_head::end::{Finish, ReadFault, Refusal};
 use httparse::{Status, parse_chunk_size};
 use std::io::Read;
 

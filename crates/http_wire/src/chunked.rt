@@ -3,13 +3,13 @@
 ghost use Rattle.std.specs.Prelude.{◌≡◌, ◌+◌, ◌<◌, ◌≤◌, ◌⊎◌, [], length, IfOk};
 ghost use Rattle.std.specs.Bool.{OnTrue, OnFalse};
 ghost use Rattle.http_wire.specs.ChunkParts.{AreChunksTaken, IsChunkedTaken, FitsChunked};
-ghost use Rattle.http_wire.specs.Left.{left};
+ghost use Rattle.http_head.specs.Left.{left};
 
 use crate::body::BodyFault;
-use crate::buffer::Buffer;
 use crate::chunk::{LINE_LIMIT, Line, RAW_LIMIT, bound_behind, take_chunk, take_line};
-use crate::end::{Finish, ReadFault, Refusal};
 use crate::trailers::{TRAILER_LIMIT, take_trailers};
+use http_head::buffer::Buffer;
+use http_head::end::{Finish, ReadFault, Refusal};
 use std::alloc::Global;
 use std::io::Read;
 

@@ -1,14 +1,14 @@
 //! A body, however it is framed (RFC 9112, section 6).
 ghost use Rattle.std.specs.Prelude.{◌≤◌, IfOk};
 ghost use Rattle.http_wire.specs.Bodies.{IsFramed, FitsBody};
-ghost use Rattle.http_wire.specs.Framing.{size_of};
-ghost use Rattle.http_wire.specs.Left.{left};
+ghost use Rattle.http_head.specs.Framing.{size_of};
+ghost use Rattle.http_head.specs.Left.{left};
 
 use crate::body::{BodyFault, take_body};
-use crate::buffer::Buffer;
 use crate::chunked::{Chunked, take_chunked};
-use crate::end::Finish;
-use crate::framing::Framing;
+use http_head::buffer::Buffer;
+use http_head::end::Finish;
+use http_head::framing::Framing;
 use std::alloc::Global;
 use std::io::Read;
 

@@ -3,7 +3,7 @@ ghost use Rattle.std.specs.Prelude.{◌++◌, OnOk, OnErr};
 ghost use Rattle.std.specs.Io.KnownBytes.{Appends};
 ghost use Rattle.http_wire.specs.Responses.{WritesFront};
 
-use crate::end::WriteFault;
+use http_head::end::WriteFault;
 use std::io::Write;
 
 /// Writes all the bytes, by as many writes as it takes. After a fault a front of them was written.

@@ -3,15 +3,15 @@ ghost use Rattle.std.specs.Prelude.{◌≡◌, ◌+◌, ◌≤◌, ◌++◌, len
 ghost use Rattle.std.specs.Io.KnownBytes.{Appends};
 ghost use Rattle.arrayvec.specs.ArrayVec.{array_vec_len};
 ghost use Rattle.http.specs.StatusCode.{reason_phrase};
-ghost use Rattle.http_wire.specs.Ends.{code_of};
+ghost use Rattle.http_head.specs.Ends.{code_of};
 ghost use Rattle.http_wire.specs.Responses as spec;
 ghost use Rattle.http_wire.specs.Responses.{WritesFront};
 
-use crate::end::{Finish, Refusal, WriteFault};
-use crate::plan::Plan;
 use crate::put::{put, put_both};
 use arrayvec::ArrayVec;
 use http::StatusCode;
+use http_head::end::{Finish, Refusal, WriteFault};
+use http_head::plan::Plan;
 use std::io::Write;
 
 /// Adds a text that fits.

@@ -2,11 +2,11 @@
 ghost use Rattle.std.specs.Prelude.{◌≡◌, ◌≤◌, IfOk};
 ghost use Rattle.std.specs.Io.KnownBytes.{Keeps};
 ghost use Rattle.http_wire.specs.ChunkParts.{AreTrailersFound, AreTrailersTaken};
-ghost use Rattle.http_wire.specs.Left.{left};
+ghost use Rattle.http_head.specs.Left.{left};
 
-use crate::buffer::Buffer;
 use crate::chunk::{Bound, front};
-use crate::end::{Finish, ReadFault, Refusal};
+use http_head::buffer::Buffer;
+use http_head::end::{Finish, ReadFault, Refusal};
 use httparse::Status;
 use httparse::spans::{EMPTY_HEADER_SPAN, parse_headers};
 use std::io::Read;

@@ -4,15 +4,15 @@ use Rattle.std.specs.Prelude.{Some, None, if◌then◌else◌}
 use Rattle.ipp_wire.specs.declared.view.Head.{Head}
 use Rattle.ipp_wire.specs.Message.{Group, Message, Spells, head_of}
 use Rattle.ipp_wire.specs.Bare.{bare}
-use Rattle.queue_core.specs.Settings.{SettingValues}
+use Rattle.queue_types.specs.Settings.{SettingValues}
 use Rattle.queue_core.specs.World.{World}
-use Rattle.queue_core.specs.declared.event.Reply.TheVariants.{Refused}
+use Rattle.queue_types.specs.declared.event.Reply.TheVariants.{Refused}
 use Rattle.ipp_reply.specs.Unsupported.{nothing}
 use Rattle.ipp_reply.specs.Wanted.{no_rows}
 use Rattle.ipp_reply.specs.Reply.{reply_of, with_groups}
 use Rattle.ipp_ops.specs.Answer.{Answers, IsVerdictOn, IsMalformed, by_head, malformed, request, outcome}
 use Rattle.ipp_ops.specs.Verdict.{refused, verdict}
-use Rattle.ipp_ops.specs.Checks.{head_refusal}
+use Rattle.ipp_request.specs.Reading.{head_refusal}
 
 same_twice : (b : Bool) (gs : List Group) → (if b then gs else gs) ≡ gs
 same_twice true gs = refl

@@ -9,26 +9,28 @@ use Rattle.std.specs.Result.{result_err}
 use Rattle.ipp_wire.specs.declared.view.Head.{Head}
 use Rattle.ipp_wire.specs.Message.{Group, Message, Spells, spelling}
 use Rattle.ipp_wire.specs.Bare.{bare, is_known_version}
-use Rattle.queue_core.specs.declared.document.Format.{Format}
-use Rattle.queue_core.specs.declared.job.Job.{Job}
-use Rattle.queue_core.specs.declared.job.Phase.{Phase}
-use Rattle.queue_core.specs.declared.job.Phase.TheVariants.{Waiting, Running, Stopped, Canceled, Aborted, Completed}
-use Rattle.queue_core.specs.declared.event.Reply.{Reply}
-use Rattle.queue_core.specs.declared.event.Reply.TheVariants.{Refused, Done, Jobs, Printer}
-use Rattle.queue_core.specs.declared.event.Scene.{Scene}
-use Rattle.queue_core.specs.Event.{Call, Change, Decision, ask, print_job, validate_job, create_job, send_document, cancel_job, cancel_my_jobs, hold_job, release_job, get_job_attributes, get_jobs, get_printer_attributes}
+use Rattle.queue_types.specs.declared.document.Format.{Format}
+use Rattle.queue_types.specs.declared.job.Job.{Job}
+use Rattle.queue_types.specs.declared.job.Phase.{Phase}
+use Rattle.queue_types.specs.declared.job.Phase.TheVariants.{Waiting, Running, Stopped, Canceled, Aborted, Completed}
+use Rattle.queue_types.specs.declared.event.Reply.{Reply}
+use Rattle.queue_types.specs.declared.event.Reply.TheVariants.{Refused, Done, Jobs, Printer}
+use Rattle.queue_types.specs.declared.event.Scene.{Scene}
+use Rattle.queue_types.specs.Event.{Call, Change, Decision, ask, print_job, validate_job, create_job, send_document, cancel_job, cancel_my_jobs, hold_job, release_job, get_job_attributes, get_jobs, get_printer_attributes}
 use Rattle.queue_core.specs.Machine.{call_row, cancel_row, canceled, is_cancelable, all_canceled, are_there, cancel_my_jobs_row, hold_in, let_print, release_in, is_sendable, sent, send_in, becomes, changed, of_own, entered, answered, new_job, new_document, unless_refused, no_change, refused as refused_row}
 use Rattle.queue_core.specs.World.{World, cut, made_on}
-use Rattle.queue_core.specs.Settings.{SettingValues}
+use Rattle.queue_types.specs.Settings.{SettingValues}
 use Rattle.ipp_reply.specs.declared.operation.Operation.{Operation}
 use Rattle.ipp_ops.specs.declared.check.Check.{Check}
 use Rattle.ipp_ops.specs.declared.check.Check.TheVariants as check
 use Rattle.ipp_reply.specs.Wanted.{Rows, job_rows, printer_rows}
 use Rattle.ipp_reply.specs.Operations.{operation_of}
 use Rattle.ipp_reply.specs.Unsupported.{Unsupported, is_listed}
-use Rattle.ipp_ops.specs.Unsupported.{unsupported}
-use Rattle.ipp_ops.specs.Checks.{code, refusal, groups_begin, is_refused_for, head_refusal, request_by}
-use Rattle.ipp_ops.specs.Request.{Request, request_for}
+use Rattle.ipp_request.specs.Unsupported.{unsupported}
+use Rattle.ipp_ops.specs.Checks.{code, refusal}
+use Rattle.ipp_request.specs.Reading.{groups_begin, head_refusal, request_by}
+use Rattle.ipp_request.specs.Unsupported.{is_refused_for}
+use Rattle.ipp_request.specs.Request.{Request, request_for}
 use Rattle.ipp_ops.specs.Verdict.{Verdict, passed, refused, verdict, request_verdict, listed_verdict, checked_verdict}
 use Rattle.ipp_reply.specs.Reply.{with_groups, unsupported_groups, reply_of}
 use Rattle.ipp_reply.specs.JobReply.{job_group}

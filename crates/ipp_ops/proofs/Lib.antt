@@ -1,9 +1,5 @@
-pub mod Lists
 pub mod Bytes
-pub mod Tests
-pub mod Texts
 pub mod Within
-pub mod Numbers
-pub mod Listing
 pub mod Listed
 pub mod Faults
+pub mod Laws

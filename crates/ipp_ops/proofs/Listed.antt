@@ -5,14 +5,16 @@ use Rattle.std.specs.List.{AllByRecursion, filter_map, cons_option}
 use Rattle.std.specs.Option.{option_map_or}
 use Rattle.ipp_wire.specs.Message.{Attribute, Group, Message, IsAttribute, IsGroup, IsMessage, IsNested}
 use Rattle.ipp_reply.specs.declared.operation.Operation.{Operation}
-use Rattle.ipp_ops.specs.declared.unsupported.Source.{Source}
-use Rattle.ipp_ops.specs.declared.unsupported.Source.TheVariants.{OperationGroup, JobGroup}
+use Rattle.ipp_request.specs.declared.unsupported.Source.{Source}
+use Rattle.ipp_request.specs.declared.unsupported.Source.TheVariants.{OperationGroup, JobGroup}
 use Rattle.ipp_ops.specs.declared.check.Check.{Check}
-use Rattle.ipp_ops.specs.Attributes.{Support, makes_job}
-use Rattle.ipp_ops.specs.Values.{are_supported}
-use Rattle.ipp_ops.specs.Request.{Request, attributes_in, request_for}
-use Rattle.ipp_ops.specs.Unsupported.{counted, listed, listed_by, listed_in, support_for, unsupported}
-use Rattle.ipp_ops.specs.Checks.{refusal, groups_begin, is_refused_for, request_by}
+use Rattle.ipp_request.specs.Attributes.{Support, makes_job}
+use Rattle.ipp_request.specs.Values.{are_supported}
+use Rattle.ipp_request.specs.Request.{Request, attributes_in, request_for}
+use Rattle.ipp_request.specs.Unsupported.{counted, listed, listed_by, listed_in, support_for, unsupported}
+use Rattle.ipp_ops.specs.Checks.{refusal}
+use Rattle.ipp_request.specs.Reading.{groups_begin, request_by}
+use Rattle.ipp_request.specs.Unsupported.{is_refused_for}
 use Rattle.ipp_ops.specs.Verdict.{verdict, request_verdict, listed_verdict, checked_verdict, ListsAttributes}
 use Rattle.ipp_reply.specs.Unsupported.{Unsupported, CanList}
 

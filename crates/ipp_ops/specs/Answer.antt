@@ -3,15 +3,15 @@ use Rattle.std.specs.Prelude.{◌≡◌, ◌∷◌, ◌==◌, ◌&&◌, ℕ, Boo
 use Rattle.ipp_wire.specs.declared.view.Head.{Head}
 use Rattle.ipp_wire.specs.Message.{Message, Spells, head_of}
 use Rattle.ipp_wire.specs.Bare.{bare}
-use Rattle.queue_core.specs.Event.{ask}
+use Rattle.queue_types.specs.Event.{ask}
 use Rattle.queue_core.specs.World.{World}
 use Rattle.queue_core.specs.Machine.{step}
-use Rattle.queue_core.specs.declared.event.Reply.TheVariants.{Refused as RefusedReply}
+use Rattle.queue_types.specs.declared.event.Reply.TheVariants.{Refused as RefusedReply}
 use Rattle.ipp_ops.specs.declared.outcome.Answer.{Answer}
 use Rattle.ipp_ops.specs.declared.outcome.Answer.TheVariants.{Whole, Bare}
 use Rattle.ipp_ops.specs.Verdict.{Verdict, passed, refused, verdict}
 use Rattle.ipp_reply.specs.Unsupported.{nothing}
-use Rattle.ipp_ops.specs.Checks.{head_refusal}
+use Rattle.ipp_request.specs.Reading.{head_refusal}
 use Rattle.ipp_reply.specs.Reply.{reply_of}
 use Rattle.ipp_reply.specs.Wanted.{no_rows}
 

@@ -1,5 +1,5 @@
--- What is looked for in a request, in order, each with when it applies and its status code (RFC 8011, sections 4.1 and 4.2,
--- appendix B): the head, the order of the groups, the checks of known attributes, and what is unsupported.
+-- The checks of a request's known attributes, in order, each with when it applies and its status code (RFC 8011, sections 4.1 and 4.2,
+-- appendix B).
 use Rattle.std.specs.Prelude.{ℕ, ◌==◌, List, [], ◌∷◌, Option, Result, Ok, Err, Bool, false, not, ◌&&◌, ◌||◌, codes, bytes_eq, find, if◌then◌else◌, is_none}
 use Rattle.std.specs.List.{list_any, list_all}
 use Rattle.std.specs.Option.{option_map_or, ok_or}
@@ -9,53 +9,17 @@ use Rattle.ipp_wire.specs.declared.view.Head.{Head}
 use Rattle.ipp_wire.specs.Bare.{is_known_version}
 use Rattle.ipp_wire.specs.Message.{Value, Attribute, Group, Message}
 use Rattle.ipp_reply.specs.declared.operation.Operation.{Operation}
-use Rattle.ipp_ops.specs.declared.attribute.OperationAttribute.{OperationAttribute}
-use Rattle.ipp_ops.specs.declared.attribute.OperationAttribute.TheVariants as key
+use Rattle.ipp_request.specs.declared.attribute.OperationAttribute.{OperationAttribute}
+use Rattle.ipp_request.specs.declared.attribute.OperationAttribute.TheVariants as key
 use Rattle.ipp_ops.specs.declared.check.Check.{Check}
 use Rattle.ipp_ops.specs.declared.check.Check.TheVariants.{Charset, Form, Length, Needed, Target, Compression, Format}
 use Rattle.ipp_reply.specs.Operations.{operation_of}
-use Rattle.ipp_ops.specs.Attributes.{Row, row, table, needs}
-use Rattle.ipp_ops.specs.Values.{are_formed, are_long, one_value}
-use Rattle.ipp_ops.specs.Formats.{format_of}
-use Rattle.ipp_ops.specs.Request.{Request, request_for, known, bytes_of, has, is_target}
-use Rattle.ipp_ops.specs.Unsupported.{is_known}
+use Rattle.ipp_request.specs.Attributes.{Row, row, table, needs}
+use Rattle.ipp_request.specs.Values.{are_formed, are_long, is_tagged, one_value}
+use Rattle.ipp_request.specs.Formats.{format_of}
+use Rattle.ipp_request.specs.Request.{Request, request_for, known, bytes_of, has, is_true, is_target}
+use Rattle.ipp_request.specs.Unsupported.{is_known}
 use Rattle.ipp_reply.specs.Unsupported.{Unsupported, is_filled}
-
--- ---- the head
-
--- the operation that a head asks for, or the code that refuses it: the version is looked at first
-abbrev pub operation_in : Head → Result Operation ℕ
-operation_in h = if is_known_version h then ok_or (operation_of h.code) 0x0501 else Err 0x0503
-
-abbrev pub head_refusal : Head → Option ℕ
-head_refusal h = result_err (operation_in h)
-
--- ---- the groups
-
--- one value of that tag under that name
-abbrev pub is_lone : List ℕ → ℕ → Attribute → Bool
-is_lone name tag a = bytes_eq a.name name && one_value (λ v. v.tag == tag) a.values
-
--- the first two are the charset and the language
-abbrev pub attributes_begin : List Attribute → Bool
-attributes_begin (charset ∷ language ∷ attrs) = is_lone (codes "attributes-charset") 0x47 charset && is_lone (codes "attributes-natural-language") 0x48 language
-attributes_begin _ = false
-
--- the first group is that of the operation, and begins with charset and language
-abbrev pub groups_begin : List Group → Bool
-groups_begin [] = false
-groups_begin (g ∷ gs) = g.tag == 0x01 && attributes_begin g.attributes
-
--- the request that a message is, or the code that refuses its head or the order of its groups
-abbrev pub ordered_for : Operation → Message → Result Request ℕ
-ordered_for o m = if groups_begin m.groups then Ok (request_for o m) else Err 0x0400
-
-abbrev pub request_by : Result Operation ℕ → Message → Result Request ℕ
-request_by (Err code) m = Err code
-request_by (Ok o) m = ordered_for o m
-
-abbrev pub request_in : Message → Result Request ℕ
-request_in m = request_by (operation_in m.head) m
 
 -- ---- the attributes
 
@@ -99,13 +63,3 @@ checks = Charset ∷ Form ∷ Length ∷ Needed ∷ Target ∷ Compression ∷ F
 -- the first check that refuses
 abbrev pub refusal : Request → Option Check
 refusal r = find (λ c. applies c r) checks
-
--- ---- what is unsupported
-
--- what is unsupported in the job group may not be ignored
-abbrev pub is_strict : Request → Bool
-is_strict r = bytes_eq (bytes_of r key.IppAttributeFidelity) (1 ∷ [])
-
--- the list holds an attribute that the operation knows, or one of the job group that may not be ignored
-abbrev pub is_refused_for : Request → Unsupported → Bool
-is_refused_for r u = list_any (λ a. is_known r.operation a.name) u.operation || (is_strict r && is_filled u.job)

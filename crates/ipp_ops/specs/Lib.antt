@@ -1,8 +1,3 @@
-pub mod Attributes
-pub mod Values
-pub mod Formats
-pub mod Request
-pub mod Unsupported
 pub mod Checks
 pub mod NewJob
 pub mod Verdict

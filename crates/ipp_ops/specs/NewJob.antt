@@ -2,16 +2,16 @@
 use Rattle.std.specs.Prelude.{ℕ, List, Option, Some, None, codes, if◌then◌else◌, unwrap_or}
 use Rattle.std.specs.Option.{option_and_then}
 use Rattle.ipp_wire.specs.Message.{Value, Attribute}
-use Rattle.queue_core.specs.declared.document.Format.{Format}
-use Rattle.queue_core.specs.declared.document.Format.TheVariants.{OctetStream}
-use Rattle.queue_core.specs.Event.{NewJob}
-use Rattle.ipp_ops.specs.declared.attribute.OperationAttribute.TheVariants as key
-use Rattle.ipp_ops.specs.declared.template.TemplateAttribute.{TemplateAttribute}
-use Rattle.ipp_ops.specs.declared.template.TemplateAttribute.TheVariants as template
-use Rattle.ipp_ops.specs.Attributes.{Support, row, template_row}
-use Rattle.ipp_ops.specs.Values.{number_of, are_supported}
-use Rattle.ipp_ops.specs.Formats.{format_of}
-use Rattle.ipp_ops.specs.Request.{Request, named, known, has, first_value, bytes_of, text_in}
+use Rattle.queue_types.specs.declared.document.Format.{Format}
+use Rattle.queue_types.specs.declared.document.Format.TheVariants.{OctetStream}
+use Rattle.queue_types.specs.Event.{NewJob}
+use Rattle.ipp_request.specs.declared.attribute.OperationAttribute.TheVariants as key
+use Rattle.ipp_request.specs.declared.attribute.TemplateAttribute.{TemplateAttribute}
+use Rattle.ipp_request.specs.declared.attribute.TemplateAttribute.TheVariants as template
+use Rattle.ipp_request.specs.Attributes.{Support, row, template_name, template_support}
+use Rattle.ipp_request.specs.Values.{number_of, are_supported}
+use Rattle.ipp_request.specs.Formats.{format_of}
+use Rattle.ipp_request.specs.Request.{Request, named, known, has, first_value, bytes_of, text_in}
 
 abbrev pub first_number : List Value → Option ℕ
 first_number vs = option_and_then (λ v. number_of v.bytes) (first_value vs)
@@ -23,7 +23,7 @@ supported_number s (Some a) = if are_supported s a.values then first_number a.va
 
 -- of the job group
 abbrev pub template_number : Request → TemplateAttribute → Option ℕ
-template_number r k = supported_number (template_row k).support (named (template_row k).name r.job_attributes)
+template_number r k = supported_number (template_support k) (named (template_name k) r.job_attributes)
 
 -- of the operation group where it is there, else of the job group
 abbrev pub impressions : Request → Option ℕ

@@ -2,23 +2,25 @@
 use Rattle.std.specs.Prelude.{ℕ, List, [], ◌∷◌, Option, Some, None, Result, Ok, Err, ⊤, Bool, true, false, map, option_map, codes, unwrap_or, bytes_eq, if◌then◌else◌}
 use Rattle.std.specs.Option.{option_map_or}
 use Rattle.ipp_wire.specs.Message.{Message}
-use Rattle.queue_core.specs.Event.{Call, ask, print_job, validate_job, create_job, send_document, cancel_job, cancel_my_jobs, hold_job, release_job, get_job_attributes, get_jobs, get_printer_attributes, call_of}
+use Rattle.queue_types.specs.Event.{Call, ask, print_job, validate_job, create_job, send_document, cancel_job, cancel_my_jobs, hold_job, release_job, get_job_attributes, get_jobs, get_printer_attributes, call_of}
 use Rattle.queue_core.specs.Limits.{IsEvent}
 use Rattle.ipp_reply.specs.declared.operation.Operation.{Operation}
 use Rattle.ipp_reply.specs.declared.operation.Operation.TheVariants.{PrintJob, ValidateJob, CreateJob, SendDocument, CancelJob, GetJobAttributes, GetJobs, GetPrinterAttributes, HoldJob, ReleaseJob, CancelMyJobs}
-use Rattle.ipp_ops.specs.declared.attribute.OperationAttribute.TheVariants.{RequestedAttributes, WhichJobs, Limit, LastDocument, JobIds}
+use Rattle.ipp_request.specs.declared.attribute.OperationAttribute.TheVariants.{RequestedAttributes, WhichJobs, Limit, LastDocument, JobIds}
 use Rattle.ipp_ops.specs.declared.check.Check.{Check}
 use Rattle.ipp_reply.specs.Wanted.{Rows, of_job, of_printer, rows_of}
 use Rattle.ipp_ops.specs.declared.verdict.Ask.{Ask}
 use Rattle.ipp_ops.specs.declared.verdict.Ask.TheVariants.{Call as CallAsk, Refused}
-use Rattle.queue_core.specs.declared.event.WhichJobs.{WhichJobs as Which}
-use Rattle.queue_core.specs.declared.event.WhichJobs.TheVariants as which
+use Rattle.queue_types.specs.declared.event.WhichJobs.{WhichJobs as Which}
+use Rattle.queue_types.specs.declared.event.WhichJobs.TheVariants as which
 use Rattle.ipp_reply.specs.Wanted.{words_of}
-use Rattle.ipp_ops.specs.Values.{number_of}
-use Rattle.ipp_ops.specs.Request.{Request, known, bytes_of, target_job, caller}
+use Rattle.ipp_request.specs.Values.{number_of}
+use Rattle.ipp_request.specs.Request.{Request, known, bytes_of, is_true, target_job, caller}
 use Rattle.ipp_reply.specs.Unsupported.{Unsupported, nothing, unsupported_of, CanList}
-use Rattle.ipp_ops.specs.Unsupported.{unsupported}
-use Rattle.ipp_ops.specs.Checks.{refusal, code, request_in, is_refused_for}
+use Rattle.ipp_request.specs.Unsupported.{unsupported}
+use Rattle.ipp_ops.specs.Checks.{refusal, code}
+use Rattle.ipp_request.specs.Reading.{request_in}
+use Rattle.ipp_request.specs.Unsupported.{is_refused_for}
 use Rattle.ipp_ops.specs.NewJob.{new_job, format}
 use Rattle.ipp_reply.specs.JobReply.{selected}
 use Rattle.ipp_reply.specs.PrinterReply.{selected as selected_of_printer}
@@ -43,7 +45,7 @@ limit r = number_of (bytes_of r Limit)
 
 -- no more documents come behind this one
 abbrev pub is_last : Request → Bool
-is_last r = bytes_eq (bytes_of r LastDocument) (1 ∷ [])
+is_last r = is_true r LastDocument
 
 -- absent: none
 abbrev pub job_ids : Request → Option (List ℕ)

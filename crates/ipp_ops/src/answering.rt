@@ -4,8 +4,8 @@ ghost use Rattle.std.specs.Bool.{OnFalse, OnTrue};
 ghost use Rattle.ipp_wire.specs.Message.{IsMessage, Spells, head_of};
 ghost use Rattle.ipp_wire.specs.Viewed.{message_of};
 ghost use Rattle.ipp_wire.specs.Bare.{bare};
-ghost use Rattle.queue_core.specs.Event.{ask, call_of};
-ghost use Rattle.queue_core.specs.Limits.{IsEvent, IsMoment, IsSoundReply};
+ghost use Rattle.queue_types.specs.Event.{ask, call_of};
+ghost use Rattle.queue_core.specs.Limits.{IsEvent, IsMoment};
 ghost use Rattle.queue_core.specs.Machine.{step as machine_step};
 ghost use Rattle.queue_core.specs.World.{World};
 ghost use Rattle.ipp_reply.specs.Reply.{reply_of};
@@ -13,19 +13,19 @@ ghost use Rattle.ipp_reply.specs.Unsupported.{CanList, unsupported_of};
 ghost use Rattle.ipp_reply.specs.Wanted.{rows_of};
 ghost use Rattle.ipp_ops.specs.Answer.{Answers, Fails, IsMalformed, bytes_of, is_fault, is_refusal, outcome};
 ghost use Rattle.ipp_ops.specs.Verdict.{verdict};
-ghost use Rattle.ipp_ops.specs.Checks.{head_refusal};
+ghost use Rattle.ipp_request.specs.Reading.{head_refusal};
 
 use crate::asking::ask;
-use crate::check::head_check;
 use crate::outcome::{Answer, TooShort};
 use crate::verdict::Ask;
 use ipp_reply::status::{CLIENT_ERROR_BAD_REQUEST, SERVER_ERROR_TEMPORARY_ERROR};
 use ipp_reply::{Unsupported, Wanted, reply_message};
+use ipp_request::head_check;
 use ipp_wire::{Head, View, WireFault, head, put_fault, read, write};
 use queue_core::book::{BookFault, QueueBook};
-use queue_core::event::{Call, Event, Reply};
-use queue_core::settings::Settings;
-use std::alloc::{AllocError, Global};
+use queue_types::event::{Call, Event, Reply};
+use queue_types::settings::Settings;
+use std::alloc::Global;
 
 fn bare_answer(head: Head, code: u16) -> Answer
     ensures { Spells (bare head code) (bytes_of result) }
@@ -33,24 +33,6 @@ fn bare_answer(head: Head, code: u16) -> Answer
     let mut out = [0; 72];
     put_fault(&mut out, head, code);
     Answer::Bare(out)
-}
-
-/// The bytes of a reply.
-fn reply_bytes(
-    alloc: Global,
-    r: &Reply,
-    head: Head,
-    wanted: &Wanted,
-    unsupported: &Unsupported<'_>,
-    s: &Settings,
-    now: u32,
-) -> Result<Vec<u8>, AllocError>
-    requires sound { IsSoundReply r.now }
-    requires listed { CanList (unsupported_of unsupported.now) }
-    ensures { IfOk result (λ b. Spells (reply_of r.now head (rows_of wanted.now) (unsupported_of unsupported.now) s.now now) b.items) }
-{
-    let m = reply_message(alloc, r, head, wanted, unsupported, s, now)?;
-    write(&m)
 }
 
 /// One step of the machine, or a fault and no change: the book is changed last, once the reply's bytes
@@ -78,7 +60,8 @@ fn take<'a, B: QueueBook>(
 {
     let e = Event::Ask { caller, call };
     let decision = book.decide(now, &e)?;
-    let bytes = reply_bytes(alloc, &decision.reply, head, wanted, unsupported, s, now)?;
+    let reply = reply_message(alloc, &decision.reply, head, wanted, unsupported, s, now)?;
+    let bytes = write(&reply)?;
     book.apply(decision)?;
     Ok(bytes)
 }
@@ -104,8 +87,9 @@ fn step<B: QueueBook>(
     match ask(alloc, v)? {
         Ask::Refused { code, unsupported } => {
             let wanted = Wanted::nothing(alloc);
-            let reply = Reply::Refused(code);
-            Ok(reply_bytes(alloc, &reply, v.head, &wanted, &unsupported, s, now)?)
+            let refused = Reply::Refused(code);
+            let reply = reply_message(alloc, &refused, v.head, &wanted, &unsupported, s, now)?;
+            Ok(write(&reply)?)
         }
         Ask::Call {
             caller,

@@ -2,39 +2,34 @@
 ghost use Rattle.std.specs.Prelude.{◌≡◌, ◌≤◌, [], IfOk, length, map, unwrap_or};
 ghost use Rattle.ipp_wire.specs.Message.{IsMessage};
 ghost use Rattle.ipp_wire.specs.Viewed.{message_of, values_of};
-ghost use Rattle.queue_core.specs.Event.{call_of};
-ghost use Rattle.ipp_reply.specs.JobReply.{selected};
+ghost use Rattle.queue_types.specs.Event.{call_of};
 ghost use Rattle.ipp_reply.specs.Unsupported.{nothing, unsupported_of};
+ghost use Rattle.ipp_reply.specs.JobReply.{selected};
 ghost use Rattle.ipp_reply.specs.Wanted.{of_job, rows_of};
 ghost use Rattle.ipp_reply.specs.declared.operation.Operation.TheVariants as variant;
-ghost use Rattle.ipp_ops.specs.Request.{caller, request_of};
-ghost use Rattle.ipp_ops.specs.Unsupported.{unsupported};
-ghost use Rattle.ipp_ops.specs.Values.{number_of};
-ghost use Rattle.ipp_ops.specs.Verdict.{call, is_last, job, job_ids, limit, passed, refused, requested, rows, rows_by, usual, verdict, ask_content, listed_verdict, checked_verdict, which_jobs, IsWithinLimits, ListsAttributes};
-ghost use Rattle.ipp_ops.specs.Checks.{is_refused_for, refusal};
+ghost use Rattle.ipp_request.specs.Request.{caller, request_of};
+ghost use Rattle.ipp_request.specs.Unsupported.{unsupported};
+ghost use Rattle.ipp_request.specs.Values.{number_of};
+ghost use Rattle.ipp_ops.specs.Verdict.{call, job_ids, passed, refused, requested, rows, usual, verdict, ask_content, listed_verdict, checked_verdict, which_jobs, IsWithinLimits, ListsAttributes};
+ghost use Rattle.ipp_ops.specs.Checks.{refusal};
+ghost use Rattle.ipp_request.specs.Unsupported.{is_refused_for};
 
-use crate::attribute::OperationAttribute;
 use crate::check::first_refusal;
 use crate::new_job::{format, new_job};
-use crate::request::Request;
-use crate::target::target_job;
-use crate::unsupported::{is_refused_for, unsupported_in};
-use crate::value::number;
 use crate::verdict::Ask;
 use ipp_reply::status::CLIENT_ERROR_ATTRIBUTES_OR_VALUES_NOT_SUPPORTED;
 use ipp_reply::{
     Operation, Unsupported, Wanted, select_of_printer, select_requested, select_usual,
     select_whole_printer,
 };
+use ipp_request::attribute::OperationAttribute;
+use ipp_request::request::Request;
+use ipp_request::target::target_job;
+use ipp_request::unsupported::{is_refused_for, unsupported_in};
+use ipp_request::value::number;
 use ipp_wire::{ValueView, View};
-use queue_core::event::{Call, NumberList, WhichJobs};
+use queue_types::event::{Call, NumberList, WhichJobs};
 use std::alloc::{AllocError, Global};
-
-fn job(r: Request<'_, '_>) -> u32
-    ensures { result ≡ job (request_of r.entry) }
-{
-    target_job(r).unwrap_or(0)
-}
 
 /// Those that are not completed, where the request doesn't say which.
 fn which_jobs(r: Request<'_, '_>) -> WhichJobs
@@ -45,20 +40,6 @@ fn which_jobs(r: Request<'_, '_>) -> WhichJobs
     } else {
         WhichJobs::NotCompleted
     }
-}
-
-/// None, where the request has no limit.
-fn limit(r: Request<'_, '_>) -> Option<u32>
-    ensures { result ≡ limit (request_of r.entry) }
-{
-    number(r.bytes_of(OperationAttribute::Limit))
-}
-
-/// No more documents come behind this one.
-fn is_last(r: Request<'_, '_>) -> bool
-    ensures { result ≡ is_last (request_of r.entry) }
-{
-    r.bytes_of(OperationAttribute::LastDocument) == [1].as_slice()
 }
 
 /// The numbers of an attribute's values.
@@ -89,6 +70,7 @@ fn job_ids(alloc: Global, r: Request<'_, '_>) -> Result<Option<NumberList>, Allo
 fn call<'a>(alloc: Global, r: Request<'_, 'a>) -> Result<Call<'a>, AllocError>
     ensures { IfOk result (λ c. call_of c ≡ call (request_of r.entry)) }
 {
+    let job = target_job(r).unwrap_or(0);
     Ok(match r.operation {
         Operation::PrintJob => Call::PrintJob {
             job: new_job(r),
@@ -98,20 +80,20 @@ fn call<'a>(alloc: Global, r: Request<'_, 'a>) -> Result<Call<'a>, AllocError>
         Operation::ValidateJob => Call::ValidateJob { job: new_job(r) },
         Operation::CreateJob => Call::CreateJob { job: new_job(r) },
         Operation::SendDocument => Call::SendDocument {
-            job: job(r),
+            job,
             format: format(r),
             payload: r.payload,
-            last: is_last(r),
+            last: r.is_true(OperationAttribute::LastDocument),
         },
         Operation::GetJobs => Call::GetJobs {
             which: which_jobs(r),
-            limit: limit(r),
+            limit: number(r.bytes_of(OperationAttribute::Limit)),
         },
         Operation::GetPrinterAttributes => Call::GetPrinterAttributes,
-        Operation::CancelJob => Call::CancelJob { job: job(r) },
-        Operation::GetJobAttributes => Call::GetJobAttributes { job: job(r) },
-        Operation::HoldJob => Call::HoldJob { job: job(r) },
-        Operation::ReleaseJob => Call::ReleaseJob { job: job(r) },
+        Operation::CancelJob => Call::CancelJob { job },
+        Operation::GetJobAttributes => Call::GetJobAttributes { job },
+        Operation::HoldJob => Call::HoldJob { job },
+        Operation::ReleaseJob => Call::ReleaseJob { job },
         Operation::CancelMyJobs => Call::CancelMyJobs {
             jobs: job_ids(alloc, r)?,
         },
@@ -193,7 +175,7 @@ fn passed<'a>(
 }
 
 /// What a request asks of which no known attribute is refused. What is unsupported is told.
-fn listed<'a>(alloc: Global, r: Request<'_, 'a>) -> Result<Ask<'a>, AllocError>
+fn listed_verdict<'a>(alloc: Global, r: Request<'_, 'a>) -> Result<Ask<'a>, AllocError>
     ensures { IfOk result (λ a. ask_content a ≡ listed_verdict (request_of r.entry) (unsupported (request_of r.entry)) (is_refused_for (request_of r.entry) (unsupported (request_of r.entry)))) }
 {
     let unsupported = unsupported_in(alloc, r)?;
@@ -207,12 +189,12 @@ fn listed<'a>(alloc: Global, r: Request<'_, 'a>) -> Result<Ask<'a>, AllocError>
 }
 
 /// What a request asks.
-fn checked<'a>(alloc: Global, r: Request<'_, 'a>) -> Result<Ask<'a>, AllocError>
+fn checked_verdict<'a>(alloc: Global, r: Request<'_, 'a>) -> Result<Ask<'a>, AllocError>
     ensures { IfOk result (λ a. ask_content a ≡ checked_verdict (request_of r.entry) (refusal (request_of r.entry))) }
 {
     match first_refusal(r) {
         Some(check) => Ok(refused(alloc, check.code())),
-        None => listed(alloc, r),
+        None => listed_verdict(alloc, r),
     }
 }
 
@@ -226,7 +208,7 @@ pub fn ask<'a>(alloc: Global, v: &View<'a>) -> Result<Ask<'a>, AllocError>
     ensures listed { IsMessage (message_of v.now) → IfOk result (λ a. ListsAttributes (ask_content a)) }
 {
     match Request::read(v) {
-        Ok(r) => checked(alloc, r),
+        Ok(r) => checked_verdict(alloc, r),
         Err(code) => Ok(refused(alloc, code)),
     }
 }

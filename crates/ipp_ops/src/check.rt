@@ -1,18 +1,16 @@
 //! The checks of a request, in their order.
-ghost use Rattle.std.specs.Prelude.{◌≡◌, ◌&&◌, bytes_eq, codes, is_none, not};
-ghost use Rattle.std.specs.Str.{str_eq_ignore_ascii_case};
-ghost use Rattle.ipp_ops.specs.declared.attribute.OperationAttribute.TheVariants as key;
-ghost use Rattle.ipp_ops.specs.Checks.{operation_in, head_refusal, code, applies, refusal};
-ghost use Rattle.ipp_ops.specs.Formats as formats;
-ghost use Rattle.ipp_ops.specs.Request.{bytes_of, has, request_of};
+ghost use Rattle.std.specs.Prelude.{◌≡◌, not, map};
+ghost use Rattle.std.specs.List.{list_all, list_any};
+ghost use Rattle.ipp_ops.specs.Checks.{code, applies, refusal, fails, some_fails, has_needed};
+ghost use Rattle.ipp_request.specs.Request.{has, request_of};
+ghost use Rattle.ipp_request.specs.Values as values;
 
-use crate::attribute::OperationAttribute;
-use crate::form::{has_needed, some_misformed, some_overlong};
-use crate::format::format_of;
-use crate::request::Request;
-use crate::target::is_target;
-use ipp_reply::{Operation, status};
-use ipp_wire::{Head, is_known_version};
+use ipp_reply::status;
+use ipp_request::attribute::{OperationAttribute, TABLE, needs};
+use ipp_request::format::format_of;
+use ipp_request::request::Request;
+use ipp_request::target::is_target;
+use ipp_request::value::{are_formed, are_long};
 
 /// What may be wrong with a request, in the order in which it is looked for.
 #[derive(Clone, Copy, Debug)]
@@ -44,24 +42,55 @@ const CHECKS: [Check; 7] = [
     Check::Format,
 ];
 
-fn is_utf8_charset(charset: &[u8]) -> bool
-    ensures { result ≡ str_eq_ignore_ascii_case charset.now (codes "utf-8") }
+/// It has a wrong tag, number of values or shape.
+fn is_misformed(r: Request<'_, '_>, k: OperationAttribute) -> bool
+    ensures { result ≡ fails (λ row vs. not (values.are_formed row vs)) (request_of r.entry) k }
 {
-    charset.eq_ignore_ascii_case(b"utf-8")
+    match r.known(k) {
+        Some(a) => !are_formed(&k.row(), a.values.as_slice()),
+        None => false,
+    }
 }
 
-fn is_compressed(r: Request<'_, '_>) -> bool
-    ensures { result ≡ (has (request_of r.entry) key.Compression && not (bytes_eq (bytes_of (request_of r.entry) key.Compression) (codes "none"))) }
+fn some_misformed(r: Request<'_, '_>) -> bool
+    ensures { result ≡ some_fails (λ row vs. not (values.are_formed row vs)) (request_of r.entry) }
 {
-    r.has(OperationAttribute::Compression)
-        && r.bytes_of(OperationAttribute::Compression) != "none".as_bytes()
+    TABLE.iter().any(|k| is_misformed(r, *k))
 }
 
-fn has_unknown_format(r: Request<'_, '_>) -> bool
-    ensures { result ≡ (has (request_of r.entry) key.DocumentFormat && is_none (formats.format_of (bytes_of (request_of r.entry) key.DocumentFormat))) }
+/// It is longer than its limit.
+fn is_overlong(r: Request<'_, '_>, k: OperationAttribute) -> bool
+    ensures { result ≡ fails values.are_long (request_of r.entry) k }
 {
-    r.has(OperationAttribute::DocumentFormat)
-        && format_of(r.bytes_of(OperationAttribute::DocumentFormat)).is_none()
+    match r.known(k) {
+        Some(a) => are_long(&k.row(), a.values.as_slice()),
+        None => false,
+    }
+}
+
+fn some_overlong(r: Request<'_, '_>) -> bool
+    ensures { result ≡ some_fails values.are_long (request_of r.entry) }
+{
+    TABLE.iter().any(|k| is_overlong(r, *k))
+}
+
+fn has_all(r: Request<'_, '_>, needed: &[OperationAttribute]) -> bool
+    ensures { result ≡ list_all (has (request_of r.entry)) needed.now }
+{
+    needed.iter().all(|k| r.has(*k))
+}
+
+fn has_one_of(r: Request<'_, '_>, lists: &[&[OperationAttribute]]) -> bool
+    ensures { result ≡ list_any (λ ks. list_all (has (request_of r.entry)) ks) (map (λ ks. ks.now) lists.now) }
+{
+    lists.iter().any(|ks| has_all(r, ks))
+}
+
+/// The attributes that the operation needs are there.
+fn has_needed(r: Request<'_, '_>) -> bool
+    ensures { result ≡ has_needed (request_of r.entry) }
+{
+    has_one_of(r, needs(r.operation))
 }
 
 impl Check {
@@ -84,33 +113,24 @@ impl Check {
         ensures { result ≡ applies self (request_of r.entry) }
     {
         match self {
-            Check::Charset => !is_utf8_charset(r.bytes_of(OperationAttribute::AttributesCharset)),
+            Check::Charset => {
+                let charset = r.bytes_of(OperationAttribute::AttributesCharset);
+                !charset.eq_ignore_ascii_case(b"utf-8")
+            }
             Check::Form => some_misformed(r),
             Check::Length => some_overlong(r),
             Check::Needed => !has_needed(r),
             Check::Target => !is_target(r),
-            Check::Compression => is_compressed(r),
-            Check::Format => has_unknown_format(r),
+            Check::Compression => {
+                r.has(OperationAttribute::Compression)
+                    && r.bytes_of(OperationAttribute::Compression) != "none".as_bytes()
+            }
+            Check::Format => {
+                r.has(OperationAttribute::DocumentFormat)
+                    && format_of(r.bytes_of(OperationAttribute::DocumentFormat)).is_none()
+            }
         }
     }
-}
-
-/// The operation that a head asks for, or the code that refuses it.
-pub fn operation_in(h: Head) -> Result<Operation, u16>
-    ensures { result ≡ operation_in h }
-{
-    if !is_known_version(h) {
-        return Err(status::SERVER_ERROR_VERSION_NOT_SUPPORTED);
-    }
-    Operation::from_id(h.code).ok_or(status::SERVER_ERROR_OPERATION_NOT_SUPPORTED)
-}
-
-/// What the head of a request alone refuses: 0x0503, where its major version isn't 1 or 2, or else
-/// 0x0501, where its operation isn't supported (RFC 8011, appendix B). It takes no memory.
-pub fn head_check(h: Head) -> Option<u16>
-    ensures { result ≡ head_refusal h }
-{
-    operation_in(h).err()
 }
 
 /// The first check that refuses the request.

@@ -4,23 +4,16 @@
 
 mod answering;
 mod asking;
-mod attribute;
 mod check;
-mod form;
-mod format;
+mod law;
 mod new_job;
 mod outcome;
-mod reading;
-mod request;
-mod target;
-mod template;
-mod unsupported;
-mod value;
 mod verdict;
 
 pub use answering::answer;
 pub use asking::ask;
-pub use check::head_check;
 pub use ipp_reply::{JobAttribute, PrinterAttribute, Unsupported, Wanted, reply_message};
+pub use ipp_request::head_check;
+pub use law::{job_paths, one_verdict, whole_tables};
 pub use outcome::{Answer, TooShort};
 pub use verdict::Ask;

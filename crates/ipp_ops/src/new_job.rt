@@ -1,30 +1,19 @@
 //! What a request asks of a new job (RFC 8011, sections 4.2.1 and 5.2).
 ghost use Rattle.std.specs.Prelude.{◌≡◌};
 ghost use Rattle.std.specs.Option.{option_copied, option_map};
-ghost use Rattle.ipp_wire.specs.Viewed.{attribute_of, values_of};
-ghost use Rattle.queue_core.specs.Event.{new_job_of};
-ghost use Rattle.ipp_ops.specs.Attributes.{support_of};
+ghost use Rattle.ipp_wire.specs.Viewed.{attribute_of};
+ghost use Rattle.queue_types.specs.Event.{new_job_of};
+ghost use Rattle.ipp_request.specs.Attributes.{support_of};
 ghost use Rattle.ipp_ops.specs.NewJob as spec;
-ghost use Rattle.ipp_ops.specs.Request.{request_of};
+ghost use Rattle.ipp_request.specs.Request.{request_of};
 
-use crate::attribute::{OperationAttribute, Support};
-use crate::format::format_of;
-use crate::reading::named;
-use crate::request::Request;
-use crate::template::TemplateAttribute;
-use crate::value::{are_supported, number};
-use ipp_wire::{AttrView, ValueView};
-use queue_core::document::Format;
-use queue_core::event::NewJob;
-
-fn first_number(values: &[ValueView<'_>]) -> Option<u32>
-    ensures { result ≡ spec.first_number (values_of values.now) }
-{
-    match values {
-        [v, ..] => number(v.bytes),
-        [] => None,
-    }
-}
+use ipp_request::attribute::{OperationAttribute, Support, TemplateAttribute};
+use ipp_request::format::format_of;
+use ipp_request::request::{Request, named};
+use ipp_request::value::{are_supported, first_value, number};
+use ipp_wire::AttrView;
+use queue_types::document::Format;
+use queue_types::event::NewJob;
 
 /// The number of an attribute, where it is there and supported.
 fn supported_number(support: Support, a: Option<&AttrView<'_>>) -> Option<u32>
@@ -34,7 +23,7 @@ fn supported_number(support: Support, a: Option<&AttrView<'_>>) -> Option<u32>
         None => None,
         Some(a) => {
             if are_supported(support, a.values.as_slice()) {
-                first_number(a.values.as_slice())
+                number(first_value(a.values.as_slice())?.bytes)
             } else {
                 None
             }
@@ -45,8 +34,7 @@ fn supported_number(support: Support, a: Option<&AttrView<'_>>) -> Option<u32>
 fn template_number(r: Request<'_, '_>, k: TemplateAttribute) -> Option<u32>
     ensures { result ≡ spec.template_number (request_of r.entry) k }
 {
-    let row = k.row();
-    supported_number(row.support, named(row.name.as_bytes(), r.job_attributes))
+    supported_number(k.support(), named(k.name().as_bytes(), r.job_attributes))
 }
 
 fn impressions(r: Request<'_, '_>) -> Option<u32>

@@ -1,6 +1,6 @@
 //! What a request asks, as it is handed on.
 use ipp_reply::{Unsupported, Wanted};
-use queue_core::event::Call;
+use queue_types::event::Call;
 
 /// What a request asks.
 #[derive(Drop)]

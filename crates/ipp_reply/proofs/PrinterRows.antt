@@ -2,7 +2,7 @@
 use Rattle.std.proofs.Common.{ℕ, ◌<◌, ◌^◌, List, [], ◌∷◌, length, refl, arith, lit<, lit≤}
 use Rattle.std.specs.Prelude.{codes}
 use Rattle.ipp_wire.specs.Message.{IsAttribute}
-use Rattle.queue_core.specs.Settings.{AreSettings}
+use Rattle.queue_types.specs.Settings.{AreSettings}
 use Rattle.ipp_reply.specs.declared.printer_reply.PrinterAttribute.{PrinterAttribute}
 use Rattle.ipp_reply.specs.declared.printer_reply.PrinterAttribute.TheVariants.{PrinterUriSupported, UriAuthenticationSupported, UriSecuritySupported, PrinterName, PrinterState, PrinterStateReasons, IppVersionsSupported, OperationsSupported, CharsetConfigured, CharsetSupported, NaturalLanguageConfigured, GeneratedNaturalLanguageSupported, DocumentFormatDefault, DocumentFormatSupported, PrinterIsAcceptingJobs, QueuedJobCount, PdlOverrideSupported, PrinterUpTime, CompressionSupported}
 use Rattle.ipp_reply.specs.PrinterReply.{Printer, name_of, values_of, attribute}

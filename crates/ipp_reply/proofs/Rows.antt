@@ -5,11 +5,11 @@ use Rattle.std.specs.List.{AllByRecursion}
 use Rattle.std.specs.Option.{option_to_list}
 use Rattle.std.proofs.lemmas.Fmt.{length-decimal-le}
 use Rattle.ipp_wire.specs.Message.{Value, IsAttribute}
-use Rattle.queue_core.specs.declared.job.Job.{Job}
-use Rattle.queue_core.specs.declared.job.Reason.{Reason}
-use Rattle.queue_core.specs.declared.job.Reasons.{Reasons}
-use Rattle.queue_core.specs.declared.job.Reason.TheVariants.{NoReason, JobIncoming, JobHoldUntilSpecified, JobPrinting, PrinterStopped, ProcessingToStopPoint, JobCanceledByUser, JobCanceledAtDevice, AbortedBySystem, JobCompletedSuccessfully}
-use Rattle.queue_core.specs.Job.{reasons}
+use Rattle.queue_types.specs.declared.job.Job.{Job}
+use Rattle.queue_types.specs.declared.job.Reason.{Reason}
+use Rattle.queue_types.specs.declared.job.Reasons.{Reasons}
+use Rattle.queue_types.specs.declared.job.Reason.TheVariants.{NoReason, JobIncoming, JobHoldUntilSpecified, JobPrinting, PrinterStopped, ProcessingToStopPoint, JobCanceledByUser, JobCanceledAtDevice, AbortedBySystem, JobCompletedSuccessfully}
+use Rattle.queue_types.specs.Job.{reasons}
 use Rattle.queue_core.specs.Limits.{IsSoundJob}
 use Rattle.ipp_reply.specs.declared.job_reply.JobAttribute.{JobAttribute}
 use Rattle.ipp_reply.specs.declared.job_reply.JobAttribute.TheVariants.{JobUri, JobId, JobPrinterUri, JobName, JobOriginatingUserName, JobState, JobStateReasons, TimeAtCreation, TimeAtProcessing, TimeAtCompleted, JobPrinterUpTime, AttributesCharset, AttributesNaturalLanguage, JobKOctets, JobImpressions, JobImpressionsCompleted, NumberOfDocuments, Copies, JobHoldUntil}

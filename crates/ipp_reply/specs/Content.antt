@@ -3,7 +3,7 @@ use Rattle.std.specs.Prelude.{List, map, string_bytes}
 use Rattle.ipp_wire.specs.Message.{Value}
 use Rattle.ipp_reply.specs.declared.content.Content.{Content as ContentRef}
 use Rattle.ipp_reply.specs.declared.content.Content.TheVariants.{Integer, Enum, Text, Made, Moment, Reasons, Boolean, Texts, OperationIds, FormatNames}
-use Rattle.ipp_reply.specs.Formats.{format_name, formats}
+use Rattle.queue_types.specs.Formats.{format_name, formats}
 use Rattle.ipp_reply.specs.PrinterReply.{truth, texts, operation_ids}
 use Rattle.ipp_reply.specs.JobReply.{text, integer, enumerated, keywords, moment, reason_words}
 

@@ -4,11 +4,11 @@ use Rattle.std.specs.List.{list_any}
 use Rattle.std.specs.Option.{option_to_list}
 use Rattle.std.specs.Int.{w32, to_be_bytes}
 use Rattle.ipp_wire.specs.Message.{Value, Attribute, Group}
-use Rattle.queue_core.specs.declared.job.Job.{Job}
-use Rattle.queue_core.specs.declared.job.Reason.{Reason}
-use Rattle.queue_core.specs.declared.job.Reasons.{Reasons}
-use Rattle.queue_core.specs.declared.job.Reason.TheVariants.{NoReason, JobIncoming, JobHoldUntilSpecified, JobPrinting, PrinterStopped, ProcessingToStopPoint, JobCanceledByUser, JobCanceledAtDevice, AbortedBySystem, JobCompletedSuccessfully}
-use Rattle.queue_core.specs.Job.{state, reasons}
+use Rattle.queue_types.specs.declared.job.Job.{Job}
+use Rattle.queue_types.specs.declared.job.Reason.{Reason}
+use Rattle.queue_types.specs.declared.job.Reasons.{Reasons}
+use Rattle.queue_types.specs.declared.job.Reason.TheVariants.{NoReason, JobIncoming, JobHoldUntilSpecified, JobPrinting, PrinterStopped, ProcessingToStopPoint, JobCanceledByUser, JobCanceledAtDevice, AbortedBySystem, JobCompletedSuccessfully}
+use Rattle.queue_types.specs.Job.{state, reasons}
 use Rattle.ipp_reply.specs.declared.job_reply.JobAttribute.{JobAttribute}
 use Rattle.ipp_reply.specs.declared.job_reply.JobAttribute.TheVariants.{JobUri, JobId, JobPrinterUri, JobName, JobOriginatingUserName, JobState, JobStateReasons, TimeAtCreation, TimeAtProcessing, TimeAtCompleted, JobPrinterUpTime, AttributesCharset, AttributesNaturalLanguage, JobKOctets, JobImpressions, JobImpressionsCompleted, NumberOfDocuments, Copies, JobHoldUntil}
 

@@ -1,5 +1,4 @@
 pub mod Operations
-pub mod Formats
 pub mod JobReply
 pub mod PrinterReply
 pub mod PrinterView

@@ -2,11 +2,11 @@
 use Rattle.std.specs.Prelude.{ℕ, List, [], ◌∷◌, Bool, ◌||◌, map, filter, codes, bytes_eq, if◌then◌else◌}
 use Rattle.std.specs.List.{list_any}
 use Rattle.ipp_wire.specs.Message.{Value, Attribute, Group}
-use Rattle.queue_core.specs.Settings.{SettingValues}
+use Rattle.queue_types.specs.Settings.{SettingValues}
 use Rattle.ipp_reply.specs.declared.printer_reply.PrinterAttribute.{PrinterAttribute}
 use Rattle.ipp_reply.specs.declared.printer_reply.PrinterAttribute.TheVariants.{PrinterUriSupported, UriAuthenticationSupported, UriSecuritySupported, PrinterName, PrinterState, PrinterStateReasons, IppVersionsSupported, OperationsSupported, CharsetConfigured, CharsetSupported, NaturalLanguageConfigured, GeneratedNaturalLanguageSupported, DocumentFormatDefault, DocumentFormatSupported, PrinterIsAcceptingJobs, QueuedJobCount, PdlOverrideSupported, PrinterUpTime, CompressionSupported}
 use Rattle.ipp_reply.specs.Operations.{id, operations}
-use Rattle.ipp_reply.specs.Formats.{format_name, formats}
+use Rattle.queue_types.specs.Formats.{format_name, formats}
 use Rattle.ipp_reply.specs.JobReply.{text, integer, enumerated}
 
 -- what a printer is: its settings, and its queue at a moment

@@ -3,9 +3,9 @@ use Rattle.std.specs.Prelude.{ℕ, ◌==◌, List, [], ◌∷◌, ◌++◌, map,
 use Rattle.ipp_wire.specs.declared.view.Head.{Head}
 use Rattle.ipp_wire.specs.Message.{Group, Message}
 use Rattle.ipp_wire.specs.Bare.{bare}
-use Rattle.queue_core.specs.declared.event.Reply.{Reply}
-use Rattle.queue_core.specs.declared.event.Reply.TheVariants.{Refused, Done, Jobs, Printer}
-use Rattle.queue_core.specs.Settings.{SettingValues}
+use Rattle.queue_types.specs.declared.event.Reply.{Reply}
+use Rattle.queue_types.specs.declared.event.Reply.TheVariants.{Refused, Done, Jobs, Printer}
+use Rattle.queue_types.specs.Settings.{SettingValues}
 use Rattle.ipp_reply.specs.Wanted.{Rows, job_rows, printer_rows}
 use Rattle.ipp_reply.specs.JobReply.{job_group}
 use Rattle.ipp_reply.specs.PrinterReply.{printer_group}

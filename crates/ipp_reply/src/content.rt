@@ -5,15 +5,15 @@ ghost use Rattle.ipp_reply.specs.Operations.{id, operations};
 ghost use Rattle.ipp_wire.specs.Message.{IsAttribute};
 ghost use Rattle.ipp_wire.specs.Owned.{add_attribute};
 ghost use Rattle.ipp_reply.specs.Content.{values_in};
-ghost use Rattle.ipp_reply.specs.Formats.{format_name, formats};
+ghost use Rattle.queue_types.specs.Formats.{format_name, formats};
 ghost use Rattle.ipp_reply.specs.JobReply as spec;
 ghost use Rattle.ipp_reply.specs.PrinterReply.{texts as spec_texts};
 
-use crate::format::{FORMATS, format_name};
 use crate::operation::{OPERATIONS, Operation};
 use ipp_wire::tags::{BOOLEAN, ENUM, INTEGER, KEYWORD, MIME_MEDIA_TYPE, NO_VALUE};
 use ipp_wire::{Message, ValueView};
-use queue_core::job::{Reason, Reasons};
+use queue_types::document::FORMATS;
+use queue_types::job::{Reason, Reasons};
 use std::alloc::{AllocError, Global};
 
 /// What an attribute of a reply says.
@@ -91,7 +91,7 @@ fn format_names(alloc: Global) -> Result<Vec<&'static str>, AllocError>
 {
     let mut names = Vec::new(alloc);
     for format in &FORMATS {
-        names.push(format_name(*format))?;
+        names.push(format.name())?;
     }
     Ok(names)
 }

@@ -13,7 +13,7 @@ use ipp_wire::tags::{
     CHARSET, JOB_ATTRIBUTES, KEYWORD, NAME_WITHOUT_LANGUAGE, NATURAL_LANGUAGE, URI,
 };
 use ipp_wire::{Message, ValueView};
-use queue_core::job::{Job, reasons_of, state_of};
+use queue_types::job::{Job, reasons_of, state_of};
 use std::alloc::{AllocError, Global};
 
 /// A job attribute of a reply.

@@ -4,7 +4,6 @@
 #![tactic(auto)]
 
 mod content;
-mod format;
 mod job_reply;
 mod operation;
 mod printer_reply;
@@ -13,7 +12,6 @@ pub mod status;
 mod unsupported;
 mod wanted;
 
-pub use format::{FORMATS, format_name};
 pub use job_reply::{JobAttribute, select_requested, select_usual};
 pub use operation::{OPERATIONS, Operation};
 pub use printer_reply::{PrinterAttribute, select_of_printer, select_whole_printer};

@@ -2,22 +2,21 @@
 ghost use Rattle.std.specs.Prelude.{◌≡◌, ◌++◌, ◌∷◌, [], IfOk, OnOk, codes, filter, map};
 ghost use Rattle.std.specs.List.{list_any};
 ghost use Rattle.ipp_wire.specs.Viewed.{values_of};
-ghost use Rattle.queue_core.specs.Settings.{AreSettings};
+ghost use Rattle.queue_types.specs.Settings.{AreSettings};
 ghost use Rattle.ipp_reply.specs.Content.{values_in};
 ghost use Rattle.ipp_reply.specs.PrinterReply as spec;
 ghost use Rattle.ipp_reply.specs.PrinterView.{printer_of};
 ghost use Rattle.ipp_reply.specs.Wanted.{of_printer, rows_of, words_of};
 
 use crate::content::{Content, put};
-use crate::format::format_name;
 use crate::wanted::Wanted;
 use ipp_wire::tags::{
     CHARSET, KEYWORD, MIME_MEDIA_TYPE, NAME_WITHOUT_LANGUAGE, NATURAL_LANGUAGE, PRINTER_ATTRIBUTES,
     URI,
 };
 use ipp_wire::{Message, ValueView};
-use queue_core::document::Format;
-use queue_core::settings::Settings;
+use queue_types::document::Format;
+use queue_types::settings::Settings;
 use std::alloc::{AllocError, Global};
 
 /// A printer attribute of a reply.
@@ -143,7 +142,7 @@ impl PrinterAttribute {
                 "en",
             ),
             PrinterAttribute::DocumentFormatDefault => {
-                Content::Text(MIME_MEDIA_TYPE, format_name(Format::OctetStream))
+                Content::Text(MIME_MEDIA_TYPE, Format::OctetStream.name())
             }
             PrinterAttribute::DocumentFormatSupported => Content::FormatNames,
             PrinterAttribute::PrinterIsAcceptingJobs => Content::Boolean(p.accepting),

@@ -20,8 +20,8 @@ use crate::unsupported::Unsupported;
 use crate::wanted::Wanted;
 use ipp_wire::tags::{CHARSET, NATURAL_LANGUAGE, OPERATION_ATTRIBUTES, UNSUPPORTED_ATTRIBUTES};
 use ipp_wire::{AttrView, Head, Message, ValueView, reply_head};
-use queue_core::event::Reply;
-use queue_core::settings::Settings;
+use queue_types::event::Reply;
+use queue_types::settings::Settings;
 use std::alloc::{AllocError, Global};
 
 /// A reply with charset and natural language alone.

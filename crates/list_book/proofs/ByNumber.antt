@@ -8,15 +8,15 @@ use Rattle.std.proofs.Common.{eq-eqb}
 use Rattle.std.proofs.lemmas.Bool.Decides.{nat_tests}
 use Rattle.queue_core.specs.Order.{AreRising}
 use Rattle.std.specs.Prelude.{option_map}
-use Rattle.queue_core.specs.Event.{Change}
+use Rattle.queue_types.specs.Event.{Change}
 use Rattle.queue_core.specs.Sound.{IsSound, Rise}
 use Rattle.queue_core.specs.World.{made_on, with_document, with_row}
 use Rattle.list_book.specs.declared.lists.Lists.{Lists}
 use Rattle.list_book.proofs.Put.{documents_is, with_rows_of}
-use Rattle.queue_core.specs.declared.job.Job.{Job}
-use Rattle.queue_core.specs.declared.document.KeptDocument.{KeptDocument}
+use Rattle.queue_types.specs.declared.job.Job.{Job}
+use Rattle.queue_types.specs.declared.document.KeptDocument.{KeptDocument}
 use Rattle.list_book.specs.Lists.{IsTidy, entries_of, kept_of, put_row, put_rows, with_kept, world_of}
-use Rattle.list_book.proofs.Ordered.{all_of}
+use Rattle.queue_core.proofs.Ordered.{all_of}
 
 differ : (a b : ℕ) → (a ≡ b → ⊥) → nat_eq a b ≡ false
 differ a b apart = grind (arith, nat_tests)

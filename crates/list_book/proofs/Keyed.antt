@@ -13,7 +13,7 @@ use Rattle.std.proofs.lemmas.Map.Lookups.{exact_unsigned, exact_bytes, exact_pai
 use Rattle.std.proofs.lemmas.Map.Text.{is_eq-slice_cmp}
 use Rattle.std.proofs.lemmas.Slice.Eq.{bytes_eq-Decides}
 use Rattle.queue_core.specs.World.{grant_cmp, report_cmp, text_cmp}
-use Rattle.queue_core.specs.declared.event.KeptReport.{KeptReport}
+use Rattle.queue_types.specs.declared.event.KeptReport.{KeptReport}
 use Rattle.list_book.specs.declared.accounts.Account.{Account}
 use Rattle.list_book.specs.Lists.{reports_map}
 use Rattle.list_book.specs.Tables.{Accounts, Grants, free_map, free_rows, grants_map}

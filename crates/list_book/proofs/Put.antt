@@ -4,17 +4,17 @@ use Rattle.std.specs.Prelude.{slice_set, fold, IsSome, is_some, Option, Some, No
 use Rattle.std.proofs.lemmas.Bool.Decides.{nat_tests}
 use Rattle.std.specs.FinMap.{get}
 use Rattle.queue_core.specs.World.{Entry, with_row, with_document, add_document, put_free, put_grant, with_report, made_on, cut, found_row, owner_row, numbered, queue_counts, jobs_for, live_for, counts_for, job_at}
-use Rattle.queue_core.specs.Event.{NewDocument, Change, Call, ask, tell}
+use Rattle.queue_types.specs.Event.{NewDocument, Change, Call, ask, tell}
 use Rattle.std.proofs.Common.{eq-eqb}
 use Rattle.std.specs.Prelude.{option_map, IfSome, unwrap_or}
-use Rattle.queue_core.specs.declared.event.Scene.{Scene}
+use Rattle.queue_types.specs.declared.event.Scene.{Scene}
 use Rattle.list_book.specs.declared.lists.Lists.{Lists}
 use Rattle.list_book.specs.Lists.{put_by, documents_of, entry_of, entries_of, IsTidy, put_row, put_rows, kept_of, with_kept, world_of, reports_map, HaveSameItems}
 use Rattle.list_book.specs.Tables.{free_map, grants_map}
-use Rattle.queue_core.specs.declared.event.Report.{Report}
-use Rattle.queue_core.specs.declared.job.Job.{Job}
-use Rattle.queue_core.specs.declared.document.Document.{Document}
-use Rattle.queue_core.specs.declared.document.KeptDocument.{KeptDocument}
+use Rattle.queue_types.specs.declared.event.Report.{Report}
+use Rattle.queue_types.specs.declared.job.Job.{Job}
+use Rattle.queue_types.specs.declared.document.Document.{Document}
+use Rattle.queue_types.specs.declared.document.KeptDocument.{KeptDocument}
 
 -- the first that is the same is at i
 pub put_at : {X : Type 0} (same : X → Bool) (es : List X) (i : ℕ) → i < length es → ((k : ℕ) (d : X) → k < i → same (get_or es k d) ≡ false) → (d : X) → same (get_or es i d) ≡ true → (x : X) → put_by same x es ≡ slice_set es i x

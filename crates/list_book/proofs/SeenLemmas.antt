@@ -4,14 +4,14 @@ use Rattle.std.specs.Prelude.{nat_eq, nat_lt, ◌&&◌, ◌||◌, Option, Some, 
 use Rattle.std.specs.List.{AllByRecursion as Each}
 use Rattle.std.specs.FinMap.{empty, entries, from_sorted, entries-from_sorted, get, get-empty, get-from_sorted, same_map}
 use Rattle.list_book.proofs.Keyed.{grant_exact, grant_total}
-use Rattle.queue_core.specs.Job.{state}
+use Rattle.queue_types.specs.Job.{state}
 use Rattle.queue_core.specs.Limits.{IsSoundJob}
 use Rattle.queue_core.specs.Shown.{document_at, document_of, sheet_of}
 use Rattle.queue_core.specs.Sound.{IsSound, IsSoundEntry, Rise}
 use Rattle.queue_core.specs.World.{World, Entry, grant_cmp, granted_in, known_grant, rows, job_at}
-use Rattle.queue_core.specs.declared.job.Job.{Job}
-use Rattle.queue_core.specs.declared.document.KeptDocument.{KeptDocument}
-use Rattle.queue_core.specs.declared.event.GrantRow.{GrantRow}
+use Rattle.queue_types.specs.declared.job.Job.{Job}
+use Rattle.queue_types.specs.declared.document.KeptDocument.{KeptDocument}
+use Rattle.queue_types.specs.declared.event.GrantRow.{GrantRow}
 use Rattle.list_book.specs.declared.lists.Lists.{Lists}
 use Rattle.list_book.specs.Lists.{AreTotals, entry_of, entries_of, nth_of, documents_of, sheet_in, world_of}
 use Rattle.list_book.specs.Tables.{free_map, grants_map, known_in, total_of}
@@ -19,11 +19,11 @@ use Rattle.list_book.proofs.Put.{rows_of}
 use Rattle.std.specs.Prelude.{bytes_eq, filter, sum_by, ℤ}
 use Rattle.std.proofs.lemmas.List.Sums.{sum_by-cons}
 use Rattle.std.proofs.Math.Nat.{mul-le-mul_left}
-use Rattle.queue_core.specs.Job.{owed, estimate, is_live}
-use Rattle.queue_core.specs.declared.event.Scene.{Scene}
-use Rattle.queue_core.specs.declared.sheet.AccountSheet.{AccountSheet}
+use Rattle.queue_types.specs.Job.{owed, estimate, is_live}
+use Rattle.queue_types.specs.declared.event.Scene.{Scene}
+use Rattle.queue_types.specs.declared.sheet.AccountSheet.{AccountSheet}
 use Rattle.queue_core.specs.World.{cut, queue_counts}
-use Rattle.queue_core.specs.Event.{grant}
+use Rattle.queue_types.specs.Event.{grant}
 
 -- ---- documents
 

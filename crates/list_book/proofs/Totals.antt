@@ -6,11 +6,11 @@ use Rattle.std.specs.Cmp.Lexicographic.{nat_list_eq_equiv}
 use Rattle.std.specs.FinMap.{FinMap, get, get-insert}
 use Rattle.std.specs.Ordering.{eq_by_cmp}
 use Rattle.std.proofs.lemmas.List.Sums.{sum_by-cons}
-use Rattle.queue_core.specs.Event.{Change}
+use Rattle.queue_types.specs.Event.{Change}
 use Rattle.queue_core.specs.Grants.{pages_to}
 use Rattle.queue_core.specs.Sound.{IsSound}
 use Rattle.queue_core.specs.World.{World, granted, granted_in, grant_cmp, made_on, put_free, put_grant, text_cmp}
-use Rattle.queue_core.specs.declared.event.GrantRow.{GrantRow}
+use Rattle.queue_types.specs.declared.event.GrantRow.{GrantRow}
 use Rattle.list_book.specs.declared.lists.Lists.{Lists}
 use Rattle.list_book.specs.Lists.{AreTotals, HaveSameItems, IsTidy, world_of}
 use Rattle.list_book.specs.Tables.{HaveAccounts, free_map, grants_map, total_of}

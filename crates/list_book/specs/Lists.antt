@@ -2,14 +2,14 @@
 use Rattle.std.specs.Prelude.{ℕ, ℤ, ◌-◌, nat_lt, slice_get, fold, ◌≡◌, ◌≤◌, ◌+◌, List, [], ◌∷◌, ◌++◌, Option, None, Some, map, ◌==◌, if◌then◌else◌, Bool, ◌&&◌, ◌||◌, bytes_eq, filter, sum_by, vec_len, vec_capacity}
 use Rattle.std.specs.FinMap.{FinMap, from_entries}
 use Rattle.std.specs.HashMap.{spare}
-use Rattle.queue_core.specs.Event.{NewDocument}
+use Rattle.queue_types.specs.Event.{NewDocument}
 use Rattle.queue_core.specs.World.{World, Entry, granted_in, report_cmp, job_at}
-use Rattle.queue_core.specs.declared.job.Job.{Job}
-use Rattle.queue_core.specs.declared.document.Document.{Document}
-use Rattle.queue_core.specs.declared.document.KeptDocument.{KeptDocument}
-use Rattle.queue_core.specs.declared.event.KeptReport.{KeptReport}
-use Rattle.queue_core.specs.Job.{owed}
-use Rattle.queue_core.specs.declared.sheet.AccountSheet.{AccountSheet}
+use Rattle.queue_types.specs.declared.job.Job.{Job}
+use Rattle.queue_types.specs.declared.document.Document.{Document}
+use Rattle.queue_types.specs.declared.document.KeptDocument.{KeptDocument}
+use Rattle.queue_types.specs.declared.event.KeptReport.{KeptReport}
+use Rattle.queue_types.specs.Job.{owed}
+use Rattle.queue_types.specs.declared.sheet.AccountSheet.{AccountSheet}
 use Rattle.list_book.specs.declared.lists.Lists.{Lists}
 use Rattle.list_book.specs.Tables.{free_map, grants_map, total_of}
 

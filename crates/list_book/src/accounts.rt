@@ -7,7 +7,7 @@ ghost use Rattle.queue_core.specs.World.{found_row, put_free};
 ghost use Rattle.list_book.specs.Tables.{free_map, total_of};
 
 use crate::name::Name;
-use queue_core::event::FreeRow;
+use queue_types::event::FreeRow;
 use std::alloc::{AllocError, Global};
 use std::collections::HashMap;
 

@@ -2,27 +2,27 @@
 ghost use Rattle.std.specs.Prelude.{◌≡◌, ◌≤◌, ⊤, IfOk, IfErr, IsSome, OnOk, OnErr, Some, length, option_map, take};
 ghost use Rattle.std.specs.Io.KnownBytes.{Appends};
 ghost use Rattle.queue_core.specs.Book.{IsContent, IsDecisionOn};
-ghost use Rattle.queue_core.specs.Event.{event_of, change_of, decision_of};
+ghost use Rattle.queue_types.specs.Event.{event_of, change_of, decision_of};
 ghost use Rattle.queue_core.specs.Limits.{IsMoment, IsEvent, IsReplyTo};
 ghost use Rattle.queue_core.specs.Machine.{decision};
 ghost use Rattle.queue_core.specs.Shown.{document_at, head_of, pending_jobs, sheet_of};
 ghost use Rattle.queue_core.specs.World.{World, cut, made_on};
 ghost use Rattle.queue_core.specs.declared.book.SendCause.TheVariants.{Write as ByWriter};
-ghost use Rattle.queue_core.specs.declared.document.Document.{Document};
+ghost use Rattle.queue_types.specs.declared.document.Document.{Document};
 
 use crate::lists::{Lists, kept_document, reserve, write};
 use crate::scene::scene;
 use crate::send::send;
 use crate::{seen, sheet};
-use queue_core::document::DocumentHead;
-use queue_core::event::{Decision, Event};
-use queue_core::job::JobList;
-use queue_core::settings::Settings;
-use queue_core::sheet::AccountSheet;
 use queue_core::{
     BookFault, QueueBook, SendFault, cut_is_fair, decisions_are_sound, empty_is_sound,
     new_grants_add_up,
 };
+use queue_types::document::DocumentHead;
+use queue_types::event::{Decision, Event};
+use queue_types::job::JobList;
+use queue_types::settings::Settings;
+use queue_types::sheet::AccountSheet;
 use std::alloc::Global;
 use std::collections::HashMap;
 use std::io::Write;
@@ -37,7 +37,7 @@ pub struct ListBook {
 
 impl Model for ListBook {
     ghost use Rattle.queue_core.specs.World.{World, grants_code, free_code, reports_code};
-    ghost use Rattle.queue_core.specs.declared.event.KeptReport.{KeptReport};
+    ghost use Rattle.queue_types.specs.declared.event.KeptReport.{KeptReport};
     ghost use Rattle.std.specs.Coded.{Coded, codes};
 
     ghost Value = { World };

@@ -8,7 +8,7 @@ ghost use Rattle.list_book.specs.Tables.{HaveAccounts, free_map, grants_map, kno
 
 use crate::accounts::{Accounts, add_pages, free_pages, pages_granted};
 use crate::name::Name;
-use queue_core::event::{GrantRow, KnownGrant};
+use queue_types::event::{GrantRow, KnownGrant};
 use std::alloc::{AllocError, Global};
 use std::collections::HashMap;
 

@@ -1,7 +1,7 @@
 //! The lists and tables of the plain book, and how a change is written to them.
 ghost use Rattle.std.specs.Prelude.{ℕ, List, ◌≡◌, ◌≢◌, ◌≤◌, ◌<◌, ◌+◌, ◌^◌, ◌++◌, ◌∷◌, [], fold, IfOk, OnOk, ◌==◌, option_map, IfNone, IfSome, IsSome, slice_set, slice_index_or, length, vec_len, vec_capacity};
 ghost use Rattle.std.specs.Bool.{OnFalse, OnTrue};
-ghost use Rattle.queue_core.specs.Event.{change_of, document_of};
+ghost use Rattle.queue_types.specs.Event.{change_of, document_of};
 ghost use Rattle.std.specs.HashMap.{spare};
 ghost use Rattle.queue_core.specs.Order.{AreRising};
 ghost use Rattle.queue_core.specs.Grants.{pages_to};
@@ -11,10 +11,10 @@ ghost use Rattle.list_book.specs.Tables.{HaveAccounts, free_map, total_of};
 
 use crate::accounts::{Accounts, put_free_rows, reserve_accounts};
 use crate::grants::{Grants, put_grants, reserve_grants};
-use queue_core::document::{Bytes, Document, KeptDocument};
-use queue_core::event::{Change, KeptReport, NewDocument};
-use queue_core::job::Job;
-use queue_core::settings::Settings;
+use queue_types::document::{Bytes, Document, KeptDocument};
+use queue_types::event::{Change, KeptReport, NewDocument};
+use queue_types::job::Job;
+use queue_types::settings::Settings;
 use std::alloc::{AllocError, Global};
 use std::collections::HashMap;
 

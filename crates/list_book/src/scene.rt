@@ -4,8 +4,8 @@ ghost use Rattle.std.specs.BTreeSet.{contains};
 ghost use Rattle.std.specs.FinMap.{get};
 ghost use Rattle.std.specs.List.{list_any};
 ghost use Rattle.std.specs.Ordering.{nat_cmp};
-ghost use Rattle.queue_core.specs.Event.{ask, tell, grant, event_of, call_of};
-ghost use Rattle.queue_core.specs.Job.{is_live, is_running, is_stopped};
+ghost use Rattle.queue_types.specs.Event.{ask, tell, grant, event_of, call_of};
+ghost use Rattle.queue_types.specs.Job.{is_live, is_running, is_stopped};
 ghost use Rattle.queue_core.specs.Order.{AreRising};
 ghost use Rattle.queue_core.specs.Visible.{is_among, visible};
 ghost use Rattle.queue_core.specs.World.{cut, owner_row, queue_counts, is_one_of, numbered, jobs_for, live_for, counts_for};
@@ -15,13 +15,14 @@ ghost use Rattle.list_book.specs.Tables.{free_map};
 use crate::accounts::{Accounts, free_rows_of};
 use crate::grants::known_rows;
 use crate::lists::{Lists, Reports, place_of};
-use crate::shown::{cut_at, ordered};
-use queue_core::event::{
+use crate::shown::ordered;
+use queue_core::number_set;
+use queue_core::visible::cut_at;
+use queue_types::event::{
     Call, Event, FreeList, FreeRow, GrantRow, KeptReport, KnownList, QueueCounts, Report, Scene,
     WhichJobs,
 };
-use queue_core::job::{Job, JobList, Phase, is_live_job};
-use queue_core::number_set;
+use queue_types::job::{Job, JobList, Phase, is_live_job};
 use std::alloc::{AllocError, Global};
 use std::collections::BTreeSet;
 
@@ -115,16 +116,10 @@ fn concerned(
     requires { AreRising jobs.now }
     ensures { IfOk result (λ v. v.items ≡ jobs_for caller.now (call_of call.now) jobs.now) }
 {
+    if let Some(job) = call.job() {
+        return with_number(alloc, jobs, job);
+    }
     match call {
-        Call::PrintJob { .. }
-        | Call::ValidateJob { .. }
-        | Call::CreateJob { .. }
-        | Call::GetPrinterAttributes => Ok(Vec::new(alloc)),
-        Call::SendDocument { job, .. }
-        | Call::CancelJob { job }
-        | Call::HoldJob { job }
-        | Call::ReleaseJob { job }
-        | Call::GetJobAttributes { job } => with_number(alloc, jobs, *job),
         Call::CancelMyJobs {
             jobs: Some(numbers),
         } => own_of_numbers(alloc, jobs, caller, numbers.as_slice()),
@@ -135,6 +130,7 @@ fn concerned(
             WhichJobs::NotCompleted,
         ),
         Call::GetJobs { which, limit } => shown_to(alloc, jobs, caller, *which, *limit),
+        _ => Ok(Vec::new(alloc)),
     }
 }
 

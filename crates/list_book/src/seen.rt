@@ -1,14 +1,14 @@
 //! What the plain book shows to the device.
 ghost use Rattle.std.specs.Prelude.{◌≡◌, ◌==◌, ◌||◌, IfOk, filter, option_map};
 ghost use Rattle.std.specs.Option.{option_copied};
-ghost use Rattle.queue_core.specs.Job.{state};
+ghost use Rattle.queue_types.specs.Job.{state};
 ghost use Rattle.queue_core.specs.Shown.{document_at, head_of};
 ghost use Rattle.queue_core.specs.World.{job_at};
 ghost use Rattle.list_book.specs.Lists.{nth_of, world_of};
 
 use crate::lists::Lists;
-use queue_core::document::{Document, DocumentHead, KeptDocument};
-use queue_core::job::{Job, state_of};
+use queue_types::document::{Document, DocumentHead, KeptDocument};
+use queue_types::job::{Job, state_of};
 use std::alloc::{AllocError, Global};
 
 /// The jobs in state 3, by number.

@@ -1,6 +1,6 @@
 //! What the plain book tells an office of an account.
 ghost use Rattle.std.specs.Prelude.{◌≡◌, ◌<◌, ◌^◌, ◌&&◌, ◌||◌, IfOk, bytes_eq, filter, nat_lt, option_map, sum_by, if◌then◌else◌};
-ghost use Rattle.queue_core.specs.Job.{owed};
+ghost use Rattle.queue_types.specs.Job.{owed};
 ghost use Rattle.std.specs.FinMap.{get};
 ghost use Rattle.list_book.specs.Lists.{sheet_in};
 ghost use Rattle.list_book.specs.Tables.{free_map};
@@ -8,8 +8,8 @@ ghost use Rattle.list_book.specs.Tables.{free_map};
 use crate::accounts::{free_pages, pages_granted};
 use crate::lists::Lists;
 use crate::name::Name;
-use queue_core::job::{Job, JobList, is_live_job};
-use queue_core::sheet::AccountSheet;
+use queue_types::job::{Job, JobList, is_live_job};
+use queue_types::sheet::AccountSheet;
 use std::alloc::{AllocError, Global};
 
 /// The pages that are still set aside for a job.

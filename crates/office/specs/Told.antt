@@ -5,10 +5,10 @@ use Rattle.std.specs.Option.{IfSome}
 use Rattle.grants_csv.specs.File.{rows_of}
 use Rattle.grants_csv.specs.Import.{Adds}
 use Rattle.grants_csv.specs.declared.importing.Imported.{Imported}
-use Rattle.queue_core.specs.Event.{grant}
+use Rattle.queue_types.specs.Event.{grant}
 use Rattle.queue_core.specs.Machine.{step}
 use Rattle.queue_core.specs.World.{World}
-use Rattle.queue_core.specs.declared.event.GrantRow.{GrantRow}
+use Rattle.queue_types.specs.declared.event.GrantRow.{GrantRow}
 
 -- the most bytes of a file that are read: one more than a file may have
 abbrev pub most_read : ℕ

@@ -6,12 +6,12 @@ ghost use Rattle.office.specs.Faults.{IsOfStream};
 ghost use Rattle.page_statements.specs.Statement.{sheet_text};
 ghost use Rattle.queue_core.specs.Shown.{sheet_of};
 ghost use Rattle.queue_core.specs.World.{World};
-ghost use Rattle.queue_core.specs.declared.sheet.AccountSheet.{AccountSheet as Sheet};
+ghost use Rattle.queue_types.specs.declared.sheet.AccountSheet.{AccountSheet as Sheet};
 
 use crate::fault::OfficeFault;
 use page_statements::statement;
 use queue_core::book::QueueBook;
-use queue_core::sheet::AccountSheet;
+use queue_types::sheet::AccountSheet;
 use std::alloc::Global;
 use std::io::Write;
 

@@ -1,9 +1,9 @@
 -- The text of an account's statement.
 use Rattle.std.specs.Prelude.{ℕ, ◌-◌, List, [], ◌++◌, codes, decimal, flat_map, length, replicate}
 use Rattle.std.specs.Fmt.{signed_decimal}
-use Rattle.queue_core.specs.Job.{state, owed}
-use Rattle.queue_core.specs.declared.job.Job.{Job}
-use Rattle.queue_core.specs.declared.sheet.AccountSheet.{AccountSheet}
+use Rattle.queue_types.specs.Job.{state, owed}
+use Rattle.queue_types.specs.declared.job.Job.{Job}
+use Rattle.queue_types.specs.declared.sheet.AccountSheet.{AccountSheet}
 
 -- the spaces that a text of some columns leaves
 abbrev pub padding : ℕ → List ℕ → List ℕ

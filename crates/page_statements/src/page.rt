@@ -1,10 +1,10 @@
 //! The page of a statement, line by line.
 ghost use Rattle.std.specs.Prelude.{◌≡◌, ◌++◌, IfOk, OnOk, string_bytes};
-ghost use Rattle.queue_core.specs.Job.{owed};
+ghost use Rattle.queue_types.specs.Job.{owed};
 ghost use Rattle.page_statements.specs.Statement.{amounts, job_row, sheet_text, table};
 
-use queue_core::job::{Job, is_live_job, state_of};
-use queue_core::sheet::AccountSheet;
+use queue_types::job::{Job, is_live_job, state_of};
+use queue_types::sheet::AccountSheet;
 use std::alloc::{AllocError, Global};
 
 /// The pages that are still set aside for a job, with room for whatever numbers a sheet has.

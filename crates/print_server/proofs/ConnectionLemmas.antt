@@ -4,7 +4,7 @@ use Rattle.std.specs.Io.KnownBytes.{Appends}
 use Rattle.std.proofs.KnownBytes.{Appends-trans}
 use Rattle.std.proofs.lemmas.Grind.{flat_map-append}
 use Rattle.queue_core.specs.Limits.{IsMoment}
-use Rattle.queue_core.specs.Settings.{SettingValues}
+use Rattle.queue_types.specs.Settings.{SettingValues}
 use Rattle.queue_core.specs.World.{World}
 use Rattle.http_front.specs.Connections.{Worked}
 use Rattle.print_server.specs.Connections.{AreConnections}

@@ -2,8 +2,8 @@
 use Rattle.std.specs.Prelude.{◌≡◌, ℕ, Bool, true, false, List, [], ◌∷◌, Result, Ok, Err}
 use Rattle.queue_core.specs.Limits.{IsMoment}
 use Rattle.queue_core.specs.World.{World}
-use Rattle.http_wire.specs.declared.end.End.{End}
-use Rattle.http_wire.specs.declared.end.End.TheVariants.{Done, Refused}
+use Rattle.http_head.specs.declared.end.End.{End}
+use Rattle.http_head.specs.declared.end.End.TheVariants.{Done, Refused}
 use Rattle.http_front.specs.Connections.{Worked}
 use Rattle.http_front.specs.declared.outcome.Served.{Served}
 use Rattle.http_front.specs.declared.outcome.ServeFault.{ServeFault}

@@ -13,7 +13,7 @@ use crate::listening::next_stream;
 use crate::moment::present_moment;
 use http_front::serve;
 use queue_core::book::QueueBook;
-use queue_core::settings::Settings;
+use queue_types::settings::Settings;
 use std::alloc::Global;
 use std::io;
 use std::io::Write;

@@ -3,16 +3,16 @@ use Rattle.std.proofs.Common.{◌≡◌, ℕ, ℤ, List, [], ◌∷◌, refl, sy
 use Rattle.std.specs.Prelude.{Option, Some, None, IsTrue, ◌⊎◌, bytes_eq}
 use Rattle.std.specs.FinMap.{get}
 use Rattle.queue_core.specs.World.{World, cut, made_on, found_row}
-use Rattle.queue_core.specs.Event.{ask, cancel_job, hold_job, release_job}
-use Rattle.queue_core.specs.Job.{state_in, estimate}
+use Rattle.queue_types.specs.Event.{ask, cancel_job, hold_job, release_job}
+use Rattle.queue_types.specs.Job.{state_in, estimate}
 use Rattle.queue_core.specs.Machine.{becomes, refused, answered, canceled, is_cancelable, cancel_row, of_own, hold_in, let_print, release_in, has_pages}
 use Rattle.queue_core.specs.Limits.{IsMoment, FitsPhase}
 use Rattle.queue_core.specs.Runs.{Follows, is_pair}
 use Rattle.queue_core.specs.Sound.{IsSound}
-use Rattle.queue_core.specs.declared.job.Job.{Job}
-use Rattle.queue_core.specs.declared.job.Phase.TheVariants.{Waiting, Running, Stopped, Canceled, Aborted, Completed}
-use Rattle.queue_core.specs.declared.event.Scene.{Scene}
-use Rattle.queue_core.specs.declared.event.Reply.TheVariants.{Jobs, Done}
+use Rattle.queue_types.specs.declared.job.Job.{Job}
+use Rattle.queue_types.specs.declared.job.Phase.TheVariants.{Waiting, Running, Stopped, Canceled, Aborted, Completed}
+use Rattle.queue_types.specs.declared.event.Scene.{Scene}
+use Rattle.queue_types.specs.declared.event.Reply.TheVariants.{Jobs, Done}
 use Rattle.queue_core.proofs.Own.{Keeps, unchanged, becomes_keeps, own_keeps}
 use Rattle.queue_core.proofs.Many.{replaced, keeps_documents, stays_idle, follows}
 use Rattle.queue_core.proofs.Rows.{Replaces, KeepsDocuments}

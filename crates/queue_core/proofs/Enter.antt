@@ -5,18 +5,18 @@ use Rattle.std.specs.List.{AllByRecursion as Each}
 use Rattle.std.proofs.lemmas.Bool.Decides.{nat_tests}
 use Rattle.std.proofs.lemmas.List.Sums.{sum_by_push}
 use Rattle.queue_core.specs.World.{World, with_row, add_document}
-use Rattle.queue_core.specs.Event.{NewDocument}
+use Rattle.queue_types.specs.Event.{NewDocument}
 use Rattle.queue_core.specs.World.{Entry}
 use Rattle.queue_core.specs.Sound.{Rise, IsSound, IsSoundEntry, IsKept, IsGreatestCount, IsIdle, reserved, printed}
 use Rattle.std.specs.Prelude.{IfSome, bytes_eq, ◌&&◌, pos, ℤ, ◌+ℤ◌, ◌^◌}
 use Rattle.std.specs.FinMap.{FinMap, get}
 use Rattle.std.proofs.lemmas.Slice.Eq.{bytes_eq-Decides}
-use Rattle.queue_core.specs.Job.{owed, is_live}
+use Rattle.queue_types.specs.Job.{owed, is_live}
 use Rattle.queue_core.specs.World.{rows, live_jobs, text_cmp, granted}
-use Rattle.queue_core.specs.declared.event.KeptReport.{KeptReport}
+use Rattle.queue_types.specs.declared.event.KeptReport.{KeptReport}
 use Rattle.std.proofs.Common.{rules}
 use Rattle.queue_core.proofs.Keep.{each-map}
-use Rattle.queue_core.specs.declared.job.Job.{Job}
+use Rattle.queue_types.specs.declared.job.Job.{Job}
 use Rattle.queue_core.proofs.Keep.{at}
 
 abbrev pub fresh : Job → Entry

@@ -6,16 +6,16 @@ use Rattle.std.specs.FinMap.{get}
 use Rattle.std.proofs.lemmas.Int.{ints}
 use Rattle.std.proofs.lemmas.List.Sums.{sum_by-cons}
 use Rattle.std.proofs.lemmas.Nat.{mul-le}
-use Rattle.queue_core.specs.Job.{owed, is_live}
-use Rattle.queue_core.specs.Event.{Event, Call, ask, tell, grant, print_job, validate_job, create_job, send_document, cancel_job, cancel_my_jobs, hold_job, release_job, get_job_attributes, get_jobs, get_printer_attributes}
+use Rattle.queue_types.specs.Job.{owed, is_live}
+use Rattle.queue_types.specs.Event.{Event, Call, ask, tell, grant, print_job, validate_job, create_job, send_document, cancel_job, cancel_my_jobs, hold_job, release_job, get_job_attributes, get_jobs, get_printer_attributes}
 use Rattle.queue_core.specs.World.{World, Entry, rows, cut, found_row, owner_row, known_grant, numbered, jobs_for, counts_for, granted}
 use Rattle.queue_core.specs.Limits.{IsFair, IsKnown, IsSoundJob, IsAmount}
 use Rattle.queue_core.specs.Sound.{IsSound, IsSoundEntry, IsKept, Rise, reserved, printed}
-use Rattle.queue_core.specs.declared.event.FreeRow.{FreeRow}
-use Rattle.queue_core.specs.declared.event.GrantRow.{GrantRow}
-use Rattle.queue_core.specs.declared.event.KeptReport.{KeptReport}
-use Rattle.queue_core.specs.declared.event.KnownGrant.{KnownGrant}
-use Rattle.queue_core.specs.declared.job.Job.{Job}
+use Rattle.queue_types.specs.declared.event.FreeRow.{FreeRow}
+use Rattle.queue_types.specs.declared.event.GrantRow.{GrantRow}
+use Rattle.queue_types.specs.declared.event.KeptReport.{KeptReport}
+use Rattle.queue_types.specs.declared.event.KnownGrant.{KnownGrant}
+use Rattle.queue_types.specs.declared.job.Job.{Job}
 use Rattle.queue_core.specs.Visible.{is_among}
 use Rattle.queue_core.proofs.Enter.{first_below}
 use Rattle.queue_core.proofs.Ordered.{all_of, each-visible, few_visible}

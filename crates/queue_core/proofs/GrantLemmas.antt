@@ -7,10 +7,10 @@ use Rattle.std.proofs.lemmas.List.Sums.{sum_by_push}
 use Rattle.std.proofs.lemmas.Slice.Eq.{bytes_eq-Decides}
 use Rattle.queue_core.specs.Grants.{repeated, refused_row, new_row, all_taken, take_rows, row_of, row_under, pages_under, pages_to, is_too_many}
 use Rattle.queue_core.specs.Tally.{is_key_of}
-use Rattle.queue_core.specs.declared.event.GrantFault.TheVariants.{Conflict, TooMany}
-use Rattle.queue_core.specs.declared.event.KnownGrant.{KnownGrant}
-use Rattle.queue_core.specs.declared.event.FreeRow.{FreeRow}
-use Rattle.queue_core.specs.declared.event.GrantRow.{GrantRow}
+use Rattle.queue_types.specs.declared.event.GrantFault.TheVariants.{Conflict, TooMany}
+use Rattle.queue_types.specs.declared.event.KnownGrant.{KnownGrant}
+use Rattle.queue_types.specs.declared.event.FreeRow.{FreeRow}
+use Rattle.queue_types.specs.declared.event.GrantRow.{GrantRow}
 use Rattle.queue_core.specs.declared.grants.Key.{Key}
 use Rattle.std.specs.declared.cmp.Ordering.{Ordering}
 use Rattle.std.specs.declared.cmp.Ordering.TheVariants.{Less, Equal, Greater}

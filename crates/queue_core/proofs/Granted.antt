@@ -11,18 +11,18 @@ use Rattle.std.proofs.lemmas.Cmp.{nat_list_eq_equiv}
 use Rattle.std.proofs.lemmas.Int.{ints}
 use Rattle.std.proofs.lemmas.Map.Text.{is_eq-slice_cmp}
 use Rattle.std.proofs.lemmas.List.Sums.{fold_push, sum_by-cons}
-use Rattle.queue_core.specs.Job.{estimate, is_live_in, owed}
+use Rattle.queue_types.specs.Job.{estimate, is_live_in, owed}
 use Rattle.queue_core.specs.World.{World, Entry, made_on, put_free, put_grant, granted, granted_in, known_grant, grant_cmp, text_cmp, AreNew}
 use Rattle.queue_core.specs.Grants.{Taken, all_taken, none_taken, take_rows, row_of, pages_under, pages_to, free_after, add_row, repeated, refused_row, new_row}
 use Rattle.queue_core.specs.Machine.{grant_row}
 use Rattle.queue_core.specs.Limits.{IsGrant, IsGrantRow, IsSoundJob, FitsPhase}
 use Rattle.queue_core.specs.Sound.{IsSound, IsSoundEntry, IsKept, IsIdle, reserved, printed}
-use Rattle.queue_core.specs.declared.event.FreeRow.{FreeRow}
-use Rattle.queue_core.specs.declared.event.GrantRow.{GrantRow}
-use Rattle.queue_core.specs.declared.event.KeptReport.{KeptReport}
-use Rattle.queue_core.specs.declared.job.Job.{Job}
-use Rattle.queue_core.specs.declared.job.Phase.{Phase}
-use Rattle.queue_core.specs.declared.job.Phase.TheVariants.{Waiting, Running, Stopped, Canceled, Aborted, Completed}
+use Rattle.queue_types.specs.declared.event.FreeRow.{FreeRow}
+use Rattle.queue_types.specs.declared.event.GrantRow.{GrantRow}
+use Rattle.queue_types.specs.declared.event.KeptReport.{KeptReport}
+use Rattle.queue_types.specs.declared.job.Job.{Job}
+use Rattle.queue_types.specs.declared.job.Phase.{Phase}
+use Rattle.queue_types.specs.declared.job.Phase.TheVariants.{Waiting, Running, Stopped, Canceled, Aborted, Completed}
 use Rattle.queue_core.proofs.GrantLemmas.{both_equal, new_takes, pages_to-push}
 use Rattle.queue_core.proofs.Keep.{each-map}
 use Rattle.queue_core.proofs.Maps.{grant_total, is_grant_key, grant_key, own_grant_key, sum-insert}

@@ -7,7 +7,7 @@ use Rattle.std.proofs.lemmas.List.Sums.{sum_by-cons}
 use Rattle.queue_core.specs.World.{with_row}
 use Rattle.queue_core.specs.World.{job_at}
 use Rattle.queue_core.specs.Sound.{Rise}
-use Rattle.queue_core.specs.declared.job.Job.{Job}
+use Rattle.queue_types.specs.declared.job.Job.{Job}
 use Rattle.queue_core.specs.World.{Entry}
 
 abbrev pub at : ℕ → List Entry → Option Job

@@ -9,17 +9,17 @@ use Rattle.std.proofs.lemmas.Bool.Decides.{nat_tests}
 use Rattle.std.proofs.lemmas.Cmp.{nat_list_eq_equiv}
 use Rattle.std.proofs.lemmas.Int.{ints}
 use Rattle.queue_core.specs.World.{World, Entry, rows, cut, made_on, with_row, text_cmp, job_at, is_one_of}
-use Rattle.queue_core.specs.Event.{Call, ask, cancel_my_jobs}
-use Rattle.queue_core.specs.Job.{is_live, state_in}
+use Rattle.queue_types.specs.Event.{Call, ask, cancel_my_jobs}
+use Rattle.queue_types.specs.Job.{is_live, state_in}
 use Rattle.queue_core.specs.Limits.{IsMoment, FitsPhase}
 use Rattle.queue_core.specs.Machine.{taken, returned, given_back, canceled, canceled_in, is_cancelable, is_cancelable_in, all_canceled, are_there, cancel_my_jobs_row, refused}
 use Rattle.queue_core.specs.Order.{AreRising}
 use Rattle.queue_core.specs.Runs.{Follows, is_pair}
 use Rattle.queue_core.specs.Sound.{IsSound, IsIdle, Rise}
-use Rattle.queue_core.specs.declared.job.Job.{Job}
-use Rattle.queue_core.specs.declared.job.Phase.{Phase}
-use Rattle.queue_core.specs.declared.job.Phase.TheVariants.{Waiting, Running, Stopped, Canceled, Aborted, Completed}
-use Rattle.queue_core.specs.declared.event.Scene.{Scene}
+use Rattle.queue_types.specs.declared.job.Job.{Job}
+use Rattle.queue_types.specs.declared.job.Phase.{Phase}
+use Rattle.queue_types.specs.declared.job.Phase.TheVariants.{Waiting, Running, Stopped, Canceled, Aborted, Completed}
+use Rattle.queue_types.specs.declared.event.Scene.{Scene}
 use Rattle.queue_core.proofs.Keep.{at}
 use Rattle.queue_core.proofs.Moves.{stays, at-with_row}
 use Rattle.queue_core.proofs.Numbers.{filter_whole}

@@ -5,7 +5,7 @@ use Rattle.std.specs.FinMap.{FinMap}
 use Rattle.std.proofs.lemmas.Bool.Decides.{nat_tests}
 use Rattle.queue_core.specs.World.{World, Entry, rows, with_row, job_at, text_cmp}
 use Rattle.queue_core.specs.Runs.{Follows, MovesAlong}
-use Rattle.queue_core.specs.declared.job.Job.{Job}
+use Rattle.queue_types.specs.declared.job.Job.{Job}
 use Rattle.queue_core.proofs.Keep.{at}
 use Rattle.queue_core.proofs.Rows.{rows_of}
 

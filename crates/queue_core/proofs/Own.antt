@@ -12,12 +12,12 @@ use Rattle.std.proofs.lemmas.Int.{ints}
 use Rattle.std.proofs.lemmas.Map.Text.{is_eq-slice_cmp}
 use Rattle.std.proofs.lemmas.Slice.Eq.{bytes_eq-Decides}
 use Rattle.queue_core.specs.World.{World, rows, cut, made_on, text_cmp, put_free, found_row, job_at, with_row, with_document}
-use Rattle.queue_core.specs.Event.{Call, Decision, NewDocument, ask}
+use Rattle.queue_types.specs.Event.{Call, Decision, NewDocument, ask}
 use Rattle.queue_core.specs.Machine.{taken, credited, returned, changed, becomes, refused, of_own}
 use Rattle.queue_core.specs.Runs.{Follows, MovesAlong}
 use Rattle.queue_core.specs.Sound.{IsSound, IsSoundEntry, IsIdle}
-use Rattle.queue_core.specs.declared.job.Job.{Job}
-use Rattle.queue_core.specs.declared.event.Scene.{Scene}
+use Rattle.queue_types.specs.declared.job.Job.{Job}
+use Rattle.queue_types.specs.declared.event.Scene.{Scene}
 use Rattle.queue_core.proofs.Keep.{at}
 use Rattle.queue_core.proofs.Moves.{stays, row_moves}
 use Rattle.queue_core.proofs.Rows.{Replaces, KeepsDocuments, row_keeps, row_entries, rows_of, with_jobs, back, kept_amount}

@@ -3,17 +3,17 @@ use Rattle.std.proofs.Common.{◌≡◌, ℕ, pos, ◌+ℤ◌, ◌-ℤ◌, ◌+�
 use Rattle.std.specs.Prelude.{Option, Some, None, IfSome, nat_eq, nat_le, nat_lt, bytes_eq, option_map, unwrap_or}
 use Rattle.std.specs.FinMap.{get}
 use Rattle.std.proofs.lemmas.Bool.Decides.{nat_tests}
-use Rattle.queue_core.specs.Settings.{AreSettings}
-use Rattle.queue_core.specs.Event.{Call, NewJob, NewDocument, ask, print_job, create_job}
+use Rattle.queue_types.specs.Settings.{AreSettings}
+use Rattle.queue_types.specs.Event.{Call, NewJob, NewDocument, ask, print_job, create_job}
 use Rattle.queue_core.specs.World.{World, Entry, rows, cut, made_on, with_row, with_document, add_document, live_for, live_jobs}
 use Rattle.queue_core.specs.Machine.{entered, new_job, new_document, new_refusal, unless_refused, print_job_row, create_job_row, returned}
 use Rattle.queue_core.specs.Limits.{IsMoment, IsOwner, IsNewJob, IsSoundJob}
 use Rattle.queue_core.specs.Sound.{IsSound, IsSoundEntry, Rise}
-use Rattle.queue_core.specs.declared.document.Document.{Document}
-use Rattle.queue_core.specs.declared.document.Format.{Format}
-use Rattle.queue_core.specs.declared.document.Format.TheVariants.{OctetStream}
-use Rattle.queue_core.specs.declared.job.Job.{Job}
-use Rattle.queue_core.specs.declared.event.Scene.{Scene}
+use Rattle.queue_types.specs.declared.document.Document.{Document}
+use Rattle.queue_types.specs.declared.document.Format.{Format}
+use Rattle.queue_types.specs.declared.document.Format.TheVariants.{OctetStream}
+use Rattle.queue_types.specs.declared.job.Job.{Job}
+use Rattle.queue_types.specs.declared.event.Scene.{Scene}
 use Rattle.queue_core.proofs.Rows.{kept_amount}
 use Rattle.queue_core.proofs.Enter.{fresh, first_below, with_row_new, with_document_new, with_new, new_row_keeps}
 use Rattle.queue_core.proofs.Moves.{new_moves}

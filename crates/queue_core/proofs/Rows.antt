@@ -3,15 +3,15 @@ use Rattle.std.proofs.Common.{◌≡◌, ℕ, ℤ, pos, ◌+ℤ◌, ◌-ℤ◌, 
 use Rattle.std.specs.Prelude.{Option, Some, None, IfSome, IsSomeAnd, is_some, bytes_eq, option_map, sum_by, ◌&&◌, ◌⊎◌}
 use Rattle.std.specs.FinMap.{FinMap, get}
 use Rattle.std.proofs.lemmas.Int.{ints}
-use Rattle.queue_core.specs.Job.{owed, is_live}
+use Rattle.queue_types.specs.Job.{owed, is_live}
 use Rattle.queue_core.specs.World.{World, with_row, text_cmp, report_cmp, job_at, granted}
 use Rattle.queue_core.specs.Machine.{taken}
 use Rattle.queue_core.specs.Limits.{IsSoundJob}
 use Rattle.std.specs.List.{AllByRecursion as Each}
 use Rattle.queue_core.specs.Sound.{Rise, IsSound, IsSoundEntry, IsKept, IsGreatestCount, IsIdle, reserved, printed}
-use Rattle.queue_core.specs.declared.job.Job.{Job}
+use Rattle.queue_types.specs.declared.job.Job.{Job}
 use Rattle.queue_core.specs.World.{Entry}
-use Rattle.queue_core.specs.declared.event.KeptReport.{KeptReport}
+use Rattle.queue_types.specs.declared.event.KeptReport.{KeptReport}
 use Rattle.queue_core.proofs.Keep.{at, each-with_row, rise-with_row, some-with_row, sum-with_row}
 
 -- x in place of j: not its number or owner

@@ -2,7 +2,7 @@
 use Rattle.std.proofs.Common.{◌≡◌, List, [], ◌∷◌, ◌++◌, refl, sym, subst, ℕ}
 use Rattle.std.specs.Prelude.{Option, Some, None, IfSome}
 use Rattle.std.specs.List.{AllByRecursion as Each}
-use Rattle.queue_core.specs.Event.{Event}
+use Rattle.queue_types.specs.Event.{Event}
 use Rattle.queue_core.specs.World.{World}
 use Rattle.queue_core.specs.Limits.{IsMoment, IsEvent}
 use Rattle.queue_core.specs.Runs.{Place, IsPlace, after, run, MovesAlong}

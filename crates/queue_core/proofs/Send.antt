@@ -5,19 +5,19 @@ use Rattle.std.specs.List.{AllByRecursion as Each}
 use Rattle.std.proofs.lemmas.Bool.Decides.{nat_tests}
 use Rattle.std.proofs.lemmas.List.Sums.{sum_by_push}
 use Rattle.queue_core.specs.World.{World, Entry, cut, made_on, with_row, with_document, add_document}
-use Rattle.queue_core.specs.Event.{NewDocument, ask, send_document}
-use Rattle.queue_core.specs.Job.{state_in}
+use Rattle.queue_types.specs.Event.{NewDocument, ask, send_document}
+use Rattle.queue_types.specs.Job.{state_in}
 use Rattle.queue_core.specs.Machine.{changed, refused, document_count, new_document, is_sendable, sent, send_in, of_own}
 use Rattle.queue_core.specs.Limits.{IsSoundJob, FitsPhase}
 use Rattle.queue_core.specs.Runs.{Follows, is_pair}
 use Rattle.queue_core.specs.Sound.{IsSound, IsSoundEntry, IsSoundDocument, Rise}
-use Rattle.queue_core.specs.declared.document.Document.{Document}
-use Rattle.queue_core.specs.declared.document.Format.{Format}
-use Rattle.queue_core.specs.declared.job.Job.{Job}
-use Rattle.queue_core.specs.declared.job.Phase.{Phase}
-use Rattle.queue_core.specs.declared.job.Phase.TheVariants.{Waiting, Running, Stopped, Canceled, Aborted, Completed}
-use Rattle.queue_core.specs.declared.event.Scene.{Scene}
-use Rattle.queue_core.specs.declared.event.Reply.TheVariants.{Jobs}
+use Rattle.queue_types.specs.declared.document.Document.{Document}
+use Rattle.queue_types.specs.declared.document.Format.{Format}
+use Rattle.queue_types.specs.declared.job.Job.{Job}
+use Rattle.queue_types.specs.declared.job.Phase.{Phase}
+use Rattle.queue_types.specs.declared.job.Phase.TheVariants.{Waiting, Running, Stopped, Canceled, Aborted, Completed}
+use Rattle.queue_types.specs.declared.event.Scene.{Scene}
+use Rattle.queue_types.specs.declared.event.Reply.TheVariants.{Jobs}
 use Rattle.queue_core.proofs.Keep.{at}
 use Rattle.queue_core.proofs.Fair.{fair_of}
 use Rattle.queue_core.proofs.Own.{Keeps, unchanged, changed_keeps, own_keeps, found_at, itself}

@@ -4,7 +4,7 @@ use Rattle.std.specs.Prelude.{Option, None, IsSome, IfSome, is_some, sum_by, byt
 use Rattle.std.specs.FinMap.{empty, entries, get-empty, from_sorted, empty_of_len, len-entries, entries-from_sorted}
 use Rattle.std.specs.declared.cmp.Ordering.{Ordering}
 use Rattle.std.proofs.Common.{length}
-use Rattle.queue_core.specs.Settings.{SettingValues, AreSettings}
+use Rattle.queue_types.specs.Settings.{SettingValues, AreSettings}
 use Rattle.queue_core.specs.World.{empty_queue, grant_cmp, text_cmp, report_cmp, granted}
 use Rattle.queue_core.specs.Sound.{IsSound, IsKept, reserved, printed}
 use Rattle.queue_core.specs.Limits.{IsGrant}

@@ -1,19 +1,19 @@
 -- What a decision makes of a sound world: a sound world again, whose jobs moved along the allowed pairs.
 use Rattle.std.proofs.Common.{◌≡◌, ℕ, List, [], ◌∷◌, refl, sym, ap, ◌∙◌, subst, true, false, cond}
 use Rattle.std.specs.Prelude.{Some, None, Result, Ok, Err, IfOk, Option}
-use Rattle.queue_core.specs.Event.{Event, Decision, ask, tell, grant, print_job, validate_job, create_job, send_document, cancel_job, cancel_my_jobs, hold_job, release_job, get_job_attributes, get_jobs, get_printer_attributes}
+use Rattle.queue_types.specs.Event.{Event, Decision, ask, tell, grant, print_job, validate_job, create_job, send_document, cancel_job, cancel_my_jobs, hold_job, release_job, get_job_attributes, get_jobs, get_printer_attributes}
 use Rattle.queue_core.specs.World.{World, AreNew, cut, made_on}
 use Rattle.queue_core.specs.Reports.{reported, is_same_report}
 use Rattle.queue_core.specs.Machine.{decision, accepted_where, answered, report_row, new_refusal, unless_refused, validate_job_row}
 use Rattle.queue_core.specs.Limits.{IsMoment, IsEvent, IsSoundDecision}
 use Rattle.queue_core.specs.Sound.{IsSound}
 use Rattle.queue_core.specs.Book.{IsDecisionOn}
-use Rattle.queue_core.specs.declared.event.Reply.TheVariants.{Done, Told, NotTold}
-use Rattle.queue_core.specs.declared.event.ReportRefusal.TheVariants.{Conflict}
-use Rattle.queue_core.specs.declared.event.KeptReport.{KeptReport}
-use Rattle.queue_core.specs.declared.event.Report.{Report}
-use Rattle.queue_core.specs.declared.job.Job.{Job}
-use Rattle.queue_core.specs.declared.event.Scene.{Scene}
+use Rattle.queue_types.specs.declared.event.Reply.TheVariants.{Done, Told, NotTold}
+use Rattle.queue_types.specs.declared.event.ReportRefusal.TheVariants.{Conflict}
+use Rattle.queue_types.specs.declared.event.KeptReport.{KeptReport}
+use Rattle.queue_types.specs.declared.event.Report.{Report}
+use Rattle.queue_types.specs.declared.job.Job.{Job}
+use Rattle.queue_types.specs.declared.event.Scene.{Scene}
 use Rattle.queue_core.proofs.Fair.{fair_of}
 use Rattle.queue_core.proofs.Own.{Keeps, unchanged}
 use Rattle.queue_core.proofs.Cancel.{cancel_keeps, hold_keeps, release_keeps, show_keeps}

@@ -1,6 +1,6 @@
 -- What bounds the amounts that the balance sums.
 use Rattle.std.specs.Prelude.{ℕ, ℤ, pos, neg_ℤ, ◌≤ℤ◌, ◌≤◌}
-use Rattle.queue_core.specs.declared.job.Job.{Job}
+use Rattle.queue_types.specs.declared.job.Job.{Job}
 
 -- the numbers of which a job's estimate and count are made
 pub record AreAmounts (j : Job) : Type 0 where

@@ -1,6 +1,6 @@
 -- What a book promises of its world.
 use Rattle.std.specs.Prelude.{◌≡◌, ℕ}
-use Rattle.queue_core.specs.Event.{Event, Decision}
+use Rattle.queue_types.specs.Event.{Event, Decision}
 use Rattle.queue_core.specs.World.{World, cut}
 use Rattle.queue_core.specs.Machine.{decision}
 use Rattle.queue_core.specs.Limits.{IsMoment, IsEvent}

@@ -1,11 +1,11 @@
 -- How the rows of an account file are taken: in order, all of them or none.
 use Rattle.std.specs.Prelude.{ℕ, pos, ◌+ℤ◌, ◌+◌, unwrap_or, ◌==◌, ◌&&◌, List, [], ◌∷◌, ◌++◌, Option, Bool, false, bytes_eq, find, option_map, sum_by, nat_lt, is_some, if◌then◌else◌}
 use Rattle.std.specs.Option.{option_map_or}
-use Rattle.queue_core.specs.declared.event.GrantFault.{GrantFault}
-use Rattle.queue_core.specs.declared.event.GrantFault.TheVariants.{Conflict, TooMany}
-use Rattle.queue_core.specs.declared.event.FreeRow.{FreeRow}
-use Rattle.queue_core.specs.declared.event.KnownGrant.{KnownGrant}
-use Rattle.queue_core.specs.declared.event.GrantRow.{GrantRow}
+use Rattle.queue_types.specs.declared.event.GrantFault.{GrantFault}
+use Rattle.queue_types.specs.declared.event.GrantFault.TheVariants.{Conflict, TooMany}
+use Rattle.queue_types.specs.declared.event.FreeRow.{FreeRow}
+use Rattle.queue_types.specs.declared.event.KnownGrant.{KnownGrant}
+use Rattle.queue_types.specs.declared.event.GrantRow.{GrantRow}
 
 -- the first of these rows under the row's batch and account
 abbrev pub row_under : GrantRow → List GrantRow → Option GrantRow

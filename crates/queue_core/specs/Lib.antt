@@ -1,7 +1,3 @@
-pub mod Uri
-pub mod Settings
-pub mod Job
-pub mod Event
 pub mod Visible
 pub mod World
 pub mod Reports

@@ -1,22 +1,14 @@
 -- What a device's reports make of a job.
 use Rattle.std.specs.Prelude.{ℕ, ◌==◌, ◌&&◌, ◌||◌, Option, Some, None, is_some, max, Bool, true, false, if◌then◌else◌}
-use Rattle.queue_core.specs.declared.event.Kind.{Kind}
-use Rattle.queue_core.specs.declared.event.Kind.TheVariants.{Start, Stop, Resume, Count, Done, Fail, Halt}
-use Rattle.queue_core.specs.declared.event.Report.{Report}
-use Rattle.queue_core.specs.declared.job.Job.{Job}
-use Rattle.queue_core.specs.declared.job.Phase.{Phase}
-use Rattle.queue_core.specs.declared.job.Phase.TheVariants.{Waiting, Running, Stopped, Canceled, Aborted, Completed}
-use Rattle.queue_core.specs.declared.job.Why.{Why}
-use Rattle.queue_core.specs.declared.job.Why.TheVariants.{ByUser, AtDevice}
-
-abbrev pub kind_number : Kind → ℕ
-kind_number Start = 1
-kind_number Stop = 2
-kind_number Resume = 3
-kind_number Count = 4
-kind_number Done = 5
-kind_number Fail = 6
-kind_number Halt = 7
+use Rattle.queue_types.specs.Event.{kind_number}
+use Rattle.queue_types.specs.declared.event.Kind.{Kind}
+use Rattle.queue_types.specs.declared.event.Kind.TheVariants.{Start, Stop, Resume, Count, Done, Fail, Halt}
+use Rattle.queue_types.specs.declared.event.Report.{Report}
+use Rattle.queue_types.specs.declared.job.Job.{Job}
+use Rattle.queue_types.specs.declared.job.Phase.{Phase}
+use Rattle.queue_types.specs.declared.job.Phase.TheVariants.{Waiting, Running, Stopped, Canceled, Aborted, Completed}
+use Rattle.queue_types.specs.declared.job.Why.{Why}
+use Rattle.queue_types.specs.declared.job.Why.TheVariants.{ByUser, AtDevice}
 
 -- of one job and sequence number, the same report
 abbrev pub is_same_report : Report → Report → Bool

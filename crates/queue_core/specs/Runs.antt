@@ -1,12 +1,12 @@
 -- How states may move, and runs of many events.
 use Rattle.std.specs.Prelude.{◌≡◌, ℕ, List, [], ◌∷◌, Option, Some, None, ⊤, ◌==◌, ◌&&◌, ◌⊎◌, Bool, IsTrue, IfSome}
 use Rattle.std.specs.List.{list_any}
-use Rattle.queue_core.specs.Job.{state}
-use Rattle.queue_core.specs.Event.{Event}
+use Rattle.queue_types.specs.Job.{state}
+use Rattle.queue_types.specs.Event.{Event}
 use Rattle.queue_core.specs.World.{World, rows, job_at}
 use Rattle.queue_core.specs.Machine.{step}
 use Rattle.queue_core.specs.Limits.{IsMoment, IsEvent}
-use Rattle.queue_core.specs.declared.job.Job.{Job}
+use Rattle.queue_types.specs.declared.job.Job.{Job}
 
 -- the pairs of states along which a job may move (RFC 8011, section 5.3.7)
 abbrev pub is_pair : ℕ → ℕ → Bool

@@ -1,13 +1,13 @@
 -- What of a world the device and the office are shown.
 use Rattle.std.specs.Prelude.{ℕ, ◌-◌, ◌==◌, ◌&&◌, ◌||◌, nat_lt, bytes_eq, List, Option, Some, None, find, filter, length, option_map, slice_get, if◌then◌else◌}
 use Rattle.std.specs.FinMap.{get}
-use Rattle.queue_core.specs.Job.{state, owed}
+use Rattle.queue_types.specs.Job.{state, owed}
 use Rattle.queue_core.specs.Sound.{reserved, printed}
 use Rattle.queue_core.specs.World.{World, Entry, rows, granted}
-use Rattle.queue_core.specs.declared.job.Job.{Job}
-use Rattle.queue_core.specs.declared.document.Document.{Document}
-use Rattle.queue_core.specs.declared.document.DocumentHead.{DocumentHead}
-use Rattle.queue_core.specs.declared.sheet.AccountSheet.{AccountSheet}
+use Rattle.queue_types.specs.declared.job.Job.{Job}
+use Rattle.queue_types.specs.declared.document.Document.{Document}
+use Rattle.queue_types.specs.declared.document.DocumentHead.{DocumentHead}
+use Rattle.queue_types.specs.declared.sheet.AccountSheet.{AccountSheet}
 
 -- the jobs that the device may start, in state 3, by number
 unfoldable pub pending_in : List Job → List Job

@@ -2,13 +2,13 @@
 use Rattle.std.specs.Prelude.{◌≡◌, ℕ, pos, ◌+ℤ◌, ◌+◌, ◌^◌, ◌≤◌, List, [], ◌∷◌, None, sum_by, IsSome, IsSomeAnd, is_some, ◌↔◌, IfSome, length, bytes_eq, ◌==◌, ◌&&◌, ◌||◌, ◌⊎◌, Bool, IsTrue, if◌then◌else◌, nat_le}
 use Rattle.std.specs.List.{list_all, AllByRecursion as Each}
 use Rattle.std.specs.FinMap.{get}
-use Rattle.queue_core.specs.Settings.{AreSettings}
-use Rattle.queue_core.specs.Job.{owed}
+use Rattle.queue_types.specs.Settings.{AreSettings}
+use Rattle.queue_types.specs.Job.{owed}
 use Rattle.queue_core.specs.World.{World, Entry, rows, live_jobs, job_at, granted}
 use Rattle.queue_core.specs.Limits.{IsPositive, IsGrant, IsSoundJob}
-use Rattle.queue_core.specs.declared.job.Job.{Job}
-use Rattle.queue_core.specs.declared.document.Document.{Document}
-use Rattle.queue_core.specs.declared.event.KeptReport.{KeptReport}
+use Rattle.queue_types.specs.declared.job.Job.{Job}
+use Rattle.queue_types.specs.declared.document.Document.{Document}
+use Rattle.queue_types.specs.declared.event.KeptReport.{KeptReport}
 
 -- ---- jobs with their documents
 

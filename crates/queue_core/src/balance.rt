@@ -2,14 +2,14 @@
 //! to the free pages of their owner.
 ghost use Rattle.std.specs.Prelude.{◌≡◌, ◌≤◌, ◌<◌, ◌^◌, All, IfOk, IfSome, length, map};
 ghost use Rattle.std.specs.Option.{option_copied};
-ghost use Rattle.queue_core.specs.Job.{owed};
+ghost use Rattle.queue_types.specs.Job.{owed};
 ghost use Rattle.queue_core.specs.Limits.{IsAmount};
 ghost use Rattle.queue_core.specs.Machine.{credited, returned, taken, given_back};
 ghost use Rattle.queue_core.specs.World.{job_at};
 ghost use Rattle.queue_core.specs.Balance.{AreAmounts, IsBelow};
 
-use crate::event::FreeRow;
-use crate::job::{Job, Phase};
+use queue_types::event::FreeRow;
+use queue_types::job::{Job, Phase};
 use std::alloc::{AllocError, Global};
 
 /// The pages that are still set aside for a job: none while it is held or once it has ended.

@@ -5,18 +5,18 @@
 ghost use Rattle.std.specs.Prelude.{◌≡◌, ◌≤◌, Some, IfErr, IfOk, IsSome, OnOk, OnErr, length, option_map, take};
 ghost use Rattle.std.specs.Io.KnownBytes.{Appends};
 ghost use Rattle.queue_core.specs.Book.{IsDecisionOn};
-ghost use Rattle.queue_core.specs.Event.{event_of, change_of, decision_of};
+ghost use Rattle.queue_types.specs.Event.{event_of, change_of, decision_of};
 ghost use Rattle.queue_core.specs.Limits.{IsMoment, IsEvent, IsReplyTo};
 ghost use Rattle.queue_core.specs.Machine.{decision};
 ghost use Rattle.queue_core.specs.Shown.{document_at, head_of, pending_jobs, sheet_of};
 ghost use Rattle.queue_core.specs.Sound.{IsSound};
-ghost use Rattle.queue_core.specs.declared.document.Document.{Document};
+ghost use Rattle.queue_types.specs.declared.document.Document.{Document};
 ghost use Rattle.queue_core.specs.World.{World, cut, made_on};
 
-use crate::document::DocumentHead;
-use crate::event::{Decision, Event};
-use crate::job::JobList;
-use crate::sheet::AccountSheet;
+use queue_types::document::DocumentHead;
+use queue_types::event::{Decision, Event};
+use queue_types::job::JobList;
+use queue_types::sheet::AccountSheet;
 use std::alloc::AllocError;
 use std::io::Write;
 

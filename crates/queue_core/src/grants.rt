@@ -1,6 +1,6 @@
 //! What the machine decides on an account file: its rows are taken in order, all of them or none.
 ghost use Rattle.std.specs.Prelude.{◌≡◌, ◌≤◌, ◌<◌, ◌+◌, ◌^◌, ◌++◌, ◌∷◌, [], IfOk, ℕ, length, unwrap_or, option_map};
-ghost use Rattle.queue_core.specs.Event.{decision_of};
+ghost use Rattle.queue_types.specs.Event.{decision_of};
 ghost use Rattle.queue_core.specs.Grants.{row_of, row_under, pages_to, free_after, take_rows};
 ghost use Rattle.queue_core.specs.Limits.{IsFair, IsKnown};
 ghost use Rattle.queue_core.specs.Machine.{grant_row};
@@ -8,10 +8,10 @@ ghost use Rattle.queue_core.specs.Tally.{key_cmp, is_key_of, total_of, row_in, r
 ghost use Rattle.std.specs.BTreeMap.{get};
 ghost use Rattle.std.specs.Prelude.{All, OnOk, Some, None, List, bytes_eq, if◌then◌else◌};
 
-use crate::event::{
+use crate::outcome::answer_only;
+use queue_types::event::{
     Decision, FreeList, FreeRow, GrantFault, GrantList, GrantRow, KnownGrant, Reply, Scene,
 };
-use crate::outcome::answer_only;
 use std::alloc::{AllocError, Global};
 use std::collections::BTreeMap;
 

@@ -3,16 +3,16 @@ ghost use Rattle.std.specs.Prelude.{ℕ, ◌≡◌, ◌+◌, ◌∷◌, ◌++◌
 ghost use Rattle.std.specs.FinMap.{FinMap};
 ghost use Rattle.std.specs.List.{AllByRecursion};
 ghost use Rattle.queue_core.specs.Book.{IsDecisionOn};
-ghost use Rattle.queue_core.specs.Event.{Event, Decision};
+ghost use Rattle.queue_types.specs.Event.{Event, Decision};
 ghost use Rattle.queue_core.specs.Grants.{pages_to};
-ghost use Rattle.queue_core.specs.declared.event.GrantRow.{GrantRow};
+ghost use Rattle.queue_types.specs.declared.event.GrantRow.{GrantRow};
 ghost use Rattle.queue_core.specs.Limits.{IsFair, IsSoundChange};
 ghost use Rattle.queue_core.specs.Visible.{in_order};
 ghost use Rattle.queue_core.specs.Order.{IsLive, AreNewestFirst, AreByRank, AreRising};
-ghost use Rattle.queue_core.specs.declared.event.WhichJobs.TheVariants.{NotCompleted, Completed as CompletedJobs};
-ghost use Rattle.queue_core.specs.declared.job.Job.{Job};
+ghost use Rattle.queue_types.specs.declared.event.WhichJobs.TheVariants.{NotCompleted, Completed as CompletedJobs};
+ghost use Rattle.queue_types.specs.declared.job.Job.{Job};
 ghost use Rattle.queue_core.specs.Runs.{Place, IsPlace, run, MovesAlong};
-ghost use Rattle.queue_core.specs.Settings.{SettingValues, AreSettings};
+ghost use Rattle.queue_types.specs.Settings.{SettingValues, AreSettings};
 ghost use Rattle.queue_core.specs.Sound.{IsSound, Balances};
 ghost use Rattle.queue_core.specs.World.{World, AreNew, cut, empty_queue, grant_cmp, granted_in, made_on, put_grant};
 

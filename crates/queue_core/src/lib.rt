@@ -4,27 +4,19 @@
 
 mod balance;
 pub mod book;
-pub mod document;
-pub mod event;
 mod grants;
-pub mod job;
 pub mod laws;
 pub mod machine;
 mod my_jobs;
 mod outcome;
 mod own_job;
 mod reports;
-pub mod settings;
-pub mod sheet;
-pub mod text;
-pub mod uri;
+pub mod visible;
 
 pub use book::{BookFault, QueueBook, SendCause, SendFault};
-pub use job::{reasons_of, state_of};
 pub use laws::{
     cut_is_fair, decisions_are_sound, empty_is_sound, get_jobs_in_order, new_grants_add_up,
     run_keeps,
 };
 pub use machine::decide;
 pub use my_jobs::number_set;
-pub use settings::{SettingFault, Settings};

@@ -1,23 +1,23 @@
 //! What the machine decides on the rows that an event needs.
 ghost use Rattle.std.specs.Prelude.{◌≡◌, ◌∷◌, [], ◌<◌, ◌^◌, IfOk, IsNone, None, option_map};
 ghost use Rattle.queue_core.specs.Balance.{AreAmounts};
-ghost use Rattle.queue_core.specs.Event.{event_of, change_of, decision_of, document_of, new_job_of, call_of};
+ghost use Rattle.queue_types.specs.Event.{event_of, change_of, decision_of, document_of, new_job_of, call_of};
 ghost use Rattle.queue_core.specs.Limits.{IsMoment, IsEvent, IsCall, IsNewJob, IsFair, IsReplyTo, IsSoundChange};
 ghost use Rattle.queue_core.specs.Machine.{answered, decision, new_job, entered as entered_row, new_refusal, print_job_row, create_job_row, validate_job_row, printer_row, printer_state, call_row, step};
 ghost use Rattle.queue_core.specs.Runs.{MovesAlong};
 ghost use Rattle.queue_core.specs.Sound.{IsSound, Balances};
 ghost use Rattle.queue_core.specs.World.{World, cut, made_on};
-ghost use Rattle.queue_core.specs.declared.event.Reply.TheVariants.{Jobs};
+ghost use Rattle.queue_types.specs.declared.event.Reply.TheVariants.{Jobs};
 
-use crate::document::Format;
-use crate::event::{Call, Decision, Event, NewDocument, NewJob, QueueCounts, Reply, Scene};
 use crate::grants::grant;
-use crate::job::{Job, JobList, Phase};
 use crate::my_jobs::{cancel_all, cancel_named};
 use crate::outcome::{answer_only, change_job, refuse};
 use crate::own_job::{cancel, count_of, document_in, hold, own, release, send, show};
 use crate::reports::report;
-use crate::text::Text;
+use queue_types::document::Format;
+use queue_types::event::{Call, Decision, Event, NewDocument, NewJob, QueueCounts, Reply, Scene};
+use queue_types::job::{Job, JobList, Phase};
+use queue_types::text::Text;
 use std::alloc::{AllocError, Global};
 
 /// The live jobs that one caller may have.

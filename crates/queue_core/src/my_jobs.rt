@@ -4,14 +4,14 @@ ghost use Rattle.std.specs.List.{list_all, list_any};
 ghost use Rattle.std.specs.BTreeSet.{contains};
 ghost use Rattle.std.specs.Ordering.{nat_cmp};
 ghost use Rattle.queue_core.specs.Balance.{AreAmounts};
-ghost use Rattle.queue_core.specs.Event.{decision_of};
+ghost use Rattle.queue_types.specs.Event.{decision_of};
 ghost use Rattle.queue_core.specs.Limits.{IsFair};
 ghost use Rattle.queue_core.specs.Machine.{all_canceled, are_there, canceled, cancel_my_jobs_row, is_cancelable};
 
-use crate::event::{Decision, Reply, Scene};
-use crate::job::Job;
 use crate::outcome::{change_jobs, refuse};
 use crate::own_job::{can_cancel, canceled_job};
+use queue_types::event::{Decision, Reply, Scene};
+use queue_types::job::Job;
 use std::alloc::{AllocError, Global};
 use std::collections::BTreeSet;
 

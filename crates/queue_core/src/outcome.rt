@@ -1,13 +1,13 @@
 //! The forms of a decision: an answer alone, a refusal, a job that changes.
 ghost use Rattle.std.specs.Prelude.{◌≡◌, ◌<◌, ◌^◌, ◌∷◌, [], All, IfOk, length};
 ghost use Rattle.queue_core.specs.Balance.{AreAmounts};
-ghost use Rattle.queue_core.specs.Event.{change_of, decision_of};
+ghost use Rattle.queue_types.specs.Event.{change_of, decision_of};
 ghost use Rattle.queue_core.specs.Limits.{IsFair};
 ghost use Rattle.queue_core.specs.Machine.{refused, answered, becomes, changed};
 
 use crate::balance::credited_rows;
-use crate::event::{Change, Decision, FreeList, GrantList, Reply, Scene};
-use crate::job::{Job, JobList};
+use queue_types::event::{Change, Decision, FreeList, GrantList, Reply, Scene};
+use queue_types::job::{Job, JobList};
 use std::alloc::{AllocError, Global};
 
 pub(crate) fn answer_only<'a>(alloc: Global, reply: Reply) -> Decision<'a>

@@ -1,16 +1,16 @@
 //! What the machine decides on a job of the caller's own.
 ghost use Rattle.std.specs.Prelude.{◌≡◌, ◌≤◌, ◌∷◌, [], All, IfOk, IfErr, option_map};
 ghost use Rattle.queue_core.specs.Balance.{AreAmounts};
-ghost use Rattle.queue_core.specs.Event.{decision_of, document_of};
-ghost use Rattle.queue_core.specs.Job.{estimate};
+ghost use Rattle.queue_types.specs.Event.{decision_of, document_of};
+ghost use Rattle.queue_types.specs.Job.{estimate};
 ghost use Rattle.queue_core.specs.Limits.{IsFair, IsSoundJob};
 ghost use Rattle.queue_core.specs.Machine.{refused, answered, canceled, cancel_row, is_cancelable, document_count, has_pages, hold_in, is_sendable, let_print, new_document, of_own, release_in, send_in, sent};
-ghost use Rattle.queue_core.specs.declared.event.Reply.TheVariants.{Jobs};
+ghost use Rattle.queue_types.specs.declared.event.Reply.TheVariants.{Jobs};
 
-use crate::document::Format;
-use crate::event::{Decision, FreeRow, NewDocument, Reply, Scene};
-use crate::job::{Job, JobList, Phase, Why};
 use crate::outcome::{answer_only, change_job, job_becomes, refuse};
+use queue_types::document::Format;
+use queue_types::event::{Decision, FreeRow, NewDocument, Reply, Scene};
+use queue_types::job::{Job, JobList, Phase, Why};
 use std::alloc::{AllocError, Global};
 
 /// The documents that a job may have.

@@ -1,14 +1,14 @@
 //! What the machine decides on a device's report.
 ghost use Rattle.std.specs.Prelude.{◌≡◌, ◌≤◌, IfOk, IfSome};
 ghost use Rattle.queue_core.specs.Balance.{AreAmounts};
-ghost use Rattle.queue_core.specs.Event.{decision_of};
+ghost use Rattle.queue_types.specs.Event.{decision_of};
 ghost use Rattle.queue_core.specs.Limits.{IsFair, IsReport, IsSoundJob};
 ghost use Rattle.queue_core.specs.Machine.{accepted, accepted_where, report_row};
 ghost use Rattle.queue_core.specs.Reports.{counted, ended_as, is_same_report, moved_by, why_halted};
 
-use crate::event::{Decision, KeptReport, Kind, Reply, Report, ReportRefusal, Scene};
-use crate::job::{Job, Phase, Why, state_of};
 use crate::outcome::{answer_only, change_job};
+use queue_types::event::{Decision, KeptReport, Kind, Reply, Report, ReportRefusal, Scene};
+use queue_types::job::{Job, Phase, Why, state_of};
 use std::alloc::{AllocError, Global};
 
 /// Of one job and sequence number, the same report.

@@ -3,25 +3,27 @@ use Rattle.std.proofs.Common.{◌≡◌, ℕ, List, [], ◌∷◌, refl, ap, sym
 use Rattle.std.specs.Prelude.{Option, Some, None, IfSome, is_some, nat_eq, ◌&&◌}
 use Rattle.std.specs.List.{AllByRecursion as Each}
 use Rattle.std.specs.FinMap.{FinMap, get, get-insert}
-use Rattle.queue_core.specs.Event.{Decision, Event, ask, tell, grant}
+use Rattle.queue_types.specs.Event.{Decision, Event, ask, tell, grant}
 use Rattle.queue_core.specs.Grants.{Taken, all_taken, none_taken, take_rows}
-use Rattle.queue_core.specs.Job.{state}
+use Rattle.queue_types.specs.Job.{state}
 use Rattle.queue_core.specs.Limits.{IsMoment, IsReport}
 use Rattle.queue_core.specs.World.{World, rows, cut, made_on, job_at, numbered, report_cmp}
-use Rattle.queue_core.specs.Reports.{is_same_report, kind_number}
+use Rattle.queue_core.specs.Reports.{is_same_report}
+use Rattle.queue_types.specs.Event.{kind_number}
 use Rattle.queue_core.specs.Machine.{Step, decision, step, answered, report_row, grant_row}
 use Rattle.queue_core.specs.Runs.{Place, IsPlace, after, run}
 use Rattle.queue_core.specs.Sound.{IsSound, IsKept}
-use Rattle.queue_core.specs.declared.event.GrantRow.{GrantRow}
-use Rattle.queue_core.specs.declared.event.KeptReport.{KeptReport}
-use Rattle.queue_core.specs.declared.event.Report.{Report}
-use Rattle.queue_core.specs.declared.event.ReportRefusal.TheVariants.{Conflict}
-use Rattle.queue_core.specs.declared.event.Reply.{Reply}
-use Rattle.queue_core.specs.declared.event.Reply.TheVariants.{Told, NotTold}
-use Rattle.queue_core.specs.declared.job.Job.{Job}
+use Rattle.queue_types.specs.declared.event.GrantRow.{GrantRow}
+use Rattle.queue_types.specs.declared.event.KeptReport.{KeptReport}
+use Rattle.queue_types.specs.declared.event.Report.{Report}
+use Rattle.queue_types.specs.declared.event.ReportRefusal.TheVariants.{Conflict}
+use Rattle.queue_types.specs.declared.event.Reply.{Reply}
+use Rattle.queue_types.specs.declared.event.Reply.TheVariants.{Told, NotTold}
+use Rattle.queue_types.specs.declared.job.Job.{Job}
 use Rattle.queue_laws.proofs.Base.{itself}
 use Rattle.queue_laws.proofs.Books.{reports_kept}
-use Rattle.queue_laws.proofs.Keys.{report_total, is_report_key, own_report_key, report_key}
+use Rattle.queue_core.proofs.Maps.{report_total, is_report_key}
+use Rattle.queue_laws.proofs.Keys.{own_report_key, report_key}
 use Rattle.queue_laws.proofs.Telling.{declined, known, taken, telling}
 
 -- under the report's job and sequence number an equal one is kept, with that state and count

@@ -2,12 +2,12 @@
 use Rattle.std.proofs.Common.{◌≡◌, ℕ, ◌+◌, List, refl, ap, sym, ◌∙◌, inr, arith, true, false}
 use Rattle.std.specs.Prelude.{Some, None, nat_eq, bytes_eq, not}
 use Rattle.std.proofs.lemmas.Bool.Decides.{nat_tests}
-use Rattle.queue_core.specs.Event.{Call, Event, NewJob, ask, print_job}
+use Rattle.queue_types.specs.Event.{Call, Event, NewJob, ask, print_job}
 use Rattle.queue_core.specs.Machine.{step}
 use Rattle.queue_core.specs.Runs.{Place}
 use Rattle.queue_core.specs.Sound.{IsSound}
 use Rattle.queue_core.specs.World.{World}
-use Rattle.queue_core.specs.declared.document.Format.{Format}
+use Rattle.queue_types.specs.declared.document.Format.{Format}
 use Rattle.queue_laws.specs.Alike.{IsAlikePlace, draws}
 use Rattle.queue_laws.specs.Replies.{refuses}
 use Rattle.queue_laws.proofs.Base.{itself}

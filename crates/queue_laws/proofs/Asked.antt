@@ -3,18 +3,18 @@ use Rattle.std.proofs.Common.{◌≡◌, ℕ, ℤ, ◌<◌, ◌+◌, List, [], �
 use Rattle.std.specs.Prelude.{Option, Some, None, IfSome, nat_eq, bytes_eq, filter, ◌&&◌}
 use Rattle.std.specs.List.{list_all, AllByRecursion as Each}
 use Rattle.std.specs.FinMap.{get}
-use Rattle.queue_core.specs.Job.{is_live, estimate}
-use Rattle.queue_core.specs.Event.{Change, Call, Decision, NewJob, NewDocument, ask, print_job, validate_job, create_job, send_document, cancel_job, cancel_my_jobs, hold_job, release_job, get_job_attributes, get_jobs, get_printer_attributes}
+use Rattle.queue_types.specs.Job.{is_live, estimate}
+use Rattle.queue_types.specs.Event.{Change, Call, Decision, NewJob, NewDocument, ask, print_job, validate_job, create_job, send_document, cancel_job, cancel_my_jobs, hold_job, release_job, get_job_attributes, get_jobs, get_printer_attributes}
 use Rattle.queue_core.specs.World.{World, Entry, rows, cut, found_row, job_at, is_one_of}
 use Rattle.queue_core.specs.Machine.{decision, no_change, answered, refused, credited, changed, becomes, entered, new_job, new_document, new_refusal, unless_refused, validate_job_row, canceled, canceled_in, is_cancelable, cancel_row, all_canceled, are_there, cancel_my_jobs_row, is_sendable, sent, send_in, hold_in, has_pages, let_print, release_in, of_own}
 use Rattle.queue_core.specs.Sound.{IsSound, Rise}
-use Rattle.queue_core.specs.declared.document.Format.{Format}
-use Rattle.queue_core.specs.declared.job.Job.{Job}
-use Rattle.queue_core.specs.declared.job.Phase.{Phase}
-use Rattle.queue_core.specs.declared.job.Phase.TheVariants.{Waiting, Running, Stopped, Canceled, Aborted, Completed}
-use Rattle.queue_core.specs.declared.event.FreeRow.{FreeRow}
-use Rattle.queue_core.specs.declared.event.Reply.TheVariants.{Jobs, Done}
-use Rattle.queue_core.specs.declared.event.Scene.{Scene}
+use Rattle.queue_types.specs.declared.document.Format.{Format}
+use Rattle.queue_types.specs.declared.job.Job.{Job}
+use Rattle.queue_types.specs.declared.job.Phase.{Phase}
+use Rattle.queue_types.specs.declared.job.Phase.TheVariants.{Waiting, Running, Stopped, Canceled, Aborted, Completed}
+use Rattle.queue_types.specs.declared.event.FreeRow.{FreeRow}
+use Rattle.queue_types.specs.declared.event.Reply.TheVariants.{Jobs, Done}
+use Rattle.queue_types.specs.declared.event.Scene.{Scene}
 use Rattle.queue_laws.proofs.Base.{at, rows_of, below, differs, equal, same_key, first_named, first_below, itself, passed, each_map, each_both, each_filter, first_of}
 use Rattle.queue_laws.proofs.Callers.{IsBy, IsRowBy, IsNumberOf}
 

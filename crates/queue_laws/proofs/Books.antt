@@ -2,14 +2,14 @@
 use Rattle.std.proofs.Common.{◌≡◌, ℕ, List, [], ◌∷◌, refl, ap, true, false, cond}
 use Rattle.std.specs.Prelude.{Option, Some, None, bytes_eq, fold}
 use Rattle.std.specs.List.{list_all}
-use Rattle.queue_core.specs.Job.{estimate}
-use Rattle.queue_core.specs.Event.{Call, Decision, NewDocument, ask, print_job, validate_job, create_job, send_document, cancel_job, cancel_my_jobs, hold_job, release_job, get_job_attributes, get_jobs, get_printer_attributes}
+use Rattle.queue_types.specs.Job.{estimate}
+use Rattle.queue_types.specs.Event.{Call, Decision, NewDocument, ask, print_job, validate_job, create_job, send_document, cancel_job, cancel_my_jobs, hold_job, release_job, get_job_attributes, get_jobs, get_printer_attributes}
 use Rattle.queue_core.specs.World.{World, cut, put_grant, with_report}
 use Rattle.queue_core.specs.Machine.{step, call_row, answered, refused, becomes, changed, entered, new_job, new_document, new_refusal, unless_refused, validate_job_row, canceled, is_cancelable, cancel_row, all_canceled, are_there, cancel_my_jobs_row, is_sendable, sent, send_in, hold_in, has_pages, let_print, release_in, of_own}
-use Rattle.queue_core.specs.declared.job.Job.{Job}
-use Rattle.queue_core.specs.declared.job.Phase.TheVariants.{Waiting, Running, Stopped, Canceled, Aborted, Completed}
-use Rattle.queue_core.specs.declared.event.Reply.TheVariants.{Jobs, Done}
-use Rattle.queue_core.specs.declared.event.Scene.{Scene}
+use Rattle.queue_types.specs.declared.job.Job.{Job}
+use Rattle.queue_types.specs.declared.job.Phase.TheVariants.{Waiting, Running, Stopped, Canceled, Aborted, Completed}
+use Rattle.queue_types.specs.declared.event.Reply.TheVariants.{Jobs, Done}
+use Rattle.queue_types.specs.declared.event.Scene.{Scene}
 
 abbrev Keeps : Decision → Type 0
 Keeps d = (d.change.grants ≡ []) × (d.change.report ≡ None)

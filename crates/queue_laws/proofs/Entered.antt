@@ -1,15 +1,15 @@
 -- A new row stands at the end.
 use Rattle.std.proofs.Common.{◌≡◌, ℕ, pos, ◌+ℤ◌, ◌-ℤ◌, ◌+◌, List, [], ◌∷◌, ◌++◌, map, refl, ap, ◌∙◌, arith, Bool, true, false, cond}
 use Rattle.std.specs.Prelude.{Option, Some, None, bytes_eq}
-use Rattle.queue_core.specs.Event.{Call, Decision, NewJob, NewDocument, ask, print_job, create_job, validate_job}
+use Rattle.queue_types.specs.Event.{Call, Decision, NewJob, NewDocument, ask, print_job, create_job, validate_job}
 use Rattle.queue_core.specs.World.{World, Entry, cut, made_on, with_row, add_document, with_document}
 use Rattle.queue_core.specs.Machine.{Step, step, answered, new_job, new_document, entered, new_refusal, unless_refused, returned}
 use Rattle.queue_core.specs.Sound.{IsSound, Rise}
-use Rattle.queue_core.specs.declared.document.Format.{Format}
-use Rattle.queue_core.specs.declared.document.Format.TheVariants.{OctetStream}
-use Rattle.queue_core.specs.declared.event.Reply.TheVariants.{Jobs, Done}
-use Rattle.queue_core.specs.declared.event.Scene.{Scene}
-use Rattle.queue_core.specs.declared.job.Job.{Job}
+use Rattle.queue_types.specs.declared.document.Format.{Format}
+use Rattle.queue_types.specs.declared.document.Format.TheVariants.{OctetStream}
+use Rattle.queue_types.specs.declared.event.Reply.TheVariants.{Jobs, Done}
+use Rattle.queue_types.specs.declared.event.Scene.{Scene}
+use Rattle.queue_types.specs.declared.job.Job.{Job}
 use Rattle.queue_laws.specs.Entering.{Enters, documents_of}
 use Rattle.queue_laws.specs.Replies.{refuses}
 use Rattle.queue_laws.proofs.Base.{fresh, below, itself, first_below}

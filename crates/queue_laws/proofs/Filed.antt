@@ -4,15 +4,15 @@ use Rattle.std.specs.Prelude.{Option, Some, None, fold, is_some, option_map, unw
 use Rattle.std.specs.List.{AllByRecursion as Each}
 use Rattle.std.specs.FinMap.{FinMap, get}
 use Rattle.std.proofs.lemmas.Int.{ints}
-use Rattle.queue_core.specs.Event.{Event, ask, tell, grant}
+use Rattle.queue_types.specs.Event.{Event, ask, tell, grant}
 use Rattle.queue_core.specs.Grants.{Taken, all_taken, none_taken, take_rows, pages_to, row_under}
 use Rattle.queue_core.specs.World.{World, AreNew, made_on, known_grant, put_grant, put_free, grant_cmp, granted, granted_in}
 use Rattle.queue_core.specs.Machine.{Step, step, grant_row}
 use Rattle.queue_core.specs.Runs.{Place, after, run}
-use Rattle.queue_core.specs.declared.event.FreeRow.{FreeRow}
-use Rattle.queue_core.specs.declared.event.GrantFault.{GrantFault}
-use Rattle.queue_core.specs.declared.event.GrantRow.{GrantRow}
-use Rattle.queue_core.specs.declared.event.Reply.TheVariants.{Added, NotAdded}
+use Rattle.queue_types.specs.declared.event.FreeRow.{FreeRow}
+use Rattle.queue_types.specs.declared.event.GrantFault.{GrantFault}
+use Rattle.queue_types.specs.declared.event.GrantRow.{GrantRow}
+use Rattle.queue_types.specs.declared.event.Reply.TheVariants.{Added, NotAdded}
 use Rattle.queue_laws.specs.Granting.{IsGranted, is_named, is_account_of}
 use Rattle.queue_laws.proofs.Base.{each_map}
 use Rattle.queue_laws.proofs.Books.{grants_kept}

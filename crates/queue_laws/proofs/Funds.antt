@@ -7,8 +7,8 @@ use Rattle.std.proofs.lemmas.Int.{ints}
 use Rattle.std.proofs.lemmas.Map.Text.{is_eq-slice_cmp}
 use Rattle.queue_core.specs.World.{put_free, found_row, text_cmp}
 use Rattle.queue_core.specs.Machine.{credited, returned}
-use Rattle.queue_core.specs.declared.event.FreeRow.{FreeRow}
-use Rattle.queue_core.specs.declared.job.Job.{Job}
+use Rattle.queue_types.specs.declared.event.FreeRow.{FreeRow}
+use Rattle.queue_types.specs.declared.job.Job.{Job}
 use Rattle.queue_laws.proofs.Base.{same_key}
 
 pub one_row : (m : FinMap text_cmp ℤ) (f : FreeRow) (a : List ℕ) → get (put_free m f) a ≡ cond (bytes_eq a f.account) (Some f.free) (get m a)

@@ -3,19 +3,19 @@ use Rattle.std.proofs.Common.{◌≡◌, ℕ, zero, suc, ◌<◌, ◌+◌, List,
 use Rattle.std.specs.Prelude.{Option, Some, None, bytes_eq, filter, take, count_by, not, nat_le, ◌&&◌, ◌||◌}
 use Rattle.std.specs.List.{AllByRecursion as Each}
 use Rattle.std.proofs.lemmas.List.Sums.{sum_by-cons}
-use Rattle.queue_core.specs.Event.{ask, get_jobs}
-use Rattle.queue_core.specs.Job.{is_live_in, state_in}
+use Rattle.queue_types.specs.Event.{ask, get_jobs}
+use Rattle.queue_types.specs.Job.{is_live_in, state_in}
 use Rattle.queue_core.specs.Machine.{step}
 use Rattle.queue_core.specs.Order.{IsLive, AreNewestFirst, AreByRank, AreRising, is_before}
 use Rattle.queue_core.specs.Sound.{IsSound, Rise}
 use Rattle.queue_core.specs.Visible.{in_order, is_among, is_newer, within_limit}
 use Rattle.queue_core.specs.World.{World, Entry, rows}
-use Rattle.queue_core.specs.declared.event.Reply.TheVariants.{Jobs}
-use Rattle.queue_core.specs.declared.event.WhichJobs.{WhichJobs}
-use Rattle.queue_core.specs.declared.event.WhichJobs.TheVariants.{NotCompleted, Completed as CompletedJobs}
-use Rattle.queue_core.specs.declared.job.Job.{Job}
-use Rattle.queue_core.specs.declared.job.Phase.{Phase}
-use Rattle.queue_core.specs.declared.job.Phase.TheVariants.{Waiting, Running, Stopped, Canceled, Aborted, Completed}
+use Rattle.queue_types.specs.declared.event.Reply.TheVariants.{Jobs}
+use Rattle.queue_types.specs.declared.event.WhichJobs.{WhichJobs}
+use Rattle.queue_types.specs.declared.event.WhichJobs.TheVariants.{NotCompleted, Completed as CompletedJobs}
+use Rattle.queue_types.specs.declared.job.Job.{Job}
+use Rattle.queue_types.specs.declared.job.Phase.{Phase}
+use Rattle.queue_types.specs.declared.job.Phase.TheVariants.{Waiting, Running, Stopped, Canceled, Aborted, Completed}
 use Rattle.queue_laws.specs.Jobs.{is_owned_by, is_of_kind}
 use Rattle.queue_laws.proofs.Asked.{all_above}
 use Rattle.queue_laws.proofs.Base.{rows_of, each_map, each_filter, passed, last_of}

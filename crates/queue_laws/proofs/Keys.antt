@@ -1,27 +1,15 @@
 -- The keys of reports and grants.
-use Rattle.std.proofs.Common.{◌≡◌, ℕ, List, refl, ap, sym, ◌∙◌, Bool, true, ◌&&◌}
+use Rattle.std.proofs.Common.{◌≡◌, ℕ, List, refl, ap, sym, ◌∙◌, true, ◌&&◌}
 use Rattle.std.specs.Prelude.{nat_eq, bytes_eq}
-use Rattle.std.specs.Ordering.{is_eq, eq_by_cmp, nat_cmp, ordering_then}
+use Rattle.std.specs.Ordering.{is_eq, nat_cmp, ordering_then}
 use Rattle.std.specs.declared.cmp.Ordering.{Ordering}
 use Rattle.std.specs.declared.cmp.Ordering.TheVariants.{Less, Equal, Greater}
-use Rattle.std.specs.Cmp.{unsigned_tied, IsTotalOrder, eq_by_cmp_equiv}
-use Rattle.std.specs.Cmp.Lexicographic.{nat_list_cmp_total}
-use Rattle.std.proofs.lemmas.Cmp.{nat_cmp_total, nat_list_eq_equiv, then_total, on_total}
+use Rattle.std.specs.Cmp.{unsigned_tied, eq_by_cmp_equiv}
+use Rattle.std.proofs.lemmas.Cmp.{nat_list_eq_equiv}
 use Rattle.std.proofs.lemmas.Map.Text.{is_eq-slice_cmp}
-use Rattle.queue_core.specs.World.{grant_cmp, report_cmp, text_cmp}
+use Rattle.queue_core.specs.World.{text_cmp}
+use Rattle.queue_core.proofs.Maps.{report_total, is_report_key, is_grant_key}
 use Rattle.queue_laws.proofs.Base.{equal}
-
-pub grant_total : IsTotalOrder grant_cmp
-grant_total = then_total (on_total (λ (p : List ℕ × List ℕ). p.0) nat_list_cmp_total) (on_total (λ (p : List ℕ × List ℕ). p.1) nat_list_cmp_total)
-
-pub report_total : IsTotalOrder report_cmp
-report_total = then_total (on_total (λ (p : ℕ × ℕ). p.0) nat_cmp_total) (on_total (λ (p : ℕ × ℕ). p.1) nat_cmp_total)
-
-abbrev pub is_report_key : ℕ × ℕ → ℕ × ℕ → Bool
-is_report_key q k = eq_by_cmp report_cmp q k
-
-abbrev pub is_grant_key : List ℕ × List ℕ → List ℕ × List ℕ → Bool
-is_grant_key q k = eq_by_cmp grant_cmp q k
 
 tied : (a b : Ordering) → is_eq (ordering_then a b) ≡ true → (is_eq a ≡ true) × (is_eq b ≡ true)
 tied Less b e = absurd (cc)

@@ -2,7 +2,7 @@
 use Rattle.std.proofs.Common.{◌≡◌, ℕ, ◌+◌, ◌⊎◌, List, ap, inl, inr, false}
 use Rattle.std.specs.Prelude.{bytes_eq, unwrap_or}
 use Rattle.std.specs.FinMap.{get}
-use Rattle.queue_core.specs.Event.{Call, Change, ask}
+use Rattle.queue_types.specs.Event.{Call, Change, ask}
 use Rattle.queue_core.specs.World.{World, cut}
 use Rattle.queue_core.specs.Machine.{decision, step}
 use Rattle.queue_core.specs.Sound.{IsSound}

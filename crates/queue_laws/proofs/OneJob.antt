@@ -2,17 +2,17 @@
 use Rattle.std.proofs.Common.{◌≡◌, ℕ, List, [], ◌∷◌, map, refl, ap, sym, ◌∙◌, arith, Bool, true, false, cond}
 use Rattle.std.specs.Prelude.{Option, Some, None, nat_eq, bytes_eq, filter, ◌&&◌, ◌||◌}
 use Rattle.std.specs.List.{list_all, list_any, AllByRecursion as Each}
-use Rattle.queue_core.specs.Job.{estimate}
-use Rattle.queue_core.specs.Event.{Call, Decision, ask, print_job, validate_job, create_job, send_document, cancel_job, cancel_my_jobs, hold_job, release_job, get_job_attributes, get_jobs, get_printer_attributes}
+use Rattle.queue_types.specs.Job.{estimate}
+use Rattle.queue_types.specs.Event.{Call, Decision, ask, print_job, validate_job, create_job, send_document, cancel_job, cancel_my_jobs, hold_job, release_job, get_job_attributes, get_jobs, get_printer_attributes}
 use Rattle.queue_core.specs.World.{World, rows, cut, job_at, numbered, is_one_of}
 use Rattle.queue_core.specs.Machine.{step, answered, refused, becomes, changed, canceled, is_cancelable, cancel_row, all_canceled, is_sendable, sent, send_in, new_document, hold_in, has_pages, let_print, release_in, of_own}
-use Rattle.queue_core.specs.declared.document.Format.{Format}
-use Rattle.queue_core.specs.declared.job.Job.{Job}
-use Rattle.queue_core.specs.declared.job.Phase.TheVariants.{Waiting, Running, Stopped, Canceled, Aborted, Completed}
-use Rattle.queue_core.specs.declared.event.Reply.{Reply}
-use Rattle.queue_core.specs.declared.event.Reply.TheVariants.{Refused, Done, Jobs}
-use Rattle.queue_core.specs.declared.event.Scene.{Scene}
-use Rattle.queue_laws.specs.Calls.{on_job}
+use Rattle.queue_types.specs.declared.document.Format.{Format}
+use Rattle.queue_types.specs.declared.job.Job.{Job}
+use Rattle.queue_types.specs.declared.job.Phase.TheVariants.{Waiting, Running, Stopped, Canceled, Aborted, Completed}
+use Rattle.queue_types.specs.declared.event.Reply.{Reply}
+use Rattle.queue_types.specs.declared.event.Reply.TheVariants.{Refused, Done, Jobs}
+use Rattle.queue_types.specs.declared.event.Scene.{Scene}
+use Rattle.queue_types.specs.Event.{on_job}
 use Rattle.queue_laws.specs.Jobs.{has_job}
 use Rattle.queue_laws.proofs.Base.{equal, itself, none_named, named, each_map}
 

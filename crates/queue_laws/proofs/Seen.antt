@@ -3,16 +3,16 @@ use Rattle.std.proofs.Common.{◌≡◌, ℕ, ◌<◌, ◌+◌, ◌⊎◌, List,
 use Rattle.std.specs.Prelude.{Some, None, nat_eq, bytes_eq, filter, sum_by, not, ◌&&◌}
 use Rattle.std.specs.FinMap.{get}
 use Rattle.std.proofs.lemmas.List.Sums.{sum_by-cons}
-use Rattle.queue_core.specs.Settings.{SettingValues}
-use Rattle.queue_core.specs.Job.{is_live}
-use Rattle.queue_core.specs.Event.{Call, Decision, Event, ask, print_job, validate_job, create_job, send_document, cancel_job, cancel_my_jobs, hold_job, release_job, get_job_attributes, get_jobs, get_printer_attributes}
+use Rattle.queue_types.specs.Settings.{SettingValues}
+use Rattle.queue_types.specs.Job.{is_live}
+use Rattle.queue_types.specs.Event.{Call, Decision, Event, ask, print_job, validate_job, create_job, send_document, cancel_job, cancel_my_jobs, hold_job, release_job, get_job_attributes, get_jobs, get_printer_attributes}
 use Rattle.queue_core.specs.World.{World, Entry, cut, found_row, jobs_for, live_for, live_jobs, counts_for, is_one_of}
 use Rattle.queue_core.specs.Visible.{is_among, in_order, within_limit}
 use Rattle.queue_core.specs.Machine.{decision, refused, answered, of_own, cancel_row, send_in, hold_in, release_in}
 use Rattle.queue_core.specs.Sound.{IsSound, Rise}
-use Rattle.queue_core.specs.declared.job.Job.{Job}
-use Rattle.queue_core.specs.declared.event.Reply.TheVariants.{Jobs}
-use Rattle.queue_core.specs.declared.event.Scene.{Scene}
+use Rattle.queue_types.specs.declared.job.Job.{Job}
+use Rattle.queue_types.specs.declared.event.Reply.TheVariants.{Jobs}
+use Rattle.queue_types.specs.declared.event.Scene.{Scene}
 use Rattle.queue_laws.specs.Alike.{counts_all}
 use Rattle.queue_laws.specs.Own.{Own, own, own_jobs}
 use Rattle.queue_laws.proofs.Base.{equal, above as apart, rows_of}

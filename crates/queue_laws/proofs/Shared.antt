@@ -3,13 +3,13 @@ use Rattle.std.proofs.Common.{◌≡◌, ℕ, ℤ, pos, ◌+ℤ◌, ◌+◌, Lis
 use Rattle.std.specs.Prelude.{Option, Some, bytes_eq, filter, fold, unwrap_or}
 use Rattle.std.specs.FinMap.{get}
 use Rattle.std.proofs.lemmas.List.Elements.{filter-append}
-use Rattle.queue_core.specs.Event.{grant}
+use Rattle.queue_types.specs.Event.{grant}
 use Rattle.queue_core.specs.Grants.{repeated, refused_row, new_row, Taken, all_taken, none_taken, take_rows, add_row, row_of, pages_to, free_after}
 use Rattle.queue_core.specs.World.{World, made_on, known_grant, granted_in, put_grant, put_free}
 use Rattle.queue_core.specs.Machine.{step, grant_row}
-use Rattle.queue_core.specs.declared.event.FreeRow.{FreeRow}
-use Rattle.queue_core.specs.declared.event.GrantRow.{GrantRow}
-use Rattle.queue_core.specs.declared.event.Reply.TheVariants.{Added, NotAdded}
+use Rattle.queue_types.specs.declared.event.FreeRow.{FreeRow}
+use Rattle.queue_types.specs.declared.event.GrantRow.{GrantRow}
+use Rattle.queue_types.specs.declared.event.Reply.TheVariants.{Added, NotAdded}
 use Rattle.queue_laws.specs.Own.{Own, own}
 use Rattle.queue_laws.proofs.Base.{same_key}
 use Rattle.queue_laws.proofs.Callers.{free_after as free_then, own_free}

@@ -11,14 +11,15 @@ use Rattle.std.proofs.lemmas.List.Folds.{find-append, list_any-append}
 use Rattle.std.proofs.lemmas.List.Sums.{fold_push, sum_by_push}
 use Rattle.queue_core.specs.World.{World, AreNew, known_grant, put_free, put_grant, grant_cmp}
 use Rattle.queue_core.specs.Grants.{repeated, refused_row, new_row, Taken, all_taken, none_taken, take_rows, add_row, row_of, row_under, pages_under, pages_to, is_too_many, free_after}
-use Rattle.queue_core.specs.declared.event.FreeRow.{FreeRow}
-use Rattle.queue_core.specs.declared.event.GrantFault.TheVariants.{Conflict, TooMany}
-use Rattle.queue_core.specs.declared.event.GrantRow.{GrantRow}
-use Rattle.queue_core.specs.declared.event.KnownGrant.{KnownGrant}
+use Rattle.queue_types.specs.declared.event.FreeRow.{FreeRow}
+use Rattle.queue_types.specs.declared.event.GrantFault.TheVariants.{Conflict, TooMany}
+use Rattle.queue_types.specs.declared.event.GrantRow.{GrantRow}
+use Rattle.queue_types.specs.declared.event.KnownGrant.{KnownGrant}
 use Rattle.queue_laws.specs.Granting.{is_named, is_account_of}
 use Rattle.queue_laws.proofs.Base.{equal, itself, own_key, same_key, left_none, right_none, first_of, last_of}
 use Rattle.queue_laws.proofs.Funds.{one_row}
-use Rattle.queue_laws.proofs.Keys.{grant_total, is_grant_key, grant_key}
+use Rattle.queue_core.proofs.Maps.{grant_total, is_grant_key}
+use Rattle.queue_laws.proofs.Keys.{grant_key}
 
 -- ---- what becomes of one row
 

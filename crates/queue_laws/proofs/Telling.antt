@@ -3,26 +3,27 @@ use Rattle.std.proofs.Common.{◌≡◌, ℕ, List, [], ◌∷◌, map, refl, ap
 use Rattle.std.specs.Prelude.{Option, Some, None, nat_eq, bytes_eq, not, fold, is_some, max, ◌&&◌, ◌||◌}
 use Rattle.std.specs.FinMap.{get, get-insert}
 use Rattle.std.proofs.lemmas.Cmp.{nat_list_eq_equiv}
-use Rattle.queue_core.specs.Event.{Decision, tell}
-use Rattle.queue_core.specs.Job.{state}
+use Rattle.queue_types.specs.Event.{Decision, tell}
+use Rattle.queue_types.specs.Job.{state}
 use Rattle.queue_core.specs.World.{World, Entry, rows, cut, made_on, with_row, put_free, job_at, numbered, owner_row}
 use Rattle.queue_core.specs.Reports.{counted, ended_as, why_halted, moved_by, reported, is_same_report}
 use Rattle.queue_core.specs.Machine.{decision, step, answered, accepted, accepted_where, report_row, credited}
-use Rattle.queue_core.specs.declared.event.Kind.{Kind}
-use Rattle.queue_core.specs.declared.event.Kind.TheVariants.{Start, Stop, Resume, Count, Done, Fail, Halt}
-use Rattle.queue_core.specs.declared.event.KeptReport.{KeptReport}
-use Rattle.queue_core.specs.declared.event.Report.{Report}
-use Rattle.queue_core.specs.declared.event.ReportRefusal.{ReportRefusal}
-use Rattle.queue_core.specs.declared.event.ReportRefusal.TheVariants.{NoJob, State, Conflict}
-use Rattle.queue_core.specs.declared.event.Reply.TheVariants.{Told, NotTold}
-use Rattle.queue_core.specs.declared.event.Scene.{Scene}
-use Rattle.queue_core.specs.declared.job.Job.{Job}
-use Rattle.queue_core.specs.declared.job.Phase.{Phase}
-use Rattle.queue_core.specs.declared.job.Phase.TheVariants.{Waiting, Running, Stopped, Canceled, Aborted, Completed}
+use Rattle.queue_types.specs.declared.event.Kind.{Kind}
+use Rattle.queue_types.specs.declared.event.Kind.TheVariants.{Start, Stop, Resume, Count, Done, Fail, Halt}
+use Rattle.queue_types.specs.declared.event.KeptReport.{KeptReport}
+use Rattle.queue_types.specs.declared.event.Report.{Report}
+use Rattle.queue_types.specs.declared.event.ReportRefusal.{ReportRefusal}
+use Rattle.queue_types.specs.declared.event.ReportRefusal.TheVariants.{NoJob, State, Conflict}
+use Rattle.queue_types.specs.declared.event.Reply.TheVariants.{Told, NotTold}
+use Rattle.queue_types.specs.declared.event.Scene.{Scene}
+use Rattle.queue_types.specs.declared.job.Job.{Job}
+use Rattle.queue_types.specs.declared.job.Phase.{Phase}
+use Rattle.queue_types.specs.declared.job.Phase.TheVariants.{Waiting, Running, Stopped, Canceled, Aborted, Completed}
 use Rattle.queue_laws.specs.Jobs.{jobs_but}
 use Rattle.queue_laws.specs.Reporting.{IsSameJob, documents_in}
 use Rattle.queue_laws.proofs.Base.{at, fresh, equal, itself, first_named}
-use Rattle.queue_laws.proofs.Keys.{report_total, own_report_key, report_test}
+use Rattle.queue_core.proofs.Maps.{report_total}
+use Rattle.queue_laws.proofs.Keys.{own_report_key, report_test}
 use Rattle.queue_laws.proofs.Funds.{others_free}
 
 -- ---- the job that comes of it

@@ -3,20 +3,20 @@ use Rattle.std.proofs.Common.{◌≡◌, ℕ, ◌+◌, List, [], ◌∷◌, ◌+
 use Rattle.std.specs.Prelude.{Option, Some, None, nat_eq, bytes_eq, not, is_some, fold, ◌&&◌, ◌||◌, ⊤}
 use Rattle.std.specs.List.{list_any, AllByRecursion as Each}
 use Rattle.std.specs.FinMap.{FinMap, get}
-use Rattle.queue_core.specs.Event.{Decision, Event, ask, tell, grant}
+use Rattle.queue_types.specs.Event.{Decision, Event, ask, tell, grant}
 use Rattle.queue_core.specs.Grants.{Taken, all_taken, none_taken, take_rows, add_row, row_of, repeated, refused_row, new_row, free_after}
 use Rattle.queue_core.specs.Machine.{Step, step, grant_row}
-use Rattle.queue_core.specs.Job.{state}
-use Rattle.queue_core.specs.Reports.{kind_number}
+use Rattle.queue_types.specs.Job.{state}
+use Rattle.queue_types.specs.Event.{kind_number}
 use Rattle.queue_core.specs.Runs.{Place, IsPlace, after, run}
 use Rattle.queue_core.specs.Sound.{IsSound}
 use Rattle.queue_core.specs.World.{World, made_on, known_grant, put_grant, put_free, report_cmp}
-use Rattle.queue_core.specs.declared.event.FreeRow.{FreeRow}
-use Rattle.queue_core.specs.declared.event.GrantRow.{GrantRow}
-use Rattle.queue_core.specs.declared.event.KeptReport.{KeptReport}
-use Rattle.queue_core.specs.declared.event.Report.{Report}
-use Rattle.queue_core.specs.declared.event.Reply.{Reply}
-use Rattle.queue_core.specs.declared.event.Reply.TheVariants.{Told, Added}
+use Rattle.queue_types.specs.declared.event.FreeRow.{FreeRow}
+use Rattle.queue_types.specs.declared.event.GrantRow.{GrantRow}
+use Rattle.queue_types.specs.declared.event.KeptReport.{KeptReport}
+use Rattle.queue_types.specs.declared.event.Report.{Report}
+use Rattle.queue_types.specs.declared.event.Reply.{Reply}
+use Rattle.queue_types.specs.declared.event.Reply.TheVariants.{Told, Added}
 use Rattle.queue_laws.specs.Granting.{IsGranted}
 use Rattle.queue_laws.specs.Replies.{refuses}
 use Rattle.queue_laws.specs.Thin.{are_equal_reports, are_equal_rows, is_accepted, reports_then, rows_then, thin_rows, thin_place, thin_from, thin, Answered, answered_then, IsAnsweredAgain, AnswerAgain}

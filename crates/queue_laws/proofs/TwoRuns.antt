@@ -3,15 +3,15 @@ use Rattle.std.proofs.Common.{◌≡◌, ℕ, ◌+◌, ◌⊎◌, List, [], ◌�
 use Rattle.std.specs.Prelude.{Option, Some, None, IsTrue, is_none, nat_eq, bytes_eq, not, unwrap_or, ◌&&◌, ◌||◌}
 use Rattle.std.specs.List.{AllByRecursion as Each}
 use Rattle.std.proofs.lemmas.Bool.Decides.{nat_tests}
-use Rattle.queue_core.specs.Settings.{SettingValues}
-use Rattle.queue_core.specs.Event.{Call, Event, ask, tell, grant}
+use Rattle.queue_types.specs.Settings.{SettingValues}
+use Rattle.queue_types.specs.Event.{Call, Event, ask, tell, grant}
 use Rattle.queue_core.specs.World.{World, cut}
 use Rattle.queue_core.specs.Machine.{decision, step}
 use Rattle.queue_core.specs.Runs.{Place, IsPlace, after}
 use Rattle.queue_core.specs.Sound.{IsSound}
-use Rattle.queue_core.specs.declared.event.GrantRow.{GrantRow}
-use Rattle.queue_core.specs.declared.event.Report.{Report}
-use Rattle.queue_core.specs.declared.event.Reply.{Reply}
+use Rattle.queue_types.specs.declared.event.GrantRow.{GrantRow}
+use Rattle.queue_types.specs.declared.event.Report.{Report}
+use Rattle.queue_types.specs.declared.event.Reply.{Reply}
 use Rattle.queue_laws.specs.Alike.{own_along, told, told_along, counts_all, is_others, draws, IsAlikePlace, IsAlike}
 use Rattle.queue_laws.specs.Own.{Own, own, own_jobs, has_number}
 use Rattle.queue_laws.proofs.Again.{KeepsSound}

@@ -1,13 +1,13 @@
 -- What a new job is as it enters.
 use Rattle.std.specs.Prelude.{◌≡◌, ℕ, ◌+◌, List, [], ◌∷◌, ◌++◌, Bool, true, unwrap_or}
 use Rattle.std.specs.FinMap.{get}
-use Rattle.queue_core.specs.Event.{NewJob}
-use Rattle.queue_core.specs.Job.{state}
+use Rattle.queue_types.specs.Event.{NewJob}
+use Rattle.queue_types.specs.Job.{state}
 use Rattle.queue_core.specs.Machine.{Step}
 use Rattle.queue_core.specs.World.{World, Entry}
-use Rattle.queue_core.specs.declared.document.Document.{Document}
-use Rattle.queue_core.specs.declared.document.Format.{Format}
-use Rattle.queue_core.specs.declared.event.Reply.TheVariants.{Jobs}
+use Rattle.queue_types.specs.declared.document.Document.{Document}
+use Rattle.queue_types.specs.declared.document.Format.{Format}
+use Rattle.queue_types.specs.declared.event.Reply.TheVariants.{Jobs}
 
 -- a payload is one document, and an empty one is none
 abbrev pub documents_of : Format → List ℕ → List Document

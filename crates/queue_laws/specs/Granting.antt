@@ -3,7 +3,7 @@ use Rattle.std.specs.Prelude.{◌≡◌, ℕ, List, Bool, Some, ◌&&◌, bytes_
 use Rattle.std.specs.FinMap.{FinMap, get}
 use Rattle.std.specs.List.{list_any}
 use Rattle.queue_core.specs.World.{grant_cmp}
-use Rattle.queue_core.specs.declared.event.GrantRow.{GrantRow}
+use Rattle.queue_types.specs.declared.event.GrantRow.{GrantRow}
 
 -- the row's pages are granted under its batch to its account
 abbrev pub IsGranted : FinMap grant_cmp ℕ → GrantRow → Type 0

@@ -1,11 +1,11 @@
 -- Jobs as their owners speak of them (RFC 8011, section 5.3.7).
 use Rattle.std.specs.Prelude.{◌≡◌, ℕ, List, Bool, ◌==◌, ◌&&◌, bytes_eq, count_by, filter, nat_le, not, Option, Some, None, take}
 use Rattle.std.specs.List.{list_any}
-use Rattle.queue_core.specs.Job.{state}
+use Rattle.queue_types.specs.Job.{state}
 use Rattle.queue_core.specs.World.{Entry}
-use Rattle.queue_core.specs.declared.event.WhichJobs.{WhichJobs}
-use Rattle.queue_core.specs.declared.event.WhichJobs.TheVariants.{NotCompleted, Completed}
-use Rattle.queue_core.specs.declared.job.Job.{Job}
+use Rattle.queue_types.specs.declared.event.WhichJobs.{WhichJobs}
+use Rattle.queue_types.specs.declared.event.WhichJobs.TheVariants.{NotCompleted, Completed}
+use Rattle.queue_types.specs.declared.job.Job.{Job}
 
 abbrev pub is_owned_by : List ℕ → Job → Bool
 is_owned_by caller j = bytes_eq j.owner caller

@@ -3,7 +3,7 @@ use Rattle.std.specs.Prelude.{ℕ, ℤ, List, Option, None, filter, ◌==◌, by
 use Rattle.std.specs.List.{list_any}
 use Rattle.std.specs.FinMap.{FinMap, get}
 use Rattle.queue_core.specs.World.{World, Entry, grant_cmp, report_cmp}
-use Rattle.queue_core.specs.declared.event.KeptReport.{KeptReport}
+use Rattle.queue_types.specs.declared.event.KeptReport.{KeptReport}
 
 -- of these jobs those of the caller's, with their numbers and documents
 abbrev pub own_jobs : List ℕ → List Entry → List Entry

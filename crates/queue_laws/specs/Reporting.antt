@@ -1,8 +1,8 @@
 -- What a device's report leaves.
 use Rattle.std.specs.Prelude.{◌≡◌, List, map}
 use Rattle.queue_core.specs.World.{Entry}
-use Rattle.queue_core.specs.declared.document.Document.{Document}
-use Rattle.queue_core.specs.declared.job.Job.{Job}
+use Rattle.queue_types.specs.declared.document.Document.{Document}
+use Rattle.queue_types.specs.declared.job.Job.{Job}
 
 -- the one is the other but for its phase with its moments, whether it is stopping, and its count
 abbrev pub IsSameJob : Job → Job → Type 0

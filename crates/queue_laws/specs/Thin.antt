@@ -1,14 +1,14 @@
 -- Runs without what repeats.
 use Rattle.std.specs.Prelude.{◌≡◌, ℕ, List, [], ◌∷◌, ◌++◌, Option, Some, None, ⊤, not, ◌==◌, ◌&&◌, bytes_eq, Bool, true, if◌then◌else◌}
 use Rattle.std.specs.List.{list_any, AllByRecursion as Each}
-use Rattle.queue_core.specs.Event.{Event, ask, tell, grant}
+use Rattle.queue_types.specs.Event.{Event, ask, tell, grant}
 use Rattle.queue_core.specs.Machine.{step}
-use Rattle.queue_core.specs.Reports.{kind_number}
+use Rattle.queue_types.specs.Event.{kind_number}
 use Rattle.queue_core.specs.Runs.{Place, after}
 use Rattle.queue_core.specs.World.{World}
-use Rattle.queue_core.specs.declared.event.GrantRow.{GrantRow}
-use Rattle.queue_core.specs.declared.event.Report.{Report}
-use Rattle.queue_core.specs.declared.event.Reply.{Reply}
+use Rattle.queue_types.specs.declared.event.GrantRow.{GrantRow}
+use Rattle.queue_types.specs.declared.event.Report.{Report}
+use Rattle.queue_types.specs.declared.event.Reply.{Reply}
 use Rattle.queue_laws.specs.Replies.{refuses}
 
 abbrev pub are_equal_reports : Report → Report → Bool

@@ -2,12 +2,12 @@
 ghost use Rattle.std.specs.Prelude.{ℕ, pos, ◌≡◌, ◌+◌, ◌+ℤ◌, List, Some, false, length, unwrap_or};
 ghost use Rattle.std.specs.FinMap.{get};
 ghost use Rattle.std.specs.List.{AllByRecursion};
-ghost use Rattle.queue_core.specs.Event.{grant};
+ghost use Rattle.queue_types.specs.Event.{grant};
 ghost use Rattle.queue_core.specs.Machine.{step};
 ghost use Rattle.queue_core.specs.Runs.{Place, run};
 ghost use Rattle.queue_core.specs.World.{World, granted};
-ghost use Rattle.queue_core.specs.declared.event.GrantRow.{GrantRow};
-ghost use Rattle.queue_core.specs.declared.event.Reply.TheVariants.{Added};
+ghost use Rattle.queue_types.specs.declared.event.GrantRow.{GrantRow};
+ghost use Rattle.queue_types.specs.declared.event.Reply.TheVariants.{Added};
 ghost use Rattle.queue_laws.specs.Granting.{IsGranted, is_named, is_account_of};
 
 use queue_core::new_grants_add_up;

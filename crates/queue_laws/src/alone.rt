@@ -1,11 +1,11 @@
 //! What a request leaves alone.
 ghost use Rattle.std.specs.Prelude.{ℕ, ◌≡◌, ◌+◌, ◌⊎◌, List, Some, bytes_eq, false};
 ghost use Rattle.std.specs.FinMap.{get};
-ghost use Rattle.queue_core.specs.Event.{Call, ask};
+ghost use Rattle.queue_types.specs.Event.{Call, ask};
 ghost use Rattle.queue_core.specs.Machine.{step};
 ghost use Rattle.queue_core.specs.Sound.{IsSound};
 ghost use Rattle.queue_core.specs.World.{World, rows, job_at};
-ghost use Rattle.queue_core.specs.declared.job.Job.{Job};
+ghost use Rattle.queue_types.specs.declared.job.Job.{Job};
 ghost use Rattle.queue_laws.specs.Jobs.{IsSameWork};
 ghost use Rattle.queue_laws.specs.Own.{own_jobs};
 

@@ -2,16 +2,16 @@
 ghost use Rattle.std.specs.Prelude.{ℕ, ◌≡◌, ◌==◌, ◌&&◌, List, Some, None, false, bytes_eq, max};
 ghost use Rattle.std.specs.FinMap.{get};
 ghost use Rattle.std.specs.List.{AllByRecursion};
-ghost use Rattle.queue_core.specs.Event.{tell};
-ghost use Rattle.queue_core.specs.Job.{state};
+ghost use Rattle.queue_types.specs.Event.{tell};
+ghost use Rattle.queue_types.specs.Job.{state};
 ghost use Rattle.queue_core.specs.Limits.{IsMoment, IsReport};
 ghost use Rattle.queue_core.specs.Machine.{step};
 ghost use Rattle.queue_core.specs.Runs.{Place, IsPlace, run};
 ghost use Rattle.queue_core.specs.Sound.{IsSound};
 ghost use Rattle.queue_core.specs.World.{World, rows, job_at};
-ghost use Rattle.queue_core.specs.declared.event.Report.{Report};
-ghost use Rattle.queue_core.specs.declared.event.Reply.TheVariants.{Told};
-ghost use Rattle.queue_core.specs.declared.job.Job.{Job};
+ghost use Rattle.queue_types.specs.declared.event.Report.{Report};
+ghost use Rattle.queue_types.specs.declared.event.Reply.TheVariants.{Told};
+ghost use Rattle.queue_types.specs.declared.job.Job.{Job};
 ghost use Rattle.queue_laws.specs.Jobs.{jobs_but};
 ghost use Rattle.queue_laws.specs.Reporting.{IsSameJob, documents_in};
 

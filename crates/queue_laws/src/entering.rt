@@ -1,11 +1,11 @@
 //! How new jobs enter (RFC 8011, sections 4.2.1, 4.2.3 and 4.2.4).
 ghost use Rattle.std.specs.Prelude.{ℕ, ◌≡◌, List, [], true, false};
-ghost use Rattle.queue_core.specs.Event.{NewJob, ask, print_job, create_job, validate_job};
+ghost use Rattle.queue_types.specs.Event.{NewJob, ask, print_job, create_job, validate_job};
 ghost use Rattle.queue_core.specs.Machine.{step};
 ghost use Rattle.queue_core.specs.Sound.{IsSound};
 ghost use Rattle.queue_core.specs.World.{World};
-ghost use Rattle.queue_core.specs.declared.document.Format.{Format};
-ghost use Rattle.queue_core.specs.declared.event.Reply.TheVariants.{Done};
+ghost use Rattle.queue_types.specs.declared.document.Format.{Format};
+ghost use Rattle.queue_types.specs.declared.event.Reply.TheVariants.{Done};
 ghost use Rattle.queue_laws.specs.Entering.{Enters, documents_of};
 ghost use Rattle.queue_laws.specs.Replies.{refuses};
 

@@ -1,9 +1,9 @@
 //! Who is refused a new job.
 ghost use Rattle.std.specs.Prelude.{ℕ, ◌≡◌, ◌≤◌, ◌<◌, ◌^◌, List, true, false};
-ghost use Rattle.queue_core.specs.Event.{Call, ask};
+ghost use Rattle.queue_types.specs.Event.{Call, ask};
 ghost use Rattle.queue_core.specs.Machine.{step};
 ghost use Rattle.queue_core.specs.World.{World, rows};
-ghost use Rattle.queue_core.specs.declared.event.Reply.TheVariants.{Refused};
+ghost use Rattle.queue_types.specs.declared.event.Reply.TheVariants.{Refused};
 ghost use Rattle.queue_laws.specs.Calls.{asks_new_job};
 ghost use Rattle.queue_laws.specs.Jobs.{unfinished_of};
 ghost use Rattle.queue_laws.specs.Replies.{refuses};

@@ -1,12 +1,12 @@
 //! What others ask is nothing to a caller.
 ghost use Rattle.std.specs.Prelude.{ℕ, ◌≡◌, List, Some, None, bytes_eq, true, false};
 ghost use Rattle.std.specs.List.{AllByRecursion};
-ghost use Rattle.queue_core.specs.Event.{Call, NewJob, ask, print_job};
+ghost use Rattle.queue_types.specs.Event.{Call, NewJob, ask, print_job};
 ghost use Rattle.queue_core.specs.Machine.{step};
 ghost use Rattle.queue_core.specs.Runs.{Place, IsPlace};
 ghost use Rattle.queue_core.specs.Sound.{IsSound};
 ghost use Rattle.queue_core.specs.World.{World};
-ghost use Rattle.queue_core.specs.declared.document.Format.{Format};
+ghost use Rattle.queue_types.specs.declared.document.Format.{Format};
 ghost use Rattle.queue_laws.specs.Alike.{IsAlikePlace, IsAlike, own_along, told_along};
 ghost use Rattle.queue_laws.specs.Replies.{refuses};
 

@@ -1,6 +1,6 @@
 //! What a refusal leaves.
 ghost use Rattle.std.specs.Prelude.{ℕ, ◌≡◌, true};
-ghost use Rattle.queue_core.specs.Event.{Event};
+ghost use Rattle.queue_types.specs.Event.{Event};
 ghost use Rattle.queue_core.specs.Machine.{step};
 ghost use Rattle.queue_core.specs.World.{World};
 ghost use Rattle.queue_laws.specs.Replies.{refuses};

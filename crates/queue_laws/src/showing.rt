@@ -1,15 +1,15 @@
 //! What Get-Jobs, Get-Job-Attributes and Get-Printer-Attributes show (RFC 8011, sections 4.2.5, 4.2.6 and 4.3.4).
 ghost use Rattle.std.specs.Prelude.{ℕ, ◌≡◌, ◌&&◌, [], ◌∷◌, Bool, true, List, Option, Some, None, count_by, take};
-ghost use Rattle.queue_core.specs.Event.{ask, get_jobs, get_job_attributes, get_printer_attributes};
+ghost use Rattle.queue_types.specs.Event.{ask, get_jobs, get_job_attributes, get_printer_attributes};
 ghost use Rattle.queue_core.specs.Machine.{step};
 ghost use Rattle.queue_core.specs.Order.{AreNewestFirst, AreByRank};
 ghost use Rattle.queue_core.specs.Sound.{IsSound};
 ghost use Rattle.queue_core.specs.Visible.{in_order};
 ghost use Rattle.queue_core.specs.World.{World, rows, job_at};
-ghost use Rattle.queue_core.specs.declared.event.Reply.TheVariants.{Jobs};
-ghost use Rattle.queue_core.specs.declared.event.WhichJobs.{WhichJobs};
-ghost use Rattle.queue_core.specs.declared.event.WhichJobs.TheVariants.{NotCompleted, Completed as CompletedJobs};
-ghost use Rattle.queue_core.specs.declared.job.Job.{Job};
+ghost use Rattle.queue_types.specs.declared.event.Reply.TheVariants.{Jobs};
+ghost use Rattle.queue_types.specs.declared.event.WhichJobs.{WhichJobs};
+ghost use Rattle.queue_types.specs.declared.event.WhichJobs.TheVariants.{NotCompleted, Completed as CompletedJobs};
+ghost use Rattle.queue_types.specs.declared.job.Job.{Job};
 ghost use Rattle.queue_laws.specs.Jobs.{own_of_kind, up_to, is_owned_by, is_of_kind};
 
 use queue_core::get_jobs_in_order;

@@ -1,12 +1,12 @@
 //! Operations on one job.
 ghost use Rattle.std.specs.Prelude.{ℕ, ◌≡◌, ◌≢◌, List, Some, None, true, false};
 ghost use Rattle.std.specs.List.{list_all};
-ghost use Rattle.queue_core.specs.Event.{Call, ask, cancel_my_jobs};
+ghost use Rattle.queue_types.specs.Event.{Call, ask, cancel_my_jobs};
 ghost use Rattle.queue_core.specs.Machine.{step};
 ghost use Rattle.queue_core.specs.World.{World, rows, job_at};
-ghost use Rattle.queue_core.specs.declared.event.Reply.TheVariants.{Refused};
-ghost use Rattle.queue_core.specs.declared.job.Job.{Job};
-ghost use Rattle.queue_laws.specs.Calls.{on_job};
+ghost use Rattle.queue_types.specs.declared.event.Reply.TheVariants.{Refused};
+ghost use Rattle.queue_types.specs.declared.job.Job.{Job};
+ghost use Rattle.queue_types.specs.Event.{on_job};
 ghost use Rattle.queue_laws.specs.Jobs.{is_owned_by, has_job, jobs_but};
 
 /// To each operation on one job, another's job and no job are one answer, client-error-not-found, which an

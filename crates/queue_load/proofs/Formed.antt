@@ -10,13 +10,13 @@ use Rattle.std.proofs.lemmas.Slice.Eq.{bytes_eq-Decides}
 use Rattle.std.proofs.lemmas.Str.{IsUtf8-from_ascii}
 use Rattle.sqlite_keyed.proofs.ListLemmas.{all_map, all-flat_map, all_weaker}
 use Rattle.queue_core.specs.Limits.{IsOwner, IsMoment, IsSoundJob, is_batch_byte}
-use Rattle.queue_core.specs.Settings.{is_uri_byte}
+use Rattle.queue_types.specs.Settings.{is_uri_byte}
 use Rattle.queue_core.specs.Sound.{IsSound, IsSoundDocument, IsSoundEntry}
 use Rattle.queue_core.specs.World.{Entry, World}
-use Rattle.queue_core.specs.declared.document.Document.{Document}
-use Rattle.queue_core.specs.declared.event.GrantRow.{GrantRow}
-use Rattle.queue_core.specs.declared.event.KeptReport.{KeptReport}
-use Rattle.queue_core.specs.declared.job.Job.{Job}
+use Rattle.queue_types.specs.declared.document.Document.{Document}
+use Rattle.queue_types.specs.declared.event.GrantRow.{GrantRow}
+use Rattle.queue_types.specs.declared.event.KeptReport.{KeptReport}
+use Rattle.queue_types.specs.declared.job.Job.{Job}
 use Rattle.queue_rows.specs.Documents.{documents_from}
 use Rattle.queue_rows.specs.Grants.{IsGrantRow, granted_to}
 use Rattle.queue_rows.specs.Jobs.{IsJobRow, has_number}

@@ -8,7 +8,7 @@ use Rattle.sqlite.specs.Effect.{Database}
 use Rattle.sqlite.specs.Order.{Row}
 use Rattle.queue_core.specs.Sound.{Rise}
 use Rattle.queue_core.specs.World.{Entry}
-use Rattle.queue_core.specs.declared.job.Job.{Job}
+use Rattle.queue_types.specs.declared.job.Job.{Job}
 use Rattle.queue_rows.specs.Pieces.{length_in}
 use Rattle.queue_rows.specs.Rows.{Tables, HaveWorld, StandForSoundWorlds, rows_of, bytes_of, job_row, meta_row}
 use Rattle.queue_rows.specs.declared.rows.MetaRow.{MetaRow}

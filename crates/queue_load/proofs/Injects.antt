@@ -2,18 +2,19 @@
 use Rattle.std.proofs.Common.{◌≡◌, ℕ, ℤ, ◌==◌, List, Bool, cond, length, get_or, refl, sym, ap, ◌∙◌}
 use Rattle.sqlite.specs.Order.{Row, column}
 use Rattle.sqlite.specs.declared.types.Value.TheVariants.{Int, Text as Words, Blob}
-use Rattle.queue_core.specs.declared.document.Format.{Format}
-use Rattle.queue_core.specs.declared.document.Format.TheVariants.{OctetStream, Pdf, Postscript, Jpeg, PwgRaster, Urf, PlainText}
-use Rattle.queue_core.specs.declared.event.GrantRow.{GrantRow}
-use Rattle.queue_core.specs.declared.event.KeptReport.{KeptReport}
-use Rattle.queue_core.specs.declared.event.Kind.{Kind}
-use Rattle.queue_core.specs.declared.job.Job.{Job}
-use Rattle.queue_core.specs.declared.job.Phase.{Phase}
+use Rattle.queue_types.specs.declared.document.Format.{Format}
+use Rattle.queue_types.specs.declared.document.Format.TheVariants.{OctetStream, Pdf, Postscript, Jpeg, PwgRaster, Urf, PlainText}
+use Rattle.queue_types.specs.declared.event.GrantRow.{GrantRow}
+use Rattle.queue_types.specs.declared.event.KeptReport.{KeptReport}
+use Rattle.queue_types.specs.declared.event.Kind.{Kind}
+use Rattle.queue_types.specs.declared.job.Job.{Job}
+use Rattle.queue_types.specs.declared.job.Phase.{Phase}
 use Rattle.queue_rows.specs.Codes.{flag_number, kind_number, phase_number, why_number}
 use Rattle.queue_rows.specs.declared.rows.AccountRow.{AccountRow}
 use Rattle.queue_rows.specs.declared.rows.DocumentRow.{DocumentRow}
 use Rattle.queue_rows.specs.declared.rows.MetaRow.{MetaRow}
-use Rattle.queue_tables.specs.Values.{document_values, format_text, grant_values, job_values, meta_values, number, report_values}
+use Rattle.queue_types.specs.Formats.{format_name}
+use Rattle.queue_tables.specs.Values.{document_values, grant_values, job_values, meta_values, number, report_values}
 use Rattle.queue_tables.proofs.JobPut.{same_job}
 use Rattle.queue_load.specs.Loaded.{IsBare, IsLong, Piece, whole_piece}
 use Rattle.queue_load.specs.Tells.{account_row_values}
@@ -37,7 +38,7 @@ format_at : List ℕ → Format
 format_at t =
     cond (length t == 24) OctetStream (cond (length t == 15) Pdf (cond (length t == 22) Postscript (cond (length t == 16) PwgRaster (cond (length t == 9) Urf (cond (get_or t 0 0 == 105) Jpeg PlainText)))))
 
-format_found : (f : Format) → format_at (format_text f) ≡ f
+format_found : (f : Format) → format_at (format_name f) ≡ f
 unfolding format_at
 format_found OctetStream = refl
 format_found Pdf = refl
@@ -47,7 +48,7 @@ format_found PwgRaster = refl
 format_found Urf = refl
 format_found PlainText = refl
 
-same_format : (f g : Format) → format_text f ≡ format_text g → f ≡ g
+same_format : (f g : Format) → format_name f ≡ format_name g → f ≡ g
 same_format f g e = sym (format_found f) ∙ ap format_at e ∙ format_found g
 
 -- ---- a row

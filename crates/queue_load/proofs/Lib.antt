@@ -7,7 +7,6 @@ pub mod Pieces
 pub mod Contents
 pub mod KeyLemmas
 pub mod Columns
-pub mod OrderLemmas
 pub mod Unique
 pub mod Rising
 pub mod Formed

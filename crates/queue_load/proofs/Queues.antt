@@ -13,8 +13,8 @@ use Rattle.sqlite_keyed.proofs.ListLemmas.{ascending_from_map, ascending_weaker}
 use Rattle.sqlite_trees.specs.Tree.{IsAscending}
 use Rattle.queue_core.specs.Sound.{IsSound}
 use Rattle.queue_core.specs.World.{World}
-use Rattle.queue_core.specs.declared.event.Kind.{Kind}
-use Rattle.queue_core.specs.declared.job.Phase.{Phase}
+use Rattle.queue_types.specs.declared.event.Kind.{Kind}
+use Rattle.queue_types.specs.declared.job.Phase.{Phase}
 use Rattle.queue_rows.specs.Codes.{flag_number, kind_number, phase_number, why_number}
 use Rattle.queue_rows.specs.Pieces.{length_in}
 use Rattle.queue_rows.specs.Rows.{Tables, bytes_of, job_row, meta_row, rows_of}

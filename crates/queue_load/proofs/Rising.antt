@@ -11,9 +11,9 @@ use Rattle.sqlite_trees.specs.Tree.{IsAscending}
 use Rattle.sqlite_value.proofs.OrderLemmas.{then-Equal, value_cmp-Int, value_cmp-Text, value_cmp_total}
 use Rattle.queue_core.specs.Sound.{Rise}
 use Rattle.queue_core.specs.World.{Entry, text_cmp}
-use Rattle.queue_core.specs.declared.document.Document.{Document}
-use Rattle.queue_core.specs.declared.event.GrantRow.{GrantRow}
-use Rattle.queue_core.specs.declared.event.KeptReport.{KeptReport}
+use Rattle.queue_types.specs.declared.document.Document.{Document}
+use Rattle.queue_types.specs.declared.event.GrantRow.{GrantRow}
+use Rattle.queue_types.specs.declared.event.KeptReport.{KeptReport}
 use Rattle.queue_rows.specs.Accounts.{account_before}
 use Rattle.queue_rows.specs.Documents.{documents_from}
 use Rattle.queue_rows.specs.Grants.{grant_before}

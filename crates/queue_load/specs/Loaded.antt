@@ -3,7 +3,7 @@ use Rattle.std.specs.Prelude.{◌≡◌, ℕ, List, map, take, length, All, IsPe
 use Rattle.std.specs.declared.cmp.Ordering.{Ordering}
 use Rattle.std.specs.Cmp.Lexicographic.{slice_cmp}
 use Rattle.sqlite.specs.Order.{Row, value_cmp}
-use Rattle.queue_core.specs.declared.job.Job.{Job}
+use Rattle.queue_types.specs.declared.job.Job.{Job}
 use Rattle.queue_rows.specs.declared.rows.PieceRow.{PieceRow}
 use Rattle.queue_tables.specs.Values.{piece_values, piece_view}
 use Rattle.queue_load.specs.Tells.{IsFormedPiece}

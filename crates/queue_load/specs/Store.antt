@@ -5,9 +5,9 @@ use Rattle.sqlite.specs.Schema.{Schema}
 use Rattle.sqlite.specs.State.{State, HasCleanDisk}
 use Rattle.sqlite.specs.Tree.{Trees}
 use Rattle.sqlite_schema.specs.Names.{table_named}
-use Rattle.queue_core.specs.declared.event.GrantRow.{GrantRow}
-use Rattle.queue_core.specs.declared.event.KeptReport.{KeptReport}
-use Rattle.queue_core.specs.declared.job.Job.{Job}
+use Rattle.queue_types.specs.declared.event.GrantRow.{GrantRow}
+use Rattle.queue_types.specs.declared.event.KeptReport.{KeptReport}
+use Rattle.queue_types.specs.declared.job.Job.{Job}
 use Rattle.queue_rows.specs.Rows.{Tables}
 use Rattle.queue_rows.specs.declared.rows.AccountRow.{AccountRow}
 use Rattle.queue_rows.specs.declared.rows.DocumentRow.{DocumentRow}

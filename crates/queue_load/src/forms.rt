@@ -1,65 +1,18 @@
 //! The rows of each table, from their columns.
-ghost use Rattle.std.specs.Prelude.{◌≡◌, ◌≢◌, ◌<◌, ℕ, List, length, IfOk, IfErr, MatchOption};
+ghost use Rattle.std.specs.Prelude.{◌≡◌, ◌≢◌, ◌<◌, ℕ, List, length, IfOk, IfErr};
 ghost use Rattle.sqlite.specs.Order.{column};
-ghost use Rattle.sqlite.specs.declared.types.Value.TheVariants.{Text as Words, Blob};
-ghost use Rattle.queue_core.specs.declared.document.Format.{Format as FormatValue};
-ghost use Rattle.queue_core.specs.declared.event.Kind.{Kind as KindValue};
+ghost use Rattle.sqlite.specs.declared.types.Value.TheVariants.{Blob};
+ghost use Rattle.queue_types.specs.declared.event.Kind.{Kind as KindValue};
 ghost use Rattle.queue_rows.specs.Codes.{kind_number};
-ghost use Rattle.queue_tables.specs.Values.{format_text, number};
+ghost use Rattle.queue_tables.specs.Values.{number};
 ghost use Rattle.queue_tables.specs.declared.fault.Fault.TheVariants.{Damaged, Disk};
 
-use queue_core::document::Format;
-use queue_core::event::Kind;
 use queue_rows::codes::kind_of;
 use queue_tables::fault::Fault;
 use queue_tables::read::value;
+use queue_types::event::Kind;
 use sqlite::Row;
 use sqlite::types::ValueRef;
-
-/// The format of that media type, where it is a supported one.
-pub fn format_of(text: &[u8]) -> Option<Format>
-    ensures { MatchOption result ((f : FormatValue) → text.now ≢ format_text f) (λ f. text.now ≡ format_text f) }
-{
-    if text == b"application/octet-stream".as_slice() {
-        return Some(Format::OctetStream);
-    }
-    if text == b"application/pdf".as_slice() {
-        return Some(Format::Pdf);
-    }
-    if text == b"application/postscript".as_slice() {
-        return Some(Format::Postscript);
-    }
-    if text == b"image/jpeg".as_slice() {
-        return Some(Format::Jpeg);
-    }
-    if text == b"image/pwg-raster".as_slice() {
-        return Some(Format::PwgRaster);
-    }
-    if text == b"image/urf".as_slice() {
-        return Some(Format::Urf);
-    }
-    if text == b"text/plain".as_slice() {
-        return Some(Format::PlainText);
-    }
-    None
-}
-
-/// The format of a column.
-pub(crate) fn format(row: &Row, at: usize) -> Result<Format, Fault>
-    ensures ok { IfOk result (λ f. column row.now at ≡ Words (format_text f)) }
-    ensures err { IfErr result (λ e. e ≡ Damaged → at < length row.now → (f : FormatValue) → column row.now at ≢ Words (format_text f)) }
-    ensures never { IfErr result (λ e. e ≢ Disk) }
-{
-    let text = match row.get_ref(at) {
-        Ok(ValueRef::Text(text)) => text,
-        Ok(_) => return Err(Fault::Damaged),
-        Err(_) => return Err(Fault::Damaged),
-    };
-    match format_of(text) {
-        Some(f) => Ok(f),
-        None => Err(Fault::Damaged),
-    }
-}
 
 /// The kind of a report, of a column.
 pub(crate) fn kind(row: &Row, at: usize) -> Result<Kind, Fault>

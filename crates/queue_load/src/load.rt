@@ -2,9 +2,9 @@
 ghost use Rattle.std.specs.Prelude.{◌≡◌, false, List, All, map, IfOk, IfErr, OnOk, IsPermutation};
 ghost use Rattle.sqlite.specs.Held.{state};
 ghost use Rattle.sqlite.specs.State.{HasCleanDisk, IsUnchanged};
-ghost use Rattle.queue_core.specs.declared.event.GrantRow.{GrantRow as GrantValue};
-ghost use Rattle.queue_core.specs.declared.event.KeptReport.{KeptReport as ReportValue};
-ghost use Rattle.queue_core.specs.declared.job.Job.{Job as JobValue};
+ghost use Rattle.queue_types.specs.declared.event.GrantRow.{GrantRow as GrantValue};
+ghost use Rattle.queue_types.specs.declared.event.KeptReport.{KeptReport as ReportValue};
+ghost use Rattle.queue_types.specs.declared.job.Job.{Job as JobValue};
 ghost use Rattle.queue_rows.specs.declared.rows.AccountRow.{AccountRow as AccountValue};
 ghost use Rattle.queue_rows.specs.declared.rows.DocumentRow.{DocumentRow as DocumentValue};
 ghost use Rattle.queue_rows.specs.declared.rows.MetaRow.{MetaRow as MetaValue};
@@ -16,10 +16,10 @@ ghost use Rattle.queue_tables.specs.Values.{meta_values, meta_view, job_values, 
 ghost use Rattle.queue_tables.specs.declared.fault.Fault.TheVariants.{Damaged};
 
 use crate::table::read_table;
-use queue_core::event::{GrantRow, KeptReport};
-use queue_core::job::Job;
 use queue_rows::rows::{AccountRow, DocumentRow, MetaRow, PieceRow};
 use queue_tables::fault::Fault;
+use queue_types::event::{GrantRow, KeptReport};
+use queue_types::job::Job;
 use sqlite::{Alter, Connection};
 use std::alloc::Global;
 

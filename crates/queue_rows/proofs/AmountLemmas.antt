@@ -4,10 +4,10 @@ use Rattle.std.specs.Cmp.Lexicographic.{nat_list_eq_equiv}
 use Rattle.std.specs.HashMap.{HashMap}
 use Rattle.std.proofs.lemmas.Bool.{cases_Bool}
 use Rattle.std.proofs.Math.Nat.{mul-le-mul}
-use Rattle.queue_core.specs.Job.{owed, estimate, is_live}
+use Rattle.queue_types.specs.Job.{owed, estimate, is_live}
 use Rattle.queue_core.specs.World.{live_jobs}
 use Rattle.queue_core.specs.Limits.{IsSoundJob}
-use Rattle.queue_core.specs.declared.job.Job.{Job}
+use Rattle.queue_types.specs.declared.job.Job.{Job}
 use Rattle.std.proofs.lemmas.List.Sums.{sum_by-cons}
 use Rattle.queue_rows.specs.Totals.{total, total_in, named}
 

@@ -1,11 +1,11 @@
 -- What stands for a number of a column.
 use Rattle.std.proofs.Common.{◌≡◌, ℕ, ◌==◌, Bool, true, false, cond, refl, sym, ap, ◌∙◌}
-use Rattle.queue_core.specs.declared.event.Kind.{Kind}
-use Rattle.queue_core.specs.declared.event.Kind.TheVariants.{Start, Stop, Resume, Count, Done, Fail, Halt}
-use Rattle.queue_core.specs.declared.job.Phase.{Phase}
-use Rattle.queue_core.specs.declared.job.Phase.TheVariants.{Waiting, Running, Stopped, Canceled, Aborted, Completed}
-use Rattle.queue_core.specs.declared.job.Why.{Why}
-use Rattle.queue_core.specs.declared.job.Why.TheVariants.{ByUser, AtDevice}
+use Rattle.queue_types.specs.declared.event.Kind.{Kind}
+use Rattle.queue_types.specs.declared.event.Kind.TheVariants.{Start, Stop, Resume, Count, Done, Fail, Halt}
+use Rattle.queue_types.specs.declared.job.Phase.{Phase}
+use Rattle.queue_types.specs.declared.job.Phase.TheVariants.{Waiting, Running, Stopped, Canceled, Aborted, Completed}
+use Rattle.queue_types.specs.declared.job.Why.{Why}
+use Rattle.queue_types.specs.declared.job.Why.TheVariants.{ByUser, AtDevice}
 use Rattle.queue_rows.specs.Codes.{phase_number, why_number, kind_number, flag_number}
 
 abbrev why_at : ℕ → Why

@@ -1,9 +1,9 @@
 -- What is read past the end of a list of rows, as a check prints it.
 use Rattle.std.specs.Prelude.{ℕ, List, [], pos}
-use Rattle.queue_core.specs.declared.document.Format.TheVariants.{OctetStream}
-use Rattle.queue_core.specs.declared.event.GrantRow.{GrantRow}
-use Rattle.queue_core.specs.declared.event.KeptReport.{KeptReport}
-use Rattle.queue_core.specs.declared.event.Kind.TheVariants.{Start}
+use Rattle.queue_types.specs.declared.document.Format.TheVariants.{OctetStream}
+use Rattle.queue_types.specs.declared.event.GrantRow.{GrantRow}
+use Rattle.queue_types.specs.declared.event.KeptReport.{KeptReport}
+use Rattle.queue_types.specs.declared.event.Kind.TheVariants.{Start}
 use Rattle.queue_rows.specs.declared.rows.AccountRow.{AccountRow}
 use Rattle.queue_rows.specs.declared.rows.DocumentRow.{DocumentRow}
 use Rattle.queue_rows.specs.declared.rows.PieceRow.{PieceRow}

@@ -4,12 +4,12 @@ use Rattle.std.specs.List.{AllByRecursion as Each}
 use Rattle.std.proofs.lemmas.List.{length-take-le}
 use Rattle.std.proofs.lemmas.List.Elements.{All-take, All-drop}
 use Rattle.std.proofs.lemmas.List.Sums.{sum_by-cons, prefix_len-le-length}
-use Rattle.queue_core.specs.Job.{owed, is_live}
+use Rattle.queue_types.specs.Job.{owed, is_live}
 use Rattle.queue_core.specs.World.{live_jobs}
 use Rattle.queue_core.specs.Limits.{IsSoundJob, FitsPhase}
-use Rattle.queue_core.specs.declared.job.Job.{Job}
-use Rattle.queue_core.specs.declared.job.Phase.{Phase}
-use Rattle.queue_core.specs.declared.job.Phase.TheVariants.{Waiting, Running, Stopped, Canceled, Aborted, Completed}
+use Rattle.queue_types.specs.declared.job.Job.{Job}
+use Rattle.queue_types.specs.declared.job.Phase.{Phase}
+use Rattle.queue_types.specs.declared.job.Phase.TheVariants.{Waiting, Running, Stopped, Canceled, Aborted, Completed}
 use Rattle.queue_rows.specs.Accounts.{reserved_for, printed_for}
 use Rattle.queue_rows.specs.Documents.{HasSize, next_of, AreGrouped}
 use Rattle.queue_rows.specs.Jobs.{IsJobRow, NumbersRise, has_number}

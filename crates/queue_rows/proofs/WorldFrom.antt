@@ -8,8 +8,8 @@ use Rattle.std.proofs.lemmas.List.FromFn.{length-map-range_with_len}
 use Rattle.std.proofs.lemmas.List.Sums.{sum_by-cons}
 use Rattle.queue_core.specs.Sound.{Rise, IsSoundEntry}
 use Rattle.queue_core.specs.World.{Entry}
-use Rattle.queue_core.specs.declared.document.Document.{Document}
-use Rattle.queue_core.specs.declared.job.Job.{Job}
+use Rattle.queue_types.specs.declared.document.Document.{Document}
+use Rattle.queue_types.specs.declared.job.Job.{Job}
 use Rattle.queue_rows.specs.Documents.{next_of, AreGrouped, IsGroup, documents_from}
 use Rattle.queue_rows.specs.Pieces.{piece_of, pieces_of, pieces_in, piece_at, cut_up, length_in}
 use Rattle.queue_rows.specs.Rows.{job_row, document_rows, bytes_of_entry}

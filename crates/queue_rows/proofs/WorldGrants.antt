@@ -9,8 +9,8 @@ use Rattle.std.proofs.lemmas.List.{get_or_default}
 use Rattle.queue_core.specs.Sound.{IsKept}
 use Rattle.queue_core.specs.Limits.{IsGrant}
 use Rattle.queue_core.specs.World.{World, text_cmp, grant_cmp, report_cmp}
-use Rattle.queue_core.specs.declared.event.GrantRow.{GrantRow}
-use Rattle.queue_core.specs.declared.event.KeptReport.{KeptReport}
+use Rattle.queue_types.specs.declared.event.GrantRow.{GrantRow}
+use Rattle.queue_types.specs.declared.event.KeptReport.{KeptReport}
 use Rattle.queue_rows.proofs.Defaults.{no_report, no_grant, no_account}
 use Rattle.queue_rows.specs.Accounts.{account_before, accounts_of}
 use Rattle.queue_rows.specs.Grants.{grant_before, IsGrantRow, granted_to}

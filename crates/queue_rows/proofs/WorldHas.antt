@@ -11,11 +11,11 @@ use Rattle.std.proofs.lemmas.List.FromFn.{length-map-range_with_len}
 use Rattle.std.proofs.lemmas.List.Sums.{prefix_len-le-length, prefix_len_passes}
 use Rattle.queue_core.specs.Sound.{reserved, printed}
 use Rattle.queue_core.specs.World.{Entry, grant_cmp, text_cmp, report_cmp}
-use Rattle.queue_core.specs.declared.document.Document.{Document}
-use Rattle.queue_core.specs.declared.document.Format.{Format}
-use Rattle.queue_core.specs.declared.event.GrantRow.{GrantRow}
-use Rattle.queue_core.specs.declared.event.KeptReport.{KeptReport}
-use Rattle.queue_core.specs.declared.job.Job.{Job}
+use Rattle.queue_types.specs.declared.document.Document.{Document}
+use Rattle.queue_types.specs.declared.document.Format.{Format}
+use Rattle.queue_types.specs.declared.event.GrantRow.{GrantRow}
+use Rattle.queue_types.specs.declared.event.KeptReport.{KeptReport}
+use Rattle.queue_types.specs.declared.job.Job.{Job}
 use Rattle.queue_rows.specs.Accounts.{reserved_for, printed_for}
 use Rattle.queue_rows.specs.Documents.{next_of, AreGrouped, documents_from}
 use Rattle.queue_rows.specs.Meta.{IsSoundMeta}

@@ -9,8 +9,8 @@ use Rattle.std.proofs.lemmas.List.FromFn.{length-map-range_with_len, map-range_w
 use Rattle.queue_core.specs.World.{Entry, live_jobs}
 use Rattle.queue_core.specs.Sound.{Rise, IsSoundEntry, IsSoundDocument}
 use Rattle.queue_core.specs.Limits.{IsSoundJob}
-use Rattle.queue_core.specs.declared.document.Document.{Document}
-use Rattle.queue_core.specs.declared.job.Job.{Job}
+use Rattle.queue_types.specs.declared.document.Document.{Document}
+use Rattle.queue_types.specs.declared.job.Job.{Job}
 use Rattle.queue_rows.proofs.Filled.{octets_of, with_group, filled}
 use Rattle.queue_rows.specs.Documents.{next_of, AreGrouped, HasSize}
 use Rattle.queue_rows.specs.Jobs.{NumbersRise}

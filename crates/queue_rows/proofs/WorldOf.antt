@@ -3,10 +3,10 @@ use Rattle.std.specs.Prelude.{◌≡◌, ℕ, ℤ, List, [], ◌∷◌, All, map
 use Rattle.std.specs.List.{concat, flat_map}
 use Rattle.std.specs.FinMap.{entries, from_sorted}
 use Rattle.queue_core.specs.World.{World, Entry, rows, grant_cmp, text_cmp, report_cmp}
-use Rattle.queue_core.specs.declared.document.Document.{Document}
-use Rattle.queue_core.specs.declared.event.GrantRow.{GrantRow}
-use Rattle.queue_core.specs.declared.event.KeptReport.{KeptReport}
-use Rattle.queue_core.specs.declared.job.Job.{Job}
+use Rattle.queue_types.specs.declared.document.Document.{Document}
+use Rattle.queue_types.specs.declared.event.GrantRow.{GrantRow}
+use Rattle.queue_types.specs.declared.event.KeptReport.{KeptReport}
+use Rattle.queue_types.specs.declared.job.Job.{Job}
 use Rattle.queue_rows.specs.Accounts.{account_before, reserved_for, printed_for}
 use Rattle.queue_rows.specs.Documents.{next_of, AreGrouped}
 use Rattle.queue_rows.specs.Grants.{grant_before}

@@ -9,13 +9,13 @@ use Rattle.std.specs.List.{flat_map, AllByRecursion as Each}
 use Rattle.std.specs.FinMap.{FinMap, get, entries, from_sorted, is_sorted, entries_sorted, get-entries, entries-from_sorted, same_entries_map}
 use Rattle.std.proofs.lemmas.List.{get_or-map, length-map}
 use Rattle.std.proofs.lemmas.List.Elements.{All-map, All-from_get_or, recursion_from_All}
-use Rattle.queue_core.specs.Job.{owed}
+use Rattle.queue_types.specs.Job.{owed}
 use Rattle.queue_core.specs.Sound.{IsSound, IsKept, reserved, printed}
 use Rattle.queue_core.specs.World.{World, Entry, text_cmp, grant_cmp, report_cmp}
-use Rattle.queue_core.specs.declared.document.Document.{Document}
-use Rattle.queue_core.specs.declared.event.GrantRow.{GrantRow}
-use Rattle.queue_core.specs.declared.event.KeptReport.{KeptReport}
-use Rattle.queue_core.specs.declared.job.Job.{Job}
+use Rattle.queue_types.specs.declared.document.Document.{Document}
+use Rattle.queue_types.specs.declared.event.GrantRow.{GrantRow}
+use Rattle.queue_types.specs.declared.event.KeptReport.{KeptReport}
+use Rattle.queue_types.specs.declared.job.Job.{Job}
 use Rattle.queue_rows.specs.Accounts.{account_before, reserved_for, printed_for}
 use Rattle.queue_rows.specs.Grants.{grant_before}
 use Rattle.queue_rows.specs.Order.{AreInOrder}

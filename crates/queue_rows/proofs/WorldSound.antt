@@ -8,10 +8,10 @@ use Rattle.queue_core.specs.Sound.{IsSound, IsKept, IsGreatestCount, IsIdle, res
 use Rattle.queue_core.specs.World.{granted}
 use Rattle.queue_core.specs.Limits.{IsGrant}
 use Rattle.queue_core.specs.World.{World, Entry, rows, live_jobs, job_at}
-use Rattle.queue_core.specs.declared.document.Document.{Document}
-use Rattle.queue_core.specs.declared.event.GrantRow.{GrantRow}
-use Rattle.queue_core.specs.declared.event.KeptReport.{KeptReport}
-use Rattle.queue_core.specs.declared.job.Job.{Job}
+use Rattle.queue_types.specs.declared.document.Document.{Document}
+use Rattle.queue_types.specs.declared.event.GrantRow.{GrantRow}
+use Rattle.queue_types.specs.declared.event.KeptReport.{KeptReport}
+use Rattle.queue_types.specs.declared.job.Job.{Job}
 use Rattle.queue_rows.specs.Accounts.{accounts_of, reserved_for, printed_for}
 use Rattle.queue_rows.specs.Grants.{IsGrantRow, granted_to}
 use Rattle.queue_rows.specs.Jobs.{IsJobRow, NumbersRise, has_number}

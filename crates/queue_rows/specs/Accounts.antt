@@ -1,10 +1,10 @@
 -- The rows of accounts, and what the other tables say of an account.
 use Rattle.std.specs.Prelude.{◌≡◌, ℕ, pos, ◌+◌, ◌+ℤ◌, List, bytes_eq, sum_by, if◌then◌else◌, Bool}
 use Rattle.std.specs.Ordering.{is_lt}
-use Rattle.queue_core.specs.Job.{owed}
+use Rattle.queue_types.specs.Job.{owed}
 use Rattle.queue_core.specs.World.{text_cmp}
-use Rattle.queue_core.specs.declared.event.GrantRow.{GrantRow}
-use Rattle.queue_core.specs.declared.job.Job.{Job}
+use Rattle.queue_types.specs.declared.event.GrantRow.{GrantRow}
+use Rattle.queue_types.specs.declared.job.Job.{Job}
 use Rattle.queue_rows.specs.Grants.{granted_to}
 use Rattle.queue_rows.specs.declared.rows.AccountRow.{AccountRow}
 

@@ -1,8 +1,8 @@
 -- The rows of documents: a job's are numbered from 1, and stand in the order of the jobs.
 use Rattle.std.specs.Prelude.{◌≡◌, ℕ, ◌+◌, ◌≤◌, ◌==◌, List, [], ◌∷◌, map, take, drop, length}
 use Rattle.std.specs.List.{range_with_len, prefix_len}
-use Rattle.queue_core.specs.declared.document.Document.{Document}
-use Rattle.queue_core.specs.declared.job.Job.{Job}
+use Rattle.queue_types.specs.declared.document.Document.{Document}
+use Rattle.queue_types.specs.declared.job.Job.{Job}
 use Rattle.queue_rows.specs.declared.rows.DocumentRow.{DocumentRow}
 
 -- the rows of a job's documents, numbered from doc on

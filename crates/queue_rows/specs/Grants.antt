@@ -3,7 +3,7 @@ use Rattle.std.specs.Prelude.{◌≡◌, ℕ, ◌≤◌, List, bytes_eq, sum_by,
 use Rattle.std.specs.Ordering.{is_lt}
 use Rattle.queue_core.specs.Limits.{IsGrant}
 use Rattle.queue_core.specs.World.{grant_cmp}
-use Rattle.queue_core.specs.declared.event.GrantRow.{GrantRow}
+use Rattle.queue_types.specs.declared.event.GrantRow.{GrantRow}
 
 abbrev pub IsGrantRow : GrantRow → Type 0
 IsGrantRow g = IsGrant g.batch g.account g.pages

@@ -1,7 +1,7 @@
 -- The rows of jobs.
 use Rattle.std.specs.Prelude.{◌≡◌, ℕ, ◌+◌, ◌≤◌, List, [], ◌∷◌, fold, ◌==◌, if◌then◌else◌}
 use Rattle.queue_core.specs.Limits.{IsSoundJob}
-use Rattle.queue_core.specs.declared.job.Job.{Job}
+use Rattle.queue_types.specs.declared.job.Job.{Job}
 
 -- a job within its limits, whose row says nothing of its documents (without them it has no octets either)
 pub record IsJobRow (j : Job) : Type 0 where

@@ -1,6 +1,6 @@
 -- The row of the table `meta`.
 use Rattle.std.specs.Prelude.{◌≡◌}
-use Rattle.queue_core.specs.Settings.{SettingValues, AreSettings}
+use Rattle.queue_types.specs.Settings.{SettingValues, AreSettings}
 use Rattle.queue_rows.specs.declared.rows.MetaRow.{MetaRow}
 
 abbrev pub settings_in : MetaRow → SettingValues

@@ -3,7 +3,7 @@ use Rattle.std.specs.Prelude.{ℕ, ◌≤◌, List, max, fold, ◌==◌, if◌th
 use Rattle.std.specs.Ordering.{is_lt}
 use Rattle.queue_core.specs.Limits.{IsPositive}
 use Rattle.queue_core.specs.World.{report_cmp}
-use Rattle.queue_core.specs.declared.event.KeptReport.{KeptReport}
+use Rattle.queue_types.specs.declared.event.KeptReport.{KeptReport}
 
 -- a kept report within its limits; that its job is there is another matter
 pub record IsReportRow (k : KeptReport) : Type 0 where

@@ -3,9 +3,9 @@ use Rattle.std.specs.Prelude.{◌≡◌, ℕ, ◌≤◌, ◌^◌, List, [], ◌�
 use Rattle.std.specs.List.{flat_map}
 use Rattle.queue_core.specs.Sound.{IsIdle}
 use Rattle.queue_core.specs.World.{live_jobs}
-use Rattle.queue_core.specs.declared.event.GrantRow.{GrantRow}
-use Rattle.queue_core.specs.declared.event.KeptReport.{KeptReport}
-use Rattle.queue_core.specs.declared.job.Job.{Job}
+use Rattle.queue_types.specs.declared.event.GrantRow.{GrantRow}
+use Rattle.queue_types.specs.declared.event.KeptReport.{KeptReport}
+use Rattle.queue_types.specs.declared.job.Job.{Job}
 use Rattle.queue_rows.specs.Accounts.{account_before, accounts_of, IsBalanced}
 use Rattle.queue_rows.specs.Documents.{HasSize, AreGrouped}
 use Rattle.queue_rows.specs.Grants.{IsGrantRow, grant_before, granted_to}

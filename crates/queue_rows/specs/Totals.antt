@@ -1,9 +1,9 @@
 -- Sums by name.
 use Rattle.std.specs.Prelude.{ℕ, List, sum_by, bytes_eq, unwrap_or, if◌then◌else◌}
 use Rattle.std.specs.HashMap.{HashMap, get_by}
-use Rattle.queue_core.specs.Job.{owed, is_live}
-use Rattle.queue_core.specs.declared.event.GrantRow.{GrantRow}
-use Rattle.queue_core.specs.declared.job.Job.{Job}
+use Rattle.queue_types.specs.Job.{owed, is_live}
+use Rattle.queue_types.specs.declared.event.GrantRow.{GrantRow}
+use Rattle.queue_types.specs.declared.job.Job.{Job}
 use Rattle.queue_rows.specs.declared.rows.AccountRow.{AccountRow}
 use denote.Ref.{Bor}
 

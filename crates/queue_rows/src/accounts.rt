@@ -8,7 +8,7 @@ ghost use Rattle.queue_rows.specs.Totals.{total_in};
 use crate::amounts::{granted_totals, name_totals};
 use crate::rows::AccountRow;
 use crate::totals::total_of;
-use queue_core::event::GrantRow;
+use queue_types::event::GrantRow;
 use std::alloc::{AllocError, Global};
 use std::collections::HashMap;
 

@@ -1,6 +1,6 @@
 //! What each row adds to the sum of its account or owner, and these sums.
 ghost use Rattle.std.specs.Prelude.{◌≡◌, ℕ, List, All, IfOk, map};
-ghost use Rattle.queue_core.specs.Job.{owed};
+ghost use Rattle.queue_types.specs.Job.{owed};
 ghost use Rattle.queue_rows.specs.Accounts.{accounts_of, reserved_for, printed_for};
 ghost use Rattle.queue_rows.specs.Grants.{IsGrantRow, granted_to};
 ghost use Rattle.queue_rows.specs.Jobs.{IsJobRow};
@@ -8,8 +8,8 @@ ghost use Rattle.queue_rows.specs.Totals.{named, total_in, grant_amount, reserve
 
 use crate::rows::AccountRow;
 use crate::totals::totals;
-use queue_core::event::GrantRow;
-use queue_core::job::{Job, Phase, is_live_job};
+use queue_types::event::GrantRow;
+use queue_types::job::{Job, Phase, is_live_job};
 use std::alloc::{AllocError, Global};
 use std::collections::HashMap;
 

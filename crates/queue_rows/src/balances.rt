@@ -8,8 +8,8 @@ ghost use Rattle.queue_rows.specs.Totals.{total_in};
 use crate::amounts::{granted_totals, printed_totals, reserved_totals};
 use crate::rows::AccountRow;
 use crate::totals::total_of;
-use queue_core::event::GrantRow;
-use queue_core::job::Job;
+use queue_types::event::GrantRow;
+use queue_types::job::Job;
 use std::alloc::{AllocError, Global};
 use std::collections::HashMap;
 

@@ -1,15 +1,15 @@
 //! The numbers that stand for phases, kinds of reports and truth values in the columns of the tables.
 ghost use Rattle.std.specs.Prelude.{◌≡◌, pos, MatchOption, Bool};
-ghost use Rattle.queue_core.specs.declared.event.Kind.{Kind};
-ghost use Rattle.queue_core.specs.declared.job.Phase.{Phase};
+ghost use Rattle.queue_types.specs.declared.event.Kind.{Kind};
+ghost use Rattle.queue_types.specs.declared.job.Phase.{Phase};
 ghost use Rattle.queue_rows.specs.Codes.{phase_number, why_number, kind_number, flag_number};
 
-use queue_core::event::Kind;
-use queue_core::job::{Phase, Why};
+use queue_types::event::Kind;
+use queue_types::job::{Phase, Why};
 
 /// The column `phase`: 0 waiting, 1 running, 2 stopped, 7 canceled, 8 aborted, 9 completed.
-pub fn phase_code(phase: Phase) -> i64
-    ensures { result ≡ pos (phase_number phase) }
+pub fn phase_number_of(phase: Phase) -> u32
+    ensures { result ≡ phase_number phase }
 {
     match phase {
         Phase::Waiting => 0,
@@ -22,8 +22,8 @@ pub fn phase_code(phase: Phase) -> i64
 }
 
 /// The column `why`: who canceled the job, 1 by its user and 2 at the device; of any other job 0.
-pub fn why_code(phase: Phase) -> i64
-    ensures { result ≡ pos (why_number phase) }
+pub fn why_number_of(phase: Phase) -> u32
+    ensures { result ≡ why_number phase }
 {
     match phase {
         Phase::Canceled(Why::ByUser) => 1,
@@ -49,8 +49,8 @@ pub fn phase_of(phase: i64, why: i64) -> Option<Phase>
 }
 
 /// The column `kind` of a report: 1 start, 2 stop, 3 resume, 4 count, 5 done, 6 fail, 7 halt.
-pub fn kind_code(kind: Kind) -> i64
-    ensures { result ≡ pos (kind_number kind) }
+pub fn kind_number_of(kind: Kind) -> u32
+    ensures { result ≡ kind_number kind }
 {
     match kind {
         Kind::Start => 1,
@@ -79,14 +79,7 @@ pub fn kind_of(kind: i64) -> Option<Kind>
     }
 }
 
-/// A truth value: 0 false, 1 true.
-pub fn flag_code(flag: bool) -> i64
-    ensures { result ≡ pos (flag_number flag) }
-{
-    i64::from(flag)
-}
-
-/// The truth value that stands in a column; None where none does.
+/// The truth value that stands in a column: 0 false, 1 true, else None.
 pub fn flag_of(flag: i64) -> Option<bool>
     ensures { MatchOption result ((b : Bool) → ¬ (flag ≡ pos (flag_number b))) (λ b. flag ≡ pos (flag_number b)) }
 {

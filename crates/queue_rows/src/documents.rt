@@ -3,7 +3,7 @@ ghost use Rattle.std.specs.Prelude.{◌≡◌, ◌↔◌, ◌≤◌, All, IsTrue
 ghost use Rattle.queue_rows.specs.Documents.{HasSize, next_of, IsGroup, AreGrouped};
 
 use crate::rows::DocumentRow;
-use queue_core::job::Job;
+use queue_types::job::Job;
 
 /// How many documents of the job stand first. None where they are not numbered 1, 2 and so on, or are
 /// more than 16.

@@ -6,7 +6,7 @@ ghost use Rattle.queue_rows.specs.Order.{AreInOrder};
 use crate::amounts::grant_amounts;
 use crate::texts::{is_batch, is_owner};
 use crate::totals::are_within;
-use queue_core::event::GrantRow;
+use queue_types::event::GrantRow;
 use std::alloc::{AllocError, Global};
 use std::cmp::Ordering;
 

@@ -4,7 +4,7 @@ ghost use Rattle.queue_core.specs.Limits.{IsPositive, IsMoment, FitsPhase};
 ghost use Rattle.queue_rows.specs.Jobs.{IsJobRow, NumbersRise};
 
 use crate::texts::{is_job_name, is_owner};
-use queue_core::job::{Job, Phase};
+use queue_types::job::{Job, Phase};
 
 fn is_positive(n: u32) -> bool
     ensures { IsTrue result ↔ IsPositive n }

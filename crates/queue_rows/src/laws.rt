@@ -1,7 +1,7 @@
 //! What rows tell, as laws that no program calls: each is a contract on an empty body.
 ghost use Rattle.std.specs.Prelude.{◌≡◌, length, map, Bool};
-ghost use Rattle.queue_core.specs.declared.event.Kind.{Kind};
-ghost use Rattle.queue_core.specs.declared.job.Phase.{Phase};
+ghost use Rattle.queue_types.specs.declared.event.Kind.{Kind};
+ghost use Rattle.queue_types.specs.declared.job.Phase.{Phase};
 ghost use Rattle.queue_core.specs.Sound.{IsSound};
 ghost use Rattle.queue_core.specs.World.{World};
 ghost use Rattle.queue_rows.specs.Codes.{phase_number, why_number, kind_number, flag_number};

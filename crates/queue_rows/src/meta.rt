@@ -3,7 +3,7 @@ ghost use Rattle.std.specs.Prelude.{◌≡◌, ◌↔◌, IfOk, IsTrue};
 ghost use Rattle.queue_rows.specs.Meta.{IsSoundMeta};
 
 use crate::rows::MetaRow;
-use queue_core::settings::{SettingFault, Settings};
+use queue_types::settings::{SettingFault, Settings};
 use std::alloc::{AllocError, Global};
 
 /// The row is of schema 1, and its settings are within their limits.

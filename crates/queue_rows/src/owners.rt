@@ -7,8 +7,8 @@ ghost use Rattle.queue_rows.specs.Totals.{total_in};
 
 use crate::amounts::{granted_totals, live_amounts};
 use crate::totals::{are_within, total_of};
-use queue_core::event::GrantRow;
-use queue_core::job::Job;
+use queue_types::event::GrantRow;
+use queue_types::job::Job;
 use std::alloc::{AllocError, Global};
 use std::collections::HashMap;
 

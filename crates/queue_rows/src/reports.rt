@@ -5,8 +5,8 @@ ghost use Rattle.queue_rows.specs.Jobs.{has_number};
 ghost use Rattle.queue_rows.specs.Order.{AreInOrder};
 ghost use Rattle.queue_rows.specs.Reports.{IsReportRow, report_before, greatest};
 
-use queue_core::event::KeptReport;
-use queue_core::job::Job;
+use queue_types::event::KeptReport;
+use queue_types::job::Job;
 use std::alloc::{AllocError, Global};
 use std::collections::HashMap;
 

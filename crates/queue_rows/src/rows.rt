@@ -2,10 +2,10 @@
 ghost use Rattle.std.specs.Prelude.{◌≡◌, []};
 ghost use Rattle.queue_rows.specs.Rows.{tables_in};
 
-use queue_core::document::Format;
-use queue_core::event::{GrantRow, KeptReport};
-use queue_core::job::Job;
-use queue_core::text::Text;
+use queue_types::document::Format;
+use queue_types::event::{GrantRow, KeptReport};
+use queue_types::job::Job;
+use queue_types::text::Text;
 use std::alloc::Global;
 
 /// The one row of the table `meta`.

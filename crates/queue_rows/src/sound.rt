@@ -17,8 +17,8 @@ use crate::reports::{
     counts_are_greatest, reports_are_in_order, reports_are_sound, reports_have_jobs,
 };
 use crate::rows::{AccountRow, DocumentRow, PieceRow, Rows};
-use queue_core::event::{GrantRow, KeptReport};
-use queue_core::job::Job;
+use queue_types::event::{GrantRow, KeptReport};
+use queue_types::job::Job;
 use std::alloc::{AllocError, Global};
 
 /// The jobs with their documents and pieces.

@@ -21,11 +21,11 @@ use Rattle.sqlite_sql.specs.declared.ops.CompareOp.TheVariants.{Eq, Gt}
 use Rattle.sqlite_value.proofs.OrderLemmas.{value_cmp_total}
 use Rattle.sqlite_trees.specs.Tree.{IsAscending}
 use Rattle.sqlite_keyed.proofs.ListLemmas.{all_weaker, all-filter, ascending-map}
-use Rattle.queue_core.specs.declared.job.Job.{Job}
-use Rattle.queue_core.specs.declared.job.Phase.{Phase}
-use Rattle.queue_core.specs.declared.job.Phase.TheVariants.{Waiting, Running, Stopped, Canceled, Aborted, Completed as CompletedPhase}
-use Rattle.queue_core.specs.declared.event.WhichJobs.TheVariants.{Completed}
-use Rattle.queue_core.specs.Job.{is_live, is_live_in}
+use Rattle.queue_types.specs.declared.job.Job.{Job}
+use Rattle.queue_types.specs.declared.job.Phase.{Phase}
+use Rattle.queue_types.specs.declared.job.Phase.TheVariants.{Waiting, Running, Stopped, Canceled, Aborted, Completed as CompletedPhase}
+use Rattle.queue_types.specs.declared.event.WhichJobs.TheVariants.{Completed}
+use Rattle.queue_types.specs.Job.{is_live, is_live_in}
 use Rattle.queue_core.specs.Limits.{IsMoment, IsSoundJob, FitsPhase}
 use Rattle.queue_core.specs.Sound.{IsSound, IsSoundEntry}
 use Rattle.queue_core.specs.Visible.{by_end, placed, is_newer, visible}

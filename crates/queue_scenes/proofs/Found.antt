@@ -19,7 +19,7 @@ use Rattle.sqlite.specs.State.{State, Shown}
 use Rattle.sqlite.proofs.Callers.{one_permutation}
 use Rattle.queue_core.specs.Sound.{IsSound, IsKept}
 use Rattle.queue_core.specs.World.{World, grant_cmp, report_cmp, text_cmp}
-use Rattle.queue_core.specs.declared.event.KeptReport.{KeptReport}
+use Rattle.queue_types.specs.declared.event.KeptReport.{KeptReport}
 use Rattle.queue_rows.specs.Codes.{kind_number}
 use Rattle.queue_rows.specs.Rows.{meta_row, grant_row}
 use Rattle.queue_rows.proofs.WorldMaps.{found_there}

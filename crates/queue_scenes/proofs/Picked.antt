@@ -9,7 +9,7 @@ use Rattle.std.proofs.lemmas.List.{take_more}
 use Rattle.sqlite_keyed.proofs.ListLemmas.{all_weaker}
 use Rattle.queue_core.proofs.Ordered.{all_of, each_of, each-append, each-filter}
 use Rattle.queue_core.specs.World.{is_one_of, numbered}
-use Rattle.queue_core.specs.declared.job.Job.{Job}
+use Rattle.queue_types.specs.declared.job.Job.{Job}
 use Rattle.queue_scenes.proofs.Numbers.{AreRising}
 
 abbrev pub has : ℕ → List ℕ → Bool

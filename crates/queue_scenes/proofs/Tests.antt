@@ -9,10 +9,10 @@ use Rattle.sqlite.specs.Collation.TheVariants.{Binary}
 use Rattle.sqlite_sql.specs.declared.ops.BinaryOp.TheVariants.{Compare}
 use Rattle.sqlite_sql.specs.declared.ops.CompareOp.TheVariants.{Lt, Eq, Gt}
 use Rattle.sqlite_value.proofs.OrderLemmas.{value_cmp-Int, value_cmp-Text}
-use Rattle.queue_core.specs.declared.job.Job.{Job}
-use Rattle.queue_core.specs.declared.job.Phase.{Phase}
-use Rattle.queue_core.specs.declared.job.Phase.TheVariants.{Waiting, Running, Stopped, Canceled, Aborted, Completed}
-use Rattle.queue_core.specs.Job.{is_live, is_live_in, is_running, is_running_in, is_stopped, is_stopped_in, state, state_in}
+use Rattle.queue_types.specs.declared.job.Job.{Job}
+use Rattle.queue_types.specs.declared.job.Phase.{Phase}
+use Rattle.queue_types.specs.declared.job.Phase.TheVariants.{Waiting, Running, Stopped, Canceled, Aborted, Completed}
+use Rattle.queue_types.specs.Job.{is_live, is_live_in, is_running, is_running_in, is_stopped, is_stopped_in, state, state_in}
 use Rattle.queue_rows.specs.Codes.{phase_number, flag_number}
 use Rattle.queue_tables.specs.Values.{job_values}
 use Rattle.queue_tables.proofs.Numbers.{same_number}

@@ -1,7 +1,7 @@
 -- A kept report by its columns.
 use Rattle.std.proofs.Common.{◌≡◌, ℕ}
-use Rattle.queue_core.specs.declared.event.KeptReport.{KeptReport}
-use Rattle.queue_core.specs.declared.event.Kind.{Kind}
+use Rattle.queue_types.specs.declared.event.KeptReport.{KeptReport}
+use Rattle.queue_types.specs.declared.event.Kind.{Kind}
 use Rattle.queue_rows.specs.Codes.{kind_number}
 use Rattle.queue_tables.specs.Values.{number}
 

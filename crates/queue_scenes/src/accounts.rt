@@ -12,10 +12,10 @@ ghost use Rattle.queue_scenes.specs.Leaving.{LeavesRows};
 ghost use Rattle.queue_tables.specs.Content.{Holds, content_of};
 
 use crate::select::select;
-use queue_core::event::FreeRow;
-use queue_core::text::Text;
 use queue_tables::fault::Fault;
 use queue_tables::read::value;
+use queue_types::event::FreeRow;
+use queue_types::text::Text;
 use sqlite::{Alter, Connection, Row, params};
 use std::alloc::Global;
 

@@ -10,8 +10,8 @@ ghost use Rattle.queue_tables.specs.Content.{Content, Holds, content_of};
 ghost use Rattle.queue_tables.specs.Queries.{IsQueryText};
 
 use crate::select::select;
-use queue_core::event::QueueCounts;
 use queue_tables::fault::Fault;
+use queue_types::event::QueueCounts;
 use sqlite::types::ValueRef;
 use sqlite::{Alter, Connection, params};
 

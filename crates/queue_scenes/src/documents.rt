@@ -4,7 +4,7 @@ ghost use Rattle.sqlite.specs.Held.{state};
 ghost use Rattle.sqlite.specs.State.{HasCleanDisk};
 ghost use Rattle.queue_core.specs.Sound.{IsSound};
 ghost use Rattle.queue_core.specs.World.{World, job_at, rows};
-ghost use Rattle.queue_core.specs.declared.job.Job.{Job};
+ghost use Rattle.queue_types.specs.declared.job.Job.{Job};
 ghost use Rattle.queue_scenes.specs.Leaving.{LeavesRows};
 ghost use Rattle.queue_scenes.specs.Sizes.{size_in};
 ghost use Rattle.queue_tables.specs.Content.{Holds, content_of};

@@ -11,9 +11,9 @@ ghost use Rattle.queue_tables.specs.Content.{Holds, content_of};
 
 use crate::accounts::{Pages, granted_to, pages_of};
 use crate::select::select;
-use queue_core::event::{GrantRow, KnownGrant};
 use queue_tables::fault::Fault;
 use queue_tables::read::value;
+use queue_types::event::{GrantRow, KnownGrant};
 use sqlite::{Alter, Connection, params};
 use std::alloc::Global;
 

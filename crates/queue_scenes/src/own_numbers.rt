@@ -8,14 +8,14 @@ ghost use Rattle.sqlite.specs.State.{HasCleanDisk};
 ghost use Rattle.queue_core.specs.Limits.{IsSoundJob};
 ghost use Rattle.queue_core.specs.Sound.{IsSound};
 ghost use Rattle.queue_core.specs.World.{World, is_one_of, rows};
-ghost use Rattle.queue_core.specs.declared.job.Job.{Job as JobValue};
+ghost use Rattle.queue_types.specs.declared.job.Job.{Job as JobValue};
 ghost use Rattle.queue_scenes.specs.Leaving.{LeavesRows};
 ghost use Rattle.queue_tables.specs.Content.{Holds, content_of};
 
 use crate::jobs::with_number;
-use queue_core::job::Job;
 use queue_core::number_set;
 use queue_tables::fault::Fault;
+use queue_types::job::Job;
 use sqlite::{Alter, Connection};
 use std::alloc::{AllocError, Global};
 use std::collections::BTreeSet;

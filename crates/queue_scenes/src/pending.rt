@@ -8,8 +8,8 @@ ghost use Rattle.queue_core.specs.World.{World};
 ghost use Rattle.queue_tables.specs.Content.{Content, Holds, content_of};
 
 use crate::jobs::select_jobs;
-use queue_core::job::JobList;
 use queue_tables::fault::Fault;
+use queue_types::job::JobList;
 use sqlite::{Alter, Connection};
 use std::alloc::Global;
 

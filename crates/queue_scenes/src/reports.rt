@@ -12,11 +12,11 @@ ghost use Rattle.queue_tables.specs.Content.{Holds, content_of};
 ghost use Rattle.queue_tables.specs.Values.{number};
 
 use crate::select::select;
-use queue_core::event::{KeptReport, Kind, Report};
 use queue_rows::codes::kind_of;
 use queue_rows::laws::numbers_tell_names;
 use queue_tables::fault::Fault;
 use queue_tables::read::value;
+use queue_types::event::{KeptReport, Kind, Report};
 use sqlite::{Alter, Connection, Row, params};
 
 /// The kind of a report, in its column.

@@ -2,9 +2,9 @@
 ghost use Rattle.std.specs.Prelude.{◌≡◌, ◌≤◌, ◌<◌, ◌^◌, [], All, length, IfOk, OnOk, IsTrue};
 ghost use Rattle.sqlite.specs.Held.{state};
 ghost use Rattle.sqlite.specs.State.{HasCleanDisk};
-ghost use Rattle.queue_core.specs.Event.{ask, tell, grant, event_of, call_of};
+ghost use Rattle.queue_types.specs.Event.{ask, tell, grant, event_of, call_of};
 ghost use Rattle.queue_core.specs.Limits.{IsAmount, IsFair, IsSoundJob};
-ghost use Rattle.queue_core.specs.Settings.{AreSettings};
+ghost use Rattle.queue_types.specs.Settings.{AreSettings};
 ghost use Rattle.queue_core.specs.Sound.{IsSound};
 ghost use Rattle.queue_core.specs.World.{World, cut, counts_for, jobs_for, live_for, numbered, owner_row, queue_counts, rows};
 ghost use Rattle.queue_scenes.specs.Leaving.{LeavesRows};
@@ -18,12 +18,12 @@ use crate::meta::next_number;
 use crate::own_jobs::{completed, live_jobs, not_completed};
 use crate::own_numbers::numbered_jobs;
 use crate::reports::kept_report;
-use queue_core::event::{
+use queue_tables::fault::Fault;
+use queue_types::event::{
     Call, Event, FreeList, FreeRow, GrantRow, KnownList, QueueCounts, Report, Scene, WhichJobs,
 };
-use queue_core::job::{Job, JobList};
-use queue_core::settings::Settings;
-use queue_tables::fault::Fault;
+use queue_types::job::{Job, JobList};
+use queue_types::settings::Settings;
 use sqlite::{Alter, Connection};
 use std::alloc::{AllocError, Global};
 
@@ -42,16 +42,10 @@ fn concerned<S: Alter>(
     ensures sound { IfOk result (λ v. All IsSoundJob v.items) }
     ensures found { HasCleanDisk (state S.Store conn.new) → IfOk result (λ v. (w : World) → IsSound w → Holds (content_of w) (state S.Store conn.old) → v.items ≡ jobs_for caller.now (call_of call.now) (rows w)) }
 {
+    if let Some(job) = call.job() {
+        return with_number(alloc, conn, job);
+    }
     match call {
-        Call::PrintJob { .. }
-        | Call::ValidateJob { .. }
-        | Call::CreateJob { .. }
-        | Call::GetPrinterAttributes => Ok(Vec::new(alloc)),
-        Call::SendDocument { job, .. }
-        | Call::CancelJob { job }
-        | Call::HoldJob { job }
-        | Call::ReleaseJob { job }
-        | Call::GetJobAttributes { job } => with_number(alloc, conn, *job),
         Call::CancelMyJobs {
             jobs: Some(numbers),
         } => numbered_jobs(alloc, conn, caller, numbers.as_slice()),
@@ -60,6 +54,7 @@ fn concerned<S: Alter>(
             WhichJobs::NotCompleted => not_completed(alloc, conn, caller, *limit),
             WhichJobs::Completed => completed(alloc, conn, caller, *limit),
         },
+        _ => Ok(Vec::new(alloc)),
     }
 }
 

@@ -6,8 +6,8 @@ use Rattle.sqlite.specs.Order.{Row, column}
 use Rattle.sqlite.specs.State.{State, Shown}
 use Rattle.queue_core.specs.Shown.{document_at, document_of}
 use Rattle.queue_core.specs.World.{World, Entry, rows, job_at}
-use Rattle.queue_core.specs.declared.document.Document.{Document}
-use Rattle.queue_core.specs.declared.job.Job.{Job}
+use Rattle.queue_types.specs.declared.document.Document.{Document}
+use Rattle.queue_types.specs.declared.job.Job.{Job}
 use Rattle.queue_tables.specs.Content.{Holds, content_of, document_rows}
 use Rattle.queue_tables.specs.Steps.{AreDistinct, is_numbered}
 use Rattle.queue_tables.specs.Tables.{book_schema}
@@ -21,7 +21,8 @@ use Rattle.queue_shown.specs.Heads.{head_values}
 use Rattle.queue_shown.proofs.DocumentParts.{is_of, of_numbers, rows_from, all_rows, chosen, only_document}
 use Rattle.queue_shown.proofs.Firsts.{rows_for, exactly}
 use Rattle.queue_shown.proofs.Texts.{select_state_text, select_state_names, select_state_terms, select_state_where, select_state_order, select_state_is, select_state_plain, select_state_unlisted, select_head_text, select_head_names, select_head_terms, select_head_where, select_head_order, select_head_is, select_head_plain, select_head_unlisted}
-use Rattle.queue_tables.specs.Values.{format_text, number}
+use Rattle.queue_types.specs.Formats.{format_name}
+use Rattle.queue_tables.specs.Values.{number}
 use Rattle.sqlite.specs.declared.types.Value.TheVariants.{Text as Words}
 
 -- ---- the state of the job
@@ -57,7 +58,7 @@ all_are [] = refl
 all_are (e ∷ es) = ap (λ (rs : List Row). rs ++ all_documents es) (documents_are e.row.number 1 e.documents) ∙ ap (λ (rs : List Row). rows_from document_part e.row.number 1 e.documents ++ rs) (all_are es)
 
 document_tests : (job n m k : ℕ) (d : Document) → filter (is_of job n) (document_part m k d) ≡ (if (m == job) && (k == n) then document_part m k d else [])
-document_tests job n m k d = rw (of_numbers job n m k (Words (format_text d.format) ∷ number (length d.bytes) ∷ [])) refl
+document_tests job n m k d = rw (of_numbers job n m k (Words (format_name d.format) ∷ number (length d.bytes) ∷ [])) refl
 
 abbrev head_out : Row → Row
 head_out v = column v 2 ∷ column v 3 ∷ []

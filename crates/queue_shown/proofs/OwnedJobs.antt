@@ -16,11 +16,11 @@ use Rattle.sqlite.specs.Ops.{binary, is_true}
 use Rattle.sqlite.specs.Order.{Row, column}
 use Rattle.sqlite.specs.Query.{Query, Output, output_cmp}
 use Rattle.sqlite.specs.State.{State, Shown}
-use Rattle.queue_core.specs.Job.{owed}
+use Rattle.queue_types.specs.Job.{owed}
 use Rattle.queue_core.specs.Sound.{IsSound, IsSoundEntry, Rise}
 use Rattle.queue_core.specs.World.{World, Entry, rows, job_at}
-use Rattle.queue_core.specs.declared.document.Document.{Document}
-use Rattle.queue_core.specs.declared.job.Job.{Job}
+use Rattle.queue_types.specs.declared.document.Document.{Document}
+use Rattle.queue_types.specs.declared.job.Job.{Job}
 use Rattle.queue_tables.specs.Content.{Holds, content_of, document_rows}
 use Rattle.queue_tables.specs.Plain.{plain_query}
 use Rattle.queue_tables.specs.Steps.{AreDistinct, bare, has_number, is_numbered}

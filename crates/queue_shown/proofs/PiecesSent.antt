@@ -16,7 +16,7 @@ use Rattle.sqlite.specs.State.{State, Begins}
 use Rattle.sqlite.proofs.Callers.{IsPlain, command_of}
 use Rattle.queue_core.specs.Shown.{document_at}
 use Rattle.queue_core.specs.World.{World, Entry, rows, job_at}
-use Rattle.queue_core.specs.declared.document.Document.{Document}
+use Rattle.queue_types.specs.declared.document.Document.{Document}
 use Rattle.queue_rows.specs.Pieces.{pieces_in, piece_at}
 use Rattle.queue_rows.proofs.WorldFrom.{joined}
 use Rattle.queue_tables.specs.Content.{Holds, content_of, piece_rows, pieces_from}

@@ -6,9 +6,9 @@ use Rattle.sqlite.specs.Order.{Row}
 use Rattle.sqlite.specs.declared.types.Value.{Value}
 use Rattle.queue_core.specs.Shown.{sheet_of, sheet_jobs}
 use Rattle.queue_core.specs.World.{World, granted, rows, job_at}
-use Rattle.queue_core.specs.declared.job.Job.{Job}
-use Rattle.queue_core.specs.declared.job.Phase.{Phase}
-use Rattle.queue_core.specs.declared.sheet.AccountSheet.{AccountSheet}
+use Rattle.queue_types.specs.declared.job.Job.{Job}
+use Rattle.queue_types.specs.declared.job.Phase.{Phase}
+use Rattle.queue_types.specs.declared.sheet.AccountSheet.{AccountSheet}
 use Rattle.queue_rows.specs.Codes.{phase_number, why_number, flag_number}
 use Rattle.queue_tables.specs.Steps.{bare}
 use Rattle.queue_tables.specs.Values.{job_values}

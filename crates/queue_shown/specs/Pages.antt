@@ -3,10 +3,10 @@ use Rattle.std.specs.Prelude.{◌≡◌, ℕ, ℤ, pos, ◌||◌, Bool, nat_lt, 
 use Rattle.sqlite.specs.declared.types.Value.{Value}
 use Rattle.sqlite.specs.declared.types.Value.TheVariants.{Int}
 use Rattle.sqlite.specs.Order.{Row, column}
-use Rattle.queue_core.specs.Job.{owed}
+use Rattle.queue_types.specs.Job.{owed}
 use Rattle.queue_core.specs.Sound.{reserved, printed}
 use Rattle.queue_core.specs.World.{World, rows, job_at}
-use Rattle.queue_core.specs.declared.job.Job.{Job}
+use Rattle.queue_types.specs.declared.job.Job.{Job}
 use Rattle.queue_shown.specs.declared.account.AccountPages.{AccountPages}
 
 -- a number, 0 where the value is none

@@ -5,21 +5,20 @@ ghost use Rattle.sqlite.specs.State.{HasCleanDisk};
 ghost use Rattle.queue_core.specs.Shown.{document_at, head_of};
 ghost use Rattle.queue_core.specs.Sound.{IsSound};
 ghost use Rattle.queue_core.specs.World.{World, rows, job_at};
-ghost use Rattle.queue_core.specs.declared.document.Document.{Document};
-ghost use Rattle.queue_core.specs.declared.job.Job.{Job as JobValue};
+ghost use Rattle.queue_types.specs.declared.document.Document.{Document};
+ghost use Rattle.queue_types.specs.declared.job.Job.{Job as JobValue};
 ghost use Rattle.queue_shown.specs.Fetched.{document_in, is_fetched, is_fetched_job, state_values};
 ghost use Rattle.queue_shown.specs.Heads.{head_values};
 ghost use Rattle.queue_tables.specs.Content.{Content, Holds, content_of};
 ghost use Rattle.queue_tables.specs.Steps.{AreDistinct};
 ghost use Rattle.queue_tables.specs.Tables.{book_schema};
 
-use crate::format::format;
 use crate::select::select;
-use queue_core::document::DocumentHead;
-use queue_core::job::Phase;
 use queue_rows::laws::numbers_tell_names;
 use queue_tables::fault::Fault;
-use queue_tables::read::{flag, phase, value};
+use queue_tables::read::{flag, format, phase, value};
+use queue_types::document::DocumentHead;
+use queue_types::job::Phase;
 use sqlite::{Alter, Connection, Row, params};
 
 /// Whether the device may fetch the documents of a job in that phase.

@@ -4,15 +4,15 @@ ghost use Rattle.sqlite.specs.Held.{state};
 ghost use Rattle.sqlite.specs.State.{HasCleanDisk};
 ghost use Rattle.queue_core.specs.Sound.{IsSound};
 ghost use Rattle.queue_core.specs.World.{World, job_at, rows as rows_of};
-ghost use Rattle.queue_core.specs.declared.job.Job.{Job as JobValue};
+ghost use Rattle.queue_types.specs.declared.job.Job.{Job as JobValue};
 ghost use Rattle.queue_tables.specs.Content.{Content, Holds, content_of};
 ghost use Rattle.queue_tables.specs.Steps.{bare};
 ghost use Rattle.queue_tables.specs.Tables.{book_schema};
 
 use crate::account::sum_of;
 use crate::select::select;
-use queue_core::job::Job;
 use queue_tables::fault::Fault;
+use queue_types::job::Job;
 use sqlite::{Alter, Connection, Row, params};
 
 /// The greatest number of documents of a job.

@@ -3,7 +3,6 @@
 #![tactic(auto)]
 
 mod account;
-mod format;
 pub mod head;
 mod job;
 mod select;

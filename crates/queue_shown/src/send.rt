@@ -6,7 +6,7 @@ ghost use Rattle.sqlite.specs.State.{HasCleanDisk, IsUnchanged};
 ghost use Rattle.queue_core.specs.Shown.{document_at};
 ghost use Rattle.queue_core.specs.Sound.{IsSound};
 ghost use Rattle.queue_core.specs.World.{World};
-ghost use Rattle.queue_core.specs.declared.document.Document.{Document};
+ghost use Rattle.queue_types.specs.declared.document.Document.{Document};
 ghost use Rattle.queue_shown.specs.Sent.{HasBook, HasSent, HasSentFront, LeavesRows, piece_bytes};
 ghost use Rattle.queue_tables.specs.Content.{Content, Holds, content_of};
 ghost use Rattle.queue_tables.specs.Tables.{book_schema};

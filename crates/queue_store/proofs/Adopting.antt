@@ -6,7 +6,7 @@ use Rattle.sqlite.specs.Start.{FindsIn}
 use Rattle.sqlite.specs.State.{State, HasCleanDisk, IsLive, IsUnchanged, Opens}
 use Rattle.sqlite_trees.specs.Tree.{Trees}
 use Rattle.sqlite_wal.specs.Recovery.{Image}
-use Rattle.queue_core.specs.Settings.{SettingValues, AreSettings}
+use Rattle.queue_types.specs.Settings.{SettingValues, AreSettings}
 use Rattle.queue_rows.specs.Meta.{settings_in}
 use Rattle.queue_rows.specs.Rows.{Tables, meta_row}
 use Rattle.queue_rows.specs.declared.rows.MetaRow.{MetaRow}

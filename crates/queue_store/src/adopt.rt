@@ -3,7 +3,7 @@ ghost use Rattle.std.specs.Prelude.{◌≡◌, ◌∷◌, [], IfErr, IfOk, OnOk,
 ghost use Rattle.std.specs.Str.{IsUtf8};
 ghost use Rattle.sqlite.specs.Held.{state};
 ghost use Rattle.sqlite.specs.State.{HasCleanDisk};
-ghost use Rattle.queue_core.specs.Settings.{AreSettings};
+ghost use Rattle.queue_types.specs.Settings.{AreSettings};
 ghost use Rattle.queue_core.specs.World.{World};
 ghost use Rattle.queue_rows.specs.Meta.{settings_in};
 ghost use Rattle.queue_rows.specs.Rows.{tables_in};
@@ -15,10 +15,10 @@ ghost use Rattle.queue_tables.specs.declared.fault.Fault.TheVariants.{Damaged};
 
 use crate::book::TableBook;
 use queue_core::book::BookFault;
-use queue_core::settings::{SettingFault, Settings};
 use queue_load::queue::load_queue;
 use queue_rows::rows::Rows;
 use queue_tables::fault::Fault;
+use queue_types::settings::{SettingFault, Settings};
 use sqlite::{Alter, Connection};
 use std::alloc::Global;
 

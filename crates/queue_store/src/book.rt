@@ -12,10 +12,10 @@ ghost use Rattle.queue_tables.specs.Tables.{no_schema};
 use crate::create::make_tables;
 use queue_core::book::BookFault;
 use queue_core::empty_is_sound;
-use queue_core::settings::Settings;
-use queue_core::text::Text;
 use queue_rows::rows::MetaRow;
 use queue_tables::fault::Fault;
+use queue_types::settings::Settings;
+use queue_types::text::Text;
 use sqlite::{Alter, Connection};
 use std::alloc::{AllocError, Global};
 

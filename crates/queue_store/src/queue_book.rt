@@ -3,11 +3,11 @@ ghost use Rattle.queue_store.specs.Kept.{IsHonest, StandsFor};
 
 use crate::book::TableBook;
 use queue_core::book::{BookFault, QueueBook, SendFault};
-use queue_core::document::DocumentHead;
-use queue_core::event::{Decision, Event};
-use queue_core::job::JobList;
-use queue_core::sheet::AccountSheet;
 use queue_core::{decisions_are_sound, empty_is_sound};
+use queue_types::document::DocumentHead;
+use queue_types::event::{Decision, Event};
+use queue_types::job::JobList;
+use queue_types::sheet::AccountSheet;
 use sqlite::Alter;
 use std::io::Write;
 

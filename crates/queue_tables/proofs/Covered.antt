@@ -5,11 +5,11 @@ use Rattle.std.specs.FinMap.{get, get-insert}
 use Rattle.std.specs.Cmp.Lexicographic.{nat_list_cmp_total}
 use Rattle.std.specs.Ordering.{eq_by_cmp}
 use Rattle.std.proofs.lemmas.List.Sums.{sum_by-cons}
-use Rattle.queue_core.specs.declared.event.FreeRow.{FreeRow}
-use Rattle.queue_core.specs.declared.job.Job.{Job}
-use Rattle.queue_core.specs.declared.job.Phase.{Phase}
-use Rattle.queue_core.specs.declared.job.Phase.TheVariants.{Waiting, Running, Stopped, Canceled, Aborted, Completed}
-use Rattle.queue_core.specs.Job.{owed, estimate, is_live_in}
+use Rattle.queue_types.specs.declared.event.FreeRow.{FreeRow}
+use Rattle.queue_types.specs.declared.job.Job.{Job}
+use Rattle.queue_types.specs.declared.job.Phase.{Phase}
+use Rattle.queue_types.specs.declared.job.Phase.TheVariants.{Waiting, Running, Stopped, Canceled, Aborted, Completed}
+use Rattle.queue_types.specs.Job.{owed, estimate, is_live_in}
 use Rattle.queue_core.specs.Limits.{FitsPhase, IsSoundJob}
 use Rattle.queue_core.specs.World.{World, Entry, text_cmp}
 use Rattle.queue_core.specs.Sound.{IsSound, IsSoundEntry, IsIdle}

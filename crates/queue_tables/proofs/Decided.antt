@@ -1,15 +1,15 @@
 -- What the machine's decision on a sound world gives the writer of its change.
 use Rattle.std.proofs.Common.{◌≡◌, ℕ, List, [], ◌∷◌, Bool, true, false, if◌then◌else◌, Option, Some, None, IfSome, refl, sym, ap, subst, ◌∙◌, bytes_eq}
 use Rattle.std.specs.FinMap.{get}
-use Rattle.queue_core.specs.declared.event.KeptReport.{KeptReport}
-use Rattle.queue_core.specs.declared.event.Report.{Report}
-use Rattle.queue_core.specs.declared.event.Scene.{Scene}
-use Rattle.queue_core.specs.declared.job.Job.{Job}
-use Rattle.queue_core.specs.declared.job.Phase.{Phase}
-use Rattle.queue_core.specs.declared.job.Phase.TheVariants.{Waiting, Running, Stopped, Canceled, Aborted, Completed}
+use Rattle.queue_types.specs.declared.event.KeptReport.{KeptReport}
+use Rattle.queue_types.specs.declared.event.Report.{Report}
+use Rattle.queue_types.specs.declared.event.Scene.{Scene}
+use Rattle.queue_types.specs.declared.job.Job.{Job}
+use Rattle.queue_types.specs.declared.job.Phase.{Phase}
+use Rattle.queue_types.specs.declared.job.Phase.TheVariants.{Waiting, Running, Stopped, Canceled, Aborted, Completed}
 use Rattle.std.specs.List.{list_all}
 use Rattle.queue_core.specs.Book.{IsDecisionOn}
-use Rattle.queue_core.specs.Event.{Call, Decision, Event, ask, tell, grant, print_job, validate_job, create_job, send_document, cancel_job, cancel_my_jobs, hold_job, release_job, get_job_attributes, get_jobs, get_printer_attributes}
+use Rattle.queue_types.specs.Event.{Call, Decision, Event, ask, tell, grant, print_job, validate_job, create_job, send_document, cancel_job, cancel_my_jobs, hold_job, release_job, get_job_attributes, get_jobs, get_printer_attributes}
 use Rattle.queue_core.specs.Grants.{Taken, all_taken, none_taken, take_rows}
 use Rattle.queue_core.specs.Machine.{accepted_where, call_row, decision, grant_row, hold_in, new_refusal, of_own, release_in, report_row, unless_refused, cancel_row, cancel_my_jobs_row, send_in, let_print, all_canceled, are_there, refused, answered, is_cancelable}
 use Rattle.queue_core.specs.Reports.{reported}

@@ -2,7 +2,7 @@
 use Rattle.std.proofs.Common.{◌≡◌, inl, inr, ℕ, pos, ◌+◌, List, [], ◌∷◌, ◌++◌, map, filter, length, flat_map, fold, ◌≤◌, true, false, ◌==◌, Option, Some, None, refl, sym, ap, subst, subst₂, ◌∙◌, arith}
 use Rattle.std.specs.FinMap.{entries}
 use Rattle.std.proofs.Common.{sum_by, ℤ}
-use Rattle.queue_core.specs.Job.{owed}
+use Rattle.queue_types.specs.Job.{owed}
 use Rattle.queue_tables.proofs.Puts.{of_account}
 use Rattle.std.specs.List.Sorted.{IsPermutation}
 use Rattle.std.proofs.lemmas.Bool.{cases_Bool, eqb-true, or_parts}
@@ -12,10 +12,10 @@ use Rattle.std.proofs.lemmas.List.Sorted.{IsPermutation-append_right, IsPermutat
 use Rattle.std.proofs.Common.{append-nil}
 use Rattle.sqlite.specs.Order.{Row, column}
 use Rattle.sqlite.specs.State.{State, Shown}
-use Rattle.queue_core.specs.declared.job.Job.{Job}
-use Rattle.queue_core.specs.declared.document.Document.{Document}
+use Rattle.queue_types.specs.declared.job.Job.{Job}
+use Rattle.queue_types.specs.declared.document.Document.{Document}
 use Rattle.queue_core.specs.World.{World, Entry, add_document, job_at, rows, with_document, with_row, made_on}
-use Rattle.queue_core.specs.Event.{NewDocument, Change}
+use Rattle.queue_types.specs.Event.{NewDocument, Change}
 use Rattle.queue_core.specs.Sound.{IsSound}
 use Rattle.queue_rows.specs.Pieces.{pieces_in}
 use Rattle.queue_rows.specs.declared.rows.DocumentRow.{DocumentRow}

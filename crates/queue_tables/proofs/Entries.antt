@@ -5,7 +5,7 @@ use Rattle.std.specs.Option.{option_map_or}
 use Rattle.std.proofs.lemmas.Bool.{cases_Bool, eqb-true, ne_eqb, eqb-false, or_parts}
 use Rattle.std.proofs.lemmas.List.Sums.{sum_by-cons}
 use Rattle.sqlite.specs.Order.{Row}
-use Rattle.queue_core.specs.declared.job.Job.{Job}
+use Rattle.queue_types.specs.declared.job.Job.{Job}
 use Rattle.queue_core.specs.World.{World, Entry, with_row, job_at}
 use Rattle.queue_core.specs.Balance.{AreAmounts}
 use Rattle.queue_core.specs.Sound.{Rise, IsSoundEntry, IsSound}

@@ -14,7 +14,7 @@ use Rattle.sqlite.specs.Order.{Row, column}
 use Rattle.sqlite.specs.Tree.{rowid}
 use Rattle.sqlite.specs.Cast.{cast_row}
 use Rattle.sqlite.specs.State.{State, ExecutesInside}
-use Rattle.queue_core.specs.declared.event.FreeRow.{FreeRow}
+use Rattle.queue_types.specs.declared.event.FreeRow.{FreeRow}
 use Rattle.queue_core.specs.World.{World, put_free, text_cmp}
 use Rattle.queue_core.specs.Sound.{reserved, printed}
 use Rattle.queue_rows.specs.Rows.{meta_row}

@@ -7,8 +7,8 @@ use Rattle.sqlite.specs.Order.{Row, column}
 use Rattle.sqlite.specs.Tree.{rowid}
 use Rattle.sqlite.specs.State.{State, ExecutesInside, Shown}
 use Rattle.sqlite.proofs.Callers.{one_permutation}
-use Rattle.queue_core.specs.declared.job.Job.{Job}
-use Rattle.queue_core.specs.declared.job.Phase.{Phase}
+use Rattle.queue_types.specs.declared.job.Job.{Job}
+use Rattle.queue_types.specs.declared.job.Phase.{Phase}
 use Rattle.queue_core.specs.World.{World, rows, job_at}
 use Rattle.queue_rows.specs.Codes.{phase_number, why_number, flag_number}
 use Rattle.queue_tables.specs.Tables.{book_schema, jobs}

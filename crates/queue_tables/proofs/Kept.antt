@@ -5,8 +5,8 @@ use Rattle.std.specs.Cmp.{IsTotalOrder, then_total, on_total, nat_cmp_total}
 use Rattle.std.specs.Cmp.Lexicographic.{nat_list_cmp_total}
 use Rattle.std.proofs.lemmas.List.Sums.{fold_more}
 use Rattle.sqlite.specs.State.{State}
-use Rattle.queue_core.specs.declared.event.GrantRow.{GrantRow}
-use Rattle.queue_core.specs.declared.event.KeptReport.{KeptReport}
+use Rattle.queue_types.specs.declared.event.GrantRow.{GrantRow}
+use Rattle.queue_types.specs.declared.event.KeptReport.{KeptReport}
 use Rattle.queue_core.specs.World.{World, AreNew, grant_cmp, report_cmp, put_grant}
 use Rattle.queue_rows.specs.Rows.{grant_row}
 use Rattle.queue_tables.specs.Values.{grant_values, report_values}

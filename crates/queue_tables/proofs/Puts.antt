@@ -12,9 +12,9 @@ use Rattle.std.proofs.Common.{take-append-drop}
 use Rattle.sqlite.specs.Order.{Row}
 use Rattle.sqlite.specs.State.{State}
 use Rattle.sqlite.specs.Ops.{fits_i64}
-use Rattle.queue_core.specs.declared.job.Job.{Job}
-use Rattle.queue_core.specs.declared.document.Document.{Document}
-use Rattle.queue_core.specs.Job.{owed, is_live}
+use Rattle.queue_types.specs.declared.job.Job.{Job}
+use Rattle.queue_types.specs.declared.document.Document.{Document}
+use Rattle.queue_types.specs.Job.{owed, is_live}
 use Rattle.queue_core.specs.World.{World, Entry, with_row, job_at, rows, text_cmp}
 use Rattle.queue_core.specs.Balance.{AreAmounts}
 use Rattle.queue_core.specs.Sound.{reserved, printed}

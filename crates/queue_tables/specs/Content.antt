@@ -5,7 +5,7 @@ use Rattle.std.specs.FinMap.{entries}
 use Rattle.sqlite.specs.Order.{Row}
 use Rattle.sqlite.specs.Tree.{Trees}
 use Rattle.sqlite.specs.State.{State}
-use Rattle.queue_core.specs.declared.document.Document.{Document}
+use Rattle.queue_types.specs.declared.document.Document.{Document}
 use Rattle.queue_core.specs.World.{World, rows}
 use Rattle.queue_core.specs.Sound.{reserved, printed}
 use Rattle.queue_rows.specs.Documents.{documents_from}

@@ -1,7 +1,7 @@
 -- Rows that the code can hold: numbers within their width, texts in UTF-8.
 use Rattle.std.specs.Prelude.{◌^◌, ◌<◌, IfSome}
 use Rattle.std.specs.Str.{IsUtf8}
-use Rattle.queue_core.specs.declared.job.Job.{Job}
+use Rattle.queue_types.specs.declared.job.Job.{Job}
 
 pub record IsFormedJob (j : Job) : Type 0 where
   pub number : j.number < 2 ^ 32

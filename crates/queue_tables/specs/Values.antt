@@ -4,11 +4,10 @@ use Rattle.sqlite.specs.declared.types.Value.{Value}
 use Rattle.sqlite.specs.declared.types.Value.TheVariants.{Int, Text as Words, Blob}
 use Rattle.sqlite.specs.Values.{or_null}
 use Rattle.sqlite.specs.Order.{Row, column}
-use Rattle.queue_core.specs.declared.job.Job.{Job}
-use Rattle.queue_core.specs.declared.document.Format.{Format}
-use Rattle.queue_core.specs.declared.document.Format.TheVariants.{OctetStream, Pdf, Postscript, Jpeg, PwgRaster, Urf, PlainText}
-use Rattle.queue_core.specs.declared.event.GrantRow.{GrantRow}
-use Rattle.queue_core.specs.declared.event.KeptReport.{KeptReport}
+use Rattle.queue_types.specs.declared.job.Job.{Job}
+use Rattle.queue_types.specs.Formats.{format_name}
+use Rattle.queue_types.specs.declared.event.GrantRow.{GrantRow}
+use Rattle.queue_types.specs.declared.event.KeptReport.{KeptReport}
 use Rattle.queue_rows.specs.Codes.{phase_number, why_number, kind_number, flag_number}
 use Rattle.queue_rows.specs.declared.rows.DocumentRow.{DocumentRow}
 use Rattle.queue_rows.specs.declared.rows.MetaRow.{MetaRow}
@@ -24,16 +23,6 @@ truth b = number (flag_number b)
 -- NULL where there is none
 abbrev pub moment : Option ℕ → Value
 moment = or_null number
-
--- a document format by its MIME media type
-abbrev pub format_text : Format → List ℕ
-format_text OctetStream = codes "application/octet-stream"
-format_text Pdf = codes "application/pdf"
-format_text Postscript = codes "application/postscript"
-format_text Jpeg = codes "image/jpeg"
-format_text PwgRaster = codes "image/pwg-raster"
-format_text Urf = codes "image/urf"
-format_text PlainText = codes "text/plain"
 
 -- ---- the columns of each table in order; a stored row has its rowid in column 0
 
@@ -54,7 +43,7 @@ job_view r =
     column r 0 ∷ column r 2 ∷ column r 3 ∷ column r 4 ∷ column r 5 ∷ column r 6 ∷ column r 7 ∷ column r 8 ∷ column r 9 ∷ column r 10 ∷ column r 11 ∷ column r 12 ∷ column r 13 ∷ column r 14 ∷ []
 
 abbrev pub document_values : DocumentRow → Row
-document_values d = number d.job ∷ number d.doc ∷ Words (format_text d.format) ∷ number d.octets ∷ []
+document_values d = number d.job ∷ number d.doc ∷ Words (format_name d.format) ∷ number d.octets ∷ []
 
 abbrev pub document_view : Row → Row
 document_view r = column r 1 ∷ column r 2 ∷ column r 3 ∷ column r 4 ∷ []

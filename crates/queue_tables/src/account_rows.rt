@@ -10,7 +10,7 @@ ghost use Rattle.queue_tables.specs.Values.{account_values};
 
 use crate::fault::Fault;
 use crate::run::run;
-use queue_core::event::FreeRow;
+use queue_types::event::FreeRow;
 use sqlite::{Alter, Transaction, params};
 
 /// Pages that are added to the sums of an account, below zero where they are taken off.

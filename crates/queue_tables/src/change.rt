@@ -4,7 +4,7 @@ ghost use Rattle.std.specs.FinMap.{get};
 ghost use Rattle.sqlite.specs.State.{HasCleanDisk, KeepsCommit};
 ghost use Rattle.sqlite.specs.Held.{state};
 ghost use Rattle.queue_core.specs.Book.{IsDecisionOn};
-ghost use Rattle.queue_core.specs.Event.{change_of, decision_of, document_of};
+ghost use Rattle.queue_types.specs.Event.{change_of, decision_of, document_of};
 ghost use Rattle.queue_core.specs.Sound.{IsSound};
 ghost use Rattle.queue_core.specs.World.{World, made_on};
 ghost use Rattle.queue_tables.specs.Content.{Holds, content_of};
@@ -17,8 +17,8 @@ use crate::grant_rows::insert_grants;
 use crate::meta_rows::update_next;
 use crate::put::put_jobs;
 use crate::report_rows::insert_report;
-use queue_core::event::{Change, Decision, KeptReport, NewDocument};
 use queue_core::laws::decisions_are_sound;
+use queue_types::event::{Change, Decision, KeptReport, NewDocument};
 use sqlite::{Alter, Transaction};
 use std::alloc::Global;
 

@@ -3,19 +3,20 @@ ghost use Rattle.std.specs.Prelude.{◌≡◌, ◌≤◌, ◌+◌, IfOk, OnOk, I
 ghost use Rattle.sqlite.specs.State.{HasCleanDisk, KeepsCommit};
 ghost use Rattle.sqlite.specs.Held.{state};
 ghost use Rattle.sqlite.specs.declared.types.Value.TheVariants.{Text as Words};
-ghost use Rattle.queue_core.specs.Event.{document_of};
+ghost use Rattle.queue_types.specs.Event.{document_of};
 ghost use Rattle.queue_core.specs.World.{World, rows, job_at};
-ghost use Rattle.queue_core.specs.declared.job.Job.{Job as JobValue};
+ghost use Rattle.queue_types.specs.declared.job.Job.{Job as JobValue};
 ghost use Rattle.queue_tables.specs.Content.{Content, Holds, content_of};
 ghost use Rattle.queue_tables.specs.Steps.{AreDistinct, documents_at, with_added, with_document_row};
-ghost use Rattle.queue_tables.specs.Values.{format_text, number};
+ghost use Rattle.queue_types.specs.Formats.{format_name};
+ghost use Rattle.queue_tables.specs.Values.{number};
 
 use crate::fault::Fault;
 use crate::job_rows::find_job;
 use crate::piece_rows::insert_pieces;
 use crate::run::{run, select_inside};
-use queue_core::document::Format;
-use queue_core::event::NewDocument;
+use queue_types::document::Format;
+use queue_types::event::NewDocument;
 use sqlite::{Alter, Transaction, params};
 use std::alloc::Global;
 
@@ -24,21 +25,6 @@ const MANY: usize = 16;
 
 /// The greatest length of a document in bytes.
 const LONG: usize = 16_777_216;
-
-/// The column `format`, a MIME media type.
-pub fn format_name(format: Format) -> &'static str
-    ensures { result.now ≡ format_text format }
-{
-    match format {
-        Format::OctetStream => "application/octet-stream",
-        Format::Pdf => "application/pdf",
-        Format::Postscript => "application/postscript",
-        Format::Jpeg => "image/jpeg",
-        Format::PwgRaster => "image/pwg-raster",
-        Format::Urf => "image/urf",
-        Format::PlainText => "text/plain",
-    }
-}
 
 /// Adds the row of a document.
 fn insert_document<S: Alter>(
@@ -52,12 +38,12 @@ fn insert_document<S: Alter>(
     ensures clean { HasCleanDisk (state S.Store tx.new.conn.now) → HasCleanDisk (state S.Store tx.old.conn.now) }
     ensures kept { HasCleanDisk (state S.Store tx.new.conn.now) → IsTrue (state S.Store tx.old.conn.now).in_transaction → KeepsCommit (state S.Store tx.old.conn.now) (state S.Store tx.new.conn.now) }
     ensures inside { HasCleanDisk (state S.Store tx.new.conn.now) → OnOk result (IsTrue (state S.Store tx.old.conn.now).in_transaction → IsTrue (state S.Store tx.new.conn.now).in_transaction) }
-    ensures done { HasCleanDisk (state S.Store tx.new.conn.now) → OnOk result ((c : Content) → Holds c (state S.Store tx.old.conn.now) → Holds (with_document_row (number job ∷ number doc ∷ Words (format_text format) ∷ number octets ∷ []) c) (state S.Store tx.new.conn.now)) }
+    ensures done { HasCleanDisk (state S.Store tx.new.conn.now) → OnOk result ((c : Content) → Holds c (state S.Store tx.old.conn.now) → Holds (with_document_row (number job ∷ number doc ∷ Words (format_name format) ∷ number octets ∷ []) c) (state S.Store tx.new.conn.now)) }
 {
     run(
         tx,
         "INSERT INTO documents (job, doc, format, octets) VALUES (?1, ?2, ?3, ?4)",
-        params![job, doc, format_name(format), octets],
+        params![job, doc, format.name(), octets],
     )?;
     Ok(())
 }

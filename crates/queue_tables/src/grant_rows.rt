@@ -9,7 +9,7 @@ ghost use Rattle.queue_tables.specs.Values.{grant_values};
 
 use crate::fault::Fault;
 use crate::run::run;
-use queue_core::event::GrantRow;
+use queue_types::event::GrantRow;
 use sqlite::{Alter, Transaction, params};
 
 /// Adds a grant.

@@ -2,20 +2,44 @@
 ghost use Rattle.std.specs.Prelude.{◌≡◌, OnOk, IfOk, IsTrue, filter, option_map, [], ◌∷◌};
 ghost use Rattle.sqlite.specs.State.{HasCleanDisk, KeepsCommit};
 ghost use Rattle.sqlite.specs.Held.{state};
-ghost use Rattle.queue_core.specs.declared.job.Job.{Job as JobValue};
+ghost use Rattle.sqlite.specs.Values.{bound};
+ghost use Rattle.queue_types.specs.declared.job.Job.{Job as JobValue};
 ghost use Rattle.queue_core.specs.World.{World, rows, job_at};
 ghost use Rattle.queue_tables.specs.Content.{Content, Holds, content_of};
 ghost use Rattle.queue_tables.specs.Steps.{AreDistinct, bare, is_numbered, with_job_anew, with_job_row};
 ghost use Rattle.queue_tables.specs.Values.{job_values};
 
-use crate::codes::{phase_number_of, why_number_of};
 use crate::fault::Fault;
 use crate::read::read_job;
 use crate::run::{run, select_inside};
-use queue_core::job::Job;
+use queue_rows::codes::{phase_number_of, why_number_of};
 use queue_rows::laws::numbers_tell_names;
+use queue_types::job::Job;
+use sqlite::types::{ToSql, ValueRef};
 use sqlite::{Alter, Transaction, params};
 use std::alloc::Global;
+
+/// The columns of a job, as they are bound to a statement.
+fn columns_of(job: &Job) -> [ValueRef<'_>; 14]
+    ensures { bound result ≡ job_values job.now }
+{
+    [
+        job.number.to_sql(),
+        job.owner.as_str().to_sql(),
+        job.name.as_str().to_sql(),
+        job.copies.to_sql(),
+        job.impressions.to_sql(),
+        job.hold.to_sql(),
+        job.incoming.to_sql(),
+        phase_number_of(job.phase).to_sql(),
+        why_number_of(job.phase).to_sql(),
+        job.stopping.to_sql(),
+        job.count.to_sql(),
+        job.created.to_sql(),
+        job.begun.to_sql(),
+        job.ended.to_sql(),
+    ]
+}
 
 /// Adds a job.
 pub(crate) fn insert_job<S: Alter>(tx: &mut Transaction<'_, S>, job: &Job) -> Result<(), Fault>
@@ -28,22 +52,7 @@ pub(crate) fn insert_job<S: Alter>(tx: &mut Transaction<'_, S>, job: &Job) -> Re
     run(
         tx,
         "INSERT INTO jobs (number, owner, name, copies, impressions, hold, incoming, phase, why, stopping, count, created, begun, ended) VALUES (?1, ?2, ?3, ?4, ?5, ?6, ?7, ?8, ?9, ?10, ?11, ?12, ?13, ?14)",
-        params![
-            job.number,
-            job.owner.as_str(),
-            job.name.as_str(),
-            job.copies,
-            job.impressions,
-            job.hold,
-            job.incoming,
-            phase_number_of(job.phase),
-            why_number_of(job.phase),
-            job.stopping,
-            job.count,
-            job.created,
-            job.begun,
-            job.ended
-        ],
+        &columns_of(job),
     )?;
     Ok(())
 }
@@ -59,22 +68,7 @@ pub(crate) fn update_job<S: Alter>(tx: &mut Transaction<'_, S>, job: &Job) -> Re
     run(
         tx,
         "UPDATE jobs SET owner = ?2, name = ?3, copies = ?4, impressions = ?5, hold = ?6, incoming = ?7, phase = ?8, why = ?9, stopping = ?10, count = ?11, created = ?12, begun = ?13, ended = ?14 WHERE number = ?1",
-        params![
-            job.number,
-            job.owner.as_str(),
-            job.name.as_str(),
-            job.copies,
-            job.impressions,
-            job.hold,
-            job.incoming,
-            phase_number_of(job.phase),
-            why_number_of(job.phase),
-            job.stopping,
-            job.count,
-            job.created,
-            job.begun,
-            job.ended
-        ],
+        &columns_of(job),
     )?;
     Ok(())
 }

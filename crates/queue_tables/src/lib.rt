@@ -4,7 +4,6 @@
 
 mod account_rows;
 pub mod change;
-mod codes;
 mod document_rows;
 pub mod fault;
 mod grant_rows;

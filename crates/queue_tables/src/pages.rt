@@ -1,11 +1,11 @@
 //! The pages that a job takes of its owner's account.
 ghost use Rattle.std.specs.Prelude.{◌≡◌, ℕ, ◌≤◌, ◌*◌, ◌-◌, IfOk, pos, neg_ℤ, ◌≤ℤ◌, if◌then◌else◌};
 ghost use Rattle.queue_core.specs.Balance.{AreAmounts};
-ghost use Rattle.queue_core.specs.Job.{owed};
+ghost use Rattle.queue_types.specs.Job.{owed};
 
 use crate::account_rows::SumChange;
 use crate::fault::Fault;
-use queue_core::job::{Job, is_live_job};
+use queue_types::job::{Job, is_live_job};
 
 /// No more than 100,000 impressions, 999 copies and 100,000,000 printed pages; else these are no job's.
 fn pages_of(

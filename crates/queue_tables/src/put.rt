@@ -3,7 +3,7 @@ ghost use Rattle.std.specs.Prelude.{◌≡◌, ◌≤◌, ◌^◌, OnOk, IsTrue,
 ghost use Rattle.sqlite.specs.State.{HasCleanDisk, KeepsCommit};
 ghost use Rattle.sqlite.specs.Held.{state};
 ghost use Rattle.queue_core.specs.World.{World, rows, job_at, with_row};
-ghost use Rattle.queue_core.specs.declared.job.Job.{Job as JobValue};
+ghost use Rattle.queue_types.specs.declared.job.Job.{Job as JobValue};
 ghost use Rattle.queue_tables.specs.Content.{Holds, content_of};
 ghost use Rattle.queue_tables.specs.Steps.{IsSummable, bare, with_put, with_puts};
 
@@ -11,7 +11,7 @@ use crate::account_rows::add_to_sums;
 use crate::fault::Fault;
 use crate::job_rows::{find_job, insert_job, update_job};
 use crate::pages::{returned_by, taken_by};
-use queue_core::job::Job;
+use queue_types::job::Job;
 use sqlite::{Alter, Transaction};
 use std::alloc::Global;
 

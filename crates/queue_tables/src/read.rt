@@ -4,18 +4,21 @@ ghost use Rattle.sqlite.specs.Order.{column};
 ghost use Rattle.sqlite.specs.declared.types.Value.TheVariants.{Text as Words};
 ghost use Rattle.std.specs.Str.{IsUtf8};
 ghost use Rattle.std.specs.Prelude.{ℕ, List};
-ghost use Rattle.queue_core.specs.declared.job.Job.{Job as JobValue};
-ghost use Rattle.queue_core.specs.declared.job.Phase.{Phase as PhaseValue};
+ghost use Rattle.queue_types.specs.Formats.{format_name};
+ghost use Rattle.queue_types.specs.declared.document.Format.{Format as FormatValue};
+ghost use Rattle.queue_types.specs.declared.job.Job.{Job as JobValue};
+ghost use Rattle.queue_types.specs.declared.job.Phase.{Phase as PhaseValue};
 ghost use Rattle.queue_rows.specs.Codes.{phase_number, why_number};
 ghost use Rattle.queue_tables.specs.Forms.{IsFormedJob};
 ghost use Rattle.queue_tables.specs.Values.{job_values, moment, number, truth};
 
 use crate::fault::{Fault, fault_of_value};
-use queue_core::job::{Job, Phase};
-use queue_core::text::Text;
 use queue_rows::codes::{flag_of, phase_of};
+use queue_types::document::Format;
+use queue_types::job::{Job, Phase};
+use queue_types::text::Text;
 use sqlite::Row;
-use sqlite::types::FromSql;
+use sqlite::types::{FromSql, ValueRef};
 use std::alloc::Global;
 
 /// One value. Damaged is told only where the column has not this form.
@@ -64,6 +67,23 @@ pub fn phase(row: &Row, at: usize, why_at: usize) -> Result<Phase, Fault>
     let why: i64 = value(row, why_at)?;
     match phase_of(code, why) {
         Some(p) => Ok(p),
+        None => Err(Fault::Damaged),
+    }
+}
+
+/// A document format, by its name.
+pub fn format(row: &Row, at: usize) -> Result<Format, Fault>
+    ensures ok { IfOk result (λ f. column row.now at ≡ Words (format_name f)) }
+    ensures err { IfErr result (λ e. e ≡ Fault.Damaged → at < length row.now → (f : FormatValue) → column row.now at ≢ Words (format_name f)) }
+    ensures never { IfErr result (λ e. e ≢ Fault.Disk) }
+{
+    let text = match row.get_ref(at) {
+        Ok(ValueRef::Text(text)) => text,
+        Ok(_) => return Err(Fault::Damaged),
+        Err(_) => return Err(Fault::Damaged),
+    };
+    match Format::of_name(text) {
+        Some(f) => Ok(f),
         None => Err(Fault::Damaged),
     }
 }

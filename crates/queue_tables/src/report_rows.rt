@@ -8,10 +8,10 @@ ghost use Rattle.queue_tables.specs.Content.{Content, Holds, content_of};
 ghost use Rattle.queue_tables.specs.Steps.{with_kept};
 ghost use Rattle.queue_tables.specs.Values.{report_values};
 
-use crate::codes::kind_number_of;
 use crate::fault::Fault;
 use crate::run::run;
-use queue_core::event::KeptReport;
+use queue_rows::codes::kind_number_of;
+use queue_types::event::KeptReport;
 use sqlite::{Alter, Transaction, params};
 
 /// Adds a report, of whose job and sequence number none is kept.

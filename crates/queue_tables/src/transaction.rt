@@ -3,14 +3,14 @@ ghost use Rattle.std.specs.Prelude.{◌≡◌, OnOk, OnErr, IsTrue};
 ghost use Rattle.sqlite.specs.State.{HasCleanDisk};
 ghost use Rattle.sqlite.specs.Held.{state};
 ghost use Rattle.queue_core.specs.Book.{IsDecisionOn};
-ghost use Rattle.queue_core.specs.Event.{change_of, decision_of};
+ghost use Rattle.queue_types.specs.Event.{change_of, decision_of};
 ghost use Rattle.queue_core.specs.Sound.{IsSound};
 ghost use Rattle.queue_core.specs.World.{World, made_on};
 ghost use Rattle.queue_tables.specs.Content.{Holds, content_of};
 
 use crate::change::write_change;
 use crate::fault::{Fault, fault_of_write};
-use queue_core::event::Decision;
+use queue_types::event::Decision;
 use sqlite::{Alter, Connection};
 use std::alloc::Global;
 

@@ -1,8 +1,7 @@
 -- A number of decimal digits without leading zeros, as a text is read.
-use Rattle.std.proofs.Common.{◌≡◌, ◌≢◌, ℕ, zero, suc, ◌<◌, ◌≤◌, ◌^◌, Bool, true, false, List, [], ◌∷◌, length, get_or, Some, None, Result, Ok, Err, refl, sym, ap, ◌∙◌, arith}
-use Rattle.std.specs.Prelude.{IfSome, IfNone, MatchResult, is_ok, slice_get}
+use Rattle.std.proofs.Common.{◌≡◌, ◌≢◌, ℕ, zero, suc, ◌<◌, ◌≤◌, ◌^◌, Bool, true, false, List, [], ◌∷◌, length, get_or, Some, None, Result, Ok, refl, sym, ap, ◌∙◌, arith}
+use Rattle.std.specs.Prelude.{IfSome, IfNone, slice_get}
 use Rattle.std.specs.Bool.{then_some}
-use Rattle.std.specs.Result.{result_ok}
 use Rattle.std.specs.Fmt.{decimal}
 use Rattle.std.specs.Str.{IsUtf8}
 use Rattle.std.specs.Str.Parse.{AllDigits, ParsesUnsigned, digits_value}
@@ -59,19 +58,6 @@ first_is (x ∷ rest) first h = cc h
 pub has_first : (digits : List ℕ) → None ≡ slice_get digits 0 → 0 < length digits → ⊥
 has_first [] h some = omega arith
 has_first (x ∷ rest) h some = cc h
-
-pub read_as_ok : {V E : Type 0} (r : Result V E) (v : V) → Some v ≡ result_ok r → r ≡ Ok v
-read_as_ok (Ok w) v h = cc h
-read_as_ok (Err e) v h = cc h
-
-pub not_read : {V E : Type 0} (r : Result V E) (v : V) → false ≡ is_ok r → r ≡ Ok v → ⊥
-not_read (Ok w) v h e = cc h
-not_read (Err d) v h e = cc e
-
-pub refused_text : {V E P : Type 0} (r : Result V E) (A : V → Type 0) (B : E → Type 0)
-    → MatchResult r A (λ e. ¬ P × B e) → false ≡ is_ok r → P → ⊥
-refused_text (Ok v) A B h e p = cc e
-refused_text (Err d) A B h e p = h.0 p
 
 pub kept : (b : Bool) (n : ℕ) (P : ℕ → Type 0) → (b ≡ true → P n) → IfSome (then_some b n) P
 kept true n P h = h refl

@@ -14,12 +14,12 @@ use Rattle.ipp_ops.specs.Verdict.{Verdict, passed, refused}
 use Rattle.ipp_ops.specs.declared.outcome.Answer.{Answer}
 use Rattle.ipp_ops.specs.declared.outcome.TooShort.{TooShort}
 use Rattle.ipp_wire.specs.Message.{head_of}
-use Rattle.queue_core.specs.Event.{grant}
+use Rattle.queue_types.specs.Event.{grant}
 use Rattle.queue_core.specs.Machine.{step}
-use Rattle.queue_core.specs.Settings.{SettingValues}
+use Rattle.queue_types.specs.Settings.{SettingValues}
 use Rattle.queue_core.specs.World.{World}
-use Rattle.queue_core.specs.declared.event.GrantRow.{GrantRow}
-use Rattle.queue_core.specs.declared.event.Report.{Report}
+use Rattle.queue_types.specs.declared.event.GrantRow.{GrantRow}
+use Rattle.queue_types.specs.declared.event.Report.{Report}
 use Rattle.replay.specs.Session.{AnswersLine, AnswersMessage, Imports, IsReply, State, Takes, file_of}
 use Rattle.replay.specs.declared.request_line.RequestLine.{RequestLine}
 use Rattle.replay.specs.declared.request_line.RequestLine.TheVariants.{Now, Ipp, Dev, Grant}

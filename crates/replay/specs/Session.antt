@@ -7,9 +7,9 @@ use Rattle.grants_csv.specs.File.{rows_of}
 use Rattle.grants_csv.specs.Import.{Adds, Refuses}
 use Rattle.grants_csv.specs.declared.fault.ImportFault.{ImportFault}
 use Rattle.grants_csv.specs.declared.importing.Imported.{Imported}
-use Rattle.queue_core.specs.Event.{grant}
+use Rattle.queue_types.specs.Event.{grant}
 use Rattle.queue_core.specs.Machine.{step}
-use Rattle.queue_core.specs.declared.event.GrantRow.{GrantRow}
+use Rattle.queue_types.specs.declared.event.GrantRow.{GrantRow}
 use Rattle.hex.specs.Hex.{decode_of, encode_lower}
 use Rattle.ipp_ops.specs.Answer.{Answers, Fails}
 use Rattle.queue_core.specs.World.{World}

@@ -1,7 +1,7 @@
 //! Why the program can't go on.
 
 use queue_core::book::BookFault;
-use queue_core::settings::SettingFault;
+use queue_types::settings::SettingFault;
 use std::alloc::{AllocError, AllocFailed};
 use std::io;
 use thiserror::Error;

@@ -11,7 +11,7 @@ use crate::fault::Fault;
 use crate::lines::{Line, LineReader};
 use crate::session::take_line;
 use queue_core::book::QueueBook;
-use queue_core::settings::Settings;
+use queue_types::settings::Settings;
 use std::alloc::Global;
 use std::io::{Read, Write};
 

@@ -22,7 +22,7 @@ use device_lines::{ReportAnswer, report};
 use grants_csv::{ImportCause, ImportFault, Imported, import};
 use ipp_ops::{Answer, TooShort, answer};
 use queue_core::book::QueueBook;
-use queue_core::settings::Settings;
+use queue_types::settings::Settings;
 use std::alloc::{AllocError, Global};
 use std::io::Write;
 

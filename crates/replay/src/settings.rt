@@ -4,7 +4,7 @@ ghost use Rattle.std.specs.Prelude.{◌≡◌, IfOk};
 ghost use Rattle.replay.specs.Replay.{settings};
 
 use crate::fault::Fault;
-use queue_core::settings::Settings;
+use queue_types::settings::Settings;
 use std::alloc::Global;
 
 const URI: &str = "ipp://localhost/ipp/print";

@@ -4,7 +4,6 @@ mod adopted;
 mod columns;
 mod compare;
 mod desk;
-mod files;
 mod judge;
 mod pieces;
 mod queue;

@@ -2,9 +2,9 @@
 
 use device_lines::queue_text;
 use page_statements::statement;
-use queue_core::job::{Job, JobList, Phase};
-use queue_core::sheet::AccountSheet;
-use queue_core::text::Text;
+use queue_types::job::{Job, JobList, Phase};
+use queue_types::sheet::AccountSheet;
+use queue_types::text::Text;
 use std::alloc::Global;
 use std::slice;
 use std::test::Fail;

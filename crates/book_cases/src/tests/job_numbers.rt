@@ -8,14 +8,14 @@ use book_desk::Step::{Ask, Jobs, Look};
 use book_desk::{JobsWanted, RowFault, Shelf, Step, StepFault, take_row};
 use book_shelves::{adopt, tables_in_memory};
 use queue_core::book::BookFault;
-use queue_core::document::Format;
-use queue_core::event::{
+use queue_core::machine::decide;
+use queue_store::TableBook;
+use queue_types::document::Format;
+use queue_types::event::{
     Call, Decision, Event, FreeList, KnownList, NewJob, QueueCounts, Reply, Scene,
 };
-use queue_core::job::JobList;
-use queue_core::machine::decide;
-use queue_core::settings::Settings;
-use queue_store::TableBook;
+use queue_types::job::JobList;
+use queue_types::settings::Settings;
 use sqlite::{Alter, Connection, MemStore};
 use std::alloc::Global;
 use std::test::Fail;

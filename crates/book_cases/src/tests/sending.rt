@@ -5,7 +5,7 @@ use book_desk::Step::{Ask, Grant};
 use book_desk::{Desk, Request, Shelf, Step, desk_after};
 use book_shelves::{Adopted, InFile, InLists, InTables, TestBooks};
 use queue_core::book::{QueueBook, SendCause, SendFault};
-use queue_core::document::{DocumentHead, Format};
+use queue_types::document::{DocumentHead, Format};
 use std::alloc::Global;
 use std::io;
 use std::io::Write;

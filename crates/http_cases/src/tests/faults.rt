@@ -12,10 +12,10 @@ use http_desk::requests::{
 use http_front::{End, ServeCause, ServeFault, Served};
 use list_book::ListBook;
 use queue_core::book::{BookFault, QueueBook, SendCause, SendFault};
-use queue_core::document::DocumentHead;
-use queue_core::event::{Decision, Event};
-use queue_core::job::JobList;
-use queue_core::sheet::AccountSheet;
+use queue_types::document::DocumentHead;
+use queue_types::event::{Decision, Event};
+use queue_types::job::JobList;
+use queue_types::sheet::AccountSheet;
 use std::alloc::Global;
 use std::io::Write;
 

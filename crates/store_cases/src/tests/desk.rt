@@ -8,7 +8,7 @@ use device_lines::report;
 use grants_csv::{Imported, import};
 use ipp_ops::{Answer, answer};
 use queue_core::book::QueueBook;
-use queue_core::settings::Settings;
+use queue_types::settings::Settings;
 use std::alloc::Global;
 use std::test::Fail;
 

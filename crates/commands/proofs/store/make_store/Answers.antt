@@ -1,6 +1,6 @@
 use Rattle.std.proofs.Common.{◌≡◌, sym, ◌∙◌, subst}
 use Rattle.sqlite.specs.Files.{over_files}
-use Rattle.queue_core.specs.Settings.{SettingValues}
+use Rattle.queue_types.specs.Settings.{SettingValues}
 use Rattle.queue_core.specs.World.{empty_queue}
 use Rattle.queue_store.specs.Kept.{StandsFor}
 use Rattle.commands.proofs.StoreLemmas.{is_no_setting}

@@ -1,5 +1,5 @@
 use Rattle.std.proofs.Common.{refl, Ok, Err}
-use Rattle.queue_core.specs.Event.{tell}
+use Rattle.queue_types.specs.Event.{tell}
 use Rattle.queue_core.specs.Machine.{step}
 use Rattle.device_lines.specs.Reports.{is_fault_line}
 use Rattle.device_lines.proofs.Flags.{on_false, on_true}

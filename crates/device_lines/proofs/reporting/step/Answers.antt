@@ -1,4 +1,4 @@
-use Rattle.queue_core.specs.Event.{tell}
+use Rattle.queue_types.specs.Event.{tell}
 use Rattle.device_lines.proofs.reporting.step.Goals as goal
 
 pub apply-requires : goal.apply-requires

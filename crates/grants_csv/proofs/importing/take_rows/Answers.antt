@@ -1,4 +1,4 @@
-use Rattle.queue_core.specs.Event.{grant}
+use Rattle.queue_types.specs.Event.{grant}
 use Rattle.grants_csv.proofs.importing.take_rows.Goals as goal
 
 pub apply-requires : goal.apply-requires

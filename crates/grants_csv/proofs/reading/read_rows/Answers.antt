@@ -2,7 +2,7 @@ use Rattle.std.proofs.Common.{◌∷◌, [], All, arith, rules}
 use Rattle.std.proofs.lemmas.List.{length-append}
 use Rattle.std.proofs.lemmas.List.Elements.{All-append, All-cons, All-nil}
 use Rattle.queue_core.specs.Limits.{IsGrantRow}
-use Rattle.queue_core.specs.declared.event.GrantRow.{GrantRow}
+use Rattle.queue_types.specs.declared.event.GrantRow.{GrantRow}
 use Rattle.grants_csv.proofs.Rows.{after_nil, turn_bad, turn_more, turn_none, turns_end}
 use Rattle.grants_csv.proofs.reading.read_rows.Goals as goal
 

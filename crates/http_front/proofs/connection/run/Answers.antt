@@ -1,6 +1,6 @@
 use Rattle.std.proofs.Common.{false, ◌+◌, ◌∙◌, arith, rules, ap, sym, subst, if◌then◌else◌, ◌^◌}
-use Rattle.http_wire.specs.Left.{left}
-use Rattle.http_wire.specs.declared.end.End.{End}
+use Rattle.http_head.specs.Left.{left}
+use Rattle.http_head.specs.declared.end.End.{End}
 use Rattle.http_front.specs.Connections.{IsServed}
 use Rattle.http_front.proofs.RunLemmas.{worked_none, worked_on, worked_settings, worked_within, ran_none, ran_on, run_settings, served_done, served_ended, stopped_at}
 use Rattle.http_front.proofs.connection.run.Goals as goal

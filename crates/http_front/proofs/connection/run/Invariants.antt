@@ -1,6 +1,6 @@
 use Rattle.std.proofs.Common.{◌-◌, ◌^◌, ◌<◌, ◌≤◌, ◌≡◌}
 use Rattle.queue_core.specs.World.{World}
-use Rattle.http_wire.specs.Left.{left}
+use Rattle.http_head.specs.Left.{left}
 use Rattle.http_front.specs.Connections.{Worked}
 use Rattle.http_front.proofs.Runs.{RanOn}
 use Rattle.http_front.proofs.connection.run.Given as goal

@@ -1,6 +1,6 @@
 use Rattle.std.proofs.Common.{◌≡◌, Option, ℕ, List, ap, subst, IfErr, IfOk}
 use Rattle.queue_core.specs.World.{World}
-use Rattle.http_wire.specs.Routes.{routes}
+use Rattle.http_head.specs.Routes.{routes}
 use Rattle.http_front.specs.Connections.{IsServed, IsStopped}
 use Rattle.http_front.proofs.RunLemmas.{left_at_first, router_of}
 use Rattle.http_front.proofs.connection.serve.Goals as goal

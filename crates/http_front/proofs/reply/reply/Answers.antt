@@ -1,4 +1,4 @@
-use Rattle.http_wire.specs.declared.target.Target.TheVariants.{Ipp, Report, Queue, Document}
+use Rattle.http_head.specs.declared.target.Target.TheVariants.{Ipp, Report, Queue, Document}
 use Rattle.http_front.proofs.ReplyLemmas.{retarget}
 use Rattle.http_front.proofs.reply.reply.Goals as goal
 

@@ -1,11 +1,11 @@
 use Rattle.std.proofs.Common.{◌≡◌, refl, inl, inr, rules, length, subst, List, ℕ, None, Some, false}
 use Rattle.std.specs.Io.KnownBytes.{Appends}
 use Rattle.std.proofs.KnownBytes.{Appends-trans}
-use Rattle.ipp_reply.specs.Formats.{format_name}
+use Rattle.queue_types.specs.Formats.{format_name}
 use Rattle.queue_core.specs.Shown.{document_at}
 use Rattle.http_wire.specs.Responses.{success_head, WritesFront}
-use Rattle.http_wire.specs.declared.end.Refusal.TheVariants.{NotFound, Unavailable}
-use Rattle.http_wire.specs.declared.target.Target.TheVariants.{Document}
+use Rattle.http_head.specs.declared.end.Refusal.TheVariants.{NotFound, Unavailable}
+use Rattle.http_head.specs.declared.target.Target.TheVariants.{Document}
 use Rattle.http_front.proofs.WriteLemmas.{front_taken, front_part, front_after}
 use Rattle.http_front.proofs.ReplyLemmas.{no_number, at_number, there_of, none_there, document_answer, line_is, replied_ok, replied_err, replied_declined}
 use Rattle.http_front.proofs.reply.reply_document.Goals as goal

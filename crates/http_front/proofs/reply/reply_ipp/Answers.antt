@@ -1,8 +1,8 @@
 use Rattle.std.proofs.Common.{refl, inl, length, rules}
 use Rattle.std.specs.Prelude.{codes, true}
 use Rattle.ipp_ops.specs.Answer.{bytes_of}
-use Rattle.http_wire.specs.declared.end.Refusal.TheVariants.{BadRequest}
-use Rattle.http_wire.specs.declared.target.Target.TheVariants.{Ipp}
+use Rattle.http_head.specs.declared.end.Refusal.TheVariants.{BadRequest}
+use Rattle.http_head.specs.declared.target.Target.TheVariants.{Ipp}
 use Rattle.http_front.specs.declared.outcome.ServeCause.TheVariants.{Write}
 use Rattle.http_front.proofs.ReplyLemmas.{headed_of, ipp_answer, replied_ok, replied_err, replied_declined}
 use Rattle.http_front.proofs.reply.reply_ipp.Goals as goal

@@ -1,8 +1,8 @@
 use Rattle.std.proofs.Common.{◌≡◌, ◌∙◌, ap, refl, inr, false}
 use Rattle.std.specs.Prelude.{codes}
 use Rattle.device_lines.specs.Queue.{queue_lines}
-use Rattle.http_wire.specs.declared.end.Refusal.TheVariants.{Unavailable}
-use Rattle.http_wire.specs.declared.target.Target.TheVariants.{Queue}
+use Rattle.http_head.specs.declared.end.Refusal.TheVariants.{Unavailable}
+use Rattle.http_head.specs.declared.target.Target.TheVariants.{Queue}
 use Rattle.http_front.proofs.ReplyLemmas.{queue_answer, replied_ok, replied_err, replied_declined}
 use Rattle.http_front.proofs.reply.reply_queue.Goals as goal
 

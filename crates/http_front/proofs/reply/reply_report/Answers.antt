@@ -1,6 +1,6 @@
 use Rattle.std.proofs.Common.{refl}
 use Rattle.std.specs.Prelude.{codes, true}
-use Rattle.http_wire.specs.declared.target.Target.TheVariants.{Report}
+use Rattle.http_head.specs.declared.target.Target.TheVariants.{Report}
 use Rattle.http_front.specs.declared.outcome.ServeCause.TheVariants.{Write}
 use Rattle.http_front.proofs.ReplyLemmas.{report_answer, replied_ok, replied_err}
 use Rattle.http_front.proofs.reply.reply_report.Goals as goal

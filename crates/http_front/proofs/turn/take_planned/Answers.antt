@@ -1,7 +1,7 @@
 use Rattle.std.proofs.Common.{refl}
-use Rattle.http_wire.specs.Left.{left}
-use Rattle.http_wire.specs.declared.end.Finish.TheVariants.{Refused}
-use Rattle.http_wire.specs.declared.end.Refusal.TheVariants.{Unavailable}
+use Rattle.http_head.specs.Left.{left}
+use Rattle.http_head.specs.declared.end.Finish.TheVariants.{Refused}
+use Rattle.http_head.specs.declared.end.Refusal.TheVariants.{Unavailable}
 use Rattle.http_front.proofs.TurnedLemmas.{planned_unsaid, planned_unread, planned_closed, planned_answered, planned_broken, end_in_body, end_unavailable, end_declined, body_as, said_on, same_world, closed_idle, plan_idle, plan_works}
 use Rattle.http_front.proofs.turn.take_planned.Goals as goal
 

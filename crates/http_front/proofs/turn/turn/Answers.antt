@@ -1,6 +1,6 @@
-use Rattle.http_wire.specs.Left.{left}
-use Rattle.http_wire.specs.declared.end.Finish.TheVariants.{Refused}
-use Rattle.http_wire.specs.declared.end.Refusal.TheVariants.{Unavailable}
+use Rattle.http_head.specs.Left.{left}
+use Rattle.http_head.specs.declared.end.Finish.TheVariants.{Refused}
+use Rattle.http_head.specs.declared.end.Refusal.TheVariants.{Unavailable}
 use Rattle.http_front.proofs.TurnedLemmas.{lifted, lifted_works, closed_idle, idle, turned_closed, turned_unread, end_no_head, end_checked, end_unserved}
 use Rattle.http_front.proofs.turn.turn.Goals as goal
 

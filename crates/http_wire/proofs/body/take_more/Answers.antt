@@ -1,8 +1,8 @@
 use Rattle.std.proofs.Common.{◌≡◌, ◌+◌, ◌≤◌, ◌++◌, take, length, ap, arith, subst, sym, List, ℕ, rules}
 use Rattle.std.proofs.lemmas.Grind.{common_steps}
 use Rattle.http_wire.specs.Bodies.{TakesMore}
-use Rattle.http_wire.specs.Left.{left}
-use Rattle.http_wire.proofs.LeftLemmas.{more_taken}
+use Rattle.http_head.specs.Left.{left}
+use Rattle.http_wire.proofs.BodyLemmas.{more_taken}
 use Rattle.http_wire.proofs.body.take_more.Goals as goal
 
 pub take-preserved : goal.take-preserved

@@ -1,5 +1,5 @@
 use Rattle.std.proofs.Common.{◌-◌, ◌≤◌}
-use Rattle.http_wire.specs.Left.{left}
+use Rattle.http_head.specs.Left.{left}
 use Rattle.http_wire.specs.Bodies.{TakesMore}
 use Rattle.http_wire.proofs.body.take_more.Given as goal
 

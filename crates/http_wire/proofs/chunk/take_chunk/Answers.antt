@@ -1,5 +1,5 @@
 use Rattle.std.proofs.Common.{rules}
-use Rattle.http_wire.specs.Left.{left}
+use Rattle.http_head.specs.Left.{left}
 use Rattle.http_wire.proofs.ChunkLemmas.{chunk_taken}
 use Rattle.http_wire.proofs.chunk.take_chunk.Goals as goal
 

@@ -1,5 +1,5 @@
 use Rattle.std.proofs.Common.{IfSome, rules, subst}
-use Rattle.http_wire.specs.Left.{left}
+use Rattle.http_head.specs.Left.{left}
 use Rattle.http_wire.specs.ChunkEnds.{EndsAtTrailers}
 use Rattle.http_wire.specs.ChunkParts.{TakesToLast, TakesTrailers}
 use Rattle.http_wire.specs.declared.chunk.Bound.{Bound}

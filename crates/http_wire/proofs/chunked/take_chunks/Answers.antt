@@ -1,8 +1,8 @@
 use Rattle.std.proofs.Common.{◌≡◌, ◌+◌, ◌<◌, ◌≤◌, ◌⊎◌, ◌++◌, IfSome, length, length-append, ap, subst, refl, arith, rules, List, ℕ}
 use Rattle.std.specs.Io.KnownBytes.{Consumes}
 use Rattle.httparse.specs.Ascii.{crlf_bytes}
-use Rattle.http_wire.specs.Left.{left}
-use Rattle.http_wire.specs.Limits.{content_limit, raw_limit}
+use Rattle.http_head.specs.Left.{left}
+use Rattle.http_head.specs.Limits.{content_limit, raw_limit}
 use Rattle.http_wire.specs.ChunkEnds.{EndsAtLine, EndsInChunk}
 use Rattle.http_wire.specs.ChunkParts.{TakesLine}
 use Rattle.http_wire.specs.declared.chunk.Bound.{Bound}

@@ -1,5 +1,5 @@
 use Rattle.std.proofs.Common.{◌-◌, ◌≤◌, length}
-use Rattle.http_wire.specs.Left.{left}
+use Rattle.http_head.specs.Left.{left}
 use Rattle.http_wire.specs.ChunkParts.{TakesChunks}
 use Rattle.http_wire.proofs.chunked.take_chunks.Given as goal
 

@@ -1,5 +1,5 @@
 use Rattle.std.proofs.Common.{◌+◌, arith}
-use Rattle.http_wire.proofs.LeftLemmas.{put_rest, rest_length}
+use Rattle.http_head.proofs.LeftLemmas.{put_rest, rest_length}
 use Rattle.http_wire.proofs.WriteLemmas.{front_taken}
 use Rattle.http_wire.proofs.put.put.Goals as goal
 

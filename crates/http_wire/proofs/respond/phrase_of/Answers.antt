@@ -1,5 +1,5 @@
 use Rattle.std.proofs.Common.{◌≤◌, length, sym, subst, List, ℕ}
-use Rattle.http_wire.proofs.FieldLemmas.{phrase_short}
+use Rattle.http_wire.proofs.WriteLemmas.{phrase_short}
 use Rattle.http_wire.proofs.respond.phrase_of.Goals as goal
 
 pub returns-clause-short : goal.returns-clause-short

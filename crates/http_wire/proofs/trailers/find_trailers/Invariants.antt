@@ -1,6 +1,6 @@
 use Rattle.std.proofs.Common.{◌-◌, length}
 use Rattle.std.specs.Io.KnownBytes.{Keeps}
-use Rattle.http_wire.specs.Left.{left}
+use Rattle.http_head.specs.Left.{left}
 use Rattle.http_wire.proofs.trailers.find_trailers.Given as goal
 
 abbrev pub invariant-fill : goal.invariant-fill

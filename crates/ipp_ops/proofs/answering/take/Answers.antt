@@ -1,4 +1,4 @@
-use Rattle.queue_core.specs.Event.{ask, call_of}
+use Rattle.queue_types.specs.Event.{ask, call_of}
 use Rattle.ipp_ops.proofs.answering.take.Goals as goal
 
 pub apply-requires : goal.apply-requires

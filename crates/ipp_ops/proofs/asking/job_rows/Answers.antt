@@ -5,7 +5,7 @@ use Rattle.ipp_wire.specs.Message.{Attribute}
 use Rattle.ipp_wire.specs.Viewed.{values_of}
 use Rattle.ipp_reply.specs.JobReply.{selected}
 use Rattle.ipp_reply.specs.Wanted.{of_job, rows_of, words_of}
-use Rattle.ipp_ops.specs.Request.{request_of}
+use Rattle.ipp_request.specs.Request.{request_of}
 use Rattle.ipp_ops.specs.Verdict.{usual, requested}
 use Rattle.ipp_ops.proofs.asking.job_rows.Goals as goal
 

@@ -1,7 +1,7 @@
 use Rattle.std.proofs.Common.{◌≡◌, map, take}
 use Rattle.std.specs.Prelude.{unwrap_or}
 use Rattle.ipp_wire.specs.Viewed.{values_of}
-use Rattle.ipp_ops.specs.Values.{number_of}
+use Rattle.ipp_request.specs.Values.{number_of}
 use Rattle.ipp_ops.proofs.asking.numbers.Given as goal
 
 abbrev pub invariant-loop-v : goal.invariant-loop-v

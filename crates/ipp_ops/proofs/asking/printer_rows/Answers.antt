@@ -6,7 +6,7 @@ use Rattle.ipp_wire.specs.Viewed.{values_of}
 use Rattle.ipp_reply.specs.Wanted.{rows_of, words_of}
 use Rattle.ipp_reply.specs.declared.operation.Operation.{Operation}
 use Rattle.ipp_reply.specs.declared.operation.Operation.TheVariants.{GetPrinterAttributes}
-use Rattle.ipp_ops.specs.Request.{request_of}
+use Rattle.ipp_request.specs.Request.{request_of}
 use Rattle.ipp_ops.specs.Verdict.{usual, requested, rows_by}
 use Rattle.ipp_ops.proofs.asking.printer_rows.Goals as goal
 

@@ -1,6 +1,6 @@
 use Rattle.std.proofs.Common.{◌≡◌, take}
 use Rattle.std.specs.Prelude.{map}
-use Rattle.ipp_reply.specs.Formats.{format_name, formats}
+use Rattle.queue_types.specs.Formats.{format_name, formats}
 use Rattle.ipp_reply.proofs.content.format_names.Given as goal
 
 abbrev pub invariant-loop-format : goal.invariant-loop-format

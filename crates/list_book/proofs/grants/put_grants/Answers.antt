@@ -1,7 +1,7 @@
 use Rattle.std.proofs.Common.{◌≡◌, ◌<◌, ◌+◌, ◌^◌, ◌∷◌, List, arith, rules, subst}
 use Rattle.std.specs.Vec.Iter.{into_iter_items}
 use Rattle.queue_core.specs.Grants.{pages_to}
-use Rattle.queue_core.specs.declared.event.GrantRow.{GrantRow}
+use Rattle.queue_types.specs.declared.event.GrantRow.{GrantRow}
 use Rattle.list_book.specs.Tables.{total_of}
 use Rattle.list_book.proofs.Totals.{pages_first}
 use Rattle.list_book.proofs.grants.put_grants.Goals as goal

@@ -1,5 +1,5 @@
 use Rattle.std.proofs.Common.{eq-eqb}
-use Rattle.list_book.proofs.Ordered.{all_of}
+use Rattle.queue_core.proofs.Ordered.{all_of}
 use Rattle.list_book.proofs.Put.{put_at, put_none}
 use Rattle.list_book.proofs.ByNumber.{absent, found, nowhere, unlike, when_false, when_true}
 use Rattle.list_book.proofs.lists.place_of.Goals as goal

@@ -1,7 +1,7 @@
 use Rattle.std.proofs.Common.{Bool, arith, rules}
 use Rattle.std.specs.Prelude.{nat_lt}
 use Rattle.std.proofs.lemmas.List.Sorted.{IsPartitionPoint-from_clause}
-use Rattle.queue_core.specs.declared.job.Job.{Job}
+use Rattle.queue_types.specs.declared.job.Job.{Job}
 use Rattle.list_book.proofs.ByNumber.{smaller_front, smaller, not_smaller}
 use Rattle.list_book.proofs.lists.smaller_than.Goals as goal
 

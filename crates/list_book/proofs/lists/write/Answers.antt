@@ -1,6 +1,6 @@
 use Rattle.std.proofs.Common.{◌≡◌, ap, sym, ◌∙◌, refl}
 use Rattle.std.specs.Prelude.{fold}
-use Rattle.queue_core.specs.Event.{change_of}
+use Rattle.queue_types.specs.Event.{change_of}
 use Rattle.queue_core.specs.World.{job_at, put_free, put_grant}
 use Rattle.list_book.specs.Lists.{put_rows, with_kept, documents_of}
 use Rattle.list_book.specs.Tables.{free_map, grants_map}

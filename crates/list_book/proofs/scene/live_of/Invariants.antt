@@ -1,6 +1,6 @@
 use Rattle.std.proofs.Common.{◌≡◌, ◌≤◌, take}
 use Rattle.std.specs.Prelude.{count_by, bytes_eq, ◌&&◌}
-use Rattle.queue_core.specs.Job.{is_live}
+use Rattle.queue_types.specs.Job.{is_live}
 use Rattle.list_book.proofs.scene.live_of.Given as goal
 
 abbrev pub invariant-loop-job : goal.invariant-loop-job

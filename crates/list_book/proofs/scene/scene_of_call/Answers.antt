@@ -1,5 +1,5 @@
 use Rattle.std.proofs.Common.{ap, ◌∙◌, refl}
-use Rattle.queue_core.specs.Event.{call_of}
+use Rattle.queue_types.specs.Event.{call_of}
 use Rattle.queue_core.specs.World.{jobs_for, live_for, counts_for}
 use Rattle.list_book.proofs.Put.{scene_is}
 use Rattle.list_book.proofs.scene.scene_of_call.Goals as goal

@@ -1,6 +1,6 @@
 use Rattle.std.proofs.Common.{◌≡◌, take}
 use Rattle.std.specs.Prelude.{filter, ◌==◌}
-use Rattle.queue_core.specs.Job.{state}
+use Rattle.queue_types.specs.Job.{state}
 use Rattle.list_book.proofs.seen.pending.Given as goal
 
 abbrev pub invariant-loop-job : goal.invariant-loop-job

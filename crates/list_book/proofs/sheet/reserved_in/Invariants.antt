@@ -1,6 +1,6 @@
 use Rattle.std.proofs.Common.{◌≡◌, take, cond}
 use Rattle.std.specs.Prelude.{sum_by, bytes_eq}
-use Rattle.queue_core.specs.Job.{owed}
+use Rattle.queue_types.specs.Job.{owed}
 use Rattle.list_book.proofs.sheet.reserved_in.Given as goal
 
 abbrev pub invariant-loop-job : goal.invariant-loop-job

@@ -1,6 +1,6 @@
 use Rattle.std.proofs.Common.{◌≡◌, take}
 use Rattle.std.specs.Prelude.{filter, bytes_eq, ◌&&◌, ◌||◌, nat_lt}
-use Rattle.queue_core.specs.Job.{owed}
+use Rattle.queue_types.specs.Job.{owed}
 use Rattle.list_book.proofs.sheet.sheet_jobs.Given as goal
 
 abbrev pub invariant-loop-job : goal.invariant-loop-job

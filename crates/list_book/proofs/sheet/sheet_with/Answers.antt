@@ -1,7 +1,7 @@
 use Rattle.std.proofs.Common.{ap, ◌∙◌, rules, cond, List}
 use Rattle.std.specs.Prelude.{bytes_eq, filter, sum_by, ◌&&◌, ◌||◌, nat_lt}
-use Rattle.queue_core.specs.Job.{owed}
-use Rattle.queue_core.specs.declared.job.Job.{Job}
+use Rattle.queue_types.specs.Job.{owed}
+use Rattle.queue_types.specs.declared.job.Job.{Job}
 use Rattle.list_book.specs.Tables.{total_of}
 use Rattle.list_book.proofs.SeenLemmas.{same_sheet}
 use Rattle.list_book.proofs.sheet.sheet_with.Goals as goal

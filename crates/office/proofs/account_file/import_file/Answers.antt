@@ -1,6 +1,6 @@
 use Rattle.std.proofs.Common.{◌≡◌, refl, sym, ◌∙◌, ap}
 use Rattle.grants_csv.specs.File.{rows_of}
-use Rattle.queue_core.specs.Event.{grant}
+use Rattle.queue_types.specs.Event.{grant}
 use Rattle.queue_core.specs.Machine.{step}
 use Rattle.office.proofs.Reading.{then}
 use Rattle.office.proofs.account_file.import_file.Goals as goal

@@ -1,7 +1,7 @@
 use Rattle.std.proofs.Common.{ℕ}
 use mathlib.Core.List.{append_assoc}
 use Rattle.std.specs.Prelude.{decimal}
-use Rattle.queue_core.specs.Job.{state, owed}
+use Rattle.queue_types.specs.Job.{state, owed}
 use Rattle.page_statements.proofs.Columns.{right_digits}
 use Rattle.page_statements.proofs.page.put_job.Goals as goal
 

@@ -1,7 +1,7 @@
 use Rattle.std.proofs.Common.{◌≡◌, ◌++◌, ℕ, List, [], take, arith, ap, subst, ◌∙◌}
 use Rattle.std.specs.Prelude.{OnOk, codes, decimal, flat_map, string_bytes}
 use Rattle.std.proofs.lemmas.List.{take_all}
-use Rattle.queue_core.specs.declared.job.Job.{Job}
+use Rattle.queue_types.specs.declared.job.Job.{Job}
 use Rattle.page_statements.specs.Statement.{job_row, row, table}
 use Rattle.page_statements.proofs.Columns.{right_digits, three_parts, total_line}
 use Rattle.page_statements.proofs.page.put_table.Goals as goal

@@ -2,7 +2,7 @@ use Rattle.std.proofs.Common.{◌≡◌, ◌+◌, ◌≤◌, ◌++◌, ◌∷◌
 use Rattle.std.specs.Prelude.{Some, bytes_eq, find, option_map}
 use Rattle.queue_core.specs.Grants.{pages_to}
 use Rattle.queue_core.specs.Tally.{is_key_of}
-use Rattle.queue_core.specs.declared.event.GrantRow.{GrantRow}
+use Rattle.queue_types.specs.declared.event.GrantRow.{GrantRow}
 use Rattle.queue_core.proofs.GrantLemmas.{pages_push, pages_to-push, still_few}
 use Rattle.queue_core.proofs.grants.add_row.Goals as goal
 

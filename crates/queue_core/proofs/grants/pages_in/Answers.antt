@@ -1,6 +1,6 @@
 use Rattle.std.proofs.Common.{ℕ, List, ap, ◌∙◌, ◌&&◌}
 use Rattle.std.specs.Prelude.{bytes_eq, find, option_map}
-use Rattle.queue_core.specs.declared.event.GrantRow.{GrantRow}
+use Rattle.queue_types.specs.declared.event.GrantRow.{GrantRow}
 use Rattle.queue_core.proofs.grants.pages_in.Goals as goal
 
 pub returns : goal.returns

@@ -1,7 +1,7 @@
 -- Each clause over worlds follows from what the machine's decision makes of the world that the scene was cut from.
 use Rattle.std.proofs.Common.{◌≡◌, sym, subst}
 use Rattle.std.specs.Prelude.{IfOk}
-use Rattle.queue_core.specs.Event.{Decision, event_of, decision_of}
+use Rattle.queue_types.specs.Event.{Decision, event_of, decision_of}
 use Rattle.queue_core.specs.Limits.{IsSoundDecision}
 use Rattle.queue_core.specs.Machine.{decision}
 use Rattle.queue_core.proofs.Steps.{step_keeps, decided_on, if_ok}

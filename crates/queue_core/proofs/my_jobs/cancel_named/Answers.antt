@@ -1,9 +1,9 @@
 use Rattle.std.proofs.Common.{◌≡◌, ap, sym, subst, ◌∙◌, cond, true, List}
 use Rattle.std.specs.Prelude.{IfOk, Some, filter}
 use Rattle.std.specs.List.{list_all}
-use Rattle.queue_core.specs.Event.{Decision, decision_of}
+use Rattle.queue_types.specs.Event.{Decision, decision_of}
 use Rattle.queue_core.specs.Machine.{all_canceled, are_there, cancel_my_jobs_row, is_cancelable, refused}
-use Rattle.queue_core.specs.declared.job.Job.{Job}
+use Rattle.queue_types.specs.declared.job.Job.{Job}
 use Rattle.queue_core.proofs.Numbers.{filter_whole}
 use Rattle.queue_core.proofs.my_jobs.cancel_named.Goals as goal
 

@@ -3,7 +3,7 @@ use Rattle.std.proofs.Math.Seq.{take-length}
 use Rattle.std.specs.Prelude.{All, filter}
 use Rattle.queue_core.specs.Balance.{AreAmounts}
 use Rattle.queue_core.specs.Machine.{canceled, is_cancelable}
-use Rattle.queue_core.specs.declared.job.Job.{Job}
+use Rattle.queue_types.specs.declared.job.Job.{Job}
 use Rattle.queue_core.proofs.Numbers.{canceled_more, amounts_kept, few_kept}
 use Rattle.queue_core.proofs.my_jobs.canceled_jobs.Goals as goal
 

@@ -1,7 +1,7 @@
 use Rattle.std.proofs.Common.{refl, arith, pos}
 use Rattle.queue_load.specs.Keyed.{id_before}
 use Rattle.queue_load.specs.declared.typed.RowId.{RowId}
-use Rattle.queue_load.proofs.OrderLemmas.{order_more, order_all}
+use Rattle.queue_rows.proofs.OrderLemmas.{order_more, order_all}
 use Rattle.queue_load.proofs.keyed.ids_rise.Goals as goal
 
 no_id : RowId

@@ -2,7 +2,7 @@ use Rattle.std.proofs.Common.{◌≤◌, ℕ, refl, sym, subst, arith}
 use Rattle.std.proofs.lemmas.List.{take_all}
 use Rattle.std.proofs.lemmas.List.Elements.{All-more}
 use Rattle.queue_rows.specs.Accounts.{accounts_of}
-use Rattle.queue_core.specs.declared.event.GrantRow.{GrantRow}
+use Rattle.queue_types.specs.declared.event.GrantRow.{GrantRow}
 use Rattle.queue_rows.proofs.accounts.grants_have_accounts.Goals as goal
 
 pub returns-then-not-has_account : goal.returns-then-not-has_account

@@ -1,5 +1,5 @@
 use Rattle.std.proofs.Common.{◌≡◌, ℕ, List, map, ap, ◌∙◌, arith}
-use Rattle.queue_core.specs.declared.job.Job.{Job}
+use Rattle.queue_types.specs.declared.job.Job.{Job}
 use Rattle.queue_rows.specs.Totals.{named, printed_amount}
 use Rattle.queue_rows.proofs.AmountLemmas.{total_by, sum_within, IfTotals-of}
 use Rattle.queue_rows.proofs.amounts.printed_totals.Goals as goal

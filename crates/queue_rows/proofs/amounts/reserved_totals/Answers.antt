@@ -1,6 +1,6 @@
 use Rattle.std.proofs.Common.{◌≡◌, ℕ, List, map, ap, ◌∙◌, arith}
-use Rattle.queue_core.specs.Job.{owed}
-use Rattle.queue_core.specs.declared.job.Job.{Job}
+use Rattle.queue_types.specs.Job.{owed}
+use Rattle.queue_types.specs.declared.job.Job.{Job}
 use Rattle.queue_rows.specs.Totals.{named, reserved_amount}
 use Rattle.queue_rows.proofs.AmountLemmas.{total_by, sum_within, IfTotals-of, owed_small}
 use Rattle.queue_rows.proofs.amounts.reserved_totals.Goals as goal

@@ -2,7 +2,7 @@ use Rattle.std.proofs.Common.{refl, sym, subst, arith}
 use Rattle.std.proofs.lemmas.List.{take_all}
 use Rattle.std.proofs.lemmas.List.Elements.{All-more}
 use Rattle.queue_rows.specs.Grants.{IsGrantRow}
-use Rattle.queue_core.specs.declared.event.GrantRow.{GrantRow}
+use Rattle.queue_types.specs.declared.event.GrantRow.{GrantRow}
 use Rattle.queue_rows.proofs.grants.grants_are_sound.Goals as goal
 
 pub returns-then-not-is_grant : goal.returns-then-not-is_grant

@@ -1,5 +1,5 @@
 use Rattle.std.proofs.Common.{◌≡◌, ◌≤◌, ℕ, List, map, sym, subst, ap, ◌∙◌, arith}
-use Rattle.queue_core.specs.declared.event.GrantRow.{GrantRow}
+use Rattle.queue_types.specs.declared.event.GrantRow.{GrantRow}
 use Rattle.queue_rows.specs.Totals.{named, grant_amount}
 use Rattle.queue_rows.proofs.AmountLemmas.{total_by, sum_within, if_ok_turned}
 use Rattle.queue_rows.proofs.grants.grants_are_within.Goals as goal

@@ -2,7 +2,7 @@ use Rattle.std.proofs.Common.{refl, sym, subst, arith}
 use Rattle.std.proofs.lemmas.List.{take_all}
 use Rattle.std.proofs.lemmas.List.Elements.{All-more}
 use Rattle.queue_rows.specs.Jobs.{IsJobRow}
-use Rattle.queue_core.specs.declared.job.Job.{Job}
+use Rattle.queue_types.specs.declared.job.Job.{Job}
 use Rattle.queue_rows.proofs.jobs.jobs_are_sound.Goals as goal
 
 pub returns-then-not-is_job_row : goal.returns-then-not-is_job_row

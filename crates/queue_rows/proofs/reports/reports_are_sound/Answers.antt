@@ -3,7 +3,7 @@ use Rattle.std.proofs.lemmas.List.{take_all}
 use Rattle.std.proofs.lemmas.List.Elements.{All-more}
 use Rattle.queue_rows.proofs.Defaults.{no_report}
 use Rattle.queue_rows.specs.Reports.{IsReportRow}
-use Rattle.queue_core.specs.declared.event.KeptReport.{KeptReport}
+use Rattle.queue_types.specs.declared.event.KeptReport.{KeptReport}
 use Rattle.queue_rows.proofs.reports.reports_are_sound.Goals as goal
 
 pub returns-then-not-is_report : goal.returns-then-not-is_report

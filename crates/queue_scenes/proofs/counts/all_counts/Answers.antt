@@ -1,6 +1,6 @@
 use Rattle.std.specs.Prelude.{count_by}
 use Rattle.sqlite.specs.Held.{state}
-use Rattle.queue_core.specs.Job.{is_live, is_running, is_stopped}
+use Rattle.queue_types.specs.Job.{is_live, is_running, is_stopped}
 use Rattle.queue_core.specs.World.{rows}
 use Rattle.queue_tables.specs.Content.{content_of}
 use Rattle.queue_scenes.proofs.Counting.{counts_queued, counts_running, counts_stopped}

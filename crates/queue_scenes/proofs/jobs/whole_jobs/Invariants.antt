@@ -4,7 +4,7 @@ use Rattle.sqlite.specs.State.{HasCleanDisk}
 use Rattle.queue_core.specs.Limits.{IsSoundJob}
 use Rattle.queue_core.specs.Sound.{IsSound}
 use Rattle.queue_core.specs.World.{World}
-use Rattle.queue_core.specs.declared.job.Job.{Job}
+use Rattle.queue_types.specs.declared.job.Job.{Job}
 use Rattle.queue_scenes.specs.Jobs.{AreRowsOf}
 use Rattle.queue_scenes.specs.Leaving.{LeavesRows}
 use Rattle.queue_tables.specs.Content.{Holds, content_of}

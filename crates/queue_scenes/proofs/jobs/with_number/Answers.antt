@@ -1,7 +1,7 @@
 use Rattle.std.proofs.Common.{◌==◌}
 use Rattle.sqlite.specs.Held.{state}
 use Rattle.queue_core.specs.World.{numbered, rows}
-use Rattle.queue_core.specs.declared.job.Job.{Job}
+use Rattle.queue_types.specs.declared.job.Job.{Job}
 use Rattle.queue_tables.proofs.Ending.{if_ok}
 use Rattle.queue_scenes.proofs.Statements.{select_job_query}
 use Rattle.queue_scenes.proofs.Lists.{filtered_rows, shows_numbered}

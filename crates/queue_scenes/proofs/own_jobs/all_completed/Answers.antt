@@ -2,7 +2,7 @@ use Rattle.std.proofs.Common.{None}
 use Rattle.sqlite.specs.Held.{state}
 use Rattle.queue_core.specs.Visible.{visible}
 use Rattle.queue_core.specs.World.{rows}
-use Rattle.queue_core.specs.declared.event.WhichJobs.TheVariants.{Completed}
+use Rattle.queue_types.specs.declared.event.WhichJobs.TheVariants.{Completed}
 use Rattle.queue_tables.proofs.Ending.{if_ok}
 use Rattle.queue_scenes.proofs.Ended.{ended_rows, shows_ended}
 use Rattle.queue_scenes.proofs.Statements.{select_ended_query}

@@ -1,8 +1,8 @@
 use Rattle.std.proofs.Common.{◌&&◌, bytes_eq, filter}
 use Rattle.sqlite.specs.Held.{state}
-use Rattle.queue_core.specs.Job.{is_live}
+use Rattle.queue_types.specs.Job.{is_live}
 use Rattle.queue_core.specs.World.{rows}
-use Rattle.queue_core.specs.declared.job.Job.{Job}
+use Rattle.queue_types.specs.declared.job.Job.{Job}
 use Rattle.queue_tables.proofs.Ending.{if_ok}
 use Rattle.queue_scenes.proofs.Lists.{filtered_rows, shows_own_live}
 use Rattle.queue_scenes.proofs.Statements.{select_own_live_query}

@@ -1,8 +1,8 @@
 use Rattle.std.proofs.Common.{◌≡◌, List, All, ◌∙◌, ap, sym, subst}
 use Rattle.queue_core.specs.Limits.{IsSoundJob}
 use Rattle.queue_core.specs.Visible.{by_state, within_limit}
-use Rattle.queue_core.specs.declared.event.WhichJobs.TheVariants.{NotCompleted}
-use Rattle.queue_core.specs.declared.job.Job.{Job}
+use Rattle.queue_types.specs.declared.event.WhichJobs.TheVariants.{NotCompleted}
+use Rattle.queue_types.specs.declared.job.Job.{Job}
 use Rattle.queue_core.proofs.Ordered.{all_of, each_of, each-visible}
 use Rattle.queue_scenes.proofs.own_jobs.not_completed.Goals as goal
 

@@ -3,7 +3,7 @@ use Rattle.std.proofs.lemmas.List.{get_or_default, take_all}
 use Rattle.sqlite.specs.Held.{state}
 use Rattle.queue_core.specs.Limits.{IsSoundJob}
 use Rattle.queue_core.specs.World.{rows}
-use Rattle.queue_core.specs.declared.job.Job.{Job}
+use Rattle.queue_types.specs.declared.job.Job.{Job}
 use Rattle.queue_tables.specs.Content.{content_of}
 use Rattle.queue_scenes.proofs.Leaving.{leaves_all, leaves_then}
 use Rattle.queue_scenes.proofs.Lists.{world_rising}

@@ -1,5 +1,5 @@
 use Rattle.std.proofs.Common.{◌≡◌, ◌++◌, take, bytes_eq, filter}
-use Rattle.queue_core.specs.declared.job.Job.{Job}
+use Rattle.queue_types.specs.declared.job.Job.{Job}
 use Rattle.queue_scenes.proofs.own_numbers.push_owned.Given as goal
 
 abbrev pub invariant-loop-job : goal.invariant-loop-job

@@ -1,9 +1,9 @@
 use Rattle.std.proofs.Common.{◌==◌, filter, ◌∙◌}
 use Rattle.sqlite.specs.Held.{state}
-use Rattle.queue_core.specs.Job.{state as job_state}
+use Rattle.queue_types.specs.Job.{state as job_state}
 use Rattle.queue_core.specs.Shown.{pending_in}
 use Rattle.queue_core.specs.World.{rows}
-use Rattle.queue_core.specs.declared.job.Job.{Job}
+use Rattle.queue_types.specs.declared.job.Job.{Job}
 use Rattle.queue_scenes.proofs.Lists.{filtered_rows, shows_pending}
 use Rattle.queue_scenes.proofs.Statements.{select_pending_query}
 use Rattle.queue_scenes.proofs.pending.pending.Goals as goal

@@ -2,7 +2,7 @@ use Rattle.std.proofs.Common.{◌≡◌, ℕ, Some, ap, sym, rules, ◌∙◌}
 use Rattle.std.specs.FinMap.{get}
 use Rattle.sqlite.specs.Held.{state}
 use Rattle.sqlite.specs.Order.{Row, column}
-use Rattle.queue_core.specs.declared.event.KeptReport.{KeptReport}
+use Rattle.queue_types.specs.declared.event.KeptReport.{KeptReport}
 use Rattle.queue_scenes.proofs.Found.{report_shown, report_keyed, told_row}
 use Rattle.queue_scenes.proofs.Lookup.{none_found, some_found}
 use Rattle.queue_scenes.proofs.Statements.{select_report_query}

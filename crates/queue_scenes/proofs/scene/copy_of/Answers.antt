@@ -1,5 +1,5 @@
 use Rattle.std.proofs.Common.{sym, subst}
-use Rattle.queue_core.specs.Settings.{AreSettings}
+use Rattle.queue_types.specs.Settings.{AreSettings}
 use Rattle.queue_tables.proofs.Ending.{if_ok}
 use Rattle.queue_scenes.proofs.scene.copy_of.Goals as goal
 

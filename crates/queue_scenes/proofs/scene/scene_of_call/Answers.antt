@@ -1,10 +1,10 @@
 use Rattle.std.proofs.Common.{List, All, refl, sym, subst, ◌∙◌, arith}
 use Rattle.sqlite.specs.Held.{state}
-use Rattle.queue_core.specs.Event.{ask, call_of}
+use Rattle.queue_types.specs.Event.{ask, call_of}
 use Rattle.queue_core.specs.Limits.{IsAmount, IsKnown}
 use Rattle.queue_core.specs.World.{cut}
-use Rattle.queue_core.specs.declared.event.FreeRow.{FreeRow}
-use Rattle.queue_core.specs.declared.event.KnownGrant.{KnownGrant}
+use Rattle.queue_types.specs.declared.event.FreeRow.{FreeRow}
+use Rattle.queue_types.specs.declared.event.KnownGrant.{KnownGrant}
 use Rattle.queue_tables.specs.Content.{content_of}
 use Rattle.queue_scenes.proofs.Cut.{same_scene}
 use Rattle.queue_scenes.proofs.Leaving.{leaves_then, leaves_three}

@@ -1,12 +1,12 @@
 use Rattle.std.proofs.Common.{◌<◌, ◌^◌, List, All, length, refl, sym, ap, subst, ◌∙◌, arith}
 use Rattle.sqlite.specs.Held.{state}
-use Rattle.queue_core.specs.Event.{tell}
+use Rattle.queue_types.specs.Event.{tell}
 use Rattle.queue_core.specs.Limits.{IsAmount, IsKnown, IsSoundJob}
 use Rattle.queue_core.specs.World.{cut, owner_row}
-use Rattle.queue_core.specs.declared.event.FreeRow.{FreeRow}
-use Rattle.queue_core.specs.declared.event.KnownGrant.{KnownGrant}
-use Rattle.queue_core.specs.declared.event.QueueCounts.{QueueCounts}
-use Rattle.queue_core.specs.declared.job.Job.{Job}
+use Rattle.queue_types.specs.declared.event.FreeRow.{FreeRow}
+use Rattle.queue_types.specs.declared.event.KnownGrant.{KnownGrant}
+use Rattle.queue_types.specs.declared.event.QueueCounts.{QueueCounts}
+use Rattle.queue_types.specs.declared.job.Job.{Job}
 use Rattle.queue_tables.specs.Content.{content_of}
 use Rattle.queue_scenes.proofs.Cut.{same_scene}
 use Rattle.queue_scenes.proofs.Leaving.{leaves_then, leaves_three, leaves_four}

@@ -1,7 +1,7 @@
 use Rattle.std.proofs.Common.{◌∙◌, sym, ap, rules, option_map, Some}
 use Rattle.sqlite.specs.Held.{state}
 use Rattle.queue_core.specs.Shown.{head_of}
-use Rattle.queue_core.specs.declared.document.DocumentHead.{DocumentHead}
+use Rattle.queue_types.specs.declared.document.DocumentHead.{DocumentHead}
 use Rattle.queue_shown.specs.Fetched.{document_in}
 use Rattle.queue_shown.specs.Heads.{head_values}
 use Rattle.queue_shown.proofs.Fetching.{reads_head}

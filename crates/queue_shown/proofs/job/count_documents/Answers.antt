@@ -2,7 +2,7 @@ use Rattle.std.proofs.Common.{◌∙◌, ap, subst, sum_by, length, [], ◌∷�
 use Rattle.sqlite.specs.Held.{state}
 use Rattle.sqlite.specs.Order.{Row}
 use Rattle.sqlite.specs.State.{Shown}
-use Rattle.queue_core.specs.declared.job.Job.{Job}
+use Rattle.queue_types.specs.declared.job.Job.{Job}
 use Rattle.queue_tables.specs.Values.{number}
 use Rattle.queue_shown.specs.Pages.{first_number}
 use Rattle.queue_shown.proofs.OwnedJobs.{reads_octets, counted_job}

@@ -3,7 +3,7 @@ use Rattle.sqlite.specs.Held.{state}
 use Rattle.sqlite.specs.State.{HasCleanDisk}
 use Rattle.queue_core.specs.Sound.{IsSound}
 use Rattle.queue_core.specs.World.{World}
-use Rattle.queue_core.specs.declared.job.Job.{Job}
+use Rattle.queue_types.specs.declared.job.Job.{Job}
 use Rattle.queue_shown.specs.Pages.{AreIn, has_pages}
 use Rattle.queue_tables.specs.Content.{Content, Holds, content_of}
 use Rattle.queue_tables.specs.Tables.{book_schema}

@@ -1,7 +1,7 @@
 use Rattle.std.proofs.Common.{Option, option_map, sym, subst}
 use Rattle.sqlite.specs.Held.{state}
-use Rattle.queue_core.specs.Event.{document_of}
-use Rattle.queue_core.specs.declared.event.NewDocument.{NewDocument}
+use Rattle.queue_types.specs.Event.{document_of}
+use Rattle.queue_types.specs.declared.event.NewDocument.{NewDocument}
 use Rattle.queue_tables.specs.Content.{Holds, content_of}
 use Rattle.queue_tables.specs.Steps.{with_added}
 use Rattle.queue_tables.proofs.Ending.{on_ok}

@@ -1,4 +1,4 @@
-use Rattle.queue_core.specs.Event.{change_of, decision_of}
+use Rattle.queue_types.specs.Event.{change_of, decision_of}
 use Rattle.queue_tables.specs.Steps.{with_puts, with_frees, with_grants, with_added, with_kept}
 use Rattle.queue_tables.proofs.Ending.{on_ok}
 use Rattle.queue_tables.proofs.Covered.{sound_covered}

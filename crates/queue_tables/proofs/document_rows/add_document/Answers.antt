@@ -1,6 +1,6 @@
 use Rattle.sqlite.specs.Held.{state}
 use Rattle.queue_tables.specs.Content.{content_of}
-use Rattle.queue_core.specs.Event.{NewDocument}
+use Rattle.queue_types.specs.Event.{NewDocument}
 use Rattle.queue_tables.proofs.Ending.{on_ok}
 use Rattle.queue_tables.proofs.Documents.{added_holds}
 use Rattle.queue_tables.proofs.document_rows.add_document.Goals as goal

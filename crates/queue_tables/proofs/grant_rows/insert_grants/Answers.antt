@@ -1,7 +1,7 @@
 use Rattle.std.proofs.Common.{rules, arith, take, List, subst}
 use Rattle.std.proofs.lemmas.List.{take_all}
 use Rattle.sqlite.specs.Held.{state}
-use Rattle.queue_core.specs.declared.event.GrantRow.{GrantRow}
+use Rattle.queue_types.specs.declared.event.GrantRow.{GrantRow}
 use Rattle.queue_tables.specs.Content.{Holds, content_of}
 use Rattle.queue_tables.specs.Steps.{with_grants}
 use Rattle.queue_tables.proofs.Kept.{grant_more}

@@ -1,5 +1,5 @@
 use Rattle.std.proofs.Common.{◌≡◌, Option, option_map, subst}
-use Rattle.queue_core.specs.declared.job.Job.{Job}
+use Rattle.queue_types.specs.declared.job.Job.{Job}
 use Rattle.queue_core.specs.World.{rows, job_at}
 use Rattle.queue_tables.specs.Steps.{bare}
 use Rattle.queue_tables.proofs.Ending.{on_ok}

@@ -1,7 +1,7 @@
 use Rattle.std.proofs.Common.{rules, arith, fold, take, List, subst}
 use Rattle.sqlite.specs.Held.{state}
 use Rattle.queue_core.specs.World.{with_row}
-use Rattle.queue_core.specs.declared.job.Job.{Job}
+use Rattle.queue_types.specs.declared.job.Job.{Job}
 use Rattle.queue_tables.specs.Content.{Holds, content_of}
 use Rattle.queue_tables.specs.Steps.{IsSummable, with_puts}
 use Rattle.std.proofs.lemmas.List.{take_all}

@@ -1,8 +1,8 @@
 use Rattle.std.proofs.Common.{◌≡◌, pos, ap, ◌∙◌}
 use Rattle.std.specs.Prelude.{neg_ℤ}
 use Rattle.sqlite.specs.Held.{state}
-use Rattle.queue_core.specs.Job.{owed}
-use Rattle.queue_core.specs.declared.job.Job.{Job}
+use Rattle.queue_types.specs.Job.{owed}
+use Rattle.queue_types.specs.declared.job.Job.{Job}
 use Rattle.queue_tables.specs.Content.{content_of}
 use Rattle.queue_tables.specs.Steps.{with_job_anew}
 use Rattle.queue_tables.proofs.Ending.{on_ok}

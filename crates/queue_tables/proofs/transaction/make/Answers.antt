@@ -2,7 +2,7 @@ use Rattle.std.proofs.Common.{rules, ◌≡◌, sym, subst}
 use Rattle.sqlite.specs.State.{HasCleanDisk}
 use Rattle.sqlite.specs.Held.{state}
 use Rattle.queue_core.specs.World.{made_on}
-use Rattle.queue_core.specs.Event.{change_of}
+use Rattle.queue_types.specs.Event.{change_of}
 use Rattle.queue_tables.specs.Content.{Holds, content_of}
 use Rattle.queue_tables.proofs.Ending.{committed_holds, begun_holds, clean_before}
 use Rattle.queue_tables.proofs.transaction.make.Goals as goal

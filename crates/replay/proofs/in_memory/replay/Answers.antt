@@ -1,6 +1,6 @@
 use Rattle.std.proofs.Common.{ℕ, List, subst}
 use Rattle.std.specs.Io.KnownBytes.{Appends}
-use Rattle.queue_core.specs.Settings.{SettingValues}
+use Rattle.queue_types.specs.Settings.{SettingValues}
 use Rattle.queue_core.specs.World.{empty_queue}
 use Rattle.queue_store.specs.Kept.{StandsFor}
 use Rattle.replay.specs.Replay.{Replays, first, settings}

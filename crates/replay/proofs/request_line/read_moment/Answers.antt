@@ -2,7 +2,8 @@ use Rattle.std.proofs.Common.{rules, ◌≡◌, ◌≢◌, ◌∙◌, ℕ, sym, 
 use Rattle.std.specs.Fmt.{decimal}
 use Rattle.replay.specs.RequestLine.{IsMoment}
 use Rattle.std.proofs.lemmas.Bool.Decides.{nat_tests}
-use Rattle.replay.proofs.DecimalLemmas.{begins_above_zero, first_is, has_digits, has_first, is_text, kept, lost, not_read, number_read, parses, read_as_ok, refused_text}
+use Rattle.replay.proofs.DecimalLemmas.{begins_above_zero, first_is, has_digits, has_first, is_text, kept, lost, number_read, parses}
+use Rattle.device_lines.proofs.Numbers.{not_read, read_as_ok, refused_text}
 use Rattle.replay.proofs.request_line.read_moment.Goals as goal
 
 pub returns-in_err-first-clause-none : goal.returns-in_err-first-clause-none

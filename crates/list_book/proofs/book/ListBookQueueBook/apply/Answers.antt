@@ -1,6 +1,6 @@
 use Rattle.std.proofs.Common.{◌≡◌, ap, sym, ◌∙◌, subst}
 use Rattle.std.proofs.lemmas.Result.{err_from_is_err_and}
-use Rattle.queue_core.specs.Event.{change_of, decision_of}
+use Rattle.queue_types.specs.Event.{change_of, decision_of}
 use Rattle.queue_core.specs.World.{made_on}
 use Rattle.queue_core.specs.Sound.{IsSound}
 use Rattle.list_book.specs.Lists.{put_rows, world_of}

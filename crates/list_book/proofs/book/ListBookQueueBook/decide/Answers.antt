@@ -1,5 +1,5 @@
 use Rattle.std.proofs.Common.{sym, subst, ap, ◌∙◌}
-use Rattle.queue_core.specs.Event.{event_of}
+use Rattle.queue_types.specs.Event.{event_of}
 use Rattle.queue_core.specs.Limits.{IsFair}
 use Rattle.queue_core.specs.Machine.{decision}
 use Rattle.queue_core.specs.World.{World, cut}

@@ -1,9 +1,9 @@
 use Rattle.std.proofs.Common.{ap, sym, ◌∙◌}
 use Rattle.std.specs.Prelude.{filter, ◌==◌, List}
-use Rattle.queue_core.specs.Job.{state}
+use Rattle.queue_types.specs.Job.{state}
 use Rattle.queue_core.specs.Shown.{pending_in, pending_jobs}
 use Rattle.queue_core.specs.World.{World}
-use Rattle.queue_core.specs.declared.job.Job.{Job}
+use Rattle.queue_types.specs.declared.job.Job.{Job}
 use Rattle.list_book.proofs.Put.{rows_of}
 use Rattle.list_book.proofs.book.ListBookQueueBook.pending.Goals as goal
 

@@ -1,4 +1,4 @@
-use Rattle.queue_core.specs.Event.{decision_of}
+use Rattle.queue_types.specs.Event.{decision_of}
 use Rattle.queue_store.proofs.queue_book.TableBookQueueBook.apply.Goals as goal
 
 pub returns-in-Ok-clause-ok : goal.returns-in-Ok-clause-ok

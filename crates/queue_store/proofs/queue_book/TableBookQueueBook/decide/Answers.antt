@@ -1,6 +1,6 @@
 use Rattle.std.proofs.Common.{ap, ◌∙◌}
 use Rattle.sqlite.specs.Held.{state}
-use Rattle.queue_core.specs.Event.{event_of}
+use Rattle.queue_types.specs.Event.{event_of}
 use Rattle.queue_core.specs.Machine.{decision}
 use Rattle.queue_tables.specs.Content.{content_of}
 use Rattle.queue_store.proofs.Keeping.{still_keeps}

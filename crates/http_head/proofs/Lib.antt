@@ -1,0 +1,4 @@
+pub mod LeftLemmas
+pub mod HeadLemmas
+pub mod FieldLemmas
+pub mod PlanLemmas

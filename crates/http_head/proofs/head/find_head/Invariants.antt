@@ -1,0 +1,10 @@
+use Rattle.std.proofs.Common.{◌-◌, length}
+use Rattle.std.specs.Io.KnownBytes.{Keeps}
+use Rattle.http_head.specs.Left.{left}
+use Rattle.http_head.proofs.head.find_head.Given as goal
+
+abbrev pub invariant-fill : goal.invariant-fill
+invariant-fill g l = Keeps (left l.initial.buffer (g.R.Read.remaining l.initial.reader)) (left l.buffer (g.R.Read.remaining l.reader))
+
+abbrev pub decreases-fill : goal.decreases-fill
+decreases-fill g l = 16384 - length l.buffer

@@ -1,0 +1,12 @@
+pub mod Limits
+pub mod Ends
+pub mod Left
+pub mod Head
+pub mod Found
+pub mod Routes
+pub mod Fields
+pub mod Targets
+pub mod Framing
+pub mod Checks
+pub mod Planned
+pub mod Received

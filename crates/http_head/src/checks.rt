@@ -1,0 +1,110 @@
+//! The checks of a request's head, in their order.
+ghost use Rattle.std.specs.Prelude.{◌≡◌, ◌≤◌, ◌&&◌, length, codes};
+ghost use Rattle.std.specs.List.{list_all, list_any};
+ghost use Rattle.httparse.specs.Spans.{span_bytes};
+ghost use Rattle.http_head.specs.Checks as spec;
+ghost use Rattle.http_head.specs.Fields as words;
+ghost use Rattle.http_head.specs.Planned.{fields_at};
+
+use crate::end::Refusal;
+use crate::fields::{before, has_member, same_word, text_at, trimmed, values};
+use crate::framing::{Framing, is_there};
+use crate::target::Target;
+use httparse::spans::{HeaderSpan, Span};
+
+fn is_type(asked: &[u8], value: &[u8]) -> bool
+    ensures { result ≡ spec.is_type asked.now value.now }
+{
+    same_word(trimmed(before(b';', value), false), asked)
+}
+
+fn are_types(come: &[u8], types: &[Span], asked: &[u8]) -> bool
+    ensures { result ≡ list_all (λ s. spec.is_type asked.now (span_bytes come.now s)) types.now }
+{
+    types.iter().all(|s| is_type(asked, text_at(come, *s)))
+}
+
+fn are_identity(come: &[u8], codings: &[Span]) -> bool
+    ensures { result ≡ list_all (λ s. spec.is_identity (span_bytes come.now s)) codings.now }
+{
+    codings
+        .iter()
+        .all(|s| same_word(text_at(come, *s), b"identity"))
+}
+
+fn all_three(a: bool, b: bool, c: bool) -> bool
+    ensures { result ≡ (a && b && c) }
+{
+    a && b && c
+}
+
+/// The content has the media type that is asked, by each Content-Type, and no content coding, by each Content-Encoding.
+pub fn is_typed(asked: &[u8], come: &[u8], fields: &[HeaderSpan]) -> bool
+    requires { length fields.now ≤ 64 }
+    ensures { result ≡ spec.are_typed asked.now (words.values (codes "content-type") (fields_at come.now fields.now))
+        (words.values (codes "content-encoding") (fields_at come.now fields.now)) }
+{
+    let types = values(come, fields, b"content-type");
+    let codings = values(come, fields, b"content-encoding");
+    let some = is_there(types.as_slice());
+    let typed = are_types(come, types.as_slice(), asked);
+    let plain = are_identity(come, codings.as_slice());
+    all_three(some, typed, plain)
+}
+
+fn any_has(come: &[u8], values: &[Span], word: &[u8]) -> bool
+    ensures { result ≡ list_any (λ s. words.has_member word.now (span_bytes come.now s)) values.now }
+{
+    values.iter().any(|s| has_member(word, text_at(come, *s)))
+}
+
+/// A field line of that name has the word among the members of its value.
+pub fn asks_for(come: &[u8], fields: &[HeaderSpan], name: &[u8], word: &[u8]) -> bool
+    requires { length fields.now ≤ 64 }
+    ensures { result ≡ list_any (words.has_member word.now) (words.values name.now (fields_at come.now fields.now)) }
+{
+    any_has(come, values(come, fields, name).as_slice(), word)
+}
+
+fn first_that_applies(rows: &[(bool, Refusal)]) -> Option<Refusal>
+    ensures { result ≡ spec.first_that_applies rows.now }
+{
+    let mut at = rows;
+    while let [row, rest @ ..] = at {
+        if row.0 {
+            return Some(row.1);
+        }
+        at = rest;
+    }
+    None
+}
+
+/// The first check that applies to a request with a route.
+pub fn routed_refusal(
+    t: Target,
+    misframed: bool,
+    framing: Framing,
+    method: &[u8],
+    typed: bool,
+) -> Option<Refusal>
+    ensures { result ≡ spec.first_that_applies (spec.rows t misframed framing method.now typed) }
+{
+    let posted = t.is_posted();
+    let allowed = if posted {
+        Refusal::PostAllowed
+    } else {
+        Refusal::GetAllowed
+    };
+    let size = framing.size();
+    first_that_applies(&[
+        (misframed, Refusal::BadRequest),
+        (method != t.method(), allowed),
+        (
+            !posted && (framing.is_chunked() || size > 0),
+            Refusal::BadRequest,
+        ),
+        (posted && framing.is_untold(), Refusal::LengthRequired),
+        (size > 16_777_216, Refusal::TooLarge),
+        (posted && !typed, Refusal::UnsupportedType),
+    ])
+}

@@ -1,0 +1,95 @@
+//! How a connection ends.
+ghost use Rattle.std.specs.Prelude.{◌≡◌};
+ghost use Rattle.http_head.specs.Ends as spec;
+
+/// How serving a connection ended.
+#[derive(Clone, Copy, Debug, PartialEq, Eq)]
+pub enum End {
+    /// The input ended between two requests.
+    Closed,
+    /// The input ended inside a request, which is not answered.
+    Cut,
+    /// The last request that a connection may have was answered.
+    Done,
+    /// A request was refused with this status code.
+    Refused(u16),
+}
+
+/// A refusal (RFC 9110, section 15; RFC 6585, section 5). It ends the connection.
+#[derive(Clone, Copy)]
+pub enum Refusal {
+    /// 400
+    BadRequest,
+    /// 404
+    NotFound,
+    /// 405, for a target that allows POST alone
+    PostAllowed,
+    /// 405, for a target that allows GET alone
+    GetAllowed,
+    /// 411
+    LengthRequired,
+    /// 413
+    TooLarge,
+    /// 415
+    UnsupportedType,
+    /// 431
+    HeadTooLarge,
+    /// 503: a fault of the server's own
+    Unavailable,
+}
+
+/// How a connection ends, with the refusal itself.
+#[derive(Clone, Copy)]
+pub enum Finish {
+    Closed,
+    Cut,
+    Done,
+    Refused(Refusal),
+}
+
+impl Refusal {
+    /// The status code.
+    pub fn code(self) -> u16
+        ensures { result ≡ spec.code_of self }
+    {
+        match self {
+            Refusal::BadRequest => 400,
+            Refusal::NotFound => 404,
+            Refusal::PostAllowed | Refusal::GetAllowed => 405,
+            Refusal::LengthRequired => 411,
+            Refusal::TooLarge => 413,
+            Refusal::UnsupportedType => 415,
+            Refusal::HeadTooLarge => 431,
+            Refusal::Unavailable => 503,
+        }
+    }
+}
+
+impl Finish {
+    /// The same with the status code alone.
+    pub fn end(self) -> End
+        ensures { result ≡ spec.end_of self }
+    {
+        match self {
+            Finish::Closed => End::Closed,
+            Finish::Cut => End::Cut,
+            Finish::Done => End::Done,
+            Finish::Refused(refusal) => End::Refused(refusal.code()),
+        }
+    }
+
+    /// It is a fault of the server's own.
+    pub fn is_unavailable(self) -> bool
+        ensures { result ≡ spec.is_unavailable self }
+    {
+        matches!(self, Finish::Refused(Refusal::Unavailable))
+    }
+}
+
+/// A read failed.
+#[derive(Clone, Copy)]
+pub struct ReadFault;
+
+/// A write failed.
+#[derive(Clone, Copy)]
+pub struct WriteFault;

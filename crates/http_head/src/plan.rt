@@ -1,0 +1,108 @@
+//! What a request's head asks for.
+ghost use Rattle.std.specs.Prelude.{◌≡◌, ◌≤◌, ◌&&◌, ◌||◌, length, take, IfOk};
+ghost use Rattle.http_head.specs.Framing.{size_of};
+ghost use Rattle.http_head.specs.Planned.{IsPlanned, IsPlanOf, said};
+ghost use Rattle.http_head.specs.Routes.{routes};
+
+use crate::checks::{asks_for, is_typed, routed_refusal};
+use crate::end::Refusal;
+use crate::fields::{text_at, values};
+use crate::framing::{Framing, framing_told, is_misframed};
+use crate::routes::Route;
+use crate::target::{Target, path_of, routed};
+use httparse::spans::{HeaderSpan, RequestSpans};
+use matchit::Router;
+
+/// What a head that passes the checks asks for.
+#[derive(Clone, Copy)]
+pub struct Plan {
+    /// What the request is about.
+    pub target: Target,
+    /// How its body is framed.
+    pub framing: Framing,
+    /// `100 Continue` is expected (RFC 9110, section 10.1.1).
+    pub expects: bool,
+    /// The connection ends after it (RFC 9112, section 9.6).
+    pub closes: bool,
+}
+
+fn first_of(headers: &[HeaderSpan; 64], n: usize) -> &[HeaderSpan]
+    ensures value { result.now ≡ take n headers.now }
+    ensures few { length result.now ≤ 64 }
+{
+    &headers[..n.min(64)]
+}
+
+fn are_both(a: bool, b: bool) -> bool
+    ensures { result ≡ (a && b) }
+{
+    a && b
+}
+
+fn is_either(a: bool, b: bool) -> bool
+    ensures { result ≡ (a || b) }
+{
+    a || b
+}
+
+/// The plan of what the spans cover, or the first check that applies to it.
+fn plan_said(
+    router: &Router<Route>,
+    come: &[u8],
+    headers: &[HeaderSpan; 64],
+    spans: RequestSpans,
+) -> Result<Plan, Refusal>
+    requires { router.now ≡ routes }
+    ensures { IsPlanOf (said come.now headers.now spans) result }
+{
+    let fields = first_of(headers, spans.headers);
+    let codings = values(come, fields, b"transfer-encoding");
+    let lengths = values(come, fields, b"content-length");
+    let misframed = is_misframed(come, codings.as_slice(), lengths.as_slice());
+    let Some(target) = routed(router, path_of(text_at(come, spans.path))) else {
+        return Err(if misframed {
+            Refusal::BadRequest
+        } else {
+            Refusal::NotFound
+        });
+    };
+    let framing = framing_told(come, codings.as_slice(), lengths.as_slice());
+    let typed = is_typed(target.media_type(), come, fields);
+    if let Some(refusal) = routed_refusal(
+        target,
+        misframed,
+        framing,
+        text_at(come, spans.method),
+        typed,
+    ) {
+        return Err(refusal);
+    }
+    let expects = are_both(
+        spans.version == 1,
+        asks_for(come, fields, b"expect", b"100-continue"),
+    );
+    let closes = is_either(
+        spans.version == 0,
+        asks_for(come, fields, b"connection", b"close"),
+    );
+    Ok(Plan {
+        target,
+        framing,
+        expects,
+        closes,
+    })
+}
+
+/// The plan of the head at the front of what has come, or the first check that applies to it.
+pub fn plan_at(
+    router: &Router<Route>,
+    come: &[u8],
+    headers: &[HeaderSpan; 64],
+    spans: RequestSpans,
+) -> Result<Plan, Refusal>
+    requires { router.now ≡ routes }
+    ensures planned { IsPlanned come.now headers.now spans result }
+    ensures fits { IfOk result (λ plan. size_of plan.framing ≤ 16777216) }
+{
+    plan_said(router, come, headers, spans)
+}

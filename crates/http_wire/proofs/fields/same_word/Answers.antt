@@ -1,5 +1,0 @@
-use Rattle.http_wire.proofs.FieldLemmas.{told}
-use Rattle.http_wire.proofs.fields.same_word.Goals as goal
-
-pub returns : goal.returns
-returns c = told _ _ _ c.eq_ignore_ascii_case.ensures.test

@@ -1,0 +1,74 @@
+use Rattle.std.proofs.Common.{lit<, refl}
+use Rattle.std.specs.Prelude.{Contains}
+use Rattle.ipp_reply.specs.Operations.{operations}
+use Rattle.ipp_reply.specs.declared.operation.Operation.{Operation}
+use Rattle.ipp_reply.specs.declared.operation.Operation.TheVariants as operation
+use Rattle.ipp_request.specs.Attributes.{table, template_table}
+use Rattle.ipp_ops.specs.Checks.{checks}
+use Rattle.ipp_request.specs.declared.attribute.OperationAttribute.{OperationAttribute}
+use Rattle.ipp_request.specs.declared.attribute.OperationAttribute.TheVariants as key
+use Rattle.ipp_request.specs.declared.attribute.TemplateAttribute.{TemplateAttribute}
+use Rattle.ipp_request.specs.declared.attribute.TemplateAttribute.TheVariants as template
+use Rattle.ipp_ops.specs.declared.check.Check.{Check}
+use Rattle.ipp_ops.specs.declared.check.Check.TheVariants as check
+use Rattle.ipp_ops.proofs.law.whole_tables.Goals as goal
+
+each_operation : (x : Operation) → Contains operations x
+each_operation operation.PrintJob = (0, lit< tt, refl)
+each_operation operation.ValidateJob = (1, lit< tt, refl)
+each_operation operation.CreateJob = (2, lit< tt, refl)
+each_operation operation.SendDocument = (3, lit< tt, refl)
+each_operation operation.CancelJob = (4, lit< tt, refl)
+each_operation operation.GetJobAttributes = (5, lit< tt, refl)
+each_operation operation.GetJobs = (6, lit< tt, refl)
+each_operation operation.GetPrinterAttributes = (7, lit< tt, refl)
+each_operation operation.HoldJob = (8, lit< tt, refl)
+each_operation operation.ReleaseJob = (9, lit< tt, refl)
+each_operation operation.CancelMyJobs = (10, lit< tt, refl)
+
+each_attribute : (x : OperationAttribute) → Contains table x
+each_attribute key.AttributesCharset = (0, lit< tt, refl)
+each_attribute key.AttributesNaturalLanguage = (1, lit< tt, refl)
+each_attribute key.PrinterUri = (2, lit< tt, refl)
+each_attribute key.JobUri = (3, lit< tt, refl)
+each_attribute key.JobId = (4, lit< tt, refl)
+each_attribute key.RequestingUserName = (5, lit< tt, refl)
+each_attribute key.JobName = (6, lit< tt, refl)
+each_attribute key.DocumentName = (7, lit< tt, refl)
+each_attribute key.IppAttributeFidelity = (8, lit< tt, refl)
+each_attribute key.Compression = (9, lit< tt, refl)
+each_attribute key.DocumentFormat = (10, lit< tt, refl)
+each_attribute key.JobImpressions = (11, lit< tt, refl)
+each_attribute key.RequestedAttributes = (12, lit< tt, refl)
+each_attribute key.WhichJobs = (13, lit< tt, refl)
+each_attribute key.Limit = (14, lit< tt, refl)
+each_attribute key.MyJobs = (15, lit< tt, refl)
+each_attribute key.LastDocument = (16, lit< tt, refl)
+each_attribute key.JobIds = (17, lit< tt, refl)
+each_attribute key.JobHoldUntil = (18, lit< tt, refl)
+
+each_job_attribute : (x : TemplateAttribute) → Contains template_table x
+each_job_attribute template.Copies = (0, lit< tt, refl)
+each_job_attribute template.JobHoldUntil = (1, lit< tt, refl)
+each_job_attribute template.JobImpressions = (2, lit< tt, refl)
+
+each_check : (x : Check) → Contains checks x
+each_check check.Charset = (0, lit< tt, refl)
+each_check check.Form = (1, lit< tt, refl)
+each_check check.Length = (2, lit< tt, refl)
+each_check check.Needed = (3, lit< tt, refl)
+each_check check.Target = (4, lit< tt, refl)
+each_check check.Compression = (5, lit< tt, refl)
+each_check check.Format = (6, lit< tt, refl)
+
+pub returns-clause-operations : goal.returns-clause-operations
+returns-clause-operations c = each_operation
+
+pub returns-clause-attributes : goal.returns-clause-attributes
+returns-clause-attributes c = each_attribute
+
+pub returns-clause-job_attributes : goal.returns-clause-job_attributes
+returns-clause-job_attributes c = each_job_attribute
+
+pub returns-clause-checks : goal.returns-clause-checks
+returns-clause-checks c = each_check

@@ -1,0 +1,36 @@
+//! What the definitions of requests promise: laws over them, in functions that do nothing.
+ghost use Rattle.std.specs.Prelude.{◌≡◌, ℕ, List, Contains};
+ghost use Rattle.ipp_reply.specs.Operations.{operations};
+ghost use Rattle.ipp_reply.specs.declared.operation.Operation.{Operation};
+ghost use Rattle.ipp_ops.specs.Answer.{IsVerdictOn};
+ghost use Rattle.ipp_request.specs.Attributes.{table, template_table};
+ghost use Rattle.ipp_ops.specs.Checks.{checks};
+ghost use Rattle.ipp_request.specs.Request.{IsJobPath, job_in};
+ghost use Rattle.ipp_ops.specs.Verdict.{Verdict};
+ghost use Rattle.ipp_request.specs.declared.attribute.OperationAttribute.{OperationAttribute};
+ghost use Rattle.ipp_request.specs.declared.attribute.TemplateAttribute.{TemplateAttribute};
+ghost use Rattle.ipp_ops.specs.declared.check.Check.{Check};
+
+use ipp_wire::one_spelling;
+
+/// A request asks one thing: no bytes have two verdicts.
+pub fn one_verdict()
+    ensures { (b : List ℕ) (v w : Verdict) → IsVerdictOn b v → IsVerdictOn b w → v ≡ w }
+{
+    one_spelling();
+}
+
+/// A path names a job exactly where it is the printer's, a slash and the job's number in decimal, which is
+/// from 1 to 2,147,483,647.
+pub fn job_paths()
+    ensures named { (path : List ℕ) (n : ℕ) → job_in path ≡ Some n → IsJobPath path n }
+    ensures found { (path : List ℕ) (n : ℕ) → IsJobPath path n → job_in path ≡ Some n }
+{}
+
+/// Each operation, each attribute and each check stands in its table.
+pub fn whole_tables()
+    ensures operations { (o : Operation) → Contains operations o }
+    ensures attributes { (k : OperationAttribute) → Contains table k }
+    ensures job_attributes { (k : TemplateAttribute) → Contains template_table k }
+    ensures checks { (c : Check) → Contains checks c }
+{}

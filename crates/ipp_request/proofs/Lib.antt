@@ -1,0 +1,5 @@
+pub mod Lists
+pub mod Tests
+pub mod Texts
+pub mod Numbers
+pub mod Listing

@@ -1,0 +1,93 @@
+-- The texts of a request that passes the checks of form and length are names within the machine's limits.
+use Rattle.std.proofs.Common.{◌≡◌, ℕ, ◌<◌, ◌==◌, List, [], ◌∷◌, Bool, true, false, ◌||◌, length, refl, arith, lit≤}
+use Rattle.std.specs.Prelude.{Option, Some, None, not, codes, unwrap_or, nat_lt, nat_le, if◌then◌else◌}
+use Rattle.std.specs.List.{list_any, list_all}
+use Rattle.std.specs.Option.{option_map_or, option_and_then}
+use Rattle.std.specs.Str.{IsAscii, IsUtf8, is_utf8}
+use Rattle.std.proofs.lemmas.Str.{IsUtf8-from_is_utf8, IsUtf8-from_ascii}
+use Rattle.std.proofs.lemmas.Str.Ascii.{IsAscii-nil, IsAscii-cons}
+use borrow.Author.Tests.{ltb-true, ltb-false}
+use Rattle.ipp_wire.specs.Message.{Value, Attribute}
+use Rattle.queue_core.specs.Limits.{IsOwner, IsJobName, is_no_control}
+use Rattle.ipp_request.specs.declared.attribute.Syntax.TheVariants.{UserName, Title}
+use Rattle.ipp_request.specs.Attributes.{Row, limit_of, tags_of}
+use Rattle.ipp_request.specs.Values.{text_of, has_shape, is_control, are_formed, are_long, is_shaped, is_long, passes}
+use Rattle.ipp_request.specs.Request.{first_value, filled}
+use Rattle.ipp_request.proofs.Tests.{and_true, or_false, not_false, not_true}
+
+-- ---- texts of ASCII
+
+ascii : (bs : List ℕ) → list_all (λ b. nat_lt b 128) bs ≡ true → IsAscii bs
+ascii [] h = IsAscii-nil
+ascii (b ∷ bs) h = let e = and_true (nat_lt b 128) (list_all (λ c. nat_lt c 128) bs) h in IsAscii-cons b bs (ltb-true _ _ e.0) (ascii bs e.1)
+
+ascii_text : (bs : List ℕ) → list_all (λ b. nat_lt b 128) bs ≡ true → IsUtf8 bs
+ascii_text bs h = IsUtf8-from_ascii bs (ascii bs h)
+
+pub anonymous_owns : IsOwner (codes "anonymous")
+anonymous_owns = record { some = lit≤ tt; fits = lit≤ tt; utf8 = ascii_text (codes "anonymous") refl; printable = refl }
+
+pub untitled_names : IsJobName (codes "untitled")
+untitled_names = record { some = lit≤ tt; fits = lit≤ tt; utf8 = ascii_text (codes "untitled") refl; no_zero = refl }
+
+-- ---- what a shape says
+
+no_control : (b : ℕ) → is_control b ≡ false → is_no_control b ≡ true
+no_control b h = let e = or_false (nat_lt b 32) (b == 127) h in grind arith
+
+no_controls : (t : List ℕ) → list_any is_control t ≡ false → list_all is_no_control t ≡ true
+no_controls [] h = refl
+no_controls (b ∷ bs) h = let e = or_false (is_control b) (list_any is_control bs) h in rw (no_control b e.0) (no_controls bs e.1)
+
+no_zero : (b : ℕ) → (b == 0) ≡ false → nat_le 1 b ≡ true
+no_zero b h = grind arith
+
+no_zeros : (t : List ℕ) → list_any (λ b. b == 0) t ≡ false → list_all (λ b. nat_le 1 b) t ≡ true
+no_zeros [] h = refl
+no_zeros (b ∷ bs) h = let e = or_false (b == 0) (list_any (λ c. c == 0) bs) h in rw (no_zero b e.0) (no_zeros bs e.1)
+
+pub owns : (t : List ℕ) → 0 < length t → is_utf8 t ≡ true → has_shape UserName t ≡ true → passes (Some 255) t ≡ false → IsOwner t
+owns t some utf8 shaped short =
+    let e = and_true (is_utf8 t) (not (list_any is_control t)) shaped in
+    record { some = omega arith; fits = ltb-false _ _ short; utf8 = IsUtf8-from_is_utf8 t utf8; printable = no_controls t (not_true (list_any is_control t) e.1) }
+
+pub names : (t : List ℕ) → 0 < length t → is_utf8 t ≡ true → has_shape Title t ≡ true → passes (Some 255) t ≡ false → IsJobName t
+names t some utf8 shaped short =
+    let e = and_true (is_utf8 t) (not (list_any (λ b. b == 0) t)) shaped in
+    record { some = omega arith; fits = ltb-false _ _ short; utf8 = IsUtf8-from_is_utf8 t utf8; no_zero = no_zeros t (not_true (list_any (λ b. b == 0) t) e.1) }
+
+-- ---- the text of an attribute, or what stands for it
+
+chosen : (P : List ℕ → Type 0) (u : Bool) (t d : List ℕ) → P d → (u ≡ true → P t) → P (unwrap_or (if u then Some t else None) d)
+chosen P true t d p h = h refl
+chosen P false t d p h = p
+
+of_text : (P : List ℕ → Type 0) (t d : List ℕ) → P d → (0 < length t → is_utf8 t ≡ true → P t) → P (unwrap_or (filled t) d)
+of_text P [] d p h = p
+of_text P (b ∷ bs) d p h = chosen P (is_utf8 (b ∷ bs)) (b ∷ bs) d p (h (omega arith))
+
+of_value : (P : List ℕ → Type 0) (r : Row) (d : List ℕ) → P d
+    → ((t : List ℕ) → 0 < length t → is_utf8 t ≡ true → has_shape r.syntax t ≡ true → passes (limit_of r.syntax) t ≡ false → P t)
+    → (t : Option (List ℕ)) → option_map_or (has_shape r.syntax) t false ≡ true → option_map_or (passes (limit_of r.syntax)) t false ≡ false
+    → P (unwrap_or (option_and_then filled t) d)
+of_value P r d p fits None shaped short = p
+of_value P r d p fits (Some t) shaped short = of_text P t d p (λ some utf8. fits t some utf8 shaped short)
+
+of_values : (P : List ℕ → Type 0) (r : Row) (d : List ℕ) → P d
+    → ((t : List ℕ) → 0 < length t → is_utf8 t ≡ true → has_shape r.syntax t ≡ true → passes (limit_of r.syntax) t ≡ false → P t)
+    → (vs : List Value) → not (are_formed r vs) ≡ false → are_long r vs ≡ false
+    → P (unwrap_or (option_and_then (λ v. option_and_then filled (text_of v)) (first_value vs)) d)
+of_values P r d p fits [] formed short = p
+of_values P r d p fits (v ∷ vs) formed short =
+    let f = and_true (r.many || length (v ∷ vs) == 1) (list_all (is_shaped r.syntax) (v ∷ vs)) (not_false (are_formed r (v ∷ vs)) formed) in
+    let s = and_true (is_shaped r.syntax v) (list_all (is_shaped r.syntax) vs) f.1 in
+    let t = and_true (list_any (λ tag. tag == v.tag) (tags_of r.syntax)) (option_map_or (has_shape r.syntax) (text_of v) false) s.0 in
+    let l = or_false (is_long r.syntax v) (list_any (is_long r.syntax) vs) short in
+    of_value P r d p fits (text_of v) t.1 l.0
+
+pub of_attribute : (P : List ℕ → Type 0) (r : Row) (d : List ℕ) → P d
+    → ((t : List ℕ) → 0 < length t → is_utf8 t ≡ true → has_shape r.syntax t ≡ true → passes (limit_of r.syntax) t ≡ false → P t)
+    → (a : Option Attribute) → option_map_or (λ a. not (are_formed r a.values)) a false ≡ false → option_map_or (λ a. are_long r a.values) a false ≡ false
+    → P (unwrap_or (option_and_then (λ v. option_and_then filled (text_of v)) (option_and_then (λ a. first_value a.values) a)) d)
+of_attribute P r d p fits None formed short = p
+of_attribute P r d p fits (Some a) formed short = of_values P r d p fits a.values formed short

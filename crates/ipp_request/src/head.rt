@@ -1,0 +1,24 @@
+//! The head of a request: its version and its operation.
+ghost use Rattle.std.specs.Prelude.{◌≡◌};
+ghost use Rattle.ipp_request.specs.Reading.{head_refusal, operation_in};
+
+use ipp_reply::{Operation, status};
+use ipp_wire::{Head, is_known_version};
+
+/// The operation that a head asks for, or the code that refuses it.
+pub fn operation_in(h: Head) -> Result<Operation, u16>
+    ensures { result ≡ operation_in h }
+{
+    if !is_known_version(h) {
+        return Err(status::SERVER_ERROR_VERSION_NOT_SUPPORTED);
+    }
+    Operation::from_id(h.code).ok_or(status::SERVER_ERROR_OPERATION_NOT_SUPPORTED)
+}
+
+/// What the head of a request alone refuses: 0x0503, where its major version isn't 1 or 2, or else
+/// 0x0501, where its operation isn't supported (RFC 8011, appendix B). It takes no memory.
+pub fn head_check(h: Head) -> Option<u16>
+    ensures { result ≡ head_refusal h }
+{
+    operation_in(h).err()
+}

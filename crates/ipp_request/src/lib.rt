@@ -1,0 +1,14 @@
+//! What a request of a print operation says: its head, its attributes by the tables, its caller, its target and the format of its document,
+//! and what of it is unsupported. No check refuses here but those of the head and of the order of the groups.
+#![tactic(auto)]
+
+pub mod attribute;
+pub mod format;
+pub mod head;
+pub mod request;
+pub mod target;
+pub mod unsupported;
+pub mod value;
+
+pub use head::head_check;
+pub use request::Request;

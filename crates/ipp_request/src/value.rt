@@ -1,0 +1,208 @@
+//! What the values of an attribute say (RFC 8010, section 3.9; RFC 8011, section 5.1).
+ghost use Rattle.std.specs.Prelude.{◌≡◌, ◌==◌, false, if◌then◌else◌, bytes_eq, map};
+ghost use Rattle.std.specs.List.{list_any, list_all};
+ghost use Rattle.std.specs.Str.{is_utf8};
+ghost use Rattle.std.specs.Option.{option_copied, option_map, option_map_or};
+ghost use Rattle.ipp_wire.specs.Viewed.{value_of, values_of};
+ghost use Rattle.ipp_request.specs.Attributes.{row_of, support_of};
+ghost use Rattle.ipp_request.specs.Request.{first_value, job_of_id};
+ghost use Rattle.ipp_request.specs.Values as spec;
+
+use crate::attribute::{Row, Support, Syntax};
+use ipp_wire::ValueView;
+use ipp_wire::tags::{INTEGER, KEYWORD, NAME_WITH_LANGUAGE};
+use std::str;
+
+/// A number of 4 bytes.
+pub fn number(bytes: &[u8]) -> Option<u32>
+    ensures { result ≡ spec.number_of bytes.now }
+{
+    match bytes {
+        [a, b, c, d] => Some(u32::from_be_bytes([*a, *b, *c, *d])),
+        _ => None,
+    }
+}
+
+/// A number that a job may have.
+pub fn job_of_id(n: u32) -> Option<u32>
+    ensures { result ≡ job_of_id n }
+{
+    if 1 <= n && n <= 2_147_483_647 {
+        Some(n)
+    } else {
+        None
+    }
+}
+
+/// A number of 4 bytes, at least 1.
+pub fn is_positive_number(bytes: &[u8]) -> bool
+    ensures { result ≡ option_map_or spec.is_positive (spec.number_of bytes.now) false }
+{
+    match number(bytes) {
+        Some(n) => job_of_id(n).is_some(),
+        None => false,
+    }
+}
+
+/// What follows a length in two bytes and that many bytes.
+fn after_text(bytes: &[u8]) -> &[u8]
+    ensures { result.now ≡ spec.after_text bytes.now }
+{
+    match bytes {
+        [a, b, rest @ ..] => {
+            let n = u16::from_be_bytes([*a, *b]) as usize;
+            if n <= rest.len() { &rest[n..] } else { &[] }
+        }
+        _ => &[],
+    }
+}
+
+/// The text behind a language, each with its length before it, and nothing more.
+fn behind_language(bytes: &[u8]) -> Option<&[u8]>
+    ensures { option_copied result ≡ spec.behind_language bytes.now }
+{
+    match after_text(bytes) {
+        [a, b, text @ ..] if text.len() == u16::from_be_bytes([*a, *b]) as usize => Some(text),
+        _ => None,
+    }
+}
+
+/// The text of a value: of a nameWithLanguage the name, else all of it.
+pub fn text<'a>(v: ValueView<'a>) -> Option<&'a [u8]>
+    ensures { option_copied result ≡ spec.text_of (value_of v.entry) }
+{
+    if v.tag == NAME_WITH_LANGUAGE {
+        behind_language(v.bytes)
+    } else {
+        Some(v.bytes)
+    }
+}
+
+pub fn first_value<'a>(values: &[ValueView<'a>]) -> Option<ValueView<'a>>
+    ensures { option_map value_of result ≡ first_value (values_of values.now) }
+{
+    match values {
+        [v, ..] => Some(*v),
+        [] => None,
+    }
+}
+
+fn has_zero(text: &[u8]) -> bool
+    ensures { result ≡ list_any (λ b. b == 0) text.now }
+{
+    text.iter().any(|b| *b == 0)
+}
+
+fn has_control(text: &[u8]) -> bool
+    ensures { result ≡ list_any spec.is_control text.now }
+{
+    text.iter().any(|b| *b < 0x20 || *b == 0x7f)
+}
+
+/// The bytes as text, where they are UTF-8.
+pub fn utf8_text(bytes: &[u8]) -> Option<&str>
+    ensures { option_copied result ≡ (if is_utf8 bytes.now then Some bytes.now else None) }
+{
+    match str::from_utf8(bytes) {
+        Ok(text) => Some(text),
+        Err(_) => None,
+    }
+}
+
+fn is_utf8(text: &[u8]) -> bool
+    ensures { result ≡ is_utf8 text.now }
+{
+    utf8_text(text).is_some()
+}
+
+fn has_shape(s: Syntax, text: &[u8]) -> bool
+    ensures { result ≡ spec.has_shape s text.now }
+{
+    match s {
+        Syntax::Integer => number(text).is_some(),
+        Syntax::Positive => is_positive_number(text),
+        Syntax::Boolean => text == [0].as_slice() || text == [1].as_slice(),
+        Syntax::UserName => is_utf8(text) && !has_control(text),
+        Syntax::Title => is_utf8(text) && !has_zero(text),
+        Syntax::Charset
+        | Syntax::NaturalLanguage
+        | Syntax::Uri
+        | Syntax::MediaType
+        | Syntax::Keyword
+        | Syntax::KeywordOrName => true,
+    }
+}
+
+/// The value has one of the tags of the syntax.
+pub fn is_tagged(s: Syntax, v: ValueView<'_>) -> bool
+    ensures { result ≡ spec.is_tagged s (value_of v.entry) }
+{
+    s.tags().iter().any(|t| *t == v.tag)
+}
+
+fn is_shaped(s: Syntax, v: ValueView<'_>) -> bool
+    ensures { result ≡ spec.is_shaped s (value_of v.entry) }
+{
+    is_tagged(s, v)
+        && match text(v) {
+            Some(bytes) => has_shape(s, bytes),
+            None => false,
+        }
+}
+
+fn are_shaped(s: Syntax, values: &[ValueView<'_>]) -> bool
+    ensures { result ≡ list_all (spec.is_shaped s) (values_of values.now) }
+{
+    values.iter().all(|v| is_shaped(s, *v))
+}
+
+/// The values are as the row asks.
+pub fn are_formed(row: &Row, values: &[ValueView<'_>]) -> bool
+    ensures { result ≡ spec.are_formed (row_of row.now) (values_of values.now) }
+{
+    (row.many || values.len() == 1) && are_shaped(row.syntax, values)
+}
+
+fn is_long(s: Syntax, v: ValueView<'_>) -> bool
+    ensures { result ≡ spec.is_long s (value_of v.entry) }
+{
+    match (s.limit(), text(v)) {
+        (Some(limit), Some(bytes)) => limit < bytes.len(),
+        _ => false,
+    }
+}
+
+/// A value is longer than the limit of the row's syntax.
+pub fn are_long(row: &Row, values: &[ValueView<'_>]) -> bool
+    ensures { result ≡ spec.are_long (row_of row.now) (values_of values.now) }
+{
+    values.iter().any(|v| is_long(row.syntax, *v))
+}
+
+fn is_word(words: &[&str], bytes: &[u8]) -> bool
+    ensures { result ≡ list_any (λ w. bytes_eq w bytes.now) (map (λ w. w.now) words.now) }
+{
+    words.iter().any(|w| w.as_bytes() == bytes)
+}
+
+fn is_number_within(low: u32, high: u32, v: ValueView<'_>) -> bool
+    ensures { result ≡ spec.is_number_within low high (value_of v.entry) }
+{
+    v.tag == INTEGER
+        && match number(v.bytes) {
+            Some(n) => low <= n && n <= high,
+            None => false,
+        }
+}
+
+/// The values are supported.
+pub fn are_supported(support: Support, values: &[ValueView<'_>]) -> bool
+    ensures { result ≡ spec.are_supported (support_of support) (values_of values.now) }
+{
+    match (support, values) {
+        (Support::Anything, _) => true,
+        (Support::Between(low, high), [v]) => is_number_within(low, high, *v),
+        (Support::Words(words), [v]) => v.tag == KEYWORD && is_word(words, v.bytes),
+        _ => false,
+    }
+}

@@ -1,0 +1,13 @@
+//! Commands by their words, clients of a server in turn, and replays.
+
+mod account_files;
+mod bad_stores;
+mod clients;
+mod folder;
+mod listening;
+mod moments;
+mod new_stores;
+mod patience;
+mod replays;
+mod server;
+mod words;

@@ -1,0 +1,106 @@
+//! Replays over streams that fail, text of bytes, and examples that are not answered as they are to be.
+
+use replay::{Fault, HexFault, put_hex, read_hex, replay};
+use replay_examples::run_cases;
+use std::alloc::Global;
+use std::io;
+use std::io::{Read, Write};
+use std::process::Abort;
+use std::test::Fail;
+
+/// Gives some bytes, and then fails.
+#[derive(Drop)]
+struct BrokenReader<'a> {
+    rest: &'a [u8],
+}
+
+impl Read for BrokenReader<'_> {
+    fn read(&mut self, buf: &mut [u8]) -> io::Result<usize> {
+        if self.rest.is_empty() {
+            return Err(io::Error::other("broken"));
+        }
+        self.rest.read(buf)
+    }
+}
+
+/// Takes nothing.
+#[derive(Drop)]
+struct BrokenWriter;
+
+impl Write for BrokenWriter {
+    fn write(&mut self, _buf: &[u8]) -> io::Result<usize> {
+        Err(io::Error::other("broken"))
+    }
+
+    fn flush(&mut self) -> io::Result<()> {
+        Ok(())
+    }
+}
+
+#[test]
+fn streams_that_fail(rt: HostRuntime) {
+    let mut input = BrokenReader {
+        rest: b"ipp 00\nipp",
+    };
+    let mut output = Vec::new(rt.alloc());
+    assert_eq!(rt; replay(rt.alloc(), &mut input, &mut output), Err(Fault::Io));
+    assert_eq!(rt; output.as_slice(), b"ipp short\n".as_slice());
+    let mut input: &[u8] = b"ipp 00\n";
+    assert_eq!(rt;
+        replay(rt.alloc(), &mut input, &mut BrokenWriter),
+        Err(Fault::Io)
+    );
+}
+
+/// The digits stand for these bytes.
+fn assert_read(rt: &impl Abort, alloc: Global, digits: &[u8], bytes: &[u8]) {
+    match read_hex(alloc, digits) {
+        Ok(came) => assert_eq!(rt; came.as_slice(), bytes),
+        Err(_) => panic!(rt; "no digits"),
+    }
+}
+
+#[test]
+fn messages_from_text(rt: HostRuntime) {
+    assert_read(&rt, rt.alloc(), b"00fFA9", &[0, 255, 169]);
+    assert!(rt; matches!(&read_hex(rt.alloc(), b"0"), Err(HexFault::NotOfTheForm)));
+}
+
+#[test]
+fn messages_as_text(rt: HostRuntime) -> Result<(), Fail> {
+    let mut text = Vec::new(rt.alloc());
+    put_hex(&mut text, &[0, 255, 169])?;
+    assert_eq!(rt; text.as_slice(), b"00ffa9".as_slice());
+    Ok(())
+}
+
+#[test]
+fn a_long_message_as_text_and_back(rt: HostRuntime) -> Result<(), Fail> {
+    let long = vec![in rt.alloc(); 171; 1000]?;
+    let mut text = Vec::new(rt.alloc());
+    put_hex(&mut text, long.as_slice())?;
+    assert_read(&rt, rt.alloc(), text.as_slice(), long.as_slice());
+    Ok(())
+}
+
+#[test]
+fn cases_that_differ(rt: HostRuntime) -> Result<(), Fail> {
+    let text = b"# short\nipp 00\n=\nipp short\nstatus 0\n\
+        # another answer\nnow 3\nipp 00\n=\nipp 0101\nstatus 0\n\
+        # another status\nnow 0\n=\nbad line 1\nstatus 0\n\
+        # an answer more\nipp 00\n=\nstatus 0\n\
+        # no lines that are wanted\n";
+    let mut output = Vec::new(rt.alloc());
+    let mut complaints = Vec::new(rt.alloc());
+    assert!(rt; !run_cases(rt.alloc(), text, &mut output, &mut complaints)?);
+    assert_eq!(rt; output.as_slice(), b"ok short\n".as_slice());
+    let wanted = "differs over lists: another answer\nwanted: ipp 0101\ncame:   ipp short\n\
+        differs over tables: another answer\nwanted: ipp 0101\ncame:   ipp short\n\
+        differs over lists: another status\nwanted: status 0\ncame:   status 1\n\
+        differs over tables: another status\nwanted: status 0\ncame:   status 1\n\
+        differs over lists: an answer more\nwanted: status 0\ncame:   ipp short\n\
+        differs over tables: an answer more\nwanted: status 0\ncame:   ipp short\n\
+        no case:  no lines that are wanted\n";
+    assert_eq!(rt; complaints.as_slice(), wanted.as_bytes());
+    Ok(())
+}

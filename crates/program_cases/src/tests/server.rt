@@ -1,0 +1,207 @@
+//! A server on a port of the loopback interface with its clients, and what they do in turn.
+
+use http_desk::books::DeskBook;
+use http_desk::compare::{Mismatch, Place};
+use http_desk::connection::{Wanted, wanted_bytes};
+use http_desk::desk::settings;
+use http_desk::streams::BrokenWriter;
+use print_server::{listen, serve_connections};
+use queue_types::settings::Settings;
+use std::alloc::{AllocError, Global};
+use std::io;
+use std::io::{Read, Write};
+use std::net::{Shutdown, SocketAddr, TcpListener, TcpStream};
+use std::time::Duration;
+
+/// The seconds that a server of a test waits for a client.
+const PATIENCE: u32 = 1;
+
+/// The seconds that a client waits for an answer that has been sent before it asks.
+const CLIENT_SECONDS: u64 = 10;
+
+/// Where comparisons are made.
+pub(super) const AT: Place = Place {
+    book: "server",
+    most: usize::MAX,
+};
+
+/// What is done next.
+#[derive(Clone, Copy)]
+pub(super) enum Step<'a> {
+    /// A client comes and sends these parts of a stream. It may send more.
+    Sends(&'a [&'a [u8]]),
+    /// A client comes, sends these and tells that it sends no more.
+    SendsLast(&'a [&'a [u8]]),
+    /// A client comes, sends these and goes away.
+    GoesAway(&'a [&'a [u8]]),
+    /// The server serves so many connections, and prints these lines.
+    Serves(u32, &'a str),
+    /// The server serves so many connections, and can't print its lines.
+    ServesUntold(u32),
+    /// The client of this number, of those that stayed, gets this and then the end of its connection. The first is number 0.
+    Gets(usize, &'a [Wanted<'a>]),
+}
+
+/// A server over a book, and the clients that stayed.
+#[derive(Drop)]
+pub(super) struct Server<B: DeskBook> {
+    alloc: Global,
+    listener: TcpListener,
+    address: SocketAddr,
+    settings: Settings,
+    book: B,
+    clients: Vec<TcpStream>,
+}
+
+impl<B: DeskBook> Server<B> {
+    /// A server on a port that the system chose, with an empty queue.
+    pub(super) fn new(rt: &HostRuntime) -> Result<Server<B>, Mismatch> {
+        let alloc = rt.alloc();
+        let listener = listen(rt, &mut io::sink(), 0)?;
+        let address = listener.local_addr()?;
+        let book = B::empty(alloc, settings(alloc)?)?;
+        let settings = settings(alloc)?;
+        Ok(Server {
+            alloc,
+            listener,
+            address,
+            settings,
+            book,
+            clients: Vec::new(alloc),
+        })
+    }
+
+    /// A client that has sent these bytes and may send more.
+    fn client(&self, rt: &HostRuntime, parts: &[&[u8]]) -> Result<TcpStream, Mismatch> {
+        let mut stream = TcpStream::connect(rt, self.address)?;
+        stream.set_read_timeout(Some(Duration::from_secs(CLIENT_SECONDS)))?;
+        send(&mut stream, parts)?;
+        Ok(stream)
+    }
+
+    /// This client stays.
+    fn keep(&mut self, client: TcpStream) -> Result<(), Mismatch> {
+        self.clients.push(client).map_err(AllocError::from)?;
+        Ok(())
+    }
+
+    /// A client stays that has sent these bytes and may send more.
+    fn add_client(&mut self, rt: &HostRuntime, parts: &[&[u8]]) -> Result<(), Mismatch> {
+        let client = self.client(rt, parts)?;
+        self.keep(client)
+    }
+
+    /// A client stays that has sent these bytes and sends no more.
+    pub(super) fn add_last_client(
+        &mut self,
+        rt: &HostRuntime,
+        parts: &[&[u8]],
+    ) -> Result<(), Mismatch> {
+        let client = self.client(rt, parts)?;
+        client.shutdown(Shutdown::Write)?;
+        self.keep(client)
+    }
+
+    /// Serves so many connections, and prints to a writer.
+    fn serve_into<W: Write>(
+        &mut self,
+        rt: &HostRuntime,
+        out: &mut W,
+        connections: u32,
+    ) -> io::Result<()> {
+        serve_connections(
+            self.alloc,
+            rt,
+            &self.listener,
+            out,
+            &mut self.book,
+            &self.settings,
+            PATIENCE,
+            connections,
+        )
+    }
+
+    /// Serves so many connections, and prints these lines.
+    fn serve(&mut self, rt: &HostRuntime, connections: u32, lines: &str) -> Result<(), Mismatch> {
+        let mut printed = Vec::new(self.alloc);
+        self.serve_into(rt, &mut printed, connections)?;
+        AT.same_bytes(lines.as_bytes(), printed.as_slice())
+    }
+
+    /// Serves so many connections, and fails to print a line.
+    fn serve_untold(&mut self, rt: &HostRuntime, connections: u32) -> Result<(), Mismatch> {
+        let mut printed = narrow(self.alloc);
+        let came = self.serve_into(rt, &mut printed, connections);
+        AT.is_so(came.is_err(), "a line that can't be written")
+    }
+
+    /// The client of this number gets this, and then the end of its connection.
+    fn answers(&self, client: usize, wanted: &[Wanted<'_>]) -> Result<(), Mismatch> {
+        let Some(stream) = self.clients.get(client) else {
+            return AT.is_so(false, "a client of this number");
+        };
+        let mut reader = stream;
+        reads(self.alloc, &mut reader, wanted)
+    }
+
+    /// Takes a step.
+    fn take(&mut self, rt: &HostRuntime, step: &Step<'_>) -> Result<(), Mismatch> {
+        match step {
+            Step::Sends(parts) => self.add_client(rt, parts),
+            Step::SendsLast(parts) => self.add_last_client(rt, parts),
+            Step::GoesAway(parts) => {
+                let _gone = self.client(rt, parts)?;
+                Ok(())
+            }
+            Step::Serves(connections, lines) => self.serve(rt, *connections, lines),
+            Step::ServesUntold(connections) => self.serve_untold(rt, *connections),
+            Step::Gets(client, wanted) => self.answers(*client, wanted),
+        }
+    }
+
+    /// Takes steps, one after another.
+    pub(super) fn take_each(
+        &mut self,
+        rt: &HostRuntime,
+        steps: &[Step<'_>],
+    ) -> Result<(), Mismatch> {
+        for step in steps {
+            self.take(rt, step)?;
+        }
+        Ok(())
+    }
+}
+
+/// Takes steps, one after another, with a server over an empty queue.
+pub(super) fn take_steps<B: DeskBook>(
+    rt: &HostRuntime,
+    steps: &[Step<'_>],
+) -> Result<(), Mismatch> {
+    let mut server = Server::<B>::new(rt)?;
+    server.take_each(rt, steps)
+}
+
+/// Sends these parts.
+fn send<W: Write>(writer: &mut W, parts: &[&[u8]]) -> Result<(), Mismatch> {
+    for part in parts {
+        writer.write_all(part)?;
+    }
+    Ok(())
+}
+
+/// A client gets this, and then the end of its connection.
+fn reads<R: Read>(alloc: Global, reader: &mut R, wanted: &[Wanted<'_>]) -> Result<(), Mismatch> {
+    let wanted = wanted_bytes(alloc, wanted)?;
+    let mut came = Vec::new(alloc);
+    reader.read_to_end(&mut came)?;
+    AT.same_bytes(wanted.as_slice(), came.as_slice())
+}
+
+/// A writer in which no line has room: it takes five bytes.
+pub(super) fn narrow(alloc: Global) -> BrokenWriter {
+    BrokenWriter {
+        room: 5,
+        most: usize::MAX,
+        taken: Vec::new(alloc),
+    }
+}

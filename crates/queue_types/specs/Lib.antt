@@ -1,0 +1,5 @@
+pub mod Uri
+pub mod Settings
+pub mod Job
+pub mod Event
+pub mod Formats

@@ -1,0 +1,132 @@
+//! The documents of a job.
+ghost use Rattle.std.specs.Prelude.{◌≡◌, ◌≢◌, IfOk, MatchOption};
+ghost use Rattle.queue_types.specs.Formats as formats;
+ghost use Rattle.queue_types.specs.declared.document.Format.{Format as FormatValue};
+
+use std::alloc::{AllocError, Global};
+use std::marker::Model;
+
+/// A supported document format (a MIME media type; RFC 8011, section 5.4.22).
+#[derive(Clone, Copy, Debug, PartialEq, Eq)]
+pub enum Format {
+    /// `application/octet-stream`, the default.
+    OctetStream,
+    /// `application/pdf`.
+    Pdf,
+    /// `application/postscript`.
+    Postscript,
+    /// `image/jpeg`.
+    Jpeg,
+    /// `image/pwg-raster`.
+    PwgRaster,
+    /// `image/urf`.
+    Urf,
+    /// `text/plain`.
+    PlainText,
+}
+
+/// The supported formats, in order; the first is the default.
+pub const FORMATS: [Format; 7] = [
+    Format::OctetStream,
+    Format::Pdf,
+    Format::Postscript,
+    Format::Jpeg,
+    Format::PwgRaster,
+    Format::Urf,
+    Format::PlainText,
+];
+
+impl Format {
+    /// Its name, a MIME media type.
+    pub fn name(self) -> &'static str
+        ensures { result.now ≡ formats.format_name self }
+    {
+        match self {
+            Format::OctetStream => "application/octet-stream",
+            Format::Pdf => "application/pdf",
+            Format::Postscript => "application/postscript",
+            Format::Jpeg => "image/jpeg",
+            Format::PwgRaster => "image/pwg-raster",
+            Format::Urf => "image/urf",
+            Format::PlainText => "text/plain",
+        }
+    }
+
+    /// The format of this name, byte for byte, where it is a supported one.
+    pub fn of_name(name: &[u8]) -> Option<Format>
+        ensures { MatchOption result ((f : FormatValue) → name.now ≢ formats.format_name f) (λ f. name.now ≡ formats.format_name f) }
+    {
+        if name == b"application/octet-stream".as_slice() {
+            return Some(Format::OctetStream);
+        }
+        if name == b"application/pdf".as_slice() {
+            return Some(Format::Pdf);
+        }
+        if name == b"application/postscript".as_slice() {
+            return Some(Format::Postscript);
+        }
+        if name == b"image/jpeg".as_slice() {
+            return Some(Format::Jpeg);
+        }
+        if name == b"image/pwg-raster".as_slice() {
+            return Some(Format::PwgRaster);
+        }
+        if name == b"image/urf".as_slice() {
+            return Some(Format::Urf);
+        }
+        if name == b"text/plain".as_slice() {
+            return Some(Format::PlainText);
+        }
+        None
+    }
+}
+
+/// Bytes, which contracts see as a list.
+#[derive(Debug, Drop)]
+pub struct Bytes {
+    bytes: Vec<u8>,
+}
+
+impl Model for Bytes {
+    ghost use Rattle.std.specs.Prelude.{List, ℕ};
+
+    ghost Value = { List ℕ };
+
+    ghost view = { λ b. b.bytes.items };
+}
+
+impl Bytes {
+    pub fn copy_of(alloc: Global, bytes: &[u8]) -> Result<Self, AllocError>
+        ensures { IfOk result (λ b. b ≡ bytes.now) }
+    {
+        let bytes = Vec::from_slice(alloc, bytes)?;
+        Ok(Bytes { bytes })
+    }
+
+    pub fn as_slice(&self) -> &[u8]
+        ensures { result.now ≡ self.now }
+    {
+        self.bytes.as_slice()
+    }
+}
+
+/// A document with all its bytes, 1 to 16,777,216.
+#[derive(Debug, Drop)]
+pub struct Document {
+    pub format: Format,
+    pub bytes: Bytes,
+}
+
+/// A document with the number of its job, as a plain list of documents has it.
+#[derive(Debug, Drop)]
+pub struct KeptDocument {
+    pub job: u32,
+    pub document: Document,
+}
+
+/// The format of a document, and its length in bytes.
+#[derive(Clone, Copy, Debug, PartialEq, Eq)]
+pub struct DocumentHead {
+    pub format: Format,
+    pub octets: u64,
+}

@@ -1,0 +1,452 @@
+//! What may happen to a queue, what it answers, and what becomes of its rows.
+ghost use Rattle.std.specs.Prelude.{◌≡◌, IfOk, length};
+ghost use Rattle.queue_types.specs.Event.{call_of, on_job};
+
+use crate::document::Format;
+use crate::job::JobList;
+use crate::settings::Settings;
+use crate::text::Text;
+use std::alloc::AllocError;
+use std::marker::Model;
+
+/// What a request asks of a new job.
+#[derive(Clone, Copy)]
+pub struct NewJob<'a> {
+    /// 1 to 255 octets without a zero byte.
+    pub name: &'a str,
+    /// 1 to 999.
+    pub copies: u32,
+    /// Pages of one copy, 0 to 100,000. Where it is not given, the settings' estimate stands.
+    pub impressions: Option<u32>,
+}
+
+/// Which jobs Get-Jobs shows (RFC 8011, section 4.2.6.1).
+#[derive(Clone, Copy, Debug, PartialEq, Eq)]
+pub enum WhichJobs {
+    /// Jobs in states 3 to 6.
+    NotCompleted,
+    /// Jobs in states 7 to 9.
+    Completed,
+}
+
+/// Job numbers, which contracts see as a list.
+#[derive(Debug, Drop)]
+pub struct NumberList {
+    numbers: Vec<u32>,
+}
+
+impl Model for NumberList {
+    ghost use Rattle.std.specs.Prelude.{ℕ, List};
+
+    ghost Value = { List ℕ };
+
+    ghost view = { λ l. l.numbers.items };
+}
+
+impl NumberList {
+    pub fn from_numbers(numbers: Vec<u32>) -> Self
+        ensures { result ≡ numbers.items }
+    {
+        NumberList { numbers }
+    }
+
+    pub fn as_slice(&self) -> &[u32]
+        ensures { result.now ≡ self.now }
+    {
+        self.numbers.as_slice()
+    }
+}
+
+/// An operation with its values (RFC 8011, section 4; PWG 5100.11).
+#[derive(Drop)]
+pub enum Call<'a> {
+    /// A new job, on hold. Its document is the payload, and there is none where that is empty.
+    PrintJob {
+        job: NewJob<'a>,
+        format: Format,
+        payload: &'a [u8],
+    },
+    /// What Print-Job would answer for such a job. Nothing changes.
+    ValidateJob {
+        job: NewJob<'a>,
+    },
+    /// A new job, on hold and open for documents.
+    CreateJob {
+        job: NewJob<'a>,
+    },
+    /// The open job of that number gets the payload as a document, where it is not empty. With the last
+    /// one it takes no more.
+    SendDocument {
+        job: u32,
+        format: Format,
+        payload: &'a [u8],
+        last: bool,
+    },
+    /// The job of that number is canceled, or marked as stopping while the device has it.
+    CancelJob {
+        job: u32,
+    },
+    /// The caller's jobs of these numbers are canceled, all of them or none; without numbers those of its
+    /// jobs that can be.
+    CancelMyJobs {
+        jobs: Option<NumberList>,
+    },
+    /// The waiting job of that number is held. What was set aside for it goes back to its account.
+    HoldJob {
+        job: u32,
+    },
+    /// The held job of that number may print, where its account has the pages; they are set aside.
+    ReleaseJob {
+        job: u32,
+    },
+    /// The job of that number is shown.
+    GetJobAttributes {
+        job: u32,
+    },
+    /// The caller's jobs are shown: those that are not completed, or those that are, and no more than
+    /// the limit.
+    GetJobs {
+        which: WhichJobs,
+        limit: Option<u32>,
+    },
+    /// The printer is shown.
+    GetPrinterAttributes,
+}
+
+impl Call<'_> {
+    /// The number of the one job that it is about.
+    pub fn job(&self) -> Option<u32>
+        ensures { result ≡ on_job (call_of self.now) }
+    {
+        match self {
+            Call::SendDocument { job, .. }
+            | Call::CancelJob { job }
+            | Call::HoldJob { job }
+            | Call::ReleaseJob { job }
+            | Call::GetJobAttributes { job } => Some(*job),
+            Call::PrintJob { .. }
+            | Call::ValidateJob { .. }
+            | Call::CreateJob { .. }
+            | Call::CancelMyJobs { .. }
+            | Call::GetJobs { .. }
+            | Call::GetPrinterAttributes => None,
+        }
+    }
+}
+
+/// What happens to a queue.
+#[derive(Drop)]
+pub enum Event<'a> {
+    /// A caller, by the requesting user name, asks for an operation.
+    Ask { caller: &'a str, call: Call<'a> },
+    /// The device reports of a job.
+    Tell(Report),
+    /// The office grants pages: the rows of an account file, at most 16,777,216.
+    Grant(&'a [GrantRow]),
+}
+
+/// What the machine answers.
+#[derive(Debug, Drop)]
+pub enum Reply {
+    /// The status code of a refusal (RFC 8011, appendix B). Nothing changes.
+    Refused(u16),
+    Done,
+    Jobs(JobList),
+    /// The printer's state, 3 idle, 4 processing or 5 stopped (RFC 8011, section 5.4.11), how many jobs are
+    /// in states 3 to 6, and whether there is a number for a new job.
+    Printer {
+        state: u8,
+        queued: u32,
+        accepting: bool,
+    },
+    /// A report is accepted, now or before: the job's state by its number, and the pages reported of it, as
+    /// they were after it was accepted.
+    Told {
+        state: u8,
+        count: u32,
+    },
+    /// A report is not accepted. Nothing changes.
+    NotTold(ReportRefusal),
+    /// The rows of an account file are taken: so many are new, and so many equal one that was accepted before.
+    Added {
+        added: u32,
+        repeats: u32,
+    },
+    /// None of the rows of an account file is taken, for this one, counted from 1. Nothing changes.
+    NotAdded {
+        fault: GrantFault,
+        row: u32,
+    },
+}
+
+/// Why a report is not accepted, by its number.
+#[derive(Clone, Copy, Debug, PartialEq, Eq)]
+pub enum ReportRefusal {
+    NoJob = 2,
+    /// The job's phase takes no report of that kind.
+    State = 3,
+    /// Another kind or count was accepted of the job under that sequence number.
+    Conflict = 5,
+}
+
+/// Why a row of an account file can't be taken, by its number.
+#[derive(Clone, Copy, Debug, PartialEq, Eq)]
+pub enum GrantFault {
+    /// The same batch and account were accepted with other pages.
+    Conflict = 4,
+    /// The account would have more than 1,000,000,000 pages granted.
+    TooMany = 5,
+}
+
+/// The kinds of a device's reports.
+#[derive(Clone, Copy, Debug, PartialEq, Eq)]
+pub enum Kind {
+    Start,
+    Stop,
+    Resume,
+    Count,
+    Done,
+    Fail,
+    Halt,
+}
+
+impl Kind {
+    ghost use Rattle.queue_types.specs.Event.{kind_number};
+
+    /// 1 to 7, in the order above.
+    pub fn number(self) -> u8
+        ensures { result ≡ kind_number self }
+    {
+        match self {
+            Kind::Start => 1,
+            Kind::Stop => 2,
+            Kind::Resume => 3,
+            Kind::Count => 4,
+            Kind::Done => 5,
+            Kind::Fail => 6,
+            Kind::Halt => 7,
+        }
+    }
+}
+
+/// What a device reports of a job: numbers of 1 to 2,147,483,647, and 0 to 100,000,000 pages.
+#[derive(Clone, Copy, Debug, PartialEq, Eq)]
+pub struct Report {
+    pub job: u32,
+    pub seq: u32,
+    pub kind: Kind,
+    pub count: u32,
+}
+
+/// A report that was accepted, with the state and the count that its answer told.
+#[derive(Clone, Copy, Debug, PartialEq, Eq)]
+pub struct KeptReport {
+    pub report: Report,
+    pub state: u8,
+    pub total: u32,
+}
+
+/// Pages granted to an account, 1 to 1,000,000, under a batch's name.
+#[derive(Debug, Drop)]
+pub struct GrantRow {
+    pub batch: Text,
+    pub account: Text,
+    pub pages: u32,
+}
+
+impl GrantRow {
+    /// A copy. The one error is want of memory.
+    pub fn try_clone(&self) -> Result<GrantRow, AllocError>
+        ensures { IfOk result (λ g. g ≡ self.now) }
+    {
+        let batch = self.batch.try_clone()?;
+        let account = self.account.try_clone()?;
+        Ok(GrantRow {
+            batch,
+            account,
+            pages: self.pages,
+        })
+    }
+}
+
+/// Grants, which contracts see as a list.
+#[derive(Debug, Drop)]
+pub struct GrantList {
+    rows: Vec<GrantRow>,
+}
+
+impl Model for GrantList {
+    ghost use Rattle.std.specs.Prelude.{List};
+    ghost use Rattle.queue_types.specs.declared.event.GrantRow.{GrantRow};
+
+    ghost Value = { List GrantRow };
+
+    ghost view = { λ l. l.rows.items };
+}
+
+impl GrantList {
+    pub fn from_rows(rows: Vec<GrantRow>) -> Self
+        ensures { result ≡ rows.items }
+    {
+        GrantList { rows }
+    }
+
+    pub fn len(&self) -> usize
+        ensures { result ≡ length self.now }
+    {
+        self.rows.len()
+    }
+
+    pub fn into_rows(self) -> Vec<GrantRow>
+        ensures { result.items ≡ self }
+    {
+        self.rows
+    }
+
+    pub fn as_slice(&self) -> &[GrantRow]
+        ensures { result.now ≡ self.now }
+    {
+        self.rows.as_slice()
+    }
+}
+
+/// What a queue knows of the batch and the account of an account file's row.
+#[derive(Clone, Copy, Debug, PartialEq, Eq)]
+pub struct KnownGrant {
+    /// The pages that were granted under this batch to this account.
+    pub pages: Option<u32>,
+    /// The pages that were granted to the account in all, at most 1,000,000,000.
+    pub granted: u32,
+    /// The account's free pages, where it is there.
+    pub free: Option<i64>,
+}
+
+/// What is known of each row of an account file, which contracts see as a list.
+#[derive(Debug, Drop)]
+pub struct KnownList {
+    known: Vec<KnownGrant>,
+}
+
+impl Model for KnownList {
+    ghost use Rattle.std.specs.Prelude.{List};
+    ghost use Rattle.queue_types.specs.declared.event.KnownGrant.{KnownGrant};
+
+    ghost Value = { List KnownGrant };
+
+    ghost view = { λ l. l.known.items };
+}
+
+impl KnownList {
+    pub fn from_known(known: Vec<KnownGrant>) -> Self
+        ensures { result ≡ known.items }
+    {
+        KnownList { known }
+    }
+
+    pub fn as_slice(&self) -> &[KnownGrant]
+        ensures { result.now ≡ self.now }
+    {
+        self.known.as_slice()
+    }
+}
+
+/// An account with its free pages, below zero by pages printed past what was reserved.
+#[derive(Debug, Drop)]
+pub struct FreeRow {
+    pub account: Text,
+    pub free: i64,
+}
+
+/// Accounts with their free pages, which contracts see as a list.
+#[derive(Debug, Drop)]
+pub struct FreeList {
+    rows: Vec<FreeRow>,
+}
+
+impl Model for FreeList {
+    ghost use Rattle.std.specs.Prelude.{List};
+    ghost use Rattle.queue_types.specs.declared.event.FreeRow.{FreeRow};
+
+    ghost Value = { List FreeRow };
+
+    ghost view = { λ l. l.rows.items };
+}
+
+impl FreeList {
+    pub fn from_rows(rows: Vec<FreeRow>) -> Self
+        ensures { result ≡ rows.items }
+    {
+        FreeList { rows }
+    }
+
+    pub fn into_rows(self) -> Vec<FreeRow>
+        ensures { result.items ≡ self }
+    {
+        self.rows
+    }
+
+    pub fn as_slice(&self) -> &[FreeRow]
+        ensures { result.now ≡ self.now }
+    {
+        self.rows.as_slice()
+    }
+
+    pub fn len(&self) -> usize
+        ensures { result ≡ length self.now }
+    {
+        self.rows.len()
+    }
+}
+
+/// A document that a job gets after those it has.
+#[derive(Clone, Copy)]
+pub struct NewDocument<'a> {
+    pub job: u32,
+    pub format: Format,
+    pub bytes: &'a [u8],
+}
+
+/// What becomes of the rows: the jobs that change or enter, one more document, the free pages of the
+/// accounts concerned, new grants, one more report that is kept, and the next job number.
+#[derive(Drop)]
+pub struct Change<'a> {
+    pub jobs: JobList,
+    pub document: Option<NewDocument<'a>>,
+    pub free: FreeList,
+    pub grants: GrantList,
+    pub report: Option<KeptReport>,
+    pub next: Option<u32>,
+}
+
+/// What the machine answers, and the change that comes with it. A refusal changes nothing.
+#[derive(Drop)]
+pub struct Decision<'a> {
+    pub reply: Reply,
+    pub change: Change<'a>,
+}
+
+/// How many jobs there are in states 5, 6, and 3 to 6.
+#[derive(Clone, Copy, Debug, PartialEq, Eq)]
+pub struct QueueCounts {
+    pub running: usize,
+    pub stopped: usize,
+    pub queued: usize,
+}
+
+/// The rows that an event needs: the jobs that it speaks of, the free pages of the account that it may
+/// move, how many live jobs its caller has, the counts of the queue, the report that is kept under the same
+/// sequence number, what is known of the rows of an account file, and the next job number.
+#[derive(Drop)]
+pub struct Scene {
+    pub settings: Settings,
+    pub jobs: JobList,
+    pub free: FreeList,
+    /// Counted for Print-Job, Validate-Job and Create-Job, and else 0.
+    pub live: usize,
+    /// Counted for Get-Printer-Attributes, and else all 0.
+    pub counts: QueueCounts,
+    pub report: Option<KeptReport>,
+    /// Row by row.
+    pub known: KnownList,
+    pub next: u32,
+}

@@ -1,0 +1,136 @@
+//! What a printer is set up with.
+ghost use Rattle.std.specs.Prelude.{◌≡◌, ◌↔◌, IfOk, IsOk, Err, bytes_eq};
+ghost use Rattle.std.specs.List.{list_all};
+ghost use Rattle.queue_types.specs.Settings.{AreSettings, is_uri_byte};
+ghost use Rattle.queue_types.specs.Uri.{path_of, printer_path};
+
+use crate::text::Text;
+use crate::uri::path;
+use std::alloc::{AllocError, Global};
+use std::marker::Model;
+
+/// Why settings were refused, by its number.
+#[derive(Clone, Copy, Debug, PartialEq, Eq)]
+pub enum SettingFault {
+    /// A value is not within its limits.
+    Bad = 1,
+    Memory = 2,
+}
+
+/// A printer's settings, which always keep their limits.
+#[derive(Debug, Drop)]
+pub struct Settings {
+    uri: Text,
+    name: Text,
+    estimate: u32,
+    epoch: i64,
+}
+
+impl Model for Settings {
+    ghost use Rattle.queue_types.specs.Settings.{SettingValues, AreSettings};
+
+    ghost Value = { SettingValues };
+
+    ghost view = { λ s. record { uri = s.uri; name = s.name; estimate = s.estimate; epoch = s.epoch } };
+
+    ghost invariant = { λ s. AreSettings (record { uri = s.uri; name = s.name; estimate = s.estimate; epoch = s.epoch }) };
+}
+
+fn has_uri_bytes(uri: &[u8]) -> bool
+    ensures { result ≡ list_all is_uri_byte uri.now }
+{
+    uri.iter()
+        .all(|b| *b >= 32 && *b <= 126 && !(*b == b'?' || *b == b'#'))
+}
+
+fn is_printer_path(path: &[u8]) -> bool
+    ensures { result ≡ bytes_eq path.now printer_path }
+{
+    path == b"/ipp/print".as_slice()
+}
+
+impl Settings {
+    ghost use Rattle.queue_types.specs.Settings.{SettingValues, AreSettings};
+
+    /// Settings of these values: a URI of 1 to 255 printable ASCII characters (0x20 to 0x7e) with the path `/ipp/print`,
+    /// without query and fragment; a name of 1 to 127 octets; an estimate of 0 to 100,000 pages; the
+    /// epoch in seconds since 1970.
+    pub fn new(
+        alloc: Global,
+        uri: &str,
+        name: &str,
+        estimate: u32,
+        epoch: i64,
+    ) -> Result<Settings, SettingFault>
+        ensures ok { IfOk result (λ s. s ≡ record { uri = uri.now; name = name.now; estimate = estimate; epoch = epoch }) }
+        ensures fits { IsOk result → AreSettings (record { uri = uri.now; name = name.now; estimate = estimate; epoch = epoch }) }
+        ensures bad { (result ≡ Err SettingFault.Bad) ↔ (¬ AreSettings (record { uri = uri.now; name = name.now; estimate = estimate; epoch = epoch })) }
+    {
+        let uri_fits = uri.len() >= 1 && uri.len() <= 255 && has_uri_bytes(uri.as_bytes());
+        let name_fits = name.len() >= 1 && name.len() <= 127;
+        if !uri_fits || !is_printer_path(path(uri.as_bytes())) || !name_fits || estimate > 100_000 {
+            return Err(SettingFault::Bad);
+        }
+        let Ok(uri) = Text::copy_of(alloc, uri) else {
+            return Err(SettingFault::Memory);
+        };
+        let Ok(name) = Text::copy_of(alloc, name) else {
+            return Err(SettingFault::Memory);
+        };
+        Ok(Settings {
+            uri,
+            name,
+            estimate,
+            epoch,
+        })
+    }
+
+    /// The printer's URI.
+    pub fn uri(&self) -> &str
+        ensures uri { result.now ≡ self.now.uri }
+        ensures limits { AreSettings self.now }
+    {
+        self.uri.as_str()
+    }
+
+    /// The printer's name.
+    pub fn name(&self) -> &str
+        ensures name { result.now ≡ self.now.name }
+        ensures limits { AreSettings self.now }
+    {
+        self.name.as_str()
+    }
+
+    /// The impressions of a job that does not say them, in pages.
+    pub fn estimate(&self) -> u32
+        ensures estimate { result ≡ self.now.estimate }
+        ensures limits { AreSettings self.now }
+    {
+        self.estimate
+    }
+
+    /// The second of the clock at which the printer's up time is 0, since 1970.
+    pub fn epoch(&self) -> i64
+        ensures epoch { result ≡ self.now.epoch }
+        ensures limits { AreSettings self.now }
+    {
+        self.epoch
+    }
+
+    pub fn try_clone(&self) -> Result<Settings, AllocError>
+        ensures { IfOk result (λ s. s ≡ self.now) }
+    {
+        let Settings {
+            uri,
+            name,
+            estimate,
+            epoch,
+        } = self;
+        Ok(Settings {
+            uri: uri.try_clone()?,
+            name: name.try_clone()?,
+            estimate: *estimate,
+            epoch: *epoch,
+        })
+    }
+}

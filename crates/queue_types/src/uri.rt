@@ -1,0 +1,57 @@
+//! The path of a URI (RFC 3986, section 3.3), by which a request names the printer or a job.
+ghost use Rattle.std.specs.Prelude.{◌≡◌, ◌==◌, ◌||◌, drop};
+ghost use Rattle.std.specs.List.{position, position_or_len, before_first};
+ghost use Rattle.std.specs.Str.{byte};
+ghost use Rattle.queue_types.specs.Uri.{behind_mark, path_of};
+
+/// What follows the first "://".
+fn after_scheme(uri: &[u8]) -> &[u8]
+    ensures { result.now ≡ behind_mark uri.now }
+{
+    let mut at = uri;
+    while let [_, rest @ ..] = at {
+        if at.starts_with(b"://") {
+            return &at[3..];
+        }
+        at = rest;
+    }
+    at
+}
+
+fn slash_at(rest: &[u8]) -> Option<usize>
+    ensures { result ≡ position (λ b. b == byte "/") rest.now }
+{
+    rest.iter().position(|b| *b == b'/')
+}
+
+fn from_slash(rest: &[u8]) -> &[u8]
+    ensures { result.now ≡ drop (position_or_len (λ b. b == byte "/") rest.now) rest.now }
+{
+    match slash_at(rest) {
+        Some(i) => &rest[i..],
+        None => &[],
+    }
+}
+
+fn query_at(path: &[u8]) -> Option<usize>
+    ensures { result ≡ position (λ b. b == byte "?" || b == byte "#") path.now }
+{
+    path.iter().position(|b| *b == b'?' || *b == b'#')
+}
+
+fn up_to_query(path: &[u8]) -> &[u8]
+    ensures { result.now ≡ before_first (λ b. b == byte "?" || b == byte "#") path.now }
+{
+    match query_at(path) {
+        Some(i) => &path[..i],
+        None => path,
+    }
+}
+
+/// The path of a URI: from the first slash behind "://", up to the query or the fragment. It is empty
+/// where there is no "://" or no slash behind it.
+pub fn path(uri: &[u8]) -> &[u8]
+    ensures { result.now ≡ path_of uri.now }
+{
+    up_to_query(from_slash(after_scheme(uri)))
+}

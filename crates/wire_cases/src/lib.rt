@@ -1,0 +1,5 @@
+//! Worked bytes of messages. It has tests alone.
+#![tactic(auto)]
+
+#[cfg(test)]
+mod tests;

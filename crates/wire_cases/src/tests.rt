@@ -1,0 +1,3 @@
+//! Messages by their bytes.
+
+mod wire_bytes;
