@@ -12,6 +12,7 @@ use ipp_ops::{Answer, answer};
 use page_statements::statement;
 use queue_core::book::{QueueBook, SendFault};
 use queue_types::document::DocumentHead;
+use queue_types::limits::LAST_MOMENT;
 use queue_types::settings::Settings;
 use std::alloc::{AllocError, Global};
 use std::fmt::Debug;
@@ -22,9 +23,6 @@ const HEADER: &[u8] = b"batch,account,pages\n";
 
 /// The most bytes that a request may have.
 const MOST: usize = 16_777_216;
-
-/// The last moment of a printer.
-const LAST_MOMENT: u32 = 2_147_483_647;
 
 /// A queue in a book.
 #[derive(Drop)]

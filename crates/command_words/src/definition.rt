@@ -8,6 +8,9 @@ use clap::builder::ValueParser;
 use clap::{Arg, ArgAction, Command as Definition};
 use std::alloc::{AllocError, Global};
 
+/// The most pages that a printer may take a copy for that says nothing of its own.
+pub(crate) const MOST_ESTIMATE: u32 = 100_000;
+
 /// An option whose value is a text.
 fn text<'a>(alloc: Global, name: &'a str, value: &'a str, help: &'a str) -> Arg<'a>
     ensures rule { rule_of result ≡ text_rule name.entry.now }
@@ -95,7 +98,7 @@ fn init<'a>(alloc: Global) -> Result<Definition<'a>, AllocError>
     );
     let name = text(alloc, "name", "NAME", "The printer's name");
     let help = "The pages of a job that does not say them";
-    let estimate = optional(alloc, "estimate", "N", help, 0, 100_000, "20");
+    let estimate = optional(alloc, "estimate", "N", help, 0, MOST_ESTIMATE, "20");
     Definition::new(alloc, "init")
         .about("Make a new store")
         .arg(store(alloc))?

@@ -4,6 +4,7 @@ ghost use Rattle.std.specs.Prelude.{◌≡◌, ◌≤◌, codes};
 ghost use Rattle.clap.specs.Words.{found_of, rows_of};
 ghost use Rattle.command_words.specs.Values.{IsNumberAt, IsInit, IsServe, IsImport, IsStatement, text_at};
 
+use crate::definition::MOST_ESTIMATE;
 use crate::outcome::{Import, Init, Serve, Statement};
 use clap::ArgMatches;
 
@@ -35,7 +36,7 @@ pub fn init_of<'a>(matches: &ArgMatches<'a>) -> Init<'a>
         store: text_of(matches, "store"),
         uri: text_of(matches, "uri"),
         name: text_of(matches, "name"),
-        estimate: number_of(matches, "estimate", 0, 100_000, 20),
+        estimate: number_of(matches, "estimate", 0, MOST_ESTIMATE, 20),
     }
 }
 

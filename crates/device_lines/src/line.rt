@@ -9,13 +9,11 @@ ghost use Rattle.device_lines.specs.Lines.{Reads, Spells, kind_word};
 
 use itoa::Buffer;
 use queue_types::event::{Kind, Report};
+use queue_types::limits::MOST_PRINTED_PAGES;
 use std::str;
 
 /// The greatest number of a job, and of a report of it.
 const LAST_NUMBER: u64 = 2_147_483_647;
-
-/// The most pages that are reported of a job.
-const MOST_PAGES: u64 = 100_000_000;
 
 /// The greatest number of ten digits.
 const MOST_IN_TEN_DIGITS: u64 = 9_999_999_999;
@@ -56,7 +54,7 @@ fn within(f: Form) -> Option<Report>
     ensures some { IfSome result (λ r. (r ≡ report_of f) × IsReport r) }
     ensures none { IfNone result (IsReport (report_of f) → ⊥) }
 {
-    if !is_positive(f.job) || !is_positive(f.seq) || f.count > MOST_PAGES {
+    if !is_positive(f.job) || !is_positive(f.seq) || f.count > u64::from(MOST_PRINTED_PAGES) {
         return None;
     }
     Some(Report {

@@ -165,5 +165,5 @@ pub fn read_grants(alloc: Global, bytes: &[u8]) -> Result<GrantList, ImportFault
         &mut rows,
         text_len(bytes) as u32,
     )?;
-    Ok(GrantList::from_rows(rows))
+    Ok(GrantList::from_items(rows))
 }

@@ -12,11 +12,9 @@ ghost use Rattle.grants_csv.specs.File as file;
 use crate::fault::{ImportCause, ImportFault};
 use csv::ByteRecord;
 use queue_types::event::GrantRow;
+use queue_types::limits::{MOST_NAME_OCTETS, MOST_ROW_PAGES};
 use queue_types::text::Text;
 use std::alloc::Global;
-
-/// The pages of the greatest grant.
-const MOST_PAGES: u32 = 1_000_000;
 
 fn is_batch_byte(b: u8) -> bool
     ensures { result ≡ limits.is_batch_byte b }
@@ -80,7 +78,7 @@ fn batch_text(bytes: &[u8]) -> Option<&str>
 fn account_text(bytes: &[u8]) -> Option<&str>
     ensures { option_copied result ≡ (if file.is_account bytes.now then Some bytes.now else None) }
 {
-    if 1 <= bytes.len() && bytes.len() <= 255 && is_printable(bytes) {
+    if 1 <= bytes.len() && bytes.len() <= MOST_NAME_OCTETS && is_printable(bytes) {
         utf8_text(bytes)
     } else {
         None
@@ -131,7 +129,7 @@ fn pages_in(digits: &str) -> Option<u32>
 {
     match digits.parse::<u32>() {
         Ok(n) => {
-            if 1 <= n && n <= MOST_PAGES {
+            if 1 <= n && n <= MOST_ROW_PAGES {
                 Some(n)
             } else {
                 None

@@ -2,7 +2,7 @@
 //!
 //! A `desk` has a queue and serves connections to it, over any book that keeps a queue; `books` has those that it is run over. A connection
 //! is data (`connection`): the bytes that a client sends and what it is to get. Requests and IPP messages stand in `requests` and `messages`,
-//! readers and writers that are slow or fail in `streams`. A comparison that fails is told with the name of its book (`compare`).
+//! readers and writers that are slow or fail in `streams`. Streams that are refused are in `refused`, those in which a part stands many times in `long`. A comparison that fails is told with the name of its book (`compare`).
 //!
 //! What is promised is that a comparison succeeds just where what it compares is the same. All else is seen when the tests run.
 #![tactic(auto)]
@@ -11,6 +11,8 @@ pub mod books;
 pub mod compare;
 pub mod connection;
 pub mod desk;
+pub mod long;
 pub mod messages;
+pub mod refused;
 pub mod requests;
 pub mod streams;

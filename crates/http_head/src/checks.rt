@@ -12,6 +12,9 @@ use crate::framing::{Framing, is_there};
 use crate::target::Target;
 use httparse::spans::{HeaderSpan, Span};
 
+/// The most bytes that the content of a request may have.
+pub const CONTENT_LIMIT: u32 = 16_777_216;
+
 fn is_type(asked: &[u8], value: &[u8]) -> bool
     ensures { result ≡ spec.is_type asked.now value.now }
 {
@@ -104,7 +107,7 @@ pub fn routed_refusal(
             Refusal::BadRequest,
         ),
         (posted && framing.is_untold(), Refusal::LengthRequired),
-        (size > 16_777_216, Refusal::TooLarge),
+        (size > CONTENT_LIMIT, Refusal::TooLarge),
         (posted && !typed, Refusal::UnsupportedType),
     ])
 }

@@ -9,12 +9,13 @@ use crate::body::BodyFault;
 use crate::chunk::{LINE_LIMIT, Line, RAW_LIMIT, bound_behind, take_chunk, take_line};
 use crate::trailers::{TRAILER_LIMIT, take_trailers};
 use http_head::buffer::Buffer;
+use http_head::checks;
 use http_head::end::{Finish, ReadFault, Refusal};
 use std::alloc::Global;
 use std::io::Read;
 
 /// The most bytes of a body's content.
-pub const CONTENT_LIMIT: usize = 16_777_216;
+pub const CONTENT_LIMIT: usize = checks::CONTENT_LIMIT as usize;
 
 /// What was found where a chunked body may stand.
 #[derive(Drop)]

@@ -18,13 +18,13 @@ ghost use Rattle.ipp_request.specs.Reading.{head_refusal};
 use crate::asking::ask;
 use crate::outcome::{Answer, TooShort};
 use crate::verdict::Ask;
-use ipp_reply::status::{CLIENT_ERROR_BAD_REQUEST, SERVER_ERROR_TEMPORARY_ERROR};
 use ipp_reply::{Unsupported, Wanted, reply_message};
 use ipp_request::head_check;
 use ipp_wire::{Head, View, WireFault, head, put_fault, read, write};
 use queue_core::book::{BookFault, QueueBook};
 use queue_types::event::{Call, Event, Reply};
 use queue_types::settings::Settings;
+use queue_types::status::{CLIENT_ERROR_BAD_REQUEST, SERVER_ERROR_TEMPORARY_ERROR};
 use std::alloc::Global;
 
 fn bare_answer(head: Head, code: u16) -> Answer

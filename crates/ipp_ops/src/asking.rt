@@ -17,7 +17,6 @@ ghost use Rattle.ipp_request.specs.Unsupported.{is_refused_for};
 use crate::check::first_refusal;
 use crate::new_job::{format, new_job};
 use crate::verdict::Ask;
-use ipp_reply::status::CLIENT_ERROR_ATTRIBUTES_OR_VALUES_NOT_SUPPORTED;
 use ipp_reply::{
     Operation, Unsupported, Wanted, select_of_printer, select_requested, select_usual,
     select_whole_printer,
@@ -29,6 +28,7 @@ use ipp_request::unsupported::{is_refused_for, unsupported_in};
 use ipp_request::value::number;
 use ipp_wire::{ValueView, View};
 use queue_types::event::{Call, NumberList, WhichJobs};
+use queue_types::status::CLIENT_ERROR_ATTRIBUTES_OR_VALUES_NOT_SUPPORTED;
 use std::alloc::{AllocError, Global};
 
 /// Those that are not completed, where the request doesn't say which.
@@ -60,7 +60,7 @@ fn job_ids(alloc: Global, r: Request<'_, '_>) -> Result<Option<NumberList>, Allo
     match r.known(OperationAttribute::JobIds) {
         Some(a) => {
             let ids = numbers(alloc, a.values.as_slice())?;
-            Ok(Some(NumberList::from_numbers(ids)))
+            Ok(Some(NumberList::from_items(ids)))
         }
         None => Ok(None),
     }

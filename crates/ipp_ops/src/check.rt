@@ -5,12 +5,12 @@ ghost use Rattle.ipp_ops.specs.Checks.{code, applies, refusal, fails, some_fails
 ghost use Rattle.ipp_request.specs.Request.{has, request_of};
 ghost use Rattle.ipp_request.specs.Values as values;
 
-use ipp_reply::status;
 use ipp_request::attribute::{OperationAttribute, TABLE, needs};
 use ipp_request::format::format_of;
 use ipp_request::request::Request;
 use ipp_request::target::is_target;
 use ipp_request::value::{are_formed, are_long};
+use queue_types::status;
 
 /// What may be wrong with a request, in the order in which it is looked for.
 #[derive(Clone, Copy, Debug)]

@@ -1,5 +1,7 @@
 //! What the definitions of requests promise: laws over them, in functions that do nothing.
 ghost use Rattle.std.specs.Prelude.{◌≡◌, ℕ, List, Contains};
+ghost use Rattle.queue_types.specs.Formats.{formats};
+ghost use Rattle.queue_types.specs.declared.document.Format.{Format};
 ghost use Rattle.ipp_reply.specs.Operations.{operations};
 ghost use Rattle.ipp_reply.specs.declared.operation.Operation.{Operation};
 ghost use Rattle.ipp_ops.specs.Answer.{IsVerdictOn};
@@ -27,10 +29,11 @@ pub fn job_paths()
     ensures found { (path : List ℕ) (n : ℕ) → IsJobPath path n → job_in path ≡ Some n }
 {}
 
-/// Each operation, each attribute and each check stands in its table.
+/// Each operation, each attribute, each check and each document format stands in its table.
 pub fn whole_tables()
     ensures operations { (o : Operation) → Contains operations o }
     ensures attributes { (k : OperationAttribute) → Contains table k }
     ensures job_attributes { (k : TemplateAttribute) → Contains template_table k }
     ensures checks { (c : Check) → Contains checks c }
+    ensures formats { (f : Format) → Contains formats f }
 {}

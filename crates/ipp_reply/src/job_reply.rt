@@ -13,7 +13,7 @@ use ipp_wire::tags::{
     CHARSET, JOB_ATTRIBUTES, KEYWORD, NAME_WITHOUT_LANGUAGE, NATURAL_LANGUAGE, URI,
 };
 use ipp_wire::{Message, ValueView};
-use queue_types::job::{Job, reasons_of, state_of};
+use queue_types::job::Job;
 use std::alloc::{AllocError, Global};
 
 /// A job attribute of a reply.
@@ -130,8 +130,8 @@ impl JobAttribute {
                 NAME_WITHOUT_LANGUAGE,
                 j.owner.as_str(),
             ),
-            JobAttribute::JobState => Content::Enum(u32::from(state_of(j))),
-            JobAttribute::JobStateReasons => Content::Reasons(reasons_of(j)),
+            JobAttribute::JobState => Content::Enum(u32::from(j.state())),
+            JobAttribute::JobStateReasons => Content::Reasons(j.reasons()),
             JobAttribute::TimeAtCreation => Content::Integer(j.created),
             JobAttribute::TimeAtProcessing => Content::Moment(j.begun),
             JobAttribute::TimeAtCompleted => Content::Moment(j.ended),
@@ -151,12 +151,15 @@ impl JobAttribute {
     }
 }
 
+/// The octets of a unit of job-k-octets (RFC 8011, section 5.3.17.1).
+const UNIT: u64 = 1024;
+
 /// Octets in units of 1,024, rounded up.
 fn kilo_octets(octets: u64) -> u32
     requires { octets ≤ 2 ^ 28 }
     ensures { result ≡ (octets + 1023) / 1024 }
 {
-    ((octets + 1023) / 1024) as u32
+    ((octets + (UNIT - 1)) / UNIT) as u32
 }
 
 /// Adds the group of a job with these rows.

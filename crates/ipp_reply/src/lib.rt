@@ -8,7 +8,6 @@ mod job_reply;
 mod operation;
 mod printer_reply;
 mod reply;
-pub mod status;
 mod unsupported;
 mod wanted;
 

@@ -12,16 +12,16 @@ ghost use Rattle.ipp_reply.specs.Wanted.{rows_of};
 
 use crate::job_reply::put_jobs;
 use crate::printer_reply::{PrinterView, put_printer};
-use crate::status::{
-    CLIENT_ERROR_ATTRIBUTES_OR_VALUES_NOT_SUPPORTED, SUCCESSFUL_OK,
-    SUCCESSFUL_OK_IGNORED_OR_SUBSTITUTED_ATTRIBUTES,
-};
 use crate::unsupported::Unsupported;
 use crate::wanted::Wanted;
 use ipp_wire::tags::{CHARSET, NATURAL_LANGUAGE, OPERATION_ATTRIBUTES, UNSUPPORTED_ATTRIBUTES};
 use ipp_wire::{AttrView, Head, Message, ValueView, reply_head};
 use queue_types::event::Reply;
 use queue_types::settings::Settings;
+use queue_types::status::{
+    CLIENT_ERROR_ATTRIBUTES_OR_VALUES_NOT_SUPPORTED, SUCCESSFUL_OK,
+    SUCCESSFUL_OK_IGNORED_OR_SUBSTITUTED_ATTRIBUTES,
+};
 use std::alloc::{AllocError, Global};
 
 /// A reply with charset and natural language alone.

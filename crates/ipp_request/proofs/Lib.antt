@@ -1,5 +1,6 @@
 pub mod Lists
 pub mod Tests
 pub mod Texts
+pub mod Names
 pub mod Numbers
 pub mod Listing

@@ -7,6 +7,13 @@ use ipp_wire::tags::{
     BOOLEAN, CHARSET, INTEGER, KEYWORD, MIME_MEDIA_TYPE, NAME_WITH_LANGUAGE, NAME_WITHOUT_LANGUAGE,
     NATURAL_LANGUAGE, URI,
 };
+use queue_types::limits::{MOST_COPIES, MOST_NAME_OCTETS};
+
+/// The most octets of a uri (RFC 8011, section 5.1.6).
+const MOST_URI_OCTETS: usize = 1023;
+
+/// The most octets of a naturalLanguage (RFC 8011, section 5.1.9).
+const MOST_LANGUAGE_OCTETS: usize = 63;
 
 /// The operation attributes that are looked at.
 #[derive(Clone, Copy, Debug)]
@@ -165,13 +172,13 @@ impl Syntax {
     {
         match self {
             Syntax::Charset | Syntax::Integer | Syntax::Positive | Syntax::Boolean => None,
-            Syntax::NaturalLanguage => Some(63),
-            Syntax::Uri => Some(1023),
+            Syntax::NaturalLanguage => Some(MOST_LANGUAGE_OCTETS),
+            Syntax::Uri => Some(MOST_URI_OCTETS),
             Syntax::MediaType
             | Syntax::Keyword
             | Syntax::KeywordOrName
             | Syntax::UserName
-            | Syntax::Title => Some(255),
+            | Syntax::Title => Some(MOST_NAME_OCTETS),
         }
     }
 
@@ -316,7 +323,7 @@ impl TemplateAttribute {
         ensures { support_of result ≡ template_support self }
     {
         match self {
-            TemplateAttribute::Copies => Support::Between(1, 999),
+            TemplateAttribute::Copies => Support::Between(1, MOST_COPIES),
             TemplateAttribute::JobHoldUntil => HELD,
             TemplateAttribute::JobImpressions => IMPRESSIONS,
         }

@@ -2,8 +2,9 @@
 ghost use Rattle.std.specs.Prelude.{◌≡◌};
 ghost use Rattle.ipp_request.specs.Reading.{head_refusal, operation_in};
 
-use ipp_reply::{Operation, status};
+use ipp_reply::Operation;
 use ipp_wire::{Head, is_known_version};
+use queue_types::status;
 
 /// The operation that a head asks for, or the code that refuses it.
 pub fn operation_in(h: Head) -> Result<Operation, u16>

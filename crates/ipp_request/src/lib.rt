@@ -5,10 +5,12 @@
 pub mod attribute;
 pub mod format;
 pub mod head;
+mod law;
 pub mod request;
 pub mod target;
 pub mod unsupported;
 pub mod value;
 
 pub use head::head_check;
+pub use law::names_with_languages;
 pub use request::Request;

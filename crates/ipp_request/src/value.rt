@@ -11,6 +11,7 @@ ghost use Rattle.ipp_request.specs.Values as spec;
 use crate::attribute::{Row, Support, Syntax};
 use ipp_wire::ValueView;
 use ipp_wire::tags::{INTEGER, KEYWORD, NAME_WITH_LANGUAGE};
+use queue_types::limits::LAST_JOB_NUMBER;
 use std::str;
 
 /// A number of 4 bytes.
@@ -27,7 +28,7 @@ pub fn number(bytes: &[u8]) -> Option<u32>
 pub fn job_of_id(n: u32) -> Option<u32>
     ensures { result ≡ job_of_id n }
 {
-    if 1 <= n && n <= 2_147_483_647 {
+    if 1 <= n && n <= LAST_JOB_NUMBER {
         Some(n)
     } else {
         None

@@ -128,7 +128,7 @@ impl QueueBook for ListBook {
         ensures fault { IfErr result (λ f. f ≡ BookFault.Memory) }
     {
         let jobs = seen::pending(self.alloc, self.lists.jobs.as_slice())?;
-        Ok(JobList::from_jobs(jobs))
+        Ok(JobList::from_items(jobs))
     }
 
     fn document_head(&mut self, job: u32, n: u32) -> Result<Option<DocumentHead>, BookFault>

@@ -176,9 +176,9 @@ pub(crate) fn write(l: &mut Lists, c: Change<'_>, document: Option<KeptDocument>
     ensures totals { (a : List ℕ) → total_of l.new.accounts.entries a ≡ total_of l.old.accounts.entries a + pages_to a (change_of c.entry).grants }
 {
     put_document(&mut l.documents, document);
-    put_jobs(&mut l.jobs, c.jobs.into_jobs());
-    put_free_rows(&mut l.accounts, c.free.into_rows());
-    put_grants(&mut l.grants, &mut l.accounts, c.grants.into_rows());
+    put_jobs(&mut l.jobs, c.jobs.into_items());
+    put_free_rows(&mut l.accounts, c.free.into_items());
+    put_grants(&mut l.grants, &mut l.accounts, c.grants.into_items());
     put_report(&mut l.reports, c.report);
     l.next = c.next.unwrap_or(l.next);
 }

@@ -22,7 +22,7 @@ use queue_types::event::{
     Call, Event, FreeList, FreeRow, GrantRow, KeptReport, KnownList, QueueCounts, Report, Scene,
     WhichJobs,
 };
-use queue_types::job::{Job, JobList, Phase, is_live_job};
+use queue_types::job::{Job, JobList, Phase};
 use std::alloc::{AllocError, Global};
 use std::collections::BTreeSet;
 
@@ -68,8 +68,8 @@ fn is_listed(which: WhichJobs, j: &Job) -> bool
     ensures { result ≡ is_among which j.now }
 {
     match which {
-        WhichJobs::NotCompleted => is_live_job(j),
-        WhichJobs::Completed => !is_live_job(j),
+        WhichJobs::NotCompleted => j.is_live(),
+        WhichJobs::Completed => !j.is_live(),
     }
 }
 
@@ -139,7 +139,7 @@ fn live_of(jobs: &[Job], caller: &str) -> usize
 {
     let mut live = 0;
     for job in jobs {
-        if job.owner.as_str() == caller && is_live_job(job) {
+        if job.owner.as_str() == caller && job.is_live() {
             live += 1;
         }
     }
@@ -185,7 +185,7 @@ fn stopped_in(jobs: &[Job]) -> usize
 fn queued_in(jobs: &[Job]) -> usize
     ensures { result ≡ count_by is_live jobs.now }
 {
-    jobs.iter().filter(|j| is_live_job(j)).count()
+    jobs.iter().filter(|j| j.is_live()).count()
 }
 
 /// The counts of the queue, for a call that needs them.
@@ -232,12 +232,12 @@ fn scene_of_call(
     let free = free_rows_of(alloc, &l.accounts, caller)?;
     Ok(Scene {
         settings,
-        jobs: JobList::from_jobs(jobs),
-        free: FreeList::from_rows(free),
+        jobs: JobList::from_items(jobs),
+        free: FreeList::from_items(free),
         live: live_for_call(l.jobs.as_slice(), caller, call),
         counts: counts(l.jobs.as_slice(), call),
         report: None,
-        known: KnownList::from_known(Vec::new(alloc)),
+        known: KnownList::from_items(Vec::new(alloc)),
         next: l.next,
     })
 }
@@ -269,12 +269,12 @@ fn scene_of_report(alloc: Global, l: &Lists, r: &Report) -> Result<Scene, AllocE
     let free = owner_rows(alloc, &l.accounts, jobs.as_slice())?;
     Ok(Scene {
         settings,
-        jobs: JobList::from_jobs(jobs),
-        free: FreeList::from_rows(free),
+        jobs: JobList::from_items(jobs),
+        free: FreeList::from_items(free),
         live: 0,
         counts: no_counts(),
         report: kept_report(&l.reports, r.job, r.seq),
-        known: KnownList::from_known(Vec::new(alloc)),
+        known: KnownList::from_items(Vec::new(alloc)),
         next: l.next,
     })
 }
@@ -288,12 +288,12 @@ fn scene_of_grants(alloc: Global, l: &Lists, rows: &[GrantRow]) -> Result<Scene,
     let known = known_rows(alloc, &l.grants, &l.accounts, rows)?;
     Ok(Scene {
         settings,
-        jobs: JobList::from_jobs(Vec::new(alloc)),
-        free: FreeList::from_rows(Vec::new(alloc)),
+        jobs: JobList::from_items(Vec::new(alloc)),
+        free: FreeList::from_items(Vec::new(alloc)),
         live: 0,
         counts: no_counts(),
         report: None,
-        known: KnownList::from_known(known),
+        known: KnownList::from_items(known),
         next: l.next,
     })
 }

@@ -8,7 +8,7 @@ ghost use Rattle.list_book.specs.Lists.{nth_of, world_of};
 
 use crate::lists::Lists;
 use queue_types::document::{Document, DocumentHead, KeptDocument};
-use queue_types::job::{Job, state_of};
+use queue_types::job::Job;
 use std::alloc::{AllocError, Global};
 
 /// The jobs in state 3, by number.
@@ -17,7 +17,7 @@ pub(crate) fn pending(alloc: Global, jobs: &[Job]) -> Result<Vec<Job>, AllocErro
 {
     let mut pending = Vec::new(alloc);
     for job in jobs {
-        if state_of(job) == 3 {
+        if job.state() == 3 {
             pending.push(job.try_clone()?)?;
         }
     }
@@ -34,7 +34,7 @@ fn numbered_job(jobs: &[Job], number: u32) -> Option<&Job>
 fn is_fetched(j: &Job) -> bool
     ensures { result ≡ (state j.now == 3 || state j.now == 5 || state j.now == 6) }
 {
-    let state = state_of(j);
+    let state = j.state();
     state == 3 || state == 5 || state == 6
 }
 

@@ -8,20 +8,9 @@ ghost use Rattle.list_book.specs.Tables.{free_map};
 use crate::accounts::{free_pages, pages_granted};
 use crate::lists::Lists;
 use crate::name::Name;
-use queue_types::job::{Job, JobList, is_live_job};
+use queue_types::job::{Job, JobList};
 use queue_types::sheet::AccountSheet;
 use std::alloc::{AllocError, Global};
-
-/// The pages that are still set aside for a job.
-fn reserved_of(j: &Job) -> u64
-    ensures { result ≡ owed j.now }
-{
-    if j.hold || !is_live_job(j) {
-        return 0;
-    }
-    let estimate = u64::from(j.impressions) * u64::from(j.copies);
-    estimate.saturating_sub(u64::from(j.count))
-}
 
 /// The account's jobs that have pages reserved or printed.
 fn sheet_jobs(alloc: Global, jobs: &[Job], account: &str) -> Result<Vec<Job>, AllocError>
@@ -29,7 +18,7 @@ fn sheet_jobs(alloc: Global, jobs: &[Job], account: &str) -> Result<Vec<Job>, Al
 {
     let mut shown = Vec::new(alloc);
     for job in jobs {
-        if job.owner.as_str() == account && (0 < reserved_of(job) || 0 < job.count) {
+        if job.owner.as_str() == account && (0 < job.owed() || 0 < job.count) {
             shown.push(job.try_clone()?)?;
         }
     }
@@ -44,7 +33,7 @@ fn reserved_in(jobs: &[Job], account: &str) -> u64
     let mut pages = 0;
     for job in jobs {
         if job.owner.as_str() == account {
-            pages += reserved_of(job);
+            pages += job.owed();
         }
     }
     pages
@@ -86,7 +75,7 @@ fn sheet_with(
         free,
         reserved: reserved_in(jobs, account),
         printed: printed_in(jobs, account),
-        jobs: JobList::from_jobs(shown),
+        jobs: JobList::from_items(shown),
     })
 }
 

@@ -3,20 +3,9 @@ ghost use Rattle.std.specs.Prelude.{◌≡◌, ◌++◌, IfOk, OnOk, string_byte
 ghost use Rattle.queue_types.specs.Job.{owed};
 ghost use Rattle.page_statements.specs.Statement.{amounts, job_row, sheet_text, table};
 
-use queue_types::job::{Job, is_live_job, state_of};
+use queue_types::job::Job;
 use queue_types::sheet::AccountSheet;
 use std::alloc::{AllocError, Global};
-
-/// The pages that are still set aside for a job, with room for whatever numbers a sheet has.
-fn reserved_of(j: &Job) -> u64
-    ensures { result ≡ owed j.now }
-{
-    if j.hold || !is_live_job(j) {
-        return 0;
-    }
-    let estimate = u64::from(j.impressions) * u64::from(j.copies);
-    estimate.saturating_sub(u64::from(j.count))
-}
 
 fn put_amounts(out: &mut String, sheet: &AccountSheet) -> Result<(), AllocError>
     ensures { OnOk result (string_bytes out.new ≡ string_bytes out.old ++ amounts sheet.now) }
@@ -32,8 +21,8 @@ fn put_job(out: &mut String, j: &Job) -> Result<(), AllocError>
     ensures { OnOk result (string_bytes out.new ≡ string_bytes out.old ++ job_row j.now) }
 {
     let number = j.number;
-    let state = state_of(j);
-    let reserved = reserved_of(j);
+    let state = j.state();
+    let reserved = j.owed();
     let printed = j.count;
     writeln!(out, "{number:>10} {state:>5} {reserved:>9} {printed:>9}")
 }

@@ -2,11 +2,9 @@
 ghost use Rattle.std.specs.Prelude.{◌≡◌, ◌+ℤ◌, ◌-ℤ◌, ◌≤ℤ◌, ◌<ℤ◌, pos, IfOk};
 ghost use Rattle.queue_core.specs.Limits.{IsMoment};
 
+use queue_types::limits::LAST_MOMENT;
 use std::io;
 use std::rt::Clock;
-
-/// The last moment that a queue knows.
-const LAST_MOMENT: u32 = 2_147_483_647;
 
 /// The moment at a second of the clock: 1 at the printer's epoch and before it, then one more each second, up to the last.
 fn moment_at(epoch: i64, second: u64) -> u32

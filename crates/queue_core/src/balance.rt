@@ -9,32 +9,16 @@ ghost use Rattle.queue_core.specs.World.{job_at};
 ghost use Rattle.queue_core.specs.Balance.{AreAmounts, IsBelow};
 
 use queue_types::event::FreeRow;
-use queue_types::job::{Job, Phase};
+use queue_types::job::Job;
 use std::alloc::{AllocError, Global};
 
-/// The pages that are still set aside for a job: none while it is held or once it has ended.
-fn owed_of(j: &Job) -> u32
-    requires { AreAmounts j.now }
-    ensures { result ≡ owed j.now }
-{
-    match j.phase {
-        Phase::Waiting | Phase::Running | Phase::Stopped => {
-            if j.hold {
-                0
-            } else {
-                (j.impressions * j.copies).saturating_sub(j.count)
-            }
-        }
-        Phase::Canceled(_) | Phase::Aborted | Phase::Completed => 0,
-    }
-}
-
-fn taken_of(j: &Job) -> u32
+/// The pages that a job has taken of its account: those set aside for it, and those printed.
+fn taken_of(j: &Job) -> u64
     requires { AreAmounts j.now }
     ensures exact { result ≡ taken j.now }
     ensures bound { result ≤ 2 ^ 28 }
 {
-    owed_of(j) + j.count
+    j.owed() + u64::from(j.count)
 }
 
 fn number_at(jobs: &[Job], number: u32) -> Option<&Job>
@@ -57,7 +41,7 @@ fn given_back_by(before: &[Job], j: &Job, account: &str) -> i64
         Some(old) => taken_of(old),
         None => 0,
     };
-    i64::from(was) - i64::from(taken_of(j))
+    was as i64 - taken_of(j) as i64
 }
 
 /// What comes back to an account as jobs become what they are now.

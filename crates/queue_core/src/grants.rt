@@ -12,11 +12,9 @@ use crate::outcome::answer_only;
 use queue_types::event::{
     Decision, FreeList, FreeRow, GrantFault, GrantList, GrantRow, KnownGrant, Reply, Scene,
 };
+use queue_types::limits::MOST_GRANTED_PAGES;
 use std::alloc::{AllocError, Global};
 use std::collections::BTreeMap;
-
-/// The pages that an account may have been granted.
-const MOST_PAGES: u32 = 1_000_000_000;
 
 /// A batch and an account.
 #[derive(Clone, Copy, Debug, PartialEq, Eq, PartialOrd, Ord)]
@@ -103,7 +101,7 @@ fn row_state<'a>(t: &Tally<'a>, r: &'a GrantRow, k: &KnownGrant) -> RowState
             }
         }
         None => {
-            if k.granted + total_in(t, r.account.as_str()) + r.pages > MOST_PAGES {
+            if k.granted + total_in(t, r.account.as_str()) + r.pages > MOST_GRANTED_PAGES {
                 RowState::Refused(GrantFault::TooMany)
             } else {
                 RowState::New
@@ -238,8 +236,8 @@ pub(crate) fn grant<'a>(
             let added = rows.len() as u32;
             let reply = Reply::Added { added, repeats };
             let Decision { reply, mut change } = answer_only(alloc, reply);
-            change.free = FreeList::from_rows(free);
-            change.grants = GrantList::from_rows(rows);
+            change.free = FreeList::from_items(free);
+            change.grants = GrantList::from_items(rows);
             Ok(Decision { reply, change })
         }
         Taken::Not { fault, row } => Ok(answer_only(alloc, Reply::NotAdded { fault, row })),

@@ -17,14 +17,10 @@ use crate::reports::report;
 use queue_types::document::Format;
 use queue_types::event::{Call, Decision, Event, NewDocument, NewJob, QueueCounts, Reply, Scene};
 use queue_types::job::{Job, JobList, Phase};
+use queue_types::limits::{LAST_JOB_NUMBER, MOST_LIVE_JOBS};
+use queue_types::status::{CLIENT_ERROR_NOT_POSSIBLE, SERVER_ERROR_NOT_ACCEPTING_JOBS};
 use queue_types::text::Text;
 use std::alloc::{AllocError, Global};
-
-/// The live jobs that one caller may have.
-const MOST_LIVE_JOBS: usize = 100;
-
-/// The last number that a job may get.
-const LAST_JOB_NUMBER: u32 = 2_147_483_647;
 
 /// The code that refuses a new job of the caller, where there is one.
 fn refusal_of_new(s: &Scene) -> Option<u16>
@@ -32,10 +28,10 @@ fn refusal_of_new(s: &Scene) -> Option<u16>
     ensures room { IsNone result → s.now.next < 2 ^ 31 }
 {
     if s.live >= MOST_LIVE_JOBS {
-        return Some(0x0404);
+        return Some(CLIENT_ERROR_NOT_POSSIBLE);
     }
     if s.next > LAST_JOB_NUMBER {
-        return Some(0x0506);
+        return Some(SERVER_ERROR_NOT_ACCEPTING_JOBS);
     }
     None
 }
@@ -90,7 +86,7 @@ fn enter<'a>(
     change.document = document;
     change.next = Some(s.next + 1);
     Ok(Decision {
-        reply: Reply::Jobs(JobList::from_jobs(told)),
+        reply: Reply::Jobs(JobList::from_items(told)),
         change,
     })
 }

@@ -12,6 +12,7 @@ use crate::outcome::{change_jobs, refuse};
 use crate::own_job::{can_cancel, canceled_job};
 use queue_types::event::{Decision, Reply, Scene};
 use queue_types::job::Job;
+use queue_types::status::{CLIENT_ERROR_NOT_FOUND, CLIENT_ERROR_NOT_POSSIBLE};
 use std::alloc::{AllocError, Global};
 use std::collections::BTreeSet;
 
@@ -94,10 +95,10 @@ pub(crate) fn cancel_named<'a>(
     ensures { IfOk result (λ d. decision_of d ≡ cancel_my_jobs_row s.now now (Some numbers.now)) }
 {
     if !has_each(alloc, s.jobs.as_slice(), numbers)? {
-        return Ok(refuse(alloc, 0x0406));
+        return Ok(refuse(alloc, CLIENT_ERROR_NOT_FOUND));
     }
     if !can_cancel_all(s.jobs.as_slice()) {
-        return Ok(refuse(alloc, 0x0404));
+        return Ok(refuse(alloc, CLIENT_ERROR_NOT_POSSIBLE));
     }
     cancel_all(alloc, s, now)
 }

@@ -16,10 +16,10 @@ pub(crate) fn answer_only<'a>(alloc: Global, reply: Reply) -> Decision<'a>
     Decision {
         reply,
         change: Change {
-            jobs: JobList::from_jobs(Vec::new(alloc)),
+            jobs: JobList::from_items(Vec::new(alloc)),
             document: None,
-            free: FreeList::from_rows(Vec::new(alloc)),
-            grants: GrantList::from_rows(Vec::new(alloc)),
+            free: FreeList::from_items(Vec::new(alloc)),
+            grants: GrantList::from_items(Vec::new(alloc)),
             report: None,
             next: None,
         },
@@ -45,10 +45,10 @@ pub(crate) fn change_jobs<'a>(
 {
     let free = credited_rows(alloc, s.jobs.as_slice(), jobs.as_slice(), s.free.as_slice())?;
     Ok(Change {
-        jobs: JobList::from_jobs(jobs),
+        jobs: JobList::from_items(jobs),
         document: None,
-        free: FreeList::from_rows(free),
-        grants: GrantList::from_rows(Vec::new(alloc)),
+        free: FreeList::from_items(free),
+        grants: GrantList::from_items(Vec::new(alloc)),
         report: None,
         next: None,
     })

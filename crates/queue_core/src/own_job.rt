@@ -11,10 +11,9 @@ use crate::outcome::{answer_only, change_job, job_becomes, refuse};
 use queue_types::document::Format;
 use queue_types::event::{Decision, FreeRow, NewDocument, Reply, Scene};
 use queue_types::job::{Job, JobList, Phase, Why};
+use queue_types::limits::MOST_DOCUMENTS;
+use queue_types::status::{CLIENT_ERROR_NOT_FOUND, CLIENT_ERROR_NOT_POSSIBLE};
 use std::alloc::{AllocError, Global};
-
-/// The documents that a job may have.
-const MOST_DOCUMENTS: u32 = 16;
 
 /// The job waits, or the device has it and was not asked to stop it.
 pub(crate) fn can_cancel(j: &Job) -> bool
@@ -56,7 +55,7 @@ pub(crate) fn cancel<'a>(
     ensures { IfOk result (λ d. decision_of d ≡ cancel_row s.now now j.now) }
 {
     if !can_cancel(j) {
-        return Ok(refuse(alloc, 0x0404));
+        return Ok(refuse(alloc, CLIENT_ERROR_NOT_POSSIBLE));
     }
     job_becomes(alloc, s, canceled_job(now, j)?)
 }
@@ -70,12 +69,12 @@ pub(crate) fn own<'s>(jobs: &'s [Job], caller: &str) -> Result<&'s Job, u16>
     ensures sound { IfOk result (λ j. IsSoundJob j.now) }
 {
     match jobs {
-        [] => Err(0x0406),
+        [] => Err(CLIENT_ERROR_NOT_FOUND),
         [j, ..] => {
             if j.owner.as_str() == caller {
                 Ok(j)
             } else {
-                Err(0x0406)
+                Err(CLIENT_ERROR_NOT_FOUND)
             }
         }
     }
@@ -86,7 +85,7 @@ pub(crate) fn show<'a>(alloc: Global, j: &Job) -> Result<Decision<'a>, AllocErro
 {
     let mut told = Vec::new(alloc);
     told.push(j.try_clone()?)?;
-    Ok(answer_only(alloc, Reply::Jobs(JobList::from_jobs(told))))
+    Ok(answer_only(alloc, Reply::Jobs(JobList::from_items(told))))
 }
 
 pub(crate) fn hold<'a>(alloc: Global, s: &Scene, j: &Job) -> Result<Decision<'a>, AllocError>
@@ -101,25 +100,17 @@ pub(crate) fn hold<'a>(alloc: Global, s: &Scene, j: &Job) -> Result<Decision<'a>
             job_becomes(alloc, s, j)
         }
         Phase::Running | Phase::Stopped | Phase::Canceled(_) | Phase::Aborted | Phase::Completed =>
-            Ok(refuse(alloc, 0x0404)),
+            Ok(refuse(alloc, CLIENT_ERROR_NOT_POSSIBLE)),
     }
 }
 
-/// The pages that the owner asked for.
-fn estimate_of(j: &Job) -> u32
-    requires { IsSoundJob j.now }
-    ensures { result ≡ estimate j.now }
-{
-    j.impressions * j.copies
-}
-
 /// The caller's account, the first of these where there is one, has so many free pages.
-fn has_free_pages(free: &[FreeRow], pages: u32) -> bool
+fn has_free_pages(free: &[FreeRow], pages: u64) -> bool
     ensures { result ≡ has_pages free.now pages }
 {
     match free {
         [] => false,
-        [a, ..] => i64::from(pages) <= a.free,
+        [a, ..] => i128::from(pages) <= i128::from(a.free),
     }
 }
 
@@ -128,8 +119,8 @@ fn allow<'a>(alloc: Global, s: &Scene, j: &Job) -> Result<Decision<'a>, AllocErr
     requires job { IsSoundJob j.now }
     ensures { IfOk result (λ d. decision_of d ≡ let_print s.now j.now) }
 {
-    if !has_free_pages(s.free.as_slice(), estimate_of(j)) {
-        return Ok(refuse(alloc, 0x0404));
+    if !has_free_pages(s.free.as_slice(), j.estimate()) {
+        return Ok(refuse(alloc, CLIENT_ERROR_NOT_POSSIBLE));
     }
     let mut j = j.try_clone()?;
     j.hold = false;
@@ -150,7 +141,10 @@ pub(crate) fn release<'a>(alloc: Global, s: &Scene, j: &Job) -> Result<Decision<
             }
         }
         Phase::Running | Phase::Stopped => Ok(answer_only(alloc, Reply::Done)),
-        Phase::Canceled(_) | Phase::Aborted | Phase::Completed => Ok(refuse(alloc, 0x0404)),
+        Phase::Canceled(_) | Phase::Aborted | Phase::Completed => Ok(refuse(
+            alloc,
+            CLIENT_ERROR_NOT_POSSIBLE,
+        )),
     }
 }
 
@@ -208,7 +202,7 @@ pub(crate) fn send<'a>(
     ensures { IfOk result (λ d. decision_of d ≡ send_in s.now j.now format payload.entry.now last) }
 {
     if !takes(j, payload) {
-        return Ok(refuse(alloc, 0x0404));
+        return Ok(refuse(alloc, CLIENT_ERROR_NOT_POSSIBLE));
     }
     let j = with_document(j, payload, last)?;
     let document = document_in(j.number, format, payload);
@@ -217,7 +211,7 @@ pub(crate) fn send<'a>(
     let mut change = change_job(alloc, s, j)?;
     change.document = document;
     Ok(Decision {
-        reply: Reply::Jobs(JobList::from_jobs(told)),
+        reply: Reply::Jobs(JobList::from_items(told)),
         change,
     })
 }

@@ -8,7 +8,7 @@ ghost use Rattle.queue_core.specs.Reports.{counted, ended_as, is_same_report, mo
 
 use crate::outcome::{answer_only, change_job};
 use queue_types::event::{Decision, KeptReport, Kind, Reply, Report, ReportRefusal, Scene};
-use queue_types::job::{Job, Phase, Why, state_of};
+use queue_types::job::{Job, Phase, Why};
 use std::alloc::{AllocError, Global};
 
 /// Of one job and sequence number, the same report.
@@ -95,7 +95,7 @@ fn accept<'a>(alloc: Global, s: &Scene, r: Report, j: Job) -> Result<Decision<'a
 {
     let kept = KeptReport {
         report: r,
-        state: state_of(&j),
+        state: j.state(),
         total: j.count,
     };
     let mut change = change_job(alloc, s, j)?;

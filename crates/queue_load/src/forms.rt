@@ -52,7 +52,7 @@ pub(crate) fn small(row: &Row, at: usize) -> Result<u8, Fault>
     ensures never { IfErr result (λ e. e ≢ Disk) }
 {
     let n: u32 = value(row, at)?;
-    if n > 255 {
+    if n > u32::from(u8::MAX) {
         return Err(Fault::Damaged);
     }
     Ok(n as u8)

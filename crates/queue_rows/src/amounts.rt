@@ -9,7 +9,7 @@ ghost use Rattle.queue_rows.specs.Totals.{named, total_in, grant_amount, reserve
 use crate::rows::AccountRow;
 use crate::totals::totals;
 use queue_types::event::GrantRow;
-use queue_types::job::{Job, Phase, is_live_job};
+use queue_types::job::Job;
 use std::alloc::{AllocError, Global};
 use std::collections::HashMap;
 
@@ -26,30 +26,13 @@ pub fn grant_amounts<'a>(
     Ok(amounts)
 }
 
-/// The pages that are set aside for a job.
-fn owed_of(j: &Job) -> u64
-    requires { IsJobRow j.now }
-    ensures { result ≡ owed j.now }
-{
-    match j.phase {
-        Phase::Waiting | Phase::Running | Phase::Stopped => {
-            if j.hold {
-                0
-            } else {
-                u64::from((j.impressions * j.copies).saturating_sub(j.count))
-            }
-        }
-        Phase::Canceled(_) | Phase::Aborted | Phase::Completed => 0,
-    }
-}
-
 fn reserved_amounts<'a>(alloc: Global, jobs: &'a [Job]) -> Result<Vec<(&'a str, u64)>, AllocError>
     requires { All IsJobRow jobs.now }
     ensures { IfOk result (λ v. map named v.items ≡ map reserved_amount jobs.now) }
 {
     let mut amounts = Vec::new(alloc);
     for j in jobs {
-        amounts.push((j.owner.as_str(), owed_of(j)))?;
+        amounts.push((j.owner.as_str(), j.owed()))?;
     }
     Ok(amounts)
 }
@@ -83,7 +66,7 @@ pub fn live_amounts<'a>(alloc: Global, jobs: &'a [Job]) -> Result<Vec<(&'a str, 
 {
     let mut amounts = Vec::new(alloc);
     for j in jobs {
-        amounts.push((j.owner.as_str(), u64::from(is_live_job(j))))?;
+        amounts.push((j.owner.as_str(), u64::from(j.is_live())))?;
     }
     Ok(amounts)
 }

@@ -4,6 +4,7 @@ ghost use Rattle.queue_rows.specs.Documents.{HasSize, next_of, IsGroup, AreGroup
 
 use crate::rows::DocumentRow;
 use queue_types::job::Job;
+use queue_types::limits::MOST_DOCUMENT_OCTETS;
 
 /// How many documents of the job stand first. None where they are not numbered 1, 2 and so on, or are
 /// more than 16.
@@ -53,5 +54,5 @@ pub fn documents_have_sizes(documents: &[DocumentRow]) -> bool
 {
     documents
         .iter()
-        .all(|d| d.octets >= 1 && d.octets <= 16_777_216)
+        .all(|d| d.octets >= 1 && d.octets <= MOST_DOCUMENT_OCTETS)
 }

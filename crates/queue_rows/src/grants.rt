@@ -7,14 +7,18 @@ use crate::amounts::grant_amounts;
 use crate::texts::{is_batch, is_owner};
 use crate::totals::are_within;
 use queue_types::event::GrantRow;
+use queue_types::limits::{MOST_GRANTED_PAGES, MOST_ROW_PAGES};
 use std::alloc::{AllocError, Global};
 use std::cmp::Ordering;
+
+/// The most pages that an account is granted in all.
+const MOST_GRANTED: u128 = MOST_GRANTED_PAGES as u128;
 
 fn is_grant(g: &GrantRow) -> bool
     ensures { IsTrue result ↔ IsGrantRow g.now }
 {
     let names = is_batch(g.batch.as_str()) && is_owner(g.account.as_str());
-    names && g.pages >= 1 && g.pages <= 1_000_000
+    names && g.pages >= 1 && g.pages <= MOST_ROW_PAGES
 }
 
 pub fn grants_are_sound(grants: &[GrantRow]) -> bool
@@ -56,5 +60,5 @@ pub fn grants_are_within(alloc: Global, grants: &[GrantRow]) -> Result<bool, All
     ensures { IfOk result (λ b. IsTrue b ↔ ((a : List ℕ) → granted_to a grants.now ≤ 1000000000)) }
 {
     let amounts = grant_amounts(alloc, grants)?;
-    are_within(alloc, amounts.as_slice(), 1_000_000_000)
+    are_within(alloc, amounts.as_slice(), MOST_GRANTED)
 }

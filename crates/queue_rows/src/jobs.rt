@@ -5,11 +5,12 @@ ghost use Rattle.queue_rows.specs.Jobs.{IsJobRow, NumbersRise};
 
 use crate::texts::{is_job_name, is_owner};
 use queue_types::job::{Job, Phase};
+use queue_types::limits::{LAST_JOB_NUMBER, MOST_COPIES, MOST_IMPRESSIONS, MOST_PRINTED_PAGES};
 
 fn is_positive(n: u32) -> bool
     ensures { IsTrue result ↔ IsPositive n }
 {
-    n >= 1 && n < 2_147_483_648
+    n >= 1 && n <= LAST_JOB_NUMBER
 }
 
 fn is_moment_if_some(m: Option<u32>) -> bool
@@ -62,9 +63,9 @@ pub fn is_job_row(j: &Job) -> bool
         && is_moment_if_some(j.ended);
     let numbers = is_positive(j.number)
         && j.copies >= 1
-        && j.copies <= 999
-        && j.impressions <= 100_000
-        && j.count <= 100_000_000;
+        && j.copies <= MOST_COPIES
+        && j.impressions <= MOST_IMPRESSIONS
+        && j.count <= MOST_PRINTED_PAGES;
     let is_bare = j.documents == 0 && j.octets == 0;
     texts && moments && numbers && is_bare && fits_phase(j)
 }

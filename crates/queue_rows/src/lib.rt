@@ -12,7 +12,7 @@ pub mod jobs;
 pub mod laws;
 mod meta;
 mod owners;
-mod pieces;
+pub mod pieces;
 mod reports;
 pub mod rows;
 pub mod sound;

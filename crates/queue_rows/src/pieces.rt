@@ -7,7 +7,7 @@ ghost use Rattle.queue_rows.specs.declared.rows.PieceRow.{PieceRow};
 use crate::rows::{DocumentRow, PieceRow};
 
 /// The bytes of a piece, but of a document's last one.
-const PIECE: u32 = 65_536;
+pub const PIECE: u32 = 65_536;
 
 /// It is the piece of that number of the document.
 fn is_piece(p: &PieceRow, d: &DocumentRow, k: u32) -> bool

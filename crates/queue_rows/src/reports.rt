@@ -7,14 +7,18 @@ ghost use Rattle.queue_rows.specs.Reports.{IsReportRow, report_before, greatest}
 
 use queue_types::event::KeptReport;
 use queue_types::job::Job;
+use queue_types::limits::{LAST_REPORT_NUMBER, MOST_PRINTED_PAGES};
 use std::alloc::{AllocError, Global};
 use std::collections::HashMap;
 
 fn is_report(k: &KeptReport) -> bool
     ensures { IsTrue result ↔ IsReportRow k.now }
 {
-    let seq = k.report.seq >= 1 && k.report.seq < 2_147_483_648;
-    seq && k.report.count <= 100_000_000 && k.state >= 3 && k.state <= 9 && k.total <= 100_000_000
+    let seq = k.report.seq >= 1 && k.report.seq <= LAST_REPORT_NUMBER;
+    seq && k.report.count <= MOST_PRINTED_PAGES
+        && k.state >= 3
+        && k.state <= 9
+        && k.total <= MOST_PRINTED_PAGES
 }
 
 pub fn reports_are_sound(reports: &[KeptReport]) -> bool

@@ -19,6 +19,7 @@ use crate::reports::{
 use crate::rows::{AccountRow, DocumentRow, PieceRow, Rows};
 use queue_types::event::{GrantRow, KeptReport};
 use queue_types::job::Job;
+use queue_types::limits::LAST_JOB_NUMBER;
 use std::alloc::{AllocError, Global};
 
 /// The jobs with their documents and pieces.
@@ -28,7 +29,7 @@ fn have_sound_jobs(jobs: &[Job], documents: &[DocumentRow], pieces: &[PieceRow],
     if !numbers_rise(jobs, next) {
         return false;
     }
-    if next > 2_147_483_648 {
+    if next > LAST_JOB_NUMBER + 1 {
         return false;
     }
     if !jobs_are_sound(jobs) {

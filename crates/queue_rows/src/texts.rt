@@ -4,6 +4,8 @@ ghost use Rattle.std.specs.List.{list_all};
 ghost use Rattle.queue_core.specs.Limits.{is_no_control, IsOwner, IsJobName};
 ghost use Rattle.queue_core.specs.Limits.{is_batch_byte, IsBatch};
 
+use queue_types::limits::MOST_NAME_OCTETS;
+
 fn has_no_control(t: &[u8]) -> bool
     ensures { result ≡ list_all is_no_control t.now }
 {
@@ -33,14 +35,14 @@ fn has_batch_bytes(t: &[u8]) -> bool
 pub fn is_owner(t: &str) -> bool
     ensures { IsTrue result ↔ IsOwner t.now }
 {
-    t.len() >= 1 && t.len() <= 255 && has_no_control(t.as_bytes())
+    t.len() >= 1 && t.len() <= MOST_NAME_OCTETS && has_no_control(t.as_bytes())
 }
 
 /// 1 to 255 octets without a zero byte.
 pub fn is_job_name(t: &str) -> bool
     ensures { IsTrue result ↔ IsJobName t.now }
 {
-    t.len() >= 1 && t.len() <= 255 && has_no_zero(t.as_bytes())
+    t.len() >= 1 && t.len() <= MOST_NAME_OCTETS && has_no_zero(t.as_bytes())
 }
 
 /// 1 to 40 letters, digits, '-', '.' or '_'.

@@ -15,15 +15,13 @@ use crate::select::select;
 use queue_tables::fault::Fault;
 use queue_tables::read::value;
 use queue_types::event::FreeRow;
+use queue_types::limits::MOST_GRANTED_PAGES;
 use queue_types::text::Text;
 use sqlite::{Alter, Connection, Row, params};
 use std::alloc::Global;
 
 /// 2^60 pages: no sum over an account's jobs comes near it.
-const MOST_PAGES: i64 = 1_152_921_504_606_846_976;
-
-/// The most pages that an account is granted in all.
-const MOST_GRANTED: i64 = 1_000_000_000;
+const MOST_SUM: i64 = 1_152_921_504_606_846_976;
 
 /// The pages of an account.
 #[derive(Clone, Copy)]
@@ -45,7 +43,7 @@ fn read_pages(row: &Row) -> Result<Pages, Fault>
         reserved: value(row, 1)?,
         printed: value(row, 2)?,
     };
-    if pages.free < -MOST_PAGES || pages.free > MOST_PAGES {
+    if pages.free < -MOST_SUM || pages.free > MOST_SUM {
         return Err(Fault::Damaged);
     }
     Ok(pages)
@@ -102,7 +100,7 @@ pub(crate) fn free_rows<S: Alter>(
 fn is_sum(pages: i64) -> bool
     ensures { IsTrue result → IsAmount pages }
 {
-    pages >= 0 && pages <= MOST_PAGES
+    pages >= 0 && pages <= MOST_SUM
 }
 
 /// The pages of an account that are free, reserved and printed, together.
@@ -120,7 +118,7 @@ fn as_granted(pages: i64) -> Result<u32, Fault>
     ensures most { IfOk result (λ n. n ≤ 1000000000) }
     ensures same { IfOk result (λ n. pos n ≡ pages) }
 {
-    if pages < 0 || pages > MOST_GRANTED {
+    if pages < 0 || pages > i64::from(MOST_GRANTED_PAGES) {
         return Err(Fault::Damaged);
     }
     Ok(pages as u32)

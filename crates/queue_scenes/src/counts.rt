@@ -12,11 +12,9 @@ ghost use Rattle.queue_tables.specs.Queries.{IsQueryText};
 use crate::select::select;
 use queue_tables::fault::Fault;
 use queue_types::event::QueueCounts;
+use queue_types::limits::LAST_JOB_NUMBER;
 use sqlite::types::ValueRef;
 use sqlite::{Alter, Connection, params};
-
-/// One more than the greatest job number.
-const TOO_MANY: usize = 2_147_483_648;
 
 /// How many rows a SELECT shows.
 fn count<S: Alter>(
@@ -56,7 +54,7 @@ pub(crate) fn all_counts<S: Alter>(conn: &mut Connection<S>) -> Result<QueueCoun
     let running = count(conn, "SELECT number FROM jobs WHERE phase = 1", &[])?;
     let stopped = count(conn, "SELECT number FROM jobs WHERE phase = 2", &[])?;
     let queued = count(conn, "SELECT number FROM jobs WHERE phase < 7", &[])?;
-    if queued >= TOO_MANY {
+    if queued > LAST_JOB_NUMBER as usize {
         return Err(Fault::Damaged);
     }
     Ok(QueueCounts {

@@ -12,10 +12,8 @@ ghost use Rattle.queue_tables.specs.Content.{Holds, content_of};
 use crate::select::select;
 use queue_tables::fault::Fault;
 use queue_tables::read::value;
+use queue_types::limits::MOST_DOCUMENTS;
 use sqlite::{Alter, Connection, Row, params};
-
-/// The greatest number of documents of a job.
-const MOST_DOCUMENTS: usize = 16;
 
 /// The greatest length of a document in bytes.
 const LONGEST: u64 = 16_777_216;
@@ -54,7 +52,7 @@ pub(crate) fn sizes_of<S: Alter>(conn: &mut Connection<S>, job: u32) -> Result<S
         "SELECT octets FROM documents WHERE job = ?1 ORDER BY doc",
         params![job],
     )?;
-    if found.len() > MOST_DOCUMENTS {
+    if found.len() > MOST_DOCUMENTS as usize {
         return Err(Fault::Damaged);
     }
     let documents = found.len() as u32;

@@ -29,5 +29,5 @@ pub fn pending<S: Alter>(alloc: Global, conn: &mut Connection<S>) -> Result<JobL
         "SELECT number, owner, name, copies, impressions, hold, incoming, phase, why, stopping, count, created, begun, ended FROM jobs WHERE phase = 0 AND hold = 0 AND incoming = 0 ORDER BY number",
         &[],
     )?;
-    Ok(JobList::from_jobs(jobs))
+    Ok(JobList::from_items(jobs))
 }

@@ -17,6 +17,7 @@ use queue_rows::laws::numbers_tell_names;
 use queue_tables::fault::Fault;
 use queue_tables::read::value;
 use queue_types::event::{KeptReport, Kind, Report};
+use queue_types::limits::MOST_PRINTED_PAGES;
 use sqlite::{Alter, Connection, Row, params};
 
 /// The kind of a report, in its column.
@@ -56,7 +57,7 @@ fn read_report(row: &Row, job: u32, seq: u32) -> Result<KeptReport, Fault>
     let count = value(row, 1)?;
     let state = state_at(row, 2)?;
     let total = value(row, 3)?;
-    if total > 100_000_000 {
+    if total > MOST_PRINTED_PAGES {
         return Err(Fault::Damaged);
     }
     Ok(KeptReport {

@@ -23,12 +23,10 @@ use queue_types::event::{
     Call, Event, FreeList, FreeRow, GrantRow, KnownList, QueueCounts, Report, Scene, WhichJobs,
 };
 use queue_types::job::{Job, JobList};
+use queue_types::limits::LAST_JOB_NUMBER;
 use queue_types::settings::Settings;
 use sqlite::{Alter, Connection};
 use std::alloc::{AllocError, Global};
-
-/// One more than the greatest job number.
-const TOO_MANY: usize = 2_147_483_648;
 
 /// The jobs that the caller's call speaks of.
 fn concerned<S: Alter>(
@@ -72,10 +70,10 @@ fn few_concerned<S: Alter>(
     ensures found { HasCleanDisk (state S.Store conn.new) → IfOk result (λ js. (w : World) → IsSound w → Holds (content_of w) (state S.Store conn.old) → js ≡ jobs_for caller.now (call_of call.now) (rows w)) }
 {
     let jobs = concerned(alloc, conn, caller, call)?;
-    if jobs.len() >= TOO_MANY {
+    if jobs.len() > LAST_JOB_NUMBER as usize {
         return Err(Fault::Damaged);
     }
-    Ok(JobList::from_jobs(jobs))
+    Ok(JobList::from_items(jobs))
 }
 
 /// The numbers of a scene.
@@ -178,11 +176,11 @@ fn scene_of_call<S: Alter>(
     Ok(Scene {
         settings,
         jobs,
-        free: FreeList::from_rows(free),
+        free: FreeList::from_items(free),
         live: numbers.live,
         counts: numbers.counts,
         report: None,
-        known: KnownList::from_known(Vec::new(alloc)),
+        known: KnownList::from_items(Vec::new(alloc)),
         next: numbers.next,
     })
 }
@@ -242,12 +240,12 @@ fn scene_of_report<S: Alter>(
     let settings = copy_of(settings)?;
     Ok(Scene {
         settings,
-        jobs: JobList::from_jobs(jobs),
-        free: FreeList::from_rows(free),
+        jobs: JobList::from_items(jobs),
+        free: FreeList::from_items(free),
         live: 0,
         counts: no_counts(),
         report,
-        known: KnownList::from_known(Vec::new(alloc)),
+        known: KnownList::from_items(Vec::new(alloc)),
         next,
     })
 }
@@ -269,12 +267,12 @@ fn scene_of_grants<S: Alter>(
     let settings = copy_of(settings)?;
     Ok(Scene {
         settings,
-        jobs: JobList::from_jobs(Vec::new(alloc)),
-        free: FreeList::from_rows(Vec::new(alloc)),
+        jobs: JobList::from_items(Vec::new(alloc)),
+        free: FreeList::from_items(Vec::new(alloc)),
         live: 0,
         counts: no_counts(),
         report: None,
-        known: KnownList::from_known(known),
+        known: KnownList::from_items(known),
         next,
     })
 }

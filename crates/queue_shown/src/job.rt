@@ -13,16 +13,14 @@ use crate::account::sum_of;
 use crate::select::select;
 use queue_tables::fault::Fault;
 use queue_types::job::Job;
+use queue_types::limits::MOST_DOCUMENTS;
 use sqlite::{Alter, Connection, Row, params};
-
-/// The greatest number of documents of a job.
-const MANY: usize = 16;
 
 /// How many rows there are, a row for each document.
 fn count_of(rows: &[Row]) -> Result<u32, Fault>
     ensures { IfOk result (λ n. n ≡ length rows.now) }
 {
-    if rows.len() > MANY {
+    if rows.len() > MOST_DOCUMENTS as usize {
         return Err(Fault::Damaged);
     }
     Ok(rows.len() as u32)

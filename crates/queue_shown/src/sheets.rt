@@ -18,28 +18,17 @@ use crate::select::select;
 use queue_rows::laws::numbers_tell_names;
 use queue_tables::fault::Fault;
 use queue_tables::read::read_job;
-use queue_types::job::{Job, JobList, is_live_job};
+use queue_types::job::{Job, JobList};
 use queue_types::sheet::AccountSheet;
 use queue_types::text::Text;
 use sqlite::{Alter, Connection, Row, params};
 use std::alloc::Global;
 
-/// The pages that are still set aside for a job.
-fn reserved_for(job: &Job) -> u64
-    ensures { result ≡ owed job.now }
-{
-    if job.hold || !is_live_job(job) {
-        return 0;
-    }
-    let estimate = u64::from(job.impressions) * u64::from(job.copies);
-    estimate.saturating_sub(u64::from(job.count))
-}
-
 /// The job has pages reserved or printed.
 fn is_told(job: &Job) -> bool
     ensures { result ≡ has_pages job.now }
 {
-    0 < reserved_for(job) || 0 < job.count
+    0 < job.owed() || 0 < job.count
 }
 
 /// Adds the job of that row where it has pages reserved or printed.
@@ -108,7 +97,7 @@ fn told_jobs<S: Alter>(
         params![account],
     )?;
     let jobs = jobs_of(alloc, conn, found.as_slice())?;
-    Ok(JobList::from_jobs(jobs))
+    Ok(JobList::from_items(jobs))
 }
 
 /// What is granted to an account, what of it is free, reserved and printed, and its jobs, where the account is

@@ -17,14 +17,9 @@ use crate::piece_rows::insert_pieces;
 use crate::run::{run, select_inside};
 use queue_types::document::Format;
 use queue_types::event::NewDocument;
+use queue_types::limits::{MOST_DOCUMENT_OCTETS, MOST_DOCUMENTS};
 use sqlite::{Alter, Transaction, params};
 use std::alloc::Global;
-
-/// The greatest number of documents of a job.
-const MANY: usize = 16;
-
-/// The greatest length of a document in bytes.
-const LONG: usize = 16_777_216;
 
 /// Adds the row of a document.
 fn insert_document<S: Alter>(
@@ -62,7 +57,7 @@ fn count_documents<S: Alter>(tx: &mut Transaction<'_, S>, job: u32) -> Result<u3
         "SELECT octets FROM documents WHERE job = ?1 ORDER BY doc",
         params![job],
     )?;
-    if found.len() > MANY {
+    if found.len() > MOST_DOCUMENTS as usize {
         return Err(Fault::Damaged);
     }
     Ok(found.len() as u32)
@@ -99,7 +94,7 @@ pub(crate) fn put_document<S: Alter>(
     ensures inside { HasCleanDisk (state S.Store tx.new.conn.now) → OnOk result (IsTrue (state S.Store tx.old.conn.now).in_transaction → IsTrue (state S.Store tx.new.conn.now).in_transaction) }
     ensures done { HasCleanDisk (state S.Store tx.new.conn.now) → OnOk result ((w : World) → AreDistinct w.jobs → Holds (content_of w) (state S.Store tx.old.conn.now) → Holds (content_of (with_added (Some (document_of d.now)) w)) (state S.Store tx.new.conn.now)) }
 {
-    if d.bytes.len() > LONG {
+    if d.bytes.len() > MOST_DOCUMENT_OCTETS as usize {
         return Err(Fault::Damaged);
     }
     match find_job(alloc, tx, d.job)? {

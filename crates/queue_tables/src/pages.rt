@@ -5,7 +5,8 @@ ghost use Rattle.queue_types.specs.Job.{owed};
 
 use crate::account_rows::SumChange;
 use crate::fault::Fault;
-use queue_types::job::{Job, is_live_job};
+use queue_types::job::Job;
+use queue_types::limits::{MOST_COPIES, MOST_IMPRESSIONS, MOST_PRINTED_PAGES};
 
 /// No more than 100,000 impressions, 999 copies and 100,000,000 printed pages; else these are no job's.
 fn pages_of(
@@ -20,7 +21,7 @@ fn pages_of(
     ensures printed { IfOk result (λ t. t.printed ≡ pos count) }
     ensures small { IfOk result (λ t. (pos 0 ≤ℤ t.reserved) × (t.reserved ≤ℤ pos 100000000) × (pos 0 ≤ℤ t.printed) × (t.printed ≤ℤ pos 100000000)) }
 {
-    if impressions > 100_000 || copies > 999 || count > 100_000_000 {
+    if impressions > MOST_IMPRESSIONS || copies > MOST_COPIES || count > MOST_PRINTED_PAGES {
         return Err(Fault::Damaged);
     }
     let owed = if is_live {
@@ -46,7 +47,7 @@ pub(crate) fn taken_by(job: &Job) -> Result<SumChange, Fault>
     ensures small { IfOk result (λ t. (pos 0 ≤ℤ t.reserved) × (t.reserved ≤ℤ pos 100000000) × (pos 0 ≤ℤ t.printed) × (t.printed ≤ℤ pos 100000000)) }
 {
     pages_of(
-        is_live_job(job),
+        job.is_live(),
         job.hold,
         job.impressions,
         job.copies,

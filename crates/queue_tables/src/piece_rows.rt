@@ -12,7 +12,7 @@ use crate::run::run;
 use sqlite::{Alter, Transaction, params};
 
 /// The bytes of a full piece.
-const PIECE: usize = 65_536;
+const PIECE: usize = queue_rows::pieces::PIECE as usize;
 
 /// Adds a piece.
 fn insert_piece<S: Alter>(

@@ -4,6 +4,7 @@ ghost use Rattle.queue_types.specs.Event.{call_of, on_job};
 
 use crate::document::Format;
 use crate::job::JobList;
+use crate::list::ListOf;
 use crate::settings::Settings;
 use crate::text::Text;
 use std::alloc::AllocError;
@@ -29,33 +30,8 @@ pub enum WhichJobs {
     Completed,
 }
 
-/// Job numbers, which contracts see as a list.
-#[derive(Debug, Drop)]
-pub struct NumberList {
-    numbers: Vec<u32>,
-}
-
-impl Model for NumberList {
-    ghost use Rattle.std.specs.Prelude.{ℕ, List};
-
-    ghost Value = { List ℕ };
-
-    ghost view = { λ l. l.numbers.items };
-}
-
-impl NumberList {
-    pub fn from_numbers(numbers: Vec<u32>) -> Self
-        ensures { result ≡ numbers.items }
-    {
-        NumberList { numbers }
-    }
-
-    pub fn as_slice(&self) -> &[u32]
-        ensures { result.now ≡ self.now }
-    {
-        self.numbers.as_slice()
-    }
-}
+/// Job numbers.
+pub type NumberList = ListOf<u32>;
 
 /// An operation with its values (RFC 8011, section 4; PWG 5100.11).
 #[derive(Drop)]
@@ -269,46 +245,8 @@ impl GrantRow {
     }
 }
 
-/// Grants, which contracts see as a list.
-#[derive(Debug, Drop)]
-pub struct GrantList {
-    rows: Vec<GrantRow>,
-}
-
-impl Model for GrantList {
-    ghost use Rattle.std.specs.Prelude.{List};
-    ghost use Rattle.queue_types.specs.declared.event.GrantRow.{GrantRow};
-
-    ghost Value = { List GrantRow };
-
-    ghost view = { λ l. l.rows.items };
-}
-
-impl GrantList {
-    pub fn from_rows(rows: Vec<GrantRow>) -> Self
-        ensures { result ≡ rows.items }
-    {
-        GrantList { rows }
-    }
-
-    pub fn len(&self) -> usize
-        ensures { result ≡ length self.now }
-    {
-        self.rows.len()
-    }
-
-    pub fn into_rows(self) -> Vec<GrantRow>
-        ensures { result.items ≡ self }
-    {
-        self.rows
-    }
-
-    pub fn as_slice(&self) -> &[GrantRow]
-        ensures { result.now ≡ self.now }
-    {
-        self.rows.as_slice()
-    }
-}
+/// Grants.
+pub type GrantList = ListOf<GrantRow>;
 
 /// What a queue knows of the batch and the account of an account file's row.
 #[derive(Clone, Copy, Debug, PartialEq, Eq)]
@@ -321,34 +259,8 @@ pub struct KnownGrant {
     pub free: Option<i64>,
 }
 
-/// What is known of each row of an account file, which contracts see as a list.
-#[derive(Debug, Drop)]
-pub struct KnownList {
-    known: Vec<KnownGrant>,
-}
-
-impl Model for KnownList {
-    ghost use Rattle.std.specs.Prelude.{List};
-    ghost use Rattle.queue_types.specs.declared.event.KnownGrant.{KnownGrant};
-
-    ghost Value = { List KnownGrant };
-
-    ghost view = { λ l. l.known.items };
-}
-
-impl KnownList {
-    pub fn from_known(known: Vec<KnownGrant>) -> Self
-        ensures { result ≡ known.items }
-    {
-        KnownList { known }
-    }
-
-    pub fn as_slice(&self) -> &[KnownGrant]
-        ensures { result.now ≡ self.now }
-    {
-        self.known.as_slice()
-    }
-}
+/// What is known of each row of an account file.
+pub type KnownList = ListOf<KnownGrant>;
 
 /// An account with its free pages, below zero by pages printed past what was reserved.
 #[derive(Debug, Drop)]
@@ -357,46 +269,8 @@ pub struct FreeRow {
     pub free: i64,
 }
 
-/// Accounts with their free pages, which contracts see as a list.
-#[derive(Debug, Drop)]
-pub struct FreeList {
-    rows: Vec<FreeRow>,
-}
-
-impl Model for FreeList {
-    ghost use Rattle.std.specs.Prelude.{List};
-    ghost use Rattle.queue_types.specs.declared.event.FreeRow.{FreeRow};
-
-    ghost Value = { List FreeRow };
-
-    ghost view = { λ l. l.rows.items };
-}
-
-impl FreeList {
-    pub fn from_rows(rows: Vec<FreeRow>) -> Self
-        ensures { result ≡ rows.items }
-    {
-        FreeList { rows }
-    }
-
-    pub fn into_rows(self) -> Vec<FreeRow>
-        ensures { result.items ≡ self }
-    {
-        self.rows
-    }
-
-    pub fn as_slice(&self) -> &[FreeRow]
-        ensures { result.now ≡ self.now }
-    {
-        self.rows.as_slice()
-    }
-
-    pub fn len(&self) -> usize
-        ensures { result ≡ length self.now }
-    {
-        self.rows.len()
-    }
-}
+/// Accounts with their free pages.
+pub type FreeList = ListOf<FreeRow>;
 
 /// A document that a job gets after those it has.
 #[derive(Clone, Copy)]

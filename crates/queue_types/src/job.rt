@@ -13,11 +13,11 @@
 //! (RFC 8011, section 5.3.7.) A running or stopped job ends by the device alone: a cancel only marks it
 //! as stopping. Only a running job completes, and only a running or stopped one is aborted.
 ghost use Rattle.std.specs.Prelude.{◌≡◌, length, IfOk, Some, None, if◌then◌else◌};
-ghost use Rattle.queue_types.specs.Job.{state, reasons, is_live};
+ghost use Rattle.queue_types.specs.Job.{estimate, is_live, owed, reasons, state};
 
+use crate::list::ListOf;
 use crate::text::Text;
 use std::alloc::{AllocError, Global};
-use std::marker::Model;
 
 /// Who canceled a job.
 #[derive(Clone, Copy, Debug, PartialEq, Eq)]
@@ -93,105 +93,19 @@ pub struct Job {
     pub octets: u64,
 }
 
-/// Jobs, which contracts see as a list.
-#[derive(Debug, Drop)]
-pub struct JobList {
-    jobs: Vec<Job>,
-}
+/// Jobs.
+pub type JobList = ListOf<Job>;
 
-impl Model for JobList {
-    ghost use Rattle.std.specs.Prelude.{List};
-    ghost use Rattle.queue_types.specs.declared.job.Job.{Job};
-
-    ghost Value = { List Job };
-
-    ghost view = { λ l. l.jobs.items };
-}
-
-impl JobList {
-    pub fn from_jobs(jobs: Vec<Job>) -> Self
-        ensures { result ≡ jobs.items }
-    {
-        JobList { jobs }
-    }
-
-    pub fn into_jobs(self) -> Vec<Job>
-        ensures { result.items ≡ self }
-    {
-        self.jobs
-    }
-
-    pub fn as_slice(&self) -> &[Job]
-        ensures { result.now ≡ self.now }
-    {
-        self.jobs.as_slice()
-    }
-
-    pub fn len(&self) -> usize
-        ensures { result ≡ length self.now }
-    {
-        self.jobs.len()
-    }
-
+impl ListOf<Job> {
     /// A copy. The one error is want of memory.
     pub fn try_clone(&self, alloc: Global) -> Result<JobList, AllocError>
         ensures { IfOk result (λ l. l ≡ self.now) }
     {
         let mut jobs = Vec::new(alloc);
-        for job in self.jobs.as_slice() {
+        for job in self.as_slice() {
             jobs.push(job.try_clone()?)?;
         }
-        Ok(JobList { jobs })
-    }
-}
-
-/// The job's state by its number: 3 pending, 4 pending-held, 5 processing, 6 processing-stopped,
-/// 7 canceled, 8 aborted, 9 completed (RFC 8011, section 5.3.7). It takes no memory.
-pub fn state_of(j: &Job) -> u8
-    ensures { result ≡ state j.now }
-{
-    match j.phase {
-        Phase::Waiting => { if j.hold || j.incoming { 4 } else { 3 } }
-        Phase::Running => 5,
-        Phase::Stopped => 6,
-        Phase::Canceled(_) => 7,
-        Phase::Aborted => 8,
-        Phase::Completed => 9,
-    }
-}
-
-/// The reasons of the job's state, one or two (RFC 8011, section 5.3.8). It takes no memory.
-pub fn reasons_of(j: &Job) -> Reasons
-    ensures { result ≡ reasons j.now }
-{
-    match j.phase {
-        Phase::Waiting => {
-            if j.incoming {
-                with_second(Reason::JobIncoming, Reason::JobHoldUntilSpecified, j.hold)
-            } else if j.hold {
-                only(Reason::JobHoldUntilSpecified)
-            } else {
-                only(Reason::NoReason)
-            }
-        }
-        Phase::Running => {
-            with_second(
-                Reason::JobPrinting,
-                Reason::ProcessingToStopPoint,
-                j.stopping,
-            )
-        }
-        Phase::Stopped => {
-            with_second(
-                Reason::PrinterStopped,
-                Reason::ProcessingToStopPoint,
-                j.stopping,
-            )
-        }
-        Phase::Canceled(Why::ByUser) => only(Reason::JobCanceledByUser),
-        Phase::Canceled(Why::AtDevice) => only(Reason::JobCanceledAtDevice),
-        Phase::Aborted => only(Reason::AbortedBySystem),
-        Phase::Completed => only(Reason::JobCompletedSuccessfully),
+        Ok(ListOf::from_items(jobs))
     }
 }
 
@@ -213,17 +127,89 @@ fn with_second(first: Reason, second: Reason, is_there: bool) -> Reasons
     }
 }
 
-/// The job is in one of the states 3 to 6.
-pub fn is_live_job(j: &Job) -> bool
-    ensures { result ≡ is_live j.now }
-{
-    match j.phase {
-        Phase::Waiting | Phase::Running | Phase::Stopped => true,
-        Phase::Canceled(_) | Phase::Aborted | Phase::Completed => false,
-    }
-}
-
 impl Job {
+    /// Its state by its number: 3 pending, 4 pending-held, 5 processing, 6 processing-stopped,
+    /// 7 canceled, 8 aborted, 9 completed (RFC 8011, section 5.3.7). It takes no memory.
+    pub fn state(&self) -> u8
+        ensures { result ≡ state self.now }
+    {
+        match self.phase {
+            Phase::Waiting => { if self.hold || self.incoming { 4 } else { 3 } }
+            Phase::Running => 5,
+            Phase::Stopped => 6,
+            Phase::Canceled(_) => 7,
+            Phase::Aborted => 8,
+            Phase::Completed => 9,
+        }
+    }
+
+    /// The reasons of its state, one or two (RFC 8011, section 5.3.8). It takes no memory.
+    pub fn reasons(&self) -> Reasons
+        ensures { result ≡ reasons self.now }
+    {
+        match self.phase {
+            Phase::Waiting => {
+                if self.incoming {
+                    with_second(
+                        Reason::JobIncoming,
+                        Reason::JobHoldUntilSpecified,
+                        self.hold,
+                    )
+                } else if self.hold {
+                    only(Reason::JobHoldUntilSpecified)
+                } else {
+                    only(Reason::NoReason)
+                }
+            }
+            Phase::Running => {
+                with_second(
+                    Reason::JobPrinting,
+                    Reason::ProcessingToStopPoint,
+                    self.stopping,
+                )
+            }
+            Phase::Stopped => {
+                with_second(
+                    Reason::PrinterStopped,
+                    Reason::ProcessingToStopPoint,
+                    self.stopping,
+                )
+            }
+            Phase::Canceled(Why::ByUser) => only(Reason::JobCanceledByUser),
+            Phase::Canceled(Why::AtDevice) => only(Reason::JobCanceledAtDevice),
+            Phase::Aborted => only(Reason::AbortedBySystem),
+            Phase::Completed => only(Reason::JobCompletedSuccessfully),
+        }
+    }
+
+    /// It is in one of the states 3 to 6.
+    pub fn is_live(&self) -> bool
+        ensures { result ≡ is_live self.now }
+    {
+        match self.phase {
+            Phase::Waiting | Phase::Running | Phase::Stopped => true,
+            Phase::Canceled(_) | Phase::Aborted | Phase::Completed => false,
+        }
+    }
+
+    /// The pages that its owner asked for: those of one copy, times the copies.
+    pub fn estimate(&self) -> u64
+        ensures { result ≡ estimate self.now }
+    {
+        u64::from(self.impressions) * u64::from(self.copies)
+    }
+
+    /// The pages that are still set aside for it: none while it is held or once it has ended.
+    pub fn owed(&self) -> u64
+        ensures { result ≡ owed self.now }
+    {
+        if self.hold || !self.is_live() {
+            return 0;
+        }
+        self.estimate().saturating_sub(u64::from(self.count))
+    }
+
+    /// A copy. The one error is want of memory.
     pub fn try_clone(&self) -> Result<Job, AllocError>
         ensures { IfOk result (λ j. j ≡ self.now) }
     {

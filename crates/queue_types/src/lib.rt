@@ -5,10 +5,12 @@
 pub mod document;
 pub mod event;
 pub mod job;
+pub mod limits;
+pub mod list;
 pub mod settings;
 pub mod sheet;
+pub mod status;
 pub mod text;
 pub mod uri;
 
-pub use job::{reasons_of, state_of};
 pub use settings::{SettingFault, Settings};

@@ -4,10 +4,14 @@ ghost use Rattle.std.specs.List.{list_all};
 ghost use Rattle.queue_types.specs.Settings.{AreSettings, is_uri_byte};
 ghost use Rattle.queue_types.specs.Uri.{path_of, printer_path};
 
+use crate::limits::{MOST_IMPRESSIONS, MOST_NAME_OCTETS};
 use crate::text::Text;
 use crate::uri::path;
 use std::alloc::{AllocError, Global};
 use std::marker::Model;
+
+/// The most octets of a printer's name (RFC 8011, section 5.4.4).
+const MOST_PRINTER_NAME_OCTETS: usize = 127;
 
 /// Why settings were refused, by its number.
 #[derive(Clone, Copy, Debug, PartialEq, Eq)]
@@ -66,9 +70,15 @@ impl Settings {
         ensures fits { IsOk result → AreSettings (record { uri = uri.now; name = name.now; estimate = estimate; epoch = epoch }) }
         ensures bad { (result ≡ Err SettingFault.Bad) ↔ (¬ AreSettings (record { uri = uri.now; name = name.now; estimate = estimate; epoch = epoch })) }
     {
-        let uri_fits = uri.len() >= 1 && uri.len() <= 255 && has_uri_bytes(uri.as_bytes());
-        let name_fits = name.len() >= 1 && name.len() <= 127;
-        if !uri_fits || !is_printer_path(path(uri.as_bytes())) || !name_fits || estimate > 100_000 {
+        let uri_fits = uri.len() >= 1
+            && uri.len() <= MOST_NAME_OCTETS
+            && has_uri_bytes(uri.as_bytes());
+        let name_fits = name.len() >= 1 && name.len() <= MOST_PRINTER_NAME_OCTETS;
+        if !uri_fits
+            || !is_printer_path(path(uri.as_bytes()))
+            || !name_fits
+            || estimate > MOST_IMPRESSIONS
+        {
             return Err(SettingFault::Bad);
         }
         let Ok(uri) = Text::copy_of(alloc, uri) else {

@@ -5,12 +5,11 @@ ghost use Rattle.std.specs.Fmt.{decimal};
 ghost use Rattle.replay.specs.RequestLine.{IsMoment, Says};
 ghost use Rattle.replay.specs.declared.request_line.RequestLine.{RequestLine};
 
-/// The last moment that there is, in seconds of printer up time.
-pub const MAX_MOMENT: u32 = 2_147_483_647;
+use queue_types::limits::LAST_MOMENT;
 
 /// A line of a replay that is of one of the forms.
 pub enum RequestLine<'a> {
-    /// `now N`: requests come at this moment from here on. N is 1 to [`MAX_MOMENT`] in decimal,
+    /// `now N`: requests come at this moment from here on. N is 1 to [`LAST_MOMENT`] in decimal,
     /// without leading zeros.
     Now(u32),
     /// `ipp HEX`: a message of the Internet Printing Protocol, with what stands for its digits.
@@ -60,5 +59,5 @@ fn read_moment(digits: &[u8]) -> Option<u32>
         return None;
     }
     let moment = str::from_utf8(digits).ok()?.parse::<u32>().ok()?;
-    (moment <= MAX_MOMENT).then_some(moment)
+    (moment <= LAST_MOMENT).then_some(moment)
 }

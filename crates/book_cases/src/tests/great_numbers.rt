@@ -58,7 +58,7 @@ fn wide_sheet(alloc: Global) -> Result<AccountSheet, Fail> {
         free: -2_000_000_000_000_000,
         reserved: 99_900_000,
         printed: 100_000_000,
-        jobs: JobList::from_jobs(jobs),
+        jobs: JobList::from_items(jobs),
     })
 }
 

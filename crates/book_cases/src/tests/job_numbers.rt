@@ -28,8 +28,8 @@ fn empty_scene(alloc: Global, settings: Settings, next: u32) -> Scene
     let _within_limits = settings.estimate();
     Scene {
         settings,
-        jobs: JobList::from_jobs(Vec::new(alloc)),
-        free: FreeList::from_rows(Vec::new(alloc)),
+        jobs: JobList::from_items(Vec::new(alloc)),
+        free: FreeList::from_items(Vec::new(alloc)),
         live: 0,
         counts: QueueCounts {
             running: 0,
@@ -37,7 +37,7 @@ fn empty_scene(alloc: Global, settings: Settings, next: u32) -> Scene
             queued: 0,
         },
         report: None,
-        known: KnownList::from_known(Vec::new(alloc)),
+        known: KnownList::from_items(Vec::new(alloc)),
         next,
     }
 }

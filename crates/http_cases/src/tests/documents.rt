@@ -1,12 +1,12 @@
 //! Documents that the device may not fetch, over each book.
 
-use crate::tests::refusals::NOT_FOUND;
 use http_desk::books::{DeskBook, MemoryBook};
 use http_desk::compare::Mismatch;
 use http_desk::connection::Connection;
 use http_desk::connection::Wanted::{Continue, Success};
 use http_desk::desk::Desk;
 use http_desk::messages::{DONE, PRINT_JOB, RELEASE_JOB};
+use http_desk::refused::NOT_FOUND;
 use http_desk::requests::{
     GET_DOCUMENT, IPP, POST_JOB, POST_RELEASE, REPORT_DONE, REPORT_START, TEXT,
 };

@@ -1,69 +1,17 @@
 //! Heads, chunks and lengths at their limits.
 
-use crate::tests::refusals::{BAD, HEAD_TOO_LARGE, TOO_LARGE, refuse};
 use http_desk::books::DeskBook;
 use http_desk::compare::Mismatch;
 use http_desk::connection::Wanted::Success;
-use http_desk::connection::{Connection, Wanted, closed, filled, wanted_bytes};
+use http_desk::connection::{Connection, Wanted, filled, wanted_bytes};
 use http_desk::desk::{Desk, keep_empty};
+use http_desk::long::{Long, refuse_long, serve_long};
+use http_desk::refused::{BAD, HEAD_TOO_LARGE, TOO_LARGE};
 use http_desk::requests::TEXT;
 use http_desk::streams::{EndlessReader, SPEEDS, speeds_for};
 use http_front::{End, Served};
 use list_book::ListBook;
 use std::alloc::Global;
-
-/// A stream: its front, what is behind that, a part and how often it stands there, and its end.
-type Long = (
-    &'static [u8],
-    &'static [u8],
-    (&'static [u8], usize),
-    &'static [u8],
-);
-
-/// This stream is served at each of its speeds, with so many requests acted and these answers, and the queue stays empty.
-fn serve_one(alloc: Global, acted: u32, wanted: &[Wanted<'_>], row: &Long) -> Result<(), Mismatch> {
-    let (front, behind, (part, count), end) = *row;
-    let rest = filled(alloc, behind, part, count, end)?;
-    let stream = [front, rest.as_slice()];
-    keep_empty::<ListBook>(
-        alloc,
-        &closed(&stream, acted, wanted),
-        speeds_for(rest.len()),
-    )
-}
-
-/// Each of these streams is served so.
-fn serve_long(
-    alloc: Global,
-    acted: u32,
-    wanted: &[Wanted<'_>],
-    rows: &[Long],
-) -> Result<(), Mismatch> {
-    for row in rows {
-        serve_one(alloc, acted, wanted, row)?;
-    }
-    Ok(())
-}
-
-/// This stream is refused so.
-fn refuse_one(alloc: Global, code: u16, wanted: &[Wanted<'_>], row: &Long) -> Result<(), Mismatch> {
-    let (front, behind, (part, count), end) = *row;
-    let rest = filled(alloc, behind, part, count, end)?;
-    refuse(alloc, front, rest.as_slice(), code, wanted)
-}
-
-/// Each of these streams is refused so.
-fn refuse_long(
-    alloc: Global,
-    code: u16,
-    wanted: &[Wanted<'_>],
-    rows: &[Long],
-) -> Result<(), Mismatch> {
-    for row in rows {
-        refuse_one(alloc, code, wanted, row)?;
-    }
-    Ok(())
-}
 
 /// The request line of a GET of the device's queue.
 const QUEUE_LINE: &[u8] = b"GET /device/queue HTTP/1.1\r\n";

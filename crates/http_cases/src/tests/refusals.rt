@@ -1,73 +1,13 @@
 //! Requests that are refused: each fails one check, and those behind it.
 
 use http_desk::compare::Mismatch;
-use http_desk::connection::Wanted::{Continue, Refusal};
-use http_desk::connection::{Connection, Wanted};
-use http_desk::desk::keep_empty;
-use http_desk::messages::PRINT_JOB;
-use http_desk::requests::{POST_JOB, POST_WAITING};
-use http_desk::streams::speeds_for;
-use http_front::End;
-use list_book::ListBook;
-use std::alloc::Global;
-
-pub(super) const BAD: Wanted<'static> = Refusal("400 Bad Request");
-
-pub(super) const NOT_FOUND: Wanted<'static> = Refusal("404 Not Found");
-
-const POST_ALLOWED: Wanted<'static> = Refusal("405 Method Not Allowed\r\nAllow: POST");
-
-const GET_ALLOWED: Wanted<'static> = Refusal("405 Method Not Allowed\r\nAllow: GET");
-
-const NO_LENGTH: Wanted<'static> = Refusal("411 Length Required");
-
-pub(super) const TOO_LARGE: Wanted<'static> = Refusal("413 Payload Too Large");
-
-const OTHER_TYPE: Wanted<'static> = Refusal("415 Unsupported Media Type");
-
-pub(super) const HEAD_TOO_LARGE: Wanted<'static> = Refusal("431 Request Header Fields Too Large");
-
-/// A stream, by its front and what is behind that, is refused so at each of its speeds; a request behind it isn't acted on, and the
-/// queue stays empty.
-pub(super) fn refuse(
-    alloc: Global,
-    front: &[u8],
-    rest: &[u8],
-    code: u16,
-    wanted: &[Wanted<'_>],
-) -> Result<(), Mismatch> {
-    let connection = Connection {
-        stream: &[front, rest, POST_JOB, PRINT_JOB],
-        acted: 0,
-        end: End::Refused(code),
-        wanted,
-    };
-    keep_empty::<ListBook>(alloc, &connection, speeds_for(rest.len()))
-}
-
-/// Each of these streams behind that front is refused so.
-fn refuse_behind(
-    alloc: Global,
-    front: &[u8],
-    code: u16,
-    wanted: &[Wanted<'_>],
-    streams: &[&[u8]],
-) -> Result<(), Mismatch> {
-    for stream in streams {
-        refuse(alloc, front, stream, code, wanted)?;
-    }
-    Ok(())
-}
-
-/// Each of these streams is refused so.
-fn refuse_all(
-    alloc: Global,
-    code: u16,
-    wanted: Wanted<'_>,
-    streams: &[&[u8]],
-) -> Result<(), Mismatch> {
-    refuse_behind(alloc, b"", code, &[wanted], streams)
-}
+use http_desk::connection::Wanted;
+use http_desk::connection::Wanted::Continue;
+use http_desk::refused::{
+    BAD, GET_ALLOWED, NO_LENGTH, NOT_FOUND, OTHER_TYPE, POST_ALLOWED, TOO_LARGE, refuse_all,
+    refuse_behind,
+};
+use http_desk::requests::POST_WAITING;
 
 const UNREADABLE_HEADS: &[&[u8]] = &[
     b"GET /\x80 HTTP/1.1\r\n\r\n",

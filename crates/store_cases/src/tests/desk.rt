@@ -8,12 +8,10 @@ use device_lines::report;
 use grants_csv::{Imported, import};
 use ipp_ops::{Answer, answer};
 use queue_core::book::QueueBook;
+use queue_types::limits::LAST_MOMENT;
 use queue_types::settings::Settings;
 use std::alloc::Global;
 use std::test::Fail;
-
-/// The last moment of a printer.
-const LAST_MOMENT: u32 = 2_147_483_647;
 
 /// The most bytes that a request may have.
 const MOST: usize = 16_777_216;

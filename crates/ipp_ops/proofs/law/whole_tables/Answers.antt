@@ -11,6 +11,9 @@ use Rattle.ipp_request.specs.declared.attribute.TemplateAttribute.{TemplateAttri
 use Rattle.ipp_request.specs.declared.attribute.TemplateAttribute.TheVariants as template
 use Rattle.ipp_ops.specs.declared.check.Check.{Check}
 use Rattle.ipp_ops.specs.declared.check.Check.TheVariants as check
+use Rattle.queue_types.specs.Formats.{formats}
+use Rattle.queue_types.specs.declared.document.Format.{Format}
+use Rattle.queue_types.specs.declared.document.Format.TheVariants as format
 use Rattle.ipp_ops.proofs.law.whole_tables.Goals as goal
 
 each_operation : (x : Operation) → Contains operations x
@@ -61,6 +64,15 @@ each_check check.Target = (4, lit< tt, refl)
 each_check check.Compression = (5, lit< tt, refl)
 each_check check.Format = (6, lit< tt, refl)
 
+each_format : (x : Format) → Contains formats x
+each_format format.OctetStream = (0, lit< tt, refl)
+each_format format.Pdf = (1, lit< tt, refl)
+each_format format.Postscript = (2, lit< tt, refl)
+each_format format.Jpeg = (3, lit< tt, refl)
+each_format format.PwgRaster = (4, lit< tt, refl)
+each_format format.Urf = (5, lit< tt, refl)
+each_format format.PlainText = (6, lit< tt, refl)
+
 pub returns-clause-operations : goal.returns-clause-operations
 returns-clause-operations c = each_operation
 
@@ -72,3 +84,6 @@ returns-clause-job_attributes c = each_job_attribute
 
 pub returns-clause-checks : goal.returns-clause-checks
 returns-clause-checks c = each_check
+
+pub returns-clause-formats : goal.returns-clause-formats
+returns-clause-formats c = each_format

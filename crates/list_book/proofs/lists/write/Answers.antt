@@ -9,10 +9,10 @@ use Rattle.list_book.proofs.lists.write.Goals as goal
 use Rattle.list_book.proofs.lists.write.Goals.{After-l-1}
 
 jobs : (c : After-l-1) → c.put_jobs.new.jobs.items ≡ put_rows c.args.l.now.jobs.items (change_of c.args.c).jobs
-jobs c = c.put_jobs.ensures ∙ ap (put_rows c.args.l.now.jobs.items) c.into_jobs.ensures
+jobs c = c.put_jobs.ensures ∙ ap (put_rows c.args.l.now.jobs.items) c.into_items.ensures
 
 free : (c : After-l-1) → free_map c.put_free_rows.new.accounts.entries ≡ fold put_free (free_map c.args.l.now.accounts.entries) (change_of c.args.c).free
-free c = c.put_free_rows.ensures.free ∙ ap (fold put_free (free_map c.args.l.now.accounts.entries)) c.into_rows.ensures
+free c = c.put_free_rows.ensures.free ∙ ap (fold put_free (free_map c.args.l.now.accounts.entries)) c.into_items-2.ensures
 
 pub returns-clause-made : goal.returns-clause-made
 returns-clause-made c =
@@ -22,7 +22,7 @@ returns-clause-made c =
     (c.put_document.ensures ∙ ap (with_kept c.args.l.now.documents.items) c.requires.document)
     (c.put_grants.ensures.free ∙ free c)
     (cc)
-    (c.put_grants.ensures.grants ∙ ap (fold put_grant (grants_map c.args.l.now.grants.entries)) c.into_rows-2.ensures)
+    (c.put_grants.ensures.grants ∙ ap (fold put_grant (grants_map c.args.l.now.grants.entries)) c.into_items-3.ensures)
     c.put_report.ensures
 
 pub returns-clause-tidy : goal.returns-clause-tidy

@@ -8,10 +8,10 @@ pub returns : goal.returns
 returns c =
     scene_is c.args.l.now c.args.caller.now (call_of c.args.call.now) _
     c.in_ok-settings.ensures
-    (c.from_jobs.ensures ∙ c.in_ok-jobs.ensures ∙ ap (jobs_for c.args.caller.now (call_of c.args.call.now)) c.as_slice.ensures.value)
-    (c.from_rows.ensures ∙ c.in_ok-free.ensures)
+    (c.from_items.ensures ∙ c.in_ok-jobs.ensures ∙ ap (jobs_for c.args.caller.now (call_of c.args.call.now)) c.as_slice.ensures.value)
+    (c.from_items-2.ensures ∙ c.in_ok-free.ensures)
     (c.live_for_call.ensures ∙ ap (live_for c.args.caller.now (call_of c.args.call.now)) c.as_slice-2.ensures.value)
     (c.counts.ensures ∙ ap (counts_for (call_of c.args.call.now)) c.as_slice-3.ensures.value)
     refl
-    (c.from_known.ensures ∙ c.new.ensures.items)
+    (c.from_items-3.ensures ∙ c.new.ensures.items)
     refl

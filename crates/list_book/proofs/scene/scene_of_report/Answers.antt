@@ -10,10 +10,10 @@ returns c =
     let jobs = c.in_ok-jobs.ensures ∙ ap (numbered r.job) c.as_slice.ensures.value in
     report_scene_is c.args.l.now r _
     c.in_ok-settings.ensures
-    (c.from_jobs.ensures ∙ jobs)
-    (c.from_rows.ensures ∙ c.in_ok-free.ensures ∙ ap (owner_row (free_map c.args.l.now.accounts.entries)) (c.as_slice-2.ensures.value ∙ jobs))
+    (c.from_items.ensures ∙ jobs)
+    (c.from_items-2.ensures ∙ c.in_ok-free.ensures ∙ ap (owner_row (free_map c.args.l.now.accounts.entries)) (c.as_slice-2.ensures.value ∙ jobs))
     refl
     c.no_counts.ensures
     c.kept_report.ensures
-    (c.from_known.ensures ∙ c.new.ensures.items)
+    (c.from_items-3.ensures ∙ c.new.ensures.items)
     refl

@@ -16,4 +16,4 @@ returns c =
     (search rules)
     (c.reserved_in.ensures ∙ ap (sum_by (λ j. cond (bytes_eq j.owner a) (owed j) 0)) jobs)
     (c.printed_in.ensures ∙ ap (sum_by (λ j. cond (bytes_eq j.owner a) j.count 0)) jobs)
-    (c.from_jobs.ensures ∙ c.in_ok-shown.ensures ∙ ap (λ (js : List Job). filter (λ j. bytes_eq j.owner a && (nat_lt 0 (owed j) || nat_lt 0 j.count)) js) jobs)
+    (c.from_items.ensures ∙ c.in_ok-shown.ensures ∙ ap (λ (js : List Job). filter (λ j. bytes_eq j.owner a && (nat_lt 0 (owed j) || nat_lt 0 j.count)) js) jobs)

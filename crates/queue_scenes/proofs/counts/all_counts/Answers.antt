@@ -24,8 +24,8 @@ pub returns-in_err-queued-clause-leaves : goal.returns-in_err-queued-clause-leav
 returns-in_err-queued-clause-leaves g c =
     leaves_three (state g.S.Store c.args.conn.now) (state g.S.Store c.count.new.conn) (state g.S.Store c.count-2.new.conn) (state g.S.Store c.count-3.new.conn) c.count.ensures.leaves c.count-2.ensures.leaves c.count-3.ensures.leaves
 
-pub returns-then-queued-ge-TOO_MANY-clause-leaves : goal.returns-then-queued-ge-TOO_MANY-clause-leaves
-returns-then-queued-ge-TOO_MANY-clause-leaves g c =
+pub returns-then-queued-clause-leaves : goal.returns-then-queued-clause-leaves
+returns-then-queued-clause-leaves g c =
     leaves_three (state g.S.Store c.args.conn.now) (state g.S.Store c.count.new.conn) (state g.S.Store c.count-2.new.conn) (state g.S.Store c.count-3.new.conn) c.count.ensures.leaves c.count-2.ensures.leaves c.count-3.ensures.leaves
 
 pub returns-clause-leaves : goal.returns-clause-leaves

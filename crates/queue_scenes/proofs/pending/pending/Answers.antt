@@ -15,4 +15,4 @@ pub returns-clause-shows : goal.returns-clause-shows
 unfolding pending_in
 returns-clause-shows g c clean w sound has =
     let ready = λ (j : Job). job_state j == 3 in
-    c.from_jobs.ensures ∙ c.in_ok-jobs.ensures.found clean w (filter ready (rows w)) sound has (filtered_rows w sound ready) (shows_pending (state g.S.Store c.args.conn.now) w sound has)
+    c.from_items.ensures ∙ c.in_ok-jobs.ensures.found clean w (filter ready (rows w)) sound has (filtered_rows w sound ready) (shows_pending (state g.S.Store c.args.conn.now) w sound has)

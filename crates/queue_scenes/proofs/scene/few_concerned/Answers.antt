@@ -4,10 +4,10 @@ use Rattle.queue_types.specs.declared.job.Job.{Job}
 use Rattle.queue_scenes.proofs.scene.few_concerned.Goals as goal
 
 pub returns-clause-sound : goal.returns-clause-sound
-returns-clause-sound g c = subst (λ (js : List Job). All IsSoundJob js) (sym c.from_jobs.ensures) c.in_ok-jobs.ensures.sound
+returns-clause-sound g c = subst (λ (js : List Job). All IsSoundJob js) (sym c.from_items.ensures) c.in_ok-jobs.ensures.sound
 
 pub returns-clause-few : goal.returns-clause-few
-returns-clause-few g c = subst (λ (js : List Job). length js < 2 ^ 31) (sym c.from_jobs.ensures) (omega arith)
+returns-clause-few g c = subst (λ (js : List Job). length js < 2 ^ 31) (sym c.from_items.ensures) (omega arith)
 
 pub returns-clause-found : goal.returns-clause-found
-returns-clause-found g c clean w sound has = c.from_jobs.ensures ∙ c.in_ok-jobs.ensures.found clean w sound has
+returns-clause-found g c clean w sound has = c.from_items.ensures ∙ c.in_ok-jobs.ensures.found clean w sound has

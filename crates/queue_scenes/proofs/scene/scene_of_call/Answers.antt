@@ -36,11 +36,11 @@ returns-clause-fair g c = record {
   settings = c.in_ok-settings.ensures.limits;
   jobs = c.in_ok-jobs.ensures.sound;
   few = c.in_ok-jobs.ensures.few;
-  free = subst (λ (rs : List FreeRow). All (λ a. IsAmount a.free) rs) (sym c.from_rows.ensures) c.in_ok-free.ensures.within;
+  free = subst (λ (rs : List FreeRow). All (λ a. IsAmount a.free) rs) (sym c.from_items.ensures) c.in_ok-free.ensures.within;
   next = c.in_ok-numbers.ensures.least;
   queued = c.in_ok-numbers.ensures.few;
   report = tt;
-  known = subst (λ (ks : List KnownGrant). All IsKnown ks) (sym (c.from_known.ensures ∙ c.new.ensures.items)) (λ k d low. absurd (omega (arith, low)));
+  known = subst (λ (ks : List KnownGrant). All IsKnown ks) (sym (c.from_items-2.ensures ∙ c.new.ensures.items)) (λ k d low. absurd (omega (arith, low)));
 }
 
 pub returns-clause-found : goal.returns-clause-found
@@ -53,9 +53,9 @@ returns-clause-found g c clean w sound has settings_are =
     same_scene _ (cut w (ask c.args.caller.now (call_of c.args.call.now)))
     (c.in_ok-settings.ensures.same ∙ settings_are)
     (c.in_ok-jobs.ensures.found clean w sound has_second)
-    (c.from_rows.ensures ∙ c.in_ok-free.ensures.found second w has_first)
+    (c.from_items.ensures ∙ c.in_ok-free.ensures.found second w has_first)
     numbers.0
     numbers.1
     refl
-    (c.from_known.ensures ∙ c.new.ensures.items)
+    (c.from_items-2.ensures ∙ c.new.ensures.items)
     numbers.2

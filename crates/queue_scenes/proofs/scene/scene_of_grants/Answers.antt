@@ -26,16 +26,16 @@ returns-clause-live g c clean = c.in_ok-known.ensures.live clean (c.in_ok-next.e
 
 pub returns-clause-fair : goal.returns-clause-fair
 returns-clause-fair g c =
-    let jobs = c.from_jobs.ensures ∙ c.new.ensures.items in
+    let jobs = c.from_items.ensures ∙ c.new.ensures.items in
     record {
       settings = c.in_ok-settings.ensures.limits;
       jobs = subst (λ (js : List Job). All IsSoundJob js) (sym jobs) (λ k d low. absurd (omega (arith, low)));
       few = subst (λ (js : List Job). length js < 2 ^ 31) (sym jobs) (omega arith);
-      free = subst (λ (rs : List FreeRow). All (λ a. IsAmount a.free) rs) (sym (c.from_rows.ensures ∙ c.new-2.ensures.items)) (λ k d low. absurd (omega (arith, low)));
+      free = subst (λ (rs : List FreeRow). All (λ a. IsAmount a.free) rs) (sym (c.from_items-2.ensures ∙ c.new-2.ensures.items)) (λ k d low. absurd (omega (arith, low)));
       next = c.in_ok-next.ensures.least;
       queued = subst (λ (n : QueueCounts). n.queued < 2 ^ 31) (sym c.no_counts.ensures) (omega arith);
       report = tt;
-      known = subst (λ (ks : List KnownGrant). All IsKnown ks) (sym c.from_known.ensures) c.in_ok-known.ensures.within;
+      known = subst (λ (ks : List KnownGrant). All IsKnown ks) (sym c.from_items-3.ensures) c.in_ok-known.ensures.within;
     }
 
 pub returns-clause-found : goal.returns-clause-found
@@ -44,10 +44,10 @@ returns-clause-found g c clean w sound has settings_are =
     let has_first = c.next_number.ensures.leaves.kept first (content_of w) has (c.in_ok-next.ensures.live first) in
     same_scene _ (cut w (grant c.args.rows.now))
     (c.in_ok-settings.ensures.same ∙ settings_are)
-    (c.from_jobs.ensures ∙ c.new.ensures.items)
-    (c.from_rows.ensures ∙ c.new-2.ensures.items)
+    (c.from_items.ensures ∙ c.new.ensures.items)
+    (c.from_items-2.ensures ∙ c.new-2.ensures.items)
     refl
     c.no_counts.ensures
     refl
-    (c.from_known.ensures ∙ c.in_ok-known.ensures.found clean w sound has_first)
+    (c.from_items-3.ensures ∙ c.in_ok-known.ensures.found clean w sound has_first)
     (c.in_ok-next.ensures.found first w has)

@@ -41,13 +41,13 @@ returns-clause-live g c clean = c.in_ok-free.ensures.live clean (c.in_ok-jobs.en
 pub returns-clause-fair : goal.returns-clause-fair
 returns-clause-fair g c = record {
   settings = c.in_ok-settings.ensures.limits;
-  jobs = subst (λ (js : List Job). All IsSoundJob js) (sym c.from_jobs.ensures) c.in_ok-jobs.ensures.sound;
-  few = subst (λ (js : List Job). length js < 2 ^ 31) (sym c.from_jobs.ensures) (let few = c.in_ok-jobs.ensures.few in omega (arith, few));
-  free = subst (λ (rs : List FreeRow). All (λ a. IsAmount a.free) rs) (sym c.from_rows.ensures) c.in_ok-free.ensures.within;
+  jobs = subst (λ (js : List Job). All IsSoundJob js) (sym c.from_items.ensures) c.in_ok-jobs.ensures.sound;
+  few = subst (λ (js : List Job). length js < 2 ^ 31) (sym c.from_items.ensures) (let few = c.in_ok-jobs.ensures.few in omega (arith, few));
+  free = subst (λ (rs : List FreeRow). All (λ a. IsAmount a.free) rs) (sym c.from_items-2.ensures) c.in_ok-free.ensures.within;
   next = c.in_ok-next.ensures.least;
   queued = subst (λ (n : QueueCounts). n.queued < 2 ^ 31) (sym c.no_counts.ensures) (omega arith);
   report = c.in_ok-report.ensures.within;
-  known = subst (λ (ks : List KnownGrant). All IsKnown ks) (sym (c.from_known.ensures ∙ c.new.ensures.items)) (λ k d low. absurd (omega (arith, low)));
+  known = subst (λ (ks : List KnownGrant). All IsKnown ks) (sym (c.from_items-3.ensures ∙ c.new.ensures.items)) (λ k d low. absurd (omega (arith, low)));
 }
 
 pub returns-clause-found : goal.returns-clause-found
@@ -61,10 +61,10 @@ returns-clause-found g c clean w sound has settings_are =
     let jobs = c.in_ok-jobs.ensures.found third w sound has_second in
     same_scene _ (cut w (tell c.args.r.now))
     (c.in_ok-settings.ensures.same ∙ settings_are)
-    (c.from_jobs.ensures ∙ jobs)
-    (c.from_rows.ensures ∙ c.in_ok-free.ensures.found clean w has_third ∙ ap (owner_row w.free) (c.as_slice.ensures.value ∙ jobs))
+    (c.from_items.ensures ∙ jobs)
+    (c.from_items-2.ensures ∙ c.in_ok-free.ensures.found clean w has_third ∙ ap (owner_row w.free) (c.as_slice.ensures.value ∙ jobs))
     refl
     c.no_counts.ensures
     (c.in_ok-report.ensures.found second w sound has_first)
-    (c.from_known.ensures ∙ c.new.ensures.items)
+    (c.from_items-3.ensures ∙ c.new.ensures.items)
     (c.in_ok-next.ensures.found first w has)

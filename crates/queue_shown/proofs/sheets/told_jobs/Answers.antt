@@ -23,4 +23,4 @@ returns-clause-told g c clean w sound has =
     let shown = reads_owned (state g.S.Store c.args.conn.now) (state g.S.Store c.select.new.conn) a c.in_ok-found.found.items w sound has (rw (c.params-to_sql.ensures) at (c.in_ok-found.ensures.shown early)) in
     let mid = c.in_ok-found.ensures.kept early (c.in_ok-found.ensures.live early) (content_of w) has in
     let js = filter (λ j. bytes_eq j.owner a) (rows w) in
-    c.from_jobs.ensures ∙ c.in_ok-jobs.ensures.told clean w js sound mid (owned_in w a (distinct_of 1 w.jobs w.next sound.numbers)) (c.as_slice.ensures.value ∙ shown) ∙ told_owned a (rows w)
+    c.from_items.ensures ∙ c.in_ok-jobs.ensures.told clean w js sound mid (owned_in w a (distinct_of 1 w.jobs w.next sound.numbers)) (c.as_slice.ensures.value ∙ shown) ∙ told_owned a (rows w)

@@ -11,6 +11,6 @@ pub returns-clause-jobs : goal.returns-clause-jobs
 unfolding pending_in
 returns-clause-jobs c = λ _ w h.
     let l = c.self.inside.lists in
-    c.from_jobs.ensures ∙ c.in_ok-jobs.ensures
+    c.from_items.ensures ∙ c.in_ok-jobs.ensures
     ∙ ap (λ (js : List Job). filter (λ j. state j == 3) js) (c.as_slice.ensures.value ∙ sym (rows_of l.documents.items l.jobs.items))
     ∙ ap (λ (v : World). pending_jobs v) (c.self.view_is ∙ h.0)

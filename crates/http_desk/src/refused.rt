@@ -1,0 +1,70 @@
+//! Streams that are refused, and answers that refuse.
+
+use crate::compare::Mismatch;
+use crate::connection::Wanted::Refusal;
+use crate::connection::{Connection, Wanted};
+use crate::desk::keep_empty;
+use crate::messages::PRINT_JOB;
+use crate::requests::POST_JOB;
+use crate::streams::speeds_for;
+use http_front::End;
+use list_book::ListBook;
+use std::alloc::Global;
+
+pub const BAD: Wanted<'static> = Refusal("400 Bad Request");
+
+pub const NOT_FOUND: Wanted<'static> = Refusal("404 Not Found");
+
+pub const POST_ALLOWED: Wanted<'static> = Refusal("405 Method Not Allowed\r\nAllow: POST");
+
+pub const GET_ALLOWED: Wanted<'static> = Refusal("405 Method Not Allowed\r\nAllow: GET");
+
+pub const NO_LENGTH: Wanted<'static> = Refusal("411 Length Required");
+
+pub const TOO_LARGE: Wanted<'static> = Refusal("413 Payload Too Large");
+
+pub const OTHER_TYPE: Wanted<'static> = Refusal("415 Unsupported Media Type");
+
+pub const HEAD_TOO_LARGE: Wanted<'static> = Refusal("431 Request Header Fields Too Large");
+
+/// A stream, by its front and what is behind that, is refused so at each of its speeds; a request behind it isn't acted on, and the
+/// queue stays empty.
+pub fn refuse(
+    alloc: Global,
+    front: &[u8],
+    rest: &[u8],
+    code: u16,
+    wanted: &[Wanted<'_>],
+) -> Result<(), Mismatch> {
+    let connection = Connection {
+        stream: &[front, rest, POST_JOB, PRINT_JOB],
+        acted: 0,
+        end: End::Refused(code),
+        wanted,
+    };
+    keep_empty::<ListBook>(alloc, &connection, speeds_for(rest.len()))
+}
+
+/// Each of these streams behind that front is refused so.
+pub fn refuse_behind(
+    alloc: Global,
+    front: &[u8],
+    code: u16,
+    wanted: &[Wanted<'_>],
+    streams: &[&[u8]],
+) -> Result<(), Mismatch> {
+    for stream in streams {
+        refuse(alloc, front, stream, code, wanted)?;
+    }
+    Ok(())
+}
+
+/// Each of these streams is refused so.
+pub fn refuse_all(
+    alloc: Global,
+    code: u16,
+    wanted: Wanted<'_>,
+    streams: &[&[u8]],
+) -> Result<(), Mismatch> {
+    refuse_behind(alloc, b"", code, &[wanted], streams)
+}
