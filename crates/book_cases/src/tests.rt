@@ -5,7 +5,6 @@ mod bad_rows;
 mod device;
 mod files;
 mod great_files;
-mod great_numbers;
 mod job_numbers;
 mod lists_of_jobs;
 mod sending;

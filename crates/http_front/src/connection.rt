@@ -54,9 +54,9 @@ fn run<R: Read, W: Write, B: QueueBook>(
     ensures few { IfOk result (λ served. served.acted ≤ 32) }
     ensures few_stopped { IfErr result (λ fault. fault.acted ≤ 32) }
 {
-    let mut acted: u32 = 0;
-    let mut faults: u32 = 0;
-    let mut k: u32 = 0;
+    let mut acted = 0;
+    let mut faults = 0;
+    let mut k = 0;
     'turns: loop {
         match turn(alloc, router, reader, writer, book, s, buffer, now, k) {
             Ok(
@@ -78,19 +78,16 @@ fn run<R: Read, W: Write, B: QueueBook>(
                 k += 1;
             }
             Ok(Turned::Ended(finish)) => {
-                faults = mark(faults, k, finish.is_unavailable());
                 return Ok(Served {
                     acted,
-                    faults,
+                    faults: mark(faults, k, finish.is_unavailable()),
                     end: finish.end(),
                 });
             }
             Err(stopped) => {
-                acted += u32::from(stopped.acted);
-                faults = mark(faults, k, stopped.is_fault);
                 return Err(ServeFault {
-                    acted,
-                    faults,
+                    acted: acted + u32::from(stopped.acted),
+                    faults: mark(faults, k, stopped.is_fault),
                     cause: stopped.cause,
                 });
             }

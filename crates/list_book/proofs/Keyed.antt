@@ -111,6 +111,10 @@ same_free es fs alike = same_at_keys text_cmp nat_list_cmp_total exact_bytes byt
 same_name : (a b : List ℕ) → bytes_eq a b ≡ true → a ≡ b
 same_name a b e = search (rules, bytes_eq-Decides)
 
+-- an account that has other free pages, and else is as before
+abbrev pub with_free : Account → ℤ → Account
+with_free x pages = record { free = pages; granted = x.granted }
+
 -- an account that has more pages granted, and else is as before
 abbrev pub with_more : Account → ℕ → Account
 with_more x pages = record { free = x.free; granted = x.granted + pages }

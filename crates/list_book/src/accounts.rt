@@ -26,22 +26,29 @@ fn account_named(accounts: &Accounts, name: &Name) -> Option<Account>
     accounts.get(name).copied()
 }
 
+/// The account's free pages, where it is there, and the pages that were granted to it in all.
+pub(crate) fn pages_of(accounts: &Accounts, name: &Name) -> (Option<i64>, u32)
+    ensures free { result.0 ≡ get (free_map accounts.now.entries) name.now }
+    ensures granted { result.1 ≡ total_of accounts.now.entries name.now }
+{
+    match account_named(accounts, name) {
+        Some(account) => (Some(account.free), account.granted),
+        None => (None, 0),
+    }
+}
+
 /// The account's free pages, where it is there.
 pub(crate) fn free_pages(accounts: &Accounts, name: &Name) -> Option<i64>
     ensures { result ≡ get (free_map accounts.now.entries) name.now }
 {
-    let account = account_named(accounts, name)?;
-    Some(account.free)
+    pages_of(accounts, name).0
 }
 
 /// The pages that were granted to the account in all, 0 where it is not there.
 pub(crate) fn pages_granted(accounts: &Accounts, name: &Name) -> u32
     ensures { result ≡ total_of accounts.now.entries name.now }
 {
-    match account_named(accounts, name) {
-        Some(account) => account.granted,
-        None => 0,
-    }
+    pages_of(accounts, name).1
 }
 
 /// The account with its free pages, where it is there.
@@ -80,10 +87,13 @@ fn put_free_row(accounts: &mut Accounts, row: FreeRow)
     ensures room { spare accounts.old ≤ spare accounts.new + 1 }
 {
     let name = Name::from_text(row.account);
-    let granted = pages_granted(accounts, &name);
+    if let Some(account) = accounts.get_mut(&name) {
+        account.free = row.free;
+        return;
+    }
     let account = Account {
         free: row.free,
-        granted,
+        granted: 0,
     };
     match accounts.insert(name, account) {
         Ok(_) => {}

@@ -6,7 +6,7 @@ ghost use Rattle.queue_core.specs.Grants.{pages_to};
 ghost use Rattle.queue_core.specs.World.{put_grant as with_grant};
 ghost use Rattle.list_book.specs.Tables.{HaveAccounts, free_map, grants_map, known_in, total_of};
 
-use crate::accounts::{Accounts, add_pages, free_pages, pages_granted};
+use crate::accounts::{Accounts, add_pages, pages_of};
 use crate::name::Name;
 use queue_types::event::{GrantRow, KnownGrant};
 use std::alloc::{AllocError, Global};
@@ -33,11 +33,12 @@ fn known_grant(
 {
     let batch = Name::copy_of(alloc, row.batch.as_str())?;
     let account = Name::copy_of(alloc, row.account.as_str())?;
+    let (free, granted) = pages_of(accounts, &account);
     let key = (batch, account);
     Ok(KnownGrant {
         pages: pages_under(grants, &key),
-        granted: pages_granted(accounts, &key.1),
-        free: free_pages(accounts, &key.1),
+        granted,
+        free,
     })
 }
 

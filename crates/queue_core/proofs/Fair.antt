@@ -14,7 +14,6 @@ use Rattle.queue_core.specs.Sound.{IsSound, IsSoundEntry, IsKept, Rise, reserved
 use Rattle.queue_types.specs.declared.event.FreeRow.{FreeRow}
 use Rattle.queue_types.specs.declared.event.GrantRow.{GrantRow}
 use Rattle.queue_types.specs.declared.event.KeptReport.{KeptReport}
-use Rattle.queue_types.specs.declared.event.KnownGrant.{KnownGrant}
 use Rattle.queue_types.specs.declared.job.Job.{Job}
 use Rattle.queue_core.specs.Visible.{is_among}
 use Rattle.queue_core.proofs.Enter.{first_below}

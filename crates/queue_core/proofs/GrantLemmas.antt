@@ -1,7 +1,8 @@
 -- What is known of rows that were taken.
-use Rattle.std.proofs.Common.{◌≡◌, ℕ, zero, suc, length, drop, ◌+◌, ◌≤◌, List, [], ◌∷◌, ◌++◌, Bool, true, false, cond, ◌&&◌, refl, ap, ◌∙◌, arith, rules}
+use Rattle.std.proofs.Common.{◌≡◌, ℕ, zero, suc, length, drop, ◌+◌, ◌≤◌, List, [], ◌∷◌, ◌++◌, Bool, true, false, cond, ◌&&◌, refl, ap, sym, ◌∙◌, arith, rules, inl, inr}
 use Rattle.std.specs.Prelude.{Option, Some, None, bytes_eq, find, is_some, min, nat_eq, nat_lt, option_map}
 use Rattle.std.specs.Option.{option_map_or}
+use Rattle.std.proofs.lemmas.Bool.{cases_Bool}
 use Rattle.std.proofs.lemmas.Bool.Decides.{nat_tests}
 use Rattle.std.proofs.lemmas.List.Sums.{sum_by_push}
 use Rattle.std.proofs.lemmas.Slice.Eq.{bytes_eq-Decides}
@@ -59,13 +60,6 @@ pages_push (g ∷ rows) r q none =
 pub pages_to-push : (rows : List GrantRow) (r : GrantRow) (a : List ℕ) → pages_to a (rows ++ r ∷ []) ≡ pages_to a rows + cond (bytes_eq r.account a) r.pages 0
 pages_to-push rows r a = sum_by_push (λ (g : GrantRow). cond (bytes_eq g.account a) g.pages 0) rows r
 
-pub still_few : (rows : List GrantRow) (r : GrantRow) → ((a : List ℕ) → pages_to a rows ≤ 1000000000) → pages_to r.account rows + r.pages ≤ 1000000000 → (a : List ℕ) → pages_to a rows + cond (bytes_eq r.account a) r.pages 0 ≤ 1000000000
-still_few rows r most fits a =
-    elim (bytes_eq r.account a) as (λ b. bytes_eq r.account a ≡ b → pages_to a rows + cond b r.pages 0 ≤ 1000000000) [
-      | true ↦ λ is. let same : pages_to r.account rows ≡ pages_to a rows = ap (λ t. pages_to t rows) (same_text r.account a is) in omega arith
-      | false ↦ λ is. let here = most a in omega arith
-    ] refl
-
 -- ---- a new row
 
 only_new : (same too : Bool) (o : Option ℕ) → cond same repeated (cond (is_some o) (refused_row Conflict) (cond too (refused_row TooMany) new_row)) ≡ new_row → (o ≡ None) × (too ≡ false)
@@ -73,22 +67,6 @@ only_new true too o e = absurd (cc)
 only_new false too (Some n) e = absurd (cc)
 only_new false true None e = absurd (cc)
 only_new false false None e = (refl, refl)
-
-no_pages : (o : Option GrantRow) → option_map (λ (g : GrantRow). g.pages) o ≡ None → o ≡ None
-no_pages None e = refl
-no_pages (Some g) e = absurd (cc)
-
-not_known : (known : Option ℕ) (o : Option GrantRow) → cond (is_some known) known (option_map (λ (g : GrantRow). g.pages) o) ≡ None → o ≡ None
-not_known None o e = no_pages o e
-not_known (Some n) o e = absurd (cc)
-
-within : (g p n : ℕ) → nat_lt 1000000000 (g + p + n) ≡ false → p + n ≤ 1000000000
-within g p n e = grind (arith, nat_tests)
-
-pub new_means : (r : GrantRow) (k : KnownGrant) (rows : List GrantRow) → row_of r k rows ≡ new_row → (row_under r rows ≡ None) × (pages_to r.account rows + r.pages ≤ 1000000000)
-new_means r k rows e =
-    let is = only_new (option_map_or (λ n. nat_eq n r.pages) (pages_under r k rows) false) (is_too_many r k rows) (pages_under r k rows) e in
-    (not_known k.pages (row_under r rows) is.0, within k.granted (pages_to r.account rows) r.pages is.1)
 
 within_all : (g p n : ℕ) → nat_lt 1000000000 (g + p + n) ≡ false → g + p + n ≤ 1000000000
 within_all g p n e = grind (arith, nat_tests)
@@ -106,3 +84,24 @@ ends_at (r ∷ rows) [] zero n new free repeats e = refl
 ends_at (r ∷ rows) [] (suc i) n new free repeats e = absurd (omega arith)
 ends_at (r ∷ rows) (k ∷ known) zero n new free repeats e = absurd (omega arith)
 ends_at (r ∷ rows) (k ∷ known) (suc i) n new free repeats e = ends_at rows known i n new free repeats (omega arith)
+
+-- ---- the maps of the new rows
+
+-- a key of the row's own batch and account finds what stands under them
+own_key : (r : GrantRow) (q : Key) (rows : List GrantRow) → is_key_of r q ≡ true → find (λ (g : GrantRow). is_key_of g q) rows ≡ row_under r rows
+own_key r q rows is =
+    let same = parts (bytes_eq r.batch q.batch.now) (bytes_eq r.account q.account.now) is in
+    ap (λ (b : List ℕ). find (λ (g : GrantRow). bytes_eq g.batch b && bytes_eq g.account q.account.now) rows) (sym (same_text r.batch q.batch.now same.0))
+    ∙ ap (λ (a : List ℕ). find (λ (g : GrantRow). bytes_eq g.batch r.batch && bytes_eq g.account a) rows) (sym (same_text r.account q.account.now same.1))
+
+pub no_pages : (o : Option GrantRow) → option_map (λ (g : GrantRow). g.pages) o ≡ None → o ≡ None
+no_pages None e = refl
+no_pages (Some g) e = absurd (cc)
+
+-- the same pages under a key again
+pub pages_again : (rows : List GrantRow) (r : GrantRow) (q : Key) → option_map (λ (g : GrantRow). g.pages) (row_under r rows) ≡ Some r.pages
+    → cond (is_key_of r q) (Some r.pages) (option_map (λ (g : GrantRow). g.pages) (find (λ (g : GrantRow). is_key_of g q) rows)) ≡ option_map (λ (g : GrantRow). g.pages) (find (λ (g : GrantRow). is_key_of g q) rows)
+pages_again rows r q there = elim (cases_Bool (is_key_of r q)) [
+  | inl is ↦ rw (is, own_key r q rows is) (sym there)
+  | inr apart ↦ rw apart refl
+]

@@ -1,14 +1,14 @@
 -- A report keeps a world sound: one job changes, its count is the greatest, and the report is kept.
 use Rattle.std.proofs.Common.{◌≡◌, ℕ, ℤ, ◌+◌, ◌≤◌, ◌<◌, List, [], ◌∷◌, map, refl, ap, sym, ◌∙◌, arith, subst, inl, inr, Bool, true, false, cond}
-use Rattle.std.specs.Prelude.{Option, Some, None, IfSome, IsSome, IsSomeAnd, IsTrue, is_some, nat_eq, nat_le, bytes_eq, fold, max, All, ◌⊎◌, ◌||◌, ◌&&◌}
+use Rattle.std.specs.Prelude.{Option, Some, None, IfSome, IsSome, IsSomeAnd, IsTrue, is_some, nat_eq, nat_le, fold, max, All, ◌⊎◌, ◌||◌}
 use Rattle.std.specs.List.{AllByRecursion as Each}
 use Rattle.std.specs.FinMap.{FinMap, get, insert, get-insert}
 use Rattle.std.proofs.lemmas.Bool.Decides.{nat_tests}
 use Rattle.queue_types.specs.Job.{is_live, is_live_in, state, state_in}
 use Rattle.queue_types.specs.Event.{tell}
-use Rattle.queue_core.specs.World.{World, Entry, rows, cut, made_on, with_row, owner_row, numbered, put_free, job_at, report_cmp, text_cmp}
+use Rattle.queue_core.specs.World.{World, Entry, rows, cut, made_on, with_row, owner_row, put_free, job_at, report_cmp, text_cmp}
 use Rattle.queue_core.specs.Reports.{counted, ended_as, why_halted, moved_by, reported, is_same_report}
-use Rattle.queue_core.specs.Machine.{credited, changed, answered, accepted, accepted_where, report_row}
+use Rattle.queue_core.specs.Machine.{credited, answered, accepted, accepted_where, report_row}
 use Rattle.queue_core.specs.Limits.{IsMoment, IsReport, IsSoundJob, FitsPhase}
 use Rattle.queue_core.specs.Runs.{Follows, is_pair}
 use Rattle.queue_core.specs.Sound.{IsSound, IsSoundEntry, IsKept, IsGreatestCount, IsIdle, Rise}
@@ -16,19 +16,18 @@ use Rattle.queue_types.specs.declared.event.Kind.{Kind}
 use Rattle.queue_types.specs.declared.event.Kind.TheVariants.{Start, Stop, Resume, Count, Done, Fail, Halt}
 use Rattle.queue_types.specs.declared.event.KeptReport.{KeptReport}
 use Rattle.queue_types.specs.declared.event.Report.{Report}
-use Rattle.queue_types.specs.declared.event.ReportRefusal.TheVariants.{NoJob, State, Conflict}
+use Rattle.queue_types.specs.declared.event.ReportRefusal.TheVariants.{Conflict}
 use Rattle.queue_types.specs.declared.event.Reply.TheVariants.{Told, NotTold}
 use Rattle.queue_types.specs.declared.event.Scene.{Scene}
 use Rattle.queue_types.specs.declared.job.Job.{Job}
 use Rattle.queue_types.specs.declared.job.Phase.{Phase}
 use Rattle.queue_types.specs.declared.job.Phase.TheVariants.{Waiting, Running, Stopped, Canceled, Aborted, Completed}
-use Rattle.queue_core.proofs.Keep.{at, each-map, each-with_row, some-with_row}
+use Rattle.queue_core.proofs.Keep.{at, each-with_row, some-with_row}
 use Rattle.queue_core.proofs.Fair.{fair_of}
 use Rattle.queue_core.proofs.Maps.{report_total, is_report_key, report_key, own_report_key}
 use Rattle.queue_core.proofs.Moves.{row_moves, equal}
 use Rattle.queue_core.proofs.Own.{Keeps, unchanged, first_named, moved, moved_get}
-use Rattle.queue_core.proofs.Rows.{Succeeds, job_keeps, rows_of, back}
-use Rattle.queue_core.proofs.Enter.{first_below}
+use Rattle.queue_core.proofs.Rows.{job_keeps}
 
 -- ---- the job that comes of it
 

@@ -1,7 +1,7 @@
 -- What the machine decides on a fair scene is within the limits.
 use Rattle.std.proofs.Common.{◌≡◌, ℕ, zero, suc, ◌+◌, ◌≤◌, List, [], ◌∷◌, ◌++◌, length, length-append, map, refl, ap, arith, subst, eq-eqb, Bool, true, false, cond}
 use Rattle.std.specs.List.{list_all, AllByRecursion as Each}
-use Rattle.std.specs.Prelude.{All, IsSome, IfSome, is_some, nat_lt, nat_eq, bytes_eq, filter, Option, Some, None}
+use Rattle.std.specs.Prelude.{All, IsSome, IfSome, is_some, nat_lt, bytes_eq, filter, Option, Some, None}
 use Rattle.queue_types.specs.Job.{estimate, state_in}
 use Rattle.queue_types.specs.Event.{Event, Call, NewJob, NewDocument, Decision, ask, tell, grant, print_job, validate_job, create_job, send_document, cancel_job, cancel_my_jobs, hold_job, release_job, get_job_attributes, get_jobs, get_printer_attributes}
 use Rattle.queue_core.specs.World.{job_at}
@@ -24,7 +24,7 @@ use Rattle.queue_types.specs.declared.event.ReportRefusal.TheVariants.{NoJob, St
 use Rattle.queue_types.specs.declared.event.QueueCounts.{QueueCounts}
 use Rattle.queue_types.specs.declared.event.Scene.{Scene}
 use Rattle.queue_core.proofs.Cancel.{held, held_documents}
-use Rattle.queue_core.proofs.Many.{keeps_documents, passed, each_map, each_both}
+use Rattle.queue_core.proofs.Many.{keeps_documents, passed, each_both}
 use Rattle.queue_core.proofs.Numbers.{filter_whole}
 use Rattle.queue_core.proofs.Ordered.{all_of, each_of, each-filter}
 use Rattle.queue_core.proofs.Print.{new_job_sound, not_refused}

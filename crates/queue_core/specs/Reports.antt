@@ -1,5 +1,5 @@
 -- What a device's reports make of a job.
-use Rattle.std.specs.Prelude.{ℕ, ◌==◌, ◌&&◌, ◌||◌, Option, Some, None, is_some, max, Bool, true, false, if◌then◌else◌}
+use Rattle.std.specs.Prelude.{ℕ, ◌==◌, ◌&&◌, ◌||◌, Option, Some, None, is_some, max, Bool, false, if◌then◌else◌}
 use Rattle.queue_types.specs.Event.{kind_number}
 use Rattle.queue_types.specs.declared.event.Kind.{Kind}
 use Rattle.queue_types.specs.declared.event.Kind.TheVariants.{Start, Stop, Resume, Count, Done, Fail, Halt}

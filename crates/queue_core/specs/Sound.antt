@@ -1,6 +1,6 @@
 -- When a world is sound: its limits, and the account equation.
-use Rattle.std.specs.Prelude.{◌≡◌, ℕ, pos, ◌+ℤ◌, ◌+◌, ◌^◌, ◌≤◌, List, [], ◌∷◌, None, sum_by, IsSome, IsSomeAnd, is_some, ◌↔◌, IfSome, length, bytes_eq, ◌==◌, ◌&&◌, ◌||◌, ◌⊎◌, Bool, IsTrue, if◌then◌else◌, nat_le}
-use Rattle.std.specs.List.{list_all, AllByRecursion as Each}
+use Rattle.std.specs.Prelude.{◌≡◌, ℕ, pos, ◌+ℤ◌, ◌+◌, ◌^◌, ◌≤◌, List, [], ◌∷◌, None, sum_by, IsSome, IsSomeAnd, is_some, ◌↔◌, IfSome, length, bytes_eq, ◌||◌, ◌⊎◌, IsTrue, if◌then◌else◌}
+use Rattle.std.specs.List.{AllByRecursion as Each}
 use Rattle.std.specs.FinMap.{get}
 use Rattle.queue_types.specs.Settings.{AreSettings}
 use Rattle.queue_types.specs.Job.{owed}

@@ -1,5 +1,5 @@
 -- What the maps say of the new rows of an account file.
-use Rattle.std.specs.Prelude.{◌≡◌, ◌≤◌, ◌+◌, ℕ, length, ◌&&◌, List, [], ◌∷◌, ◌++◌, Bool, bytes_eq, find, option_map, unwrap_or}
+use Rattle.std.specs.Prelude.{◌≡◌, ◌≤◌, ◌+◌, ℕ, ⊤, length, ◌&&◌, List, [], ◌∷◌, ◌++◌, Bool, bytes_eq, find, option_map, unwrap_or}
 use Rattle.std.specs.Borrow.{Bor}
 use Rattle.std.specs.BTreeMap.{BTreeMap, get, get_by}
 use Rattle.std.specs.declared.cmp.Ordering.{Ordering}
@@ -28,11 +28,24 @@ is_key_of r q = bytes_eq r.batch q.batch.now && bytes_eq r.account q.account.now
 abbrev pub total_of : BTreeMap (Bor (List ℕ)) ℕ → List ℕ → ℕ
 total_of m a = unwrap_or (get_by (λ k. slice_cmp nat_cmp a k.now) m) 0
 
+-- the pages under each batch and account are those of its row
+abbrev pub ArePages : BTreeMap Key ℕ → List GrantRow → Type 0
+ArePages m rows = (q : Key) → get key_cmp m q ≡ option_map (λ g. g.pages) (find (λ g. is_key_of g q) rows)
+
+-- the total of each account is that of its rows
+abbrev pub AreTotals : BTreeMap (Bor (List ℕ)) ℕ → List GrantRow → Type 0
+AreTotals m rows = (a : List ℕ) → total_of m a ≡ pages_to a rows
+
 -- the maps say what the rows are
 pub record IsTallied (t : Tally) : Type 0 where
-  pub pages : (q : Key) → get key_cmp t.pages q ≡ option_map (λ g. g.pages) (find (λ g. is_key_of g q) t.rows.items)
-  pub totals : (a : List ℕ) → total_of t.totals a ≡ pages_to a t.rows.items
-  pub most : (a : List ℕ) → pages_to a t.rows.items ≤ 1000000000
+  pub pages : ArePages t.pages t.rows.items
+  pub totals : AreTotals t.totals t.rows.items
+
+-- so they do once that became of one more; with a row that can't be taken, the others aren't either
+abbrev pub IsTalliedAfter : Row → Tally → Type 0
+IsTalliedAfter repeated t = IsTallied t
+IsTalliedAfter (refused_row fault) t = ⊤
+IsTalliedAfter new_row t = IsTallied t
 
 abbrev pub row_in : RowState → Row
 row_in Repeated = repeated

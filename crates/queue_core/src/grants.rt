@@ -1,12 +1,11 @@
 //! What the machine decides on an account file: its rows are taken in order, all of them or none.
-ghost use Rattle.std.specs.Prelude.{◌≡◌, ◌≤◌, ◌<◌, ◌+◌, ◌^◌, ◌++◌, ◌∷◌, [], IfOk, ℕ, length, unwrap_or, option_map};
+ghost use Rattle.std.specs.Prelude.{◌≡◌, ◌≤◌, ◌<◌, ◌+◌, ◌+ℤ◌, ◌^◌, ◌==◌, ◌++◌, ◌∷◌, [], ℕ, pos, All, List, None, Some, IfOk, IsSome, OnOk, bytes_eq, if◌then◌else◌, length, nat_lt, option_map, unwrap_or};
 ghost use Rattle.queue_types.specs.Event.{decision_of};
-ghost use Rattle.queue_core.specs.Grants.{row_of, row_under, pages_to, free_after, take_rows};
+ghost use Rattle.queue_types.specs.declared.event.GrantFault.TheVariants.{Conflict, TooMany};
+ghost use Rattle.queue_core.specs.Grants.{is_too_many, new_row, refused_row, repeated, row_of, row_under, take_rows};
 ghost use Rattle.queue_core.specs.Limits.{IsFair, IsKnown};
 ghost use Rattle.queue_core.specs.Machine.{grant_row};
-ghost use Rattle.queue_core.specs.Tally.{key_cmp, is_key_of, total_of, row_in, rows_after, free_rows_after, taken_in, IsTallied, IsWithin};
-ghost use Rattle.std.specs.BTreeMap.{get};
-ghost use Rattle.std.specs.Prelude.{All, OnOk, Some, None, List, bytes_eq, if◌then◌else◌};
+ghost use Rattle.queue_core.specs.Tally.{total_of, row_in, rows_after, free_rows_after, taken_in, ArePages, AreTotals, IsTallied, IsTalliedAfter, IsWithin};
 
 use crate::outcome::answer_only;
 use queue_types::event::{
@@ -23,25 +22,40 @@ pub(crate) struct Key<'a> {
     account: &'a str,
 }
 
-fn add_key<'a>(pages: &mut BTreeMap<Key<'a>, u32>, r: &'a GrantRow) -> Result<(), AllocError>
-    ensures { OnOk result ((q : Key) → get key_cmp pages.new q ≡ (if is_key_of r.now q then Some r.now.pages else get key_cmp pages.old q)) }
+/// Puts a row's pages under its batch and account, and gives those that stood there.
+fn add_key<'a>(
+    pages: &mut BTreeMap<Key<'a>, u32>,
+    r: &'a GrantRow,
+) -> Result<Option<u32>, AllocError>
+    ensures before { IfOk result (λ o. (rows : List GrantRow) → ArePages pages.old rows → o ≡ option_map (λ g. g.pages) (row_under r.now rows)) }
+    ensures new { IfOk result (λ o. (rows : List GrantRow) → ArePages pages.old rows → o ≡ None → ArePages pages.new (rows ++ r.now ∷ [])) }
+    ensures again { IfOk result (λ o. (rows : List GrantRow) → ArePages pages.old rows → o ≡ Some r.now.pages → ArePages pages.new rows) }
 {
     let key = Key {
         batch: r.batch.as_str(),
         account: r.account.as_str(),
     };
-    pages.insert(key, r.pages)?;
-    Ok(())
+    let before = pages.insert(key, r.pages)?;
+    Ok(before)
 }
 
-fn add_pages<'a>(totals: &mut BTreeMap<&'a str, u32>, r: &'a GrantRow) -> Result<(), AllocError>
-    requires { total_of totals.old r.now.account + r.now.pages < 2 ^ 32 }
-    ensures { OnOk result ((a : List ℕ) → total_of totals.new a ≡ total_of totals.old a + (if bytes_eq r.now.account a then r.now.pages else 0)) }
+/// Adds a row's pages to the total of its account, and gives the total then; none where that would be more than `most`.
+fn add_pages<'a>(
+    totals: &mut BTreeMap<&'a str, u32>,
+    r: &'a GrantRow,
+    most: u32,
+) -> Result<Option<u32>, AllocError>
+    ensures total { IfOk result (λ o. o ≡ (if nat_lt most (total_of totals.old r.now.account + r.now.pages) then None else Some (total_of totals.old r.now.account + r.now.pages))) }
+    ensures added { IfOk result (λ o. IsSome o → (a : List ℕ) → total_of totals.new a ≡ total_of totals.old a + (if bytes_eq r.now.account a then r.now.pages else 0)) }
 {
-    let account = r.account.as_str();
-    let total = totals.get(account).copied().unwrap_or(0);
-    totals.insert(account, total + r.pages)?;
-    Ok(())
+    let total = totals.entry(r.account.as_str())?.or_insert(0);
+    match total.checked_add(r.pages) {
+        Some(sum) if sum <= most => {
+            *total = sum;
+            Ok(Some(sum))
+        }
+        _ => Ok(None),
+    }
 }
 
 /// The new rows so far, with the free pages of the account of each after it, their pages by batch and account,
@@ -63,104 +77,67 @@ enum RowState {
     New,
 }
 
-/// The pages under the row's batch and account by the new rows.
-fn pages_in<'a>(t: &Tally<'a>, r: &'a GrantRow) -> Option<u32>
-    requires { IsTallied t.now }
-    ensures { result ≡ option_map (λ g. g.pages) (row_under r.now t.now.rows.items) }
+/// What becomes of a row of these pages under whose batch and account some were accepted before.
+fn state_beside(before: u32, pages: u32) -> RowState
+    ensures { row_in result ≡ (if before == pages then repeated else refused_row Conflict) }
 {
-    let key = Key {
-        batch: r.batch.as_str(),
-        account: r.account.as_str(),
-    };
-    t.pages.get(&key).copied()
-}
-
-fn total_in<'a>(t: &Tally<'a>, account: &'a str) -> u32
-    requires { IsTallied t.now }
-    ensures { result ≡ pages_to account.now t.now.rows.items }
-{
-    t.totals.get(account).copied().unwrap_or(0)
-}
-
-fn row_state<'a>(t: &Tally<'a>, r: &'a GrantRow, k: &KnownGrant) -> RowState
-    requires tallied { IsTallied t.now }
-    requires granted { k.now.granted ≤ 1000000000 }
-    requires pages { r.now.pages ≤ 1000000 }
-    ensures { row_in result ≡ row_of r.now k.now t.now.rows.items }
-{
-    let pages = match k.pages {
-        Some(pages) => Some(pages),
-        None => pages_in(t, r),
-    };
-    match pages {
-        Some(pages) => {
-            if pages == r.pages {
-                RowState::Repeated
-            } else {
-                RowState::Refused(GrantFault::Conflict)
-            }
-        }
-        None => {
-            if k.granted + total_in(t, r.account.as_str()) + r.pages > MOST_GRANTED_PAGES {
-                RowState::Refused(GrantFault::TooMany)
-            } else {
-                RowState::New
-            }
-        }
+    if before == pages {
+        RowState::Repeated
+    } else {
+        RowState::Refused(GrantFault::Conflict)
     }
 }
 
-/// The free pages of the row's account once it has the pages of the new rows and of this one.
-fn account_after<'a>(t: &Tally<'a>, r: &'a GrantRow, k: &KnownGrant) -> Result<FreeRow, AllocError>
-    requires tallied { IsTallied t.now }
+/// The account of a row, in which it has added to the total of the file.
+fn account_after(r: &GrantRow, k: &KnownGrant, total: u32) -> Result<FreeRow, AllocError>
     requires known { IsKnown k.now }
-    requires pages { r.now.pages ≤ 1000000 }
-    ensures { IfOk result (λ a. a ≡ free_after r.now k.now t.now.rows.items) }
+    requires total { total ≤ 1000000000 }
+    ensures { IfOk result (λ a. a ≡ record { account = r.now.account; free = unwrap_or k.now.free (pos 0) +ℤ pos total }) }
 {
     let account = r.account.try_clone()?;
-    let added = total_in(t, r.account.as_str()) + r.pages;
     Ok(FreeRow {
         account,
-        free: k.free.unwrap_or(0) + i64::from(added),
+        free: k.free.unwrap_or(0) + i64::from(total),
     })
 }
 
-/// Adds a row under whose batch and account none of the new rows stands.
-fn add_row<'a>(t: &mut Tally<'a>, r: &'a GrantRow, account: FreeRow) -> Result<(), AllocError>
-    requires tallied { IsTallied t.old }
-    requires new { row_under r.now t.old.rows.items ≡ None }
-    requires fits { pages_to r.now.account t.old.rows.items + r.now.pages ≤ 1000000000 }
-    ensures rows { OnOk result (t.new.rows.items ≡ t.old.rows.items ++ r.now ∷ []) }
-    ensures free { OnOk result (t.new.free.items ≡ t.old.free.items ++ account ∷ []) }
-    ensures tallied { OnOk result (IsTallied t.new) }
+/// Adds a row under whose batch and account none of the new rows stands, where its account has room for it. Its pages
+/// stand under them already.
+fn add_row<'a>(t: &mut Tally<'a>, r: &'a GrantRow, k: &KnownGrant) -> Result<RowState, AllocError>
+    requires pages { ArePages t.old.pages (t.old.rows.items ++ r.now ∷ []) }
+    requires totals { AreTotals t.old.totals t.old.rows.items }
+    requires known { IsKnown k.now }
+    ensures state { IfOk result (λ s. row_in s ≡ (if is_too_many r.now k.now t.old.rows.items then refused_row TooMany else new_row)) }
+    ensures rows { IfOk result (λ s. t.new.rows.items ≡ rows_after (row_in s) t.old.rows.items r.now) }
+    ensures free { IfOk result (λ s. t.new.free.items ≡ free_rows_after (row_in s) t.old.free.items t.old.rows.items r.now k.now) }
+    ensures tallied { IfOk result (λ s. IsTalliedAfter (row_in s) t.new) }
 {
+    let Some(total) = add_pages(&mut t.totals, r, MOST_GRANTED_PAGES - k.granted)? else {
+        return Ok(RowState::Refused(GrantFault::TooMany));
+    };
+    let account = account_after(r, k, total)?;
     t.free.push(account)?;
     let row = r.try_clone()?;
-    add_key(&mut t.pages, r)?;
-    add_pages(&mut t.totals, r)?;
     t.rows.push(row)?;
-    Ok(())
+    Ok(RowState::New)
 }
 
 /// What becomes of a row, which is added where it is new.
 fn take_row<'a>(t: &mut Tally<'a>, r: &'a GrantRow, k: &KnownGrant) -> Result<RowState, AllocError>
     requires tallied { IsTallied t.old }
     requires known { IsKnown k.now }
-    requires pages { r.now.pages ≤ 1000000 }
     ensures state { IfOk result (λ s. row_in s ≡ row_of r.now k.now t.old.rows.items) }
     ensures rows { IfOk result (λ s. t.new.rows.items ≡ rows_after (row_in s) t.old.rows.items r.now) }
     ensures free { IfOk result (λ s. t.new.free.items ≡ free_rows_after (row_in s) t.old.free.items t.old.rows.items r.now k.now) }
-    ensures tallied { IfOk result (λ s. IsTallied t.new) }
+    ensures tallied { IfOk result (λ s. IsTalliedAfter (row_in s) t.new) }
 {
-    let state = row_state(t, r, k);
-    match state {
-        RowState::New => {
-            let account = account_after(t, r, k)?;
-            add_row(t, r, account)?;
-        }
-        RowState::Repeated | RowState::Refused(_) => {}
+    if let Some(pages) = k.pages {
+        return Ok(state_beside(pages, r.pages));
     }
-    Ok(state)
+    match add_key(&mut t.pages, r)? {
+        Some(pages) => Ok(state_beside(pages, r.pages)),
+        None => add_row(t, r, k),
+    }
 }
 
 /// What was taken of the rows of an account file.
@@ -184,7 +161,6 @@ enum Taken {
 /// that equals one accepted before, in this file or earlier, is a repeat. The one error is want of memory.
 fn take_all(alloc: Global, rows: &[GrantRow], known: &[KnownGrant]) -> Result<Taken, AllocError>
     requires few { length rows.now < 2 ^ 31 }
-    requires pages { All (λ r. r.pages ≤ 1000000) rows.now }
     requires known { All IsKnown known.now }
     ensures taken { IfOk result (λ t. taken_in t ≡ take_rows rows.now known.now 1 [] [] 0) }
     ensures within { IfOk result (λ t. IsWithin t (length rows.now)) }
@@ -224,7 +200,6 @@ pub(crate) fn grant<'a>(
 ) -> Result<Decision<'a>, AllocError>
     requires fair { IsFair s.now }
     requires few { length rows.now ≤ 16777216 }
-    requires pages { All (λ r. r.pages ≤ 1000000) rows.now }
     ensures { IfOk result (λ d. decision_of d ≡ grant_row (take_rows rows.now s.now.known 1 [] [] 0)) }
 {
     match take_all(alloc, rows, s.known.as_slice())? {

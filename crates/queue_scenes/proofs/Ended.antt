@@ -1,5 +1,5 @@
 -- The jobs of an owner that ended, from the last one on.
-use Rattle.std.proofs.Common.{◌≡◌, ◌⊎◌, inl, inr, ℕ, zero, suc, pos, ◌<◌, ◌≤◌, List, [], ◌∷◌, map, filter, take, Bool, true, false, not, ◌&&◌, ◌||◌, ◌==◌, Option, Some, None, refl, sym, ap, subst, ◌∙◌, arith, bytes_eq, nat_lt, Less, Greater, is_gt}
+use Rattle.std.proofs.Common.{◌≡◌, ◌⊎◌, inl, inr, ℕ, pos, ◌<◌, ◌≤◌, List, [], ◌∷◌, map, filter, take, Bool, true, false, not, ◌&&◌, ◌||◌, ◌==◌, Option, Some, None, refl, sym, ap, subst, ◌∙◌, arith, bytes_eq, nat_lt, Less, Greater, is_gt}
 use Rattle.std.specs.Prelude.{IsSome, IfSome}
 use Rattle.std.specs.Ordering.{int_cmp}
 use Rattle.std.specs.Cmp.{int_cmp_is, tied_itself}
@@ -36,7 +36,7 @@ use Rattle.queue_tables.specs.Values.{number, moment, job_values, job_view}
 use Rattle.queue_tables.proofs.Entries.{rows_in}
 use Rattle.queue_tables.proofs.Permuting.{swap_front}
 use Rattle.queue_scenes.specs.Jobs.{AreRowsOf, ShowsJobs}
-use Rattle.queue_scenes.proofs.Lists.{each_row, world_rising, same_rows}
+use Rattle.queue_scenes.proofs.Lists.{each_row, world_rising, same_rows, taken_rows}
 use Rattle.queue_scenes.proofs.Numbers.{AreRising, rising_filter, less_value}
 use Rattle.queue_scenes.proofs.Ordered.{shows_in_order, shows_first}
 use Rattle.queue_scenes.proofs.Statements.{descending, select_ended_text, select_ended_names, select_ended_where, select_ended_terms, select_ended_order, select_ended_is, select_ended_plain, select_ended_unlisted, select_ended_first_text, select_ended_first_is, select_ended_first_plain, select_ended_first_unlisted}
@@ -238,11 +238,6 @@ shows_ended name old w sound has shown_rows h =
     select_ended_text select_ended_names select_ended_plain select_ended_unlisted (λ db. refl) select_ended_is old old (map job_values (rows w)) shown_rows (map job_values (by_end (ended_of name w))) has.schema has.rows.jobs
     (ended_listed name w sound) (ended_ascends name w sound) h
     ∙ same_rows (map job_values (by_end (ended_of name w)))
-
-taken_rows : (n : ℕ) (js : List Job) → take n (map job_values js) ≡ map job_values (take n js)
-taken_rows zero js = refl
-taken_rows (suc n) [] = refl
-taken_rows (suc n) (j ∷ js) = ap (λ (vs : List Row). job_values j ∷ vs) (taken_rows n js)
 
 pub shows_ended_first : (name : List ℕ) (n : ℕ) (old : State) (w : World) → IsSound w → Holds (content_of w) old → ShowsJobs select_ended_first_text (Words name ∷ number n ∷ []) old (visible name Completed (Some n) (rows w))
 unfolding is_ended_row ended_of

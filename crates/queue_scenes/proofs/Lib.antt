@@ -10,6 +10,7 @@ pub mod Whole
 pub mod Lists
 pub mod Counting
 pub mod Ended
+pub mod Ranked
 pub mod Known
 pub mod Told
 pub mod Picked

@@ -1,5 +1,5 @@
 -- The jobs that SELECTs of all columns show.
-use Rattle.std.proofs.Common.{◌≡◌, inl, inr, ℕ, ◌<◌, List, [], ◌∷◌, map, filter, Bool, true, false, ◌&&◌, ◌==◌, Some, refl, ap, subst, ◌∙◌, arith, bytes_eq}
+use Rattle.std.proofs.Common.{◌≡◌, inl, inr, ℕ, zero, suc, ◌<◌, List, [], ◌∷◌, map, filter, take, Bool, true, false, ◌&&◌, ◌==◌, Some, refl, ap, subst, ◌∙◌, arith, bytes_eq}
 use Rattle.std.specs.List.{AllByRecursion as Each}
 use Rattle.std.specs.List.Sorted.{IsPermutation}
 use Rattle.std.proofs.lemmas.Bool.{cases_Bool, eqb-true, eq-eqb, ne_eqb, or_parts}
@@ -19,7 +19,7 @@ use Rattle.queue_tables.specs.Values.{number, job_values, job_view}
 use Rattle.queue_tables.proofs.Entries.{rows_in, found_rows, distinct_of}
 use Rattle.queue_tables.proofs.JobPut.{reads_job_at}
 use Rattle.queue_tables.proofs.Statements.{select_job_text}
-use Rattle.queue_scenes.specs.Jobs.{AreRowsOf, ShowsJobs}
+use Rattle.queue_scenes.specs.Jobs.{AreRowsOf, ShowsJobs, own_live}
 use Rattle.queue_scenes.proofs.Lookup.{rows_passing}
 use Rattle.queue_scenes.proofs.Numbers.{AreRising, rising, rising_filter, numbers_ascend, number_key}
 use Rattle.queue_scenes.proofs.Ordered.{shows_in_order}
@@ -74,10 +74,15 @@ pub same_rows : (vs : List Row) → map (λ (v : Row). v) vs ≡ vs
 same_rows [] = refl
 same_rows (v ∷ vs) = ap (λ (ws : List Row). v ∷ ws) (same_rows vs)
 
-kept : (q : Row → Bool) (p : Job → Bool) → ((j : Job) → q (job_values j) ≡ p j) → (js : List Job) → IsPermutation (filter q (map job_values js)) (map job_values (filter p js))
+pub taken_rows : (n : ℕ) (js : List Job) → take n (map job_values js) ≡ map job_values (take n js)
+taken_rows zero js = refl
+taken_rows (suc n) [] = refl
+taken_rows (suc n) (j ∷ js) = ap (λ (vs : List Row). job_values j ∷ vs) (taken_rows n js)
+
+pub kept : (q : Row → Bool) (p : Job → Bool) → ((j : Job) → q (job_values j) ≡ p j) → (js : List Job) → IsPermutation (filter q (map job_values js)) (map job_values (filter p js))
 kept q p same js = subst (λ (vs : List Row). IsPermutation (filter q (map job_values js)) vs) (rows_passing job_values q p same js) (IsPermutation-refl (filter q (map job_values js)))
 
-pub shows_own_live : (name : List ℕ) (old : State) (w : World) → IsSound w → Holds (content_of w) old → ShowsJobs select_own_live_text (Words name ∷ []) old (filter (λ (j : Job). bytes_eq j.owner name && is_live j) (rows w))
+pub shows_own_live : (name : List ℕ) (old : State) (w : World) → IsSound w → Holds (content_of w) old → ShowsJobs select_own_live_text (Words name ∷ []) old (own_live name (rows w))
 unfolding is_own_live_row
 shows_own_live name old w sound has shown_rows h =
     let p : Job → Bool = λ j. bytes_eq j.owner name && is_live j in

@@ -2,7 +2,8 @@
 use Rattle.std.proofs.Common.{◌≡◌, ℕ, pos, List, [], ◌∷◌, codes, true, false, refl}
 use Rattle.sqlite.specs.declared.types.Value.TheVariants.{Int}
 use Rattle.sqlite.specs.Term.{Term, lit, col, op2}
-use Rattle.sqlite_sql.specs.declared.ops.BinaryOp.TheVariants.{Compare}
+use Rattle.sqlite_sql.specs.declared.ops.BinaryOp.TheVariants.{Arith, Compare}
+use Rattle.sqlite_sql.specs.declared.ops.ArithOp.TheVariants.{Add}
 use Rattle.sqlite_sql.specs.declared.ops.CompareOp.TheVariants.{Eq, Lt, Gt}
 use Rattle.sqlite.specs.Collation.TheVariants.{Binary}
 use Rattle.sqlite_value.specs.Keys.{ascending as plain_key}
@@ -349,6 +350,78 @@ select_own_live_query = refl
 pub select_own_live_unlisted : reads_listing book_schema select_own_live_text ≡ false
 unfolding understood everything
 select_own_live_unlisted = refl
+
+-- ---- the first of an owner's jobs that the device has
+
+abbrev pub select_at_device_text : List ℕ
+select_at_device_text = codes "SELECT number, owner, name, copies, impressions, hold, incoming, phase, why, stopping, count, created, begun, ended FROM jobs WHERE owner = ?1 AND phase > 0 AND phase < 7 ORDER BY number LIMIT ?2"
+
+abbrev pub select_at_device_where : List Term
+select_at_device_where = op2 (Compare Eq Binary) (col 1 2) (col 0 0) ∷ op2 (Compare Gt Binary) (col 1 8) (lit (Int (pos 0))) ∷ op2 (Compare Lt Binary) (col 1 8) (lit (Int (pos 7))) ∷ []
+
+pub select_at_device_is : command_of (understood book_schema select_at_device_text) ≡ Select (record { lets = []; body = record (plain_query 1 select_at_device_where select_own_live_terms select_own_live_order) { limit = col 0 1 } }) select_own_live_names
+unfolding understood everything
+select_at_device_is = refl
+
+pub select_at_device_plain : IsPlain (understood book_schema select_at_device_text)
+unfolding understood everything
+select_at_device_plain = (refl, refl)
+
+pub select_at_device_query : IsQueryText select_at_device_text
+unfolding first everything
+select_at_device_query = refl
+
+pub select_at_device_unlisted : reads_listing book_schema select_at_device_text ≡ false
+unfolding understood everything
+select_at_device_unlisted = refl
+
+-- ---- the first of an owner's jobs that may start
+
+abbrev pub select_own_pending_text : List ℕ
+select_own_pending_text = codes "SELECT number, owner, name, copies, impressions, hold, incoming, phase, why, stopping, count, created, begun, ended FROM jobs WHERE owner = ?1 AND phase = 0 AND hold = 0 AND incoming = 0 ORDER BY number LIMIT ?2"
+
+abbrev pub select_own_pending_where : List Term
+select_own_pending_where = op2 (Compare Eq Binary) (col 1 2) (col 0 0) ∷ op2 (Compare Eq Binary) (col 1 8) (lit (Int (pos 0))) ∷ op2 (Compare Eq Binary) (col 1 6) (lit (Int (pos 0))) ∷ op2 (Compare Eq Binary) (col 1 7) (lit (Int (pos 0))) ∷ []
+
+pub select_own_pending_is : command_of (understood book_schema select_own_pending_text) ≡ Select (record { lets = []; body = record (plain_query 1 select_own_pending_where select_own_live_terms select_own_live_order) { limit = col 0 1 } }) select_own_live_names
+unfolding understood everything
+select_own_pending_is = refl
+
+pub select_own_pending_plain : IsPlain (understood book_schema select_own_pending_text)
+unfolding understood everything
+select_own_pending_plain = (refl, refl)
+
+pub select_own_pending_query : IsQueryText select_own_pending_text
+unfolding first everything
+select_own_pending_query = refl
+
+pub select_own_pending_unlisted : reads_listing book_schema select_own_pending_text ≡ false
+unfolding understood everything
+select_own_pending_unlisted = refl
+
+-- ---- the first of an owner's jobs that are held
+
+abbrev pub select_held_text : List ℕ
+select_held_text = codes "SELECT number, owner, name, copies, impressions, hold, incoming, phase, why, stopping, count, created, begun, ended FROM jobs WHERE owner = ?1 AND phase = 0 AND hold + incoming > 0 ORDER BY number LIMIT ?2"
+
+abbrev pub select_held_where : List Term
+select_held_where = op2 (Compare Eq Binary) (col 1 2) (col 0 0) ∷ op2 (Compare Eq Binary) (col 1 8) (lit (Int (pos 0))) ∷ op2 (Compare Gt Binary) (op2 (Arith Add) (col 1 6) (col 1 7)) (lit (Int (pos 0))) ∷ []
+
+pub select_held_is : command_of (understood book_schema select_held_text) ≡ Select (record { lets = []; body = record (plain_query 1 select_held_where select_own_live_terms select_own_live_order) { limit = col 0 1 } }) select_own_live_names
+unfolding understood everything
+select_held_is = refl
+
+pub select_held_plain : IsPlain (understood book_schema select_held_text)
+unfolding understood everything
+select_held_plain = (refl, refl)
+
+pub select_held_query : IsQueryText select_held_text
+unfolding first everything
+select_held_query = refl
+
+pub select_held_unlisted : reads_listing book_schema select_held_text ≡ false
+unfolding understood everything
+select_held_unlisted = refl
 
 -- ---- an owner's jobs that ended
 

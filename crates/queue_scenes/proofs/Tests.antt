@@ -1,12 +1,13 @@
 -- What WHERE asks of a job's row, by the job.
-use Rattle.std.proofs.Common.{◌≡◌, ℕ, pos, List, Bool, true, false, ◌&&◌, ◌==◌, Some, refl, bytes_eq, is_lt, is_gt}
+use Rattle.std.proofs.Common.{◌≡◌, ℕ, ◌+◌, pos, List, Bool, true, false, ◌&&◌, ◌||◌, ◌==◌, Some, refl, bytes_eq, is_lt, is_gt, nat_le}
 use Rattle.std.specs.Ordering.{int_cmp}
 use Rattle.std.proofs.lemmas.Map.Text.{is_eq-slice_cmp}
 use Rattle.sqlite.specs.declared.types.Value.TheVariants.{Int, Text as Words}
 use Rattle.sqlite.specs.Order.{Row, column}
 use Rattle.sqlite.specs.Ops.{binary, is_true, from_truth}
 use Rattle.sqlite.specs.Collation.TheVariants.{Binary}
-use Rattle.sqlite_sql.specs.declared.ops.BinaryOp.TheVariants.{Compare}
+use Rattle.sqlite_sql.specs.declared.ops.BinaryOp.TheVariants.{Arith, Compare}
+use Rattle.sqlite_sql.specs.declared.ops.ArithOp.TheVariants.{Add}
 use Rattle.sqlite_sql.specs.declared.ops.CompareOp.TheVariants.{Lt, Eq, Gt}
 use Rattle.sqlite_value.proofs.OrderLemmas.{value_cmp-Int, value_cmp-Text}
 use Rattle.queue_types.specs.declared.job.Job.{Job}
@@ -79,6 +80,56 @@ pending_by_numbers (Canceled why) h i = refl
 pending_by_numbers Aborted h i = refl
 pending_by_numbers Completed h i = refl
 
+-- the states of one rank
+abbrev pub is_between : ℕ → ℕ → Job → Bool
+is_between first last j = nat_le first (state j) && nat_le (state j) last
+
+at_device_by_number : (p : Phase) (h i : Bool) → (is_gt (int_cmp (pos (phase_number p)) (pos 0)) && is_lt (int_cmp (pos (phase_number p)) (pos 7))) ≡ (nat_le 5 (state_in p h i) && nat_le (state_in p h i) 6)
+at_device_by_number Waiting true i = refl
+at_device_by_number Waiting false true = refl
+at_device_by_number Waiting false false = refl
+at_device_by_number Running h i = refl
+at_device_by_number Stopped h i = refl
+at_device_by_number (Canceled why) h i = refl
+at_device_by_number Aborted h i = refl
+at_device_by_number Completed h i = refl
+
+third_by_number : (p : Phase) (h i : Bool) → (state_in p h i == 3) ≡ (nat_le 3 (state_in p h i) && nat_le (state_in p h i) 3)
+third_by_number Waiting true i = refl
+third_by_number Waiting false true = refl
+third_by_number Waiting false false = refl
+third_by_number Running h i = refl
+third_by_number Stopped h i = refl
+third_by_number (Canceled why) h i = refl
+third_by_number Aborted h i = refl
+third_by_number Completed h i = refl
+
+flags_added : (h i : Bool) → binary (Arith Add) (Int (pos (flag_number h))) (Int (pos (flag_number i))) ≡ Int (pos (flag_number h + flag_number i))
+unfolding binary
+flags_added true true = refl
+flags_added true false = refl
+flags_added false true = refl
+flags_added false false = refl
+
+either_by_number : (h i : Bool) → is_gt (int_cmp (pos (flag_number h + flag_number i)) (pos 0)) ≡ (h || i)
+either_by_number true true = refl
+either_by_number true false = refl
+either_by_number false true = refl
+either_by_number false false = refl
+
+either_flag : (h i : Bool) → is_true (binary (Compare Gt Binary) (binary (Arith Add) (Int (pos (flag_number h))) (Int (pos (flag_number i)))) (Int (pos 0))) ≡ (h || i)
+either_flag h i = rw (flags_added h i, greater (flag_number h + flag_number i) 0) (either_by_number h i)
+
+held_by_numbers : (p : Phase) (h i : Bool) → ((phase_number p == 0) && (h || i)) ≡ (nat_le 4 (state_in p h i) && nat_le (state_in p h i) 4)
+held_by_numbers Waiting true i = refl
+held_by_numbers Waiting false true = refl
+held_by_numbers Waiting false false = refl
+held_by_numbers Running h i = refl
+held_by_numbers Stopped h i = refl
+held_by_numbers (Canceled why) h i = refl
+held_by_numbers Aborted h i = refl
+held_by_numbers Completed h i = refl
+
 -- ---- WHERE, on what the row shows
 
 -- phase = 1
@@ -120,3 +171,27 @@ is_pending_row v = is_true (binary (Compare Eq Binary) (column v 7) (Int (pos 0)
 pub pending-row : (j : Job) → is_pending_row (job_values j) ≡ (state j == 3)
 unfolding is_pending_row
 pending-row j = rw (equals (phase_number j.phase) 0, equals (flag_number j.hold) 0, equals (flag_number j.incoming) 0, and_true _) (pending_by_numbers j.phase j.hold j.incoming)
+
+-- owner = ?1 AND phase > 0 AND phase < 7
+unfoldable pub is_at_device_row : List ℕ → Row → Bool
+is_at_device_row name v = is_true (binary (Compare Eq Binary) (column v 1) (Words name)) && (is_true (binary (Compare Gt Binary) (column v 7) (Int (pos 0))) && (is_true (binary (Compare Lt Binary) (column v 7) (Int (pos 7))) && true))
+
+pub at_device-row : (name : List ℕ) (j : Job) → is_at_device_row name (job_values j) ≡ (bytes_eq j.owner name && is_between 5 6 j)
+unfolding is_at_device_row
+at_device-row name j = rw (names j.owner name, greater (phase_number j.phase) 0, less (phase_number j.phase) 7, and_true _, at_device_by_number j.phase j.hold j.incoming) refl
+
+-- owner = ?1 AND phase = 0 AND hold = 0 AND incoming = 0
+unfoldable pub is_own_pending_row : List ℕ → Row → Bool
+is_own_pending_row name v = is_true (binary (Compare Eq Binary) (column v 1) (Words name)) && is_pending_row v
+
+pub own_pending-row : (name : List ℕ) (j : Job) → is_own_pending_row name (job_values j) ≡ (bytes_eq j.owner name && is_between 3 3 j)
+unfolding is_own_pending_row
+own_pending-row name j = rw (names j.owner name, pending-row j, third_by_number j.phase j.hold j.incoming) refl
+
+-- owner = ?1 AND phase = 0 AND hold + incoming > 0
+unfoldable pub is_held_row : List ℕ → Row → Bool
+is_held_row name v = is_true (binary (Compare Eq Binary) (column v 1) (Words name)) && (is_true (binary (Compare Eq Binary) (column v 7) (Int (pos 0))) && (is_true (binary (Compare Gt Binary) (binary (Arith Add) (column v 5) (column v 6)) (Int (pos 0))) && true))
+
+pub held-row : (name : List ℕ) (j : Job) → is_held_row name (job_values j) ≡ (bytes_eq j.owner name && is_between 4 4 j)
+unfolding is_held_row
+held-row name j = rw (names j.owner name, equals (phase_number j.phase) 0, either_flag j.hold j.incoming, and_true _, held_by_numbers j.phase j.hold j.incoming) refl

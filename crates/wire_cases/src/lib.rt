@@ -1,4 +1,4 @@
-//! Worked bytes of messages. It has tests alone.
+//! Worked bytes of messages, of the device's queue and of a statement. It has tests alone.
 #![tactic(auto)]
 
 #[cfg(test)]

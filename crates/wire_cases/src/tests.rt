@@ -1,3 +1,4 @@
-//! Messages by their bytes.
+//! Messages by their bytes, and texts of great numbers.
 
+mod great_numbers;
 mod wire_bytes;

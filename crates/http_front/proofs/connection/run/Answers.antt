@@ -48,12 +48,12 @@ returns-in-Ok-Ended-clause-served g c = λ h w st set.
       t.0,
       t.1,
       subst (λ (z : End). IsServed c.args.now w t.0 (left c.args.buffer.now (g.R.Read.remaining c.args.reader.now)) (g.W.Write.contents c.args.writer.now) (g.W.Write.contents c.turn.new.writer)
-          (record { acted = c.turns.acted; faults = c.mark-faults-in-Ok-Ended.result; end = z })) (sym c.end.ensures)
+          (record { acted = c.turns.acted; faults = c.mark.result; end = z })) (sym c.end.ensures)
           (served_ended c.turns.k c.args.now w r.0 t.0
           (left c.args.buffer.now (g.R.Read.remaining c.args.reader.now)) (left c.turns.buffer (g.R.Read.remaining c.turns.reader)) (left c.turn.new.buffer (g.R.Read.remaining c.turn.new.reader))
           (g.W.Write.contents c.args.writer.now) (g.W.Write.contents c.turns.writer) (g.W.Write.contents c.turn.new.writer)
-          c.turns.acted c.turns.faults c.mark-faults-in-Ok-Ended.result c.in-Ok-Ended.finish c.turns.invariant.few r.2 t.2
-          (c.mark-faults-in-Ok-Ended.ensures.exact ∙ ap (λ b. c.turns.faults + (if b then 2 ^ c.turns.k else 0)) c.is_unavailable.ensures)),
+          c.turns.acted c.turns.faults c.mark.result c.in-Ok-Ended.finish c.turns.invariant.few r.2 t.2
+          (c.mark.ensures.exact ∙ ap (λ b. c.turns.faults + (if b then 2 ^ c.turns.k else 0)) c.is_unavailable.ensures)),
     )
 
 pub returns-in-Err-clause-broken : goal.returns-in-Err-clause-broken
@@ -65,8 +65,8 @@ returns-in-Err-clause-broken g c = λ h w st set.
       stopped_at c.turns.k c.args.now w r.0 t.0
           (left c.args.buffer.now (g.R.Read.remaining c.args.reader.now)) (left c.turns.buffer (g.R.Read.remaining c.turns.reader))
           (g.W.Write.contents c.args.writer.now) (g.W.Write.contents c.turns.writer) (g.W.Write.contents c.turn.new.writer)
-          c.turns.acted c.turns.faults c.from-acted-in-Err.result c.mark-faults-in-Err.result c.in-Err.stopped.acted c.in-Err.stopped.is_fault
-          c.turns.invariant.few r.2 t.2 (search rules) c.mark-faults-in-Err.ensures.exact,
+          c.turns.acted c.turns.faults c.from.result c.mark-in-Err.result c.in-Err.stopped.acted c.in-Err.stopped.is_fault
+          c.turns.invariant.few r.2 t.2 (search rules) c.mark-in-Err.ensures.exact,
     )
 
 pub returns-then-closes-clause-worked : goal.returns-then-closes-clause-worked

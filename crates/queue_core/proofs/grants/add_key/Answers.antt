@@ -1,17 +1,42 @@
-use Rattle.std.proofs.Common.{ℕ, ap, ◌∙◌, cond, ◌&&◌, List}
-use Rattle.std.specs.Prelude.{Some, bytes_eq}
+use Rattle.std.proofs.Common.{◌≡◌, ap, sym, ◌∙◌, cond, ◌&&◌, List, ℕ, Option}
+use Rattle.std.specs.Prelude.{Some, bytes_eq, find, option_map}
 use Rattle.std.specs.BTreeMap.{get}
 use Rattle.std.specs.Ordering.{is_eq, nat_cmp}
 use Rattle.std.specs.Cmp.Lexicographic.{slice_cmp}
 use Rattle.std.proofs.lemmas.Map.Text.{is_eq-slice_cmp}
-use Rattle.queue_core.specs.Tally.{key_cmp}
-use Rattle.queue_core.proofs.GrantLemmas.{both_equal}
+use Rattle.queue_core.specs.Grants.{row_under}
+use Rattle.queue_core.specs.Tally.{is_key_of, key_cmp}
+use Rattle.queue_types.specs.declared.event.GrantRow.{GrantRow}
+use Rattle.queue_core.proofs.GrantLemmas.{both_equal, no_pages, pages_again, pages_push}
 use Rattle.queue_core.proofs.grants.add_key.Goals as goal
 
-pub returns : goal.returns
-returns c = λ q.
-    c.in_ok-insert.ensures.updates.0 q
-    ∙ ap (λ t. cond t (Some c.args.r.now.pages) (get key_cmp c.args.pages.now q))
+pub returns-clause-before : goal.returns-clause-before
+returns-clause-before c rows are =
+    c.in_ok-before.ensures.old
+    ∙ are (record { batch = c.as_str.result; account = c.as_str-2.result })
+    ∙ ap (λ (b : List ℕ). option_map (λ (g : GrantRow). g.pages) (find (λ (g : GrantRow). bytes_eq g.batch b && bytes_eq g.account c.as_str-2.result.now) rows)) c.as_str.ensures
+    ∙ ap (λ (a : List ℕ). option_map (λ (g : GrantRow). g.pages) (find (λ (g : GrantRow). bytes_eq g.batch c.args.r.now.batch && bytes_eq g.account a) rows)) c.as_str-2.ensures
+
+pub returns-clause-new : goal.returns-clause-new
+returns-clause-new c rows are none q =
+    let r = c.args.r.now in
+    let under : option_map (λ (g : GrantRow). g.pages) (row_under r rows) ≡ c.in_ok-before.before = sym (returns-clause-before c rows are) in
+    c.in_ok-before.ensures.updates.0 q
+    ∙ ap (λ t. cond t (Some r.pages) (get key_cmp c.args.pages.now q))
     (both_equal (slice_cmp nat_cmp c.as_str.result.now q.batch.now) (slice_cmp nat_cmp c.as_str-2.result.now q.account.now)
     ∙ ap (λ b. b && is_eq (slice_cmp nat_cmp c.as_str-2.result.now q.account.now)) (is_eq-slice_cmp c.as_str.result.now q.batch.now ∙ ap (λ (t : List ℕ). bytes_eq t q.batch.now) c.as_str.ensures)
-    ∙ ap (λ b. bytes_eq c.args.r.now.batch q.batch.now && b) (is_eq-slice_cmp c.as_str-2.result.now q.account.now ∙ ap (λ (t : List ℕ). bytes_eq t q.account.now) c.as_str-2.ensures))
+    ∙ ap (λ b. bytes_eq r.batch q.batch.now && b) (is_eq-slice_cmp c.as_str-2.result.now q.account.now ∙ ap (λ (t : List ℕ). bytes_eq t q.account.now) c.as_str-2.ensures))
+    ∙ ap (λ (o : Option ℕ). cond (is_key_of r q) (Some r.pages) o) (are q)
+    ∙ pages_push rows r q (no_pages (row_under r rows) (under ∙ none))
+
+pub returns-clause-again : goal.returns-clause-again
+returns-clause-again c rows are there q =
+    let r = c.args.r.now in
+    let under : option_map (λ (g : GrantRow). g.pages) (row_under r rows) ≡ c.in_ok-before.before = sym (returns-clause-before c rows are) in
+    c.in_ok-before.ensures.updates.0 q
+    ∙ ap (λ t. cond t (Some r.pages) (get key_cmp c.args.pages.now q))
+    (both_equal (slice_cmp nat_cmp c.as_str.result.now q.batch.now) (slice_cmp nat_cmp c.as_str-2.result.now q.account.now)
+    ∙ ap (λ b. b && is_eq (slice_cmp nat_cmp c.as_str-2.result.now q.account.now)) (is_eq-slice_cmp c.as_str.result.now q.batch.now ∙ ap (λ (t : List ℕ). bytes_eq t q.batch.now) c.as_str.ensures)
+    ∙ ap (λ b. bytes_eq r.batch q.batch.now && b) (is_eq-slice_cmp c.as_str-2.result.now q.account.now ∙ ap (λ (t : List ℕ). bytes_eq t q.account.now) c.as_str-2.ensures))
+    ∙ ap (λ (o : Option ℕ). cond (is_key_of r q) (Some r.pages) o) (are q)
+    ∙ pages_again rows r q (under ∙ there)

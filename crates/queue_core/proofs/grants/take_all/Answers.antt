@@ -1,4 +1,4 @@
-use Rattle.std.proofs.Common.{◌≡◌, sym, ◌∙◌, ◌+◌, arith}
+use Rattle.std.proofs.Common.{sym, ◌∙◌, ◌+◌, arith}
 use Rattle.queue_core.proofs.GrantLemmas.{ends_at}
 use Rattle.queue_core.proofs.grants.take_all.Goals as goal
 

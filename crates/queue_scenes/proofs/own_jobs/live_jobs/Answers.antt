@@ -1,8 +1,9 @@
-use Rattle.std.proofs.Common.{◌&&◌, bytes_eq, filter}
+use Rattle.std.proofs.Common.{◌&&◌, bytes_eq}
 use Rattle.sqlite.specs.Held.{state}
 use Rattle.queue_types.specs.Job.{is_live}
 use Rattle.queue_core.specs.World.{rows}
 use Rattle.queue_types.specs.declared.job.Job.{Job}
+use Rattle.queue_scenes.specs.Jobs.{own_live}
 use Rattle.queue_tables.proofs.Ending.{if_ok}
 use Rattle.queue_scenes.proofs.Lists.{filtered_rows, shows_own_live}
 use Rattle.queue_scenes.proofs.Statements.{select_own_live_query}
@@ -15,5 +16,5 @@ pub returns-clause-found : goal.returns-clause-found
 returns-clause-found g c clean =
     if_ok c.select_jobs.result _ _ (λ v it w sound has.
     let mine = λ (j : Job). bytes_eq j.owner c.args.owner.now && is_live j in
-    it w (filter mine (rows w)) sound has (filtered_rows w sound mine) (shows_own_live c.args.owner.now (state g.S.Store c.args.conn.now) w sound has))
+    it w (own_live c.args.owner.now (rows w)) sound has (filtered_rows w sound mine) (shows_own_live c.args.owner.now (state g.S.Store c.args.conn.now) w sound has))
     (rw (c.params-to_sql.ensures) at (c.select_jobs.ensures.found clean))
