@@ -1,5 +1,5 @@
 -- The exit status of a program whose words are read.
-use Rattle.std.proofs.Common.{◌≡◌, ◌≢◌, ◌≤◌, ℕ, List, Option, Some, None, Result, Ok, Err, IfOk, IfErr, IsSomeAnd, subst, arith}
+use Rattle.std.proofs.Common.{◌≡◌, ◌≢◌, ◌≤◌, ℕ, List, Option, Some, None, Result, Ok, Err, IfOk, IfErr, IsOk, OnOk, IsSomeAnd, subst, arith, true, false}
 use Rattle.clap.specs.Kinds.{IsAmong, Kinds}
 use Rattle.clap.specs.Walk.{Row, Text}
 use Rattle.clap.specs.declared.error.kind.ErrorKind.{ErrorKind}
@@ -17,6 +17,15 @@ may_serve (Import words) (Some met) named = tt
 may_serve (Statement words) (Some met) named = tt
 may_serve (Serve words) (Some met) named = named.1.timeout_fits.0
 may_serve Replay (Some met) named = tt
+
+-- what holds where a call was done
+pub where_ok : {A E X : Type 0} (r : Result A E) → IsOk r → OnOk r X → X
+where_ok (Ok a) ok x = x
+where_ok (Err e) ok x = absurd (let no : false ≡ true = ok in cc)
+
+pub if_ok : {A E : Type 0} (r : Result A E) (P Q : A → Type 0) → IfOk r P → ((a : A) → P a → Q a) → IfOk r Q
+if_ok (Ok a) P Q p then_q = then_q a p
+if_ok (Err e) P Q p then_q = tt
 
 -- a fault of wrong words asks for no text
 pub asks_nothing : (faults : Kinds) (kind : ErrorKind) → IsAmong kind faults → AreWrong faults → (kind ≢ DisplayHelp) × (kind ≢ DisplayVersion)

@@ -12,7 +12,7 @@ use Rattle.queue_core.specs.declared.book.BookFault.TheVariants as book
 use Rattle.queue_types.specs.declared.settings.SettingFault.{SettingFault}
 use Rattle.queue_types.specs.declared.settings.SettingFault.TheVariants as setting
 use Rattle.queue_tables.specs.Content.{HasContent, content_of}
-use Rattle.queue_store.specs.Kept.{HasWorld, IsHonest, StandsFor, shown_by}
+use Rattle.queue_store.specs.Kept.{HasWorld, StandsFor, shown_by}
 use Rattle.queue_store.specs.declared.book.TableBook.{TableBook}
 use Rattle.command_ends.specs.Faults.{IsOfStream, fault_of_book, fault_of_setting}
 use Rattle.commands.specs.Store.{IsKeptIn, settings_of}

@@ -14,7 +14,7 @@ ghost use Rattle.queue_store.specs.Kept.{IsHonest, StandsFor};
 ghost use Rattle.queue_store.specs.Opened.{FitsFile};
 ghost use Rattle.commands.specs.Store.{IsKeptIn};
 
-use crate::store::{FileBook, open_store};
+use crate::store::{FileBook, left, open_store};
 use command_ends::Fault;
 use command_words::{Import, Statement};
 use office::{import_file, print_statement};
@@ -65,8 +65,24 @@ pub fn import<S: Start, W: Write>(
         × IsTaken now w u bytes n × StandsFor over_files b u × Appends (W.contents output.old) (W.contents output.new) (import_line n)) }
 {
     let mut book = open_store(rt, words.store, start)?;
-    import_into(rt, words.file, output, &mut book)?;
-    Ok(book)
+    let imported = import_into(rt, words.file, output, &mut book);
+    left(book, imported)
+}
+
+/// Prints the statement of an account of a book, and leaves the book as it was.
+fn print_from<S: Alter, W: Write>(
+    rt: &HostRuntime,
+    account: &str,
+    output: &mut W,
+    book: &mut TableBook<S>,
+) -> Result<(), Fault>
+    ensures began { IsHonest S.Store book.new → IsHonest S.Store book.old }
+    ensures kept { (w : World) → StandsFor S.Store book.old w → StandsFor S.Store book.new w }
+    ensures printed { IsHonest S.Store book.new → OnOk result ((w : World) → StandsFor S.Store book.old w
+        → (s : Sheet) × (sheet_of w account.now ≡ Some s) × Appends (W.contents output.old) (W.contents output.new) (sheet_text s)) }
+{
+    print_statement(rt.alloc(), output, book, account)?;
+    Ok(())
 }
 
 /// Prints the statement of an account of the store, and leaves the store as it was.
@@ -81,6 +97,6 @@ pub fn statement<S: Start, W: Write>(
         × Appends (W.contents output.old) (W.contents output.new) (sheet_text s)) }
 {
     let mut book = open_store(rt, words.store, start)?;
-    print_statement(rt.alloc(), output, &mut book, words.account)?;
-    Ok(book)
+    let printed = print_from(rt, words.account, output, &mut book);
+    left(book, printed)
 }

@@ -10,7 +10,7 @@ ghost use Rattle.queue_store.specs.Kept.{IsHonest, StandsFor};
 ghost use Rattle.queue_store.specs.Opened.{FitsFile};
 ghost use Rattle.commands.specs.Store.{IsKeptIn};
 
-use crate::store::{FileBook, open_store};
+use crate::store::{FileBook, left, open_store};
 use command_ends::Fault;
 use command_words::Serve;
 use print_server::{listen, serve_connections};
@@ -62,6 +62,6 @@ pub fn serve<S: Start, W: Write>(
         × Appends (W.contents output.old) (W.contents output.new) (listening_line words.entry.port ++ served_lines counts)) }
 {
     let mut book = open_store(rt, words.store, start)?;
-    serve_book(rt, words, output, &mut book)?;
-    Ok(book)
+    let served = serve_book(rt, words, output, &mut book);
+    left(book, served)
 }

@@ -1,5 +1,5 @@
 //! The store at a path: a new one, or one that is there.
-ghost use Rattle.std.specs.Prelude.{◌≡◌, ◌≢◌, ℤ, IfErr, IfOk};
+ghost use Rattle.std.specs.Prelude.{◌≡◌, ◌≢◌, ℤ, IfErr, IfOk, IsOk};
 ghost use Rattle.std.specs.Option.{IfSome};
 ghost use Rattle.sqlite.specs.Files.{over_files};
 ghost use Rattle.sqlite_wal.specs.Files.{image_at};
@@ -29,6 +29,19 @@ pub type FileBook<S> = TableBook<FileStore<FileFrom<S>>>;
 
 /// A store at a path, open.
 type FileConnection<S> = Connection<FileStore<FileFrom<S>>>;
+
+/// The book that a command was done over. It is let go where the command was not done.
+pub(crate) fn left<S: Start>(
+    book: FileBook<S>,
+    done: Result<(), Fault>,
+) -> Result<FileBook<S>, Fault>
+    ensures { IfOk result (λ b. (b ≡ book) × IsOk done) }
+{
+    match done {
+        Ok(()) => Ok(book),
+        Err(fault) => Err(fault),
+    }
+}
 
 // ---- what is at a path
 
