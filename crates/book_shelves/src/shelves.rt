@@ -30,18 +30,6 @@ impl Shelf for InLists {
     }
 }
 
-/// A new book in the tables of a connection, where it was opened.
-fn new_tables<S: Alter + Drop>(
-    alloc: Global,
-    opened: Result<Connection<S>, StepFault>,
-    settings: Settings,
-) -> Result<TableBook<S>, StepFault> {
-    match TableBook::create(alloc, opened?, settings) {
-        Ok(book) => Ok(book),
-        Err((fault, _conn)) => Err(StepFault::Book(fault)),
-    }
-}
-
 /// The book that the tables of a connection hold.
 pub fn adopt<S: Alter + Drop>(
     alloc: Global,
@@ -53,17 +41,14 @@ pub fn adopt<S: Alter + Drop>(
     }
 }
 
-/// A connection to a new store in memory.
-fn open_in_memory(alloc: Global) -> Result<Connection<MemStore>, StepFault> {
-    Ok(Connection::open_in_memory(alloc)?)
-}
-
 /// A book in tables in memory.
 pub fn tables_in_memory(
     alloc: Global,
     settings: Settings,
 ) -> Result<TableBook<MemStore>, StepFault> {
-    new_tables(alloc, open_in_memory(alloc), settings)
+    let conn = Connection::open_in_memory(alloc)?;
+    let book = TableBook::create_or_drop(alloc, conn, settings)?;
+    Ok(book)
 }
 
 /// Books in tables in memory.
@@ -112,16 +97,6 @@ pub struct InFile<'a> {
     pub(crate) folder: &'a str,
 }
 
-/// A book that was opened, where it could be.
-fn found<B: Drop>(opened: Result<B, BookFault>) -> Result<B, StepFault> {
-    opened.map_err(StepFault::Book)
-}
-
-/// The book that the file at a path holds.
-fn book_at(rt: &HostRuntime, path: &str) -> Result<TableBook<TableFile>, BookFault> {
-    TableBook::open_from(rt, path, Unknown)
-}
-
 /// The store of tables in a file.
 type TableFile = FileStore<FileFrom<Unknown>>;
 
@@ -164,12 +139,15 @@ impl Shelf for InFile<'_> {
     }
 
     fn new_book(&self, alloc: Global, settings: Settings) -> Result<Self::Book, StepFault> {
-        new_tables(alloc, self.open_new(alloc), settings)
+        let conn = self.open_new(alloc)?;
+        let book = TableBook::create_in_files(alloc, conn, settings)?;
+        Ok(book)
     }
 
     fn next_book(&self, alloc: Global, book: Self::Book) -> Result<Self::Book, StepFault> {
-        drop(book);
+        book.let_go();
         let path = self.path(alloc)?;
-        found(book_at(self.rt, path.as_str()))
+        let book = TableBook::open_from(self.rt, path.as_str(), Unknown)?;
+        Ok(book)
     }
 }

@@ -16,7 +16,7 @@ use std::rt::HostRuntime;
 
 /// Closes the store of a command.
 fn close(done: Result<FileBook<Unknown>, Fault>) -> Result<(), Fault> {
-    let _conn = done?.close();
+    done?.let_go();
     Ok(())
 }
 

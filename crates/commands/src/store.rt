@@ -39,7 +39,10 @@ pub(crate) fn left<S: Start>(
 {
     match done {
         Ok(()) => Ok(book),
-        Err(fault) => Err(fault),
+        Err(fault) => {
+            book.let_go();
+            Err(fault)
+        }
     }
 }
 
@@ -149,10 +152,8 @@ pub fn make_store<S: Start>(
 {
     let settings = new_settings(rt.alloc(), rt, words)?;
     let conn = open_new(rt, words.store, start)?;
-    match TableBook::create(rt.alloc(), conn, settings) {
-        Ok(book) => Ok(book),
-        Err((fault, _conn)) => Err(Fault::from(fault)),
-    }
+    let book = TableBook::create_in_files(rt.alloc(), conn, settings)?;
+    Ok(book)
 }
 
 // ---- a store that is there

@@ -38,9 +38,6 @@ impl DeskBook for MemoryBook {
 
     fn empty(alloc: Global, settings: Settings) -> Result<MemoryBook, Mismatch> {
         let conn = Connection::open_in_memory(alloc)?;
-        match TableBook::create(alloc, conn, settings) {
-            Ok(book) => Ok(book),
-            Err((fault, _conn)) => Err(no_book("tables", fault)),
-        }
+        TableBook::create_or_drop(alloc, conn, settings).map_err(|fault| no_book("tables", fault))
     }
 }

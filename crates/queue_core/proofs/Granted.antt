@@ -4,7 +4,9 @@ use Rattle.std.specs.Prelude.{Option, Some, None, IfSome, IsSome, is_some, bytes
 use Rattle.std.specs.List.{list_any, AllByRecursion as Each}
 use Rattle.std.specs.FinMap.{FinMap, get, insert, entries, get-insert, contains_key-keys}
 use Rattle.std.specs.Option.{option_or}
-use Rattle.std.specs.Ordering.{is_eq, eq_by_cmp}
+use Rattle.std.specs.Ordering.{is_eq, eq_by_cmp, ordering_then}
+use Rattle.std.specs.declared.cmp.Ordering.{Ordering}
+use Rattle.std.specs.declared.cmp.Ordering.TheVariants.{Less, Equal, Greater}
 use Rattle.std.proofs.lemmas.List.Folds.{find-append}
 use Rattle.std.specs.Cmp.Lexicographic.{nat_list_cmp_total}
 use Rattle.std.proofs.lemmas.Cmp.{nat_list_eq_equiv}
@@ -23,7 +25,7 @@ use Rattle.queue_types.specs.declared.event.KeptReport.{KeptReport}
 use Rattle.queue_types.specs.declared.job.Job.{Job}
 use Rattle.queue_types.specs.declared.job.Phase.{Phase}
 use Rattle.queue_types.specs.declared.job.Phase.TheVariants.{Waiting, Running, Stopped, Canceled, Aborted, Completed}
-use Rattle.queue_core.proofs.GrantLemmas.{both_equal, new_takes, pages_to-push}
+use Rattle.queue_core.proofs.GrantLemmas.{new_takes, pages_to-push}
 use Rattle.queue_core.proofs.Keep.{each-map}
 use Rattle.queue_core.proofs.Maps.{grant_total, is_grant_key, grant_key, own_grant_key, sum-insert}
 use Rattle.queue_core.proofs.Moves.{stays}
@@ -255,6 +257,12 @@ none_either (Some n) o e = absurd (cc)
 or_none : (o : Option GrantRow) → option_or o None ≡ o
 or_none None = refl
 or_none (Some g) = refl
+
+-- two comparisons in turn are equal where both are
+both_equal : (a b : Ordering) → is_eq (ordering_then a b) ≡ (is_eq a && is_eq b)
+both_equal Less b = refl
+both_equal Equal b = refl
+both_equal Greater b = refl
 
 same_test : (b a : List ℕ) (r : GrantRow) → is_grant_key (b, a) (r.batch, r.account) ≡ (bytes_eq r.batch b && bytes_eq r.account a)
 same_test b a r =

@@ -1,10 +1,7 @@
 -- What the maps say of the new rows of an account file.
 use Rattle.std.specs.Prelude.{◌≡◌, ◌≤◌, ◌+◌, ℕ, ⊤, length, ◌&&◌, List, [], ◌∷◌, ◌++◌, Bool, bytes_eq, find, option_map, unwrap_or}
 use Rattle.std.specs.Borrow.{Bor}
-use Rattle.std.specs.BTreeMap.{BTreeMap, get, get_by}
-use Rattle.std.specs.declared.cmp.Ordering.{Ordering}
-use Rattle.std.specs.Ordering.{nat_cmp, ordering_then}
-use Rattle.std.specs.Cmp.Lexicographic.{slice_cmp}
+use Rattle.std.specs.HashMap.{HashMap, get, get_by}
 use Rattle.queue_core.specs.Grants.{Row, repeated, refused_row, new_row, Taken, all_taken, none_taken, pages_to, free_after}
 use Rattle.queue_types.specs.declared.event.FreeRow.{FreeRow}
 use Rattle.queue_types.specs.declared.event.GrantRow.{GrantRow}
@@ -16,24 +13,24 @@ use Rattle.queue_core.specs.declared.grants.RowState.TheVariants.{Repeated, Refu
 use Rattle.queue_core.specs.declared.grants.Taken.{Taken as TakenRef}
 use Rattle.queue_core.specs.declared.grants.Taken.TheVariants.{All, Not}
 
--- by batch, then by account
-abbrev pub key_cmp : Key → Key → Ordering
-key_cmp a b = ordering_then (slice_cmp nat_cmp a.batch.now b.batch.now) (slice_cmp nat_cmp a.account.now b.account.now)
+-- the same batch and the same account
+abbrev pub is_same_key : Key → Key → Bool
+is_same_key a b = bytes_eq a.batch.now b.batch.now && bytes_eq a.account.now b.account.now
 
 -- the key of that row
 abbrev pub is_key_of : GrantRow → Key → Bool
 is_key_of r q = bytes_eq r.batch q.batch.now && bytes_eq r.account q.account.now
 
 -- the total of an account, 0 where there is none
-abbrev pub total_of : BTreeMap (Bor (List ℕ)) ℕ → List ℕ → ℕ
-total_of m a = unwrap_or (get_by (λ k. slice_cmp nat_cmp a k.now) m) 0
+abbrev pub total_of : {S : Type 0} → HashMap (Bor (List ℕ)) ℕ S → List ℕ → ℕ
+total_of m a = unwrap_or (get_by (λ k. bytes_eq a k.now) m) 0
 
 -- the pages under each batch and account are those of its row
-abbrev pub ArePages : BTreeMap Key ℕ → List GrantRow → Type 0
-ArePages m rows = (q : Key) → get key_cmp m q ≡ option_map (λ g. g.pages) (find (λ g. is_key_of g q) rows)
+abbrev pub ArePages : {S : Type 0} → HashMap Key ℕ S → List GrantRow → Type 0
+ArePages m rows = (q : Key) → get is_same_key m q ≡ option_map (λ g. g.pages) (find (λ g. is_key_of g q) rows)
 
 -- the total of each account is that of its rows
-abbrev pub AreTotals : BTreeMap (Bor (List ℕ)) ℕ → List GrantRow → Type 0
+abbrev pub AreTotals : {S : Type 0} → HashMap (Bor (List ℕ)) ℕ S → List GrantRow → Type 0
 AreTotals m rows = (a : List ℕ) → total_of m a ≡ pages_to a rows
 
 -- the maps say what the rows are

@@ -13,10 +13,10 @@ use queue_types::event::{
 };
 use queue_types::limits::MOST_GRANTED_PAGES;
 use std::alloc::{AllocError, Global};
-use std::collections::BTreeMap;
+use std::collections::HashMap;
 
 /// A batch and an account.
-#[derive(Clone, Copy, Debug, PartialEq, Eq, PartialOrd, Ord)]
+#[derive(Clone, Copy, PartialEq, Eq, Hash)]
 pub(crate) struct Key<'a> {
     batch: &'a str,
     account: &'a str,
@@ -24,7 +24,7 @@ pub(crate) struct Key<'a> {
 
 /// Puts a row's pages under its batch and account, and gives those that stood there.
 fn add_key<'a>(
-    pages: &mut BTreeMap<Key<'a>, u32>,
+    pages: &mut HashMap<Key<'a>, u32>,
     r: &'a GrantRow,
 ) -> Result<Option<u32>, AllocError>
     ensures before { IfOk result (λ o. (rows : List GrantRow) → ArePages pages.old rows → o ≡ option_map (λ g. g.pages) (row_under r.now rows)) }
@@ -41,7 +41,7 @@ fn add_key<'a>(
 
 /// Adds a row's pages to the total of its account, and gives the total then; none where that would be more than `most`.
 fn add_pages<'a>(
-    totals: &mut BTreeMap<&'a str, u32>,
+    totals: &mut HashMap<&'a str, u32>,
     r: &'a GrantRow,
     most: u32,
 ) -> Result<Option<u32>, AllocError>
@@ -64,8 +64,8 @@ fn add_pages<'a>(
 struct Tally<'a> {
     rows: Vec<GrantRow>,
     free: Vec<FreeRow>,
-    pages: BTreeMap<Key<'a>, u32>,
-    totals: BTreeMap<&'a str, u32>,
+    pages: HashMap<Key<'a>, u32>,
+    totals: HashMap<&'a str, u32>,
 }
 
 /// What becomes of a row after those new ones.
@@ -168,8 +168,8 @@ fn take_all(alloc: Global, rows: &[GrantRow], known: &[KnownGrant]) -> Result<Ta
     let mut t = Tally {
         rows: Vec::new(alloc),
         free: Vec::new(alloc),
-        pages: BTreeMap::new(alloc),
-        totals: BTreeMap::new(alloc),
+        pages: HashMap::new(alloc),
+        totals: HashMap::new(alloc),
     };
     let mut repeats = 0;
     let end = rows.len().min(known.len());

@@ -138,3 +138,19 @@ impl<S: Alter> TableBook<S> {
         conn
     }
 }
+
+impl<S: Alter + Drop> TableBook<S> {
+    /// As `create`, but a refusal lets the connection go.
+    pub fn create_or_drop(
+        alloc: Global,
+        conn: Connection<S>,
+        settings: Settings,
+    ) -> Result<TableBook<S>, BookFault>
+        ensures stands { IfOk result (λ b. StandsFor S.Store b (empty_queue settings)) }
+    {
+        match TableBook::create(alloc, conn, settings) {
+            Ok(book) => Ok(book),
+            Err((fault, _conn)) => Err(fault),
+        }
+    }
+}

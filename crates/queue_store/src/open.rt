@@ -1,18 +1,23 @@
 //! A book from a file.
 ghost use Rattle.std.specs.Prelude.{◌≡◌, codes, Err, IfOk};
-ghost use Rattle.sqlite.specs.Files.{HoldsDatabase, over_files};
+ghost use Rattle.sqlite.specs.Files.{HoldsDatabase, file_state, over_files};
+ghost use Rattle.sqlite.specs.State.{HasCleanDisk};
 ghost use Rattle.sqlite_trees.specs.Tree.{Trees};
 ghost use Rattle.sqlite_wal.specs.Files.{image_at};
+ghost use Rattle.queue_core.specs.World.{empty_queue};
+ghost use Rattle.queue_load.specs.Store.{FitsIn};
 ghost use Rattle.queue_core.specs.declared.book.BookFault.TheVariants.{Disk};
-ghost use Rattle.queue_store.specs.Kept.{IsHonest, StandsForOne, shown_by};
+ghost use Rattle.queue_store.specs.Kept.{IsHonest, StandsFor, StandsForOne, shown_by};
 ghost use Rattle.queue_store.specs.Opened.{FitsFile, open_fault};
 
 use crate::book::TableBook;
 use queue_core::book::BookFault;
+use queue_types::settings::Settings;
 use sqlite::{Connection, Error, ErrorCode};
 use sqlite_disk::Start;
 use sqlite_std_file::FileFrom;
 use sqlite_store::FileStore;
+use std::alloc::Global;
 use std::rt::HostRuntime;
 
 /// A file that was not opened.
@@ -24,6 +29,27 @@ fn fault_of_open(e: Error) -> BookFault
         Error::SqliteFailure(ErrorCode::NotADatabase) => BookFault::Damaged,
         Error::SqliteFailure(ErrorCode::DatabaseCorrupt) => BookFault::Damaged,
         _ => BookFault::Disk,
+    }
+}
+
+/// Lets the files of a connection go as they are, without reading or writing.
+fn let_files_go<S: Start>(_conn: Connection<FileStore<FileFrom<S>>>) {}
+
+/// As `TableBook::adopt`, but a refusal lets the files go.
+fn adopt_in_files<S: Start>(
+    alloc: Global,
+    conn: Connection<FileStore<FileFrom<S>>>,
+) -> Result<TableBook<FileStore<FileFrom<S>>>, BookFault>
+    ensures clean { IfOk result (λ b. IsHonest over_files b → HasCleanDisk (file_state conn)) }
+    ensures stands { FitsIn (file_state conn) → IfOk result (λ b. StandsForOne over_files b) }
+    ensures same { FitsIn (file_state conn) → IfOk result (λ b. IsHonest over_files b → (shown_by over_files b).now ≡ (file_state conn).now) }
+{
+    match TableBook::adopt(alloc, conn) {
+        Ok(book) => Ok(book),
+        Err((fault, conn)) => {
+            let_files_go(conn);
+            Err(fault)
+        }
     }
 }
 
@@ -40,11 +66,38 @@ impl<S: Start> TableBook<FileStore<FileFrom<S>>> {
         ensures memory { path.now ≡ codes ":memory:" → result ≡ Err Disk }
     {
         match Connection::open_from(rt, path, false, start) {
-            Ok(conn) => match TableBook::adopt(rt.alloc(), conn) {
-                Ok(book) => Ok(book),
-                Err((fault, _conn)) => Err(fault),
-            },
+            Ok(conn) => {
+                let book = adopt_in_files(rt.alloc(), conn)?;
+                Ok(book)
+            }
             Err((error, _left)) => Err(fault_of_open(error)),
         }
+    }
+
+    /// A new book with these settings in files that hold no tables. A refusal lets the files go.
+    pub fn create_in_files(
+        alloc: Global,
+        conn: Connection<FileStore<FileFrom<S>>>,
+        settings: Settings,
+    ) -> Result<TableBook<FileStore<FileFrom<S>>>, BookFault>
+        ensures { IfOk result (λ b. StandsFor over_files b (empty_queue settings)) }
+    {
+        match TableBook::create(alloc, conn, settings) {
+            Ok(book) => Ok(book),
+            Err((fault, conn)) => {
+                let_files_go(conn);
+                Err(fault)
+            }
+        }
+    }
+
+    /// Lets the files of the book go as they are, without reading or writing.
+    pub fn let_go(self) {
+        let TableBook {
+            alloc: _,
+            conn,
+            settings: _,
+        } = self;
+        let_files_go(conn);
     }
 }

@@ -1,3 +1,4 @@
+pub mod Text
 pub mod Uri
 pub mod Settings
 pub mod Job

@@ -34,8 +34,6 @@ fn empty_book(alloc: Global, settings: &Settings) -> Result<TableBook<MemStore>,
     ensures { IfOk result (λ b. StandsFor over_memory b (empty_queue settings.now)) }
 {
     let conn = Connection::open_in_memory(alloc)?;
-    match TableBook::create(alloc, conn, settings.try_clone()?) {
-        Ok(book) => Ok(book),
-        Err((fault, _conn)) => Err(Fault::from(fault)),
-    }
+    let book = TableBook::create_or_drop(alloc, conn, settings.try_clone()?)?;
+    Ok(book)
 }

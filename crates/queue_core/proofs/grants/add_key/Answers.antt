@@ -1,13 +1,10 @@
 use Rattle.std.proofs.Common.{◌≡◌, ap, sym, ◌∙◌, cond, ◌&&◌, List, ℕ, Option}
 use Rattle.std.specs.Prelude.{Some, bytes_eq, find, option_map}
-use Rattle.std.specs.BTreeMap.{get}
-use Rattle.std.specs.Ordering.{is_eq, nat_cmp}
-use Rattle.std.specs.Cmp.Lexicographic.{slice_cmp}
-use Rattle.std.proofs.lemmas.Map.Text.{is_eq-slice_cmp}
+use Rattle.std.specs.HashMap.{get}
 use Rattle.queue_core.specs.Grants.{row_under}
-use Rattle.queue_core.specs.Tally.{is_key_of, key_cmp}
+use Rattle.queue_core.specs.Tally.{is_key_of, is_same_key}
 use Rattle.queue_types.specs.declared.event.GrantRow.{GrantRow}
-use Rattle.queue_core.proofs.GrantLemmas.{both_equal, no_pages, pages_again, pages_push}
+use Rattle.queue_core.proofs.GrantLemmas.{no_pages, pages_again, pages_push}
 use Rattle.queue_core.proofs.grants.add_key.Goals as goal
 
 pub returns-clause-before : goal.returns-clause-before
@@ -22,10 +19,9 @@ returns-clause-new c rows are none q =
     let r = c.args.r.now in
     let under : option_map (λ (g : GrantRow). g.pages) (row_under r rows) ≡ c.in_ok-before.before = sym (returns-clause-before c rows are) in
     c.in_ok-before.ensures.updates.0 q
-    ∙ ap (λ t. cond t (Some r.pages) (get key_cmp c.args.pages.now q))
-    (both_equal (slice_cmp nat_cmp c.as_str.result.now q.batch.now) (slice_cmp nat_cmp c.as_str-2.result.now q.account.now)
-    ∙ ap (λ b. b && is_eq (slice_cmp nat_cmp c.as_str-2.result.now q.account.now)) (is_eq-slice_cmp c.as_str.result.now q.batch.now ∙ ap (λ (t : List ℕ). bytes_eq t q.batch.now) c.as_str.ensures)
-    ∙ ap (λ b. bytes_eq r.batch q.batch.now && b) (is_eq-slice_cmp c.as_str-2.result.now q.account.now ∙ ap (λ (t : List ℕ). bytes_eq t q.account.now) c.as_str-2.ensures))
+    ∙ ap (λ t. cond t (Some r.pages) (get is_same_key c.args.pages.now q))
+    (ap (λ (t : List ℕ). bytes_eq t q.batch.now && bytes_eq c.as_str-2.result.now q.account.now) c.as_str.ensures
+    ∙ ap (λ (t : List ℕ). bytes_eq r.batch q.batch.now && bytes_eq t q.account.now) c.as_str-2.ensures)
     ∙ ap (λ (o : Option ℕ). cond (is_key_of r q) (Some r.pages) o) (are q)
     ∙ pages_push rows r q (no_pages (row_under r rows) (under ∙ none))
 
@@ -34,9 +30,8 @@ returns-clause-again c rows are there q =
     let r = c.args.r.now in
     let under : option_map (λ (g : GrantRow). g.pages) (row_under r rows) ≡ c.in_ok-before.before = sym (returns-clause-before c rows are) in
     c.in_ok-before.ensures.updates.0 q
-    ∙ ap (λ t. cond t (Some r.pages) (get key_cmp c.args.pages.now q))
-    (both_equal (slice_cmp nat_cmp c.as_str.result.now q.batch.now) (slice_cmp nat_cmp c.as_str-2.result.now q.account.now)
-    ∙ ap (λ b. b && is_eq (slice_cmp nat_cmp c.as_str-2.result.now q.account.now)) (is_eq-slice_cmp c.as_str.result.now q.batch.now ∙ ap (λ (t : List ℕ). bytes_eq t q.batch.now) c.as_str.ensures)
-    ∙ ap (λ b. bytes_eq r.batch q.batch.now && b) (is_eq-slice_cmp c.as_str-2.result.now q.account.now ∙ ap (λ (t : List ℕ). bytes_eq t q.account.now) c.as_str-2.ensures))
+    ∙ ap (λ t. cond t (Some r.pages) (get is_same_key c.args.pages.now q))
+    (ap (λ (t : List ℕ). bytes_eq t q.batch.now && bytes_eq c.as_str-2.result.now q.account.now) c.as_str.ensures
+    ∙ ap (λ (t : List ℕ). bytes_eq r.batch q.batch.now && bytes_eq t q.account.now) c.as_str-2.ensures)
     ∙ ap (λ (o : Option ℕ). cond (is_key_of r q) (Some r.pages) o) (are q)
     ∙ pages_again rows r q (under ∙ there)
