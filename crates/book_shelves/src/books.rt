@@ -1,6 +1,6 @@
 //! All books of a test.
 
-use crate::shelves::{Adopted, InFile, InLists, InTables};
+use crate::shelves::{Adopted, BookFiles, InFile, InFolder, InLists, InTables};
 use book_desk::{RowFault, Step, take_row};
 use std::alloc::Global;
 use std::fs;
@@ -27,9 +27,9 @@ fn take_adopted(
 }
 
 /// Takes the first steps and then those of a row, over tables in a file.
-fn take_in_file(
+fn take_in_file<F: BookFiles>(
     alloc: Global,
-    shelf: &InFile<'_>,
+    shelf: &InFile<F>,
     row: usize,
     first: &[Step<'_>],
     steps: &[Step<'_>],
@@ -56,10 +56,12 @@ impl<'a> TestBooks<'a> {
     }
 
     /// Those in files.
-    pub fn in_file(&self) -> InFile<'a> {
+    pub fn in_file(&self) -> InFile<InFolder<'a>> {
         InFile {
-            rt: self.rt,
-            folder: self.folder,
+            files: InFolder {
+                rt: self.rt,
+                folder: self.folder,
+            },
         }
     }
 

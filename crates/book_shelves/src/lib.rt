@@ -6,4 +6,6 @@ mod books;
 mod shelves;
 
 pub use books::{TestBooks, take_in_memory};
-pub use shelves::{Adopted, InFile, InLists, InTables, adopt, tables_in_memory};
+pub use shelves::{
+    Adopted, BookFiles, InFile, InFolder, InLists, InTables, adopt, tables_in_memory,
+};

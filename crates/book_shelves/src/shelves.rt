@@ -6,6 +6,7 @@ use queue_core::book::BookFault;
 use queue_store::TableBook;
 use queue_types::settings::Settings;
 use sqlite::{Alter, Connection, MemStore};
+use sqlite_disk::Disk;
 use sqlite_std_file::{FileFrom, Unknown};
 use sqlite_store::FileStore;
 use std::alloc::{AllocError, Global};
@@ -89,20 +90,32 @@ impl Shelf for Adopted {
     }
 }
 
-/// Books in tables in a file of a folder that are let go, without being closed, and opened again before every step. A new
-/// one empties the folder.
+/// Where the files of a book lie.
+pub trait BookFiles {
+    /// One of the files.
+    type File: Disk + Drop;
+
+    /// A new book with these settings, in new files.
+    fn create(
+        &self,
+        alloc: Global,
+        settings: Settings,
+    ) -> Result<TableBook<FileStore<Self::File>>, StepFault>;
+
+    /// The book that the files hold.
+    fn open(&self, alloc: Global) -> Result<TableBook<FileStore<Self::File>>, StepFault>;
+}
+
+/// The files of a book in a folder, which has nothing else.
 #[derive(Drop)]
-pub struct InFile<'a> {
+pub struct InFolder<'a> {
     pub(crate) rt: &'a HostRuntime,
     pub(crate) folder: &'a str,
 }
 
-/// The store of tables in a file.
-type TableFile = FileStore<FileFrom<Unknown>>;
-
-impl InFile<'_> {
+impl InFolder<'_> {
     /// The folder, with nothing in it.
-    fn empty_folder(&self) -> Result<(), StepFault> {
+    fn empty(&self) -> Result<(), StepFault> {
         let _ = fs::remove_dir_all(self.rt, self.folder);
         match fs::create_dir(self.rt, self.folder) {
             Ok(()) => Ok(()),
@@ -110,44 +123,52 @@ impl InFile<'_> {
         }
     }
 
-    /// The path of the file.
+    /// The path of the book.
     fn path(&self, alloc: Global) -> Result<String, AllocError> {
         format!(in alloc; "{}/queue", self.folder)
     }
+}
 
-    /// The tables of the file at a path.
-    fn open(&self, path: &str) -> Result<Connection<TableFile>, StepFault> {
-        match Connection::open_from(self.rt, path, false, Unknown) {
-            Ok(conn) => Ok(conn),
-            Err((_error, _left)) => Err(StepFault::Book(BookFault::Disk)),
-        }
+impl BookFiles for InFolder<'_> {
+    type File = FileFrom<Unknown>;
+
+    fn create(
+        &self,
+        alloc: Global,
+        settings: Settings,
+    ) -> Result<TableBook<FileStore<Self::File>>, StepFault> {
+        self.empty()?;
+        let path = self.path(alloc)?;
+        let book = TableBook::create_from(self.rt, path.as_str(), settings, Unknown)?;
+        Ok(book)
     }
 
-    /// The tables of a new file in the folder, which has nothing else.
-    fn open_new(&self, alloc: Global) -> Result<Connection<TableFile>, StepFault> {
-        self.empty_folder()?;
+    fn open(&self, alloc: Global) -> Result<TableBook<FileStore<Self::File>>, StepFault> {
         let path = self.path(alloc)?;
-        self.open(path.as_str())
+        let book = TableBook::open_from(self.rt, path.as_str(), Unknown)?;
+        Ok(book)
     }
 }
 
-impl Shelf for InFile<'_> {
-    type Book = TableBook<TableFile>;
+/// Books in tables in files that are let go, without being closed, and opened again before every step.
+#[derive(Drop)]
+pub struct InFile<F: BookFiles> {
+    pub(crate) files: F,
+}
+
+impl<F: BookFiles> Shelf for InFile<F> {
+    type Book = TableBook<FileStore<F::File>>;
 
     fn name(&self) -> &'static str {
         "tables in a file"
     }
 
     fn new_book(&self, alloc: Global, settings: Settings) -> Result<Self::Book, StepFault> {
-        let conn = self.open_new(alloc)?;
-        let book = TableBook::create_in_files(alloc, conn, settings)?;
-        Ok(book)
+        self.files.create(alloc, settings)
     }
 
     fn next_book(&self, alloc: Global, book: Self::Book) -> Result<Self::Book, StepFault> {
         book.let_go();
-        let path = self.path(alloc)?;
-        let book = TableBook::open_from(self.rt, path.as_str(), Unknown)?;
-        Ok(book)
+        self.files.open(alloc)
     }
 }

@@ -1,5 +1,5 @@
 //! How a command ends: its exit status, and what is told of a refusal.
-ghost use Rattle.std.specs.Prelude.{◌≡◌, ◌≢◌, ◌≤◌, IfErr, IfOk, OnOk};
+ghost use Rattle.std.specs.Prelude.{◌≡◌, ◌≢◌, ◌≤◌, ◌⊎◌, IfErr, IfOk, OnOk};
 ghost use Rattle.std.specs.Io.KnownBytes.{Appends};
 ghost use Rattle.clap.specs.Values.{kind_of};
 ghost use Rattle.clap.specs.declared.error.kind.ErrorKind.TheVariants.{DisplayHelp, DisplayVersion};
@@ -45,6 +45,7 @@ pub fn tell_words<O: Write, E: Write>(
     error: &clap::Error,
 ) -> Result<u8, Fault>
     ensures wrong { IfOk result (λ status. kind_of error.now ≢ DisplayHelp → kind_of error.now ≢ DisplayVersion → status ≡ 2) }
+    ensures asked { IfOk result (λ status. (kind_of error.now ≡ DisplayHelp) ⊎ (kind_of error.now ≡ DisplayVersion) → status ≡ 0) }
     ensures status { IfOk result (λ status. status ≤ 2) }
 {
     if error.use_stderr() {

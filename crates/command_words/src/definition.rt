@@ -97,7 +97,7 @@ fn init<'a>(alloc: Global) -> Result<Definition<'a>, AllocError>
         "The printer's URI, with the path /ipp/print",
     );
     let name = text(alloc, "name", "NAME", "The printer's name");
-    let help = "The pages of a job that does not say them";
+    let help = "The pages of a copy of a job that does not say them";
     let estimate = optional(alloc, "estimate", "N", help, 0, MOST_ESTIMATE, "20");
     Definition::new(alloc, "init")
         .about("Make a new store")

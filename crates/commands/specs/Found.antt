@@ -1,12 +1,12 @@
 -- What a file is by its first bytes.
-use Rattle.std.specs.Prelude.{ℕ, List, [], ◌∷◌, ◌++◌, bytes_eq, codes, if◌then◌else◌, take}
+use Rattle.std.specs.Prelude.{ℕ, List, [], ◌∷◌, ◌++◌, ◌==◌, bytes_eq, codes, if◌then◌else◌, take}
 use Rattle.commands.specs.declared.store.Found.{Found}
-use Rattle.commands.specs.declared.store.Found.TheVariants.{EmptyFile, Database, OtherFile}
+use Rattle.commands.specs.declared.store.Found.TheVariants.{EmptyFile, Unfinished, Database, OtherFile}
 
--- what a database file begins with
+-- what a database file begins with; while it is made its first byte is 0
 abbrev pub database_mark : List ℕ
 database_mark = codes "SQLite format 3" ++ 0 ∷ []
 
 abbrev pub found_in : List ℕ → Found
 found_in [] = EmptyFile
-found_in (byte ∷ bytes) = if bytes_eq (take 16 (byte ∷ bytes)) database_mark then Database else OtherFile
+found_in (byte ∷ bytes) = if byte == 0 then Unfinished else if bytes_eq (take 16 (byte ∷ bytes)) database_mark then Database else OtherFile

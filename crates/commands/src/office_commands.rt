@@ -21,7 +21,9 @@ use office::{import_file, print_statement};
 use print_server::present_moment;
 use queue_store::TableBook;
 use sqlite::Alter;
+use sqlite_disk::Disk;
 use sqlite_std_file::Start;
+use sqlite_store::FileStore;
 use std::fs;
 use std::io::Write;
 use std::rt::{Clock, HostRuntime};
@@ -53,6 +55,21 @@ fn import_into<S: Alter, W: Write>(
     Ok(())
 }
 
+/// As `import_into`, but a book whose file was not taken is let go.
+fn import_over<D: Disk + Drop, W: Write>(
+    rt: &HostRuntime,
+    path: &str,
+    output: &mut W,
+    mut book: TableBook<FileStore<D>>,
+) -> Result<TableBook<FileStore<D>>, Fault>
+    ensures { IfOk result (λ b. IsHonest over_files b → IsHonest over_files book × ((w : World) → StandsFor over_files book w
+        → (now : ℕ) × IsMoment now × (bytes : List ℕ) × (n : ImportedRows) × (u : World) × IsTaken now w u bytes n × StandsFor over_files b u
+        × Appends (W.contents output.old) (W.contents output.new) (import_line n))) }
+{
+    let imported = import_into(rt, path, output, &mut book);
+    left(book, imported)
+}
+
 /// Takes the account file at a path into the store, whole or not at all, and prints `new N repeats M`.
 pub fn import<S: Start, W: Write>(
     rt: &HostRuntime,
@@ -64,9 +81,8 @@ pub fn import<S: Start, W: Write>(
         → (w : World) × IsKeptIn (image_at S.Start) w × (now : ℕ) × IsMoment now × (bytes : List ℕ) × (n : ImportedRows) × (u : World)
         × IsTaken now w u bytes n × StandsFor over_files b u × Appends (W.contents output.old) (W.contents output.new) (import_line n)) }
 {
-    let mut book = open_store(rt, words.store, start)?;
-    let imported = import_into(rt, words.file, output, &mut book);
-    left(book, imported)
+    let book = open_store(rt, words.store, start)?;
+    import_over(rt, words.file, output, book)
 }
 
 /// Prints the statement of an account of a book, and leaves the book as it was.
@@ -85,6 +101,20 @@ fn print_from<S: Alter, W: Write>(
     Ok(())
 }
 
+/// As `print_from`, but a book whose statement was not printed is let go.
+fn print_over<D: Disk + Drop, W: Write>(
+    rt: &HostRuntime,
+    account: &str,
+    output: &mut W,
+    mut book: TableBook<FileStore<D>>,
+) -> Result<TableBook<FileStore<D>>, Fault>
+    ensures { IfOk result (λ b. IsHonest over_files b → IsHonest over_files book × ((w : World) → StandsFor over_files book w
+        → StandsFor over_files b w × (s : Sheet) × (sheet_of w account.now ≡ Some s) × Appends (W.contents output.old) (W.contents output.new) (sheet_text s))) }
+{
+    let printed = print_from(rt, account, output, &mut book);
+    left(book, printed)
+}
+
 /// Prints the statement of an account of the store, and leaves the store as it was.
 pub fn statement<S: Start, W: Write>(
     rt: &HostRuntime,
@@ -96,7 +126,6 @@ pub fn statement<S: Start, W: Write>(
         → (w : World) × IsKeptIn (image_at S.Start) w × StandsFor over_files b w × (s : Sheet) × (sheet_of w words.entry.account.now ≡ Some s)
         × Appends (W.contents output.old) (W.contents output.new) (sheet_text s)) }
 {
-    let mut book = open_store(rt, words.store, start)?;
-    let printed = print_from(rt, words.account, output, &mut book);
-    left(book, printed)
+    let book = open_store(rt, words.store, start)?;
+    print_over(rt, words.account, output, book)
 }

@@ -16,7 +16,9 @@ use command_words::Serve;
 use print_server::{listen, serve_connections};
 use queue_store::TableBook;
 use sqlite::Alter;
+use sqlite_disk::Disk;
 use sqlite_std_file::Start;
+use sqlite_store::FileStore;
 use std::io::Write;
 use std::rt::HostRuntime;
 
@@ -48,6 +50,22 @@ fn serve_book<S: Alter, W: Write>(
     Ok(())
 }
 
+/// As `serve_book`, but a book that was not served to the end is let go.
+fn serve_over<D: Disk + Drop, W: Write>(
+    rt: &HostRuntime,
+    words: Serve<'_>,
+    output: &mut W,
+    mut book: TableBook<FileStore<D>>,
+) -> Result<TableBook<FileStore<D>>, Fault>
+    requires { 1 ≤ words.timeout }
+    ensures { IfOk result (λ b. IsHonest over_files b → IsHonest over_files book × ((w : World) → StandsFor over_files book w
+        → (u : World) × StandsFor over_files b u × (counts : List ℕ) × AreConnections w counts u × (length counts ≡ words.entry.connections)
+        × Appends (W.contents output.old) (W.contents output.new) (listening_line words.entry.port ++ served_lines counts))) }
+{
+    let served = serve_book(rt, words, output, &mut book);
+    left(book, served)
+}
+
 /// Serves connections over the store.
 pub fn serve<S: Start, W: Write>(
     rt: &HostRuntime,
@@ -61,7 +79,6 @@ pub fn serve<S: Start, W: Write>(
         × (counts : List ℕ) × AreConnections w counts u × (length counts ≡ words.entry.connections)
         × Appends (W.contents output.old) (W.contents output.new) (listening_line words.entry.port ++ served_lines counts)) }
 {
-    let mut book = open_store(rt, words.store, start)?;
-    let served = serve_book(rt, words, output, &mut book);
-    left(book, served)
+    let book = open_store(rt, words.store, start)?;
+    serve_over(rt, words, output, book)
 }

@@ -6,8 +6,7 @@ ghost use Rattle.sqlite_wal.specs.Files.{image_at};
 ghost use Rattle.queue_types.specs.Settings.{AreSettings};
 ghost use Rattle.queue_core.specs.World.{World, empty_queue};
 ghost use Rattle.queue_store.specs.Kept.{IsHonest, StandsFor};
-ghost use Rattle.queue_store.specs.Opened.{FitsFile, open_fault};
-ghost use Rattle.command_ends.specs.Faults.{fault_of_book};
+ghost use Rattle.queue_store.specs.Opened.{FitsFile};
 ghost use Rattle.commands.specs.Store.{IsKeptIn, settings_of};
 ghost use Rattle.commands.specs.Found.{found_in};
 ghost use Rattle.command_ends.specs.declared.fault.Fault.TheVariants.{BadSetting};
@@ -16,25 +15,24 @@ use command_ends::Fault;
 use command_words::Init;
 use queue_store::TableBook;
 use queue_types::settings::Settings;
-use sqlite::{Connection, Error, ErrorCode};
+use sqlite_disk::Disk;
 use sqlite_std_file::{FileFrom, Start};
 use sqlite_store::FileStore;
 use std::alloc::Global;
+use std::fs::OpenOptions;
 use std::io::{ErrorKind, Read};
+use std::os::unix::fs::OpenOptionsExt;
 use std::rt::{Clock, HostRuntime};
 use std::{fs, io};
 
 /// A book in the tables of a file. `S` stands for what the file and its log hold as they are opened.
 pub type FileBook<S> = TableBook<FileStore<FileFrom<S>>>;
 
-/// A store at a path, open.
-type FileConnection<S> = Connection<FileStore<FileFrom<S>>>;
-
 /// The book that a command was done over. It is let go where the command was not done.
-pub(crate) fn left<S: Start>(
-    book: FileBook<S>,
+pub(crate) fn left<D: Disk + Drop>(
+    book: TableBook<FileStore<D>>,
     done: Result<(), Fault>,
-) -> Result<FileBook<S>, Fault>
+) -> Result<TableBook<FileStore<D>>, Fault>
     ensures { IfOk result (λ b. (b ≡ book) × IsOk done) }
 {
     match done {
@@ -56,6 +54,8 @@ const DATABASE_MARK: &[u8] = b"SQLite format 3\0";
 pub enum Found {
     Nothing,
     EmptyFile,
+    /// A database whose making was cut short: its first byte is written last, and is 0 until then.
+    Unfinished,
     Database,
     OtherFile,
 }
@@ -67,11 +67,12 @@ fn look_at<R: Read + Drop>(alloc: Global, file: R) -> io::Result<Found>
     let mut front = Vec::new(alloc);
     file.take(16).read_to_end(&mut front)?;
     if front.as_slice() == DATABASE_MARK {
-        Ok(Found::Database)
-    } else if front.is_empty() {
-        Ok(Found::EmptyFile)
-    } else {
-        Ok(Found::OtherFile)
+        return Ok(Found::Database);
+    }
+    match front.as_slice() {
+        [] => Ok(Found::EmptyFile),
+        [0, ..] => Ok(Found::Unfinished),
+        _ => Ok(Found::OtherFile),
     }
 }
 
@@ -85,15 +86,22 @@ fn look_at_path(rt: &HostRuntime, path: &str) -> io::Result<Found> {
     }
 }
 
+/// The fault of a path that can't be looked at or made.
+fn fault_of_path(error: io::Error) -> Fault
+    ensures { result ≢ BadSetting }
+{
+    if error.kind() == ErrorKind::OutOfMemory {
+        Fault::Memory
+    } else {
+        Fault::Disk
+    }
+}
+
 /// What is at the path of a store, where an error is one of the disk.
 fn found_at(rt: &HostRuntime, path: &str) -> Result<Found, Fault>
     ensures { IfErr result (λ f. f ≢ BadSetting) }
 {
-    match look_at_path(rt, path) {
-        Ok(found) => Ok(found),
-        Err(error) if error.kind() == ErrorKind::OutOfMemory => Err(Fault::Memory),
-        Err(_) => Err(Fault::Disk),
-    }
+    look_at_path(rt, path).map_err(fault_of_path)
 }
 
 // ---- a new store
@@ -114,34 +122,30 @@ fn new_settings<C: Clock>(alloc: Global, clock: &C, words: Init<'_>) -> Result<S
     Ok(settings)
 }
 
-/// Files that were not opened.
-fn fault_of_open(error: Error) -> Fault
-    ensures { result ≡ fault_of_book (open_fault error) }
-{
-    match error {
-        Error::SqliteFailure(ErrorCode::OutOfMemory) => Fault::Memory,
-        Error::SqliteFailure(ErrorCode::NotADatabase) => Fault::Damaged,
-        Error::SqliteFailure(ErrorCode::DatabaseCorrupt) => Fault::Damaged,
-        _ => Fault::Disk,
-    }
+/// Makes an empty file that its user alone may read and write, since it will hold what others print.
+fn make_file(rt: &HostRuntime, path: &str) -> io::Result<()> {
+    OpenOptions::new()
+        .write(true)
+        .create_new(true)
+        .mode(0o600)
+        .open(rt, path)?;
+    Ok(())
 }
 
-/// Opens the files of a new store, and makes them where they are missing.
-fn open_new<S: Start>(rt: &HostRuntime, path: &str, start: S) -> Result<FileConnection<S>, Fault>
+/// Readies the path of a new store: makes its file where there is none, and refuses one that is no store in the making.
+fn ready_path(rt: &HostRuntime, path: &str) -> Result<(), Fault>
     ensures { IfErr result (λ f. f ≢ BadSetting) }
 {
     match found_at(rt, path)? {
-        Found::Nothing | Found::EmptyFile | Found::Database => {}
-        Found::OtherFile => return Err(Fault::Damaged),
-    }
-    match Connection::open_from(rt, path, false, start) {
-        Ok(conn) => Ok(conn),
-        Err((error, _left)) => Err(fault_of_open(error)),
+        Found::Nothing => make_file(rt, path).map_err(fault_of_path),
+        Found::EmptyFile | Found::Unfinished | Found::Database => Ok(()),
+        Found::OtherFile => Err(Fault::Damaged),
     }
 }
 
 /// Makes a store with these settings, whose epoch is the present second: it stands for the empty queue. A setting that is not within its limits
-/// makes no file. Damaged is told where a store or another file is there.
+/// makes no file. Damaged is told where a store is there, or a file that is no database; Disk where another program's database is. One whose making was
+/// cut short is made anew.
 pub fn make_store<S: Start>(
     rt: &HostRuntime,
     words: Init<'_>,
@@ -151,8 +155,8 @@ pub fn make_store<S: Start>(
     ensures bad { IfErr result (λ f. f ≡ BadSetting → (epoch : ℤ) → ¬ AreSettings (settings_of words.entry epoch)) }
 {
     let settings = new_settings(rt.alloc(), rt, words)?;
-    let conn = open_new(rt, words.store, start)?;
-    let book = TableBook::create_in_files(rt.alloc(), conn, settings)?;
+    ready_path(rt, words.store)?;
+    let book = TableBook::create_from(rt, words.store, settings, start)?;
     Ok(book)
 }
 
@@ -167,7 +171,7 @@ pub fn open_store<S: Start>(rt: &HostRuntime, path: &str, start: S) -> Result<Fi
     match found_at(rt, path)? {
         Found::Database => {}
         Found::Nothing => return Err(Fault::Disk),
-        Found::EmptyFile | Found::OtherFile => return Err(Fault::Damaged),
+        Found::EmptyFile | Found::Unfinished | Found::OtherFile => return Err(Fault::Damaged),
     }
     let book = TableBook::open_from(rt, path, start)?;
     Ok(book)

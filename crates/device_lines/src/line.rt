@@ -9,11 +9,8 @@ ghost use Rattle.device_lines.specs.Lines.{Reads, Spells, kind_word};
 
 use itoa::Buffer;
 use queue_types::event::{Kind, Report};
-use queue_types::limits::MOST_PRINTED_PAGES;
+use queue_types::limits::{LAST_REPORT_NUMBER, MOST_PRINTED_PAGES};
 use std::str;
-
-/// The greatest number of a job, and of a report of it.
-const LAST_NUMBER: u64 = 2_147_483_647;
 
 /// The greatest number of ten digits.
 const MOST_IN_TEN_DIGITS: u64 = 9_999_999_999;
@@ -65,11 +62,11 @@ fn within(f: Form) -> Option<Report>
     })
 }
 
-/// The number is 1 to 2,147,483,647.
+/// The number is 1 to 2,147,483,647, as that of a job is and that of a report.
 fn is_positive(n: u64) -> bool
     ensures { IsTrue result ↔ IsPositive n }
 {
-    1 <= n && n <= LAST_NUMBER
+    1 <= n && n <= u64::from(LAST_REPORT_NUMBER)
 }
 
 /// What the line says, where it is of the form.

@@ -12,11 +12,8 @@ ghost use Rattle.queue_tables.specs.Content.{Holds, content_of};
 use crate::select::select;
 use queue_tables::fault::Fault;
 use queue_tables::read::value;
-use queue_types::limits::MOST_DOCUMENTS;
+use queue_types::limits::{MOST_DOCUMENT_OCTETS, MOST_DOCUMENTS};
 use sqlite::{Alter, Connection, Row, params};
-
-/// The greatest length of a document in bytes.
-const LONGEST: u64 = 16_777_216;
 
 /// The number of a job's documents, and the sum of their lengths in bytes.
 #[derive(Clone, Copy)]
@@ -57,7 +54,7 @@ pub(crate) fn sizes_of<S: Alter>(conn: &mut Connection<S>, job: u32) -> Result<S
     }
     let documents = found.len() as u32;
     let octets = octets_in(found.as_slice())?;
-    if octets > u64::from(documents) * LONGEST {
+    if octets > u64::from(documents) * u64::from(MOST_DOCUMENT_OCTETS) {
         return Err(Fault::Damaged);
     }
     Ok(Sizes { documents, octets })

@@ -147,6 +147,7 @@ impl<S: Alter + Drop> TableBook<S> {
         settings: Settings,
     ) -> Result<TableBook<S>, BookFault>
         ensures stands { IfOk result (λ b. StandsFor S.Store b (empty_queue settings)) }
+        ensures damaged { IfErr result (λ e. e ≡ Damaged → IsTrue (has_any (state S.Store conn).now.schema)) }
     {
         match TableBook::create(alloc, conn, settings) {
             Ok(book) => Ok(book),

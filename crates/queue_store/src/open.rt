@@ -6,7 +6,6 @@ ghost use Rattle.sqlite_trees.specs.Tree.{Trees};
 ghost use Rattle.sqlite_wal.specs.Files.{image_at};
 ghost use Rattle.queue_core.specs.World.{empty_queue};
 ghost use Rattle.queue_load.specs.Store.{FitsIn};
-ghost use Rattle.queue_core.specs.declared.book.BookFault.TheVariants.{Disk};
 ghost use Rattle.queue_store.specs.Kept.{IsHonest, StandsFor, StandsForOne, shown_by};
 ghost use Rattle.queue_store.specs.Opened.{FitsFile, open_fault};
 
@@ -14,7 +13,7 @@ use crate::book::TableBook;
 use queue_core::book::BookFault;
 use queue_types::settings::Settings;
 use sqlite::{Connection, Error, ErrorCode};
-use sqlite_disk::Start;
+use sqlite_disk::{Disk, Start};
 use sqlite_std_file::FileFrom;
 use sqlite_store::FileStore;
 use std::alloc::Global;
@@ -33,13 +32,13 @@ fn fault_of_open(e: Error) -> BookFault
 }
 
 /// Lets the files of a connection go as they are, without reading or writing.
-fn let_files_go<S: Start>(_conn: Connection<FileStore<FileFrom<S>>>) {}
+fn let_files_go<D: Disk + Drop>(_conn: Connection<FileStore<D>>) {}
 
 /// As `TableBook::adopt`, but a refusal lets the files go.
-fn adopt_in_files<S: Start>(
+fn adopt_in_files<D: Disk + Drop>(
     alloc: Global,
-    conn: Connection<FileStore<FileFrom<S>>>,
-) -> Result<TableBook<FileStore<FileFrom<S>>>, BookFault>
+    conn: Connection<FileStore<D>>,
+) -> Result<TableBook<FileStore<D>>, BookFault>
     ensures clean { IfOk result (λ b. IsHonest over_files b → HasCleanDisk (file_state conn)) }
     ensures stands { FitsIn (file_state conn) → IfOk result (λ b. StandsForOne over_files b) }
     ensures same { FitsIn (file_state conn) → IfOk result (λ b. IsHonest over_files b → (shown_by over_files b).now ≡ (file_state conn).now) }
@@ -53,7 +52,56 @@ fn adopt_in_files<S: Start>(
     }
 }
 
+/// As `TableBook::create`, but a refusal lets the files go.
+fn create_in_files<D: Disk + Drop>(
+    alloc: Global,
+    conn: Connection<FileStore<D>>,
+    settings: Settings,
+) -> Result<TableBook<FileStore<D>>, BookFault>
+    ensures { IfOk result (λ b. StandsFor over_files b (empty_queue settings)) }
+{
+    match TableBook::create(alloc, conn, settings) {
+        Ok(book) => Ok(book),
+        Err((fault, conn)) => {
+            let_files_go(conn);
+            Err(fault)
+        }
+    }
+}
+
+impl<D: Disk + Drop> TableBook<FileStore<D>> {
+    /// Lets the files of the book go as they are, without reading or writing.
+    pub fn let_go(self) {
+        let TableBook {
+            alloc: _,
+            conn,
+            settings: _,
+        } = self;
+        let_files_go(conn);
+    }
+}
+
 impl<S: Start> TableBook<FileStore<FileFrom<S>>> {
+    /// A new book with these settings, without jobs, accounts and reports, in the files at a path, which are made
+    /// where they are missing. Damaged is told where they have a table of a book already, or are no database; Disk
+    /// where they have other tables, can't be opened or are in use. A refusal lets them go.
+    pub fn create_from(
+        rt: &HostRuntime,
+        path: &str,
+        settings: Settings,
+        start: S,
+    ) -> Result<TableBook<FileStore<FileFrom<S>>>, BookFault>
+        ensures { IfOk result (λ b. StandsFor over_files b (empty_queue settings)) }
+    {
+        match Connection::open_from(rt, path, false, start) {
+            Ok(conn) => {
+                let book = create_in_files(rt.alloc(), conn, settings)?;
+                Ok(book)
+            }
+            Err((error, _left)) => Err(fault_of_open(error)),
+        }
+    }
+
     /// The book that the files at a path hold, where `start` stands for what they hold as they are opened. Disk is
     /// told also where they can't be opened or are in use, Damaged also where they are no database.
     pub fn open_from(
@@ -63,7 +111,7 @@ impl<S: Start> TableBook<FileStore<FileFrom<S>>> {
     ) -> Result<TableBook<FileStore<FileFrom<S>>>, BookFault>
         ensures stands { FitsFile (image_at S.Start) → IfOk result (λ b. StandsForOne over_files b) }
         ensures found { FitsFile (image_at S.Start) → IfOk result (λ b. IsHonest over_files b → (db : Trees) → HoldsDatabase (image_at S.Start) db → (shown_by over_files b).now.trees ≡ db) }
-        ensures memory { path.now ≡ codes ":memory:" → result ≡ Err Disk }
+        ensures memory { path.now ≡ codes ":memory:" → result ≡ Err BookFault.Disk }
     {
         match Connection::open_from(rt, path, false, start) {
             Ok(conn) => {
@@ -72,32 +120,5 @@ impl<S: Start> TableBook<FileStore<FileFrom<S>>> {
             }
             Err((error, _left)) => Err(fault_of_open(error)),
         }
-    }
-
-    /// A new book with these settings in files that hold no tables. A refusal lets the files go.
-    pub fn create_in_files(
-        alloc: Global,
-        conn: Connection<FileStore<FileFrom<S>>>,
-        settings: Settings,
-    ) -> Result<TableBook<FileStore<FileFrom<S>>>, BookFault>
-        ensures { IfOk result (λ b. StandsFor over_files b (empty_queue settings)) }
-    {
-        match TableBook::create(alloc, conn, settings) {
-            Ok(book) => Ok(book),
-            Err((fault, conn)) => {
-                let_files_go(conn);
-                Err(fault)
-            }
-        }
-    }
-
-    /// Lets the files of the book go as they are, without reading or writing.
-    pub fn let_go(self) {
-        let TableBook {
-            alloc: _,
-            conn,
-            settings: _,
-        } = self;
-        let_files_go(conn);
     }
 }

@@ -3,7 +3,7 @@
 use book_desk::Request::{Create, Release, Send};
 use book_desk::Step::{Ask, Grant};
 use book_desk::{Desk, Request, Shelf, Step, desk_after};
-use book_shelves::{Adopted, InFile, InLists, InTables, TestBooks};
+use book_shelves::{Adopted, BookFiles, InFile, InLists, InTables, TestBooks};
 use queue_core::book::{QueueBook, SendCause, SendFault};
 use queue_types::document::{DocumentHead, Format};
 use std::alloc::Global;
@@ -124,7 +124,11 @@ fn send_adopted(rt: &impl Abort, alloc: Global) -> Result<(), Fail> {
     send_to_each(rt, alloc, &Adopted)
 }
 
-fn send_in_file(rt: &impl Abort, alloc: Global, shelf: &InFile<'_>) -> Result<(), Fail> {
+fn send_in_file<F: BookFiles>(
+    rt: &impl Abort,
+    alloc: Global,
+    shelf: &InFile<F>,
+) -> Result<(), Fail> {
     send_to_each(rt, alloc, shelf)
 }
 

@@ -35,6 +35,26 @@ fn refuse_bytes(test: &impl Abort, rt: &HostRuntime, path: &str, bytes: &[u8]) -
     refuse_file(test, rt, path, Import(path), DAMAGED)
 }
 
+/// No store is made over a file with other bytes, which stays as it was.
+#[test]
+fn bytes_of_another_file(rt: HostRuntime) -> Result<(), Fail> {
+    let folder = new_folder(&rt, "other")?;
+    let path = path_in(&rt, &folder, "store")?;
+    for bytes in [
+        b"S".as_slice(),
+        b"SQLite format 3",
+        b"SQLite format 3\0",
+        b"\0 and something more",
+        &[0; 4096],
+        &[255; 100],
+    ] {
+        fs::write(&rt, path.as_path(), bytes)?;
+        refuse_file(&rt, &rt, path.as_str(), Init(URI, "release"), DAMAGED)?;
+    }
+    fs::remove_dir_all(&rt, folder.as_path())?;
+    Ok(())
+}
+
 #[test]
 fn bytes_of_no_store(rt: HostRuntime) -> Result<(), Fail> {
     let folder = new_folder(&rt, "bytes")?;

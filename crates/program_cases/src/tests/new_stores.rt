@@ -3,9 +3,13 @@
 use crate::tests::folder::Asked::{Import, Init, Statement};
 use crate::tests::folder::{DONE, Told, URI, asks, new_folder, path_in, tells};
 use std::fs;
+use std::os::unix::fs::PermissionsExt;
+use std::process::Abort;
 use std::test::Fail;
 
 const BAD_SETTING: Told<'static> = (1, "", "printd: bad setting\n");
+
+const NO_ACCOUNT: Told<'static> = (1, "", "printd: no account\n");
 
 /// A name of 128 octets.
 const LONG_NAME: &str =
@@ -66,6 +70,39 @@ fn a_store_over_a_store(rt: HostRuntime) -> Result<(), Fail> {
         (0, "new 0 repeats 1\n", ""),
     );
     fs::remove_dir_all(&rt, folder.as_path())?;
+    Ok(())
+}
+
+/// A file is its user's alone.
+fn assert_private(test: &impl Abort, rt: &HostRuntime, path: &str) -> Result<(), Fail> {
+    let mode = fs::metadata(rt, path)?.permissions().mode();
+    assert_eq!(test; mode & 0o777, 0o600, "{path}");
+    Ok(())
+}
+
+#[test]
+fn a_store_is_its_users_alone(rt: HostRuntime) -> Result<(), Fail> {
+    let folder = new_folder(&rt, "private")?;
+    let store = path_in(&rt, &folder, "store")?;
+    let log = path_in(&rt, &folder, "store-wal")?;
+    asks(&rt, &rt, store.as_str(), Init(URI, "release"), DONE);
+    assert_private(&rt, &rt, store.as_str())?;
+    assert_private(&rt, &rt, log.as_str())?;
+    fs::remove_dir_all(&rt, folder.as_path())?;
+    Ok(())
+}
+
+/// A store is made over an empty file, and over what is there of one whose making was cut short: a zero byte.
+#[test]
+fn a_store_that_was_begun(rt: HostRuntime) -> Result<(), Fail> {
+    for bytes in [b"".as_slice(), b"\0"] {
+        let folder = new_folder(&rt, "begun")?;
+        let store = path_in(&rt, &folder, "store")?;
+        fs::write(&rt, store.as_path(), bytes)?;
+        asks(&rt, &rt, store.as_str(), Init(URI, "release"), DONE);
+        asks(&rt, &rt, store.as_str(), Statement("alice"), NO_ACCOUNT);
+        fs::remove_dir_all(&rt, folder.as_path())?;
+    }
     Ok(())
 }
 

@@ -1,8 +1,8 @@
-use Rattle.std.proofs.Common.{◌≡◌, refl, sym, ◌∙◌, ap}
+use Rattle.std.proofs.Common.{◌≡◌, refl, sym, ◌∙◌, ap, inr}
 use Rattle.grants_csv.specs.File.{rows_of}
 use Rattle.queue_types.specs.Event.{grant}
 use Rattle.queue_core.specs.Machine.{step}
-use Rattle.office.proofs.Reading.{then}
+use Rattle.office.proofs.Reading.{given, then}
 use Rattle.office.proofs.account_file.import_file.Goals as goal
 
 pub returns-clause-taken : goal.returns-clause-taken
@@ -15,4 +15,16 @@ returns-clause-taken g c = λ honest. then c.tell.result c.tell.ensures.told (λ
       (a.0, ap rows_of (sym c.as_slice.ensures.value) ∙ a.1, a.2, refl),
       a.3,
       told,
+    ))
+
+pub returns-clause-left : goal.returns-clause-left
+returns-clause-left g c = λ honest. given c.tell.result (λ w stands.
+    let a = c.in_ok-n.ensures.added honest w stands in
+    inr (
+      c.in_ok-bytes.bytes.items,
+      c.in_ok-bytes.ensures.bytes,
+      c.in_ok-n.n,
+      (step w c.args.now (grant a.0)).world,
+      (a.0, ap rows_of (sym c.as_slice.ensures.value) ∙ a.1, a.2, refl),
+      a.3,
     ))
