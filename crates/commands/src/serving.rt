@@ -13,7 +13,7 @@ ghost use Rattle.commands.specs.Store.{IsKeptIn};
 use crate::store::{FileBook, left, open_store};
 use command_ends::Fault;
 use command_words::Serve;
-use print_server::{listen, serve_connections};
+use print_server::{ServerFault, listen, serve_connections};
 use queue_store::TableBook;
 use sqlite::Alter;
 use sqlite_disk::Disk;
@@ -21,6 +21,14 @@ use sqlite_std_file::Start;
 use sqlite_store::FileStore;
 use std::io::Write;
 use std::rt::HostRuntime;
+
+/// A server that stopped.
+fn fault_of_server(stopped: ServerFault) -> Fault {
+    match stopped {
+        ServerFault::Io(error) => Fault::from(error),
+        ServerFault::Book(fault) => Fault::from(fault),
+    }
+}
 
 /// Listens on the port, and serves connections over a book.
 fn serve_book<S: Alter, W: Write>(
@@ -37,7 +45,7 @@ fn serve_book<S: Alter, W: Write>(
 {
     let settings = book.settings()?;
     let listener = listen(rt, output, words.port)?;
-    serve_connections(
+    match serve_connections(
         rt.alloc(),
         rt,
         &listener,
@@ -46,8 +54,10 @@ fn serve_book<S: Alter, W: Write>(
         &settings,
         words.timeout,
         words.connections,
-    )?;
-    Ok(())
+    ) {
+        Ok(()) => Ok(()),
+        Err(stopped) => Err(fault_of_server(stopped)),
+    }
 }
 
 /// As `serve_book`, but a book that was not served to the end is let go.

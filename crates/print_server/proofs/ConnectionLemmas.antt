@@ -1,5 +1,5 @@
 -- Connections one after another, and the lines that tell of them.
-use Rattle.std.proofs.Common.{◌≡◌, ◌∙◌, ℕ, List, [], ◌∷◌, ◌++◌, Option, Result, Ok, Err, OnOk, OnErr, ap, sym, subst, refl, arith, append-nil}
+use Rattle.std.proofs.Common.{◌≡◌, ◌∙◌, ℕ, List, [], ◌∷◌, ◌++◌, Option, Result, Ok, Err, OnErr, ap, sym, subst, refl, arith, append-nil}
 use Rattle.std.specs.Io.KnownBytes.{Appends}
 use Rattle.std.proofs.KnownBytes.{Appends-trans}
 use Rattle.std.proofs.lemmas.Grind.{flat_map-append}
@@ -34,10 +34,6 @@ told_one v x acted h = subst (λ (l : List ℕ). Appends v x l) (sym (append-nil
 pub told_on : (v x y : Option (List ℕ)) (front rest : List ℕ) → Appends v x (served_lines front) → Appends x y (served_lines rest) → Appends v y (served_lines (front ++ rest))
 told_on v x y front rest g h =
     subst (λ (l : List ℕ). Appends v y l) (sym (flat_map-append served_line front rest)) (Appends-trans v x y (served_lines front) (served_lines rest) g h)
-
-pub on_ok : {X E : Type 0} (r : Result X E) (A B : Type 0) → (A → B) → OnOk r A → OnOk r B
-on_ok (Ok x) A B f h = f h
-on_ok (Err e) A B f h = tt
 
 pub on_err : {X E : Type 0} (r : Result X E) (B : Type 0) → B → OnErr r B
 on_err (Ok x) B h = tt

@@ -1,11 +1,13 @@
 -- What connections, one after another, make of the queue.
-use Rattle.std.specs.Prelude.{◌≡◌, ℕ, Bool, true, false, List, [], ◌∷◌, Result, Ok, Err}
+use Rattle.std.specs.Prelude.{◌≡◌, ◌==◌, ◌||◌, ℕ, Bool, true, false, not, List, [], ◌∷◌, Result, Ok, Err}
 use Rattle.queue_core.specs.Limits.{IsMoment}
 use Rattle.queue_core.specs.World.{World}
 use Rattle.http_head.specs.declared.end.End.{End}
 use Rattle.http_head.specs.declared.end.End.TheVariants.{Done, Refused}
 use Rattle.http_front.specs.Connections.{Worked}
 use Rattle.http_front.specs.declared.outcome.Served.{Served}
+use Rattle.http_front.specs.declared.outcome.ServeCause.{ServeCause}
+use Rattle.http_front.specs.declared.outcome.ServeCause.TheVariants.{Book as ByBook}
 use Rattle.http_front.specs.declared.outcome.ServeFault.{ServeFault}
 
 -- the most requests of a connection
@@ -32,3 +34,12 @@ ends_here end = false
 abbrev pub is_ended_here : Result Served ServeFault → Bool
 is_ended_here (Ok served) = ends_here served.end
 is_ended_here (Err fault) = false
+
+abbrev pub is_of_book : ServeCause → Bool
+is_of_book ByBook = true
+is_of_book cause = false
+
+-- a request was answered by a fault, or the book failed inside a document
+abbrev pub has_fault : Result Served ServeFault → Bool
+has_fault (Ok served) = not (served.faults == 0)
+has_fault (Err fault) = not (fault.faults == 0) || is_of_book fault.cause

@@ -1,9 +1,9 @@
 //! What a connection came to, and what its client still sends.
 ghost use Rattle.std.specs.Prelude.{◌≡◌};
 ghost use Rattle.http_front.specs.Connections.{acted_of};
-ghost use Rattle.print_server.specs.Connections.{is_ended_here};
+ghost use Rattle.print_server.specs.Connections.{has_fault, is_ended_here};
 
-use http_front::{End, ServeFault, Served};
+use http_front::{End, ServeCause, ServeFault, Served};
 use std::io::Read;
 
 /// The most reads of what a client sends behind its last request.
@@ -32,6 +32,16 @@ pub fn is_ended_here(served: Result<Served, ServeFault>) -> bool
             End::Closed | End::Cut => false,
         },
         Err(_) => false,
+    }
+}
+
+/// A request of the connection was answered by a fault, or the book failed inside a document.
+pub fn has_fault(served: Result<Served, ServeFault>) -> bool
+    ensures { result ≡ has_fault served }
+{
+    match served {
+        Ok(served) => served.faults != 0,
+        Err(fault) => fault.faults != 0 || fault.cause == ServeCause::Book,
     }
 }
 

@@ -4,15 +4,18 @@
 //! is a function over values, or over a reader and a writer: the moment of a connection (`moment`), what a connection comes to
 //! (`connection`) and the lines that are printed (`lines`).
 //!
-//! A client that goes away, resets or stays silent ends its own connection alone.
+//! A client that goes away, resets or stays silent ends its own connection alone. A book that can't be read any more ends the server, which
+//! may find it whole when it is started again.
 #![tactic(auto)]
 
 mod connection;
+mod fault;
 mod lines;
 mod listening;
 mod moment;
 mod serving;
 
+pub use fault::ServerFault;
 pub use listening::listen;
 pub use moment::present_moment;
 pub use serving::serve_connections;

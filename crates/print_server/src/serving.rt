@@ -7,12 +7,13 @@ ghost use Rattle.http_front.specs.Connections.{Worked};
 ghost use Rattle.print_server.specs.Connections.{AreConnections};
 ghost use Rattle.print_server.specs.Lines.{served_lines};
 
-use crate::connection::{acted_of, drain, is_ended_here};
+use crate::connection::{acted_of, drain, has_fault, is_ended_here};
+use crate::fault::ServerFault;
 use crate::lines::tell_served;
 use crate::listening::next_stream;
 use crate::moment::present_moment;
 use http_front::serve;
-use queue_core::book::QueueBook;
+use queue_core::book::{BookFault, QueueBook};
 use queue_types::settings::Settings;
 use std::alloc::Global;
 use std::io;
@@ -44,7 +45,16 @@ fn linger(stream: &TcpStream) -> io::Result<()> {
     Ok(())
 }
 
-/// Serves a connection at a moment and closes it, and tells how many of its requests acted. One that can't be readied has gone away.
+/// What came of a connection.
+#[derive(Clone, Copy)]
+struct Outcome {
+    /// How many of its requests acted.
+    acted: u32,
+    /// One of them met a fault.
+    has_fault: bool,
+}
+
+/// Serves a connection at a moment and closes it. One that can't be readied has gone away.
 fn serve_stream<B: QueueBook>(
     alloc: Global,
     stream: TcpStream,
@@ -52,16 +62,19 @@ fn serve_stream<B: QueueBook>(
     s: &Settings,
     timeout: u32,
     now: u32,
-) -> u32
+) -> Outcome
     requires wait { 1 ≤ timeout }
     requires moment { IsMoment now }
     ensures began { B.is_honest book.new → B.is_honest book.old }
     ensures worked { B.is_honest book.new → (w : World) → B.stands book.old w → s.now ≡ w.settings
-        → (u : World) × B.stands book.new u × Worked 32 now w u result }
-    ensures few { result ≤ 32 }
+        → (u : World) × B.stands book.new u × Worked 32 now w u result.acted }
+    ensures few { result.acted ≤ 32 }
 {
     if prepare(&stream, timeout).is_err() {
-        return 0;
+        return Outcome {
+            acted: 0,
+            has_fault: false,
+        };
     }
     let mut reader = &stream;
     let mut writer = &stream;
@@ -70,10 +83,25 @@ fn serve_stream<B: QueueBook>(
         // whatever comes of it, the connection ends here
         let _ = linger(&stream);
     }
-    acted_of(served)
+    Outcome {
+        acted: acted_of(served),
+        has_fault: has_fault(served),
+    }
 }
 
-/// Takes the next connection, serves it at the moment when it was taken, and prints `served ACTED`.
+/// Whether the book can still be read. One that had no memory can.
+fn check_book<B: QueueBook>(book: &mut B) -> Result<(), BookFault>
+    ensures began { B.is_honest book.new → B.is_honest book.old }
+    ensures kept { (w : World) → B.stands book.old w → B.stands book.new w }
+{
+    match book.pending() {
+        Ok(_) | Err(BookFault::Memory) => Ok(()),
+        Err(fault) => Err(fault),
+    }
+}
+
+/// Takes the next connection, serves it at the moment when it was taken, and prints `served ACTED`. Where a request met a fault, the book is
+/// read once more.
 fn serve_next<R: Clock, O: Write, B: QueueBook>(
     alloc: Global,
     clock: &R,
@@ -82,7 +110,7 @@ fn serve_next<R: Clock, O: Write, B: QueueBook>(
     book: &mut B,
     s: &Settings,
     timeout: u32,
-) -> io::Result<()>
+) -> Result<(), ServerFault>
     requires { 1 ≤ timeout }
     ensures began { B.is_honest book.new → B.is_honest book.old }
     ensures ok { B.is_honest book.new → OnOk result ((w : World) → B.stands book.old w → s.now ≡ w.settings
@@ -93,14 +121,19 @@ fn serve_next<R: Clock, O: Write, B: QueueBook>(
 {
     let stream = next_stream(listener)?;
     let now = present_moment(clock, s.epoch())?;
-    let acted = serve_stream(alloc, stream, book, s, timeout, now);
-    tell_served(out, acted)
+    let served = serve_stream(alloc, stream, book, s, timeout, now);
+    tell_served(out, served.acted)?;
+    if served.has_fault {
+        check_book(book)?;
+    }
+    Ok(())
 }
 
 /// Serves so many connections of a listener, one after another, over a book whose queue has these settings, and prints `served ACTED` as each
 /// of them ends. No read and no write of a connection waits longer than so many seconds; a timeout ends that connection alone.
 ///
-/// It is an error where no connection can be taken, the clock can't be read or the line can't be written. The connections before it stay served.
+/// It is an error where no connection can be taken, the clock can't be read or the line can't be written, and where after a fault the book can't be
+/// read any more. The connections before it stay served.
 pub fn serve_connections<R: Clock, O: Write, B: QueueBook>(
     alloc: Global,
     clock: &R,
@@ -110,7 +143,7 @@ pub fn serve_connections<R: Clock, O: Write, B: QueueBook>(
     s: &Settings,
     timeout: u32,
     connections: u32,
-) -> io::Result<()>
+) -> Result<(), ServerFault>
     requires { 1 ≤ timeout }
     ensures began { B.is_honest book.new → B.is_honest book.old }
     // every connection was served, and its count printed

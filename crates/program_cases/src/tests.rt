@@ -3,6 +3,7 @@
 mod account_files;
 mod bad_stores;
 mod clients;
+mod faults;
 mod folder;
 mod listening;
 mod moments;

@@ -1,11 +1,12 @@
 //! A server on a port of the loopback interface with its clients, and what they do in turn.
 
 use http_desk::books::DeskBook;
-use http_desk::compare::{Mismatch, Place};
+use http_desk::compare::{Mismatch, Place, no_book};
 use http_desk::connection::{Wanted, wanted_bytes};
 use http_desk::desk::settings;
 use http_desk::streams::BrokenWriter;
-use print_server::{listen, serve_connections};
+use print_server::{ServerFault, listen, serve_connections};
+use queue_core::book::BookFault;
 use queue_types::settings::Settings;
 use std::alloc::{AllocError, Global};
 use std::io;
@@ -38,8 +39,18 @@ pub(super) enum Step<'a> {
     Serves(u32, &'a str),
     /// The server serves so many connections, and can't print its lines.
     ServesUntold(u32),
+    /// The server is to serve so many connections, prints these lines, and stops since its book can't be read any more.
+    Stops(u32, &'a str),
     /// The client of this number, of those that stayed, gets this and then the end of its connection. The first is number 0.
     Gets(usize, &'a [Wanted<'a>]),
+}
+
+/// A server that stopped where it was to go on.
+fn mismatch_of(stopped: ServerFault) -> Mismatch {
+    match stopped {
+        ServerFault::Io(error) => error.into(),
+        ServerFault::Book(fault) => no_book(AT.book, fault),
+    }
 }
 
 /// A server over a book, and the clients that stayed.
@@ -108,7 +119,7 @@ impl<B: DeskBook> Server<B> {
         rt: &HostRuntime,
         out: &mut W,
         connections: u32,
-    ) -> io::Result<()> {
+    ) -> Result<(), ServerFault> {
         serve_connections(
             self.alloc,
             rt,
@@ -124,7 +135,19 @@ impl<B: DeskBook> Server<B> {
     /// Serves so many connections, and prints these lines.
     fn serve(&mut self, rt: &HostRuntime, connections: u32, lines: &str) -> Result<(), Mismatch> {
         let mut printed = Vec::new(self.alloc);
-        self.serve_into(rt, &mut printed, connections)?;
+        self.serve_into(rt, &mut printed, connections)
+            .map_err(mismatch_of)?;
+        AT.same_bytes(lines.as_bytes(), printed.as_slice())
+    }
+
+    /// Is to serve so many connections, prints these lines, and stops since its book can't be read any more.
+    fn stop(&mut self, rt: &HostRuntime, connections: u32, lines: &str) -> Result<(), Mismatch> {
+        let mut printed = Vec::new(self.alloc);
+        let came = self.serve_into(rt, &mut printed, connections);
+        AT.is_so(
+            matches!(came, Err(ServerFault::Book(BookFault::Disk))),
+            "a book that can't be read any more",
+        )?;
         AT.same_bytes(lines.as_bytes(), printed.as_slice())
     }
 
@@ -155,6 +178,7 @@ impl<B: DeskBook> Server<B> {
             }
             Step::Serves(connections, lines) => self.serve(rt, *connections, lines),
             Step::ServesUntold(connections) => self.serve_untold(rt, *connections),
+            Step::Stops(connections, lines) => self.stop(rt, *connections, lines),
             Step::Gets(client, wanted) => self.answers(*client, wanted),
         }
     }

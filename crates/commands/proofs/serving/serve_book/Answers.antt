@@ -2,10 +2,10 @@ use Rattle.std.proofs.KnownBytes.{Appends-trans}
 use Rattle.print_server.specs.Lines.{listening_line, served_lines}
 use Rattle.commands.proofs.serving.serve_book.Goals as goal
 
-pub returns-clause-served : goal.returns-clause-served
-returns-clause-served g c = λ honest w stands.
+pub returns-in-Ok-clause-served : goal.returns-in-Ok-clause-served
+returns-in-Ok-clause-served g c = λ honest w stands.
     let same = c.in_ok-settings.ensures w (c.serve_connections.ensures.began honest) stands in
-    let end = c.in_ok-serve_connections.ensures.ok honest w stands same in (
+    let end = c.in-Ok.ensures.ok honest w stands same in (
       end.0,
       end.1,
       end.2,

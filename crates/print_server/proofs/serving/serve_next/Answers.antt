@@ -1,5 +1,5 @@
 use Rattle.std.proofs.Common.{[], ◌∷◌, refl, arith}
-use Rattle.print_server.proofs.ConnectionLemmas.{on_err, on_ok, one, told_one}
+use Rattle.print_server.proofs.ConnectionLemmas.{on_err, one, told_one}
 use Rattle.print_server.proofs.serving.serve_next.Goals as goal
 
 pub returns-in_err-stream-clause-err : goal.returns-in_err-stream-clause-err
@@ -8,14 +8,22 @@ returns-in_err-stream-clause-err g c = λ h. on_err c.from_residual.result _ (λ
 pub returns-in_err-now-clause-err : goal.returns-in_err-now-clause-err
 returns-in_err-now-clause-err g c = λ h. on_err c.from_residual-in_err-now.result _ (λ w st set. (w, st, [], refl, omega arith))
 
-pub returns-clause-ok : goal.returns-clause-ok
-returns-clause-ok g c = λ h. on_ok c.tell_served.result _ _
-    (λ told w st set.
-    let u = c.serve_stream-acted.ensures.worked h w st set in
-    (u.0, u.1, c.serve_stream-acted.result ∷ [], one c.in_ok-now.now w u.0 _ c.in_ok-now.ensures u.2, refl, told_one _ _ _ told))
-    c.tell_served.ensures
+pub returns-in_err-tell_served-clause-err : goal.returns-in_err-tell_served-clause-err
+returns-in_err-tell_served-clause-err g c = λ h. on_err c.from_residual-in_err-tell_served.result _ (λ w st set.
+    let u = c.serve_stream-served.ensures.worked h w st set in
+    (u.0, u.1, c.serve_stream-served.result.acted ∷ [], one c.in_ok-now.now w u.0 _ c.in_ok-now.ensures u.2, omega arith))
 
-pub returns-clause-err : goal.returns-clause-err
-returns-clause-err g c = λ h. on_err c.tell_served.result _ (λ w st set.
-    let u = c.serve_stream-acted.ensures.worked h w st set in
-    (u.0, u.1, c.serve_stream-acted.result ∷ [], one c.in_ok-now.now w u.0 _ c.in_ok-now.ensures u.2, omega arith))
+pub returns-in_err-check_book-clause-err : goal.returns-in_err-check_book-clause-err
+returns-in_err-check_book-clause-err g c = λ h. on_err c.from_residual-in_err-check_book.result _ (λ w st set.
+    let u = c.serve_stream-served.ensures.worked (c.check_book.ensures.began h) w st set in
+    (u.0, c.check_book.ensures.kept u.0 u.1, c.serve_stream-served.result.acted ∷ [], one c.in_ok-now.now w u.0 _ c.in_ok-now.ensures u.2, omega arith))
+
+pub returns-in_ok-check_book-clause-ok : goal.returns-in_ok-check_book-clause-ok
+returns-in_ok-check_book-clause-ok g c = λ h w st set.
+    let u = c.serve_stream-served.ensures.worked (c.check_book.ensures.began h) w st set in
+    (u.0, c.check_book.ensures.kept u.0 u.1, c.serve_stream-served.result.acted ∷ [], one c.in_ok-now.now w u.0 _ c.in_ok-now.ensures u.2, refl, told_one _ _ _ c.in_ok-tell_served.ensures)
+
+pub returns-else-served-clause-ok : goal.returns-else-served-clause-ok
+returns-else-served-clause-ok g c = λ h w st set.
+    let u = c.serve_stream-served.ensures.worked h w st set in
+    (u.0, u.1, c.serve_stream-served.result.acted ∷ [], one c.in_ok-now.now w u.0 _ c.in_ok-now.ensures u.2, refl, told_one _ _ _ c.in_ok-tell_served.ensures)
