@@ -3,9 +3,12 @@ ghost use Rattle.std.specs.Prelude.{◌≡◌, ◌≤◌, ◌++◌, ℕ, List, I
 ghost use Rattle.std.specs.Io.KnownBytes.{Appends};
 ghost use Rattle.sqlite.specs.Files.{over_files};
 ghost use Rattle.sqlite_wal.specs.Files.{image_at};
+ghost use Rattle.command_ends.specs.Faults.{fault_of_book};
 ghost use Rattle.print_server.specs.Connections.{AreConnections};
 ghost use Rattle.print_server.specs.Lines.{listening_line, served_lines};
+ghost use Rattle.print_server.specs.declared.fault.ServerFault.TheVariants.{Book as ByBook};
 ghost use Rattle.queue_core.specs.World.{World};
+ghost use Rattle.queue_core.specs.declared.book.BookFault.{BookFault};
 ghost use Rattle.queue_store.specs.Kept.{IsHonest, StandsFor};
 ghost use Rattle.queue_store.specs.Opened.{FitsFile};
 ghost use Rattle.commands.specs.Store.{IsKeptIn};
@@ -23,7 +26,9 @@ use std::io::Write;
 use std::rt::HostRuntime;
 
 /// A server that stopped.
-fn fault_of_server(stopped: ServerFault) -> Fault {
+fn fault_of_server(stopped: ServerFault) -> Fault
+    ensures { (fault : BookFault) → stopped ≡ ByBook fault → result ≡ fault_of_book fault }
+{
     match stopped {
         ServerFault::Io(error) => Fault::from(error),
         ServerFault::Book(fault) => Fault::from(fault),

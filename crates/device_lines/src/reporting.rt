@@ -14,7 +14,7 @@ use crate::report_answer::ReportAnswer;
 use queue_core::book::{BookFault, QueueBook};
 use queue_types::event::{Event, Reply, Report};
 
-/// Answers one line of the device: it reads the line, and takes one step of the machine on its report. A
+/// Answers one line of the device at a moment from 1 to 2,147,483,647: it reads the line, and takes one step of the machine on its report. A
 /// line that is no report is refused and changes nothing; the book never sees it. A fault of the book is
 /// answered by `refused 6 fault`, which stands for nothing else, and changes nothing. It takes no memory of
 /// its own.

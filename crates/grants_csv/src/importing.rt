@@ -74,7 +74,7 @@ fn take_rows<B: QueueBook>(
     }
 }
 
-/// Reads an account file and takes its rows as one event at this moment: all of them, or none. A row that
+/// Reads an account file and takes its rows as one event at this moment, from 1 to 2,147,483,647: all of them, or none. A row that
 /// equals one accepted before, in this file or earlier, is a repeat. A refusal says why and for which row,
 /// and the book stands for the world it stood for.
 pub fn import<B: QueueBook>(

@@ -95,7 +95,7 @@ fn run<R: Read, W: Write, B: QueueBook>(
     }
 }
 
-/// Serves a connection at one moment: reads its requests, at most 32, and answers one after another, over a book whose queue has these
+/// Serves a connection at one moment, from 1 to 2,147,483,647: reads its requests, at most 32, and answers one after another, over a book whose queue has these
 /// settings. A request that can't be served is refused (RFC 9110, section 15), which ends the connection.
 ///
 /// It is an error where a read or a write fails, or the book fails inside a document whose head was written. What was written then is a

@@ -54,7 +54,7 @@ impl Buffer {
         self.start += n;
     }
 
-    /// Reads once, and answers how many bytes came: none only at the end.
+    /// Reads once, and answers how many bytes came: none only at the end. There is room, as fewer than 16,384 are held.
     pub fn fill<R: Read>(&mut self, reader: &mut R) -> Result<usize, ReadFault>
         requires { length self.old < 16384 }
         ensures kept { Keeps (left self.old (R.remaining reader.old)) (left self.new (R.remaining reader.new)) }

@@ -20,6 +20,7 @@ pub enum Framing {
 }
 
 impl Framing {
+    /// The body comes by chunks.
     pub fn is_chunked(self) -> bool
         ensures { result ≡ spec.is_chunked self }
     {

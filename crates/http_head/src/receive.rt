@@ -13,7 +13,7 @@ use httparse::spans::EMPTY_HEADER_SPAN;
 use matchit::Router;
 use std::io::Read;
 
-/// What was found in a head's place; a head is taken.
+/// What was found in a head's place. A head that passes its checks is taken.
 #[derive(Clone, Copy)]
 pub enum Headed {
     Ended(Finish),

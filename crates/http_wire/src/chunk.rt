@@ -82,7 +82,7 @@ fn find_line<R: Read>(reader: &mut R, buffer: &mut Buffer, bound: Bound) -> Resu
     }
 }
 
-/// Takes a chunk line. No byte is read for it once `bound.limit` bytes have come.
+/// Takes a chunk line. No byte is read for it once `bound.limit` bytes have come, which is at most 1,024.
 pub fn take_line<R: Read>(
     reader: &mut R,
     buffer: &mut Buffer,

@@ -1,5 +1,5 @@
 //! A whole chunked body (RFC 9112, section 7.1): its content has at most 16,777,216 bytes, and as it stands in the stream it
-//! has at most 67,108,864. No byte is read that no body within these limits has.
+//! has at most 67,108,864. No pass reads a byte once as many have come as the part that it looks for may have.
 ghost use Rattle.std.specs.Prelude.{◌≡◌, ◌+◌, ◌<◌, ◌≤◌, ◌⊎◌, [], length, IfOk};
 ghost use Rattle.std.specs.Bool.{OnTrue, OnFalse};
 ghost use Rattle.http_wire.specs.ChunkParts.{AreChunksTaken, IsChunkedTaken, FitsChunked};

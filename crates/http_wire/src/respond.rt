@@ -117,7 +117,7 @@ pub fn send_continue<W: Write>(writer: &mut W, plan: Plan) -> Result<(), WriteFa
     put(writer, interim_response(plan))
 }
 
-/// Writes the head of a success, behind which its content of so many bytes is to follow.
+/// Writes the head of a success, behind which its content of so many bytes is to follow. Its media type has at most 64 bytes.
 pub fn send_head<W: Write>(
     writer: &mut W,
     media_type: &str,
@@ -131,7 +131,7 @@ pub fn send_head<W: Write>(
     put(writer, success_head(media_type, size, closes).as_slice())
 }
 
-/// Writes a success with its content.
+/// Writes a success with its content. Its media type has at most 64 bytes.
 pub fn send_success<W: Write>(
     writer: &mut W,
     media_type: &str,

@@ -48,7 +48,7 @@ fn find_trailers<R: Read>(
     }
 }
 
-/// Takes a trailer section. No byte is read for it once `bound.limit` bytes have come.
+/// Takes a trailer section. No byte is read for it once `bound.limit` bytes have come, which is at most 16,384.
 pub fn take_trailers<R: Read>(
     reader: &mut R,
     buffer: &mut Buffer,

@@ -112,7 +112,7 @@ fn step<B: QueueBook>(
     }
 }
 
-/// Answers one request by its bytes, of which there are at most 16,777,216: it reads, asks, decides,
+/// Answers one request by its bytes, of which there are at most 16,777,216, at a moment from 1 to 2,147,483,647: it reads, asks, decides,
 /// encodes the reply, and changes the book last. A fault in any of these, as want of memory, is answered
 /// by the bare reply 0x0505 and changes nothing. What the head alone refuses is answered without memory.
 /// Under 8 bytes there is no head to reply to, and nothing happens.

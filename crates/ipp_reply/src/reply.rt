@@ -105,7 +105,8 @@ fn success_message(alloc: Global, head: Head, u: &Unsupported<'_>) -> Result<Mes
 
 /// The reply to a request with this head as a message: its version and request-id, the status code, the
 /// charset utf-8 and the language en, a group of what is unsupported, and a group for each job, or for
-/// the printer, with the wanted attributes (RFC 8011, section 4.1). The one error is want of memory.
+/// the printer, with the wanted attributes (RFC 8011, section 4.1). The reply is one that answers a request, and its jobs
+/// are within their limits; what is unsupported fits in a message. The one error is want of memory.
 pub fn reply_message(
     alloc: Global,
     r: &Reply,
@@ -135,6 +136,7 @@ pub fn reply_message(
                 accepting: *accepting,
             };
             let mut m = success_message(alloc, head, unsupported)?;
+            // its contract says that the settings are within their limits
             let _within_limits = s.name();
             put_printer(alloc, &mut m, printer, wanted.printer_rows())?;
             Ok(m)

@@ -7,7 +7,7 @@ use ipp_wire::tags::{
     BOOLEAN, CHARSET, INTEGER, KEYWORD, MIME_MEDIA_TYPE, NAME_WITH_LANGUAGE, NAME_WITHOUT_LANGUAGE,
     NATURAL_LANGUAGE, URI,
 };
-use queue_types::limits::{MOST_COPIES, MOST_NAME_OCTETS};
+use queue_types::limits::{MOST_COPIES, MOST_IMPRESSIONS, MOST_NAME_OCTETS};
 
 /// The most octets of a uri (RFC 8011, section 5.1.6).
 const MOST_URI_OCTETS: usize = 1023;
@@ -143,7 +143,7 @@ const OF_SELECTION: [Operation; 3] = [
 ];
 
 /// The supported numbers of impressions.
-const IMPRESSIONS: Support = Support::Between(0, 100_000);
+const IMPRESSIONS: Support = Support::Between(0, MOST_IMPRESSIONS);
 
 /// A job is held with no end.
 const HELD: Support = Support::Words(&["indefinite"]);
@@ -213,6 +213,7 @@ impl Row {
 }
 
 impl OperationAttribute {
+    /// Its row of the table.
     pub fn row(self) -> Row
         ensures { row_of result ≡ row self }
     {
@@ -309,6 +310,7 @@ pub const TEMPLATE_TABLE: [TemplateAttribute; 3] = [
 ];
 
 impl TemplateAttribute {
+    /// Its name (RFC 8011, sections 5.2 and 5.3).
     pub fn name(self) -> &'static str
         ensures { result.now ≡ template_name self }
     {
@@ -319,6 +321,7 @@ impl TemplateAttribute {
         }
     }
 
+    /// The values of it that are supported.
     pub fn support(self) -> Support
         ensures { support_of result ≡ template_support self }
     {

@@ -79,6 +79,7 @@ pub fn text<'a>(v: ValueView<'a>) -> Option<&'a [u8]>
     }
 }
 
+/// The first of some values, where there is one.
 pub fn first_value<'a>(values: &[ValueView<'a>]) -> Option<ValueView<'a>>
     ensures { option_map value_of result ≡ first_value (values_of values.now) }
 {

@@ -42,14 +42,20 @@ pub const NAME_WITH_LANGUAGE: u8 = 0x36;
 /// The value tag that closes a collection (section 3.1.6).
 pub const END_COLLECTION: u8 = 0x37;
 
+/// A name in the language of its message.
 pub const NAME_WITHOUT_LANGUAGE: u8 = 0x42;
 
+/// A word of the protocol.
 pub const KEYWORD: u8 = 0x44;
 
+/// A URI.
 pub const URI: u8 = 0x45;
 
+/// The name of a charset.
 pub const CHARSET: u8 = 0x47;
 
+/// The tag of a natural language.
 pub const NATURAL_LANGUAGE: u8 = 0x48;
 
+/// A media type.
 pub const MIME_MEDIA_TYPE: u8 = 0x49;

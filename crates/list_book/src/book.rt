@@ -62,6 +62,7 @@ impl ListBook {
         ensures sound { IsSound result }
     {
         empty_is_sound();
+        // its contract says that the settings are within their limits
         let _estimate = settings.estimate();
         ListBook {
             alloc,

@@ -1,5 +1,5 @@
 //! An account file enters a book.
-ghost use Rattle.std.specs.Prelude.{◌≡◌, ◌⊎◌, ℕ, List, IfErr, IfOk, OnErr, OnOk, take};
+ghost use Rattle.std.specs.Prelude.{◌≡◌, ◌⊎◌, ℕ, List, IfErr, IfOk, OnOk, take};
 ghost use Rattle.office.specs.declared.fault.OfficeFault.TheVariants.{Import};
 ghost use Rattle.std.specs.Io.KnownBytes.{Appends};
 ghost use Rattle.std.specs.Option.{IfSome};
@@ -54,8 +54,8 @@ pub fn import_file<R: Read + Drop, W: Write, B: QueueBook>(
     ensures taken { B.is_honest book.new → OnOk result ((w : World) → B.stands book.old w
         → (bytes : List ℕ) × AreReadOf (R.remaining reader) bytes × (n : ImportedRows) × (u : World) × IsTaken now w u bytes n × B.stands book.new u
         × Appends (W.contents writer.old) (W.contents writer.new) (import_line n)) }
-    ensures left { B.is_honest book.new → OnErr result ((w : World) → B.stands book.old w → B.stands book.new w
-        ⊎ ((bytes : List ℕ) × AreReadOf (R.remaining reader) bytes × (n : ImportedRows) × (u : World) × IsTaken now w u bytes n × B.stands book.new u)) }
+    ensures left { B.is_honest book.new → IfErr result (λ f. (w : World) → B.stands book.old w → B.stands book.new w
+        ⊎ (IsOfStream f × (bytes : List ℕ) × AreReadOf (R.remaining reader) bytes × (n : ImportedRows) × (u : World) × IsTaken now w u bytes n × B.stands book.new u)) }
     ensures refused { IfErr result (λ f. (code row : ℕ) → f ≡ Import code row → (w : World) → B.stands book.old w → B.stands book.new w) }
 {
     let bytes = read_file(alloc, reader, MOST_READ)?;

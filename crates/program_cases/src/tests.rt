@@ -11,4 +11,5 @@ mod new_stores;
 mod patience;
 mod replays;
 mod server;
+mod serving;
 mod words;

@@ -1,7 +1,8 @@
 -- What Get-Jobs shows, job by job.
-use Rattle.std.proofs.Common.{◌≡◌, ℕ, zero, suc, ◌<◌, ◌+◌, List, [], ◌∷◌, refl, ap, sym, ◌∙◌, subst, arith, Bool, true, false, cond}
-use Rattle.std.specs.Prelude.{Option, Some, None, bytes_eq, filter, take, count_by, not, nat_le, ◌&&◌, ◌||◌}
+use Rattle.std.proofs.Common.{◌≡◌, ℕ, zero, suc, ◌<◌, ◌≤◌, ◌+◌, List, [], ◌∷◌, refl, ap, sym, ◌∙◌, subst, arith, Bool, true, false, cond}
+use Rattle.std.specs.Prelude.{Option, Some, None, bytes_eq, filter, take, count_by, not, nat_eq, nat_le, nat_lt, ◌&&◌, ◌||◌}
 use Rattle.std.specs.List.{AllByRecursion as Each}
+use Rattle.std.proofs.lemmas.Bool.Decides.{nat_tests}
 use Rattle.std.proofs.lemmas.List.Sums.{sum_by-cons}
 use Rattle.queue_types.specs.Event.{ask, get_jobs}
 use Rattle.queue_types.specs.Job.{is_live_in, state_in}
@@ -17,6 +18,7 @@ use Rattle.queue_types.specs.declared.job.Job.{Job}
 use Rattle.queue_types.specs.declared.job.Phase.{Phase}
 use Rattle.queue_types.specs.declared.job.Phase.TheVariants.{Waiting, Running, Stopped, Canceled, Aborted, Completed}
 use Rattle.queue_laws.specs.Jobs.{is_owned_by, is_of_kind}
+use Rattle.queue_laws.specs.Turn.{EndInTurn, IsNoNewer, ended_at}
 use Rattle.queue_laws.proofs.Asked.{all_above}
 use Rattle.queue_laws.proofs.Base.{rows_of, each_map, each_filter, passed, last_of}
 
@@ -90,6 +92,16 @@ rank_within : (limit : Option ℕ) (js : List Job) → AreByRank js → AreByRan
 rank_within None js ranked = ranked
 rank_within (Some n) js ranked = rank_take n js ranked
 
+-- a job that ended at the moment x with the number m is not newer than one at y with n
+no_newer : (x m y n : ℕ) → (nat_lt y x || (nat_eq x y && nat_lt n m)) ≡ false → (x ≤ y) × (x ≡ y → m ≤ n)
+no_newer x m y n e =
+    let at_most : x ≤ y = grind (arith, nat_tests) in
+    (at_most, λ same. grind (arith, nat_tests))
+
+in_turn : (js : List Job) → AreNewestFirst js → EndInTurn js
+in_turn [] newest = tt
+in_turn (j ∷ js) newest = (each_map (λ k. is_newer k j ≡ false) (λ k. IsNoNewer k j) js (λ k e. no_newer (ended_at k) k.number (ended_at j) j.number e) newest.0, in_turn js newest.1)
+
 -- ---- the reply
 
 shown_same : (js ks : List Job) → Jobs js ≡ Jobs ks → js ≡ ks
@@ -122,10 +134,10 @@ each_shown completed live w now caller which p js e =
     ∙ count_filter p (λ j. bytes_eq j.owner caller && is_among which j) (rows w)
     ∙ (λ i. count_by (λ j. (bytes_eq j.owner caller && kind_is which j i) && p j) (rows w))
 
-pub completed_shown : ((js : List Job) → AreNewestFirst (in_order CompletedJobs js)) → (w : World) (now : ℕ) (caller : List ℕ) (limit : Option ℕ) (js : List Job) → (step w now (ask caller (get_jobs CompletedJobs limit))).reply ≡ Jobs js → AreNewestFirst js
+pub completed_shown : ((js : List Job) → AreNewestFirst (in_order CompletedJobs js)) → (w : World) (now : ℕ) (caller : List ℕ) (limit : Option ℕ) (js : List Job) → (step w now (ask caller (get_jobs CompletedJobs limit))).reply ≡ Jobs js → EndInTurn js
 completed_shown newest w now caller limit js e =
     let all : List Job = in_order CompletedJobs (chosen w caller CompletedJobs) in
-    subst AreNewestFirst (shown_same (within_limit limit all) js e) (newest_within limit all (newest (chosen w caller CompletedJobs)))
+    subst EndInTurn (shown_same (within_limit limit all) js e) (in_turn (within_limit limit all) (newest_within limit all (newest (chosen w caller CompletedJobs))))
 
 pub live_shown : ((js : List Job) → AreRising js → AreByRank (in_order NotCompleted js)) → (w : World) (now : ℕ) (caller : List ℕ) (limit : Option ℕ) (js : List Job) → IsSound w → (step w now (ask caller (get_jobs NotCompleted limit))).reply ≡ Jobs js → AreByRank js
 live_shown ranked w now caller limit js sound e =

@@ -1,5 +1,6 @@
 pub mod Replies
 pub mod Jobs
+pub mod Turn
 pub mod Calls
 pub mod Own
 pub mod Entering

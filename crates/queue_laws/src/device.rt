@@ -17,8 +17,8 @@ ghost use Rattle.queue_laws.specs.Reporting.{IsSameJob, documents_in};
 
 use queue_core::run_keeps;
 
-/// A report changes nothing but the job that it names, in its phase with its moments and its count; the free pages of
-/// that job's owner; and the report that is kept under its own job and sequence number.
+/// A report changes nothing but the job that it names, in its phase with its moments, its mark that it is to stop, and its
+/// count; the free pages of that job's owner; and the report that is kept under its own job and sequence number.
 pub fn reports_change_their_job()
     ensures settings { (w : World) (now : ℕ) (r : Report) → (step w now (tell r)).world.settings ≡ w.settings }
     ensures grants { (w : World) (now : ℕ) (r : Report) → (step w now (tell r)).world.grants ≡ w.grants }

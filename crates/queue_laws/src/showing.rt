@@ -2,7 +2,7 @@
 ghost use Rattle.std.specs.Prelude.{ℕ, ◌≡◌, ◌&&◌, [], ◌∷◌, Bool, true, List, Option, Some, None, count_by, take};
 ghost use Rattle.queue_types.specs.Event.{ask, get_jobs, get_job_attributes, get_printer_attributes};
 ghost use Rattle.queue_core.specs.Machine.{step};
-ghost use Rattle.queue_core.specs.Order.{AreNewestFirst, AreByRank};
+ghost use Rattle.queue_core.specs.Order.{AreByRank};
 ghost use Rattle.queue_core.specs.Sound.{IsSound};
 ghost use Rattle.queue_core.specs.Visible.{in_order};
 ghost use Rattle.queue_core.specs.World.{World, rows, job_at};
@@ -11,6 +11,7 @@ ghost use Rattle.queue_types.specs.declared.event.WhichJobs.{WhichJobs};
 ghost use Rattle.queue_types.specs.declared.event.WhichJobs.TheVariants.{NotCompleted, Completed as CompletedJobs};
 ghost use Rattle.queue_types.specs.declared.job.Job.{Job};
 ghost use Rattle.queue_laws.specs.Jobs.{own_of_kind, up_to, is_owned_by, is_of_kind};
+ghost use Rattle.queue_laws.specs.Turn.{EndInTurn};
 
 use queue_core::get_jobs_in_order;
 
@@ -26,7 +27,7 @@ pub fn own_jobs_are_shown()
 /// and number.
 pub fn own_jobs_are_in_order()
     ensures each { (w : World) (now : ℕ) (caller : List ℕ) (which : WhichJobs) (p : Job → Bool) (js : List Job) → (step w now (ask caller (get_jobs which None))).reply ≡ Jobs js → count_by p js ≡ count_by (λ j. is_owned_by caller j && is_of_kind which j && p j) (rows w) }
-    ensures completed { (w : World) (now : ℕ) (caller : List ℕ) (limit : Option ℕ) (js : List Job) → (step w now (ask caller (get_jobs CompletedJobs limit))).reply ≡ Jobs js → AreNewestFirst js }
+    ensures completed { (w : World) (now : ℕ) (caller : List ℕ) (limit : Option ℕ) (js : List Job) → (step w now (ask caller (get_jobs CompletedJobs limit))).reply ≡ Jobs js → EndInTurn js }
     ensures not_completed { (w : World) (now : ℕ) (caller : List ℕ) (limit : Option ℕ) (js : List Job) → IsSound w → (step w now (ask caller (get_jobs NotCompleted limit))).reply ≡ Jobs js → AreByRank js }
 {
     get_jobs_in_order();

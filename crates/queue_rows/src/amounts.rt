@@ -13,6 +13,7 @@ use queue_types::job::Job;
 use std::alloc::{AllocError, Global};
 use std::collections::HashMap;
 
+/// The pages of each grant, under its account.
 pub fn grant_amounts<'a>(
     alloc: Global,
     grants: &'a [GrantRow],

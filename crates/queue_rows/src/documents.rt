@@ -4,7 +4,7 @@ ghost use Rattle.queue_rows.specs.Documents.{HasSize, next_of, IsGroup, AreGroup
 
 use crate::rows::DocumentRow;
 use queue_types::job::Job;
-use queue_types::limits::MOST_DOCUMENT_OCTETS;
+use queue_types::limits::{MOST_DOCUMENT_OCTETS, MOST_DOCUMENTS};
 
 /// How many documents of the job stand first. None where they are not numbered 1, 2 and so on, or are
 /// more than 16.
@@ -16,7 +16,7 @@ fn leading_documents(documents: &[DocumentRow], number: u32) -> Option<u32>
         if d.job != number {
             return Some(count);
         }
-        if count == 16 {
+        if count == MOST_DOCUMENTS {
             return None;
         }
         if d.doc != count + 1 {

@@ -21,6 +21,7 @@ fn is_grant(g: &GrantRow) -> bool
     names && g.pages >= 1 && g.pages <= MOST_ROW_PAGES
 }
 
+/// The batch, the account and the pages of each are within their limits.
 pub fn grants_are_sound(grants: &[GrantRow]) -> bool
     ensures { IsTrue result ↔ All IsGrantRow grants.now }
 {

@@ -70,6 +70,7 @@ pub fn is_job_row(j: &Job) -> bool
     texts && moments && numbers && is_bare && fits_phase(j)
 }
 
+/// Each is a job within its limits, whose phase fits its other columns.
 pub fn jobs_are_sound(jobs: &[Job]) -> bool
     ensures { IsTrue result ↔ All IsJobRow jobs.now }
 {

@@ -9,6 +9,7 @@ use crate::amounts::{granted_totals, live_amounts};
 use crate::totals::{are_within, total_of};
 use queue_types::event::GrantRow;
 use queue_types::job::Job;
+use queue_types::limits::MOST_LIVE_JOBS;
 use std::alloc::{AllocError, Global};
 use std::collections::HashMap;
 
@@ -17,7 +18,7 @@ pub fn live_jobs_fit(alloc: Global, jobs: &[Job]) -> Result<bool, AllocError>
     ensures { IfOk result (λ b. IsTrue b ↔ ((caller : List ℕ) → live_jobs caller jobs.now ≤ 100)) }
 {
     let amounts = live_amounts(alloc, jobs)?;
-    are_within(alloc, amounts.as_slice(), 100)
+    are_within(alloc, amounts.as_slice(), MOST_LIVE_JOBS as u128)
 }
 
 fn is_idle(j: &Job) -> bool

@@ -21,6 +21,7 @@ fn is_report(k: &KeptReport) -> bool
         && k.total <= MOST_PRINTED_PAGES
 }
 
+/// The numbers of each, and what was told of it, are within their limits.
 pub fn reports_are_sound(reports: &[KeptReport]) -> bool
     ensures { IsTrue result ↔ All IsReportRow reports.now }
 {

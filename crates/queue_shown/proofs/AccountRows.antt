@@ -27,7 +27,7 @@ use Rattle.queue_tables.proofs.Showing.{shows_all}
 use Rattle.queue_shown.specs.declared.account.AccountPages.{AccountPages}
 use Rattle.queue_shown.specs.Pages.{first_number, pages_of}
 use Rattle.queue_shown.proofs.Firsts.{rows_for, exactly}
-use Rattle.queue_shown.proofs.Texts.{select_account_text, select_account_names, select_account_terms, select_account_where, select_account_order, select_account_is, select_account_plain, select_account_unlisted, select_pages_text, select_pages_names, select_pages_terms, select_pages_where, select_pages_order, select_pages_is, select_pages_plain, select_pages_unlisted}
+use Rattle.queue_shown.proofs.Texts.{select_account_text, select_account_names, select_account_terms, select_account_where, select_account_order, select_account_is, select_account_plain, select_account_unlisted}
 
 -- ---- the account
 
@@ -59,40 +59,3 @@ pages_are w a free row p is first second third =
     let rr : p.reserved ≡ reserved a w = cc in
     let qq : p.printed ≡ printed a w = cc in
     λ x. record { free = ff x; reserved = rr x; printed = qq x }
-
--- ---- the grants
-
--- WHERE account = ?1
-abbrev is_granted : List ℕ → Row → Bool
-is_granted a v = is_true (binary (Compare Eq Binary) (column v 1) (Words a)) && true
-
-granted_row : (a : List ℕ) (g : (List ℕ × List ℕ) × ℕ) → is_granted a (grant_values (grant_row g)) ≡ bytes_eq g.0.1 a
-unfolding binary
-granted_row a g = rw (value_cmp-Text g.0.1 a) (passed _) ∙ is_eq-slice_cmp g.0.1 a
-
-abbrev pages_out : Row → Row
-pages_out v = column v 2 ∷ []
-
-abbrev pages_under : List ℕ → (List ℕ × List ℕ) × ℕ → ℕ
-pages_under a g = if bytes_eq g.0.1 a then g.1 else 0
-
-sum_granted : (a : List ℕ) (gs : List ((List ℕ × List ℕ) × ℕ)) → sum_by first_number (map pages_out (filter (is_granted a) (map (λ g. grant_values (grant_row g)) gs))) ≡ sum_by (pages_under a) gs
-sum_granted a [] = refl
-sum_granted a (g ∷ gs) =
-    let more = sum_granted a gs in
-    let all = sum_by-cons (pages_under a) g gs in
-    elim (cases_Bool (bytes_eq g.0.1 a)) [
-      | inl own ↦
-          let here : pages_under a g ≡ g.1 = rw own refl in
-          rw (granted_row a g ∙ own)
-          (let first = sum_by-cons first_number (pages_out (grant_values (grant_row g))) (map pages_out (filter (is_granted a) (map (λ g. grant_values (grant_row g)) gs))) in omega (arith, first, more, all, here))
-      | inr apart ↦
-          let here : pages_under a g ≡ 0 = rw apart refl in
-          rw (granted_row a g ∙ apart) (omega (arith, more, all, here))
-    ]
-
-pub reads_granted : (old new : State) (a : List ℕ) (found : List Row) (w : World) → Holds (content_of w) old → Shown select_pages_text (Words a ∷ []) old new found → sum_by first_number found ≡ granted a w
-reads_granted old new a found w has h =
-    let p = shows_all book_schema select_pages_text select_pages_names 8 select_pages_where select_pages_terms select_pages_order select_pages_is select_pages_plain select_pages_unlisted (λ db. refl)
-    old new (Words a ∷ []) grant_view (is_granted a) pages_out (content_of w).grants found has.schema (λ r. refl) (λ r. refl) has.rows.grants h in
-    sum_by-IsPermutation first_number _ found p ∙ sum_granted a (entries w.grants)

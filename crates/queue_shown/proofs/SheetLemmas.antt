@@ -1,10 +1,12 @@
 -- The sheet of an account, job by job.
-use Rattle.std.proofs.Common.{◌≡◌, ℕ, ℤ, zero, suc, ◌+◌, ◌<◌, List, [], ◌∷◌, ◌++◌, map, filter, length, take, get_or, Bool, true, false, if◌then◌else◌, Option, None, Some, option_map, refl, sym, ap, subst, ◌∙◌, arith, append-nil}
+use Rattle.std.proofs.Common.{◌≡◌, ℕ, ℤ, pos, ◌+ℤ◌, zero, suc, ◌+◌, ◌<◌, List, [], ◌∷◌, ◌++◌, map, filter, length, take, get_or, Bool, true, false, if◌then◌else◌, Option, None, Some, IfSome, option_map, refl, sym, ap, subst, ◌∙◌, arith, append-nil}
 use Rattle.std.specs.FinMap.{get}
+use Rattle.std.proofs.lemmas.Int.{ints}
 use Rattle.std.proofs.lemmas.List.Elements.{filter_more}
 use Rattle.sqlite.specs.Order.{Row}
 use Rattle.sqlite.specs.declared.types.Value.{Value}
 use Rattle.queue_core.specs.Shown.{sheet_of, sheet_jobs}
+use Rattle.queue_core.specs.Sound.{IsSound, reserved, printed}
 use Rattle.queue_core.specs.World.{World, granted, rows, job_at}
 use Rattle.queue_types.specs.declared.job.Job.{Job}
 use Rattle.queue_types.specs.declared.job.Phase.{Phase}
@@ -55,6 +57,19 @@ told_more js k j xs ys low is front more =
 
 abbrev sheet_with : World → List ℕ → AccountPages → AccountSheet
 sheet_with w a p = record { account = a; granted = granted a w; free = p.free; reserved = p.reserved; printed = p.printed; jobs = sheet_jobs w a }
+
+-- in a sound world the pages granted to an account are those that are free, reserved and printed
+pub granted_of : (w : World) (a : List ℕ) (p : AccountPages) (n : ℕ) → IsSound w → Some p ≡ option_map (pages_of w a) (get w.free a) → pos n ≡ p.free +ℤ pos (p.reserved + p.printed) → n ≡ granted a w
+granted_of w a p n sound found is = at (get w.free a) found (sound.balances a)
+  where
+    at : (o : Option ℤ) → Some p ≡ option_map (pages_of w a) o → IfSome o (λ free. pos (granted a w) ≡ free +ℤ pos (reserved a w + printed a w)) → n ≡ granted a w
+    at None e balance = absurd cc
+    at (Some free) e balance =
+        let same : p ≡ pages_of w a free = cc in
+        let f : p.free ≡ free = ap (λ (x : AccountPages). x.free) same in
+        let r : p.reserved ≡ reserved a w = ap (λ (x : AccountPages). x.reserved) same in
+        let q : p.printed ≡ printed a w = ap (λ (x : AccountPages). x.printed) same in
+        omega (arith, ints, is, balance, f, r, q)
 
 pub no_sheet : (w : World) (a : List ℕ) → None ≡ option_map (pages_of w a) (get w.free a) → None ≡ sheet_of w a
 unfolding sheet_of

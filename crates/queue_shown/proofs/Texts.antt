@@ -147,39 +147,6 @@ pub select_account_unlisted : reads_listing book_schema select_account_text ≡ 
 unfolding understood everything
 select_account_unlisted = refl
 
--- ---- SELECT grants of an account
-
-abbrev pub select_pages_text : List ℕ
-select_pages_text = codes "SELECT pages FROM grants WHERE account = ?1"
-
-abbrev pub select_pages_terms : List Term
-select_pages_terms = col 1 3 ∷ []
-
-abbrev pub select_pages_where : List Term
-select_pages_where = op2 (Compare Eq Binary) (col 1 2) (col 0 0) ∷ []
-
-abbrev pub select_pages_order : List (Term × Key)
-select_pages_order = []
-
-abbrev pub select_pages_names : List (List ℕ)
-select_pages_names = codes "pages" ∷ []
-
-pub select_pages_is : command_of (understood book_schema select_pages_text) ≡ Select (record { lets = []; body = plain_query 8 select_pages_where select_pages_terms select_pages_order }) select_pages_names
-unfolding understood everything
-select_pages_is = refl
-
-pub select_pages_plain : IsPlain (understood book_schema select_pages_text)
-unfolding understood everything
-select_pages_plain = (refl, refl)
-
-pub select_pages_query : IsQueryText select_pages_text
-unfolding first everything
-select_pages_query = refl
-
-pub select_pages_unlisted : reads_listing book_schema select_pages_text ≡ false
-unfolding understood everything
-select_pages_unlisted = refl
-
 -- ---- SELECT jobs of an owner
 
 abbrev pub select_owned_text : List ℕ

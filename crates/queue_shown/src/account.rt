@@ -1,12 +1,12 @@
-//! The pages of an account, and those that were granted to it.
-ghost use Rattle.std.specs.Prelude.{◌≡◌, pos, IfOk, OnOk, IsTrue, option_map, sum_by};
+//! The pages of an account.
+ghost use Rattle.std.specs.Prelude.{◌≡◌, ◌+◌, ◌+ℤ◌, pos, IfOk, OnOk, IsTrue, option_map};
 ghost use Rattle.std.specs.FinMap.{get};
 ghost use Rattle.sqlite.specs.Held.{state};
 ghost use Rattle.sqlite.specs.Order.{column};
 ghost use Rattle.sqlite.specs.State.{HasCleanDisk};
 ghost use Rattle.sqlite.specs.declared.types.Value.TheVariants.{Int};
-ghost use Rattle.queue_core.specs.World.{World, granted};
-ghost use Rattle.queue_shown.specs.Pages.{first_number, pages_of};
+ghost use Rattle.queue_core.specs.World.{World};
+ghost use Rattle.queue_shown.specs.Pages.{pages_of};
 ghost use Rattle.queue_tables.specs.Content.{Content, Holds, content_of};
 ghost use Rattle.queue_tables.specs.Tables.{book_schema};
 
@@ -66,42 +66,16 @@ pub(crate) fn find_account<S: Alter>(
     }
 }
 
-/// The number in the first column.
-fn number_of(row: &Row) -> Result<u32, Fault>
-    ensures { IfOk result (λ n. n ≡ first_number row.now) }
+/// The pages that were granted to an account: those that are free, reserved and printed, together. It is damaged where
+/// they are below zero or past 64 bits.
+pub(crate) fn granted_in(pages: AccountPages) -> Result<u64, Fault>
+    ensures { IfOk result (λ n. pos n ≡ pages.free +ℤ pos (pages.reserved + pages.printed)) }
 {
-    value(row, 0)
-}
-
-/// The sum of the numbers in the first column.
-pub(crate) fn sum_of(rows: &[Row]) -> Result<u64, Fault>
-    ensures { IfOk result (λ n. n ≡ sum_by first_number rows.now) }
-{
-    let mut sum: u64 = 0;
-    for row in rows {
-        let number = number_of(row)?;
-        let Some(more) = sum.checked_add(u64::from(number)) else {
-            return Err(Fault::Damaged);
-        };
-        sum = more;
+    let Some(used) = pages.reserved.checked_add(pages.printed) else {
+        return Err(Fault::Damaged);
+    };
+    match used.checked_add_signed(pages.free) {
+        Some(granted) => Ok(granted),
+        None => Err(Fault::Damaged),
     }
-    Ok(sum)
-}
-
-/// The pages that were granted to an account.
-pub(crate) fn granted_to<S: Alter>(conn: &mut Connection<S>, account: &str) -> Result<u64, Fault>
-    ensures clean { HasCleanDisk (state S.Store conn.new) → HasCleanDisk (state S.Store conn.old) }
-    ensures opened { HasCleanDisk (state S.Store conn.new) → IsTrue (state S.Store conn.new).is_open → IsTrue (state S.Store conn.old).is_open }
-    ensures live { HasCleanDisk (state S.Store conn.new) → OnOk result (IsTrue (state S.Store conn.new).is_open) }
-    ensures same { HasCleanDisk (state S.Store conn.new) → IsTrue (state S.Store conn.new).is_open → (state S.Store conn.old).now.schema ≡ book_schema → (state S.Store conn.new).now ≡ (state S.Store conn.old).now }
-    ensures kept { HasCleanDisk (state S.Store conn.new) → IsTrue (state S.Store conn.new).is_open → (c : Content) → Holds c (state S.Store conn.old) → Holds c (state S.Store conn.new) }
-    ensures back { HasCleanDisk (state S.Store conn.new) → (c : Content) → Holds c (state S.Store conn.new) → Holds c (state S.Store conn.old) }
-    ensures told { HasCleanDisk (state S.Store conn.new) → IfOk result (λ n. (w : World) → Holds (content_of w) (state S.Store conn.old) → n ≡ granted account.now w) }
-{
-    let found = select(
-        conn,
-        "SELECT pages FROM grants WHERE account = ?1",
-        params![account],
-    )?;
-    sum_of(found.as_slice())
 }

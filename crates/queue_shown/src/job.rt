@@ -1,17 +1,18 @@
 //! A job by its row, with what its documents add up to.
-ghost use Rattle.std.specs.Prelude.{◌≡◌, Some, IfOk, OnOk, IsTrue, length};
+ghost use Rattle.std.specs.Prelude.{◌≡◌, Some, IfOk, OnOk, IsTrue, length, sum_by};
 ghost use Rattle.sqlite.specs.Held.{state};
 ghost use Rattle.sqlite.specs.State.{HasCleanDisk};
 ghost use Rattle.queue_core.specs.Sound.{IsSound};
 ghost use Rattle.queue_core.specs.World.{World, job_at, rows as rows_of};
 ghost use Rattle.queue_types.specs.declared.job.Job.{Job as JobValue};
+ghost use Rattle.queue_shown.specs.Pages.{first_number};
 ghost use Rattle.queue_tables.specs.Content.{Content, Holds, content_of};
 ghost use Rattle.queue_tables.specs.Steps.{bare};
 ghost use Rattle.queue_tables.specs.Tables.{book_schema};
 
-use crate::account::sum_of;
 use crate::select::select;
 use queue_tables::fault::Fault;
+use queue_tables::read::value;
 use queue_types::job::Job;
 use queue_types::limits::MOST_DOCUMENTS;
 use sqlite::{Alter, Connection, Row, params};
@@ -24,6 +25,28 @@ fn count_of(rows: &[Row]) -> Result<u32, Fault>
         return Err(Fault::Damaged);
     }
     Ok(rows.len() as u32)
+}
+
+/// The number in the first column.
+fn number_of(row: &Row) -> Result<u32, Fault>
+    ensures { IfOk result (λ n. n ≡ first_number row.now) }
+{
+    value(row, 0)
+}
+
+/// The sum of the numbers in the first column.
+fn sum_of(rows: &[Row]) -> Result<u64, Fault>
+    ensures { IfOk result (λ n. n ≡ sum_by first_number rows.now) }
+{
+    let mut sum: u64 = 0;
+    for row in rows {
+        let number = number_of(row)?;
+        let Some(more) = sum.checked_add(u64::from(number)) else {
+            return Err(Fault::Damaged);
+        };
+        sum = more;
+    }
+    Ok(sum)
 }
 
 /// Puts into a job, which was read without its documents, how many it has and the sum of their lengths.

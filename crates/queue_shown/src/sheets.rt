@@ -12,7 +12,7 @@ ghost use Rattle.queue_tables.specs.Content.{Content, Holds, content_of};
 ghost use Rattle.queue_tables.specs.Tables.{book_schema};
 ghost use Rattle.queue_tables.specs.Values.{job_values};
 
-use crate::account::{find_account, granted_to};
+use crate::account::{find_account, granted_in};
 use crate::job::count_documents;
 use crate::select::select;
 use queue_rows::laws::numbers_tell_names;
@@ -120,7 +120,7 @@ pub fn sheet<S: Alter>(
     let Some(pages) = found else {
         return Ok(None);
     };
-    let granted = granted_to(conn, account)?;
+    let granted = granted_in(pages)?;
     let jobs = told_jobs(alloc, conn, account)?;
     let name = Text::copy_of(alloc, account)?;
     Ok(Some(AccountSheet {

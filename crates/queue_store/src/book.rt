@@ -80,6 +80,7 @@ fn make_new<S: Alter>(
     ensures refused { HasCleanDisk (state S.Store conn.new) → IfErr result (λ e. IsTrue (state S.Store conn.new).is_open → (state S.Store conn.new).now ≡ (state S.Store conn.old).now) }
     ensures damaged { IfErr result (λ e. e ≡ Fault.Damaged → IsTrue (has_any (state S.Store conn.old).now.schema)) }
 {
+    // its contract says that outside a transaction the tables are those of the last commit
     let _settled = conn.is_autocommit();
     if has_any_table(conn) {
         return Err(Fault::Damaged);
@@ -108,6 +109,7 @@ impl<S: Alter> TableBook<S> {
         ensures handed { IfErr result (λ e. HasCleanDisk (state S.Store e.1) → IsTrue (state S.Store e.1).is_open → (state S.Store e.1).now ≡ (state S.Store conn).now) }
     {
         empty_is_sound();
+        // its contract says that the settings are within their limits
         let _estimate = settings.estimate();
         match make_new(alloc, &mut conn, &settings) {
             Ok(()) => Ok(TableBook {
@@ -147,6 +149,7 @@ impl<S: Alter + Drop> TableBook<S> {
         settings: Settings,
     ) -> Result<TableBook<S>, BookFault>
         ensures stands { IfOk result (λ b. StandsFor S.Store b (empty_queue settings)) }
+        ensures live { IfOk result (λ b. IsHonest S.Store b → IsTrue (shown_by S.Store b).is_open) }
         ensures damaged { IfErr result (λ e. e ≡ Damaged → IsTrue (has_any (state S.Store conn).now.schema)) }
     {
         match TableBook::create(alloc, conn, settings) {

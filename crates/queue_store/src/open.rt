@@ -1,5 +1,5 @@
 //! A book from a file.
-ghost use Rattle.std.specs.Prelude.{◌≡◌, codes, Err, IfOk};
+ghost use Rattle.std.specs.Prelude.{◌≡◌, codes, Err, IfOk, IsTrue};
 ghost use Rattle.sqlite.specs.Files.{HoldsDatabase, file_state, over_files};
 ghost use Rattle.sqlite.specs.State.{HasCleanDisk};
 ghost use Rattle.sqlite_trees.specs.Tree.{Trees};
@@ -58,7 +58,8 @@ fn create_in_files<D: Disk + Drop>(
     conn: Connection<FileStore<D>>,
     settings: Settings,
 ) -> Result<TableBook<FileStore<D>>, BookFault>
-    ensures { IfOk result (λ b. StandsFor over_files b (empty_queue settings)) }
+    ensures stands { IfOk result (λ b. StandsFor over_files b (empty_queue settings)) }
+    ensures live { IfOk result (λ b. IsHonest over_files b → IsTrue (shown_by over_files b).is_open) }
 {
     match TableBook::create(alloc, conn, settings) {
         Ok(book) => Ok(book),
@@ -91,7 +92,8 @@ impl<S: Start> TableBook<FileStore<FileFrom<S>>> {
         settings: Settings,
         start: S,
     ) -> Result<TableBook<FileStore<FileFrom<S>>>, BookFault>
-        ensures { IfOk result (λ b. StandsFor over_files b (empty_queue settings)) }
+        ensures stands { IfOk result (λ b. StandsFor over_files b (empty_queue settings)) }
+        ensures live { IfOk result (λ b. IsHonest over_files b → IsTrue (shown_by over_files b).is_open) }
     {
         match Connection::open_from(rt, path, false, start) {
             Ok(conn) => {
@@ -103,7 +105,8 @@ impl<S: Start> TableBook<FileStore<FileFrom<S>>> {
     }
 
     /// The book that the files at a path hold, where `start` stands for what they hold as they are opened. Disk is
-    /// told also where they can't be opened or are in use, Damaged also where they are no database.
+    /// told also where they can't be opened or are in use, Damaged also where they are no database. A path without a
+    /// file gets an empty one, which is Damaged.
     pub fn open_from(
         rt: &HostRuntime,
         path: &str,

@@ -44,6 +44,7 @@ impl<S: Alter> QueueBook for TableBook<S> {
 
     fn send_document<W: Write>(&mut self, job: u32, n: u32, out: &mut W) -> Result<u64, SendFault> {
         empty_is_sound();
+        // its contract says that the settings are within their limits
         let _estimate = self.settings.estimate();
         queue_shown::send_document(&mut self.conn, job, n, out)
     }

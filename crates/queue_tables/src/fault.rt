@@ -9,10 +9,11 @@ use std::alloc::{AllocError, AllocFailed};
 /// Why the tables can't be read or written.
 #[derive(Clone, Copy, Debug, PartialEq, Eq)]
 pub enum Fault {
+    /// There was no memory.
     Memory,
-    /// The disk, or its size, refused.
+    /// The disk, or its size, refused; a transaction of the caller's is under way; or a statement doesn't fit the tables that are there.
     Disk,
-    /// A row has not the form of its table, or another row of its key is there.
+    /// A row has not the form of its table, another row of its key is there, or one is missing that others need.
     Damaged,
 }
 

@@ -119,7 +119,7 @@ impl Settings {
         self.estimate
     }
 
-    /// The second of the clock at which the printer's up time is 0, since 1970.
+    /// The second of the clock, since 1970, that is moment 1.
     pub fn epoch(&self) -> i64
         ensures epoch { result ≡ self.now.epoch }
         ensures limits { AreSettings self.now }

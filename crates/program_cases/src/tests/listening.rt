@@ -12,7 +12,7 @@ use std::io;
 use std::net::{Ipv4Addr, SocketAddr, TcpListener};
 
 /// A port that nobody listens on: one that the system has just given and taken back.
-fn free_port(rt: &HostRuntime) -> io::Result<u16> {
+pub(super) fn free_port(rt: &HostRuntime) -> io::Result<u16> {
     let listener = TcpListener::bind(rt, SocketAddr::from((Ipv4Addr::LOCALHOST, 0)))?;
     Ok(listener.local_addr()?.port())
 }

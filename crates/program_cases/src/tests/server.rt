@@ -214,7 +214,11 @@ fn send<W: Write>(writer: &mut W, parts: &[&[u8]]) -> Result<(), Mismatch> {
 }
 
 /// A client gets this, and then the end of its connection.
-fn reads<R: Read>(alloc: Global, reader: &mut R, wanted: &[Wanted<'_>]) -> Result<(), Mismatch> {
+pub(super) fn reads<R: Read>(
+    alloc: Global,
+    reader: &mut R,
+    wanted: &[Wanted<'_>],
+) -> Result<(), Mismatch> {
     let wanted = wanted_bytes(alloc, wanted)?;
     let mut came = Vec::new(alloc);
     reader.read_to_end(&mut came)?;

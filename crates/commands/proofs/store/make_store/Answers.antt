@@ -10,7 +10,7 @@ use Rattle.commands.proofs.store.make_store.Goals as goal
 pub returns-clause-made : goal.returns-clause-made
 returns-clause-made g c =
     let at = c.in_ok-settings.ensures.ok in
-    (at.0, subst (λ (s : SettingValues). StandsFor over_files c.in_ok-book.book (empty_queue s)) at.1 c.in_ok-book.ensures)
+    (at.0, subst (λ (s : SettingValues). StandsFor over_files c.in_ok-book.book (empty_queue s)) at.1 c.in_ok-book.ensures.stands)
 
 pub returns-in_err-book-clause-bad : goal.returns-in_err-book-clause-bad
 returns-in_err-book-clause-bad g c =

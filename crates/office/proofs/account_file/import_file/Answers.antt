@@ -2,7 +2,8 @@ use Rattle.std.proofs.Common.{◌≡◌, refl, sym, ◌∙◌, ap, inr}
 use Rattle.grants_csv.specs.File.{rows_of}
 use Rattle.queue_types.specs.Event.{grant}
 use Rattle.queue_core.specs.Machine.{step}
-use Rattle.office.proofs.Reading.{given, then}
+use Rattle.office.specs.Faults.{IsOfStream}
+use Rattle.office.proofs.Reading.{failing, then}
 use Rattle.office.proofs.account_file.import_file.Goals as goal
 
 pub returns-clause-taken : goal.returns-clause-taken
@@ -18,9 +19,10 @@ returns-clause-taken g c = λ honest. then c.tell.result c.tell.ensures.told (λ
     ))
 
 pub returns-clause-left : goal.returns-clause-left
-returns-clause-left g c = λ honest. given c.tell.result (λ w stands.
+returns-clause-left g c = λ honest. failing c.tell.result IsOfStream _ c.tell.ensures.failed (λ f of_stream w stands.
     let a = c.in_ok-n.ensures.added honest w stands in
     inr (
+      of_stream,
       c.in_ok-bytes.bytes.items,
       c.in_ok-bytes.ensures.bytes,
       c.in_ok-n.n,

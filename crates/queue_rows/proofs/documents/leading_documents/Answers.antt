@@ -15,8 +15,8 @@ returns-then-d-number c =
     (λ lt. ne_eqb _ _ (subst (λ (m : ℕ). (get_or c.args.documents.now m no_document).job ≡ c.args.number → ⊥) (sym inv.place) c.if-d-number.true)) in
     group_is c.args.number c.loop-d.count c.args.documents.now ends inv.few inv.numbered
 
-pub returns-then-count-eq16 : goal.returns-then-count-eq16
-returns-then-count-eq16 c =
+pub returns-then-count-eq-MOST_DOCUMENTS : goal.returns-then-count-eq-MOST_DOCUMENTS
+returns-then-count-eq-MOST_DOCUMENTS c =
     let inv = c.loop-d.invariant in
     too_many c.args.number c.args.documents.now c.loop-d.d-index no_document (omega arith) (omega arith) (λ k d lt. inv.theirs k d (omega arith)) c.if-d-number.false
 
