@@ -1,6 +1,6 @@
 //! A whole table, read a row at a time.
-ghost use Rattle.std.specs.Prelude.{◌≡◌, ◌≢◌, false, List, [], IfOk, IfErr, OnOk};
-ghost use Rattle.sqlite.specs.Given.{IsPlain};
+ghost use Rattle.std.specs.Prelude.{◌≡◌, ◌≢◌, ℕ, false, List, [], IfOk, IfErr, OnOk, IsTrue};
+ghost use Rattle.sqlite.specs.Given.{IsPlain, HasGiven};
 ghost use Rattle.sqlite.specs.Held.{state};
 ghost use Rattle.sqlite.specs.Listing.{understood};
 ghost use Rattle.sqlite.specs.Order.{Row as Columns};
@@ -10,7 +10,7 @@ ghost use Rattle.queue_tables.specs.Tables.{book_schema};
 ghost use Rattle.queue_tables.specs.declared.fault.Fault.TheVariants.{Damaged, Disk};
 
 use queue_tables::fault::Fault;
-use sqlite::{Alter, Connection, Row};
+use sqlite::{Alter, Connection, Row, Rows};
 use std::alloc::Global;
 
 /// A row of a table, typed.
@@ -28,6 +28,26 @@ pub trait TableRow: Drop {
         ensures never { IfErr result (λ e. e ≢ Disk) };
 }
 
+/// The rows of a query that stands before its first. Damaged is told only where one of them is formless.
+fn read_rows<S: Alter, T: TableRow>(alloc: Global, rows: &mut Rows<S>) -> Result<Vec<T>, Fault>
+    ensures same_reference { rows.new.conn.ghost_name ≡ rows.old.conn.ghost_name }
+    ensures clean { HasCleanDisk (state S.Store rows.new.conn.now) → HasCleanDisk (state S.Store rows.old.conn.now) }
+    ensures mode { rows.old.conn.now.in_transaction ≡ false → rows.new.conn.now.in_transaction ≡ false }
+    ensures read { HasCleanDisk (state S.Store rows.new.conn.now) → IsTrue (state S.Store rows.old.conn.now).is_open → (sql : List ℕ) → IsPlain (understood (state S.Store rows.old.conn.now).now.schema sql) → HasGiven S.Store sql [] rows.old.conn.now [] → IfOk result (λ v. HasRead T.tells sql (state S.Store rows.old.conn.now) v.items) }
+    ensures formless { HasCleanDisk (state S.Store rows.new.conn.now) → IsTrue (state S.Store rows.old.conn.now).is_open → (sql : List ℕ) → HasGiven S.Store sql [] rows.old.conn.now [] → IfErr result (λ e. e ≡ Damaged → FindsFormless T.is_formless sql (state S.Store rows.old.conn.now)) }
+    ensures same { HasCleanDisk (state S.Store rows.new.conn.now) → IsTrue (state S.Store rows.old.conn.now).is_open → OnOk result (IsUnchanged (state S.Store rows.old.conn.now) (state S.Store rows.new.conn.now)) }
+    ensures left { HasCleanDisk (state S.Store rows.new.conn.now) → IsTrue (state S.Store rows.old.conn.now).is_open → LeavesRows (state S.Store rows.old.conn.now) (state S.Store rows.new.conn.now) }
+{
+    let mut items = Vec::new(alloc);
+    'rows: for _ in 0..u64::MAX {
+        let Some(row) = rows.next()? else {
+            return Ok(items);
+        };
+        items.push(T::read(alloc, row)?)?;
+    }
+    Err(Fault::Disk)
+}
+
 /// The rows that a SELECT without parameters shows, in its order. Damaged is told only where one of them is
 /// formless.
 pub(crate) fn read_table<S: Alter, T: TableRow>(
@@ -43,13 +63,6 @@ pub(crate) fn read_table<S: Alter, T: TableRow>(
     ensures same { HasBook (state S.Store conn.old) → HasCleanDisk (state S.Store conn.new) → OnOk result (IsUnchanged (state S.Store conn.old) (state S.Store conn.new)) }
     ensures left { HasBook (state S.Store conn.old) → HasCleanDisk (state S.Store conn.new) → LeavesRows (state S.Store conn.old) (state S.Store conn.new) }
 {
-    let mut items = Vec::new(alloc);
     let mut rows = conn.query(sql, &[])?;
-    'rows: for _ in 0..u64::MAX {
-        let Some(row) = rows.next()? else {
-            return Ok(items);
-        };
-        items.push(T::read(alloc, row)?)?;
-    }
-    Err(Fault::Disk)
+    read_rows(alloc, &mut rows)
 }

@@ -1,23 +1,11 @@
 -- A document on its way out, piece by piece.
-use Rattle.std.specs.Prelude.{◌≡◌, ◌⊎◌, ℕ, List, [], ◌++◌, flat_map, length, Option, None, codes}
+use Rattle.std.specs.Prelude.{◌≡◌, ◌⊎◌, ℕ, List, [], ◌++◌, flat_map, length, Option, codes}
 use Rattle.std.specs.Io.KnownBytes.{Appends}
 use Rattle.sqlite.specs.declared.types.Value.{Value}
 use Rattle.sqlite.specs.declared.types.Value.TheVariants.{Null, Int, Real, Text as Words, Blob}
 use Rattle.sqlite.specs.Order.{Row, column}
-use Rattle.sqlite.specs.State.{State, Begins, HasCleanDisk, IsRolledBack, IsStatement, IsUnchanged}
-use Rattle.sqlite.specs.Effect.{Database, Reads}
-use Rattle.sqlite.specs.Listing.{reads_listing, IsSourceOf}
-use Rattle.sqlite.specs.Clock.{timed}
-use Rattle.sqlite_resolve.specs.declared.compiled.Compiled.{Compiled}
-use Rattle.queue_tables.specs.Tables.{book_schema}
-
--- the tables are as `create` makes them, as far as the disk was honest
-abbrev pub HasBook : State → Type 0
-HasBook s = HasCleanDisk s → s.now.schema ≡ book_schema
-
--- as it was, or back at the last commit
-abbrev pub LeavesRows : State → State → Type 0
-LeavesRows old new = IsUnchanged old new ⊎ IsRolledBack old new
+use Rattle.sqlite.specs.State.{State, Begins}
+pub use Rattle.queue_tables.specs.Reads.{Answers, HasBook, LeavesRows}
 
 abbrev pub blob_bytes : Value → List ℕ
 blob_bytes (Blob b) = b
@@ -35,11 +23,6 @@ bytes_of rows = flat_map piece_bytes rows
 
 abbrev pub pieces_select : List ℕ
 pieces_select = codes "SELECT bytes FROM pieces WHERE job = ?1 AND doc = ?2 ORDER BY piece"
-
--- these are all rows of the answer
-abbrev pub Answers : List ℕ → Row → State → List Row → Type 0
-Answers sql params s rows =
-    (c : Compiled) × (it : IsStatement s sql params c) × (c.returning ≡ None) × (db : Database) × IsSourceOf (reads_listing s.now.schema sql) s.now db × Reads c.command db (timed params c.formats it.now) rows
 
 -- all rows of the answer were written
 pub record HasSent (params : Row) (s : State) (before after : Option (List ℕ)) (n : ℕ) : Type 0 where

@@ -1,13 +1,16 @@
 //! A document, written a piece at a time while its rows borrow the connection.
 ghost use Rattle.std.specs.Prelude.{◌≡◌, ◌+◌, ◌<◌, ◌≤◌, ◌^◌, ℕ, [], ◌∷◌, Some, length, take, IfOk, IfErr, OnOk, OnErr, IsTrue};
 ghost use Rattle.std.specs.Io.KnownBytes.{Appends};
+ghost use Rattle.sqlite.specs.Given.{HasGiven, IsPlain};
 ghost use Rattle.sqlite.specs.Held.{state};
+ghost use Rattle.sqlite.specs.Listing.{understood};
+ghost use Rattle.sqlite.specs.Order.{Row as Columns};
 ghost use Rattle.sqlite.specs.State.{HasCleanDisk, IsUnchanged};
 ghost use Rattle.queue_core.specs.Shown.{document_at};
 ghost use Rattle.queue_core.specs.Sound.{IsSound};
 ghost use Rattle.queue_core.specs.World.{World};
 ghost use Rattle.queue_types.specs.declared.document.Document.{Document};
-ghost use Rattle.queue_shown.specs.Sent.{HasBook, HasSent, HasSentFront, LeavesRows, piece_bytes};
+ghost use Rattle.queue_shown.specs.Sent.{HasBook, HasSent, HasSentFront, LeavesRows, piece_bytes, pieces_select};
 ghost use Rattle.queue_tables.specs.Content.{Content, Holds, content_of};
 ghost use Rattle.queue_tables.specs.Tables.{book_schema};
 ghost use Rattle.queue_tables.specs.Values.{number};
@@ -15,7 +18,7 @@ ghost use Rattle.queue_tables.specs.Values.{number};
 use queue_core::{BookFault, SendCause, SendFault};
 use queue_tables::fault::Fault;
 use sqlite::types::ValueRef;
-use sqlite::{Alter, Connection, Error, Row, params};
+use sqlite::{Alter, Connection, Error, Row, Rows, params};
 use std::io::Write;
 
 /// Why the pieces were not written to the last.
@@ -75,6 +78,29 @@ fn put_piece<W: Write>(row: &Row, out: &mut W, written: &mut u64) -> Result<(), 
     put(out, bytes, written)
 }
 
+/// Writes the pieces that a query shows, which stands before its first, in order.
+fn send_rows<S: Alter, W: Write>(
+    rows: &mut Rows<S>,
+    out: &mut W,
+    written: &mut u64,
+) -> Result<(), Stop>
+    requires { written.old ≡ 0 }
+    ensures same_reference { rows.new.conn.ghost_name ≡ rows.old.conn.ghost_name }
+    ensures clean { HasCleanDisk (state S.Store rows.new.conn.now) → HasCleanDisk (state S.Store rows.old.conn.now) }
+    ensures sent { HasCleanDisk (state S.Store rows.new.conn.now) → IsTrue (state S.Store rows.old.conn.now).is_open → (params : Columns) → IsPlain (understood (state S.Store rows.old.conn.now).now.schema pieces_select) → HasGiven S.Store pieces_select params rows.old.conn.now [] → OnOk result (HasSent params (state S.Store rows.old.conn.now) (W.contents out.old) (W.contents out.new) written.new) }
+    ensures front { HasCleanDisk (state S.Store rows.new.conn.now) → IsTrue (state S.Store rows.old.conn.now).is_open → (params : Columns) → HasGiven S.Store pieces_select params rows.old.conn.now [] → OnErr result (HasSentFront params (state S.Store rows.old.conn.now) (W.contents out.old) (W.contents out.new) written.new) }
+    ensures same { HasCleanDisk (state S.Store rows.new.conn.now) → IsTrue (state S.Store rows.old.conn.now).is_open → OnOk result (IsUnchanged (state S.Store rows.old.conn.now) (state S.Store rows.new.conn.now)) }
+    ensures left { HasCleanDisk (state S.Store rows.new.conn.now) → IsTrue (state S.Store rows.old.conn.now).is_open → LeavesRows (state S.Store rows.old.conn.now) (state S.Store rows.new.conn.now) }
+{
+    'rows: for _ in 0..u64::MAX {
+        let Some(row) = rows.next()? else {
+            return Ok(());
+        };
+        put_piece(row, out, written)?;
+    }
+    Err(Stop::Tables(Fault::Disk))
+}
+
 /// Writes the pieces of a document in order.
 fn send_pieces<S: Alter, W: Write>(
     conn: &mut Connection<S>,
@@ -95,13 +121,7 @@ fn send_pieces<S: Alter, W: Write>(
         "SELECT bytes FROM pieces WHERE job = ?1 AND doc = ?2 ORDER BY piece",
         params![job, doc],
     )?;
-    'rows: for _ in 0..u64::MAX {
-        let Some(row) = rows.next()? else {
-            return Ok(());
-        };
-        put_piece(row, out, written)?;
-    }
-    Err(Stop::Tables(Fault::Disk))
+    send_rows(&mut rows, out, written)
 }
 
 /// Writes the bytes of document n, counted from 1, of a job in state 3, 5 or 6, and says how many they are.

@@ -84,3 +84,20 @@ impl<S: Alter> TableBook<S> {
         }
     }
 }
+
+impl<S: Alter + Drop> TableBook<S> {
+    /// As `adopt`, but a refusal lets the connection go.
+    pub(crate) fn adopt_or_drop(
+        alloc: Global,
+        conn: Connection<S>,
+    ) -> Result<TableBook<S>, BookFault>
+        ensures clean { IfOk result (λ b. IsHonest S.Store b → HasCleanDisk (state S.Store conn)) }
+        ensures stands { FitsIn (state S.Store conn) → IfOk result (λ b. StandsForOne S.Store b) }
+        ensures same { FitsIn (state S.Store conn) → IfOk result (λ b. IsHonest S.Store b → (shown_by S.Store b).now ≡ (state S.Store conn).now) }
+    {
+        match TableBook::adopt(alloc, conn) {
+            Ok(book) => Ok(book),
+            Err((fault, _conn)) => Err(fault),
+        }
+    }
+}

@@ -34,7 +34,7 @@ fn fault_of_open(e: Error) -> BookFault
 /// Lets the files of a connection go as they are, without reading or writing.
 fn let_files_go<D: Disk + Drop>(_conn: Connection<FileStore<D>>) {}
 
-/// As `TableBook::adopt`, but a refusal lets the files go.
+/// `TableBook::adopt_or_drop` over files.
 fn adopt_in_files<D: Disk + Drop>(
     alloc: Global,
     conn: Connection<FileStore<D>>,
@@ -43,16 +43,10 @@ fn adopt_in_files<D: Disk + Drop>(
     ensures stands { FitsIn (file_state conn) → IfOk result (λ b. StandsForOne over_files b) }
     ensures same { FitsIn (file_state conn) → IfOk result (λ b. IsHonest over_files b → (shown_by over_files b).now ≡ (file_state conn).now) }
 {
-    match TableBook::adopt(alloc, conn) {
-        Ok(book) => Ok(book),
-        Err((fault, conn)) => {
-            let_files_go(conn);
-            Err(fault)
-        }
-    }
+    TableBook::adopt_or_drop(alloc, conn)
 }
 
-/// As `TableBook::create`, but a refusal lets the files go.
+/// `TableBook::create_or_drop` over files.
 fn create_in_files<D: Disk + Drop>(
     alloc: Global,
     conn: Connection<FileStore<D>>,
@@ -61,13 +55,7 @@ fn create_in_files<D: Disk + Drop>(
     ensures stands { IfOk result (λ b. StandsFor over_files b (empty_queue settings)) }
     ensures live { IfOk result (λ b. IsHonest over_files b → IsTrue (shown_by over_files b).is_open) }
 {
-    match TableBook::create(alloc, conn, settings) {
-        Ok(book) => Ok(book),
-        Err((fault, conn)) => {
-            let_files_go(conn);
-            Err(fault)
-        }
-    }
+    TableBook::create_or_drop(alloc, conn, settings)
 }
 
 impl<D: Disk + Drop> TableBook<FileStore<D>> {

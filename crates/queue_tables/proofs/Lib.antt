@@ -25,3 +25,4 @@ pub mod Kept
 pub mod Decided
 pub mod Columns
 pub mod Queries
+pub mod Reading

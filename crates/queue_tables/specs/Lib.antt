@@ -7,3 +7,4 @@ pub mod Steps
 pub mod Forms
 pub mod Faults
 pub mod Queries
+pub mod Reads

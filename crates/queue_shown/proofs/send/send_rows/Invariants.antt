@@ -1,20 +1,19 @@
-use Rattle.std.proofs.Common.{◌≡◌, [], ◌∷◌, List, length}
+use Rattle.std.proofs.Common.{◌≡◌, [], List, length, IsTrue}
 use Rattle.std.specs.Io.KnownBytes.{Appends}
 use Rattle.sqlite.specs.Given.{HasGiven}
 use Rattle.sqlite.specs.Held.{state}
 use Rattle.sqlite.specs.Order.{Row}
 use Rattle.sqlite.specs.State.{HasCleanDisk, IsUnchanged}
-use Rattle.queue_shown.specs.Sent.{HasBook, pieces_select, bytes_of}
-use Rattle.queue_tables.specs.Values.{number}
-use Rattle.queue_shown.proofs.send.send_pieces.Given as goal
+use Rattle.queue_shown.specs.Sent.{pieces_select, bytes_of}
+use Rattle.queue_shown.proofs.send.send_rows.Given as goal
 
 -- the rows given so far were written, and the rows of the tables are as they were
 abbrev pub invariant-rows : goal.invariant-rows
 invariant-rows g l =
-    let old = state g.S.Store l.fn.conn in
+    let old = state g.S.Store l.initial.rows.conn.now in
     let now = state g.S.Store l.rows.conn.now in
     (l.rows.conn.ghost_name ≡ l.initial.rows.conn.ghost_name)
     × (HasCleanDisk now → HasCleanDisk old)
-    × (HasCleanDisk now → IsUnchanged old now)
-    × (HasBook old → HasCleanDisk now → (given : List Row) × HasGiven g.S.Store pieces_select (number l.job ∷ number l.doc ∷ []) l.rows.conn.now given
+    × (HasCleanDisk now → IsTrue old.is_open → IsUnchanged old now)
+    × (HasCleanDisk now → (params : Row) → HasGiven g.S.Store pieces_select params l.initial.rows.conn.now [] → (given : List Row) × HasGiven g.S.Store pieces_select params l.rows.conn.now given
     × Appends (g.W.Write.contents l.initial.out) (g.W.Write.contents l.out) (bytes_of given) × (l.written ≡ length (bytes_of given)))

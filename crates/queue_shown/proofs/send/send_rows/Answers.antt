@@ -1,0 +1,90 @@
+use Rattle.std.proofs.Common.{[], ◌∷◌, ◌++◌, refl, ◌∙◌, rules, arith, length-append}
+use Rattle.std.proofs.KnownBytes.{Appends-nil, Appends-trans}
+use Rattle.sqlite.specs.State.{HasCleanDisk}
+use Rattle.sqlite.specs.Held.{state}
+use Rattle.sqlite.proofs.Callers.{unchanged_then, given_begin}
+use Rattle.queue_shown.specs.Sent.{pieces_select, bytes_of, piece_bytes}
+use Rattle.queue_shown.proofs.Writes.{one_more, front_of}
+use Rattle.queue_shown.proofs.Sending.{on_err, front_whole}
+use Rattle.queue_tables.proofs.Reading.{answers_at, begins_at, plain_at, unchanged_open}
+use Rattle.queue_shown.proofs.send.send_rows.Goals as goal
+
+pub rows-init : goal.rows-init
+rows-init g c =
+    let old = state g.S.Store c.args.rows.now.conn.now in (
+      refl,
+      λ clean. clean,
+      λ clean live. unchanged_open old live,
+      λ clean params given. ([], given, Appends-nil (g.W.Write.contents c.args.out.now), c.requires),
+    )
+
+pub returns-in_err-row-clause-front : goal.returns-in_err-row-clause-front
+returns-in_err-row-clause-front g c clean live params begun =
+    let first = state g.S.Store c.args.rows.now.conn.now in
+    let moved = c.next.follows.holds-at-none in
+    let before = state g.S.Store c.rows.rows.conn.now in
+    let late : HasCleanDisk (state g.S.Store c.next.follows.lender-at-none.conn.now) = search rules in
+    let mid : HasCleanDisk before = omega (arith, moved.survives.clean) in
+    let was = c.rows.invariant.3 mid params begun in
+    on_err _ (front_whole params first _ _ was.0 _ (begins_at pieces_select params first before was.0 (c.rows.invariant.2 mid live).0.now_is (given_begin g.S.Store pieces_select params c.rows.rows.conn.now was.0 was.1)) was.2 was.3)
+
+pub returns-in_default-clause-sent : goal.returns-in_default-clause-sent
+returns-in_default-clause-sent g c clean live params plain begun =
+    let first = state g.S.Store c.args.rows.now.conn.now in
+    let moved = c.next.follows.holds-at-none in
+    let before = state g.S.Store c.rows.rows.conn.now in
+    let now = state g.S.Store c.next.follows.lender-at-none.conn.now in
+    let late : HasCleanDisk now = search rules in
+    let mid : HasCleanDisk before = omega (arith, moved.survives.clean) in
+    let was = c.rows.invariant.3 mid params begun in
+    let same = (c.rows.invariant.2 mid live).0.now_is in
+    let shown = (rw (c.in_ok-row.was, c.in_default.is) at (moved.ok late)) pieces_select params was.0 was.1 in
+    record { rows = was.0; all = answers_at pieces_select params first before now was.0 (plain_at pieces_select first.now before.now plain same) same shown; appends = was.2; count = was.3 }
+
+pub returns-in_err-put_piece-clause-front : goal.returns-in_err-put_piece-clause-front
+returns-in_err-put_piece-clause-front g c clean live params begun =
+    let first = state g.S.Store c.args.rows.now.conn.now in
+    let moved = c.next.follows.holds-at-none in
+    let before = state g.S.Store c.rows.rows.conn.now in
+    let h = c.next.follows.lender-at-none.conn.now in
+    let now = state g.S.Store h in
+    let late : HasCleanDisk now = search rules in
+    let mid : HasCleanDisk before = omega (arith, moved.survives.clean) in
+    let was = c.rows.invariant.3 mid params begun in
+    let given = (rw (c.in_ok-row.was, c.in-Some.is) at (moved.ok late)) pieces_select params was.0 was.1 in
+    let same = rw c.in_ok-row.was at (moved.same late) in
+    let kept = unchanged_then first before now (c.rows.invariant.2 mid live) same in
+    let begins = begins_at pieces_select params first now (was.0 ++ c.in-Some.row.now ∷ []) kept.0.now_is (given_begin g.S.Store pieces_select params h (was.0 ++ c.in-Some.row.now ∷ []) given) in
+    let part = c.in_err-put_piece.ensures.err in
+    on_err _ (front_of params first _ _ _ was.0 c.in-Some.row.now _ part.0 _ begins was.2 was.3 part.1 part.2 part.3)
+
+pub rows-preserved : goal.rows-preserved
+rows-preserved g c =
+    let first = state g.S.Store c.args.rows.now.conn.now in
+    let moved = c.next.follows.holds-at-none in
+    let before = state g.S.Store c.rows.rows.conn.now in
+    let h = c.next.follows.lender-at-none.conn.now in
+    let now = state g.S.Store h in
+    let mid : HasCleanDisk now → HasCleanDisk before = λ clean. omega (arith, moved.survives.clean) in (
+      moved.same_reference ∙ c.rows.invariant.0,
+      λ clean. c.rows.invariant.1 (mid clean),
+      λ clean live. let same = rw c.in_ok-row.was at (moved.same clean) in unchanged_then first before now (c.rows.invariant.2 (mid clean) live) same,
+      λ clean params begun.
+          let was = c.rows.invariant.3 (mid clean) params begun in
+          let row = c.in-Some.row.now in
+          let given = (rw (c.in_ok-row.was, c.in-Some.is) at (moved.ok clean)) pieces_select params was.0 was.1 in
+          let whole = c.in_ok-put_piece.ensures.ok in (
+            was.0 ++ row ∷ [],
+            given,
+            rw (one_more was.0 row) (Appends-trans _ _ _ _ _ was.2 whole.0),
+            rw (one_more was.0 row) (omega (arith, length-append (bytes_of was.0) (piece_bytes row), was.3, whole.1)),
+          ),
+    )
+
+pub returns-clause-front : goal.returns-clause-front
+returns-clause-front g c clean live params begun =
+    let first = state g.S.Store c.args.rows.now.conn.now in
+    let h = c.rows.rows.conn.now in
+    let mid : HasCleanDisk (state g.S.Store h) = search rules in
+    let was = c.rows.invariant.3 mid params begun in
+    front_whole params first _ _ was.0 _ (begins_at pieces_select params first (state g.S.Store h) was.0 (c.rows.invariant.2 mid live).0.now_is (given_begin g.S.Store pieces_select params h was.0 was.1)) was.2 was.3
