@@ -1,6 +1,6 @@
 -- What a parse by the program's definition gives.
 use Rattle.std.proofs.Common.{◌≡◌, ◌⊎◌, Bool, true, false, List, Some, None, Option, [], ◌∷◌, refl, sym, ap, subst, ◌∙◌, cond, inl, inr}
-use Rattle.std.specs.Prelude.{codes, find, option_map, Box}
+use Rattle.std.specs.Prelude.{codes, find, is_some, option_map, Box, IsSomeAnd}
 use Rattle.clap.specs.Built.{IsParsedFrom}
 use Rattle.clap.specs.Faults.{fault_of, is_simple_and_free}
 use Rattle.clap.specs.Kinds.{HasKind, Kinds}
@@ -14,7 +14,7 @@ use Rattle.clap.specs.declared.parser.matches.ArgMatches.TheViews.{out-ArgMatche
 use Rattle.clap.specs.declared.parser.matches.SubCommand.{SubCommand}
 use Rattle.std.specs.Box.{box_value}
 use Rattle.clap.proofs.OnLiterals.{clap_on_literals}
-use Rattle.command_words.specs.CommandLine.{IsDefined, IsFaultOf, IsWordsFault, definition}
+use Rattle.command_words.specs.CommandLine.{IsFaultOf, IsNameIn, IsProgram, IsWordsFault, definition, subcommands}
 use Rattle.command_words.specs.declared.outcome.CommandFault.{CommandFault}
 use Rattle.command_words.specs.declared.outcome.CommandFault.TheVariants as fault
 
@@ -51,15 +51,10 @@ met_by_definition a words m is matches =
     (matches (ap is_simple is ∙ definition_is_simple)).1 ∙ ap (λ a. subcommand_of a words) is
 
 -- a parse that succeeds met a subcommand
-pub meets_subcommand : (c : Definition) (m : ArgMatches) → IsDefined c → IsParsedFrom c m → has_subcommand m ≡ true
+pub meets_subcommand : (c : Definition) (m : ArgMatches) → IsProgram subcommands c → IsParsedFrom c m → has_subcommand m ≡ true
 meets_subcommand c m d p =
     let parsed = p.parsed (p.from.globals ∙ d.globals) in
     parsed.checked.subcommand (p.from.needs_subcommand ∙ d.required)
-
--- the name is one of theirs
-abbrev IsNameIn : List Shape → Text → Type 0
-IsNameIn [] name = ⊥
-IsNameIn (s ∷ rest) name = (name ≡ s.name) ⊎ IsNameIn rest name
 
 step_named : (b : Bool) (s : Shape) (rest : List Shape) (found : Option Shape) (words : List Text) (met : Text × List Row)
     → (option_map (λ s. rows_at s words) found ≡ Some met → IsNameIn rest met.0)
@@ -80,24 +75,20 @@ entered_name : (stop : Option (Text × List Text)) (met : Text × List Row) → 
 entered_name None met h = cc h
 entered_name (Some stop) met h = found_named (λ s. answers_to stop.0 (label_of s)) (built definition).subs stop.1 met h
 
--- what a subcommand's matches say of its name
-rows_named : {Z : Type 0} (met : Option (Box SubCommand Z)) (target : Option (Text × List Row)) (name : Text)
-    → subcommand_rows met ≡ target → option_map (λ b. (out-SubCommand (box_value b)).name.now) met ≡ Some name
-    → (rows : List Row) × (target ≡ Some (name, rows))
-rows_named None target name is named = cc named
-rows_named (Some met) target name is named =
-    let same : (out-SubCommand (box_value met)).name.now ≡ name = cc named in
-    let rows : List Row = rows_of (found_of (out-SubCommand (box_value met)).matches) in
-    (rows, sym is ∙ ap (λ n. Some (n, rows)) same)
-
--- the subcommand's name and the words after it
+-- the subcommand that the words name
 abbrev stop : List Text → Option (Text × List Text)
 stop words = stop_after (built definition).top.rules (names_of (built definition)) (argument_words definition words)
 
--- the subcommand is one of the definition's
-pub one_of_five : (m : ArgMatches) (words : List Text) (name : Text) → subcommand_rows_of m ≡ subcommand_of definition words
-    → subcommand_name_of m ≡ Some name
-    → (name ≡ codes "init") ⊎ ((name ≡ codes "import") ⊎ ((name ≡ codes "statement") ⊎ ((name ≡ codes "serve") ⊎ ((name ≡ codes "replay") ⊎ ⊥))))
-one_of_five m words name rows named =
-    let met = rows_named (out-ArgMatches m).subcommand _ name rows named in
-    entered_name (stop words) (name, met.0) met.1
+-- the subcommand that was met is one of the definition's
+pub meets_one : {Z : Type 0} (met : Option (Box SubCommand Z)) (words : List Text) → is_some met ≡ true → subcommand_rows met ≡ subcommand_of definition words
+    → IsSomeAnd (subcommand_rows met) (λ (m : Text × List Row). IsNameIn subcommands m.0)
+meets_one None words there is = cc there
+meets_one (Some met) words there is = entered_name (stop words) _ (sym is)
+
+-- and so is its name
+pub is_named : {Z : Type 0} (met : Option (Box SubCommand Z)) (name : Text) → IsSomeAnd (subcommand_rows met) (λ (m : Text × List Row). IsNameIn subcommands m.0)
+    → option_map (λ b. (out-SubCommand (box_value b)).name.now) met ≡ Some name → IsNameIn subcommands name
+is_named None name among named = absurd among
+is_named (Some met) name among named =
+    let same : (out-SubCommand (box_value met)).name.now ≡ name = cc named in
+    subst (IsNameIn subcommands) same among

@@ -1,5 +1,5 @@
 -- The program's command line, as `clap` sees it.
-use Rattle.std.specs.Prelude.{◌≡◌, ◌≢◌, ℕ, true, false, codes, List, [], ◌∷◌, Some}
+use Rattle.std.specs.Prelude.{◌≡◌, ◌≢◌, ◌⊎◌, ℕ, true, false, codes, List, [], ◌∷◌, Some}
 use Rattle.clap.specs.Kinds.{IsAmong, Kinds}
 use Rattle.clap.specs.Simple.{App, Shape, app_of, new_rule, new_shape}
 use Rattle.clap.specs.Values.{kind_of}
@@ -67,21 +67,30 @@ program = record (new_shape (codes "printd")) {
   disable_help_subcommand = true;
 }
 
+abbrev pub subcommands : List Shape
+subcommands = init_words ∷ import_words ∷ statement_words ∷ serve_words ∷ replay_words ∷ []
+
+-- the program with these subcommands
+abbrev pub program_with : List Shape → App
+program_with subs = record { top = record program { is_leaf = false }; subs = subs }
+
 -- the program and its subcommands
 abbrev pub definition : App
-definition = record {
-  top = record program { is_leaf = false };
-  subs = init_words ∷ import_words ∷ statement_words ∷ serve_words ∷ replay_words ∷ [];
-}
+definition = program_with subcommands
+
+-- the name is one of theirs
+abbrev pub IsNameIn : List Shape → Text → Type 0
+IsNameIn [] name = ⊥
+IsNameIn (s ∷ rest) name = (name ≡ s.name) ⊎ IsNameIn rest name
 
 -- `clap` has this subcommand
 pub record IsPart (s : Shape) (c : Definition) : Type 0 where
   pub app : app_of c ≡ record { top = s; subs = [] }
   pub globals : (out-Command c).has_globals ≡ false
 
--- `clap` has the definition
-pub record IsDefined (c : Definition) : Type 0 where
-  pub app : app_of c ≡ definition
+-- `clap` has the program with these subcommands
+pub record IsProgram (subs : List Shape) (c : Definition) : Type 0 where
+  pub app : app_of c ≡ program_with subs
   pub globals : (out-Command c).has_globals ≡ false
   pub required : (out-Command c).subcommand_required ≡ true
 

@@ -1,14 +1,33 @@
 //! The command line: which command the words name.
 
 ghost use Rattle.std.specs.Prelude.{◌≡◌, [], map, IfOk, IfErr, OnOk, IsSomeAnd};
-ghost use Rattle.clap.specs.Words.{fault_of, subcommand_of};
-ghost use Rattle.command_words.specs.CommandLine.{IsWordsFault, definition};
+ghost use Rattle.clap.specs.Words.{fault_of, subcommand_of, subcommand_rows_of};
+ghost use Rattle.command_words.specs.CommandLine.{IsNameIn, IsWordsFault, definition, subcommands};
 ghost use Rattle.command_words.specs.Values.{IsCommand};
 
 use crate::definition::defined;
 use crate::outcome::{Command, CommandFault};
 use crate::values::{import_of, init_of, serve_of, statement_of};
+use clap::ArgMatches;
 use std::alloc::Global;
+
+/// What the subcommand that was met is to do.
+fn command_of<'a>(matches: &ArgMatches<'a>) -> Command<'a>
+    requires { IsSomeAnd (subcommand_rows_of matches.now) (λ met. IsNameIn subcommands met.0) }
+    ensures { IsSomeAnd (subcommand_rows_of matches.now) (IsCommand result) }
+{
+    let Some((name, values)) = matches.subcommand() else {
+        unreachable!("a subcommand is required");
+    };
+    match name {
+        "init" => Command::Init(init_of(values)),
+        "import" => Command::Import(import_of(values)),
+        "statement" => Command::Statement(statement_of(values)),
+        "serve" => Command::Serve(serve_of(values)),
+        "replay" => Command::Replay,
+        _ => unreachable!("the definition has no other"),
+    }
+}
 
 /// The command that the words name, the first of which is the program's own name, as `clap` reads
 /// them.
@@ -19,15 +38,5 @@ pub fn command<'a>(alloc: Global, words: &'a [&'a str]) -> Result<Command<'a>, C
     ensures refused { IfErr result (IsWordsFault (fault_of definition (map (λ w. w.now) words.entry.now))) }
 {
     let matches = defined(alloc)?.try_get_matches_from(words)?;
-    let Some((name, values)) = matches.subcommand() else {
-        unreachable!("a subcommand is required");
-    };
-    match name {
-        "init" => Ok(Command::Init(init_of(values))),
-        "import" => Ok(Command::Import(import_of(values))),
-        "statement" => Ok(Command::Statement(statement_of(values))),
-        "serve" => Ok(Command::Serve(serve_of(values))),
-        "replay" => Ok(Command::Replay),
-        _ => unreachable!("the definition has no other"),
-    }
+    Ok(command_of(&matches))
 }

@@ -1,8 +1,8 @@
 //! The command line as `clap` is to read it.
 
-ghost use Rattle.std.specs.Prelude.{◌≡◌, IfOk, false, codes};
+ghost use Rattle.std.specs.Prelude.{◌≡◌, ◌∷◌, [], IfOk, false, codes};
 ghost use Rattle.clap.specs.Words.{rule_of};
-ghost use Rattle.command_words.specs.CommandLine.{IsDefined, IsPart, import_words, init_words, number_rule, optional_rule, place_rule, program, replay_words, serve_words, statement_words, text_rule};
+ghost use Rattle.command_words.specs.CommandLine.{IsPart, IsProgram, import_words, init_words, number_rule, optional_rule, place_rule, program, replay_words, serve_words, statement_words, store_rule, subcommands, text_rule, words};
 
 use clap::builder::ValueParser;
 use clap::{Arg, ArgAction, Command as Definition};
@@ -87,60 +87,57 @@ fn store<'a>(alloc: Global) -> Arg<'a>
     text(alloc, "store", "PATH", "The file that keeps the queue")
 }
 
+/// A subcommand on a store.
+fn on_store<'a>(alloc: Global, name: &'a str, about: &'a str) -> Result<Definition<'a>, AllocError>
+    ensures { IfOk result (IsPart (words name.entry.now (store_rule ∷ []))) }
+{
+    Definition::new(alloc, name).about(about).arg(store(alloc))
+}
+
 fn init<'a>(alloc: Global) -> Result<Definition<'a>, AllocError>
     ensures { IfOk result (IsPart init_words) }
 {
-    let uri = text(
-        alloc,
-        "uri",
-        "URI",
-        "The printer's URI, with the path /ipp/print",
-    );
-    let name = text(alloc, "name", "NAME", "The printer's name");
-    let help = "The pages of a copy of a job that does not say them";
-    let estimate = optional(alloc, "estimate", "N", help, 0, MOST_ESTIMATE, "20");
-    Definition::new(alloc, "init")
-        .about("Make a new store")
-        .arg(store(alloc))?
-        .arg(uri)?
-        .arg(name)?
-        .arg(estimate)
+    let uri = "The printer's URI, with the path /ipp/print";
+    let name = "The printer's name";
+    let estimate = "The pages of a copy of a job that does not say them";
+    on_store(alloc, "init", "Make a new store")?
+        .arg(text(alloc, "uri", "URI", uri))?
+        .arg(text(alloc, "name", "NAME", name))?
+        .arg(optional(alloc, "estimate", "N", estimate, 0, MOST_ESTIMATE, "20"))
 }
 
 fn import<'a>(alloc: Global) -> Result<Definition<'a>, AllocError>
     ensures { IfOk result (IsPart import_words) }
 {
-    let file = place(alloc, "file", "FILE", "The account file");
-    Definition::new(alloc, "import")
-        .about("Take an account file")
-        .arg(store(alloc))?
-        .arg(file)
+    on_store(alloc, "import", "Take an account file")?.arg(place(
+        alloc,
+        "file",
+        "FILE",
+        "The account file",
+    ))
 }
 
 fn statement<'a>(alloc: Global) -> Result<Definition<'a>, AllocError>
     ensures { IfOk result (IsPart statement_words) }
 {
-    let account = place(alloc, "account", "ACCOUNT", "The account's name");
-    Definition::new(alloc, "statement")
-        .about("Print an account's statement")
-        .arg(store(alloc))?
-        .arg(account)
+    on_store(alloc, "statement", "Print an account's statement")?.arg(place(
+        alloc,
+        "account",
+        "ACCOUNT",
+        "The account's name",
+    ))
 }
 
 fn serve<'a>(alloc: Global) -> Result<Definition<'a>, AllocError>
     ensures { IfOk result (IsPart serve_words) }
 {
-    let port = number(alloc, "port", "P", "The port on 127.0.0.1", 1, 65_535);
-    let help = "How many connections to serve, one after another";
-    let connections = number(alloc, "connections", "N", help, 1, u32::MAX);
-    let wait = "How long a connection may be silent";
-    let timeout = optional(alloc, "timeout", "SECONDS", wait, 1, 3_600, "5");
-    Definition::new(alloc, "serve")
-        .about("Serve the queue over HTTP")
-        .arg(store(alloc))?
-        .arg(port)?
-        .arg(connections)?
-        .arg(timeout)
+    let port = "The port on 127.0.0.1";
+    let connections = "How many connections to serve, one after another";
+    let timeout = "How long a connection may be silent";
+    on_store(alloc, "serve", "Serve the queue over HTTP")?
+        .arg(number(alloc, "port", "P", port, 1, 65_535))?
+        .arg(number(alloc, "connections", "N", connections, 1, u32::MAX))?
+        .arg(optional(alloc, "timeout", "SECONDS", timeout, 1, 3_600, "5"))
 }
 
 fn replay<'a>(alloc: Global) -> Definition<'a>
@@ -160,14 +157,21 @@ fn bare<'a>(alloc: Global) -> Definition<'a>
         .disable_help_subcommand(true)
 }
 
-/// The program and its subcommands.
-pub fn defined<'a>(alloc: Global) -> Result<Definition<'a>, AllocError>
-    ensures { IfOk result IsDefined }
+/// The program and the subcommands that keep the accounts.
+fn with_accounts<'a>(alloc: Global) -> Result<Definition<'a>, AllocError>
+    ensures { IfOk result (IsProgram (init_words ∷ import_words ∷ statement_words ∷ [])) }
 {
     bare(alloc)
         .subcommand(init(alloc)?)?
         .subcommand(import(alloc)?)?
-        .subcommand(statement(alloc)?)?
+        .subcommand(statement(alloc)?)
+}
+
+/// The program and its subcommands.
+pub fn defined<'a>(alloc: Global) -> Result<Definition<'a>, AllocError>
+    ensures { IfOk result (IsProgram subcommands) }
+{
+    with_accounts(alloc)?
         .subcommand(serve(alloc)?)?
         .subcommand(replay(alloc))
 }

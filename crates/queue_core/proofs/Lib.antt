@@ -10,6 +10,7 @@ pub mod Fair
 pub mod Ordered
 pub mod Numbers
 pub mod Many
+pub mod Calls
 pub mod Cancel
 pub mod Maps
 pub mod Reported

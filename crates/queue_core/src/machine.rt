@@ -184,7 +184,7 @@ fn answer_call<'a>(
     requires call { IsCall (call_of call.now) }
     ensures { IfOk result (λ d. decision_of d ≡ call_row s.now now caller.now (call_of call.now)) }
 {
-    let found = own(s.jobs.as_slice(), caller);
+    let found = own(s, caller);
     match call {
         Call::PrintJob {
             job,

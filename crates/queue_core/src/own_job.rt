@@ -62,13 +62,13 @@ pub(crate) fn cancel<'a>(
 
 /// The caller's own job, the first of those that the event speaks of, or the code of a refusal: another's
 /// job and no job are one answer.
-pub(crate) fn own<'s>(jobs: &'s [Job], caller: &str) -> Result<&'s Job, u16>
-    requires sound { All IsSoundJob jobs.now }
-    ensures own { IfOk result (λ j. (row : _) → of_own caller.now row jobs.now ≡ row j.now) }
-    ensures none { IfErr result (λ code. (row : _) → of_own caller.now row jobs.now ≡ refused code) }
+pub(crate) fn own<'s>(s: &'s Scene, caller: &str) -> Result<&'s Job, u16>
+    requires sound { All IsSoundJob s.now.jobs }
+    ensures own { IfOk result (λ j. (row : _) → of_own caller.now row s.now.jobs ≡ row j.now) }
+    ensures none { IfErr result (λ code. (row : _) → of_own caller.now row s.now.jobs ≡ refused code) }
     ensures sound { IfOk result (λ j. IsSoundJob j.now) }
 {
-    match jobs {
+    match s.jobs.as_slice() {
         [] => Err(CLIENT_ERROR_NOT_FOUND),
         [j, ..] => {
             if j.owner.as_str() == caller {

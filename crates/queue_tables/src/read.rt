@@ -105,10 +105,9 @@ pub fn read_job(alloc: Global, row: &Row) -> Result<Job, Fault>
     ensures err { IfErr result (λ e. e ≡ Fault.Damaged → (j : JobValue) → IsFormedJob j → row.now ≢ job_values j) }
     ensures never { IfErr result (λ e. e ≢ Fault.Disk) }
 {
+    // The texts last: an error after them would have to let them go.
     Ok(Job {
         number: value(row, 0)?,
-        owner: text(alloc, row, 1)?,
-        name: text(alloc, row, 2)?,
         copies: value(row, 3)?,
         impressions: value(row, 4)?,
         hold: flag(row, 5)?,
@@ -121,5 +120,7 @@ pub fn read_job(alloc: Global, row: &Row) -> Result<Job, Fault>
         ended: moment_at(row, 13)?,
         documents: 0,
         octets: 0,
+        owner: text(alloc, row, 1)?,
+        name: text(alloc, row, 2)?,
     })
 }
