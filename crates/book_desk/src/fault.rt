@@ -64,22 +64,3 @@ pub struct RowFault {
     pub step: usize,
     pub fault: StepFault,
 }
-
-/// A row of a test in a book.
-#[derive(Clone, Copy)]
-pub(crate) struct Place {
-    pub book: &'static str,
-    pub row: usize,
-}
-
-impl Place {
-    /// What a step of the row is not well for.
-    pub(crate) fn fault(self, step: usize, fault: StepFault) -> RowFault {
-        RowFault {
-            book: self.book,
-            row: self.row,
-            step,
-            fault,
-        }
-    }
-}

@@ -11,5 +11,5 @@ mod step;
 pub use desk::Desk;
 pub use fault::{RowFault, StepFault};
 pub use request::{JobsWanted, Request};
-pub use shelf::{Shelf, desk_after, take_row};
+pub use shelf::{Shelf, take_row};
 pub use step::{Outcome, Pages, Step};

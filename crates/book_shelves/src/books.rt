@@ -1,6 +1,6 @@
 //! All books of a test.
 
-use crate::shelves::{Adopted, BookFiles, InFile, InFolder, InLists, InTables};
+use crate::shelves::{Adopted, InFile, InFolder, InLists, InTables};
 use book_desk::{RowFault, Step, take_row};
 use std::alloc::Global;
 use std::fs;
@@ -14,27 +14,6 @@ pub fn take_in_memory(
 ) -> Result<(), RowFault> {
     take_row(alloc, &InLists, row, first, steps)?;
     take_row(alloc, &InTables, row, first, steps)
-}
-
-/// Takes the first steps and then those of a row, over tables that are adopted before every step.
-fn take_adopted(
-    alloc: Global,
-    row: usize,
-    first: &[Step<'_>],
-    steps: &[Step<'_>],
-) -> Result<(), RowFault> {
-    take_row(alloc, &Adopted, row, first, steps)
-}
-
-/// Takes the first steps and then those of a row, over tables in a file.
-fn take_in_file<F: BookFiles>(
-    alloc: Global,
-    shelf: &InFile<F>,
-    row: usize,
-    first: &[Step<'_>],
-    steps: &[Step<'_>],
-) -> Result<(), RowFault> {
-    take_row(alloc, shelf, row, first, steps)
 }
 
 /// All books of a test, with a folder of its own for its files.
@@ -56,7 +35,7 @@ impl<'a> TestBooks<'a> {
     }
 
     /// Those in files.
-    pub fn in_file(&self) -> InFile<InFolder<'a>> {
+    fn in_file(&self) -> InFile<InFolder<'a>> {
         InFile {
             files: InFolder {
                 rt: self.rt,
@@ -74,8 +53,8 @@ impl<'a> TestBooks<'a> {
     ) -> Result<(), RowFault> {
         let alloc = self.alloc();
         take_in_memory(alloc, row, first, steps)?;
-        take_adopted(alloc, row, first, steps)?;
-        take_in_file(alloc, &self.in_file(), row, first, steps)?;
+        take_row(alloc, &Adopted, row, first, steps)?;
+        take_row(alloc, &self.in_file(), row, first, steps)?;
         self.remove_files();
         Ok(())
     }

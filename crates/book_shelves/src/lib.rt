@@ -6,6 +6,4 @@ mod books;
 mod shelves;
 
 pub use books::{TestBooks, take_in_memory};
-pub use shelves::{
-    Adopted, BookFiles, InFile, InFolder, InLists, InTables, adopt, tables_in_memory,
-};
+pub use shelves::{adopt, tables_in_memory, take_adopted};

@@ -1,6 +1,6 @@
 //! Where books of each kind come from.
 
-use book_desk::{Shelf, StepFault};
+use book_desk::{Desk, Shelf, Step, StepFault};
 use list_book::ListBook;
 use queue_core::book::BookFault;
 use queue_store::TableBook;
@@ -16,18 +16,19 @@ use std::fs;
 pub struct InLists;
 
 impl Shelf for InLists {
-    type Book = ListBook;
-
     fn name(&self) -> &'static str {
         "lists"
     }
 
-    fn new_book(&self, alloc: Global, settings: Settings) -> Result<ListBook, StepFault> {
-        Ok(ListBook::new(alloc, settings))
-    }
-
-    fn next_book(&self, _alloc: Global, book: ListBook) -> Result<ListBook, StepFault> {
-        Ok(book)
+    fn take_steps(
+        &self,
+        desk: &mut Desk,
+        first: &[Step<'_>],
+        steps: &[Step<'_>],
+    ) -> Result<(), StepFault> {
+        let mut book = ListBook::new(desk.alloc(), desk.settings()?);
+        desk.take_each(&mut book, first)?;
+        desk.take_each(&mut book, steps)
     }
 }
 
@@ -56,37 +57,53 @@ pub fn tables_in_memory(
 pub struct InTables;
 
 impl Shelf for InTables {
-    type Book = TableBook<MemStore>;
-
     fn name(&self) -> &'static str {
         "tables"
     }
 
-    fn new_book(&self, alloc: Global, settings: Settings) -> Result<Self::Book, StepFault> {
-        tables_in_memory(alloc, settings)
+    fn take_steps(
+        &self,
+        desk: &mut Desk,
+        first: &[Step<'_>],
+        steps: &[Step<'_>],
+    ) -> Result<(), StepFault> {
+        let mut book = tables_in_memory(desk.alloc(), desk.settings()?)?;
+        desk.take_each(&mut book, first)?;
+        desk.take_each(&mut book, steps)
     }
+}
 
-    fn next_book(&self, _alloc: Global, book: Self::Book) -> Result<Self::Book, StepFault> {
-        Ok(book)
+/// Takes steps over tables in memory that are closed and adopted before each.
+pub fn take_adopted(
+    desk: &mut Desk,
+    book: TableBook<MemStore>,
+    first: &[Step<'_>],
+    steps: &[Step<'_>],
+) -> Result<(), StepFault> {
+    let mut book = book;
+    for step in first.iter().chain(steps) {
+        book = adopt(desk.alloc(), book.close())?;
+        desk.take(&mut book, *step)?;
     }
+    Ok(())
 }
 
 /// Books in tables in memory that are closed and adopted before every step.
 pub struct Adopted;
 
 impl Shelf for Adopted {
-    type Book = TableBook<MemStore>;
-
     fn name(&self) -> &'static str {
         "tables that are adopted"
     }
 
-    fn new_book(&self, alloc: Global, settings: Settings) -> Result<Self::Book, StepFault> {
-        tables_in_memory(alloc, settings)
-    }
-
-    fn next_book(&self, alloc: Global, book: Self::Book) -> Result<Self::Book, StepFault> {
-        adopt(alloc, book.close())
+    fn take_steps(
+        &self,
+        desk: &mut Desk,
+        first: &[Step<'_>],
+        steps: &[Step<'_>],
+    ) -> Result<(), StepFault> {
+        let book = tables_in_memory(desk.alloc(), desk.settings()?)?;
+        take_adopted(desk, book, first, steps)
     }
 }
 
@@ -156,19 +173,42 @@ pub struct InFile<F: BookFiles> {
     pub(crate) files: F,
 }
 
-impl<F: BookFiles> Shelf for InFile<F> {
-    type Book = TableBook<FileStore<F::File>>;
+/// Takes a step over tables, whatever store keeps these.
+fn take_stored<S: Alter>(
+    desk: &mut Desk,
+    book: &mut TableBook<S>,
+    step: Step<'_>,
+) -> Result<(), StepFault> {
+    desk.take(book, step)
+}
 
+/// Takes a step over tables in files, which are then let go.
+fn take_in_files<D: Disk + Drop>(
+    desk: &mut Desk,
+    mut book: TableBook<FileStore<D>>,
+    step: Step<'_>,
+) -> Result<(), StepFault> {
+    let taken = take_stored(desk, &mut book, step);
+    book.let_go();
+    taken
+}
+
+impl<F: BookFiles> Shelf for InFile<F> {
     fn name(&self) -> &'static str {
         "tables in a file"
     }
 
-    fn new_book(&self, alloc: Global, settings: Settings) -> Result<Self::Book, StepFault> {
-        self.files.create(alloc, settings)
-    }
-
-    fn next_book(&self, alloc: Global, book: Self::Book) -> Result<Self::Book, StepFault> {
-        book.let_go();
-        self.files.open(alloc)
+    fn take_steps(
+        &self,
+        desk: &mut Desk,
+        first: &[Step<'_>],
+        steps: &[Step<'_>],
+    ) -> Result<(), StepFault> {
+        self.files.create(desk.alloc(), desk.settings()?)?.let_go();
+        for step in first.iter().chain(steps) {
+            let book = self.files.open(desk.alloc())?;
+            take_in_files(desk, book, *step)?;
+        }
+        Ok(())
     }
 }

@@ -220,10 +220,14 @@ pub fn take_all<B: DeskBook>(
     Ok(())
 }
 
+fn take_all_over_tables(alloc: Global, connections: &[Connection<'_>]) -> Result<(), Mismatch> {
+    take_all::<MemoryBook>(alloc, connections)
+}
+
 /// Connections to such a queue in each book, at each speed.
 pub fn take_all_over_both(alloc: Global, connections: &[Connection<'_>]) -> Result<(), Mismatch> {
     take_all::<ListBook>(alloc, connections)?;
-    take_all::<MemoryBook>(alloc, connections)
+    take_all_over_tables(alloc, connections)
 }
 
 /// A connection to an empty queue leaves it empty: the next Print-Job is job 1.

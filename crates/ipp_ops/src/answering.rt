@@ -5,7 +5,7 @@ ghost use Rattle.ipp_wire.specs.Message.{IsMessage, Spells, head_of};
 ghost use Rattle.ipp_wire.specs.Viewed.{message_of};
 ghost use Rattle.ipp_wire.specs.Bare.{bare};
 ghost use Rattle.queue_types.specs.Event.{ask, call_of};
-ghost use Rattle.queue_core.specs.Limits.{IsEvent, IsMoment};
+ghost use Rattle.queue_core.specs.Limits.{IsEvent, IsMoment, IsSoundReply};
 ghost use Rattle.queue_core.specs.Machine.{step as machine_step};
 ghost use Rattle.queue_core.specs.World.{World};
 ghost use Rattle.ipp_reply.specs.Reply.{reply_of};
@@ -25,7 +25,7 @@ use queue_core::book::{BookFault, QueueBook};
 use queue_types::event::{Call, Event, Reply};
 use queue_types::settings::Settings;
 use queue_types::status::{CLIENT_ERROR_BAD_REQUEST, SERVER_ERROR_TEMPORARY_ERROR};
-use std::alloc::Global;
+use std::alloc::{AllocError, Global};
 
 fn bare_answer(head: Head, code: u16) -> Answer
     ensures { Spells (bare head code) (bytes_of result) }
@@ -33,6 +33,24 @@ fn bare_answer(head: Head, code: u16) -> Answer
     let mut out = [0; 72];
     put_fault(&mut out, head, code);
     Answer::Bare(out)
+}
+
+/// The bytes of the message that is a reply.
+fn reply_bytes(
+    alloc: Global,
+    r: &Reply,
+    head: Head,
+    wanted: &Wanted,
+    unsupported: &Unsupported<'_>,
+    s: &Settings,
+    now: u32,
+) -> Result<Vec<u8>, AllocError>
+    requires sound { IsSoundReply r.now }
+    requires listed { CanList (unsupported_of unsupported.now) }
+    ensures { IfOk result (λ b. Spells (reply_of r.now head (rows_of wanted.now) (unsupported_of unsupported.now) s.now now) b.items) }
+{
+    let message = reply_message(alloc, r, head, wanted, unsupported, s, now)?;
+    write(&message)
 }
 
 /// One step of the machine, or a fault and no change: the book is changed last, once the reply's bytes
@@ -60,8 +78,7 @@ fn take<'a, B: QueueBook>(
 {
     let e = Event::Ask { caller, call };
     let decision = book.decide(now, &e)?;
-    let reply = reply_message(alloc, &decision.reply, head, wanted, unsupported, s, now)?;
-    let bytes = write(&reply)?;
+    let bytes = reply_bytes(alloc, &decision.reply, head, wanted, unsupported, s, now)?;
     book.apply(decision)?;
     Ok(bytes)
 }
@@ -88,8 +105,8 @@ fn step<B: QueueBook>(
         Ask::Refused { code, unsupported } => {
             let wanted = Wanted::nothing(alloc);
             let refused = Reply::Refused(code);
-            let reply = reply_message(alloc, &refused, v.head, &wanted, &unsupported, s, now)?;
-            Ok(write(&reply)?)
+            let bytes = reply_bytes(alloc, &refused, v.head, &wanted, &unsupported, s, now)?;
+            Ok(bytes)
         }
         Ask::Call {
             caller,

@@ -7,7 +7,7 @@ ghost use Rattle.ipp_wire.specs.Owned.{add_attribute};
 ghost use Rattle.ipp_reply.specs.Content.{values_in};
 ghost use Rattle.queue_types.specs.Formats.{format_name, formats};
 ghost use Rattle.ipp_reply.specs.JobReply as spec;
-ghost use Rattle.ipp_reply.specs.PrinterReply.{texts as spec_texts};
+ghost use Rattle.ipp_reply.specs.PrinterReply.{operation_ids as spec_ids, texts as spec_texts};
 
 use crate::operation::{OPERATIONS, Operation};
 use ipp_wire::tags::{BOOLEAN, ENUM, INTEGER, KEYWORD, MIME_MEDIA_TYPE, NO_VALUE};
@@ -134,6 +134,56 @@ fn put_one(m: &mut Message, name: &str, tag: u8, bytes: &[u8]) -> Result<(), All
     m.attribute(name.as_bytes(), &[ValueView { tag, bytes }])
 }
 
+/// Adds an attribute with these texts, each under the tag.
+fn put_texts(
+    alloc: Global,
+    m: &mut Message,
+    name: &str,
+    tag: u8,
+    texts: &[&str],
+) -> Result<(), AllocError>
+    requires begun { 0 < length m.old.groups }
+    requires fits { IsAttribute (record { name = name.now; values = spec_texts tag (map (λ t. t.now) texts.now) }) }
+    ensures { OnOk result (m.new ≡ record m.old { groups = add_attribute (record { name = name.now; values = spec_texts tag (map (λ t. t.now) texts.now) }) m.old.groups }) }
+{
+    let values = text_views(alloc, tag, texts)?;
+    m.attribute(name.as_bytes(), values.as_slice())
+}
+
+/// Adds an attribute with the names of the document formats.
+fn put_format_names(alloc: Global, m: &mut Message, name: &str) -> Result<(), AllocError>
+    requires begun { 0 < length m.old.groups }
+    requires fits { IsAttribute (record { name = name.now; values = spec_texts 0x49 (map format_name formats) }) }
+    ensures { OnOk result (m.new ≡ record m.old { groups = add_attribute (record { name = name.now; values = spec_texts 0x49 (map format_name formats) }) m.old.groups }) }
+{
+    let names = format_names(alloc)?;
+    put_texts(alloc, m, name, MIME_MEDIA_TYPE, names.as_slice())
+}
+
+/// Adds an attribute with the ids of the operations.
+fn put_operation_ids(alloc: Global, m: &mut Message, name: &str) -> Result<(), AllocError>
+    requires begun { 0 < length m.old.groups }
+    requires fits { IsAttribute (record { name = name.now; values = spec_ids }) }
+    ensures { OnOk result (m.new ≡ record m.old { groups = add_attribute (record { name = name.now; values = spec_ids }) m.old.groups }) }
+{
+    let ids = operation_ids(alloc)?;
+    let values = enum_views(alloc, ids.as_slice())?;
+    m.attribute(name.as_bytes(), values.as_slice())
+}
+
+/// Adds an attribute with one reason or two.
+fn put_reasons(m: &mut Message, name: &str, r: &Reasons) -> Result<(), AllocError>
+    requires begun { 0 < length m.old.groups }
+    requires fits { IsAttribute (record { name = name.now; values = spec.keywords (spec.reason_words r.now) }) }
+    ensures { OnOk result (m.new ≡ record m.old { groups = add_attribute (record { name = name.now; values = spec.keywords (spec.reason_words r.now) }) m.old.groups }) }
+{
+    let first = keyword(r.first);
+    match r.second {
+        None => m.attribute(name.as_bytes(), &[first]),
+        Some(second) => m.attribute(name.as_bytes(), &[first, keyword(second)]),
+    }
+}
+
 /// Adds an attribute with this content at the end of the last group.
 pub(crate) fn put(
     alloc: Global,
@@ -153,23 +203,9 @@ pub(crate) fn put(
         Content::Moment(None) => put_one(m, name, NO_VALUE, b""),
         Content::Moment(Some(n)) => put_one(m, name, INTEGER, &n.to_be_bytes()),
         Content::Boolean(b) => put_one(m, name, BOOLEAN, &[u8::from(*b)]),
-        Content::Texts(tag, texts) => {
-            let values = text_views(alloc, *tag, texts)?;
-            m.attribute(name.as_bytes(), values.as_slice())
-        }
-        Content::FormatNames => {
-            let names = format_names(alloc)?;
-            let values = text_views(alloc, MIME_MEDIA_TYPE, names.as_slice())?;
-            m.attribute(name.as_bytes(), values.as_slice())
-        }
-        Content::OperationIds => {
-            let ids = operation_ids(alloc)?;
-            let values = enum_views(alloc, ids.as_slice())?;
-            m.attribute(name.as_bytes(), values.as_slice())
-        }
-        Content::Reasons(r) => match r.second {
-            None => m.attribute(name.as_bytes(), &[keyword(r.first)]),
-            Some(second) => { m.attribute(name.as_bytes(), &[keyword(r.first), keyword(second)]) }
-        },
+        Content::Texts(tag, texts) => put_texts(alloc, m, name, *tag, texts),
+        Content::FormatNames => put_format_names(alloc, m, name),
+        Content::OperationIds => put_operation_ids(alloc, m, name),
+        Content::Reasons(r) => put_reasons(m, name, r),
     }
 }

@@ -5,18 +5,17 @@ ghost use Rattle.std.specs.Prelude.{◌≤◌};
 
 use book_desk::Request::{Create, Print};
 use book_desk::Step::{Ask, Jobs, Look};
-use book_desk::{JobsWanted, RowFault, Shelf, Step, StepFault, take_row};
-use book_shelves::{adopt, tables_in_memory};
+use book_desk::{Desk, JobsWanted, RowFault, Shelf, Step, StepFault, take_row};
+use book_shelves::{adopt, tables_in_memory, take_adopted};
 use queue_core::book::BookFault;
 use queue_core::machine::decide;
-use queue_store::TableBook;
 use queue_types::document::Format;
 use queue_types::event::{
     Call, Decision, Event, FreeList, KnownList, NewJob, QueueCounts, Reply, Scene,
 };
 use queue_types::job::JobList;
 use queue_types::settings::Settings;
-use sqlite::{Alter, Connection, MemStore};
+use sqlite::{Alter, Connection};
 use std::alloc::Global;
 use std::test::Fail;
 
@@ -101,20 +100,20 @@ fn skip_numbers<S: Alter>(conn: &mut Connection<S>) -> Result<(), StepFault> {
 struct AtLastNumber;
 
 impl Shelf for AtLastNumber {
-    type Book = TableBook<MemStore>;
-
     fn name(&self) -> &'static str {
         "tables at the last number"
     }
 
-    fn new_book(&self, alloc: Global, settings: Settings) -> Result<Self::Book, StepFault> {
-        let mut conn = tables_in_memory(alloc, settings)?.close();
+    fn take_steps(
+        &self,
+        desk: &mut Desk,
+        first: &[Step<'_>],
+        steps: &[Step<'_>],
+    ) -> Result<(), StepFault> {
+        let mut conn = tables_in_memory(desk.alloc(), desk.settings()?)?.close();
         skip_numbers(&mut conn)?;
-        adopt(alloc, conn)
-    }
-
-    fn next_book(&self, alloc: Global, book: Self::Book) -> Result<Self::Book, StepFault> {
-        adopt(alloc, book.close())
+        let book = adopt(desk.alloc(), conn)?;
+        take_adopted(desk, book, first, steps)
     }
 }
 
