@@ -9,10 +9,9 @@ ghost use Rattle.http_front.specs.Connections.{IsServed, IsStopped, Worked, acte
 
 use crate::outcome::{ServeFault, Served, Turned};
 use crate::turn::turn;
-use http_head::buffer::Buffer;
 use http_head::end::End;
+use http_head::input::Input;
 use http_head::routes::{Route, router};
-use http_wire::counted::Counted;
 use matchit::Router;
 use queue_core::book::QueueBook;
 use queue_types::settings::Settings;
@@ -33,11 +32,10 @@ fn mark(faults: u32, k: u32, is_fault: bool) -> u32
 fn run<R: Read, W: Write, B: QueueBook>(
     alloc: Global,
     router: Option<&Router<Route>>,
-    reader: &mut R,
+    input: &mut Input<R>,
     writer: &mut W,
     book: &mut B,
     s: &Settings,
-    buffer: &mut Buffer,
     now: u32,
 ) -> Result<Served, ServeFault>
     requires router { ForSome router (λ r. r.now ≡ routes) }
@@ -45,10 +43,10 @@ fn run<R: Read, W: Write, B: QueueBook>(
     ensures began { B.is_honest book.new → B.is_honest book.old }
     ensures served { B.is_honest book.new → IfOk result (λ served. (w : World) → B.stands book.old w → s.now ≡ w.settings
         → (u : World) × B.stands book.new u
-        × IsServed now w u (left buffer.old (R.remaining reader.old)) (W.contents writer.old) (W.contents writer.new) served) }
+        × IsServed now w u (left input.old.buffer (R.remaining input.old.reader)) (W.contents writer.old) (W.contents writer.new) served) }
     ensures broken { B.is_honest book.new → IfErr result (λ fault. (w : World) → B.stands book.old w → s.now ≡ w.settings
         → (u : World) × B.stands book.new u
-        × IsStopped now w u (left buffer.old (R.remaining reader.old)) (W.contents writer.old) (W.contents writer.new) fault) }
+        × IsStopped now w u (left input.old.buffer (R.remaining input.old.reader)) (W.contents writer.old) (W.contents writer.new) fault) }
     ensures worked { B.is_honest book.new → (w : World) → B.stands book.old w → s.now ≡ w.settings
         → (u : World) × B.stands book.new u × Worked 32 now w u (acted_of result) }
     ensures few { IfOk result (λ served. served.acted ≤ 32) }
@@ -58,7 +56,7 @@ fn run<R: Read, W: Write, B: QueueBook>(
     let mut faults = 0;
     let mut k = 0;
     'turns: loop {
-        match turn(alloc, router, reader, writer, book, s, buffer, now, k) {
+        match turn(alloc, router, input, writer, book, s, now, k) {
             Ok(
                 Turned::Answered {
                     acted: acts,
@@ -124,17 +122,7 @@ pub fn serve<R: Read, W: Write, B: QueueBook>(
     ensures few { IfOk result (λ served. served.acted ≤ 32) }
     ensures few_stopped { IfErr result (λ fault. fault.acted ≤ 32) }
 {
-    let mut counted = Counted::new(reader);
-    let mut buffer = Buffer::new();
+    let mut input = Input::new(reader);
     let table = router(alloc).ok();
-    run(
-        alloc,
-        table.as_ref(),
-        &mut counted,
-        writer,
-        book,
-        s,
-        &mut buffer,
-        now,
-    )
+    run(alloc, table.as_ref(), &mut input, writer, book, s, now)
 }

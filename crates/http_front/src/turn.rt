@@ -11,14 +11,15 @@ ghost use Rattle.http_front.specs.Turned.{IsClosed, IsPlanned, IsTurned, ClosesL
 
 use crate::outcome::{Replied, ServeCause, Stopped, Turned};
 use crate::reply::{reply, stopped_by};
-use http_head::buffer::Buffer;
-use http_head::end::{Finish, ReadFault, Refusal, WriteFault};
+use http_head::end::{Finish, Refusal, WriteFault};
+use http_head::fault::HeadFault;
+use http_head::input::Input;
 use http_head::plan::Plan;
-use http_head::receive::{Headed, take_head};
+use http_head::receive::take_head;
 use http_head::routes::Route;
 use http_head::target::Target;
-use http_wire::body::BodyFault;
-use http_wire::framed::{Framed, take_framed};
+use http_wire::fault::BodyFault;
+use http_wire::framed::take_framed;
 use http_wire::respond::{send_continue, send_end};
 use matchit::Router;
 use queue_core::book::QueueBook;
@@ -62,11 +63,10 @@ fn closes_after(plan: Plan, k: u32) -> bool
 /// Answers request k behind a head that passed the checks.
 fn take_planned<R: Read, W: Write, B: QueueBook>(
     alloc: Global,
-    reader: &mut R,
+    input: &mut Input<R>,
     writer: &mut W,
     book: &mut B,
     s: &Settings,
-    buffer: &mut Buffer,
     plan: Plan,
     now: u32,
     k: u32,
@@ -77,7 +77,7 @@ fn take_planned<R: Read, W: Write, B: QueueBook>(
     ensures began { B.is_honest book.new → B.is_honest book.old }
     ensures planned { B.is_honest book.new → (w : World) → B.stands book.old w → s.now ≡ w.settings
         → (u : World) × B.stands book.new u
-        × IsPlanned now k w u plan (left buffer.old (R.remaining reader.old)) (left buffer.new (R.remaining reader.new))
+        × IsPlanned now k w u plan (left input.old.buffer (R.remaining input.old.reader)) (left input.new.buffer (R.remaining input.new.reader))
         (W.contents writer.old) (W.contents writer.new) result }
     ensures worked { B.is_honest book.new → (w : World) → B.stands book.old w → s.now ≡ w.settings
         → (u : World) × B.stands book.new u × PlanWorks now k w u plan (acted_in result) }
@@ -87,9 +87,9 @@ fn take_planned<R: Read, W: Write, B: QueueBook>(
         Ok(()) => {}
         Err(WriteFault) => return Err(stopped_by(ServeCause::Write)),
     }
-    let content = match take_framed(alloc, reader, buffer, plan.framing) {
-        Ok(Framed::Whole(content)) => content,
-        Ok(Framed::Ended(end)) => return close_with(writer, end),
+    let content = match take_framed(alloc, input, plan.framing) {
+        Ok(content) => content,
+        Err(BodyFault::Ended(end)) => return close_with(writer, end),
         Err(BodyFault::Read) => return Err(stopped_by(ServeCause::Read)),
         Err(BodyFault::Memory) => return close_with(writer, Finish::Refused(Refusal::Unavailable)),
     };
@@ -118,11 +118,10 @@ fn take_planned<R: Read, W: Write, B: QueueBook>(
 pub fn turn<R: Read, W: Write, B: QueueBook>(
     alloc: Global,
     router: Option<&Router<Route>>,
-    reader: &mut R,
+    input: &mut Input<R>,
     writer: &mut W,
     book: &mut B,
     s: &Settings,
-    buffer: &mut Buffer,
     now: u32,
     k: u32,
 ) -> Result<Turned, Stopped>
@@ -132,7 +131,7 @@ pub fn turn<R: Read, W: Write, B: QueueBook>(
     ensures began { B.is_honest book.new → B.is_honest book.old }
     ensures turned { B.is_honest book.new → (w : World) → B.stands book.old w → s.now ≡ w.settings
         → (u : World) × B.stands book.new u
-        × IsTurned now k w u (left buffer.old (R.remaining reader.old)) (left buffer.new (R.remaining reader.new))
+        × IsTurned now k w u (left input.old.buffer (R.remaining input.old.reader)) (left input.new.buffer (R.remaining input.new.reader))
         (W.contents writer.old) (W.contents writer.new) result }
     ensures worked { B.is_honest book.new → (w : World) → B.stands book.old w → s.now ≡ w.settings
         → (u : World) × B.stands book.new u × Works now w u (acted_in result) }
@@ -141,12 +140,10 @@ pub fn turn<R: Read, W: Write, B: QueueBook>(
     let Some(router) = router else {
         return close_with(writer, Finish::Refused(Refusal::Unavailable));
     };
-    match take_head(router, reader, buffer) {
-        Ok(Headed::Planned(plan)) => {
-            take_planned(alloc, reader, writer, book, s, buffer, plan, now, k)
-        }
-        Ok(Headed::Ended(end)) => close_with(writer, end),
-        Ok(Headed::Failed(refusal)) => close_with(writer, Finish::Refused(refusal)),
-        Err(ReadFault) => Err(stopped_by(ServeCause::Read)),
+    match take_head(router, input) {
+        Ok(plan) => take_planned(alloc, input, writer, book, s, plan, now, k),
+        Err(HeadFault::Ended(end)) => close_with(writer, end),
+        Err(HeadFault::Failed(refusal)) => close_with(writer, Finish::Refused(refusal)),
+        Err(HeadFault::Read) => Err(stopped_by(ServeCause::Read)),
     }
 }

@@ -2,6 +2,7 @@ pub mod Limits
 pub mod Ends
 pub mod Left
 pub mod Head
+pub mod Fault
 pub mod Found
 pub mod Routes
 pub mod Fields

@@ -1,8 +1,8 @@
 //! Request heads of HTTP/1.1 (RFC 9112, section 3) for the server of a print queue, without any queue.
 //!
-//! [`receive::take_head`] reads a request head from a connection into a [`buffer::Buffer`] (`head`), finds the request
+//! [`receive::take_head`] reads a request head from a connection, an [`input::Input`] (`head`, `buffer`), finds the request
 //! target's route (`target`, `routes`), the framing of the request's body (`framing`) and the first check that applies
-//! (`checks`), and answers a refusal or a [`plan::Plan`]. [`end::Finish`] is how a connection ends, with the refusal that ends it.
+//! (`checks`), and answers a [`plan::Plan`] or why there is none ([`fault::HeadFault`]). [`end::Finish`] is how a connection ends, with the refusal that ends it.
 //!
 //! No pass reads a byte once as many have come as a head may have.
 #![tactic(auto)]
@@ -10,9 +10,11 @@
 pub mod buffer;
 pub mod checks;
 pub mod end;
-pub mod fields;
+pub mod fault;
+mod fields;
 pub mod framing;
-pub mod head;
+mod head;
+pub mod input;
 pub mod plan;
 pub mod receive;
 pub mod routes;

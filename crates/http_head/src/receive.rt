@@ -1,47 +1,30 @@
 //! The head of a request, taken and checked.
-ghost use Rattle.std.specs.Prelude.{◌≡◌, IfOk};
+ghost use Rattle.std.specs.Prelude.{◌≡◌, ◌≤◌, IfErr, IfOk};
+ghost use Rattle.http_head.specs.Fault.{IsHeadFault};
+ghost use Rattle.http_head.specs.Framing.{size_of};
 ghost use Rattle.http_head.specs.Left.{left};
-ghost use Rattle.http_head.specs.Received.{IsHeaded, FitsPlan};
+ghost use Rattle.http_head.specs.Received.{TakesPlan};
 ghost use Rattle.http_head.specs.Routes.{routes};
 
-use crate::buffer::Buffer;
-use crate::end::{Finish, ReadFault, Refusal};
-use crate::head::{Found, find_head};
+use crate::fault::HeadFault;
+use crate::head::find_head;
+use crate::input::Input;
 use crate::plan::{Plan, plan_at};
 use crate::routes::Route;
 use httparse::spans::EMPTY_HEADER_SPAN;
 use matchit::Router;
 use std::io::Read;
 
-/// What was found in a head's place. A head that passes its checks is taken.
-#[derive(Clone, Copy)]
-pub enum Headed {
-    Ended(Finish),
-    /// A check applies.
-    Failed(Refusal),
-    Planned(Plan),
-}
-
-/// Takes the next head, and checks it.
-pub fn take_head<R: Read>(
-    router: &Router<Route>,
-    reader: &mut R,
-    buffer: &mut Buffer,
-) -> Result<Headed, ReadFault>
+/// Takes the next head, and answers what it asks for. A head that a check refuses is not taken.
+pub fn take_head<R: Read>(router: &Router<Route>, input: &mut Input<R>) -> Result<Plan, HeadFault>
     requires { router.now ≡ routes }
-    ensures headed { IfOk result (IsHeaded (left buffer.old (R.remaining reader.old)) (left buffer.new (R.remaining reader.new))) }
-    ensures fits { IfOk result FitsPlan }
+    ensures taken { IfOk result (TakesPlan (left input.old.buffer (R.remaining input.old.reader)) (left input.new.buffer (R.remaining input.new.reader))) }
+    ensures fits { IfOk result (λ plan. size_of plan.framing ≤ 16777216) }
+    ensures failed { IfErr result (IsHeadFault (left input.old.buffer (R.remaining input.old.reader))) }
 {
     let mut headers = [EMPTY_HEADER_SPAN; 64];
-    let found = find_head(reader, buffer, &mut headers)?;
-    match found {
-        Found::Ended(end) => Ok(Headed::Ended(end)),
-        Found::Whole(spans) => match plan_at(router, buffer.bytes(), &headers, spans) {
-            Ok(plan) => {
-                buffer.take(spans.len);
-                Ok(Headed::Planned(plan))
-            }
-            Err(refusal) => Ok(Headed::Failed(refusal)),
-        },
-    }
+    let spans = find_head(input, &mut headers)?;
+    let plan = plan_at(router, input.bytes(), &headers, spans)?;
+    input.take(spans.len);
+    Ok(plan)
 }

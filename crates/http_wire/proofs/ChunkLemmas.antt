@@ -10,8 +10,8 @@ use Rattle.httparse.specs.Grammar.{ChunkLine, print_chunk_line, chunk_size, prin
 use Rattle.http_head.specs.Limits.{content_limit, raw_limit, line_limit, trailer_limit}
 use Rattle.http_wire.specs.Chunks.{Chunk, IsChunk, AreChunks, IsShortLine, chunks_bytes, chunks_content, chunk_bytes, content_of, chunked_bytes, chunked_content}
 use Rattle.http_wire.specs.ChunkEnds.{BeginsWithChunks, EndsAtLine, EndsAtTrailers, EndsAtLineEnd, EndsInChunk, EndsInChunks, at_line, too_large, in_chunk, at_trailers, bound_behind}
-use Rattle.http_wire.specs.ChunkParts.{TakesLine, TakesChunks, TakesToLast, TakesTrailers, TakesChunked, IsLineEnd, IsChunkTaken}
-use Rattle.http_wire.specs.Bodies.{TakesMore}
+use Rattle.http_wire.specs.ChunkParts.{TakesLine, TakesChunk, TakesChunks, TakesToLast, TakesTrailers, TakesChunked}
+use Rattle.http_wire.specs.Bodies.{EndsInLength, TakesMore}
 use Rattle.http_head.specs.declared.end.Finish.{Finish}
 use Rattle.http_head.specs.declared.end.Finish.TheVariants.{Closed, Cut, Done, Refused}
 use Rattle.http_head.specs.declared.end.Refusal.TheVariants.{TooLarge}
@@ -159,9 +159,9 @@ content_fits a c raw body run = let e = ap length run.content_is in omega (arith
 
 -- ---- a chunk
 
-pub chunk_cut : (bytes : Option (List ℕ)) (size : ℕ) → IfSome bytes (λ xs. length xs < size) → IfSome bytes (λ xs. EndsInChunk size xs Cut)
-chunk_cut None size h = tt
-chunk_cut (Some x) size h = omega (arith, h)
+pub chunk_cut : (bytes : Option (List ℕ)) (size : ℕ) (end : Finish) → IfSome bytes (λ xs. EndsInLength size xs end) → IfSome bytes (λ xs. EndsInChunk size xs end)
+chunk_cut None size end h = tt
+chunk_cut (Some x) size end h = subst (λ (e : Finish). EndsInChunk size x e) (sym h.0) (omega (arith, h.1))
 
 chunk_end_of : (size : ℕ) (x y content : List ℕ) (end : Finish) → x ≡ content ++ y → length content ≡ size → EndsAtLineEnd y end → EndsInChunk size x end
 chunk_end_of size x y content Closed e h n = n
@@ -169,11 +169,15 @@ chunk_end_of size x y content Cut e h n = let f = ap length e in let g = length-
 chunk_end_of size x y content Done e h n = n
 chunk_end_of size x y content (Refused r) e h n = (n.0, content, y, e, h, n.1, n.2)
 
-chunk_end : (a b : Option (List ℕ)) (size : ℕ) (content : List ℕ) (end : Finish) → Consumes a b content → length content ≡ size → IfSome b (λ xs. EndsAtLineEnd xs end) → IfSome a (λ xs. EndsInChunk size xs end)
+pub chunk_end : (a b : Option (List ℕ)) (size : ℕ) (content : List ℕ) (end : Finish) → Consumes a b content → length content ≡ size → IfSome b (λ xs. EndsAtLineEnd xs end) → IfSome a (λ xs. EndsInChunk size xs end)
 chunk_end None b size content end t h e = tt
 chunk_end (Some x) None size content end t h e = absurd t
 chunk_end (Some x) (Some y) size content end t h e = chunk_end_of size x y content end t h e
 
-pub chunk_taken : (a b d : Option (List ℕ)) (size : ℕ) (before after : List ℕ) (end : Option Finish) → TakesMore size a b before after → IsLineEnd b d end → IsChunkTaken size a d before after end
-chunk_taken a b d size before after None m e = (m.more, m.size, m.after_is, Consumes-trans a b d m.more crlf_bytes m.taken e)
-chunk_taken a b d size before after (Some end) m e = chunk_end a b size m.more end m.taken m.size e
+pub chunk_taken : (a b d : Option (List ℕ)) (size : ℕ) (before after : List ℕ) → TakesMore size a b before after → Consumes b d crlf_bytes → TakesChunk size a d before after
+chunk_taken a b d size before after m e = record {
+  more = m.more;
+  size_is = m.size;
+  after_is = m.after_is;
+  taken = Consumes-trans a b d m.more crlf_bytes m.taken e;
+}

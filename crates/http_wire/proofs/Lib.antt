@@ -2,3 +2,4 @@ pub mod BodyLemmas
 pub mod WriteLemmas
 pub mod ChunkLemmas
 pub mod LineLemmas
+pub mod FaultLemmas

@@ -1,14 +1,20 @@
 //! The chunks of a chunked body: a chunk line, and the content and the CR LF behind it (RFC 9112, section 7.1).
-ghost use Rattle.std.specs.Prelude.{◌≡◌, ◌+◌, ◌<◌, ◌≤◌, length, take, IfOk};
-ghost use Rattle.std.specs.Io.KnownBytes.{Keeps};
+ghost use Rattle.std.specs.Prelude.{◌≡◌, ◌+◌, ◌<◌, ◌≤◌, ◌++◌, length, take, IfErr, IfOk, IfSome, OnOk};
+ghost use Rattle.std.specs.Io.KnownBytes.{Consumes, Keeps};
+ghost use Rattle.httparse.specs.Ascii.{crlf_bytes};
+ghost use Rattle.httparse.specs.Grammar.{ChunkLine};
+ghost use Rattle.httparse.specs.Spans.{IsChunkLineAt};
 ghost use Rattle.http_wire.specs.ChunkEnds as ends;
-ghost use Rattle.http_wire.specs.ChunkParts.{IsLine, IsLineTaken, IsLineEnd, IsChunkTaken};
+ghost use Rattle.http_wire.specs.ChunkEnds.{EndsAtLine, EndsAtLineEnd, EndsInChunk};
+ghost use Rattle.http_wire.specs.ChunkParts.{TakesChunk, TakesLine};
 ghost use Rattle.http_head.specs.Left.{left};
 ghost use Rattle.http_wire.specs.LineEnds.{IsLineEndState};
+ghost use Rattle.http_wire.specs.Fault.{IfEnded};
 
-use crate::body::{BodyFault, take_more};
-use http_head::buffer::Buffer;
-use http_head::end::{Finish, ReadFault, Refusal};
+use crate::body::take_more;
+use crate::fault::BodyFault;
+use http_head::end::{Finish, Refusal};
+use http_head::input::Input;
 use httparse::{Status, parse_chunk_size};
 use std::io::Read;
 
@@ -53,51 +59,46 @@ pub fn front(bytes: &[u8], n: usize) -> &[u8]
     if bytes.len() < n { bytes } else { &bytes[..n] }
 }
 
-/// What was found where a chunk line may stand.
+/// A chunk line.
 #[derive(Clone, Copy)]
-pub enum Line {
-    Ended(Finish),
-    /// How many bytes the line has, and the size that it tells.
-    Whole(usize, u64),
+pub struct Line {
+    /// How many bytes it has.
+    pub len: usize,
+    /// The size of the chunk that it tells.
+    pub size: u64,
 }
 
 /// Reads until a chunk line stands at the front of the buffer, where it is left.
-fn find_line<R: Read>(reader: &mut R, buffer: &mut Buffer, bound: Bound) -> Result<Line, ReadFault>
+fn find_line<R: Read>(input: &mut Input<R>, bound: Bound) -> Result<Line, BodyFault>
     requires { bound.limit ≤ 1024 }
-    ensures kept { Keeps (left buffer.old (R.remaining reader.old)) (left buffer.new (R.remaining reader.new)) }
-    ensures found { IfOk result (IsLine bound (left buffer.old (R.remaining reader.old)) buffer.new) }
+    ensures kept { Keeps (left input.old.buffer (R.remaining input.old.reader)) (left input.new.buffer (R.remaining input.new.reader)) }
+    ensures found { IfOk result (λ line. (l : ChunkLine) × IsChunkLineAt input.new.buffer line.len line.size l × (line.len ≤ bound.limit)) }
+    ensures ended { IfErr result (λ f. IfEnded f (λ end. IfSome (left input.old.buffer (R.remaining input.old.reader)) (λ bytes. EndsAtLine bound bytes end))) }
 {
     'fill: loop {
-        match parse_chunk_size(front(buffer.bytes(), bound.limit)) {
-            Ok(Status::Complete((len, size))) => return Ok(Line::Whole(len, size)),
+        match parse_chunk_size(front(input.bytes(), bound.limit)) {
+            Ok(Status::Complete((len, size))) => return Ok(Line { len, size }),
             Ok(Status::Partial) => {}
-            Err(_) => return Ok(Line::Ended(Finish::Refused(Refusal::BadRequest))),
+            Err(_) => return Err(BodyFault::Ended(Finish::Refused(Refusal::BadRequest))),
         }
-        if buffer.bytes().len() >= bound.limit {
-            return Ok(Line::Ended(Finish::Refused(bound.refusal)));
+        if input.bytes().len() >= bound.limit {
+            return Err(BodyFault::Ended(Finish::Refused(bound.refusal)));
         }
-        if buffer.fill(reader)? == 0 {
-            return Ok(Line::Ended(Finish::Cut));
+        if input.fill()? == 0 {
+            return Err(BodyFault::Ended(Finish::Cut));
         }
     }
 }
 
 /// Takes a chunk line. No byte is read for it once `bound.limit` bytes have come, which is at most 1,024.
-pub fn take_line<R: Read>(
-    reader: &mut R,
-    buffer: &mut Buffer,
-    bound: Bound,
-) -> Result<Line, ReadFault>
+pub fn take_line<R: Read>(input: &mut Input<R>, bound: Bound) -> Result<Line, BodyFault>
     requires { bound.limit ≤ 1024 }
-    ensures { IfOk result (IsLineTaken bound (left buffer.old (R.remaining reader.old)) (left buffer.new (R.remaining reader.new))) }
+    ensures taken { IfOk result (λ line. TakesLine bound.limit (left input.old.buffer (R.remaining input.old.reader)) (left input.new.buffer (R.remaining input.new.reader)) line.len line.size) }
+    ensures ended { IfErr result (λ f. IfEnded f (λ end. IfSome (left input.old.buffer (R.remaining input.old.reader)) (λ bytes. EndsAtLine bound bytes end))) }
 {
-    match find_line(reader, buffer, bound)? {
-        Line::Whole(len, size) => {
-            buffer.take(len);
-            Ok(Line::Whole(len, size))
-        }
-        Line::Ended(end) => Ok(Line::Ended(end)),
-    }
+    let line = find_line(input, bound)?;
+    input.take(line.len);
+    Ok(line)
 }
 
 /// What bytes say of a CR LF at their front.
@@ -121,38 +122,36 @@ fn line_end_in(bytes: &[u8]) -> LineEndState
 }
 
 /// Takes the CR LF behind a chunk's content.
-fn take_line_end<R: Read>(reader: &mut R, buffer: &mut Buffer) -> Result<Option<Finish>, ReadFault>
-    ensures { IfOk result (IsLineEnd (left buffer.old (R.remaining reader.old)) (left buffer.new (R.remaining reader.new))) }
+fn take_line_end<R: Read>(input: &mut Input<R>) -> Result<(), BodyFault>
+    ensures taken { OnOk result (Consumes (left input.old.buffer (R.remaining input.old.reader)) (left input.new.buffer (R.remaining input.new.reader)) crlf_bytes) }
+    ensures ended { IfErr result (λ f. IfEnded f (λ end. IfSome (left input.old.buffer (R.remaining input.old.reader)) (λ bytes. EndsAtLineEnd bytes end))) }
 {
     'fill: loop {
-        match line_end_in(buffer.bytes()) {
+        match line_end_in(input.bytes()) {
             LineEndState::Whole => {
-                buffer.take(2);
-                return Ok(None);
+                input.take(2);
+                return Ok(());
             }
             LineEndState::Open => {}
-            LineEndState::Wrong => return Ok(Some(Finish::Refused(Refusal::BadRequest))),
+            LineEndState::Wrong => return Err(BodyFault::Ended(Finish::Refused(
+                Refusal::BadRequest,
+            ))),
         }
-        if buffer.fill(reader)? == 0 {
-            return Ok(Some(Finish::Cut));
+        if input.fill()? == 0 {
+            return Err(BodyFault::Ended(Finish::Cut));
         }
     }
 }
 
 /// Takes the content of a chunk, which it adds to that of the chunks before it, and the CR LF behind it.
 pub fn take_chunk<R: Read>(
-    reader: &mut R,
-    buffer: &mut Buffer,
+    input: &mut Input<R>,
     content: &mut Vec<u8>,
     size: usize,
-) -> Result<Option<Finish>, BodyFault>
-    ensures { IfOk result (IsChunkTaken size (left buffer.old (R.remaining reader.old)) (left buffer.new (R.remaining reader.new)) content.old.items content.new.items) }
+) -> Result<(), BodyFault>
+    ensures taken { OnOk result (TakesChunk size (left input.old.buffer (R.remaining input.old.reader)) (left input.new.buffer (R.remaining input.new.reader)) content.old.items content.new.items) }
+    ensures ended { IfErr result (λ f. IfEnded f (λ end. IfSome (left input.old.buffer (R.remaining input.old.reader)) (λ bytes. EndsInChunk size bytes end))) }
 {
-    if !take_more(reader, buffer, content, size)? {
-        return Ok(Some(Finish::Cut));
-    }
-    match take_line_end(reader, buffer) {
-        Ok(end) => Ok(end),
-        Err(ReadFault) => Err(BodyFault::Read),
-    }
+    take_more(input, content, size)?;
+    take_line_end(input)
 }

@@ -2,16 +2,16 @@
 //! queue; the heads of requests are in `http_head`.
 //!
 //! [`framed::take_framed`] takes the body that a plan tells of: by its length (`body`), or by chunks (`chunk`, `trailers`,
-//! `chunked`). `respond` writes responses, by `put`. [`counted::Counted`] counts the reads of a connection.
+//! `chunked`); [`fault::BodyFault`] is why it isn't there. `respond` writes responses, by `put`.
 //!
 //! No pass reads a byte once as many have come as the part that it looks for may have.
 #![tactic(auto)]
 
-pub mod body;
-pub mod chunk;
-pub mod chunked;
-pub mod counted;
+mod body;
+mod chunk;
+mod chunked;
+pub mod fault;
 pub mod framed;
-pub mod put;
+mod put;
 pub mod respond;
-pub mod trailers;
+mod trailers;

@@ -35,7 +35,7 @@ returns-then-closes-clause-served g c = λ h w st set.
       t.0,
       t.1,
       served_done c.turns.k c.args.now w r.0 t.0
-          (left c.args.buffer.now (g.R.Read.remaining c.args.reader.now)) (left c.turns.buffer (g.R.Read.remaining c.turns.reader)) (left c.turn.new.buffer (g.R.Read.remaining c.turn.new.reader))
+          (left c.args.input.now.buffer (g.R.Read.remaining c.args.input.now.reader)) (left c.turns.input.buffer (g.R.Read.remaining c.turns.input.reader)) (left c.turn.new.input.buffer (g.R.Read.remaining c.turn.new.input.reader))
           (g.W.Write.contents c.args.writer.now) (g.W.Write.contents c.turns.writer) (g.W.Write.contents c.turn.new.writer)
           c.turns.acted c.turns.faults c.from-acted.result c.mark-faults.result c.in-Ok-Answered.acts c.in-Ok-Answered.is_fault c.in-Ok-Answered.closes
           c.turns.invariant.few r.2 t.2 (search rules) c.mark-faults.ensures.exact c.if-closes.true,
@@ -47,10 +47,10 @@ returns-in-Ok-Ended-clause-served g c = λ h w st set.
     let t = rw c.in-Ok-Ended.field-0-is at (c.in-Ok-Ended.ensures.turned h r.0 r.1 (run_settings c.args.s.now c.turns.k c.args.now w r.0 _ _ _ _ c.turns.acted c.turns.faults r.2 set)) in (
       t.0,
       t.1,
-      subst (λ (z : End). IsServed c.args.now w t.0 (left c.args.buffer.now (g.R.Read.remaining c.args.reader.now)) (g.W.Write.contents c.args.writer.now) (g.W.Write.contents c.turn.new.writer)
+      subst (λ (z : End). IsServed c.args.now w t.0 (left c.args.input.now.buffer (g.R.Read.remaining c.args.input.now.reader)) (g.W.Write.contents c.args.writer.now) (g.W.Write.contents c.turn.new.writer)
           (record { acted = c.turns.acted; faults = c.mark.result; end = z })) (sym c.end.ensures)
           (served_ended c.turns.k c.args.now w r.0 t.0
-          (left c.args.buffer.now (g.R.Read.remaining c.args.reader.now)) (left c.turns.buffer (g.R.Read.remaining c.turns.reader)) (left c.turn.new.buffer (g.R.Read.remaining c.turn.new.reader))
+          (left c.args.input.now.buffer (g.R.Read.remaining c.args.input.now.reader)) (left c.turns.input.buffer (g.R.Read.remaining c.turns.input.reader)) (left c.turn.new.input.buffer (g.R.Read.remaining c.turn.new.input.reader))
           (g.W.Write.contents c.args.writer.now) (g.W.Write.contents c.turns.writer) (g.W.Write.contents c.turn.new.writer)
           c.turns.acted c.turns.faults c.mark.result c.in-Ok-Ended.finish c.turns.invariant.few r.2 t.2
           (c.mark.ensures.exact ∙ ap (λ b. c.turns.faults + (if b then 2 ^ c.turns.k else 0)) c.is_unavailable.ensures)),
@@ -63,7 +63,7 @@ returns-in-Err-clause-broken g c = λ h w st set.
       t.0,
       t.1,
       stopped_at c.turns.k c.args.now w r.0 t.0
-          (left c.args.buffer.now (g.R.Read.remaining c.args.reader.now)) (left c.turns.buffer (g.R.Read.remaining c.turns.reader))
+          (left c.args.input.now.buffer (g.R.Read.remaining c.args.input.now.reader)) (left c.turns.input.buffer (g.R.Read.remaining c.turns.input.reader))
           (g.W.Write.contents c.args.writer.now) (g.W.Write.contents c.turns.writer) (g.W.Write.contents c.turn.new.writer)
           c.turns.acted c.turns.faults c.from.result c.mark-in-Err.result c.in-Err.stopped.acted c.in-Err.stopped.is_fault
           c.turns.invariant.few r.2 t.2 (search rules) c.mark-in-Err.ensures.exact,

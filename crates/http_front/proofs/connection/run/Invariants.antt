@@ -12,7 +12,7 @@ invariant-turns g l = record {
   below : l.faults < 2 ^ l.k;
   began : g.B.QueueBook.is_honest l.book → g.B.QueueBook.is_honest l.initial.book;
   ran : g.B.QueueBook.is_honest l.book → (w : World) → g.B.QueueBook.stands l.initial.book w → l.s ≡ w.settings → (u : World) × g.B.QueueBook.stands l.book u
-      × RanOn l.k l.now w u (left l.initial.buffer (g.R.Read.remaining l.initial.reader)) (left l.buffer (g.R.Read.remaining l.reader))
+      × RanOn l.k l.now w u (left l.initial.input.buffer (g.R.Read.remaining l.initial.input.reader)) (left l.input.buffer (g.R.Read.remaining l.input.reader))
       (g.W.Write.contents l.initial.writer) (g.W.Write.contents l.writer) l.acted l.faults;
   worked : g.B.QueueBook.is_honest l.book → (w : World) → g.B.QueueBook.stands l.initial.book w → l.s ≡ w.settings → (u : World) × g.B.QueueBook.stands l.book u
       × Worked l.k l.now w u l.acted;

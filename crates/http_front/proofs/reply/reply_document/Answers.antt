@@ -1,4 +1,4 @@
-use Rattle.std.proofs.Common.{◌≡◌, refl, inl, inr, rules, length, subst, List, ℕ, None, Some, false}
+use Rattle.std.proofs.Common.{refl, inl, inr, rules, length, subst, List, ℕ, None, Some, false}
 use Rattle.std.specs.Io.KnownBytes.{Appends}
 use Rattle.std.proofs.KnownBytes.{Appends-trans}
 use Rattle.queue_types.specs.Formats.{format_name}

@@ -1,4 +1,4 @@
-use Rattle.std.proofs.Common.{◌≡◌, ◌∙◌, ap, refl, inr, false}
+use Rattle.std.proofs.Common.{◌∙◌, ap, refl, inr, false}
 use Rattle.std.specs.Prelude.{codes}
 use Rattle.device_lines.specs.Queue.{queue_lines}
 use Rattle.http_head.specs.declared.end.Refusal.TheVariants.{Unavailable}

@@ -6,10 +6,10 @@ use Rattle.http_head.proofs.head.find_head.Goals as goal
 pub fill-init : goal.fill-init
 fill-init g c = Keeps-refl _
 
-pub returns-in-Err-TooManyHeaders-clause-found : goal.returns-in-Err-TooManyHeaders-clause-found
-returns-in-Err-TooManyHeaders-clause-found g c =
+pub returns-in-Err-TooManyHeaders-clause-failed : goal.returns-in-Err-TooManyHeaders-clause-failed
+returns-in-Err-TooManyHeaders-clause-failed g c =
     grind (arith, refused_many, c.fill.invariant, c.bytes.ensures.value, c.in-Err-TooManyHeaders.ensures.no_room, c.in-Err-TooManyHeaders.ensures.too_many)
 
-pub returns-then-bytes-eq-CAPACITY-clause-found : goal.returns-then-bytes-eq-CAPACITY-clause-found
-returns-then-bytes-eq-CAPACITY-clause-found g c =
+pub returns-then-bytes-eq-CAPACITY-clause-failed : goal.returns-then-bytes-eq-CAPACITY-clause-failed
+returns-then-bytes-eq-CAPACITY-clause-failed g c =
     grind (arith, refused_full, c.fill.invariant, c.bytes.ensures.value, c.bytes-in-fill.ensures.value, c.in-Ok-Partial.ensures.partial)

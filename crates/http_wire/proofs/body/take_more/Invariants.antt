@@ -6,7 +6,7 @@ use Rattle.http_wire.proofs.body.take_more.Given as goal
 abbrev pub invariant-take : goal.invariant-take
 invariant-take g l = record {
   within : l.taken ≤ l.n;
-  more : TakesMore l.taken (left l.initial.buffer (g.R.Read.remaining l.initial.reader)) (left l.buffer (g.R.Read.remaining l.reader)) l.initial.content.items l.content.items;
+  more : TakesMore l.taken (left l.initial.input.buffer (g.R.Read.remaining l.initial.input.reader)) (left l.input.buffer (g.R.Read.remaining l.input.reader)) l.initial.content.items l.content.items;
 }
 
 abbrev pub decreases-take : goal.decreases-take

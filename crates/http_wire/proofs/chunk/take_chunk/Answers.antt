@@ -1,10 +1,13 @@
 use Rattle.std.proofs.Common.{rules}
 use Rattle.http_head.specs.Left.{left}
-use Rattle.http_wire.proofs.ChunkLemmas.{chunk_taken}
+use Rattle.http_wire.specs.Bodies.{TakesMore}
+use Rattle.http_wire.proofs.ChunkLemmas.{chunk_end}
+use Rattle.http_wire.proofs.FaultLemmas.{ended_result}
 use Rattle.http_wire.proofs.chunk.take_chunk.Goals as goal
 
-pub returns-in-Ok : goal.returns-in-Ok
-returns-in-Ok g c =
-    chunk_taken (left c.args.buffer.now (g.R.Read.remaining c.args.reader.now)) (left c.take_more.new.buffer (g.R.Read.remaining c.take_more.new.reader))
-    (left c.take_line_end.new.buffer (g.R.Read.remaining c.take_line_end.new.reader)) c.args.size c.args.content.now.items c.take_more.new.content.items c.in-Ok.end
-    (search rules) c.in-Ok.ensures
+pub returns-clause-ended : goal.returns-clause-ended
+returns-clause-ended g c =
+    let a = left c.args.input.now.buffer (g.R.Read.remaining c.args.input.now.reader) in
+    let b = left c.take_more.new.input.buffer (g.R.Read.remaining c.take_more.new.input.reader) in
+    let more : TakesMore c.args.size a b c.args.content.now.items c.take_more.new.content.items = search rules in
+    ended_result _ c.take_line_end.result _ _ (λ end h. chunk_end a b c.args.size more.more end more.taken more.size h) c.take_line_end.ensures.ended

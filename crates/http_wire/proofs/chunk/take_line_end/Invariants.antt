@@ -4,7 +4,7 @@ use Rattle.http_head.specs.Left.{left}
 use Rattle.http_wire.proofs.chunk.take_line_end.Given as goal
 
 abbrev pub invariant-fill : goal.invariant-fill
-invariant-fill g l = Keeps (left l.initial.buffer (g.R.Read.remaining l.initial.reader)) (left l.buffer (g.R.Read.remaining l.reader))
+invariant-fill g l = Keeps (left l.initial.input.buffer (g.R.Read.remaining l.initial.input.reader)) (left l.input.buffer (g.R.Read.remaining l.input.reader))
 
 abbrev pub decreases-fill : goal.decreases-fill
-decreases-fill g l = 16384 - length l.buffer
+decreases-fill g l = 16384 - length l.input.buffer

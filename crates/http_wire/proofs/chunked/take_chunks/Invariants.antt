@@ -7,7 +7,7 @@ abbrev pub invariant-chunks : goal.invariant-chunks
 invariant-chunks g l = record {
   raw_fits : l.raw ≤ 67108864;
   content_fits : length l.content.items ≤ 16777216;
-  chunks : TakesChunks (left l.initial.buffer (g.R.Read.remaining l.initial.reader)) (left l.buffer (g.R.Read.remaining l.reader)) l.raw l.content.items;
+  chunks : TakesChunks (left l.initial.input.buffer (g.R.Read.remaining l.initial.input.reader)) (left l.input.buffer (g.R.Read.remaining l.input.reader)) l.raw l.content.items;
 }
 
 abbrev pub decreases-chunks : goal.decreases-chunks

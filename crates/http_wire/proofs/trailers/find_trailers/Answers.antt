@@ -8,15 +8,15 @@ pub returns-in-Ok-Complete-clause-found : goal.returns-in-Ok-Complete-clause-fou
 returns-in-Ok-Complete-clause-found g c =
     let whole : IsSectionOf c.front.result.now 0 c.parse_headers.new.headers (c.in-Ok-Complete.len, c.in-Ok-Complete.field-0-0-1) = search rules in
     let room : length c.parse_headers.new.headers ≡ 64 = search rules in
-    trailers_found c.fill.buffer c.front.result.now c.parse_headers.new.headers c.args.bound.limit c.in-Ok-Complete.len c.in-Ok-Complete.field-0-0-1 (search rules) c.requires room whole
+    trailers_found c.fill.input.buffer c.front.result.now c.parse_headers.new.headers c.args.bound.limit c.in-Ok-Complete.len c.in-Ok-Complete.field-0-0-1 (search rules) c.requires room whole
 
-pub returns-in-Err-clause-found : goal.returns-in-Err-clause-found
-returns-in-Err-clause-found g c =
+pub returns-in-Err-clause-ended : goal.returns-in-Err-clause-ended
+returns-in-Err-clause-ended g c =
     let over : SectionOverflows 64 c.front.result.now = search rules in
-    trailers_refused _ _ c.fill.buffer c.front.result.now c.args.bound c.fill.invariant (search rules) over
+    trailers_refused _ _ c.fill.input.buffer c.front.result.now c.args.bound c.fill.invariant (search rules) over
 
-pub returns-then-bytes-bound-clause-found : goal.returns-then-bytes-bound-clause-found
-returns-then-bytes-bound-clause-found g c =
+pub returns-then-bytes-bound-clause-ended : goal.returns-then-bytes-bound-clause-ended
+returns-then-bytes-bound-clause-ended g c =
     let none : HasNoSection c.front.result.now = search rules in
-    let full : c.args.bound.limit ≤ length c.fill.buffer = search rules in
-    trailers_endless _ _ c.fill.buffer c.front.result.now c.args.bound c.fill.invariant full (search rules) none
+    let full : c.args.bound.limit ≤ length c.fill.input.buffer = search rules in
+    trailers_endless _ _ c.fill.input.buffer c.front.result.now c.args.bound c.fill.invariant full (search rules) none

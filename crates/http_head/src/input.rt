@@ -1,0 +1,68 @@
+//! The input of a connection.
+ghost use Rattle.std.specs.Prelude.{◌≡◌, ◌+◌, ◌<◌, ◌≤◌, [], length, drop, IfOk};
+ghost use Rattle.std.specs.Io.KnownBytes.{Keeps, IsAtEnd};
+ghost use Rattle.http_head.specs.Left.{left};
+
+use crate::buffer::Buffer;
+use crate::end::ReadFault;
+use std::io::Read;
+
+/// The most reads of a connection: one more than 32 requests have bytes, each at most 16,384 of a head and 67,108,864 of a
+/// body. A read takes at least one byte or is the last, and none is made where a request has as many bytes as it may have,
+/// so the count never ends a connection.
+pub const MOST_READS: u32 = 2_148_007_937;
+
+/// The input of a connection: the bytes that have come and are not taken yet, and the reader that more come from.
+#[derive(Drop)]
+pub struct Input<R> {
+    pub buffer: Buffer,
+    pub reader: R,
+    /// How many reads may still be made.
+    reads_left: u32,
+}
+
+impl<R: Read> Input<R> {
+    /// Nothing has come.
+    pub fn new(reader: R) -> Input<R>
+        ensures empty { result.buffer ≡ [] }
+        ensures reader { result.reader ≡ reader }
+    {
+        Input {
+            buffer: Buffer::new(),
+            reader,
+            reads_left: MOST_READS,
+        }
+    }
+
+    /// What has come.
+    pub fn bytes(&self) -> &[u8]
+        ensures value { result.now ≡ self.now.buffer }
+        ensures fits { length self.now.buffer ≤ 16384 }
+    {
+        self.buffer.bytes()
+    }
+
+    /// Takes the first n bytes.
+    pub fn take(&mut self, n: usize)
+        requires { n ≤ length self.old.buffer }
+        ensures { self.new ≡ record self.old { buffer = drop n self.old.buffer } }
+    {
+        self.buffer.take(n);
+    }
+
+    /// Reads once, and answers how many bytes came: none only at the end. There is room, as fewer than 16,384 are held. Past the most
+    /// reads of a connection it fails.
+    pub fn fill(&mut self) -> Result<usize, ReadFault>
+        requires { length self.old.buffer < 16384 }
+        ensures kept { Keeps (left self.old.buffer (R.remaining self.old.reader)) (left self.new.buffer (R.remaining self.new.reader)) }
+        ensures grows { IfOk result (λ n. length self.new.buffer ≡ length self.old.buffer + n) }
+        ensures end { IfOk result (λ n. n ≡ 0 → (self.new.buffer ≡ self.old.buffer) × IsAtEnd (R.remaining self.new.reader)) }
+        ensures fits { length self.new.buffer ≤ 16384 }
+    {
+        let Some(reads_left) = self.reads_left.checked_sub(1) else {
+            return Err(ReadFault);
+        };
+        self.reads_left = reads_left;
+        self.buffer.fill(&mut self.reader)
+    }
+}
