@@ -1,16 +1,16 @@
 -- What a parse by the program's definition gives.
 use Rattle.std.proofs.Common.{◌≡◌, ◌⊎◌, Bool, true, false, List, Some, None, Option, [], ◌∷◌, refl, sym, ap, subst, ◌∙◌, cond, inl, inr}
-use Rattle.std.specs.Prelude.{codes, find, is_some, option_map, Box, IsSomeAnd}
+use Rattle.std.specs.Prelude.{find, is_some, option_map, Box, IsSomeAnd}
 use Rattle.clap.specs.Built.{IsParsedFrom}
 use Rattle.clap.specs.Faults.{fault_of, is_simple_and_free}
 use Rattle.clap.specs.Kinds.{HasKind, Kinds}
-use Rattle.clap.specs.Matches.{found_of, has_subcommand, subcommand_name_of}
+use Rattle.clap.specs.Matches.{has_subcommand}
 use Rattle.clap.specs.Simple.{App, HasMatchesOf, Shape, argument_words, built, entered, is_simple, names_of, rows_at, subcommand_of, label_of, subcommand_rows, subcommand_rows_of}
-use Rattle.clap.specs.Walk.{Row, Text, answers_to, rows_of, stop_after}
+use Rattle.clap.specs.Walk.{Row, Text, answers_to, stop_after}
 use Rattle.clap.specs.declared.builder.command.Command.{Command as Definition}
 use Rattle.clap.specs.declared.error.Error.{Error}
 use Rattle.clap.specs.declared.parser.matches.ArgMatches.{ArgMatches}
-use Rattle.clap.specs.declared.parser.matches.ArgMatches.TheViews.{out-ArgMatches, out-SubCommand}
+use Rattle.clap.specs.declared.parser.matches.ArgMatches.TheViews.{out-SubCommand}
 use Rattle.clap.specs.declared.parser.matches.SubCommand.{SubCommand}
 use Rattle.std.specs.Box.{box_value}
 use Rattle.clap.proofs.OnLiterals.{clap_on_literals}

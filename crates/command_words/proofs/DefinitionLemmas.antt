@@ -1,12 +1,12 @@
 -- A definition with an argument or a subcommand more.
 use Rattle.std.proofs.Common.{◌≡◌, ◌∙◌, ◌||◌, ◌++◌, ◌∷◌, [], List, false, ap, IfOk, Result, Ok, Err}
 use Rattle.clap.specs.Built.{AddsArg, AddsSubcommand}
-use Rattle.clap.specs.Simple.{App, Shape, app_of, shape_of, with_rule, with_subcommand}
+use Rattle.clap.specs.Simple.{App, Shape, shape_of, with_rule, with_subcommand}
 use Rattle.clap.specs.Walk.{Rule, rule_of}
 use Rattle.clap.specs.declared.builder.arg.Arg.{Arg}
 use Rattle.clap.specs.declared.builder.command.Command.{Command as Definition}
 use Rattle.clap.specs.declared.builder.command.Command.TheViews.{out-Command}
-use Rattle.command_words.specs.CommandLine.{IsPart, IsProgram, program_with}
+use Rattle.command_words.specs.CommandLine.{IsApp, IsPart, IsProgram, program_with}
 
 pub adds_argument : (s : Shape) (r : Rule) (old : Definition) (a : Arg) (new : Definition) → AddsArg old a new → IsPart s old → rule_of a ≡ r → a.global ≡ false
     → IsPart (record s { rules = s.rules ++ r ∷ [] }) new
@@ -15,16 +15,15 @@ adds_argument s r old a new h part rule own = record {
   globals = h.globals ∙ (ap (λ b. b || a.global) part.globals ∙ own);
 }
 
-pub adds_subcommand : (a : App) (s : Shape) (old sub new : Definition) → AddsSubcommand old sub new → app_of old ≡ a → (out-Command old).has_globals ≡ false → IsPart s sub
-    → (app_of new ≡ with_subcommand a s) × ((out-Command new).has_globals ≡ false)
-adds_subcommand a s old sub new h is own part = (
-  h.shape part.globals ∙ (ap (λ (z : App). with_subcommand z (shape_of sub)) is ∙ ap (λ (z : App). with_subcommand a z.top) part.app),
-  h.globals ∙ (ap (λ b. b || (out-Command sub).has_globals) own ∙ part.globals),
-)
+pub adds_subcommand : (a : App) (s : Shape) (old sub new : Definition) → AddsSubcommand old sub new → IsApp a old → IsPart s sub → IsApp (with_subcommand a s) new
+adds_subcommand a s old sub new h is part = record {
+  app = h.shape part.globals ∙ (ap (λ (z : App). with_subcommand z (shape_of sub)) is.app ∙ ap (λ (z : App). with_subcommand a z.top) part.app);
+  globals = h.globals ∙ (ap (λ b. b || (out-Command sub).has_globals) is.globals ∙ part.globals);
+}
 
 -- a definition that is the program with these subcommands needs one of them
-pub is_program : (subs : List Shape) (c : Definition) → (app_of c ≡ program_with subs) × ((out-Command c).has_globals ≡ false) → IsProgram subs c
-is_program subs c h = record { app = h.0; globals = h.1; required = ap (λ (z : App). z.top.subcommand_required) h.0 }
+pub is_program : (subs : List Shape) (c : Definition) → IsApp (program_with subs) c → IsProgram subs c
+is_program subs c h = record { app = h.app; globals = h.globals; required = ap (λ (z : App). z.top.subcommand_required) h.app }
 
 pub if_ok : {X E : Type 0} (P Q : X → Type 0) (r : Result X E) → ((x : X) → P x → Q x) → IfOk r P → IfOk r Q
 if_ok P Q (Ok x) each h = each x h

@@ -83,10 +83,14 @@ abbrev pub IsNameIn : List Shape → Text → Type 0
 IsNameIn [] name = ⊥
 IsNameIn (s ∷ rest) name = (name ≡ s.name) ⊎ IsNameIn rest name
 
--- `clap` has this subcommand
-pub record IsPart (s : Shape) (c : Definition) : Type 0 where
-  pub app : app_of c ≡ record { top = s; subs = [] }
+-- `clap` has this command with its subcommands
+pub record IsApp (a : App) (c : Definition) : Type 0 where
+  pub app : app_of c ≡ a
   pub globals : (out-Command c).has_globals ≡ false
+
+-- `clap` has this command, without subcommands
+abbrev pub IsPart : Shape → Definition → Type 0
+IsPart s c = IsApp (record { top = s; subs = [] }) c
 
 -- `clap` has the program with these subcommands
 pub record IsProgram (subs : List Shape) (c : Definition) : Type 0 where

@@ -1,8 +1,9 @@
 //! The command line as `clap` is to read it.
 
 ghost use Rattle.std.specs.Prelude.{◌≡◌, ◌∷◌, [], IfOk, false, codes};
+ghost use Rattle.clap.specs.Simple.{App, Shape, with_subcommand};
 ghost use Rattle.clap.specs.Words.{rule_of};
-ghost use Rattle.command_words.specs.CommandLine.{IsPart, IsProgram, import_words, init_words, number_rule, optional_rule, place_rule, program, replay_words, serve_words, statement_words, store_rule, subcommands, text_rule, words};
+ghost use Rattle.command_words.specs.CommandLine.{IsApp, IsPart, IsProgram, import_words, init_words, number_rule, optional_rule, place_rule, program, replay_words, serve_words, statement_words, store_rule, subcommands, text_rule, words};
 
 use clap::builder::ValueParser;
 use clap::{Arg, ArgAction, Command as Definition};
@@ -157,21 +158,24 @@ fn bare<'a>(alloc: Global) -> Definition<'a>
         .disable_help_subcommand(true)
 }
 
-/// The program and the subcommands that keep the accounts.
-fn with_accounts<'a>(alloc: Global) -> Result<Definition<'a>, AllocError>
-    ensures { IfOk result (IsProgram (init_words ∷ import_words ∷ statement_words ∷ [])) }
+/// A command with one more subcommand, once both are there.
+fn with<'a>(
+    command: Result<Definition<'a>, AllocError>,
+    subcommand: Result<Definition<'a>, AllocError>,
+) -> Result<Definition<'a>, AllocError>
+    ensures { (a : App) (s : Shape) → IfOk command.entry (IsApp a) → IfOk subcommand.entry (IsPart s) → IfOk result (IsApp (with_subcommand a s)) }
 {
-    bare(alloc)
-        .subcommand(init(alloc)?)?
-        .subcommand(import(alloc)?)?
-        .subcommand(statement(alloc)?)
+    command?.subcommand(subcommand?)
 }
 
 /// The program and its subcommands.
 pub fn defined<'a>(alloc: Global) -> Result<Definition<'a>, AllocError>
     ensures { IfOk result (IsProgram subcommands) }
 {
-    with_accounts(alloc)?
-        .subcommand(serve(alloc)?)?
-        .subcommand(replay(alloc))
+    let program = Ok(bare(alloc));
+    let program = with(program, init(alloc));
+    let program = with(program, import(alloc));
+    let program = with(program, statement(alloc));
+    let program = with(program, serve(alloc));
+    with(program, Ok(replay(alloc)))
 }

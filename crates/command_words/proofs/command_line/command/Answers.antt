@@ -1,4 +1,4 @@
-use Rattle.std.proofs.Common.{◌≡◌, List, map}
+use Rattle.std.proofs.Common.{List, map}
 use Rattle.std.proofs.lemmas.Result.{err_from_is_err_and}
 use Rattle.clap.specs.Walk.{Text}
 use Rattle.command_words.proofs.CommandLineLemmas.{meets_one, meets_subcommand, met_by_definition, refused_words, taken_words}

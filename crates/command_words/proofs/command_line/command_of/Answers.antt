@@ -1,4 +1,4 @@
-use Rattle.std.proofs.Common.{rules, ◌≡◌, List, Some, inl, inr}
+use Rattle.std.proofs.Common.{rules, ◌≡◌, Some, inl, inr}
 use Rattle.clap.specs.Matches.{subcommand_name_of}
 use Rattle.command_words.proofs.CommandLineLemmas.{is_named}
 use Rattle.command_words.proofs.command_line.command_of.Goals as goal
