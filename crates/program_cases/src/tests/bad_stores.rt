@@ -1,157 +1,175 @@
 //! Files that are no store, and stores that are in use.
 
 use crate::tests::folder::Asked::{Import, Init, Statement};
-use crate::tests::folder::{Asked, DONE, Told, URI, asks, new_folder, path_in};
+use crate::tests::folder::Step::{Asks, Imports, Keeps, Lacks, Writes};
+use crate::tests::folder::{
+    At, DAMAGED, DISK, FILE, Folder, MADE, STORE, Step, StepFault, URI, take_steps,
+    take_steps_for_nothing,
+};
 use queue_core::book::BookFault;
 use queue_store::TableBook;
+use sqlite_disk::Disk;
 use sqlite_std_file::Unknown;
-use std::fs;
-use std::process::Abort;
+use sqlite_store::FileStore;
 use std::test::Fail;
 
-const DAMAGED: Told<'static> = (1, "", "printd: damaged\n");
-
-const DISK: Told<'static> = (1, "", "printd: disk\n");
-
-/// A file at a path is refused so, and stays as it was, byte for byte.
-fn refuse_file(
-    test: &impl Abort,
-    rt: &HostRuntime,
-    path: &str,
-    asked: Asked<'_>,
-    wanted: Told<'_>,
-) -> Result<(), Fail> {
-    let before = fs::read(rt, path)?;
-    asks(test, rt, path, asked, wanted);
-    let after = fs::read(rt, path)?;
-    assert!(test; before.as_slice() == after.as_slice(), "{path}");
-    Ok(())
-}
-
-/// Bytes are no store.
-fn refuse_bytes(test: &impl Abort, rt: &HostRuntime, path: &str, bytes: &[u8]) -> Result<(), Fail> {
-    fs::write(rt, path, bytes)?;
-    refuse_file(test, rt, path, Statement("alice"), DAMAGED)?;
-    refuse_file(test, rt, path, Import(path), DAMAGED)
-}
+/// The bytes of other files than stores.
+const OTHER: [&[u8]; 6] = [
+    b"S",
+    b"SQLite format 3",
+    b"SQLite format 3\0",
+    b"\0 and something more",
+    &[0; 4096],
+    &[255; 100],
+];
 
 /// No store is made over a file with other bytes, which stays as it was.
 #[test]
 fn bytes_of_another_file(rt: HostRuntime) -> Result<(), Fail> {
-    let folder = new_folder(&rt, "other")?;
-    let path = path_in(&rt, &folder, "store")?;
-    for bytes in [
-        b"S".as_slice(),
-        b"SQLite format 3",
-        b"SQLite format 3\0",
-        b"\0 and something more",
-        &[0; 4096],
-        &[255; 100],
-    ] {
-        fs::write(&rt, path.as_path(), bytes)?;
-        refuse_file(&rt, &rt, path.as_str(), Init(URI, "release"), DAMAGED)?;
+    for bytes in OTHER {
+        let steps = [
+            Writes(STORE, bytes),
+            Keeps(STORE, Init(STORE, URI, "release"), DAMAGED),
+        ];
+        take_steps(&rt, "other", &steps)?;
     }
-    fs::remove_dir_all(&rt, folder.as_path())?;
     Ok(())
 }
+
+/// A file of these bytes is no store, and stays as it was.
+fn refuse_bytes(folder: &Folder<'_>, file: At<'_>, bytes: &[u8]) -> Result<(), StepFault> {
+    let steps = [
+        Writes(file, bytes),
+        Keeps(file, Statement(file, "alice"), DAMAGED),
+        Keeps(file, Import(file, file), DAMAGED),
+    ];
+    folder.take_each(&steps)
+}
+
+/// Bytes that are no store.
+const NO_STORE: [&[u8]; 8] = [
+    b"",
+    b"S",
+    b"batch,account,pages\nf24,alice,30\n",
+    b"SQLite format 3",
+    b"SQLite format 3\0",
+    b"SQLite format 4\0 and something more than sixteen bytes",
+    &[0; 4096],
+    &[255; 100],
+];
 
 #[test]
 fn bytes_of_no_store(rt: HostRuntime) -> Result<(), Fail> {
-    let folder = new_folder(&rt, "bytes")?;
-    let path = path_in(&rt, &folder, "store")?;
-    for bytes in [
-        b"".as_slice(),
-        b"S",
-        b"batch,account,pages\nf24,alice,30\n",
-        b"SQLite format 3",
-        b"SQLite format 3\0",
-        b"SQLite format 4\0 and something more than sixteen bytes",
-        &[0; 4096],
-        &[255; 100],
-    ] {
-        refuse_bytes(&rt, &rt, path.as_str(), bytes)?;
+    let folder = Folder::new(&rt, "bytes")?;
+    for bytes in NO_STORE {
+        refuse_bytes(&folder, STORE, bytes)?;
     }
-    fs::remove_dir_all(&rt, folder.as_path())?;
+    folder.remove()?;
     Ok(())
 }
 
-/// Makes a store with an account, whole in the one file.
-fn make_store(test: &impl Abort, rt: &HostRuntime, store: &str, file: &str) -> Result<(), Fail> {
-    fs::write(rt, file, "batch,account,pages\nf24,alice,30\n")?;
-    asks(test, rt, store, Init(URI, "release"), DONE);
-    asks(test, rt, store, Import(file), (0, "new 1 repeats 0\n", ""));
-    match TableBook::open_from(rt, store, Unknown) {
-        Ok(book) => Ok(book.close().close()?),
-        Err(fault) => panic!(test; "{fault:?}"),
+/// A store with an account.
+const WITH_AN_ACCOUNT: [Step<'static>; 2] = [
+    MADE,
+    Imports(
+        b"batch,account,pages\nf24,alice,30\n",
+        (0, "new 1 repeats 0\n", ""),
+    ),
+];
+
+/// Closes a book, so that its store is whole in the one file.
+fn close<D: Disk + Drop>(book: TableBook<FileStore<D>>) -> Result<(), Fail> {
+    Ok(book.close().close()?)
+}
+
+/// Opens and closes the store of a folder, so that it is whole in the one file.
+fn fold(rt: &HostRuntime, folder: &Folder<'_>) -> Result<(), Fail> {
+    let path = folder.path(STORE)?;
+    match TableBook::open_from(rt, path.as_str(), Unknown) {
+        Ok(book) => close(book),
+        Err(_) => Err(Fail::new("the store isn't opened")),
     }
 }
+
+const CUT: At<'static> = At::In("cut");
 
 /// The first bytes of a store, so many of 8 parts, are no store.
-#[test]
-fn stores_that_are_cut(rt: HostRuntime) -> Result<(), Fail> {
-    let folder = new_folder(&rt, "cut")?;
-    let store = path_in(&rt, &folder, "store")?;
-    let file = path_in(&rt, &folder, "file")?;
-    let cut = path_in(&rt, &folder, "cut")?;
-    make_store(&rt, &rt, store.as_str(), file.as_str())?;
-    let whole = fs::read(&rt, store.as_path())?;
+fn refuse_fronts(folder: &Folder<'_>, whole: &[u8]) -> Result<(), StepFault> {
     for parts in 0..8usize {
         let length = whole.len() / 8 * parts;
-        refuse_bytes(&rt, &rt, cut.as_str(), whole.get(..length).unwrap_or(&[]))?;
+        refuse_bytes(folder, CUT, whole.get(..length).unwrap_or(&[]))?;
     }
-    fs::write(&rt, cut.as_path(), whole.as_slice())?;
-    asks(
-        &rt,
-        &rt,
-        cut.as_str(),
-        Import(file.as_str()),
-        (0, "new 0 repeats 1\n", ""),
-    );
-    fs::remove_dir_all(&rt, folder.as_path())?;
     Ok(())
 }
+
+#[test]
+fn stores_that_are_cut(rt: HostRuntime) -> Result<(), Fail> {
+    let folder = Folder::new(&rt, "cut")?;
+    folder.take_each(&WITH_AN_ACCOUNT)?;
+    fold(&rt, &folder)?;
+    let whole = folder.read(STORE)?;
+    refuse_fronts(&folder, whole.as_slice())?;
+    let steps = [
+        Writes(CUT, whole.as_slice()),
+        Asks(Import(CUT, FILE), (0, "new 0 repeats 1\n", "")),
+    ];
+    folder.take_each(&steps)?;
+    folder.remove()?;
+    Ok(())
+}
+
+const MISSING: At<'static> = At::In("missing");
+
+const NO_PATH: At<'static> = At::Path("");
+
+const EMPTY: At<'static> = At::Path("/dev/null");
+
+const NO_FILE: &[Step<'static>] = &[
+    Asks(Statement(MISSING, "alice"), DISK),
+    Asks(Statement(At::Folder, "alice"), DISK),
+    Asks(Statement(NO_PATH, "alice"), DISK),
+    Asks(Import(MISSING, EMPTY), DISK),
+    Asks(Import(At::Folder, EMPTY), DISK),
+    Asks(Import(NO_PATH, EMPTY), DISK),
+    Lacks(MISSING),
+];
 
 #[test]
 fn paths_of_no_file(rt: HostRuntime) -> Result<(), Fail> {
-    let folder = new_folder(&rt, "paths")?;
-    let missing = path_in(&rt, &folder, "missing")?;
-    for asked in [Statement("alice"), Import("/dev/null")] {
-        asks(&rt, &rt, missing.as_str(), asked, DISK);
-        asks(&rt, &rt, folder.as_str(), asked, DISK);
-        asks(&rt, &rt, "", asked, DISK);
+    take_steps_for_nothing(&rt, "paths", NO_FILE)
+}
+
+/// A command on a store that is in use is refused, and the store stays as it was.
+const IN_USE: [Step<'static>; 3] = [
+    Keeps(STORE, Statement(STORE, "alice"), DISK),
+    Keeps(STORE, Import(STORE, FILE), DISK),
+    Keeps(STORE, Init(STORE, URI, "release"), DISK),
+];
+
+/// The store is in use while a book over it is open.
+fn refuse_in_use(rt: &HostRuntime, folder: &Folder<'_>) -> Result<(), Fail> {
+    let path = folder.path(STORE)?;
+    let Ok(book) = TableBook::open_from(rt, path.as_str(), Unknown) else {
+        return Err(Fail::new("the store isn't opened"));
+    };
+    folder.take_each(&IN_USE)?;
+    let second = TableBook::open_from(rt, path.as_str(), Unknown);
+    let is_refused = matches!(&second, Err(BookFault::Disk));
+    drop(book);
+    if is_refused {
+        Ok(())
+    } else {
+        Err(Fail::new("the store is opened twice"))
     }
-    assert!(rt; !fs::exists(&rt, missing.as_path())?);
-    // the folder is still empty
-    fs::remove_dir(&rt, folder.as_path())?;
-    Ok(())
 }
 
 #[test]
 fn a_store_in_use(rt: HostRuntime) -> Result<(), Fail> {
-    let folder = new_folder(&rt, "used")?;
-    let store = path_in(&rt, &folder, "store")?;
-    let file = path_in(&rt, &folder, "file")?;
-    make_store(&rt, &rt, store.as_str(), file.as_str())?;
-    let Ok(book) = TableBook::open_from(&rt, store.as_str(), Unknown) else {
-        panic!(rt; "not opened");
-    };
-    for asked in [
-        Statement("alice"),
-        Import(file.as_str()),
-        Init(URI, "release"),
-    ] {
-        refuse_file(&rt, &rt, store.as_str(), asked, DISK)?;
-    }
-    let second = TableBook::open_from(&rt, store.as_str(), Unknown);
-    assert!(rt; matches!(&second, Err(BookFault::Disk)));
-    drop(book);
-    asks(
-        &rt,
-        &rt,
-        store.as_str(),
-        Import(file.as_str()),
-        (0, "new 0 repeats 1\n", ""),
-    );
-    fs::remove_dir_all(&rt, folder.as_path())?;
+    let folder = Folder::new(&rt, "used")?;
+    folder.take_each(&WITH_AN_ACCOUNT)?;
+    fold(&rt, &folder)?;
+    refuse_in_use(&rt, &folder)?;
+    folder.take_each(&[Asks(Import(STORE, FILE), (0, "new 0 repeats 1\n", ""))])?;
+    folder.remove()?;
     Ok(())
 }

@@ -1,10 +1,27 @@
-//! A folder of a test, and the commands that are run in it.
+//! A folder of a test, and what is done in it in turn: files are written, and commands are run on them.
 
 use commands::run;
+use http_desk::compare::{Mismatch, Place};
+use std::alloc::Global;
+use std::os::unix::fs::PermissionsExt;
 use std::path::PathBuf;
-use std::process::Abort;
 use std::test::Fail;
 use std::{env, fs, process};
+
+/// Where comparisons are made.
+const AT: Place = Place {
+    book: "files",
+    most: usize::MAX,
+};
+
+/// The name of the store of a test.
+pub(super) const STORE: At<'static> = At::In("store");
+
+/// The name of another file of a test.
+pub(super) const FILE: At<'static> = At::In("file");
+
+/// The printer's URI.
+pub(super) const URI: &str = "ipp://localhost/ipp/print";
 
 /// What a command leaves: its exit status, what it prints, and its line on standard error.
 pub(super) type Told<'a> = (u8, &'a str, &'a str);
@@ -12,81 +29,235 @@ pub(super) type Told<'a> = (u8, &'a str, &'a str);
 /// A command is done, and prints nothing.
 pub(super) const DONE: Told<'static> = (0, "", "");
 
-/// The printer's URI.
-pub(super) const URI: &str = "ipp://localhost/ipp/print";
+pub(super) const DISK: Told<'static> = (1, "", "printd: disk\n");
 
-/// What a command on a store is, but for the store's path.
+pub(super) const DAMAGED: Told<'static> = (1, "", "printd: damaged\n");
+
+pub(super) const NO_ACCOUNT: Told<'static> = (1, "", "printd: no account\n");
+
+/// A path.
+#[derive(Clone, Copy)]
+pub(super) enum At<'a> {
+    /// That of a file of this name in the test's folder.
+    In(&'a str),
+    /// That of the folder itself.
+    Folder,
+    /// This one.
+    Path(&'a str),
+}
+
+/// A command on a store.
 #[derive(Clone, Copy)]
 pub(super) enum Asked<'a> {
     /// `init` with a URI and a name.
-    Init(&'a str, &'a str),
-    /// `import` of the file at a path.
-    Import(&'a str),
+    Init(At<'a>, &'a str, &'a str),
+    /// `import` of a file.
+    Import(At<'a>, At<'a>),
     /// `statement` of an account.
-    Statement(&'a str),
+    Statement(At<'a>, &'a str),
 }
 
-/// A new, empty folder, which goes as the test ends well.
-pub(super) fn new_folder(rt: &HostRuntime, name: &str) -> Result<PathBuf, Fail> {
-    let name = format!(in rt.alloc(); "printd-{name}-{}", process::id(rt.process()))?;
-    let path = env::temp_dir(rt)?.join(rt.alloc(), name.as_str())?;
-    fs::create_dir(rt, path.as_path())?;
-    Ok(path)
+/// What is done next.
+#[derive(Clone, Copy)]
+pub(super) enum Step<'a> {
+    /// A file is written: these bytes and no others.
+    Writes(At<'a>, &'a [u8]),
+    /// A file is made of so many zero bytes.
+    Zeros(At<'a>, u64),
+    /// The other file of the test is written, and its import into the store leaves this.
+    Imports(&'a [u8], Told<'a>),
+    /// A command leaves this.
+    Asks(Asked<'a>, Told<'a>),
+    /// A command leaves this, and this file as it was, byte for byte.
+    Keeps(At<'a>, Asked<'a>, Told<'a>),
+    /// No file is there.
+    Lacks(At<'a>),
+    /// A file is its user's alone.
+    IsPrivate(At<'a>),
 }
 
-/// The path of a file in a folder.
-pub(super) fn path_in(rt: &HostRuntime, folder: &PathBuf, name: &str) -> Result<PathBuf, Fail> {
-    Ok(folder.as_path().join(rt.alloc(), name)?)
+/// A step that was not well.
+#[derive(Clone, Copy, Debug)]
+pub(super) struct StepFault {
+    /// Its number, from 0, of those that were taken together.
+    pub step: usize,
+    pub fault: Mismatch,
 }
 
-/// These words leave this.
-pub(super) fn tells(test: &impl Abort, rt: &HostRuntime, words: &[&str], wanted: Told<'_>) {
-    let mut out = Vec::new(rt.alloc());
-    let mut err = Vec::new(rt.alloc());
-    let status = run(rt, words, &mut out, &mut err);
-    let texts = (
-        str::from_utf8(out.as_slice()),
-        str::from_utf8(err.as_slice()),
-    );
-    let (wanted_status, wanted_out, wanted_err) = wanted;
-    assert_eq!(test; status, wanted_status, "{words:?}: {texts:?}");
-    assert_eq!(test; texts, (Ok(wanted_out), Ok(wanted_err)), "{words:?}");
+/// A store is made.
+pub(super) const MADE: Step<'static> = Step::Asks(Asked::Init(STORE, URI, "release"), DONE);
+
+/// A folder of a test.
+#[derive(Drop)]
+pub(super) struct Folder<'a> {
+    rt: &'a HostRuntime,
+    path: PathBuf,
 }
 
-/// A command on a store leaves this.
-pub(super) fn asks(
-    test: &impl Abort,
-    rt: &HostRuntime,
-    store: &str,
-    asked: Asked<'_>,
-    wanted: Told<'_>,
-) {
-    match asked {
-        Asked::Init(uri, name) => {
-            tells(
-                test,
-                rt,
-                &[
-                    "printd", "init", "--store", store, "--uri", uri, "--name", name,
-                ],
-                wanted,
-            );
-        }
-        Asked::Import(file) => {
-            tells(
-                test,
-                rt,
-                &["printd", "import", "--store", store, file],
-                wanted,
-            );
-        }
-        Asked::Statement(account) => {
-            tells(
-                test,
-                rt,
-                &["printd", "statement", "--store", store, account],
-                wanted,
-            );
+impl<'a> Folder<'a> {
+    /// A new, empty folder.
+    pub(super) fn new(rt: &'a HostRuntime, name: &str) -> Result<Folder<'a>, Mismatch> {
+        let name = format!(in rt.alloc(); "printd-{name}-{}", process::id(rt.process()))?;
+        let path = env::temp_dir(rt)?.join(rt.alloc(), name.as_str())?;
+        fs::create_dir(rt, path.as_path())?;
+        Ok(Folder { rt, path })
+    }
+
+    /// Removes the folder with its files, as a test has ended well.
+    pub(super) fn remove(&self) -> Result<(), Mismatch> {
+        fs::remove_dir_all(self.rt, self.path.as_path())?;
+        Ok(())
+    }
+
+    /// Removes the folder, which is to be empty.
+    pub(super) fn remove_empty(&self) -> Result<(), Mismatch> {
+        fs::remove_dir(self.rt, self.path.as_path())?;
+        Ok(())
+    }
+
+    fn alloc(&self) -> Global {
+        self.rt.alloc()
+    }
+
+    /// A path, whole.
+    pub(super) fn path(&self, at: At<'_>) -> Result<PathBuf, Mismatch> {
+        let path = match at {
+            At::In(name) => self.path.as_path().join(self.alloc(), name)?,
+            At::Folder => self.path.as_path().to_path_buf(self.alloc())?,
+            At::Path(path) => PathBuf::from_str(self.alloc(), path)?,
+        };
+        Ok(path)
+    }
+
+    /// The bytes of a file.
+    pub(super) fn read(&self, at: At<'_>) -> Result<Vec<u8>, Mismatch> {
+        let path = self.path(at)?;
+        Ok(fs::read(self.rt, path.as_path())?)
+    }
+
+    /// Writes a file.
+    pub(super) fn write(&self, at: At<'_>, bytes: &[u8]) -> Result<(), Mismatch> {
+        let path = self.path(at)?;
+        fs::write(self.rt, path.as_path(), bytes)?;
+        Ok(())
+    }
+
+    fn write_zeros(&self, at: At<'_>, length: u64) -> Result<(), Mismatch> {
+        let path = self.path(at)?;
+        fs::create(self.rt, path.as_path())?.set_len(length)?;
+        Ok(())
+    }
+
+    /// The program's words leave this.
+    pub(super) fn tell(&self, words: &[&str], wanted: Told<'_>) -> Result<(), Mismatch> {
+        let (wanted_status, wanted_out, wanted_err) = wanted;
+        let mut out = Vec::new(self.alloc());
+        let mut err = Vec::new(self.alloc());
+        let status = run(self.rt, words, &mut out, &mut err);
+        AT.same_bytes(wanted_err.as_bytes(), err.as_slice())?;
+        AT.same_bytes(wanted_out.as_bytes(), out.as_slice())?;
+        AT.is_so(status == wanted_status, "the exit status")
+    }
+
+    fn init(&self, store: &str, uri: &str, name: &str, wanted: Told<'_>) -> Result<(), Mismatch> {
+        let words = [
+            "printd", "init", "--store", store, "--uri", uri, "--name", name,
+        ];
+        self.tell(&words, wanted)
+    }
+
+    fn import(&self, store: &str, file: At<'_>, wanted: Told<'_>) -> Result<(), Mismatch> {
+        let file = self.path(file)?;
+        let words = ["printd", "import", "--store", store, file.as_str()];
+        self.tell(&words, wanted)
+    }
+
+    /// A command leaves this.
+    pub(super) fn ask(&self, asked: Asked<'_>, wanted: Told<'_>) -> Result<(), Mismatch> {
+        match asked {
+            Asked::Init(store, uri, name) => {
+                self.init(self.path(store)?.as_str(), uri, name, wanted)
+            }
+            Asked::Import(store, file) => self.import(self.path(store)?.as_str(), file, wanted),
+            Asked::Statement(store, account) => {
+                let store = self.path(store)?;
+                let words = ["printd", "statement", "--store", store.as_str(), account];
+                self.tell(&words, wanted)
+            }
         }
     }
+
+    /// A command leaves this, and this file as it was.
+    pub(super) fn keep(
+        &self,
+        at: At<'_>,
+        asked: Asked<'_>,
+        wanted: Told<'_>,
+    ) -> Result<(), Mismatch> {
+        let before = self.read(at)?;
+        self.ask(asked, wanted)?;
+        let after = self.read(at)?;
+        AT.same_bytes(before.as_slice(), after.as_slice())
+    }
+
+    /// No file is there.
+    fn lack(&self, at: At<'_>) -> Result<(), Mismatch> {
+        let path = self.path(at)?;
+        let is_there = fs::exists(self.rt, path.as_path())?;
+        AT.is_so(!is_there, "no file")
+    }
+
+    /// A file is its user's alone.
+    fn is_private(&self, at: At<'_>) -> Result<(), Mismatch> {
+        let path = self.path(at)?;
+        let mode = fs::metadata(self.rt, path.as_path())?.permissions().mode();
+        AT.is_so(mode & 0o777 == 0o600, "a file of its user alone")
+    }
+
+    /// Takes a step.
+    fn take(&self, step: Step<'_>) -> Result<(), Mismatch> {
+        match step {
+            Step::Writes(at, bytes) => self.write(at, bytes),
+            Step::Zeros(at, length) => self.write_zeros(at, length),
+            Step::Imports(bytes, wanted) => {
+                self.write(FILE, bytes)?;
+                self.ask(Asked::Import(STORE, FILE), wanted)
+            }
+            Step::Asks(asked, wanted) => self.ask(asked, wanted),
+            Step::Keeps(at, asked, wanted) => self.keep(at, asked, wanted),
+            Step::Lacks(at) => self.lack(at),
+            Step::IsPrivate(at) => self.is_private(at),
+        }
+    }
+
+    /// Takes steps, one after another.
+    pub(super) fn take_each(&self, steps: &[Step<'_>]) -> Result<(), StepFault> {
+        for (step, it) in steps.iter().enumerate() {
+            match self.take(*it) {
+                Ok(()) => {}
+                Err(fault) => return Err(StepFault { step, fault }),
+            }
+        }
+        Ok(())
+    }
+}
+
+/// Takes steps, one after another, in a new folder, which goes as they end well.
+pub(super) fn take_steps(rt: &HostRuntime, name: &str, steps: &[Step<'_>]) -> Result<(), Fail> {
+    let folder = Folder::new(rt, name)?;
+    folder.take_each(steps)?;
+    folder.remove()?;
+    Ok(())
+}
+
+/// Takes steps that leave no file in a new folder.
+pub(super) fn take_steps_for_nothing(
+    rt: &HostRuntime,
+    name: &str,
+    steps: &[Step<'_>],
+) -> Result<(), Fail> {
+    let folder = Folder::new(rt, name)?;
+    folder.take_each(steps)?;
+    folder.remove_empty()?;
+    Ok(())
 }

@@ -1,19 +1,18 @@
 //! The command `serve`, by its words.
 
-use crate::tests::folder::Asked::{Init, Statement};
-use crate::tests::folder::{DONE, URI, asks, new_folder, path_in};
+use crate::tests::folder::{Folder, MADE, STORE};
 use crate::tests::listening::free_port;
 use crate::tests::server::{AT, reads};
 use commands::run;
 use http_desk::connection::Wanted::Success;
 use http_desk::messages::{JOB_1, JOB_2, PRINT_JOB};
 use http_desk::requests::{IPP, POST_JOB};
+use std::io;
 use std::io::Write;
 use std::net::{Ipv4Addr, Shutdown, SocketAddr, TcpListener, TcpStream};
 use std::process::Abort;
 use std::test::Fail;
 use std::time::Duration;
-use std::{fs, io};
 
 /// The seconds that a client waits for its answer.
 const CLIENT_SECONDS: u64 = 10;
@@ -128,42 +127,34 @@ fn refuses(
 /// What a server took stands in the store that the next one opens.
 #[test]
 fn a_store_that_is_served_twice(rt: HostRuntime) -> Result<(), Fail> {
-    let folder = new_folder(&rt, "served")?;
-    let store = path_in(&rt, &folder, "store")?;
-    asks(&rt, &rt, store.as_str(), Init(URI, "release"), DONE);
+    let folder = Folder::new(&rt, "served")?;
+    let store = folder.path(STORE)?;
+    folder.take_each(&[MADE])?;
     serves(&rt, &rt, store.as_str(), JOB_1)?;
     serves(&rt, &rt, store.as_str(), JOB_2)?;
-    fs::remove_dir_all(&rt, folder.as_path())?;
+    folder.remove()?;
     Ok(())
 }
 
-/// A server makes no store, and neither does a statement.
+/// A server makes no store.
 #[test]
 fn a_store_that_is_not_there(rt: HostRuntime) -> Result<(), Fail> {
-    let folder = new_folder(&rt, "unserved")?;
-    let store = path_in(&rt, &folder, "store")?;
+    let folder = Folder::new(&rt, "unserved")?;
+    let store = folder.path(STORE)?;
     let port = free_port(&rt)?;
     refuses(&rt, &rt, store.as_str(), port, "printd: disk\n")?;
-    asks(
-        &rt,
-        &rt,
-        store.as_str(),
-        Statement("alice"),
-        (1, "", "printd: disk\n"),
-    );
-    assert!(rt; !fs::exists(&rt, store.as_path())?);
-    fs::remove_dir(&rt, folder.as_path())?;
+    folder.remove_empty()?;
     Ok(())
 }
 
 #[test]
 fn a_port_that_another_has(rt: HostRuntime) -> Result<(), Fail> {
-    let folder = new_folder(&rt, "taken")?;
-    let store = path_in(&rt, &folder, "store")?;
-    asks(&rt, &rt, store.as_str(), Init(URI, "release"), DONE);
+    let folder = Folder::new(&rt, "taken")?;
+    let store = folder.path(STORE)?;
+    folder.take_each(&[MADE])?;
     let other = TcpListener::bind(&rt, SocketAddr::from((Ipv4Addr::LOCALHOST, 0)))?;
     let port = other.local_addr()?.port();
     refuses(&rt, &rt, store.as_str(), port, "printd: io\n")?;
-    fs::remove_dir_all(&rt, folder.as_path())?;
+    folder.remove()?;
     Ok(())
 }
