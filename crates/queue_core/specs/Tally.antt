@@ -10,6 +10,8 @@ use Rattle.queue_core.specs.declared.grants.Key.{Key}
 use Rattle.queue_core.specs.declared.grants.Tally.{Tally}
 use Rattle.queue_core.specs.declared.grants.RowState.{RowState}
 use Rattle.queue_core.specs.declared.grants.RowState.TheVariants.{Repeated, Refused, New}
+use Rattle.queue_core.specs.declared.grants.End.{End}
+use Rattle.queue_core.specs.declared.grants.End.TheVariants.{Whole, At}
 use Rattle.queue_core.specs.declared.grants.Taken.{Taken as TakenRef}
 use Rattle.queue_core.specs.declared.grants.Taken.TheVariants.{All, Not}
 
@@ -60,6 +62,16 @@ abbrev pub free_rows_after : Row → List FreeRow → List GrantRow → GrantRow
 free_rows_after repeated free rows r k = free
 free_rows_after (refused_row fault) free rows r k = free
 free_rows_after new_row free rows r k = free ++ free_after r k rows ∷ []
+
+-- what it says of these new rows that their taking ended there
+abbrev pub taken_at : End → List GrantRow → List FreeRow → Taken
+taken_at (Whole repeats) rows free = all_taken rows free repeats
+taken_at (At fault row) rows free = none_taken fault row
+
+-- from so many new rows to so many, over that number of rows at most
+abbrev pub IsEndWithin : End → ℕ → ℕ → ℕ → Type 0
+IsEndWithin (Whole repeats) after before n = after + repeats ≤ before + n
+IsEndWithin (At fault row) after before n = (1 ≤ row) × (row ≤ n)
 
 -- what the code's answer says
 abbrev pub taken_in : TakenRef → Taken

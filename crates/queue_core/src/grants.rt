@@ -2,10 +2,10 @@
 ghost use Rattle.std.specs.Prelude.{◌≡◌, ◌≤◌, ◌<◌, ◌+◌, ◌+ℤ◌, ◌^◌, ◌==◌, ◌++◌, ◌∷◌, [], ℕ, pos, All, List, None, Some, IfOk, IsSome, OnOk, bytes_eq, if◌then◌else◌, length, nat_lt, option_map, unwrap_or};
 ghost use Rattle.queue_types.specs.Event.{decision_of};
 ghost use Rattle.queue_types.specs.declared.event.GrantFault.TheVariants.{Conflict, TooMany};
-ghost use Rattle.queue_core.specs.Grants.{is_too_many, new_row, refused_row, repeated, row_of, row_under, take_rows};
+ghost use Rattle.queue_core.specs.Grants.{is_too_many, new_row, refused_row, repeated, row_of, row_under, take_rows as rows_taken};
 ghost use Rattle.queue_core.specs.Limits.{IsFair, IsKnown};
 ghost use Rattle.queue_core.specs.Machine.{grant_row};
-ghost use Rattle.queue_core.specs.Tally.{total_of, row_in, rows_after, free_rows_after, taken_in, ArePages, AreTotals, IsTallied, IsTalliedAfter, IsWithin};
+ghost use Rattle.queue_core.specs.Tally.{total_of, row_in, rows_after, free_rows_after, taken_at, taken_in, ArePages, AreTotals, IsEndWithin, IsTallied, IsTalliedAfter, IsWithin};
 
 use crate::outcome::answer_only;
 use queue_types::event::{
@@ -39,6 +39,16 @@ fn add_key<'a>(
     Ok(before)
 }
 
+/// The sum of two numbers of pages; none where it would be more than `most`.
+fn sum_within(total: u32, pages: u32, most: u32) -> Option<u32>
+    ensures { result ≡ (if nat_lt most (total + pages) then None else Some (total + pages)) }
+{
+    match total.checked_add(pages) {
+        Some(sum) if sum <= most => Some(sum),
+        _ => None,
+    }
+}
+
 /// Adds a row's pages to the total of its account, and gives the total then; none where that would be more than `most`.
 fn add_pages<'a>(
     totals: &mut HashMap<&'a str, u32>,
@@ -49,13 +59,11 @@ fn add_pages<'a>(
     ensures added { IfOk result (λ o. IsSome o → (a : List ℕ) → total_of totals.new a ≡ total_of totals.old a + (if bytes_eq r.now.account a then r.now.pages else 0)) }
 {
     let total = totals.entry(r.account.as_str())?.or_insert(0);
-    match total.checked_add(r.pages) {
-        Some(sum) if sum <= most => {
-            *total = sum;
-            Ok(Some(sum))
-        }
-        _ => Ok(None),
+    let sum = sum_within(*total, r.pages, most);
+    if let Some(sum) = sum {
+        *total = sum;
     }
+    Ok(sum)
 }
 
 /// The new rows so far, with the free pages of the account of each after it, their pages by batch and account,
@@ -157,12 +165,50 @@ enum Taken {
     },
 }
 
-/// Takes the rows of an account file in order, each beside what is known of it: all of them, or none. A row
-/// that equals one accepted before, in this file or earlier, is a repeat. The one error is want of memory.
+/// Where the rows of an account file ended to be taken.
+#[derive(Clone, Copy, Debug)]
+enum End {
+    /// Behind the last one. So many equal one accepted before.
+    Whole { repeats: u32 },
+    /// At a row, counted from 1, that can't be taken.
+    At { fault: GrantFault, row: u32 },
+}
+
+/// Takes rows in order, each beside what is known of it, up to one that can't be taken. A row that equals one accepted
+/// before, in this file or earlier, is a repeat.
+fn take_rows<'a>(
+    t: &mut Tally<'a>,
+    rows: &'a [GrantRow],
+    known: &[KnownGrant],
+) -> Result<End, AllocError>
+    requires few { length rows.now < 2 ^ 31 }
+    requires known { All IsKnown known.now }
+    requires tallied { IsTallied t.old }
+    ensures taken { IfOk result (λ e. taken_at e t.new.rows.items t.new.free.items ≡ rows_taken rows.now known.now 1 t.old.rows.items t.old.free.items 0) }
+    ensures within { IfOk result (λ e. IsEndWithin e (length t.new.rows.items) (length t.old.rows.items) (length rows.now)) }
+{
+    let mut repeats = 0;
+    let end = rows.len().min(known.len());
+    for i in 0..end {
+        match take_row(t, &rows[i], &known[i])? {
+            RowState::New => {}
+            RowState::Repeated => repeats += 1,
+            RowState::Refused(fault) => {
+                return Ok(End::At {
+                    fault,
+                    row: i as u32 + 1,
+                });
+            }
+        }
+    }
+    Ok(End::Whole { repeats })
+}
+
+/// Takes the rows of an account file: all of them, or none. The one error is want of memory.
 fn take_all(alloc: Global, rows: &[GrantRow], known: &[KnownGrant]) -> Result<Taken, AllocError>
     requires few { length rows.now < 2 ^ 31 }
     requires known { All IsKnown known.now }
-    ensures taken { IfOk result (λ t. taken_in t ≡ take_rows rows.now known.now 1 [] [] 0) }
+    ensures taken { IfOk result (λ t. taken_in t ≡ rows_taken rows.now known.now 1 [] [] 0) }
     ensures within { IfOk result (λ t. IsWithin t (length rows.now)) }
 {
     let mut t = Tally {
@@ -171,25 +217,14 @@ fn take_all(alloc: Global, rows: &[GrantRow], known: &[KnownGrant]) -> Result<Ta
         pages: HashMap::new(alloc),
         totals: HashMap::new(alloc),
     };
-    let mut repeats = 0;
-    let end = rows.len().min(known.len());
-    for i in 0..end {
-        match take_row(&mut t, &rows[i], &known[i])? {
-            RowState::New => {}
-            RowState::Repeated => repeats += 1,
-            RowState::Refused(fault) => {
-                return Ok(Taken::Not {
-                    fault,
-                    row: i as u32 + 1,
-                });
-            }
-        }
+    match take_rows(&mut t, rows, known)? {
+        End::Whole { repeats } => Ok(Taken::All {
+            rows: t.rows,
+            free: t.free,
+            repeats,
+        }),
+        End::At { fault, row } => Ok(Taken::Not { fault, row }),
     }
-    Ok(Taken::All {
-        rows: t.rows,
-        free: t.free,
-        repeats,
-    })
 }
 
 /// The rows of an account file are taken, all of them or none.
@@ -200,7 +235,7 @@ pub(crate) fn grant<'a>(
 ) -> Result<Decision<'a>, AllocError>
     requires fair { IsFair s.now }
     requires few { length rows.now ≤ 16777216 }
-    ensures { IfOk result (λ d. decision_of d ≡ grant_row (take_rows rows.now s.now.known 1 [] [] 0)) }
+    ensures { IfOk result (λ d. decision_of d ≡ grant_row (rows_taken rows.now s.now.known 1 [] [] 0)) }
 {
     match take_all(alloc, rows, s.known.as_slice())? {
         Taken::All {

@@ -11,12 +11,12 @@ ghost use Rattle.queue_types.specs.declared.event.Reply.TheVariants.{Jobs};
 
 use crate::grants::grant;
 use crate::my_jobs::{cancel_all, cancel_named};
-use crate::outcome::{answer_only, change_job, refuse};
+use crate::outcome::{answer_only, change_job, one_job, refuse};
 use crate::own_job::{cancel, count_of, document_in, hold, own, release, send, show};
 use crate::reports::report;
 use queue_types::document::Format;
 use queue_types::event::{Call, Decision, Event, NewDocument, NewJob, QueueCounts, Reply, Scene};
-use queue_types::job::{Job, JobList, Phase};
+use queue_types::job::{Job, Phase};
 use queue_types::limits::{LAST_JOB_NUMBER, MOST_LIVE_JOBS};
 use queue_types::status::{CLIENT_ERROR_NOT_POSSIBLE, SERVER_ERROR_NOT_ACCEPTING_JOBS};
 use queue_types::text::Text;
@@ -80,15 +80,11 @@ fn enter<'a>(
     requires number { s.now.next < 2 ^ 31 }
     ensures { IfOk result (λ d. decision_of d ≡ entered_row s.now j (option_map document_of document.entry)) }
 {
-    let mut told = Vec::new(alloc);
-    told.push(j.try_clone()?)?;
+    let reply = one_job(alloc, &j)?;
     let mut change = change_job(alloc, s, j)?;
     change.document = document;
     change.next = Some(s.next + 1);
-    Ok(Decision {
-        reply: Reply::Jobs(JobList::from_items(told)),
-        change,
-    })
+    Ok(Decision { reply, change })
 }
 
 fn print<'a>(

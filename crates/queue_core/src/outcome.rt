@@ -4,6 +4,7 @@ ghost use Rattle.queue_core.specs.Balance.{AreAmounts};
 ghost use Rattle.queue_types.specs.Event.{change_of, decision_of};
 ghost use Rattle.queue_core.specs.Limits.{IsFair};
 ghost use Rattle.queue_core.specs.Machine.{refused, answered, becomes, changed};
+ghost use Rattle.queue_types.specs.declared.event.Reply.TheVariants.{Jobs};
 
 use crate::balance::credited_rows;
 use queue_types::event::{Change, Decision, FreeList, GrantList, Reply, Scene};
@@ -30,6 +31,15 @@ pub(crate) fn refuse<'a>(alloc: Global, code: u16) -> Decision<'a>
     ensures { decision_of result ≡ refused code }
 {
     answer_only(alloc, Reply::Refused(code))
+}
+
+/// The reply that shows one job.
+pub(crate) fn one_job(alloc: Global, j: &Job) -> Result<Reply, AllocError>
+    ensures { IfOk result (λ r. r ≡ Jobs (j.now ∷ [])) }
+{
+    let mut shown = Vec::new(alloc);
+    shown.push(j.try_clone()?)?;
+    Ok(Reply::Jobs(JobList::from_items(shown)))
 }
 
 /// Each job takes the place of the one of its number, or enters, and free pages move by the balance.

@@ -7,10 +7,10 @@ ghost use Rattle.queue_core.specs.Limits.{IsFair, IsSoundJob};
 ghost use Rattle.queue_core.specs.Machine.{refused, answered, canceled, cancel_row, is_cancelable, document_count, has_pages, hold_in, is_sendable, let_print, new_document, of_own, release_in, send_in, sent};
 ghost use Rattle.queue_types.specs.declared.event.Reply.TheVariants.{Jobs};
 
-use crate::outcome::{answer_only, change_job, job_becomes, refuse};
+use crate::outcome::{answer_only, change_job, job_becomes, one_job, refuse};
 use queue_types::document::Format;
 use queue_types::event::{Decision, FreeRow, NewDocument, Reply, Scene};
-use queue_types::job::{Job, JobList, Phase, Why};
+use queue_types::job::{Job, Phase, Why};
 use queue_types::limits::MOST_DOCUMENTS;
 use queue_types::status::{CLIENT_ERROR_NOT_FOUND, CLIENT_ERROR_NOT_POSSIBLE};
 use std::alloc::{AllocError, Global};
@@ -83,9 +83,8 @@ pub(crate) fn own<'s>(s: &'s Scene, caller: &str) -> Result<&'s Job, u16>
 pub(crate) fn show<'a>(alloc: Global, j: &Job) -> Result<Decision<'a>, AllocError>
     ensures { IfOk result (λ d. decision_of d ≡ answered (Jobs (j.now ∷ []))) }
 {
-    let mut told = Vec::new(alloc);
-    told.push(j.try_clone()?)?;
-    Ok(answer_only(alloc, Reply::Jobs(JobList::from_items(told))))
+    let reply = one_job(alloc, j)?;
+    Ok(answer_only(alloc, reply))
 }
 
 pub(crate) fn hold<'a>(alloc: Global, s: &Scene, j: &Job) -> Result<Decision<'a>, AllocError>
@@ -206,12 +205,8 @@ pub(crate) fn send<'a>(
     }
     let j = with_document(j, payload, last)?;
     let document = document_in(j.number, format, payload);
-    let mut told = Vec::new(alloc);
-    told.push(j.try_clone()?)?;
+    let reply = one_job(alloc, &j)?;
     let mut change = change_job(alloc, s, j)?;
     change.document = document;
-    Ok(Decision {
-        reply: Reply::Jobs(JobList::from_items(told)),
-        change,
-    })
+    Ok(Decision { reply, change })
 }
