@@ -4,7 +4,9 @@ use Rattle.std.specs.Prelude.{Option, Some, None, codes, unwrap_or, nat_le, IfSo
 use Rattle.std.specs.Option.{option_map_or}
 use borrow.Author.Tests.{leb-true}
 use Rattle.ipp_wire.specs.Message.{Value, Attribute, Message}
-use Rattle.queue_core.specs.Limits.{IsOwner, IsJobName, IsNewJob, IsCall}
+use Rattle.queue_types.specs.Event.{Event, ask, tell, grant}
+use Rattle.queue_types.specs.declared.event.Reply.{Reply}
+use Rattle.queue_core.specs.Limits.{IsOwner, IsJobName, IsNewJob, IsCall, IsReplyTo, IsSoundReply}
 use Rattle.ipp_reply.specs.declared.operation.Operation.{Operation}
 use Rattle.ipp_reply.specs.declared.operation.Operation.TheVariants.{PrintJob, ValidateJob, CreateJob, SendDocument, CancelJob, GetJobAttributes, GetJobs, GetPrinterAttributes, HoldJob, ReleaseJob, CancelMyJobs}
 use Rattle.ipp_reply.specs.Unsupported.{Unsupported}
@@ -15,6 +17,7 @@ use Rattle.ipp_request.specs.Attributes.{row, table, template_name, between}
 use Rattle.ipp_request.specs.Values.{are_formed, are_long, is_within, number_of}
 use Rattle.ipp_request.specs.Request.{Request, request_for, known, named, has, text_in, caller}
 use Rattle.ipp_request.specs.Unsupported.{unsupported}
+use Rattle.ipp_ops.specs.Answer.{IsAsk}
 use Rattle.ipp_ops.specs.Checks.{applies, checks, refusal, fails, some_fails}
 use Rattle.ipp_request.specs.Reading.{groups_begin, request_by}
 use Rattle.ipp_request.specs.Unsupported.{is_refused_for}
@@ -126,3 +129,11 @@ by_operation_fits (Ok o) m h = ordered_fits (groups_begin m.groups) o m h
 -- a request with such a payload asks nothing but events within the limits
 pub verdict_fits : (m : Message) → length m.payload ≤ 16777216 → IsWithinLimits (verdict m)
 verdict_fits m h = by_operation_fits _ m h
+
+-- ---- what is answered
+
+-- the reply to a request can be shown
+pub asked_reply : (e : Event) (r : Reply) → IsAsk e → IsReplyTo e r → IsSoundReply r
+asked_reply (ask caller call) r is sound = sound
+asked_reply (tell report) r is sound = absurd is
+asked_reply (grant rows) r is sound = absurd is

@@ -1,9 +1,9 @@
 -- What the bytes of a request bring about: a reply, and the world after it.
-use Rattle.std.specs.Prelude.{◌≡◌, ◌∷◌, ◌==◌, ◌&&◌, ℕ, Bool, false, nat_le, List, Some, None}
+use Rattle.std.specs.Prelude.{◌≡◌, ◌∷◌, ◌==◌, ◌&&◌, ⊤, ℕ, Bool, false, nat_le, List, Some, None}
 use Rattle.ipp_wire.specs.declared.view.Head.{Head}
 use Rattle.ipp_wire.specs.Message.{Message, Spells, head_of}
 use Rattle.ipp_wire.specs.Bare.{bare}
-use Rattle.queue_types.specs.Event.{ask}
+use Rattle.queue_types.specs.Event.{Event, ask}
 use Rattle.queue_core.specs.World.{World}
 use Rattle.queue_core.specs.Machine.{step}
 use Rattle.queue_types.specs.declared.event.Reply.TheVariants.{Refused as RefusedReply}
@@ -14,6 +14,11 @@ use Rattle.ipp_reply.specs.Unsupported.{nothing}
 use Rattle.ipp_request.specs.Reading.{head_refusal}
 use Rattle.ipp_reply.specs.Reply.{reply_of}
 use Rattle.ipp_reply.specs.Wanted.{no_rows}
+
+-- a request's event
+abbrev pub IsAsk : Event → Type 0
+IsAsk (ask caller call) = ⊤
+IsAsk _ = ⊥
 
 -- the bytes spell no message
 abbrev pub IsMalformed : List ℕ → Type 0

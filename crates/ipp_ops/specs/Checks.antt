@@ -1,25 +1,18 @@
 -- The checks of a request's known attributes, in order, each with when it applies and its status code (RFC 8011, sections 4.1 and 4.2,
 -- appendix B).
-use Rattle.std.specs.Prelude.{ℕ, ◌==◌, List, [], ◌∷◌, Option, Result, Ok, Err, Bool, false, not, ◌&&◌, ◌||◌, codes, bytes_eq, find, if◌then◌else◌, is_none}
+use Rattle.std.specs.Prelude.{ℕ, List, [], ◌∷◌, Option, Bool, false, not, ◌&&◌, codes, bytes_eq, find, is_none}
 use Rattle.std.specs.List.{list_any, list_all}
-use Rattle.std.specs.Option.{option_map_or, ok_or}
-use Rattle.std.specs.Result.{result_err}
+use Rattle.std.specs.Option.{option_map_or}
 use Rattle.std.specs.Str.{str_eq_ignore_ascii_case}
-use Rattle.ipp_wire.specs.declared.view.Head.{Head}
-use Rattle.ipp_wire.specs.Bare.{is_known_version}
-use Rattle.ipp_wire.specs.Message.{Value, Attribute, Group, Message}
-use Rattle.ipp_reply.specs.declared.operation.Operation.{Operation}
+use Rattle.ipp_wire.specs.Message.{Value}
 use Rattle.ipp_request.specs.declared.attribute.OperationAttribute.{OperationAttribute}
 use Rattle.ipp_request.specs.declared.attribute.OperationAttribute.TheVariants as key
 use Rattle.ipp_ops.specs.declared.check.Check.{Check}
 use Rattle.ipp_ops.specs.declared.check.Check.TheVariants.{Charset, Form, Length, Needed, Target, Compression, Format}
-use Rattle.ipp_reply.specs.Operations.{operation_of}
 use Rattle.ipp_request.specs.Attributes.{Row, row, table, needs}
-use Rattle.ipp_request.specs.Values.{are_formed, are_long, is_tagged, one_value}
+use Rattle.ipp_request.specs.Values.{are_formed, are_long}
 use Rattle.ipp_request.specs.Formats.{format_of}
-use Rattle.ipp_request.specs.Request.{Request, request_for, known, bytes_of, has, is_true, is_target}
-use Rattle.ipp_request.specs.Unsupported.{is_known}
-use Rattle.ipp_reply.specs.Unsupported.{Unsupported, is_filled}
+use Rattle.ipp_request.specs.Request.{Request, known, bytes_of, has, is_target}
 
 -- ---- the attributes
 

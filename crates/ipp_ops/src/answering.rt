@@ -4,14 +4,14 @@ ghost use Rattle.std.specs.Bool.{OnFalse, OnTrue};
 ghost use Rattle.ipp_wire.specs.Message.{IsMessage, Spells, head_of};
 ghost use Rattle.ipp_wire.specs.Viewed.{message_of};
 ghost use Rattle.ipp_wire.specs.Bare.{bare};
-ghost use Rattle.queue_types.specs.Event.{ask, call_of};
+ghost use Rattle.queue_types.specs.Event.{event_of};
 ghost use Rattle.queue_core.specs.Limits.{IsEvent, IsMoment, IsSoundReply};
 ghost use Rattle.queue_core.specs.Machine.{step as machine_step};
 ghost use Rattle.queue_core.specs.World.{World};
 ghost use Rattle.ipp_reply.specs.Reply.{reply_of};
 ghost use Rattle.ipp_reply.specs.Unsupported.{CanList, unsupported_of};
 ghost use Rattle.ipp_reply.specs.Wanted.{rows_of};
-ghost use Rattle.ipp_ops.specs.Answer.{Answers, Fails, IsMalformed, bytes_of, is_fault, is_refusal, outcome};
+ghost use Rattle.ipp_ops.specs.Answer.{Answers, Fails, IsAsk, IsMalformed, bytes_of, is_fault, is_refusal, outcome};
 ghost use Rattle.ipp_ops.specs.Verdict.{verdict};
 ghost use Rattle.ipp_request.specs.Reading.{head_refusal};
 
@@ -22,7 +22,7 @@ use ipp_reply::{Unsupported, Wanted, reply_message};
 use ipp_request::head_check;
 use ipp_wire::{Head, View, WireFault, head, put_fault, read, write};
 use queue_core::book::{BookFault, QueueBook};
-use queue_types::event::{Call, Event, Reply};
+use queue_types::event::{Event, Reply};
 use queue_types::settings::Settings;
 use queue_types::status::{CLIENT_ERROR_BAD_REQUEST, SERVER_ERROR_TEMPORARY_ERROR};
 use std::alloc::{AllocError, Global};
@@ -55,29 +55,28 @@ fn reply_bytes(
 
 /// One step of the machine, or a fault and no change: the book is changed last, once the reply's bytes
 /// are there.
-fn take<'a, B: QueueBook>(
+fn take<B: QueueBook>(
     alloc: Global,
     book: &mut B,
     s: &Settings,
     now: u32,
-    caller: &'a str,
-    call: Call<'a>,
+    e: &Event<'_>,
     head: Head,
     wanted: &Wanted,
     unsupported: &Unsupported<'_>,
 ) -> Result<Vec<u8>, BookFault>
     requires moment { IsMoment now }
-    requires event { IsEvent (ask caller.now (call_of call)) }
+    requires event { IsEvent (event_of e.now) }
+    requires asked { IsAsk (event_of e.now) }
     requires listed { CanList (unsupported_of unsupported.now) }
     ensures began { B.is_honest book.new → B.is_honest book.old }
     ensures reply { B.is_honest book.new → IfOk result (λ b. (w : World) → B.stands book.old w → s.now ≡ w.settings
-        → Spells (reply_of (machine_step w now (ask caller.now (call_of call.entry))).reply head (rows_of wanted.now) (unsupported_of unsupported.now) w.settings now) b.items) }
+        → Spells (reply_of (machine_step w now (event_of e.now)).reply head (rows_of wanted.now) (unsupported_of unsupported.now) w.settings now) b.items) }
     ensures world { B.is_honest book.new → IfOk result (λ b. (w : World) → B.stands book.old w
-        → B.stands book.new (machine_step w now (ask caller.now (call_of call.entry))).world) }
+        → B.stands book.new (machine_step w now (event_of e.now)).world) }
     ensures err { OnErr result ((w : World) → B.stands book.old w → B.stands book.new w) }
 {
-    let e = Event::Ask { caller, call };
-    let decision = book.decide(now, &e)?;
+    let decision = book.decide(now, e)?;
     let bytes = reply_bytes(alloc, &decision.reply, head, wanted, unsupported, s, now)?;
     book.apply(decision)?;
     Ok(bytes)
@@ -114,17 +113,8 @@ fn step<B: QueueBook>(
             wanted,
             unsupported,
         } => {
-            take(
-                alloc,
-                book,
-                s,
-                now,
-                caller,
-                call,
-                v.head,
-                &wanted,
-                &unsupported,
-            )
+            let e = Event::Ask { caller, call };
+            take(alloc, book, s, now, &e, v.head, &wanted, &unsupported)
         }
     }
 }
