@@ -23,6 +23,10 @@ pub where_ok : {A E X : Type 0} (r : Result A E) → IsOk r → OnOk r X → X
 where_ok (Ok a) ok x = x
 where_ok (Err e) ok x = absurd (let no : false ≡ true = ok in cc)
 
+pub on_ok : {A E X Y : Type 0} (r : Result A E) → OnOk r X → (X → Y) → OnOk r Y
+on_ok (Ok a) x then_y = then_y x
+on_ok (Err e) x then_y = tt
+
 pub if_ok : {A E : Type 0} (r : Result A E) (P Q : A → Type 0) → IfOk r P → ((a : A) → P a → Q a) → IfOk r Q
 if_ok (Ok a) P Q p then_q = then_q a p
 if_ok (Err e) P Q p then_q = tt

@@ -1,3 +1,4 @@
 pub mod Found
 pub mod Store
 pub mod Words
+pub mod Work

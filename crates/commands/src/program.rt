@@ -4,9 +4,8 @@ ghost use Rattle.clap.specs.Words.{fault_of};
 ghost use Rattle.command_words.specs.CommandLine.{definition};
 ghost use Rattle.commands.specs.Words.{AreWrong, MayServe};
 
-use crate::office_commands::{import, statement};
-use crate::serving::serve;
 use crate::store::{FileBook, make_store};
+use crate::work::{Work, work_at};
 use command_ends::{Fault, end, tell_words};
 use command_words::{Command, CommandFault, command};
 use replay::replay;
@@ -27,9 +26,9 @@ fn do_command<O: Write>(rt: &HostRuntime, command: Command<'_>, out: &mut O) -> 
 {
     match command {
         Command::Init(words) => close(make_store(rt, words, Unknown))?,
-        Command::Import(words) => close(import(rt, words, out, Unknown))?,
-        Command::Statement(words) => close(statement(rt, words, out, Unknown))?,
-        Command::Serve(words) => close(serve(rt, words, out, Unknown))?,
+        Command::Import(words) => close(work_at(rt, Work::Import(words), out, Unknown))?,
+        Command::Statement(words) => close(work_at(rt, Work::Statement(words), out, Unknown))?,
+        Command::Serve(words) => close(work_at(rt, Work::Serve(words), out, Unknown))?,
         Command::Replay => return Ok(replay(rt.alloc(), &mut rt.reader(), out)?),
     }
     out.flush()?;

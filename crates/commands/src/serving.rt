@@ -1,8 +1,6 @@
 //! Connections over a store.
-ghost use Rattle.std.specs.Prelude.{◌≡◌, ◌≤◌, ◌++◌, ℕ, List, IfOk, OnOk, length};
+ghost use Rattle.std.specs.Prelude.{◌≡◌, ◌≤◌, ◌++◌, ℕ, List, OnOk, length};
 ghost use Rattle.std.specs.Io.KnownBytes.{Appends};
-ghost use Rattle.sqlite.specs.Files.{over_files};
-ghost use Rattle.sqlite_wal.specs.Files.{image_at};
 ghost use Rattle.command_ends.specs.Faults.{fault_of_book};
 ghost use Rattle.print_server.specs.Connections.{AreConnections};
 ghost use Rattle.print_server.specs.Lines.{listening_line, served_lines};
@@ -10,18 +8,12 @@ ghost use Rattle.print_server.specs.declared.fault.ServerFault.TheVariants.{Book
 ghost use Rattle.queue_core.specs.World.{World};
 ghost use Rattle.queue_core.specs.declared.book.BookFault.{BookFault};
 ghost use Rattle.queue_store.specs.Kept.{IsHonest, StandsFor};
-ghost use Rattle.queue_store.specs.Opened.{FitsFile};
-ghost use Rattle.commands.specs.Store.{IsKeptIn};
 
-use crate::store::{FileBook, left, open_store};
 use command_ends::Fault;
 use command_words::Serve;
 use print_server::{ServerFault, listen, serve_connections};
 use queue_store::TableBook;
 use sqlite::Alter;
-use sqlite_disk::Disk;
-use sqlite_std_file::Start;
-use sqlite_store::FileStore;
 use std::io::Write;
 use std::rt::HostRuntime;
 
@@ -36,7 +28,7 @@ fn fault_of_server(stopped: ServerFault) -> Fault
 }
 
 /// Listens on the port, and serves connections over a book.
-fn serve_book<S: Alter, W: Write>(
+pub(crate) fn serve_book<S: Alter, W: Write>(
     rt: &HostRuntime,
     words: Serve<'_>,
     output: &mut W,
@@ -63,37 +55,4 @@ fn serve_book<S: Alter, W: Write>(
         Ok(()) => Ok(()),
         Err(stopped) => Err(fault_of_server(stopped)),
     }
-}
-
-/// As `serve_book`, but a book that was not served to the end is let go.
-fn serve_over<D: Disk + Drop, W: Write>(
-    rt: &HostRuntime,
-    words: Serve<'_>,
-    output: &mut W,
-    mut book: TableBook<FileStore<D>>,
-) -> Result<TableBook<FileStore<D>>, Fault>
-    requires { 1 ≤ words.timeout }
-    ensures { IfOk result (λ b. IsHonest over_files b → IsHonest over_files book × ((w : World) → StandsFor over_files book w
-        → (u : World) × StandsFor over_files b u × (counts : List ℕ) × AreConnections w counts u × (length counts ≡ words.entry.connections)
-        × Appends (W.contents output.old) (W.contents output.new) (listening_line words.entry.port ++ served_lines counts))) }
-{
-    let served = serve_book(rt, words, output, &mut book);
-    left(book, served)
-}
-
-/// Serves connections over the store.
-pub fn serve<S: Start, W: Write>(
-    rt: &HostRuntime,
-    words: Serve<'_>,
-    output: &mut W,
-    start: S,
-) -> Result<FileBook<S>, Fault>
-    requires { 1 ≤ words.timeout }
-    ensures { FitsFile (image_at S.Start) → IfOk result (λ b. IsHonest over_files b
-        → (w : World) × IsKeptIn (image_at S.Start) w × (u : World) × StandsFor over_files b u
-        × (counts : List ℕ) × AreConnections w counts u × (length counts ≡ words.entry.connections)
-        × Appends (W.contents output.old) (W.contents output.new) (listening_line words.entry.port ++ served_lines counts)) }
-{
-    let book = open_store(rt, words.store, start)?;
-    serve_over(rt, words, output, book)
 }
