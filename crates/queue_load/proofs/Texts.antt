@@ -1,15 +1,15 @@
 -- What the texts that read whole tables mean.
-use Rattle.std.proofs.Common.{◌≡◌, ℕ, List, [], ◌∷◌, codes, false, refl}
+use Rattle.std.proofs.Common.{ℕ, List, [], ◌∷◌, codes, refl}
 use Rattle.sqlite.specs.Term.{Term, col}
 use Rattle.sqlite.specs.Collation.TheVariants.{Binary}
 use Rattle.sqlite_value.specs.Keys.{ascending as plain_key}
 use Rattle.sqlite_value.specs.declared.keys.Key.{Key}
 use Rattle.sqlite.specs.Command.TheVariants.{Select}
+use Rattle.sqlite_resolve.specs.Compile.{first}
 use Rattle.sqlite_tied.specs.Compute.{everything}
-use Rattle.sqlite.specs.Listing.{understood, reads_listing}
-use Rattle.sqlite.proofs.Callers.{IsPlain, command_of}
+use Rattle.sqlite.specs.Listing.{understood}
 use Rattle.queue_tables.specs.Plain.{plain_query}
-use Rattle.queue_tables.specs.Tables.{book_schema}
+use Rattle.queue_tables.proofs.Statements.{Shows, job_terms, job_names}
 
 -- ---- meta
 
@@ -25,43 +25,21 @@ meta_order = (col 1 0, plain_key Binary) ∷ []
 abbrev pub meta_names : List (List ℕ)
 meta_names = codes "one" ∷ codes "schema" ∷ codes "uri" ∷ codes "name" ∷ codes "estimate" ∷ codes "epoch" ∷ codes "next_number" ∷ []
 
-pub meta_is : command_of (understood book_schema meta_select) ≡ Select (record { lets = []; body = plain_query 0 [] meta_terms meta_order }) meta_names
-unfolding understood everything
-meta_is = refl
-
-pub meta_plain : IsPlain (understood book_schema meta_select)
-unfolding understood everything
-meta_plain = (refl, refl)
-
-pub meta_unlisted : reads_listing book_schema meta_select ≡ false
-unfolding understood everything
-meta_unlisted = refl
+pub meta_is : Shows meta_select (Select (record { lets = []; body = plain_query 0 [] meta_terms meta_order }) meta_names)
+unfolding understood first everything
+meta_is = record { command = refl; plain = (refl, refl); query = refl; unlisted = refl }
 
 -- ---- jobs
 
 abbrev pub jobs_select : List ℕ
 jobs_select = codes "SELECT number, owner, name, copies, impressions, hold, incoming, phase, why, stopping, count, created, begun, ended FROM jobs ORDER BY number"
 
-abbrev pub jobs_terms : List Term
-jobs_terms = col 1 0 ∷ col 1 2 ∷ col 1 3 ∷ col 1 4 ∷ col 1 5 ∷ col 1 6 ∷ col 1 7 ∷ col 1 8 ∷ col 1 9 ∷ col 1 10 ∷ col 1 11 ∷ col 1 12 ∷ col 1 13 ∷ col 1 14 ∷ []
-
 abbrev pub jobs_order : List (Term × Key)
 jobs_order = (col 1 0, plain_key Binary) ∷ []
 
-abbrev pub jobs_names : List (List ℕ)
-jobs_names = codes "number" ∷ codes "owner" ∷ codes "name" ∷ codes "copies" ∷ codes "impressions" ∷ codes "hold" ∷ codes "incoming" ∷ codes "phase" ∷ codes "why" ∷ codes "stopping" ∷ codes "count" ∷ codes "created" ∷ codes "begun" ∷ codes "ended" ∷ []
-
-pub jobs_is : command_of (understood book_schema jobs_select) ≡ Select (record { lets = []; body = plain_query 1 [] jobs_terms jobs_order }) jobs_names
-unfolding understood everything
-jobs_is = refl
-
-pub jobs_plain : IsPlain (understood book_schema jobs_select)
-unfolding understood everything
-jobs_plain = (refl, refl)
-
-pub jobs_unlisted : reads_listing book_schema jobs_select ≡ false
-unfolding understood everything
-jobs_unlisted = refl
+pub jobs_is : Shows jobs_select (Select (record { lets = []; body = plain_query 1 [] job_terms jobs_order }) job_names)
+unfolding understood first everything
+jobs_is = record { command = refl; plain = (refl, refl); query = refl; unlisted = refl }
 
 -- ---- documents
 
@@ -77,17 +55,9 @@ documents_order = (col 1 1, plain_key Binary) ∷ (col 1 2, plain_key Binary) �
 abbrev pub documents_names : List (List ℕ)
 documents_names = codes "job" ∷ codes "doc" ∷ codes "format" ∷ codes "octets" ∷ []
 
-pub documents_is : command_of (understood book_schema documents_select) ≡ Select (record { lets = []; body = plain_query 2 [] documents_terms documents_order }) documents_names
-unfolding understood everything
-documents_is = refl
-
-pub documents_plain : IsPlain (understood book_schema documents_select)
-unfolding understood everything
-documents_plain = (refl, refl)
-
-pub documents_unlisted : reads_listing book_schema documents_select ≡ false
-unfolding understood everything
-documents_unlisted = refl
+pub documents_is : Shows documents_select (Select (record { lets = []; body = plain_query 2 [] documents_terms documents_order }) documents_names)
+unfolding understood first everything
+documents_is = record { command = refl; plain = (refl, refl); query = refl; unlisted = refl }
 
 -- ---- pieces
 
@@ -103,17 +73,9 @@ pieces_order = (col 1 1, plain_key Binary) ∷ (col 1 2, plain_key Binary) ∷ (
 abbrev pub pieces_names : List (List ℕ)
 pieces_names = codes "job" ∷ codes "doc" ∷ codes "piece" ∷ codes "bytes" ∷ []
 
-pub pieces_is : command_of (understood book_schema pieces_select) ≡ Select (record { lets = []; body = plain_query 4 [] pieces_terms pieces_order }) pieces_names
-unfolding understood everything
-pieces_is = refl
-
-pub pieces_plain : IsPlain (understood book_schema pieces_select)
-unfolding understood everything
-pieces_plain = (refl, refl)
-
-pub pieces_unlisted : reads_listing book_schema pieces_select ≡ false
-unfolding understood everything
-pieces_unlisted = refl
+pub pieces_is : Shows pieces_select (Select (record { lets = []; body = plain_query 4 [] pieces_terms pieces_order }) pieces_names)
+unfolding understood first everything
+pieces_is = record { command = refl; plain = (refl, refl); query = refl; unlisted = refl }
 
 -- ---- accounts
 
@@ -129,17 +91,9 @@ accounts_order = (col 1 1, plain_key Binary) ∷ []
 abbrev pub accounts_names : List (List ℕ)
 accounts_names = codes "name" ∷ codes "free" ∷ codes "reserved" ∷ codes "printed" ∷ []
 
-pub accounts_is : command_of (understood book_schema accounts_select) ≡ Select (record { lets = []; body = plain_query 6 [] accounts_terms accounts_order }) accounts_names
-unfolding understood everything
-accounts_is = refl
-
-pub accounts_plain : IsPlain (understood book_schema accounts_select)
-unfolding understood everything
-accounts_plain = (refl, refl)
-
-pub accounts_unlisted : reads_listing book_schema accounts_select ≡ false
-unfolding understood everything
-accounts_unlisted = refl
+pub accounts_is : Shows accounts_select (Select (record { lets = []; body = plain_query 6 [] accounts_terms accounts_order }) accounts_names)
+unfolding understood first everything
+accounts_is = record { command = refl; plain = (refl, refl); query = refl; unlisted = refl }
 
 -- ---- grants
 
@@ -155,17 +109,9 @@ grants_order = (col 1 1, plain_key Binary) ∷ (col 1 2, plain_key Binary) ∷ [
 abbrev pub grants_names : List (List ℕ)
 grants_names = codes "batch" ∷ codes "account" ∷ codes "pages" ∷ []
 
-pub grants_is : command_of (understood book_schema grants_select) ≡ Select (record { lets = []; body = plain_query 8 [] grants_terms grants_order }) grants_names
-unfolding understood everything
-grants_is = refl
-
-pub grants_plain : IsPlain (understood book_schema grants_select)
-unfolding understood everything
-grants_plain = (refl, refl)
-
-pub grants_unlisted : reads_listing book_schema grants_select ≡ false
-unfolding understood everything
-grants_unlisted = refl
+pub grants_is : Shows grants_select (Select (record { lets = []; body = plain_query 8 [] grants_terms grants_order }) grants_names)
+unfolding understood first everything
+grants_is = record { command = refl; plain = (refl, refl); query = refl; unlisted = refl }
 
 -- ---- reports
 
@@ -181,17 +127,9 @@ reports_order = (col 1 1, plain_key Binary) ∷ (col 1 2, plain_key Binary) ∷ 
 abbrev pub reports_names : List (List ℕ)
 reports_names = codes "job" ∷ codes "seq" ∷ codes "kind" ∷ codes "count" ∷ codes "state" ∷ codes "total" ∷ []
 
-pub reports_is : command_of (understood book_schema reports_select) ≡ Select (record { lets = []; body = plain_query 10 [] reports_terms reports_order }) reports_names
-unfolding understood everything
-reports_is = refl
-
-pub reports_plain : IsPlain (understood book_schema reports_select)
-unfolding understood everything
-reports_plain = (refl, refl)
-
-pub reports_unlisted : reads_listing book_schema reports_select ≡ false
-unfolding understood everything
-reports_unlisted = refl
+pub reports_is : Shows reports_select (Select (record { lets = []; body = plain_query 10 [] reports_terms reports_order }) reports_names)
+unfolding understood first everything
+reports_is = record { command = refl; plain = (refl, refl); query = refl; unlisted = refl }
 
 -- ---- rowids
 
@@ -207,14 +145,6 @@ rowids_order = (col 1 0, plain_key Binary) ∷ []
 abbrev pub rowids_names : List (List ℕ)
 rowids_names = codes "rowid" ∷ []
 
-pub rowids_is : command_of (understood book_schema rowids_select) ≡ Select (record { lets = []; body = plain_query 6 [] rowids_terms rowids_order }) rowids_names
-unfolding understood everything
-rowids_is = refl
-
-pub rowids_plain : IsPlain (understood book_schema rowids_select)
-unfolding understood everything
-rowids_plain = (refl, refl)
-
-pub rowids_unlisted : reads_listing book_schema rowids_select ≡ false
-unfolding understood everything
-rowids_unlisted = refl
+pub rowids_is : Shows rowids_select (Select (record { lets = []; body = plain_query 6 [] rowids_terms rowids_order }) rowids_names)
+unfolding understood first everything
+rowids_is = record { command = refl; plain = (refl, refl); query = refl; unlisted = refl }

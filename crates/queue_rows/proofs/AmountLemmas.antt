@@ -1,5 +1,5 @@
 -- Sums over a list of named amounts, as sums over the rows that it was made of.
-use Rattle.std.proofs.Common.{◌≡◌, ℕ, ◌+◌, ◌*◌, ◌<◌, ◌≤◌, List, [], ◌∷◌, Bool, Bor, inl, inr, suc, ◌-◌, Result, Ok, Err, IfOk, IsTrue, ◌↔◌, All, if◌then◌else◌, true, false, cond, ◌&&◌, length, map, sum_by, bytes_eq, refl, sym, ap, subst, ◌∙◌, arith}
+use Rattle.std.proofs.Common.{◌≡◌, ℕ, ◌+◌, ◌*◌, ◌≤◌, List, [], ◌∷◌, Bool, Bor, inl, inr, suc, Result, Ok, Err, IfOk, IsTrue, ◌↔◌, All, if◌then◌else◌, true, false, cond, ◌&&◌, length, map, sum_by, bytes_eq, refl, sym, ap, ◌∙◌, arith}
 use Rattle.std.specs.Cmp.Lexicographic.{nat_list_eq_equiv}
 use Rattle.std.specs.HashMap.{HashMap}
 use Rattle.std.proofs.lemmas.Bool.{cases_Bool}

@@ -1,5 +1,5 @@
 -- What is read past the end of a list of rows, as a check prints it.
-use Rattle.std.specs.Prelude.{ℕ, List, [], pos}
+use Rattle.std.specs.Prelude.{[], pos}
 use Rattle.queue_types.specs.declared.document.Format.TheVariants.{OctetStream}
 use Rattle.queue_types.specs.declared.event.GrantRow.{GrantRow}
 use Rattle.queue_types.specs.declared.event.KeptReport.{KeptReport}

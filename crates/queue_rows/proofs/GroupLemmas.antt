@@ -1,10 +1,10 @@
 -- The documents of a job at the front of a list.
-use Rattle.std.proofs.Common.{◌≡◌, ◌==◌, ◌⊎◌, inl, inr, ℕ, ◌+◌, ◌<◌, ◌≤◌, ◌++◌, List, [], ◌∷◌, Bool, true, false, length, map, take, drop, get_or, sum_by, arith, refl, sym, ap, subst, ◌∙◌, ne_eqb, eq-eqb}
-use Rattle.std.specs.List.{range_with_len, prefix_len}
+use Rattle.std.proofs.Common.{◌≡◌, ◌==◌, inl, inr, ℕ, ◌+◌, ◌<◌, ◌≤◌, ◌++◌, List, [], ◌∷◌, Bool, true, length, map, take, get_or, arith, sym, ap, subst, ◌∙◌, eq-eqb}
+use Rattle.std.specs.List.{range_with_len}
 use Rattle.std.proofs.lemmas.Bool.{cases_eq}
 use Rattle.std.proofs.lemmas.List.{get_or-map, get_or-take, length-take-le, map-id}
 use Rattle.std.proofs.lemmas.List.FromFn.{get_or-range_with_len, map-range_with_len_more}
-use Rattle.std.proofs.lemmas.List.Sums.{prefix_len_is, prefix_len-le-length}
+use Rattle.std.proofs.lemmas.List.Sums.{prefix_len-le-length}
 use Rattle.queue_rows.specs.Documents.{next_of, IsGroup}
 use Rattle.queue_rows.specs.declared.rows.DocumentRow.{DocumentRow}
 use Rattle.queue_rows.proofs.RunLemmas.{longer}

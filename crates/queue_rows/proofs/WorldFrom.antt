@@ -1,7 +1,7 @@
 -- The jobs and documents of a sound world, read back from its rows.
-use Rattle.std.proofs.Common.{◌≡◌, ◌≢◌, ℕ, ◌+◌, ◌-◌, ◌*◌, ◌<◌, ◌≤◌, ◌==◌, suc, zero, List, [], ◌∷◌, ◌++◌, Bool, true, false, cond, length, map, take, drop, min, refl, sym, ap, subst, ◌∙◌, arith, eq-eqb, ne_eqb, sum_by}
+use Rattle.std.proofs.Common.{◌≡◌, ℕ, ◌+◌, ◌*◌, ◌<◌, ◌≤◌, ◌==◌, suc, zero, List, [], ◌∷◌, ◌++◌, Bool, true, false, cond, length, map, take, drop, min, refl, sym, ap, subst, ◌∙◌, arith, eq-eqb, ne_eqb, sum_by}
 use Rattle.std.specs.Int.{div_ceil}
-use Rattle.std.specs.List.{AllByRecursion as Each, concat, flat_map, range_with_len, prefix_len}
+use Rattle.std.specs.List.{AllByRecursion as Each, concat, flat_map, range_with_len}
 use Rattle.std.proofs.lemmas.Grind.{flat_map-append}
 use Rattle.std.proofs.lemmas.List.{take-append-drop, take_at, drop_at, drop_all, drop-drop, append_assoc, length-take, length-drop, map-append}
 use Rattle.std.proofs.lemmas.List.FromFn.{length-map-range_with_len}
@@ -9,16 +9,14 @@ use Rattle.std.proofs.lemmas.List.Sums.{sum_by-cons}
 use Rattle.queue_core.specs.Sound.{Rise, IsSoundEntry}
 use Rattle.queue_core.specs.World.{Entry}
 use Rattle.queue_types.specs.declared.document.Document.{Document}
-use Rattle.queue_types.specs.declared.job.Job.{Job}
-use Rattle.queue_rows.specs.Documents.{next_of, AreGrouped, IsGroup, documents_from}
-use Rattle.queue_rows.specs.Pieces.{piece_of, pieces_of, pieces_in, piece_at, cut_up, length_in}
+use Rattle.queue_rows.specs.Documents.{next_of, AreGrouped, documents_from}
+use Rattle.queue_rows.specs.Pieces.{pieces_of, pieces_in, piece_at, cut_up, length_in}
 use Rattle.queue_rows.specs.Rows.{job_row, document_rows, bytes_of_entry}
 use Rattle.queue_rows.specs.declared.rows.DocumentRow.{DocumentRow}
-use Rattle.queue_rows.specs.declared.rows.PieceRow.{PieceRow}
-use Rattle.queue_rows.proofs.Filled.{octets_of, with_group}
-use Rattle.queue_rows.proofs.GroupLemmas.{doc_of, is_of}
+use Rattle.queue_rows.proofs.Filled.{octets_of}
+use Rattle.queue_rows.proofs.GroupLemmas.{doc_of}
 use Rattle.queue_rows.proofs.WorldHas.{cut_document, piece_length, lengths_of}
-use Rattle.queue_rows.proofs.WorldJobs.{row_of, size_of}
+use Rattle.queue_rows.proofs.WorldJobs.{size_of}
 use Rattle.queue_rows.proofs.WorldOf.{documents_in, entries_in}
 
 pub length_rows : (n first : ℕ) (xs : List Document) → length (documents_from n first xs) ≡ length xs

@@ -1,19 +1,15 @@
 -- Grants, accounts and reports of the world that rows stand for.
-use Rattle.std.proofs.Common.{◌≡◌, ◌⊎◌, inl, inr, ◌↔◌, ℕ, ℤ, pos, ◌+◌, ◌<◌, ◌≤◌, List, [], ◌∷◌, Bool, true, false, cond, Option, Some, None, IfSome, IsSome, is_some, All, length, map, get_or, sum_by, bytes_eq, refl, sym, ap, subst, ◌∙◌, arith}
+use Rattle.std.proofs.Common.{◌≡◌, ℕ, ℤ, ◌<◌, ◌≤◌, List, cond, Some, IsSome, is_some, All, length, map, get_or, sum_by, bytes_eq, refl, sym, ap, subst, ◌∙◌, arith}
 use lib.Dec.{T}
 use Rattle.std.specs.FinMap.{get, entries, from_sorted, is_sorted, get-from_sorted, entries-from_sorted}
 use Rattle.std.specs.FinMap as finmap
 use Rattle.std.specs.Cmp.Lexicographic.{nat_list_cmp_total}
-use Rattle.std.proofs.lemmas.Bool.{cases_lt}
-use Rattle.std.proofs.lemmas.List.{get_or_default}
-use Rattle.queue_core.specs.Sound.{IsKept}
-use Rattle.queue_core.specs.Limits.{IsGrant}
-use Rattle.queue_core.specs.World.{World, text_cmp, grant_cmp, report_cmp}
+use Rattle.queue_core.specs.World.{text_cmp, grant_cmp, report_cmp}
 use Rattle.queue_types.specs.declared.event.GrantRow.{GrantRow}
 use Rattle.queue_types.specs.declared.event.KeptReport.{KeptReport}
 use Rattle.queue_rows.proofs.Defaults.{no_report, no_grant, no_account}
 use Rattle.queue_rows.specs.Accounts.{account_before, accounts_of}
-use Rattle.queue_rows.specs.Grants.{grant_before, IsGrantRow, granted_to}
+use Rattle.queue_rows.specs.Grants.{grant_before, granted_to}
 use Rattle.queue_rows.specs.Order.{AreInOrder}
 use Rattle.queue_rows.specs.Reports.{report_before}
 use Rattle.queue_rows.proofs.WorldOf.{grant_entry, free_entry, report_entry}

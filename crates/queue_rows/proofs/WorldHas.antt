@@ -1,5 +1,5 @@
 -- The world that rows stand for has these rows.
-use Rattle.std.proofs.Common.{◌≡◌, ◌⊎◌, inl, inr, ℕ, ◌+◌, ◌-◌, ◌*◌, ◌<◌, ◌≤◌, ◌==◌, suc, zero, List, [], ◌∷◌, ◌++◌, Bool, true, All, length, map, take, drop, get_or, min, refl, sym, ap, subst, ◌∙◌, arith}
+use Rattle.std.proofs.Common.{◌≡◌, ℕ, ◌+◌, ◌-◌, ◌*◌, ◌<◌, ◌≤◌, suc, zero, List, [], ◌∷◌, ◌++◌, length, map, take, drop, get_or, min, refl, sym, ap, ◌∙◌, arith}
 use Rattle.std.specs.Int.{div_ceil}
 use Rattle.std.specs.List.{concat, flat_map, range_with_len, AllByRecursion as Each}
 use Rattle.std.specs.FinMap.{entries, entries-from_sorted}
@@ -10,22 +10,18 @@ use Rattle.std.proofs.lemmas.List.Elements.{recursion_from_All}
 use Rattle.std.proofs.lemmas.List.FromFn.{length-map-range_with_len}
 use Rattle.std.proofs.lemmas.List.Sums.{prefix_len-le-length, prefix_len_passes}
 use Rattle.queue_core.specs.Sound.{reserved, printed}
-use Rattle.queue_core.specs.World.{Entry, grant_cmp, text_cmp, report_cmp}
+use Rattle.queue_core.specs.World.{grant_cmp, text_cmp, report_cmp}
 use Rattle.queue_types.specs.declared.document.Document.{Document}
 use Rattle.queue_types.specs.declared.document.Format.{Format}
-use Rattle.queue_types.specs.declared.event.GrantRow.{GrantRow}
-use Rattle.queue_types.specs.declared.event.KeptReport.{KeptReport}
 use Rattle.queue_types.specs.declared.job.Job.{Job}
 use Rattle.queue_rows.specs.Accounts.{reserved_for, printed_for}
 use Rattle.queue_rows.specs.Documents.{next_of, AreGrouped, documents_from}
 use Rattle.queue_rows.specs.Meta.{IsSoundMeta}
 use Rattle.queue_rows.specs.Pieces.{piece_of, pieces_of, pieces_in, piece_at, cut_up, length_in}
 use Rattle.queue_rows.specs.Rows.{Tables, meta_row, job_row, document_rows, bytes_of_entry, account_row, grant_row, report_row, rows_of}
-use Rattle.queue_rows.specs.declared.rows.AccountRow.{AccountRow}
 use Rattle.queue_rows.specs.declared.rows.DocumentRow.{DocumentRow}
 use Rattle.queue_rows.specs.declared.rows.MetaRow.{MetaRow}
-use Rattle.queue_rows.specs.declared.rows.PieceRow.{PieceRow}
-use Rattle.queue_rows.proofs.Filled.{octets_of, filled, reserved_filled, printed_filled}
+use Rattle.queue_rows.proofs.Filled.{octets_of, reserved_filled, printed_filled}
 use Rattle.queue_rows.proofs.GroupLemmas.{doc_of, is_of}
 use Rattle.queue_rows.proofs.WorldGrants.{grants_sorted, free_sorted, reports_sorted}
 use Rattle.queue_rows.proofs.WorldJobs.{size_of, rows_in, sizes_in, octets_in_pieces, length_concat, sum_mapped, mapped_front, take_mapped, drop_mapped, same_length}

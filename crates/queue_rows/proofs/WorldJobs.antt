@@ -1,12 +1,11 @@
 -- Jobs and documents of the world that rows stand for.
-use Rattle.std.proofs.Common.{◌≡◌, ℕ, ◌+◌, ◌-◌, ◌*◌, ◌/◌, ◌%◌, ◌<◌, ◌≤◌, suc, zero, List, [], ◌∷◌, ◌++◌, length, map, take, drop, get_or, sum_by, min, All, refl, sym, ap, subst, ◌∙◌, arith}
-use Rattle.std.specs.Int.{div_ceil}
+use Rattle.std.proofs.Common.{◌≡◌, ℕ, ◌+◌, ◌*◌, ◌≤◌, suc, zero, List, [], ◌∷◌, ◌++◌, length, map, take, drop, sum_by, min, All, refl, sym, ap, subst, ◌∙◌, arith}
 use Rattle.std.specs.List.{concat, flat_map, range_with_len, AllByRecursion as Each}
 use Rattle.std.proofs.lemmas.List.{length-append, length-take-le, length-map, take-map, drop-map, take-append-drop}
 use Rattle.std.proofs.lemmas.List.Elements.{All-take, All-drop, All-append, All-from_recursion}
 use Rattle.std.proofs.lemmas.List.Sums.{sum_by-cons, sum_by-append, prefix_len-le-length}
 use Rattle.std.proofs.lemmas.List.FromFn.{length-map-range_with_len, map-range_with_len_more}
-use Rattle.queue_core.specs.World.{Entry, live_jobs}
+use Rattle.queue_core.specs.World.{Entry}
 use Rattle.queue_core.specs.Sound.{Rise, IsSoundEntry, IsSoundDocument}
 use Rattle.queue_core.specs.Limits.{IsSoundJob}
 use Rattle.queue_types.specs.declared.document.Document.{Document}
@@ -17,7 +16,6 @@ use Rattle.queue_rows.specs.Jobs.{NumbersRise}
 use Rattle.queue_rows.specs.Pieces.{piece_of, pieces_of, pieces_in, length_in}
 use Rattle.queue_rows.proofs.WorldOf.{documents_in, entries_in}
 use Rattle.queue_rows.specs.declared.rows.DocumentRow.{DocumentRow}
-use Rattle.queue_rows.specs.declared.rows.PieceRow.{PieceRow}
 use Rattle.queue_rows.proofs.GroupLemmas.{is_of}
 
 pub each_map : {X : Type 0} (P Q : X → Type 0) → ((x : X) → P x → Q x) → (xs : List X) → Each P xs → Each Q xs

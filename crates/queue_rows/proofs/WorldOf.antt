@@ -2,7 +2,7 @@
 use Rattle.std.specs.Prelude.{◌≡◌, ℕ, ℤ, List, [], ◌∷◌, All, map, take, drop}
 use Rattle.std.specs.List.{concat, flat_map}
 use Rattle.std.specs.FinMap.{entries, from_sorted}
-use Rattle.queue_core.specs.World.{World, Entry, rows, grant_cmp, text_cmp, report_cmp}
+use Rattle.queue_core.specs.World.{World, Entry, rows}
 use Rattle.queue_types.specs.declared.document.Document.{Document}
 use Rattle.queue_types.specs.declared.event.GrantRow.{GrantRow}
 use Rattle.queue_types.specs.declared.event.KeptReport.{KeptReport}

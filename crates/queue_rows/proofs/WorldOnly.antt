@@ -1,19 +1,17 @@
 -- A sound world is the one that its rows stand for.
-use Rattle.std.proofs.Common.{◌≡◌, ℕ, ◌+◌, ◌<◌, List, [], ◌∷◌, Bool, true, All, Option, Some, IfSome, length, map, get_or, bytes_eq, cond, sum_by, refl, sym, ap, subst, ◌∙◌, arith}
+use Rattle.std.proofs.Common.{◌≡◌, ℕ, ◌+◌, ◌<◌, List, Bool, Option, Some, IfSome, length, map, get_or, bytes_eq, cond, refl, sym, ap, subst, ◌∙◌, arith}
 use lib.Dec.{T}
 use Rattle.std.specs.declared.cmp.Ordering.{Ordering}
 use Rattle.std.specs.Ordering.{is_lt}
 use Rattle.std.specs.Cmp.{IsTotalOrder}
 use Rattle.std.specs.Cmp.Lexicographic.{nat_list_cmp_total}
-use Rattle.std.specs.List.{flat_map, AllByRecursion as Each}
+use Rattle.std.specs.List.{flat_map}
 use Rattle.std.specs.FinMap.{FinMap, get, entries, from_sorted, is_sorted, entries_sorted, get-entries, entries-from_sorted, same_entries_map}
 use Rattle.std.proofs.lemmas.List.{get_or-map, length-map}
-use Rattle.std.proofs.lemmas.List.Elements.{All-map, All-from_get_or, recursion_from_All}
+use Rattle.std.proofs.lemmas.List.Elements.{All-map, recursion_from_All}
 use Rattle.queue_types.specs.Job.{owed}
-use Rattle.queue_core.specs.Sound.{IsSound, IsKept, reserved, printed}
+use Rattle.queue_core.specs.Sound.{IsSound, IsKept}
 use Rattle.queue_core.specs.World.{World, Entry, text_cmp, grant_cmp, report_cmp}
-use Rattle.queue_types.specs.declared.document.Document.{Document}
-use Rattle.queue_types.specs.declared.event.GrantRow.{GrantRow}
 use Rattle.queue_types.specs.declared.event.KeptReport.{KeptReport}
 use Rattle.queue_types.specs.declared.job.Job.{Job}
 use Rattle.queue_rows.specs.Accounts.{account_before, reserved_for, printed_for}
@@ -22,8 +20,7 @@ use Rattle.queue_rows.specs.Order.{AreInOrder}
 use Rattle.queue_rows.specs.Reports.{report_before}
 use Rattle.queue_rows.specs.Rows.{meta_row, job_row, document_rows, account_row, grant_row, report_row, rows_of, bytes_of}
 use Rattle.queue_rows.specs.Sound.{AreSoundRows}
-use Rattle.queue_rows.proofs.Defaults.{no_report}
-use Rattle.queue_rows.proofs.WorldFrom.{documents_of_entry, all_back, entries_back, lengths_entries}
+use Rattle.queue_rows.proofs.WorldFrom.{all_back, entries_back, lengths_entries}
 use Rattle.queue_rows.proofs.WorldHas.{mapped_back, each_holds}
 use Rattle.queue_rows.proofs.WorldJobs.{row_of}
 use Rattle.queue_rows.proofs.WorldMaps.{climbs_from, found_there}

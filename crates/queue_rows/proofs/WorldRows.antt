@@ -1,5 +1,5 @@
 -- Rows as entries of finite maps.
-use Rattle.std.proofs.Common.{◌≡◌, ◌⊎◌, inl, inr, ◌↔◌, ℕ, ℤ, pos, ◌+◌, ◌<◌, ◌≤◌, ◌==◌, suc, zero, List, [], ◌∷◌, Bool, true, false, cond, ◌&&◌, if◌then◌else◌, Option, Some, None, IfSome, IsSome, is_some, All, max, fold, find, length, map, get_or, sum_by, bytes_eq, refl, sym, ap, subst, ◌∙◌, arith}
+use Rattle.std.proofs.Common.{◌≡◌, ◌⊎◌, inl, inr, ℕ, ◌+◌, ◌<◌, ◌≤◌, ◌==◌, suc, zero, List, [], ◌∷◌, Bool, true, false, cond, if◌then◌else◌, Option, Some, None, IfSome, IsSome, is_some, max, fold, length, map, get_or, sum_by, bytes_eq, refl, sym, ap, subst, ◌∙◌, arith}
 use lib.Dec.{T}
 use Rattle.std.specs.declared.cmp.Ordering.{Ordering}
 use Rattle.std.specs.declared.cmp.Ordering.TheVariants.{Less, Equal, Greater}
@@ -8,18 +8,16 @@ use Rattle.std.specs.Cmp.{IsTotalOrder, then_total, on_total, nat_cmp_total}
 use Rattle.std.specs.Cmp.Lexicographic.{nat_list_cmp_total, bytes_decides}
 use Rattle.std.specs.FinMap.{IsAntisymmetric, is_sorted, slice_cmp-IsAntisymmetric, nat_cmp-IsAntisymmetric}
 use Rattle.std.specs.FinMap as finmap
-use Rattle.std.proofs.lemmas.Bool.{cases_Bool, cases_lt, cases_eq, eq-eqb, eqb-true, ne_eqb}
+use Rattle.std.proofs.lemmas.Bool.{cases_Bool, cases_lt, cases_eq, eq-eqb, ne_eqb}
 use Rattle.std.proofs.lemmas.List.{get_or-map, length-map}
 use Rattle.std.proofs.lemmas.List.Sums.{sum_by-cons}
 use Rattle.queue_core.specs.World.{text_cmp, grant_cmp, report_cmp, job_at}
 use Rattle.queue_types.specs.declared.job.Job.{Job}
 use Rattle.queue_types.specs.declared.event.KeptReport.{KeptReport}
-use Rattle.queue_rows.specs.Reports.{greatest}
-use Rattle.queue_rows.proofs.Defaults.{no_report}
 use Rattle.queue_rows.specs.Jobs.{has_number}
 use Rattle.queue_rows.specs.Order.{AreInOrder}
 use Rattle.queue_rows.proofs.AmountLemmas.{of_name}
-use Rattle.queue_rows.proofs.WorldMaps.{sorted_from, found_there, found_at}
+use Rattle.queue_rows.proofs.WorldMaps.{found_there, found_at}
 
 -- ---- orders
 

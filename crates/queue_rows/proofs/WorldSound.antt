@@ -1,6 +1,6 @@
 -- Sound rows stand for a sound world.
-use Rattle.std.proofs.Common.{◌≡◌, ◌⊎◌, inl, inr, ◌↔◌, ℕ, ℤ, pos, ◌+◌, ◌+ℤ◌, ◌<◌, ◌≤◌, ◌^◌, List, [], ◌∷◌, Bool, true, false, cond, Option, Some, None, IfSome, IsSome, IsSomeAnd, is_some, All, length, map, get_or, sum_by, bytes_eq, refl, sym, ap, subst, ◌∙◌, arith}
-use Rattle.std.specs.List.{flat_map, AllByRecursion as Each}
+use Rattle.std.proofs.Common.{◌≡◌, inl, inr, ◌↔◌, ℕ, ℤ, pos, ◌+◌, ◌+ℤ◌, ◌≤◌, List, [], ◌∷◌, Option, Some, None, IfSome, IsSome, IsSomeAnd, All, length, map, get_or, refl, sym, ap, subst, ◌∙◌, arith}
+use Rattle.std.specs.List.{AllByRecursion as Each}
 use Rattle.std.specs.FinMap.{get}
 use Rattle.std.proofs.lemmas.Bool.{cases_lt}
 use Rattle.std.proofs.lemmas.List.Elements.{recursion_from_All}
@@ -8,7 +8,6 @@ use Rattle.queue_core.specs.Sound.{IsSound, IsKept, IsGreatestCount, IsIdle, res
 use Rattle.queue_core.specs.World.{granted}
 use Rattle.queue_core.specs.Limits.{IsGrant}
 use Rattle.queue_core.specs.World.{World, Entry, rows, live_jobs, job_at}
-use Rattle.queue_types.specs.declared.document.Document.{Document}
 use Rattle.queue_types.specs.declared.event.GrantRow.{GrantRow}
 use Rattle.queue_types.specs.declared.event.KeptReport.{KeptReport}
 use Rattle.queue_types.specs.declared.job.Job.{Job}
@@ -20,10 +19,9 @@ use Rattle.queue_rows.specs.Reports.{greatest}
 use Rattle.queue_rows.specs.Rows.{Tables}
 use Rattle.queue_rows.specs.Sound.{HaveSoundGrants, HaveSoundReports, AreSoundRows}
 use Rattle.queue_rows.specs.declared.rows.AccountRow.{AccountRow}
-use Rattle.queue_rows.specs.declared.rows.DocumentRow.{DocumentRow}
 use Rattle.queue_rows.proofs.Defaults.{no_report, no_grant, no_account}
 use Rattle.queue_rows.proofs.Filled.{octets_of, filled, each_filled, rise_filled, sound_filled, number_filled, live_filled, reserved_filled, printed_filled}
-use Rattle.queue_rows.proofs.WorldGrants.{grants_of, free_of, reports_of, grant_found, free_found, free_there, report_found, report_there, granted_told, HasGrant, grant_from_sum, sum_from_grant, free_from_count, count_from_free}
+use Rattle.queue_rows.proofs.WorldGrants.{grants_of, free_of, reports_of, grant_found, free_found, report_found, report_there, granted_told, HasGrant, grant_from_sum, free_from_count}
 use Rattle.queue_rows.proofs.WorldJobs.{row_of, rows_in, rise_from, size_of, sizes_in, entries_sound, each_map}
 use Rattle.queue_rows.proofs.WorldOf.{documents_in, entries_in, world_from}
 use Rattle.queue_rows.proofs.WorldRows.{if_some, some_of, job_there, count_within, count_reached}

@@ -1,14 +1,13 @@
 -- A sound world has sound rows.
-use Rattle.std.proofs.Common.{◌≡◌, ◌⊎◌, inl, inr, ◌↔◌, ℕ, ℤ, pos, ◌+◌, ◌+ℤ◌, ◌<◌, ◌≤◌, ◌==◌, List, [], ◌∷◌, Bool, true, false, cond, if◌then◌else◌, Option, Some, None, IfSome, IsSome, IsSomeAnd, is_some, All, fold, length, map, get_or, sum_by, bytes_eq, refl, sym, ap, subst, ◌∙◌, arith}
-use Rattle.std.specs.List.{flat_map, AllByRecursion as Each}
+use Rattle.std.proofs.Common.{◌≡◌, ◌⊎◌, inl, inr, ℕ, ℤ, pos, ◌+◌, ◌+ℤ◌, ◌<◌, ◌≤◌, ◌==◌, List, [], ◌∷◌, Bool, false, cond, if◌then◌else◌, Option, Some, None, IfSome, IsSome, IsSomeAnd, is_some, All, fold, length, map, get_or, refl, sym, ap, subst, ◌∙◌, arith}
+use Rattle.std.specs.List.{AllByRecursion as Each}
 use Rattle.std.specs.FinMap.{get}
-use Rattle.std.proofs.lemmas.Bool.{cases_lt, cases_eq, eq-eqb, ne_eqb}
+use Rattle.std.proofs.lemmas.Bool.{cases_eq, eq-eqb, ne_eqb}
 use Rattle.std.proofs.lemmas.List.Elements.{All-from_recursion, recursion_from_All, All-from_get_or}
 use Rattle.queue_core.specs.Sound.{IsSound, IsKept, IsGreatestCount, IsIdle, reserved, printed}
 use Rattle.queue_core.specs.World.{granted}
 use Rattle.queue_core.specs.Limits.{IsGrant}
-use Rattle.queue_core.specs.World.{World, Entry, rows, live_jobs, job_at}
-use Rattle.queue_types.specs.declared.event.GrantRow.{GrantRow}
+use Rattle.queue_core.specs.World.{World, Entry, live_jobs, job_at}
 use Rattle.queue_types.specs.declared.event.KeptReport.{KeptReport}
 use Rattle.queue_types.specs.declared.job.Job.{Job}
 use Rattle.queue_rows.specs.Accounts.{accounts_of, reserved_for, printed_for, IsBalanced}
@@ -20,15 +19,13 @@ use Rattle.queue_rows.specs.Pieces.{length_in}
 use Rattle.queue_rows.specs.Reports.{IsReportRow, report_before, greatest}
 use Rattle.queue_rows.specs.Rows.{Tables}
 use Rattle.queue_rows.specs.Sound.{AreSoundRows}
-use Rattle.queue_rows.specs.declared.rows.AccountRow.{AccountRow}
-use Rattle.queue_rows.specs.declared.rows.DocumentRow.{DocumentRow}
 use Rattle.queue_rows.specs.declared.rows.MetaRow.{MetaRow}
 use Rattle.queue_rows.proofs.Defaults.{no_report, no_grant, no_account}
 use Rattle.queue_rows.proofs.Filled.{octets_of, filled, each_bare, rise_bare, sound_bare, number_filled, live_filled, reserved_filled, printed_filled}
-use Rattle.queue_rows.proofs.WorldGrants.{grants_of, free_of, reports_of, grant_there, free_there, report_found, report_there, granted_told, HasGrant, grant_from_sum, sum_from_grant, free_from_count, count_from_free}
+use Rattle.queue_rows.proofs.WorldGrants.{free_of, reports_of, grant_there, free_there, report_found, report_there, granted_told, sum_from_grant, count_from_free}
 use Rattle.queue_rows.proofs.WorldJobs.{row_of, rows_in, rise_to, size_of, sizes_in, rows_told, all_sizes_told, each_map}
 use Rattle.queue_rows.proofs.WorldOf.{IsBare, FitTogether, documents_in, entries_in, world_from}
-use Rattle.queue_rows.proofs.WorldRows.{some_of, count_within, count_reached}
+use Rattle.queue_rows.proofs.WorldRows.{count_within, count_reached}
 
 abbrev seen : ℕ → ℕ → Job → ℕ
 seen n g j = if n == j.number then 1 else g

@@ -1,5 +1,5 @@
 -- Sound rows and sound worlds are one and the same.
-use Rattle.std.proofs.Common.{◌≡◌, ◌*◌, ℕ, List, [], ◌∷◌, Bool, true, false, Result, Ok, Err, IfOk, IsTrue, ◌↔◌, length, map, refl, sym, ap, subst, ◌∙◌, arith}
+use Rattle.std.proofs.Common.{◌≡◌, ℕ, List, [], ◌∷◌, Bool, true, false, Result, Ok, Err, IfOk, IsTrue, ◌↔◌, length, map, sym, ap, subst, ◌∙◌, arith}
 use Rattle.queue_core.specs.Sound.{IsSound}
 use Rattle.queue_core.specs.World.{World}
 use Rattle.queue_rows.specs.Pieces.{length_in}

@@ -1,5 +1,5 @@
 -- The rows of grants.
-use Rattle.std.specs.Prelude.{◌≡◌, ℕ, ◌≤◌, List, bytes_eq, sum_by, if◌then◌else◌, Bool}
+use Rattle.std.specs.Prelude.{ℕ, List, bytes_eq, sum_by, if◌then◌else◌, Bool}
 use Rattle.std.specs.Ordering.{is_lt}
 use Rattle.queue_core.specs.Limits.{IsGrant}
 use Rattle.queue_core.specs.World.{grant_cmp}

@@ -20,7 +20,7 @@ use Rattle.queue_tables.proofs.Documents.{row_of, all_documents}
 use Rattle.queue_tables.proofs.Entries.{rows_in, distinct_of}
 use Rattle.queue_tables.proofs.Numbers.{numbered_document}
 use Rattle.queue_tables.proofs.Showing.{shows_all}
-use Rattle.queue_tables.proofs.Statements.{select_octets_text, select_octets_terms, select_octets_where, select_octets_order, select_octets_names, select_octets_is, select_octets_plain, select_octets_unlisted}
+use Rattle.queue_tables.proofs.Statements.{select_octets_text, select_octets_terms, select_octets_where, select_octets_order, select_octets_names, select_octets_is}
 use Rattle.queue_scenes.specs.Sizes.{size_in}
 
 -- ---- the rows of one job's documents
@@ -96,7 +96,7 @@ unfolding octets_out
 sizes_shown old new n shown_rows w k sound has there h =
     let it = entry_there n w.jobs k (distinct_of 1 w.jobs w.next sound.numbers) sound.entries there in
     let docs = document_rows it.entry.row.number 1 it.entry.documents in
-    let p = shows_all book_schema select_octets_text select_octets_names 2 select_octets_where select_octets_terms select_octets_order select_octets_is select_octets_plain select_octets_unlisted (λ db. refl)
+    let p = shows_all book_schema select_octets_text select_octets_names 2 select_octets_where select_octets_terms select_octets_order select_octets_is.command select_octets_is.plain select_octets_is.unlisted (λ db. refl)
     old new (number n ∷ []) document_view (is_numbered n) octets_out (content_of w).documents shown_rows has.schema (λ r. refl) (λ r. refl) has.rows.documents h in
     let all : IsPermutation (map octets_out docs) shown_rows = subst (λ (vs : List Row). IsPermutation (map octets_out vs) shown_rows) it.documents p in (
       length_permutation (map octets_out docs) shown_rows all ∙ count_rows it.entry.row.number 1 it.entry.documents ∙ sym it.sound.documents ∙ ap (λ (j : Job). j.documents) it.row,

@@ -1,33 +1,22 @@
 -- The row of an account, and the rows of its grants.
-use Rattle.std.proofs.Common.{◌≡◌, inl, inr, ℕ, ℤ, pos, List, [], ◌∷◌, map, filter, Bool, true, ◌&&◌, if◌then◌else◌, Option, None, Some, sum_by, bytes_eq, refl, sym, ap, subst, ◌∙◌, arith}
-use Rattle.std.specs.FinMap.{get, entries}
+use Rattle.std.proofs.Common.{◌≡◌, ℕ, ℤ, pos, List, [], ◌∷◌, map, Option, None, Some, refl, sym, ap, subst, ◌∙◌}
+use Rattle.std.specs.FinMap.{get}
 use Rattle.std.specs.List.Sorted.{IsPermutation}
-use Rattle.std.proofs.lemmas.Bool.{cases_Bool}
-use Rattle.std.proofs.lemmas.List.Sorted.{sum_by-IsPermutation}
-use Rattle.std.proofs.lemmas.List.Sums.{sum_by-cons}
-use Rattle.std.proofs.lemmas.Map.Text.{is_eq-slice_cmp}
-use Rattle.sqlite_sql.specs.declared.ops.BinaryOp.TheVariants.{Compare}
-use Rattle.sqlite_sql.specs.declared.ops.CompareOp.TheVariants.{Eq}
-use Rattle.sqlite_value.proofs.OrderLemmas.{value_cmp-Text}
-use Rattle.sqlite.specs.Collation.TheVariants.{Binary}
 use Rattle.sqlite.specs.declared.types.Value.TheVariants.{Int, Text as Words}
-use Rattle.sqlite.specs.Ops.{binary, is_true}
 use Rattle.sqlite.specs.Order.{Row, column}
 use Rattle.sqlite.specs.State.{State, Shown}
 use Rattle.queue_core.specs.Sound.{reserved, printed}
-use Rattle.queue_core.specs.World.{World, granted}
-use Rattle.queue_rows.specs.Rows.{grant_row}
+use Rattle.queue_core.specs.World.{World}
 use Rattle.queue_tables.specs.Content.{Holds, content_of}
 use Rattle.queue_tables.specs.Steps.{is_named}
 use Rattle.queue_tables.specs.Tables.{book_schema}
-use Rattle.queue_tables.specs.Values.{account_view, grant_values, grant_view}
+use Rattle.queue_tables.specs.Values.{account_view}
 use Rattle.queue_tables.proofs.Frees.{account_in, found_account, reserved_in, printed_in}
-use Rattle.queue_tables.proofs.Numbers.{passed}
 use Rattle.queue_tables.proofs.Showing.{shows_all}
 use Rattle.queue_shown.specs.declared.account.AccountPages.{AccountPages}
-use Rattle.queue_shown.specs.Pages.{first_number, pages_of}
+use Rattle.queue_shown.specs.Pages.{pages_of}
 use Rattle.queue_shown.proofs.Firsts.{rows_for, exactly}
-use Rattle.queue_shown.proofs.Texts.{select_account_text, select_account_names, select_account_terms, select_account_where, select_account_order, select_account_is, select_account_plain, select_account_unlisted}
+use Rattle.queue_tables.proofs.Statements.{select_account_text, select_account_names, select_account_terms, select_account_where, select_account_order, select_account_is}
 
 -- ---- the account
 
@@ -44,7 +33,7 @@ accounts_for w a (Some free) = refl
 
 pub reads_account : (old new : State) (a : List ℕ) (found : List Row) (w : World) → Holds (content_of w) old → Shown select_account_text (Words a ∷ []) old new found → found ≡ rows_for (pages_values w a) (get w.free a)
 reads_account old new a found w has h =
-    let p = shows_all book_schema select_account_text select_account_names 6 select_account_where select_account_terms select_account_order select_account_is select_account_plain select_account_unlisted (λ db. refl)
+    let p = shows_all book_schema select_account_text select_account_names 6 select_account_where select_account_terms select_account_order select_account_is.command select_account_is.plain select_account_is.unlisted (λ db. refl)
     old new (Words a ∷ []) account_view (is_named a) account_out (content_of w).accounts found has.schema (λ r. refl) (λ r. refl) has.rows.accounts h in
     let only = ap (map account_out) (account_in w a) ∙ accounts_for w a (get w.free a) in
     exactly (pages_values w a) (get w.free a) found (subst (λ (k : List Row). IsPermutation k found) only p)

@@ -30,7 +30,7 @@ use Rattle.queue_shown.specs.Sent.{pieces_select, piece_bytes, bytes_of, Answers
 use Rattle.queue_shown.proofs.DocumentParts.{is_of, of_numbers, rows_from, all_rows, chosen, only_document}
 use Rattle.queue_shown.proofs.Fetching.{shown_document}
 use Rattle.queue_shown.proofs.Ordered.{nat_int, then_equal, listed_values, in_order}
-use Rattle.queue_shown.proofs.Texts.{select_pieces_text, select_pieces_names, select_pieces_terms, select_pieces_where, select_pieces_order, select_pieces_is, select_pieces_plain, select_pieces_unlisted}
+use Rattle.queue_shown.proofs.Texts.{select_pieces_text, select_pieces_names, select_pieces_terms, select_pieces_where, select_pieces_order, select_pieces_is}
 use Rattle.queue_shown.proofs.Unique.{Rises}
 
 -- ---- the pieces of one document among those of all
@@ -97,9 +97,9 @@ sent_bytes bytes (k ∷ ks) = ap (λ (l : List ℕ). piece_at bytes k ++ l) (sen
 answers_listed : (s : State) (params : Row) (shown : List Row) → s.now.schema ≡ book_schema → Answers pieces_select params s shown → IsListing 4 select_pieces_where select_pieces_terms select_pieces_order params (s.now.trees 4) shown
 answers_listed s params shown has h =
     let known = sym h.1.is ∙ ap (λ t. understood t pieces_select) has in
-    let bare = subst IsPlain (sym known) select_pieces_plain in
-    let db : h.3 ≡ s.now = subst (λ b. IsSourceOf b s.now h.3) (ap (λ t. reads_listing t pieces_select) has ∙ select_pieces_unlisted) h.4 in
-    let read = subst₂ (λ k b. Reads k b params shown) (ap command_of known ∙ select_pieces_is) db (rw (bare.1, append-nil params) at h.5) in
+    let bare = subst IsPlain (sym known) select_pieces_is.plain in
+    let db : h.3 ≡ s.now = subst (λ b. IsSourceOf b s.now h.3) (ap (λ t. reads_listing t pieces_select) has ∙ select_pieces_is.unlisted) h.4 in
+    let read = subst₂ (λ k b. Reads k b params shown) (ap command_of known ∙ select_pieces_is.command) db (rw (bare.1, append-nil params) at h.5) in
     lists 4 select_pieces_where select_pieces_terms select_pieces_order params s.now.trees shown refl (read.answer Null)
 
 module _ (s : State) (job n : ℕ) (w : World) (d : Document) (distinct : AreDistinct w.jobs) (has : Holds (content_of w) s) (there : document_in w.jobs job n ≡ Some d) where
@@ -117,7 +117,7 @@ module _ (s : State) (job n : ℕ) (w : World) (d : Document) (distinct : AreDis
 
   first_bytes : (shown : List Row) → Begins pieces_select (number job ∷ number n ∷ []) s shown → (rest : List ℕ) × (bytes_of shown ++ rest ≡ d.bytes)
   first_bytes shown h =
-      let b = begins_rows book_schema select_pieces_text select_pieces_names 4 select_pieces_where select_pieces_terms select_pieces_order select_pieces_is select_pieces_plain select_pieces_unlisted (λ db. refl)
+      let b = begins_rows book_schema select_pieces_text select_pieces_names 4 select_pieces_where select_pieces_terms select_pieces_order select_pieces_is.command select_pieces_is.plain select_pieces_is.unlisted (λ db. refl)
       s s (number job ∷ number n ∷ []) shown has.schema h in
       (bytes_of b.0, sym (flat_map-append piece_bytes shown b.0) ∙ listing_bytes (shown ++ b.0) b.1)
 

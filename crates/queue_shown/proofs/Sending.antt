@@ -14,10 +14,10 @@ use Rattle.queue_tables.specs.Tables.{book_schema}
 use Rattle.queue_tables.proofs.Queries.{query_changes_nothing}
 use Rattle.queue_tables.proofs.Reading.{answers_same, begins_at}
 use Rattle.queue_shown.specs.Sent.{pieces_select, bytes_of, HasSent, HasSentFront}
-use Rattle.queue_shown.proofs.Texts.{select_pieces_plain}
+use Rattle.queue_shown.proofs.Texts.{select_pieces_is}
 
 pub pieces_plain_in : (schema : Schema) → schema ≡ book_schema → IsPlain (understood schema pieces_select)
-pieces_plain_in schema has = subst (λ (s : Schema). IsPlain (understood s pieces_select)) (sym has) select_pieces_plain
+pieces_plain_in schema has = subst (λ (s : Schema). IsPlain (understood s pieces_select)) (sym has) select_pieces_is.plain
 
 pub err_then : {T E : Type 0} (r : Result T E) {P Q : Type 0} → (P → Q) → OnErr r P → OnErr r Q
 err_then (Ok x) then_q p = tt

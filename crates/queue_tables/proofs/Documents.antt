@@ -28,7 +28,7 @@ use Rattle.queue_tables.proofs.Entries.{rows_in, length_of}
 use Rattle.queue_tables.proofs.Held.{like_holds, same_order}
 use Rattle.queue_tables.proofs.Showing.{shows_all, rows_keep}
 use Rattle.queue_tables.proofs.Ending.{unchanged_holds}
-use Rattle.queue_tables.proofs.Statements.{select_octets_text, select_octets_terms, select_octets_where, select_octets_order, select_octets_names, select_octets_is, select_octets_plain, select_octets_unlisted}
+use Rattle.queue_tables.proofs.Statements.{select_octets_text, select_octets_terms, select_octets_where, select_octets_order, select_octets_names, select_octets_is}
 
 -- ---- lists
 
@@ -125,10 +125,10 @@ rows_added d (e ∷ es) = elim (cases_Bool (e.row.number == d.job)) [
 pub counts_documents : (old new : State) (n : ℕ) (shown_rows : List Row) (w : World) → AreDistinct w.jobs → Holds (content_of w) old → Shown select_octets_text (number n ∷ []) old new shown_rows
     → (length shown_rows ≡ documents_at n w.jobs) × Holds (content_of w) new
 counts_documents old new n shown_rows w d has h =
-    let p = shows_all book_schema select_octets_text select_octets_names 2 select_octets_where select_octets_terms select_octets_order select_octets_is select_octets_plain select_octets_unlisted (λ db. refl)
+    let p = shows_all book_schema select_octets_text select_octets_names 2 select_octets_where select_octets_terms select_octets_order select_octets_is.command select_octets_is.plain select_octets_is.unlisted (λ db. refl)
     old new (number n ∷ []) document_view (is_numbered n) (λ v. column v 3 ∷ []) (content_of w).documents shown_rows has.schema (λ r. refl) (λ r. refl) has.rows.documents h in (
       length_permutation _ _ p ∙ length-map (filter (is_numbered n) (all_documents w.jobs)) (λ (v : Row). column v 3 ∷ []) ∙ document_count n w.jobs d,
-      unchanged_holds (content_of w) old new has (rows_keep book_schema select_octets_text select_octets_names 2 select_octets_where select_octets_terms select_octets_order select_octets_is select_octets_plain select_octets_unlisted (λ db. refl) old new (number n ∷ []) shown_rows has.schema h),
+      unchanged_holds (content_of w) old new has (rows_keep book_schema select_octets_text select_octets_names 2 select_octets_where select_octets_terms select_octets_order select_octets_is.command select_octets_is.plain select_octets_is.unlisted (λ db. refl) old new (number n ∷ []) shown_rows has.schema h),
     )
 
 -- ---- the whole

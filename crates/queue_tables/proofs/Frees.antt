@@ -26,7 +26,7 @@ use Rattle.queue_tables.specs.Values.{number, meta_values, meta_view, account_va
 use Rattle.queue_tables.specs.Content.{Holds, content_of}
 use Rattle.queue_tables.specs.Steps.{AreCovered, HasAccount, is_named, is_numbered, with_account_row, with_free, with_frees, with_next}
 use Rattle.queue_tables.proofs.Casts.{cast_null, cast_int}
-use Rattle.queue_tables.proofs.Statements.{update_free_text, update_next_text, update_next_terms, update_next_where, update_next_is, update_next_plain, meta_still}
+use Rattle.queue_tables.proofs.Statements.{update_free_text, update_next_text, update_next_terms, update_next_where, update_next_is, meta_still}
 use Rattle.queue_tables.proofs.Changing.{updates_row}
 use Rattle.queue_tables.proofs.Permuting.{replaced_none}
 use Rattle.queue_tables.proofs.Held.{holds_meta, like_holds, same_order}
@@ -166,7 +166,7 @@ pub puts_next : (old new : State) (n count : ℕ) (w : World) → Holds (content
 puts_next old new n count w has h =
     let m = meta_row w in
     let is : is_numbered 1 (meta_values m) ≡ true = numbered_meta m refl in
-    let l = updates_row book_schema update_next_text 0 meta update_next_where update_next_terms update_next_is update_next_plain refl (λ db. refl) meta_still
+    let l = updates_row book_schema update_next_text 0 meta update_next_where update_next_terms update_next_is.command update_next_is.plain refl (λ db. refl) meta_still
     meta_view (content_of w).meta (is_numbered 1) (next_put n)
     old new (number n ∷ []) (meta_values m) (next_stored m n) count has.schema
     (λ r. refl)

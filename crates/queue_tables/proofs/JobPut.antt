@@ -15,7 +15,7 @@ use Rattle.queue_tables.specs.Tables.{book_schema, jobs}
 use Rattle.queue_tables.specs.Values.{number, moment, job_values, job_view}
 use Rattle.queue_tables.specs.Content.{Content, Holds, content_of}
 use Rattle.queue_tables.specs.Steps.{AreDistinct, bare, is_numbered, with_job_anew}
-use Rattle.queue_tables.proofs.Statements.{update_job_text, update_job_terms, update_job_where, update_job_is, update_job_plain, jobs_still, select_job_text, select_job_terms, select_job_where, select_job_order, select_job_names, select_job_is, select_job_plain, select_job_unlisted}
+use Rattle.queue_tables.proofs.Statements.{update_job_text, update_job_terms, update_job_where, update_job_is, jobs_still, select_job_text, job_terms, select_job_where, select_job_order, job_names, select_job_is}
 use Rattle.queue_tables.proofs.Rows.{job_stored, cast_job}
 use Rattle.queue_tables.proofs.Held.{holds_jobs}
 use Rattle.queue_tables.proofs.Changing.{updates_row, none_permuted}
@@ -32,7 +32,7 @@ keyed_number was r id keyed is = sym keyed ∙ ap (λ (v : Row). column v 0) is
 pub puts_job : (old new : State) (j was : Job) (count : ℕ) (c : Content) → Holds c old → filter (is_numbered j.number) c.jobs ≡ job_values was ∷ [] → was.number ≡ j.number
     → ExecutesInside 0 update_job_text (job_values j) old new (Ok count) → Holds (with_job_anew j c) new
 puts_job old new j was count c has one same h =
-    holds_jobs c _ old new has (updates_row book_schema update_job_text 1 jobs update_job_where update_job_terms update_job_is update_job_plain refl (λ db. refl) jobs_still
+    holds_jobs c _ old new has (updates_row book_schema update_job_text 1 jobs update_job_where update_job_terms update_job_is.command update_job_is.plain refl (λ db. refl) jobs_still
     job_view c.jobs (is_numbered j.number) (λ v. job_values j)
     old new (job_values j) (job_values was) (λ id. Int id ∷ drop 1 (job_stored j)) count has.schema
     (λ r. refl)
@@ -45,9 +45,9 @@ puts_job old new j was count c has one same h =
 pub reads_job : (old new : State) (n : ℕ) (shown_rows : List Row) (c : Content) → Holds c old → Shown select_job_text (number n ∷ []) old new shown_rows
     → IsPermutation (map (λ (v : Row). v) (filter (is_numbered n) c.jobs)) shown_rows × Holds c new
 reads_job old new n shown_rows c has h = (
-  shows_all book_schema select_job_text select_job_names 1 select_job_where select_job_terms select_job_order select_job_is select_job_plain select_job_unlisted (λ db. refl)
+  shows_all book_schema select_job_text job_names 1 select_job_where job_terms select_job_order select_job_is.command select_job_is.plain select_job_is.unlisted (λ db. refl)
       old new (number n ∷ []) job_view (is_numbered n) (λ (v : Row). v) c.jobs shown_rows has.schema (λ r. refl) (λ r. refl) has.rows.jobs h,
-  unchanged_holds c old new has (rows_keep book_schema select_job_text select_job_names 1 select_job_where select_job_terms select_job_order select_job_is select_job_plain select_job_unlisted (λ db. refl) old new (number n ∷ []) shown_rows has.schema h),
+  unchanged_holds c old new has (rows_keep book_schema select_job_text job_names 1 select_job_where job_terms select_job_order select_job_is.command select_job_is.plain select_job_is.unlisted (λ db. refl) old new (number n ∷ []) shown_rows has.schema h),
 )
 
 exactly : (o : Option Job) (rs : List Row) → IsPermutation (map (λ (v : Row). v) (found_rows o)) rs → rs ≡ found_rows o

@@ -17,7 +17,7 @@ use Rattle.queue_tables.specs.Steps.{with_meta_row, with_job_row, with_document_
 use Rattle.queue_tables.proofs.Casts.{cast_null, cast_int, cast_moment}
 use Rattle.queue_tables.proofs.Changing.{Left, inserts_row}
 use Rattle.queue_tables.proofs.Held.{holds_meta, holds_jobs, holds_documents, holds_pieces, holds_accounts, holds_grants, holds_reports, reordered, at_end}
-use Rattle.queue_tables.proofs.Statements.{insert_meta_text, insert_meta_terms, insert_meta_is, insert_meta_plain, meta_still, insert_job_text, insert_job_terms, insert_job_is, insert_job_plain, jobs_still, insert_document_text, insert_document_terms, insert_document_is, insert_document_plain, documents_still, insert_piece_text, insert_piece_terms, insert_piece_is, insert_piece_plain, pieces_still, insert_account_text, insert_account_terms, insert_account_is, insert_account_plain, accounts_still, insert_grant_text, insert_grant_terms, insert_grant_is, insert_grant_plain, grants_still, insert_report_text, insert_report_terms, insert_report_is, insert_report_plain, reports_still}
+use Rattle.queue_tables.proofs.Statements.{insert_meta_text, insert_meta_terms, insert_meta_is, meta_still, insert_job_text, insert_job_terms, insert_job_is, jobs_still, insert_document_text, insert_document_terms, insert_document_is, documents_still, insert_piece_text, insert_piece_terms, insert_piece_is, pieces_still, insert_account_text, insert_account_terms, insert_account_is, accounts_still, insert_grant_text, insert_grant_terms, insert_grant_is, grants_still, insert_report_text, insert_report_terms, insert_report_is, reports_still}
 
 -- the new row stands last
 last : {K : Type 0} {view : Row → Row} {tree : ℕ} (v : Row) (vs : List Row) (old new : State) → Left K book_schema view tree (v ∷ vs) old new → Left K book_schema view tree (vs ++ v ∷ []) old new
@@ -35,7 +35,7 @@ cast_meta m = rw (cast_null, cast_int (pos m.one), cast_int (pos m.schema), cast
 pub adds_meta : (old new : State) (m : MetaRow) (count : ℕ) (c : Content) → Holds c old → ExecutesInside 0 insert_meta_text (meta_values m) old new (Ok count) → Holds (with_meta_row (meta_values m) c) new
 unfolding meta_stored
 adds_meta old new m count c has h =
-    holds_meta c _ old new has (last (meta_values m) c.meta old new (inserts_row book_schema insert_meta_text 0 meta insert_meta_terms 8 insert_meta_is insert_meta_plain refl (meta_still []) meta_view c.meta
+    holds_meta c _ old new has (last (meta_values m) c.meta old new (inserts_row book_schema insert_meta_text 0 meta insert_meta_terms 8 insert_meta_is.command insert_meta_is.plain refl (meta_still []) meta_view c.meta
     old new (meta_values m) _ _ (meta_values m) count has.schema refl (cast_meta m) refl has.rows.meta h.0)) h.1.is_open
 
 -- a job's row as it is stored
@@ -63,7 +63,7 @@ cast_job j = rw (
 
 pub adds_job : (old new : State) (j : Job) (count : ℕ) (c : Content) → Holds c old → ExecutesInside 0 insert_job_text (job_values j) old new (Ok count) → Holds (with_job_row (job_values j) c) new
 adds_job old new j count c has h =
-    holds_jobs c _ old new has (last (job_values j) c.jobs old new (inserts_row book_schema insert_job_text 1 jobs insert_job_terms 15 insert_job_is insert_job_plain refl (jobs_still []) job_view c.jobs
+    holds_jobs c _ old new has (last (job_values j) c.jobs old new (inserts_row book_schema insert_job_text 1 jobs insert_job_terms 15 insert_job_is.command insert_job_is.plain refl (jobs_still []) job_view c.jobs
     old new (job_values j) _ _ (job_values j) count has.schema refl (cast_job j) refl has.rows.jobs h.0)) h.1.is_open
 
 -- ---- tables whose rowid is hidden
@@ -80,7 +80,7 @@ pub adds_document : (old new : State) (job doc : ℕ) (format : List ℕ) (octet
 unfolding document_row
 adds_document old new job doc format octets count c has h =
     let v : Row = document_row job doc format octets in
-    holds_documents c _ old new has (last v c.documents old new (inserts_row book_schema insert_document_text 2 documents insert_document_terms 5 insert_document_is insert_document_plain refl (documents_still []) document_view c.documents
+    holds_documents c _ old new has (last v c.documents old new (inserts_row book_schema insert_document_text 2 documents insert_document_terms 5 insert_document_is.command insert_document_is.plain refl (documents_still []) document_view c.documents
     old new v Null v v count has.schema refl (cast_document job doc format octets) refl has.rows.documents h.0)) h.1.is_open
 
 cast_piece : (job doc piece : ℕ) (bytes : List ℕ) → cast_row (table_of pieces) (Null ∷ piece_values job doc piece bytes) ≡ Null ∷ piece_values job doc piece bytes
@@ -90,7 +90,7 @@ pub adds_piece : (old new : State) (job doc piece : ℕ) (bytes : List ℕ) (cou
     → Holds (with_piece_row (piece_values job doc piece bytes) c) new
 adds_piece old new job doc piece bytes count c has h =
     let v = piece_values job doc piece bytes in
-    holds_pieces c _ old new has (last v c.pieces old new (inserts_row book_schema insert_piece_text 3 pieces insert_piece_terms 5 insert_piece_is insert_piece_plain refl (pieces_still []) piece_view c.pieces
+    holds_pieces c _ old new has (last v c.pieces old new (inserts_row book_schema insert_piece_text 3 pieces insert_piece_terms 5 insert_piece_is.command insert_piece_is.plain refl (pieces_still []) piece_view c.pieces
     old new v Null v v count has.schema refl (cast_piece job doc piece bytes) refl has.rows.pieces h.0)) h.1.is_open
 
 cast_new_account : (name : List ℕ) (free set_aside done : ℤ) → cast_row (table_of accounts) (Null ∷ account_values name free set_aside done) ≡ Null ∷ account_values name free set_aside done
@@ -100,7 +100,7 @@ pub adds_account : (old new : State) (name : List ℕ) (free set_aside done : �
     → Holds (with_account_row (account_values name free set_aside done) c) new
 adds_account old new name free set_aside done count c has h =
     let v = account_values name free set_aside done in
-    holds_accounts c _ old new has (last v c.accounts old new (inserts_row book_schema insert_account_text 4 accounts insert_account_terms 5 insert_account_is insert_account_plain refl (accounts_still []) account_view c.accounts
+    holds_accounts c _ old new has (last v c.accounts old new (inserts_row book_schema insert_account_text 4 accounts insert_account_terms 5 insert_account_is.command insert_account_is.plain refl (accounts_still []) account_view c.accounts
     old new v Null v v count has.schema refl (cast_new_account name free set_aside done) refl has.rows.accounts h.0)) h.1.is_open
 
 cast_grant : (g : GrantRow) → cast_row (table_of grants) (Null ∷ grant_values g) ≡ Null ∷ grant_values g
@@ -109,7 +109,7 @@ cast_grant g = rw (cast_null, cast_int (pos g.pages)) refl
 pub adds_grant : (old new : State) (g : GrantRow) (count : ℕ) (c : Content) → Holds c old → ExecutesInside 0 insert_grant_text (grant_values g) old new (Ok count) → Holds (with_grant_row (grant_values g) c) new
 adds_grant old new g count c has h =
     let v = grant_values g in
-    holds_grants c _ old new has (last v c.grants old new (inserts_row book_schema insert_grant_text 5 grants insert_grant_terms 4 insert_grant_is insert_grant_plain refl (grants_still []) grant_view c.grants
+    holds_grants c _ old new has (last v c.grants old new (inserts_row book_schema insert_grant_text 5 grants insert_grant_terms 4 insert_grant_is.command insert_grant_is.plain refl (grants_still []) grant_view c.grants
     old new v Null v v count has.schema refl (cast_grant g) refl has.rows.grants h.0)) h.1.is_open
 
 cast_report : (k : KeptReport) → cast_row (table_of reports) (Null ∷ report_values k) ≡ Null ∷ report_values k
@@ -118,5 +118,5 @@ cast_report k = rw (cast_null, cast_int (pos k.report.job), cast_int (pos k.repo
 pub adds_report : (old new : State) (k : KeptReport) (count : ℕ) (c : Content) → Holds c old → ExecutesInside 0 insert_report_text (report_values k) old new (Ok count) → Holds (with_report_row (report_values k) c) new
 adds_report old new k count c has h =
     let v = report_values k in
-    holds_reports c _ old new has (last v c.reports old new (inserts_row book_schema insert_report_text 6 reports insert_report_terms 7 insert_report_is insert_report_plain refl (reports_still []) report_view c.reports
+    holds_reports c _ old new has (last v c.reports old new (inserts_row book_schema insert_report_text 6 reports insert_report_terms 7 insert_report_is.command insert_report_is.plain refl (reports_still []) report_view c.reports
     old new v Null v v count has.schema refl (cast_report k) refl has.rows.reports h.0)) h.1.is_open

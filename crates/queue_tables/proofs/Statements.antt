@@ -10,7 +10,9 @@ use Rattle.sqlite.specs.Collation.TheVariants.{Binary}
 use Rattle.sqlite_value.specs.Keys.{ascending as plain_key}
 use Rattle.sqlite_value.specs.declared.keys.Key.{Key}
 use Rattle.sqlite.specs.Source.TheVariants.{Values}
+use Rattle.sqlite.specs.Command.{Command}
 use Rattle.sqlite.specs.Command.TheVariants.{Insert, Update, Select}
+use Rattle.sqlite_resolve.specs.Compile.{first}
 use Rattle.sqlite_tied.specs.Compute.{everything}
 use Rattle.sqlite.specs.Listing.{understood, reads_listing}
 use Rattle.sqlite.proofs.Callers.{IsPlain, command_of}
@@ -18,7 +20,29 @@ use Rattle.sqlite_schema.specs.declared.schema.Keys.TheVariants.{Enforced}
 use Rattle.sqlite_schema.specs.declared.schema.Action.TheVariants.{NoAction}
 use Rattle.sqlite_rules.specs.Action.{works}
 use Rattle.queue_tables.specs.Plain.{plain_query}
+use Rattle.queue_tables.specs.Queries.{IsQueryText}
 use Rattle.queue_tables.specs.Tables.{book_schema}
+
+-- ---- what a text means
+
+-- it is that command over the tables, and no other
+pub record Means (text : List ℕ) (meant : Command) : Type 0 where
+  pub command : command_of (understood book_schema text) ≡ meant
+  pub plain : IsPlain (understood book_schema text)
+
+-- it is that query, which reads rows of the tables alone
+pub record Shows (text : List ℕ) (meant : Command) : Type 0 where
+  pub command : command_of (understood book_schema text) ≡ meant
+  pub plain : IsPlain (understood book_schema text)
+  pub query : IsQueryText text
+  pub unlisted : reads_listing book_schema text ≡ false
+
+-- the columns of a job
+abbrev pub job_terms : List Term
+job_terms = col 1 0 ∷ col 1 2 ∷ col 1 3 ∷ col 1 4 ∷ col 1 5 ∷ col 1 6 ∷ col 1 7 ∷ col 1 8 ∷ col 1 9 ∷ col 1 10 ∷ col 1 11 ∷ col 1 12 ∷ col 1 13 ∷ col 1 14 ∷ []
+
+abbrev pub job_names : List (List ℕ)
+job_names = codes "number" ∷ codes "owner" ∷ codes "name" ∷ codes "copies" ∷ codes "impressions" ∷ codes "hold" ∷ codes "incoming" ∷ codes "phase" ∷ codes "why" ∷ codes "stopping" ∷ codes "count" ∷ codes "created" ∷ codes "begun" ∷ codes "ended" ∷ []
 
 -- ---- a new row of meta
 
@@ -28,13 +52,9 @@ insert_meta_text = codes "INSERT INTO meta (one, schema, uri, name, estimate, ep
 abbrev pub insert_meta_terms : List Term
 insert_meta_terms = col 0 0 ∷ lit Null ∷ col 0 1 ∷ col 0 2 ∷ col 0 3 ∷ col 0 4 ∷ col 0 5 ∷ col 0 6 ∷ []
 
-pub insert_meta_is : command_of (understood book_schema insert_meta_text) ≡ Insert 0 (Values insert_meta_terms 8)
+pub insert_meta_is : Means insert_meta_text (Insert 0 (Values insert_meta_terms 8))
 unfolding understood everything
-insert_meta_is = refl
-
-pub insert_meta_plain : IsPlain (understood book_schema insert_meta_text)
-unfolding understood everything
-insert_meta_plain = (refl, refl)
+insert_meta_is = record { command = refl; plain = (refl, refl) }
 
 -- ---- a new row of jobs
 
@@ -44,13 +64,9 @@ insert_job_text = codes "INSERT INTO jobs (number, owner, name, copies, impressi
 abbrev pub insert_job_terms : List Term
 insert_job_terms = col 0 0 ∷ lit Null ∷ col 0 1 ∷ col 0 2 ∷ col 0 3 ∷ col 0 4 ∷ col 0 5 ∷ col 0 6 ∷ col 0 7 ∷ col 0 8 ∷ col 0 9 ∷ col 0 10 ∷ col 0 11 ∷ col 0 12 ∷ col 0 13 ∷ []
 
-pub insert_job_is : command_of (understood book_schema insert_job_text) ≡ Insert 1 (Values insert_job_terms 15)
+pub insert_job_is : Means insert_job_text (Insert 1 (Values insert_job_terms 15))
 unfolding understood everything
-insert_job_is = refl
-
-pub insert_job_plain : IsPlain (understood book_schema insert_job_text)
-unfolding understood everything
-insert_job_plain = (refl, refl)
+insert_job_is = record { command = refl; plain = (refl, refl) }
 
 -- ---- a new row of documents
 
@@ -60,13 +76,9 @@ insert_document_text = codes "INSERT INTO documents (job, doc, format, octets) V
 abbrev pub insert_document_terms : List Term
 insert_document_terms = lit Null ∷ col 0 0 ∷ col 0 1 ∷ col 0 2 ∷ col 0 3 ∷ []
 
-pub insert_document_is : command_of (understood book_schema insert_document_text) ≡ Insert 2 (Values insert_document_terms 5)
+pub insert_document_is : Means insert_document_text (Insert 2 (Values insert_document_terms 5))
 unfolding understood everything
-insert_document_is = refl
-
-pub insert_document_plain : IsPlain (understood book_schema insert_document_text)
-unfolding understood everything
-insert_document_plain = (refl, refl)
+insert_document_is = record { command = refl; plain = (refl, refl) }
 
 -- ---- a new row of pieces
 
@@ -76,13 +88,9 @@ insert_piece_text = codes "INSERT INTO pieces (job, doc, piece, bytes) VALUES (?
 abbrev pub insert_piece_terms : List Term
 insert_piece_terms = lit Null ∷ col 0 0 ∷ col 0 1 ∷ col 0 2 ∷ col 0 3 ∷ []
 
-pub insert_piece_is : command_of (understood book_schema insert_piece_text) ≡ Insert 3 (Values insert_piece_terms 5)
+pub insert_piece_is : Means insert_piece_text (Insert 3 (Values insert_piece_terms 5))
 unfolding understood everything
-insert_piece_is = refl
-
-pub insert_piece_plain : IsPlain (understood book_schema insert_piece_text)
-unfolding understood everything
-insert_piece_plain = (refl, refl)
+insert_piece_is = record { command = refl; plain = (refl, refl) }
 
 -- ---- a new row of accounts
 
@@ -92,13 +100,9 @@ insert_account_text = codes "INSERT INTO accounts (name, free, reserved, printed
 abbrev pub insert_account_terms : List Term
 insert_account_terms = lit Null ∷ col 0 0 ∷ col 0 1 ∷ col 0 2 ∷ col 0 3 ∷ []
 
-pub insert_account_is : command_of (understood book_schema insert_account_text) ≡ Insert 4 (Values insert_account_terms 5)
+pub insert_account_is : Means insert_account_text (Insert 4 (Values insert_account_terms 5))
 unfolding understood everything
-insert_account_is = refl
-
-pub insert_account_plain : IsPlain (understood book_schema insert_account_text)
-unfolding understood everything
-insert_account_plain = (refl, refl)
+insert_account_is = record { command = refl; plain = (refl, refl) }
 
 -- ---- a new row of grants
 
@@ -108,13 +112,9 @@ insert_grant_text = codes "INSERT INTO grants (batch, account, pages) VALUES (?1
 abbrev pub insert_grant_terms : List Term
 insert_grant_terms = lit Null ∷ col 0 0 ∷ col 0 1 ∷ col 0 2 ∷ []
 
-pub insert_grant_is : command_of (understood book_schema insert_grant_text) ≡ Insert 5 (Values insert_grant_terms 4)
+pub insert_grant_is : Means insert_grant_text (Insert 5 (Values insert_grant_terms 4))
 unfolding understood everything
-insert_grant_is = refl
-
-pub insert_grant_plain : IsPlain (understood book_schema insert_grant_text)
-unfolding understood everything
-insert_grant_plain = (refl, refl)
+insert_grant_is = record { command = refl; plain = (refl, refl) }
 
 -- ---- a new row of reports
 
@@ -124,13 +124,9 @@ insert_report_text = codes "INSERT INTO reports (job, seq, kind, count, state, t
 abbrev pub insert_report_terms : List Term
 insert_report_terms = lit Null ∷ col 0 0 ∷ col 0 1 ∷ col 0 2 ∷ col 0 3 ∷ col 0 4 ∷ col 0 5 ∷ []
 
-pub insert_report_is : command_of (understood book_schema insert_report_text) ≡ Insert 6 (Values insert_report_terms 7)
+pub insert_report_is : Means insert_report_text (Insert 6 (Values insert_report_terms 7))
 unfolding understood everything
-insert_report_is = refl
-
-pub insert_report_plain : IsPlain (understood book_schema insert_report_text)
-unfolding understood everything
-insert_report_plain = (refl, refl)
+insert_report_is = record { command = refl; plain = (refl, refl) }
 
 -- ---- UPDATE jobs: owner, name, copies, impressions, hold, incoming, phase, why, stopping, count, created, begun, ended
 
@@ -143,13 +139,9 @@ update_job_terms = col 1 0 ∷ col 1 0 ∷ lit Null ∷ col 0 1 ∷ col 0 2 ∷ 
 abbrev pub update_job_where : List Term
 update_job_where = op2 (Compare Eq Binary) (col 1 0) (col 0 0) ∷ []
 
-pub update_job_is : command_of (understood book_schema update_job_text) ≡ Update 1 (record { lets = []; body = plain_query 1 update_job_where update_job_terms [] })
+pub update_job_is : Means update_job_text (Update 1 (record { lets = []; body = plain_query 1 update_job_where update_job_terms [] }))
 unfolding understood everything
-update_job_is = refl
-
-pub update_job_plain : IsPlain (understood book_schema update_job_text)
-unfolding understood everything
-update_job_plain = (refl, refl)
+update_job_is = record { command = refl; plain = (refl, refl) }
 
 -- ---- UPDATE accounts: reserved, printed
 
@@ -162,13 +154,9 @@ update_sums_terms = col 1 0 ∷ col 1 0 ∷ col 1 1 ∷ col 1 2 ∷ op2 (Arith A
 abbrev pub update_sums_where : List Term
 update_sums_where = op2 (Compare Eq Binary) (col 1 1) (col 0 0) ∷ []
 
-pub update_sums_is : command_of (understood book_schema update_sums_text) ≡ Update 4 (record { lets = []; body = plain_query 6 update_sums_where update_sums_terms [] })
+pub update_sums_is : Means update_sums_text (Update 4 (record { lets = []; body = plain_query 6 update_sums_where update_sums_terms [] }))
 unfolding understood everything
-update_sums_is = refl
-
-pub update_sums_plain : IsPlain (understood book_schema update_sums_text)
-unfolding understood everything
-update_sums_plain = (refl, refl)
+update_sums_is = record { command = refl; plain = (refl, refl) }
 
 -- ---- UPDATE accounts: free
 
@@ -181,13 +169,9 @@ update_free_terms = col 1 0 ∷ col 1 0 ∷ col 1 1 ∷ col 0 1 ∷ col 1 3 ∷ 
 abbrev pub update_free_where : List Term
 update_free_where = op2 (Compare Eq Binary) (col 1 1) (col 0 0) ∷ []
 
-pub update_free_is : command_of (understood book_schema update_free_text) ≡ Update 4 (record { lets = []; body = plain_query 6 update_free_where update_free_terms [] })
+pub update_free_is : Means update_free_text (Update 4 (record { lets = []; body = plain_query 6 update_free_where update_free_terms [] }))
 unfolding understood everything
-update_free_is = refl
-
-pub update_free_plain : IsPlain (understood book_schema update_free_text)
-unfolding understood everything
-update_free_plain = (refl, refl)
+update_free_is = record { command = refl; plain = (refl, refl) }
 
 -- ---- UPDATE meta: next_number
 
@@ -200,21 +184,14 @@ update_next_terms = col 1 0 ∷ col 1 0 ∷ lit Null ∷ col 1 2 ∷ col 1 3 ∷
 abbrev pub update_next_where : List Term
 update_next_where = op2 (Compare Eq Binary) (col 1 0) (lit (Int (pos 1))) ∷ []
 
-pub update_next_is : command_of (understood book_schema update_next_text) ≡ Update 0 (record { lets = []; body = plain_query 0 update_next_where update_next_terms [] })
+pub update_next_is : Means update_next_text (Update 0 (record { lets = []; body = plain_query 0 update_next_where update_next_terms [] }))
 unfolding understood everything
-update_next_is = refl
-
-pub update_next_plain : IsPlain (understood book_schema update_next_text)
-unfolding understood everything
-update_next_plain = (refl, refl)
+update_next_is = record { command = refl; plain = (refl, refl) }
 
 -- ---- SELECT jobs by number
 
 abbrev pub select_job_text : List ℕ
 select_job_text = codes "SELECT number, owner, name, copies, impressions, hold, incoming, phase, why, stopping, count, created, begun, ended FROM jobs WHERE number = ?1"
-
-abbrev pub select_job_terms : List Term
-select_job_terms = col 1 0 ∷ col 1 2 ∷ col 1 3 ∷ col 1 4 ∷ col 1 5 ∷ col 1 6 ∷ col 1 7 ∷ col 1 8 ∷ col 1 9 ∷ col 1 10 ∷ col 1 11 ∷ col 1 12 ∷ col 1 13 ∷ col 1 14 ∷ []
 
 abbrev pub select_job_where : List Term
 select_job_where = op2 (Compare Eq Binary) (col 1 0) (col 0 0) ∷ []
@@ -222,20 +199,9 @@ select_job_where = op2 (Compare Eq Binary) (col 1 0) (col 0 0) ∷ []
 abbrev pub select_job_order : List (Term × Key)
 select_job_order = []
 
-abbrev pub select_job_names : List (List ℕ)
-select_job_names = codes "number" ∷ codes "owner" ∷ codes "name" ∷ codes "copies" ∷ codes "impressions" ∷ codes "hold" ∷ codes "incoming" ∷ codes "phase" ∷ codes "why" ∷ codes "stopping" ∷ codes "count" ∷ codes "created" ∷ codes "begun" ∷ codes "ended" ∷ []
-
-pub select_job_is : command_of (understood book_schema select_job_text) ≡ Select (record { lets = []; body = plain_query 1 select_job_where select_job_terms select_job_order }) select_job_names
-unfolding understood everything
-select_job_is = refl
-
-pub select_job_plain : IsPlain (understood book_schema select_job_text)
-unfolding understood everything
-select_job_plain = (refl, refl)
-
-pub select_job_unlisted : reads_listing book_schema select_job_text ≡ false
-unfolding understood everything
-select_job_unlisted = refl
+pub select_job_is : Shows select_job_text (Select (record { lets = []; body = plain_query 1 select_job_where job_terms select_job_order }) job_names)
+unfolding understood first everything
+select_job_is = record { command = refl; plain = (refl, refl); query = refl; unlisted = refl }
 
 -- ---- SELECT documents of a job
 
@@ -254,17 +220,30 @@ select_octets_order = (col 1 2, plain_key Binary) ∷ []
 abbrev pub select_octets_names : List (List ℕ)
 select_octets_names = codes "octets" ∷ []
 
-pub select_octets_is : command_of (understood book_schema select_octets_text) ≡ Select (record { lets = []; body = plain_query 2 select_octets_where select_octets_terms select_octets_order }) select_octets_names
-unfolding understood everything
-select_octets_is = refl
+pub select_octets_is : Shows select_octets_text (Select (record { lets = []; body = plain_query 2 select_octets_where select_octets_terms select_octets_order }) select_octets_names)
+unfolding understood first everything
+select_octets_is = record { command = refl; plain = (refl, refl); query = refl; unlisted = refl }
 
-pub select_octets_plain : IsPlain (understood book_schema select_octets_text)
-unfolding understood everything
-select_octets_plain = (refl, refl)
+-- ---- SELECT accounts by name
 
-pub select_octets_unlisted : reads_listing book_schema select_octets_text ≡ false
-unfolding understood everything
-select_octets_unlisted = refl
+abbrev pub select_account_text : List ℕ
+select_account_text = codes "SELECT free, reserved, printed FROM accounts WHERE name = ?1"
+
+abbrev pub select_account_terms : List Term
+select_account_terms = col 1 2 ∷ col 1 3 ∷ col 1 4 ∷ []
+
+abbrev pub select_account_where : List Term
+select_account_where = op2 (Compare Eq Binary) (col 1 1) (col 0 0) ∷ []
+
+abbrev pub select_account_order : List (Term × Key)
+select_account_order = []
+
+abbrev pub select_account_names : List (List ℕ)
+select_account_names = codes "free" ∷ codes "reserved" ∷ codes "printed" ∷ []
+
+pub select_account_is : Shows select_account_text (Select (record { lets = []; body = plain_query 6 select_account_where select_account_terms select_account_order }) select_account_names)
+unfolding understood first everything
+select_account_is = record { command = refl; plain = (refl, refl); query = refl; unlisted = refl }
 
 -- ---- no foreign key acts
 

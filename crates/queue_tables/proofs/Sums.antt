@@ -15,7 +15,7 @@ use Rattle.queue_tables.specs.Values.{account_values, account_view}
 use Rattle.queue_tables.specs.Content.{Content, Holds}
 use Rattle.queue_tables.specs.Steps.{CanAdd, HasAccount, is_named, with_sums, plus}
 use Rattle.queue_tables.proofs.Casts.{cast_int}
-use Rattle.queue_tables.proofs.Statements.{update_sums_text, update_sums_terms, update_sums_where, update_sums_is, update_sums_plain, update_free_text, update_free_terms, update_free_where, update_free_is, update_free_plain, accounts_still}
+use Rattle.queue_tables.proofs.Statements.{update_sums_text, update_sums_terms, update_sums_where, update_sums_is, update_free_text, update_free_terms, update_free_where, update_free_is, accounts_still}
 use Rattle.queue_tables.proofs.Changing.{updates_row, updates_none, updates_count}
 use Rattle.queue_tables.proofs.Held.{holds_accounts}
 
@@ -49,12 +49,12 @@ sums_shown name named free was_set_aside was_done set_aside done r id keyed is p
 pub adds_sums : (old new : State) (name : List ℕ) (set_aside done : ℤ) (count : ℕ) (c : Content) → Holds c old → CanAdd name set_aside done c
     → ExecutesInside 0 update_sums_text (sums_params name set_aside done) old new (Ok count) → Holds (with_sums name set_aside done c) new
 adds_sums old new name set_aside done count c has (inl none) h =
-    holds_accounts c _ old new has (updates_none book_schema update_sums_text 4 accounts update_sums_where update_sums_terms update_sums_is update_sums_plain refl (λ db. refl) accounts_still
+    holds_accounts c _ old new has (updates_none book_schema update_sums_text 4 accounts update_sums_where update_sums_terms update_sums_is.command update_sums_is.plain refl (λ db. refl) accounts_still
     account_view c.accounts (is_named name) (λ v. column v 0 ∷ column v 1 ∷ plus set_aside (column v 2) ∷ plus done (column v 3) ∷ [])
     old new (sums_params name set_aside done) count has.schema (λ r. refl) has.rows.accounts none h.0) h.1.is_open
 adds_sums old new name set_aside done count c has (inr can) h =
     let it = can.0 in
-    holds_accounts c _ old new has (updates_row book_schema update_sums_text 4 accounts update_sums_where update_sums_terms update_sums_is update_sums_plain refl (λ db. refl) accounts_still
+    holds_accounts c _ old new has (updates_row book_schema update_sums_text 4 accounts update_sums_where update_sums_terms update_sums_is.command update_sums_is.plain refl (λ db. refl) accounts_still
     account_view c.accounts (is_named name) (λ v. column v 0 ∷ column v 1 ∷ plus set_aside (column v 2) ∷ plus done (column v 3) ∷ [])
     old new (sums_params name set_aside done) (account_values it.named it.free it.set_aside it.done) (anew it.named it.free (it.set_aside +ℤ set_aside) (it.done +ℤ done)) count has.schema (λ r. refl)
     (λ r id keyed is. (sums_shown name it.named it.free it.set_aside it.done set_aside done r id keyed is can.1 can.2, cast_account it.named it.free (it.set_aside +ℤ set_aside) (it.done +ℤ done) id, refl, refl))
@@ -80,13 +80,13 @@ free_shown name named free was_free set_aside done r id keyed is =
 pub counts_frees : (old new : State) (name : List ℕ) (free : ℤ) (count : ℕ) (c : Content) → Holds c old → ExecutesInside 0 update_free_text (free_params name free) old new (Ok count)
     → count ≡ length (filter (is_named name) c.accounts)
 counts_frees old new name free count c has h =
-    updates_count book_schema update_free_text 4 accounts update_free_where update_free_terms update_free_is update_free_plain refl (λ db. refl) accounts_still
+    updates_count book_schema update_free_text 4 accounts update_free_where update_free_terms update_free_is.command update_free_is.plain refl (λ db. refl) accounts_still
     account_view c.accounts (is_named name) (free_put free) old new (free_params name free) count has.schema (λ r. refl) has.rows.accounts h.0
 
 pub puts_free_row : (old new : State) (name : List ℕ) (free : ℤ) (count : ℕ) (c : Content) → Holds c old → (it : HasAccount name c)
     → ExecutesInside 0 update_free_text (free_params name free) old new (Ok count) → Holds (record c { accounts = replaced (is_named name) (free_put free) c.accounts }) new
 puts_free_row old new name free count c has it h =
-    holds_accounts c _ old new has (updates_row book_schema update_free_text 4 accounts update_free_where update_free_terms update_free_is update_free_plain refl (λ db. refl) accounts_still
+    holds_accounts c _ old new has (updates_row book_schema update_free_text 4 accounts update_free_where update_free_terms update_free_is.command update_free_is.plain refl (λ db. refl) accounts_still
     account_view c.accounts (is_named name) (free_put free)
     old new (free_params name free) (account_values it.named it.free it.set_aside it.done) (anew it.named free it.set_aside it.done) count has.schema (λ r. refl)
     (λ r id keyed is. (free_shown name it.named free it.free it.set_aside it.done r id keyed is, cast_account it.named free it.set_aside it.done id, refl, refl))
@@ -95,6 +95,6 @@ puts_free_row old new name free count c has it h =
 pub misses_free_row : (old new : State) (name : List ℕ) (free : ℤ) (count : ℕ) (c : Content) → Holds c old → filter (is_named name) c.accounts ≡ []
     → ExecutesInside 0 update_free_text (free_params name free) old new (Ok count) → Holds (record c { accounts = replaced (is_named name) (free_put free) c.accounts }) new
 misses_free_row old new name free count c has none h =
-    holds_accounts c _ old new has (updates_none book_schema update_free_text 4 accounts update_free_where update_free_terms update_free_is update_free_plain refl (λ db. refl) accounts_still
+    holds_accounts c _ old new has (updates_none book_schema update_free_text 4 accounts update_free_where update_free_terms update_free_is.command update_free_is.plain refl (λ db. refl) accounts_still
     account_view c.accounts (is_named name) (free_put free)
     old new (free_params name free) count has.schema (λ r. refl) has.rows.accounts none h.0) h.1.is_open

@@ -1,5 +1,5 @@
 -- The values of one row, as a SELECT of all its columns shows them.
-use Rattle.std.specs.Prelude.{ℕ, ℤ, pos, Bool, List, [], ◌∷◌, codes, Option}
+use Rattle.std.specs.Prelude.{ℕ, ℤ, pos, Bool, List, [], ◌∷◌, Option}
 use Rattle.sqlite.specs.declared.types.Value.{Value}
 use Rattle.sqlite.specs.declared.types.Value.TheVariants.{Int, Text as Words, Blob}
 use Rattle.sqlite.specs.Values.{or_null}

@@ -1,4 +1,4 @@
-use Rattle.std.proofs.Common.{◌≡◌, refl, sym, ◌∙◌, ap, inr}
+use Rattle.std.proofs.Common.{refl, sym, ◌∙◌, ap, inr}
 use Rattle.grants_csv.specs.File.{rows_of}
 use Rattle.queue_types.specs.Event.{grant}
 use Rattle.queue_core.specs.Machine.{step}

@@ -6,18 +6,18 @@ use Rattle.sqlite.specs.Held.{state}
 use Rattle.queue_load.specs.Keyed.{TellsId, IsNoId, id_values}
 use Rattle.queue_load.proofs.KeyLemmas.{ids_are}
 use Rattle.queue_load.proofs.Results.{if_ok, map_err}
-use Rattle.queue_load.proofs.Texts.{rowids_select, rowids_names, rowids_terms, rowids_order, rowids_is, rowids_plain, rowids_unlisted}
+use Rattle.queue_load.proofs.Texts.{rowids_select, rowids_names, rowids_terms, rowids_order, rowids_is}
 use Rattle.queue_load.proofs.Whole.{table_read, table_formless}
 use Rattle.queue_load.proofs.keyed.read_ids.Goals as goal
 
 pub read_table-requires : goal.read_table-requires
-read_table-requires g c = record { plain = rowids_plain }
+read_table-requires g c = record { plain = rowids_is.plain }
 
 pub returns-clause-read : goal.returns-clause-read
 returns-clause-read g c = λ fits clean.
     let first = state g.S.Store c.args.conn.now in
     if_ok c.read_table.result _ _ (λ v has.
-    table_read rowids_select rowids_names 6 rowids_terms rowids_order 1 rowids_is rowids_plain rowids_unlisted (λ db. refl) (λ r. refl) TellsId id_values 1 (λ t r told. told) (λ r. refl) (λ a b. refl)
+    table_read rowids_select rowids_names 6 rowids_terms rowids_order 1 rowids_is.command rowids_is.plain rowids_is.unlisted (λ db. refl) (λ r. refl) TellsId id_values 1 (λ t r told. told) (λ r. refl) (λ a b. refl)
     first v.items (fits (c.read_table.ensures.clean clean)) has) (c.read_table.ensures.read fits clean)
 
 any_id : RowId → Type 0
@@ -29,5 +29,5 @@ returns-clause-damaged g c = λ fits clean.
     let first = state g.S.Store c.args.conn.now in
     map_err c.read_table.result _ _ (λ e told d keyed.
     let ids = ids_are (first.now.trees 6) keyed.ints in
-    table_formless rowids_select rowids_names 6 rowids_terms rowids_order 1 rowids_is rowids_plain rowids_unlisted (λ db. refl) (λ r. refl) id_values any_id IsNoId (λ r none t f. none t)
+    table_formless rowids_select rowids_names 6 rowids_terms rowids_order 1 rowids_is.command rowids_is.plain rowids_is.unlisted (λ db. refl) (λ r. refl) id_values any_id IsNoId (λ r none t f. none t)
     first ids.0 (fits (c.read_table.ensures.clean clean)) (told d) (λ k e low. tt) (subst (IsPermutation (map id_values ids.0)) ids.1 (IsPermutation-refl (map id_values ids.0)))) (c.read_table.ensures.formless fits clean)

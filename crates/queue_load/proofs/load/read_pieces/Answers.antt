@@ -4,12 +4,12 @@ use Rattle.queue_load.specs.Loaded.{IsFormedWhole, whole_piece}
 use Rattle.queue_load.specs.Tells.{IsNoPiece}
 use Rattle.queue_load.proofs.Pieces.{pieces_read}
 use Rattle.queue_load.proofs.Results.{if_ok, map_err}
-use Rattle.queue_load.proofs.Texts.{pieces_select, pieces_names, pieces_terms, pieces_order, pieces_is, pieces_plain, pieces_unlisted}
+use Rattle.queue_load.proofs.Texts.{pieces_select, pieces_names, pieces_terms, pieces_order, pieces_is}
 use Rattle.queue_load.proofs.Whole.{table_formless}
 use Rattle.queue_load.proofs.load.read_pieces.Goals as goal
 
 pub read_table-requires : goal.read_table-requires
-read_table-requires g c = record { plain = pieces_plain }
+read_table-requires g c = record { plain = pieces_is.plain }
 
 pub returns-clause-read : goal.returns-clause-read
 returns-clause-read g c = λ fits clean.
@@ -20,5 +20,5 @@ pub returns-clause-formless : goal.returns-clause-formless
 returns-clause-formless g c = λ fits clean.
     let first = state g.S.Store c.args.conn.now in
     map_err c.read_table.result _ _ (λ e told d ps formed are.
-    table_formless pieces_select pieces_names 4 pieces_terms pieces_order 3 pieces_is pieces_plain pieces_unlisted (λ db. refl) (λ r. refl) whole_piece IsFormedWhole IsNoPiece (λ r none p f is. none p.row f.0 (record { bytes = p.bytes; is = is; long = f.1 }))
+    table_formless pieces_select pieces_names 4 pieces_terms pieces_order 3 pieces_is.command pieces_is.plain pieces_is.unlisted (λ db. refl) (λ r. refl) whole_piece IsFormedWhole IsNoPiece (λ r none p f is. none p.row f.0 (record { bytes = p.bytes; is = is; long = f.1 }))
     first ps (fits (c.read_table.ensures.clean clean)) (told d) formed are) (c.read_table.ensures.formless fits clean)

@@ -7,11 +7,11 @@ use Rattle.queue_scenes.specs.Accounts.{pages_in}
 use Rattle.queue_scenes.specs.declared.accounts.Pages.{Pages}
 use Rattle.queue_scenes.proofs.Found.{account_shown, pages_row}
 use Rattle.queue_scenes.proofs.Lookup.{none_found, some_found}
-use Rattle.queue_scenes.proofs.Statements.{select_account_query}
+use Rattle.queue_tables.proofs.Statements.{select_account_is}
 use Rattle.queue_scenes.proofs.accounts.pages_of.Goals as goal
 
 pub select-requires : goal.select-requires
-select-requires g c = record { query = select_account_query }
+select-requires g c = record { query = select_account_is.query }
 
 pub returns-in-None-clause-found : goal.returns-in-None-clause-found
 returns-in-None-clause-found g c clean w has =

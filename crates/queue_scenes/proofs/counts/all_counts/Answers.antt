@@ -5,17 +5,17 @@ use Rattle.queue_core.specs.World.{rows}
 use Rattle.queue_tables.specs.Content.{content_of}
 use Rattle.queue_scenes.proofs.Counting.{counts_queued, counts_running, counts_stopped}
 use Rattle.queue_scenes.proofs.Leaving.{leaves_then, leaves_three}
-use Rattle.queue_scenes.proofs.Statements.{select_queued_query, select_running_query, select_stopped_query}
+use Rattle.queue_scenes.proofs.Statements.{select_queued_is, select_running_is, select_stopped_is}
 use Rattle.queue_scenes.proofs.counts.all_counts.Goals as goal
 
 pub count-requires : goal.count-requires
-count-requires g c = record { query = select_running_query }
+count-requires g c = record { query = select_running_is.query }
 
 pub count-requires-2 : goal.count-requires-2
-count-requires-2 g c = record { query = select_stopped_query }
+count-requires-2 g c = record { query = select_stopped_is.query }
 
 pub count-requires-3 : goal.count-requires-3
-count-requires-3 g c = record { query = select_queued_query }
+count-requires-3 g c = record { query = select_queued_is.query }
 
 pub returns-in_err-stopped-clause-leaves : goal.returns-in_err-stopped-clause-leaves
 returns-in_err-stopped-clause-leaves g c = leaves_then (state g.S.Store c.args.conn.now) (state g.S.Store c.count.new.conn) (state g.S.Store c.count-2.new.conn) c.count.ensures.leaves c.count-2.ensures.leaves

@@ -3,11 +3,11 @@ use Rattle.queue_core.specs.World.{live_jobs, rows}
 use Rattle.queue_tables.specs.Content.{content_of}
 use Rattle.queue_tables.proofs.Ending.{if_ok}
 use Rattle.queue_scenes.proofs.Counting.{counts_live}
-use Rattle.queue_scenes.proofs.Statements.{select_live_query}
+use Rattle.queue_scenes.proofs.Statements.{select_live_is}
 use Rattle.queue_scenes.proofs.counts.live_count.Goals as goal
 
 pub count-requires : goal.count-requires
-count-requires g c = record { query = select_live_query }
+count-requires g c = record { query = select_live_is.query }
 
 pub returns-clause-found : goal.returns-clause-found
 returns-clause-found g c clean =

@@ -1,11 +1,11 @@
 use Rattle.std.proofs.Common.{rules}
 use Rattle.sqlite.specs.Held.{state}
-use Rattle.queue_scenes.proofs.Statements.{select_octets_query}
+use Rattle.queue_tables.proofs.Statements.{select_octets_is}
 use Rattle.queue_scenes.proofs.Sizes.{sizes_shown}
 use Rattle.queue_scenes.proofs.documents.sizes_of.Goals as goal
 
 pub select-requires : goal.select-requires
-select-requires g c = record { query = select_octets_query }
+select-requires g c = record { query = select_octets_is.query }
 
 pub returns-clause-found : goal.returns-clause-found
 returns-clause-found g c clean w k sound has there =

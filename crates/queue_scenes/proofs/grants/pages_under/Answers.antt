@@ -3,11 +3,11 @@ use Rattle.std.specs.FinMap.{get}
 use Rattle.sqlite.specs.Held.{state}
 use Rattle.queue_scenes.proofs.Found.{grant_shown, grant_pages_row}
 use Rattle.queue_scenes.proofs.Lookup.{none_found, some_found}
-use Rattle.queue_scenes.proofs.Statements.{select_grant_query}
+use Rattle.queue_scenes.proofs.Statements.{select_grant_is}
 use Rattle.queue_scenes.proofs.grants.pages_under.Goals as goal
 
 pub select-requires : goal.select-requires
-select-requires g c = record { query = select_grant_query }
+select-requires g c = record { query = select_grant_is.query }
 
 pub returns-in-None-clause-found : goal.returns-in-None-clause-found
 returns-in-None-clause-found g c clean w has =

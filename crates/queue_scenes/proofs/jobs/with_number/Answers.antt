@@ -3,12 +3,12 @@ use Rattle.sqlite.specs.Held.{state}
 use Rattle.queue_core.specs.World.{numbered, rows}
 use Rattle.queue_types.specs.declared.job.Job.{Job}
 use Rattle.queue_tables.proofs.Ending.{if_ok}
-use Rattle.queue_scenes.proofs.Statements.{select_job_query}
+use Rattle.queue_tables.proofs.Statements.{select_job_is}
 use Rattle.queue_scenes.proofs.Lists.{filtered_rows, shows_numbered}
 use Rattle.queue_scenes.proofs.jobs.with_number.Goals as goal
 
 pub select_jobs-requires : goal.select_jobs-requires
-select_jobs-requires g c = record { query = select_job_query }
+select_jobs-requires g c = record { query = select_job_is.query }
 
 pub returns-clause-found : goal.returns-clause-found
 returns-clause-found g c clean =

@@ -2,11 +2,11 @@ use Rattle.std.proofs.Common.{◌≡◌, [], ◌∷◌, rules}
 use Rattle.sqlite.specs.Held.{state}
 use Rattle.queue_tables.specs.Values.{number}
 use Rattle.queue_scenes.proofs.Found.{next_shown, first_is}
-use Rattle.queue_scenes.proofs.Statements.{select_next_query}
+use Rattle.queue_scenes.proofs.Statements.{select_next_is}
 use Rattle.queue_scenes.proofs.meta.next_number.Goals as goal
 
 pub select-requires : goal.select-requires
-select-requires g c = record { query = select_next_query }
+select-requires g c = record { query = select_next_is.query }
 
 pub returns-clause-found : goal.returns-clause-found
 returns-clause-found g c clean w has =

@@ -5,11 +5,11 @@ use Rattle.queue_core.specs.World.{rows}
 use Rattle.queue_types.specs.declared.event.WhichJobs.TheVariants.{Completed}
 use Rattle.queue_tables.proofs.Ending.{if_ok}
 use Rattle.queue_scenes.proofs.Ended.{ended_rows, shows_ended}
-use Rattle.queue_scenes.proofs.Statements.{select_ended_query}
+use Rattle.queue_scenes.proofs.Statements.{select_ended_is}
 use Rattle.queue_scenes.proofs.own_jobs.all_completed.Goals as goal
 
 pub select_jobs-requires : goal.select_jobs-requires
-select_jobs-requires g c = record { query = select_ended_query }
+select_jobs-requires g c = record { query = select_ended_is.query }
 
 pub returns-clause-found : goal.returns-clause-found
 returns-clause-found g c clean =

@@ -5,11 +5,11 @@ use Rattle.queue_core.specs.World.{rows}
 use Rattle.queue_scenes.specs.Jobs.{own_live}
 use Rattle.queue_tables.proofs.Ending.{if_ok}
 use Rattle.queue_scenes.proofs.Ranked.{ranked_rows, shows_held}
-use Rattle.queue_scenes.proofs.Statements.{select_held_query}
+use Rattle.queue_scenes.proofs.Statements.{select_held_is}
 use Rattle.queue_scenes.proofs.own_jobs.first_held.Goals as goal
 
 pub select_jobs-requires : goal.select_jobs-requires
-select_jobs-requires g c = record { query = select_held_query }
+select_jobs-requires g c = record { query = select_held_is.query }
 
 pub returns-clause-found : goal.returns-clause-found
 returns-clause-found g c clean =

@@ -6,11 +6,11 @@ use Rattle.queue_types.specs.declared.job.Job.{Job}
 use Rattle.queue_scenes.specs.Jobs.{own_live}
 use Rattle.queue_tables.proofs.Ending.{if_ok}
 use Rattle.queue_scenes.proofs.Lists.{filtered_rows, shows_own_live}
-use Rattle.queue_scenes.proofs.Statements.{select_own_live_query}
+use Rattle.queue_scenes.proofs.Statements.{select_own_live_is}
 use Rattle.queue_scenes.proofs.own_jobs.live_jobs.Goals as goal
 
 pub select_jobs-requires : goal.select_jobs-requires
-select_jobs-requires g c = record { query = select_own_live_query }
+select_jobs-requires g c = record { query = select_own_live_is.query }
 
 pub returns-clause-found : goal.returns-clause-found
 returns-clause-found g c clean =

@@ -5,11 +5,11 @@ use Rattle.queue_core.specs.Shown.{pending_in}
 use Rattle.queue_core.specs.World.{rows}
 use Rattle.queue_types.specs.declared.job.Job.{Job}
 use Rattle.queue_scenes.proofs.Lists.{filtered_rows, shows_pending}
-use Rattle.queue_scenes.proofs.Statements.{select_pending_query}
+use Rattle.queue_scenes.proofs.Statements.{select_pending_is}
 use Rattle.queue_scenes.proofs.pending.pending.Goals as goal
 
 pub select_jobs-requires : goal.select_jobs-requires
-select_jobs-requires g c = record { query = select_pending_query }
+select_jobs-requires g c = record { query = select_pending_is.query }
 
 pub returns-clause-shows : goal.returns-clause-shows
 unfolding pending_in

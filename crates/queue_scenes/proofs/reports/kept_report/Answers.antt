@@ -5,12 +5,12 @@ use Rattle.sqlite.specs.Order.{Row, column}
 use Rattle.queue_types.specs.declared.event.KeptReport.{KeptReport}
 use Rattle.queue_scenes.proofs.Found.{report_shown, report_keyed, told_row}
 use Rattle.queue_scenes.proofs.Lookup.{none_found, some_found}
-use Rattle.queue_scenes.proofs.Statements.{select_report_query}
+use Rattle.queue_scenes.proofs.Statements.{select_report_is}
 use Rattle.queue_scenes.proofs.Told.{same_report}
 use Rattle.queue_scenes.proofs.reports.kept_report.Goals as goal
 
 pub select-requires : goal.select-requires
-select-requires g c = record { query = select_report_query }
+select-requires g c = record { query = select_report_is.query }
 
 pub returns-in-None-clause-found : goal.returns-in-None-clause-found
 returns-in-None-clause-found g c clean w sound has =

@@ -5,11 +5,11 @@ use Rattle.queue_shown.specs.declared.account.AccountPages.{AccountPages}
 use Rattle.queue_shown.specs.Pages.{pages_of}
 use Rattle.queue_shown.proofs.AccountRows.{pages_values, reads_account, pages_are}
 use Rattle.queue_shown.proofs.Firsts.{first_none, first_some}
-use Rattle.queue_shown.proofs.Texts.{select_account_plain, select_account_query}
+use Rattle.queue_tables.proofs.Statements.{select_account_is}
 use Rattle.queue_shown.proofs.account.find_account.Goals as goal
 
 pub select-requires : goal.select-requires
-select-requires g c = record { plain = select_account_plain; query = select_account_query }
+select-requires g c = record { plain = select_account_is.plain; query = select_account_is.query }
 
 pub returns-in-None-clause-found : goal.returns-in-None-clause-found
 returns-in-None-clause-found g c clean w has =

@@ -6,11 +6,11 @@ use Rattle.queue_shown.specs.Fetched.{document_in}
 use Rattle.queue_shown.specs.Heads.{head_values}
 use Rattle.queue_shown.proofs.Fetching.{reads_head}
 use Rattle.queue_shown.proofs.Firsts.{first_none, first_some}
-use Rattle.queue_shown.proofs.Texts.{select_head_plain, select_head_query}
+use Rattle.queue_shown.proofs.Texts.{select_head_is}
 use Rattle.queue_shown.proofs.head.find_head.Goals as goal
 
 pub select-requires : goal.select-requires
-select-requires g c = record { plain = select_head_plain; query = select_head_query }
+select-requires g c = record { plain = select_head_is.plain; query = select_head_is.query }
 
 pub returns-in-None-clause-found : goal.returns-in-None-clause-found
 returns-in-None-clause-found g c clean w distinct has =

@@ -5,11 +5,11 @@ use Rattle.queue_shown.specs.Fetched.{is_fetched_job, state_values}
 use Rattle.queue_tables.proofs.Ending.{if_ok}
 use Rattle.queue_shown.proofs.Fetching.{reads_state}
 use Rattle.queue_shown.proofs.Firsts.{first_none, first_some}
-use Rattle.queue_shown.proofs.Texts.{select_state_plain, select_state_query}
+use Rattle.queue_shown.proofs.Texts.{select_state_is}
 use Rattle.queue_shown.proofs.head.may_fetch.Goals as goal
 
 pub select-requires : goal.select-requires
-select-requires g c = record { plain = select_state_plain; query = select_state_query }
+select-requires g c = record { plain = select_state_is.plain; query = select_state_is.query }
 
 pub returns-in-None-clause-told : goal.returns-in-None-clause-told
 returns-in-None-clause-told g c clean w distinct has =

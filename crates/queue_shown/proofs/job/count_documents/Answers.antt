@@ -6,11 +6,11 @@ use Rattle.queue_types.specs.declared.job.Job.{Job}
 use Rattle.queue_tables.specs.Values.{number}
 use Rattle.queue_shown.specs.Pages.{first_number}
 use Rattle.queue_shown.proofs.OwnedJobs.{reads_octets, counted_job}
-use Rattle.queue_shown.proofs.Texts.{select_octets_plain, select_octets_query, select_octets_text}
+use Rattle.queue_tables.proofs.Statements.{select_octets_is, select_octets_text}
 use Rattle.queue_shown.proofs.job.count_documents.Goals as goal
 
 pub select-requires : goal.select-requires
-select-requires g c = record { plain = select_octets_plain; query = select_octets_query }
+select-requires g c = record { plain = select_octets_is.plain; query = select_octets_is.query }
 
 pub returns-clause-counted : goal.returns-clause-counted
 returns-clause-counted g c clean w j sound has there was =

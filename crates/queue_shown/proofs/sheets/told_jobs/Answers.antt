@@ -4,11 +4,11 @@ use Rattle.queue_core.specs.World.{rows}
 use Rattle.queue_tables.specs.Content.{content_of}
 use Rattle.queue_tables.proofs.Entries.{distinct_of}
 use Rattle.queue_shown.proofs.OwnedJobs.{reads_owned, owned_in, told_owned}
-use Rattle.queue_shown.proofs.Texts.{select_owned_plain, select_owned_query}
+use Rattle.queue_shown.proofs.Texts.{select_owned_is}
 use Rattle.queue_shown.proofs.sheets.told_jobs.Goals as goal
 
 pub select-requires : goal.select-requires
-select-requires g c = record { plain = select_owned_plain; query = select_owned_query }
+select-requires g c = record { plain = select_owned_is.plain; query = select_owned_is.query }
 
 pub returns-in_err-jobs-clause-back : goal.returns-in_err-jobs-clause-back
 returns-in_err-jobs-clause-back g c clean content has = c.in_ok-found.ensures.back (c.in_err-jobs.ensures.clean clean) content (c.in_err-jobs.ensures.back clean content has)
