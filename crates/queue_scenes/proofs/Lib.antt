@@ -1,4 +1,3 @@
-pub mod Leaving
 pub mod Statements
 pub mod Ordered
 pub mod Tests

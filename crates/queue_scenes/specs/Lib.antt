@@ -1,4 +1,3 @@
-pub mod Leaving
 pub mod Accounts
 pub mod Sizes
 pub mod Jobs

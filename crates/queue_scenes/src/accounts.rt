@@ -8,12 +8,12 @@ ghost use Rattle.sqlite.specs.declared.types.Value.TheVariants.{Int};
 ghost use Rattle.queue_core.specs.Limits.{IsAmount};
 ghost use Rattle.queue_core.specs.World.{World, found_row};
 ghost use Rattle.queue_scenes.specs.Accounts.{pages_in};
-ghost use Rattle.queue_scenes.specs.Leaving.{LeavesRows};
+ghost use Rattle.queue_tables.specs.Leaving.{LeavesTables};
 ghost use Rattle.queue_tables.specs.Content.{Holds, content_of};
 
-use crate::select::select;
 use queue_tables::fault::Fault;
 use queue_tables::read::value;
+use queue_tables::select::select;
 use queue_types::event::FreeRow;
 use queue_types::limits::MOST_GRANTED_PAGES;
 use queue_types::text::Text;
@@ -54,7 +54,7 @@ pub(crate) fn pages_of<S: Alter>(
     conn: &mut Connection<S>,
     name: &str,
 ) -> Result<Option<Pages>, Fault>
-    ensures leaves { LeavesRows (state S.Store conn.old) (state S.Store conn.new) }
+    ensures leaves { LeavesTables (state S.Store conn.old) (state S.Store conn.new) }
     ensures live { HasCleanDisk (state S.Store conn.new) → OnOk result (IsTrue (state S.Store conn.new).is_open) }
     ensures within { IfOk result (λ found. IfSome found (λ p. IsAmount p.free)) }
     ensures found { HasCleanDisk (state S.Store conn.new) → IfOk result (λ found. (w : World) → Holds (content_of w) (state S.Store conn.old) → found ≡ option_map (pages_in w name.now) (get w.free name.now)) }
@@ -79,7 +79,7 @@ pub(crate) fn free_rows<S: Alter>(
     conn: &mut Connection<S>,
     name: &str,
 ) -> Result<Vec<FreeRow>, Fault>
-    ensures leaves { LeavesRows (state S.Store conn.old) (state S.Store conn.new) }
+    ensures leaves { LeavesTables (state S.Store conn.old) (state S.Store conn.new) }
     ensures live { HasCleanDisk (state S.Store conn.new) → OnOk result (IsTrue (state S.Store conn.new).is_open) }
     ensures within { IfOk result (λ rows. All (λ a. IsAmount a.free) rows.items) }
     ensures found { HasCleanDisk (state S.Store conn.new) → IfOk result (λ rows. (w : World) → Holds (content_of w) (state S.Store conn.old) → rows.items ≡ found_row name.now (get w.free name.now)) }

@@ -5,12 +5,12 @@ ghost use Rattle.sqlite.specs.State.{HasCleanDisk};
 ghost use Rattle.sqlite.specs.Values.{bound};
 ghost use Rattle.queue_core.specs.World.{World, live_jobs, queue_counts, rows};
 ghost use Rattle.queue_scenes.specs.Counts.{ShowsMany};
-ghost use Rattle.queue_scenes.specs.Leaving.{LeavesRows};
+ghost use Rattle.queue_tables.specs.Leaving.{LeavesTables};
 ghost use Rattle.queue_tables.specs.Content.{Content, Holds, content_of};
 ghost use Rattle.queue_tables.specs.Queries.{IsQueryText};
 
-use crate::select::select;
 use queue_tables::fault::Fault;
+use queue_tables::select::select;
 use queue_types::event::QueueCounts;
 use queue_types::limits::LAST_JOB_NUMBER;
 use sqlite::types::ValueRef;
@@ -23,7 +23,7 @@ fn count<S: Alter>(
     params: &[ValueRef<'_>],
 ) -> Result<usize, Fault>
     requires query { IsQueryText sql.now }
-    ensures leaves { LeavesRows (state S.Store conn.old) (state S.Store conn.new) }
+    ensures leaves { LeavesTables (state S.Store conn.old) (state S.Store conn.new) }
     ensures live { HasCleanDisk (state S.Store conn.new) → OnOk result (IsTrue (state S.Store conn.new).is_open) }
     ensures found { HasCleanDisk (state S.Store conn.new) → IfOk result (λ n. (c : Content) (m : ℕ) → Holds c (state S.Store conn.old) → ShowsMany sql.now (bound params.now) (state S.Store conn.old) m → n ≡ m) }
 {
@@ -33,7 +33,7 @@ fn count<S: Alter>(
 
 /// How many jobs of the caller are in states 3 to 6.
 pub(crate) fn live_count<S: Alter>(conn: &mut Connection<S>, caller: &str) -> Result<usize, Fault>
-    ensures leaves { LeavesRows (state S.Store conn.old) (state S.Store conn.new) }
+    ensures leaves { LeavesTables (state S.Store conn.old) (state S.Store conn.new) }
     ensures live { HasCleanDisk (state S.Store conn.new) → OnOk result (IsTrue (state S.Store conn.new).is_open) }
     ensures found { HasCleanDisk (state S.Store conn.new) → IfOk result (λ n. (w : World) → Holds (content_of w) (state S.Store conn.old) → n ≡ live_jobs caller.now (rows w)) }
 {
@@ -46,7 +46,7 @@ pub(crate) fn live_count<S: Alter>(conn: &mut Connection<S>, caller: &str) -> Re
 
 /// How many jobs are in states 5, 6, and 3 to 6. It is damaged where those are more than there are job numbers.
 pub(crate) fn all_counts<S: Alter>(conn: &mut Connection<S>) -> Result<QueueCounts, Fault>
-    ensures leaves { LeavesRows (state S.Store conn.old) (state S.Store conn.new) }
+    ensures leaves { LeavesTables (state S.Store conn.old) (state S.Store conn.new) }
     ensures live { HasCleanDisk (state S.Store conn.new) → OnOk result (IsTrue (state S.Store conn.new).is_open) }
     ensures few { IfOk result (λ c. c.queued < 2 ^ 31) }
     ensures found { HasCleanDisk (state S.Store conn.new) → IfOk result (λ c. (w : World) → Holds (content_of w) (state S.Store conn.old) → c ≡ queue_counts (rows w)) }

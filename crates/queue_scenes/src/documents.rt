@@ -5,13 +5,13 @@ ghost use Rattle.sqlite.specs.State.{HasCleanDisk};
 ghost use Rattle.queue_core.specs.Sound.{IsSound};
 ghost use Rattle.queue_core.specs.World.{World, job_at, rows};
 ghost use Rattle.queue_types.specs.declared.job.Job.{Job};
-ghost use Rattle.queue_scenes.specs.Leaving.{LeavesRows};
+ghost use Rattle.queue_tables.specs.Leaving.{LeavesTables};
 ghost use Rattle.queue_scenes.specs.Sizes.{size_in};
 ghost use Rattle.queue_tables.specs.Content.{Holds, content_of};
 
-use crate::select::select;
 use queue_tables::fault::Fault;
 use queue_tables::read::value;
+use queue_tables::select::select;
 use queue_types::limits::{MOST_DOCUMENT_OCTETS, MOST_DOCUMENTS};
 use sqlite::{Alter, Connection, Row, params};
 
@@ -38,7 +38,7 @@ fn octets_in(rows: &[Row]) -> Result<u64, Fault>
 /// The documents of the job of that number. They are damaged where they are more than 16, or longer together than so
 /// many can be.
 pub(crate) fn sizes_of<S: Alter>(conn: &mut Connection<S>, job: u32) -> Result<Sizes, Fault>
-    ensures leaves { LeavesRows (state S.Store conn.old) (state S.Store conn.new) }
+    ensures leaves { LeavesTables (state S.Store conn.old) (state S.Store conn.new) }
     ensures live { HasCleanDisk (state S.Store conn.new) → OnOk result (IsTrue (state S.Store conn.new).is_open) }
     ensures few { IfOk result (λ s. s.documents ≤ 16) }
     ensures short { IfOk result (λ s. s.octets ≤ s.documents * 16777216) }

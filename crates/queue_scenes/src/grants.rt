@@ -6,13 +6,13 @@ ghost use Rattle.sqlite.specs.State.{HasCleanDisk};
 ghost use Rattle.queue_core.specs.Limits.{IsKnown};
 ghost use Rattle.queue_core.specs.Sound.{IsSound};
 ghost use Rattle.queue_core.specs.World.{World, known_grant};
-ghost use Rattle.queue_scenes.specs.Leaving.{LeavesRows};
+ghost use Rattle.queue_tables.specs.Leaving.{LeavesTables};
 ghost use Rattle.queue_tables.specs.Content.{Holds, content_of};
 
 use crate::accounts::{Pages, granted_to, pages_of};
-use crate::select::select;
 use queue_tables::fault::Fault;
 use queue_tables::read::value;
+use queue_tables::select::select;
 use queue_types::event::{GrantRow, KnownGrant};
 use sqlite::{Alter, Connection, params};
 use std::alloc::Global;
@@ -23,7 +23,7 @@ fn pages_under<S: Alter>(
     batch: &str,
     account: &str,
 ) -> Result<Option<u32>, Fault>
-    ensures leaves { LeavesRows (state S.Store conn.old) (state S.Store conn.new) }
+    ensures leaves { LeavesTables (state S.Store conn.old) (state S.Store conn.new) }
     ensures live { HasCleanDisk (state S.Store conn.new) → OnOk result (IsTrue (state S.Store conn.new).is_open) }
     ensures found { HasCleanDisk (state S.Store conn.new) → IfOk result (λ found. (w : World) → Holds (content_of w) (state S.Store conn.old) → found ≡ get w.grants (batch.now, account.now)) }
 {
@@ -52,7 +52,7 @@ fn free_in(found: Option<Pages>) -> Option<i64>
 
 /// What is known of the row's batch and account.
 fn known<S: Alter>(conn: &mut Connection<S>, row: &GrantRow) -> Result<KnownGrant, Fault>
-    ensures leaves { LeavesRows (state S.Store conn.old) (state S.Store conn.new) }
+    ensures leaves { LeavesTables (state S.Store conn.old) (state S.Store conn.new) }
     ensures live { HasCleanDisk (state S.Store conn.new) → OnOk result (IsTrue (state S.Store conn.new).is_open) }
     ensures within { IfOk result IsKnown }
     ensures found { HasCleanDisk (state S.Store conn.new) → IfOk result (λ k. (w : World) → IsSound w → Holds (content_of w) (state S.Store conn.old) → k ≡ known_grant w row.now) }
@@ -75,7 +75,7 @@ pub(crate) fn known_rows<S: Alter>(
     conn: &mut Connection<S>,
     rows: &[GrantRow],
 ) -> Result<Vec<KnownGrant>, Fault>
-    ensures leaves { LeavesRows (state S.Store conn.old) (state S.Store conn.new) }
+    ensures leaves { LeavesTables (state S.Store conn.old) (state S.Store conn.new) }
     ensures live { HasCleanDisk (state S.Store conn.new) → OnOk result (IsTrue (state S.Store conn.old).is_open → IsTrue (state S.Store conn.new).is_open) }
     ensures within { IfOk result (λ v. All IsKnown v.items) }
     ensures found { HasCleanDisk (state S.Store conn.new) → IfOk result (λ v. (w : World) → IsSound w → Holds (content_of w) (state S.Store conn.old) → v.items ≡ map (known_grant w) rows.now) }

@@ -8,17 +8,17 @@ ghost use Rattle.queue_core.specs.Sound.{IsSound};
 ghost use Rattle.queue_core.specs.World.{World, job_at, numbered, rows};
 ghost use Rattle.queue_types.specs.declared.job.Job.{Job as JobValue};
 ghost use Rattle.queue_scenes.specs.Jobs.{AreRowsOf, ShowsJobs};
-ghost use Rattle.queue_scenes.specs.Leaving.{LeavesRows};
+ghost use Rattle.queue_tables.specs.Leaving.{LeavesTables};
 ghost use Rattle.queue_tables.specs.Content.{Holds, content_of};
 ghost use Rattle.queue_tables.specs.Queries.{IsQueryText};
 ghost use Rattle.queue_tables.specs.Values.{job_values};
 
 use crate::documents::sizes_of;
-use crate::select::select;
 use queue_rows::jobs::is_job_row;
 use queue_rows::laws::numbers_tell_names;
 use queue_tables::fault::Fault;
 use queue_tables::read::read_job;
+use queue_tables::select::select;
 use queue_types::job::Job;
 use sqlite::types::ValueRef;
 use sqlite::{Alter, Connection, Row, params};
@@ -26,7 +26,7 @@ use std::alloc::Global;
 
 /// The job of a row, with the sizes of its documents. It is damaged where it is not within a job's limits.
 fn whole_job<S: Alter>(alloc: Global, conn: &mut Connection<S>, row: &Row) -> Result<Job, Fault>
-    ensures leaves { LeavesRows (state S.Store conn.old) (state S.Store conn.new) }
+    ensures leaves { LeavesTables (state S.Store conn.old) (state S.Store conn.new) }
     ensures live { HasCleanDisk (state S.Store conn.new) → OnOk result (IsTrue (state S.Store conn.new).is_open) }
     ensures sound { IfOk result IsSoundJob }
     ensures found { HasCleanDisk (state S.Store conn.new) → IfOk result (λ j. (w : World) (k : JobValue) → IsSound w → Holds (content_of w) (state S.Store conn.old) → job_at k.number (rows w) ≡ Some k → row.now ≡ job_values k → j ≡ k) }
@@ -48,7 +48,7 @@ fn whole_jobs<S: Alter>(
     conn: &mut Connection<S>,
     rows: &[Row],
 ) -> Result<Vec<Job>, Fault>
-    ensures leaves { LeavesRows (state S.Store conn.old) (state S.Store conn.new) }
+    ensures leaves { LeavesTables (state S.Store conn.old) (state S.Store conn.new) }
     ensures live { HasCleanDisk (state S.Store conn.new) → OnOk result (IsTrue (state S.Store conn.old).is_open → IsTrue (state S.Store conn.new).is_open) }
     ensures sound { IfOk result (λ v. All IsSoundJob v.items) }
     ensures found { HasCleanDisk (state S.Store conn.new) → IfOk result (λ v. (w : World) (js : List JobValue) → IsSound w → Holds (content_of w) (state S.Store conn.old) → AreRowsOf w js → rows.now ≡ map job_values js → v.items ≡ js) }
@@ -68,7 +68,7 @@ pub(crate) fn select_jobs<S: Alter>(
     params: &[ValueRef<'_>],
 ) -> Result<Vec<Job>, Fault>
     requires query { IsQueryText sql.now }
-    ensures leaves { LeavesRows (state S.Store conn.old) (state S.Store conn.new) }
+    ensures leaves { LeavesTables (state S.Store conn.old) (state S.Store conn.new) }
     ensures live { HasCleanDisk (state S.Store conn.new) → OnOk result (IsTrue (state S.Store conn.new).is_open) }
     ensures sound { IfOk result (λ v. All IsSoundJob v.items) }
     ensures found { HasCleanDisk (state S.Store conn.new) → IfOk result (λ v. (w : World) (js : List JobValue) → IsSound w → Holds (content_of w) (state S.Store conn.old) → AreRowsOf w js → ShowsJobs sql.now (bound params.now) (state S.Store conn.old) js → v.items ≡ js) }
@@ -83,7 +83,7 @@ pub(crate) fn with_number<S: Alter>(
     conn: &mut Connection<S>,
     number: u32,
 ) -> Result<Vec<Job>, Fault>
-    ensures leaves { LeavesRows (state S.Store conn.old) (state S.Store conn.new) }
+    ensures leaves { LeavesTables (state S.Store conn.old) (state S.Store conn.new) }
     ensures live { HasCleanDisk (state S.Store conn.new) → OnOk result (IsTrue (state S.Store conn.new).is_open) }
     ensures sound { IfOk result (λ v. All IsSoundJob v.items) }
     ensures found { HasCleanDisk (state S.Store conn.new) → IfOk result (λ v. (w : World) → IsSound w → Holds (content_of w) (state S.Store conn.old) → v.items ≡ numbered number (rows w)) }

@@ -12,4 +12,3 @@ mod own_numbers;
 pub mod pending;
 mod reports;
 pub mod scene;
-mod select;

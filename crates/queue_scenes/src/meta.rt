@@ -3,17 +3,17 @@ ghost use Rattle.std.specs.Prelude.{◌≡◌, ◌≤◌, IfOk, OnOk, IsTrue};
 ghost use Rattle.sqlite.specs.Held.{state};
 ghost use Rattle.sqlite.specs.State.{HasCleanDisk};
 ghost use Rattle.queue_core.specs.World.{World};
-ghost use Rattle.queue_scenes.specs.Leaving.{LeavesRows};
+ghost use Rattle.queue_tables.specs.Leaving.{LeavesTables};
 ghost use Rattle.queue_tables.specs.Content.{Holds, content_of};
 
-use crate::select::select;
 use queue_tables::fault::Fault;
 use queue_tables::read::value;
+use queue_tables::select::select;
 use sqlite::{Alter, Connection};
 
 /// The number of the next new job. It is damaged where it is 0, or not there.
 pub(crate) fn next_number<S: Alter>(conn: &mut Connection<S>) -> Result<u32, Fault>
-    ensures leaves { LeavesRows (state S.Store conn.old) (state S.Store conn.new) }
+    ensures leaves { LeavesTables (state S.Store conn.old) (state S.Store conn.new) }
     ensures live { HasCleanDisk (state S.Store conn.new) → OnOk result (IsTrue (state S.Store conn.new).is_open) }
     ensures least { IfOk result (λ n. 1 ≤ n) }
     ensures found { HasCleanDisk (state S.Store conn.new) → IfOk result (λ n. (w : World) → Holds (content_of w) (state S.Store conn.old) → n ≡ w.next) }

@@ -9,7 +9,7 @@ ghost use Rattle.queue_core.specs.Limits.{IsSoundJob};
 ghost use Rattle.queue_core.specs.Sound.{IsSound};
 ghost use Rattle.queue_core.specs.World.{World, is_one_of, rows};
 ghost use Rattle.queue_types.specs.declared.job.Job.{Job as JobValue};
-ghost use Rattle.queue_scenes.specs.Leaving.{LeavesRows};
+ghost use Rattle.queue_tables.specs.Leaving.{LeavesTables};
 ghost use Rattle.queue_tables.specs.Content.{Holds, content_of};
 
 use crate::jobs::with_number;
@@ -57,7 +57,7 @@ fn owned_of<S: Alter>(
     numbers: &[u32],
 ) -> Result<Vec<Job>, Fault>
     requires { IsStrictlySortedBy nat_cmp numbers.now }
-    ensures leaves { LeavesRows (state S.Store conn.old) (state S.Store conn.new) }
+    ensures leaves { LeavesTables (state S.Store conn.old) (state S.Store conn.new) }
     ensures live { HasCleanDisk (state S.Store conn.new) → IsTrue (state S.Store conn.old).is_open → OnOk result (IsTrue (state S.Store conn.new).is_open) }
     ensures sound { IfOk result (λ v. All IsSoundJob v.items) }
     ensures found { HasCleanDisk (state S.Store conn.new) → IfOk result (λ v. (w : World) → IsSound w → Holds (content_of w) (state S.Store conn.old) → v.items ≡ filter (λ (j : JobValue). bytes_eq j.owner owner.now && list_any (λ n. n == j.number) numbers.now) (rows w)) }
@@ -77,7 +77,7 @@ pub(crate) fn numbered_jobs<S: Alter>(
     owner: &str,
     numbers: &[u32],
 ) -> Result<Vec<Job>, Fault>
-    ensures leaves { LeavesRows (state S.Store conn.old) (state S.Store conn.new) }
+    ensures leaves { LeavesTables (state S.Store conn.old) (state S.Store conn.new) }
     ensures live { HasCleanDisk (state S.Store conn.new) → IsTrue (state S.Store conn.old).is_open → OnOk result (IsTrue (state S.Store conn.new).is_open) }
     ensures sound { IfOk result (λ v. All IsSoundJob v.items) }
     ensures found { HasCleanDisk (state S.Store conn.new) → IfOk result (λ v. (w : World) → IsSound w → Holds (content_of w) (state S.Store conn.old) → v.items ≡ filter (λ (j : JobValue). bytes_eq j.owner owner.now && is_one_of numbers.now j) (rows w)) }

@@ -5,7 +5,8 @@ ghost use Rattle.sqlite.specs.State.{HasCleanDisk};
 ghost use Rattle.queue_core.specs.Shown.{pending_jobs};
 ghost use Rattle.queue_core.specs.Sound.{IsSound};
 ghost use Rattle.queue_core.specs.World.{World};
-ghost use Rattle.queue_tables.specs.Content.{Content, Holds, content_of};
+ghost use Rattle.queue_tables.specs.Content.{Holds, content_of};
+ghost use Rattle.queue_tables.specs.Leaving.{LeavesTables};
 
 use crate::jobs::select_jobs;
 use queue_tables::fault::Fault;
@@ -16,11 +17,8 @@ use std::alloc::Global;
 /// The jobs in state 3, by number. Whatever rows the tables hold, they hold after it, where the connection is open
 /// still; and whatever they hold after it, they held before.
 pub fn pending<S: Alter>(alloc: Global, conn: &mut Connection<S>) -> Result<JobList, Fault>
-    ensures clean { HasCleanDisk (state S.Store conn.new) → HasCleanDisk (state S.Store conn.old) }
-    ensures opened { HasCleanDisk (state S.Store conn.new) → IsTrue (state S.Store conn.new).is_open → IsTrue (state S.Store conn.old).is_open }
+    ensures leaves { LeavesTables (state S.Store conn.old) (state S.Store conn.new) }
     ensures live { HasCleanDisk (state S.Store conn.new) → OnOk result (IsTrue (state S.Store conn.new).is_open) }
-    ensures kept { HasCleanDisk (state S.Store conn.new) → (c : Content) → Holds c (state S.Store conn.old) → IsTrue (state S.Store conn.new).is_open → Holds c (state S.Store conn.new) }
-    ensures back { HasCleanDisk (state S.Store conn.new) → (c : Content) → Holds c (state S.Store conn.new) → Holds c (state S.Store conn.old) }
     ensures shows { HasCleanDisk (state S.Store conn.new) → IfOk result (λ js. (w : World) → IsSound w → Holds (content_of w) (state S.Store conn.old) → js ≡ pending_jobs w) }
 {
     let jobs = select_jobs(

@@ -7,15 +7,15 @@ ghost use Rattle.sqlite.specs.State.{HasCleanDisk};
 ghost use Rattle.queue_core.specs.Sound.{IsSound};
 ghost use Rattle.queue_core.specs.World.{World};
 ghost use Rattle.queue_rows.specs.Codes.{kind_number};
-ghost use Rattle.queue_scenes.specs.Leaving.{LeavesRows};
+ghost use Rattle.queue_tables.specs.Leaving.{LeavesTables};
 ghost use Rattle.queue_tables.specs.Content.{Holds, content_of};
 ghost use Rattle.queue_tables.specs.Values.{number};
 
-use crate::select::select;
 use queue_rows::codes::kind_of;
 use queue_rows::laws::numbers_tell_names;
 use queue_tables::fault::Fault;
 use queue_tables::read::value;
+use queue_tables::select::select;
 use queue_types::event::{KeptReport, Kind, Report};
 use queue_types::limits::MOST_PRINTED_PAGES;
 use sqlite::{Alter, Connection, Row, params};
@@ -78,7 +78,7 @@ pub(crate) fn kept_report<S: Alter>(
     job: u32,
     seq: u32,
 ) -> Result<Option<KeptReport>, Fault>
-    ensures leaves { LeavesRows (state S.Store conn.old) (state S.Store conn.new) }
+    ensures leaves { LeavesTables (state S.Store conn.old) (state S.Store conn.new) }
     ensures live { HasCleanDisk (state S.Store conn.new) → OnOk result (IsTrue (state S.Store conn.new).is_open) }
     ensures within { IfOk result (λ found. IfSome found (λ k. (3 ≤ k.state) × (k.state ≤ 9) × (k.total ≤ 100000000))) }
     ensures found { HasCleanDisk (state S.Store conn.new) → IfOk result (λ found. (w : World) → IsSound w → Holds (content_of w) (state S.Store conn.old) → found ≡ get w.reports (job, seq)) }

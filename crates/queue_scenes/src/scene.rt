@@ -7,8 +7,8 @@ ghost use Rattle.queue_core.specs.Limits.{IsAmount, IsFair, IsSoundJob};
 ghost use Rattle.queue_types.specs.Settings.{AreSettings};
 ghost use Rattle.queue_core.specs.Sound.{IsSound};
 ghost use Rattle.queue_core.specs.World.{World, cut, counts_for, jobs_for, live_for, numbered, owner_row, queue_counts, rows};
-ghost use Rattle.queue_scenes.specs.Leaving.{LeavesRows};
-ghost use Rattle.queue_tables.specs.Content.{Content, Holds, content_of};
+ghost use Rattle.queue_tables.specs.Leaving.{LeavesTables};
+ghost use Rattle.queue_tables.specs.Content.{Holds, content_of};
 
 use crate::accounts::free_rows;
 use crate::counts::{all_counts, live_count};
@@ -35,7 +35,7 @@ fn concerned<S: Alter>(
     caller: &str,
     call: &Call<'_>,
 ) -> Result<Vec<Job>, Fault>
-    ensures leaves { LeavesRows (state S.Store conn.old) (state S.Store conn.new) }
+    ensures leaves { LeavesTables (state S.Store conn.old) (state S.Store conn.new) }
     ensures live { HasCleanDisk (state S.Store conn.new) → IsTrue (state S.Store conn.old).is_open → OnOk result (IsTrue (state S.Store conn.new).is_open) }
     ensures sound { IfOk result (λ v. All IsSoundJob v.items) }
     ensures found { HasCleanDisk (state S.Store conn.new) → IfOk result (λ v. (w : World) → IsSound w → Holds (content_of w) (state S.Store conn.old) → v.items ≡ jobs_for caller.now (call_of call.now) (rows w)) }
@@ -63,7 +63,7 @@ fn few_concerned<S: Alter>(
     caller: &str,
     call: &Call<'_>,
 ) -> Result<JobList, Fault>
-    ensures leaves { LeavesRows (state S.Store conn.old) (state S.Store conn.new) }
+    ensures leaves { LeavesTables (state S.Store conn.old) (state S.Store conn.new) }
     ensures live { HasCleanDisk (state S.Store conn.new) → IsTrue (state S.Store conn.old).is_open → OnOk result (IsTrue (state S.Store conn.new).is_open) }
     ensures sound { IfOk result (λ js. All IsSoundJob js) }
     ensures few { IfOk result (λ js. length js < 2 ^ 31) }
@@ -101,7 +101,7 @@ fn live_for_call<S: Alter>(
     caller: &str,
     call: &Call<'_>,
 ) -> Result<usize, Fault>
-    ensures leaves { LeavesRows (state S.Store conn.old) (state S.Store conn.new) }
+    ensures leaves { LeavesTables (state S.Store conn.old) (state S.Store conn.new) }
     ensures live { HasCleanDisk (state S.Store conn.new) → IsTrue (state S.Store conn.old).is_open → OnOk result (IsTrue (state S.Store conn.new).is_open) }
     ensures found { HasCleanDisk (state S.Store conn.new) → IfOk result (λ n. (w : World) → Holds (content_of w) (state S.Store conn.old) → n ≡ live_for caller.now (call_of call.now) (rows w)) }
 {
@@ -118,7 +118,7 @@ fn counts_for_call<S: Alter>(
     conn: &mut Connection<S>,
     call: &Call<'_>,
 ) -> Result<QueueCounts, Fault>
-    ensures leaves { LeavesRows (state S.Store conn.old) (state S.Store conn.new) }
+    ensures leaves { LeavesTables (state S.Store conn.old) (state S.Store conn.new) }
     ensures live { HasCleanDisk (state S.Store conn.new) → IsTrue (state S.Store conn.old).is_open → OnOk result (IsTrue (state S.Store conn.new).is_open) }
     ensures few { IfOk result (λ c. c.queued < 2 ^ 31) }
     ensures found { HasCleanDisk (state S.Store conn.new) → IfOk result (λ c. (w : World) → Holds (content_of w) (state S.Store conn.old) → c ≡ counts_for (call_of call.now) (rows w)) }
@@ -135,7 +135,7 @@ fn numbers_for_call<S: Alter>(
     caller: &str,
     call: &Call<'_>,
 ) -> Result<Numbers, Fault>
-    ensures leaves { LeavesRows (state S.Store conn.old) (state S.Store conn.new) }
+    ensures leaves { LeavesTables (state S.Store conn.old) (state S.Store conn.new) }
     ensures live { HasCleanDisk (state S.Store conn.new) → OnOk result (IsTrue (state S.Store conn.new).is_open) }
     ensures few { IfOk result (λ n. n.counts.queued < 2 ^ 31) }
     ensures least { IfOk result (λ n. 1 ≤ n.next) }
@@ -164,7 +164,7 @@ fn scene_of_call<S: Alter>(
     caller: &str,
     call: &Call<'_>,
 ) -> Result<Scene, Fault>
-    ensures leaves { LeavesRows (state S.Store conn.old) (state S.Store conn.new) }
+    ensures leaves { LeavesTables (state S.Store conn.old) (state S.Store conn.new) }
     ensures live { HasCleanDisk (state S.Store conn.new) → OnOk result (IsTrue (state S.Store conn.new).is_open) }
     ensures fair { IfOk result IsFair }
     ensures found { HasCleanDisk (state S.Store conn.new) → IfOk result (λ s. (w : World) → IsSound w → Holds (content_of w) (state S.Store conn.old) → settings.now ≡ w.settings → s ≡ cut w (ask caller.now (call_of call.now))) }
@@ -191,7 +191,7 @@ fn owner_rows<S: Alter>(
     conn: &mut Connection<S>,
     jobs: &[Job],
 ) -> Result<Vec<FreeRow>, Fault>
-    ensures leaves { LeavesRows (state S.Store conn.old) (state S.Store conn.new) }
+    ensures leaves { LeavesTables (state S.Store conn.old) (state S.Store conn.new) }
     ensures live { HasCleanDisk (state S.Store conn.new) → IsTrue (state S.Store conn.old).is_open → OnOk result (IsTrue (state S.Store conn.new).is_open) }
     ensures within { IfOk result (λ v. All (λ a. IsAmount a.free) v.items) }
     ensures found { HasCleanDisk (state S.Store conn.new) → IfOk result (λ v. (w : World) → Holds (content_of w) (state S.Store conn.old) → v.items ≡ owner_row w.free jobs.now) }
@@ -208,7 +208,7 @@ fn job_of_report<S: Alter>(
     conn: &mut Connection<S>,
     number: u32,
 ) -> Result<Vec<Job>, Fault>
-    ensures leaves { LeavesRows (state S.Store conn.old) (state S.Store conn.new) }
+    ensures leaves { LeavesTables (state S.Store conn.old) (state S.Store conn.new) }
     ensures live { HasCleanDisk (state S.Store conn.new) → OnOk result (IsTrue (state S.Store conn.new).is_open) }
     ensures sound { IfOk result (λ v. All IsSoundJob v.items) }
     ensures few { IfOk result (λ v. length v.items ≤ 1) }
@@ -228,7 +228,7 @@ fn scene_of_report<S: Alter>(
     settings: &Settings,
     r: &Report,
 ) -> Result<Scene, Fault>
-    ensures leaves { LeavesRows (state S.Store conn.old) (state S.Store conn.new) }
+    ensures leaves { LeavesTables (state S.Store conn.old) (state S.Store conn.new) }
     ensures live { HasCleanDisk (state S.Store conn.new) → OnOk result (IsTrue (state S.Store conn.new).is_open) }
     ensures fair { IfOk result IsFair }
     ensures found { HasCleanDisk (state S.Store conn.new) → IfOk result (λ s. (w : World) → IsSound w → Holds (content_of w) (state S.Store conn.old) → settings.now ≡ w.settings → s ≡ cut w (tell r.now)) }
@@ -257,7 +257,7 @@ fn scene_of_grants<S: Alter>(
     settings: &Settings,
     rows: &[GrantRow],
 ) -> Result<Scene, Fault>
-    ensures leaves { LeavesRows (state S.Store conn.old) (state S.Store conn.new) }
+    ensures leaves { LeavesTables (state S.Store conn.old) (state S.Store conn.new) }
     ensures live { HasCleanDisk (state S.Store conn.new) → OnOk result (IsTrue (state S.Store conn.new).is_open) }
     ensures fair { IfOk result IsFair }
     ensures found { HasCleanDisk (state S.Store conn.new) → IfOk result (λ s. (w : World) → IsSound w → Holds (content_of w) (state S.Store conn.old) → settings.now ≡ w.settings → s ≡ cut w (grant rows.now)) }
@@ -286,11 +286,8 @@ pub fn scene<S: Alter>(
     settings: &Settings,
     e: &Event<'_>,
 ) -> Result<Scene, Fault>
-    ensures clean { HasCleanDisk (state S.Store conn.new) → HasCleanDisk (state S.Store conn.old) }
-    ensures opened { HasCleanDisk (state S.Store conn.new) → IsTrue (state S.Store conn.new).is_open → IsTrue (state S.Store conn.old).is_open }
+    ensures leaves { LeavesTables (state S.Store conn.old) (state S.Store conn.new) }
     ensures live { HasCleanDisk (state S.Store conn.new) → OnOk result (IsTrue (state S.Store conn.new).is_open) }
-    ensures kept { HasCleanDisk (state S.Store conn.new) → (c : Content) → Holds c (state S.Store conn.old) → IsTrue (state S.Store conn.new).is_open → Holds c (state S.Store conn.new) }
-    ensures back { HasCleanDisk (state S.Store conn.new) → (c : Content) → Holds c (state S.Store conn.new) → Holds c (state S.Store conn.old) }
     ensures fair { IfOk result IsFair }
     ensures shows { HasCleanDisk (state S.Store conn.new) → IfOk result (λ s. (w : World) → IsSound w → Holds (content_of w) (state S.Store conn.old) → settings.now ≡ w.settings → s ≡ cut w (event_of e.now)) }
 {

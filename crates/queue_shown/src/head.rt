@@ -9,14 +9,14 @@ ghost use Rattle.queue_types.specs.declared.document.Document.{Document};
 ghost use Rattle.queue_types.specs.declared.job.Job.{Job as JobValue};
 ghost use Rattle.queue_shown.specs.Fetched.{document_in, is_fetched, is_fetched_job, state_values};
 ghost use Rattle.queue_shown.specs.Heads.{head_values};
-ghost use Rattle.queue_tables.specs.Content.{Content, Holds, content_of};
+ghost use Rattle.queue_tables.specs.Content.{Holds, content_of};
+ghost use Rattle.queue_tables.specs.Leaving.{LeavesTables};
 ghost use Rattle.queue_tables.specs.Steps.{AreDistinct};
-ghost use Rattle.queue_tables.specs.Tables.{book_schema};
 
-use crate::select::select;
 use queue_rows::laws::numbers_tell_names;
 use queue_tables::fault::Fault;
 use queue_tables::read::{flag, format, phase, value};
+use queue_tables::select::select;
 use queue_types::document::DocumentHead;
 use queue_types::job::Phase;
 use sqlite::{Alter, Connection, Row, params};
@@ -45,12 +45,8 @@ fn is_fetched_row(row: &Row) -> Result<bool, Fault>
 
 /// Whether the device may fetch the documents of the job of that number.
 fn may_fetch<S: Alter>(conn: &mut Connection<S>, job: u32) -> Result<bool, Fault>
-    ensures clean { HasCleanDisk (state S.Store conn.new) → HasCleanDisk (state S.Store conn.old) }
-    ensures opened { HasCleanDisk (state S.Store conn.new) → IsTrue (state S.Store conn.new).is_open → IsTrue (state S.Store conn.old).is_open }
+    ensures leaves { LeavesTables (state S.Store conn.old) (state S.Store conn.new) }
     ensures live { HasCleanDisk (state S.Store conn.new) → OnOk result (IsTrue (state S.Store conn.new).is_open) }
-    ensures same { HasCleanDisk (state S.Store conn.new) → IsTrue (state S.Store conn.new).is_open → (state S.Store conn.old).now.schema ≡ book_schema → (state S.Store conn.new).now ≡ (state S.Store conn.old).now }
-    ensures kept { HasCleanDisk (state S.Store conn.new) → IsTrue (state S.Store conn.new).is_open → (c : Content) → Holds c (state S.Store conn.old) → Holds c (state S.Store conn.new) }
-    ensures back { HasCleanDisk (state S.Store conn.new) → (c : Content) → Holds c (state S.Store conn.new) → Holds c (state S.Store conn.old) }
     ensures told { HasCleanDisk (state S.Store conn.new) → IfOk result (λ b. (w : World) → AreDistinct w.jobs → Holds (content_of w) (state S.Store conn.old) → b ≡ is_fetched_job (job_at job (rows w))) }
 {
     let found = select(
@@ -79,12 +75,8 @@ fn find_head<S: Alter>(
     job: u32,
     n: u32,
 ) -> Result<Option<DocumentHead>, Fault>
-    ensures clean { HasCleanDisk (state S.Store conn.new) → HasCleanDisk (state S.Store conn.old) }
-    ensures opened { HasCleanDisk (state S.Store conn.new) → IsTrue (state S.Store conn.new).is_open → IsTrue (state S.Store conn.old).is_open }
+    ensures leaves { LeavesTables (state S.Store conn.old) (state S.Store conn.new) }
     ensures live { HasCleanDisk (state S.Store conn.new) → OnOk result (IsTrue (state S.Store conn.new).is_open) }
-    ensures same { HasCleanDisk (state S.Store conn.new) → IsTrue (state S.Store conn.new).is_open → (state S.Store conn.old).now.schema ≡ book_schema → (state S.Store conn.new).now ≡ (state S.Store conn.old).now }
-    ensures kept { HasCleanDisk (state S.Store conn.new) → IsTrue (state S.Store conn.new).is_open → (c : Content) → Holds c (state S.Store conn.old) → Holds c (state S.Store conn.new) }
-    ensures back { HasCleanDisk (state S.Store conn.new) → (c : Content) → Holds c (state S.Store conn.new) → Holds c (state S.Store conn.old) }
     ensures found { HasCleanDisk (state S.Store conn.new) → IfOk result (λ h. (w : World) → AreDistinct w.jobs → Holds (content_of w) (state S.Store conn.old) → h ≡ option_map head_of (document_in w.jobs job n)) }
 {
     let found = select(
@@ -108,12 +100,8 @@ pub fn document_head<S: Alter>(
     job: u32,
     n: u32,
 ) -> Result<Option<DocumentHead>, Fault>
-    ensures clean { HasCleanDisk (state S.Store conn.new) → HasCleanDisk (state S.Store conn.old) }
-    ensures opened { HasCleanDisk (state S.Store conn.new) → IsTrue (state S.Store conn.new).is_open → IsTrue (state S.Store conn.old).is_open }
+    ensures leaves { LeavesTables (state S.Store conn.old) (state S.Store conn.new) }
     ensures live { HasCleanDisk (state S.Store conn.new) → OnOk result (IsTrue (state S.Store conn.new).is_open) }
-    ensures same { HasCleanDisk (state S.Store conn.new) → IsTrue (state S.Store conn.new).is_open → (state S.Store conn.old).now.schema ≡ book_schema → (state S.Store conn.new).now ≡ (state S.Store conn.old).now }
-    ensures kept { HasCleanDisk (state S.Store conn.new) → IsTrue (state S.Store conn.new).is_open → (c : Content) → Holds c (state S.Store conn.old) → Holds c (state S.Store conn.new) }
-    ensures back { HasCleanDisk (state S.Store conn.new) → (c : Content) → Holds c (state S.Store conn.new) → Holds c (state S.Store conn.old) }
     ensures head { HasCleanDisk (state S.Store conn.new) → IfOk result (λ h. (w : World) → IsSound w → Holds (content_of w) (state S.Store conn.old) → h ≡ option_map head_of (document_at w job n)) }
 {
     let is_shown = may_fetch(conn, job)?;

@@ -5,7 +5,6 @@
 mod account;
 pub mod head;
 mod job;
-mod select;
 pub mod send;
 pub mod sheets;
 

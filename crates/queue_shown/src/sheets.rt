@@ -8,16 +8,16 @@ ghost use Rattle.queue_core.specs.Sound.{IsSound};
 ghost use Rattle.queue_core.specs.World.{World, job_at, rows};
 ghost use Rattle.queue_types.specs.declared.job.Job.{Job as JobValue};
 ghost use Rattle.queue_shown.specs.Pages.{AreIn, has_pages};
-ghost use Rattle.queue_tables.specs.Content.{Content, Holds, content_of};
-ghost use Rattle.queue_tables.specs.Tables.{book_schema};
+ghost use Rattle.queue_tables.specs.Content.{Holds, content_of};
+ghost use Rattle.queue_tables.specs.Leaving.{LeavesTables};
 ghost use Rattle.queue_tables.specs.Values.{job_values};
 
 use crate::account::{find_account, granted_in};
 use crate::job::count_documents;
-use crate::select::select;
 use queue_rows::laws::numbers_tell_names;
 use queue_tables::fault::Fault;
 use queue_tables::read::read_job;
+use queue_tables::select::select;
 use queue_types::job::{Job, JobList};
 use queue_types::sheet::AccountSheet;
 use queue_types::text::Text;
@@ -38,12 +38,8 @@ fn push_told<S: Alter>(
     row: &Row,
     jobs: &mut Vec<Job>,
 ) -> Result<(), Fault>
-    ensures clean { HasCleanDisk (state S.Store conn.new) → HasCleanDisk (state S.Store conn.old) }
-    ensures opened { HasCleanDisk (state S.Store conn.new) → IsTrue (state S.Store conn.new).is_open → IsTrue (state S.Store conn.old).is_open }
+    ensures leaves { LeavesTables (state S.Store conn.old) (state S.Store conn.new) }
     ensures live { HasCleanDisk (state S.Store conn.new) → OnOk result (IsTrue (state S.Store conn.old).is_open → IsTrue (state S.Store conn.new).is_open) }
-    ensures same { HasCleanDisk (state S.Store conn.new) → IsTrue (state S.Store conn.new).is_open → (state S.Store conn.old).now.schema ≡ book_schema → (state S.Store conn.new).now ≡ (state S.Store conn.old).now }
-    ensures kept { HasCleanDisk (state S.Store conn.new) → IsTrue (state S.Store conn.new).is_open → (c : Content) → Holds c (state S.Store conn.old) → Holds c (state S.Store conn.new) }
-    ensures back { HasCleanDisk (state S.Store conn.new) → (c : Content) → Holds c (state S.Store conn.new) → Holds c (state S.Store conn.old) }
     ensures told { HasCleanDisk (state S.Store conn.new) → OnOk result ((w : World) (j : JobValue) → IsSound w → Holds (content_of w) (state S.Store conn.old) → job_at j.number (rows w) ≡ Some j → row.now ≡ job_values j → jobs.new.items ≡ jobs.old.items ++ (if has_pages j then j ∷ [] else [])) }
 {
     numbers_tell_names();
@@ -62,12 +58,8 @@ fn jobs_of<S: Alter>(
     conn: &mut Connection<S>,
     found: &[Row],
 ) -> Result<Vec<Job>, Fault>
-    ensures clean { HasCleanDisk (state S.Store conn.new) → HasCleanDisk (state S.Store conn.old) }
-    ensures opened { HasCleanDisk (state S.Store conn.new) → IsTrue (state S.Store conn.new).is_open → IsTrue (state S.Store conn.old).is_open }
+    ensures leaves { LeavesTables (state S.Store conn.old) (state S.Store conn.new) }
     ensures live { HasCleanDisk (state S.Store conn.new) → OnOk result (IsTrue (state S.Store conn.old).is_open → IsTrue (state S.Store conn.new).is_open) }
-    ensures same { HasCleanDisk (state S.Store conn.new) → IsTrue (state S.Store conn.new).is_open → (state S.Store conn.old).now.schema ≡ book_schema → (state S.Store conn.new).now ≡ (state S.Store conn.old).now }
-    ensures kept { HasCleanDisk (state S.Store conn.new) → IsTrue (state S.Store conn.new).is_open → (c : Content) → Holds c (state S.Store conn.old) → Holds c (state S.Store conn.new) }
-    ensures back { HasCleanDisk (state S.Store conn.new) → (c : Content) → Holds c (state S.Store conn.new) → Holds c (state S.Store conn.old) }
     ensures told { HasCleanDisk (state S.Store conn.new) → IfOk result (λ v. (w : World) (js : List JobValue) → IsSound w → Holds (content_of w) (state S.Store conn.old) → AreIn w js → found.now ≡ map job_values js → v.items ≡ filter has_pages js) }
 {
     let mut jobs = Vec::new(alloc);
@@ -83,12 +75,8 @@ fn told_jobs<S: Alter>(
     conn: &mut Connection<S>,
     account: &str,
 ) -> Result<JobList, Fault>
-    ensures clean { HasCleanDisk (state S.Store conn.new) → HasCleanDisk (state S.Store conn.old) }
-    ensures opened { HasCleanDisk (state S.Store conn.new) → IsTrue (state S.Store conn.new).is_open → IsTrue (state S.Store conn.old).is_open }
+    ensures leaves { LeavesTables (state S.Store conn.old) (state S.Store conn.new) }
     ensures live { HasCleanDisk (state S.Store conn.new) → OnOk result (IsTrue (state S.Store conn.new).is_open) }
-    ensures same { HasCleanDisk (state S.Store conn.new) → IsTrue (state S.Store conn.new).is_open → (state S.Store conn.old).now.schema ≡ book_schema → (state S.Store conn.new).now ≡ (state S.Store conn.old).now }
-    ensures kept { HasCleanDisk (state S.Store conn.new) → IsTrue (state S.Store conn.new).is_open → (c : Content) → Holds c (state S.Store conn.old) → Holds c (state S.Store conn.new) }
-    ensures back { HasCleanDisk (state S.Store conn.new) → (c : Content) → Holds c (state S.Store conn.new) → Holds c (state S.Store conn.old) }
     ensures told { HasCleanDisk (state S.Store conn.new) → IfOk result (λ js. (w : World) → IsSound w → Holds (content_of w) (state S.Store conn.old) → js ≡ sheet_jobs w account.now) }
 {
     let found = select(
@@ -108,12 +96,8 @@ pub fn sheet<S: Alter>(
     conn: &mut Connection<S>,
     account: &str,
 ) -> Result<Option<AccountSheet>, Fault>
-    ensures clean { HasCleanDisk (state S.Store conn.new) → HasCleanDisk (state S.Store conn.old) }
-    ensures opened { HasCleanDisk (state S.Store conn.new) → IsTrue (state S.Store conn.new).is_open → IsTrue (state S.Store conn.old).is_open }
+    ensures leaves { LeavesTables (state S.Store conn.old) (state S.Store conn.new) }
     ensures live { HasCleanDisk (state S.Store conn.new) → OnOk result (IsTrue (state S.Store conn.new).is_open) }
-    ensures same { HasCleanDisk (state S.Store conn.new) → IsTrue (state S.Store conn.new).is_open → (state S.Store conn.old).now.schema ≡ book_schema → (state S.Store conn.new).now ≡ (state S.Store conn.old).now }
-    ensures kept { HasCleanDisk (state S.Store conn.new) → IsTrue (state S.Store conn.new).is_open → (c : Content) → Holds c (state S.Store conn.old) → Holds c (state S.Store conn.new) }
-    ensures back { HasCleanDisk (state S.Store conn.new) → (c : Content) → Holds c (state S.Store conn.new) → Holds c (state S.Store conn.old) }
     ensures sheet { HasCleanDisk (state S.Store conn.new) → IfOk result (λ s. (w : World) → IsSound w → Holds (content_of w) (state S.Store conn.old) → s ≡ sheet_of w account.now) }
 {
     let found = find_account(conn, account)?;

@@ -6,16 +6,17 @@ use Rattle.queue_types.specs.Settings.{SettingValues}
 use Rattle.queue_core.specs.Shown.{document_at}
 use Rattle.queue_core.specs.Sound.{IsSound}
 use Rattle.queue_core.specs.World.{World, empty_queue}
-use Rattle.queue_tables.specs.Content.{Content, Holds, content_of}
+use Rattle.queue_tables.specs.Content.{content_of}
+use Rattle.queue_tables.specs.Leaving.{LeavesTables}
+use Rattle.queue_tables.proofs.Leaving.{holds_after}
 use Rattle.queue_store.specs.Kept.{Keeps}
 
 module _ (old new : State) where
   -- where the rows are kept, so is the world
-  pub still_keeps : (settings : SettingValues) (w : World) → (HasCleanDisk new → HasCleanDisk old) → (HasCleanDisk new → IsTrue new.is_open → IsTrue old.is_open)
-      → (HasCleanDisk new → (c : Content) → Holds c old → IsTrue new.is_open → Holds c new) → (HasCleanDisk old → Keeps old settings w) → HasCleanDisk new → Keeps new settings w
-  still_keeps settings w clean opened kept stood honest =
-      let was = stood (clean honest) in
-      record { sound = was.sound; settings_are = was.settings_are; holds = λ is_open. kept honest (content_of w) (was.holds (opened honest is_open)) is_open }
+  pub still_keeps : (settings : SettingValues) (w : World) → LeavesTables old new → (HasCleanDisk old → Keeps old settings w) → HasCleanDisk new → Keeps new settings w
+  still_keeps settings w leaves stood honest =
+      let was = stood (leaves.clean honest) in
+      record { sound = was.sound; settings_are = was.settings_are; holds = λ is_open. holds_after leaves honest (content_of w) (was.holds (leaves.opened honest is_open)) is_open }
 
 -- a book that stands for an empty queue, as one on a shut connection does, has no document
 pub open_with_document : (s : State) (settings : SettingValues) (job n : ℕ) → HasCleanDisk s → IsSound (empty_queue settings)

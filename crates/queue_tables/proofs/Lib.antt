@@ -26,3 +26,4 @@ pub mod Decided
 pub mod Columns
 pub mod Queries
 pub mod Reading
+pub mod Leaving

@@ -1,5 +1,5 @@
 -- A text that is a query is one under any schema: it writes nothing.
-use Rattle.std.proofs.Common.{◌⊎◌, IsTrue, ◌≡◌, ℕ, ◌+◌, List, true, inl, inr, None, Ok, Err, Result, refl, sym, ap, subst, ◌∙◌}
+use Rattle.std.proofs.Common.{◌≡◌, ℕ, ◌+◌, List, true, inl, inr, None, Ok, Err, Result, refl, sym, ap}
 use Rattle.std.proofs.lemmas.Bool.{cases_Bool}
 use Rattle.sqlite_ast.specs.declared.Statement.{Statement}
 use Rattle.sqlite_ast.specs.declared.Statement.TheVariants as written
@@ -11,9 +11,7 @@ use Rattle.sqlite_resolve.specs.declared.compiled.Compiled.{Compiled}
 use Rattle.sqlite_resolve.specs.Compile.{first, compiled, planned, meaning, returning, command, timed, small, with_command}
 use Rattle.queue_tables.specs.Queries.{is_query_statement, parses_query, IsQueryText}
 use Rattle.sqlite.specs.Listing.{understood, reads_listing, is_select, if_select, listing_schema}
-use Rattle.sqlite.specs.Effect.{Database}
-use Rattle.sqlite.specs.State.{State, Shown, ShowsRows, IsUnchanged, IsRolledBack}
-use Rattle.queue_tables.specs.Content.{Content, HasContent, Holds}
+use Rattle.sqlite.specs.State.{State, Shown, ShowsRows, IsUnchanged}
 use Rattle.sqlite.specs.Order.{Row}
 use Rattle.sqlite.specs.Clock.{timed as given}
 
@@ -62,22 +60,3 @@ query_changes_nothing sql params old new rows query h =
     let bare = query_is_bare old.now.schema sql h.0 query h.1.is in
     let shows : ShowsRows old new sql h.0 (given params h.0.formats h.1.now) rows None = rw bare at h.2 in
     shows.3
-
--- what the tables hold after a query, they held before it
-pub held_before : (c : Content) (old new : State) → IsUnchanged old new ⊎ IsRolledBack old new → (IsTrue old.is_open → old.now ≡ old.committed) → Holds c new → Holds c old
-held_before c old new how settled has = at (is how)
-  where
-    was_open : IsUnchanged old new ⊎ IsRolledBack old new → IsTrue old.is_open
-    was_open (inl same) = same.0.was_open
-    was_open (inr back) = back.was_open has.live
-
-    is : IsUnchanged old new ⊎ IsRolledBack old new → new.now ≡ old.now
-    is (inl same) = same.0.now_is
-    is (inr back) = (back.undone has.live).0 ∙ sym (settled (back.was_open has.live))
-
-    at : new.now ≡ old.now → Holds c old
-    at same = record {
-      schema = sym (ap (λ (d : Database). d.schema) same) ∙ has.schema;
-      rows = subst (λ (d : Database). HasContent c d.trees) same has.rows;
-      live = was_open how;
-    }

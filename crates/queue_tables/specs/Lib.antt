@@ -8,3 +8,4 @@ pub mod Forms
 pub mod Faults
 pub mod Queries
 pub mod Reads
+pub mod Leaving

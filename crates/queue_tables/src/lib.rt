@@ -15,6 +15,7 @@ mod put;
 pub mod read;
 mod report_rows;
 mod run;
+pub mod select;
 pub mod transaction;
 
 pub use change::write_change;

@@ -4,7 +4,7 @@ use Rattle.queue_types.specs.Job.{is_live, is_running, is_stopped}
 use Rattle.queue_core.specs.World.{rows}
 use Rattle.queue_tables.specs.Content.{content_of}
 use Rattle.queue_scenes.proofs.Counting.{counts_queued, counts_running, counts_stopped}
-use Rattle.queue_scenes.proofs.Leaving.{leaves_then, leaves_three}
+use Rattle.queue_tables.proofs.Leaving.{leaves_then, leaves_three, holds_after}
 use Rattle.queue_scenes.proofs.Statements.{select_queued_is, select_running_is, select_stopped_is}
 use Rattle.queue_scenes.proofs.counts.all_counts.Goals as goal
 
@@ -36,8 +36,8 @@ pub returns-clause-found : goal.returns-clause-found
 returns-clause-found g c clean w has =
     let second = c.count-3.ensures.leaves.clean clean in
     let first = c.count-2.ensures.leaves.clean second in
-    let has_first = c.count.ensures.leaves.kept first (content_of w) has (c.in_ok-running.ensures.live first) in
-    let has_second = c.count-2.ensures.leaves.kept second (content_of w) has_first (c.in_ok-stopped.ensures.live second) in
+    let has_first = holds_after c.count.ensures.leaves first (content_of w) has (c.in_ok-running.ensures.live first) in
+    let has_second = holds_after c.count-2.ensures.leaves second (content_of w) has_first (c.in_ok-stopped.ensures.live second) in
     let r = c.in_ok-running.ensures.found first (content_of w) (count_by is_running (rows w)) has (counts_running (state g.S.Store c.args.conn.now) w has) in
     let s = c.in_ok-stopped.ensures.found second (content_of w) (count_by is_stopped (rows w)) has_first (counts_stopped (state g.S.Store c.count.new.conn) w has_first) in
     let q = c.in_ok-queued.ensures.found clean (content_of w) (count_by is_live (rows w)) has_second (counts_queued (state g.S.Store c.count-2.new.conn) w has_second) in

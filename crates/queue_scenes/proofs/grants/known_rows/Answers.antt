@@ -5,7 +5,7 @@ use Rattle.queue_core.specs.Limits.{IsKnown}
 use Rattle.queue_types.specs.declared.event.KnownGrant.{KnownGrant}
 use Rattle.queue_tables.specs.Content.{content_of}
 use Rattle.queue_scenes.proofs.Known.{known_more}
-use Rattle.queue_scenes.proofs.Leaving.{leaves_then}
+use Rattle.queue_tables.proofs.Leaving.{leaves_then, holds_after}
 use Rattle.queue_scenes.proofs.grants.known_rows.Goals as goal
 
 pub returns-in_err-known-clause-leaves : goal.returns-in_err-known-clause-leaves
@@ -24,7 +24,7 @@ loop-row-preserved g c =
       within = subst (λ (ks : List KnownGrant). All IsKnown ks) (sym c.in_ok-push.ensures.items) (All-push IsKnown c.loop-row.all.items c.in_ok-known.field-0 first.within made.within);
       found = λ clean w sound has.
           let early = made.leaves.clean clean in
-          let kept = first.leaves.kept early (content_of w) has (first.live early has.live) in
+          let kept = holds_after first.leaves early (content_of w) has (first.live early has.live) in
           let is = made.found clean w sound kept in
           let before = first.found early w sound has in
           c.in_ok-push.ensures.items ∙ (λ t. before t ++ is t ∷ []) ∙ known_more w c.args.rows.now c.loop-row.row-index c.row-item.result c.loop-row-test.true c.row-item.is;

@@ -3,7 +3,7 @@ use Rattle.sqlite.specs.Held.{state}
 use Rattle.sqlite.specs.Values.{bound}
 use Rattle.queue_tables.specs.Content.{content_of}
 use Rattle.queue_tables.proofs.Ending.{if_ok}
-use Rattle.queue_scenes.proofs.Leaving.{leaves_then, shown_still}
+use Rattle.queue_tables.proofs.Leaving.{leaves_then, shown_still, holds_after}
 use Rattle.queue_scenes.proofs.jobs.select_jobs.Goals as goal
 
 pub returns-clause-leaves : goal.returns-clause-leaves
@@ -16,5 +16,5 @@ returns-clause-found g c clean =
     let early = c.whole_jobs.ensures.leaves.clean clean in
     if_ok c.whole_jobs.result _ _ (λ v it w js sound has are shows.
     let shown = shown_still c.args.sql.now (bound c.args.params.now) old mid c.in_ok-rows.rows.items c.requires.query (c.in_ok-rows.ensures.shown early) in
-    it w js sound (c.select.ensures.leaves.kept early (content_of w) has (c.in_ok-rows.ensures.live early)) are (c.as_slice.ensures.value ∙ shows c.in_ok-rows.rows.items shown))
+    it w js sound (holds_after c.select.ensures.leaves early (content_of w) has (c.in_ok-rows.ensures.live early)) are (c.as_slice.ensures.value ∙ shows c.in_ok-rows.rows.items shown))
     (c.whole_jobs.ensures.found clean)

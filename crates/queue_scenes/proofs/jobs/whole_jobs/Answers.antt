@@ -8,7 +8,7 @@ use Rattle.queue_core.specs.World.{job_at, rows}
 use Rattle.queue_types.specs.declared.job.Job.{Job}
 use Rattle.queue_tables.specs.Content.{content_of}
 use Rattle.queue_tables.specs.Values.{job_values}
-use Rattle.queue_scenes.proofs.Leaving.{leaves_then}
+use Rattle.queue_tables.proofs.Leaving.{leaves_then, holds_after}
 use Rattle.queue_scenes.proofs.Whole.{step, taken, has_step}
 use Rattle.queue_scenes.proofs.jobs.whole_jobs.Goals as goal
 
@@ -34,7 +34,7 @@ loop-row-preserved g c =
           let early = made.leaves.clean clean in
           let low : i < length (map job_values js) = subst (λ (rs : List Row). i < length rs) same c.loop-row-test.true in
           let at = step js i row low (subst (λ (rs : List Row). row ≡ get_or rs i row) same c.row-item.is) in
-          let kept = first.leaves.kept early (content_of w) has (first.live early has.live) in
+          let kept = holds_after first.leaves early (content_of w) has (first.live early has.live) in
           let is = made.found clean w at.job sound kept (has_step (λ (j : Job). job_at j.number (rows w) ≡ Some j) js i row at are) at.row_is in
           let before = first.found early w js sound has are same in
           c.in_ok-push.ensures.items ∙ (λ t. before t ++ is t ∷ []) ∙ sym (taken js i row at);

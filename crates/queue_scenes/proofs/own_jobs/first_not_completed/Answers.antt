@@ -7,7 +7,7 @@ use Rattle.queue_core.specs.World.{rows}
 use Rattle.queue_tables.specs.Content.{content_of}
 use Rattle.queue_types.specs.declared.job.Job.{Job}
 use Rattle.queue_scenes.specs.Jobs.{own_live}
-use Rattle.queue_scenes.proofs.Leaving.{leaves_then, leaves_three}
+use Rattle.queue_tables.proofs.Leaving.{leaves_then, leaves_three, holds_after}
 use Rattle.queue_scenes.proofs.Ranked.{first_of_three}
 use Rattle.queue_scenes.proofs.own_jobs.first_not_completed.Goals as goal
 
@@ -49,8 +49,8 @@ returns-clause-found g c clean w sound has =
     let mine = own_live c.args.owner.now (rows w) in
     let second = c.first_held.ensures.leaves.clean clean in
     let first = c.first_pending.ensures.leaves.clean second in
-    let has_first = c.first_at_device.ensures.leaves.kept first (content_of w) has (c.in_ok-shown.ensures.live first) in
-    let has_second = c.first_pending.ensures.leaves.kept second (content_of w) has_first (c.in_ok-pending.ensures.live second) in
+    let has_first = holds_after c.first_at_device.ensures.leaves first (content_of w) has (c.in_ok-shown.ensures.live first) in
+    let has_second = holds_after c.first_pending.ensures.leaves second (content_of w) has_first (c.in_ok-pending.ensures.live second) in
     let two : c.append.new.self.items ≡ shown ++ pending = c.in_ok-append.ensures.items in
     let left : c.left_of.result ≡ most - length shown = c.left_of.ensures ∙ ap (λ (js : List Job). most - length js) c.as_slice.ensures.value in
     let left_then : c.left_of-2.result ≡ most - length (shown ++ pending) = c.left_of-2.ensures ∙ ap (λ (js : List Job). most - length js) (c.as_slice-2.ensures.value ∙ two) in

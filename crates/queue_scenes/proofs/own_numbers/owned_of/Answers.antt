@@ -5,7 +5,7 @@ use Rattle.queue_core.specs.Limits.{IsSoundJob}
 use Rattle.queue_core.specs.World.{rows}
 use Rattle.queue_types.specs.declared.job.Job.{Job}
 use Rattle.queue_tables.specs.Content.{content_of}
-use Rattle.queue_scenes.proofs.Leaving.{leaves_all, leaves_then}
+use Rattle.queue_tables.proofs.Leaving.{leaves_all, leaves_then, holds_after}
 use Rattle.queue_scenes.proofs.Lists.{world_rising}
 use Rattle.queue_scenes.proofs.Picked.{all_more, before_next, picked, picked_more, picked_none, taken_more}
 use Rattle.queue_scenes.proofs.own_numbers.owned_of.Goals as goal
@@ -42,7 +42,7 @@ loop-number-preserved g c =
       sound = subst (λ (js : List Job). All IsSoundJob js) (sym c.in_ok-push_owned.ensures) (all_more IsSoundJob p c.loop-number.own.items c.as_slice.result.now first.sound (subst (λ (js : List Job). All IsSoundJob js) (sym c.as_slice.ensures.value) found.sound));
       found = λ clean w sound has.
           let early = c.with_number.ensures.leaves.clean clean in
-          let kept = first.leaves.kept early (content_of w) has (first.live early has.live) in
+          let kept = holds_after first.leaves early (content_of w) has (first.live early has.live) in
           let is = found.found clean w sound kept in
           let before = first.found early w sound has in
           let some = c.as_slice.ensures.value ∙ is in

@@ -1,6 +1,6 @@
 use Rattle.sqlite.specs.Held.{state}
 use Rattle.queue_tables.specs.Content.{content_of}
-use Rattle.queue_scenes.proofs.Leaving.{leaves_then, leaves_three}
+use Rattle.queue_tables.proofs.Leaving.{leaves_then, leaves_three, holds_after}
 use Rattle.queue_scenes.proofs.scene.numbers_for_call.Goals as goal
 
 pub returns-in_err-counts-clause-leaves : goal.returns-in_err-counts-clause-leaves
@@ -20,6 +20,6 @@ pub returns-clause-found : goal.returns-clause-found
 returns-clause-found g c clean w has =
     let second = c.next_number.ensures.leaves.clean clean in
     let first = c.counts_for_call.ensures.leaves.clean second in
-    let has_first = c.live_for_call.ensures.leaves.kept first (content_of w) has (c.in_ok-live.ensures.live first has.live) in
-    let has_second = c.counts_for_call.ensures.leaves.kept second (content_of w) has_first (c.in_ok-counts.ensures.live second has_first.live) in
+    let has_first = holds_after c.live_for_call.ensures.leaves first (content_of w) has (c.in_ok-live.ensures.live first has.live) in
+    let has_second = holds_after c.counts_for_call.ensures.leaves second (content_of w) has_first (c.in_ok-counts.ensures.live second has_first.live) in
     (c.in_ok-live.ensures.found first w has, c.in_ok-counts.ensures.found second w has_first, c.in_ok-next.ensures.found clean w has_second)

@@ -7,7 +7,7 @@ use Rattle.queue_types.specs.declared.event.FreeRow.{FreeRow}
 use Rattle.queue_types.specs.declared.event.KnownGrant.{KnownGrant}
 use Rattle.queue_tables.specs.Content.{content_of}
 use Rattle.queue_scenes.proofs.Cut.{same_scene}
-use Rattle.queue_scenes.proofs.Leaving.{leaves_then, leaves_three}
+use Rattle.queue_tables.proofs.Leaving.{leaves_then, leaves_three, holds_after}
 use Rattle.queue_scenes.proofs.scene.scene_of_call.Goals as goal
 
 pub returns-in_err-free-clause-leaves : goal.returns-in_err-free-clause-leaves
@@ -47,8 +47,8 @@ pub returns-clause-found : goal.returns-clause-found
 returns-clause-found g c clean w sound has settings_are =
     let second = c.few_concerned.ensures.leaves.clean clean in
     let first = c.free_rows.ensures.leaves.clean second in
-    let has_first = c.numbers_for_call.ensures.leaves.kept first (content_of w) has (c.in_ok-numbers.ensures.live first) in
-    let has_second = c.free_rows.ensures.leaves.kept second (content_of w) has_first (c.in_ok-free.ensures.live second) in
+    let has_first = holds_after c.numbers_for_call.ensures.leaves first (content_of w) has (c.in_ok-numbers.ensures.live first) in
+    let has_second = holds_after c.free_rows.ensures.leaves second (content_of w) has_first (c.in_ok-free.ensures.live second) in
     let numbers = c.in_ok-numbers.ensures.found first w has in
     same_scene _ (cut w (ask c.args.caller.now (call_of c.args.call.now)))
     (c.in_ok-settings.ensures.same ∙ settings_are)

@@ -9,7 +9,7 @@ use Rattle.queue_types.specs.declared.event.QueueCounts.{QueueCounts}
 use Rattle.queue_types.specs.declared.job.Job.{Job}
 use Rattle.queue_tables.specs.Content.{content_of}
 use Rattle.queue_scenes.proofs.Cut.{same_scene}
-use Rattle.queue_scenes.proofs.Leaving.{leaves_then}
+use Rattle.queue_tables.proofs.Leaving.{leaves_then, holds_after}
 use Rattle.queue_scenes.proofs.scene.scene_of_grants.Goals as goal
 
 pub returns-in_err-known-clause-leaves : goal.returns-in_err-known-clause-leaves
@@ -41,7 +41,7 @@ returns-clause-fair g c =
 pub returns-clause-found : goal.returns-clause-found
 returns-clause-found g c clean w sound has settings_are =
     let first = c.known_rows.ensures.leaves.clean clean in
-    let has_first = c.next_number.ensures.leaves.kept first (content_of w) has (c.in_ok-next.ensures.live first) in
+    let has_first = holds_after c.next_number.ensures.leaves first (content_of w) has (c.in_ok-next.ensures.live first) in
     same_scene _ (cut w (grant c.args.rows.now))
     (c.in_ok-settings.ensures.same ∙ settings_are)
     (c.from_items.ensures ∙ c.new.ensures.items)

@@ -9,7 +9,7 @@ use Rattle.queue_types.specs.declared.event.QueueCounts.{QueueCounts}
 use Rattle.queue_types.specs.declared.job.Job.{Job}
 use Rattle.queue_tables.specs.Content.{content_of}
 use Rattle.queue_scenes.proofs.Cut.{same_scene}
-use Rattle.queue_scenes.proofs.Leaving.{leaves_then, leaves_three, leaves_four}
+use Rattle.queue_tables.proofs.Leaving.{leaves_then, leaves_three, leaves_four, holds_after}
 use Rattle.queue_scenes.proofs.scene.scene_of_report.Goals as goal
 
 pub returns-in_err-report-clause-leaves : goal.returns-in_err-report-clause-leaves
@@ -55,9 +55,9 @@ returns-clause-found g c clean w sound has settings_are =
     let third = c.owner_rows.ensures.leaves.clean clean in
     let second = c.job_of_report.ensures.leaves.clean third in
     let first = c.kept_report.ensures.leaves.clean second in
-    let has_first = c.next_number.ensures.leaves.kept first (content_of w) has (c.in_ok-next.ensures.live first) in
-    let has_second = c.kept_report.ensures.leaves.kept second (content_of w) has_first (c.in_ok-report.ensures.live second) in
-    let has_third = c.job_of_report.ensures.leaves.kept third (content_of w) has_second (c.in_ok-jobs.ensures.live third) in
+    let has_first = holds_after c.next_number.ensures.leaves first (content_of w) has (c.in_ok-next.ensures.live first) in
+    let has_second = holds_after c.kept_report.ensures.leaves second (content_of w) has_first (c.in_ok-report.ensures.live second) in
+    let has_third = holds_after c.job_of_report.ensures.leaves third (content_of w) has_second (c.in_ok-jobs.ensures.live third) in
     let jobs = c.in_ok-jobs.ensures.found third w sound has_second in
     same_scene _ (cut w (tell c.args.r.now))
     (c.in_ok-settings.ensures.same ∙ settings_are)

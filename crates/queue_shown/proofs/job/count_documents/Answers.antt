@@ -10,7 +10,7 @@ use Rattle.queue_tables.proofs.Statements.{select_octets_is, select_octets_text}
 use Rattle.queue_shown.proofs.job.count_documents.Goals as goal
 
 pub select-requires : goal.select-requires
-select-requires g c = record { plain = select_octets_is.plain; query = select_octets_is.query }
+select-requires g c = record { query = select_octets_is.query }
 
 pub returns-clause-counted : goal.returns-clause-counted
 returns-clause-counted g c clean w j sound has there was =

@@ -1,37 +1,30 @@
 use Rattle.std.proofs.Common.{◌<◌, ◌≤◌, ◌∙◌, ap, length, List, get_or, filter, arith}
 use Rattle.std.proofs.lemmas.List.{length-map, take_all}
-use Rattle.sqlite.specs.Effect.{Database}
+use Rattle.sqlite.specs.Held.{state}
 use Rattle.sqlite.specs.Order.{Row}
 use Rattle.queue_tables.specs.Content.{content_of}
 use Rattle.queue_tables.specs.Values.{job_values}
 use Rattle.queue_shown.specs.Pages.{has_pages}
 use Rattle.queue_shown.proofs.SheetLemmas.{nth_job, nth_in, told_more}
+use Rattle.queue_tables.proofs.Leaving.{holds_after, leaves_then}
 use Rattle.queue_shown.proofs.sheets.jobs_of.Goals as goal
 
 pub loop-row-preserved : goal.loop-row-preserved
 loop-row-preserved g c =
     let before = c.loop-row.invariant in
     let step = c.in_ok-push_told.ensures in record {
-      clean = λ clean. before.clean (step.clean clean);
-      opened = λ clean is_open. before.opened (step.clean clean) (step.opened clean is_open);
-      live = λ clean was_open. step.live clean (before.live (step.clean clean) was_open);
-      same = λ clean is_open schema.
-          let mid = before.same (step.clean clean) (step.opened clean is_open) schema in
-          step.same clean is_open (ap (λ (d : Database). d.schema) mid ∙ schema) ∙ mid;
-      kept = λ clean is_open content has. step.kept clean is_open content (before.kept (step.clean clean) (step.opened clean is_open) content has);
-      back = λ clean content has. before.back (step.clean clean) content (step.back clean content has);
+      leaves = leaves_then (state g.S.Store c.args.conn.now) (state g.S.Store c.loop-row.conn) (state g.S.Store c.push_told.new.conn) c.loop-row.invariant.leaves c.push_told.ensures.leaves;
+      live = λ clean was_open. step.live clean (before.live (c.push_told.ensures.leaves.clean clean) was_open);
       told = λ clean w js sound has all is.
-          let early = step.clean clean in
+          let early = c.push_told.ensures.leaves.clean clean in
           let low : c.loop-row.row-index < length js = (let below = c.loop-row-test.true in let size = ap (length {A = Row}) is in omega (arith, below, size, length-map js job_values)) in
           let here = nth_job js c.loop-row.row-index c.row-item.result low (c.row-item.is ∙ ap (λ (rs : List Row). get_or rs c.loop-row.row-index c.row-item.result) is) in
-          let mid = before.kept early (before.live early has.live) (content_of w) has in
+          let mid = holds_after before.leaves early (content_of w) has (before.live early has.live) in
           told_more js c.loop-row.row-index here.0 _ _ low here.2 (before.told early w js sound has all is) (step.told clean w here.0 sound mid (nth_in w js c.loop-row.row-index here.0 low here.2 all) here.1);
     }
 
-pub returns-in_err-push_told-clause-back : goal.returns-in_err-push_told-clause-back
-returns-in_err-push_told-clause-back g c clean content has =
-    let step = c.in_err-push_told.ensures in
-    c.loop-row.invariant.back (step.clean clean) content (step.back clean content has)
+pub returns-in_err-push_told-clause-leaves : goal.returns-in_err-push_told-clause-leaves
+returns-in_err-push_told-clause-leaves g c = leaves_then (state g.S.Store c.args.conn.now) (state g.S.Store c.loop-row.conn) (state g.S.Store c.push_told.new.conn) c.loop-row.invariant.leaves c.push_told.ensures.leaves
 
 pub returns-clause-told : goal.returns-clause-told
 returns-clause-told g c clean w js sound has all is =

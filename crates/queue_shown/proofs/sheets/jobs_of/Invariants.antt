@@ -5,8 +5,8 @@ use Rattle.queue_core.specs.Sound.{IsSound}
 use Rattle.queue_core.specs.World.{World}
 use Rattle.queue_types.specs.declared.job.Job.{Job}
 use Rattle.queue_shown.specs.Pages.{AreIn, has_pages}
-use Rattle.queue_tables.specs.Content.{Content, Holds, content_of}
-use Rattle.queue_tables.specs.Tables.{book_schema}
+use Rattle.queue_tables.specs.Content.{Holds, content_of}
+use Rattle.queue_tables.specs.Leaving.{LeavesTables}
 use Rattle.queue_tables.specs.Values.{job_values}
 use Rattle.queue_shown.proofs.sheets.jobs_of.Given as goal
 
@@ -15,11 +15,7 @@ abbrev pub invariant-loop-row : goal.invariant-loop-row
 invariant-loop-row g l =
     let old = state g.S.Store l.fn.conn in
     let now = state g.S.Store l.conn in record {
-      clean : HasCleanDisk now → HasCleanDisk old;
-      opened : HasCleanDisk now → IsTrue now.is_open → IsTrue old.is_open;
+      leaves : LeavesTables old now;
       live : HasCleanDisk now → IsTrue old.is_open → IsTrue now.is_open;
-      same : HasCleanDisk now → IsTrue now.is_open → old.now.schema ≡ book_schema → now.now ≡ old.now;
-      kept : HasCleanDisk now → IsTrue now.is_open → (c : Content) → Holds c old → Holds c now;
-      back : HasCleanDisk now → (c : Content) → Holds c now → Holds c old;
       told : HasCleanDisk now → (w : World) (js : List Job) → IsSound w → Holds (content_of w) old → AreIn w js → l.found ≡ map job_values js → l.jobs.items ≡ filter has_pages (take l.row-index js);
     }

@@ -1,15 +1,16 @@
 use Rattle.sqlite.specs.Held.{state}
 use Rattle.queue_tables.specs.Content.{content_of}
 use Rattle.queue_store.proofs.Keeping.{still_keeps}
+use Rattle.queue_tables.proofs.Leaving.{held_by}
 use Rattle.queue_store.proofs.queue_book.TableBookQueueBook.document_head.Goals as goal
 
 pub returns-in_err-head-clause-kept : goal.returns-in_err-head-clause-kept
-returns-in_err-head-clause-kept g c w stood = still_keeps (state g.S.Store c.args.self.now.conn) (state g.S.Store c.document_head.new.conn) c.args.self.now.settings w c.document_head.ensures.clean c.document_head.ensures.opened (λ honest content has is_open. c.document_head.ensures.kept honest is_open content has) stood
+returns-in_err-head-clause-kept g c w stood = still_keeps (state g.S.Store c.args.self.now.conn) (state g.S.Store c.document_head.new.conn) c.args.self.now.settings w c.document_head.ensures.leaves stood
 
 pub returns-clause-kept : goal.returns-clause-kept
-returns-clause-kept g c w stood = still_keeps (state g.S.Store c.args.self.now.conn) (state g.S.Store c.document_head.new.conn) c.args.self.now.settings w c.document_head.ensures.clean c.document_head.ensures.opened (λ honest content has is_open. c.document_head.ensures.kept honest is_open content has) stood
+returns-clause-kept g c w stood = still_keeps (state g.S.Store c.args.self.now.conn) (state g.S.Store c.document_head.new.conn) c.args.self.now.settings w c.document_head.ensures.leaves stood
 
 pub returns-clause-head : goal.returns-clause-head
 returns-clause-head g c honest w stands =
     let now = stands honest in
-    c.in_ok-head.ensures.head honest w now.sound (c.document_head.ensures.back honest (content_of w) (now.holds (c.in_ok-head.ensures.live honest)))
+    c.in_ok-head.ensures.head honest w now.sound (held_by c.document_head.ensures.leaves honest (content_of w) (now.holds (c.in_ok-head.ensures.live honest)))

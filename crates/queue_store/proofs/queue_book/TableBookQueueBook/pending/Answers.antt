@@ -1,15 +1,16 @@
 use Rattle.sqlite.specs.Held.{state}
 use Rattle.queue_tables.specs.Content.{content_of}
 use Rattle.queue_store.proofs.Keeping.{still_keeps}
+use Rattle.queue_tables.proofs.Leaving.{held_by}
 use Rattle.queue_store.proofs.queue_book.TableBookQueueBook.pending.Goals as goal
 
 pub returns-in_err-jobs-clause-kept : goal.returns-in_err-jobs-clause-kept
-returns-in_err-jobs-clause-kept g c w stood = still_keeps (state g.S.Store c.args.self.now.conn) (state g.S.Store c.pending.new.conn) c.args.self.now.settings w c.pending.ensures.clean c.pending.ensures.opened c.pending.ensures.kept stood
+returns-in_err-jobs-clause-kept g c w stood = still_keeps (state g.S.Store c.args.self.now.conn) (state g.S.Store c.pending.new.conn) c.args.self.now.settings w c.pending.ensures.leaves stood
 
 pub returns-clause-kept : goal.returns-clause-kept
-returns-clause-kept g c w stood = still_keeps (state g.S.Store c.args.self.now.conn) (state g.S.Store c.pending.new.conn) c.args.self.now.settings w c.pending.ensures.clean c.pending.ensures.opened c.pending.ensures.kept stood
+returns-clause-kept g c w stood = still_keeps (state g.S.Store c.args.self.now.conn) (state g.S.Store c.pending.new.conn) c.args.self.now.settings w c.pending.ensures.leaves stood
 
 pub returns-clause-jobs : goal.returns-clause-jobs
 returns-clause-jobs g c honest w stands =
     let now = stands honest in
-    c.in_ok-jobs.ensures.shows honest w now.sound (c.pending.ensures.back honest (content_of w) (now.holds (c.in_ok-jobs.ensures.live honest)))
+    c.in_ok-jobs.ensures.shows honest w now.sound (held_by c.pending.ensures.leaves honest (content_of w) (now.holds (c.in_ok-jobs.ensures.live honest)))

@@ -1,15 +1,16 @@
 use Rattle.sqlite.specs.Held.{state}
 use Rattle.queue_tables.specs.Content.{content_of}
 use Rattle.queue_store.proofs.Keeping.{still_keeps}
+use Rattle.queue_tables.proofs.Leaving.{held_by}
 use Rattle.queue_store.proofs.queue_book.TableBookQueueBook.sheet.Goals as goal
 
 pub returns-in_err-sheet-clause-kept : goal.returns-in_err-sheet-clause-kept
-returns-in_err-sheet-clause-kept g c w stood = still_keeps (state g.S.Store c.args.self.now.conn) (state g.S.Store c.sheet.new.conn) c.args.self.now.settings w c.sheet.ensures.clean c.sheet.ensures.opened (λ honest content has is_open. c.sheet.ensures.kept honest is_open content has) stood
+returns-in_err-sheet-clause-kept g c w stood = still_keeps (state g.S.Store c.args.self.now.conn) (state g.S.Store c.sheet.new.conn) c.args.self.now.settings w c.sheet.ensures.leaves stood
 
 pub returns-clause-kept : goal.returns-clause-kept
-returns-clause-kept g c w stood = still_keeps (state g.S.Store c.args.self.now.conn) (state g.S.Store c.sheet.new.conn) c.args.self.now.settings w c.sheet.ensures.clean c.sheet.ensures.opened (λ honest content has is_open. c.sheet.ensures.kept honest is_open content has) stood
+returns-clause-kept g c w stood = still_keeps (state g.S.Store c.args.self.now.conn) (state g.S.Store c.sheet.new.conn) c.args.self.now.settings w c.sheet.ensures.leaves stood
 
 pub returns-clause-sheet : goal.returns-clause-sheet
 returns-clause-sheet g c honest w stands =
     let now = stands honest in
-    c.in_ok-sheet.ensures.sheet honest w now.sound (c.sheet.ensures.back honest (content_of w) (now.holds (c.in_ok-sheet.ensures.live honest)))
+    c.in_ok-sheet.ensures.sheet honest w now.sound (held_by c.sheet.ensures.leaves honest (content_of w) (now.holds (c.in_ok-sheet.ensures.live honest)))

@@ -1,15 +1,15 @@
 use Rattle.std.proofs.Common.{IsTrue, arith, rules}
 use Rattle.sqlite.specs.Held.{state}
 use Rattle.sqlite.specs.Values.{bound}
-use Rattle.queue_scenes.proofs.Leaving.{query_leaves_rows, shown_live}
-use Rattle.queue_scenes.proofs.select.select.Goals as goal
+use Rattle.queue_tables.proofs.Leaving.{query_leaves_tables, shown_live}
+use Rattle.queue_tables.proofs.select.select.Goals as goal
 
 pub returns-in_err-rows-clause-leaves : goal.returns-in_err-rows-clause-leaves
 returns-in_err-rows-clause-leaves g c =
     let old = state g.S.Store c.args.conn.now in
     let new = state g.S.Store c.query_all.new.self in
     let outside : IsTrue c.is_autocommit.result = search rules in
-    query_leaves_rows (λ rows. rows.items) c.args.sql.now (bound c.args.params.now) old new c.requires.query (c.is_autocommit.ensures.settled outside) c.query_all.result
+    query_leaves_tables (λ rows. rows.items) c.args.sql.now (bound c.args.params.now) old new c.requires.query c.query_all.result (c.is_autocommit.ensures.settled outside)
     (λ clean. omega (arith, c.query_all.ensures.survives.clean)) c.query_all.ensures.ok c.query_all.ensures.err
 
 pub returns-clause-leaves : goal.returns-clause-leaves
@@ -17,7 +17,7 @@ returns-clause-leaves g c =
     let old = state g.S.Store c.args.conn.now in
     let new = state g.S.Store c.query_all.new.self in
     let outside : IsTrue c.is_autocommit.result = search rules in
-    query_leaves_rows (λ rows. rows.items) c.args.sql.now (bound c.args.params.now) old new c.requires.query (c.is_autocommit.ensures.settled outside) c.query_all.result
+    query_leaves_tables (λ rows. rows.items) c.args.sql.now (bound c.args.params.now) old new c.requires.query c.query_all.result (c.is_autocommit.ensures.settled outside)
     (λ clean. omega (arith, c.query_all.ensures.survives.clean)) c.query_all.ensures.ok c.query_all.ensures.err
 
 pub returns-clause-live : goal.returns-clause-live

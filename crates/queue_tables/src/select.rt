@@ -3,21 +3,21 @@ ghost use Rattle.std.specs.Prelude.{IfOk, OnOk, IsTrue};
 ghost use Rattle.sqlite.specs.Held.{state};
 ghost use Rattle.sqlite.specs.State.{HasCleanDisk, Shown};
 ghost use Rattle.sqlite.specs.Values.{bound};
-ghost use Rattle.queue_scenes.specs.Leaving.{LeavesRows};
+ghost use Rattle.queue_tables.specs.Leaving.{LeavesTables};
 ghost use Rattle.queue_tables.specs.Queries.{IsQueryText};
 
-use queue_tables::fault::Fault;
+use crate::fault::Fault;
 use sqlite::types::ValueRef;
 use sqlite::{Alter, Connection, Row};
 
 /// All rows that a SELECT shows. A connection that is inside a transaction is refused as a disk that fails.
-pub(crate) fn select<S: Alter>(
+pub fn select<S: Alter>(
     conn: &mut Connection<S>,
     sql: &str,
     params: &[ValueRef<'_>],
 ) -> Result<Vec<Row>, Fault>
     requires query { IsQueryText sql.now }
-    ensures leaves { LeavesRows (state S.Store conn.old) (state S.Store conn.new) }
+    ensures leaves { LeavesTables (state S.Store conn.old) (state S.Store conn.new) }
     ensures live { HasCleanDisk (state S.Store conn.new) → OnOk result (IsTrue (state S.Store conn.new).is_open) }
     ensures shown { HasCleanDisk (state S.Store conn.new) → IfOk result (λ rows. Shown sql.now (bound params.now) (state S.Store conn.old) (state S.Store conn.new) rows.items) }
 {

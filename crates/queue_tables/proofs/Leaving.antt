@@ -1,0 +1,89 @@
+-- What a SELECT leaves, whatever it shows.
+use Rattle.std.proofs.Common.{◌≡◌, ◌⊎◌, List, ℕ, Option, None, Some, IsTrue, Result, Ok, Err, IfOk, IfErr, inl, inr, refl, sym, ◌∙◌}
+use Rattle.sqlite.specs.declared.error.Error.{Error}
+use Rattle.sqlite.specs.State.{State, HasCleanDisk, IsUnchanged, IsRolledBack, FailsToQuery, Shown, ShowsRows}
+use Rattle.sqlite.specs.Order.{Row}
+use Rattle.sqlite.specs.Clock.{timed}
+use Rattle.sqlite_resolve.specs.declared.compiled.Compiled.{Compiled}
+use Rattle.sqlite_schema.specs.declared.command.Returning.{Returning}
+use Rattle.queue_tables.specs.Content.{Content, Holds}
+use Rattle.queue_tables.specs.Queries.{IsQueryText}
+use Rattle.queue_tables.proofs.Ending.{query_fails, same_holds}
+use Rattle.queue_tables.proofs.Queries.{query_changes_nothing, query_is_bare}
+use Rattle.queue_tables.specs.Leaving.{LeavesTables}
+
+-- nothing is done
+pub leaves_all : (s : State) → LeavesTables s s
+leaves_all s = record { clean = λ clean. clean; opened = λ clean live. live; same = λ clean live. refl }
+
+-- one after another
+pub leaves_then : (a b c : State) → LeavesTables a b → LeavesTables b c → LeavesTables a c
+leaves_then a b c first last = record {
+  clean = λ clean. first.clean (last.clean clean);
+  opened = λ clean live. first.opened (last.clean clean) (last.opened clean live);
+  same = λ clean live. last.same clean live ∙ first.same (last.clean clean) (last.opened clean live);
+}
+
+pub leaves_three : (a b c d : State) → LeavesTables a b → LeavesTables b c → LeavesTables c d → LeavesTables a d
+leaves_three a b c d first next last = leaves_then a c d (leaves_then a b c first next) last
+
+pub leaves_four : (a b c d e : State) → LeavesTables a b → LeavesTables b c → LeavesTables c d → LeavesTables d e → LeavesTables a e
+leaves_four a b c d e first second third last = leaves_then a d e (leaves_three a b c d first second third) last
+
+-- where rows are shown, the connection is open
+pub shown_live : (sql : List ℕ) (params : Row) (old new : State) (rows : List Row) → Shown sql params old new rows → IsTrue new.is_open
+unfolding Shown
+shown_live sql params old new rows h = at h.0 (timed params h.0.formats h.1.now) h.0.returning h.2
+  where
+    at : (c : Compiled) (given : Row) (r : Option Returning) → ShowsRows old new sql c given rows r → IsTrue new.is_open
+    at c given None it = it.3.0.is_open
+    at c given (Some what) it = it.1.shown.is_open
+
+-- what the tables held they hold, where the connection is open still
+pub holds_after : {old new : State} → LeavesTables old new → HasCleanDisk new → (c : Content) → Holds c old → IsTrue new.is_open → Holds c new
+holds_after {old} {new} leaves clean c has live = same_holds c old new has (leaves.same clean live) live
+
+-- and what they hold they held
+pub held_by : {old new : State} → LeavesTables old new → HasCleanDisk new → (c : Content) → Holds c new → Holds c old
+held_by {old} {new} leaves clean c has = same_holds c new old has (sym (leaves.same clean has.live)) (leaves.opened clean has.live)
+
+-- outside a transaction: nothing is changed, or what was begun is undone
+pub left_leaves : (old new : State) → (IsTrue old.is_open → old.now ≡ old.committed) → (HasCleanDisk new → HasCleanDisk old) → (HasCleanDisk new → IsUnchanged old new ⊎ IsRolledBack old new) → LeavesTables old new
+left_leaves old new settled early left = record {
+  clean = early;
+  opened = λ clean live. opened (left clean) live;
+  same = λ clean live. same (left clean) live;
+}
+  where
+    opened : IsUnchanged old new ⊎ IsRolledBack old new → IsTrue new.is_open → IsTrue old.is_open
+    opened (inl unchanged) live = unchanged.0.was_open
+    opened (inr back) live = back.was_open live
+
+    same : IsUnchanged old new ⊎ IsRolledBack old new → IsTrue new.is_open → new.now ≡ old.now
+    same (inl unchanged) live = unchanged.0.now_is
+    same (inr back) live = (back.undone live).0 ∙ sym (settled (back.was_open live))
+
+module _ {R : Type 0} (shows : R → List Row) (sql : List ℕ) (params : Row) (old new : State) (query : IsQueryText sql) where
+  left_by : (r : Result R Error) → IfOk r (λ rows. Shown sql params old new (shows rows)) → IfErr r (FailsToQuery sql params old new) → IsUnchanged old new ⊎ IsRolledBack old new
+  left_by (Ok rows) ok err = inl (query_changes_nothing sql params old new (shows rows) query ok)
+  left_by (Err e) ok err = query_fails sql params old new e err
+
+  pub query_leaves_tables : (r : Result R Error) → (IsTrue old.is_open → old.now ≡ old.committed) → (HasCleanDisk new → HasCleanDisk old) → (HasCleanDisk new → IfOk r (λ rows. Shown sql params old new (shows rows)))
+      → (HasCleanDisk new → IfErr r (FailsToQuery sql params old new)) → LeavesTables old new
+  query_leaves_tables r settled early ok err = left_leaves old new settled early (λ clean. left_by r (ok clean) (err clean))
+
+-- ---- a SELECT shows the same over a connection that stays as it was
+
+still : (old new : State) → IsUnchanged old new → IsUnchanged old old
+still old new same = (
+  record { was_open = same.0.was_open; is_open = same.0.was_open; now_is = refl; committed_is = refl; mode = refl },
+  record { changes = refl; last_rowid = refl },
+  refl,
+)
+
+pub shown_still : (sql : List ℕ) (params : Row) (old new : State) (rows : List Row) → IsQueryText sql → Shown sql params old new rows → Shown sql params old old rows
+unfolding Shown
+shown_still sql params old new rows query h =
+    let bare = query_is_bare old.now.schema sql h.0 query h.1.is in
+    let it = rw bare at h.2 in
+    (h.0, h.1, rw bare (it.0, it.1, it.2, still old new it.3))
