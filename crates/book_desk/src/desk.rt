@@ -1,6 +1,5 @@
 //! A queue in a book, and what its steps come to.
 
-ghost use Rattle.std.specs.Prelude.{◌≤◌, length};
 ghost use Rattle.queue_core.specs.Limits.{IsMoment};
 
 use crate::fault::StepFault;

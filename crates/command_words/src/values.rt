@@ -1,6 +1,6 @@
 //! The values of a subcommand's arguments.
 
-ghost use Rattle.std.specs.Prelude.{◌≡◌, ◌≤◌, codes};
+ghost use Rattle.std.specs.Prelude.{◌≡◌, ◌≤◌};
 ghost use Rattle.clap.specs.Words.{found_of, rows_of};
 ghost use Rattle.command_words.specs.Values.{IsNumberAt, IsInit, IsServe, IsImport, IsStatement, text_at};
 

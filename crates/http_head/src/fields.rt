@@ -1,12 +1,11 @@
 //! Field lines, and the words in their values (RFC 9110, section 5).
-ghost use Rattle.std.specs.Prelude.{◌≡◌, ◌≤◌, ◌==◌, length, map, not, bytes_eq, option_map, if◌then◌else◌, Some, None, true, min};
+ghost use Rattle.std.specs.Prelude.{◌≡◌, ◌≤◌, ◌==◌, length, map, not, if◌then◌else◌, Some, None, true, min};
 ghost use Rattle.std.specs.List.{before_first, after_first, position, list_all};
 ghost use Rattle.std.specs.Option.{option_copied};
 ghost use Rattle.std.specs.Char.{is_ascii_digit};
 ghost use Rattle.std.specs.Str.{is_utf8};
 ghost use Rattle.std.specs.Str.Parse.{digits_value};
 ghost use Rattle.httparse.specs.Spans.{span_bytes, header_bytes};
-ghost use Rattle.arrayvec.specs.ArrayVec.{array_vec_len};
 ghost use Rattle.http_head.specs.Fields as spec;
 
 use arrayvec::ArrayVec;

@@ -1,5 +1,5 @@
 //! The routes of the server.
-ghost use Rattle.std.specs.Prelude.{◌≡◌, IfOk, option_map};
+ghost use Rattle.std.specs.Prelude.{◌≡◌, IfOk};
 ghost use Rattle.http_head.specs.Routes as spec;
 
 use matchit::{InsertError, Router};

@@ -1,5 +1,5 @@
 //! The chunks of a chunked body: a chunk line, and the content and the CR LF behind it (RFC 9112, section 7.1).
-ghost use Rattle.std.specs.Prelude.{◌≡◌, ◌+◌, ◌<◌, ◌≤◌, ◌++◌, length, take, IfErr, IfOk, IfSome, OnOk};
+ghost use Rattle.std.specs.Prelude.{◌≡◌, ◌+◌, ◌<◌, ◌≤◌, take, IfErr, IfOk, IfSome, OnOk};
 ghost use Rattle.std.specs.Io.KnownBytes.{Consumes, Keeps};
 ghost use Rattle.httparse.specs.Ascii.{crlf_bytes};
 ghost use Rattle.httparse.specs.Grammar.{ChunkLine};

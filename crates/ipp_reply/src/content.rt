@@ -1,5 +1,5 @@
 //! The values of a reply's attribute, before they are put into a message.
-ghost use Rattle.std.specs.Prelude.{◌≡◌, ◌++◌, ◌∷◌, ◌<◌, [], IfOk, OnOk, length, map};
+ghost use Rattle.std.specs.Prelude.{◌≡◌, ◌∷◌, ◌<◌, [], IfOk, OnOk, length, map};
 ghost use Rattle.ipp_wire.specs.Viewed.{value_of, values_of};
 ghost use Rattle.ipp_reply.specs.Operations.{id, operations};
 ghost use Rattle.ipp_wire.specs.Message.{IsAttribute};

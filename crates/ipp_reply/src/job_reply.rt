@@ -1,5 +1,5 @@
 //! The job attributes of a reply, as a table in order (RFC 8011, section 5.3).
-ghost use Rattle.std.specs.Prelude.{◌≡◌, ◌++◌, ◌∷◌, [], ◌≤◌, ◌^◌, ◌+◌, ◌/◌, IfOk, OnOk, OnErr, All, filter, length, map};
+ghost use Rattle.std.specs.Prelude.{◌≡◌, ◌++◌, ◌∷◌, [], ◌≤◌, ◌^◌, ◌+◌, ◌/◌, IfOk, OnOk, All, filter, length, map};
 ghost use Rattle.std.specs.List.{list_any};
 ghost use Rattle.ipp_wire.specs.Viewed.{values_of};
 ghost use Rattle.queue_core.specs.Limits.{IsSoundJob};

@@ -1,5 +1,5 @@
 //! The printer attributes of a reply, as a table in order (RFC 8011, section 5.4).
-ghost use Rattle.std.specs.Prelude.{◌≡◌, ◌++◌, ◌∷◌, [], IfOk, OnOk, codes, filter, map};
+ghost use Rattle.std.specs.Prelude.{◌≡◌, ◌++◌, ◌∷◌, [], IfOk, OnOk, codes, filter};
 ghost use Rattle.std.specs.List.{list_any};
 ghost use Rattle.ipp_wire.specs.Viewed.{values_of};
 ghost use Rattle.queue_types.specs.Settings.{AreSettings};

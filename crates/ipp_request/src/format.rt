@@ -1,6 +1,6 @@
 //! The document format that a media type names (RFC 8011, section 5.4.22).
 ghost use Rattle.std.specs.Prelude.{◌≡◌, ◌==◌};
-ghost use Rattle.std.specs.List.{before_first, position, suffix_len};
+ghost use Rattle.std.specs.List.{before_first, position};
 ghost use Rattle.std.specs.Str.{byte, str_eq_ignore_ascii_case};
 ghost use Rattle.ipp_request.specs.Formats as spec;
 ghost use Rattle.queue_types.specs.Formats.{format_name};

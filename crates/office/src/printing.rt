@@ -1,5 +1,5 @@
 //! The statement of an account is printed.
-ghost use Rattle.std.specs.Prelude.{◌≡◌, IfOk, OnOk, IfErr, None, Some};
+ghost use Rattle.std.specs.Prelude.{◌≡◌, OnOk, IfErr, None, Some};
 ghost use Rattle.std.specs.Io.KnownBytes.{Appends};
 ghost use Rattle.office.specs.declared.fault.OfficeFault.TheVariants.{NoAccount};
 ghost use Rattle.office.specs.Faults.{IsOfStream};

@@ -1,5 +1,5 @@
 //! What the machine decides on an account file: its rows are taken in order, all of them or none.
-ghost use Rattle.std.specs.Prelude.{◌≡◌, ◌≤◌, ◌<◌, ◌+◌, ◌+ℤ◌, ◌^◌, ◌==◌, ◌++◌, ◌∷◌, [], ℕ, pos, All, List, None, Some, IfOk, IsSome, OnOk, bytes_eq, if◌then◌else◌, length, nat_lt, option_map, unwrap_or};
+ghost use Rattle.std.specs.Prelude.{◌≡◌, ◌≤◌, ◌<◌, ◌+◌, ◌+ℤ◌, ◌^◌, ◌==◌, ◌++◌, ◌∷◌, [], ℕ, pos, All, List, None, Some, IfOk, IsSome, bytes_eq, if◌then◌else◌, length, nat_lt, option_map, unwrap_or};
 ghost use Rattle.queue_types.specs.Event.{decision_of};
 ghost use Rattle.queue_types.specs.declared.event.GrantFault.TheVariants.{Conflict, TooMany};
 ghost use Rattle.queue_core.specs.Grants.{is_too_many, new_row, refused_row, repeated, row_of, row_under, take_rows as rows_taken};

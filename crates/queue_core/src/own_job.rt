@@ -1,6 +1,5 @@
 //! What the machine decides on a job of the caller's own.
 ghost use Rattle.std.specs.Prelude.{◌≡◌, ◌≤◌, ◌∷◌, [], All, IfOk, IfErr, option_map};
-ghost use Rattle.queue_core.specs.Balance.{AreAmounts};
 ghost use Rattle.queue_types.specs.Event.{decision_of, document_of};
 ghost use Rattle.queue_types.specs.Job.{estimate};
 ghost use Rattle.queue_core.specs.Limits.{IsFair, IsSoundJob};

@@ -1,5 +1,5 @@
 //! What Get-Jobs, Get-Job-Attributes and Get-Printer-Attributes show (RFC 8011, sections 4.2.5, 4.2.6 and 4.3.4).
-ghost use Rattle.std.specs.Prelude.{ℕ, ◌≡◌, ◌&&◌, [], ◌∷◌, Bool, true, List, Option, Some, None, count_by, take};
+ghost use Rattle.std.specs.Prelude.{ℕ, ◌≡◌, ◌&&◌, [], ◌∷◌, Bool, true, List, Option, Some, None, count_by};
 ghost use Rattle.queue_types.specs.Event.{ask, get_jobs, get_job_attributes, get_printer_attributes};
 ghost use Rattle.queue_core.specs.Machine.{step};
 ghost use Rattle.queue_core.specs.Order.{AreByRank};

@@ -1,5 +1,5 @@
 //! The rows of jobs: each one's own limits, and the order of their numbers.
-ghost use Rattle.std.specs.Prelude.{◌≡◌, ◌↔◌, ◌≤◌, ◌^◌, All, IsTrue, IsSome, IfSome, None, false};
+ghost use Rattle.std.specs.Prelude.{◌≡◌, ◌↔◌, All, IsTrue, IsSome, IfSome, None, false};
 ghost use Rattle.queue_core.specs.Limits.{IsPositive, IsMoment, FitsPhase};
 ghost use Rattle.queue_rows.specs.Jobs.{IsJobRow, NumbersRise};
 

@@ -1,5 +1,5 @@
 //! The row of the table `meta`.
-ghost use Rattle.std.specs.Prelude.{◌≡◌, ◌↔◌, IfOk, IsTrue};
+ghost use Rattle.std.specs.Prelude.{◌↔◌, IfOk, IsTrue};
 ghost use Rattle.queue_rows.specs.Meta.{IsSoundMeta};
 
 use crate::rows::MetaRow;

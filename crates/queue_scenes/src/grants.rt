@@ -1,5 +1,5 @@
 //! What is known of the rows of an account file.
-ghost use Rattle.std.specs.Prelude.{◌≡◌, All, map, IfOk, OnOk, IfSome, IsTrue, option_map};
+ghost use Rattle.std.specs.Prelude.{◌≡◌, All, map, IfOk, OnOk, IsTrue, option_map};
 ghost use Rattle.std.specs.FinMap.{get};
 ghost use Rattle.sqlite.specs.Held.{state};
 ghost use Rattle.sqlite.specs.State.{HasCleanDisk};

@@ -3,7 +3,6 @@ ghost use Rattle.std.specs.Prelude.{◌≡◌, ◌≢◌, [], IfErr, IfOk, Ok, O
 ghost use Rattle.sqlite.specs.State.{ExecutesInside};
 ghost use Rattle.sqlite.specs.State.{HasCleanDisk, KeepsCommit};
 ghost use Rattle.sqlite.specs.Held.{state};
-ghost use Rattle.queue_rows.specs.declared.rows.MetaRow.{MetaRow as MetaValue};
 ghost use Rattle.queue_store.specs.Made.{IsMade, schema4, schema7, schema10};
 ghost use Rattle.queue_store.specs.New.{new_content};
 ghost use Rattle.queue_tables.specs.Content.{Content, Holds};

@@ -1,5 +1,5 @@
 //! The pages that a job takes of its owner's account.
-ghost use Rattle.std.specs.Prelude.{◌≡◌, ℕ, ◌≤◌, ◌*◌, ◌-◌, IfOk, pos, neg_ℤ, ◌≤ℤ◌, if◌then◌else◌};
+ghost use Rattle.std.specs.Prelude.{◌≡◌, ◌≤◌, ◌*◌, ◌-◌, IfOk, pos, neg_ℤ, ◌≤ℤ◌, if◌then◌else◌};
 ghost use Rattle.queue_core.specs.Balance.{AreAmounts};
 ghost use Rattle.queue_types.specs.Job.{owed};
 

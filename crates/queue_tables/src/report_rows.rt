@@ -4,9 +4,8 @@ ghost use Rattle.std.specs.FinMap.{get};
 ghost use Rattle.sqlite.specs.State.{HasCleanDisk, KeepsCommit};
 ghost use Rattle.sqlite.specs.Held.{state};
 ghost use Rattle.queue_core.specs.World.{World};
-ghost use Rattle.queue_tables.specs.Content.{Content, Holds, content_of};
+ghost use Rattle.queue_tables.specs.Content.{Holds, content_of};
 ghost use Rattle.queue_tables.specs.Steps.{with_kept};
-ghost use Rattle.queue_tables.specs.Values.{report_values};
 
 use crate::fault::Fault;
 use crate::run::run;

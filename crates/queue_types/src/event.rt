@@ -1,5 +1,5 @@
 //! What may happen to a queue, what it answers, and what becomes of its rows.
-ghost use Rattle.std.specs.Prelude.{◌≡◌, IfOk, length};
+ghost use Rattle.std.specs.Prelude.{◌≡◌, IfOk};
 ghost use Rattle.queue_types.specs.Event.{call_of, on_job};
 
 use crate::document::Format;

@@ -12,7 +12,7 @@
 //!
 //! (RFC 8011, section 5.3.7.) A running or stopped job ends by the device alone: a cancel only marks it
 //! as stopping. Only a running job completes, and only a running or stopped one is aborted.
-ghost use Rattle.std.specs.Prelude.{◌≡◌, length, IfOk, Some, None, if◌then◌else◌};
+ghost use Rattle.std.specs.Prelude.{◌≡◌, IfOk, Some, None, if◌then◌else◌};
 ghost use Rattle.queue_types.specs.Job.{estimate, is_live, owed, reasons, state};
 
 use crate::list::ListOf;

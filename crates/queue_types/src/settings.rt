@@ -2,7 +2,7 @@
 ghost use Rattle.std.specs.Prelude.{◌≡◌, ◌↔◌, IfOk, IsOk, Err, bytes_eq};
 ghost use Rattle.std.specs.List.{list_all};
 ghost use Rattle.queue_types.specs.Settings.{AreSettings, is_uri_byte};
-ghost use Rattle.queue_types.specs.Uri.{path_of, printer_path};
+ghost use Rattle.queue_types.specs.Uri.{printer_path};
 
 use crate::limits::{MOST_IMPRESSIONS, MOST_NAME_OCTETS};
 use crate::text::Text;
