@@ -3,7 +3,7 @@ ghost use Rattle.std.specs.Prelude.{◌≡◌};
 ghost use Rattle.office.specs.declared.fault.OfficeFault.TheVariants as faults;
 ghost use Rattle.office.specs.Faults.{fault_of_book};
 
-use grants_csv::{ImportCause, ImportFault};
+use grants_csv::ImportFault;
 use queue_core::book::BookFault;
 use std::alloc::AllocError;
 use std::io;

@@ -1,7 +1,6 @@
 //! Requests that are refused: each fails one check, and those behind it.
 
 use http_desk::compare::Mismatch;
-use http_desk::connection::Wanted;
 use http_desk::connection::Wanted::Continue;
 use http_desk::refused::{
     BAD, GET_ALLOWED, NO_LENGTH, NOT_FOUND, OTHER_TYPE, POST_ALLOWED, TOO_LARGE, refuse_all,
