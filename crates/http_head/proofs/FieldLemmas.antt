@@ -106,8 +106,9 @@ pub there-map : {X : Type 0} (f : X → List ℕ) (xs : List X) → is_there (ma
 there-map f [] = refl
 there-map f (x ∷ xs) = refl
 
-three_is : (a b c d e f : Bool) → a ≡ d → b ≡ e → c ≡ f → (a && b && c) ≡ (d && e && f)
-three_is a b c d e f p q r = rw (p, q, r) refl
+and_and : (a b c : Bool) → ((a && b) && c) ≡ (a && b && c)
+and_and true b c = refl
+and_and false b c = refl
 
-pub typed_is : (a b c d e f r : Bool) → r ≡ (a && b && c) → a ≡ d → b ≡ e → c ≡ f → r ≡ (d && e && f)
-typed_is a b c d e f r h p q s = h ∙ three_is a b c d e f p q s
+pub three_are : (a b c d e f : Bool) → a ≡ d → b ≡ e → c ≡ f → ((a && b) && c) ≡ (d && e && f)
+three_are a b c d e f p q r = rw (p, q, r) (and_and d e f)

@@ -35,12 +35,6 @@ fn are_identity(come: &[u8], codings: &[Span]) -> bool
         .all(|s| same_word(text_at(come, *s), b"identity"))
 }
 
-fn all_three(a: bool, b: bool, c: bool) -> bool
-    ensures { result ≡ (a && b && c) }
-{
-    a && b && c
-}
-
 /// The content has the media type that is asked, by each Content-Type, and no content coding, by each Content-Encoding.
 pub fn is_typed(asked: &[u8], come: &[u8], fields: &[HeaderSpan]) -> bool
     requires { length fields.now ≤ 64 }
@@ -49,10 +43,9 @@ pub fn is_typed(asked: &[u8], come: &[u8], fields: &[HeaderSpan]) -> bool
 {
     let types = values(come, fields, b"content-type");
     let codings = values(come, fields, b"content-encoding");
-    let some = is_there(types.as_slice());
-    let typed = are_types(come, types.as_slice(), asked);
-    let plain = are_identity(come, codings.as_slice());
-    all_three(some, typed, plain)
+    is_there(types.as_slice())
+        & are_types(come, types.as_slice(), asked)
+        & are_identity(come, codings.as_slice())
 }
 
 fn any_has(come: &[u8], values: &[Span], word: &[u8]) -> bool

@@ -49,10 +49,7 @@ impl Framing {
 pub fn is_there(values: &[Span]) -> bool
     ensures { result ≡ spec.is_there values.now }
 {
-    match values {
-        [] => false,
-        [_, ..] => true,
-    }
+    !values.is_empty()
 }
 
 fn is_chunked_alone(come: &[u8], codings: &[Span]) -> bool
@@ -91,12 +88,6 @@ fn all_same(come: &[u8], lengths: &[Span]) -> bool
     are_as(come, first_text(come, lengths), lengths)
 }
 
-fn misframed_by(coded: bool, told: bool, chunked: bool, digits: bool, same: bool) -> bool
-    ensures { result ≡ ((coded && told) || (coded && not chunked) || (told && not (digits && same))) }
-{
-    (coded && told) || (coded && !chunked) || (told && !(digits && same))
-}
-
 /// Both are there, or the transfer codings are not chunked alone, or the lengths are not one number.
 pub fn is_misframed(come: &[u8], codings: &[Span], lengths: &[Span]) -> bool
     ensures { result ≡ spec.misframed (map (span_bytes come.now) codings.now) (map (span_bytes come.now) lengths.now) }
@@ -106,7 +97,7 @@ pub fn is_misframed(come: &[u8], codings: &[Span], lengths: &[Span]) -> bool
     let chunked = is_chunked_alone(come, codings);
     let digits = are_digits(come, lengths);
     let same = all_same(come, lengths);
-    misframed_by(coded, told, chunked, digits, same)
+    (coded & told) | (coded & !chunked) | (told & !(digits & same))
 }
 
 /// The framing, where it isn't misframed. A length over the limit is told as the limit and one more.

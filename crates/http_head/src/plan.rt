@@ -33,18 +33,6 @@ fn first_of(headers: &[HeaderSpan; 64], n: usize) -> &[HeaderSpan]
     &headers[..n.min(64)]
 }
 
-fn are_both(a: bool, b: bool) -> bool
-    ensures { result ≡ (a && b) }
-{
-    a && b
-}
-
-fn is_either(a: bool, b: bool) -> bool
-    ensures { result ≡ (a || b) }
-{
-    a || b
-}
-
 /// The plan of what the spans cover, or the first check that applies to it.
 fn plan_said(
     router: &Router<Route>,
@@ -77,14 +65,8 @@ fn plan_said(
     ) {
         return Err(refusal);
     }
-    let expects = are_both(
-        spans.version == 1,
-        asks_for(come, fields, b"expect", b"100-continue"),
-    );
-    let closes = is_either(
-        spans.version == 0,
-        asks_for(come, fields, b"connection", b"close"),
-    );
+    let expects = (spans.version == 1) & asks_for(come, fields, b"expect", b"100-continue");
+    let closes = (spans.version == 0) | asks_for(come, fields, b"connection", b"close");
     Ok(Plan {
         target,
         framing,

@@ -59,7 +59,7 @@ returns c =
     let D : map (span_bytes come) c.as_slice-3.result.now ≡ codings h = values_said come c.args.headers.now _ c.args.spans.headers (codes "transfer-encoding") _ _ c.as_slice-3.ensures.value c.values-codings.ensures fields in
     let M : map (span_bytes come) c.as_slice-4.result.now ≡ lengths h = values_said come c.args.headers.now _ c.args.spans.headers (codes "content-length") _ _ c.as_slice-4.ensures.value c.values-lengths.ensures fields in
     let t = c.in-Some.target in
-    planned h t c.routed.result c.is_misframed-misframed.result c.framing_told-framing.result c.text_at-2.result.now c.is_typed-typed.result c.are_both-expects.result c.is_either-closes.result c.routed_refusal.result
+    planned h t c.routed.result c.is_misframed-misframed.result c.framing_told-framing.result c.text_at-2.result.now c.is_typed-typed.result ((c.args.spans.version == 1) && c.asks_for.result) ((c.args.spans.version == 0) || c.asks_for-2.result) c.routed_refusal.result
     (c.routed.ensures ∙ ap routed (c.path_of.ensures ∙ ap path_of c.text_at.ensures)) (search rules)
     (misframed_said _ _ _ _ _ c.is_misframed-misframed.ensures C L)
     (framing_said _ _ _ _ _ D M c.framing_told-framing.ensures)
@@ -68,5 +68,5 @@ returns c =
     ∙ ap (λ fs. are_typed (media_type_of t) (values (codes "content-type") (fields_at come fs)) (values (codes "content-encoding") (fields_at come fs))) fields)
     c.routed_refusal.ensures
     (search rules)
-    (c.are_both-expects.ensures ∙ ap (λ (b : Bool). (c.args.spans.version == 1) && b) (c.asks_for.ensures ∙ ap (λ fs. list_any (has_member (codes "100-continue")) (values (codes "expect") (fields_at come fs))) fields))
-    (c.is_either-closes.ensures ∙ ap (λ (b : Bool). (c.args.spans.version == 0) || b) (c.asks_for-2.ensures ∙ ap (λ fs. list_any (has_member (codes "close")) (values (codes "connection") (fields_at come fs))) fields))
+    (ap (λ (b : Bool). (c.args.spans.version == 1) && b) (c.asks_for.ensures ∙ ap (λ fs. list_any (has_member (codes "100-continue")) (values (codes "expect") (fields_at come fs))) fields))
+    (ap (λ (b : Bool). (c.args.spans.version == 0) || b) (c.asks_for-2.ensures ∙ ap (λ fs. list_any (has_member (codes "close")) (values (codes "connection") (fields_at come fs))) fields))
