@@ -1,13 +1,12 @@
 -- A table that is read whole, row by row.
-use Rattle.std.proofs.Common.{◌≡◌, inl, inr, ℕ, List, [], ◌∷◌, ◌++◌, Ok, Err, Result, IsErrAnd, IfErr, sym, ap, subst, ◌∙◌}
+use Rattle.std.proofs.Common.{◌≡◌, ℕ, List, [], ◌∷◌, ◌++◌, Ok, Err, Result, IsErrAnd, IfErr, sym, ap, subst, ◌∙◌}
 use Rattle.sqlite.specs.Order.{Row}
 use Rattle.sqlite.specs.Effect.{Database}
-use Rattle.sqlite.specs.declared.error.Error.{Error}
 use Rattle.sqlite.specs.Listing.{understood}
-use Rattle.sqlite.specs.State.{State, FailsToQuery, IsNotRun}
+use Rattle.sqlite.specs.State.{State}
 use Rattle.sqlite.proofs.Callers.{IsPlain}
 use Rattle.sqlite_schema.specs.declared.schema.Schema.{Schema}
-use Rattle.queue_load.specs.Reads.{FindsFormless, HasRead, LeavesRows, Tell}
+use Rattle.queue_load.specs.Reads.{FindsFormless, HasRead, Tell}
 use Rattle.queue_tables.specs.Tables.{book_schema}
 use Rattle.queue_tables.proofs.Reading.{answers_same, begins_at}
 use Rattle.queue_tables.specs.declared.fault.Fault.{Fault}
@@ -33,21 +32,6 @@ module _ (sql : List ℕ) (old now : State) (same : now.now ≡ old.now) where
 
   pub same_formless : (is_formless : Row → Type 0) → FindsFormless is_formless sql now → FindsFormless is_formless sql old
   same_formless is_formless h = record { before = h.before; row = h.row; there = begins_at sql [] old now (h.before ++ h.row ∷ []) same h.there; formless = h.formless }
-
--- ---- what a read that fails leaves
-
-module _ (sql : List ℕ) (params : Row) (old new : State) (e : Error) (schema_plain : IsPlain (understood old.now.schema sql)) where
-  not_run : IsNotRun old new sql params e → LeavesRows old new
-  unfolding IsNotRun
-  not_run (inl refused) = inl refused.1
-  not_run (inr failed) = inr failed.3
-
-  pub refused_leaving : FailsToQuery sql params old new e → LeavesRows old new
-  unfolding FailsToQuery
-  refused_leaving (inl unrun) = not_run unrun
-  refused_leaving (inr ran) =
-      let none = (subst IsPlain ran.1.is schema_plain).0 in
-      inl (rw none at ran.2).3
 
 -- an error that a `?` hands on
 pub err_after : {T : Type 0} (r : Result T Fault) (e : Fault) (P : Type 0) → IsErrAnd r (λ f. f ≡ e) → (e ≡ Damaged → P) → IfErr r (λ f. f ≡ Damaged → P)

@@ -8,7 +8,7 @@ use Rattle.queue_tables.specs.Tables.{book_schema}
 use Rattle.queue_load.specs.Loaded.{ArePieces, IsLong, Piece, row_of, whole_piece}
 use Rattle.queue_load.specs.Reads.{HasRead, Tell}
 use Rattle.queue_load.specs.Tells.{TellsPiece}
-use Rattle.queue_load.proofs.Texts.{pieces_select, pieces_names, pieces_terms, pieces_order, pieces_is}
+use Rattle.queue_load.proofs.Texts.{pieces_query, pieces_is}
 use Rattle.queue_load.proofs.Whole.{table_read, wide_rows}
 
 -- a piece with its bytes tells of the row
@@ -31,14 +31,12 @@ wholes (p ∷ ps) (r ∷ rs) told wide =
     let one : Piece = record { row = p; bytes = it.bytes } in
     record { pieces = one ∷ more.pieces; items_are = ap (λ (qs : List PieceRow). p ∷ qs) more.items_are; long = All-cons IsLong one more.pieces it.long more.long; told = (λ len. it.is, more.told) }
 
-pub pieces_read : (s : State) (items : List PieceRow) → s.now.schema ≡ book_schema → HasRead TellsPiece pieces_select s items → ArePieces items (s.now.trees 4)
+pub pieces_read : (s : State) (items : List PieceRow) → s.now.schema ≡ book_schema → HasRead TellsPiece pieces_query.sql s items → ArePieces items (s.now.trees 4)
 pieces_read s items has h =
-    let wide = wide_rows pieces_select pieces_names 4 pieces_terms pieces_order 3 pieces_is.command pieces_is.plain pieces_is.unlisted (λ db. refl) (λ r. refl) 4 (λ r. refl) s h.rows has h.all in
-    let it = wholes items h.rows h.told wide in
+    let it = wholes items h.rows h.told (wide_rows pieces_query pieces_is s h.rows has h.all) in
     record {
       pieces = it.pieces;
       items_are = it.items_are;
       long = it.long;
-      table = table_read pieces_select pieces_names 4 pieces_terms pieces_order 3 pieces_is.command pieces_is.plain pieces_is.unlisted (λ db. refl) (λ r. refl) TellsWhole whole_piece 4 (λ t r told. told) (λ r. refl) (λ a b. refl) s it.pieces has
-          (record { rows = h.rows; all = h.all; told = it.told });
+      table = table_read pieces_query pieces_is TellsWhole whole_piece (λ t r told. told) (λ a b. refl) s it.pieces has (record { rows = h.rows; all = h.all; told = it.told });
     }

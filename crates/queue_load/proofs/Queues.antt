@@ -96,31 +96,29 @@ module _ (w : World) (db : Trees) (sound : IsSound w) (are : AreSoundRows (rows_
   first_formed name =
       let documents = formed_documents w.jobs sound.entries in
       record {
-        meta = meta_row w ∷ [];
-        formed_meta = All-from_recursion IsFormedMeta (meta_row w ∷ []) (formed_meta w sound name, tt);
-        are_meta = held.meta.same;
-        jobs = (rows_of w).jobs;
-        formed_jobs = λ k d low. formed_job _ (are.tables.jobs.jobs k d low).sound;
-        are_jobs = held.jobs.same;
-        documents = (rows_of w).documents;
-        formed_documents = All-from_recursion IsFormedDocument (rows_of w).documents documents;
-        are_documents = held.documents.same;
-        pieces = wholes;
-        formed_pieces = All-from_recursion IsFormedWhole wholes (each_formed (rows_of w).pieces (bytes_of w) lengths (formed_pieces (rows_of w).documents documents));
-        are_pieces = wholes_held;
+        meta = record { items = meta_row w ∷ []; formed = All-from_recursion IsFormedMeta (meta_row w ∷ []) (formed_meta w sound name, tt); are = held.meta.same };
+        jobs = record { items = (rows_of w).jobs; formed = λ k d low. formed_job _ (are.tables.jobs.jobs k d low).sound; are = held.jobs.same };
+        documents = record { items = (rows_of w).documents; formed = All-from_recursion IsFormedDocument (rows_of w).documents documents; are = held.documents.same };
+        pieces = record {
+          items = wholes;
+          formed = All-from_recursion IsFormedWhole wholes (each_formed (rows_of w).pieces (bytes_of w) lengths (formed_pieces (rows_of w).documents documents));
+          are = wholes_held;
+        };
       }
 
   second_formed : HasAccountTables db
   second_formed = record {
-    accounts = (rows_of w).accounts;
-    formed_accounts = λ k d low. formed_account (rows_of w).grants are.tables.grants.grants (get_or (rows_of w).accounts k d) (are.tables.grants.granted k d low);
-    are_accounts = held.accounts.same;
-    grants = (rows_of w).grants;
-    formed_grants = λ k d low. formed_grant _ (are.tables.grants.grants k d low);
-    are_grants = held.grants.same;
-    reports = (rows_of w).reports;
-    formed_reports = λ k d low. formed_report (rows_of w).jobs are.tables.jobs.jobs _ (are.tables.reports.reports k d low) (are.tables.reports.there k d low);
-    are_reports = held.reports.same;
+    accounts = record {
+      items = (rows_of w).accounts;
+      formed = λ k d low. formed_account (rows_of w).grants are.tables.grants.grants (get_or (rows_of w).accounts k d) (are.tables.grants.granted k d low);
+      are = held.accounts.same;
+    };
+    grants = record { items = (rows_of w).grants; formed = λ k d low. formed_grant _ (are.tables.grants.grants k d low); are = held.grants.same };
+    reports = record {
+      items = (rows_of w).reports;
+      formed = λ k d low. formed_report (rows_of w).jobs are.tables.jobs.jobs _ (are.tables.reports.reports k d low) (are.tables.reports.there k d low);
+      are = held.reports.same;
+    };
   }
 
   -- ---- and are read as its rows

@@ -1,26 +1,22 @@
 -- A whole table that was read.
-use Rattle.std.proofs.Common.{◌≡◌, ◌≢◌, ℕ, List, [], ◌∷◌, ◌++◌, map, take, length, All, false, refl, sym, ap, subst, subst₂, ◌∙◌, arith, slice_index_or}
+use Rattle.std.proofs.Common.{◌≡◌, ◌≢◌, ℕ, List, [], ◌∷◌, ◌++◌, map, length, All, refl, sym, ap, subst, subst₂, ◌∙◌, arith, slice_index_or}
 use Rattle.std.specs.List.Sorted.{IsPermutation, IsSorted}
 use Rattle.std.proofs.lemmas.List.Elements.{All-cons, All-map, All-tail}
 use Rattle.std.proofs.lemmas.List.Sorted.{All-permutation, IsPermutation-sym}
 use Rattle.sqlite.specs.declared.types.Value.TheVariants.{Null}
 use Rattle.sqlite.specs.Order.{Row}
-use Rattle.sqlite.specs.Term.{Term, eval_all}
-use Rattle.sqlite_value.specs.declared.keys.Key.{Key}
 use Rattle.sqlite.specs.Query.{output_cmp}
-use Rattle.sqlite.specs.Command.TheVariants.{Select}
 use Rattle.sqlite.specs.Effect.{Reads}
 use Rattle.sqlite.specs.Listing.{understood, reads_listing, IsSourceOf}
 use Rattle.sqlite.specs.State.{State}
-use Rattle.sqlite.specs.Program.{overlay}
-use Rattle.sqlite.specs.Tree.{Trees}
 use Rattle.sqlite.proofs.Callers.{IsPlain, command_of}
 use Rattle.queue_tables.specs.Plain.{plain_query, shown_of}
 use Rattle.queue_tables.specs.Tables.{book_schema}
 use Rattle.queue_tables.proofs.Writing.{IsListing, lists, begins_rows}
 use Rattle.queue_load.specs.Reads.{Answers, Tell, HasRead, FindsFormless}
-use Rattle.queue_load.specs.Loaded.{IsTable, key_cmp}
+use Rattle.queue_load.specs.Loaded.{AreFormedRows, IsTable, key_cmp}
 use Rattle.queue_load.proofs.Listing.{sorted_by, listing_is, typed_sorted, given_is}
+use Rattle.queue_load.proofs.Texts.{IsWhole, WholeQuery, selection_of}
 
 -- the items that tell of rows of that width
 pub told_rows : {T : Type 0} (tells : T → Row → Type 0) (values : T → Row) (n : ℕ) → ((t : T) (r : Row) → tells t r → length r ≡ n → r ≡ values t) → (ts : List T) (rs : List Row) → Tell tells ts rs → All (λ r. length r ≡ n) rs
@@ -38,44 +34,43 @@ told_all tells P each [] rs told = λ i d low. absurd (omega (arith, low))
 told_all tells P each (t ∷ ts) [] told = absurd told
 told_all tells P each (t ∷ ts) (r ∷ rs) told = All-cons P t ts (each t r told.0) (told_all tells P each ts rs told.1)
 
-module _ (sql : List ℕ) (names : List (List ℕ)) (tree : ℕ) (project : List Term) (order : List (Term × Key)) (k : ℕ)
-    (is : command_of (understood book_schema sql) ≡ Select (record { lets = []; body = plain_query tree [] project order }) names) (plain : IsPlain (understood book_schema sql))
-    (unlisted : reads_listing book_schema sql ≡ false) (plainly : (db : Trees) → overlay db [] tree ≡ db tree)
-    (leads : (r : Row) → eval_all (map (λ t. t.0) order) ([] ∷ r ∷ []) ≡ take k (shown_of project [] r)) where
-  pub listed : (s : State) (rows : List Row) → s.now.schema ≡ book_schema → Answers sql [] s rows → IsListing tree [] project order [] (s.now.trees tree) rows
+module _ (q : WholeQuery) (is : IsWhole q) where
+  pub listed : (s : State) (rows : List Row) → s.now.schema ≡ book_schema → Answers q.sql [] s rows → IsListing q.tree [] q.terms q.order [] (s.now.trees q.tree) rows
   listed s rows has h =
-      let known = sym h.1.is ∙ ap (λ t. understood t sql) has in
-      let bare = subst IsPlain (sym known) plain in
-      let db : h.3 ≡ s.now = subst (λ b. IsSourceOf b s.now h.3) (ap (λ t. reads_listing t sql) has ∙ unlisted) h.4 in
-      let read = subst₂ (λ k d. Reads k d [] rows) (ap command_of known ∙ is) db (rw (bare.1) at h.5) in
-      lists tree [] project order [] s.now.trees rows (plainly s.now.trees) (read.answer Null)
+      let known = sym h.1.is ∙ ap (λ t. understood t q.sql) has in
+      let bare = subst IsPlain (sym known) is.selection.shows.plain in
+      let db : h.3 ≡ s.now = subst (λ b. IsSourceOf b s.now h.3) (ap (λ t. reads_listing t q.sql) has ∙ is.selection.shows.unlisted) h.4 in
+      let read = subst₂ (λ k d. Reads k d [] rows) (ap command_of known ∙ is.selection.shows.command) db (rw (bare.1) at h.5) in
+      lists q.tree [] q.terms q.order [] s.now.trees rows (is.selection.plainly s.now.trees) (read.answer Null)
 
-  pub wide_rows : (n : ℕ) → ((r : Row) → length (shown_of project [] r) ≡ n) → (s : State) (rows : List Row) → s.now.schema ≡ book_schema → Answers sql [] s rows → All (λ r. length r ≡ n) rows
-  wide_rows n width s rows has h =
-      let it = listing_is tree project order k leads (s.now.trees tree) rows (listed s rows has h) in
-      let Wide = λ (r : Row). length r ≡ n in
-      All-permutation Wide _ _ (IsPermutation-sym _ _ it.0) (All-map Wide (shown_of project []) (s.now.trees tree) (λ i d low. width (slice_index_or (s.now.trees tree) i d)))
+  listing : (s : State) (rows : List Row) → s.now.schema ≡ book_schema → Answers q.sql [] s rows
+      → IsPermutation rows (map (shown_of q.terms []) (s.now.trees q.tree)) × IsSorted (output_cmp (plain_query q.tree [] q.terms q.order)) (map (sorted_by q.keys) rows)
+  listing s rows has h = listing_is q.tree q.terms q.order q.keys is.leads (s.now.trees q.tree) rows (listed s rows has h)
+
+  pub wide_rows : (s : State) (rows : List Row) → s.now.schema ≡ book_schema → Answers q.sql [] s rows → All (λ r. length r ≡ q.width) rows
+  wide_rows s rows has h =
+      let Wide = λ (r : Row). length r ≡ q.width in
+      let all = s.now.trees q.tree in
+      All-permutation Wide _ _ (IsPermutation-sym _ _ (listing s rows has h).0) (All-map Wide (shown_of q.terms []) all (λ i d low. is.wide (slice_index_or all i d)))
 
   -- all rows that were shown are told of
-  pub table_read : {T : Type 0} (tells : T → Row → Type 0) (values : T → Row) (n : ℕ) → ((t : T) (r : Row) → tells t r → length r ≡ n → r ≡ values t) → ((r : Row) → length (shown_of project [] r) ≡ n)
-      → ((a b : T) → output_cmp (plain_query tree [] project order) (sorted_by k (values a)) (sorted_by k (values b)) ≡ key_cmp k (values a) (values b))
-      → (s : State) (items : List T) → s.now.schema ≡ book_schema → HasRead tells sql s items → IsTable values (shown_of project []) k items (s.now.trees tree)
-  table_read tells values n reads width ordered s items has h =
-      let q = plain_query tree [] project order in
-      let it = listing_is tree project order k leads (s.now.trees tree) h.rows (listed s h.rows has h.all) in
-      let Wide = λ (r : Row). length r ≡ n in
-      let wide : All Wide h.rows = All-permutation Wide _ _ (IsPermutation-sym _ _ it.0) (All-map Wide (shown_of project []) (s.now.trees tree) (λ i d low. width (slice_index_or (s.now.trees tree) i d))) in
-      let are : h.rows ≡ map values items = told_rows tells values n reads items h.rows h.told wide in
+  pub table_read : {T : Type 0} (tells : T → Row → Type 0) (values : T → Row) → ((t : T) (r : Row) → tells t r → length r ≡ q.width → r ≡ values t)
+      → ((a b : T) → output_cmp (plain_query q.tree [] q.terms q.order) (sorted_by q.keys (values a)) (sorted_by q.keys (values b)) ≡ key_cmp q.keys (values a) (values b))
+      → (s : State) (items : List T) → s.now.schema ≡ book_schema → HasRead tells q.sql s items → IsTable values (shown_of q.terms []) q.keys items (s.now.trees q.tree)
+  table_read tells values reads ordered s items has h =
+      let it = listing s h.rows has h.all in
+      let are : h.rows ≡ map values items = told_rows tells values q.width reads items h.rows h.told (wide_rows s h.rows has h.all) in
+      let order = output_cmp (plain_query q.tree [] q.terms q.order) in
       record {
-        same = subst (λ (rs : List Row). IsPermutation rs (map (shown_of project []) (s.now.trees tree))) are it.0;
-        sorted = typed_sorted values (λ a b. key_cmp k (values a) (values b)) q k ordered items (subst (λ (rs : List Row). IsSorted (output_cmp q) (map (sorted_by k) rs)) are it.1);
+        same = subst (λ (rs : List Row). IsPermutation rs (map (shown_of q.terms []) (s.now.trees q.tree))) are it.0;
+        sorted = typed_sorted values (λ a b. key_cmp q.keys (values a) (values b)) (plain_query q.tree [] q.terms q.order) q.keys ordered items (subst (λ (rs : List Row). IsSorted order (map (sorted_by q.keys) rs)) are it.1);
       }
 
-  -- a formless row was shown, so no formed items have the table's rows
-  pub table_formless : {T : Type 0} (values : T → Row) (Formed : T → Type 0) (is_formless : Row → Type 0) → ((r : Row) → is_formless r → (t : T) → Formed t → r ≢ values t)
-      → (s : State) (ts : List T) → s.now.schema ≡ book_schema → FindsFormless is_formless sql s → All Formed ts → ¬ IsPermutation (map values ts) (map (shown_of project []) (s.now.trees tree))
-  table_formless values Formed is_formless never s ts has h formed are =
-      let b = begins_rows book_schema sql names tree [] project order is plain unlisted plainly s s [] (h.before ++ h.row ∷ []) has h.there in
-      let it = listing_is tree project order k leads (s.now.trees tree) ((h.before ++ h.row ∷ []) ++ b.0) b.1 in
-      let one = given_is values Formed (shown_of project []) (s.now.trees tree) h.before b.0 h.row ts it.0 are formed in
+  -- a formless row was shown, so the table's rows are no formed items'
+  pub table_formless : {T : Type 0} (values : T → Row) (IsFormed : T → Type 0) (is_formless : Row → Type 0) → ((r : Row) → is_formless r → (t : T) → IsFormed t → r ≢ values t)
+      → (s : State) → s.now.schema ≡ book_schema → FindsFormless is_formless q.sql s → ¬ AreFormedRows IsFormed values (shown_of q.terms []) (s.now.trees q.tree)
+  table_formless values IsFormed is_formless never s has h formed =
+      let b = begins_rows (selection_of q) is.selection s s [] (h.before ++ h.row ∷ []) has h.there in
+      let it = listing_is q.tree q.terms q.order q.keys is.leads (s.now.trees q.tree) ((h.before ++ h.row ∷ []) ++ b.0) b.1 in
+      let one = given_is values IsFormed (shown_of q.terms []) (s.now.trees q.tree) h.before b.0 h.row formed.items it.0 formed.are formed.formed in
       never h.row h.formless one.0 one.1 one.2

@@ -17,6 +17,12 @@ pub record IsTable {T : Type 0} (values : T → Row) (view : Row → Row) (k : �
   pub same : IsPermutation (map values items) (map view rows)
   pub sorted : IsSorted (λ a b. key_cmp k (values a) (values b)) items
 
+-- the rows are those of items that have the form
+pub record AreFormedRows {T : Type 0} (IsFormed : T → Type 0) (values : T → Row) (view : Row → Row) (rows : List Row) : Type 0 where
+  pub items : List T
+  pub formed : All IsFormed items
+  pub are : IsPermutation (map values items) (map view rows)
+
 -- nothing of the job's documents
 abbrev pub IsBare : Job → Type 0
 IsBare j = (j.documents ≡ 0) × (j.octets ≡ 0)

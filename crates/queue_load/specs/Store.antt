@@ -1,21 +1,15 @@
 -- What a store is loaded from.
-use Rattle.std.specs.Prelude.{◌≡◌, ◌&&◌, Bool, is_some, IsTrue, List, All, map, codes, IsPermutation}
+use Rattle.std.specs.Prelude.{◌≡◌, ◌&&◌, Bool, is_some, IsTrue, All, codes}
 use Rattle.sqlite.specs.Effect.{Database}
 use Rattle.sqlite.specs.Schema.{Schema}
 use Rattle.sqlite.specs.State.{State, HasCleanDisk}
 use Rattle.sqlite.specs.Tree.{Trees}
 use Rattle.sqlite_schema.specs.Names.{table_named}
-use Rattle.queue_types.specs.declared.event.GrantRow.{GrantRow}
-use Rattle.queue_types.specs.declared.event.KeptReport.{KeptReport}
-use Rattle.queue_types.specs.declared.job.Job.{Job}
 use Rattle.queue_rows.specs.Rows.{Tables}
-use Rattle.queue_rows.specs.declared.rows.AccountRow.{AccountRow}
-use Rattle.queue_rows.specs.declared.rows.DocumentRow.{DocumentRow}
-use Rattle.queue_rows.specs.declared.rows.MetaRow.{MetaRow}
 use Rattle.queue_tables.specs.Forms.{IsFormedJob}
 use Rattle.queue_tables.specs.Tables.{book_schema}
 use Rattle.queue_tables.specs.Values.{meta_values, meta_view, job_values, job_view, document_values, document_view, piece_view, account_view, grant_values, grant_view, report_values, report_view}
-use Rattle.queue_load.specs.Loaded.{ArePieces, IsBare, IsFormedWhole, IsTable, Piece, whole_piece}
+use Rattle.queue_load.specs.Loaded.{AreFormedRows, ArePieces, IsBare, IsFormedWhole, IsTable, whole_piece}
 use Rattle.queue_load.specs.Tells.{account_row_values, IsFormedMeta, IsFormedDocument, IsFormedAccount, IsFormedGrant, IsFormedReport}
 
 abbrev pub has_all : Schema → Bool
@@ -53,29 +47,15 @@ pub record AreTables (t : Tables) (d : Database) : Type 0 where
 -- ---- tables whose rows have their forms
 
 pub record HasJobTables (db : Trees) : Type 0 where
-  pub meta : List MetaRow
-  pub formed_meta : All IsFormedMeta meta
-  pub are_meta : IsPermutation (map meta_values meta) (map meta_view (db 0))
-  pub jobs : List Job
-  pub formed_jobs : All IsFormedJob jobs
-  pub are_jobs : IsPermutation (map job_values jobs) (map job_view (db 1))
-  pub documents : List DocumentRow
-  pub formed_documents : All IsFormedDocument documents
-  pub are_documents : IsPermutation (map document_values documents) (map document_view (db 2))
-  pub pieces : List Piece
-  pub formed_pieces : All IsFormedWhole pieces
-  pub are_pieces : IsPermutation (map whole_piece pieces) (map piece_view (db 4))
+  pub meta : AreFormedRows IsFormedMeta meta_values meta_view (db 0)
+  pub jobs : AreFormedRows IsFormedJob job_values job_view (db 1)
+  pub documents : AreFormedRows IsFormedDocument document_values document_view (db 2)
+  pub pieces : AreFormedRows IsFormedWhole whole_piece piece_view (db 4)
 
 pub record HasAccountTables (db : Trees) : Type 0 where
-  pub accounts : List AccountRow
-  pub formed_accounts : All IsFormedAccount accounts
-  pub are_accounts : IsPermutation (map account_row_values accounts) (map account_view (db 6))
-  pub grants : List GrantRow
-  pub formed_grants : All IsFormedGrant grants
-  pub are_grants : IsPermutation (map grant_values grants) (map grant_view (db 8))
-  pub reports : List KeptReport
-  pub formed_reports : All IsFormedReport reports
-  pub are_reports : IsPermutation (map report_values reports) (map report_view (db 10))
+  pub accounts : AreFormedRows IsFormedAccount account_row_values account_view (db 6)
+  pub grants : AreFormedRows IsFormedGrant grant_values grant_view (db 8)
+  pub reports : AreFormedRows IsFormedReport report_values report_view (db 10)
 
 -- all tables are there, and their rows have their forms
 pub record IsLoadable (d : Database) : Type 0 where

@@ -1,12 +1,13 @@
 //! Whether the rows of the accounts are told apart by their rowids, as a change of one of them needs.
-ghost use Rattle.std.specs.Prelude.{◌≡◌, ◌↔◌, false, IfOk, IfErr, OnOk, IsTrue};
+ghost use Rattle.std.specs.Prelude.{◌≡◌, ◌↔◌, IfOk, IfErr, OnOk, IsTrue};
 ghost use Rattle.sqlite.specs.Held.{state};
 ghost use Rattle.sqlite.specs.State.{HasCleanDisk, IsUnchanged};
 ghost use Rattle.queue_rows.specs.Order.{AreInOrder};
 ghost use Rattle.queue_load.specs.Keyed.{id_before, id_values, id_view};
 ghost use Rattle.queue_load.specs.Loaded.{IsTable};
-ghost use Rattle.queue_load.specs.Reads.{HasBook, LeavesRows};
+ghost use Rattle.queue_load.specs.Reads.{HasBook};
 ghost use Rattle.queue_tables.specs.Kept.{AreKeyed};
+ghost use Rattle.queue_tables.specs.Leaving.{LeavesTables};
 ghost use Rattle.queue_tables.specs.declared.fault.Fault.TheVariants.{Damaged};
 
 use crate::table::read_table;
@@ -40,24 +41,23 @@ fn ids_rise(ids: &[RowId]) -> bool
 
 /// The rowids of the accounts, in their order.
 fn read_ids<S: Alter>(alloc: Global, conn: &mut Connection<S>) -> Result<Vec<RowId>, Fault>
-    ensures clean { HasCleanDisk (state S.Store conn.new) → HasCleanDisk (state S.Store conn.old) }
-    ensures mode { conn.old.in_transaction ≡ false → conn.new.in_transaction ≡ false }
+    ensures leaves { LeavesTables (state S.Store conn.old) (state S.Store conn.new) }
+    ensures same { HasCleanDisk (state S.Store conn.new) → OnOk result (IsUnchanged (state S.Store conn.old) (state S.Store conn.new)) }
     ensures read { HasBook (state S.Store conn.old) → HasCleanDisk (state S.Store conn.new) → IfOk result (λ v. IsTable id_values id_view 1 v.items ((state S.Store conn.old).now.trees 6)) }
     ensures damaged { HasBook (state S.Store conn.old) → HasCleanDisk (state S.Store conn.new) → IfErr result (λ e. e ≡ Damaged → ¬ AreKeyed ((state S.Store conn.old).now.trees 6)) }
-    ensures same { HasBook (state S.Store conn.old) → HasCleanDisk (state S.Store conn.new) → OnOk result (IsUnchanged (state S.Store conn.old) (state S.Store conn.new)) }
-    ensures left { HasBook (state S.Store conn.old) → HasCleanDisk (state S.Store conn.new) → LeavesRows (state S.Store conn.old) (state S.Store conn.new) }
 {
     read_table(alloc, conn, "SELECT rowid FROM accounts ORDER BY rowid")
 }
 
 /// Whether the rowids of the accounts are integers, none twice. Damaged is told only where one is no integer.
-pub fn accounts_are_keyed<S: Alter>(alloc: Global, conn: &mut Connection<S>) -> Result<bool, Fault>
-    ensures clean { HasCleanDisk (state S.Store conn.new) → HasCleanDisk (state S.Store conn.old) }
-    ensures mode { conn.old.in_transaction ≡ false → conn.new.in_transaction ≡ false }
+pub(crate) fn accounts_are_keyed<S: Alter>(
+    alloc: Global,
+    conn: &mut Connection<S>,
+) -> Result<bool, Fault>
+    ensures leaves { LeavesTables (state S.Store conn.old) (state S.Store conn.new) }
+    ensures same { HasCleanDisk (state S.Store conn.new) → OnOk result (IsUnchanged (state S.Store conn.old) (state S.Store conn.new)) }
     ensures keyed { HasBook (state S.Store conn.old) → HasCleanDisk (state S.Store conn.new) → IfOk result (λ b. IsTrue b ↔ AreKeyed ((state S.Store conn.old).now.trees 6)) }
     ensures damaged { HasBook (state S.Store conn.old) → HasCleanDisk (state S.Store conn.new) → IfErr result (λ e. e ≡ Damaged → ¬ AreKeyed ((state S.Store conn.old).now.trees 6)) }
-    ensures same { HasBook (state S.Store conn.old) → HasCleanDisk (state S.Store conn.new) → OnOk result (IsUnchanged (state S.Store conn.old) (state S.Store conn.new)) }
-    ensures left { HasBook (state S.Store conn.old) → HasCleanDisk (state S.Store conn.new) → LeavesRows (state S.Store conn.old) (state S.Store conn.new) }
 {
     let ids = read_ids(alloc, conn)?;
     Ok(ids_rise(ids.as_slice()))

@@ -2,10 +2,10 @@
 #![tactic(auto)]
 
 mod forms;
-pub mod keyed;
+mod keyed;
 pub mod laws;
-pub mod load;
+mod load;
 pub mod queue;
-pub mod rows;
+mod rows;
 mod table;
 mod typed;

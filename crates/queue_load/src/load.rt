@@ -1,17 +1,12 @@
 //! The tables, each read whole by one SELECT in the order of its key.
-ghost use Rattle.std.specs.Prelude.{◌≡◌, false, List, All, map, IfOk, IfErr, OnOk, IsPermutation};
+ghost use Rattle.std.specs.Prelude.{◌≡◌, All, IfOk, IfErr, OnOk};
 ghost use Rattle.sqlite.specs.Held.{state};
 ghost use Rattle.sqlite.specs.State.{HasCleanDisk, IsUnchanged};
-ghost use Rattle.queue_types.specs.declared.event.GrantRow.{GrantRow as GrantValue};
-ghost use Rattle.queue_types.specs.declared.event.KeptReport.{KeptReport as ReportValue};
-ghost use Rattle.queue_types.specs.declared.job.Job.{Job as JobValue};
-ghost use Rattle.queue_rows.specs.declared.rows.AccountRow.{AccountRow as AccountValue};
-ghost use Rattle.queue_rows.specs.declared.rows.DocumentRow.{DocumentRow as DocumentValue};
-ghost use Rattle.queue_rows.specs.declared.rows.MetaRow.{MetaRow as MetaValue};
-ghost use Rattle.queue_load.specs.Loaded.{ArePieces, IsBare, IsFormedWhole, IsTable, Piece, whole_piece};
-ghost use Rattle.queue_load.specs.Reads.{HasBook, LeavesRows};
+ghost use Rattle.queue_load.specs.Loaded.{AreFormedRows, ArePieces, IsBare, IsFormedWhole, IsTable, whole_piece};
+ghost use Rattle.queue_load.specs.Reads.{HasBook};
 ghost use Rattle.queue_load.specs.Tells.{account_row_values, IsFormedMeta, IsFormedDocument, IsFormedAccount, IsFormedGrant, IsFormedReport};
 ghost use Rattle.queue_tables.specs.Forms.{IsFormedJob};
+ghost use Rattle.queue_tables.specs.Leaving.{LeavesTables};
 ghost use Rattle.queue_tables.specs.Values.{meta_values, meta_view, job_values, job_view, document_values, document_view, piece_view, account_view, grant_values, grant_view, report_values, report_view};
 ghost use Rattle.queue_tables.specs.declared.fault.Fault.TheVariants.{Damaged};
 
@@ -24,13 +19,14 @@ use sqlite::{Alter, Connection};
 use std::alloc::Global;
 
 /// The rows of the book itself. Damaged is told only where one of them is no such row.
-pub fn read_meta<S: Alter>(alloc: Global, conn: &mut Connection<S>) -> Result<Vec<MetaRow>, Fault>
-    ensures clean { HasCleanDisk (state S.Store conn.new) → HasCleanDisk (state S.Store conn.old) }
-    ensures mode { conn.old.in_transaction ≡ false → conn.new.in_transaction ≡ false }
+pub(crate) fn read_meta<S: Alter>(
+    alloc: Global,
+    conn: &mut Connection<S>,
+) -> Result<Vec<MetaRow>, Fault>
+    ensures leaves { LeavesTables (state S.Store conn.old) (state S.Store conn.new) }
+    ensures same { HasCleanDisk (state S.Store conn.new) → OnOk result (IsUnchanged (state S.Store conn.old) (state S.Store conn.new)) }
     ensures read { HasBook (state S.Store conn.old) → HasCleanDisk (state S.Store conn.new) → IfOk result (λ v. IsTable meta_values meta_view 1 v.items ((state S.Store conn.old).now.trees 0)) }
-    ensures formless { HasBook (state S.Store conn.old) → HasCleanDisk (state S.Store conn.new) → IfErr result (λ e. e ≡ Damaged → (ts : List MetaValue) → All IsFormedMeta ts → ¬ IsPermutation (map meta_values ts) (map meta_view ((state S.Store conn.old).now.trees 0))) }
-    ensures same { HasBook (state S.Store conn.old) → HasCleanDisk (state S.Store conn.new) → OnOk result (IsUnchanged (state S.Store conn.old) (state S.Store conn.new)) }
-    ensures left { HasBook (state S.Store conn.old) → HasCleanDisk (state S.Store conn.new) → LeavesRows (state S.Store conn.old) (state S.Store conn.new) }
+    ensures formless { HasBook (state S.Store conn.old) → HasCleanDisk (state S.Store conn.new) → IfErr result (λ e. e ≡ Damaged → ¬ AreFormedRows IsFormedMeta meta_values meta_view ((state S.Store conn.old).now.trees 0)) }
 {
     read_table(
         alloc,
@@ -40,13 +36,14 @@ pub fn read_meta<S: Alter>(alloc: Global, conn: &mut Connection<S>) -> Result<Ve
 }
 
 /// The jobs by number, without their documents. Damaged is told only where a row is no job's.
-pub fn read_jobs<S: Alter>(alloc: Global, conn: &mut Connection<S>) -> Result<Vec<Job>, Fault>
-    ensures clean { HasCleanDisk (state S.Store conn.new) → HasCleanDisk (state S.Store conn.old) }
-    ensures mode { conn.old.in_transaction ≡ false → conn.new.in_transaction ≡ false }
+pub(crate) fn read_jobs<S: Alter>(
+    alloc: Global,
+    conn: &mut Connection<S>,
+) -> Result<Vec<Job>, Fault>
+    ensures leaves { LeavesTables (state S.Store conn.old) (state S.Store conn.new) }
+    ensures same { HasCleanDisk (state S.Store conn.new) → OnOk result (IsUnchanged (state S.Store conn.old) (state S.Store conn.new)) }
     ensures read { HasBook (state S.Store conn.old) → HasCleanDisk (state S.Store conn.new) → IfOk result (λ v. IsTable job_values job_view 1 v.items ((state S.Store conn.old).now.trees 1) × All IsBare v.items) }
-    ensures formless { HasBook (state S.Store conn.old) → HasCleanDisk (state S.Store conn.new) → IfErr result (λ e. e ≡ Damaged → (ts : List JobValue) → All IsFormedJob ts → ¬ IsPermutation (map job_values ts) (map job_view ((state S.Store conn.old).now.trees 1))) }
-    ensures same { HasBook (state S.Store conn.old) → HasCleanDisk (state S.Store conn.new) → OnOk result (IsUnchanged (state S.Store conn.old) (state S.Store conn.new)) }
-    ensures left { HasBook (state S.Store conn.old) → HasCleanDisk (state S.Store conn.new) → LeavesRows (state S.Store conn.old) (state S.Store conn.new) }
+    ensures formless { HasBook (state S.Store conn.old) → HasCleanDisk (state S.Store conn.new) → IfErr result (λ e. e ≡ Damaged → ¬ AreFormedRows IsFormedJob job_values job_view ((state S.Store conn.old).now.trees 1)) }
 {
     read_table(
         alloc,
@@ -56,16 +53,14 @@ pub fn read_jobs<S: Alter>(alloc: Global, conn: &mut Connection<S>) -> Result<Ve
 }
 
 /// The documents by job and number. Damaged is told only where a row is no document's.
-pub fn read_documents<S: Alter>(
+pub(crate) fn read_documents<S: Alter>(
     alloc: Global,
     conn: &mut Connection<S>,
 ) -> Result<Vec<DocumentRow>, Fault>
-    ensures clean { HasCleanDisk (state S.Store conn.new) → HasCleanDisk (state S.Store conn.old) }
-    ensures mode { conn.old.in_transaction ≡ false → conn.new.in_transaction ≡ false }
+    ensures leaves { LeavesTables (state S.Store conn.old) (state S.Store conn.new) }
+    ensures same { HasCleanDisk (state S.Store conn.new) → OnOk result (IsUnchanged (state S.Store conn.old) (state S.Store conn.new)) }
     ensures read { HasBook (state S.Store conn.old) → HasCleanDisk (state S.Store conn.new) → IfOk result (λ v. IsTable document_values document_view 2 v.items ((state S.Store conn.old).now.trees 2)) }
-    ensures formless { HasBook (state S.Store conn.old) → HasCleanDisk (state S.Store conn.new) → IfErr result (λ e. e ≡ Damaged → (ts : List DocumentValue) → All IsFormedDocument ts → ¬ IsPermutation (map document_values ts) (map document_view ((state S.Store conn.old).now.trees 2))) }
-    ensures same { HasBook (state S.Store conn.old) → HasCleanDisk (state S.Store conn.new) → OnOk result (IsUnchanged (state S.Store conn.old) (state S.Store conn.new)) }
-    ensures left { HasBook (state S.Store conn.old) → HasCleanDisk (state S.Store conn.new) → LeavesRows (state S.Store conn.old) (state S.Store conn.new) }
+    ensures formless { HasBook (state S.Store conn.old) → HasCleanDisk (state S.Store conn.new) → IfErr result (λ e. e ≡ Damaged → ¬ AreFormedRows IsFormedDocument document_values document_view ((state S.Store conn.old).now.trees 2)) }
 {
     read_table(
         alloc,
@@ -76,16 +71,14 @@ pub fn read_documents<S: Alter>(
 
 /// The pieces by job, document and number, with the lengths of their bytes. Damaged is told only where a row is no
 /// piece.
-pub fn read_pieces<S: Alter>(
+pub(crate) fn read_pieces<S: Alter>(
     alloc: Global,
     conn: &mut Connection<S>,
 ) -> Result<Vec<PieceRow>, Fault>
-    ensures clean { HasCleanDisk (state S.Store conn.new) → HasCleanDisk (state S.Store conn.old) }
-    ensures mode { conn.old.in_transaction ≡ false → conn.new.in_transaction ≡ false }
+    ensures leaves { LeavesTables (state S.Store conn.old) (state S.Store conn.new) }
+    ensures same { HasCleanDisk (state S.Store conn.new) → OnOk result (IsUnchanged (state S.Store conn.old) (state S.Store conn.new)) }
     ensures read { HasBook (state S.Store conn.old) → HasCleanDisk (state S.Store conn.new) → IfOk result (λ v. ArePieces v.items ((state S.Store conn.old).now.trees 4)) }
-    ensures formless { HasBook (state S.Store conn.old) → HasCleanDisk (state S.Store conn.new) → IfErr result (λ e. e ≡ Damaged → (ps : List Piece) → All IsFormedWhole ps → ¬ IsPermutation (map whole_piece ps) (map piece_view ((state S.Store conn.old).now.trees 4))) }
-    ensures same { HasBook (state S.Store conn.old) → HasCleanDisk (state S.Store conn.new) → OnOk result (IsUnchanged (state S.Store conn.old) (state S.Store conn.new)) }
-    ensures left { HasBook (state S.Store conn.old) → HasCleanDisk (state S.Store conn.new) → LeavesRows (state S.Store conn.old) (state S.Store conn.new) }
+    ensures formless { HasBook (state S.Store conn.old) → HasCleanDisk (state S.Store conn.new) → IfErr result (λ e. e ≡ Damaged → ¬ AreFormedRows IsFormedWhole whole_piece piece_view ((state S.Store conn.old).now.trees 4)) }
 {
     read_table(
         alloc,
@@ -95,16 +88,14 @@ pub fn read_pieces<S: Alter>(
 }
 
 /// The accounts by name. Damaged is told only where a row is no account's.
-pub fn read_accounts<S: Alter>(
+pub(crate) fn read_accounts<S: Alter>(
     alloc: Global,
     conn: &mut Connection<S>,
 ) -> Result<Vec<AccountRow>, Fault>
-    ensures clean { HasCleanDisk (state S.Store conn.new) → HasCleanDisk (state S.Store conn.old) }
-    ensures mode { conn.old.in_transaction ≡ false → conn.new.in_transaction ≡ false }
+    ensures leaves { LeavesTables (state S.Store conn.old) (state S.Store conn.new) }
+    ensures same { HasCleanDisk (state S.Store conn.new) → OnOk result (IsUnchanged (state S.Store conn.old) (state S.Store conn.new)) }
     ensures read { HasBook (state S.Store conn.old) → HasCleanDisk (state S.Store conn.new) → IfOk result (λ v. IsTable account_row_values account_view 1 v.items ((state S.Store conn.old).now.trees 6)) }
-    ensures formless { HasBook (state S.Store conn.old) → HasCleanDisk (state S.Store conn.new) → IfErr result (λ e. e ≡ Damaged → (ts : List AccountValue) → All IsFormedAccount ts → ¬ IsPermutation (map account_row_values ts) (map account_view ((state S.Store conn.old).now.trees 6))) }
-    ensures same { HasBook (state S.Store conn.old) → HasCleanDisk (state S.Store conn.new) → OnOk result (IsUnchanged (state S.Store conn.old) (state S.Store conn.new)) }
-    ensures left { HasBook (state S.Store conn.old) → HasCleanDisk (state S.Store conn.new) → LeavesRows (state S.Store conn.old) (state S.Store conn.new) }
+    ensures formless { HasBook (state S.Store conn.old) → HasCleanDisk (state S.Store conn.new) → IfErr result (λ e. e ≡ Damaged → ¬ AreFormedRows IsFormedAccount account_row_values account_view ((state S.Store conn.old).now.trees 6)) }
 {
     read_table(
         alloc,
@@ -114,16 +105,14 @@ pub fn read_accounts<S: Alter>(
 }
 
 /// The grants by batch and account. Damaged is told only where a row is no grant.
-pub fn read_grants<S: Alter>(
+pub(crate) fn read_grants<S: Alter>(
     alloc: Global,
     conn: &mut Connection<S>,
 ) -> Result<Vec<GrantRow>, Fault>
-    ensures clean { HasCleanDisk (state S.Store conn.new) → HasCleanDisk (state S.Store conn.old) }
-    ensures mode { conn.old.in_transaction ≡ false → conn.new.in_transaction ≡ false }
+    ensures leaves { LeavesTables (state S.Store conn.old) (state S.Store conn.new) }
+    ensures same { HasCleanDisk (state S.Store conn.new) → OnOk result (IsUnchanged (state S.Store conn.old) (state S.Store conn.new)) }
     ensures read { HasBook (state S.Store conn.old) → HasCleanDisk (state S.Store conn.new) → IfOk result (λ v. IsTable grant_values grant_view 2 v.items ((state S.Store conn.old).now.trees 8)) }
-    ensures formless { HasBook (state S.Store conn.old) → HasCleanDisk (state S.Store conn.new) → IfErr result (λ e. e ≡ Damaged → (ts : List GrantValue) → All IsFormedGrant ts → ¬ IsPermutation (map grant_values ts) (map grant_view ((state S.Store conn.old).now.trees 8))) }
-    ensures same { HasBook (state S.Store conn.old) → HasCleanDisk (state S.Store conn.new) → OnOk result (IsUnchanged (state S.Store conn.old) (state S.Store conn.new)) }
-    ensures left { HasBook (state S.Store conn.old) → HasCleanDisk (state S.Store conn.new) → LeavesRows (state S.Store conn.old) (state S.Store conn.new) }
+    ensures formless { HasBook (state S.Store conn.old) → HasCleanDisk (state S.Store conn.new) → IfErr result (λ e. e ≡ Damaged → ¬ AreFormedRows IsFormedGrant grant_values grant_view ((state S.Store conn.old).now.trees 8)) }
 {
     read_table(
         alloc,
@@ -133,16 +122,14 @@ pub fn read_grants<S: Alter>(
 }
 
 /// The kept reports by job and sequence number. Damaged is told only where a row is no report.
-pub fn read_reports<S: Alter>(
+pub(crate) fn read_reports<S: Alter>(
     alloc: Global,
     conn: &mut Connection<S>,
 ) -> Result<Vec<KeptReport>, Fault>
-    ensures clean { HasCleanDisk (state S.Store conn.new) → HasCleanDisk (state S.Store conn.old) }
-    ensures mode { conn.old.in_transaction ≡ false → conn.new.in_transaction ≡ false }
+    ensures leaves { LeavesTables (state S.Store conn.old) (state S.Store conn.new) }
+    ensures same { HasCleanDisk (state S.Store conn.new) → OnOk result (IsUnchanged (state S.Store conn.old) (state S.Store conn.new)) }
     ensures read { HasBook (state S.Store conn.old) → HasCleanDisk (state S.Store conn.new) → IfOk result (λ v. IsTable report_values report_view 2 v.items ((state S.Store conn.old).now.trees 10)) }
-    ensures formless { HasBook (state S.Store conn.old) → HasCleanDisk (state S.Store conn.new) → IfErr result (λ e. e ≡ Damaged → (ts : List ReportValue) → All IsFormedReport ts → ¬ IsPermutation (map report_values ts) (map report_view ((state S.Store conn.old).now.trees 10))) }
-    ensures same { HasBook (state S.Store conn.old) → HasCleanDisk (state S.Store conn.new) → OnOk result (IsUnchanged (state S.Store conn.old) (state S.Store conn.new)) }
-    ensures left { HasBook (state S.Store conn.old) → HasCleanDisk (state S.Store conn.new) → LeavesRows (state S.Store conn.old) (state S.Store conn.new) }
+    ensures formless { HasBook (state S.Store conn.old) → HasCleanDisk (state S.Store conn.new) → IfErr result (λ e. e ≡ Damaged → ¬ AreFormedRows IsFormedReport report_values report_view ((state S.Store conn.old).now.trees 10)) }
 {
     read_table(
         alloc,

@@ -1,14 +1,15 @@
 //! The rows of the queue that the tables hold.
-ghost use Rattle.std.specs.Prelude.{◌≡◌, false, IfOk, IfErr, OnOk, IsTrue};
+ghost use Rattle.std.specs.Prelude.{◌≡◌, IfOk, IfErr, OnOk};
 ghost use Rattle.std.specs.Str.{IsUtf8};
 ghost use Rattle.sqlite.specs.Held.{state};
 ghost use Rattle.sqlite.specs.State.{HasCleanDisk, IsUnchanged};
 ghost use Rattle.queue_core.specs.World.{World};
 ghost use Rattle.queue_rows.specs.Rows.{tables_in};
 ghost use Rattle.queue_load.specs.Queues.{HasQueue, IsQueueIn};
-ghost use Rattle.queue_load.specs.Reads.{HasBook, LeavesRows};
+ghost use Rattle.queue_load.specs.Reads.{HasBook};
 ghost use Rattle.queue_load.specs.Store.{FitsIn};
 ghost use Rattle.queue_tables.specs.Kept.{AreKeyed};
+ghost use Rattle.queue_tables.specs.Leaving.{LeavesTables};
 ghost use Rattle.queue_tables.specs.declared.fault.Fault.TheVariants.{Damaged};
 
 use crate::keyed::accounts_are_keyed;
@@ -22,12 +23,10 @@ use std::alloc::Global;
 
 /// The accounts have rowids of their own. Damaged is told only where they have not.
 fn check_accounts<S: Alter>(alloc: Global, conn: &mut Connection<S>) -> Result<(), Fault>
-    ensures clean { HasCleanDisk (state S.Store conn.new) → HasCleanDisk (state S.Store conn.old) }
-    ensures mode { conn.old.in_transaction ≡ false → conn.new.in_transaction ≡ false }
+    ensures leaves { LeavesTables (state S.Store conn.old) (state S.Store conn.new) }
+    ensures same { HasCleanDisk (state S.Store conn.new) → OnOk result (IsUnchanged (state S.Store conn.old) (state S.Store conn.new)) }
     ensures keyed { HasBook (state S.Store conn.old) → HasCleanDisk (state S.Store conn.new) → OnOk result (AreKeyed ((state S.Store conn.old).now.trees 6)) }
     ensures damaged { HasBook (state S.Store conn.old) → HasCleanDisk (state S.Store conn.new) → IfErr result (λ e. e ≡ Damaged → ¬ AreKeyed ((state S.Store conn.old).now.trees 6)) }
-    ensures same { HasBook (state S.Store conn.old) → HasCleanDisk (state S.Store conn.new) → OnOk result (IsUnchanged (state S.Store conn.old) (state S.Store conn.new)) }
-    ensures left { HasBook (state S.Store conn.old) → HasCleanDisk (state S.Store conn.new) → LeavesRows (state S.Store conn.old) (state S.Store conn.new) }
 {
     let keyed = accounts_are_keyed(alloc, conn)?;
     if !keyed {
@@ -37,14 +36,12 @@ fn check_accounts<S: Alter>(alloc: Global, conn: &mut Connection<S>) -> Result<(
 }
 
 /// The rows of the sound queue that the tables hold. Damaged is told only where they hold none whose printer's
-/// name is a text.
+/// name is a text. The tables stay as they were, where the connection is still open. Within a transaction it answers Disk.
 pub fn load_queue<S: Alter>(alloc: Global, conn: &mut Connection<S>) -> Result<Rows, Fault>
-    ensures clean { HasCleanDisk (state S.Store conn.new) → HasCleanDisk (state S.Store conn.old) }
-    ensures mode { conn.old.in_transaction ≡ false → conn.new.in_transaction ≡ false }
+    ensures leaves { LeavesTables (state S.Store conn.old) (state S.Store conn.new) }
+    ensures same { HasCleanDisk (state S.Store conn.new) → OnOk result (IsUnchanged (state S.Store conn.old) (state S.Store conn.new)) }
     ensures queue { FitsIn (state S.Store conn.old) → HasCleanDisk (state S.Store conn.new) → IfOk result (λ r. HasQueue (tables_in r) (state S.Store conn.old).now) }
     ensures damaged { FitsIn (state S.Store conn.old) → HasCleanDisk (state S.Store conn.new) → IfErr result (λ e. e ≡ Damaged → (w : World) → IsUtf8 w.settings.name → ¬ IsQueueIn w (state S.Store conn.old).now) }
-    ensures same { FitsIn (state S.Store conn.old) → HasCleanDisk (state S.Store conn.new) → OnOk result (IsUnchanged (state S.Store conn.old) (state S.Store conn.new)) }
-    ensures left { FitsIn (state S.Store conn.old) → HasCleanDisk (state S.Store conn.new) → IsTrue (state S.Store conn.new).is_open → LeavesRows (state S.Store conn.old) (state S.Store conn.new) }
 {
     queues_are_loadable();
     tables_give_their_queue();

@@ -1,10 +1,11 @@
 //! All tables, read whole.
-ghost use Rattle.std.specs.Prelude.{◌≡◌, false, IfOk, IfErr, OnOk, IsTrue};
+ghost use Rattle.std.specs.Prelude.{◌≡◌, IfOk, IfErr, OnOk};
 ghost use Rattle.sqlite.specs.Held.{state};
 ghost use Rattle.sqlite.specs.State.{HasCleanDisk, IsUnchanged};
 ghost use Rattle.queue_rows.specs.Rows.{tables_in};
-ghost use Rattle.queue_load.specs.Reads.{HasBook, LeavesRows};
+ghost use Rattle.queue_load.specs.Reads.{HasBook};
 ghost use Rattle.queue_load.specs.Store.{AreJobTables, AreAccountTables, AreTables, FitsIn, has_all, IsLoadable, HasJobTables, HasAccountTables};
+ghost use Rattle.queue_tables.specs.Leaving.{LeavesTables};
 ghost use Rattle.queue_tables.specs.declared.fault.Fault.TheVariants.{Damaged};
 
 use crate::load::{
@@ -16,7 +17,7 @@ use sqlite::{Alter, Connection};
 use std::alloc::Global;
 
 /// Each table of the book is there.
-pub fn has_tables<S: Alter>(conn: &Connection<S>) -> bool
+fn has_tables<S: Alter>(conn: &Connection<S>) -> bool
     ensures { result ≡ has_all (state S.Store conn.now).now.schema }
 {
     let schema = conn.schema();
@@ -35,12 +36,10 @@ fn fill_jobs<S: Alter>(
     conn: &mut Connection<S>,
     rows: &mut Rows,
 ) -> Result<(), Fault>
-    ensures clean { HasCleanDisk (state S.Store conn.new) → HasCleanDisk (state S.Store conn.old) }
-    ensures mode { conn.old.in_transaction ≡ false → conn.new.in_transaction ≡ false }
+    ensures leaves { LeavesTables (state S.Store conn.old) (state S.Store conn.new) }
+    ensures same { HasCleanDisk (state S.Store conn.new) → OnOk result (IsUnchanged (state S.Store conn.old) (state S.Store conn.new)) }
     ensures read { HasBook (state S.Store conn.old) → HasCleanDisk (state S.Store conn.new) → OnOk result (AreJobTables (tables_in rows.new) (state S.Store conn.old).now.trees) }
     ensures damaged { HasBook (state S.Store conn.old) → HasCleanDisk (state S.Store conn.new) → IfErr result (λ e. e ≡ Damaged → ¬ HasJobTables (state S.Store conn.old).now.trees) }
-    ensures same { HasBook (state S.Store conn.old) → HasCleanDisk (state S.Store conn.new) → OnOk result (IsUnchanged (state S.Store conn.old) (state S.Store conn.new)) }
-    ensures left { HasBook (state S.Store conn.old) → HasCleanDisk (state S.Store conn.new) → LeavesRows (state S.Store conn.old) (state S.Store conn.new) }
 {
     rows.meta = read_meta(alloc, conn)?;
     rows.jobs = read_jobs(alloc, conn)?;
@@ -55,13 +54,11 @@ fn fill_accounts<S: Alter>(
     conn: &mut Connection<S>,
     rows: &mut Rows,
 ) -> Result<(), Fault>
-    ensures clean { HasCleanDisk (state S.Store conn.new) → HasCleanDisk (state S.Store conn.old) }
-    ensures mode { conn.old.in_transaction ≡ false → conn.new.in_transaction ≡ false }
+    ensures leaves { LeavesTables (state S.Store conn.old) (state S.Store conn.new) }
+    ensures same { HasCleanDisk (state S.Store conn.new) → OnOk result (IsUnchanged (state S.Store conn.old) (state S.Store conn.new)) }
     ensures others { (rows.new.meta ≡ rows.old.meta) × (rows.new.jobs ≡ rows.old.jobs) × (rows.new.documents ≡ rows.old.documents) × (rows.new.pieces ≡ rows.old.pieces) }
     ensures read { HasBook (state S.Store conn.old) → HasCleanDisk (state S.Store conn.new) → OnOk result (AreAccountTables (tables_in rows.new) (state S.Store conn.old).now.trees) }
     ensures damaged { HasBook (state S.Store conn.old) → HasCleanDisk (state S.Store conn.new) → IfErr result (λ e. e ≡ Damaged → ¬ HasAccountTables (state S.Store conn.old).now.trees) }
-    ensures same { HasBook (state S.Store conn.old) → HasCleanDisk (state S.Store conn.new) → OnOk result (IsUnchanged (state S.Store conn.old) (state S.Store conn.new)) }
-    ensures left { HasBook (state S.Store conn.old) → HasCleanDisk (state S.Store conn.new) → LeavesRows (state S.Store conn.old) (state S.Store conn.new) }
 {
     rows.accounts = read_accounts(alloc, conn)?;
     rows.grants = read_grants(alloc, conn)?;
@@ -70,13 +67,11 @@ fn fill_accounts<S: Alter>(
 }
 
 /// The rows of all tables. Damaged is told only where a table is missing, or a row has not its form.
-pub fn load_rows<S: Alter>(alloc: Global, conn: &mut Connection<S>) -> Result<Rows, Fault>
-    ensures clean { HasCleanDisk (state S.Store conn.new) → HasCleanDisk (state S.Store conn.old) }
-    ensures mode { conn.old.in_transaction ≡ false → conn.new.in_transaction ≡ false }
+pub(crate) fn load_rows<S: Alter>(alloc: Global, conn: &mut Connection<S>) -> Result<Rows, Fault>
+    ensures leaves { LeavesTables (state S.Store conn.old) (state S.Store conn.new) }
+    ensures same { HasCleanDisk (state S.Store conn.new) → OnOk result (IsUnchanged (state S.Store conn.old) (state S.Store conn.new)) }
     ensures read { FitsIn (state S.Store conn.old) → HasCleanDisk (state S.Store conn.new) → IfOk result (λ r. AreTables (tables_in r) (state S.Store conn.old).now) }
     ensures damaged { FitsIn (state S.Store conn.old) → HasCleanDisk (state S.Store conn.new) → IfErr result (λ e. e ≡ Damaged → ¬ IsLoadable (state S.Store conn.old).now) }
-    ensures same { FitsIn (state S.Store conn.old) → HasCleanDisk (state S.Store conn.new) → OnOk result (IsUnchanged (state S.Store conn.old) (state S.Store conn.new)) }
-    ensures left { FitsIn (state S.Store conn.old) → HasCleanDisk (state S.Store conn.new) → IsTrue (state S.Store conn.new).is_open → LeavesRows (state S.Store conn.old) (state S.Store conn.new) }
 {
     if !has_tables(conn) {
         return Err(Fault::Damaged);

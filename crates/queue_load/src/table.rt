@@ -1,11 +1,13 @@
 //! A whole table, read a row at a time.
-ghost use Rattle.std.specs.Prelude.{◌≡◌, ◌≢◌, ℕ, false, List, [], IfOk, IfErr, OnOk, IsTrue};
+ghost use Rattle.std.specs.Prelude.{◌≡◌, ◌≢◌, ℕ, List, [], IfOk, IfErr, OnOk, IsTrue};
 ghost use Rattle.sqlite.specs.Given.{IsPlain, HasGiven};
 ghost use Rattle.sqlite.specs.Held.{state};
 ghost use Rattle.sqlite.specs.Listing.{understood};
 ghost use Rattle.sqlite.specs.Order.{Row as Columns};
 ghost use Rattle.sqlite.specs.State.{HasCleanDisk, IsUnchanged};
 ghost use Rattle.queue_load.specs.Reads.{FindsFormless, HasBook, HasRead, LeavesRows};
+ghost use Rattle.queue_tables.specs.Leaving.{LeavesTables};
+ghost use Rattle.queue_tables.specs.Queries.{IsQueryText};
 ghost use Rattle.queue_tables.specs.Tables.{book_schema};
 ghost use Rattle.queue_tables.specs.declared.fault.Fault.TheVariants.{Damaged, Disk};
 
@@ -32,7 +34,6 @@ pub trait TableRow: Drop {
 fn read_rows<S: Alter, T: TableRow>(alloc: Global, rows: &mut Rows<S>) -> Result<Vec<T>, Fault>
     ensures same_reference { rows.new.conn.ghost_name ≡ rows.old.conn.ghost_name }
     ensures clean { HasCleanDisk (state S.Store rows.new.conn.now) → HasCleanDisk (state S.Store rows.old.conn.now) }
-    ensures mode { rows.old.conn.now.in_transaction ≡ false → rows.new.conn.now.in_transaction ≡ false }
     ensures read { HasCleanDisk (state S.Store rows.new.conn.now) → IsTrue (state S.Store rows.old.conn.now).is_open → (sql : List ℕ) → IsPlain (understood (state S.Store rows.old.conn.now).now.schema sql) → HasGiven S.Store sql [] rows.old.conn.now [] → IfOk result (λ v. HasRead T.tells sql (state S.Store rows.old.conn.now) v.items) }
     ensures formless { HasCleanDisk (state S.Store rows.new.conn.now) → IsTrue (state S.Store rows.old.conn.now).is_open → (sql : List ℕ) → HasGiven S.Store sql [] rows.old.conn.now [] → IfErr result (λ e. e ≡ Damaged → FindsFormless T.is_formless sql (state S.Store rows.old.conn.now)) }
     ensures same { HasCleanDisk (state S.Store rows.new.conn.now) → IsTrue (state S.Store rows.old.conn.now).is_open → OnOk result (IsUnchanged (state S.Store rows.old.conn.now) (state S.Store rows.new.conn.now)) }
@@ -49,20 +50,22 @@ fn read_rows<S: Alter, T: TableRow>(alloc: Global, rows: &mut Rows<S>) -> Result
 }
 
 /// The rows that a SELECT without parameters shows, in its order. Damaged is told only where one of them is
-/// formless.
+/// formless. A connection that is inside a transaction is refused as a disk that fails.
 pub(crate) fn read_table<S: Alter, T: TableRow>(
     alloc: Global,
     conn: &mut Connection<S>,
     sql: &str,
 ) -> Result<Vec<T>, Fault>
+    requires query { IsQueryText sql.now }
     requires plain { IsPlain (understood book_schema sql.now) }
-    ensures clean { HasCleanDisk (state S.Store conn.new) → HasCleanDisk (state S.Store conn.old) }
-    ensures mode { conn.old.in_transaction ≡ false → conn.new.in_transaction ≡ false }
+    ensures leaves { LeavesTables (state S.Store conn.old) (state S.Store conn.new) }
+    ensures same { HasCleanDisk (state S.Store conn.new) → OnOk result (IsUnchanged (state S.Store conn.old) (state S.Store conn.new)) }
     ensures read { HasBook (state S.Store conn.old) → HasCleanDisk (state S.Store conn.new) → IfOk result (λ v. HasRead T.tells sql.now (state S.Store conn.old) v.items) }
     ensures formless { HasBook (state S.Store conn.old) → HasCleanDisk (state S.Store conn.new) → IfErr result (λ e. e ≡ Damaged → FindsFormless T.is_formless sql.now (state S.Store conn.old)) }
-    ensures same { HasBook (state S.Store conn.old) → HasCleanDisk (state S.Store conn.new) → OnOk result (IsUnchanged (state S.Store conn.old) (state S.Store conn.new)) }
-    ensures left { HasBook (state S.Store conn.old) → HasCleanDisk (state S.Store conn.new) → LeavesRows (state S.Store conn.old) (state S.Store conn.new) }
 {
+    if !conn.is_autocommit() {
+        return Err(Fault::Disk);
+    }
     let mut rows = conn.query(sql, &[])?;
     read_rows(alloc, &mut rows)
 }

@@ -13,12 +13,11 @@ use Rattle.queue_types.specs.declared.job.Job.{Job}
 use Rattle.queue_types.specs.Job.{is_live, is_running, is_stopped}
 use Rattle.queue_core.specs.World.{World, rows, live_jobs}
 use Rattle.queue_tables.specs.Content.{Holds, content_of}
-use Rattle.queue_tables.specs.Tables.{book_schema}
 use Rattle.queue_tables.specs.Values.{job_values, job_view}
 use Rattle.queue_tables.proofs.Showing.{shows_all}
 use Rattle.queue_scenes.specs.Counts.{ShowsMany}
 use Rattle.queue_scenes.proofs.Lookup.{rows_passing}
-use Rattle.queue_scenes.proofs.Statements.{select_live_text, select_live_names, select_live_where, select_live_terms, select_live_order, select_live_is, select_running_text, select_running_names, select_running_where, select_running_terms, select_running_order, select_running_is, select_stopped_text, select_stopped_names, select_stopped_where, select_stopped_terms, select_stopped_order, select_stopped_is, select_queued_text, select_queued_names, select_queued_where, select_queued_terms, select_queued_order, select_queued_is}
+use Rattle.queue_scenes.proofs.Statements.{select_live, select_live_is, select_running, select_running_is, select_stopped, select_stopped_is, select_queued, select_queued_is}
 use Rattle.queue_scenes.proofs.Tests.{is_own_live_row, own_live-row, is_running_row, running-row, is_stopped_row, stopped-row, is_live_row, live-row}
 
 longer : (n s t u : ℕ) → s ≡ t + u → t ≡ 1 → n ≡ u → suc n ≡ s
@@ -56,30 +55,30 @@ counted q p same js out shown_rows listed =
     ∙ length-map (filter p js) job_values
     ∙ count_kept p js
 
-pub counts_live : (name : List ℕ) (old : State) (w : World) → Holds (content_of w) old → ShowsMany select_live_text (Words name ∷ []) old (live_jobs name (rows w))
+pub counts_live : (name : List ℕ) (old : State) (w : World) → Holds (content_of w) old → ShowsMany select_live.text (Words name ∷ []) old (live_jobs name (rows w))
 unfolding is_own_live_row number_out
 counts_live name old w has shown_rows h =
     counted (is_own_live_row name) (λ (j : Job). bytes_eq j.owner name && is_live j) (own_live-row name) (rows w) number_out shown_rows
-    (shows_all book_schema select_live_text select_live_names 1 select_live_where select_live_terms select_live_order select_live_is.command select_live_is.plain select_live_is.unlisted (λ db. refl)
+    (shows_all select_live select_live_is
     old old (Words name ∷ []) job_view (is_own_live_row name) number_out (content_of w).jobs shown_rows has.schema (λ r. refl) (λ r. refl) has.rows.jobs h)
 
-pub counts_running : (old : State) (w : World) → Holds (content_of w) old → ShowsMany select_running_text [] old (count_by is_running (rows w))
+pub counts_running : (old : State) (w : World) → Holds (content_of w) old → ShowsMany select_running.text [] old (count_by is_running (rows w))
 unfolding is_running_row number_out
 counts_running old w has shown_rows h =
     counted is_running_row is_running running-row (rows w) number_out shown_rows
-    (shows_all book_schema select_running_text select_running_names 1 select_running_where select_running_terms select_running_order select_running_is.command select_running_is.plain select_running_is.unlisted (λ db. refl)
+    (shows_all select_running select_running_is
     old old [] job_view is_running_row number_out (content_of w).jobs shown_rows has.schema (λ r. refl) (λ r. refl) has.rows.jobs h)
 
-pub counts_stopped : (old : State) (w : World) → Holds (content_of w) old → ShowsMany select_stopped_text [] old (count_by is_stopped (rows w))
+pub counts_stopped : (old : State) (w : World) → Holds (content_of w) old → ShowsMany select_stopped.text [] old (count_by is_stopped (rows w))
 unfolding is_stopped_row number_out
 counts_stopped old w has shown_rows h =
     counted is_stopped_row is_stopped stopped-row (rows w) number_out shown_rows
-    (shows_all book_schema select_stopped_text select_stopped_names 1 select_stopped_where select_stopped_terms select_stopped_order select_stopped_is.command select_stopped_is.plain select_stopped_is.unlisted (λ db. refl)
+    (shows_all select_stopped select_stopped_is
     old old [] job_view is_stopped_row number_out (content_of w).jobs shown_rows has.schema (λ r. refl) (λ r. refl) has.rows.jobs h)
 
-pub counts_queued : (old : State) (w : World) → Holds (content_of w) old → ShowsMany select_queued_text [] old (count_by is_live (rows w))
+pub counts_queued : (old : State) (w : World) → Holds (content_of w) old → ShowsMany select_queued.text [] old (count_by is_live (rows w))
 unfolding is_live_row number_out
 counts_queued old w has shown_rows h =
     counted is_live_row is_live live-row (rows w) number_out shown_rows
-    (shows_all book_schema select_queued_text select_queued_names 1 select_queued_where select_queued_terms select_queued_order select_queued_is.command select_queued_is.plain select_queued_is.unlisted (λ db. refl)
+    (shows_all select_queued select_queued_is
     old old [] job_view is_live_row number_out (content_of w).jobs shown_rows has.schema (λ r. refl) (λ r. refl) has.rows.jobs h)

@@ -39,9 +39,8 @@ use Rattle.queue_scenes.specs.Jobs.{AreRowsOf, ShowsJobs}
 use Rattle.queue_scenes.proofs.Lists.{each_row, world_rising, same_rows, taken_rows}
 use Rattle.queue_scenes.proofs.Numbers.{AreRising, rising_filter, less_value}
 use Rattle.queue_scenes.proofs.Ordered.{shows_in_order, shows_first}
-use Rattle.queue_scenes.proofs.Statements.{descending, select_ended_text, select_ended_where, select_ended_order, select_ended_is, select_ended_first_text, select_ended_first_is}
+use Rattle.queue_scenes.proofs.Statements.{descending, select_ended, select_ended_is, select_ended_first, select_ended_first_is}
 use Rattle.queue_scenes.proofs.Tests.{names, greater, and_true}
-use Rattle.queue_tables.proofs.Statements.{job_names, job_terms}
 
 -- ---- a job that ended has the moment of its end
 
@@ -232,18 +231,18 @@ ended_rows name limit w sound =
     (each-visible (λ (j : Job). job_at j.number (rows w) ≡ Some j) limit Completed (filter (λ (j : Job). bytes_eq j.owner name && not (is_live j)) (rows w))
     (all-filter (λ (j : Job). job_at j.number (rows w) ≡ Some j) (λ (j : Job). bytes_eq j.owner name && not (is_live j)) (rows w) (each_row w sound)))
 
-pub shows_ended : (name : List ℕ) (old : State) (w : World) → IsSound w → Holds (content_of w) old → ShowsJobs select_ended_text (Words name ∷ []) old (visible name Completed None (rows w))
+pub shows_ended : (name : List ℕ) (old : State) (w : World) → IsSound w → Holds (content_of w) old → ShowsJobs select_ended.text (Words name ∷ []) old (visible name Completed None (rows w))
 unfolding is_ended_row ended_of
 shows_ended name old w sound has shown_rows h =
-    shows_in_order 1 select_ended_where job_terms select_ended_order (Words name ∷ []) job_view (is_ended_row name) (λ (v : Row). v) end_key (λ r. refl) (λ r. refl) (λ r. refl)
-    select_ended_text job_names select_ended_is.plain select_ended_is.unlisted (λ db. refl) select_ended_is.command old old (map job_values (rows w)) shown_rows (map job_values (by_end (ended_of name w))) has.schema has.rows.jobs
+    shows_in_order select_ended (Words name ∷ []) job_view (is_ended_row name) (λ (v : Row). v) end_key (λ r. refl) (λ r. refl) (λ r. refl)
+    select_ended_is old old (map job_values (rows w)) shown_rows (map job_values (by_end (ended_of name w))) has.schema has.rows.jobs
     (ended_listed name w sound) (ended_ascends name w sound) h
     ∙ same_rows (map job_values (by_end (ended_of name w)))
 
-pub shows_ended_first : (name : List ℕ) (n : ℕ) (old : State) (w : World) → IsSound w → Holds (content_of w) old → ShowsJobs select_ended_first_text (Words name ∷ number n ∷ []) old (visible name Completed (Some n) (rows w))
+pub shows_ended_first : (name : List ℕ) (n : ℕ) (old : State) (w : World) → IsSound w → Holds (content_of w) old → ShowsJobs select_ended_first.text (Words name ∷ number n ∷ []) old (visible name Completed (Some n) (rows w))
 unfolding is_ended_row ended_of
 shows_ended_first name n old w sound has shown_rows h =
-    shows_first 1 select_ended_where job_terms select_ended_order (Words name ∷ number n ∷ []) job_view (is_ended_row name) (λ (v : Row). v) end_key (λ r. refl) (λ r. refl) (λ r. refl)
-    select_ended_first_text job_names select_ended_first_is.plain select_ended_first_is.unlisted (λ db. refl) 1 n select_ended_first_is.command refl old old (map job_values (rows w)) shown_rows (map job_values (by_end (ended_of name w))) has.schema has.rows.jobs
+    shows_first select_ended_first (Words name ∷ number n ∷ []) job_view (is_ended_row name) (λ (v : Row). v) end_key (λ r. refl) (λ r. refl) (λ r. refl)
+    1 n select_ended_first_is refl old old (map job_values (rows w)) shown_rows (map job_values (by_end (ended_of name w))) has.schema has.rows.jobs
     (ended_listed name w sound) (ended_ascends name w sound) h
     ∙ ap (take n) (same_rows (map job_values (by_end (ended_of name w)))) ∙ taken_rows n (by_end (ended_of name w))

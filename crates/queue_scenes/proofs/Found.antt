@@ -26,22 +26,21 @@ use Rattle.queue_rows.proofs.WorldMaps.{found_there}
 use Rattle.queue_rows.proofs.WorldRows.{grant_same, report_same, report_total}
 use Rattle.queue_tables.specs.Content.{Holds, content_of}
 use Rattle.queue_tables.specs.Steps.{is_named, is_numbered}
-use Rattle.queue_tables.specs.Tables.{book_schema}
 use Rattle.queue_tables.specs.Values.{number, meta_values, meta_view, account_view, grant_values, grant_view, report_values, report_view}
 use Rattle.queue_tables.proofs.Frees.{account_in, found_account, reserved_in, printed_in}
 use Rattle.queue_tables.proofs.Numbers.{numbered_meta}
 use Rattle.queue_tables.proofs.Puts.{turned}
 use Rattle.queue_tables.proofs.Showing.{shows_all}
 use Rattle.queue_scenes.proofs.Lookup.{entry_of, found_in, rows_passing, map_alike, exactly}
-use Rattle.queue_scenes.proofs.Statements.{select_next_text, select_next_names, select_next_where, select_next_terms, select_next_order, select_next_is, select_grant_text, select_grant_names, select_grant_where, select_grant_terms, select_grant_order, select_grant_is, select_report_text, select_report_names, select_report_where, select_report_terms, select_report_order, select_report_is}
+use Rattle.queue_scenes.proofs.Statements.{select_next, select_next_is, select_grant, select_grant_is, select_report, select_report_is}
 use Rattle.queue_scenes.proofs.Tests.{equals, names, and_true}
-use Rattle.queue_tables.proofs.Statements.{select_account_text, select_account_names, select_account_where, select_account_terms, select_account_order, select_account_is}
+use Rattle.queue_tables.proofs.Statements.{select_account, select_account_is}
 
 -- ---- the next number
 
-pub next_shown : (old new : State) (rows : List Row) (w : World) → Holds (content_of w) old → Shown select_next_text [] old new rows → rows ≡ (number w.next ∷ []) ∷ []
+pub next_shown : (old new : State) (rows : List Row) (w : World) → Holds (content_of w) old → Shown select_next.text [] old new rows → rows ≡ (number w.next ∷ []) ∷ []
 next_shown old new rows w has h =
-    let p = shows_all book_schema select_next_text select_next_names 0 select_next_where select_next_terms select_next_order select_next_is.command select_next_is.plain select_next_is.unlisted (λ db. refl)
+    let p = shows_all select_next select_next_is
     old new [] meta_view (is_numbered 1) (λ v. column v 6 ∷ []) (content_of w).meta rows has.schema (λ r. refl) (λ r. refl) has.rows.meta h in
     let one : filter (is_numbered 1) (content_of w).meta ≡ meta_values (meta_row w) ∷ [] = rw (numbered_meta (meta_row w) refl) refl in
     one_permutation (number w.next ∷ []) rows (subst (λ (vs : List Row). IsPermutation (map (λ (v : Row). column v 6 ∷ []) vs) rows) one p)
@@ -57,11 +56,11 @@ one_account : (w : World) (name : List ℕ) (o : Option ℤ)
 one_account w name None = refl
 one_account w name (Some free) = refl
 
-pub account_shown : (old new : State) (name : List ℕ) (rows : List Row) (w : World) → Holds (content_of w) old → Shown select_account_text (Words name ∷ []) old new rows
+pub account_shown : (old new : State) (name : List ℕ) (rows : List Row) (w : World) → Holds (content_of w) old → Shown select_account.text (Words name ∷ []) old new rows
     → rows ≡ map (pages_row w) (entry_of name (get w.free name))
 account_shown old new name rows w has h =
     let out : Row → Row = λ v. column v 1 ∷ column v 2 ∷ column v 3 ∷ [] in
-    let p = shows_all book_schema select_account_text select_account_names 6 select_account_where select_account_terms select_account_order select_account_is.command select_account_is.plain select_account_is.unlisted (λ db. refl)
+    let p = shows_all select_account select_account_is
     old new (Words name ∷ []) account_view (is_named name) out (content_of w).accounts rows has.schema (λ r. refl) (λ r. refl) has.rows.accounts h in
     exactly name (pages_row w) (get w.free name) rows
     (subst (λ (vs : List Row). IsPermutation vs rows) (ap (map out) (account_in w name) ∙ one_account w name (get w.free name)) p)
@@ -98,12 +97,12 @@ one_grant : (k : List ℕ × List ℕ) (o : Option ℕ) → map (λ (v : Row). c
 one_grant k None = refl
 one_grant k (Some pages) = refl
 
-pub grant_shown : (old new : State) (batch account : List ℕ) (rows : List Row) (w : World) → Holds (content_of w) old → Shown select_grant_text (Words batch ∷ Words account ∷ []) old new rows
+pub grant_shown : (old new : State) (batch account : List ℕ) (rows : List Row) (w : World) → Holds (content_of w) old → Shown select_grant.text (Words batch ∷ Words account ∷ []) old new rows
     → rows ≡ map grant_pages_row (entry_of (batch, account) (get w.grants (batch, account)))
 unfolding is_grant_of
 grant_shown old new batch account rows w has h =
     let out : Row → Row = λ v. column v 2 ∷ [] in
-    let p = shows_all book_schema select_grant_text select_grant_names 8 select_grant_where select_grant_terms select_grant_order select_grant_is.command select_grant_is.plain select_grant_is.unlisted (λ db. refl)
+    let p = shows_all select_grant select_grant_is
     old new (Words batch ∷ Words account ∷ []) grant_view (is_grant_of batch account) out (content_of w).grants rows has.schema (λ r. refl) (λ r. refl) has.rows.grants h in
     let kept : filter (is_grant_of batch account) (content_of w).grants ≡ map (λ g. grant_values (grant_row g)) (entry_of (batch, account) (get w.grants (batch, account)))
     = rows_passing (λ g. grant_values (grant_row g)) (is_grant_of batch account) (grant_passes batch account) (grant-row batch account) (entries w.grants)
@@ -150,12 +149,12 @@ one_report : (k : ℕ × ℕ) (o : Option KeptReport) → map (λ (v : Row). col
 one_report k None = refl
 one_report k (Some r) = refl
 
-pub report_shown : (old new : State) (job seq : ℕ) (rows : List Row) (w : World) → IsSound w → Holds (content_of w) old → Shown select_report_text (number job ∷ number seq ∷ []) old new rows
+pub report_shown : (old new : State) (job seq : ℕ) (rows : List Row) (w : World) → IsSound w → Holds (content_of w) old → Shown select_report.text (number job ∷ number seq ∷ []) old new rows
     → rows ≡ map told_row (entry_of (job, seq) (get w.reports (job, seq)))
 unfolding is_report_of
 report_shown old new job seq rows w sound has h =
     let out : Row → Row = λ v. column v 2 ∷ column v 3 ∷ column v 4 ∷ column v 5 ∷ [] in
-    let p = shows_all book_schema select_report_text select_report_names 10 select_report_where select_report_terms select_report_order select_report_is.command select_report_is.plain select_report_is.unlisted (λ db. refl)
+    let p = shows_all select_report select_report_is
     old new (number job ∷ number seq ∷ []) report_view (is_report_of job seq) out (content_of w).reports rows has.schema (λ r. refl) (λ r. refl) has.rows.reports h in
     let kept : filter (is_report_of job seq) (content_of w).reports ≡ map keyed_values (entry_of (job, seq) (get w.reports (job, seq)))
     = ap (filter (is_report_of job seq)) (map_alike (λ (r : (ℕ × ℕ) × KeptReport). report_values r.1) keyed_values (entries w.reports) (reports_keyed w sound))

@@ -18,12 +18,12 @@ use Rattle.queue_tables.specs.Steps.{AreDistinct, has_number}
 use Rattle.queue_tables.specs.Values.{number, job_values, job_view}
 use Rattle.queue_tables.proofs.Entries.{rows_in, found_rows, distinct_of}
 use Rattle.queue_tables.proofs.JobPut.{reads_job_at}
-use Rattle.queue_tables.proofs.Statements.{select_job_text, job_names, job_terms}
+use Rattle.queue_tables.proofs.Statements.{select_job}
 use Rattle.queue_scenes.specs.Jobs.{AreRowsOf, ShowsJobs, own_live}
 use Rattle.queue_scenes.proofs.Lookup.{rows_passing}
 use Rattle.queue_scenes.proofs.Numbers.{AreRising, rising, rising_filter, numbers_ascend, number_key}
 use Rattle.queue_scenes.proofs.Ordered.{shows_in_order}
-use Rattle.queue_scenes.proofs.Statements.{select_own_live_text, select_own_live_where, select_own_live_order, select_own_live_is, select_pending_text, select_pending_where, select_pending_order, select_pending_is}
+use Rattle.queue_scenes.proofs.Statements.{select_own_live, select_own_live_is, select_pending, select_pending_is}
 use Rattle.queue_scenes.proofs.Tests.{is_own_live_row, own_live-row, is_pending_row, pending-row}
 
 -- ---- each row of a world is its job of that number
@@ -63,7 +63,7 @@ one_of_number n (e ∷ es) d = elim (cases_Bool (e.row.number == n)) [
   | inr apart ↦ rw apart (one_of_number n es d.1)
 ]
 
-pub shows_numbered : (n : ℕ) (old : State) (w : World) → IsSound w → Holds (content_of w) old → ShowsJobs select_job_text (number n ∷ []) old (numbered n (rows w))
+pub shows_numbered : (n : ℕ) (old : State) (w : World) → IsSound w → Holds (content_of w) old → ShowsJobs select_job.text (number n ∷ []) old (numbered n (rows w))
 shows_numbered n old w sound has shown_rows h =
     let distinct = distinct_of 1 w.jobs w.next sound.numbers in
     (reads_job_at old old n shown_rows w distinct has h).0 ∙ one_of_number n w.jobs distinct
@@ -82,22 +82,22 @@ taken_rows (suc n) (j ∷ js) = ap (λ (vs : List Row). job_values j ∷ vs) (ta
 pub kept : (q : Row → Bool) (p : Job → Bool) → ((j : Job) → q (job_values j) ≡ p j) → (js : List Job) → IsPermutation (filter q (map job_values js)) (map job_values (filter p js))
 kept q p same js = subst (λ (vs : List Row). IsPermutation (filter q (map job_values js)) vs) (rows_passing job_values q p same js) (IsPermutation-refl (filter q (map job_values js)))
 
-pub shows_own_live : (name : List ℕ) (old : State) (w : World) → IsSound w → Holds (content_of w) old → ShowsJobs select_own_live_text (Words name ∷ []) old (own_live name (rows w))
+pub shows_own_live : (name : List ℕ) (old : State) (w : World) → IsSound w → Holds (content_of w) old → ShowsJobs select_own_live.text (Words name ∷ []) old (own_live name (rows w))
 unfolding is_own_live_row
 shows_own_live name old w sound has shown_rows h =
     let p : Job → Bool = λ j. bytes_eq j.owner name && is_live j in
     let mine = filter p (rows w) in
-    shows_in_order 1 select_own_live_where job_terms select_own_live_order (Words name ∷ []) job_view (is_own_live_row name) (λ (v : Row). v) number_key (λ r. refl) (λ r. refl) (λ r. refl)
-    select_own_live_text job_names select_own_live_is.plain select_own_live_is.unlisted (λ db. refl) select_own_live_is.command old old (map job_values (rows w)) shown_rows (map job_values mine) has.schema has.rows.jobs
+    shows_in_order select_own_live (Words name ∷ []) job_view (is_own_live_row name) (λ (v : Row). v) number_key (λ r. refl) (λ r. refl) (λ r. refl)
+    select_own_live_is old old (map job_values (rows w)) shown_rows (map job_values mine) has.schema has.rows.jobs
     (kept (is_own_live_row name) p (own_live-row name) (rows w)) (numbers_ascend mine (rising_filter p (rows w) (world_rising w sound))) h
     ∙ same_rows (map job_values mine)
 
-pub shows_pending : (old : State) (w : World) → IsSound w → Holds (content_of w) old → ShowsJobs select_pending_text [] old (filter (λ (j : Job). state j == 3) (rows w))
+pub shows_pending : (old : State) (w : World) → IsSound w → Holds (content_of w) old → ShowsJobs select_pending.text [] old (filter (λ (j : Job). state j == 3) (rows w))
 unfolding is_pending_row
 shows_pending old w sound has shown_rows h =
     let p : Job → Bool = λ j. state j == 3 in
     let mine = filter p (rows w) in
-    shows_in_order 1 select_pending_where job_terms select_pending_order [] job_view is_pending_row (λ (v : Row). v) number_key (λ r. refl) (λ r. refl) (λ r. refl)
-    select_pending_text job_names select_pending_is.plain select_pending_is.unlisted (λ db. refl) select_pending_is.command old old (map job_values (rows w)) shown_rows (map job_values mine) has.schema has.rows.jobs
+    shows_in_order select_pending [] job_view is_pending_row (λ (v : Row). v) number_key (λ r. refl) (λ r. refl) (λ r. refl)
+    select_pending_is old old (map job_values (rows w)) shown_rows (map job_values mine) has.schema has.rows.jobs
     (kept is_pending_row p pending-row (rows w)) (numbers_ascend mine (rising_filter p (rows w) (world_rising w sound))) h
     ∙ same_rows (map job_values mine)

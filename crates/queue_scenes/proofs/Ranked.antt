@@ -23,9 +23,8 @@ use Rattle.queue_scenes.specs.Jobs.{AreRowsOf, ShowsJobs, own_live}
 use Rattle.queue_scenes.proofs.Lists.{filtered_rows, kept, same_rows, taken_rows, world_rising}
 use Rattle.queue_scenes.proofs.Numbers.{number_key, numbers_ascend, rising_filter}
 use Rattle.queue_scenes.proofs.Ordered.{shows_first}
-use Rattle.queue_scenes.proofs.Statements.{select_own_live_order, select_at_device_text, select_at_device_where, select_at_device_is, select_own_pending_text, select_own_pending_where, select_own_pending_is, select_held_text, select_held_where, select_held_is}
+use Rattle.queue_scenes.proofs.Statements.{select_at_device, select_at_device_is, select_own_pending, select_own_pending_is, select_held, select_held_is}
 use Rattle.queue_scenes.proofs.Tests.{is_between, is_at_device_row, at_device-row, is_own_pending_row, is_pending_row, own_pending-row, is_held_row, held-row}
-use Rattle.queue_tables.proofs.Statements.{job_terms, job_names}
 
 -- ---- jobs up to state 6 are live
 
@@ -65,30 +64,30 @@ module _ (first last : ℕ) (low : last ≤ 6) (name : List ℕ) where
   pub ranked_first : (n : ℕ) (js : List Job) → take n (map (λ (v : Row). v) (map job_values (filter is_ranked js))) ≡ map job_values (take n (in_states first last (own_live name js)))
   ranked_first n js = ap (take n) (same_rows (map job_values (filter is_ranked js))) ∙ taken_rows n (filter is_ranked js) ∙ ap (λ (ks : List Job). map job_values (take n ks)) (sym (ranked js))
 
-pub shows_at_device : (name : List ℕ) (n : ℕ) (old : State) (w : World) → IsSound w → Holds (content_of w) old → ShowsJobs select_at_device_text (Words name ∷ number n ∷ []) old (take n (in_states 5 6 (own_live name (rows w))))
+pub shows_at_device : (name : List ℕ) (n : ℕ) (old : State) (w : World) → IsSound w → Holds (content_of w) old → ShowsJobs select_at_device.text (Words name ∷ number n ∷ []) old (take n (in_states 5 6 (own_live name (rows w))))
 unfolding is_at_device_row
 shows_at_device name n old w sound has shown_rows h =
     let low : 6 ≤ 6 = omega arith in
-    shows_first 1 select_at_device_where job_terms select_own_live_order (Words name ∷ number n ∷ []) job_view (is_at_device_row name) (λ (v : Row). v) number_key (λ r. refl) (λ r. refl) (λ r. refl)
-    select_at_device_text job_names select_at_device_is.plain select_at_device_is.unlisted (λ db. refl) 1 n select_at_device_is.command refl old old (map job_values (rows w)) shown_rows (map job_values (filter (is_ranked 5 6 low name) (rows w)))
+    shows_first select_at_device (Words name ∷ number n ∷ []) job_view (is_at_device_row name) (λ (v : Row). v) number_key (λ r. refl) (λ r. refl) (λ r. refl)
+    1 n select_at_device_is refl old old (map job_values (rows w)) shown_rows (map job_values (filter (is_ranked 5 6 low name) (rows w)))
     has.schema has.rows.jobs (kept (is_at_device_row name) (is_ranked 5 6 low name) (at_device-row name) (rows w)) (ranked_ascend 5 6 low name w sound) h
     ∙ ranked_first 5 6 low name n (rows w)
 
-pub shows_own_pending : (name : List ℕ) (n : ℕ) (old : State) (w : World) → IsSound w → Holds (content_of w) old → ShowsJobs select_own_pending_text (Words name ∷ number n ∷ []) old (take n (in_states 3 3 (own_live name (rows w))))
+pub shows_own_pending : (name : List ℕ) (n : ℕ) (old : State) (w : World) → IsSound w → Holds (content_of w) old → ShowsJobs select_own_pending.text (Words name ∷ number n ∷ []) old (take n (in_states 3 3 (own_live name (rows w))))
 unfolding is_own_pending_row is_pending_row
 shows_own_pending name n old w sound has shown_rows h =
     let low : 3 ≤ 6 = omega arith in
-    shows_first 1 select_own_pending_where job_terms select_own_live_order (Words name ∷ number n ∷ []) job_view (is_own_pending_row name) (λ (v : Row). v) number_key (λ r. refl) (λ r. refl) (λ r. refl)
-    select_own_pending_text job_names select_own_pending_is.plain select_own_pending_is.unlisted (λ db. refl) 1 n select_own_pending_is.command refl old old (map job_values (rows w)) shown_rows (map job_values (filter (is_ranked 3 3 low name) (rows w)))
+    shows_first select_own_pending (Words name ∷ number n ∷ []) job_view (is_own_pending_row name) (λ (v : Row). v) number_key (λ r. refl) (λ r. refl) (λ r. refl)
+    1 n select_own_pending_is refl old old (map job_values (rows w)) shown_rows (map job_values (filter (is_ranked 3 3 low name) (rows w)))
     has.schema has.rows.jobs (kept (is_own_pending_row name) (is_ranked 3 3 low name) (own_pending-row name) (rows w)) (ranked_ascend 3 3 low name w sound) h
     ∙ ranked_first 3 3 low name n (rows w)
 
-pub shows_held : (name : List ℕ) (n : ℕ) (old : State) (w : World) → IsSound w → Holds (content_of w) old → ShowsJobs select_held_text (Words name ∷ number n ∷ []) old (take n (in_states 4 4 (own_live name (rows w))))
+pub shows_held : (name : List ℕ) (n : ℕ) (old : State) (w : World) → IsSound w → Holds (content_of w) old → ShowsJobs select_held.text (Words name ∷ number n ∷ []) old (take n (in_states 4 4 (own_live name (rows w))))
 unfolding is_held_row
 shows_held name n old w sound has shown_rows h =
     let low : 4 ≤ 6 = omega arith in
-    shows_first 1 select_held_where job_terms select_own_live_order (Words name ∷ number n ∷ []) job_view (is_held_row name) (λ (v : Row). v) number_key (λ r. refl) (λ r. refl) (λ r. refl)
-    select_held_text job_names select_held_is.plain select_held_is.unlisted (λ db. refl) 1 n select_held_is.command refl old old (map job_values (rows w)) shown_rows (map job_values (filter (is_ranked 4 4 low name) (rows w)))
+    shows_first select_held (Words name ∷ number n ∷ []) job_view (is_held_row name) (λ (v : Row). v) number_key (λ r. refl) (λ r. refl) (λ r. refl)
+    1 n select_held_is refl old old (map job_values (rows w)) shown_rows (map job_values (filter (is_ranked 4 4 low name) (rows w)))
     has.schema has.rows.jobs (kept (is_held_row name) (is_ranked 4 4 low name) (held-row name) (rows w)) (ranked_ascend 4 4 low name w sound) h
     ∙ ranked_first 4 4 low name n (rows w)
 

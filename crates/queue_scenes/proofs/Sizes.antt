@@ -14,13 +14,12 @@ use Rattle.queue_core.specs.Sound.{IsSound, IsSoundEntry}
 use Rattle.queue_core.specs.World.{World, Entry, job_at, rows}
 use Rattle.queue_tables.specs.Content.{Holds, content_of, document_rows}
 use Rattle.queue_tables.specs.Steps.{AreDistinct, has_number, is_numbered}
-use Rattle.queue_tables.specs.Tables.{book_schema}
 use Rattle.queue_tables.specs.Values.{number, document_values, document_view}
 use Rattle.queue_tables.proofs.Documents.{row_of, all_documents}
 use Rattle.queue_tables.proofs.Entries.{rows_in, distinct_of}
 use Rattle.queue_tables.proofs.Numbers.{numbered_document}
 use Rattle.queue_tables.proofs.Showing.{shows_all}
-use Rattle.queue_tables.proofs.Statements.{select_octets_text, select_octets_terms, select_octets_where, select_octets_order, select_octets_names, select_octets_is}
+use Rattle.queue_tables.proofs.Statements.{select_octets, select_octets_is}
 use Rattle.queue_scenes.specs.Sizes.{size_in}
 
 -- ---- the rows of one job's documents
@@ -90,13 +89,13 @@ sum_rows job from (d ∷ ds) =
     let b = sum_by-cons (λ (d : Document). length d.bytes) d ds in
     omega (arith, more, a, b)
 
-pub sizes_shown : (old new : State) (n : ℕ) (shown_rows : List Row) (w : World) (k : Job) → IsSound w → Holds (content_of w) old → job_at n (rows w) ≡ Some k → Shown select_octets_text (number n ∷ []) old new shown_rows
+pub sizes_shown : (old new : State) (n : ℕ) (shown_rows : List Row) (w : World) (k : Job) → IsSound w → Holds (content_of w) old → job_at n (rows w) ≡ Some k → Shown select_octets.text (number n ∷ []) old new shown_rows
     → (length shown_rows ≡ k.documents) × (sum_by size_in shown_rows ≡ k.octets)
 unfolding octets_out
 sizes_shown old new n shown_rows w k sound has there h =
     let it = entry_there n w.jobs k (distinct_of 1 w.jobs w.next sound.numbers) sound.entries there in
     let docs = document_rows it.entry.row.number 1 it.entry.documents in
-    let p = shows_all book_schema select_octets_text select_octets_names 2 select_octets_where select_octets_terms select_octets_order select_octets_is.command select_octets_is.plain select_octets_is.unlisted (λ db. refl)
+    let p = shows_all select_octets select_octets_is
     old new (number n ∷ []) document_view (is_numbered n) octets_out (content_of w).documents shown_rows has.schema (λ r. refl) (λ r. refl) has.rows.documents h in
     let all : IsPermutation (map octets_out docs) shown_rows = subst (λ (vs : List Row). IsPermutation (map octets_out vs) shown_rows) it.documents p in (
       length_permutation (map octets_out docs) shown_rows all ∙ count_rows it.entry.row.number 1 it.entry.documents ∙ sym it.sound.documents ∙ ap (λ (j : Job). j.documents) it.row,

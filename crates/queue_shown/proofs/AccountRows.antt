@@ -9,14 +9,13 @@ use Rattle.queue_core.specs.Sound.{reserved, printed}
 use Rattle.queue_core.specs.World.{World}
 use Rattle.queue_tables.specs.Content.{Holds, content_of}
 use Rattle.queue_tables.specs.Steps.{is_named}
-use Rattle.queue_tables.specs.Tables.{book_schema}
 use Rattle.queue_tables.specs.Values.{account_view}
 use Rattle.queue_tables.proofs.Frees.{account_in, found_account, reserved_in, printed_in}
 use Rattle.queue_tables.proofs.Showing.{shows_all}
 use Rattle.queue_shown.specs.declared.account.AccountPages.{AccountPages}
 use Rattle.queue_shown.specs.Pages.{pages_of}
 use Rattle.queue_shown.proofs.Firsts.{rows_for, exactly}
-use Rattle.queue_tables.proofs.Statements.{select_account_text, select_account_names, select_account_terms, select_account_where, select_account_order, select_account_is}
+use Rattle.queue_tables.proofs.Statements.{select_account, select_account_is}
 
 -- ---- the account
 
@@ -31,9 +30,9 @@ accounts_for : (w : World) (a : List ℕ) (o : Option ℤ) → map account_out (
 accounts_for w a None = refl
 accounts_for w a (Some free) = refl
 
-pub reads_account : (old new : State) (a : List ℕ) (found : List Row) (w : World) → Holds (content_of w) old → Shown select_account_text (Words a ∷ []) old new found → found ≡ rows_for (pages_values w a) (get w.free a)
+pub reads_account : (old new : State) (a : List ℕ) (found : List Row) (w : World) → Holds (content_of w) old → Shown select_account.text (Words a ∷ []) old new found → found ≡ rows_for (pages_values w a) (get w.free a)
 reads_account old new a found w has h =
-    let p = shows_all book_schema select_account_text select_account_names 6 select_account_where select_account_terms select_account_order select_account_is.command select_account_is.plain select_account_is.unlisted (λ db. refl)
+    let p = shows_all select_account select_account_is
     old new (Words a ∷ []) account_view (is_named a) account_out (content_of w).accounts found has.schema (λ r. refl) (λ r. refl) has.rows.accounts h in
     let only = ap (map account_out) (account_in w a) ∙ accounts_for w a (get w.free a) in
     exactly (pages_values w a) (get w.free a) found (subst (λ (k : List Row). IsPermutation k found) only p)

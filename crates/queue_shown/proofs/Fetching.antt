@@ -10,7 +10,6 @@ use Rattle.queue_types.specs.declared.document.Document.{Document}
 use Rattle.queue_types.specs.declared.job.Job.{Job}
 use Rattle.queue_tables.specs.Content.{Holds, content_of, document_rows}
 use Rattle.queue_tables.specs.Steps.{AreDistinct, is_numbered}
-use Rattle.queue_tables.specs.Tables.{book_schema}
 use Rattle.queue_tables.specs.Values.{document_values, document_view, job_view}
 use Rattle.queue_tables.proofs.Documents.{row_of, all_documents}
 use Rattle.queue_tables.proofs.Entries.{rows_in, row_at, found_rows}
@@ -20,7 +19,7 @@ use Rattle.queue_shown.specs.Fetched.{document_in, is_fetched, is_fetched_job, n
 use Rattle.queue_shown.specs.Heads.{head_values}
 use Rattle.queue_shown.proofs.DocumentParts.{is_of, of_numbers, rows_from, all_rows, chosen, only_document}
 use Rattle.queue_shown.proofs.Firsts.{rows_for, exactly}
-use Rattle.queue_shown.proofs.Texts.{select_state_text, select_state_names, select_state_terms, select_state_where, select_state_order, select_state_is, select_head_text, select_head_names, select_head_terms, select_head_where, select_head_order, select_head_is}
+use Rattle.queue_shown.proofs.Texts.{select_state, select_state_is, select_head, select_head_is}
 use Rattle.queue_types.specs.Formats.{format_name}
 use Rattle.queue_tables.specs.Values.{number}
 use Rattle.sqlite.specs.declared.types.Value.TheVariants.{Text as Words}
@@ -35,10 +34,10 @@ states_for None = refl
 states_for (Some j) = refl
 
 -- the row of the job of that number, or none
-pub reads_state : (old new : State) (job : ℕ) (found : List Row) (w : World) → AreDistinct w.jobs → Holds (content_of w) old → Shown select_state_text (number job ∷ []) old new found
+pub reads_state : (old new : State) (job : ℕ) (found : List Row) (w : World) → AreDistinct w.jobs → Holds (content_of w) old → Shown select_state.text (number job ∷ []) old new found
     → found ≡ rows_for state_values (job_at job (rows w))
 reads_state old new job found w distinct has h =
-    let p = shows_all book_schema select_state_text select_state_names 1 select_state_where select_state_terms select_state_order select_state_is.command select_state_is.plain select_state_is.unlisted (λ db. refl)
+    let p = shows_all select_state select_state_is
     old new (number job ∷ []) job_view (is_numbered job) state_out (content_of w).jobs found has.schema (λ r. refl) (λ r. refl) has.rows.jobs h in
     let only : map state_out (filter (is_numbered job) (content_of w).jobs) ≡ rows_for state_values (job_at job (rows w))
     = ap (map state_out) (ap (filter (is_numbered job)) (rows_twice w.jobs) ∙ row_at job w.jobs distinct) ∙ states_for (job_at job (rows w)) in
@@ -68,10 +67,10 @@ heads_for job n None = refl
 heads_for job n (Some d) = refl
 
 -- the row of the document, or none
-pub reads_head : (old new : State) (job n : ℕ) (found : List Row) (w : World) → AreDistinct w.jobs → Holds (content_of w) old → Shown select_head_text (number job ∷ number n ∷ []) old new found
+pub reads_head : (old new : State) (job n : ℕ) (found : List Row) (w : World) → AreDistinct w.jobs → Holds (content_of w) old → Shown select_head.text (number job ∷ number n ∷ []) old new found
     → found ≡ rows_for head_values (document_in w.jobs job n)
 reads_head old new job n found w distinct has h =
-    let p = shows_all book_schema select_head_text select_head_names 2 select_head_where select_head_terms select_head_order select_head_is.command select_head_is.plain select_head_is.unlisted (λ db. refl)
+    let p = shows_all select_head select_head_is
     old new (number job ∷ number n ∷ []) document_view (is_of job n) head_out (content_of w).documents found has.schema (λ r. refl) (λ r. refl) has.rows.documents h in
     let only : map head_out (filter (is_of job n) (content_of w).documents) ≡ rows_for head_values (document_in w.jobs job n)
     = ap (map head_out) (ap (filter (is_of job n)) (all_are w.jobs) ∙ only_document document_part job n (document_tests job n) w.jobs distinct) ∙ heads_for job n (document_in w.jobs job n) in

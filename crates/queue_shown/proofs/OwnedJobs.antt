@@ -24,7 +24,6 @@ use Rattle.queue_types.specs.declared.job.Job.{Job}
 use Rattle.queue_tables.specs.Content.{Holds, content_of, document_rows}
 use Rattle.queue_tables.specs.Plain.{plain_query}
 use Rattle.queue_tables.specs.Steps.{AreDistinct, bare, has_number, is_numbered}
-use Rattle.queue_tables.specs.Tables.{book_schema}
 use Rattle.queue_tables.specs.Values.{number, job_values, job_view, document_values, document_view}
 use Rattle.queue_tables.proofs.Documents.{row_of, all_documents}
 use Rattle.queue_tables.proofs.Entries.{rows_in, distinct_of}
@@ -33,9 +32,9 @@ use Rattle.queue_tables.proofs.Showing.{shows_all}
 use Rattle.queue_tables.proofs.Writing.{reads_rows}
 use Rattle.queue_shown.specs.Pages.{AreIn, first_number, has_pages}
 use Rattle.queue_shown.proofs.Ordered.{nat_int, then_equal, listed_values, in_order}
-use Rattle.queue_shown.proofs.Texts.{select_owned_text, select_owned_where, select_owned_order, select_owned_is}
+use Rattle.queue_shown.proofs.Texts.{select_owned, select_owned_is}
 use Rattle.queue_shown.proofs.Unique.{Rises}
-use Rattle.queue_tables.proofs.Statements.{job_names, job_terms, select_octets_text, select_octets_names, select_octets_terms, select_octets_where, select_octets_order, select_octets_is}
+use Rattle.queue_tables.proofs.Statements.{job_terms, select_octets, select_octets_is}
 
 -- ---- the rows of an owner's jobs
 
@@ -64,7 +63,7 @@ owned_out a (j ∷ js) = elim (cases_Bool (owns a j)) [
 ]
 
 abbrev query : Query
-query = plain_query 1 select_owned_where job_terms select_owned_order
+query = plain_query 1 select_owned.filter job_terms select_owned.order
 
 by_number : (i j : Job) → output_cmp query (sent i) (sent j) ≡ nat_cmp i.number j.number
 by_number i j = rw (value_cmp-Int (pos i.number) (pos j.number), nat_int i.number j.number) (then_equal (nat_cmp i.number j.number))
@@ -133,11 +132,11 @@ owned_in w a distinct =
 
 -- ---- the rows that are shown
 
-pub reads_owned : (old new : State) (a : List ℕ) (found : List Row) (w : World) → IsSound w → Holds (content_of w) old → Shown select_owned_text (Words a ∷ []) old new found
+pub reads_owned : (old new : State) (a : List ℕ) (found : List Row) (w : World) → IsSound w → Holds (content_of w) old → Shown select_owned.text (Words a ∷ []) old new found
     → found ≡ map job_values (filter (λ j. bytes_eq j.owner a) (rows w))
 reads_owned old new a found w sound has h =
-    let l = reads_rows book_schema select_owned_text job_names 1 select_owned_where job_terms select_owned_order select_owned_is.command select_owned_is.plain select_owned_is.unlisted (λ db. refl) old new (Words a ∷ []) found has.schema h in
-    let it = listed_values 1 select_owned_where job_terms select_owned_order (Words a ∷ []) job_view (is_owned a) out (λ r. refl) (λ r. refl) (content_of w).jobs (old.now.trees 1) found has.rows.jobs l in
+    let l = reads_rows select_owned select_owned_is old new (Words a ∷ []) found has.schema h in
+    let it = listed_values 1 select_owned.filter job_terms select_owned.order (Words a ∷ []) job_view (is_owned a) out (λ r. refl) (λ r. refl) (content_of w).jobs (old.now.trees 1) found has.rows.jobs l in
     let js = filter (owns a) (rows w) in
     let same : IsPermutation (map sent js) it.0 = subst (λ (t : List Output). IsPermutation t it.0) (owned_out a (rows w)) it.1 in
     let equal : map sent js ≡ it.0 = in_order num sent query (λ j. refl) by_number js it.0 (kept_rise (owns a) (rows w) (rows_rise 1 w.jobs w.next sound.numbers)) same it.2 in
@@ -212,10 +211,10 @@ sum_out m from (d ∷ ds) =
     omega (arith, more, all, first)
 
 -- their number, and the sum of their lengths
-pub reads_octets : (old new : State) (found : List Row) (w : World) (j : Job) → IsSound w → Holds (content_of w) old → job_at j.number (rows w) ≡ Some j → Shown select_octets_text (number j.number ∷ []) old new found
+pub reads_octets : (old new : State) (found : List Row) (w : World) (j : Job) → IsSound w → Holds (content_of w) old → job_at j.number (rows w) ≡ Some j → Shown select_octets.text (number j.number ∷ []) old new found
     → (length found ≡ j.documents) × (sum_by first_number found ≡ j.octets)
 reads_octets old new found w j sound has there h =
-    let p = shows_all book_schema select_octets_text select_octets_names 2 select_octets_where select_octets_terms select_octets_order select_octets_is.command select_octets_is.plain select_octets_is.unlisted (λ db. refl)
+    let p = shows_all select_octets select_octets_is
     old new (number j.number ∷ []) document_view (is_numbered j.number) octets_out (content_of w).documents found has.schema (λ r. refl) (λ r. refl) has.rows.documents h in
     let it = documents_of j.number j w.jobs (distinct_of 1 w.jobs w.next sound.numbers) sound.entries there in
     let q : IsPermutation (map octets_out (document_rows j.number 1 it.documents)) found = subst (λ (k : List Row). IsPermutation (map octets_out k) found) it.rows p in (

@@ -30,7 +30,7 @@ use Rattle.queue_shown.specs.Sent.{pieces_select, piece_bytes, bytes_of, Answers
 use Rattle.queue_shown.proofs.DocumentParts.{is_of, of_numbers, rows_from, all_rows, chosen, only_document}
 use Rattle.queue_shown.proofs.Fetching.{shown_document}
 use Rattle.queue_shown.proofs.Ordered.{nat_int, then_equal, listed_values, in_order}
-use Rattle.queue_shown.proofs.Texts.{select_pieces_text, select_pieces_names, select_pieces_terms, select_pieces_where, select_pieces_order, select_pieces_is}
+use Rattle.queue_shown.proofs.Texts.{select_pieces, select_pieces_is}
 use Rattle.queue_shown.proofs.Unique.{Rises}
 
 -- ---- the pieces of one document among those of all
@@ -75,7 +75,7 @@ out_is job n bytes [] = refl
 out_is job n bytes (k ∷ ks) = ap (λ (os : List Output). sent bytes k ∷ os) (out_is job n bytes ks)
 
 abbrev query : Query
-query = plain_query 4 select_pieces_where select_pieces_terms select_pieces_order
+query = plain_query 4 select_pieces.filter select_pieces.terms select_pieces.order
 
 by_number : (bytes : List ℕ) (a b : ℕ) → output_cmp query (sent bytes a) (sent bytes b) ≡ nat_cmp a b
 by_number bytes a b = rw (value_cmp-Int (pos a) (pos b), nat_int a b) (then_equal (nat_cmp a b))
@@ -94,18 +94,18 @@ sent_bytes bytes (k ∷ ks) = ap (λ (l : List ℕ). piece_at bytes k ++ l) (sen
 
 -- ---- what is shown
 
-answers_listed : (s : State) (params : Row) (shown : List Row) → s.now.schema ≡ book_schema → Answers pieces_select params s shown → IsListing 4 select_pieces_where select_pieces_terms select_pieces_order params (s.now.trees 4) shown
+answers_listed : (s : State) (params : Row) (shown : List Row) → s.now.schema ≡ book_schema → Answers pieces_select params s shown → IsListing 4 select_pieces.filter select_pieces.terms select_pieces.order params (s.now.trees 4) shown
 answers_listed s params shown has h =
     let known = sym h.1.is ∙ ap (λ t. understood t pieces_select) has in
-    let bare = subst IsPlain (sym known) select_pieces_is.plain in
-    let db : h.3 ≡ s.now = subst (λ b. IsSourceOf b s.now h.3) (ap (λ t. reads_listing t pieces_select) has ∙ select_pieces_is.unlisted) h.4 in
-    let read = subst₂ (λ k b. Reads k b params shown) (ap command_of known ∙ select_pieces_is.command) db (rw (bare.1, append-nil params) at h.5) in
-    lists 4 select_pieces_where select_pieces_terms select_pieces_order params s.now.trees shown refl (read.answer Null)
+    let bare = subst IsPlain (sym known) select_pieces_is.shows.plain in
+    let db : h.3 ≡ s.now = subst (λ b. IsSourceOf b s.now h.3) (ap (λ t. reads_listing t pieces_select) has ∙ select_pieces_is.shows.unlisted) h.4 in
+    let read = subst₂ (λ k b. Reads k b params shown) (ap command_of known ∙ select_pieces_is.shows.command) db (rw (bare.1, append-nil params) at h.5) in
+    lists 4 select_pieces.filter select_pieces.terms select_pieces.order params s.now.trees shown refl (read.answer Null)
 
 module _ (s : State) (job n : ℕ) (w : World) (d : Document) (distinct : AreDistinct w.jobs) (has : Holds (content_of w) s) (there : document_in w.jobs job n ≡ Some d) where
-  listing_bytes : (shown : List Row) → IsListing 4 select_pieces_where select_pieces_terms select_pieces_order (number job ∷ number n ∷ []) (s.now.trees 4) shown → bytes_of shown ≡ d.bytes
+  listing_bytes : (shown : List Row) → IsListing 4 select_pieces.filter select_pieces.terms select_pieces.order (number job ∷ number n ∷ []) (s.now.trees 4) shown → bytes_of shown ≡ d.bytes
   listing_bytes shown l =
-      let it = listed_values 4 select_pieces_where select_pieces_terms select_pieces_order (number job ∷ number n ∷ []) piece_view (is_of job n) out (λ r. refl) (λ r. refl) (content_of w).pieces (s.now.trees 4) shown has.rows.pieces l in
+      let it = listed_values 4 select_pieces.filter select_pieces.terms select_pieces.order (number job ∷ number n ∷ []) piece_view (is_of job n) out (λ r. refl) (λ r. refl) (content_of w).pieces (s.now.trees 4) shown has.rows.pieces l in
       let ks = range_with_len 0 (pieces_in (length d.bytes)) in
       let values : map out (filter (is_of job n) (content_of w).pieces) ≡ map (sent d.bytes) ks = ap (map out) (only job n w d distinct there) ∙ out_is job n d.bytes ks in
       let same : IsPermutation (map (sent d.bytes) ks) it.0 = subst (λ (t : List Output). IsPermutation t it.0) values it.1 in
@@ -117,7 +117,7 @@ module _ (s : State) (job n : ℕ) (w : World) (d : Document) (distinct : AreDis
 
   first_bytes : (shown : List Row) → Begins pieces_select (number job ∷ number n ∷ []) s shown → (rest : List ℕ) × (bytes_of shown ++ rest ≡ d.bytes)
   first_bytes shown h =
-      let b = begins_rows book_schema select_pieces_text select_pieces_names 4 select_pieces_where select_pieces_terms select_pieces_order select_pieces_is.command select_pieces_is.plain select_pieces_is.unlisted (λ db. refl)
+      let b = begins_rows select_pieces select_pieces_is
       s s (number job ∷ number n ∷ []) shown has.schema h in
       (bytes_of b.0, sym (flat_map-append piece_bytes shown b.0) ∙ listing_bytes (shown ++ b.0) b.1)
 

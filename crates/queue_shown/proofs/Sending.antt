@@ -4,20 +4,15 @@ use Rattle.std.specs.Io.KnownBytes.{Appends}
 use Rattle.sqlite.specs.Order.{Row}
 use Rattle.sqlite_schema.specs.declared.schema.Schema.{Schema}
 use Rattle.sqlite.specs.Listing.{understood}
-use Rattle.sqlite.specs.Given.{HasBegun}
-use Rattle.sqlite.specs.Held.{Held, state}
-use Rattle.sqlite.specs.State.{State, Begins, IsUnchanged}
-use Rattle.sqlite_trees.specs.declared.store.Store.{Ghosts}
+use Rattle.sqlite.specs.State.{State, Begins}
 use Rattle.sqlite.proofs.Callers.{IsPlain}
-use Rattle.queue_tables.specs.Queries.{IsQueryText}
 use Rattle.queue_tables.specs.Tables.{book_schema}
-use Rattle.queue_tables.proofs.Queries.{query_changes_nothing}
 use Rattle.queue_tables.proofs.Reading.{answers_same, begins_at}
 use Rattle.queue_shown.specs.Sent.{pieces_select, bytes_of, HasSent, HasSentFront}
 use Rattle.queue_shown.proofs.Texts.{select_pieces_is}
 
 pub pieces_plain_in : (schema : Schema) → schema ≡ book_schema → IsPlain (understood schema pieces_select)
-pieces_plain_in schema has = subst (λ (s : Schema). IsPlain (understood s pieces_select)) (sym has) select_pieces_is.plain
+pieces_plain_in schema has = subst (λ (s : Schema). IsPlain (understood s pieces_select)) (sym has) select_pieces_is.shows.plain
 
 pub err_then : {T E : Type 0} (r : Result T E) {P Q : Type 0} → (P → Q) → OnErr r P → OnErr r Q
 err_then (Ok x) then_q p = tt
@@ -43,10 +38,3 @@ module _ (params : Row) (old now : State) (a b : Option (List ℕ)) (n : ℕ) (s
 
   pub same_front : HasSentFront params now a b n → HasSentFront params old a b n
   same_front h = record { bytes = h.bytes; appends = h.appends; count = h.count; front = begins_there h.front }
-
--- ---- what a read leaves
-
--- a query that begins writes nothing
-pub begun_unchanged : {S : Type 0} (g : Ghosts S) (sql : List ℕ) (params : Row) (old new : Held S) → IsQueryText sql → HasBegun g sql params old new → IsUnchanged (state g old) (state g new)
-begun_unchanged g sql params old new query (inl h) = h.1
-begun_unchanged g sql params old new query (inr h) = query_changes_nothing sql params (state g old) (state g new) _ query h.1

@@ -1,5 +1,5 @@
 -- Tables that were adopted, and files that were opened.
-use Rattle.std.proofs.Common.{◌≡◌, inl, inr, [], ◌∷◌, IsTrue, sym, ap, subst, ◌∙◌}
+use Rattle.std.proofs.Common.{◌≡◌, [], ◌∷◌, sym, ap, subst, ◌∙◌}
 use Rattle.sqlite.specs.Effect.{Database}
 use Rattle.sqlite.specs.Files.{AreFoundIn, HoldsDatabase}
 use Rattle.sqlite.specs.Start.{FindsIn}
@@ -11,7 +11,6 @@ use Rattle.queue_rows.specs.Meta.{settings_in}
 use Rattle.queue_rows.specs.Rows.{Tables, meta_row}
 use Rattle.queue_rows.specs.declared.rows.MetaRow.{MetaRow}
 use Rattle.queue_load.specs.Queues.{HasQueue}
-use Rattle.queue_load.specs.Reads.{LeavesRows}
 use Rattle.queue_load.specs.Store.{FitsIn}
 use Rattle.queue_tables.specs.Content.{HasContent, content_of}
 use Rattle.queue_store.specs.Kept.{HasWorld}
@@ -38,10 +37,6 @@ adopted t old new settings has same told = record {
 -- the settings of a sound queue are within their limits
 pub within_limits : (t : Tables) (d : Database) → HasQueue t d → ((m : MetaRow) → t.meta ≡ m ∷ [] → ¬ AreSettings (settings_in m)) → ⊥
 within_limits t d has beyond = beyond (meta_row has.world) (row_of t d has) has.queue.sound.settings
-
-pub left_is : (old new : State) → LeavesRows old new → (IsTrue old.is_open → old.now ≡ old.committed) → IsTrue new.is_open → new.now ≡ old.now
-left_is old new (inl same) settled is_open = same.0.now_is
-left_is old new (inr back) settled is_open = (back.undone is_open).0 ∙ sym (settled (back.was_open is_open))
 
 -- ---- files
 

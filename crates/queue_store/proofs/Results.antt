@@ -17,10 +17,6 @@ pub if_err : {A E : Type 0} (r : Result A E) (P Q : E → Type 0) → ((e : E) �
 if_err (Ok x) P Q then_q p = tt
 if_err (Err e) P Q then_q p = then_q e p
 
-pub on_each : {A E : Type 0} (r : Result A E) (P : Type 0) → P → OnOk r P
-on_each (Ok x) P p = p
-on_each (Err e) P p = tt
-
 pub if_ok_then : {A E : Type 0} (r : Result A E) (P Q : A → Type 0) → ((x : A) → P x → Q x) → IfOk r P → IfOk r Q
 if_ok_then (Ok x) P Q then_q p = then_q x p
 if_ok_then (Err e) P Q then_q p = tt

@@ -1,5 +1,5 @@
 //! A book from tables that are there.
-ghost use Rattle.std.specs.Prelude.{◌≡◌, ◌∷◌, [], IfErr, IfOk, OnOk, IsTrue};
+ghost use Rattle.std.specs.Prelude.{◌≡◌, ◌∷◌, [], IfErr, IfOk};
 ghost use Rattle.std.specs.Str.{IsUtf8};
 ghost use Rattle.sqlite.specs.Held.{state};
 ghost use Rattle.sqlite.specs.State.{HasCleanDisk};
@@ -10,7 +10,8 @@ ghost use Rattle.queue_rows.specs.Rows.{tables_in};
 ghost use Rattle.queue_rows.specs.declared.rows.MetaRow.{MetaRow as MetaValue};
 ghost use Rattle.queue_load.specs.Queues.{IsQueueIn};
 ghost use Rattle.queue_load.specs.Store.{FitsIn};
-ghost use Rattle.queue_store.specs.Kept.{HasWorld, IsHonest, StandsForOne, shown_by};
+ghost use Rattle.queue_store.specs.Kept.{HasWorld, StandsForOne, shown_by};
+ghost use Rattle.queue_tables.specs.Leaving.{LeavesTables};
 ghost use Rattle.queue_tables.specs.declared.fault.Fault.TheVariants.{Damaged};
 
 use crate::book::TableBook;
@@ -46,15 +47,10 @@ fn settings_of(alloc: Global, rows: &Rows) -> Result<Settings, Fault>
 /// The settings of the sound queue that the tables hold. Damaged is told only where they hold none whose printer's
 /// name is a text. Within a transaction it is refused as a disk that fails.
 fn settings_in_tables<S: Alter>(alloc: Global, conn: &mut Connection<S>) -> Result<Settings, Fault>
-    ensures clean { HasCleanDisk (state S.Store conn.new) → HasCleanDisk (state S.Store conn.old) }
+    ensures leaves { LeavesTables (state S.Store conn.old) (state S.Store conn.new) }
     ensures stands { FitsIn (state S.Store conn.old) → HasCleanDisk (state S.Store conn.new) → IfOk result (HasWorld (state S.Store conn.new)) }
     ensures damaged { FitsIn (state S.Store conn.old) → HasCleanDisk (state S.Store conn.new) → IfErr result (λ e. e ≡ Damaged → (w : World) → IsUtf8 w.settings.name → ¬ IsQueueIn w (state S.Store conn.old).now) }
-    ensures same { FitsIn (state S.Store conn.old) → HasCleanDisk (state S.Store conn.new) → OnOk result ((state S.Store conn.new).now ≡ (state S.Store conn.old).now) }
-    ensures left { FitsIn (state S.Store conn.old) → HasCleanDisk (state S.Store conn.new) → IsTrue (state S.Store conn.new).is_open → (state S.Store conn.new).now ≡ (state S.Store conn.old).now }
 {
-    if !conn.is_autocommit() {
-        return Err(Fault::Disk);
-    }
     let rows = load_queue(alloc, conn)?;
     settings_of(alloc, &rows)
 }
@@ -67,12 +63,10 @@ impl<S: Alter> TableBook<S> {
         alloc: Global,
         mut conn: Connection<S>,
     ) -> Result<TableBook<S>, (BookFault, Connection<S>)>
-        ensures clean { IfOk result (λ b. IsHonest S.Store b → HasCleanDisk (state S.Store conn)) }
-        ensures began { IfErr result (λ e. HasCleanDisk (state S.Store e.1) → HasCleanDisk (state S.Store conn)) }
         ensures stands { FitsIn (state S.Store conn) → IfOk result (λ b. StandsForOne S.Store b) }
-        ensures same { FitsIn (state S.Store conn) → IfOk result (λ b. IsHonest S.Store b → (shown_by S.Store b).now ≡ (state S.Store conn).now) }
+        ensures kept { IfOk result (λ b. LeavesTables (state S.Store conn) (shown_by S.Store b)) }
         ensures damaged { FitsIn (state S.Store conn) → IfErr result (λ e. HasCleanDisk (state S.Store e.1) → e.0 ≡ BookFault.Damaged → (w : World) → IsUtf8 w.settings.name → ¬ IsQueueIn w (state S.Store conn).now) }
-        ensures handed { FitsIn (state S.Store conn) → IfErr result (λ e. HasCleanDisk (state S.Store e.1) → IsTrue (state S.Store e.1).is_open → (state S.Store e.1).now ≡ (state S.Store conn).now) }
+        ensures handed { IfErr result (λ e. LeavesTables (state S.Store conn) (state S.Store e.1)) }
     {
         match settings_in_tables(alloc, &mut conn) {
             Ok(settings) => Ok(TableBook {
@@ -91,9 +85,8 @@ impl<S: Alter + Drop> TableBook<S> {
         alloc: Global,
         conn: Connection<S>,
     ) -> Result<TableBook<S>, BookFault>
-        ensures clean { IfOk result (λ b. IsHonest S.Store b → HasCleanDisk (state S.Store conn)) }
         ensures stands { FitsIn (state S.Store conn) → IfOk result (λ b. StandsForOne S.Store b) }
-        ensures same { FitsIn (state S.Store conn) → IfOk result (λ b. IsHonest S.Store b → (shown_by S.Store b).now ≡ (state S.Store conn).now) }
+        ensures kept { IfOk result (λ b. LeavesTables (state S.Store conn) (shown_by S.Store b)) }
     {
         match TableBook::adopt(alloc, conn) {
             Ok(book) => Ok(book),

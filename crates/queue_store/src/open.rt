@@ -1,13 +1,13 @@
 //! A book from a file.
 ghost use Rattle.std.specs.Prelude.{◌≡◌, codes, Err, IfOk, IsTrue};
 ghost use Rattle.sqlite.specs.Files.{HoldsDatabase, file_state, over_files};
-ghost use Rattle.sqlite.specs.State.{HasCleanDisk};
 ghost use Rattle.sqlite_trees.specs.Tree.{Trees};
 ghost use Rattle.sqlite_wal.specs.Files.{image_at};
 ghost use Rattle.queue_core.specs.World.{empty_queue};
 ghost use Rattle.queue_load.specs.Store.{FitsIn};
 ghost use Rattle.queue_store.specs.Kept.{IsHonest, StandsFor, StandsForOne, shown_by};
 ghost use Rattle.queue_store.specs.Opened.{FitsFile, open_fault};
+ghost use Rattle.queue_tables.specs.Leaving.{LeavesTables};
 
 use crate::book::TableBook;
 use queue_core::book::BookFault;
@@ -39,9 +39,8 @@ fn adopt_in_files<D: Disk + Drop>(
     alloc: Global,
     conn: Connection<FileStore<D>>,
 ) -> Result<TableBook<FileStore<D>>, BookFault>
-    ensures clean { IfOk result (λ b. IsHonest over_files b → HasCleanDisk (file_state conn)) }
     ensures stands { FitsIn (file_state conn) → IfOk result (λ b. StandsForOne over_files b) }
-    ensures same { FitsIn (file_state conn) → IfOk result (λ b. IsHonest over_files b → (shown_by over_files b).now ≡ (file_state conn).now) }
+    ensures kept { IfOk result (λ b. LeavesTables (file_state conn) (shown_by over_files b)) }
 {
     TableBook::adopt_or_drop(alloc, conn)
 }

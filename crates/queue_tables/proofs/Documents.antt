@@ -19,7 +19,6 @@ use Rattle.queue_types.specs.Event.{NewDocument, Change}
 use Rattle.queue_core.specs.Sound.{IsSound}
 use Rattle.queue_rows.specs.Pieces.{pieces_in}
 use Rattle.queue_rows.specs.declared.rows.DocumentRow.{DocumentRow}
-use Rattle.queue_tables.specs.Tables.{book_schema}
 use Rattle.queue_tables.specs.Values.{number, document_values, document_view, job_values, account_values}
 use Rattle.queue_tables.specs.Content.{Holds, content_of, document_rows, piece_rows, pieces_from}
 use Rattle.queue_tables.specs.Steps.{has_number, is_numbered, AreDistinct, with_added, with_document_row, with_pieces, documents_at}
@@ -28,7 +27,7 @@ use Rattle.queue_tables.proofs.Entries.{rows_in, length_of}
 use Rattle.queue_tables.proofs.Held.{like_holds, same_order}
 use Rattle.queue_tables.proofs.Showing.{shows_all, rows_keep}
 use Rattle.queue_tables.proofs.Ending.{unchanged_holds}
-use Rattle.queue_tables.proofs.Statements.{select_octets_text, select_octets_terms, select_octets_where, select_octets_order, select_octets_names, select_octets_is}
+use Rattle.queue_tables.proofs.Statements.{select_octets, select_octets_is}
 
 -- ---- lists
 
@@ -122,13 +121,13 @@ rows_added d (e ∷ es) = elim (cases_Bool (e.row.number == d.job)) [
 
 -- ---- how many there are
 
-pub counts_documents : (old new : State) (n : ℕ) (shown_rows : List Row) (w : World) → AreDistinct w.jobs → Holds (content_of w) old → Shown select_octets_text (number n ∷ []) old new shown_rows
+pub counts_documents : (old new : State) (n : ℕ) (shown_rows : List Row) (w : World) → AreDistinct w.jobs → Holds (content_of w) old → Shown select_octets.text (number n ∷ []) old new shown_rows
     → (length shown_rows ≡ documents_at n w.jobs) × Holds (content_of w) new
 counts_documents old new n shown_rows w d has h =
-    let p = shows_all book_schema select_octets_text select_octets_names 2 select_octets_where select_octets_terms select_octets_order select_octets_is.command select_octets_is.plain select_octets_is.unlisted (λ db. refl)
+    let p = shows_all select_octets select_octets_is
     old new (number n ∷ []) document_view (is_numbered n) (λ v. column v 3 ∷ []) (content_of w).documents shown_rows has.schema (λ r. refl) (λ r. refl) has.rows.documents h in (
       length_permutation _ _ p ∙ length-map (filter (is_numbered n) (all_documents w.jobs)) (λ (v : Row). column v 3 ∷ []) ∙ document_count n w.jobs d,
-      unchanged_holds (content_of w) old new has (rows_keep book_schema select_octets_text select_octets_names 2 select_octets_where select_octets_terms select_octets_order select_octets_is.command select_octets_is.plain select_octets_is.unlisted (λ db. refl) old new (number n ∷ []) shown_rows has.schema h),
+      unchanged_holds (content_of w) old new has (rows_keep select_octets select_octets_is old new (number n ∷ []) shown_rows has.schema h),
     )
 
 -- ---- the whole

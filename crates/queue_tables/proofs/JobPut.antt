@@ -15,7 +15,7 @@ use Rattle.queue_tables.specs.Tables.{book_schema, jobs}
 use Rattle.queue_tables.specs.Values.{number, moment, job_values, job_view}
 use Rattle.queue_tables.specs.Content.{Content, Holds, content_of}
 use Rattle.queue_tables.specs.Steps.{AreDistinct, bare, is_numbered, with_job_anew}
-use Rattle.queue_tables.proofs.Statements.{update_job_text, update_job_terms, update_job_where, update_job_is, jobs_still, select_job_text, job_terms, select_job_where, select_job_order, job_names, select_job_is}
+use Rattle.queue_tables.proofs.Statements.{update_job_text, update_job_terms, update_job_where, update_job_is, jobs_still, select_job, select_job_is}
 use Rattle.queue_tables.proofs.Rows.{job_stored, cast_job}
 use Rattle.queue_tables.proofs.Held.{holds_jobs}
 use Rattle.queue_tables.proofs.Changing.{updates_row, none_permuted}
@@ -42,12 +42,12 @@ puts_job old new j was count c has one same h =
 
 -- ---- SELECT
 
-pub reads_job : (old new : State) (n : ℕ) (shown_rows : List Row) (c : Content) → Holds c old → Shown select_job_text (number n ∷ []) old new shown_rows
+pub reads_job : (old new : State) (n : ℕ) (shown_rows : List Row) (c : Content) → Holds c old → Shown select_job.text (number n ∷ []) old new shown_rows
     → IsPermutation (map (λ (v : Row). v) (filter (is_numbered n) c.jobs)) shown_rows × Holds c new
 reads_job old new n shown_rows c has h = (
-  shows_all book_schema select_job_text job_names 1 select_job_where job_terms select_job_order select_job_is.command select_job_is.plain select_job_is.unlisted (λ db. refl)
+  shows_all select_job select_job_is
       old new (number n ∷ []) job_view (is_numbered n) (λ (v : Row). v) c.jobs shown_rows has.schema (λ r. refl) (λ r. refl) has.rows.jobs h,
-  unchanged_holds c old new has (rows_keep book_schema select_job_text job_names 1 select_job_where job_terms select_job_order select_job_is.command select_job_is.plain select_job_is.unlisted (λ db. refl) old new (number n ∷ []) shown_rows has.schema h),
+  unchanged_holds c old new has (rows_keep select_job select_job_is old new (number n ∷ []) shown_rows has.schema h),
 )
 
 exactly : (o : Option Job) (rs : List Row) → IsPermutation (map (λ (v : Row). v) (found_rows o)) rs → rs ≡ found_rows o
@@ -55,7 +55,7 @@ exactly None rs p = none_permuted rs p
 exactly (Some j) rs p = one_permutation (job_values j) rs p
 
 -- the job of that number, or no row
-pub reads_job_at : (old new : State) (n : ℕ) (shown_rows : List Row) (w : World) → AreDistinct w.jobs → Holds (content_of w) old → Shown select_job_text (number n ∷ []) old new shown_rows
+pub reads_job_at : (old new : State) (n : ℕ) (shown_rows : List Row) (w : World) → AreDistinct w.jobs → Holds (content_of w) old → Shown select_job.text (number n ∷ []) old new shown_rows
     → (shown_rows ≡ found_rows (job_at n (rows w))) × Holds (content_of w) new
 reads_job_at old new n shown_rows w d has h =
     let it = reads_job old new n shown_rows (content_of w) has h in

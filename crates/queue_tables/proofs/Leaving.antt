@@ -1,11 +1,14 @@
 -- What a SELECT leaves, whatever it shows.
 use Rattle.std.proofs.Common.{◌≡◌, ◌⊎◌, List, ℕ, Option, None, Some, IsTrue, Result, Ok, Err, IfOk, IfErr, inl, inr, refl, sym, ◌∙◌}
 use Rattle.sqlite.specs.declared.error.Error.{Error}
+use Rattle.sqlite.specs.Given.{HasBegun}
+use Rattle.sqlite.specs.Held.{Held, state}
 use Rattle.sqlite.specs.State.{State, HasCleanDisk, IsUnchanged, IsRolledBack, FailsToQuery, Shown, ShowsRows}
 use Rattle.sqlite.specs.Order.{Row}
 use Rattle.sqlite.specs.Clock.{timed}
 use Rattle.sqlite_resolve.specs.declared.compiled.Compiled.{Compiled}
 use Rattle.sqlite_schema.specs.declared.command.Returning.{Returning}
+use Rattle.sqlite_trees.specs.declared.store.Store.{Ghosts}
 use Rattle.queue_tables.specs.Content.{Content, Holds}
 use Rattle.queue_tables.specs.Queries.{IsQueryText}
 use Rattle.queue_tables.proofs.Ending.{query_fails, same_holds}
@@ -71,6 +74,11 @@ module _ {R : Type 0} (shows : R → List Row) (sql : List ℕ) (params : Row) (
   pub query_leaves_tables : (r : Result R Error) → (IsTrue old.is_open → old.now ≡ old.committed) → (HasCleanDisk new → HasCleanDisk old) → (HasCleanDisk new → IfOk r (λ rows. Shown sql params old new (shows rows)))
       → (HasCleanDisk new → IfErr r (FailsToQuery sql params old new)) → LeavesTables old new
   query_leaves_tables r settled early ok err = left_leaves old new settled early (λ clean. left_by r (ok clean) (err clean))
+
+-- a query that begins writes nothing
+pub begun_unchanged : {S : Type 0} (g : Ghosts S) (sql : List ℕ) (params : Row) (old new : Held S) → IsQueryText sql → HasBegun g sql params old new → IsUnchanged (state g old) (state g new)
+begun_unchanged g sql params old new query (inl h) = h.1
+begun_unchanged g sql params old new query (inr h) = query_changes_nothing sql params (state g old) (state g new) _ query h.1
 
 -- ---- a SELECT shows the same over a connection that stays as it was
 

@@ -15,6 +15,9 @@ use Rattle.sqlite.specs.Command.TheVariants.{Insert, Update, Select}
 use Rattle.sqlite_resolve.specs.Compile.{first}
 use Rattle.sqlite_tied.specs.Compute.{everything}
 use Rattle.sqlite.specs.Listing.{understood, reads_listing}
+use Rattle.sqlite.specs.Program.{overlay}
+use Rattle.sqlite.specs.Query.{Query}
+use Rattle.sqlite.specs.Tree.{Trees}
 use Rattle.sqlite.proofs.Callers.{IsPlain, command_of}
 use Rattle.sqlite_schema.specs.declared.schema.Keys.TheVariants.{Enforced}
 use Rattle.sqlite_schema.specs.declared.schema.Action.TheVariants.{NoAction}
@@ -36,6 +39,28 @@ pub record Shows (text : List ℕ) (meant : Command) : Type 0 where
   pub plain : IsPlain (understood book_schema text)
   pub query : IsQueryText text
   pub unlisted : reads_listing book_schema text ≡ false
+
+-- a SELECT of these columns of the rows of one table for which the conditions of WHERE hold, in this order
+pub record Selection : Type 0 where
+  pub text : List ℕ
+  pub names : List (List ℕ)
+  pub tree : ℕ
+  pub filter : List Term
+  pub terms : List Term
+  pub order : List (Term × Key)
+
+abbrev pub query_of : Selection → Query
+query_of q = plain_query q.tree q.filter q.terms q.order
+
+-- its text means it
+pub record IsSelection (q : Selection) : Type 0 where
+  pub shows : Shows q.text (Select (record { lets = []; body = query_of q }) q.names)
+  pub plainly : (db : Trees) → overlay db [] q.tree ≡ db q.tree
+
+-- its text means the first of its rows, as many as that parameter says
+pub record IsLimited (q : Selection) (at : ℕ) : Type 0 where
+  pub shows : Shows q.text (Select (record { lets = []; body = record (query_of q) { limit = col 0 at } }) q.names)
+  pub plainly : (db : Trees) → overlay db [] q.tree ≡ db q.tree
 
 -- the columns of a job
 abbrev pub job_terms : List Term
@@ -190,60 +215,51 @@ update_next_is = record { command = refl; plain = (refl, refl) }
 
 -- ---- SELECT jobs by number
 
-abbrev pub select_job_text : List ℕ
-select_job_text = codes "SELECT number, owner, name, copies, impressions, hold, incoming, phase, why, stopping, count, created, begun, ended FROM jobs WHERE number = ?1"
+abbrev pub select_job : Selection
+select_job = record {
+  text = codes "SELECT number, owner, name, copies, impressions, hold, incoming, phase, why, stopping, count, created, begun, ended FROM jobs WHERE number = ?1";
+  names = job_names;
+  tree = 1;
+  filter = op2 (Compare Eq Binary) (col 1 0) (col 0 0) ∷ [];
+  terms = job_terms;
+  order = [];
+}
 
-abbrev pub select_job_where : List Term
-select_job_where = op2 (Compare Eq Binary) (col 1 0) (col 0 0) ∷ []
-
-abbrev pub select_job_order : List (Term × Key)
-select_job_order = []
-
-pub select_job_is : Shows select_job_text (Select (record { lets = []; body = plain_query 1 select_job_where job_terms select_job_order }) job_names)
+pub select_job_is : IsSelection select_job
 unfolding understood first everything
-select_job_is = record { command = refl; plain = (refl, refl); query = refl; unlisted = refl }
+select_job_is = record { shows = record { command = refl; plain = (refl, refl); query = refl; unlisted = refl }; plainly = λ db. refl }
 
 -- ---- SELECT documents of a job
 
-abbrev pub select_octets_text : List ℕ
-select_octets_text = codes "SELECT octets FROM documents WHERE job = ?1 ORDER BY doc"
+abbrev pub select_octets : Selection
+select_octets = record {
+  text = codes "SELECT octets FROM documents WHERE job = ?1 ORDER BY doc";
+  names = codes "octets" ∷ [];
+  tree = 2;
+  filter = op2 (Compare Eq Binary) (col 1 1) (col 0 0) ∷ [];
+  terms = col 1 4 ∷ [];
+  order = (col 1 2, plain_key Binary) ∷ [];
+}
 
-abbrev pub select_octets_terms : List Term
-select_octets_terms = col 1 4 ∷ []
-
-abbrev pub select_octets_where : List Term
-select_octets_where = op2 (Compare Eq Binary) (col 1 1) (col 0 0) ∷ []
-
-abbrev pub select_octets_order : List (Term × Key)
-select_octets_order = (col 1 2, plain_key Binary) ∷ []
-
-abbrev pub select_octets_names : List (List ℕ)
-select_octets_names = codes "octets" ∷ []
-
-pub select_octets_is : Shows select_octets_text (Select (record { lets = []; body = plain_query 2 select_octets_where select_octets_terms select_octets_order }) select_octets_names)
+pub select_octets_is : IsSelection select_octets
 unfolding understood first everything
-select_octets_is = record { command = refl; plain = (refl, refl); query = refl; unlisted = refl }
+select_octets_is = record { shows = record { command = refl; plain = (refl, refl); query = refl; unlisted = refl }; plainly = λ db. refl }
 
 -- ---- SELECT accounts by name
 
-abbrev pub select_account_text : List ℕ
-select_account_text = codes "SELECT free, reserved, printed FROM accounts WHERE name = ?1"
+abbrev pub select_account : Selection
+select_account = record {
+  text = codes "SELECT free, reserved, printed FROM accounts WHERE name = ?1";
+  names = codes "free" ∷ codes "reserved" ∷ codes "printed" ∷ [];
+  tree = 6;
+  filter = op2 (Compare Eq Binary) (col 1 1) (col 0 0) ∷ [];
+  terms = col 1 2 ∷ col 1 3 ∷ col 1 4 ∷ [];
+  order = [];
+}
 
-abbrev pub select_account_terms : List Term
-select_account_terms = col 1 2 ∷ col 1 3 ∷ col 1 4 ∷ []
-
-abbrev pub select_account_where : List Term
-select_account_where = op2 (Compare Eq Binary) (col 1 1) (col 0 0) ∷ []
-
-abbrev pub select_account_order : List (Term × Key)
-select_account_order = []
-
-abbrev pub select_account_names : List (List ℕ)
-select_account_names = codes "free" ∷ codes "reserved" ∷ codes "printed" ∷ []
-
-pub select_account_is : Shows select_account_text (Select (record { lets = []; body = plain_query 6 select_account_where select_account_terms select_account_order }) select_account_names)
+pub select_account_is : IsSelection select_account
 unfolding understood first everything
-select_account_is = record { command = refl; plain = (refl, refl); query = refl; unlisted = refl }
+select_account_is = record { shows = record { command = refl; plain = (refl, refl); query = refl; unlisted = refl }; plainly = λ db. refl }
 
 -- ---- no foreign key acts
 

@@ -1,5 +1,5 @@
 -- What one INSERT, UPDATE or SELECT does, whatever the table.
-use Rattle.std.proofs.Common.{if◌then◌else◌, ◌≡◌, ◌⊎◌, inl, inr, ℕ, ◌/◌, pos, List, [], ◌∷◌, ◌++◌, map, filter, flat_map, length, take, slice_get, unwrap_or, Option, false, Some, None, Ok, Err, Result, refl, sym, ap, subst, ◌∙◌, append-nil}
+use Rattle.std.proofs.Common.{if◌then◌else◌, ◌≡◌, ◌⊎◌, inl, inr, ℕ, ◌/◌, pos, List, [], ◌∷◌, ◌++◌, map, filter, flat_map, length, take, slice_get, unwrap_or, Option, Some, None, Ok, Err, Result, refl, sym, ap, subst, ◌∙◌, append-nil}
 use Rattle.std.specs.List.Sorted.{IsPermutation, IsSorted}
 use Rattle.sqlite.specs.declared.types.Value.TheVariants.{Null, Int}
 use Rattle.sqlite.specs.Order.{Row, column}
@@ -10,20 +10,22 @@ use Rattle.sqlite.specs.Query.{IsAnswer, output, output_cmp, Output}
 use Rattle.sqlite.specs.Program.{overlay}
 use Rattle.sqlite.specs.Schema.{Schema}
 use Rattle.sqlite.specs.Source.TheVariants.{Values}
-use Rattle.sqlite.specs.Command.TheVariants.{Insert, Update, Select}
+use Rattle.sqlite.specs.Command.TheVariants.{Insert, Update}
 use Rattle.sqlite.specs.Edit.{edit_of, Applies}
 use Rattle.sqlite.specs.Rowids.TheVariants.{Chosen, Given}
 use Rattle.sqlite.specs.Tree.{Trees}
 use Rattle.sqlite.specs.Does.{Tally, Does, OnRows}
 use Rattle.sqlite.specs.Rows.{Written, Task}
 use Rattle.sqlite.specs.Effect.{Database, value_rows}
-use Rattle.sqlite.specs.Listing.{understood, reads_listing}
-use Rattle.sqlite.specs.State.{State, mode_of, Executes, QueriesRow, Begins, Shown, IsUnchanged}
-use Rattle.sqlite.proofs.Callers.{IsPlain, command_of, statement_of, runs_as, first_as, begins_as, reads_as, one_step}
+use Rattle.sqlite.specs.Listing.{understood}
+use Rattle.sqlite.specs.State.{State, mode_of, Executes, Begins, Shown}
+use Rattle.sqlite.proofs.Callers.{IsPlain, command_of, statement_of, runs_as, begins_as, reads_as, one_step}
 use Rattle.sqlite_schema.specs.declared.schema.Keys.TheVariants.{Enforced}
 use Rattle.sqlite_rules.specs.Action.{works}
 use Rattle.sqlite_rules.specs.Calls.{ids_of}
 use Rattle.queue_tables.specs.Plain.{Plain, table_of, plain_query, passes, shown_of, Wrote}
+use Rattle.queue_tables.specs.Tables.{book_schema}
+use Rattle.queue_tables.proofs.Statements.{IsSelection, Selection}
 
 -- a part that gave a value did not stop on the way
 went : {B E R : Type 0} {b : B} {Stops : E → Type 0} → ((stop : E) × Stops stop × (Ok b ≡ Err stop)) ⊎ R → R
@@ -137,37 +139,18 @@ module _ (schema : Schema) (sql : List ℕ) (at : ℕ) (p : Plain) (terms projec
         counted,
       )
 
-module _ (schema : Schema) (sql : List ℕ) (names : List (List ℕ)) (tree : ℕ) (terms project : List Term) (order : List (Term × Key))
-    (is : command_of (understood schema sql) ≡ Select (record { lets = []; body = plain_query tree terms project order }) names) (plain : IsPlain (understood schema sql))
-    (unlisted : reads_listing schema sql ≡ false) (plainly : (db : Trees) → overlay db [] tree ≡ db tree) where
-  -- the first row of a SELECT
-  pub finds_row : (old new : State) (params row : Row) → old.now.schema ≡ schema → QueriesRow sql params old new (Ok row)
-      → (rest : List Row) × IsListing tree terms project order params (old.now.trees tree) (row ∷ rest)
-  finds_row old new params row has h =
-      let got = (first_as sql params old new schema has _ is plain unlisted row h).1 in
-      (got.0, lists tree terms project order params old.now.trees (row ∷ got.0) (plainly old.now.trees) (got.1 Null))
+module _ (q : Selection) (is : IsSelection q) where
+  abbrev pub IsListed : Row → List Row → List Row → Type 0
+  IsListed params = IsListing q.tree q.filter q.terms q.order params
 
-  -- the first rows
-  pub begins_rows : (old new : State) (params : Row) (rows : List Row) → old.now.schema ≡ schema → Begins sql params old rows
-      → (rest : List Row) × IsListing tree terms project order params (old.now.trees tree) (rows ++ rest)
+  -- the first rows that it shows
+  pub begins_rows : (old new : State) (params : Row) (rows : List Row) → old.now.schema ≡ book_schema → Begins q.text params old rows → (rest : List Row) × IsListed params (old.now.trees q.tree) (rows ++ rest)
   begins_rows old new params rows has h =
-      let got = (begins_as sql params old new schema has _ is plain unlisted rows h).1 in
-      (got.0, lists tree terms project order params old.now.trees (rows ++ got.0) (plainly old.now.trees) (got.1 Null))
+      let got = (begins_as q.text params old new book_schema has _ is.shows.command is.shows.plain is.shows.unlisted rows h).1 in
+      (got.0, lists q.tree q.filter q.terms q.order params old.now.trees (rows ++ got.0) (is.plainly old.now.trees) (got.1 Null))
 
   -- all rows
-  pub reads_rows : (old new : State) (params : Row) (rows : List Row) → old.now.schema ≡ schema → Shown sql params old new rows
-      → IsListing tree terms project order params (old.now.trees tree) rows
+  pub reads_rows : (old new : State) (params : Row) (rows : List Row) → old.now.schema ≡ book_schema → Shown q.text params old new rows → IsListed params (old.now.trees q.tree) rows
   reads_rows old new params rows has h =
-      let got = reads_as sql params old new schema has _ is plain unlisted rows h in
-      lists tree terms project order params old.now.trees rows (plainly old.now.trees) (got.answer Null)
-
-  -- a SELECT changes nothing
-  pub row_keeps : (old new : State) (params row : Row) → old.now.schema ≡ schema → QueriesRow sql params old new (Ok row) → IsUnchanged old new
-  unfolding QueriesRow Shown
-  row_keeps old new params row has (inl h) = h.1
-  row_keeps old new params row has (inr h) =
-      let said = h.1 in
-      let known = sym said.1.is ∙ ap (λ s. understood s sql) has in
-      let bare = subst IsPlain (sym known) plain in
-      let it = rw (bare.0) at said.2 in
-      it.3
+      let got = reads_as q.text params old new book_schema has _ is.shows.command is.shows.plain is.shows.unlisted rows h in
+      lists q.tree q.filter q.terms q.order params old.now.trees rows (is.plainly old.now.trees) (got.answer Null)

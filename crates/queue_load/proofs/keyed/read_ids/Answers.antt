@@ -1,24 +1,23 @@
 use Rattle.std.proofs.Common.{map, refl, subst}
 use Rattle.std.specs.List.Sorted.{IsPermutation}
 use Rattle.std.proofs.lemmas.List.Sorted.{IsPermutation-refl}
-use Rattle.queue_load.specs.declared.typed.RowId.{RowId}
 use Rattle.sqlite.specs.Held.{state}
 use Rattle.queue_load.specs.Keyed.{TellsId, IsNoId, id_values}
+use Rattle.queue_load.specs.declared.typed.RowId.{RowId}
 use Rattle.queue_load.proofs.KeyLemmas.{ids_are}
 use Rattle.queue_load.proofs.Results.{if_ok, map_err}
-use Rattle.queue_load.proofs.Texts.{rowids_select, rowids_names, rowids_terms, rowids_order, rowids_is}
+use Rattle.queue_load.proofs.Texts.{rowids_query, rowids_is}
 use Rattle.queue_load.proofs.Whole.{table_read, table_formless}
 use Rattle.queue_load.proofs.keyed.read_ids.Goals as goal
 
 pub read_table-requires : goal.read_table-requires
-read_table-requires g c = record { plain = rowids_is.plain }
+read_table-requires g c = record { query = rowids_is.selection.shows.query; plain = rowids_is.selection.shows.plain }
 
 pub returns-clause-read : goal.returns-clause-read
 returns-clause-read g c = λ fits clean.
     let first = state g.S.Store c.args.conn.now in
-    if_ok c.read_table.result _ _ (λ v has.
-    table_read rowids_select rowids_names 6 rowids_terms rowids_order 1 rowids_is.command rowids_is.plain rowids_is.unlisted (λ db. refl) (λ r. refl) TellsId id_values 1 (λ t r told. told) (λ r. refl) (λ a b. refl)
-    first v.items (fits (c.read_table.ensures.clean clean)) has) (c.read_table.ensures.read fits clean)
+    let schema = fits (c.read_table.ensures.leaves.clean clean) in
+    if_ok c.read_table.result _ _ (λ v has. table_read rowids_query rowids_is TellsId id_values (λ t r told. told) (λ a b. refl) first v.items schema has) (c.read_table.ensures.read fits clean)
 
 any_id : RowId → Type 0
 any_id x = Unit {0}
@@ -27,7 +26,8 @@ pub returns-clause-damaged : goal.returns-clause-damaged
 unfolding any_id
 returns-clause-damaged g c = λ fits clean.
     let first = state g.S.Store c.args.conn.now in
+    let schema = fits (c.read_table.ensures.leaves.clean clean) in
     map_err c.read_table.result _ _ (λ e told d keyed.
     let ids = ids_are (first.now.trees 6) keyed.ints in
-    table_formless rowids_select rowids_names 6 rowids_terms rowids_order 1 rowids_is.command rowids_is.plain rowids_is.unlisted (λ db. refl) (λ r. refl) id_values any_id IsNoId (λ r none t f. none t)
-    first ids.0 (fits (c.read_table.ensures.clean clean)) (told d) (λ k e low. tt) (subst (IsPermutation (map id_values ids.0)) ids.1 (IsPermutation-refl (map id_values ids.0)))) (c.read_table.ensures.formless fits clean)
+    let are = subst (IsPermutation (map id_values ids.0)) ids.1 (IsPermutation-refl (map id_values ids.0)) in
+    table_formless rowids_query rowids_is id_values any_id IsNoId (λ r none t f. none t) first schema (told d) (record { items = ids.0; formed = λ k e low. tt; are = are })) (c.read_table.ensures.formless fits clean)

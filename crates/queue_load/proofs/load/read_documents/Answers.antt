@@ -3,21 +3,21 @@ use Rattle.sqlite.specs.Held.{state}
 use Rattle.queue_load.specs.Tells.{TellsDocument, IsNoDocument, IsFormedDocument}
 use Rattle.queue_tables.specs.Values.{document_values}
 use Rattle.queue_load.proofs.Results.{if_ok, map_err}
-use Rattle.queue_load.proofs.Texts.{documents_select, documents_names, documents_terms, documents_order, documents_is}
+use Rattle.queue_load.proofs.Texts.{documents_query, documents_is}
 use Rattle.queue_load.proofs.Whole.{table_read, table_formless}
 use Rattle.queue_load.proofs.load.read_documents.Goals as goal
 
 pub read_table-requires : goal.read_table-requires
-read_table-requires g c = record { plain = documents_is.plain }
+read_table-requires g c = record { query = documents_is.selection.shows.query; plain = documents_is.selection.shows.plain }
 
 pub returns-clause-read : goal.returns-clause-read
 returns-clause-read g c = λ fits clean.
     let first = state g.S.Store c.args.conn.now in
-    if_ok c.read_table.result _ _ (λ v has. table_read documents_select documents_names 2 documents_terms documents_order 2 documents_is.command documents_is.plain documents_is.unlisted (λ db. refl) (λ r. refl) TellsDocument document_values 4 (λ t r told. told) (λ r. refl) (λ a b. refl) first v.items (fits (c.read_table.ensures.clean clean)) has) (c.read_table.ensures.read fits clean)
+    let schema = fits (c.read_table.ensures.leaves.clean clean) in
+    if_ok c.read_table.result _ _ (λ v has. table_read documents_query documents_is TellsDocument document_values (λ t r told. told) (λ a b. refl) first v.items schema has) (c.read_table.ensures.read fits clean)
 
 pub returns-clause-formless : goal.returns-clause-formless
 returns-clause-formless g c = λ fits clean.
     let first = state g.S.Store c.args.conn.now in
-    map_err c.read_table.result _ _ (λ e told d ts formed are.
-    table_formless documents_select documents_names 2 documents_terms documents_order 2 documents_is.command documents_is.plain documents_is.unlisted (λ db. refl) (λ r. refl) document_values IsFormedDocument IsNoDocument (λ r none t f. none t f)
-    first ts (fits (c.read_table.ensures.clean clean)) (told d) formed are) (c.read_table.ensures.formless fits clean)
+    let schema = fits (c.read_table.ensures.leaves.clean clean) in
+    map_err c.read_table.result _ _ (λ e told d. table_formless documents_query documents_is document_values IsFormedDocument IsNoDocument (λ r none t f. none t f) first schema (told d)) (c.read_table.ensures.formless fits clean)

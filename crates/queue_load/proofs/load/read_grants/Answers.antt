@@ -3,21 +3,21 @@ use Rattle.sqlite.specs.Held.{state}
 use Rattle.queue_load.specs.Tells.{TellsGrant, IsNoGrant, IsFormedGrant}
 use Rattle.queue_tables.specs.Values.{grant_values}
 use Rattle.queue_load.proofs.Results.{if_ok, map_err}
-use Rattle.queue_load.proofs.Texts.{grants_select, grants_names, grants_terms, grants_order, grants_is}
+use Rattle.queue_load.proofs.Texts.{grants_query, grants_is}
 use Rattle.queue_load.proofs.Whole.{table_read, table_formless}
 use Rattle.queue_load.proofs.load.read_grants.Goals as goal
 
 pub read_table-requires : goal.read_table-requires
-read_table-requires g c = record { plain = grants_is.plain }
+read_table-requires g c = record { query = grants_is.selection.shows.query; plain = grants_is.selection.shows.plain }
 
 pub returns-clause-read : goal.returns-clause-read
 returns-clause-read g c = λ fits clean.
     let first = state g.S.Store c.args.conn.now in
-    if_ok c.read_table.result _ _ (λ v has. table_read grants_select grants_names 8 grants_terms grants_order 2 grants_is.command grants_is.plain grants_is.unlisted (λ db. refl) (λ r. refl) TellsGrant grant_values 3 (λ t r told. told) (λ r. refl) (λ a b. refl) first v.items (fits (c.read_table.ensures.clean clean)) has) (c.read_table.ensures.read fits clean)
+    let schema = fits (c.read_table.ensures.leaves.clean clean) in
+    if_ok c.read_table.result _ _ (λ v has. table_read grants_query grants_is TellsGrant grant_values (λ t r told. told) (λ a b. refl) first v.items schema has) (c.read_table.ensures.read fits clean)
 
 pub returns-clause-formless : goal.returns-clause-formless
 returns-clause-formless g c = λ fits clean.
     let first = state g.S.Store c.args.conn.now in
-    map_err c.read_table.result _ _ (λ e told d ts formed are.
-    table_formless grants_select grants_names 8 grants_terms grants_order 2 grants_is.command grants_is.plain grants_is.unlisted (λ db. refl) (λ r. refl) grant_values IsFormedGrant IsNoGrant (λ r none t f. none t f)
-    first ts (fits (c.read_table.ensures.clean clean)) (told d) formed are) (c.read_table.ensures.formless fits clean)
+    let schema = fits (c.read_table.ensures.leaves.clean clean) in
+    map_err c.read_table.result _ _ (λ e told d. table_formless grants_query grants_is grant_values IsFormedGrant IsNoGrant (λ r none t f. none t f) first schema (told d)) (c.read_table.ensures.formless fits clean)

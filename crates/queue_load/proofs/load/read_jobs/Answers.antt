@@ -1,26 +1,28 @@
 use Rattle.std.proofs.Common.{refl}
 use Rattle.sqlite.specs.Held.{state}
-use Rattle.queue_load.specs.Tells.{TellsJob, IsNoJob}
 use Rattle.queue_tables.specs.Forms.{IsFormedJob}
-use Rattle.queue_load.specs.Loaded.{IsBare}
 use Rattle.queue_tables.specs.Values.{job_values}
+use Rattle.queue_load.specs.Loaded.{IsBare}
+use Rattle.queue_load.specs.Tells.{TellsJob, IsNoJob}
 use Rattle.queue_load.proofs.Results.{if_ok, map_err}
-use Rattle.queue_load.proofs.Texts.{jobs_select, jobs_order, jobs_is}
+use Rattle.queue_load.proofs.Texts.{jobs_query, jobs_is}
 use Rattle.queue_load.proofs.Whole.{table_read, table_formless, told_all}
-use Rattle.queue_tables.proofs.Statements.{job_names, job_terms}
 use Rattle.queue_load.proofs.load.read_jobs.Goals as goal
 
 pub read_table-requires : goal.read_table-requires
-read_table-requires g c = record { plain = jobs_is.plain }
+read_table-requires g c = record { query = jobs_is.selection.shows.query; plain = jobs_is.selection.shows.plain }
 
 pub returns-clause-read : goal.returns-clause-read
 returns-clause-read g c = λ fits clean.
     let first = state g.S.Store c.args.conn.now in
-    if_ok c.read_table.result _ _ (λ v has. (table_read jobs_select job_names 1 job_terms jobs_order 1 jobs_is.command jobs_is.plain jobs_is.unlisted (λ db. refl) (λ r. refl) TellsJob job_values 14 (λ t r told. told.0) (λ r. refl) (λ a b. refl) first v.items (fits (c.read_table.ensures.clean clean)) has, told_all TellsJob IsBare (λ t r told. (told.1, told.2)) v.items has.rows has.told)) (c.read_table.ensures.read fits clean)
+    let schema = fits (c.read_table.ensures.leaves.clean clean) in
+    if_ok c.read_table.result _ _ (λ v has. (
+      table_read jobs_query jobs_is TellsJob job_values (λ t r told. told.0) (λ a b. refl) first v.items schema has,
+      told_all TellsJob IsBare (λ t r told. (told.1, told.2)) v.items has.rows has.told,
+    )) (c.read_table.ensures.read fits clean)
 
 pub returns-clause-formless : goal.returns-clause-formless
 returns-clause-formless g c = λ fits clean.
     let first = state g.S.Store c.args.conn.now in
-    map_err c.read_table.result _ _ (λ e told d ts formed are.
-    table_formless jobs_select job_names 1 job_terms jobs_order 1 jobs_is.command jobs_is.plain jobs_is.unlisted (λ db. refl) (λ r. refl) job_values IsFormedJob IsNoJob (λ r none t f. none t f)
-    first ts (fits (c.read_table.ensures.clean clean)) (told d) formed are) (c.read_table.ensures.formless fits clean)
+    let schema = fits (c.read_table.ensures.leaves.clean clean) in
+    map_err c.read_table.result _ _ (λ e told d. table_formless jobs_query jobs_is job_values IsFormedJob IsNoJob (λ r none t f. none t f) first schema (told d)) (c.read_table.ensures.formless fits clean)

@@ -1,24 +1,23 @@
-use Rattle.std.proofs.Common.{refl}
 use Rattle.sqlite.specs.Held.{state}
 use Rattle.queue_load.specs.Loaded.{IsFormedWhole, whole_piece}
 use Rattle.queue_load.specs.Tells.{IsNoPiece}
 use Rattle.queue_load.proofs.Pieces.{pieces_read}
 use Rattle.queue_load.proofs.Results.{if_ok, map_err}
-use Rattle.queue_load.proofs.Texts.{pieces_select, pieces_names, pieces_terms, pieces_order, pieces_is}
+use Rattle.queue_load.proofs.Texts.{pieces_query, pieces_is}
 use Rattle.queue_load.proofs.Whole.{table_formless}
 use Rattle.queue_load.proofs.load.read_pieces.Goals as goal
 
 pub read_table-requires : goal.read_table-requires
-read_table-requires g c = record { plain = pieces_is.plain }
+read_table-requires g c = record { query = pieces_is.selection.shows.query; plain = pieces_is.selection.shows.plain }
 
 pub returns-clause-read : goal.returns-clause-read
 returns-clause-read g c = λ fits clean.
     let first = state g.S.Store c.args.conn.now in
-    if_ok c.read_table.result _ _ (λ v has. pieces_read first v.items (fits (c.read_table.ensures.clean clean)) has) (c.read_table.ensures.read fits clean)
+    if_ok c.read_table.result _ _ (λ v has. pieces_read first v.items (fits (c.read_table.ensures.leaves.clean clean)) has) (c.read_table.ensures.read fits clean)
 
 pub returns-clause-formless : goal.returns-clause-formless
 returns-clause-formless g c = λ fits clean.
     let first = state g.S.Store c.args.conn.now in
-    map_err c.read_table.result _ _ (λ e told d ps formed are.
-    table_formless pieces_select pieces_names 4 pieces_terms pieces_order 3 pieces_is.command pieces_is.plain pieces_is.unlisted (λ db. refl) (λ r. refl) whole_piece IsFormedWhole IsNoPiece (λ r none p f is. none p.row f.0 (record { bytes = p.bytes; is = is; long = f.1 }))
-    first ps (fits (c.read_table.ensures.clean clean)) (told d) formed are) (c.read_table.ensures.formless fits clean)
+    let schema = fits (c.read_table.ensures.leaves.clean clean) in
+    map_err c.read_table.result _ _ (λ e told d.
+    table_formless pieces_query pieces_is whole_piece IsFormedWhole IsNoPiece (λ r none p f is. none p.row f.0 (record { bytes = p.bytes; is = is; long = f.1 })) first schema (told d)) (c.read_table.ensures.formless fits clean)

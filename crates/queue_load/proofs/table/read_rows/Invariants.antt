@@ -1,4 +1,4 @@
-use Rattle.std.proofs.Common.{◌≡◌, ℕ, false, [], List, IsTrue}
+use Rattle.std.proofs.Common.{◌≡◌, ℕ, [], List, IsTrue}
 use Rattle.sqlite.specs.Order.{Row}
 use Rattle.sqlite.specs.State.{HasCleanDisk, IsUnchanged}
 use Rattle.sqlite.specs.Held.{state}
@@ -12,7 +12,6 @@ invariant-rows g l =
     let old = state g.S.Store l.initial.rows.conn.now in
     let now = state g.S.Store l.rows.conn.now in
     (l.rows.conn.ghost_name ≡ l.initial.rows.conn.ghost_name)
-    × (l.initial.rows.conn.now.in_transaction ≡ false → l.rows.conn.now.in_transaction ≡ false)
     × (HasCleanDisk now → HasCleanDisk old)
     × (HasCleanDisk now → IsTrue old.is_open → IsUnchanged old now)
     × (HasCleanDisk now → (sql : List ℕ) → HasGiven g.S.Store sql [] l.initial.rows.conn.now [] → (given : List Row) × HasGiven g.S.Store sql [] l.rows.conn.now given × Tell g.T.TableRow.tells l.items.items given)

@@ -11,7 +11,7 @@ use Rattle.queue_tables.proofs.Statements.{select_account_is}
 use Rattle.queue_scenes.proofs.accounts.pages_of.Goals as goal
 
 pub select-requires : goal.select-requires
-select-requires g c = record { query = select_account_is.query }
+select-requires g c = record { query = select_account_is.shows.query }
 
 pub returns-in-None-clause-found : goal.returns-in-None-clause-found
 returns-in-None-clause-found g c clean w has =

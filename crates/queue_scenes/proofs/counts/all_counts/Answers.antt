@@ -9,13 +9,13 @@ use Rattle.queue_scenes.proofs.Statements.{select_queued_is, select_running_is, 
 use Rattle.queue_scenes.proofs.counts.all_counts.Goals as goal
 
 pub count-requires : goal.count-requires
-count-requires g c = record { query = select_running_is.query }
+count-requires g c = record { query = select_running_is.shows.query }
 
 pub count-requires-2 : goal.count-requires-2
-count-requires-2 g c = record { query = select_stopped_is.query }
+count-requires-2 g c = record { query = select_stopped_is.shows.query }
 
 pub count-requires-3 : goal.count-requires-3
-count-requires-3 g c = record { query = select_queued_is.query }
+count-requires-3 g c = record { query = select_queued_is.shows.query }
 
 pub returns-in_err-stopped-clause-leaves : goal.returns-in_err-stopped-clause-leaves
 returns-in_err-stopped-clause-leaves g c = leaves_then (state g.S.Store c.args.conn.now) (state g.S.Store c.count.new.conn) (state g.S.Store c.count-2.new.conn) c.count.ensures.leaves c.count-2.ensures.leaves

@@ -7,7 +7,7 @@ use Rattle.queue_scenes.proofs.Statements.{select_live_is}
 use Rattle.queue_scenes.proofs.counts.live_count.Goals as goal
 
 pub count-requires : goal.count-requires
-count-requires g c = record { query = select_live_is.query }
+count-requires g c = record { query = select_live_is.shows.query }
 
 pub returns-clause-found : goal.returns-clause-found
 returns-clause-found g c clean =

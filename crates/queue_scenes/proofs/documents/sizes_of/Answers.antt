@@ -5,7 +5,7 @@ use Rattle.queue_scenes.proofs.Sizes.{sizes_shown}
 use Rattle.queue_scenes.proofs.documents.sizes_of.Goals as goal
 
 pub select-requires : goal.select-requires
-select-requires g c = record { query = select_octets_is.query }
+select-requires g c = record { query = select_octets_is.shows.query }
 
 pub returns-clause-found : goal.returns-clause-found
 returns-clause-found g c clean w k sound has there =

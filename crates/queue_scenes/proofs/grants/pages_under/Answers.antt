@@ -7,7 +7,7 @@ use Rattle.queue_scenes.proofs.Statements.{select_grant_is}
 use Rattle.queue_scenes.proofs.grants.pages_under.Goals as goal
 
 pub select-requires : goal.select-requires
-select-requires g c = record { query = select_grant_is.query }
+select-requires g c = record { query = select_grant_is.shows.query }
 
 pub returns-in-None-clause-found : goal.returns-in-None-clause-found
 returns-in-None-clause-found g c clean w has =

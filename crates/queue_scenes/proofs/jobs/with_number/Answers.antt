@@ -8,7 +8,7 @@ use Rattle.queue_scenes.proofs.Lists.{filtered_rows, shows_numbered}
 use Rattle.queue_scenes.proofs.jobs.with_number.Goals as goal
 
 pub select_jobs-requires : goal.select_jobs-requires
-select_jobs-requires g c = record { query = select_job_is.query }
+select_jobs-requires g c = record { query = select_job_is.shows.query }
 
 pub returns-clause-found : goal.returns-clause-found
 returns-clause-found g c clean =

@@ -6,7 +6,7 @@ use Rattle.queue_scenes.proofs.Statements.{select_next_is}
 use Rattle.queue_scenes.proofs.meta.next_number.Goals as goal
 
 pub select-requires : goal.select-requires
-select-requires g c = record { query = select_next_is.query }
+select-requires g c = record { query = select_next_is.shows.query }
 
 pub returns-clause-found : goal.returns-clause-found
 returns-clause-found g c clean w has =

@@ -9,7 +9,7 @@ use Rattle.queue_scenes.proofs.Statements.{select_ended_first_is}
 use Rattle.queue_scenes.proofs.own_jobs.first_completed.Goals as goal
 
 pub select_jobs-requires : goal.select_jobs-requires
-select_jobs-requires g c = record { query = select_ended_first_is.query }
+select_jobs-requires g c = record { query = select_ended_first_is.shows.query }
 
 pub returns-clause-found : goal.returns-clause-found
 returns-clause-found g c clean =

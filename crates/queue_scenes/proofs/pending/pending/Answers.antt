@@ -9,7 +9,7 @@ use Rattle.queue_scenes.proofs.Statements.{select_pending_is}
 use Rattle.queue_scenes.proofs.pending.pending.Goals as goal
 
 pub select_jobs-requires : goal.select_jobs-requires
-select_jobs-requires g c = record { query = select_pending_is.query }
+select_jobs-requires g c = record { query = select_pending_is.shows.query }
 
 pub returns-clause-shows : goal.returns-clause-shows
 unfolding pending_in

@@ -10,7 +10,7 @@ use Rattle.queue_scenes.proofs.Told.{same_report}
 use Rattle.queue_scenes.proofs.reports.kept_report.Goals as goal
 
 pub select-requires : goal.select-requires
-select-requires g c = record { query = select_report_is.query }
+select-requires g c = record { query = select_report_is.shows.query }
 
 pub returns-in-None-clause-found : goal.returns-in-None-clause-found
 returns-in-None-clause-found g c clean w sound has =

@@ -10,7 +10,7 @@ use Rattle.queue_shown.proofs.Texts.{select_head_is}
 use Rattle.queue_shown.proofs.head.find_head.Goals as goal
 
 pub select-requires : goal.select-requires
-select-requires g c = record { query = select_head_is.query }
+select-requires g c = record { query = select_head_is.shows.query }
 
 pub returns-in-None-clause-found : goal.returns-in-None-clause-found
 returns-in-None-clause-found g c clean w distinct has =

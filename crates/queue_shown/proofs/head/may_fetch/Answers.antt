@@ -9,7 +9,7 @@ use Rattle.queue_shown.proofs.Texts.{select_state_is}
 use Rattle.queue_shown.proofs.head.may_fetch.Goals as goal
 
 pub select-requires : goal.select-requires
-select-requires g c = record { query = select_state_is.query }
+select-requires g c = record { query = select_state_is.shows.query }
 
 pub returns-in-None-clause-told : goal.returns-in-None-clause-told
 returns-in-None-clause-told g c clean w distinct has =

@@ -6,7 +6,8 @@ use Rattle.queue_tables.specs.Values.{number}
 use Rattle.queue_tables.proofs.Ending.{on_ok, query_fails}
 use Rattle.queue_shown.specs.Sent.{pieces_select}
 use Rattle.queue_shown.proofs.Frames.{failed_opens}
-use Rattle.queue_shown.proofs.Sending.{pieces_plain_in, err_then, same_sent, same_front, begun_unchanged}
+use Rattle.queue_shown.proofs.Sending.{pieces_plain_in, err_then, same_sent, same_front}
+use Rattle.queue_tables.proofs.Leaving.{begun_unchanged}
 use Rattle.queue_tables.proofs.Reading.{left_then, plain_at, still_open}
 use Rattle.queue_shown.proofs.Texts.{select_pieces_is}
 use Rattle.queue_shown.proofs.send.send_pieces.Goals as goal
@@ -58,7 +59,7 @@ returns-clause-left g c clean =
     let now = state g.S.Store c.send_rows.new.rows.conn.now in
     let late : HasCleanDisk now = search rules in
     let mid : HasCleanDisk first = c.send_rows.ensures.clean late in
-    let was = begun_unchanged g.S.Store pieces_select params c.args.conn.now c.in_ok-rows.rows.conn.now select_pieces_is.query (rw (c.params-to_sql.ensures, c.params-to_sql-2.ensures) at (made.begun mid)) in
+    let was = begun_unchanged g.S.Store pieces_select params c.args.conn.now c.in_ok-rows.rows.conn.now select_pieces_is.shows.query (rw (c.params-to_sql.ensures, c.params-to_sql-2.ensures) at (made.begun mid)) in
     let kept = left_then old first now was (c.send_rows.ensures.left late was.0.is_open) in
     search (rules, kept)
 
@@ -70,7 +71,7 @@ returns-clause-opened g c clean =
     let now = state g.S.Store c.send_rows.new.rows.conn.now in
     let late : HasCleanDisk now = search rules in
     let mid : HasCleanDisk first = c.send_rows.ensures.clean late in
-    let was = begun_unchanged g.S.Store pieces_select params c.args.conn.now c.in_ok-rows.rows.conn.now select_pieces_is.query (rw (c.params-to_sql.ensures, c.params-to_sql-2.ensures) at (made.begun mid)) in
+    let was = begun_unchanged g.S.Store pieces_select params c.args.conn.now c.in_ok-rows.rows.conn.now select_pieces_is.shows.query (rw (c.params-to_sql.ensures, c.params-to_sql-2.ensures) at (made.begun mid)) in
     λ shown. was.0.was_open
 
 pub returns-clause-live : goal.returns-clause-live
@@ -81,6 +82,6 @@ returns-clause-live g c clean =
     let now = state g.S.Store c.send_rows.new.rows.conn.now in
     let late : HasCleanDisk now = search rules in
     let mid : HasCleanDisk first = c.send_rows.ensures.clean late in
-    let was = begun_unchanged g.S.Store pieces_select params c.args.conn.now c.in_ok-rows.rows.conn.now select_pieces_is.query (rw (c.params-to_sql.ensures, c.params-to_sql-2.ensures) at (made.begun mid)) in
+    let was = begun_unchanged g.S.Store pieces_select params c.args.conn.now c.in_ok-rows.rows.conn.now select_pieces_is.shows.query (rw (c.params-to_sql.ensures, c.params-to_sql-2.ensures) at (made.begun mid)) in
     let live = on_ok c.send_rows.result _ _ (still_open first now) (c.send_rows.ensures.same late was.0.is_open) in
     search (rules, live)

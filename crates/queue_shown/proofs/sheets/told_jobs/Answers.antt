@@ -9,7 +9,7 @@ use Rattle.queue_tables.proofs.Leaving.{holds_after, leaves_then}
 use Rattle.queue_shown.proofs.sheets.told_jobs.Goals as goal
 
 pub select-requires : goal.select-requires
-select-requires g c = record { query = select_owned_is.query }
+select-requires g c = record { query = select_owned_is.shows.query }
 
 pub returns-in_err-jobs-clause-leaves : goal.returns-in_err-jobs-clause-leaves
 returns-in_err-jobs-clause-leaves g c = leaves_then (state g.S.Store c.args.conn.now) (state g.S.Store c.select.new.conn) (state g.S.Store c.jobs_of.new.conn) c.select.ensures.leaves c.jobs_of.ensures.leaves

@@ -1,29 +1,15 @@
-use Rattle.std.proofs.Common.{IsTrue, rules}
 use Rattle.sqlite.specs.Held.{state}
 use Rattle.queue_rows.specs.Rows.{tables_in}
-use Rattle.queue_store.proofs.Adopting.{adopted, within_limits, left_is}
-use Rattle.queue_store.proofs.Results.{on_each, if_ok_then, if_err}
+use Rattle.queue_store.proofs.Adopting.{adopted, within_limits}
+use Rattle.queue_store.proofs.Results.{if_ok_then, if_err}
 use Rattle.queue_store.proofs.adopt.settings_in_tables.Goals as goal
 
 pub returns-clause-stands : goal.returns-clause-stands
 returns-clause-stands g c = λ fits clean.
     let old = state g.S.Store c.args.conn.now in
     let new = state g.S.Store c.load_queue.new.conn in
-    if_ok_then c.settings_of.result _ _ (λ s told. adopted (tables_in c.in_ok-rows.rows) old new s (c.in_ok-rows.ensures.queue fits clean) (c.in_ok-rows.ensures.same fits clean) told) c.settings_of.ensures.ok
+    if_ok_then c.settings_of.result _ _ (λ s told. adopted (tables_in c.in_ok-rows.rows) old new s (c.in_ok-rows.ensures.queue fits clean) (c.in_ok-rows.ensures.same clean) told) c.settings_of.ensures.ok
 
 pub returns-clause-damaged : goal.returns-clause-damaged
 returns-clause-damaged g c = λ fits clean.
     if_err c.settings_of.result _ _ (λ e beyond is w name holds. within_limits (tables_in c.in_ok-rows.rows) (state g.S.Store c.args.conn.now).now (c.in_ok-rows.ensures.queue fits clean) (beyond is)) c.settings_of.ensures.damaged
-
-pub returns-clause-same : goal.returns-clause-same
-returns-clause-same g c = λ fits clean. on_each c.settings_of.result _ (c.in_ok-rows.ensures.same fits clean).0.now_is
-
-pub returns-clause-left : goal.returns-clause-left
-returns-clause-left g c = λ fits clean is_open.
-    let outside : IsTrue c.is_autocommit.result = search rules in
-    left_is (state g.S.Store c.args.conn.now) (state g.S.Store c.load_queue.new.conn) (c.load_queue.ensures.left fits clean is_open) (c.is_autocommit.ensures.settled outside) is_open
-
-pub returns-in_err-rows-clause-left : goal.returns-in_err-rows-clause-left
-returns-in_err-rows-clause-left g c = λ fits clean is_open.
-    let outside : IsTrue c.is_autocommit.result = search rules in
-    left_is (state g.S.Store c.args.conn.now) (state g.S.Store c.load_queue.new.conn) (c.load_queue.ensures.left fits clean is_open) (c.is_autocommit.ensures.settled outside) is_open

@@ -13,5 +13,6 @@ pub returns-in_ok-book-in-Ok-clause-found : goal.returns-in_ok-book-in-Ok-clause
 returns-in_ok-book-in-Ok-clause-found g c = λ fits honest db holds.
     let image = image_at g.S.Start in
     let before = file_state c.in-Ok.conn in
-    let same = c.in_ok-book-in-Ok.ensures.same (fits_in before image c.in-Ok.ensures.opened c.in-Ok.ensures.found fits) honest in
-    ap (λ (d : Database). d.trees) same ∙ holds_file before image c.in-Ok.ensures.opened c.in-Ok.ensures.found (c.in_ok-book-in-Ok.ensures.clean honest) db holds
+    let kept = c.in_ok-book-in-Ok.ensures.kept in
+    let world = c.in_ok-book-in-Ok.ensures.stands (fits_in before image c.in-Ok.ensures.opened c.in-Ok.ensures.found fits) honest in
+    ap (λ (d : Database). d.trees) (kept.same honest world.live) ∙ holds_file before image c.in-Ok.ensures.opened c.in-Ok.ensures.found (kept.clean honest) db holds
