@@ -1,5 +1,5 @@
 -- What is found by a key: the next number, an account, a grant, a report.
-use Rattle.std.proofs.Common.{◌≡◌, ℕ, ℤ, pos, List, [], ◌∷◌, map, filter, Bool, true, ◌&&◌, ◌==◌, get_or, Option, Some, None, refl, sym, ap, ap₂, subst, ◌∙◌, is_eq, Ordering, Less, Equal, Greater, bytes_eq, slice_get}
+use Rattle.std.proofs.Common.{◌≡◌, ℕ, pos, List, [], ◌∷◌, map, filter, Bool, true, ◌&&◌, ◌==◌, get_or, Option, Some, None, refl, sym, ap, ap₂, subst, ◌∙◌, is_eq, Ordering, Less, Equal, Greater, bytes_eq, slice_get}
 use Rattle.std.specs.FinMap.{get, get-entries, entries, entries_sorted}
 use Rattle.std.specs.Option.{IfSome}
 use Rattle.std.specs.Ordering.{ordering_then, nat_cmp}
@@ -25,16 +25,14 @@ use Rattle.queue_rows.specs.Rows.{meta_row, grant_row}
 use Rattle.queue_rows.proofs.WorldMaps.{found_there}
 use Rattle.queue_rows.proofs.WorldRows.{grant_same, report_same, report_total}
 use Rattle.queue_tables.specs.Content.{Holds, content_of}
-use Rattle.queue_tables.specs.Steps.{is_named, is_numbered}
-use Rattle.queue_tables.specs.Values.{number, meta_values, meta_view, account_view, grant_values, grant_view, report_values, report_view}
-use Rattle.queue_tables.proofs.Frees.{account_in, found_account, reserved_in, printed_in}
+use Rattle.queue_tables.specs.Steps.{is_numbered}
+use Rattle.queue_tables.specs.Values.{number, meta_values, meta_view, grant_values, grant_view, report_values, report_view}
 use Rattle.queue_tables.proofs.Numbers.{numbered_meta}
 use Rattle.queue_tables.proofs.Puts.{turned}
 use Rattle.queue_tables.proofs.Showing.{shows_all}
 use Rattle.queue_scenes.proofs.Lookup.{entry_of, found_in, rows_passing, map_alike, exactly}
 use Rattle.queue_scenes.proofs.Statements.{select_next, select_next_is, select_grant, select_grant_is, select_report, select_report_is}
 use Rattle.queue_scenes.proofs.Tests.{equals, names, and_true}
-use Rattle.queue_tables.proofs.Statements.{select_account, select_account_is}
 
 -- ---- the next number
 
@@ -44,26 +42,6 @@ next_shown old new rows w has h =
     old new [] meta_view (is_numbered 1) (λ v. column v 6 ∷ []) (content_of w).meta rows has.schema (λ r. refl) (λ r. refl) has.rows.meta h in
     let one : filter (is_numbered 1) (content_of w).meta ≡ meta_values (meta_row w) ∷ [] = rw (numbered_meta (meta_row w) refl) refl in
     one_permutation (number w.next ∷ []) rows (subst (λ (vs : List Row). IsPermutation (map (λ (v : Row). column v 6 ∷ []) vs) rows) one p)
-
--- ---- an account
-
--- its pages, by its name
-abbrev pub pages_row : World → List ℕ × ℤ → Row
-pages_row w a = Int a.1 ∷ Int (reserved_in w a.0) ∷ Int (printed_in w a.0) ∷ []
-
-one_account : (w : World) (name : List ℕ) (o : Option ℤ)
-    → map (λ (v : Row). column v 1 ∷ column v 2 ∷ column v 3 ∷ []) (found_account name (reserved_in w) (printed_in w) o) ≡ map (pages_row w) (entry_of name o)
-one_account w name None = refl
-one_account w name (Some free) = refl
-
-pub account_shown : (old new : State) (name : List ℕ) (rows : List Row) (w : World) → Holds (content_of w) old → Shown select_account.text (Words name ∷ []) old new rows
-    → rows ≡ map (pages_row w) (entry_of name (get w.free name))
-account_shown old new name rows w has h =
-    let out : Row → Row = λ v. column v 1 ∷ column v 2 ∷ column v 3 ∷ [] in
-    let p = shows_all select_account select_account_is
-    old new (Words name ∷ []) account_view (is_named name) out (content_of w).accounts rows has.schema (λ r. refl) (λ r. refl) has.rows.accounts h in
-    exactly name (pages_row w) (get w.free name) rows
-    (subst (λ (vs : List Row). IsPermutation vs rows) (ap (map out) (account_in w name) ∙ one_account w name (get w.free name)) p)
 
 -- ---- keys of two columns
 

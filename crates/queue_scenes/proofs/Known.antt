@@ -1,5 +1,5 @@
 -- What is known of a row of an account file, by the account's row.
-use Rattle.std.proofs.Common.{◌≡◌, inl, inr, ℕ, ℤ, pos, ◌+ℤ◌, ◌+◌, ◌<◌, List, [], ◌∷◌, ◌++◌, map, take, length, get_or, sum_by, Bool, true, false, cond, Option, Some, None, IfSome, refl, sym, ap, subst, ◌∙◌, arith, bytes_eq}
+use Rattle.std.proofs.Common.{◌≡◌, inl, inr, ℕ, ℤ, pos, ◌+ℤ◌, ◌+◌, ◌<◌, List, [], ◌∷◌, ◌++◌, map, take, length, get_or, sum_by, Bool, true, false, cond, Option, Some, None, IfSome, Result, Ok, Err, IfOk, refl, sym, ap, subst, ◌∙◌, arith, bytes_eq}
 use Rattle.std.specs.Prelude.{option_map, IsSome, IsNone, is_some}
 use Rattle.std.specs.FinMap.{get, get-entries, entries, entries_sorted}
 use Rattle.std.specs.List.{AllByRecursion as Each}
@@ -15,8 +15,9 @@ use Rattle.queue_types.specs.declared.event.KnownGrant.{KnownGrant}
 use Rattle.queue_rows.proofs.WorldMaps.{found_there}
 use Rattle.queue_rows.proofs.WorldRows.{grant_total}
 use Rattle.queue_tables.proofs.Accounts.{same_text}
-use Rattle.queue_scenes.specs.Accounts.{pages_in}
-use Rattle.queue_scenes.specs.declared.accounts.Pages.{Pages}
+use Rattle.queue_tables.specs.Accounts.{pages_of}
+use Rattle.queue_tables.specs.declared.account_pages.AccountPages.{AccountPages}
+use Rattle.queue_tables.specs.declared.fault.Fault.{Fault}
 
 -- ---- an account without a row has no grant
 
@@ -43,25 +44,34 @@ none_granted w sound a none = sum_none (part a) (entries w.grants) (recursion_fr
 
 -- ---- the pages of an account are those that it was granted
 
-free_back : (w : World) (a : List ℕ) (o : Option ℤ) → option_map (λ (p : Pages). p.free) (option_map (pages_in w a) o) ≡ o
+free_back : (w : World) (a : List ℕ) (o : Option ℤ) → option_map (λ (p : AccountPages). p.free) (option_map (pages_of w a) o) ≡ o
 free_back w a None = refl
 free_back w a (Some free) = refl
 
 granted_is : (w : World) → IsSound w → (a : List ℕ) (o : Option ℤ) (n : ℕ) → get w.free a ≡ o → IfSome o (λ free. pos (granted a w) ≡ free +ℤ pos (reserved a w + printed a w))
-    → (IsNone (option_map (pages_in w a) o) → n ≡ 0) → IfSome (option_map (pages_in w a) o) (λ p. pos n ≡ (p.free +ℤ p.reserved) +ℤ p.printed) → n ≡ granted a w
+    → (IsNone (option_map (pages_of w a) o) → n ≡ 0) → IfSome (option_map (pages_of w a) o) (λ p. pos n ≡ p.free +ℤ pos (p.reserved + p.printed)) → n ≡ granted a w
 granted_is w sound a None n is balance none sum = none refl ∙ sym (none_granted w sound a is)
 granted_is w sound a (Some free) n is balance none sum = omega (arith, ints, balance, sum)
 
-pub known_is : (w : World) → IsSound w → (row : GrantRow) (batch account : List ℕ) → batch ≡ row.batch → account ≡ row.account → (pages : Option ℕ) (found : Option Pages) (n : ℕ) (free : Option ℤ)
-    → pages ≡ get w.grants (batch, account) → found ≡ option_map (pages_in w account) (get w.free account) → (IsNone found → n ≡ 0) → IfSome found (λ p. pos n ≡ (p.free +ℤ p.reserved) +ℤ p.printed)
-    → free ≡ option_map (λ (p : Pages). p.free) found → record { pages = pages; granted = n; free = free } ≡ known_grant w row
-known_is w sound row batch account batch_is account_is pages found n free pages_are found_is none sum free_is =
-    let a : pages ≡ get w.grants (row.batch, row.account) = pages_are ∙ (λ i. get w.grants (batch_is i, account_is i)) in
-    let at = get w.free account in
-    let b : n ≡ granted account w = granted_is w sound account at n refl (sound.balances account) (subst (λ (o : Option Pages). IsNone o → n ≡ 0) found_is none) (subst (λ (o : Option Pages). IfSome o (λ p. pos n ≡ (p.free +ℤ p.reserved) +ℤ p.printed)) found_is sum) in
-    let b2 : n ≡ granted row.account w = b ∙ ap (λ (t : List ℕ). granted t w) account_is in
-    let c : free ≡ get w.free row.account = free_is ∙ ap (option_map (λ (p : Pages). p.free)) found_is ∙ free_back w account at ∙ ap (get w.free) account_is in
-    λ i. record { pages = a i; granted = b2 i; free = c i }
+module _ (row : GrantRow) (batch account : List ℕ) (batch_is : batch ≡ row.batch) (account_is : account ≡ row.account) (pages : Option ℕ) (found : Option AccountPages) where
+  known_as : (w : World) → IsSound w → pages ≡ get w.grants (batch, account) → found ≡ option_map (pages_of w account) (get w.free account) → (k : KnownGrant) → k.pages ≡ pages → k.free ≡ option_map (λ (p : AccountPages). p.free) found
+      → (IsNone found → k.granted ≡ 0) → IfSome found (λ p. pos k.granted ≡ p.free +ℤ pos (p.reserved + p.printed)) → k ≡ known_grant w row
+  known_as w sound pages_are found_is k same free_is none sum =
+      let n = k.granted in
+      let at = get w.free account in
+      let a : k.pages ≡ get w.grants (row.batch, row.account) = same ∙ pages_are ∙ (λ i. get w.grants (batch_is i, account_is i)) in
+      let nothing : IsNone (option_map (pages_of w account) at) → n ≡ 0 = subst (λ (o : Option AccountPages). IsNone o → n ≡ 0) found_is none in
+      let all = subst (λ (o : Option AccountPages). IfSome o (λ p. pos n ≡ p.free +ℤ pos (p.reserved + p.printed))) found_is sum in
+      let b : n ≡ granted row.account w = granted_is w sound account at n refl (sound.balances account) nothing all ∙ ap (λ (t : List ℕ). granted t w) account_is in
+      let c : k.free ≡ get w.free row.account = free_is ∙ ap (option_map (λ (p : AccountPages). p.free)) found_is ∙ free_back w account at ∙ ap (get w.free) account_is in
+      λ i. record { pages = a i; granted = b i; free = c i }
+
+  -- what is known of the row, in each world that may be there
+  pub known_is : (MayBe : World → Type 0) → ((w : World) → MayBe w → pages ≡ get w.grants (batch, account)) → ((w : World) → MayBe w → found ≡ option_map (pages_of w account) (get w.free account))
+      → (r : Result KnownGrant Fault) → IfOk r (λ k. k.pages ≡ pages) → IfOk r (λ k. k.free ≡ option_map (λ p. p.free) found) → (IsNone found → IfOk r (λ k. k.granted ≡ 0))
+      → IfSome found (λ p. IfOk r (λ k. pos k.granted ≡ p.free +ℤ pos (p.reserved + p.printed))) → IfOk r (λ k. (w : World) → IsSound w → MayBe w → k ≡ known_grant w row)
+  known_is MayBe grants accounts (Ok k) same free_is none sum = λ w sound may. known_as w sound (grants w may) (accounts w may) k same free_is none sum
+  known_is MayBe grants accounts (Err e) same free_is none sum = tt
 
 -- ---- one row after another
 

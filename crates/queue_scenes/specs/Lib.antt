@@ -1,4 +1,2 @@
-pub mod Accounts
-pub mod Sizes
 pub mod Jobs
 pub mod Counts

@@ -1,5 +1,5 @@
 //! What is known of the rows of an account file.
-ghost use Rattle.std.specs.Prelude.{◌≡◌, All, map, IfOk, OnOk, IsTrue, option_map};
+ghost use Rattle.std.specs.Prelude.{◌≡◌, ◌+◌, ◌+ℤ◌, pos, All, map, IfOk, OnOk, IfSome, IsNone, IsTrue, option_map};
 ghost use Rattle.std.specs.FinMap.{get};
 ghost use Rattle.sqlite.specs.Held.{state};
 ghost use Rattle.sqlite.specs.State.{HasCleanDisk};
@@ -9,7 +9,8 @@ ghost use Rattle.queue_core.specs.World.{World, known_grant};
 ghost use Rattle.queue_tables.specs.Leaving.{LeavesTables};
 ghost use Rattle.queue_tables.specs.Content.{Holds, content_of};
 
-use crate::accounts::{Pages, granted_to, pages_of};
+use crate::accounts::{free_in, granted_in};
+use queue_tables::account_pages::{AccountPages, find_account};
 use queue_tables::fault::Fault;
 use queue_tables::read::value;
 use queue_tables::select::select;
@@ -41,13 +42,29 @@ fn pages_under<S: Alter>(
     }
 }
 
-fn free_in(found: Option<Pages>) -> Option<i64>
-    ensures { result ≡ option_map (λ p. p.free) found }
+/// What is known of a batch and an account, by the pages granted under them, where they are, and the account's row,
+/// where it is there.
+fn known_of(pages: Option<u32>, found: Option<AccountPages>) -> Result<KnownGrant, Fault>
+    ensures within { IfOk result IsKnown }
+    ensures pages { IfOk result (λ k. k.pages ≡ pages) }
+    ensures free { IfOk result (λ k. k.free ≡ option_map (λ p. p.free) found) }
+    ensures none { IsNone found → IfOk result (λ k. k.granted ≡ 0) }
+    ensures sum { IfSome found (λ p. IfOk result (λ k. pos k.granted ≡ p.free +ℤ pos (p.reserved + p.printed))) }
 {
-    match found {
-        None => None,
-        Some(pages) => Some(pages.free),
-    }
+    let Some(account) = found else {
+        return Ok(KnownGrant {
+            pages,
+            granted: 0,
+            free: None,
+        });
+    };
+    let granted = granted_in(account)?;
+    let free = free_in(account)?;
+    Ok(KnownGrant {
+        pages,
+        granted,
+        free: Some(free),
+    })
 }
 
 /// What is known of the row's batch and account.
@@ -60,13 +77,8 @@ fn known<S: Alter>(conn: &mut Connection<S>, row: &GrantRow) -> Result<KnownGran
     let batch = row.batch.as_str();
     let account = row.account.as_str();
     let pages = pages_under(conn, batch, account)?;
-    let found = pages_of(conn, account)?;
-    let granted = granted_to(found)?;
-    Ok(KnownGrant {
-        pages,
-        granted,
-        free: free_in(found),
-    })
+    let found = find_account(conn, account)?;
+    known_of(pages, found)
 }
 
 /// What is known of each row.

@@ -13,9 +13,9 @@ ghost use Rattle.queue_tables.specs.Content.{Holds, content_of};
 ghost use Rattle.queue_tables.specs.Queries.{IsQueryText};
 ghost use Rattle.queue_tables.specs.Values.{job_values};
 
-use crate::documents::sizes_of;
 use queue_rows::jobs::is_job_row;
 use queue_rows::laws::numbers_tell_names;
+use queue_tables::document_sizes::sizes_of;
 use queue_tables::fault::Fault;
 use queue_tables::read::read_job;
 use queue_tables::select::select;

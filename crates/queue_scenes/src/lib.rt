@@ -3,7 +3,6 @@
 
 mod accounts;
 mod counts;
-mod documents;
 mod grants;
 mod jobs;
 mod meta;

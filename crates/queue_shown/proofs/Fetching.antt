@@ -18,7 +18,7 @@ use Rattle.queue_tables.proofs.Showing.{shows_all}
 use Rattle.queue_shown.specs.Fetched.{document_in, is_fetched, is_fetched_job, nth_document, state_values}
 use Rattle.queue_shown.specs.Heads.{head_values}
 use Rattle.queue_shown.proofs.DocumentParts.{is_of, of_numbers, rows_from, all_rows, chosen, only_document}
-use Rattle.queue_shown.proofs.Firsts.{rows_for, exactly}
+use Rattle.queue_tables.proofs.Firsts.{rows_for, exactly}
 use Rattle.queue_shown.proofs.Texts.{select_state, select_state_is, select_head, select_head_is}
 use Rattle.queue_types.specs.Formats.{format_name}
 use Rattle.queue_tables.specs.Values.{number}

@@ -1,6 +1,5 @@
 pub mod Texts
 pub mod Frames
-pub mod Firsts
 pub mod Unique
 pub mod Ordered
 pub mod DocumentParts
@@ -8,6 +7,5 @@ pub mod Fetching
 pub mod Writes
 pub mod Sending
 pub mod PiecesSent
-pub mod AccountRows
 pub mod OwnedJobs
 pub mod SheetLemmas

@@ -14,7 +14,7 @@ use Rattle.sqlite.specs.Term.{Term}
 use Rattle.queue_tables.specs.Kept.{HasRows}
 use Rattle.queue_tables.specs.Plain.{plain_query, passes}
 use Rattle.queue_tables.proofs.Writing.{kept_of, sorted_and_shown, IsListing}
-use Rattle.queue_shown.specs.Pages.{number_in}
+use Rattle.queue_tables.specs.Sizes.{number_in}
 use Rattle.queue_shown.proofs.Unique.{Rises, unique, climbs}
 
 pub nat_int : (a b : ℕ) → int_cmp (pos a) (pos b) ≡ nat_cmp a b

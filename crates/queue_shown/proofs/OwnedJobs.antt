@@ -1,11 +1,9 @@
 -- The jobs of an owner, by number, and what the documents of one add up to.
-use Rattle.std.proofs.Common.{◌≡◌, inl, inr, ℕ, pos, ◌+◌, ◌<◌, List, [], ◌∷◌, map, filter, length, All, Bool, true, false, ◌&&◌, ◌||◌, ◌==◌, nat_lt, Option, None, Some, sum_by, bytes_eq, refl, sym, ap, subst, ◌∙◌, arith, append-nil, nat_cmp}
+use Rattle.std.proofs.Common.{◌≡◌, inl, inr, ℕ, pos, ◌+◌, ◌<◌, List, [], ◌∷◌, map, filter, All, Bool, true, false, ◌&&◌, ◌||◌, ◌==◌, nat_lt, Option, None, Some, bytes_eq, refl, sym, ap, subst, ◌∙◌, arith, nat_cmp}
 use Rattle.std.specs.List.{AllByRecursion as Each}
 use Rattle.std.specs.List.Sorted.{IsPermutation}
 use Rattle.std.proofs.lemmas.Bool.{cases_Bool, eqb-true, eq-eqb, or_parts}
-use Rattle.std.proofs.lemmas.List.Elements.{All-cons, All-tail, filter-append}
-use Rattle.std.proofs.lemmas.List.Sorted.{length_permutation, sum_by-IsPermutation}
-use Rattle.std.proofs.lemmas.List.Sums.{sum_by-cons}
+use Rattle.std.proofs.lemmas.List.Elements.{All-cons, All-tail}
 use Rattle.std.proofs.lemmas.Map.Text.{is_eq-slice_cmp}
 use Rattle.sqlite_sql.specs.declared.ops.BinaryOp.TheVariants.{Compare}
 use Rattle.sqlite_sql.specs.declared.ops.CompareOp.TheVariants.{Eq}
@@ -17,24 +15,21 @@ use Rattle.sqlite.specs.Order.{Row, column}
 use Rattle.sqlite.specs.Query.{Query, Output, output_cmp}
 use Rattle.sqlite.specs.State.{State, Shown}
 use Rattle.queue_types.specs.Job.{owed}
-use Rattle.queue_core.specs.Sound.{IsSound, IsSoundEntry, Rise}
+use Rattle.queue_core.specs.Sound.{IsSound, Rise}
 use Rattle.queue_core.specs.World.{World, Entry, rows, job_at}
-use Rattle.queue_types.specs.declared.document.Document.{Document}
 use Rattle.queue_types.specs.declared.job.Job.{Job}
-use Rattle.queue_tables.specs.Content.{Holds, content_of, document_rows}
+use Rattle.queue_tables.specs.Content.{Holds, content_of}
 use Rattle.queue_tables.specs.Plain.{plain_query}
-use Rattle.queue_tables.specs.Steps.{AreDistinct, bare, has_number, is_numbered}
-use Rattle.queue_tables.specs.Values.{number, job_values, job_view, document_values, document_view}
-use Rattle.queue_tables.proofs.Documents.{row_of, all_documents}
-use Rattle.queue_tables.proofs.Entries.{rows_in, distinct_of}
-use Rattle.queue_tables.proofs.Numbers.{passed, numbered_document}
-use Rattle.queue_tables.proofs.Showing.{shows_all}
+use Rattle.queue_tables.specs.Steps.{AreDistinct, bare, has_number}
+use Rattle.queue_tables.specs.Values.{number, job_values, job_view}
+use Rattle.queue_tables.proofs.Entries.{rows_in}
+use Rattle.queue_tables.proofs.Numbers.{passed}
 use Rattle.queue_tables.proofs.Writing.{reads_rows}
-use Rattle.queue_shown.specs.Pages.{AreIn, first_number, has_pages}
+use Rattle.queue_shown.specs.Pages.{AreIn, has_pages}
 use Rattle.queue_shown.proofs.Ordered.{nat_int, then_equal, listed_values, in_order}
 use Rattle.queue_shown.proofs.Texts.{select_owned, select_owned_is}
 use Rattle.queue_shown.proofs.Unique.{Rises}
-use Rattle.queue_tables.proofs.Statements.{job_terms, select_octets, select_octets_is}
+use Rattle.queue_tables.proofs.Statements.{job_terms}
 
 -- ---- the rows of an owner's jobs
 
@@ -153,75 +148,6 @@ told_owned a (j ∷ js) = elim (cases_Bool (bytes_eq j.owner a)) [
   | inr other ↦ rw other (told_owned a js)
 ]
 
--- ---- the documents of one job
-
-other_job : (n m from : ℕ) (ds : List Document) → (m == n) ≡ false → filter (is_numbered n) (document_rows m from ds) ≡ []
-other_job n m from [] apart = refl
-other_job n m from (d ∷ ds) apart = rw (numbered_document n (row_of m from d) ∙ apart) (other_job n m (from + 1) ds apart)
-
-same_job : (n m from : ℕ) (ds : List Document) → (m == n) ≡ true → filter (is_numbered n) (document_rows m from ds) ≡ document_rows m from ds
-same_job n m from [] same = refl
-same_job n m from (d ∷ ds) same = rw (numbered_document n (row_of m from d) ∙ same) (ap (λ (rs : List Row). document_values (row_of m from d) ∷ rs) (same_job n m (from + 1) ds same))
-
-no_rows : (n : ℕ) (es : List Entry) → has_number n es ≡ false → filter (is_numbered n) (all_documents es) ≡ []
-no_rows n [] none = refl
-no_rows n (e ∷ es) none =
-    let parts = or_parts (e.row.number == n) (has_number n es) none in
-    filter-append (is_numbered n) (document_rows e.row.number 1 e.documents) (all_documents es) ∙ rw (other_job n e.row.number 1 e.documents parts.0, no_rows n es parts.1) refl
-
--- the job's documents
-pub record HasDocuments (n : ℕ) (j : Job) (es : List Entry) : Type 0 where
-  pub documents : List Document
-  pub count : j.documents ≡ length documents
-  pub octets : j.octets ≡ sum_by (λ d. length d.bytes) documents
-  pub rows : filter (is_numbered n) (all_documents es) ≡ document_rows j.number 1 documents
-
-documents_of : (n : ℕ) (j : Job) (es : List Entry) → AreDistinct es → Each IsSoundEntry es → job_at n (rows_in es) ≡ Some j → HasDocuments n j es
-documents_of n j [] distinct sound there = absurd cc
-documents_of n j (e ∷ es) distinct sound there = elim (cases_Bool (e.row.number == n)) [
-  | inl same ↦
-      let is : e.row ≡ j = (let whole : ◌≡◌ {A = Option Job} (Some e.row) (Some j) = rw same at there in cc) in
-      let rest = no_rows n es (subst (λ m. has_number m es ≡ false) (eqb-true e.row.number n same) distinct.0) in
-      let split : filter (is_numbered n) (all_documents (e ∷ es)) ≡ document_rows e.row.number 1 e.documents
-      = filter-append (is_numbered n) (document_rows e.row.number 1 e.documents) (all_documents es) ∙ rw (same_job n e.row.number 1 e.documents same, rest) (append-nil _) in
-      subst (λ (k : Job). HasDocuments n k (e ∷ es)) is (record { documents = e.documents; count = sound.0.documents; octets = sound.0.octets; rows = split })
-  | inr apart ↦
-      let more = documents_of n j es distinct.1 sound.1 (rw apart at there) in
-      record {
-        documents = more.documents;
-        count = more.count;
-        octets = more.octets;
-        rows = filter-append (is_numbered n) (document_rows e.row.number 1 e.documents) (all_documents es) ∙ rw (other_job n e.row.number 1 e.documents apart) more.rows;
-      }
-]
-
-abbrev octets_out : Row → Row
-octets_out v = column v 3 ∷ []
-
-length_out : (m from : ℕ) (ds : List Document) → length (map octets_out (document_rows m from ds)) ≡ length ds
-length_out m from [] = refl
-length_out m from (d ∷ ds) = let more = length_out m (from + 1) ds in omega (arith, more)
-
-sum_out : (m from : ℕ) (ds : List Document) → sum_by first_number (map octets_out (document_rows m from ds)) ≡ sum_by (λ d. length d.bytes) ds
-sum_out m from [] = refl
-sum_out m from (d ∷ ds) =
-    let more = sum_out m (from + 1) ds in
-    let all = sum_by-cons (λ (e : Document). length e.bytes) d ds in
-    let first = sum_by-cons first_number (octets_out (document_values (row_of m from d))) (map octets_out (document_rows m (from + 1) ds)) in
-    omega (arith, more, all, first)
-
--- their number, and the sum of their lengths
-pub reads_octets : (old new : State) (found : List Row) (w : World) (j : Job) → IsSound w → Holds (content_of w) old → job_at j.number (rows w) ≡ Some j → Shown select_octets.text (number j.number ∷ []) old new found
-    → (length found ≡ j.documents) × (sum_by first_number found ≡ j.octets)
-reads_octets old new found w j sound has there h =
-    let p = shows_all select_octets select_octets_is
-    old new (number j.number ∷ []) document_view (is_numbered j.number) octets_out (content_of w).documents found has.schema (λ r. refl) (λ r. refl) has.rows.documents h in
-    let it = documents_of j.number j w.jobs (distinct_of 1 w.jobs w.next sound.numbers) sound.entries there in
-    let q : IsPermutation (map octets_out (document_rows j.number 1 it.documents)) found = subst (λ (k : List Row). IsPermutation (map octets_out k) found) it.rows p in (
-      length_permutation _ _ q ∙ length_out j.number 1 it.documents ∙ sym it.count,
-      sum_by-IsPermutation first_number _ found q ∙ sum_out j.number 1 it.documents ∙ sym it.octets,
-    )
-
--- the job with those two
+-- the job with the sizes of its documents
 pub counted_job : (was j : Job) (count octets : ℕ) → was ≡ bare j → count ≡ j.documents → octets ≡ j.octets → record was { documents = count; octets = octets } ≡ j
 counted_job was j count octets is c o = ap (λ (k : Job). record k { documents = count; octets = octets }) is ∙ ap (λ n. record j { documents = n; octets = octets }) c ∙ ap (λ n. record j { octets = n }) o

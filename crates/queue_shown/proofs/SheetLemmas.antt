@@ -15,8 +15,9 @@ use Rattle.queue_rows.specs.Codes.{phase_number, why_number, flag_number}
 use Rattle.queue_tables.specs.Steps.{bare}
 use Rattle.queue_tables.specs.Values.{job_values}
 use Rattle.queue_tables.proofs.JobPut.{same_job}
-use Rattle.queue_shown.specs.declared.account.AccountPages.{AccountPages}
-use Rattle.queue_shown.specs.Pages.{AreIn, has_pages, pages_of}
+use Rattle.queue_tables.specs.declared.account_pages.AccountPages.{AccountPages}
+use Rattle.queue_tables.specs.Accounts.{pages_of}
+use Rattle.queue_shown.specs.Pages.{AreIn, has_pages}
 
 -- ---- one row
 

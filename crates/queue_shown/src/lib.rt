@@ -2,9 +2,7 @@
 //! an account.
 #![tactic(auto)]
 
-mod account;
 pub mod head;
-mod job;
 pub mod send;
 pub mod sheets;
 

@@ -12,9 +12,9 @@ ghost use Rattle.queue_tables.specs.Content.{Holds, content_of};
 ghost use Rattle.queue_tables.specs.Leaving.{LeavesTables};
 ghost use Rattle.queue_tables.specs.Values.{job_values};
 
-use crate::account::{find_account, granted_in};
-use crate::job::count_documents;
 use queue_rows::laws::numbers_tell_names;
+use queue_tables::account_pages::find_account;
+use queue_tables::document_sizes::sizes_of;
 use queue_tables::fault::Fault;
 use queue_tables::read::read_job;
 use queue_tables::select::select;
@@ -47,7 +47,9 @@ fn push_told<S: Alter>(
     if !is_told(&job) {
         return Ok(());
     }
-    count_documents(conn, &mut job)?;
+    let sizes = sizes_of(conn, job.number)?;
+    job.documents = sizes.documents;
+    job.octets = sizes.octets;
     jobs.push(job)?;
     Ok(())
 }
@@ -104,7 +106,7 @@ pub fn sheet<S: Alter>(
     let Some(pages) = found else {
         return Ok(None);
     };
-    let granted = granted_in(pages)?;
+    let granted = pages.granted()?;
     let jobs = told_jobs(alloc, conn, account)?;
     let name = Text::copy_of(alloc, account)?;
     Ok(Some(AccountSheet {

@@ -27,3 +27,6 @@ pub mod Columns
 pub mod Queries
 pub mod Reading
 pub mod Leaving
+pub mod Firsts
+pub mod AccountRows
+pub mod Sizes

@@ -9,3 +9,5 @@ pub mod Faults
 pub mod Queries
 pub mod Reads
 pub mod Leaving
+pub mod Accounts
+pub mod Sizes

@@ -2,9 +2,11 @@
 //! of their rows, and the rows as they are read.
 #![tactic(auto)]
 
+pub mod account_pages;
 mod account_rows;
 pub mod change;
 mod document_rows;
+pub mod document_sizes;
 pub mod fault;
 mod grant_rows;
 mod job_rows;

@@ -5,7 +5,7 @@ use Rattle.queue_types.specs.declared.document.DocumentHead.{DocumentHead}
 use Rattle.queue_shown.specs.Fetched.{document_in}
 use Rattle.queue_shown.specs.Heads.{head_values}
 use Rattle.queue_shown.proofs.Fetching.{reads_head}
-use Rattle.queue_shown.proofs.Firsts.{first_none, first_some}
+use Rattle.queue_tables.proofs.Firsts.{first_none, first_some}
 use Rattle.queue_shown.proofs.Texts.{select_head_is}
 use Rattle.queue_shown.proofs.head.find_head.Goals as goal
 

@@ -4,7 +4,7 @@ use Rattle.queue_core.specs.World.{rows, job_at}
 use Rattle.queue_shown.specs.Fetched.{is_fetched_job, state_values}
 use Rattle.queue_tables.proofs.Ending.{if_ok}
 use Rattle.queue_shown.proofs.Fetching.{reads_state}
-use Rattle.queue_shown.proofs.Firsts.{first_none, first_some}
+use Rattle.queue_tables.proofs.Firsts.{first_none, first_some}
 use Rattle.queue_shown.proofs.Texts.{select_state_is}
 use Rattle.queue_shown.proofs.head.may_fetch.Goals as goal
 

@@ -1,6 +1,9 @@
-use Rattle.std.proofs.Common.{◌≡◌, ◌∙◌, true, false, [], ◌∷◌, ◌++◌, rules}
+use Rattle.std.proofs.Common.{◌≡◌, ◌∙◌, ℕ, true, false, [], ◌∷◌, ◌++◌, Some, rules, ap, sym, subst}
 use Rattle.sqlite.specs.Held.{state}
+use Rattle.queue_core.specs.World.{job_at, rows}
+use Rattle.queue_types.specs.declared.job.Job.{Job}
 use Rattle.queue_shown.specs.Pages.{has_pages}
+use Rattle.queue_shown.proofs.OwnedJobs.{counted_job}
 use Rattle.queue_shown.proofs.SheetLemmas.{read_bare, idle_left, told_pushed}
 use Rattle.queue_tables.proofs.Leaving.{leaves_all}
 use Rattle.queue_shown.proofs.sheets.push_told.Goals as goal
@@ -15,9 +18,12 @@ pub returns-clause-told : goal.returns-clause-told
 returns-clause-told g c clean w j sound has there is =
     let read = read_bare c.numbers_tell_names.ensures.phases c.numbers_tell_names.ensures.flags c.args.row.now c.in_ok-job.job j c.in_ok-job.ensures.ok c.in_ok-job.ensures.bare is in
     let told : has_pages c.in_ok-job.job ≡ true = search rules in
-    let counted = c.in_ok-count_documents.ensures.counted clean w j sound has there read in
-    let pushed : c.push.new.self.items ≡ c.args.jobs.now.items ++ c.count_documents.new.job ∷ [] = search rules in
-    pushed ∙ told_pushed c.in_ok-job.job j c.count_documents.new.job c.args.jobs.now.items read told counted
+    let number : c.in_ok-job.job.number ≡ j.number = ap (λ (k : Job). k.number) read in
+    let sizes = c.in_ok-sizes.ensures.found clean w j sound has (subst (λ (n : ℕ). job_at n (rows w) ≡ Some j) (sym number) there) in
+    let whole : Job = record c.in_ok-job.job { documents = c.in_ok-sizes.sizes.documents; octets = c.in_ok-sizes.sizes.octets } in
+    let counted = counted_job c.in_ok-job.job j c.in_ok-sizes.sizes.documents c.in_ok-sizes.sizes.octets read sizes.0 sizes.1 in
+    let pushed : c.push.new.self.items ≡ c.args.jobs.now.items ++ whole ∷ [] = search rules in
+    pushed ∙ told_pushed c.in_ok-job.job j whole c.args.jobs.now.items read told counted
 
 pub returns-in_err-job-clause-leaves : goal.returns-in_err-job-clause-leaves
 returns-in_err-job-clause-leaves g c = leaves_all (state g.S.Store c.args.conn.now)

@@ -1,4 +1,4 @@
-//! The pages of an account.
+//! The pages of an account, as its row has them.
 ghost use Rattle.std.specs.Prelude.{◌≡◌, ◌+◌, ◌+ℤ◌, pos, IfOk, OnOk, IsTrue, option_map};
 ghost use Rattle.std.specs.FinMap.{get};
 ghost use Rattle.sqlite.specs.Held.{state};
@@ -6,21 +6,37 @@ ghost use Rattle.sqlite.specs.Order.{column};
 ghost use Rattle.sqlite.specs.State.{HasCleanDisk};
 ghost use Rattle.sqlite.specs.declared.types.Value.TheVariants.{Int};
 ghost use Rattle.queue_core.specs.World.{World};
-ghost use Rattle.queue_shown.specs.Pages.{pages_of};
+ghost use Rattle.queue_tables.specs.Accounts.{pages_of};
 ghost use Rattle.queue_tables.specs.Content.{Holds, content_of};
 ghost use Rattle.queue_tables.specs.Leaving.{LeavesTables};
 
-use queue_tables::fault::Fault;
-use queue_tables::read::value;
-use queue_tables::select::select;
+use crate::fault::Fault;
+use crate::read::value;
+use crate::select::select;
 use sqlite::{Alter, Connection, Row, params};
 
 /// The pages of an account: free ones, which may be below zero, and the sums over its owner's jobs.
 #[derive(Clone, Copy)]
-pub(crate) struct AccountPages {
+pub struct AccountPages {
     pub free: i64,
     pub reserved: u64,
     pub printed: u64,
+}
+
+impl AccountPages {
+    /// The pages that were granted: those that are free, reserved and printed, together. They are damaged where they are
+    /// below zero or past 64 bits.
+    pub fn granted(self) -> Result<u64, Fault>
+        ensures { IfOk result (λ n. pos n ≡ self.free +ℤ pos (self.reserved + self.printed)) }
+    {
+        let Some(used) = self.reserved.checked_add(self.printed) else {
+            return Err(Fault::Damaged);
+        };
+        match used.checked_add_signed(self.free) {
+            Some(granted) => Ok(granted),
+            None => Err(Fault::Damaged),
+        }
+    }
 }
 
 /// The pages in those columns.
@@ -40,7 +56,7 @@ fn read_pages(row: &Row) -> Result<AccountPages, Fault>
 }
 
 /// The pages of the account of that name, where it is there.
-pub(crate) fn find_account<S: Alter>(
+pub fn find_account<S: Alter>(
     conn: &mut Connection<S>,
     account: &str,
 ) -> Result<Option<AccountPages>, Fault>
@@ -59,19 +75,5 @@ pub(crate) fn find_account<S: Alter>(
             let pages = read_pages(row)?;
             Ok(Some(pages))
         }
-    }
-}
-
-/// The pages that were granted to an account: those that are free, reserved and printed, together. It is damaged where
-/// they are below zero or past 64 bits.
-pub(crate) fn granted_in(pages: AccountPages) -> Result<u64, Fault>
-    ensures { IfOk result (λ n. pos n ≡ pages.free +ℤ pos (pages.reserved + pages.printed)) }
-{
-    let Some(used) = pages.reserved.checked_add(pages.printed) else {
-        return Err(Fault::Damaged);
-    };
-    match used.checked_add_signed(pages.free) {
-        Some(granted) => Ok(granted),
-        None => Err(Fault::Damaged),
     }
 }

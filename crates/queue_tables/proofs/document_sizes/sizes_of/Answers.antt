@@ -1,8 +1,8 @@
 use Rattle.std.proofs.Common.{rules}
 use Rattle.sqlite.specs.Held.{state}
 use Rattle.queue_tables.proofs.Statements.{select_octets_is}
-use Rattle.queue_scenes.proofs.Sizes.{sizes_shown}
-use Rattle.queue_scenes.proofs.documents.sizes_of.Goals as goal
+use Rattle.queue_tables.proofs.Sizes.{sizes_shown}
+use Rattle.queue_tables.proofs.document_sizes.sizes_of.Goals as goal
 
 pub select-requires : goal.select-requires
 select-requires g c = record { query = select_octets_is.shows.query }

@@ -12,9 +12,9 @@ use Rattle.queue_tables.specs.Steps.{is_named}
 use Rattle.queue_tables.specs.Values.{account_view}
 use Rattle.queue_tables.proofs.Frees.{account_in, found_account, reserved_in, printed_in}
 use Rattle.queue_tables.proofs.Showing.{shows_all}
-use Rattle.queue_shown.specs.declared.account.AccountPages.{AccountPages}
-use Rattle.queue_shown.specs.Pages.{pages_of}
-use Rattle.queue_shown.proofs.Firsts.{rows_for, exactly}
+use Rattle.queue_tables.specs.declared.account_pages.AccountPages.{AccountPages}
+use Rattle.queue_tables.specs.Accounts.{pages_of}
+use Rattle.queue_tables.proofs.Firsts.{rows_for, exactly}
 use Rattle.queue_tables.proofs.Statements.{select_account, select_account_is}
 
 -- ---- the account

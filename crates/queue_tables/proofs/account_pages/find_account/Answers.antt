@@ -1,12 +1,12 @@
 use Rattle.std.proofs.Common.{◌∙◌, sym, ap, rules, option_map, Some}
 use Rattle.std.specs.FinMap.{get}
 use Rattle.sqlite.specs.Held.{state}
-use Rattle.queue_shown.specs.declared.account.AccountPages.{AccountPages}
-use Rattle.queue_shown.specs.Pages.{pages_of}
-use Rattle.queue_shown.proofs.AccountRows.{pages_values, reads_account, pages_are}
-use Rattle.queue_shown.proofs.Firsts.{first_none, first_some}
+use Rattle.queue_tables.specs.declared.account_pages.AccountPages.{AccountPages}
+use Rattle.queue_tables.specs.Accounts.{pages_of}
+use Rattle.queue_tables.proofs.AccountRows.{pages_values, reads_account, pages_are}
+use Rattle.queue_tables.proofs.Firsts.{first_none, first_some}
 use Rattle.queue_tables.proofs.Statements.{select_account_is}
-use Rattle.queue_shown.proofs.account.find_account.Goals as goal
+use Rattle.queue_tables.proofs.account_pages.find_account.Goals as goal
 
 pub select-requires : goal.select-requires
 select-requires g c = record { query = select_account_is.shows.query }

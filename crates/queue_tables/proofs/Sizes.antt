@@ -20,7 +20,7 @@ use Rattle.queue_tables.proofs.Entries.{rows_in, distinct_of}
 use Rattle.queue_tables.proofs.Numbers.{numbered_document}
 use Rattle.queue_tables.proofs.Showing.{shows_all}
 use Rattle.queue_tables.proofs.Statements.{select_octets, select_octets_is}
-use Rattle.queue_scenes.specs.Sizes.{size_in}
+use Rattle.queue_tables.specs.Sizes.{first_number}
 
 -- ---- the rows of one job's documents
 
@@ -80,17 +80,17 @@ count_rows : (job from : ℕ) (ds : List Document) → length (map octets_out (d
 count_rows job from [] = refl
 count_rows job from (d ∷ ds) = let more = count_rows job (from + 1) ds in omega (arith, more)
 
-sum_rows : (job from : ℕ) (ds : List Document) → sum_by size_in (map octets_out (document_rows job from ds)) ≡ sum_by (λ (d : Document). length d.bytes) ds
+sum_rows : (job from : ℕ) (ds : List Document) → sum_by first_number (map octets_out (document_rows job from ds)) ≡ sum_by (λ (d : Document). length d.bytes) ds
 unfolding octets_out
 sum_rows job from [] = refl
 sum_rows job from (d ∷ ds) =
     let more = sum_rows job (from + 1) ds in
-    let a = sum_by-cons size_in (number (length d.bytes) ∷ []) (map octets_out (document_rows job (from + 1) ds)) in
+    let a = sum_by-cons first_number (number (length d.bytes) ∷ []) (map octets_out (document_rows job (from + 1) ds)) in
     let b = sum_by-cons (λ (d : Document). length d.bytes) d ds in
     omega (arith, more, a, b)
 
 pub sizes_shown : (old new : State) (n : ℕ) (shown_rows : List Row) (w : World) (k : Job) → IsSound w → Holds (content_of w) old → job_at n (rows w) ≡ Some k → Shown select_octets.text (number n ∷ []) old new shown_rows
-    → (length shown_rows ≡ k.documents) × (sum_by size_in shown_rows ≡ k.octets)
+    → (length shown_rows ≡ k.documents) × (sum_by first_number shown_rows ≡ k.octets)
 unfolding octets_out
 sizes_shown old new n shown_rows w k sound has there h =
     let it = entry_there n w.jobs k (distinct_of 1 w.jobs w.next sound.numbers) sound.entries there in
@@ -99,5 +99,5 @@ sizes_shown old new n shown_rows w k sound has there h =
     old new (number n ∷ []) document_view (is_numbered n) octets_out (content_of w).documents shown_rows has.schema (λ r. refl) (λ r. refl) has.rows.documents h in
     let all : IsPermutation (map octets_out docs) shown_rows = subst (λ (vs : List Row). IsPermutation (map octets_out vs) shown_rows) it.documents p in (
       length_permutation (map octets_out docs) shown_rows all ∙ count_rows it.entry.row.number 1 it.entry.documents ∙ sym it.sound.documents ∙ ap (λ (j : Job). j.documents) it.row,
-      sum_by-IsPermutation size_in (map octets_out docs) shown_rows all ∙ sum_rows it.entry.row.number 1 it.entry.documents ∙ sym it.sound.octets ∙ ap (λ (j : Job). j.octets) it.row,
+      sum_by-IsPermutation first_number (map octets_out docs) shown_rows all ∙ sum_rows it.entry.row.number 1 it.entry.documents ∙ sym it.sound.octets ∙ ap (λ (j : Job). j.octets) it.row,
     )

@@ -6,18 +6,18 @@ ghost use Rattle.queue_core.specs.Sound.{IsSound};
 ghost use Rattle.queue_core.specs.World.{World, job_at, rows};
 ghost use Rattle.queue_types.specs.declared.job.Job.{Job};
 ghost use Rattle.queue_tables.specs.Leaving.{LeavesTables};
-ghost use Rattle.queue_scenes.specs.Sizes.{size_in};
+ghost use Rattle.queue_tables.specs.Sizes.{first_number};
 ghost use Rattle.queue_tables.specs.Content.{Holds, content_of};
 
-use queue_tables::fault::Fault;
-use queue_tables::read::value;
-use queue_tables::select::select;
+use crate::fault::Fault;
+use crate::read::value;
+use crate::select::select;
 use queue_types::limits::{MOST_DOCUMENT_OCTETS, MOST_DOCUMENTS};
 use sqlite::{Alter, Connection, Row, params};
 
 /// The number of a job's documents, and the sum of their lengths in bytes.
 #[derive(Clone, Copy)]
-pub(crate) struct Sizes {
+pub struct Sizes {
     pub documents: u32,
     pub octets: u64,
 }
@@ -25,7 +25,7 @@ pub(crate) struct Sizes {
 /// The sum of the lengths in rows.
 fn octets_in(rows: &[Row]) -> Result<u64, Fault>
     requires { length rows.now ≤ 16 }
-    ensures { IfOk result (λ n. n ≡ sum_by size_in rows.now) }
+    ensures { IfOk result (λ n. n ≡ sum_by first_number rows.now) }
 {
     let mut octets: u64 = 0;
     for row in rows {
@@ -37,7 +37,7 @@ fn octets_in(rows: &[Row]) -> Result<u64, Fault>
 
 /// The documents of the job of that number. They are damaged where they are more than 16, or longer together than so
 /// many can be.
-pub(crate) fn sizes_of<S: Alter>(conn: &mut Connection<S>, job: u32) -> Result<Sizes, Fault>
+pub fn sizes_of<S: Alter>(conn: &mut Connection<S>, job: u32) -> Result<Sizes, Fault>
     ensures leaves { LeavesTables (state S.Store conn.old) (state S.Store conn.new) }
     ensures live { HasCleanDisk (state S.Store conn.new) → OnOk result (IsTrue (state S.Store conn.new).is_open) }
     ensures few { IfOk result (λ s. s.documents ≤ 16) }

@@ -1,7 +1,0 @@
-use Rattle.std.proofs.Common.{◌≡◌, ◌≤◌, ◌*◌, take}
-use Rattle.std.specs.Prelude.{sum_by}
-use Rattle.queue_scenes.specs.Sizes.{size_in}
-use Rattle.queue_scenes.proofs.documents.octets_in.Given as goal
-
-abbrev pub invariant-loop-row : goal.invariant-loop-row
-invariant-loop-row l = record { sum : l.octets ≡ sum_by size_in (take l.row-index l.rows); most : l.octets ≤ l.row-index * 4294967295 }
