@@ -1,7 +1,6 @@
 -- The numbers that stand in columns for what has a name.
 use Rattle.std.specs.Prelude.{ℕ, Bool, true, false}
-use Rattle.queue_types.specs.declared.event.Kind.{Kind}
-use Rattle.queue_types.specs.declared.event.Kind.TheVariants.{Start, Stop, Resume, Count, Done, Fail, Halt}
+pub use Rattle.queue_types.specs.Event.{kind_number}
 use Rattle.queue_types.specs.declared.job.Phase.{Phase}
 use Rattle.queue_types.specs.declared.job.Phase.TheVariants.{Waiting, Running, Stopped, Canceled, Aborted, Completed}
 use Rattle.queue_types.specs.declared.job.Why.TheVariants.{ByUser, AtDevice}
@@ -24,15 +23,6 @@ why_number (Canceled ByUser) = 1
 why_number (Canceled AtDevice) = 2
 why_number Aborted = 0
 why_number Completed = 0
-
-abbrev pub kind_number : Kind → ℕ
-kind_number Start = 1
-kind_number Stop = 2
-kind_number Resume = 3
-kind_number Count = 4
-kind_number Done = 5
-kind_number Fail = 6
-kind_number Halt = 7
 
 abbrev pub flag_number : Bool → ℕ
 flag_number false = 0

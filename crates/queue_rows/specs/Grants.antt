@@ -1,12 +1,9 @@
 -- The rows of grants.
 use Rattle.std.specs.Prelude.{ℕ, List, bytes_eq, sum_by, if◌then◌else◌, Bool}
 use Rattle.std.specs.Ordering.{is_lt}
-use Rattle.queue_core.specs.Limits.{IsGrant}
+pub use Rattle.queue_core.specs.Limits.{IsGrantRow}
 use Rattle.queue_core.specs.World.{grant_cmp}
 use Rattle.queue_types.specs.declared.event.GrantRow.{GrantRow}
-
-abbrev pub IsGrantRow : GrantRow → Type 0
-IsGrantRow g = IsGrant g.batch g.account g.pages
 
 -- by batch, then by account
 abbrev pub grant_before : GrantRow → GrantRow → Bool

@@ -48,22 +48,7 @@ pub fn phase_of(phase: i64, why: i64) -> Option<Phase>
     }
 }
 
-/// The column `kind` of a report: 1 start, 2 stop, 3 resume, 4 count, 5 done, 6 fail, 7 halt.
-pub fn kind_number_of(kind: Kind) -> u32
-    ensures { result ≡ kind_number kind }
-{
-    match kind {
-        Kind::Start => 1,
-        Kind::Stop => 2,
-        Kind::Resume => 3,
-        Kind::Count => 4,
-        Kind::Done => 5,
-        Kind::Fail => 6,
-        Kind::Halt => 7,
-    }
-}
-
-/// The kind that stands in the column `kind`; None where no kind does.
+/// The kind whose number stands in the column `kind`, 1 to 7; None where none does.
 pub fn kind_of(kind: i64) -> Option<Kind>
     ensures { MatchOption result ((k : Kind) → ¬ (kind ≡ pos (kind_number k))) (λ k. kind ≡ pos (kind_number k)) }
 {

@@ -18,14 +18,14 @@ use Rattle.queue_types.specs.Job.{owed}
 use Rattle.queue_core.specs.Sound.{IsSound, Rise}
 use Rattle.queue_core.specs.World.{World, Entry, rows, job_at}
 use Rattle.queue_types.specs.declared.job.Job.{Job}
-use Rattle.queue_tables.specs.Content.{Holds, content_of}
+use Rattle.queue_tables.specs.Content.{AreRowsOf, Holds, content_of}
 use Rattle.queue_tables.specs.Plain.{plain_query}
 use Rattle.queue_tables.specs.Steps.{AreDistinct, bare, has_number}
 use Rattle.queue_tables.specs.Values.{number, job_values, job_view}
 use Rattle.queue_tables.proofs.Entries.{rows_in}
 use Rattle.queue_tables.proofs.Numbers.{passed}
 use Rattle.queue_tables.proofs.Writing.{reads_rows}
-use Rattle.queue_shown.specs.Pages.{AreIn, has_pages}
+use Rattle.queue_shown.specs.Pages.{has_pages}
 use Rattle.queue_shown.proofs.Ordered.{nat_int, then_equal, listed_values, in_order}
 use Rattle.queue_shown.proofs.Texts.{select_owned, select_owned_is}
 use Rattle.queue_shown.proofs.Unique.{Rises}
@@ -121,7 +121,7 @@ each_found (e ∷ es) all same distinct = (
   each_found es all (λ n j there. same n j (later n j e es distinct.0 there)) distinct.1,
 )
 
-pub owned_in : (w : World) (a : List ℕ) → AreDistinct w.jobs → AreIn w (filter (λ j. bytes_eq j.owner a) (rows w))
+pub owned_in : (w : World) (a : List ℕ) → AreDistinct w.jobs → AreRowsOf w (filter (λ j. bytes_eq j.owner a) (rows w))
 owned_in w a distinct =
     kept_all (λ j. job_at j.number (rows w) ≡ Some j) (owns a) (rows w) (each_all (λ j. job_at j.number (rows w) ≡ Some j) (rows w) (each_found w.jobs (rows w) (λ n j there. there) distinct))
 

@@ -17,7 +17,8 @@ use Rattle.queue_tables.specs.Values.{job_values}
 use Rattle.queue_tables.proofs.JobPut.{same_job}
 use Rattle.queue_tables.specs.declared.account_pages.AccountPages.{AccountPages}
 use Rattle.queue_tables.specs.Accounts.{pages_of}
-use Rattle.queue_shown.specs.Pages.{AreIn, has_pages}
+use Rattle.queue_tables.specs.Content.{AreRowsOf}
+use Rattle.queue_shown.specs.Pages.{has_pages}
 
 -- ---- one row
 
@@ -45,7 +46,7 @@ nth_job [] k row low is = absurd (omega (arith, low))
 nth_job (j ∷ js) zero row low is = (j, is, refl)
 nth_job (j ∷ js) (suc k) row low is = nth_job js k row (omega (arith, low)) is
 
-pub nth_in : (w : World) (js : List Job) (k : ℕ) (j : Job) → k < length js → get_or js k j ≡ j → AreIn w js → job_at j.number (rows w) ≡ Some j
+pub nth_in : (w : World) (js : List Job) (k : ℕ) (j : Job) → k < length js → get_or js k j ≡ j → AreRowsOf w js → job_at j.number (rows w) ≡ Some j
 nth_in w js k j low is all = subst (λ (i : Job). job_at i.number (rows w) ≡ Some i) is (all k j low)
 
 pub told_more : (js : List Job) (k : ℕ) (j : Job) (xs ys : List Job) → k < length js → get_or js k j ≡ j → xs ≡ filter has_pages (take k js) → ys ≡ xs ++ (if has_pages j then j ∷ [] else []) → ys ≡ filter has_pages (take (k + 1) js)

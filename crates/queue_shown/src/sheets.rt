@@ -7,8 +7,8 @@ ghost use Rattle.queue_core.specs.Shown.{sheet_jobs, sheet_of};
 ghost use Rattle.queue_core.specs.Sound.{IsSound};
 ghost use Rattle.queue_core.specs.World.{World, job_at, rows};
 ghost use Rattle.queue_types.specs.declared.job.Job.{Job as JobValue};
-ghost use Rattle.queue_shown.specs.Pages.{AreIn, has_pages};
-ghost use Rattle.queue_tables.specs.Content.{Holds, content_of};
+ghost use Rattle.queue_shown.specs.Pages.{has_pages};
+ghost use Rattle.queue_tables.specs.Content.{AreRowsOf, Holds, content_of};
 ghost use Rattle.queue_tables.specs.Leaving.{LeavesTables};
 ghost use Rattle.queue_tables.specs.Values.{job_values};
 
@@ -62,7 +62,7 @@ fn jobs_of<S: Alter>(
 ) -> Result<Vec<Job>, Fault>
     ensures leaves { LeavesTables (state S.Store conn.old) (state S.Store conn.new) }
     ensures live { HasCleanDisk (state S.Store conn.new) → OnOk result (IsTrue (state S.Store conn.old).is_open → IsTrue (state S.Store conn.new).is_open) }
-    ensures told { HasCleanDisk (state S.Store conn.new) → IfOk result (λ v. (w : World) (js : List JobValue) → IsSound w → Holds (content_of w) (state S.Store conn.old) → AreIn w js → found.now ≡ map job_values js → v.items ≡ filter has_pages js) }
+    ensures told { HasCleanDisk (state S.Store conn.new) → IfOk result (λ v. (w : World) (js : List JobValue) → IsSound w → Holds (content_of w) (state S.Store conn.old) → AreRowsOf w js → found.now ≡ map job_values js → v.items ≡ filter has_pages js) }
 {
     let mut jobs = Vec::new(alloc);
     for row in found {

@@ -1,12 +1,13 @@
 -- What the tables hold, and which world they stand for.
-use Rattle.std.specs.Prelude.{◌≡◌, ⊤, ℕ, pos, ◌+◌, List, [], ◌∷◌, ◌++◌, map, flat_map, length, IsTrue}
+use Rattle.std.specs.Prelude.{◌≡◌, ⊤, ℕ, pos, ◌+◌, List, [], ◌∷◌, ◌++◌, Some, All, map, flat_map, length, IsTrue}
 use Rattle.std.specs.List.{range_with_len}
 use Rattle.std.specs.FinMap.{entries}
 use Rattle.sqlite.specs.Order.{Row}
 use Rattle.sqlite.specs.Tree.{Trees}
 use Rattle.sqlite.specs.State.{State}
 use Rattle.queue_types.specs.declared.document.Document.{Document}
-use Rattle.queue_core.specs.World.{World, rows}
+use Rattle.queue_types.specs.declared.job.Job.{Job}
+use Rattle.queue_core.specs.World.{World, job_at, rows}
 use Rattle.queue_core.specs.Sound.{reserved, printed}
 use Rattle.queue_rows.specs.Documents.{documents_from}
 use Rattle.queue_rows.specs.Pieces.{pieces_in, piece_at}
@@ -66,3 +67,7 @@ pub record Holds (c : Content) (s : State) : Type 0 where
   pub schema : s.now.schema ≡ book_schema
   pub rows : HasContent c s.now.trees
   pub live : IsTrue s.is_open
+
+-- each of them is the world's job of its number
+abbrev pub AreRowsOf : World → List Job → Type 0
+AreRowsOf w js = All (λ j. job_at j.number (rows w) ≡ Some j) js

@@ -9,7 +9,6 @@ ghost use Rattle.queue_tables.specs.Steps.{with_kept};
 
 use crate::fault::Fault;
 use crate::run::run;
-use queue_rows::codes::kind_number_of;
 use queue_types::event::KeptReport;
 use sqlite::{Alter, Transaction, params};
 
@@ -24,7 +23,7 @@ pub(crate) fn insert_report<S: Alter>(
     ensures inside { HasCleanDisk (state S.Store tx.new.conn.now) → OnOk result (IsTrue (state S.Store tx.old.conn.now).in_transaction → IsTrue (state S.Store tx.new.conn.now).in_transaction) }
     ensures done { HasCleanDisk (state S.Store tx.new.conn.now) → OnOk result ((w : World) → get w.reports (kept.now.report.job, kept.now.report.seq) ≡ None → Holds (content_of w) (state S.Store tx.old.conn.now) → Holds (content_of (with_kept (Some kept.now) w)) (state S.Store tx.new.conn.now)) }
 {
-    let kind = kind_number_of(kept.report.kind);
+    let kind = u32::from(kept.report.kind.number());
     let told = u32::from(kept.state);
     run(
         tx,

@@ -4,8 +4,8 @@ use Rattle.sqlite.specs.State.{HasCleanDisk}
 use Rattle.queue_core.specs.Sound.{IsSound}
 use Rattle.queue_core.specs.World.{World}
 use Rattle.queue_types.specs.declared.job.Job.{Job}
-use Rattle.queue_shown.specs.Pages.{AreIn, has_pages}
-use Rattle.queue_tables.specs.Content.{Holds, content_of}
+use Rattle.queue_shown.specs.Pages.{has_pages}
+use Rattle.queue_tables.specs.Content.{AreRowsOf, Holds, content_of}
 use Rattle.queue_tables.specs.Leaving.{LeavesTables}
 use Rattle.queue_tables.specs.Values.{job_values}
 use Rattle.queue_shown.proofs.sheets.jobs_of.Given as goal
@@ -17,5 +17,5 @@ invariant-loop-row g l =
     let now = state g.S.Store l.conn in record {
       leaves : LeavesTables old now;
       live : HasCleanDisk now → IsTrue old.is_open → IsTrue now.is_open;
-      told : HasCleanDisk now → (w : World) (js : List Job) → IsSound w → Holds (content_of w) old → AreIn w js → l.found ≡ map job_values js → l.jobs.items ≡ filter has_pages (take l.row-index js);
+      told : HasCleanDisk now → (w : World) (js : List Job) → IsSound w → Holds (content_of w) old → AreRowsOf w js → l.found ≡ map job_values js → l.jobs.items ≡ filter has_pages (take l.row-index js);
     }
