@@ -13,9 +13,10 @@ use sqlite_std_file::Unknown;
 use std::io::{Input, Write};
 use std::rt::HostRuntime;
 
-/// Closes the store of a command.
+/// Closes the store of a command that was done, so that its file alone keeps all of it. Where that fails nothing is lost and nothing is told: what was
+/// done is in the log.
 fn close(done: Result<FileBook<Unknown>, Fault>) -> Result<(), Fault> {
-    done?.let_go();
+    let _closed = done?.close_files();
     Ok(())
 }
 

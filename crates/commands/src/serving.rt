@@ -11,7 +11,7 @@ ghost use Rattle.queue_store.specs.Kept.{IsHonest, StandsFor};
 
 use command_ends::Fault;
 use command_words::Serve;
-use print_server::{ServerFault, listen, serve_connections};
+use print_server::{ServerFault, Service, listen};
 use queue_store::TableBook;
 use sqlite::Alter;
 use std::io::Write;
@@ -42,16 +42,13 @@ pub(crate) fn serve_book<S: Alter, W: Write>(
 {
     let settings = book.settings()?;
     let listener = listen(rt, output, words.port)?;
-    match serve_connections(
-        rt.alloc(),
-        rt,
-        &listener,
-        output,
-        book,
-        &settings,
-        words.timeout,
-        words.connections,
-    ) {
+    let service = Service {
+        alloc: rt.alloc(),
+        listener: &listener,
+        settings: &settings,
+        timeout: words.timeout,
+    };
+    match service.serve_connections(rt, output, book, words.connections) {
         Ok(()) => Ok(()),
         Err(stopped) => Err(fault_of_server(stopped)),
     }

@@ -47,18 +47,21 @@ pub fn read_report(line: &[u8]) -> Result<Report, LineFault>
 }
 
 /// The report of that form, where its numbers are within the limits.
-fn within(f: Form) -> Option<Report>
-    ensures some { IfSome result (λ r. (r ≡ report_of f) × IsReport r) }
-    ensures none { IfNone result (IsReport (report_of f) → ⊥) }
+fn within(form: Form) -> Option<Report>
+    ensures some { IfSome result (λ r. (r ≡ report_of form) × IsReport r) }
+    ensures none { IfNone result (IsReport (report_of form) → ⊥) }
 {
-    if !is_positive(f.job) || !is_positive(f.seq) || f.count > u64::from(MOST_PRINTED_PAGES) {
+    if !is_positive(form.job)
+        || !is_positive(form.seq)
+        || form.count > u64::from(MOST_PRINTED_PAGES)
+    {
         return None;
     }
     Some(Report {
-        job: f.job as u32,
-        seq: f.seq as u32,
-        kind: f.kind,
-        count: f.count as u32,
+        job: form.job as u32,
+        seq: form.seq as u32,
+        kind: form.kind,
+        count: form.count as u32,
     })
 }
 

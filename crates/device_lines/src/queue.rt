@@ -19,13 +19,13 @@ pub fn queue_text(alloc: Global, jobs: &[Job]) -> Result<String, AllocError>
     Ok(text)
 }
 
-fn push_job(text: &mut String, j: &Job) -> Result<(), AllocError>
-    ensures { OnOk result (string_bytes text.new ≡ string_bytes text.old ++ job_line j.now) }
+fn push_job(text: &mut String, job: &Job) -> Result<(), AllocError>
+    ensures { OnOk result (string_bytes text.new ≡ string_bytes text.old ++ job_line job.now) }
 {
-    push_number(text, j.number.into(), " ")?;
-    push_number(text, j.copies.into(), " ")?;
-    push_number(text, j.documents.into(), " ")?;
-    push_number(text, j.octets, "\n")
+    push_number(text, job.number.into(), " ")?;
+    push_number(text, job.copies.into(), " ")?;
+    push_number(text, job.documents.into(), " ")?;
+    push_number(text, job.octets, "\n")
 }
 
 /// Adds a number in decimal, and what stands after it.

@@ -40,19 +40,19 @@ pub fn report<B: QueueBook>(book: &mut B, now: u32, line: &[u8]) -> ReportAnswer
 }
 
 /// One step of the machine on a report, or a fault and no change.
-fn step<B: QueueBook>(book: &mut B, now: u32, r: Report) -> Result<ReportAnswer, BookFault>
+fn step<B: QueueBook>(book: &mut B, now: u32, report: Report) -> Result<ReportAnswer, BookFault>
     requires moment { IsMoment now }
-    requires report { IsReport r }
+    requires report { IsReport report }
     ensures began { B.is_honest book.new → B.is_honest book.old }
     ensures answer { B.is_honest book.new → IfOk result (λ a. (w : World) → B.stands book.old w
-        → AnswersReport r.job (step_of w now (tell r)).reply a) }
+        → AnswersReport report.job (step_of w now (tell report)).reply a) }
     ensures world { B.is_honest book.new → OnOk result ((w : World) → B.stands book.old w
-        → B.stands book.new (step_of w now (tell r)).world) }
+        → B.stands book.new (step_of w now (tell report)).world) }
     ensures quiet { IfOk result (λ a. is_fault_line a ≡ false) }
     ensures err { OnErr result ((w : World) → B.stands book.old w → B.stands book.new w) }
 {
-    let decision = book.decide(now, &Event::Tell(r))?;
-    let answer = answer_to(r.job, &decision.reply);
+    let decision = book.decide(now, &Event::Tell(report))?;
+    let answer = answer_to(report.job, &decision.reply);
     book.apply(decision)?;
     Ok(answer)
 }

@@ -7,6 +7,7 @@ ghost use Rattle.http_head.specs.Left.{left};
 ghost use Rattle.http_head.specs.Routes.{routes};
 ghost use Rattle.http_front.specs.Connections.{IsServed, IsStopped, Worked, acted_of};
 
+use crate::context::Context;
 use crate::outcome::{ServeFault, Served, Turned};
 use crate::turn::turn;
 use http_head::end::End;
@@ -30,25 +31,23 @@ fn mark(faults: u32, k: u32, is_fault: bool) -> u32
 
 /// Takes one turn after another, to the end of the connection.
 fn run<R: Read, W: Write, B: QueueBook>(
-    alloc: Global,
+    context: Context<'_>,
     router: Option<&Router<Route>>,
     input: &mut Input<R>,
     writer: &mut W,
     book: &mut B,
-    s: &Settings,
-    now: u32,
 ) -> Result<Served, ServeFault>
     requires router { ForSome router (λ r. r.now ≡ routes) }
-    requires moment { IsMoment now }
+    requires moment { IsMoment context.moment }
     ensures began { B.is_honest book.new → B.is_honest book.old }
-    ensures served { B.is_honest book.new → IfOk result (λ served. (w : World) → B.stands book.old w → s.now ≡ w.settings
+    ensures served { B.is_honest book.new → IfOk result (λ served. (w : World) → B.stands book.old w → context.entry.settings.now ≡ w.settings
         → (u : World) × B.stands book.new u
-        × IsServed now w u (left input.old.buffer (R.remaining input.old.reader)) (W.contents writer.old) (W.contents writer.new) served) }
-    ensures broken { B.is_honest book.new → IfErr result (λ fault. (w : World) → B.stands book.old w → s.now ≡ w.settings
+        × IsServed context.entry.moment w u (left input.old.buffer (R.remaining input.old.reader)) (W.contents writer.old) (W.contents writer.new) served) }
+    ensures broken { B.is_honest book.new → IfErr result (λ fault. (w : World) → B.stands book.old w → context.entry.settings.now ≡ w.settings
         → (u : World) × B.stands book.new u
-        × IsStopped now w u (left input.old.buffer (R.remaining input.old.reader)) (W.contents writer.old) (W.contents writer.new) fault) }
-    ensures worked { B.is_honest book.new → (w : World) → B.stands book.old w → s.now ≡ w.settings
-        → (u : World) × B.stands book.new u × Worked 32 now w u (acted_of result) }
+        × IsStopped context.entry.moment w u (left input.old.buffer (R.remaining input.old.reader)) (W.contents writer.old) (W.contents writer.new) fault) }
+    ensures worked { B.is_honest book.new → (w : World) → B.stands book.old w → context.entry.settings.now ≡ w.settings
+        → (u : World) × B.stands book.new u × Worked 32 context.entry.moment w u (acted_of result) }
     ensures few { IfOk result (λ served. served.acted ≤ 32) }
     ensures few_stopped { IfErr result (λ fault. fault.acted ≤ 32) }
 {
@@ -56,7 +55,7 @@ fn run<R: Read, W: Write, B: QueueBook>(
     let mut faults = 0;
     let mut k = 0;
     'turns: loop {
-        match turn(alloc, router, input, writer, book, s, now, k) {
+        match turn(context, router, input, writer, book, k) {
             Ok(
                 Turned::Answered {
                     acted: acts,
@@ -106,23 +105,28 @@ pub fn serve<R: Read, W: Write, B: QueueBook>(
     reader: &mut R,
     writer: &mut W,
     book: &mut B,
-    s: &Settings,
+    settings: &Settings,
     now: u32,
 ) -> Result<Served, ServeFault>
     requires { IsMoment now }
     ensures began { B.is_honest book.new → B.is_honest book.old }
-    ensures served { B.is_honest book.new → IfOk result (λ served. (w : World) → B.stands book.old w → s.now ≡ w.settings
+    ensures served { B.is_honest book.new → IfOk result (λ served. (w : World) → B.stands book.old w → settings.now ≡ w.settings
         → (u : World) × B.stands book.new u
         × IsServed now w u (R.remaining reader.old) (W.contents writer.old) (W.contents writer.new) served) }
-    ensures broken { B.is_honest book.new → IfErr result (λ fault. (w : World) → B.stands book.old w → s.now ≡ w.settings
+    ensures broken { B.is_honest book.new → IfErr result (λ fault. (w : World) → B.stands book.old w → settings.now ≡ w.settings
         → (u : World) × B.stands book.new u
         × IsStopped now w u (R.remaining reader.old) (W.contents writer.old) (W.contents writer.new) fault) }
-    ensures worked { B.is_honest book.new → (w : World) → B.stands book.old w → s.now ≡ w.settings
+    ensures worked { B.is_honest book.new → (w : World) → B.stands book.old w → settings.now ≡ w.settings
         → (u : World) × B.stands book.new u × Worked 32 now w u (acted_of result) }
     ensures few { IfOk result (λ served. served.acted ≤ 32) }
     ensures few_stopped { IfErr result (λ fault. fault.acted ≤ 32) }
 {
     let mut input = Input::new(reader);
     let table = router(alloc).ok();
-    run(alloc, table.as_ref(), &mut input, writer, book, s, now)
+    let context = Context {
+        alloc,
+        settings,
+        moment: now,
+    };
+    run(context, table.as_ref(), &mut input, writer, book)
 }

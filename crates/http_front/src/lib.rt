@@ -9,6 +9,7 @@
 #![tactic(auto)]
 
 mod connection;
+mod context;
 mod outcome;
 mod reply;
 mod turn;

@@ -6,6 +6,7 @@ ghost use Rattle.queue_types.specs.Formats as formats;
 ghost use Rattle.http_front.specs.Turned.{IsReplied};
 ghost use Rattle.http_head.specs.declared.target.Target.TheVariants.{Ipp, Report, Queue, Document};
 
+use crate::context::Context;
 use crate::outcome::{Replied, ServeCause, Stopped};
 use device_lines::{queue_text, report};
 use http_head::end::{Refusal, WriteFault};
@@ -14,28 +15,31 @@ use http_wire::respond::{send_head, send_success};
 use ipp_ops::{TooShort, answer};
 use queue_core::book::{QueueBook, SendCause};
 use queue_types::document::Format;
-use queue_types::settings::Settings;
 use std::alloc::Global;
 use std::io::Write;
 
 /// Answers an IPP message.
 fn reply_ipp<W: Write, B: QueueBook>(
-    alloc: Global,
+    context: Context<'_>,
     writer: &mut W,
     book: &mut B,
-    s: &Settings,
-    now: u32,
     content: &[u8],
     closes: bool,
 ) -> Result<Replied, Stopped>
-    requires moment { IsMoment now }
+    requires moment { IsMoment context.moment }
     requires fits { length content.now ≤ 16777216 }
     ensures began { B.is_honest book.new → B.is_honest book.old }
-    ensures replied { B.is_honest book.new → (w : World) → B.stands book.old w → s.now ≡ w.settings
+    ensures replied { B.is_honest book.new → (w : World) → B.stands book.old w → context.entry.settings.now ≡ w.settings
         → (u : World) × B.stands book.new u
-        × IsReplied now w u Ipp content.now closes (W.contents writer.old) (W.contents writer.new) result }
+        × IsReplied context.entry.moment w u Ipp content.now closes (W.contents writer.old) (W.contents writer.new) result }
 {
-    match answer(alloc, book, s, now, content) {
+    match answer(
+        context.alloc,
+        book,
+        context.settings,
+        context.moment,
+        content,
+    ) {
         Err(TooShort) => Ok(Replied::Declined(Refusal::BadRequest)),
         Ok(a) => {
             let is_fault = a.is_fault();
@@ -162,26 +166,24 @@ fn reply_document<W: Write, B: QueueBook>(
 
 /// Answers a whole request.
 pub fn reply<W: Write, B: QueueBook>(
-    alloc: Global,
+    context: Context<'_>,
     writer: &mut W,
     book: &mut B,
-    s: &Settings,
-    now: u32,
     target: Target,
     content: &[u8],
     closes: bool,
 ) -> Result<Replied, Stopped>
-    requires moment { IsMoment now }
+    requires moment { IsMoment context.moment }
     requires fits { length content.now ≤ 16777216 }
     ensures began { B.is_honest book.new → B.is_honest book.old }
-    ensures replied { B.is_honest book.new → (w : World) → B.stands book.old w → s.now ≡ w.settings
+    ensures replied { B.is_honest book.new → (w : World) → B.stands book.old w → context.entry.settings.now ≡ w.settings
         → (u : World) × B.stands book.new u
-        × IsReplied now w u target content.now closes (W.contents writer.old) (W.contents writer.new) result }
+        × IsReplied context.entry.moment w u target content.now closes (W.contents writer.old) (W.contents writer.new) result }
 {
     match target {
-        Target::Ipp => reply_ipp(alloc, writer, book, s, now, content, closes),
-        Target::Report => reply_report(writer, book, now, content, closes),
-        Target::Queue => reply_queue(alloc, writer, book, closes),
+        Target::Ipp => reply_ipp(context, writer, book, content, closes),
+        Target::Report => reply_report(writer, book, context.moment, content, closes),
+        Target::Queue => reply_queue(context.alloc, writer, book, closes),
         Target::Document(n) => reply_document(writer, book, n, closes),
     }
 }

@@ -9,6 +9,7 @@ ghost use Rattle.http_head.specs.Routes.{routes};
 ghost use Rattle.http_front.specs.Turns.{acts_on};
 ghost use Rattle.http_front.specs.Turned.{IsClosed, IsPlanned, IsTurned, ClosesLast, PlanWorks, Works, acted_in};
 
+use crate::context::Context;
 use crate::outcome::{Replied, ServeCause, Stopped, Turned};
 use crate::reply::{reply, stopped_by};
 use http_head::end::{Finish, Refusal, WriteFault};
@@ -23,8 +24,6 @@ use http_wire::framed::take_framed;
 use http_wire::respond::{send_continue, send_end};
 use matchit::Router;
 use queue_core::book::QueueBook;
-use queue_types::settings::Settings;
-use std::alloc::Global;
 use std::io::{Read, Write};
 
 /// The number, from 0, of the last request that a connection may have.
@@ -62,32 +61,30 @@ fn closes_after(plan: Plan, k: u32) -> bool
 
 /// Answers request k behind a head that passed the checks.
 fn take_planned<R: Read, W: Write, B: QueueBook>(
-    alloc: Global,
+    context: Context<'_>,
     input: &mut Input<R>,
     writer: &mut W,
     book: &mut B,
-    s: &Settings,
     plan: Plan,
-    now: u32,
     k: u32,
 ) -> Result<Turned, Stopped>
-    requires moment { IsMoment now }
+    requires moment { IsMoment context.moment }
     requires size { size_of plan.framing ≤ 16777216 }
     requires few { k ≤ 31 }
     ensures began { B.is_honest book.new → B.is_honest book.old }
-    ensures planned { B.is_honest book.new → (w : World) → B.stands book.old w → s.now ≡ w.settings
+    ensures planned { B.is_honest book.new → (w : World) → B.stands book.old w → context.entry.settings.now ≡ w.settings
         → (u : World) × B.stands book.new u
-        × IsPlanned now k w u plan (left input.old.buffer (R.remaining input.old.reader)) (left input.new.buffer (R.remaining input.new.reader))
+        × IsPlanned context.entry.moment k w u plan (left input.old.buffer (R.remaining input.old.reader)) (left input.new.buffer (R.remaining input.new.reader))
         (W.contents writer.old) (W.contents writer.new) result }
-    ensures worked { B.is_honest book.new → (w : World) → B.stands book.old w → s.now ≡ w.settings
-        → (u : World) × B.stands book.new u × PlanWorks now k w u plan (acted_in result) }
+    ensures worked { B.is_honest book.new → (w : World) → B.stands book.old w → context.entry.settings.now ≡ w.settings
+        → (u : World) × B.stands book.new u × PlanWorks context.entry.moment k w u plan (acted_in result) }
     ensures last { ClosesLast k result }
 {
     match send_continue(writer, plan) {
         Ok(()) => {}
         Err(WriteFault) => return Err(stopped_by(ServeCause::Write)),
     }
-    let content = match take_framed(alloc, input, plan.framing) {
+    let content = match take_framed(context.alloc, input, plan.framing) {
         Ok(content) => content,
         Err(BodyFault::Ended(end)) => return close_with(writer, end),
         Err(BodyFault::Read) => return Err(stopped_by(ServeCause::Read)),
@@ -95,11 +92,9 @@ fn take_planned<R: Read, W: Write, B: QueueBook>(
     };
     let closes = closes_after(plan, k);
     match reply(
-        alloc,
+        context,
         writer,
         book,
-        s,
-        now,
         plan.target,
         content.as_slice(),
         closes,
@@ -116,32 +111,30 @@ fn take_planned<R: Read, W: Write, B: QueueBook>(
 
 /// Takes and answers request k of a connection, from 0. Without a router, for want of memory, it can't.
 pub fn turn<R: Read, W: Write, B: QueueBook>(
-    alloc: Global,
+    context: Context<'_>,
     router: Option<&Router<Route>>,
     input: &mut Input<R>,
     writer: &mut W,
     book: &mut B,
-    s: &Settings,
-    now: u32,
     k: u32,
 ) -> Result<Turned, Stopped>
     requires router { ForSome router (λ r. r.now ≡ routes) }
-    requires moment { IsMoment now }
+    requires moment { IsMoment context.moment }
     requires few { k ≤ 31 }
     ensures began { B.is_honest book.new → B.is_honest book.old }
-    ensures turned { B.is_honest book.new → (w : World) → B.stands book.old w → s.now ≡ w.settings
+    ensures turned { B.is_honest book.new → (w : World) → B.stands book.old w → context.entry.settings.now ≡ w.settings
         → (u : World) × B.stands book.new u
-        × IsTurned now k w u (left input.old.buffer (R.remaining input.old.reader)) (left input.new.buffer (R.remaining input.new.reader))
+        × IsTurned context.entry.moment k w u (left input.old.buffer (R.remaining input.old.reader)) (left input.new.buffer (R.remaining input.new.reader))
         (W.contents writer.old) (W.contents writer.new) result }
-    ensures worked { B.is_honest book.new → (w : World) → B.stands book.old w → s.now ≡ w.settings
-        → (u : World) × B.stands book.new u × Works now w u (acted_in result) }
+    ensures worked { B.is_honest book.new → (w : World) → B.stands book.old w → context.entry.settings.now ≡ w.settings
+        → (u : World) × B.stands book.new u × Works context.entry.moment w u (acted_in result) }
     ensures last { ClosesLast k result }
 {
     let Some(router) = router else {
         return close_with(writer, Finish::Refused(Refusal::Unavailable));
     };
     match take_head(router, input) {
-        Ok(plan) => take_planned(alloc, input, writer, book, s, plan, now, k),
+        Ok(plan) => take_planned(context, input, writer, book, plan, k),
         Err(HeadFault::Ended(end)) => close_with(writer, end),
         Err(HeadFault::Failed(refusal)) => close_with(writer, Finish::Refused(refusal)),
         Err(HeadFault::Read) => Err(stopped_by(ServeCause::Read)),

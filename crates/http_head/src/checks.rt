@@ -77,15 +77,15 @@ fn first_that_applies(rows: &[(bool, Refusal)]) -> Option<Refusal>
 
 /// The first check that applies to a request with a route.
 pub fn routed_refusal(
-    t: Target,
+    target: Target,
     misframed: bool,
     framing: Framing,
     method: &[u8],
     typed: bool,
 ) -> Option<Refusal>
-    ensures { result ≡ spec.first_that_applies (spec.rows t misframed framing method.now typed) }
+    ensures { result ≡ spec.first_that_applies (spec.rows target misframed framing method.now typed) }
 {
-    let posted = t.is_posted();
+    let posted = target.is_posted();
     let allowed = if posted {
         Refusal::PostAllowed
     } else {
@@ -94,7 +94,7 @@ pub fn routed_refusal(
     let size = framing.size();
     first_that_applies(&[
         (misframed, Refusal::BadRequest),
-        (method != t.method(), allowed),
+        (method != target.method(), allowed),
         (
             !posted && (framing.is_chunked() || size > 0),
             Refusal::BadRequest,

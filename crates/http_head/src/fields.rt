@@ -28,10 +28,10 @@ pub fn same_word(a: &[u8], b: &[u8]) -> bool
     a.eq_ignore_ascii_case(b)
 }
 
-fn is_named(come: &[u8], h: &HeaderSpan, name: &[u8]) -> bool
-    ensures { result ≡ spec.is_named name.now (header_bytes come.now h.now) }
+fn is_named(come: &[u8], header: &HeaderSpan, name: &[u8]) -> bool
+    ensures { result ≡ spec.is_named name.now (header_bytes come.now header.now) }
 {
-    same_word(text_at(come, h.name), name)
+    same_word(text_at(come, header.name), name)
 }
 
 /// The values of all field lines of that name.

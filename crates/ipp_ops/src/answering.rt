@@ -35,49 +35,61 @@ fn bare_answer(head: Head, code: u16) -> Answer
     Answer::Bare(out)
 }
 
+/// What the reply to a request is written with, whatever it tells.
+#[derive(Clone, Copy)]
+struct ReplyContext<'a> {
+    alloc: Global,
+    /// The request's.
+    head: Head,
+    settings: &'a Settings,
+    now: u32,
+}
+
 /// The bytes of the message that is a reply.
 fn reply_bytes(
-    alloc: Global,
-    r: &Reply,
-    head: Head,
+    context: ReplyContext<'_>,
+    reply: &Reply,
     wanted: &Wanted,
     unsupported: &Unsupported<'_>,
-    s: &Settings,
-    now: u32,
 ) -> Result<Vec<u8>, AllocError>
-    requires sound { IsSoundReply r.now }
+    requires sound { IsSoundReply reply.now }
     requires listed { CanList (unsupported_of unsupported.now) }
-    ensures { IfOk result (λ b. Spells (reply_of r.now head (rows_of wanted.now) (unsupported_of unsupported.now) s.now now) b.items) }
+    ensures { IfOk result (λ b. Spells (reply_of reply.now context.entry.head (rows_of wanted.now) (unsupported_of unsupported.now) context.entry.settings.now context.entry.now) b.items) }
 {
-    let message = reply_message(alloc, r, head, wanted, unsupported, s, now)?;
+    let message = reply_message(
+        context.alloc,
+        reply,
+        context.head,
+        wanted,
+        unsupported,
+        context.settings,
+        context.now,
+    )?;
     write(&message)
 }
 
 /// One step of the machine, or a fault and no change: the book is changed last, once the reply's bytes
 /// are there.
 fn take<B: QueueBook>(
-    alloc: Global,
+    context: ReplyContext<'_>,
     book: &mut B,
-    s: &Settings,
-    now: u32,
-    e: &Event<'_>,
-    head: Head,
+    event: &Event<'_>,
     wanted: &Wanted,
     unsupported: &Unsupported<'_>,
 ) -> Result<Vec<u8>, BookFault>
-    requires moment { IsMoment now }
-    requires event { IsEvent (event_of e.now) }
-    requires asked { IsAsk (event_of e.now) }
+    requires moment { IsMoment context.now }
+    requires event { IsEvent (event_of event.now) }
+    requires asked { IsAsk (event_of event.now) }
     requires listed { CanList (unsupported_of unsupported.now) }
     ensures began { B.is_honest book.new → B.is_honest book.old }
-    ensures reply { B.is_honest book.new → IfOk result (λ b. (w : World) → B.stands book.old w → s.now ≡ w.settings
-        → Spells (reply_of (machine_step w now (event_of e.now)).reply head (rows_of wanted.now) (unsupported_of unsupported.now) w.settings now) b.items) }
+    ensures reply { B.is_honest book.new → IfOk result (λ b. (w : World) → B.stands book.old w → context.entry.settings.now ≡ w.settings
+        → Spells (reply_of (machine_step w context.entry.now (event_of event.now)).reply context.entry.head (rows_of wanted.now) (unsupported_of unsupported.now) w.settings context.entry.now) b.items) }
     ensures world { B.is_honest book.new → IfOk result (λ b. (w : World) → B.stands book.old w
-        → B.stands book.new (machine_step w now (event_of e.now)).world) }
+        → B.stands book.new (machine_step w context.entry.now (event_of event.now)).world) }
     ensures err { OnErr result ((w : World) → B.stands book.old w → B.stands book.new w) }
 {
-    let decision = book.decide(now, e)?;
-    let bytes = reply_bytes(alloc, &decision.reply, head, wanted, unsupported, s, now)?;
+    let decision = book.decide(context.now, event)?;
+    let bytes = reply_bytes(context, &decision.reply, wanted, unsupported)?;
     book.apply(decision)?;
     Ok(bytes)
 }
@@ -86,25 +98,30 @@ fn take<B: QueueBook>(
 fn step<B: QueueBook>(
     alloc: Global,
     book: &mut B,
-    s: &Settings,
+    settings: &Settings,
     now: u32,
-    v: &View<'_>,
+    view: &View<'_>,
 ) -> Result<Vec<u8>, BookFault>
     requires moment { IsMoment now }
-    requires message { IsMessage (message_of v.now) }
-    requires fits { length v.now.payload.now ≤ 16777216 }
+    requires message { IsMessage (message_of view.now) }
+    requires fits { length view.now.payload.now ≤ 16777216 }
     ensures began { B.is_honest book.new → B.is_honest book.old }
-    ensures reply { B.is_honest book.new → IfOk result (λ b. (w : World) → B.stands book.old w → s.now ≡ w.settings
-        → Spells (outcome (verdict (message_of v.now)) v.now.head w now).reply b.items) }
+    ensures reply { B.is_honest book.new → IfOk result (λ b. (w : World) → B.stands book.old w → settings.now ≡ w.settings
+        → Spells (outcome (verdict (message_of view.now)) view.now.head w now).reply b.items) }
     ensures world { B.is_honest book.new → IfOk result (λ b. (w : World) → B.stands book.old w
-        → B.stands book.new (outcome (verdict (message_of v.now)) v.now.head w now).world) }
+        → B.stands book.new (outcome (verdict (message_of view.now)) view.now.head w now).world) }
     ensures err { OnErr result ((w : World) → B.stands book.old w → B.stands book.new w) }
 {
-    match ask(alloc, v)? {
+    let context = ReplyContext {
+        alloc,
+        head: view.head,
+        settings,
+        now,
+    };
+    match ask(alloc, view)? {
         Ask::Refused { code, unsupported } => {
             let wanted = Wanted::nothing(alloc);
-            let refused = Reply::Refused(code);
-            let bytes = reply_bytes(alloc, &refused, v.head, &wanted, &unsupported, s, now)?;
+            let bytes = reply_bytes(context, &Reply::Refused(code), &wanted, &unsupported)?;
             Ok(bytes)
         }
         Ask::Call {
@@ -113,8 +130,8 @@ fn step<B: QueueBook>(
             wanted,
             unsupported,
         } => {
-            let e = Event::Ask { caller, call };
-            take(alloc, book, s, now, &e, v.head, &wanted, &unsupported)
+            let event = Event::Ask { caller, call };
+            take(context, book, &event, &wanted, &unsupported)
         }
     }
 }
@@ -126,7 +143,7 @@ fn step<B: QueueBook>(
 pub fn answer<B: QueueBook>(
     alloc: Global,
     book: &mut B,
-    s: &Settings,
+    settings: &Settings,
     now: u32,
     body: &[u8],
 ) -> Result<Answer, TooShort>
@@ -135,14 +152,14 @@ pub fn answer<B: QueueBook>(
     ensures began { B.is_honest book.new → B.is_honest book.old }
     ensures short { IsErr result ↔ (length body.now < 8) }
     ensures answered { B.is_honest book.new → IfOk result (λ a. OnFalse (is_fault (bytes_of a))
-        ((w : World) → B.stands book.old w → s.now ≡ w.settings
+        ((w : World) → B.stands book.old w → settings.now ≡ w.settings
         → (after : World) × Answers w now body.now after (bytes_of a) × B.stands book.new after)) }
 
     // The code 0x0505 stands for nothing else.
     ensures failed { B.is_honest book.new → IfOk result (λ a. OnTrue (is_fault (bytes_of a))
-        ((w : World) → B.stands book.old w → s.now ≡ w.settings → Fails body.now (bytes_of a) × B.stands book.new w)) }
+        ((w : World) → B.stands book.old w → settings.now ≡ w.settings → Fails body.now (bytes_of a) × B.stands book.new w)) }
     ensures refused { B.is_honest book.new → IfOk result (λ a. OnTrue (is_refusal (bytes_of a))
-        ((w : World) → B.stands book.old w → s.now ≡ w.settings → B.stands book.new w)) }
+        ((w : World) → B.stands book.old w → settings.now ≡ w.settings → B.stands book.new w)) }
 
     // These hold on any book, also on one that is not honest.
     ensures head_refused { (code : ℕ) → head_refusal (head_of body.now) ≡ Some code → IfOk result (λ a. Spells (bare (head_of body.now) code) (bytes_of a)) }
@@ -158,7 +175,7 @@ pub fn answer<B: QueueBook>(
         return Ok(bare_answer(h, code));
     }
     match read(alloc, body) {
-        Ok(v) => match step(alloc, book, s, now, &v) {
+        Ok(view) => match step(alloc, book, settings, now, &view) {
             Ok(bytes) => Ok(Answer::Whole(bytes)),
             Err(_) => Ok(bare_answer(h, SERVER_ERROR_TEMPORARY_ERROR)),
         },

@@ -32,10 +32,10 @@ use queue_types::status::CLIENT_ERROR_ATTRIBUTES_OR_VALUES_NOT_SUPPORTED;
 use std::alloc::{AllocError, Global};
 
 /// Those that are not completed, where the request doesn't say which.
-fn which_jobs(r: Request<'_, '_>) -> WhichJobs
-    ensures { result ≡ which_jobs (request_of r.entry) }
+fn which_jobs(request: Request<'_, '_>) -> WhichJobs
+    ensures { result ≡ which_jobs (request_of request.entry) }
 {
-    if r.bytes_of(OperationAttribute::WhichJobs) == "completed".as_bytes() {
+    if request.bytes_of(OperationAttribute::WhichJobs) == "completed".as_bytes() {
         WhichJobs::Completed
     } else {
         WhichJobs::NotCompleted
@@ -54,10 +54,10 @@ fn numbers(alloc: Global, values: &[ValueView<'_>]) -> Result<Vec<u32>, AllocErr
 }
 
 /// None, where the request has no job-ids.
-fn job_ids(alloc: Global, r: Request<'_, '_>) -> Result<Option<NumberList>, AllocError>
-    ensures { IfOk result (λ n. n ≡ job_ids (request_of r.entry)) }
+fn job_ids(alloc: Global, request: Request<'_, '_>) -> Result<Option<NumberList>, AllocError>
+    ensures { IfOk result (λ n. n ≡ job_ids (request_of request.entry)) }
 {
-    match r.known(OperationAttribute::JobIds) {
+    match request.known(OperationAttribute::JobIds) {
         Some(a) => {
             let ids = numbers(alloc, a.values.as_slice())?;
             Ok(Some(NumberList::from_items(ids)))
@@ -67,27 +67,31 @@ fn job_ids(alloc: Global, r: Request<'_, '_>) -> Result<Option<NumberList>, Allo
 }
 
 /// The call that the operation makes of a request.
-fn call<'a>(alloc: Global, r: Request<'_, 'a>) -> Result<Call<'a>, AllocError>
-    ensures { IfOk result (λ c. call_of c ≡ call (request_of r.entry)) }
+fn call<'a>(alloc: Global, request: Request<'_, 'a>) -> Result<Call<'a>, AllocError>
+    ensures { IfOk result (λ c. call_of c ≡ call (request_of request.entry)) }
 {
-    let job = target_job(r).unwrap_or(0);
-    Ok(match r.operation {
+    let job = target_job(request).unwrap_or(0);
+    Ok(match request.operation {
         Operation::PrintJob => Call::PrintJob {
-            job: new_job(r),
-            format: format(r),
-            payload: r.payload,
+            job: new_job(request),
+            format: format(request),
+            payload: request.payload,
         },
-        Operation::ValidateJob => Call::ValidateJob { job: new_job(r) },
-        Operation::CreateJob => Call::CreateJob { job: new_job(r) },
+        Operation::ValidateJob => Call::ValidateJob {
+            job: new_job(request),
+        },
+        Operation::CreateJob => Call::CreateJob {
+            job: new_job(request),
+        },
         Operation::SendDocument => Call::SendDocument {
             job,
-            format: format(r),
-            payload: r.payload,
-            last: r.is_true(OperationAttribute::LastDocument),
+            format: format(request),
+            payload: request.payload,
+            last: request.is_true(OperationAttribute::LastDocument),
         },
         Operation::GetJobs => Call::GetJobs {
-            which: which_jobs(r),
-            limit: number(r.bytes_of(OperationAttribute::Limit)),
+            which: which_jobs(request),
+            limit: number(request.bytes_of(OperationAttribute::Limit)),
         },
         Operation::GetPrinterAttributes => Call::GetPrinterAttributes,
         Operation::CancelJob => Call::CancelJob { job },
@@ -95,16 +99,16 @@ fn call<'a>(alloc: Global, r: Request<'_, 'a>) -> Result<Call<'a>, AllocError>
         Operation::HoldJob => Call::HoldJob { job },
         Operation::ReleaseJob => Call::ReleaseJob { job },
         Operation::CancelMyJobs => Call::CancelMyJobs {
-            jobs: job_ids(alloc, r)?,
+            jobs: job_ids(alloc, request)?,
         },
     })
 }
 
 /// The names that stand for an absent requested-attributes.
-fn usual(o: Operation) -> &'static [&'static str]
-    ensures { map (λ w. w.now) result.now ≡ usual o }
+fn usual(operation: Operation) -> &'static [&'static str]
+    ensures { map (λ w. w.now) result.now ≡ usual operation }
 {
-    match o {
+    match operation {
         Operation::PrintJob | Operation::CreateJob | Operation::SendDocument => {
             &["job-uri", "job-id", "job-state", "job-state-reasons"]
         }
@@ -118,32 +122,32 @@ fn usual(o: Operation) -> &'static [&'static str]
     }
 }
 
-fn printer_rows(alloc: Global, r: Request<'_, '_>) -> Result<Wanted, AllocError>
-    requires { r.operation ≡ variant.GetPrinterAttributes }
-    ensures { IfOk result (λ w. rows_of w ≡ rows (request_of r.entry)) }
+fn printer_rows(alloc: Global, request: Request<'_, '_>) -> Result<Wanted, AllocError>
+    requires { request.operation ≡ variant.GetPrinterAttributes }
+    ensures { IfOk result (λ w. rows_of w ≡ rows (request_of request.entry)) }
 {
-    match r.known(OperationAttribute::RequestedAttributes) {
+    match request.known(OperationAttribute::RequestedAttributes) {
         Some(a) => select_of_printer(alloc, a.values.as_slice()),
         None => select_whole_printer(alloc),
     }
 }
 
-fn job_rows(alloc: Global, r: Request<'_, '_>) -> Result<Wanted, AllocError>
-    ensures { IfOk result (λ w. rows_of w ≡ of_job (selected (requested (request_of r.entry)))) }
+fn job_rows(alloc: Global, request: Request<'_, '_>) -> Result<Wanted, AllocError>
+    ensures { IfOk result (λ w. rows_of w ≡ of_job (selected (requested (request_of request.entry)))) }
 {
-    match r.known(OperationAttribute::RequestedAttributes) {
+    match request.known(OperationAttribute::RequestedAttributes) {
         Some(a) => select_requested(alloc, a.values.as_slice()),
-        None => select_usual(alloc, usual(r.operation)),
+        None => select_usual(alloc, usual(request.operation)),
     }
 }
 
 /// The rows that the reply is to have.
-fn rows(alloc: Global, r: Request<'_, '_>) -> Result<Wanted, AllocError>
-    ensures { IfOk result (λ w. rows_of w ≡ rows (request_of r.entry)) }
+fn rows(alloc: Global, request: Request<'_, '_>) -> Result<Wanted, AllocError>
+    ensures { IfOk result (λ w. rows_of w ≡ rows (request_of request.entry)) }
 {
-    match r.operation {
-        Operation::GetPrinterAttributes => printer_rows(alloc, r),
-        _ => job_rows(alloc, r),
+    match request.operation {
+        Operation::GetPrinterAttributes => printer_rows(alloc, request),
+        _ => job_rows(alloc, request),
     }
 }
 
@@ -160,54 +164,54 @@ fn refused<'a>(alloc: Global, code: u16) -> Ask<'a>
 /// What a request asks that no check refuses.
 fn passed<'a>(
     alloc: Global,
-    r: Request<'_, 'a>,
+    request: Request<'_, 'a>,
     unsupported: Unsupported<'a>,
 ) -> Result<Ask<'a>, AllocError>
-    ensures { IfOk result (λ a. ask_content a ≡ passed (caller (request_of r.entry)) (call (request_of r.entry)) (rows (request_of r.entry)) (unsupported_of unsupported.entry)) }
+    ensures { IfOk result (λ a. ask_content a ≡ passed (caller (request_of request.entry)) (call (request_of request.entry)) (rows (request_of request.entry)) (unsupported_of unsupported.entry)) }
 {
-    let wanted = rows(alloc, r)?;
+    let wanted = rows(alloc, request)?;
     Ok(Ask::Call {
-        caller: r.caller(),
-        call: call(alloc, r)?,
+        caller: request.caller(),
+        call: call(alloc, request)?,
         wanted,
         unsupported,
     })
 }
 
 /// What a request asks of which no known attribute is refused. What is unsupported is told.
-fn listed_verdict<'a>(alloc: Global, r: Request<'_, 'a>) -> Result<Ask<'a>, AllocError>
-    ensures { IfOk result (λ a. ask_content a ≡ listed_verdict (request_of r.entry) (unsupported (request_of r.entry)) (is_refused_for (request_of r.entry) (unsupported (request_of r.entry)))) }
+fn listed_verdict<'a>(alloc: Global, request: Request<'_, 'a>) -> Result<Ask<'a>, AllocError>
+    ensures { IfOk result (λ a. ask_content a ≡ listed_verdict (request_of request.entry) (unsupported (request_of request.entry)) (is_refused_for (request_of request.entry) (unsupported (request_of request.entry)))) }
 {
-    let unsupported = unsupported_in(alloc, r)?;
-    if is_refused_for(r, &unsupported) {
+    let unsupported = unsupported_in(alloc, request)?;
+    if is_refused_for(request, &unsupported) {
         return Ok(Ask::Refused {
             code: CLIENT_ERROR_ATTRIBUTES_OR_VALUES_NOT_SUPPORTED,
             unsupported,
         });
     }
-    passed(alloc, r, unsupported)
+    passed(alloc, request, unsupported)
 }
 
 /// What a request asks.
-fn checked_verdict<'a>(alloc: Global, r: Request<'_, 'a>) -> Result<Ask<'a>, AllocError>
-    ensures { IfOk result (λ a. ask_content a ≡ checked_verdict (request_of r.entry) (refusal (request_of r.entry))) }
+fn checked_verdict<'a>(alloc: Global, request: Request<'_, 'a>) -> Result<Ask<'a>, AllocError>
+    ensures { IfOk result (λ a. ask_content a ≡ checked_verdict (request_of request.entry) (refusal (request_of request.entry))) }
 {
-    match first_refusal(r) {
+    match first_refusal(request) {
         Some(check) => Ok(refused(alloc, check.code())),
-        None => listed_verdict(alloc, r),
+        None => listed_verdict(alloc, request),
     }
 }
 
 /// What a request asks: the code of the first check that refuses it, or else its call (RFC 8011,
 /// section 4.1), with what is unsupported. A call is an event within the machine's limits. The one error
 /// is want of memory.
-pub fn ask<'a>(alloc: Global, v: &View<'a>) -> Result<Ask<'a>, AllocError>
-    ensures verdict { IfOk result (λ a. ask_content a ≡ verdict (message_of v.now)) }
-    ensures limits { length v.now.payload.now ≤ 16777216 → IfOk result (λ a. IsWithinLimits (ask_content a)) }
+pub fn ask<'a>(alloc: Global, view: &View<'a>) -> Result<Ask<'a>, AllocError>
+    ensures verdict { IfOk result (λ a. ask_content a ≡ verdict (message_of view.now)) }
+    ensures limits { length view.now.payload.now ≤ 16777216 → IfOk result (λ a. IsWithinLimits (ask_content a)) }
     // so that it may stand in a reply
-    ensures listed { IsMessage (message_of v.now) → IfOk result (λ a. ListsAttributes (ask_content a)) }
+    ensures listed { IsMessage (message_of view.now) → IfOk result (λ a. ListsAttributes (ask_content a)) }
 {
-    match Request::read(v) {
+    match Request::read(view) {
         Ok(r) => checked_verdict(alloc, r),
         Err(code) => Ok(refused(alloc, code)),
     }

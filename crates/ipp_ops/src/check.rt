@@ -43,54 +43,54 @@ const CHECKS: [Check; 7] = [
 ];
 
 /// It has a wrong tag, number of values or shape.
-fn is_misformed(r: Request<'_, '_>, k: OperationAttribute) -> bool
-    ensures { result ≡ fails (λ row vs. not (values.are_formed row vs)) (request_of r.entry) k }
+fn is_misformed(request: Request<'_, '_>, attribute: OperationAttribute) -> bool
+    ensures { result ≡ fails (λ row vs. not (values.are_formed row vs)) (request_of request.entry) attribute }
 {
-    match r.known(k) {
-        Some(a) => !are_formed(&k.row(), a.values.as_slice()),
+    match request.known(attribute) {
+        Some(a) => !are_formed(&attribute.row(), a.values.as_slice()),
         None => false,
     }
 }
 
-fn some_misformed(r: Request<'_, '_>) -> bool
-    ensures { result ≡ some_fails (λ row vs. not (values.are_formed row vs)) (request_of r.entry) }
+fn some_misformed(request: Request<'_, '_>) -> bool
+    ensures { result ≡ some_fails (λ row vs. not (values.are_formed row vs)) (request_of request.entry) }
 {
-    TABLE.iter().any(|k| is_misformed(r, *k))
+    TABLE.iter().any(|k| is_misformed(request, *k))
 }
 
 /// It is longer than its limit.
-fn is_overlong(r: Request<'_, '_>, k: OperationAttribute) -> bool
-    ensures { result ≡ fails values.are_long (request_of r.entry) k }
+fn is_overlong(request: Request<'_, '_>, attribute: OperationAttribute) -> bool
+    ensures { result ≡ fails values.are_long (request_of request.entry) attribute }
 {
-    match r.known(k) {
-        Some(a) => are_long(&k.row(), a.values.as_slice()),
+    match request.known(attribute) {
+        Some(a) => are_long(&attribute.row(), a.values.as_slice()),
         None => false,
     }
 }
 
-fn some_overlong(r: Request<'_, '_>) -> bool
-    ensures { result ≡ some_fails values.are_long (request_of r.entry) }
+fn some_overlong(request: Request<'_, '_>) -> bool
+    ensures { result ≡ some_fails values.are_long (request_of request.entry) }
 {
-    TABLE.iter().any(|k| is_overlong(r, *k))
+    TABLE.iter().any(|k| is_overlong(request, *k))
 }
 
-fn has_all(r: Request<'_, '_>, needed: &[OperationAttribute]) -> bool
-    ensures { result ≡ list_all (has (request_of r.entry)) needed.now }
+fn has_all(request: Request<'_, '_>, needed: &[OperationAttribute]) -> bool
+    ensures { result ≡ list_all (has (request_of request.entry)) needed.now }
 {
-    needed.iter().all(|k| r.has(*k))
+    needed.iter().all(|k| request.has(*k))
 }
 
-fn has_one_of(r: Request<'_, '_>, lists: &[&[OperationAttribute]]) -> bool
-    ensures { result ≡ list_any (λ ks. list_all (has (request_of r.entry)) ks) (map (λ ks. ks.now) lists.now) }
+fn has_one_of(request: Request<'_, '_>, lists: &[&[OperationAttribute]]) -> bool
+    ensures { result ≡ list_any (λ ks. list_all (has (request_of request.entry)) ks) (map (λ ks. ks.now) lists.now) }
 {
-    lists.iter().any(|ks| has_all(r, ks))
+    lists.iter().any(|ks| has_all(request, ks))
 }
 
 /// The attributes that the operation needs are there.
-fn has_needed(r: Request<'_, '_>) -> bool
-    ensures { result ≡ has_needed (request_of r.entry) }
+fn has_needed(request: Request<'_, '_>) -> bool
+    ensures { result ≡ has_needed (request_of request.entry) }
 {
-    has_one_of(r, needs(r.operation))
+    has_one_of(request, needs(request.operation))
 }
 
 impl Check {
@@ -109,33 +109,33 @@ impl Check {
     }
 
     /// The check refuses the request.
-    fn applies(self, r: Request<'_, '_>) -> bool
-        ensures { result ≡ applies self (request_of r.entry) }
+    fn applies(self, request: Request<'_, '_>) -> bool
+        ensures { result ≡ applies self (request_of request.entry) }
     {
         match self {
             Check::Charset => {
-                let charset = r.bytes_of(OperationAttribute::AttributesCharset);
+                let charset = request.bytes_of(OperationAttribute::AttributesCharset);
                 !charset.eq_ignore_ascii_case(b"utf-8")
             }
-            Check::Form => some_misformed(r),
-            Check::Length => some_overlong(r),
-            Check::Needed => !has_needed(r),
-            Check::Target => !is_target(r),
+            Check::Form => some_misformed(request),
+            Check::Length => some_overlong(request),
+            Check::Needed => !has_needed(request),
+            Check::Target => !is_target(request),
             Check::Compression => {
-                r.has(OperationAttribute::Compression)
-                    && r.bytes_of(OperationAttribute::Compression) != "none".as_bytes()
+                request.has(OperationAttribute::Compression)
+                    && request.bytes_of(OperationAttribute::Compression) != "none".as_bytes()
             }
             Check::Format => {
-                r.has(OperationAttribute::DocumentFormat)
-                    && format_of(r.bytes_of(OperationAttribute::DocumentFormat)).is_none()
+                request.has(OperationAttribute::DocumentFormat)
+                    && format_of(request.bytes_of(OperationAttribute::DocumentFormat)).is_none()
             }
         }
     }
 }
 
 /// The first check that refuses the request.
-pub fn first_refusal(r: Request<'_, '_>) -> Option<Check>
-    ensures { result ≡ refusal (request_of r.entry) }
+pub fn first_refusal(request: Request<'_, '_>) -> Option<Check>
+    ensures { result ≡ refusal (request_of request.entry) }
 {
-    CHECKS.iter().copied().find(|c| c.applies(r))
+    CHECKS.iter().copied().find(|c| c.applies(request))
 }

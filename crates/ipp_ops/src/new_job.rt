@@ -16,14 +16,14 @@ use queue_types::document::Format;
 use queue_types::event::NewJob;
 
 /// The number of an attribute, where it is there and supported.
-fn supported_number(support: Support, a: Option<&AttrView<'_>>) -> Option<u32>
-    ensures { result ≡ spec.supported_number (support_of support) (option_map attribute_of (option_copied a.entry)) }
+fn supported_number(support: Support, attribute: Option<&AttrView<'_>>) -> Option<u32>
+    ensures { result ≡ spec.supported_number (support_of support) (option_map attribute_of (option_copied attribute.entry)) }
 {
-    match a {
+    match attribute {
         None => None,
-        Some(a) => {
-            if are_supported(support, a.values.as_slice()) {
-                number(first_value(a.values.as_slice())?.bytes)
+        Some(attribute) => {
+            if are_supported(support, attribute.values.as_slice()) {
+                number(first_value(attribute.values.as_slice())?.bytes)
             } else {
                 None
             }
@@ -31,48 +31,51 @@ fn supported_number(support: Support, a: Option<&AttrView<'_>>) -> Option<u32>
     }
 }
 
-fn template_number(r: Request<'_, '_>, k: TemplateAttribute) -> Option<u32>
-    ensures { result ≡ spec.template_number (request_of r.entry) k }
+fn template_number(request: Request<'_, '_>, attribute: TemplateAttribute) -> Option<u32>
+    ensures { result ≡ spec.template_number (request_of request.entry) attribute }
 {
-    supported_number(k.support(), named(k.name().as_bytes(), r.job_attributes))
+    supported_number(
+        attribute.support(),
+        named(attribute.name().as_bytes(), request.job_attributes),
+    )
 }
 
-fn impressions(r: Request<'_, '_>) -> Option<u32>
-    ensures { result ≡ spec.impressions (request_of r.entry) }
+fn impressions(request: Request<'_, '_>) -> Option<u32>
+    ensures { result ≡ spec.impressions (request_of request.entry) }
 {
-    if r.has(OperationAttribute::JobImpressions) {
-        let found = r.known(OperationAttribute::JobImpressions);
+    if request.has(OperationAttribute::JobImpressions) {
+        let found = request.known(OperationAttribute::JobImpressions);
         supported_number(OperationAttribute::JobImpressions.row().support, found)
     } else {
-        template_number(r, TemplateAttribute::JobImpressions)
+        template_number(request, TemplateAttribute::JobImpressions)
     }
 }
 
-fn job_name<'a>(r: Request<'_, 'a>) -> &'a str
-    ensures { result.now ≡ spec.job_name (request_of r.entry) }
+fn job_name<'a>(request: Request<'_, 'a>) -> &'a str
+    ensures { result.now ≡ spec.job_name (request_of request.entry) }
 {
-    match r.text_in(OperationAttribute::JobName) {
+    match request.text_in(OperationAttribute::JobName) {
         Some(name) => name,
-        None => r
+        None => request
             .text_in(OperationAttribute::DocumentName)
             .unwrap_or("untitled"),
     }
 }
 
 /// What the request asks of a new job.
-pub fn new_job<'a>(r: Request<'_, 'a>) -> NewJob<'a>
-    ensures { new_job_of result ≡ spec.new_job (request_of r.entry) }
+pub fn new_job<'a>(request: Request<'_, 'a>) -> NewJob<'a>
+    ensures { new_job_of result ≡ spec.new_job (request_of request.entry) }
 {
     NewJob {
-        name: job_name(r),
-        copies: template_number(r, TemplateAttribute::Copies).unwrap_or(1),
-        impressions: impressions(r),
+        name: job_name(request),
+        copies: template_number(request, TemplateAttribute::Copies).unwrap_or(1),
+        impressions: impressions(request),
     }
 }
 
 /// The format of the request's document.
-pub fn format(r: Request<'_, '_>) -> Format
-    ensures { result ≡ spec.format (request_of r.entry) }
+pub fn format(request: Request<'_, '_>) -> Format
+    ensures { result ≡ spec.format (request_of request.entry) }
 {
-    format_of(r.bytes_of(OperationAttribute::DocumentFormat)).unwrap_or(Format::OctetStream)
+    format_of(request.bytes_of(OperationAttribute::DocumentFormat)).unwrap_or(Format::OctetStream)
 }

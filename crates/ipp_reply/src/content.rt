@@ -36,10 +36,10 @@ pub enum Content<'a> {
     FormatNames,
 }
 
-fn reason_word(r: Reason) -> &'static str
-    ensures { result.now ≡ spec.reason_word r }
+fn reason_word(reason: Reason) -> &'static str
+    ensures { result.now ≡ spec.reason_word reason }
 {
-    match r {
+    match reason {
         Reason::NoReason => "none",
         Reason::JobIncoming => "job-incoming",
         Reason::JobHoldUntilSpecified => "job-hold-until-specified",
@@ -53,13 +53,13 @@ fn reason_word(r: Reason) -> &'static str
     }
 }
 
-fn keyword(r: Reason) -> ValueView<'static>
+fn keyword(reason: Reason) -> ValueView<'static>
     ensures tag { result.tag ≡ 0x44 }
-    ensures word { result.bytes.now ≡ spec.reason_word r }
+    ensures word { result.bytes.now ≡ spec.reason_word reason }
 {
     ValueView {
         tag: KEYWORD,
-        bytes: reason_word(r).as_bytes(),
+        bytes: reason_word(reason).as_bytes(),
     }
 }
 
@@ -96,10 +96,10 @@ fn format_names(alloc: Global) -> Result<Vec<&'static str>, AllocError>
     Ok(names)
 }
 
-fn id_bytes(o: Operation) -> [u8; 4]
-    ensures { result ≡ 0 ∷ 0 ∷ 0 ∷ id o ∷ [] }
+fn id_bytes(operation: Operation) -> [u8; 4]
+    ensures { result ≡ 0 ∷ 0 ∷ 0 ∷ id operation ∷ [] }
 {
-    u32::from(o.id()).to_be_bytes()
+    u32::from(operation.id()).to_be_bytes()
 }
 
 fn operation_ids(alloc: Global) -> Result<Vec<[u8; 4]>, AllocError>
@@ -126,86 +126,86 @@ fn enum_views<'a>(alloc: Global, ids: &'a [[u8; 4]]) -> Result<Vec<ValueView<'a>
 }
 
 /// Adds an attribute with one value at the end of the last group.
-fn put_one(m: &mut Message, name: &str, tag: u8, bytes: &[u8]) -> Result<(), AllocError>
-    requires begun { 0 < length m.old.groups }
+fn put_one(message: &mut Message, name: &str, tag: u8, bytes: &[u8]) -> Result<(), AllocError>
+    requires begun { 0 < length message.old.groups }
     requires fits { IsAttribute (record { name = name.now; values = spec.text tag bytes.now }) }
-    ensures { OnOk result (m.new ≡ record m.old { groups = add_attribute (record { name = name.now; values = spec.text tag bytes.now }) m.old.groups }) }
+    ensures { OnOk result (message.new ≡ record message.old { groups = add_attribute (record { name = name.now; values = spec.text tag bytes.now }) message.old.groups }) }
 {
-    m.attribute(name.as_bytes(), &[ValueView { tag, bytes }])
+    message.attribute(name.as_bytes(), &[ValueView { tag, bytes }])
 }
 
 /// Adds an attribute with these texts, each under the tag.
 fn put_texts(
     alloc: Global,
-    m: &mut Message,
+    message: &mut Message,
     name: &str,
     tag: u8,
     texts: &[&str],
 ) -> Result<(), AllocError>
-    requires begun { 0 < length m.old.groups }
+    requires begun { 0 < length message.old.groups }
     requires fits { IsAttribute (record { name = name.now; values = spec_texts tag (map (λ t. t.now) texts.now) }) }
-    ensures { OnOk result (m.new ≡ record m.old { groups = add_attribute (record { name = name.now; values = spec_texts tag (map (λ t. t.now) texts.now) }) m.old.groups }) }
+    ensures { OnOk result (message.new ≡ record message.old { groups = add_attribute (record { name = name.now; values = spec_texts tag (map (λ t. t.now) texts.now) }) message.old.groups }) }
 {
     let values = text_views(alloc, tag, texts)?;
-    m.attribute(name.as_bytes(), values.as_slice())
+    message.attribute(name.as_bytes(), values.as_slice())
 }
 
 /// Adds an attribute with the names of the document formats.
-fn put_format_names(alloc: Global, m: &mut Message, name: &str) -> Result<(), AllocError>
-    requires begun { 0 < length m.old.groups }
+fn put_format_names(alloc: Global, message: &mut Message, name: &str) -> Result<(), AllocError>
+    requires begun { 0 < length message.old.groups }
     requires fits { IsAttribute (record { name = name.now; values = spec_texts 0x49 (map format_name formats) }) }
-    ensures { OnOk result (m.new ≡ record m.old { groups = add_attribute (record { name = name.now; values = spec_texts 0x49 (map format_name formats) }) m.old.groups }) }
+    ensures { OnOk result (message.new ≡ record message.old { groups = add_attribute (record { name = name.now; values = spec_texts 0x49 (map format_name formats) }) message.old.groups }) }
 {
     let names = format_names(alloc)?;
-    put_texts(alloc, m, name, MIME_MEDIA_TYPE, names.as_slice())
+    put_texts(alloc, message, name, MIME_MEDIA_TYPE, names.as_slice())
 }
 
 /// Adds an attribute with the ids of the operations.
-fn put_operation_ids(alloc: Global, m: &mut Message, name: &str) -> Result<(), AllocError>
-    requires begun { 0 < length m.old.groups }
+fn put_operation_ids(alloc: Global, message: &mut Message, name: &str) -> Result<(), AllocError>
+    requires begun { 0 < length message.old.groups }
     requires fits { IsAttribute (record { name = name.now; values = spec_ids }) }
-    ensures { OnOk result (m.new ≡ record m.old { groups = add_attribute (record { name = name.now; values = spec_ids }) m.old.groups }) }
+    ensures { OnOk result (message.new ≡ record message.old { groups = add_attribute (record { name = name.now; values = spec_ids }) message.old.groups }) }
 {
     let ids = operation_ids(alloc)?;
     let values = enum_views(alloc, ids.as_slice())?;
-    m.attribute(name.as_bytes(), values.as_slice())
+    message.attribute(name.as_bytes(), values.as_slice())
 }
 
 /// Adds an attribute with one reason or two.
-fn put_reasons(m: &mut Message, name: &str, r: &Reasons) -> Result<(), AllocError>
-    requires begun { 0 < length m.old.groups }
-    requires fits { IsAttribute (record { name = name.now; values = spec.keywords (spec.reason_words r.now) }) }
-    ensures { OnOk result (m.new ≡ record m.old { groups = add_attribute (record { name = name.now; values = spec.keywords (spec.reason_words r.now) }) m.old.groups }) }
+fn put_reasons(message: &mut Message, name: &str, reasons: &Reasons) -> Result<(), AllocError>
+    requires begun { 0 < length message.old.groups }
+    requires fits { IsAttribute (record { name = name.now; values = spec.keywords (spec.reason_words reasons.now) }) }
+    ensures { OnOk result (message.new ≡ record message.old { groups = add_attribute (record { name = name.now; values = spec.keywords (spec.reason_words reasons.now) }) message.old.groups }) }
 {
-    let first = keyword(r.first);
-    match r.second {
-        None => m.attribute(name.as_bytes(), &[first]),
-        Some(second) => m.attribute(name.as_bytes(), &[first, keyword(second)]),
+    let first = keyword(reasons.first);
+    match reasons.second {
+        None => message.attribute(name.as_bytes(), &[first]),
+        Some(second) => message.attribute(name.as_bytes(), &[first, keyword(second)]),
     }
 }
 
 /// Adds an attribute with this content at the end of the last group.
 pub(crate) fn put(
     alloc: Global,
-    m: &mut Message,
+    message: &mut Message,
     name: &str,
-    c: &Content<'_>,
+    content: &Content<'_>,
 ) -> Result<(), AllocError>
-    requires begun { 0 < length m.old.groups }
-    requires fits { IsAttribute (record { name = name.now; values = values_in c.now }) }
-    ensures { OnOk result (m.new ≡ record m.old { groups = add_attribute (record { name = name.now; values = values_in c.now }) m.old.groups }) }
+    requires begun { 0 < length message.old.groups }
+    requires fits { IsAttribute (record { name = name.now; values = values_in content.now }) }
+    ensures { OnOk result (message.new ≡ record message.old { groups = add_attribute (record { name = name.now; values = values_in content.now }) message.old.groups }) }
 {
-    match c {
-        Content::Integer(n) => put_one(m, name, INTEGER, &n.to_be_bytes()),
-        Content::Enum(n) => put_one(m, name, ENUM, &n.to_be_bytes()),
-        Content::Text(tag, text) => put_one(m, name, *tag, text.as_bytes()),
-        Content::Made(tag, text) => put_one(m, name, *tag, text.as_bytes()),
-        Content::Moment(None) => put_one(m, name, NO_VALUE, b""),
-        Content::Moment(Some(n)) => put_one(m, name, INTEGER, &n.to_be_bytes()),
-        Content::Boolean(b) => put_one(m, name, BOOLEAN, &[u8::from(*b)]),
-        Content::Texts(tag, texts) => put_texts(alloc, m, name, *tag, texts),
-        Content::FormatNames => put_format_names(alloc, m, name),
-        Content::OperationIds => put_operation_ids(alloc, m, name),
-        Content::Reasons(r) => put_reasons(m, name, r),
+    match content {
+        Content::Integer(n) => put_one(message, name, INTEGER, &n.to_be_bytes()),
+        Content::Enum(n) => put_one(message, name, ENUM, &n.to_be_bytes()),
+        Content::Text(tag, text) => put_one(message, name, *tag, text.as_bytes()),
+        Content::Made(tag, text) => put_one(message, name, *tag, text.as_bytes()),
+        Content::Moment(None) => put_one(message, name, NO_VALUE, b""),
+        Content::Moment(Some(n)) => put_one(message, name, INTEGER, &n.to_be_bytes()),
+        Content::Boolean(b) => put_one(message, name, BOOLEAN, &[u8::from(*b)]),
+        Content::Texts(tag, texts) => put_texts(alloc, message, name, *tag, texts),
+        Content::FormatNames => put_format_names(alloc, message, name),
+        Content::OperationIds => put_operation_ids(alloc, message, name),
+        Content::Reasons(r) => put_reasons(message, name, r),
     }
 }

@@ -116,36 +116,39 @@ impl JobAttribute {
         alloc: Global,
         uri: &'a str,
         now: u32,
-        j: &'a Job,
+        job: &'a Job,
     ) -> Result<Content<'a>, AllocError>
-        requires { j.now.octets ≤ 2 ^ 28 }
-        ensures { IfOk result (λ c. values_in c ≡ spec.values_of uri.now now j.now self) }
+        requires { job.now.octets ≤ 2 ^ 28 }
+        ensures { IfOk result (λ c. values_in c ≡ spec.values_of uri.now now job.now self) }
     {
         Ok(match self {
-            JobAttribute::JobUri => Content::Made(URI, format!(in alloc; "{}/{}", uri, j.number)?),
-            JobAttribute::JobId => Content::Integer(j.number),
+            JobAttribute::JobUri => Content::Made(
+                URI,
+                format!(in alloc; "{}/{}", uri, job.number)?,
+            ),
+            JobAttribute::JobId => Content::Integer(job.number),
             JobAttribute::JobPrinterUri => Content::Text(URI, uri),
-            JobAttribute::JobName => Content::Text(NAME_WITHOUT_LANGUAGE, j.name.as_str()),
+            JobAttribute::JobName => Content::Text(NAME_WITHOUT_LANGUAGE, job.name.as_str()),
             JobAttribute::JobOriginatingUserName => Content::Text(
                 NAME_WITHOUT_LANGUAGE,
-                j.owner.as_str(),
+                job.owner.as_str(),
             ),
-            JobAttribute::JobState => Content::Enum(u32::from(j.state())),
-            JobAttribute::JobStateReasons => Content::Reasons(j.reasons()),
-            JobAttribute::TimeAtCreation => Content::Integer(j.created),
-            JobAttribute::TimeAtProcessing => Content::Moment(j.begun),
-            JobAttribute::TimeAtCompleted => Content::Moment(j.ended),
+            JobAttribute::JobState => Content::Enum(u32::from(job.state())),
+            JobAttribute::JobStateReasons => Content::Reasons(job.reasons()),
+            JobAttribute::TimeAtCreation => Content::Integer(job.created),
+            JobAttribute::TimeAtProcessing => Content::Moment(job.begun),
+            JobAttribute::TimeAtCompleted => Content::Moment(job.ended),
             JobAttribute::JobPrinterUpTime => Content::Integer(now),
             JobAttribute::AttributesCharset => Content::Text(CHARSET, "utf-8"),
             JobAttribute::AttributesNaturalLanguage => Content::Text(NATURAL_LANGUAGE, "en"),
-            JobAttribute::JobKOctets => Content::Integer(kilo_octets(j.octets)),
-            JobAttribute::JobImpressions => Content::Integer(j.impressions),
-            JobAttribute::JobImpressionsCompleted => Content::Integer(j.count),
-            JobAttribute::NumberOfDocuments => Content::Integer(j.documents),
-            JobAttribute::Copies => Content::Integer(j.copies),
+            JobAttribute::JobKOctets => Content::Integer(kilo_octets(job.octets)),
+            JobAttribute::JobImpressions => Content::Integer(job.impressions),
+            JobAttribute::JobImpressionsCompleted => Content::Integer(job.count),
+            JobAttribute::NumberOfDocuments => Content::Integer(job.documents),
+            JobAttribute::Copies => Content::Integer(job.copies),
             JobAttribute::JobHoldUntil => Content::Text(
                 KEYWORD,
-                if j.hold { "indefinite" } else { "no-hold" },
+                if job.hold { "indefinite" } else { "no-hold" },
             ),
         })
     }
@@ -165,20 +168,20 @@ fn kilo_octets(octets: u64) -> u32
 /// Adds the group of a job with these rows.
 fn put_job(
     alloc: Global,
-    m: &mut Message,
+    message: &mut Message,
     uri: &str,
     now: u32,
     rows: &[JobAttribute],
-    j: &Job,
+    job: &Job,
 ) -> Result<(), AllocError>
     requires uri { length uri.now ≤ 255 }
-    requires job { IsSoundJob j.now }
-    ensures { OnOk result (m.new ≡ record m.old { groups = m.old.groups ++ spec.job_group uri.now now rows.now j.now ∷ [] }) }
+    requires job { IsSoundJob job.now }
+    ensures { OnOk result (message.new ≡ record message.old { groups = message.old.groups ++ spec.job_group uri.now now rows.now job.now ∷ [] }) }
 {
-    m.group(JOB_ATTRIBUTES)?;
+    message.group(JOB_ATTRIBUTES)?;
     'rows: for row in rows {
-        let content = row.content(alloc, uri, now, j)?;
-        put(alloc, m, row.name(), &content)?;
+        let content = row.content(alloc, uri, now, job)?;
+        put(alloc, message, row.name(), &content)?;
     }
     Ok(())
 }
@@ -186,7 +189,7 @@ fn put_job(
 /// Adds a group for each job, with these rows.
 pub(crate) fn put_jobs(
     alloc: Global,
-    m: &mut Message,
+    message: &mut Message,
     uri: &str,
     now: u32,
     rows: &[JobAttribute],
@@ -194,38 +197,38 @@ pub(crate) fn put_jobs(
 ) -> Result<(), AllocError>
     requires uri { length uri.now ≤ 255 }
     requires jobs { All IsSoundJob jobs.now }
-    ensures { OnOk result (m.new ≡ record m.old { groups = m.old.groups ++ map (spec.job_group uri.now now rows.now) jobs.now }) }
+    ensures { OnOk result (message.new ≡ record message.old { groups = message.old.groups ++ map (spec.job_group uri.now now rows.now) jobs.now }) }
 {
     for j in jobs {
-        put_job(alloc, m, uri, now, rows, j)?;
+        put_job(alloc, message, uri, now, rows, j)?;
     }
     Ok(())
 }
 
-fn is_among(a: JobAttribute, words: &[&str]) -> bool
-    ensures { result ≡ list_any (λ w. spec.selects a w.now) words.now }
+fn is_among(attribute: JobAttribute, words: &[&str]) -> bool
+    ensures { result ≡ list_any (λ w. spec.selects attribute w.now) words.now }
 {
-    words.iter().any(|w| a.is_selected(w.as_bytes()))
+    words.iter().any(|w| attribute.is_selected(w.as_bytes()))
 }
 
 #[tactic(auto, using(crate::proofs::Lists::list_any_map))]
-fn is_usual(a: JobAttribute, words: &[&str]) -> bool
-    ensures { result ≡ list_any (spec.selects a) (map (λ w. w.now) words.now) }
+fn is_usual(attribute: JobAttribute, words: &[&str]) -> bool
+    ensures { result ≡ list_any (spec.selects attribute) (map (λ w. w.now) words.now) }
 {
-    is_among(a, words)
+    is_among(attribute, words)
 }
 
-fn is_requested(a: JobAttribute, values: &[ValueView<'_>]) -> bool
-    ensures { result ≡ list_any (λ v. spec.selects a v.bytes.now) values.now }
+fn is_requested(attribute: JobAttribute, values: &[ValueView<'_>]) -> bool
+    ensures { result ≡ list_any (λ v. spec.selects attribute v.bytes.now) values.now }
 {
-    values.iter().any(|v| a.is_selected(v.bytes))
+    values.iter().any(|v| attribute.is_selected(v.bytes))
 }
 
 #[tactic(auto, using(crate::proofs::Lists::list_any_map))]
-fn is_named(a: JobAttribute, values: &[ValueView<'_>]) -> bool
-    ensures { result ≡ list_any (spec.selects a) (words_of (values_of values.now)) }
+fn is_named(attribute: JobAttribute, values: &[ValueView<'_>]) -> bool
+    ensures { result ≡ list_any (spec.selects attribute) (words_of (values_of values.now)) }
 {
-    is_requested(a, values)
+    is_requested(attribute, values)
 }
 
 fn usual_rows(

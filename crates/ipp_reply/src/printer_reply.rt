@@ -116,20 +116,20 @@ impl PrinterAttribute {
     }
 
     /// What the row says of a printer.
-    fn content<'a>(self, p: PrinterView<'a>) -> Content<'a>
-        ensures { values_in result ≡ spec.values_of (printer_of p.entry) self }
+    fn content<'a>(self, printer: PrinterView<'a>) -> Content<'a>
+        ensures { values_in result ≡ spec.values_of (printer_of printer.entry) self }
     {
         match self {
-            PrinterAttribute::PrinterUriSupported => Content::Text(URI, p.settings.uri()),
+            PrinterAttribute::PrinterUriSupported => Content::Text(URI, printer.settings.uri()),
             PrinterAttribute::UriAuthenticationSupported => {
                 Content::Text(KEYWORD, "requesting-user-name")
             }
             PrinterAttribute::UriSecuritySupported => Content::Text(KEYWORD, "none"),
             PrinterAttribute::PrinterName => Content::Text(
                 NAME_WITHOUT_LANGUAGE,
-                p.settings.name(),
+                printer.settings.name(),
             ),
-            PrinterAttribute::PrinterState => Content::Enum(u32::from(p.state)),
+            PrinterAttribute::PrinterState => Content::Enum(u32::from(printer.state)),
             PrinterAttribute::PrinterStateReasons => Content::Text(KEYWORD, "none"),
             PrinterAttribute::IppVersionsSupported => Content::Texts(KEYWORD, &["1.1", "2.0"]),
             PrinterAttribute::OperationsSupported => Content::OperationIds,
@@ -145,10 +145,10 @@ impl PrinterAttribute {
                 Content::Text(MIME_MEDIA_TYPE, Format::OctetStream.name())
             }
             PrinterAttribute::DocumentFormatSupported => Content::FormatNames,
-            PrinterAttribute::PrinterIsAcceptingJobs => Content::Boolean(p.accepting),
-            PrinterAttribute::QueuedJobCount => Content::Integer(p.queued),
+            PrinterAttribute::PrinterIsAcceptingJobs => Content::Boolean(printer.accepting),
+            PrinterAttribute::QueuedJobCount => Content::Integer(printer.queued),
             PrinterAttribute::PdlOverrideSupported => Content::Text(KEYWORD, "not-attempted"),
-            PrinterAttribute::PrinterUpTime => Content::Integer(p.now),
+            PrinterAttribute::PrinterUpTime => Content::Integer(printer.now),
             PrinterAttribute::CompressionSupported => Content::Text(KEYWORD, "none"),
         }
     }
@@ -157,32 +157,32 @@ impl PrinterAttribute {
 /// Adds the group of a printer with these rows.
 pub(crate) fn put_printer(
     alloc: Global,
-    m: &mut Message,
-    p: PrinterView<'_>,
+    message: &mut Message,
+    printer: PrinterView<'_>,
     rows: &[PrinterAttribute],
 ) -> Result<(), AllocError>
-    requires { AreSettings p.settings.now }
-    ensures { OnOk result (m.new ≡ record m.old { groups = m.old.groups ++ spec.printer_group (printer_of p.entry) rows.now ∷ [] }) }
+    requires { AreSettings printer.settings.now }
+    ensures { OnOk result (message.new ≡ record message.old { groups = message.old.groups ++ spec.printer_group (printer_of printer.entry) rows.now ∷ [] }) }
 {
-    m.group(PRINTER_ATTRIBUTES)?;
+    message.group(PRINTER_ATTRIBUTES)?;
     'rows: for row in rows {
-        let content = row.content(p);
-        put(alloc, m, row.name(), &content)?;
+        let content = row.content(printer);
+        put(alloc, message, row.name(), &content)?;
     }
     Ok(())
 }
 
-fn is_requested(a: PrinterAttribute, values: &[ValueView<'_>]) -> bool
-    ensures { result ≡ list_any (λ v. spec.selects a v.bytes.now) values.now }
+fn is_requested(attribute: PrinterAttribute, values: &[ValueView<'_>]) -> bool
+    ensures { result ≡ list_any (λ v. spec.selects attribute v.bytes.now) values.now }
 {
-    values.iter().any(|v| a.is_selected(v.bytes))
+    values.iter().any(|v| attribute.is_selected(v.bytes))
 }
 
 #[tactic(auto, using(crate::proofs::Lists::list_any_map))]
-fn is_named(a: PrinterAttribute, values: &[ValueView<'_>]) -> bool
-    ensures { result ≡ list_any (spec.selects a) (words_of (values_of values.now)) }
+fn is_named(attribute: PrinterAttribute, values: &[ValueView<'_>]) -> bool
+    ensures { result ≡ list_any (spec.selects attribute) (words_of (values_of values.now)) }
 {
-    is_requested(a, values)
+    is_requested(attribute, values)
 }
 
 fn named_rows(

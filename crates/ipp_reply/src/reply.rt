@@ -47,59 +47,63 @@ fn bare_message(alloc: Global, head: Head, code: u16) -> Result<Message, AllocEr
     Ok(m)
 }
 
-fn put_attributes(m: &mut Message, attrs: &[AttrView<'_>]) -> Result<(), AllocError>
-    requires begun { 0 < length m.old.groups }
+fn put_attributes(message: &mut Message, attrs: &[AttrView<'_>]) -> Result<(), AllocError>
+    requires begun { 0 < length message.old.groups }
     requires fits { AllByRecursion IsAttribute (attributes_of attrs.now) }
-    ensures ok { OnOk result (m.new ≡ record m.old { groups = fold (λ gs a. add_attribute a gs) m.old.groups (attributes_of attrs.now) }) }
-    ensures still_begun { 0 < length m.new.groups }
+    ensures ok { OnOk result (message.new ≡ record message.old { groups = fold (λ gs a. add_attribute a gs) message.old.groups (attributes_of attrs.now) }) }
+    ensures still_begun { 0 < length message.new.groups }
 {
     for a in attrs {
-        m.attribute(a.name, a.values.as_slice())?;
+        message.attribute(a.name, a.values.as_slice())?;
     }
     Ok(())
 }
 
 /// Adds the group of what is unsupported, where something is.
-fn put_unsupported(m: &mut Message, u: &Unsupported<'_>) -> Result<(), AllocError>
-    requires { CanList (unsupported_of u.now) }
-    ensures { OnOk result (m.new ≡ with_groups m.old (unsupported_groups (unsupported_of u.now))) }
+fn put_unsupported(message: &mut Message, unsupported: &Unsupported<'_>) -> Result<(), AllocError>
+    requires { CanList (unsupported_of unsupported.now) }
+    ensures { OnOk result (message.new ≡ with_groups message.old (unsupported_groups (unsupported_of unsupported.now))) }
 {
-    if !u.is_listed() {
+    if !unsupported.is_listed() {
         return Ok(());
     }
-    m.group(UNSUPPORTED_ATTRIBUTES)?;
-    put_attributes(m, u.operation.as_slice())?;
-    put_attributes(m, u.job.as_slice())
+    message.group(UNSUPPORTED_ATTRIBUTES)?;
+    put_attributes(message, unsupported.operation.as_slice())?;
+    put_attributes(message, unsupported.job.as_slice())
 }
 
 fn refusal_message(
     alloc: Global,
     head: Head,
     code: u16,
-    u: &Unsupported<'_>,
+    unsupported: &Unsupported<'_>,
 ) -> Result<Message, AllocError>
-    requires { CanList (unsupported_of u.now) }
-    ensures { IfOk result (λ m. m ≡ with_groups (bare head code) (if code == 0x040B then unsupported_groups (unsupported_of u.now) else [])) }
+    requires { CanList (unsupported_of unsupported.now) }
+    ensures { IfOk result (λ m. m ≡ with_groups (bare head code) (if code == 0x040B then unsupported_groups (unsupported_of unsupported.now) else [])) }
 {
     let mut m = bare_message(alloc, head, code)?;
     if code != CLIENT_ERROR_ATTRIBUTES_OR_VALUES_NOT_SUPPORTED {
         return Ok(m);
     }
-    put_unsupported(&mut m, u)?;
+    put_unsupported(&mut m, unsupported)?;
     Ok(m)
 }
 
-fn success_message(alloc: Global, head: Head, u: &Unsupported<'_>) -> Result<Message, AllocError>
-    requires { CanList (unsupported_of u.now) }
-    ensures { IfOk result (λ m. m ≡ with_groups (bare head (success (unsupported_of u.now))) (unsupported_groups (unsupported_of u.now))) }
+fn success_message(
+    alloc: Global,
+    head: Head,
+    unsupported: &Unsupported<'_>,
+) -> Result<Message, AllocError>
+    requires { CanList (unsupported_of unsupported.now) }
+    ensures { IfOk result (λ m. m ≡ with_groups (bare head (success (unsupported_of unsupported.now))) (unsupported_groups (unsupported_of unsupported.now))) }
 {
-    let code = if u.is_listed() {
+    let code = if unsupported.is_listed() {
         SUCCESSFUL_OK_IGNORED_OR_SUBSTITUTED_ATTRIBUTES
     } else {
         SUCCESSFUL_OK
     };
     let mut m = bare_message(alloc, head, code)?;
-    put_unsupported(&mut m, u)?;
+    put_unsupported(&mut m, unsupported)?;
     Ok(m)
 }
 
@@ -109,18 +113,18 @@ fn success_message(alloc: Global, head: Head, u: &Unsupported<'_>) -> Result<Mes
 /// are within their limits; what is unsupported fits in a message. The one error is want of memory.
 pub fn reply_message(
     alloc: Global,
-    r: &Reply,
+    reply: &Reply,
     head: Head,
     wanted: &Wanted,
     unsupported: &Unsupported<'_>,
-    s: &Settings,
+    settings: &Settings,
     now: u32,
 ) -> Result<Message, AllocError>
-    requires sound { IsSoundReply r.now }
+    requires sound { IsSoundReply reply.now }
     requires listed { CanList (unsupported_of unsupported.now) }
-    ensures { IfOk result (λ m. m ≡ reply_of r.now head (rows_of wanted.now) (unsupported_of unsupported.now) s.now now) }
+    ensures { IfOk result (λ m. m ≡ reply_of reply.now head (rows_of wanted.now) (unsupported_of unsupported.now) settings.now now) }
 {
-    match r {
+    match reply {
         Reply::Refused(code) => refusal_message(alloc, head, *code, unsupported),
         Reply::Done => success_message(alloc, head, unsupported),
         Reply::Printer {
@@ -129,7 +133,7 @@ pub fn reply_message(
             accepting,
         } => {
             let printer = PrinterView {
-                settings: s,
+                settings,
                 now,
                 state: *state,
                 queued: *queued,
@@ -137,7 +141,7 @@ pub fn reply_message(
             };
             let mut m = success_message(alloc, head, unsupported)?;
             // its contract says that the settings are within their limits
-            let _within_limits = s.name();
+            let _within_limits = settings.name();
             put_printer(alloc, &mut m, printer, wanted.printer_rows())?;
             Ok(m)
         }
@@ -146,7 +150,7 @@ pub fn reply_message(
             put_jobs(
                 alloc,
                 &mut m,
-                s.uri(),
+                settings.uri(),
                 now,
                 wanted.job_rows(),
                 jobs.as_slice(),

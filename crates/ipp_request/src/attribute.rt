@@ -258,25 +258,25 @@ impl OperationAttribute {
 }
 
 /// The operation is one of these.
-pub fn is_one_of(operations: &[Operation], o: Operation) -> bool
-    ensures { result ≡ is_one_of operations.now o }
+pub fn is_one_of(operations: &[Operation], operation: Operation) -> bool
+    ensures { result ≡ is_one_of operations.now operation }
 {
-    operations.iter().any(|p| o.id() == p.id())
+    operations.iter().any(|p| operation.id() == p.id())
 }
 
 /// The operation knows the attribute.
-pub fn knows(o: Operation, k: OperationAttribute) -> bool
-    ensures { result ≡ knows o k }
+pub fn knows(operation: Operation, attribute: OperationAttribute) -> bool
+    ensures { result ≡ knows operation attribute }
 {
-    is_one_of(k.row().known_in, o)
+    is_one_of(attribute.row().known_in, operation)
 }
 
 /// The attributes that the operation needs: all of one of these lists.
-pub fn needs(o: Operation) -> &'static [&'static [OperationAttribute]]
-    ensures { map (λ ks. ks.now) result.now ≡ needs o }
+pub fn needs(operation: Operation) -> &'static [&'static [OperationAttribute]]
+    ensures { map (λ ks. ks.now) result.now ≡ needs operation }
 {
     use OperationAttribute::{JobId, JobUri, LastDocument, PrinterUri};
-    match o {
+    match operation {
         Operation::PrintJob
         | Operation::ValidateJob
         | Operation::CreateJob

@@ -32,10 +32,10 @@ fn trimmed(text: &[u8]) -> &[u8]
     &text[..end]
 }
 
-fn is_named(f: Format, media_type: &[u8]) -> bool
-    ensures { result ≡ str_eq_ignore_ascii_case (format_name f) media_type.now }
+fn is_named(format: Format, media_type: &[u8]) -> bool
+    ensures { result ≡ str_eq_ignore_ascii_case (format_name format) media_type.now }
 {
-    f.name().as_bytes().eq_ignore_ascii_case(media_type)
+    format.name().as_bytes().eq_ignore_ascii_case(media_type)
 }
 
 /// The supported format of a media type, without its parameters and ASCII case aside.

@@ -58,12 +58,12 @@ pub fn named<'v, 'a>(name: &[u8], attrs: &'v [AttrView<'a>]) -> Option<&'v AttrV
 }
 
 /// It has the row's name and one value, with a tag of its syntax.
-fn is_lone(k: OperationAttribute, a: &AttrView<'_>) -> bool
-    ensures { result ≡ reading.is_lone k (attribute_of a.now) }
+fn is_lone(attribute: OperationAttribute, found: &AttrView<'_>) -> bool
+    ensures { result ≡ reading.is_lone attribute (attribute_of found.now) }
 {
-    let row = k.row();
-    a.name == row.name.as_bytes()
-        && match a.values.as_slice() {
+    let row = attribute.row();
+    found.name == row.name.as_bytes()
+        && match found.values.as_slice() {
             [v] => is_tagged(row.syntax, *v),
             _ => false,
         }
@@ -103,28 +103,28 @@ fn filled(bytes: &[u8]) -> Option<&str>
 
 impl<'v, 'a: 'v> Request<'v, 'a> {
     /// A request for this operation.
-    fn new(operation: Operation, v: &'v View<'a>) -> Self
-        ensures { request_of result ≡ request_for operation (message_of v.entry.now) }
+    fn new(operation: Operation, view: &'v View<'a>) -> Self
+        ensures { request_of result ≡ request_for operation (message_of view.entry.now) }
     {
-        let groups = v.groups.as_slice();
+        let groups = view.groups.as_slice();
         Request {
             operation,
             attributes: group_attributes(OPERATION_ATTRIBUTES, groups),
             job_attributes: group_attributes(JOB_ATTRIBUTES, groups),
-            payload: v.payload,
+            payload: view.payload,
         }
     }
 
     /// The request that a message is, or the status code that refuses its head or the order of its groups.
-    pub fn read(v: &'v View<'a>) -> Result<Self, u16>
-        ensures ok { IfOk result (λ r. request_in (message_of v.entry.now) ≡ Ok (request_of r)) }
-        ensures err { IfErr result (λ code. request_in (message_of v.entry.now) ≡ Err code) }
+    pub fn read(view: &'v View<'a>) -> Result<Self, u16>
+        ensures ok { IfOk result (λ r. request_in (message_of view.entry.now) ≡ Ok (request_of r)) }
+        ensures err { IfErr result (λ code. request_in (message_of view.entry.now) ≡ Err code) }
     {
-        let operation = operation_in(v.head)?;
-        if !groups_begin(v.groups.as_slice()) {
+        let operation = operation_in(view.head)?;
+        if !groups_begin(view.groups.as_slice()) {
             return Err(CLIENT_ERROR_BAD_REQUEST);
         }
-        Ok(Request::new(operation, v))
+        Ok(Request::new(operation, view))
     }
 
     /// It is about a job.
@@ -142,52 +142,52 @@ impl<'v, 'a: 'v> Request<'v, 'a> {
     }
 
     /// The first attribute of that name, where the operation knows it.
-    pub fn known(self, k: OperationAttribute) -> Option<&'v AttrView<'a>>
-        ensures { option_map attribute_of (option_copied result) ≡ spec.known (request_of self.entry) k }
+    pub fn known(self, attribute: OperationAttribute) -> Option<&'v AttrView<'a>>
+        ensures { option_map attribute_of (option_copied result) ≡ spec.known (request_of self.entry) attribute }
     {
-        if knows(self.operation, k) {
-            named(k.row().name.as_bytes(), self.attributes)
+        if knows(self.operation, attribute) {
+            named(attribute.row().name.as_bytes(), self.attributes)
         } else {
             None
         }
     }
 
     /// The first value of a known attribute.
-    fn value_of(self, k: OperationAttribute) -> Option<ValueView<'a>>
-        ensures { option_map value_in result ≡ spec.value_of (request_of self.entry) k }
+    fn value_of(self, attribute: OperationAttribute) -> Option<ValueView<'a>>
+        ensures { option_map value_in result ≡ spec.value_of (request_of self.entry) attribute }
     {
-        first_value(self.known(k)?.values.as_slice())
+        first_value(self.known(attribute)?.values.as_slice())
     }
 
     /// The bytes of its first value, or none where there is no such attribute.
-    pub fn bytes_of(self, k: OperationAttribute) -> &'a [u8]
-        ensures { result.now ≡ spec.bytes_of (request_of self.entry) k }
+    pub fn bytes_of(self, attribute: OperationAttribute) -> &'a [u8]
+        ensures { result.now ≡ spec.bytes_of (request_of self.entry) attribute }
     {
-        match self.value_of(k) {
+        match self.value_of(attribute) {
             Some(v) => v.bytes,
             None => &[],
         }
     }
 
     /// It is a boolean, and true.
-    pub fn is_true(self, k: OperationAttribute) -> bool
-        ensures { result ≡ spec.is_true (request_of self.entry) k }
+    pub fn is_true(self, attribute: OperationAttribute) -> bool
+        ensures { result ≡ spec.is_true (request_of self.entry) attribute }
     {
-        self.bytes_of(k) == [1].as_slice()
+        self.bytes_of(attribute) == [1].as_slice()
     }
 
     /// There is such an attribute, and the operation knows it.
-    pub fn has(self, k: OperationAttribute) -> bool
-        ensures { result ≡ spec.has (request_of self.entry) k }
+    pub fn has(self, attribute: OperationAttribute) -> bool
+        ensures { result ≡ spec.has (request_of self.entry) attribute }
     {
-        self.known(k).is_some()
+        self.known(attribute).is_some()
     }
 
     /// The text of a known attribute, where there is one that is not empty.
-    pub fn text_in(self, k: OperationAttribute) -> Option<&'a str>
-        ensures { option_copied result ≡ spec.text_in (request_of self.entry) k }
+    pub fn text_in(self, attribute: OperationAttribute) -> Option<&'a str>
+        ensures { option_copied result ≡ spec.text_in (request_of self.entry) attribute }
     {
-        filled(text(self.value_of(k)?)?)
+        filled(text(self.value_of(attribute)?)?)
     }
 
     /// The name of the caller.

@@ -50,14 +50,14 @@ fn job_in(path: &[u8]) -> Option<u32>
 
 /// The number of the job that a request is about: by job-uri where it is there, else by printer-uri and
 /// job-id.
-pub fn target_job(r: Request<'_, '_>) -> Option<u32>
-    ensures { result ≡ spec.target_job (request_of r.entry) }
+pub fn target_job(request: Request<'_, '_>) -> Option<u32>
+    ensures { result ≡ spec.target_job (request_of request.entry) }
 {
-    if r.has(OperationAttribute::JobUri) {
-        return job_in(path(r.bytes_of(OperationAttribute::JobUri)));
+    if request.has(OperationAttribute::JobUri) {
+        return job_in(path(request.bytes_of(OperationAttribute::JobUri)));
     }
-    if is_printer(r.bytes_of(OperationAttribute::PrinterUri)) {
-        number(r.bytes_of(OperationAttribute::JobId)).and_then(job_of_id)
+    if is_printer(request.bytes_of(OperationAttribute::PrinterUri)) {
+        number(request.bytes_of(OperationAttribute::JobId)).and_then(job_of_id)
     } else {
         None
     }
@@ -70,22 +70,22 @@ fn job_numbers_in(values: &[ValueView<'_>]) -> bool
 }
 
 /// What the request has of job-ids are numbers that jobs may have.
-fn are_job_numbers(r: Request<'_, '_>) -> bool
-    ensures { result ≡ spec.are_job_numbers (request_of r.entry) }
+fn are_job_numbers(request: Request<'_, '_>) -> bool
+    ensures { result ≡ spec.are_job_numbers (request_of request.entry) }
 {
-    match r.known(OperationAttribute::JobIds) {
+    match request.known(OperationAttribute::JobIds) {
         Some(a) => job_numbers_in(a.values.as_slice()),
         None => true,
     }
 }
 
 /// This printer, or a job of it, is what the request is about.
-pub fn is_target(r: Request<'_, '_>) -> bool
-    ensures { result ≡ spec.is_target (request_of r.entry) }
+pub fn is_target(request: Request<'_, '_>) -> bool
+    ensures { result ≡ spec.is_target (request_of request.entry) }
 {
-    if r.is_on_job() {
-        target_job(r).is_some()
+    if request.is_on_job() {
+        target_job(request).is_some()
     } else {
-        is_printer(r.bytes_of(OperationAttribute::PrinterUri)) && are_job_numbers(r)
+        is_printer(request.bytes_of(OperationAttribute::PrinterUri)) && are_job_numbers(request)
     }
 }

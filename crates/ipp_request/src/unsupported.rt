@@ -29,13 +29,10 @@ pub enum Source {
 }
 
 /// The attribute of that name that the operation knows.
-fn attribute_named(o: Operation, name: &[u8]) -> Option<OperationAttribute>
-    ensures { result ≡ spec.attribute_named o name.now }
+fn attribute_named(operation: Operation, name: &[u8]) -> Option<OperationAttribute>
+    ensures { result ≡ spec.attribute_named operation name.now }
 {
-    TABLE
-        .iter()
-        .copied()
-        .find(|k| k.row().name.as_bytes() == name && knows(o, *k))
+    TABLE.iter().copied().find(|k| k.row().name.as_bytes() == name && knows(operation, *k))
 }
 
 fn template_attribute(name: &[u8]) -> Option<TemplateAttribute>
@@ -79,33 +76,33 @@ fn with_values<'a>(
 /// The attribute as it is listed, where it is.
 fn listed<'a>(
     alloc: Global,
-    s: Source,
-    a: &AttrView<'a>,
+    source: Source,
+    attribute: &AttrView<'a>,
 ) -> Result<Option<AttrView<'a>>, AllocError>
-    ensures { IfOk result (λ l. option_map attribute_of l ≡ spec.listed s (attribute_of a.now)) }
+    ensures { IfOk result (λ l. option_map attribute_of l ≡ spec.listed source (attribute_of attribute.now)) }
 {
-    match s.support_for(a.name) {
+    match source.support_for(attribute.name) {
         None => {
             let unsupported = ValueView {
                 tag: UNSUPPORTED,
                 bytes: b"",
             };
-            Ok(Some(with_values(alloc, a.name, &[unsupported])?))
+            Ok(Some(with_values(alloc, attribute.name, &[unsupported])?))
         }
-        Some(support) if are_supported(support, a.values.as_slice()) => Ok(None),
-        Some(_) => Ok(Some(with_values(alloc, a.name, a.values.as_slice())?)),
+        Some(support) if are_supported(support, attribute.values.as_slice()) => Ok(None),
+        Some(_) => Ok(Some(with_values(alloc, attribute.name, attribute.values.as_slice())?)),
     }
 }
 
 fn push_listed<'a>(
     alloc: Global,
     out: &mut Vec<AttrView<'a>>,
-    s: Source,
-    a: &AttrView<'a>,
+    source: Source,
+    attribute: &AttrView<'a>,
 ) -> Result<(), AllocError>
-    ensures { OnOk result (attributes_of out.new.items ≡ attributes_of out.old.items ++ option_to_list (spec.listed s (attribute_of a.now))) }
+    ensures { OnOk result (attributes_of out.new.items ≡ attributes_of out.old.items ++ option_to_list (spec.listed source (attribute_of attribute.now))) }
 {
-    if let Some(l) = listed(alloc, s, a)? {
+    if let Some(l) = listed(alloc, source, attribute)? {
         out.push(l)?;
     }
     Ok(())
@@ -114,10 +111,10 @@ fn push_listed<'a>(
 /// What of these attributes is listed. A set of the names that were seen tells which are the first.
 fn listed_in<'a>(
     alloc: Global,
-    s: Source,
+    source: Source,
     attrs: &[AttrView<'a>],
 ) -> Result<Vec<AttrView<'a>>, AllocError>
-    ensures { IfOk result (λ v. attributes_of v.items ≡ spec.listed_in s (attributes_of attrs.now)) }
+    ensures { IfOk result (λ v. attributes_of v.items ≡ spec.listed_in source (attributes_of attrs.now)) }
 {
     let mut out = Vec::new(alloc);
     let mut seen = BTreeSet::new(alloc);
@@ -125,35 +122,45 @@ fn listed_in<'a>(
         if !seen.insert(a.name)? {
             continue;
         }
-        push_listed(alloc, &mut out, s, a)?;
+        push_listed(alloc, &mut out, source, a)?;
     }
     Ok(out)
 }
 
 /// What is unsupported in a request.
-pub fn unsupported_in<'a>(alloc: Global, r: Request<'_, 'a>) -> Result<Unsupported<'a>, AllocError>
-    ensures { IfOk result (λ u. unsupported_of u ≡ spec.unsupported (request_of r.entry)) }
+pub fn unsupported_in<'a>(
+    alloc: Global,
+    request: Request<'_, 'a>,
+) -> Result<Unsupported<'a>, AllocError>
+    ensures { IfOk result (λ u. unsupported_of u ≡ spec.unsupported (request_of request.entry)) }
 {
-    let operation = listed_in(alloc, Source::OperationGroup(r.operation), r.attributes)?;
-    let job = if r.makes_job() {
-        listed_in(alloc, Source::JobGroup, r.job_attributes)?
+    let operation = listed_in(
+        alloc,
+        Source::OperationGroup(request.operation),
+        request.attributes,
+    )?;
+    let job = if request.makes_job() {
+        listed_in(alloc, Source::JobGroup, request.job_attributes)?
     } else {
         Vec::new(alloc)
     };
     Ok(Unsupported { operation, job })
 }
 
-fn lists_known(o: Operation, attrs: &[AttrView<'_>]) -> bool
-    ensures { result ≡ list_any (λ a. spec.is_known o a.name) (attributes_of attrs.now) }
+fn lists_known(operation: Operation, attrs: &[AttrView<'_>]) -> bool
+    ensures { result ≡ list_any (λ a. spec.is_known operation a.name) (attributes_of attrs.now) }
 {
-    attrs.iter().any(|a| attribute_named(o, a.name).is_some())
+    attrs
+        .iter()
+        .any(|a| attribute_named(operation, a.name).is_some())
 }
 
 /// The request is refused for what of it is unsupported: an attribute that the operation knows, or one of
 /// the job group that may not be ignored.
-pub fn is_refused_for(r: Request<'_, '_>, u: &Unsupported<'_>) -> bool
-    ensures { result ≡ is_refused_for (request_of r.entry) (unsupported_of u.now) }
+pub fn is_refused_for(request: Request<'_, '_>, unsupported: &Unsupported<'_>) -> bool
+    ensures { result ≡ is_refused_for (request_of request.entry) (unsupported_of unsupported.now) }
 {
-    lists_known(r.operation, u.operation.as_slice())
-        || (r.is_true(OperationAttribute::IppAttributeFidelity) && is_filled(u.job.as_slice()))
+    lists_known(request.operation, unsupported.operation.as_slice())
+        || (request.is_true(OperationAttribute::IppAttributeFidelity)
+            && is_filled(unsupported.job.as_slice()))
 }

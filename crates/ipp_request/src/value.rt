@@ -69,13 +69,13 @@ fn behind_language(bytes: &[u8]) -> Option<&[u8]>
 }
 
 /// The text of a value: of a nameWithLanguage the name, else all of it.
-pub fn text<'a>(v: ValueView<'a>) -> Option<&'a [u8]>
-    ensures { option_copied result ≡ spec.text_of (value_of v.entry) }
+pub fn text<'a>(value: ValueView<'a>) -> Option<&'a [u8]>
+    ensures { option_copied result ≡ spec.text_of (value_of value.entry) }
 {
-    if v.tag == NAME_WITH_LANGUAGE {
-        behind_language(v.bytes)
+    if value.tag == NAME_WITH_LANGUAGE {
+        behind_language(value.bytes)
     } else {
-        Some(v.bytes)
+        Some(value.bytes)
     }
 }
 
@@ -117,10 +117,10 @@ fn is_utf8(text: &[u8]) -> bool
     utf8_text(text).is_some()
 }
 
-fn has_shape(s: Syntax, text: &[u8]) -> bool
-    ensures { result ≡ spec.has_shape s text.now }
+fn has_shape(syntax: Syntax, text: &[u8]) -> bool
+    ensures { result ≡ spec.has_shape syntax text.now }
 {
-    match s {
+    match syntax {
         Syntax::Integer => number(text).is_some(),
         Syntax::Positive => is_positive_number(text),
         Syntax::Boolean => text == [0].as_slice() || text == [1].as_slice(),
@@ -136,26 +136,26 @@ fn has_shape(s: Syntax, text: &[u8]) -> bool
 }
 
 /// The value has one of the tags of the syntax.
-pub fn is_tagged(s: Syntax, v: ValueView<'_>) -> bool
-    ensures { result ≡ spec.is_tagged s (value_of v.entry) }
+pub fn is_tagged(syntax: Syntax, value: ValueView<'_>) -> bool
+    ensures { result ≡ spec.is_tagged syntax (value_of value.entry) }
 {
-    s.tags().iter().any(|t| *t == v.tag)
+    syntax.tags().iter().any(|t| *t == value.tag)
 }
 
-fn is_shaped(s: Syntax, v: ValueView<'_>) -> bool
-    ensures { result ≡ spec.is_shaped s (value_of v.entry) }
+fn is_shaped(syntax: Syntax, value: ValueView<'_>) -> bool
+    ensures { result ≡ spec.is_shaped syntax (value_of value.entry) }
 {
-    is_tagged(s, v)
-        && match text(v) {
-            Some(bytes) => has_shape(s, bytes),
+    is_tagged(syntax, value)
+        && match text(value) {
+            Some(bytes) => has_shape(syntax, bytes),
             None => false,
         }
 }
 
-fn are_shaped(s: Syntax, values: &[ValueView<'_>]) -> bool
-    ensures { result ≡ list_all (spec.is_shaped s) (values_of values.now) }
+fn are_shaped(syntax: Syntax, values: &[ValueView<'_>]) -> bool
+    ensures { result ≡ list_all (spec.is_shaped syntax) (values_of values.now) }
 {
-    values.iter().all(|v| is_shaped(s, *v))
+    values.iter().all(|v| is_shaped(syntax, *v))
 }
 
 /// The values are as the row asks.
@@ -165,10 +165,10 @@ pub fn are_formed(row: &Row, values: &[ValueView<'_>]) -> bool
     (row.many || values.len() == 1) && are_shaped(row.syntax, values)
 }
 
-fn is_long(s: Syntax, v: ValueView<'_>) -> bool
-    ensures { result ≡ spec.is_long s (value_of v.entry) }
+fn is_long(syntax: Syntax, value: ValueView<'_>) -> bool
+    ensures { result ≡ spec.is_long syntax (value_of value.entry) }
 {
-    match (s.limit(), text(v)) {
+    match (syntax.limit(), text(value)) {
         (Some(limit), Some(bytes)) => limit < bytes.len(),
         _ => false,
     }
@@ -187,11 +187,11 @@ fn is_word(words: &[&str], bytes: &[u8]) -> bool
     words.iter().any(|w| w.as_bytes() == bytes)
 }
 
-fn is_number_within(low: u32, high: u32, v: ValueView<'_>) -> bool
-    ensures { result ≡ spec.is_number_within low high (value_of v.entry) }
+fn is_number_within(low: u32, high: u32, value: ValueView<'_>) -> bool
+    ensures { result ≡ spec.is_number_within low high (value_of value.entry) }
 {
-    v.tag == INTEGER
-        && match number(v.bytes) {
+    value.tag == INTEGER
+        && match number(value.bytes) {
             Some(n) => low <= n && n <= high,
             None => false,
         }

@@ -85,32 +85,32 @@ impl QueueBook for ListBook {
 
     ghost is_honest = { λ b. ⊤ };
 
-    fn decide<'a>(&mut self, now: u32, e: &Event<'a>) -> Result<Decision<'a>, BookFault>
+    fn decide<'a>(&mut self, now: u32, event: &Event<'a>) -> Result<Decision<'a>, BookFault>
         requires moment { IsMoment now }
-        requires event { IsEvent (event_of e.now) }
+        requires event { IsEvent (event_of event.now) }
         ensures began { ⊤ → ⊤ }
         ensures kept { (w : World) → IsContent self.old w → IsContent self.new w }
         ensures decides { ⊤ → IfOk result (λ d. (w : World) → IsContent self.new w
-            → decision_of d ≡ decision (cut w (event_of e.now)) now (event_of e.now)) }
-        ensures limits { IfOk result (λ d. IsReplyTo (event_of e.now) d.reply) }
+            → decision_of d ≡ decision (cut w (event_of event.now)) now (event_of event.now)) }
+        ensures limits { IfOk result (λ d. IsReplyTo (event_of event.now) d.reply) }
         ensures fault { IfErr result (λ f. f ≡ BookFault.Memory) }
     {
         cut_is_fair();
-        let s = scene(self.alloc, &self.lists, e)?;
-        let d = queue_core::decide(self.alloc, &s, now, e)?;
+        let s = scene(self.alloc, &self.lists, event)?;
+        let d = queue_core::decide(self.alloc, &s, now, event)?;
         Ok(d)
     }
 
-    fn apply(&mut self, d: Decision<'_>) -> Result<(), BookFault>
-        requires decided { (w : World) → ⊤ → IsContent self.old w → IsDecisionOn w (decision_of d) }
+    fn apply(&mut self, decision: Decision<'_>) -> Result<(), BookFault>
+        requires decided { (w : World) → ⊤ → IsContent self.old w → IsDecisionOn w (decision_of decision) }
         ensures began { ⊤ → ⊤ }
-        ensures ok { OnOk result ((w : World) → IsContent self.old w → IsContent self.new (made_on (change_of d.entry.change) w)) }
+        ensures ok { OnOk result ((w : World) → IsContent self.old w → IsContent self.new (made_on (change_of decision.entry.change) w)) }
         ensures err { OnErr result ((w : World) → IsContent self.old w → IsContent self.new w) }
         ensures fault { IfErr result (λ f. f ≡ BookFault.Memory) }
     {
         decisions_are_sound();
         new_grants_add_up();
-        let Decision { reply: _, change } = d;
+        let Decision { reply: _, change } = decision;
         let document = kept_document(self.alloc, &change.document)?;
         reserve(
             &mut self.lists,

@@ -92,12 +92,12 @@ fn put_jobs(jobs: &mut Vec<Job>, changed: Vec<Job>)
     }
 }
 
-fn put_document(documents: &mut Vec<KeptDocument>, d: Option<KeptDocument>)
+fn put_document(documents: &mut Vec<KeptDocument>, document: Option<KeptDocument>)
     requires room { vec_len documents.old < vec_capacity documents.old }
-    ensures { documents.new.items ≡ with_kept documents.old.items d }
+    ensures { documents.new.items ≡ with_kept documents.old.items document }
 {
-    if let Some(d) = d {
-        documents.push_reserved(d);
+    if let Some(document) = document {
+        documents.push_reserved(document);
     }
 }
 
@@ -116,18 +116,18 @@ fn put_report(reports: &mut Reports, report: Option<KeptReport>)
 /// A copy of the document that a change brings.
 pub(crate) fn kept_document(
     alloc: Global,
-    d: &Option<NewDocument<'_>>,
+    document: &Option<NewDocument<'_>>,
 ) -> Result<Option<KeptDocument>, AllocError>
-    ensures { IfOk result (λ k. k ≡ option_map kept_of (option_map document_of d.now)) }
+    ensures { IfOk result (λ k. k ≡ option_map kept_of (option_map document_of document.now)) }
 {
-    match d {
+    match document {
         None => Ok(None),
-        Some(d) => {
-            let bytes = Bytes::copy_of(alloc, d.bytes)?;
+        Some(document) => {
+            let bytes = Bytes::copy_of(alloc, document.bytes)?;
             Ok(Some(KeptDocument {
-                job: d.job,
+                job: document.job,
                 document: Document {
-                    format: d.format,
+                    format: document.format,
                     bytes,
                 },
             }))
@@ -146,39 +146,43 @@ fn reserve_report(reports: &mut Reports) -> Result<(), AllocError>
 
 /// Makes room for all that a change brings, so that writing it needs no memory.
 pub(crate) fn reserve(
-    l: &mut Lists,
+    lists: &mut Lists,
     jobs: usize,
     accounts: usize,
     grants: usize,
 ) -> Result<(), AllocError>
-    ensures same { HaveSameItems l.old l.new }
-    ensures room { OnOk result (HasRoom l.new jobs accounts grants) }
+    ensures same { HaveSameItems lists.old lists.new }
+    ensures room { OnOk result (HasRoom lists.new jobs accounts grants) }
 {
-    l.jobs.reserve(jobs)?;
-    l.documents.reserve(1)?;
-    reserve_accounts(&mut l.accounts, accounts)?;
-    reserve_grants(&mut l.grants, grants)?;
-    reserve_report(&mut l.reports)?;
+    lists.jobs.reserve(jobs)?;
+    lists.documents.reserve(1)?;
+    reserve_accounts(&mut lists.accounts, accounts)?;
+    reserve_grants(&mut lists.grants, grants)?;
+    reserve_report(&mut lists.reports)?;
     Ok(())
 }
 
 /// Writes a change, with the copy of its document, into the room that was made for it. It needs no memory.
-pub(crate) fn write(l: &mut Lists, c: Change<'_>, document: Option<KeptDocument>)
-    requires room { HasRoom l.old (length (change_of c).jobs) (length (change_of c).free) (length (change_of c).grants) }
-    requires tidy { IsTidy l.old.jobs.items l.old.documents.items }
-    requires rising { AreRising (put_rows l.old.jobs.items (change_of c).jobs) }
-    requires document { document ≡ option_map kept_of (change_of c).document }
-    requires there { IfSome document (λ d. IsSome (job_at d.job (put_rows l.old.jobs.items (change_of c).jobs))) }
-    requires accounts { HaveAccounts (fold put_free (free_map l.old.accounts.entries) (change_of c).free) (change_of c).grants }
-    requires most { (a : List ℕ) → total_of l.old.accounts.entries a + pages_to a (change_of c).grants < 2 ^ 32 }
-    ensures made { world_of l.new ≡ made_on (change_of c.entry) (world_of l.old) }
-    ensures tidy { IsTidy l.new.jobs.items l.new.documents.items }
-    ensures totals { (a : List ℕ) → total_of l.new.accounts.entries a ≡ total_of l.old.accounts.entries a + pages_to a (change_of c.entry).grants }
+pub(crate) fn write(lists: &mut Lists, change: Change<'_>, document: Option<KeptDocument>)
+    requires room { HasRoom lists.old (length (change_of change).jobs) (length (change_of change).free) (length (change_of change).grants) }
+    requires tidy { IsTidy lists.old.jobs.items lists.old.documents.items }
+    requires rising { AreRising (put_rows lists.old.jobs.items (change_of change).jobs) }
+    requires document { document ≡ option_map kept_of (change_of change).document }
+    requires there { IfSome document (λ d. IsSome (job_at d.job (put_rows lists.old.jobs.items (change_of change).jobs))) }
+    requires accounts { HaveAccounts (fold put_free (free_map lists.old.accounts.entries) (change_of change).free) (change_of change).grants }
+    requires most { (a : List ℕ) → total_of lists.old.accounts.entries a + pages_to a (change_of change).grants < 2 ^ 32 }
+    ensures made { world_of lists.new ≡ made_on (change_of change.entry) (world_of lists.old) }
+    ensures tidy { IsTidy lists.new.jobs.items lists.new.documents.items }
+    ensures totals { (a : List ℕ) → total_of lists.new.accounts.entries a ≡ total_of lists.old.accounts.entries a + pages_to a (change_of change.entry).grants }
 {
-    put_document(&mut l.documents, document);
-    put_jobs(&mut l.jobs, c.jobs.into_items());
-    put_free_rows(&mut l.accounts, c.free.into_items());
-    put_grants(&mut l.grants, &mut l.accounts, c.grants.into_items());
-    put_report(&mut l.reports, c.report);
-    l.next = c.next.unwrap_or(l.next);
+    put_document(&mut lists.documents, document);
+    put_jobs(&mut lists.jobs, change.jobs.into_items());
+    put_free_rows(&mut lists.accounts, change.free.into_items());
+    put_grants(
+        &mut lists.grants,
+        &mut lists.accounts,
+        change.grants.into_items(),
+    );
+    put_report(&mut lists.reports, change.report);
+    lists.next = change.next.unwrap_or(lists.next);
 }

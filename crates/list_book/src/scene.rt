@@ -38,11 +38,11 @@ fn with_number(alloc: Global, jobs: &[Job], number: u32) -> Result<Vec<Job>, All
 }
 
 /// The job is the caller's and its number is in the set.
-fn is_own_of(set: &BTreeSet<u32>, numbers: &[u32], caller: &str, j: &Job) -> bool
+fn is_own_of(set: &BTreeSet<u32>, numbers: &[u32], caller: &str, job: &Job) -> bool
     requires { (q : ℕ) → contains nat_cmp set.now q ≡ list_any (λ n. n == q) numbers.now }
-    ensures { result ≡ (bytes_eq j.now.owner caller.now && is_one_of numbers.now j.now) }
+    ensures { result ≡ (bytes_eq job.now.owner caller.now && is_one_of numbers.now job.now) }
 {
-    j.owner.as_str() == caller && set.contains(&j.number)
+    job.owner.as_str() == caller && set.contains(&job.number)
 }
 
 /// The caller's jobs of these numbers.
@@ -64,12 +64,12 @@ fn own_of_numbers(
     Ok(named)
 }
 
-fn is_listed(which: WhichJobs, j: &Job) -> bool
-    ensures { result ≡ is_among which j.now }
+fn is_listed(which: WhichJobs, job: &Job) -> bool
+    ensures { result ≡ is_among which job.now }
 {
     match which {
-        WhichJobs::NotCompleted => j.is_live(),
-        WhichJobs::Completed => !j.is_live(),
+        WhichJobs::NotCompleted => job.is_live(),
+        WhichJobs::Completed => !job.is_live(),
     }
 }
 
@@ -158,16 +158,16 @@ fn live_for_call(jobs: &[Job], caller: &str, call: &Call<'_>) -> usize
     }
 }
 
-fn is_running_job(j: &Job) -> bool
-    ensures { result ≡ is_running j.now }
+fn is_running_job(job: &Job) -> bool
+    ensures { result ≡ is_running job.now }
 {
-    matches!(j.phase, Phase::Running)
+    matches!(job.phase, Phase::Running)
 }
 
-fn is_stopped_job(j: &Job) -> bool
-    ensures { result ≡ is_stopped j.now }
+fn is_stopped_job(job: &Job) -> bool
+    ensures { result ≡ is_stopped job.now }
 {
-    matches!(j.phase, Phase::Stopped)
+    matches!(job.phase, Phase::Stopped)
 }
 
 fn running_in(jobs: &[Job]) -> usize
@@ -220,25 +220,25 @@ fn no_counts() -> QueueCounts
 /// The rows that a caller's call needs.
 fn scene_of_call(
     alloc: Global,
-    l: &Lists,
+    lists: &Lists,
     caller: &str,
     call: &Call<'_>,
 ) -> Result<Scene, AllocError>
-    requires { AreRising l.now.jobs.items }
-    ensures { IfOk result (λ s. s ≡ cut (world_of l.now) (ask caller.now (call_of call.now))) }
+    requires { AreRising lists.now.jobs.items }
+    ensures { IfOk result (λ s. s ≡ cut (world_of lists.now) (ask caller.now (call_of call.now))) }
 {
-    let settings = l.settings.try_clone()?;
-    let jobs = concerned(alloc, l.jobs.as_slice(), caller, call)?;
-    let free = free_rows_of(alloc, &l.accounts, caller)?;
+    let settings = lists.settings.try_clone()?;
+    let jobs = concerned(alloc, lists.jobs.as_slice(), caller, call)?;
+    let free = free_rows_of(alloc, &lists.accounts, caller)?;
     Ok(Scene {
         settings,
         jobs: JobList::from_items(jobs),
         free: FreeList::from_items(free),
-        live: live_for_call(l.jobs.as_slice(), caller, call),
-        counts: counts(l.jobs.as_slice(), call),
+        live: live_for_call(lists.jobs.as_slice(), caller, call),
+        counts: counts(lists.jobs.as_slice(), call),
         report: None,
         known: KnownList::from_items(Vec::new(alloc)),
-        next: l.next,
+        next: lists.next,
     })
 }
 
@@ -260,32 +260,32 @@ fn kept_report(reports: &Reports, job: u32, seq: u32) -> Option<KeptReport>
 }
 
 /// The rows that a report needs.
-fn scene_of_report(alloc: Global, l: &Lists, r: &Report) -> Result<Scene, AllocError>
-    requires { AreRising l.now.jobs.items }
-    ensures { IfOk result (λ s. s ≡ cut (world_of l.now) (tell r.now)) }
+fn scene_of_report(alloc: Global, lists: &Lists, report: &Report) -> Result<Scene, AllocError>
+    requires { AreRising lists.now.jobs.items }
+    ensures { IfOk result (λ s. s ≡ cut (world_of lists.now) (tell report.now)) }
 {
-    let settings = l.settings.try_clone()?;
-    let jobs = with_number(alloc, l.jobs.as_slice(), r.job)?;
-    let free = owner_rows(alloc, &l.accounts, jobs.as_slice())?;
+    let settings = lists.settings.try_clone()?;
+    let jobs = with_number(alloc, lists.jobs.as_slice(), report.job)?;
+    let free = owner_rows(alloc, &lists.accounts, jobs.as_slice())?;
     Ok(Scene {
         settings,
         jobs: JobList::from_items(jobs),
         free: FreeList::from_items(free),
         live: 0,
         counts: no_counts(),
-        report: kept_report(&l.reports, r.job, r.seq),
+        report: kept_report(&lists.reports, report.job, report.seq),
         known: KnownList::from_items(Vec::new(alloc)),
-        next: l.next,
+        next: lists.next,
     })
 }
 
 /// The rows that an account file needs.
-fn scene_of_grants(alloc: Global, l: &Lists, rows: &[GrantRow]) -> Result<Scene, AllocError>
-    requires { AreTotals l.now }
-    ensures { IfOk result (λ s. s ≡ cut (world_of l.now) (grant rows.now)) }
+fn scene_of_grants(alloc: Global, lists: &Lists, rows: &[GrantRow]) -> Result<Scene, AllocError>
+    requires { AreTotals lists.now }
+    ensures { IfOk result (λ s. s ≡ cut (world_of lists.now) (grant rows.now)) }
 {
-    let settings = l.settings.try_clone()?;
-    let known = known_rows(alloc, &l.grants, &l.accounts, rows)?;
+    let settings = lists.settings.try_clone()?;
+    let known = known_rows(alloc, &lists.grants, &lists.accounts, rows)?;
     Ok(Scene {
         settings,
         jobs: JobList::from_items(Vec::new(alloc)),
@@ -294,19 +294,19 @@ fn scene_of_grants(alloc: Global, l: &Lists, rows: &[GrantRow]) -> Result<Scene,
         counts: no_counts(),
         report: None,
         known: KnownList::from_items(known),
-        next: l.next,
+        next: lists.next,
     })
 }
 
 /// The rows that an event needs. The one error is want of memory.
-pub(crate) fn scene(alloc: Global, l: &Lists, e: &Event<'_>) -> Result<Scene, AllocError>
-    requires totals { AreTotals l.now }
-    requires rising { AreRising l.now.jobs.items }
-    ensures { IfOk result (λ s. s ≡ cut (world_of l.now) (event_of e.now)) }
+pub(crate) fn scene(alloc: Global, lists: &Lists, event: &Event<'_>) -> Result<Scene, AllocError>
+    requires totals { AreTotals lists.now }
+    requires rising { AreRising lists.now.jobs.items }
+    ensures { IfOk result (λ s. s ≡ cut (world_of lists.now) (event_of event.now)) }
 {
-    match e {
-        Event::Ask { caller, call } => scene_of_call(alloc, l, caller, call),
-        Event::Tell(r) => scene_of_report(alloc, l, r),
-        Event::Grant(rows) => scene_of_grants(alloc, l, rows),
+    match event {
+        Event::Ask { caller, call } => scene_of_call(alloc, lists, caller, call),
+        Event::Tell(r) => scene_of_report(alloc, lists, r),
+        Event::Grant(rows) => scene_of_grants(alloc, lists, rows),
     }
 }

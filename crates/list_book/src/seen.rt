@@ -31,10 +31,10 @@ fn numbered_job(jobs: &[Job], number: u32) -> Option<&Job>
 }
 
 /// The device may fetch the job's documents.
-fn is_fetched(j: &Job) -> bool
-    ensures { result ≡ (state j.now == 3 || state j.now == 5 || state j.now == 6) }
+fn is_fetched(job: &Job) -> bool
+    ensures { result ≡ (state job.now == 3 || state job.now == 5 || state job.now == 6) }
 {
-    let state = j.state();
+    let state = job.state();
     state == 3 || state == 5 || state == 6
 }
 
@@ -60,24 +60,24 @@ fn nth_document(documents: &[KeptDocument], job: u32, n: u32) -> Option<&Documen
 }
 
 /// Document n, counted from 1, of a job in state 3, 5 or 6.
-pub(crate) fn document(l: &Lists, job: u32, n: u32) -> Option<&Document>
-    ensures { option_copied result ≡ document_at (world_of l.now) job n }
+pub(crate) fn document(lists: &Lists, job: u32, n: u32) -> Option<&Document>
+    ensures { option_copied result ≡ document_at (world_of lists.now) job n }
 {
-    let Some(j) = numbered_job(l.jobs.as_slice(), job) else {
+    let Some(j) = numbered_job(lists.jobs.as_slice(), job) else {
         return None;
     };
     if is_fetched(j) {
-        nth_document(l.documents.as_slice(), j.number, n)
+        nth_document(lists.documents.as_slice(), j.number, n)
     } else {
         None
     }
 }
 
 /// The format and the length of such a document.
-pub(crate) fn document_head(l: &Lists, job: u32, n: u32) -> Option<DocumentHead>
-    ensures { result ≡ option_map head_of (document_at (world_of l.now) job n) }
+pub(crate) fn document_head(lists: &Lists, job: u32, n: u32) -> Option<DocumentHead>
+    ensures { result ≡ option_map head_of (document_at (world_of lists.now) job n) }
 {
-    let d = document(l, job, n)?;
+    let d = document(lists, job, n)?;
     Some(DocumentHead {
         format: d.format,
         octets: d.bytes.as_slice().len() as u64,

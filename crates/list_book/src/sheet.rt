@@ -56,19 +56,19 @@ fn printed_in(jobs: &[Job], account: &str) -> u64
 /// The sheet of an account that is there, with its free pages.
 fn sheet_with(
     alloc: Global,
-    l: &Lists,
+    lists: &Lists,
     account: &str,
     name: Name,
     free: i64,
 ) -> Result<AccountSheet, AllocError>
     requires name { name ≡ account.now }
-    requires reserved { sum_by (λ j. if bytes_eq j.owner account.now then owed j else 0) l.now.jobs.items < 2 ^ 64 }
-    requires printed { sum_by (λ j. if bytes_eq j.owner account.now then j.count else 0) l.now.jobs.items < 2 ^ 64 }
-    ensures { IfOk result (λ s. s ≡ sheet_in l.now account.now free) }
+    requires reserved { sum_by (λ j. if bytes_eq j.owner account.now then owed j else 0) lists.now.jobs.items < 2 ^ 64 }
+    requires printed { sum_by (λ j. if bytes_eq j.owner account.now then j.count else 0) lists.now.jobs.items < 2 ^ 64 }
+    ensures { IfOk result (λ s. s ≡ sheet_in lists.now account.now free) }
 {
-    let jobs = l.jobs.as_slice();
+    let jobs = lists.jobs.as_slice();
     let shown = sheet_jobs(alloc, jobs, account)?;
-    let granted = pages_granted(&l.accounts, &name);
+    let granted = pages_granted(&lists.accounts, &name);
     Ok(AccountSheet {
         account: name.into_text(),
         granted: u64::from(granted),
@@ -82,17 +82,17 @@ fn sheet_with(
 /// What is granted to the account, what of it is free, reserved and printed, where the account is there.
 pub(crate) fn sheet(
     alloc: Global,
-    l: &Lists,
+    lists: &Lists,
     account: &str,
 ) -> Result<Option<AccountSheet>, AllocError>
-    requires reserved { sum_by (λ j. if bytes_eq j.owner account.now then owed j else 0) l.now.jobs.items < 2 ^ 64 }
-    requires printed { sum_by (λ j. if bytes_eq j.owner account.now then j.count else 0) l.now.jobs.items < 2 ^ 64 }
-    ensures { IfOk result (λ s. s ≡ option_map (sheet_in l.now account.now) (get (free_map l.now.accounts.entries) account.now)) }
+    requires reserved { sum_by (λ j. if bytes_eq j.owner account.now then owed j else 0) lists.now.jobs.items < 2 ^ 64 }
+    requires printed { sum_by (λ j. if bytes_eq j.owner account.now then j.count else 0) lists.now.jobs.items < 2 ^ 64 }
+    ensures { IfOk result (λ s. s ≡ option_map (sheet_in lists.now account.now) (get (free_map lists.now.accounts.entries) account.now)) }
 {
     let name = Name::copy_of(alloc, account)?;
-    match free_pages(&l.accounts, &name) {
+    match free_pages(&lists.accounts, &name) {
         Some(free) => {
-            let s = sheet_with(alloc, l, account, name, free)?;
+            let s = sheet_with(alloc, lists, account, name, free)?;
             Ok(Some(s))
         }
         None => Ok(None),

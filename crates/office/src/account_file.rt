@@ -29,11 +29,11 @@ fn read_file<R: Read + Drop>(alloc: Global, reader: R, most: u64) -> Result<Vec<
 }
 
 /// Writes `new N repeats M`.
-fn tell<W: Write>(writer: &mut W, n: Imported) -> Result<(), OfficeFault>
-    ensures told { OnOk result (Appends (W.contents writer.old) (W.contents writer.new) (import_line n)) }
+fn tell<W: Write>(writer: &mut W, imported: Imported) -> Result<(), OfficeFault>
+    ensures told { OnOk result (Appends (W.contents writer.old) (W.contents writer.new) (import_line imported)) }
     ensures failed { IfErr result IsOfStream }
 {
-    let Imported { added, repeats } = n;
+    let Imported { added, repeats } = imported;
     writeln!(writer, "new {added} repeats {repeats}")?;
     Ok(())
 }

@@ -17,13 +17,13 @@ fn put_amounts(out: &mut String, sheet: &AccountSheet) -> Result<(), AllocError>
     writeln!(out, "printed   {:>14}", sheet.printed)
 }
 
-fn put_job(out: &mut String, j: &Job) -> Result<(), AllocError>
-    ensures { OnOk result (string_bytes out.new ≡ string_bytes out.old ++ job_row j.now) }
+fn put_job(out: &mut String, job: &Job) -> Result<(), AllocError>
+    ensures { OnOk result (string_bytes out.new ≡ string_bytes out.old ++ job_row job.now) }
 {
-    let number = j.number;
-    let state = j.state();
-    let reserved = j.owed();
-    let printed = j.count;
+    let number = job.number;
+    let state = job.state();
+    let reserved = job.owed();
+    let printed = job.count;
     writeln!(out, "{number:>10} {state:>5} {reserved:>9} {printed:>9}")
 }
 

@@ -1,6 +1,6 @@
 //! A print queue served over HTTP on the loopback interface: connections one after another, over any book of the queue.
 //!
-//! [`listen`] opens a port (`listening`), and [`serve_connections`] takes its connections in turn (`serving`). All that is not a socket
+//! [`listen`] opens a port (`listening`), and a [`Service`] takes its connections in turn (`serving`). All that is not a socket
 //! is a function over values, or over a reader and a writer: the moment of a connection (`moment`), what a connection comes to
 //! (`connection`) and the lines that are printed (`lines`).
 //!
@@ -18,4 +18,4 @@ mod serving;
 pub use fault::ServerFault;
 pub use listening::listen;
 pub use moment::present_moment;
-pub use serving::serve_connections;
+pub use serving::Service;

@@ -22,6 +22,18 @@ use std::net::{Shutdown, TcpListener, TcpStream};
 use std::rt::Clock;
 use std::time::Duration;
 
+/// How connections are served, one after another.
+#[derive(Clone, Copy)]
+pub struct Service<'a> {
+    pub alloc: Global,
+    /// Where they come in.
+    pub listener: &'a TcpListener,
+    /// The settings of the book's queue.
+    pub settings: &'a Settings,
+    /// How many seconds one read or one write may wait, at least 1. A timeout ends its connection alone.
+    pub timeout: u32,
+}
+
 /// How long one read waits for what a client sends behind its last request.
 const LINGER_SECONDS: u64 = 1;
 
@@ -54,41 +66,6 @@ struct Outcome {
     has_fault: bool,
 }
 
-/// Serves a connection at a moment and closes it. One that can't be readied has gone away.
-fn serve_stream<B: QueueBook>(
-    alloc: Global,
-    stream: TcpStream,
-    book: &mut B,
-    s: &Settings,
-    timeout: u32,
-    now: u32,
-) -> Outcome
-    requires wait { 1 ≤ timeout }
-    requires moment { IsMoment now }
-    ensures began { B.is_honest book.new → B.is_honest book.old }
-    ensures worked { B.is_honest book.new → (w : World) → B.stands book.old w → s.now ≡ w.settings
-        → (u : World) × B.stands book.new u × Worked 32 now w u result.acted }
-    ensures few { result.acted ≤ 32 }
-{
-    if prepare(&stream, timeout).is_err() {
-        return Outcome {
-            acted: 0,
-            has_fault: false,
-        };
-    }
-    let mut reader = &stream;
-    let mut writer = &stream;
-    let served = serve(alloc, &mut reader, &mut writer, book, s, now);
-    if is_ended_here(served) {
-        // whatever comes of it, the connection ends here
-        let _ = linger(&stream);
-    }
-    Outcome {
-        acted: acted_of(served),
-        has_fault: has_fault(served),
-    }
-}
-
 /// Whether the book can still be read. One that had no memory can.
 fn check_book<B: QueueBook>(book: &mut B) -> Result<(), BookFault>
     ensures began { B.is_honest book.new → B.is_honest book.old }
@@ -100,62 +77,93 @@ fn check_book<B: QueueBook>(book: &mut B) -> Result<(), BookFault>
     }
 }
 
-/// Takes the next connection, serves it at the moment when it was taken, and prints `served ACTED`. Where a request met a fault, the book is
-/// read once more.
-fn serve_next<R: Clock, O: Write, B: QueueBook>(
-    alloc: Global,
-    clock: &R,
-    listener: &TcpListener,
-    out: &mut O,
-    book: &mut B,
-    s: &Settings,
-    timeout: u32,
-) -> Result<(), ServerFault>
-    requires { 1 ≤ timeout }
-    ensures began { B.is_honest book.new → B.is_honest book.old }
-    ensures ok { B.is_honest book.new → OnOk result ((w : World) → B.stands book.old w → s.now ≡ w.settings
-        → (u : World) × B.stands book.new u × (counts : List ℕ) × AreConnections w counts u × (length counts ≡ 1)
-        × Appends (O.contents out.old) (O.contents out.new) (served_lines counts)) }
-    ensures err { B.is_honest book.new → OnErr result ((w : World) → B.stands book.old w → s.now ≡ w.settings
-        → (u : World) × B.stands book.new u × (counts : List ℕ) × AreConnections w counts u × (length counts ≤ 1)) }
-{
-    let stream = next_stream(listener)?;
-    let now = present_moment(clock, s.epoch())?;
-    let served = serve_stream(alloc, stream, book, s, timeout, now);
-    tell_served(out, served.acted)?;
-    if served.has_fault {
-        check_book(book)?;
+impl Service<'_> {
+    /// Serves a connection at a moment and closes it. One that can't be readied has gone away.
+    fn serve_stream<B: QueueBook>(self, stream: TcpStream, book: &mut B, now: u32) -> Outcome
+        requires wait { 1 ≤ self.timeout }
+        requires moment { IsMoment now }
+        ensures began { B.is_honest book.new → B.is_honest book.old }
+        ensures worked { B.is_honest book.new → (w : World) → B.stands book.old w → self.entry.settings.now ≡ w.settings
+            → (u : World) × B.stands book.new u × Worked 32 now w u result.acted }
+        ensures few { result.acted ≤ 32 }
+    {
+        if prepare(&stream, self.timeout).is_err() {
+            return Outcome {
+                acted: 0,
+                has_fault: false,
+            };
+        }
+        let mut reader = &stream;
+        let mut writer = &stream;
+        let served = serve(
+            self.alloc,
+            &mut reader,
+            &mut writer,
+            book,
+            self.settings,
+            now,
+        );
+        if is_ended_here(served) {
+            // whatever comes of it, the connection ends here
+            let _ = linger(&stream);
+        }
+        Outcome {
+            acted: acted_of(served),
+            has_fault: has_fault(served),
+        }
     }
-    Ok(())
-}
 
-/// Serves so many connections of a listener, one after another, over a book whose queue has these settings, and prints `served ACTED` as each
-/// of them ends. No read and no write of a connection waits longer than so many seconds; a timeout ends that connection alone.
-///
-/// It is an error where no connection can be taken, the clock can't be read or the line can't be written, and where after a fault the book can't be
-/// read any more. The connections before it stay served.
-pub fn serve_connections<R: Clock, O: Write, B: QueueBook>(
-    alloc: Global,
-    clock: &R,
-    listener: &TcpListener,
-    out: &mut O,
-    book: &mut B,
-    s: &Settings,
-    timeout: u32,
-    connections: u32,
-) -> Result<(), ServerFault>
-    requires { 1 ≤ timeout }
-    ensures began { B.is_honest book.new → B.is_honest book.old }
-    // every connection was served, and its count printed
-    ensures ok { B.is_honest book.new → OnOk result ((w : World) → B.stands book.old w → s.now ≡ w.settings
-        → (u : World) × B.stands book.new u × (counts : List ℕ) × AreConnections w counts u × (length counts ≡ connections)
-        × Appends (O.contents out.old) (O.contents out.new) (served_lines counts)) }
-    // some were
-    ensures err { B.is_honest book.new → OnErr result ((w : World) → B.stands book.old w → s.now ≡ w.settings
-        → (u : World) × B.stands book.new u × (counts : List ℕ) × AreConnections w counts u × (length counts ≤ connections)) }
-{
-    for _round in 0..connections {
-        serve_next(alloc, clock, listener, out, book, s, timeout)?;
+    /// Takes the next connection, serves it at the moment when it was taken, and prints `served ACTED`. Where a request met a fault, the book is
+    /// read once more.
+    fn serve_next<C: Clock, O: Write, B: QueueBook>(
+        self,
+        clock: &C,
+        out: &mut O,
+        book: &mut B,
+    ) -> Result<(), ServerFault>
+        requires { 1 ≤ self.timeout }
+        ensures began { B.is_honest book.new → B.is_honest book.old }
+        ensures ok { B.is_honest book.new → OnOk result ((w : World) → B.stands book.old w → self.entry.settings.now ≡ w.settings
+            → (u : World) × B.stands book.new u × (counts : List ℕ) × AreConnections w counts u × (length counts ≡ 1)
+            × Appends (O.contents out.old) (O.contents out.new) (served_lines counts)) }
+        ensures err { B.is_honest book.new → OnErr result ((w : World) → B.stands book.old w → self.entry.settings.now ≡ w.settings
+            → (u : World) × B.stands book.new u × (counts : List ℕ) × AreConnections w counts u × (length counts ≤ 1)) }
+    {
+        let stream = next_stream(self.listener)?;
+        let now = present_moment(clock, self.settings.epoch())?;
+        let served = self.serve_stream(stream, book, now);
+        tell_served(out, served.acted)?;
+        if served.has_fault {
+            check_book(book)?;
+        }
+        Ok(())
     }
-    Ok(())
+
+    /// Serves so many connections, one after another, over a book whose queue has the settings, each at the moment by the clock when it is taken, and
+    /// prints `served ACTED` as it ends.
+    ///
+    /// It is an error where no connection can be taken, the clock can't be read or the line can't be written, and where after a fault the book can't be
+    /// read any more. The connections before it stay served.
+    pub fn serve_connections<C: Clock, O: Write, B: QueueBook>(
+        self,
+        clock: &C,
+        out: &mut O,
+        book: &mut B,
+        connections: u32,
+    ) -> Result<(), ServerFault>
+        requires { 1 ≤ self.timeout }
+        ensures began { B.is_honest book.new → B.is_honest book.old }
+        // every connection was served, and its count printed
+        ensures ok { B.is_honest book.new → OnOk result ((w : World) → B.stands book.old w → self.entry.settings.now ≡ w.settings
+            → (u : World) × B.stands book.new u × (counts : List ℕ) × AreConnections w counts u × (length counts ≡ connections)
+            × Appends (O.contents out.old) (O.contents out.new) (served_lines counts)) }
+        // some were
+        ensures err { B.is_honest book.new → OnErr result ((w : World) → B.stands book.old w → self.entry.settings.now ≡ w.settings
+            → (u : World) × B.stands book.new u × (counts : List ℕ) × AreConnections w counts u × (length counts ≤ connections)) }
+    {
+        for _round in 0..connections {
+            self.serve_next(clock, out, book)?;
+        }
+        Ok(())
+    }
 }

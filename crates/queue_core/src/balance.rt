@@ -13,12 +13,12 @@ use queue_types::job::Job;
 use std::alloc::{AllocError, Global};
 
 /// The pages that a job has taken of its account: those set aside for it, and those printed.
-fn taken_of(j: &Job) -> u64
-    requires { AreAmounts j.now }
-    ensures exact { result ≡ taken j.now }
+fn taken_of(job: &Job) -> u64
+    requires { AreAmounts job.now }
+    ensures exact { result ≡ taken job.now }
     ensures bound { result ≤ 2 ^ 28 }
 {
-    j.owed() + u64::from(j.count)
+    job.owed() + u64::from(job.count)
 }
 
 fn number_at(jobs: &[Job], number: u32) -> Option<&Job>
@@ -28,20 +28,20 @@ fn number_at(jobs: &[Job], number: u32) -> Option<&Job>
     jobs.iter().find(|j| j.number == number)
 }
 
-fn given_back_by(before: &[Job], j: &Job, account: &str) -> i64
+fn given_back_by(before: &[Job], job: &Job, account: &str) -> i64
     requires before { All AreAmounts before.now }
-    requires job { AreAmounts j.now }
-    ensures exact { result ≡ given_back before.now account.now j.now }
+    requires job { AreAmounts job.now }
+    ensures exact { result ≡ given_back before.now account.now job.now }
     ensures bound { IsBelow (2 ^ 28) result }
 {
-    if j.owner.as_str() != account {
+    if job.owner.as_str() != account {
         return 0;
     }
-    let was = match number_at(before, j.number) {
+    let was = match number_at(before, job.number) {
         Some(old) => taken_of(old),
         None => 0,
     };
-    was as i64 - taken_of(j) as i64
+    was as i64 - taken_of(job) as i64
 }
 
 /// What comes back to an account as jobs become what they are now.

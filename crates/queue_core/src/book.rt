@@ -64,21 +64,21 @@ pub trait QueueBook {
     ghost is_honest: { Self → Type 0 };
 
     /// What the machine decides at this moment on this event, within its limits. It changes nothing.
-    fn decide<'a>(&mut self, now: u32, e: &Event<'a>) -> Result<Decision<'a>, BookFault>
+    fn decide<'a>(&mut self, now: u32, event: &Event<'a>) -> Result<Decision<'a>, BookFault>
         requires moment { IsMoment now }
-        requires event { IsEvent (event_of e.now) }
+        requires event { IsEvent (event_of event.now) }
         ensures began { is_honest self.new → is_honest self.old }
         ensures kept { (w : World) → stands self.old w → stands self.new w }
         ensures decides { is_honest self.new → IfOk result (λ d. (w : World) → stands self.new w
-            → decision_of d ≡ decision (cut w (event_of e.now)) now (event_of e.now)) }
+            → decision_of d ≡ decision (cut w (event_of event.now)) now (event_of event.now)) }
         // on any book, also one that is not honest
-        ensures limits { IfOk result (λ d. IsReplyTo (event_of e.now) d.reply) };
+        ensures limits { IfOk result (λ d. IsReplyTo (event_of event.now) d.reply) };
 
     /// Makes a decision that `decide` gave on what the book now holds. A refusal leaves it as it was.
-    fn apply(&mut self, d: Decision<'_>) -> Result<(), BookFault>
-        requires decided { (w : World) → is_honest self.old → stands self.old w → IsDecisionOn w (decision_of d) }
+    fn apply(&mut self, decision: Decision<'_>) -> Result<(), BookFault>
+        requires decided { (w : World) → is_honest self.old → stands self.old w → IsDecisionOn w (decision_of decision) }
         ensures began { is_honest self.new → is_honest self.old }
-        ensures ok { OnOk result ((w : World) → stands self.old w → stands self.new (made_on (change_of d.entry.change) w)) }
+        ensures ok { OnOk result ((w : World) → stands self.old w → stands self.new (made_on (change_of decision.entry.change) w)) }
         ensures err { OnErr result ((w : World) → stands self.old w → stands self.new w) };
 
     /// The jobs that the device may start, those in state 3, by number.

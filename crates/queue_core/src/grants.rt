@@ -25,17 +25,17 @@ pub(crate) struct Key<'a> {
 /// Puts a row's pages under its batch and account, and gives those that stood there.
 fn add_key<'a>(
     pages: &mut HashMap<Key<'a>, u32>,
-    r: &'a GrantRow,
+    grant: &'a GrantRow,
 ) -> Result<Option<u32>, AllocError>
-    ensures before { IfOk result (λ o. (rows : List GrantRow) → ArePages pages.old rows → o ≡ option_map (λ g. g.pages) (row_under r.now rows)) }
-    ensures new { IfOk result (λ o. (rows : List GrantRow) → ArePages pages.old rows → o ≡ None → ArePages pages.new (rows ++ r.now ∷ [])) }
-    ensures again { IfOk result (λ o. (rows : List GrantRow) → ArePages pages.old rows → o ≡ Some r.now.pages → ArePages pages.new rows) }
+    ensures before { IfOk result (λ o. (rows : List GrantRow) → ArePages pages.old rows → o ≡ option_map (λ g. g.pages) (row_under grant.now rows)) }
+    ensures new { IfOk result (λ o. (rows : List GrantRow) → ArePages pages.old rows → o ≡ None → ArePages pages.new (rows ++ grant.now ∷ [])) }
+    ensures again { IfOk result (λ o. (rows : List GrantRow) → ArePages pages.old rows → o ≡ Some grant.now.pages → ArePages pages.new rows) }
 {
     let key = Key {
-        batch: r.batch.as_str(),
-        account: r.account.as_str(),
+        batch: grant.batch.as_str(),
+        account: grant.account.as_str(),
     };
-    let before = pages.insert(key, r.pages)?;
+    let before = pages.insert(key, grant.pages)?;
     Ok(before)
 }
 
@@ -52,14 +52,14 @@ fn sum_within(total: u32, pages: u32, most: u32) -> Option<u32>
 /// Adds a row's pages to the total of its account, and gives the total then; none where that would be more than `most`.
 fn add_pages<'a>(
     totals: &mut HashMap<&'a str, u32>,
-    r: &'a GrantRow,
+    grant: &'a GrantRow,
     most: u32,
 ) -> Result<Option<u32>, AllocError>
-    ensures total { IfOk result (λ o. o ≡ (if nat_lt most (total_of totals.old r.now.account + r.now.pages) then None else Some (total_of totals.old r.now.account + r.now.pages))) }
-    ensures added { IfOk result (λ o. IsSome o → (a : List ℕ) → total_of totals.new a ≡ total_of totals.old a + (if bytes_eq r.now.account a then r.now.pages else 0)) }
+    ensures total { IfOk result (λ o. o ≡ (if nat_lt most (total_of totals.old grant.now.account + grant.now.pages) then None else Some (total_of totals.old grant.now.account + grant.now.pages))) }
+    ensures added { IfOk result (λ o. IsSome o → (a : List ℕ) → total_of totals.new a ≡ total_of totals.old a + (if bytes_eq grant.now.account a then grant.now.pages else 0)) }
 {
-    let total = totals.entry(r.account.as_str())?.or_insert(0);
-    let sum = sum_within(*total, r.pages, most);
+    let total = totals.entry(grant.account.as_str())?.or_insert(0);
+    let sum = sum_within(*total, grant.pages, most);
     if let Some(sum) = sum {
         *total = sum;
     }
@@ -97,54 +97,63 @@ fn state_beside(before: u32, pages: u32) -> RowState
 }
 
 /// The account of a row, in which it has added to the total of the file.
-fn account_after(r: &GrantRow, k: &KnownGrant, total: u32) -> Result<FreeRow, AllocError>
-    requires known { IsKnown k.now }
+fn account_after(grant: &GrantRow, known: &KnownGrant, total: u32) -> Result<FreeRow, AllocError>
+    requires known { IsKnown known.now }
     requires total { total ≤ 1000000000 }
-    ensures { IfOk result (λ a. a ≡ record { account = r.now.account; free = unwrap_or k.now.free (pos 0) +ℤ pos total }) }
+    ensures { IfOk result (λ a. a ≡ record { account = grant.now.account; free = unwrap_or known.now.free (pos 0) +ℤ pos total }) }
 {
-    let account = r.account.try_clone()?;
+    let account = grant.account.try_clone()?;
     Ok(FreeRow {
         account,
-        free: k.free.unwrap_or(0) + i64::from(total),
+        free: known.free.unwrap_or(0) + i64::from(total),
     })
 }
 
 /// Adds a row under whose batch and account none of the new rows stands, where its account has room for it. Its pages
 /// stand under them already.
-fn add_row<'a>(t: &mut Tally<'a>, r: &'a GrantRow, k: &KnownGrant) -> Result<RowState, AllocError>
-    requires pages { ArePages t.old.pages (t.old.rows.items ++ r.now ∷ []) }
-    requires totals { AreTotals t.old.totals t.old.rows.items }
-    requires known { IsKnown k.now }
-    ensures state { IfOk result (λ s. row_in s ≡ (if is_too_many r.now k.now t.old.rows.items then refused_row TooMany else new_row)) }
-    ensures rows { IfOk result (λ s. t.new.rows.items ≡ rows_after (row_in s) t.old.rows.items r.now) }
-    ensures free { IfOk result (λ s. t.new.free.items ≡ free_rows_after (row_in s) t.old.free.items t.old.rows.items r.now k.now) }
-    ensures tallied { IfOk result (λ s. IsTalliedAfter (row_in s) t.new) }
+fn add_row<'a>(
+    tally: &mut Tally<'a>,
+    grant: &'a GrantRow,
+    known: &KnownGrant,
+) -> Result<RowState, AllocError>
+    requires pages { ArePages tally.old.pages (tally.old.rows.items ++ grant.now ∷ []) }
+    requires totals { AreTotals tally.old.totals tally.old.rows.items }
+    requires known { IsKnown known.now }
+    ensures state { IfOk result (λ s. row_in s ≡ (if is_too_many grant.now known.now tally.old.rows.items then refused_row TooMany else new_row)) }
+    ensures rows { IfOk result (λ s. tally.new.rows.items ≡ rows_after (row_in s) tally.old.rows.items grant.now) }
+    ensures free { IfOk result (λ s. tally.new.free.items ≡ free_rows_after (row_in s) tally.old.free.items tally.old.rows.items grant.now known.now) }
+    ensures tallied { IfOk result (λ s. IsTalliedAfter (row_in s) tally.new) }
 {
-    let Some(total) = add_pages(&mut t.totals, r, MOST_GRANTED_PAGES - k.granted)? else {
+    let Some(total) = add_pages(&mut tally.totals, grant, MOST_GRANTED_PAGES - known.granted)?
+    else {
         return Ok(RowState::Refused(GrantFault::TooMany));
     };
-    let account = account_after(r, k, total)?;
-    t.free.push(account)?;
-    let row = r.try_clone()?;
-    t.rows.push(row)?;
+    let account = account_after(grant, known, total)?;
+    tally.free.push(account)?;
+    let row = grant.try_clone()?;
+    tally.rows.push(row)?;
     Ok(RowState::New)
 }
 
 /// What becomes of a row, which is added where it is new.
-fn take_row<'a>(t: &mut Tally<'a>, r: &'a GrantRow, k: &KnownGrant) -> Result<RowState, AllocError>
-    requires tallied { IsTallied t.old }
-    requires known { IsKnown k.now }
-    ensures state { IfOk result (λ s. row_in s ≡ row_of r.now k.now t.old.rows.items) }
-    ensures rows { IfOk result (λ s. t.new.rows.items ≡ rows_after (row_in s) t.old.rows.items r.now) }
-    ensures free { IfOk result (λ s. t.new.free.items ≡ free_rows_after (row_in s) t.old.free.items t.old.rows.items r.now k.now) }
-    ensures tallied { IfOk result (λ s. IsTalliedAfter (row_in s) t.new) }
+fn take_row<'a>(
+    tally: &mut Tally<'a>,
+    grant: &'a GrantRow,
+    known: &KnownGrant,
+) -> Result<RowState, AllocError>
+    requires tallied { IsTallied tally.old }
+    requires known { IsKnown known.now }
+    ensures state { IfOk result (λ s. row_in s ≡ row_of grant.now known.now tally.old.rows.items) }
+    ensures rows { IfOk result (λ s. tally.new.rows.items ≡ rows_after (row_in s) tally.old.rows.items grant.now) }
+    ensures free { IfOk result (λ s. tally.new.free.items ≡ free_rows_after (row_in s) tally.old.free.items tally.old.rows.items grant.now known.now) }
+    ensures tallied { IfOk result (λ s. IsTalliedAfter (row_in s) tally.new) }
 {
-    if let Some(pages) = k.pages {
-        return Ok(state_beside(pages, r.pages));
+    if let Some(pages) = known.pages {
+        return Ok(state_beside(pages, grant.pages));
     }
-    match add_key(&mut t.pages, r)? {
-        Some(pages) => Ok(state_beside(pages, r.pages)),
-        None => add_row(t, r, k),
+    match add_key(&mut tally.pages, grant)? {
+        Some(pages) => Ok(state_beside(pages, grant.pages)),
+        None => add_row(tally, grant, known),
     }
 }
 
@@ -177,20 +186,20 @@ enum End {
 /// Takes rows in order, each beside what is known of it, up to one that can't be taken. A row that equals one accepted
 /// before, in this file or earlier, is a repeat.
 fn take_rows<'a>(
-    t: &mut Tally<'a>,
+    tally: &mut Tally<'a>,
     rows: &'a [GrantRow],
     known: &[KnownGrant],
 ) -> Result<End, AllocError>
     requires few { length rows.now < 2 ^ 31 }
     requires known { All IsKnown known.now }
-    requires tallied { IsTallied t.old }
-    ensures taken { IfOk result (λ e. taken_at e t.new.rows.items t.new.free.items ≡ rows_taken rows.now known.now 1 t.old.rows.items t.old.free.items 0) }
-    ensures within { IfOk result (λ e. IsEndWithin e (length t.new.rows.items) (length t.old.rows.items) (length rows.now)) }
+    requires tallied { IsTallied tally.old }
+    ensures taken { IfOk result (λ e. taken_at e tally.new.rows.items tally.new.free.items ≡ rows_taken rows.now known.now 1 tally.old.rows.items tally.old.free.items 0) }
+    ensures within { IfOk result (λ e. IsEndWithin e (length tally.new.rows.items) (length tally.old.rows.items) (length rows.now)) }
 {
     let mut repeats = 0;
     let end = rows.len().min(known.len());
     for i in 0..end {
-        match take_row(t, &rows[i], &known[i])? {
+        match take_row(tally, &rows[i], &known[i])? {
             RowState::New => {}
             RowState::Repeated => repeats += 1,
             RowState::Refused(fault) => {
@@ -230,14 +239,14 @@ fn take_all(alloc: Global, rows: &[GrantRow], known: &[KnownGrant]) -> Result<Ta
 /// The rows of an account file are taken, all of them or none.
 pub(crate) fn grant<'a>(
     alloc: Global,
-    s: &Scene,
+    scene: &Scene,
     rows: &[GrantRow],
 ) -> Result<Decision<'a>, AllocError>
-    requires fair { IsFair s.now }
+    requires fair { IsFair scene.now }
     requires few { length rows.now ≤ 16777216 }
-    ensures { IfOk result (λ d. decision_of d ≡ grant_row (rows_taken rows.now s.now.known 1 [] [] 0)) }
+    ensures { IfOk result (λ d. decision_of d ≡ grant_row (rows_taken rows.now scene.now.known 1 [] [] 0)) }
 {
-    match take_all(alloc, rows, s.known.as_slice())? {
+    match take_all(alloc, rows, scene.known.as_slice())? {
         Taken::All {
             rows,
             free,

@@ -23,14 +23,14 @@ use queue_types::text::Text;
 use std::alloc::{AllocError, Global};
 
 /// The code that refuses a new job of the caller, where there is one.
-fn refusal_of_new(s: &Scene) -> Option<u16>
-    ensures code { result ≡ new_refusal s.now }
-    ensures room { IsNone result → s.now.next < 2 ^ 31 }
+fn refusal_of_new(scene: &Scene) -> Option<u16>
+    ensures code { result ≡ new_refusal scene.now }
+    ensures room { IsNone result → scene.now.next < 2 ^ 31 }
 {
-    if s.live >= MOST_LIVE_JOBS {
+    if scene.live >= MOST_LIVE_JOBS {
         return Some(CLIENT_ERROR_NOT_POSSIBLE);
     }
-    if s.next > LAST_JOB_NUMBER {
+    if scene.next > LAST_JOB_NUMBER {
         return Some(SERVER_ERROR_NOT_ACCEPTING_JOBS);
     }
     None
@@ -38,23 +38,23 @@ fn refusal_of_new(s: &Scene) -> Option<u16>
 
 fn made_job(
     alloc: Global,
-    s: &Scene,
+    scene: &Scene,
     now: u32,
     caller: &str,
     incoming: bool,
-    j: &NewJob<'_>,
+    asked: &NewJob<'_>,
     payload: &[u8],
 ) -> Result<Job, AllocError>
-    ensures { IfOk result (λ k. k ≡ new_job s.now now caller.now incoming (new_job_of j.now) payload.now) }
+    ensures { IfOk result (λ k. k ≡ new_job scene.now now caller.now incoming (new_job_of asked.now) payload.now) }
 {
     let owner = Text::copy_of(alloc, caller)?;
-    let name = Text::copy_of(alloc, j.name)?;
+    let name = Text::copy_of(alloc, asked.name)?;
     Ok(Job {
-        number: s.next,
+        number: scene.next,
         owner,
         name,
-        copies: j.copies,
-        impressions: j.impressions.unwrap_or(s.settings.estimate()),
+        copies: asked.copies,
+        impressions: asked.impressions.unwrap_or(scene.settings.estimate()),
         hold: true,
         incoming,
         phase: Phase::Waiting,
@@ -71,74 +71,74 @@ fn made_job(
 /// The job enters under the scene's next number, with its document.
 fn enter<'a>(
     alloc: Global,
-    s: &Scene,
-    j: Job,
+    scene: &Scene,
+    job: Job,
     document: Option<NewDocument<'a>>,
 ) -> Result<Decision<'a>, AllocError>
-    requires fair { IsFair s.now }
-    requires amounts { AreAmounts j }
-    requires number { s.now.next < 2 ^ 31 }
-    ensures { IfOk result (λ d. decision_of d ≡ entered_row s.now j (option_map document_of document.entry)) }
+    requires fair { IsFair scene.now }
+    requires amounts { AreAmounts job }
+    requires number { scene.now.next < 2 ^ 31 }
+    ensures { IfOk result (λ d. decision_of d ≡ entered_row scene.now job (option_map document_of document.entry)) }
 {
-    let reply = one_job(alloc, &j)?;
-    let mut change = change_job(alloc, s, j)?;
+    let reply = one_job(alloc, &job)?;
+    let mut change = change_job(alloc, scene, job)?;
     change.document = document;
-    change.next = Some(s.next + 1);
+    change.next = Some(scene.next + 1);
     Ok(Decision { reply, change })
 }
 
 fn print<'a>(
     alloc: Global,
-    s: &Scene,
+    scene: &Scene,
     now: u32,
     caller: &str,
-    j: &NewJob<'a>,
+    new_job: &NewJob<'a>,
     format: Format,
     payload: &'a [u8],
 ) -> Result<Decision<'a>, AllocError>
-    requires fair { IsFair s.now }
-    requires job { IsNewJob (new_job_of j.now) }
-    ensures { IfOk result (λ d. decision_of d ≡ print_job_row s.now now caller.now (new_job_of j.now) format payload.entry.now) }
+    requires fair { IsFair scene.now }
+    requires job { IsNewJob (new_job_of new_job.now) }
+    ensures { IfOk result (λ d. decision_of d ≡ print_job_row scene.now now caller.now (new_job_of new_job.now) format payload.entry.now) }
 {
-    if let Some(code) = refusal_of_new(s) {
+    if let Some(code) = refusal_of_new(scene) {
         return Ok(refuse(alloc, code));
     }
-    let job = made_job(alloc, s, now, caller, false, j, payload)?;
-    enter(alloc, s, job, document_in(s.next, format, payload))
+    let job = made_job(alloc, scene, now, caller, false, new_job, payload)?;
+    enter(alloc, scene, job, document_in(scene.next, format, payload))
 }
 
 fn create<'a>(
     alloc: Global,
-    s: &Scene,
+    scene: &Scene,
     now: u32,
     caller: &str,
-    j: &NewJob<'a>,
+    new_job: &NewJob<'a>,
 ) -> Result<Decision<'a>, AllocError>
-    requires fair { IsFair s.now }
-    requires job { IsNewJob (new_job_of j.now) }
-    ensures { IfOk result (λ d. decision_of d ≡ create_job_row s.now now caller.now (new_job_of j.now)) }
+    requires fair { IsFair scene.now }
+    requires job { IsNewJob (new_job_of new_job.now) }
+    ensures { IfOk result (λ d. decision_of d ≡ create_job_row scene.now now caller.now (new_job_of new_job.now)) }
 {
-    if let Some(code) = refusal_of_new(s) {
+    if let Some(code) = refusal_of_new(scene) {
         return Ok(refuse(alloc, code));
     }
-    let job = made_job(alloc, s, now, caller, true, j, &[])?;
-    enter(alloc, s, job, None)
+    let job = made_job(alloc, scene, now, caller, true, new_job, &[])?;
+    enter(alloc, scene, job, None)
 }
 
-fn validate<'a>(alloc: Global, s: &Scene) -> Decision<'a>
-    ensures { decision_of result ≡ validate_job_row s.now }
+fn validate<'a>(alloc: Global, scene: &Scene) -> Decision<'a>
+    ensures { decision_of result ≡ validate_job_row scene.now }
 {
-    match refusal_of_new(s) {
+    match refusal_of_new(scene) {
         Some(code) => refuse(alloc, code),
         None => answer_only(alloc, Reply::Done),
     }
 }
 
 /// The jobs of the scene are those that are shown.
-fn show_jobs<'a>(alloc: Global, s: &Scene) -> Result<Decision<'a>, AllocError>
-    ensures { IfOk result (λ d. decision_of d ≡ answered (Jobs s.now.jobs)) }
+fn show_jobs<'a>(alloc: Global, scene: &Scene) -> Result<Decision<'a>, AllocError>
+    ensures { IfOk result (λ d. decision_of d ≡ answered (Jobs scene.now.jobs)) }
 {
-    let shown = s.jobs.try_clone(alloc)?;
+    let shown = scene.jobs.try_clone(alloc)?;
     Ok(answer_only(alloc, Reply::Jobs(shown)))
 }
 
@@ -155,40 +155,40 @@ fn state_of_printer(counts: QueueCounts) -> u8
     }
 }
 
-fn show_printer<'a>(alloc: Global, s: &Scene) -> Decision<'a>
-    requires { IsFair s.now }
-    ensures { decision_of result ≡ printer_row s.now }
+fn show_printer<'a>(alloc: Global, scene: &Scene) -> Decision<'a>
+    requires { IsFair scene.now }
+    ensures { decision_of result ≡ printer_row scene.now }
 {
     answer_only(
         alloc,
         Reply::Printer {
-            state: state_of_printer(s.counts),
-            queued: s.counts.queued as u32,
-            accepting: s.next <= LAST_JOB_NUMBER,
+            state: state_of_printer(scene.counts),
+            queued: scene.counts.queued as u32,
+            accepting: scene.next <= LAST_JOB_NUMBER,
         },
     )
 }
 
 fn answer_call<'a>(
     alloc: Global,
-    s: &Scene,
+    scene: &Scene,
     now: u32,
     caller: &str,
     call: &Call<'a>,
 ) -> Result<Decision<'a>, AllocError>
-    requires fair { IsFair s.now }
+    requires fair { IsFair scene.now }
     requires call { IsCall (call_of call.now) }
-    ensures { IfOk result (λ d. decision_of d ≡ call_row s.now now caller.now (call_of call.now)) }
+    ensures { IfOk result (λ d. decision_of d ≡ call_row scene.now now caller.now (call_of call.now)) }
 {
-    let found = own(s, caller);
+    let found = own(scene, caller);
     match call {
         Call::PrintJob {
             job,
             format,
             payload,
-        } => print(alloc, s, now, caller, job, *format, payload),
-        Call::ValidateJob { .. } => Ok(validate(alloc, s)),
-        Call::CreateJob { job } => create(alloc, s, now, caller, job),
+        } => print(alloc, scene, now, caller, job, *format, payload),
+        Call::ValidateJob { .. } => Ok(validate(alloc, scene)),
+        Call::CreateJob { job } => create(alloc, scene, now, caller, job),
         Call::SendDocument {
             format,
             payload,
@@ -196,25 +196,25 @@ fn answer_call<'a>(
             ..
         } => match found {
             Err(code) => Ok(refuse(alloc, code)),
-            Ok(j) => send(alloc, s, j, *format, payload, *last),
+            Ok(j) => send(alloc, scene, j, *format, payload, *last),
         },
         Call::CancelMyJobs {
             jobs: Some(numbers),
-        } => { cancel_named(alloc, s, now, numbers.as_slice()) }
-        Call::CancelMyJobs { jobs: None } => cancel_all(alloc, s, now),
+        } => { cancel_named(alloc, scene, now, numbers.as_slice()) }
+        Call::CancelMyJobs { jobs: None } => cancel_all(alloc, scene, now),
         Call::HoldJob { .. } => match found {
             Err(code) => Ok(refuse(alloc, code)),
-            Ok(j) => hold(alloc, s, j),
+            Ok(j) => hold(alloc, scene, j),
         },
         Call::ReleaseJob { .. } => match found {
             Err(code) => Ok(refuse(alloc, code)),
-            Ok(j) => release(alloc, s, j),
+            Ok(j) => release(alloc, scene, j),
         },
-        Call::GetJobs { .. } => show_jobs(alloc, s),
-        Call::GetPrinterAttributes => Ok(show_printer(alloc, s)),
+        Call::GetJobs { .. } => show_jobs(alloc, scene),
+        Call::GetPrinterAttributes => Ok(show_printer(alloc, scene)),
         Call::CancelJob { .. } => match found {
             Err(code) => Ok(refuse(alloc, code)),
-            Ok(j) => cancel(alloc, s, now, j),
+            Ok(j) => cancel(alloc, scene, now, j),
         },
         Call::GetJobAttributes { .. } => match found {
             Err(code) => Ok(refuse(alloc, code)),
@@ -225,18 +225,18 @@ fn answer_call<'a>(
 
 fn decision_on<'a>(
     alloc: Global,
-    s: &Scene,
+    scene: &Scene,
     now: u32,
-    e: &Event<'a>,
+    event: &Event<'a>,
 ) -> Result<Decision<'a>, AllocError>
-    requires fair { IsFair s.now }
-    requires event { IsEvent (event_of e.now) }
-    ensures { IfOk result (λ d. decision_of d ≡ decision s.now now (event_of e.now)) }
+    requires fair { IsFair scene.now }
+    requires event { IsEvent (event_of event.now) }
+    ensures { IfOk result (λ d. decision_of d ≡ decision scene.now now (event_of event.now)) }
 {
-    match e {
-        Event::Ask { caller, call } => answer_call(alloc, s, now, caller, call),
-        Event::Tell(r) => report(alloc, s, now, *r),
-        Event::Grant(rows) => grant(alloc, s, rows),
+    match event {
+        Event::Ask { caller, call } => answer_call(alloc, scene, now, caller, call),
+        Event::Tell(r) => report(alloc, scene, now, *r),
+        Event::Grant(rows) => grant(alloc, scene, rows),
     }
 }
 
@@ -246,23 +246,23 @@ fn decision_on<'a>(
 /// are free, reserved and printed. The one error is want of memory.
 pub fn decide<'a>(
     alloc: Global,
-    s: &Scene,
+    scene: &Scene,
     now: u32,
-    e: &Event<'a>,
+    event: &Event<'a>,
 ) -> Result<Decision<'a>, AllocError>
-    requires fair { IsFair s.now }
+    requires fair { IsFair scene.now }
     requires moment { IsMoment now }
-    requires event { IsEvent (event_of e.now) }
-    ensures decides { IfOk result (λ d. decision_of d ≡ decision s.now now (event_of e.now)) }
-    ensures limits { IfOk result (λ d. IsReplyTo (event_of e.now) d.reply) }
+    requires event { IsEvent (event_of event.now) }
+    ensures decides { IfOk result (λ d. decision_of d ≡ decision scene.now now (event_of event.now)) }
+    ensures limits { IfOk result (λ d. IsReplyTo (event_of event.now) d.reply) }
     ensures rows { IfOk result (λ d. IsSoundChange (change_of d.change)) }
 
     // on the scene that was cut from a world
-    ensures reply { IfOk result (λ d. (w : World) → s.now ≡ cut w (event_of e.now) → d.reply ≡ (step w now (event_of e.now)).reply) }
-    ensures world { IfOk result (λ d. (w : World) → s.now ≡ cut w (event_of e.now) → made_on (change_of d.change) w ≡ (step w now (event_of e.now)).world) }
-    ensures sound { IfOk result (λ d. (w : World) → s.now ≡ cut w (event_of e.now) → IsSound w → IsSound (made_on (change_of d.change) w)) }
-    ensures moves { IfOk result (λ d. (w : World) → s.now ≡ cut w (event_of e.now) → IsSound w → MovesAlong w (made_on (change_of d.change) w)) }
-    ensures balances { IfOk result (λ d. (w : World) → s.now ≡ cut w (event_of e.now) → IsSound w → Balances (made_on (change_of d.change) w)) }
+    ensures reply { IfOk result (λ d. (w : World) → scene.now ≡ cut w (event_of event.now) → d.reply ≡ (step w now (event_of event.now)).reply) }
+    ensures world { IfOk result (λ d. (w : World) → scene.now ≡ cut w (event_of event.now) → made_on (change_of d.change) w ≡ (step w now (event_of event.now)).world) }
+    ensures sound { IfOk result (λ d. (w : World) → scene.now ≡ cut w (event_of event.now) → IsSound w → IsSound (made_on (change_of d.change) w)) }
+    ensures moves { IfOk result (λ d. (w : World) → scene.now ≡ cut w (event_of event.now) → IsSound w → MovesAlong w (made_on (change_of d.change) w)) }
+    ensures balances { IfOk result (λ d. (w : World) → scene.now ≡ cut w (event_of event.now) → IsSound w → Balances (made_on (change_of d.change) w)) }
 {
-    decision_on(alloc, s, now, e)
+    decision_on(alloc, scene, now, event)
 }

@@ -72,12 +72,16 @@ fn canceled_jobs(alloc: Global, now: u32, jobs: &[Job]) -> Result<Vec<Job>, Allo
 }
 
 /// All the jobs of the scene that can be canceled are.
-pub(crate) fn cancel_all<'a>(alloc: Global, s: &Scene, now: u32) -> Result<Decision<'a>, AllocError>
-    requires { IsFair s.now }
-    ensures { IfOk result (λ d. decision_of d ≡ all_canceled s.now now (filter is_cancelable s.now.jobs)) }
+pub(crate) fn cancel_all<'a>(
+    alloc: Global,
+    scene: &Scene,
+    now: u32,
+) -> Result<Decision<'a>, AllocError>
+    requires { IsFair scene.now }
+    ensures { IfOk result (λ d. decision_of d ≡ all_canceled scene.now now (filter is_cancelable scene.now.jobs)) }
 {
-    let after = canceled_jobs(alloc, now, s.jobs.as_slice())?;
-    let change = change_jobs(alloc, s, after)?;
+    let after = canceled_jobs(alloc, now, scene.jobs.as_slice())?;
+    let change = change_jobs(alloc, scene, after)?;
     Ok(Decision {
         reply: Reply::Done,
         change,
@@ -87,18 +91,18 @@ pub(crate) fn cancel_all<'a>(alloc: Global, s: &Scene, now: u32) -> Result<Decis
 /// The caller's jobs of these numbers, which the scene has, are canceled, all of them or none.
 pub(crate) fn cancel_named<'a>(
     alloc: Global,
-    s: &Scene,
+    scene: &Scene,
     now: u32,
     numbers: &[u32],
 ) -> Result<Decision<'a>, AllocError>
-    requires { IsFair s.now }
-    ensures { IfOk result (λ d. decision_of d ≡ cancel_my_jobs_row s.now now (Some numbers.now)) }
+    requires { IsFair scene.now }
+    ensures { IfOk result (λ d. decision_of d ≡ cancel_my_jobs_row scene.now now (Some numbers.now)) }
 {
-    if !has_each(alloc, s.jobs.as_slice(), numbers)? {
+    if !has_each(alloc, scene.jobs.as_slice(), numbers)? {
         return Ok(refuse(alloc, CLIENT_ERROR_NOT_FOUND));
     }
-    if !can_cancel_all(s.jobs.as_slice()) {
+    if !can_cancel_all(scene.jobs.as_slice()) {
         return Ok(refuse(alloc, CLIENT_ERROR_NOT_POSSIBLE));
     }
-    cancel_all(alloc, s, now)
+    cancel_all(alloc, scene, now)
 }

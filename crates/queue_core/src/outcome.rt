@@ -34,26 +34,31 @@ pub(crate) fn refuse<'a>(alloc: Global, code: u16) -> Decision<'a>
 }
 
 /// The reply that shows one job.
-pub(crate) fn one_job(alloc: Global, j: &Job) -> Result<Reply, AllocError>
-    ensures { IfOk result (λ r. r ≡ Jobs (j.now ∷ [])) }
+pub(crate) fn one_job(alloc: Global, job: &Job) -> Result<Reply, AllocError>
+    ensures { IfOk result (λ r. r ≡ Jobs (job.now ∷ [])) }
 {
     let mut shown = Vec::new(alloc);
-    shown.push(j.try_clone()?)?;
+    shown.push(job.try_clone()?)?;
     Ok(Reply::Jobs(JobList::from_items(shown)))
 }
 
 /// Each job takes the place of the one of its number, or enters, and free pages move by the balance.
 pub(crate) fn change_jobs<'a>(
     alloc: Global,
-    s: &Scene,
+    scene: &Scene,
     jobs: Vec<Job>,
 ) -> Result<Change<'a>, AllocError>
-    requires fair { IsFair s.now }
+    requires fair { IsFair scene.now }
     requires amounts { All AreAmounts jobs.items }
     requires few { length jobs.items < 2 ^ 31 }
-    ensures { IfOk result (λ c. change_of c ≡ changed s.now jobs.items) }
+    ensures { IfOk result (λ c. change_of c ≡ changed scene.now jobs.items) }
 {
-    let free = credited_rows(alloc, s.jobs.as_slice(), jobs.as_slice(), s.free.as_slice())?;
+    let free = credited_rows(
+        alloc,
+        scene.jobs.as_slice(),
+        jobs.as_slice(),
+        scene.free.as_slice(),
+    )?;
     Ok(Change {
         jobs: JobList::from_items(jobs),
         document: None,
@@ -64,22 +69,30 @@ pub(crate) fn change_jobs<'a>(
     })
 }
 
-pub(crate) fn change_job<'a>(alloc: Global, s: &Scene, j: Job) -> Result<Change<'a>, AllocError>
-    requires fair { IsFair s.now }
-    requires amounts { AreAmounts j }
-    ensures { IfOk result (λ c. change_of c ≡ changed s.now (j ∷ [])) }
+pub(crate) fn change_job<'a>(
+    alloc: Global,
+    scene: &Scene,
+    job: Job,
+) -> Result<Change<'a>, AllocError>
+    requires fair { IsFair scene.now }
+    requires amounts { AreAmounts job }
+    ensures { IfOk result (λ c. change_of c ≡ changed scene.now (job ∷ [])) }
 {
     let mut jobs = Vec::new(alloc);
-    jobs.push(j)?;
-    change_jobs(alloc, s, jobs)
+    jobs.push(job)?;
+    change_jobs(alloc, scene, jobs)
 }
 
-pub(crate) fn job_becomes<'a>(alloc: Global, s: &Scene, j: Job) -> Result<Decision<'a>, AllocError>
-    requires fair { IsFair s.now }
-    requires amounts { AreAmounts j }
-    ensures { IfOk result (λ d. decision_of d ≡ becomes s.now j) }
+pub(crate) fn job_becomes<'a>(
+    alloc: Global,
+    scene: &Scene,
+    job: Job,
+) -> Result<Decision<'a>, AllocError>
+    requires fair { IsFair scene.now }
+    requires amounts { AreAmounts job }
+    ensures { IfOk result (λ d. decision_of d ≡ becomes scene.now job) }
 {
-    let change = change_job(alloc, s, j)?;
+    let change = change_job(alloc, scene, job)?;
     Ok(Decision {
         reply: Reply::Done,
         change,

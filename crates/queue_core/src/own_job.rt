@@ -15,59 +15,59 @@ use queue_types::status::{CLIENT_ERROR_NOT_FOUND, CLIENT_ERROR_NOT_POSSIBLE};
 use std::alloc::{AllocError, Global};
 
 /// The job waits, or the device has it and was not asked to stop it.
-pub(crate) fn can_cancel(j: &Job) -> bool
-    ensures { result ≡ is_cancelable j.now }
+pub(crate) fn can_cancel(job: &Job) -> bool
+    ensures { result ≡ is_cancelable job.now }
 {
-    match j.phase {
+    match job.phase {
         Phase::Waiting => true,
-        Phase::Running | Phase::Stopped => !j.stopping,
+        Phase::Running | Phase::Stopped => !job.stopping,
         Phase::Canceled(_) | Phase::Aborted | Phase::Completed => false,
     }
 }
 
 /// The job as it is once it is canceled: a waiting job ends, one that the device has is asked to stop.
-pub(crate) fn canceled_job(now: u32, j: &Job) -> Result<Job, AllocError>
-    ensures { IfOk result (λ k. k ≡ canceled now j.now) }
+pub(crate) fn canceled_job(now: u32, job: &Job) -> Result<Job, AllocError>
+    ensures { IfOk result (λ k. k ≡ canceled now job.now) }
 {
-    let mut j = j.try_clone()?;
-    match j.phase {
+    let mut job = job.try_clone()?;
+    match job.phase {
         Phase::Waiting => {
-            j.phase = Phase::Canceled(Why::ByUser);
-            j.hold = false;
-            j.incoming = false;
-            j.ended = Some(now);
+            job.phase = Phase::Canceled(Why::ByUser);
+            job.hold = false;
+            job.incoming = false;
+            job.ended = Some(now);
         }
-        Phase::Running | Phase::Stopped => j.stopping = true,
+        Phase::Running | Phase::Stopped => job.stopping = true,
         Phase::Canceled(_) | Phase::Aborted | Phase::Completed => {}
     }
-    Ok(j)
+    Ok(job)
 }
 
 pub(crate) fn cancel<'a>(
     alloc: Global,
-    s: &Scene,
+    scene: &Scene,
     now: u32,
-    j: &Job,
+    job: &Job,
 ) -> Result<Decision<'a>, AllocError>
-    requires fair { IsFair s.now }
-    requires job { IsSoundJob j.now }
-    ensures { IfOk result (λ d. decision_of d ≡ cancel_row s.now now j.now) }
+    requires fair { IsFair scene.now }
+    requires job { IsSoundJob job.now }
+    ensures { IfOk result (λ d. decision_of d ≡ cancel_row scene.now now job.now) }
 {
-    if !can_cancel(j) {
+    if !can_cancel(job) {
         return Ok(refuse(alloc, CLIENT_ERROR_NOT_POSSIBLE));
     }
-    job_becomes(alloc, s, canceled_job(now, j)?)
+    job_becomes(alloc, scene, canceled_job(now, job)?)
 }
 
 /// The caller's own job, the first of those that the event speaks of, or the code of a refusal: another's
 /// job and no job are one answer.
-pub(crate) fn own<'s>(s: &'s Scene, caller: &str) -> Result<&'s Job, u16>
-    requires sound { All IsSoundJob s.now.jobs }
-    ensures own { IfOk result (λ j. (row : _) → of_own caller.now row s.now.jobs ≡ row j.now) }
-    ensures none { IfErr result (λ code. (row : _) → of_own caller.now row s.now.jobs ≡ refused code) }
+pub(crate) fn own<'s>(scene: &'s Scene, caller: &str) -> Result<&'s Job, u16>
+    requires sound { All IsSoundJob scene.now.jobs }
+    ensures own { IfOk result (λ j. (row : _) → of_own caller.now row scene.now.jobs ≡ row j.now) }
+    ensures none { IfErr result (λ code. (row : _) → of_own caller.now row scene.now.jobs ≡ refused code) }
     ensures sound { IfOk result (λ j. IsSoundJob j.now) }
 {
-    match s.jobs.as_slice() {
+    match scene.jobs.as_slice() {
         [] => Err(CLIENT_ERROR_NOT_FOUND),
         [j, ..] => {
             if j.owner.as_str() == caller {
@@ -79,23 +79,23 @@ pub(crate) fn own<'s>(s: &'s Scene, caller: &str) -> Result<&'s Job, u16>
     }
 }
 
-pub(crate) fn show<'a>(alloc: Global, j: &Job) -> Result<Decision<'a>, AllocError>
-    ensures { IfOk result (λ d. decision_of d ≡ answered (Jobs (j.now ∷ []))) }
+pub(crate) fn show<'a>(alloc: Global, job: &Job) -> Result<Decision<'a>, AllocError>
+    ensures { IfOk result (λ d. decision_of d ≡ answered (Jobs (job.now ∷ []))) }
 {
-    let reply = one_job(alloc, j)?;
+    let reply = one_job(alloc, job)?;
     Ok(answer_only(alloc, reply))
 }
 
-pub(crate) fn hold<'a>(alloc: Global, s: &Scene, j: &Job) -> Result<Decision<'a>, AllocError>
-    requires fair { IsFair s.now }
-    requires job { IsSoundJob j.now }
-    ensures { IfOk result (λ d. decision_of d ≡ hold_in j.now.phase s.now j.now) }
+pub(crate) fn hold<'a>(alloc: Global, scene: &Scene, job: &Job) -> Result<Decision<'a>, AllocError>
+    requires fair { IsFair scene.now }
+    requires job { IsSoundJob job.now }
+    ensures { IfOk result (λ d. decision_of d ≡ hold_in job.now.phase scene.now job.now) }
 {
-    match j.phase {
+    match job.phase {
         Phase::Waiting => {
-            let mut j = j.try_clone()?;
-            j.hold = true;
-            job_becomes(alloc, s, j)
+            let mut job = job.try_clone()?;
+            job.hold = true;
+            job_becomes(alloc, scene, job)
         }
         Phase::Running | Phase::Stopped | Phase::Canceled(_) | Phase::Aborted | Phase::Completed =>
             Ok(refuse(alloc, CLIENT_ERROR_NOT_POSSIBLE)),
@@ -112,28 +112,32 @@ fn has_free_pages(free: &[FreeRow], pages: u64) -> bool
     }
 }
 
-fn allow<'a>(alloc: Global, s: &Scene, j: &Job) -> Result<Decision<'a>, AllocError>
-    requires fair { IsFair s.now }
-    requires job { IsSoundJob j.now }
-    ensures { IfOk result (λ d. decision_of d ≡ let_print s.now j.now) }
+fn allow<'a>(alloc: Global, scene: &Scene, job: &Job) -> Result<Decision<'a>, AllocError>
+    requires fair { IsFair scene.now }
+    requires job { IsSoundJob job.now }
+    ensures { IfOk result (λ d. decision_of d ≡ let_print scene.now job.now) }
 {
-    if !has_free_pages(s.free.as_slice(), j.estimate()) {
+    if !has_free_pages(scene.free.as_slice(), job.estimate()) {
         return Ok(refuse(alloc, CLIENT_ERROR_NOT_POSSIBLE));
     }
-    let mut j = j.try_clone()?;
-    j.hold = false;
-    job_becomes(alloc, s, j)
+    let mut job = job.try_clone()?;
+    job.hold = false;
+    job_becomes(alloc, scene, job)
 }
 
-pub(crate) fn release<'a>(alloc: Global, s: &Scene, j: &Job) -> Result<Decision<'a>, AllocError>
-    requires fair { IsFair s.now }
-    requires job { IsSoundJob j.now }
-    ensures { IfOk result (λ d. decision_of d ≡ release_in j.now.phase s.now j.now) }
+pub(crate) fn release<'a>(
+    alloc: Global,
+    scene: &Scene,
+    job: &Job,
+) -> Result<Decision<'a>, AllocError>
+    requires fair { IsFair scene.now }
+    requires job { IsSoundJob job.now }
+    ensures { IfOk result (λ d. decision_of d ≡ release_in job.now.phase scene.now job.now) }
 {
-    match j.phase {
+    match job.phase {
         Phase::Waiting => {
-            if j.hold {
-                allow(alloc, s, j)
+            if job.hold {
+                allow(alloc, scene, job)
             } else {
                 Ok(answer_only(alloc, Reply::Done))
             }
@@ -168,44 +172,44 @@ pub(crate) fn document_in(number: u32, format: Format, payload: &[u8]) -> Option
     })
 }
 
-fn takes(j: &Job, payload: &[u8]) -> bool
-    requires { IsSoundJob j.now }
-    ensures { result ≡ is_sendable j.now payload.now }
+fn takes(job: &Job, payload: &[u8]) -> bool
+    requires { IsSoundJob job.now }
+    ensures { result ≡ is_sendable job.now payload.now }
 {
-    j.incoming && j.documents + count_of(payload) <= MOST_DOCUMENTS
+    job.incoming && job.documents + count_of(payload) <= MOST_DOCUMENTS
 }
 
 /// The job with the payload as its next document.
-fn with_document(j: &Job, payload: &[u8], last: bool) -> Result<Job, AllocError>
-    requires { IsSoundJob j.now }
-    ensures { IfOk result (λ k. k ≡ sent j.now payload.now last) }
+fn with_document(job: &Job, payload: &[u8], last: bool) -> Result<Job, AllocError>
+    requires { IsSoundJob job.now }
+    ensures { IfOk result (λ k. k ≡ sent job.now payload.now last) }
 {
-    let mut j = j.try_clone()?;
-    j.documents += count_of(payload);
-    j.octets += payload.len() as u64;
-    j.incoming = !last;
-    Ok(j)
+    let mut job = job.try_clone()?;
+    job.documents += count_of(payload);
+    job.octets += payload.len() as u64;
+    job.incoming = !last;
+    Ok(job)
 }
 
 pub(crate) fn send<'a>(
     alloc: Global,
-    s: &Scene,
-    j: &Job,
+    scene: &Scene,
+    job: &Job,
     format: Format,
     payload: &'a [u8],
     last: bool,
 ) -> Result<Decision<'a>, AllocError>
-    requires fair { IsFair s.now }
-    requires job { IsSoundJob j.now }
-    ensures { IfOk result (λ d. decision_of d ≡ send_in s.now j.now format payload.entry.now last) }
+    requires fair { IsFair scene.now }
+    requires job { IsSoundJob job.now }
+    ensures { IfOk result (λ d. decision_of d ≡ send_in scene.now job.now format payload.entry.now last) }
 {
-    if !takes(j, payload) {
+    if !takes(job, payload) {
         return Ok(refuse(alloc, CLIENT_ERROR_NOT_POSSIBLE));
     }
-    let j = with_document(j, payload, last)?;
-    let document = document_in(j.number, format, payload);
-    let reply = one_job(alloc, &j)?;
-    let mut change = change_job(alloc, s, j)?;
+    let job = with_document(job, payload, last)?;
+    let document = document_in(job.number, format, payload);
+    let reply = one_job(alloc, &job)?;
+    let mut change = change_job(alloc, scene, job)?;
     change.document = document;
     Ok(Decision { reply, change })
 }

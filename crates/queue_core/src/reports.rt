@@ -19,25 +19,25 @@ fn is_same(a: &Report, b: &Report) -> bool
 }
 
 /// The job with the greatest count that was reported.
-fn counted_job(j: &Job, count: u32) -> Result<Job, AllocError>
-    requires job { IsSoundJob j.now }
+fn counted_job(job: &Job, count: u32) -> Result<Job, AllocError>
+    requires job { IsSoundJob job.now }
     requires count { count ≤ 100000000 }
-    ensures is { IfOk result (λ k. k ≡ counted count j.now) }
+    ensures is { IfOk result (λ k. k ≡ counted count job.now) }
     ensures amounts { IfOk result AreAmounts }
 {
-    let mut j = j.try_clone()?;
-    j.count = j.count.max(count);
-    Ok(j)
+    let mut job = job.try_clone()?;
+    job.count = job.count.max(count);
+    Ok(job)
 }
 
 /// The job once it has ended in that phase.
-fn ended_job(mut j: Job, phase: Phase, now: u32) -> Job
-    ensures { result ≡ ended_as phase now j }
+fn ended_job(mut job: Job, phase: Phase, now: u32) -> Job
+    ensures { result ≡ ended_as phase now job }
 {
-    j.phase = phase;
-    j.stopping = false;
-    j.ended = Some(now);
-    j
+    job.phase = phase;
+    job.stopping = false;
+    job.ended = Some(now);
+    job
 }
 
 /// Its user ended it where a cancel was asked, and else the device.
@@ -48,57 +48,62 @@ fn why(stopping: bool) -> Why
 }
 
 /// The job in the phase, where it waits and may print.
-fn started(mut j: Job, now: u32) -> Option<Job>
-    ensures is { result ≡ moved_by Kind.Start Phase.Waiting now j }
-    ensures amounts { AreAmounts j → IfSome result AreAmounts }
+fn started(mut job: Job, now: u32) -> Option<Job>
+    ensures is { result ≡ moved_by Kind.Start Phase.Waiting now job }
+    ensures amounts { AreAmounts job → IfSome result AreAmounts }
 {
-    if j.hold || j.incoming {
+    if job.hold || job.incoming {
         return None;
     }
-    j.phase = Phase::Running;
-    j.begun = Some(now);
-    Some(j)
+    job.phase = Phase::Running;
+    job.begun = Some(now);
+    Some(job)
 }
 
-fn in_phase(mut j: Job, phase: Phase) -> Job
-    ensures { result ≡ record j { phase = phase } }
+fn in_phase(mut job: Job, phase: Phase) -> Job
+    ensures { result ≡ record job { phase = phase } }
 {
-    j.phase = phase;
-    j
+    job.phase = phase;
+    job
 }
 
 /// What becomes of the job by a report of that kind, where its phase takes one.
-fn moved(j: Job, kind: Kind, now: u32) -> Option<Job>
-    ensures is { result ≡ moved_by kind j.phase now j }
-    ensures amounts { AreAmounts j → IfSome result AreAmounts }
+fn moved(job: Job, kind: Kind, now: u32) -> Option<Job>
+    ensures is { result ≡ moved_by kind job.phase now job }
+    ensures amounts { AreAmounts job → IfSome result AreAmounts }
 {
-    match (kind, j.phase) {
-        (Kind::Start, Phase::Waiting) => started(j, now),
-        (Kind::Stop, Phase::Running) => Some(in_phase(j, Phase::Stopped)),
-        (Kind::Resume, Phase::Stopped) => Some(in_phase(j, Phase::Running)),
-        (Kind::Count, _) => { if j.begun.is_some() { Some(j) } else { None } }
-        (Kind::Done, Phase::Running) => Some(ended_job(j, Phase::Completed, now)),
-        (Kind::Fail, Phase::Running | Phase::Stopped) => Some(ended_job(j, Phase::Aborted, now)),
+    match (kind, job.phase) {
+        (Kind::Start, Phase::Waiting) => started(job, now),
+        (Kind::Stop, Phase::Running) => Some(in_phase(job, Phase::Stopped)),
+        (Kind::Resume, Phase::Stopped) => Some(in_phase(job, Phase::Running)),
+        (Kind::Count, _) => { if job.begun.is_some() { Some(job) } else { None } }
+        (Kind::Done, Phase::Running) => Some(ended_job(job, Phase::Completed, now)),
+        (Kind::Fail, Phase::Running | Phase::Stopped) => Some(ended_job(job, Phase::Aborted, now)),
         (Kind::Halt, Phase::Running | Phase::Stopped) => {
-            let phase = Phase::Canceled(why(j.stopping));
-            Some(ended_job(j, phase, now))
+            let phase = Phase::Canceled(why(job.stopping));
+            Some(ended_job(job, phase, now))
         }
         _ => None,
     }
 }
 
 /// The report is kept, and the job changes.
-fn accept<'a>(alloc: Global, s: &Scene, r: Report, j: Job) -> Result<Decision<'a>, AllocError>
-    requires fair { IsFair s.now }
-    requires amounts { AreAmounts j }
-    ensures { IfOk result (λ d. decision_of d ≡ accepted s.now r j) }
+fn accept<'a>(
+    alloc: Global,
+    scene: &Scene,
+    report: Report,
+    job: Job,
+) -> Result<Decision<'a>, AllocError>
+    requires fair { IsFair scene.now }
+    requires amounts { AreAmounts job }
+    ensures { IfOk result (λ d. decision_of d ≡ accepted scene.now report job) }
 {
     let kept = KeptReport {
-        report: r,
-        state: j.state(),
-        total: j.count,
+        report,
+        state: job.state(),
+        total: job.count,
     };
-    let mut change = change_job(alloc, s, j)?;
+    let mut change = change_job(alloc, scene, job)?;
     change.report = Some(kept);
     Ok(Decision {
         reply: Reply::Told {
@@ -112,19 +117,19 @@ fn accept<'a>(alloc: Global, s: &Scene, r: Report, j: Job) -> Result<Decision<'a
 /// A report that was not accepted before.
 fn take<'a>(
     alloc: Global,
-    s: &Scene,
+    scene: &Scene,
     now: u32,
-    r: Report,
-    j: &Job,
+    report: Report,
+    job: &Job,
 ) -> Result<Decision<'a>, AllocError>
-    requires fair { IsFair s.now }
-    requires report { IsReport r }
-    requires job { IsSoundJob j.now }
-    ensures { IfOk result (λ d. decision_of d ≡ accepted_where s.now r (moved_by r.kind j.now.phase now (counted r.count j.now))) }
+    requires fair { IsFair scene.now }
+    requires report { IsReport report }
+    requires job { IsSoundJob job.now }
+    ensures { IfOk result (λ d. decision_of d ≡ accepted_where scene.now report (moved_by report.kind job.now.phase now (counted report.count job.now))) }
 {
-    let j = counted_job(j, r.count)?;
-    match moved(j, r.kind, now) {
-        Some(j) => accept(alloc, s, r, j),
+    let job = counted_job(job, report.count)?;
+    match moved(job, report.kind, now) {
+        Some(job) => accept(alloc, scene, report, job),
         None => Ok(answer_only(alloc, Reply::NotTold(ReportRefusal::State))),
     }
 }
@@ -132,21 +137,21 @@ fn take<'a>(
 /// A device's report of the scene's job.
 pub(crate) fn report<'a>(
     alloc: Global,
-    s: &Scene,
+    scene: &Scene,
     now: u32,
-    r: Report,
+    report: Report,
 ) -> Result<Decision<'a>, AllocError>
-    requires fair { IsFair s.now }
-    requires report { IsReport r }
-    ensures { IfOk result (λ d. decision_of d ≡ report_row s.now now r s.now.jobs s.now.report) }
+    requires fair { IsFair scene.now }
+    requires report { IsReport report }
+    ensures { IfOk result (λ d. decision_of d ≡ report_row scene.now now report scene.now.jobs scene.now.report) }
 {
-    let [j, ..] = s.jobs.as_slice() else {
+    let [j, ..] = scene.jobs.as_slice() else {
         return Ok(answer_only(alloc, Reply::NotTold(ReportRefusal::NoJob)));
     };
-    let Some(kept) = s.report else {
-        return take(alloc, s, now, r, j);
+    let Some(kept) = scene.report else {
+        return take(alloc, scene, now, report, j);
     };
-    if is_same(&r, &kept.report) {
+    if is_same(&report, &kept.report) {
         return Ok(answer_only(
             alloc,
             Reply::Told {

@@ -36,16 +36,16 @@ fn has_total(m: &HashMap<&str, u128>, name: &str) -> bool
     total_of(m, name) >= 1
 }
 
-fn has_grant(granted: &HashMap<&str, u128>, a: &AccountRow) -> bool
-    ensures { IsTrue result ↔ (1 ≤ total_in granted.now a.now.name) }
+fn has_grant(granted: &HashMap<&str, u128>, account: &AccountRow) -> bool
+    ensures { IsTrue result ↔ (1 ≤ total_in granted.now account.now.name) }
 {
-    has_total(granted, a.name.as_str())
+    has_total(granted, account.name.as_str())
 }
 
-fn has_account(names: &HashMap<&str, u128>, g: &GrantRow) -> bool
-    ensures { IsTrue result ↔ (1 ≤ total_in names.now g.now.account) }
+fn has_account(names: &HashMap<&str, u128>, grant: &GrantRow) -> bool
+    ensures { IsTrue result ↔ (1 ≤ total_in names.now grant.now.account) }
 {
-    has_total(names, g.account.as_str())
+    has_total(names, grant.account.as_str())
 }
 
 /// Each grant's account is there.

@@ -26,26 +26,26 @@ fn is_sum(granted: u128, free: i64, spent: u128) -> bool
 }
 
 /// The stored sums are these, and pages granted are those free, reserved and printed.
-fn is_balanced(a: &AccountRow, granted: u128, reserved: u128, printed: u128) -> bool
-    ensures { IsTrue result ↔ ((a.now.reserved ≡ reserved) × (a.now.printed ≡ printed) × (pos granted ≡ a.now.free +ℤ pos (a.now.reserved + a.now.printed))) }
+fn is_balanced(account: &AccountRow, granted: u128, reserved: u128, printed: u128) -> bool
+    ensures { IsTrue result ↔ ((account.now.reserved ≡ reserved) × (account.now.printed ≡ printed) × (pos granted ≡ account.now.free +ℤ pos (account.now.reserved + account.now.printed))) }
 {
-    let spent = u128::from(a.reserved) + u128::from(a.printed);
-    u128::from(a.reserved) == reserved
-        && u128::from(a.printed) == printed
-        && is_sum(granted, a.free, spent)
+    let spent = u128::from(account.reserved) + u128::from(account.printed);
+    u128::from(account.reserved) == reserved
+        && u128::from(account.printed) == printed
+        && is_sum(granted, account.free, spent)
 }
 
 fn is_account_balanced(
-    a: &AccountRow,
+    account: &AccountRow,
     granted: &HashMap<&str, u128>,
     reserved: &HashMap<&str, u128>,
     printed: &HashMap<&str, u128>,
 ) -> bool
-    ensures { IsTrue result ↔ ((a.now.reserved ≡ total_in reserved.now a.now.name) × (a.now.printed ≡ total_in printed.now a.now.name) × (pos (total_in granted.now a.now.name) ≡ a.now.free +ℤ pos (a.now.reserved + a.now.printed))) }
+    ensures { IsTrue result ↔ ((account.now.reserved ≡ total_in reserved.now account.now.name) × (account.now.printed ≡ total_in printed.now account.now.name) × (pos (total_in granted.now account.now.name) ≡ account.now.free +ℤ pos (account.now.reserved + account.now.printed))) }
 {
-    let name = a.name.as_str();
+    let name = account.name.as_str();
     is_balanced(
-        a,
+        account,
         total_of(granted, name),
         total_of(reserved, name),
         total_of(printed, name),

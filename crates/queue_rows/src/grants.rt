@@ -14,11 +14,11 @@ use std::cmp::Ordering;
 /// The most pages that an account is granted in all.
 const MOST_GRANTED: u128 = MOST_GRANTED_PAGES as u128;
 
-fn is_grant(g: &GrantRow) -> bool
-    ensures { IsTrue result ↔ IsGrantRow g.now }
+fn is_grant(grant: &GrantRow) -> bool
+    ensures { IsTrue result ↔ IsGrantRow grant.now }
 {
-    let names = is_batch(g.batch.as_str()) && is_owner(g.account.as_str());
-    names && g.pages >= 1 && g.pages <= MOST_ROW_PAGES
+    let names = is_batch(grant.batch.as_str()) && is_owner(grant.account.as_str());
+    names && grant.pages >= 1 && grant.pages <= MOST_ROW_PAGES
 }
 
 /// The batch, the account and the pages of each are within their limits.

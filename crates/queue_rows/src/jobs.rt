@@ -22,52 +22,52 @@ fn is_moment_if_some(m: Option<u32>) -> bool
     }
 }
 
-fn fits_waiting(j: &Job) -> bool
-    ensures { IsTrue result ↔ ((j.now.count ≡ 0) × (j.now.begun ≡ None) × (j.now.ended ≡ None) × (j.now.stopping ≡ false)) }
+fn fits_waiting(job: &Job) -> bool
+    ensures { IsTrue result ↔ ((job.now.count ≡ 0) × (job.now.begun ≡ None) × (job.now.ended ≡ None) × (job.now.stopping ≡ false)) }
 {
-    j.count == 0 && j.begun.is_none() && j.ended.is_none() && !j.stopping
+    job.count == 0 && job.begun.is_none() && job.ended.is_none() && !job.stopping
 }
 
-fn fits_at_device(j: &Job) -> bool
-    ensures { IsTrue result ↔ ((j.now.hold ≡ false) × (j.now.incoming ≡ false) × IsSome j.now.begun × (j.now.ended ≡ None)) }
+fn fits_at_device(job: &Job) -> bool
+    ensures { IsTrue result ↔ ((job.now.hold ≡ false) × (job.now.incoming ≡ false) × IsSome job.now.begun × (job.now.ended ≡ None)) }
 {
-    !j.hold && !j.incoming && j.begun.is_some() && j.ended.is_none()
+    !job.hold && !job.incoming && job.begun.is_some() && job.ended.is_none()
 }
 
-fn fits_ended(j: &Job) -> bool
-    ensures { IsTrue result ↔ ((j.now.hold ≡ false) × (j.now.incoming ≡ false) × IsSome j.now.ended × (j.now.stopping ≡ false)) }
+fn fits_ended(job: &Job) -> bool
+    ensures { IsTrue result ↔ ((job.now.hold ≡ false) × (job.now.incoming ≡ false) × IsSome job.now.ended × (job.now.stopping ≡ false)) }
 {
-    !j.hold && !j.incoming && j.ended.is_some() && !j.stopping
+    !job.hold && !job.incoming && job.ended.is_some() && !job.stopping
 }
 
-fn fits_phase(j: &Job) -> bool
-    ensures { IsTrue result ↔ FitsPhase j.now.phase j.now }
+fn fits_phase(job: &Job) -> bool
+    ensures { IsTrue result ↔ FitsPhase job.now.phase job.now }
 {
-    match j.phase {
-        Phase::Waiting => fits_waiting(j),
-        Phase::Running => fits_at_device(j),
-        Phase::Stopped => fits_at_device(j),
-        Phase::Canceled(_) => fits_ended(j),
-        Phase::Aborted => fits_ended(j),
-        Phase::Completed => fits_ended(j),
+    match job.phase {
+        Phase::Waiting => fits_waiting(job),
+        Phase::Running => fits_at_device(job),
+        Phase::Stopped => fits_at_device(job),
+        Phase::Canceled(_) => fits_ended(job),
+        Phase::Aborted => fits_ended(job),
+        Phase::Completed => fits_ended(job),
     }
 }
 
 /// The job is within its own limits, and says nothing of its documents.
-pub fn is_job_row(j: &Job) -> bool
-    ensures { IsTrue result ↔ IsJobRow j.now }
+pub fn is_job_row(job: &Job) -> bool
+    ensures { IsTrue result ↔ IsJobRow job.now }
 {
-    let texts = is_owner(j.owner.as_str()) && is_job_name(j.name.as_str());
-    let moments = is_positive(j.created)
-        && is_moment_if_some(j.begun)
-        && is_moment_if_some(j.ended);
-    let numbers = is_positive(j.number)
-        && j.copies >= 1
-        && j.copies <= MOST_COPIES
-        && j.impressions <= MOST_IMPRESSIONS
-        && j.count <= MOST_PRINTED_PAGES;
-    let is_bare = j.documents == 0 && j.octets == 0;
-    texts && moments && numbers && is_bare && fits_phase(j)
+    let texts = is_owner(job.owner.as_str()) && is_job_name(job.name.as_str());
+    let moments = is_positive(job.created)
+        && is_moment_if_some(job.begun)
+        && is_moment_if_some(job.ended);
+    let numbers = is_positive(job.number)
+        && job.copies >= 1
+        && job.copies <= MOST_COPIES
+        && job.impressions <= MOST_IMPRESSIONS
+        && job.count <= MOST_PRINTED_PAGES;
+    let is_bare = job.documents == 0 && job.octets == 0;
+    texts && moments && numbers && is_bare && fits_phase(job)
 }
 
 /// Each is a job within its limits, whose phase fits its other columns.

@@ -7,13 +7,19 @@ use queue_types::settings::{SettingFault, Settings};
 use std::alloc::{AllocError, Global};
 
 /// The row is of schema 1, and its settings are within their limits.
-pub fn is_sound_meta(alloc: Global, m: &MetaRow) -> Result<bool, AllocError>
-    ensures { IfOk result (λ b. IsTrue b ↔ IsSoundMeta m.now) }
+pub fn is_sound_meta(alloc: Global, row: &MetaRow) -> Result<bool, AllocError>
+    ensures { IfOk result (λ b. IsTrue b ↔ IsSoundMeta row.now) }
 {
-    if m.one != 1 || m.schema != 1 {
+    if row.one != 1 || row.schema != 1 {
         return Ok(false);
     }
-    match Settings::new(alloc, m.uri.as_str(), m.name.as_str(), m.estimate, m.epoch) {
+    match Settings::new(
+        alloc,
+        row.uri.as_str(),
+        row.name.as_str(),
+        row.estimate,
+        row.epoch,
+    ) {
         Ok(_) => Ok(true),
         Err(SettingFault::Bad) => Ok(false),
         Err(SettingFault::Memory) => Err(AllocError),

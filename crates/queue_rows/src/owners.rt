@@ -21,20 +21,20 @@ pub fn live_jobs_fit(alloc: Global, jobs: &[Job]) -> Result<bool, AllocError>
     are_within(alloc, amounts.as_slice(), MOST_LIVE_JOBS as u128)
 }
 
-fn is_idle(j: &Job) -> bool
-    ensures { IsTrue result ↔ IsIdle j.now }
+fn is_idle(job: &Job) -> bool
+    ensures { IsTrue result ↔ IsIdle job.now }
 {
-    j.begun.is_none() && j.count == 0 && (j.hold || j.ended.is_some())
+    job.begun.is_none() && job.count == 0 && (job.hold || job.ended.is_some())
 }
 
 /// The owner was granted pages, or the job is idle.
-fn is_covered(granted: &HashMap<&str, u128>, j: &Job) -> bool
-    ensures { IsTrue result ↔ (total_in granted.now j.now.owner ≡ 0 → IsIdle j.now) }
+fn is_covered(granted: &HashMap<&str, u128>, job: &Job) -> bool
+    ensures { IsTrue result ↔ (total_in granted.now job.now.owner ≡ 0 → IsIdle job.now) }
 {
-    if total_of(granted, j.owner.as_str()) > 0 {
+    if total_of(granted, job.owner.as_str()) > 0 {
         return true;
     }
-    is_idle(j)
+    is_idle(job)
 }
 
 /// Each job whose owner was granted nothing never began, has no count, and is on hold or ended.

@@ -10,24 +10,27 @@ use crate::rows::{DocumentRow, PieceRow};
 pub const PIECE: u32 = 65_536;
 
 /// It is the piece of that number of the document.
-fn is_piece(p: &PieceRow, d: &DocumentRow, k: u32) -> bool
-    requires { k * 65536 < d.now.octets }
-    ensures { IsTrue result ↔ (p.now ≡ piece_of d.now k) }
+fn is_piece(piece: &PieceRow, document: &DocumentRow, k: u32) -> bool
+    requires { k * 65536 < document.now.octets }
+    ensures { IsTrue result ↔ (piece.now ≡ piece_of document.now k) }
 {
-    let length = (d.octets - k * PIECE).min(PIECE);
-    p.job == d.job && p.doc == d.doc && p.piece == k && p.length == length
+    let length = (document.octets - k * PIECE).min(PIECE);
+    piece.job == document.job
+        && piece.doc == document.doc
+        && piece.piece == k
+        && piece.length == length
 }
 
 /// What follows the document's pieces, where they stand first.
-fn behind_pieces<'a>(pieces: &'a [PieceRow], d: &DocumentRow) -> Option<&'a [PieceRow]>
-    ensures { MatchOption result ((rest : List PieceRow) → pieces.now ≢ pieces_of d.now ++ rest) (λ rest. pieces.now ≡ pieces_of d.now ++ rest.now) }
+fn behind_pieces<'a>(pieces: &'a [PieceRow], document: &DocumentRow) -> Option<&'a [PieceRow]>
+    ensures { MatchOption result ((rest : List PieceRow) → pieces.now ≢ pieces_of document.now ++ rest) (λ rest. pieces.now ≡ pieces_of document.now ++ rest.now) }
 {
-    let count = d.octets.div_ceil(PIECE);
+    let count = document.octets.div_ceil(PIECE);
     if pieces.len() < count as usize {
         return None;
     }
     for k in 0..count {
-        if !is_piece(&pieces[k as usize], d, k) {
+        if !is_piece(&pieces[k as usize], document, k) {
             return None;
         }
     }

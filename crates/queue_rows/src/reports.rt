@@ -11,14 +11,14 @@ use queue_types::limits::{LAST_REPORT_NUMBER, MOST_PRINTED_PAGES};
 use std::alloc::{AllocError, Global};
 use std::collections::HashMap;
 
-fn is_report(k: &KeptReport) -> bool
-    ensures { IsTrue result ↔ IsReportRow k.now }
+fn is_report(kept: &KeptReport) -> bool
+    ensures { IsTrue result ↔ IsReportRow kept.now }
 {
-    let seq = k.report.seq >= 1 && k.report.seq <= LAST_REPORT_NUMBER;
-    seq && k.report.count <= MOST_PRINTED_PAGES
-        && k.state >= 3
-        && k.state <= 9
-        && k.total <= MOST_PRINTED_PAGES
+    let seq = kept.report.seq >= 1 && kept.report.seq <= LAST_REPORT_NUMBER;
+    seq && kept.report.count <= MOST_PRINTED_PAGES
+        && kept.state >= 3
+        && kept.state <= 9
+        && kept.total <= MOST_PRINTED_PAGES
 }
 
 /// The numbers of each, and what was told of it, are within their limits.

@@ -284,14 +284,14 @@ pub fn scene<S: Alter>(
     alloc: Global,
     conn: &mut Connection<S>,
     settings: &Settings,
-    e: &Event<'_>,
+    event: &Event<'_>,
 ) -> Result<Scene, Fault>
     ensures leaves { LeavesTables (state S.Store conn.old) (state S.Store conn.new) }
     ensures live { HasCleanDisk (state S.Store conn.new) → OnOk result (IsTrue (state S.Store conn.new).is_open) }
     ensures fair { IfOk result IsFair }
-    ensures shows { HasCleanDisk (state S.Store conn.new) → IfOk result (λ s. (w : World) → IsSound w → Holds (content_of w) (state S.Store conn.old) → settings.now ≡ w.settings → s ≡ cut w (event_of e.now)) }
+    ensures shows { HasCleanDisk (state S.Store conn.new) → IfOk result (λ s. (w : World) → IsSound w → Holds (content_of w) (state S.Store conn.old) → settings.now ≡ w.settings → s ≡ cut w (event_of event.now)) }
 {
-    match e {
+    match event {
         Event::Ask { caller, call } => scene_of_call(alloc, conn, settings, caller, call),
         Event::Tell(r) => scene_of_report(alloc, conn, settings, r),
         Event::Grant(rows) => scene_of_grants(alloc, conn, settings, rows),

@@ -30,8 +30,8 @@ enum Stop {
 }
 
 impl From<Error> for Stop {
-    fn from(e: Error) -> Stop {
-        Stop::Tables(Fault::from(e))
+    fn from(error: Error) -> Stop {
+        Stop::Tables(Fault::from(error))
     }
 }
 

@@ -19,11 +19,11 @@ use sqlite_store::FileStore;
 use std::alloc::Global;
 use std::rt::HostRuntime;
 
-/// A file that was not opened.
-fn fault_of_open(e: Error) -> BookFault
-    ensures { result ≡ open_fault e }
+/// Files that were not opened or closed.
+fn fault_of_open(error: Error) -> BookFault
+    ensures { result ≡ open_fault error }
 {
-    match e {
+    match error {
         Error::SqliteFailure(ErrorCode::OutOfMemory) => BookFault::Memory,
         Error::SqliteFailure(ErrorCode::NotADatabase) => BookFault::Damaged,
         Error::SqliteFailure(ErrorCode::DatabaseCorrupt) => BookFault::Damaged,
@@ -33,6 +33,11 @@ fn fault_of_open(e: Error) -> BookFault
 
 /// Lets the files of a connection go as they are, without reading or writing.
 fn let_files_go<D: Disk + Drop>(_conn: Connection<FileStore<D>>) {}
+
+/// Copies the log of a connection's files into the database file, and closes both.
+fn close_files<D: Disk + Drop>(conn: Connection<FileStore<D>>) -> Result<(), BookFault> {
+    conn.close().map_err(fault_of_open)
+}
 
 /// `TableBook::adopt_or_drop` over files.
 fn adopt_in_files<D: Disk + Drop>(
@@ -66,6 +71,17 @@ impl<D: Disk + Drop> TableBook<FileStore<D>> {
             settings: _,
         } = self;
         let_files_go(conn);
+    }
+
+    /// Copies the log into the database file, so that this file alone keeps the book, and closes both. An error leaves
+    /// them as a crash would: what was done is in the log, and is found as the book is opened again.
+    pub fn close_files(self) -> Result<(), BookFault> {
+        let TableBook {
+            alloc: _,
+            conn,
+            settings: _,
+        } = self;
+        close_files(conn)
     }
 }
 

@@ -18,15 +18,15 @@ impl<S: Alter> QueueBook for TableBook<S> {
 
     ghost is_honest = { λ b. IsHonest S.Store b };
 
-    fn decide<'a>(&mut self, now: u32, e: &Event<'a>) -> Result<Decision<'a>, BookFault> {
-        let s = queue_scenes::scene::scene(self.alloc, &mut self.conn, &self.settings, e)?;
-        let d = queue_core::decide(self.alloc, &s, now, e)?;
+    fn decide<'a>(&mut self, now: u32, event: &Event<'a>) -> Result<Decision<'a>, BookFault> {
+        let s = queue_scenes::scene::scene(self.alloc, &mut self.conn, &self.settings, event)?;
+        let d = queue_core::decide(self.alloc, &s, now, event)?;
         Ok(d)
     }
 
-    fn apply(&mut self, d: Decision<'_>) -> Result<(), BookFault> {
+    fn apply(&mut self, decision: Decision<'_>) -> Result<(), BookFault> {
         decisions_are_sound();
-        match queue_tables::make(self.alloc, &mut self.conn, &d) {
+        match queue_tables::make(self.alloc, &mut self.conn, &decision) {
             Ok(()) => Ok(()),
             Err(fault) => Err(BookFault::from(fault)),
         }

@@ -84,19 +84,19 @@ fn put_any_next<S: Alter>(tx: &mut Transaction<'_, S>, next: Option<u32>) -> Res
 pub fn write_change<S: Alter>(
     alloc: Global,
     tx: &mut Transaction<'_, S>,
-    d: &Decision<'_>,
+    decision: &Decision<'_>,
 ) -> Result<(), Fault>
     ensures same_reference { tx.new.conn.ghost_name ≡ tx.old.conn.ghost_name }
     ensures clean { HasCleanDisk (state S.Store tx.new.conn.now) → HasCleanDisk (state S.Store tx.old.conn.now) }
     ensures kept { HasCleanDisk (state S.Store tx.new.conn.now) → IsTrue (state S.Store tx.old.conn.now).in_transaction → KeepsCommit (state S.Store tx.old.conn.now) (state S.Store tx.new.conn.now) }
     ensures inside { HasCleanDisk (state S.Store tx.new.conn.now) → OnOk result (IsTrue (state S.Store tx.old.conn.now).in_transaction → IsTrue (state S.Store tx.new.conn.now).in_transaction) }
-    ensures made { HasCleanDisk (state S.Store tx.new.conn.now) → OnOk result ((w : World) → IsSound w → IsDecisionOn w (decision_of d.now) → Holds (content_of w) (state S.Store tx.old.conn.now) → Holds (content_of (made_on (change_of d.now.change) w)) (state S.Store tx.new.conn.now)) }
+    ensures made { HasCleanDisk (state S.Store tx.new.conn.now) → OnOk result ((w : World) → IsSound w → IsDecisionOn w (decision_of decision.now) → Holds (content_of w) (state S.Store tx.old.conn.now) → Holds (content_of (made_on (change_of decision.now.change) w)) (state S.Store tx.new.conn.now)) }
 {
     decisions_are_sound();
-    put_frees(tx, d.change.free.as_slice())?;
-    put_jobs(alloc, tx, d.change.jobs.as_slice())?;
-    put_any_document(alloc, tx, &d.change.document)?;
-    insert_grants(tx, d.change.grants.as_slice())?;
-    put_any_report(tx, &d.change.report)?;
-    put_any_next(tx, d.change.next)
+    put_frees(tx, decision.change.free.as_slice())?;
+    put_jobs(alloc, tx, decision.change.jobs.as_slice())?;
+    put_any_document(alloc, tx, &decision.change.document)?;
+    insert_grants(tx, decision.change.grants.as_slice())?;
+    put_any_report(tx, &decision.change.report)?;
+    put_any_next(tx, decision.change.next)
 }

@@ -86,19 +86,19 @@ fn add_document<S: Alter>(
 pub(crate) fn put_document<S: Alter>(
     alloc: Global,
     tx: &mut Transaction<'_, S>,
-    d: &NewDocument<'_>,
+    document: &NewDocument<'_>,
 ) -> Result<(), Fault>
     ensures same_reference { tx.new.conn.ghost_name ≡ tx.old.conn.ghost_name }
     ensures clean { HasCleanDisk (state S.Store tx.new.conn.now) → HasCleanDisk (state S.Store tx.old.conn.now) }
     ensures kept { HasCleanDisk (state S.Store tx.new.conn.now) → IsTrue (state S.Store tx.old.conn.now).in_transaction → KeepsCommit (state S.Store tx.old.conn.now) (state S.Store tx.new.conn.now) }
     ensures inside { HasCleanDisk (state S.Store tx.new.conn.now) → OnOk result (IsTrue (state S.Store tx.old.conn.now).in_transaction → IsTrue (state S.Store tx.new.conn.now).in_transaction) }
-    ensures done { HasCleanDisk (state S.Store tx.new.conn.now) → OnOk result ((w : World) → AreDistinct w.jobs → Holds (content_of w) (state S.Store tx.old.conn.now) → Holds (content_of (with_added (Some (document_of d.now)) w)) (state S.Store tx.new.conn.now)) }
+    ensures done { HasCleanDisk (state S.Store tx.new.conn.now) → OnOk result ((w : World) → AreDistinct w.jobs → Holds (content_of w) (state S.Store tx.old.conn.now) → Holds (content_of (with_added (Some (document_of document.now)) w)) (state S.Store tx.new.conn.now)) }
 {
-    if d.bytes.len() > MOST_DOCUMENT_OCTETS as usize {
+    if document.bytes.len() > MOST_DOCUMENT_OCTETS as usize {
         return Err(Fault::Damaged);
     }
-    match find_job(alloc, tx, d.job)? {
+    match find_job(alloc, tx, document.job)? {
         None => Err(Fault::Damaged),
-        Some(_job) => add_document(tx, d.job, d.format, d.bytes),
+        Some(_job) => add_document(tx, document.job, document.format, document.bytes),
     }
 }

@@ -24,8 +24,8 @@ impl From<Error> for Fault {
 
     ghost from_gives = { λ e f. f ≡ read_fault e };
 
-    fn from(e: Error) -> Fault {
-        match e {
+    fn from(error: Error) -> Fault {
+        match error {
             Error::SqliteFailure(ErrorCode::OutOfMemory) => Fault::Memory,
             _ => Fault::Disk,
         }
@@ -60,8 +60,8 @@ impl From<Fault> for BookFault {
 
     ghost from_gives = { λ f b. b ≡ told_as f };
 
-    fn from(f: Fault) -> BookFault {
-        match f {
+    fn from(fault: Fault) -> BookFault {
+        match fault {
             Fault::Memory => BookFault::Memory,
             Fault::Disk => BookFault::Disk,
             Fault::Damaged => BookFault::Damaged,
@@ -70,20 +70,20 @@ impl From<Fault> for BookFault {
 }
 
 /// A value that was read and has not the form of its column.
-pub fn fault_of_value(e: Error) -> Fault
-    ensures { result ≡ form_fault e }
+pub fn fault_of_value(error: Error) -> Fault
+    ensures { result ≡ form_fault error }
 {
-    match e {
+    match error {
         Error::SqliteFailure(ErrorCode::OutOfMemory) => Fault::Memory,
         _ => Fault::Damaged,
     }
 }
 
 /// A statement that writes was refused: a refusal that is neither for memory nor for the disk is one of a row.
-pub fn fault_of_write(e: Error) -> Fault
-    ensures { result ≡ write_fault e }
+pub fn fault_of_write(error: Error) -> Fault
+    ensures { result ≡ write_fault error }
 {
-    match e {
+    match error {
         Error::SqliteFailure(ErrorCode::OutOfMemory) => Fault::Memory,
         Error::SqliteFailure(ErrorCode::SystemIoFailure) => Fault::Disk,
         Error::SqliteFailure(ErrorCode::DiskFull) => Fault::Disk,

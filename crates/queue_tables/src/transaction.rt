@@ -19,19 +19,19 @@ use std::alloc::Global;
 pub fn make<S: Alter>(
     alloc: Global,
     conn: &mut Connection<S>,
-    d: &Decision<'_>,
+    decision: &Decision<'_>,
 ) -> Result<(), Fault>
     ensures clean { HasCleanDisk (state S.Store conn.new) → HasCleanDisk (state S.Store conn.old) }
     ensures opened { HasCleanDisk (state S.Store conn.new) → IsTrue (state S.Store conn.new).is_open → IsTrue (state S.Store conn.old).is_open }
     ensures live { HasCleanDisk (state S.Store conn.new) → OnOk result (IsTrue (state S.Store conn.new).is_open) }
-    ensures made { HasCleanDisk (state S.Store conn.new) → OnOk result ((w : World) → IsSound w → IsDecisionOn w (decision_of d.now) → Holds (content_of w) (state S.Store conn.old) → Holds (content_of (made_on (change_of d.now.change) w)) (state S.Store conn.new)) }
+    ensures made { HasCleanDisk (state S.Store conn.new) → OnOk result ((w : World) → IsSound w → IsDecisionOn w (decision_of decision.now) → Holds (content_of w) (state S.Store conn.old) → Holds (content_of (made_on (change_of decision.now.change) w)) (state S.Store conn.new)) }
     ensures refused { HasCleanDisk (state S.Store conn.new) → OnErr result ((w : World) → Holds (content_of w) (state S.Store conn.old) → IsTrue (state S.Store conn.new).is_open → Holds (content_of w) (state S.Store conn.new)) }
 {
     if !conn.is_autocommit() {
         return Err(Fault::Disk);
     }
     let mut tx = conn.transaction();
-    write_change(alloc, &mut tx, d)?;
+    write_change(alloc, &mut tx, decision)?;
     match tx.commit() {
         Ok(()) => Ok(()),
         Err(e) => Err(fault_of_write(e)),

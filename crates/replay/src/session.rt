@@ -238,10 +238,10 @@ fn tell_import<W: Write>(
     }
 }
 
-fn tell_added<W: Write>(output: &mut W, n: Imported) -> Result<(), Fault>
-    ensures { OnOk result (Appends (W.contents output.old) (W.contents output.new) (import_line (Ok n))) }
+fn tell_added<W: Write>(output: &mut W, imported: Imported) -> Result<(), Fault>
+    ensures { OnOk result (Appends (W.contents output.old) (W.contents output.new) (import_line (Ok imported))) }
 {
-    let Imported { added, repeats } = n;
+    let Imported { added, repeats } = imported;
     writeln!(output, "grant new {added} repeats {repeats}")?;
     Ok(())
 }

@@ -8,7 +8,6 @@ use http_desk::connection::Wanted::{Last, Refusal, Success};
 use http_desk::connection::filled;
 use http_desk::messages::{JOB_1, JOB_2, JOB_3, PRINT_JOB};
 use http_desk::requests::{GET_QUEUE, IPP, POST_JOB, TEXT};
-use list_book::ListBook;
 
 const PRINT_AND_REPLY: &[Step<'static>] = &[
     SendsLast(&[POST_JOB, PRINT_JOB]),
@@ -92,7 +91,6 @@ const RESET: &[Step<'static>] = &[
 
 #[test]
 fn a_client_that_resets(rt: HostRuntime) -> Result<(), Mismatch> {
-    take_steps::<ListBook>(&rt, RESET)?;
     take_steps::<MemoryBook>(&rt, RESET)
 }
 

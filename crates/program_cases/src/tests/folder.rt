@@ -3,6 +3,7 @@
 use commands::run;
 use http_desk::compare::{Mismatch, Place};
 use std::alloc::Global;
+use std::io::Write;
 use std::os::unix::fs::PermissionsExt;
 use std::path::PathBuf;
 use std::test::Fail;
@@ -87,6 +88,15 @@ pub(super) struct StepFault {
 /// A store is made.
 pub(super) const MADE: Step<'static> = Step::Asks(Asked::Init(STORE, URI, "release"), DONE);
 
+/// A store with an account is made, whose account file is the other file of the test.
+pub(super) const WITH_AN_ACCOUNT: [Step<'static>; 2] = [
+    MADE,
+    Step::Imports(
+        b"batch,account,pages\nf24,alice,30\n",
+        (0, "new 1 repeats 0\n", ""),
+    ),
+];
+
 /// A folder of a test.
 #[derive(Drop)]
 pub(super) struct Folder<'a> {
@@ -115,7 +125,7 @@ impl<'a> Folder<'a> {
         Ok(())
     }
 
-    fn alloc(&self) -> Global {
+    pub(super) fn alloc(&self) -> Global {
         self.rt.alloc()
     }
 
@@ -148,15 +158,26 @@ impl<'a> Folder<'a> {
         Ok(())
     }
 
+    /// The program's words print to a writer, and leave this status and this line on standard error.
+    pub(super) fn tell_to<O: Write>(
+        &self,
+        words: &[&str],
+        out: &mut O,
+        wanted: (u8, &str),
+    ) -> Result<(), Mismatch> {
+        let (wanted_status, wanted_err) = wanted;
+        let mut err = Vec::new(self.alloc());
+        let status = run(self.rt, words, out, &mut err);
+        AT.same_bytes(wanted_err.as_bytes(), err.as_slice())?;
+        AT.is_so(status == wanted_status, "the exit status")
+    }
+
     /// The program's words leave this.
     pub(super) fn tell(&self, words: &[&str], wanted: Told<'_>) -> Result<(), Mismatch> {
         let (wanted_status, wanted_out, wanted_err) = wanted;
         let mut out = Vec::new(self.alloc());
-        let mut err = Vec::new(self.alloc());
-        let status = run(self.rt, words, &mut out, &mut err);
-        AT.same_bytes(wanted_err.as_bytes(), err.as_slice())?;
-        AT.same_bytes(wanted_out.as_bytes(), out.as_slice())?;
-        AT.is_so(status == wanted_status, "the exit status")
+        self.tell_to(words, &mut out, (wanted_status, wanted_err))?;
+        AT.same_bytes(wanted_out.as_bytes(), out.as_slice())
     }
 
     fn init(&self, store: &str, uri: &str, name: &str, wanted: Told<'_>) -> Result<(), Mismatch> {

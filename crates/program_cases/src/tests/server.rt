@@ -5,7 +5,7 @@ use http_desk::compare::{Mismatch, Place, no_book};
 use http_desk::connection::{Wanted, wanted_bytes};
 use http_desk::desk::settings;
 use http_desk::streams::BrokenWriter;
-use print_server::{ServerFault, listen, serve_connections};
+use print_server::{ServerFault, Service, listen};
 use queue_core::book::BookFault;
 use queue_types::settings::Settings;
 use std::alloc::{AllocError, Global};
@@ -120,16 +120,13 @@ impl<B: DeskBook> Server<B> {
         out: &mut W,
         connections: u32,
     ) -> Result<(), ServerFault> {
-        serve_connections(
-            self.alloc,
-            rt,
-            &self.listener,
-            out,
-            &mut self.book,
-            &self.settings,
-            PATIENCE,
-            connections,
-        )
+        let service = Service {
+            alloc: self.alloc,
+            listener: &self.listener,
+            settings: &self.settings,
+            timeout: PATIENCE,
+        };
+        service.serve_connections(rt, out, &mut self.book, connections)
     }
 
     /// Serves so many connections, and prints these lines.

@@ -1,26 +1,30 @@
 //! The command `serve`, by its words.
 
-use crate::tests::folder::{Folder, MADE, STORE};
+use crate::tests::folder::Asked::{Import, Init, Statement};
+use crate::tests::folder::Step::{Asks, Keeps};
+use crate::tests::folder::{At, DISK, FILE, Folder, MADE, STORE, Step, URI, WITH_AN_ACCOUNT};
 use crate::tests::listening::free_port;
 use crate::tests::server::{AT, reads};
-use commands::run;
+use http_desk::compare::Mismatch;
 use http_desk::connection::Wanted::Success;
 use http_desk::messages::{JOB_1, JOB_2, PRINT_JOB};
 use http_desk::requests::{IPP, POST_JOB};
 use std::io;
 use std::io::Write;
 use std::net::{Ipv4Addr, Shutdown, SocketAddr, TcpListener, TcpStream};
-use std::process::Abort;
 use std::test::Fail;
 use std::time::Duration;
 
 /// The seconds that a client waits for its answer.
 const CLIENT_SECONDS: u64 = 10;
 
-/// An output that has one client: as it is first flushed, the client comes, sends a Print-Job and tells that it sends no more.
+/// An output that has one client: as it is first flushed, steps are taken in the folder of the test, and the client comes, sends a Print-Job and tells
+/// that it sends no more.
 #[derive(Drop)]
 struct Greeter<'a> {
     rt: &'a HostRuntime,
+    folder: &'a Folder<'a>,
+    steps: &'a [Step<'a>],
     port: u16,
     printed: Vec<u8>,
     client: Option<TcpStream>,
@@ -38,6 +42,9 @@ impl Write for Greeter<'_> {
         if self.client.is_some() {
             return Ok(());
         }
+        if self.folder.take_each(self.steps).is_err() {
+            return Err(io::Error::other("a step"));
+        }
         let address = SocketAddr::from((Ipv4Addr::LOCALHOST, self.port));
         let mut client = TcpStream::connect(self.rt, address)?;
         client.set_read_timeout(Some(Duration::from_secs(CLIENT_SECONDS)))?;
@@ -49,89 +56,103 @@ impl Write for Greeter<'_> {
     }
 }
 
-/// The exit status of a server of one connection over a store, and what it tells on standard error.
-fn runs<O: Write>(
-    rt: &HostRuntime,
-    store: &str,
-    port: u16,
-    out: &mut O,
-) -> Result<(u8, Vec<u8>), Fail> {
-    let number = format!(in rt.alloc(); "{port}")?;
-    let mut err = Vec::new(rt.alloc());
-    let status = run(
-        rt,
-        &[
-            "printd",
-            "serve",
-            "--store",
-            store,
-            "--port",
-            number.as_str(),
-            "--connections",
-            "1",
-        ],
-        out,
-        &mut err,
-    );
-    Ok((status, err))
+impl Greeter<'_> {
+    /// It has got these lines, and its client this reply and then the end of its connection.
+    fn ends(&self, lines: &str, reply: &'static [u8]) -> Result<(), Mismatch> {
+        AT.same_bytes(lines.as_bytes(), self.printed.as_slice())?;
+        let Some(client) = &self.client else {
+            return AT.is_so(false, "a client");
+        };
+        let mut reader = client;
+        reads(self.rt.alloc(), &mut reader, &[Success(IPP, reply)])
+    }
 }
 
-/// Such a server ends well, and its client gets the reply to its Print-Job.
+/// A server of one connection over a store prints to a writer, and leaves this status and this line on standard error.
+fn runs<O: Write>(
+    folder: &Folder<'_>,
+    store: At<'_>,
+    port: u16,
+    out: &mut O,
+    wanted: (u8, &str),
+) -> Result<(), Mismatch> {
+    let number = format!(in folder.alloc(); "{port}")?;
+    let store = folder.path(store)?;
+    let words = [
+        "printd",
+        "serve",
+        "--store",
+        store.as_str(),
+        "--port",
+        number.as_str(),
+        "--connections",
+        "1",
+    ];
+    folder.tell_to(&words, out, wanted)
+}
+
+/// Such a server ends well. As it listens these steps are taken, and then its client comes and gets the reply to its Print-Job.
 fn serves(
-    test: &impl Abort,
     rt: &HostRuntime,
-    store: &str,
+    folder: &Folder<'_>,
+    store: At<'_>,
+    steps: &[Step<'_>],
     reply: &'static [u8],
-) -> Result<(), Fail> {
+) -> Result<(), Mismatch> {
     let port = free_port(rt)?;
     let mut out = Greeter {
         rt,
+        folder,
+        steps,
         port,
         printed: Vec::new(rt.alloc()),
         client: None,
     };
-    let (status, err) = runs(rt, store, port, &mut out)?;
-    let Greeter {
-        rt: _,
-        port: _,
-        printed,
-        client,
-    } = out;
+    runs(folder, store, port, &mut out, (0, ""))?;
     let lines = format!(in rt.alloc(); "listening 127.0.0.1:{port}\nserved 1\n")?;
-    assert_eq!(test; status, 0);
-    AT.same_bytes(lines.as_bytes(), printed.as_slice())?;
-    AT.same_bytes(b"", err.as_slice())?;
-    let Some(mut client) = client else {
-        return Err(Fail::new("no client came"));
-    };
-    reads(rt.alloc(), &mut client, &[Success(IPP, reply)])?;
-    Ok(())
+    out.ends(lines.as_str(), reply)
 }
 
 /// Such a server can't begin: it prints nothing, and leaves this line on standard error.
 fn refuses(
-    test: &impl Abort,
-    rt: &HostRuntime,
-    store: &str,
+    folder: &Folder<'_>,
+    store: At<'_>,
     port: u16,
-    wanted: &str,
-) -> Result<(), Fail> {
-    let mut out = Vec::new(rt.alloc());
-    let (status, err) = runs(rt, store, port, &mut out)?;
-    assert_eq!(test; status, 1);
-    assert_eq!(test; str::from_utf8(out.as_slice()), Ok(""));
-    assert_eq!(test; str::from_utf8(err.as_slice()), Ok(wanted));
-    Ok(())
+    wanted: &'static str,
+) -> Result<(), Mismatch> {
+    let mut out = Vec::new(folder.alloc());
+    runs(folder, store, port, &mut out, (1, wanted))?;
+    AT.same_bytes(b"", out.as_slice())
 }
 
-/// What a server took stands in the store that the next one opens.
+/// What a server took stands in the store that the next one opens. A store is whole in its one file once its server has ended, so that a copy of that file
+/// alone is served too.
 #[test]
 fn a_store_that_is_served_twice(rt: HostRuntime) -> Result<(), Fail> {
     let folder = Folder::new(&rt, "served")?;
-    let store = folder.path(STORE)?;
     folder.take_each(&[MADE])?;
-    serves(&rt, &rt, store.as_str(), JOB_1)?;
-    serves(&rt, &rt, store.as_str(), JOB_2)?;
+    serves(&rt, &folder, STORE, &[], JOB_1)?;
+    let whole = folder.read(STORE)?;
+    folder.write(FILE, whole.as_slice())?;
+    serves(&rt, &folder, STORE, &[], JOB_2)?;
+    serves(&rt, &folder, FILE, &[], JOB_2)?;
+    folder.remove()?;
+    Ok(())
+}
+
+/// A command on a store that is served is refused, and the store stays as it was.
+const IN_USE: [Step<'static>; 3] = [
+    Keeps(STORE, Statement(STORE, "alice"), DISK),
+    Keeps(STORE, Import(STORE, FILE), DISK),
+    Keeps(STORE, Init(STORE, URI, "release"), DISK),
+];
+
+#[test]
+fn a_store_in_use(rt: HostRuntime) -> Result<(), Fail> {
+    let folder = Folder::new(&rt, "used")?;
+    folder.take_each(&WITH_AN_ACCOUNT)?;
+    serves(&rt, &folder, STORE, &IN_USE, JOB_1)?;
+    folder.take_each(&[Asks(Import(STORE, FILE), (0, "new 0 repeats 1\n", ""))])?;
     folder.remove()?;
     Ok(())
 }
@@ -140,9 +161,8 @@ fn a_store_that_is_served_twice(rt: HostRuntime) -> Result<(), Fail> {
 #[test]
 fn a_store_that_is_not_there(rt: HostRuntime) -> Result<(), Fail> {
     let folder = Folder::new(&rt, "unserved")?;
-    let store = folder.path(STORE)?;
     let port = free_port(&rt)?;
-    refuses(&rt, &rt, store.as_str(), port, "printd: disk\n")?;
+    refuses(&folder, STORE, port, "printd: disk\n")?;
     folder.remove_empty()?;
     Ok(())
 }
@@ -150,11 +170,10 @@ fn a_store_that_is_not_there(rt: HostRuntime) -> Result<(), Fail> {
 #[test]
 fn a_port_that_another_has(rt: HostRuntime) -> Result<(), Fail> {
     let folder = Folder::new(&rt, "taken")?;
-    let store = folder.path(STORE)?;
     folder.take_each(&[MADE])?;
     let other = TcpListener::bind(&rt, SocketAddr::from((Ipv4Addr::LOCALHOST, 0)))?;
     let port = other.local_addr()?.port();
-    refuses(&rt, &rt, store.as_str(), port, "printd: io\n")?;
+    refuses(&folder, STORE, port, "printd: io\n")?;
     folder.remove()?;
     Ok(())
 }

@@ -16,25 +16,25 @@ turns-preserved g c = record {
   began = λ h. c.turns.invariant.began (c.turn.ensures.began h);
   ran = λ h w st set.
       let r = c.turns.invariant.ran (c.turn.ensures.began h) w st set in
-      let t = rw c.in-Ok-Answered.field-0-is at (c.in-Ok-Answered.ensures.turned h r.0 r.1 (run_settings c.args.s.now c.turns.k c.args.now w r.0 _ _ _ _ c.turns.acted c.turns.faults r.2 set)) in (
+      let t = rw c.in-Ok-Answered.field-0-is at (c.in-Ok-Answered.ensures.turned h r.0 r.1 (run_settings c.args.context.settings.now c.turns.k c.args.context.moment w r.0 _ _ _ _ c.turns.acted c.turns.faults r.2 set)) in (
         t.0,
         t.1,
-        ran_on c.turns.k c.args.now w r.0 t.0 _ _ _ _ _ _ c.turns.acted c.turns.faults c.from-acted.result c.mark-faults.result c.in-Ok-Answered.acts c.in-Ok-Answered.is_fault c.in-Ok-Answered.closes
+        ran_on c.turns.k c.args.context.moment w r.0 t.0 _ _ _ _ _ _ c.turns.acted c.turns.faults c.from-acted.result c.mark-faults.result c.in-Ok-Answered.acts c.in-Ok-Answered.is_fault c.in-Ok-Answered.closes
             r.2 t.2 (search rules) c.mark-faults.ensures.exact c.if-closes.false,
       );
   worked = λ h w st set.
       let r = c.turns.invariant.worked (c.turn.ensures.began h) w st set in
-      let t = rw c.in-Ok-Answered.field-0-is at (c.in-Ok-Answered.ensures.worked h r.0 r.1 (worked_settings c.turns.k c.args.now w r.0 c.turns.acted c.args.s.now r.2 set)) in
-      (t.0, t.1, worked_on c.turns.k c.args.now w r.0 t.0 c.turns.acted _ c.in-Ok-Answered.acts r.2 t.2 (search rules));
+      let t = rw c.in-Ok-Answered.field-0-is at (c.in-Ok-Answered.ensures.worked h r.0 r.1 (worked_settings c.turns.k c.args.context.moment w r.0 c.turns.acted c.args.context.settings.now r.2 set)) in
+      (t.0, t.1, worked_on c.turns.k c.args.context.moment w r.0 t.0 c.turns.acted _ c.in-Ok-Answered.acts r.2 t.2 (search rules));
 }
 
 pub returns-then-closes-clause-served : goal.returns-then-closes-clause-served
 returns-then-closes-clause-served g c = λ h w st set.
     let r = c.turns.invariant.ran (c.turn.ensures.began h) w st set in
-    let t = rw c.in-Ok-Answered.field-0-is at (c.in-Ok-Answered.ensures.turned h r.0 r.1 (run_settings c.args.s.now c.turns.k c.args.now w r.0 _ _ _ _ c.turns.acted c.turns.faults r.2 set)) in (
+    let t = rw c.in-Ok-Answered.field-0-is at (c.in-Ok-Answered.ensures.turned h r.0 r.1 (run_settings c.args.context.settings.now c.turns.k c.args.context.moment w r.0 _ _ _ _ c.turns.acted c.turns.faults r.2 set)) in (
       t.0,
       t.1,
-      served_done c.turns.k c.args.now w r.0 t.0
+      served_done c.turns.k c.args.context.moment w r.0 t.0
           (left c.args.input.now.buffer (g.R.Read.remaining c.args.input.now.reader)) (left c.turns.input.buffer (g.R.Read.remaining c.turns.input.reader)) (left c.turn.new.input.buffer (g.R.Read.remaining c.turn.new.input.reader))
           (g.W.Write.contents c.args.writer.now) (g.W.Write.contents c.turns.writer) (g.W.Write.contents c.turn.new.writer)
           c.turns.acted c.turns.faults c.from-acted.result c.mark-faults.result c.in-Ok-Answered.acts c.in-Ok-Answered.is_fault c.in-Ok-Answered.closes
@@ -44,12 +44,12 @@ returns-then-closes-clause-served g c = λ h w st set.
 pub returns-in-Ok-Ended-clause-served : goal.returns-in-Ok-Ended-clause-served
 returns-in-Ok-Ended-clause-served g c = λ h w st set.
     let r = c.turns.invariant.ran (c.turn.ensures.began h) w st set in
-    let t = rw c.in-Ok-Ended.field-0-is at (c.in-Ok-Ended.ensures.turned h r.0 r.1 (run_settings c.args.s.now c.turns.k c.args.now w r.0 _ _ _ _ c.turns.acted c.turns.faults r.2 set)) in (
+    let t = rw c.in-Ok-Ended.field-0-is at (c.in-Ok-Ended.ensures.turned h r.0 r.1 (run_settings c.args.context.settings.now c.turns.k c.args.context.moment w r.0 _ _ _ _ c.turns.acted c.turns.faults r.2 set)) in (
       t.0,
       t.1,
-      subst (λ (z : End). IsServed c.args.now w t.0 (left c.args.input.now.buffer (g.R.Read.remaining c.args.input.now.reader)) (g.W.Write.contents c.args.writer.now) (g.W.Write.contents c.turn.new.writer)
+      subst (λ (z : End). IsServed c.args.context.moment w t.0 (left c.args.input.now.buffer (g.R.Read.remaining c.args.input.now.reader)) (g.W.Write.contents c.args.writer.now) (g.W.Write.contents c.turn.new.writer)
           (record { acted = c.turns.acted; faults = c.mark.result; end = z })) (sym c.end.ensures)
-          (served_ended c.turns.k c.args.now w r.0 t.0
+          (served_ended c.turns.k c.args.context.moment w r.0 t.0
           (left c.args.input.now.buffer (g.R.Read.remaining c.args.input.now.reader)) (left c.turns.input.buffer (g.R.Read.remaining c.turns.input.reader)) (left c.turn.new.input.buffer (g.R.Read.remaining c.turn.new.input.reader))
           (g.W.Write.contents c.args.writer.now) (g.W.Write.contents c.turns.writer) (g.W.Write.contents c.turn.new.writer)
           c.turns.acted c.turns.faults c.mark.result c.in-Ok-Ended.finish c.turns.invariant.few r.2 t.2
@@ -59,10 +59,10 @@ returns-in-Ok-Ended-clause-served g c = λ h w st set.
 pub returns-in-Err-clause-broken : goal.returns-in-Err-clause-broken
 returns-in-Err-clause-broken g c = λ h w st set.
     let r = c.turns.invariant.ran (c.turn.ensures.began h) w st set in
-    let t = c.in-Err.ensures.turned h r.0 r.1 (run_settings c.args.s.now c.turns.k c.args.now w r.0 _ _ _ _ c.turns.acted c.turns.faults r.2 set) in (
+    let t = c.in-Err.ensures.turned h r.0 r.1 (run_settings c.args.context.settings.now c.turns.k c.args.context.moment w r.0 _ _ _ _ c.turns.acted c.turns.faults r.2 set) in (
       t.0,
       t.1,
-      stopped_at c.turns.k c.args.now w r.0 t.0
+      stopped_at c.turns.k c.args.context.moment w r.0 t.0
           (left c.args.input.now.buffer (g.R.Read.remaining c.args.input.now.reader)) (left c.turns.input.buffer (g.R.Read.remaining c.turns.input.reader))
           (g.W.Write.contents c.args.writer.now) (g.W.Write.contents c.turns.writer) (g.W.Write.contents c.turn.new.writer)
           c.turns.acted c.turns.faults c.from.result c.mark-in-Err.result c.in-Err.stopped.acted c.in-Err.stopped.is_fault
@@ -72,29 +72,29 @@ returns-in-Err-clause-broken g c = λ h w st set.
 pub returns-then-closes-clause-worked : goal.returns-then-closes-clause-worked
 returns-then-closes-clause-worked g c = λ h w st set.
     let r = c.turns.invariant.worked (c.turn.ensures.began h) w st set in
-    let t = rw c.in-Ok-Answered.field-0-is at (c.in-Ok-Answered.ensures.worked h r.0 r.1 (worked_settings c.turns.k c.args.now w r.0 c.turns.acted c.args.s.now r.2 set)) in (
+    let t = rw c.in-Ok-Answered.field-0-is at (c.in-Ok-Answered.ensures.worked h r.0 r.1 (worked_settings c.turns.k c.args.context.moment w r.0 c.turns.acted c.args.context.settings.now r.2 set)) in (
       t.0,
       t.1,
-      worked_within (c.turns.k + 1) c.args.now w t.0 _ (let f = c.turns.invariant.few in omega (arith, f))
-          (worked_on c.turns.k c.args.now w r.0 t.0 c.turns.acted _ c.in-Ok-Answered.acts r.2 t.2 (search rules)),
+      worked_within (c.turns.k + 1) c.args.context.moment w t.0 _ (let f = c.turns.invariant.few in omega (arith, f))
+          (worked_on c.turns.k c.args.context.moment w r.0 t.0 c.turns.acted _ c.in-Ok-Answered.acts r.2 t.2 (search rules)),
     )
 
 pub returns-in-Ok-Ended-clause-worked : goal.returns-in-Ok-Ended-clause-worked
 returns-in-Ok-Ended-clause-worked g c = λ h w st set.
     let r = c.turns.invariant.worked (c.turn.ensures.began h) w st set in
-    let t = rw c.in-Ok-Ended.field-0-is at (c.in-Ok-Ended.ensures.worked h r.0 r.1 (worked_settings c.turns.k c.args.now w r.0 c.turns.acted c.args.s.now r.2 set)) in (
+    let t = rw c.in-Ok-Ended.field-0-is at (c.in-Ok-Ended.ensures.worked h r.0 r.1 (worked_settings c.turns.k c.args.context.moment w r.0 c.turns.acted c.args.context.settings.now r.2 set)) in (
       t.0,
       t.1,
-      worked_within (c.turns.k + 1) c.args.now w t.0 c.turns.acted (let f = c.turns.invariant.few in omega (arith, f))
-          (worked_on c.turns.k c.args.now w r.0 t.0 c.turns.acted c.turns.acted false r.2 t.2 (omega arith)),
+      worked_within (c.turns.k + 1) c.args.context.moment w t.0 c.turns.acted (let f = c.turns.invariant.few in omega (arith, f))
+          (worked_on c.turns.k c.args.context.moment w r.0 t.0 c.turns.acted c.turns.acted false r.2 t.2 (omega arith)),
     )
 
 pub returns-in-Err-clause-worked : goal.returns-in-Err-clause-worked
 returns-in-Err-clause-worked g c = λ h w st set.
     let r = c.turns.invariant.worked (c.turn.ensures.began h) w st set in
-    let t = c.in-Err.ensures.worked h r.0 r.1 (worked_settings c.turns.k c.args.now w r.0 c.turns.acted c.args.s.now r.2 set) in (
+    let t = c.in-Err.ensures.worked h r.0 r.1 (worked_settings c.turns.k c.args.context.moment w r.0 c.turns.acted c.args.context.settings.now r.2 set) in (
       t.0,
       t.1,
-      worked_within (c.turns.k + 1) c.args.now w t.0 _ (let f = c.turns.invariant.few in omega (arith, f))
-          (worked_on c.turns.k c.args.now w r.0 t.0 c.turns.acted _ c.in-Err.stopped.acted r.2 t.2 (search rules)),
+      worked_within (c.turns.k + 1) c.args.context.moment w t.0 _ (let f = c.turns.invariant.few in omega (arith, f))
+          (worked_on c.turns.k c.args.context.moment w r.0 t.0 c.turns.acted _ c.in-Err.stopped.acted r.2 t.2 (search rules)),
     )

@@ -11,11 +11,11 @@ invariant-turns g l = record {
   acted_few : l.acted ≤ l.k;
   below : l.faults < 2 ^ l.k;
   began : g.B.QueueBook.is_honest l.book → g.B.QueueBook.is_honest l.initial.book;
-  ran : g.B.QueueBook.is_honest l.book → (w : World) → g.B.QueueBook.stands l.initial.book w → l.s ≡ w.settings → (u : World) × g.B.QueueBook.stands l.book u
-      × RanOn l.k l.now w u (left l.initial.input.buffer (g.R.Read.remaining l.initial.input.reader)) (left l.input.buffer (g.R.Read.remaining l.input.reader))
+  ran : g.B.QueueBook.is_honest l.book → (w : World) → g.B.QueueBook.stands l.initial.book w → l.context.settings.now ≡ w.settings → (u : World) × g.B.QueueBook.stands l.book u
+      × RanOn l.k l.context.moment w u (left l.initial.input.buffer (g.R.Read.remaining l.initial.input.reader)) (left l.input.buffer (g.R.Read.remaining l.input.reader))
       (g.W.Write.contents l.initial.writer) (g.W.Write.contents l.writer) l.acted l.faults;
-  worked : g.B.QueueBook.is_honest l.book → (w : World) → g.B.QueueBook.stands l.initial.book w → l.s ≡ w.settings → (u : World) × g.B.QueueBook.stands l.book u
-      × Worked l.k l.now w u l.acted;
+  worked : g.B.QueueBook.is_honest l.book → (w : World) → g.B.QueueBook.stands l.initial.book w → l.context.settings.now ≡ w.settings → (u : World) × g.B.QueueBook.stands l.book u
+      × Worked l.k l.context.moment w u l.acted;
 }
 
 abbrev pub decreases-turns : goal.decreases-turns

@@ -10,12 +10,12 @@ run-requires-clause-router g c = λ x e. router_of c.router.result c.ok-table.re
 
 pub returns-clause-served : goal.returns-clause-served
 returns-clause-served g c = λ h.
-    subst (λ (r : Option (List ℕ)). IfOk c.run.result (λ z. (w : World) → g.B.QueueBook.stands c.args.book.now w → c.args.s.now ≡ w.settings → (u : World) × g.B.QueueBook.stands c.run.new.book u
+    subst (λ (r : Option (List ℕ)). IfOk c.run.result (λ z. (w : World) → g.B.QueueBook.stands c.args.book.now w → c.args.settings.now ≡ w.settings → (u : World) × g.B.QueueBook.stands c.run.new.book u
     × IsServed c.args.now w u r (g.W.Write.contents c.args.writer.now) (g.W.Write.contents c.run.new.writer) z))
     (left_at_first c.new-input.result.buffer _ (g.R.Read.remaining c.args.reader.now) c.new-input.ensures.empty (ap (λ p. g.R.Read.remaining p.now) c.new-input.ensures.reader)) (c.run.ensures.served h)
 
 pub returns-clause-broken : goal.returns-clause-broken
 returns-clause-broken g c = λ h.
-    subst (λ (r : Option (List ℕ)). IfErr c.run.result (λ z. (w : World) → g.B.QueueBook.stands c.args.book.now w → c.args.s.now ≡ w.settings → (u : World) × g.B.QueueBook.stands c.run.new.book u
+    subst (λ (r : Option (List ℕ)). IfErr c.run.result (λ z. (w : World) → g.B.QueueBook.stands c.args.book.now w → c.args.settings.now ≡ w.settings → (u : World) × g.B.QueueBook.stands c.run.new.book u
     × IsStopped c.args.now w u r (g.W.Write.contents c.args.writer.now) (g.W.Write.contents c.run.new.writer) z))
     (left_at_first c.new-input.result.buffer _ (g.R.Read.remaining c.args.reader.now) c.new-input.ensures.empty (ap (λ p. g.R.Read.remaining p.now) c.new-input.ensures.reader)) (c.run.ensures.broken h)

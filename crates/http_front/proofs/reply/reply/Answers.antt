@@ -5,25 +5,25 @@ use Rattle.http_front.proofs.reply.reply.Goals as goal
 pub returns-in-Ipp-clause-replied : goal.returns-in-Ipp-clause-replied
 returns-in-Ipp-clause-replied g c = λ honest w st set.
     let r = c.reply_ipp.ensures.replied honest w st set in
-    (r.0, r.1, retarget c.args.now w r.0 c.args.target Ipp c.args.content.now c.args.closes _ _ c.reply_ipp.result c.in-Ipp.is r.2)
+    (r.0, r.1, retarget c.args.context.moment w r.0 c.args.target Ipp c.args.content.now c.args.closes _ _ c.reply_ipp.result c.in-Ipp.is r.2)
 
 pub returns-in-Report-clause-replied : goal.returns-in-Report-clause-replied
 returns-in-Report-clause-replied g c = λ honest w st set.
     let r = c.reply_report.ensures.replied honest w st in
-    (r.0, r.1, retarget c.args.now w r.0 c.args.target Report c.args.content.now c.args.closes _ _ c.reply_report.result c.in-Report.is r.2)
+    (r.0, r.1, retarget c.args.context.moment w r.0 c.args.target Report c.args.content.now c.args.closes _ _ c.reply_report.result c.in-Report.is r.2)
 
 pub returns-in-Queue-clause-replied : goal.returns-in-Queue-clause-replied
 returns-in-Queue-clause-replied g c = λ honest w st set. (
   w,
   c.reply_queue.ensures.kept w st,
-  retarget c.args.now w w c.args.target Queue c.args.content.now c.args.closes _ _ c.reply_queue.result c.in-Queue.is
-      (c.reply_queue.ensures.replied honest w st c.args.now c.args.content.now),
+  retarget c.args.context.moment w w c.args.target Queue c.args.content.now c.args.closes _ _ c.reply_queue.result c.in-Queue.is
+      (c.reply_queue.ensures.replied honest w st c.args.context.moment c.args.content.now),
 )
 
 pub returns-in-Document-clause-replied : goal.returns-in-Document-clause-replied
 returns-in-Document-clause-replied g c = λ honest w st set. (
   w,
   c.reply_document.ensures.kept w st,
-  retarget c.args.now w w c.args.target (Document c.in-Document.n) c.args.content.now c.args.closes _ _ c.reply_document.result c.in-Document.is
-      (c.reply_document.ensures.replied honest w st c.args.now c.args.content.now),
+  retarget c.args.context.moment w w c.args.target (Document c.in-Document.n) c.args.content.now c.args.closes _ _ c.reply_document.result c.in-Document.is
+      (c.reply_document.ensures.replied honest w st c.args.context.moment c.args.content.now),
 )

@@ -9,20 +9,20 @@ use Rattle.http_front.proofs.reply.reply_ipp.Goals as goal
 
 pub returns-in-Err-clause-replied : goal.returns-in-Err-clause-replied
 returns-in-Err-clause-replied g c = λ honest w st set.
-    (w, c.in-Err.ensures.err w st, replied_declined c.args.now w Ipp c.args.content.now c.args.closes BadRequest _ (inl (refl, c.in-Err.ensures.short.0 (search rules))))
+    (w, c.in-Err.ensures.err w st, replied_declined c.args.context.moment w Ipp c.args.content.now c.args.closes BadRequest _ (inl (refl, c.in-Err.ensures.short.0 (search rules))))
 
 pub returns-in-Ok-send_success-clause-replied : goal.returns-in-Ok-send_success-clause-replied
 returns-in-Ok-send_success-clause-replied g c = λ honest w st set.
-    let a = ipp_answer (g.B.QueueBook.stands c.args.book.now) (g.B.QueueBook.stands c.answer.new.book) c.args.now c.args.s.now c.args.content.now (bytes_of c.in-Ok.a) c.bytes-bytes.result.now c.is_fault-is_fault.result
+    let a = ipp_answer (g.B.QueueBook.stands c.args.book.now) (g.B.QueueBook.stands c.answer.new.book) c.args.context.moment c.args.context.settings.now c.args.content.now (bytes_of c.in-Ok.a) c.bytes-bytes.result.now c.is_fault-is_fault.result
     (headed_of (length c.args.content.now) c.in-Ok.ensures.short.1) (c.in-Ok.ensures.answered honest) (c.in-Ok.ensures.failed honest) c.is_fault-is_fault.ensures c.bytes-bytes.ensures w st set in
-    (a.0, a.1, replied_ok c.args.now w a.0 Ipp c.args.content.now c.args.closes c.is_fault-is_fault.result _ _ (codes "application/ipp") c.bytes-bytes.result.now a.2 c.in-Ok-send_success.ensures.ok)
+    (a.0, a.1, replied_ok c.args.context.moment w a.0 Ipp c.args.content.now c.args.closes c.is_fault-is_fault.result _ _ (codes "application/ipp") c.bytes-bytes.result.now a.2 c.in-Ok-send_success.ensures.ok)
 
 pub returns-clause-replied : goal.returns-clause-replied
 returns-clause-replied g c = λ honest w st set.
-    let a = ipp_answer (g.B.QueueBook.stands c.args.book.now) (g.B.QueueBook.stands c.answer.new.book) c.args.now c.args.s.now c.args.content.now (bytes_of c.in-Ok.a) c.bytes-bytes.result.now c.is_fault-is_fault.result
+    let a = ipp_answer (g.B.QueueBook.stands c.args.book.now) (g.B.QueueBook.stands c.answer.new.book) c.args.context.moment c.args.context.settings.now c.args.content.now (bytes_of c.in-Ok.a) c.bytes-bytes.result.now c.is_fault-is_fault.result
     (headed_of (length c.args.content.now) c.in-Ok.ensures.short.1) (c.in-Ok.ensures.answered honest) (c.in-Ok.ensures.failed honest) c.is_fault-is_fault.ensures c.bytes-bytes.ensures w st set in (
       a.0,
       a.1,
-      replied_err c.args.now w a.0 Ipp c.args.content.now c.args.closes c.is_fault-is_fault.result (record { acted = true; is_fault = c.is_fault-is_fault.result; cause = Write }) _ _
+      replied_err c.args.context.moment w a.0 Ipp c.args.content.now c.args.closes c.is_fault-is_fault.result (record { acted = true; is_fault = c.is_fault-is_fault.result; cause = Write }) _ _
           (codes "application/ipp") c.bytes-bytes.result.now a.2 c.in-Err-send_success.ensures.err refl refl,
     )

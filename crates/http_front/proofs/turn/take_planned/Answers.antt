@@ -6,7 +6,7 @@ use Rattle.http_front.proofs.TurnedLemmas.{planned_unsaid, planned_unread, plann
 use Rattle.http_front.proofs.turn.take_planned.Goals as goal
 
 pub returns-in-Err-clause-planned : goal.returns-in-Err-clause-planned
-returns-in-Err-clause-planned g c = λ honest w st set. (w, st, planned_unsaid c.args.now c.args.k w c.args.plan (left c.args.input.now.buffer (g.R.Read.remaining c.args.input.now.reader)) (left c.args.input.now.buffer (g.R.Read.remaining c.args.input.now.reader)) (g.W.Write.contents c.args.writer.now) (g.W.Write.contents c.send_continue.new.writer) c.stopped_by.result c.stopped_by.ensures.acted c.stopped_by.ensures.is_fault c.in-Err.ensures.err)
+returns-in-Err-clause-planned g c = λ honest w st set. (w, st, planned_unsaid c.args.context.moment c.args.k w c.args.plan (left c.args.input.now.buffer (g.R.Read.remaining c.args.input.now.reader)) (left c.args.input.now.buffer (g.R.Read.remaining c.args.input.now.reader)) (g.W.Write.contents c.args.writer.now) (g.W.Write.contents c.send_continue.new.writer) c.stopped_by.result c.stopped_by.ensures.acted c.stopped_by.ensures.is_fault c.in-Err.ensures.err)
 
 pub returns-in-Err-Ended-clause-planned : goal.returns-in-Err-Ended-clause-planned
 returns-in-Err-Ended-clause-planned g c = λ honest w st set.
@@ -14,12 +14,12 @@ returns-in-Err-Ended-clause-planned g c = λ honest w st set.
     let s = left c.take_framed.new.input.buffer (g.R.Read.remaining c.take_framed.new.input.reader) in (
       w,
       st,
-      planned_closed c.args.now c.args.k w c.args.plan r s (g.W.Write.contents c.args.writer.now) (g.W.Write.contents c.send_continue.new.writer) (g.W.Write.contents c.close_with.new.writer) c.in-Err-Ended.end c.close_with.result
+      planned_closed c.args.context.moment c.args.k w c.args.plan r s (g.W.Write.contents c.args.writer.now) (g.W.Write.contents c.send_continue.new.writer) (g.W.Write.contents c.close_with.new.writer) c.in-Err-Ended.end c.close_with.result
           (end_in_body w c.args.plan r c.in-Err-Ended.end (rw c.in-Err-Ended.field-0-is at c.in-Err-Ended.ensures.ended)) c.in-Ok.ensures.ok (rw c.in-Err-Ended.field-0-is at c.close_with.ensures),
     )
 
 pub returns-in-Err-Read-clause-planned : goal.returns-in-Err-Read-clause-planned
-returns-in-Err-Read-clause-planned g c = λ honest w st set. (w, st, planned_unread c.args.now c.args.k w c.args.plan (left c.args.input.now.buffer (g.R.Read.remaining c.args.input.now.reader)) (left c.take_framed.new.input.buffer (g.R.Read.remaining c.take_framed.new.input.reader)) (g.W.Write.contents c.args.writer.now) (g.W.Write.contents c.send_continue.new.writer) c.stopped_by-in-Err-Read.result c.stopped_by-in-Err-Read.ensures.acted c.stopped_by-in-Err-Read.ensures.is_fault c.in-Ok.ensures.ok)
+returns-in-Err-Read-clause-planned g c = λ honest w st set. (w, st, planned_unread c.args.context.moment c.args.k w c.args.plan (left c.args.input.now.buffer (g.R.Read.remaining c.args.input.now.reader)) (left c.take_framed.new.input.buffer (g.R.Read.remaining c.take_framed.new.input.reader)) (g.W.Write.contents c.args.writer.now) (g.W.Write.contents c.send_continue.new.writer) c.stopped_by-in-Err-Read.result c.stopped_by-in-Err-Read.ensures.acted c.stopped_by-in-Err-Read.ensures.is_fault c.in-Ok.ensures.ok)
 
 pub returns-in-Err-Memory-clause-planned : goal.returns-in-Err-Memory-clause-planned
 returns-in-Err-Memory-clause-planned g c = λ honest w st set.
@@ -27,7 +27,7 @@ returns-in-Err-Memory-clause-planned g c = λ honest w st set.
     let s = left c.take_framed.new.input.buffer (g.R.Read.remaining c.take_framed.new.input.reader) in (
       w,
       st,
-      planned_closed c.args.now c.args.k w c.args.plan r s (g.W.Write.contents c.args.writer.now) (g.W.Write.contents c.send_continue.new.writer) (g.W.Write.contents c.close_with-in-Err-Memory.new.writer) (Refused Unavailable) c.close_with-in-Err-Memory.result
+      planned_closed c.args.context.moment c.args.k w c.args.plan r s (g.W.Write.contents c.args.writer.now) (g.W.Write.contents c.send_continue.new.writer) (g.W.Write.contents c.close_with-in-Err-Memory.new.writer) (Refused Unavailable) c.close_with-in-Err-Memory.result
           (end_unavailable w c.args.plan r) c.in-Ok.ensures.ok c.close_with-in-Err-Memory.ensures,
     )
 
@@ -39,7 +39,7 @@ returns-in-Ok-Answered-clause-planned g c = λ honest w st set.
     let t = rw c.in-Ok-Answered.field-0-is at (c.in-Ok-Answered.ensures.replied honest w st set) in (
       t.0,
       t.1,
-      planned_answered c.args.now c.args.k w t.0 c.args.plan r s (g.W.Write.contents c.args.writer.now) (g.W.Write.contents c.send_continue.new.writer) (g.W.Write.contents c.reply.new.writer)
+      planned_answered c.args.context.moment c.args.k w t.0 c.args.plan r s (g.W.Write.contents c.args.writer.now) (g.W.Write.contents c.send_continue.new.writer) (g.W.Write.contents c.reply.new.writer)
           f.0 c.as_slice.result.now t.2.0 c.acts_on_target.result c.in-Ok-Answered.is_fault c.closes_after-closes.result c.in-Ok.ensures.ok
           (body_as c.args.plan.framing f.0 c.in-Ok-take_framed.content.items c.as_slice.result.now f.1 c.as_slice.ensures.value) f.2 t.2.1 t.2.2 c.acts_on_target.ensures c.closes_after-closes.ensures,
     )
@@ -56,8 +56,8 @@ returns-in-Ok-Declined-clause-planned g c = λ honest w st set.
     let z = c.in-Ok-Declined.refusal in (
       t.0,
       t.1,
-      same_world c.args.now c.args.k w t.0 c.args.plan r s v x c.close_with-in-Ok-Declined.result t.2.2
-          (planned_closed c.args.now c.args.k w c.args.plan r s v m x (Refused z) c.close_with-in-Ok-Declined.result
+      same_world c.args.context.moment c.args.k w t.0 c.args.plan r s v x c.close_with-in-Ok-Declined.result t.2.2
+          (planned_closed c.args.context.moment c.args.k w c.args.plan r s v m x (Refused z) c.close_with-in-Ok-Declined.result
           (end_declined w c.args.plan r s f.0 c.as_slice.result.now z f.2 (body_as c.args.plan.framing f.0 c.in-Ok-take_framed.content.items c.as_slice.result.now f.1 c.as_slice.ensures.value) t.2.0)
           (said_on v (g.W.Write.contents c.send_continue.new.writer) m c.args.plan c.in-Ok.ensures.ok t.2.1) c.close_with-in-Ok-Declined.ensures),
     )
@@ -70,22 +70,22 @@ returns-clause-planned g c = λ honest w st set.
     let t = c.in-Err-reply.ensures.replied honest w st set in (
       t.0,
       t.1,
-      planned_broken c.args.now c.args.k w t.0 c.args.plan r s (g.W.Write.contents c.args.writer.now) (g.W.Write.contents c.send_continue.new.writer) (g.W.Write.contents c.reply.new.writer)
+      planned_broken c.args.context.moment c.args.k w t.0 c.args.plan r s (g.W.Write.contents c.args.writer.now) (g.W.Write.contents c.send_continue.new.writer) (g.W.Write.contents c.reply.new.writer)
           f.0 c.as_slice.result.now t.2.0 c.in-Err-reply.stopped c.closes_after-closes.result c.in-Ok.ensures.ok
           (body_as c.args.plan.framing f.0 c.in-Ok-take_framed.content.items c.as_slice.result.now f.1 c.as_slice.ensures.value) f.2 t.2.1 t.2.2 t.2.3 c.closes_after-closes.ensures,
     )
 
 pub returns-in-Err-clause-worked : goal.returns-in-Err-clause-worked
-returns-in-Err-clause-worked g c = λ honest w st set. (w, st, plan_idle c.args.now c.args.k w w c.args.plan _ refl c.stopped_by.ensures.acted)
+returns-in-Err-clause-worked g c = λ honest w st set. (w, st, plan_idle c.args.context.moment c.args.k w w c.args.plan _ refl c.stopped_by.ensures.acted)
 
 pub returns-in-Err-Ended-clause-worked : goal.returns-in-Err-Ended-clause-worked
-returns-in-Err-Ended-clause-worked g c = λ honest w st set. (w, st, plan_idle c.args.now c.args.k w w c.args.plan _ refl (closed_idle _ _ _ c.close_with.result c.close_with.ensures))
+returns-in-Err-Ended-clause-worked g c = λ honest w st set. (w, st, plan_idle c.args.context.moment c.args.k w w c.args.plan _ refl (closed_idle _ _ _ c.close_with.result c.close_with.ensures))
 
 pub returns-in-Err-Read-clause-worked : goal.returns-in-Err-Read-clause-worked
-returns-in-Err-Read-clause-worked g c = λ honest w st set. (w, st, plan_idle c.args.now c.args.k w w c.args.plan _ refl c.stopped_by-in-Err-Read.ensures.acted)
+returns-in-Err-Read-clause-worked g c = λ honest w st set. (w, st, plan_idle c.args.context.moment c.args.k w w c.args.plan _ refl c.stopped_by-in-Err-Read.ensures.acted)
 
 pub returns-in-Err-Memory-clause-worked : goal.returns-in-Err-Memory-clause-worked
-returns-in-Err-Memory-clause-worked g c = λ honest w st set. (w, st, plan_idle c.args.now c.args.k w w c.args.plan _ refl (closed_idle _ _ _ c.close_with-in-Err-Memory.result c.close_with-in-Err-Memory.ensures))
+returns-in-Err-Memory-clause-worked g c = λ honest w st set. (w, st, plan_idle c.args.context.moment c.args.k w w c.args.plan _ refl (closed_idle _ _ _ c.close_with-in-Err-Memory.result c.close_with-in-Err-Memory.ensures))
 
 pub returns-in-Ok-Answered-clause-worked : goal.returns-in-Ok-Answered-clause-worked
 returns-in-Ok-Answered-clause-worked g c = λ honest w st set.
@@ -93,7 +93,7 @@ returns-in-Ok-Answered-clause-worked g c = λ honest w st set.
     let t = rw c.in-Ok-Answered.field-0-is at (c.in-Ok-Answered.ensures.replied honest w st set) in (
       t.0,
       t.1,
-      plan_works c.args.now c.args.k w t.0 c.args.plan f.0 c.as_slice.result.now t.2.0 c.acts_on_target.result c.in-Ok-Answered.is_fault c.closes_after-closes.result
+      plan_works c.args.context.moment c.args.k w t.0 c.args.plan f.0 c.as_slice.result.now t.2.0 c.acts_on_target.result c.in-Ok-Answered.is_fault c.closes_after-closes.result
           (body_as c.args.plan.framing f.0 c.in-Ok-take_framed.content.items c.as_slice.result.now f.1 c.as_slice.ensures.value) t.2.1 c.acts_on_target.ensures c.closes_after-closes.ensures,
     )
 
@@ -102,7 +102,7 @@ returns-in-Ok-Declined-clause-worked g c = λ honest w st set.
     let t = rw c.in-Ok-Declined.field-0-is at (c.in-Ok-Declined.ensures.replied honest w st set) in (
       t.0,
       t.1,
-      plan_idle c.args.now c.args.k w t.0 c.args.plan _ t.2.2 (closed_idle _ _ _ c.close_with-in-Ok-Declined.result c.close_with-in-Ok-Declined.ensures),
+      plan_idle c.args.context.moment c.args.k w t.0 c.args.plan _ t.2.2 (closed_idle _ _ _ c.close_with-in-Ok-Declined.result c.close_with-in-Ok-Declined.ensures),
     )
 
 pub returns-clause-worked : goal.returns-clause-worked
@@ -111,6 +111,6 @@ returns-clause-worked g c = λ honest w st set.
     let t = c.in-Err-reply.ensures.replied honest w st set in (
       t.0,
       t.1,
-      plan_works c.args.now c.args.k w t.0 c.args.plan f.0 c.as_slice.result.now t.2.0 c.in-Err-reply.stopped.acted c.in-Err-reply.stopped.is_fault c.closes_after-closes.result
+      plan_works c.args.context.moment c.args.k w t.0 c.args.plan f.0 c.as_slice.result.now t.2.0 c.in-Err-reply.stopped.acted c.in-Err-reply.stopped.is_fault c.closes_after-closes.result
           (body_as c.args.plan.framing f.0 c.in-Ok-take_framed.content.items c.as_slice.result.now f.1 c.as_slice.ensures.value) t.2.1 t.2.3 c.closes_after-closes.ensures,
     )

@@ -22,7 +22,7 @@ returns-in-Some-head_check-clause-failed g c = λ honest. on_true _ (is_fault (b
 
 pub returns-in-Ok-step-clause-answered : goal.returns-in-Ok-step-clause-answered
 returns-in-Ok-step-clause-answered g c = λ honest. on_false _ (is_fault c.in-Ok-step.bytes.items) (λ w stands set.
-    let m = message_of c.in-Ok.v in (
+    let m = message_of c.in-Ok.view in (
       (outcome (verdict m) m.head w c.args.now).world,
       message_answers m c.args.body.now _ w c.args.now c.in-Ok.ensures.head c.in-Ok.ensures.found (c.in-Ok-step.ensures.reply honest w stands set),
       c.in-Ok-step.ensures.world honest w stands,
@@ -31,20 +31,20 @@ returns-in-Ok-step-clause-answered g c = λ honest. on_false _ (is_fault c.in-Ok
 pub returns-in-Ok-step-clause-failed : goal.returns-in-Ok-step-clause-failed
 returns-in-Ok-step-clause-failed g c = λ honest. on_true _ (is_fault c.in-Ok-step.bytes.items) (λ fault w stands set.
     let quiet : is_fault c.in-Ok-step.bytes.items ≡ false =
-    request_tells (message_of c.in-Ok.v) w c.args.now c.in-Ok-step.bytes.items (c.in-Ok-step.ensures.reply honest w stands set) in
+    request_tells (message_of c.in-Ok.view) w c.args.now c.in-Ok-step.bytes.items (c.in-Ok-step.ensures.reply honest w stands set) in
     absurd (cc))
 
 pub returns-in-Ok-step-clause-refused : goal.returns-in-Ok-step-clause-refused
 returns-in-Ok-step-clause-refused g c = λ honest. on_true _ (is_refusal c.in-Ok-step.bytes.items) (λ refusal w stands set.
     let P : World → Type 0 = λ after. g.B.QueueBook.stands c.step.new.book after in
-    subst P (request_keeps (message_of c.in-Ok.v) w c.args.now c.in-Ok-step.bytes.items (c.in-Ok-step.ensures.reply honest w stands set) refusal)
+    subst P (request_keeps (message_of c.in-Ok.view) w c.args.now c.in-Ok-step.bytes.items (c.in-Ok-step.ensures.reply honest w stands set) refusal)
     (c.in-Ok-step.ensures.world honest w stands))
 
 pub returns-in-Ok-step-clause-malformed : goal.returns-in-Ok-step-clause-malformed
-returns-in-Ok-step-clause-malformed g c = λ found unspelled. absurd (unspelled (message_of c.in-Ok.v) c.in-Ok.ensures.found)
+returns-in-Ok-step-clause-malformed g c = λ found unspelled. absurd (unspelled (message_of c.in-Ok.view) c.in-Ok.ensures.found)
 
 pub returns-in-Ok-step-clause-malformed_kept : goal.returns-in-Ok-step-clause-malformed_kept
-returns-in-Ok-step-clause-malformed_kept g c = λ unspelled. absurd (unspelled (message_of c.in-Ok.v) c.in-Ok.ensures.found)
+returns-in-Ok-step-clause-malformed_kept g c = λ unspelled. absurd (unspelled (message_of c.in-Ok.view) c.in-Ok.ensures.found)
 
 pub returns-in-Err-Malformed-clause-answered : goal.returns-in-Err-Malformed-clause-answered
 returns-in-Err-Malformed-clause-answered g c = λ honest. on_false _ (is_fault (bytes_of c.bare_answer-in-Err-Malformed.result)) (λ w stands set. (

@@ -16,9 +16,9 @@ along P v (Err e) n h = tt
 pub returns-in-Ok-clause-limits : goal.returns-in-Ok-clause-limits
 returns-in-Ok-clause-limits c = λ h.
     let P : Verdict → Type 0 = λ v. IsWithinLimits v in
-    along P _ c.checked_verdict.result c.checked_verdict.ensures (subst P (ap request_verdict c.in-Ok.ensures.ok) (verdict_fits (message_of c.args.v.now) h))
+    along P _ c.checked_verdict.result c.checked_verdict.ensures (subst P (ap request_verdict c.in-Ok.ensures.ok) (verdict_fits (message_of c.args.view.now) h))
 
 pub returns-in-Ok-clause-listed : goal.returns-in-Ok-clause-listed
 returns-in-Ok-clause-listed c = λ h.
     let P : Verdict → Type 0 = λ v. ListsAttributes v in
-    along P _ c.checked_verdict.result c.checked_verdict.ensures (subst P (ap request_verdict c.in-Ok.ensures.ok) (verdict_lists (message_of c.args.v.now) h))
+    along P _ c.checked_verdict.result c.checked_verdict.ensures (subst P (ap request_verdict c.in-Ok.ensures.ok) (verdict_lists (message_of c.args.view.now) h))

@@ -9,5 +9,5 @@ use Rattle.ipp_ops.proofs.check.has_one_of.Goals as goal
 
 pub returns : goal.returns
 returns c =
-    any_from_yields_List (λ (ks : Bor (List OperationAttribute)). list_all (has (request_of c.args.r)) ks.now) _ _ _ c.any.ensures.ran (YieldsList-from_slice c.args.lists.now cc) (λ x b q k. search (rules, tests))
-    ∙ sym (list_any_map (λ (ks : List OperationAttribute). list_all (has (request_of c.args.r)) ks) (λ (ks : Bor (List OperationAttribute)). ks.now) c.args.lists.now)
+    any_from_yields_List (λ (ks : Bor (List OperationAttribute)). list_all (has (request_of c.args.request)) ks.now) _ _ _ c.any.ensures.ran (YieldsList-from_slice c.args.lists.now cc) (λ x b q k. search (rules, tests))
+    ∙ sym (list_any_map (λ (ks : List OperationAttribute). list_all (has (request_of c.args.request)) ks) (λ (ks : Bor (List OperationAttribute)). ks.now) c.args.lists.now)

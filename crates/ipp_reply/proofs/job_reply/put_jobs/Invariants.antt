@@ -4,4 +4,4 @@ use Rattle.ipp_reply.specs.JobReply.{job_group}
 use Rattle.ipp_reply.proofs.job_reply.put_jobs.Given as goal
 
 abbrev pub invariant-loop-j : goal.invariant-loop-j
-invariant-loop-j l = l.m ≡ record l.fn.m { groups = l.fn.m.groups ++ map (job_group l.uri l.now l.rows) (take l.j-index l.jobs) }
+invariant-loop-j l = l.message ≡ record l.fn.message { groups = l.fn.message.groups ++ map (job_group l.uri l.now l.rows) (take l.j-index l.jobs) }

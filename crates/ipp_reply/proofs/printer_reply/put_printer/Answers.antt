@@ -20,10 +20,10 @@ more m gs f rows i below = ap (λ (x : List Group). let r : Message = record m {
     ∙ ap (λ (x : List Attribute). gs ++ record { tag = 0x04; attributes = x } ∷ []) (sym (map_more f rows i PrinterUriSupported below)))
 
 pub put-requires-clause-fits : goal.put-requires-clause-fits
-put-requires-clause-fits c = rw (c.name.ensures, c.content-content.ensures) (attribute_fits (printer_of c.args.p) _ c.requires)
+put-requires-clause-fits c = rw (c.name.ensures, c.content-content.ensures) (attribute_fits (printer_of c.args.printer) _ c.requires)
 
 pub put-requires-clause-begun : goal.put-requires-clause-begun
-put-requires-clause-begun c = rw c.rows.invariant (omega (arith, length-append c.args.m.now.groups (record { tag = 0x04; attributes = map (attribute (printer_of c.args.p)) (take c.rows.row-index c.args.rows.now) } ∷ [])))
+put-requires-clause-begun c = rw c.rows.invariant (omega (arith, length-append c.args.message.now.groups (record { tag = 0x04; attributes = map (attribute (printer_of c.args.printer)) (take c.rows.row-index c.args.rows.now) } ∷ [])))
 
 pub rows-preserved : goal.rows-preserved
-rows-preserved c = rw (c.in_ok-put.ensures, c.name.ensures, c.content-content.ensures, c.rows.invariant) (more c.args.m.now c.args.m.now.groups (attribute (printer_of c.args.p)) c.args.rows.now c.rows.row-index c.rows-test.true)
+rows-preserved c = rw (c.in_ok-put.ensures, c.name.ensures, c.content-content.ensures, c.rows.invariant) (more c.args.message.now c.args.message.now.groups (attribute (printer_of c.args.printer)) c.args.rows.now c.rows.row-index c.rows-test.true)

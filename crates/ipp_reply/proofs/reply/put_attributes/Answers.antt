@@ -12,7 +12,7 @@ attribute-requires-clause-fits c =
 
 pub loop-a-preserved : goal.loop-a-preserved
 loop-a-preserved c =
-    let gs = c.args.m.now.groups in
+    let gs = c.args.message.now.groups in
     let xs = c.args.attrs.now in
     let i = c.loop-a.a-index in
     let more = add_more gs xs i c.a-item.result c.loop-a-test.true in
@@ -20,6 +20,6 @@ loop-a-preserved c =
     ap attribute_of (sym c.a-item.is) ∙ ap (λ vs. let a : Attribute = record { name = c.a-item.result.name.now; values = values_of vs } in a) (sym c.as_slice.ensures.value) in (
       omega (arith, c.in_ok-attribute.ensures.still_begun, c.loop-a.invariant.0),
       rw (c.in_ok-attribute.ensures.ok, c.loop-a.invariant.1, add-one)
-          (ap (λ (x : List Group). let m : Message = record c.args.m.now { groups = x } in m)
+          (ap (λ (x : List Group). let m : Message = record c.args.message.now { groups = x } in m)
           (ap (λ (a : Attribute). add_attribute a (add_all gs (take i (attributes_of xs)))) (sym item) ∙ sym more)),
     )

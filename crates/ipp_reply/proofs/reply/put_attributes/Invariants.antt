@@ -5,4 +5,4 @@ use Rattle.ipp_wire.specs.Viewed.{attributes_of}
 use Rattle.ipp_reply.proofs.reply.put_attributes.Given as goal
 
 abbrev pub invariant-loop-a : goal.invariant-loop-a
-invariant-loop-a l = (0 < length l.m.groups) × (l.m ≡ record l.fn.m { groups = fold (λ gs a. add_attribute a gs) l.fn.m.groups (take l.a-index (attributes_of l.attrs)) })
+invariant-loop-a l = (0 < length l.message.groups) × (l.message ≡ record l.fn.message { groups = fold (λ gs a. add_attribute a gs) l.fn.message.groups (take l.a-index (attributes_of l.attrs)) })

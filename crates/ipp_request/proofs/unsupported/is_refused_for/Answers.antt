@@ -21,10 +21,10 @@ by_second a b false true z e f g t = absurd (cc)
 by_second a b false false z e f g t = t
 
 pub returns-then-lists_known : goal.returns-then-lists_known
-returns-then-lists_known c = by_first _ _ (is_strict (request_of c.args.r)) (is_filled (unsupported_of c.args.u.now).job) (rw c.as_slice.ensures.value at c.lists_known.ensures) c.if-lists_known.true
+returns-then-lists_known c = by_first _ _ (is_strict (request_of c.args.request)) (is_filled (unsupported_of c.args.unsupported.now).job) (rw c.as_slice.ensures.value at c.lists_known.ensures) c.if-lists_known.true
 
 pub returns-then-is_true : goal.returns-then-is_true
-returns-then-is_true c = by_last _ _ _ _ (is_strict (request_of c.args.r)) (is_filled (unsupported_of c.args.u.now).job) (rw c.as_slice.ensures.value at c.lists_known.ensures) c.if-lists_known.false c.is_true.ensures c.if-is_true.true (rw c.as_slice-then-is_true.ensures.value at c.is_filled.ensures)
+returns-then-is_true c = by_last _ _ _ _ (is_strict (request_of c.args.request)) (is_filled (unsupported_of c.args.unsupported.now).job) (rw c.as_slice.ensures.value at c.lists_known.ensures) c.if-lists_known.false c.is_true.ensures c.if-is_true.true (rw c.as_slice-then-is_true.ensures.value at c.is_filled.ensures)
 
 pub returns-else-is_true : goal.returns-else-is_true
-returns-else-is_true c = by_second _ _ _ (is_strict (request_of c.args.r)) (is_filled (unsupported_of c.args.u.now).job) (rw c.as_slice.ensures.value at c.lists_known.ensures) c.if-lists_known.false c.is_true.ensures c.if-is_true.false
+returns-else-is_true c = by_second _ _ _ (is_strict (request_of c.args.request)) (is_filled (unsupported_of c.args.unsupported.now).job) (rw c.as_slice.ensures.value at c.lists_known.ensures) c.if-lists_known.false c.is_true.ensures c.if-is_true.false

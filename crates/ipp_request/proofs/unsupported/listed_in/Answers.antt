@@ -16,7 +16,7 @@ loop-a-preserved-then-not-branch c =
     let more : attributes_of (take (c.loop-a.a-index + 1) c.args.attrs.now) ≡ before ++ x ∷ [] =
     attributes_more c.args.attrs.now c.loop-a.a-index c.a-item.result c.loop-a-test.true ∙ ap (λ (a : AttrView). before ++ attribute_of a ∷ []) (sym c.a-item.is) in
     let seen : has_name before x.name ≡ true = sym (c.loop-a.invariant.1 c.a-item.result.name) ∙ not_false _ (sym c.in_ok-insert.ensures.added ∙ c.if-not-branch.true) in (
-      c.loop-a.invariant.0 ∙ sym (ap (λ (t : List Attribute). filter_map (listed c.args.s) (counted t)) more ∙ later_skipped c.args.s before x seen),
+      c.loop-a.invariant.0 ∙ sym (ap (λ (t : List Attribute). filter_map (listed c.args.source) (counted t)) more ∙ later_skipped c.args.source before x seen),
       λ q. c.in_ok-insert.ensures.updates.0 q ∙ names_more before x q.now _ (c.loop-a.invariant.1 q) ∙ ap (λ (t : List Attribute). has_name t q.now) (sym more),
     )
 
@@ -27,7 +27,7 @@ loop-a-preserved c =
     let more : attributes_of (take (c.loop-a.a-index + 1) c.args.attrs.now) ≡ before ++ x ∷ [] =
     attributes_more c.args.attrs.now c.loop-a.a-index c.a-item.result c.loop-a-test.true ∙ ap (λ (a : AttrView). before ++ attribute_of a ∷ []) (sym c.a-item.is) in
     let seen : has_name before x.name ≡ false = sym (c.loop-a.invariant.1 c.a-item.result.name) ∙ not_true _ (sym c.in_ok-insert.ensures.added ∙ c.if-not-branch.false) in (
-      c.in_ok-push_listed.ensures ∙ ap (λ (t : List Attribute). t ++ option_to_list (listed c.args.s x)) c.loop-a.invariant.0
-          ∙ sym (ap (λ (t : List Attribute). filter_map (listed c.args.s) (counted t)) more ∙ first_listed c.args.s before x seen),
+      c.in_ok-push_listed.ensures ∙ ap (λ (t : List Attribute). t ++ option_to_list (listed c.args.source x)) c.loop-a.invariant.0
+          ∙ sym (ap (λ (t : List Attribute). filter_map (listed c.args.source) (counted t)) more ∙ first_listed c.args.source before x seen),
       λ q. c.in_ok-insert.ensures.updates.0 q ∙ names_more before x q.now _ (c.loop-a.invariant.1 q) ∙ ap (λ (t : List Attribute). has_name t q.now) (sym more),
     )

@@ -10,5 +10,5 @@ use Rattle.ipp_request.proofs.unsupported.lists_known.Goals as goal
 
 pub returns : goal.returns
 returns c =
-    any_from_yields_List (λ (a : AttrView). is_known c.args.o (attribute_of a).name) _ _ _ c.any.ensures.ran (YieldsList-from_slice c.args.attrs.now cc) (λ x b q k. search (rules, tests))
-    ∙ sym (list_any_map (λ (a : Attribute). is_known c.args.o a.name) attribute_of c.args.attrs.now)
+    any_from_yields_List (λ (a : AttrView). is_known c.args.operation (attribute_of a).name) _ _ _ c.any.ensures.ran (YieldsList-from_slice c.args.attrs.now cc) (λ x b q k. search (rules, tests))
+    ∙ sym (list_any_map (λ (a : Attribute). is_known c.args.operation a.name) attribute_of c.args.attrs.now)

@@ -9,5 +9,5 @@ use Rattle.ipp_request.proofs.value.are_shaped.Goals as goal
 
 pub returns : goal.returns
 returns c =
-    all_from_yields_List (λ (v : ValueView). is_shaped c.args.s (value_of v)) _ _ _ c.all.ensures.ran (YieldsList-from_slice c.args.values.now cc) (λ x b q k. search (rules, tests))
-    ∙ sym (list_all_map (is_shaped c.args.s) value_of c.args.values.now)
+    all_from_yields_List (λ (v : ValueView). is_shaped c.args.syntax (value_of v)) _ _ _ c.all.ensures.ran (YieldsList-from_slice c.args.values.now cc) (λ x b q k. search (rules, tests))
+    ∙ sym (list_all_map (is_shaped c.args.syntax) value_of c.args.values.now)

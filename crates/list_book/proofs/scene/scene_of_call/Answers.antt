@@ -6,7 +6,7 @@ use Rattle.list_book.proofs.scene.scene_of_call.Goals as goal
 
 pub returns : goal.returns
 returns c =
-    scene_is c.args.l.now c.args.caller.now (call_of c.args.call.now) _
+    scene_is c.args.lists.now c.args.caller.now (call_of c.args.call.now) _
     c.in_ok-settings.ensures
     (c.from_items.ensures ∙ c.in_ok-jobs.ensures ∙ ap (jobs_for c.args.caller.now (call_of c.args.call.now)) c.as_slice.ensures.value)
     (c.from_items-2.ensures ∙ c.in_ok-free.ensures)

@@ -4,12 +4,12 @@ use Rattle.list_book.proofs.scene.scene_of_grants.Goals as goal
 
 pub returns : goal.returns
 returns c =
-    grants_scene_is c.args.l.now c.args.rows.now _
+    grants_scene_is c.args.lists.now c.args.rows.now _
     c.in_ok-settings.ensures
     (c.from_items.ensures ∙ c.new.ensures.items)
     (c.from_items-2.ensures ∙ c.new-2.ensures.items)
     refl
     c.no_counts.ensures
     refl
-    (c.from_items-3.ensures ∙ c.in_ok-known.ensures ∙ known_is c.args.l.now c.args.rows.now c.requires)
+    (c.from_items-3.ensures ∙ c.in_ok-known.ensures ∙ known_is c.args.lists.now c.args.rows.now c.requires)
     refl

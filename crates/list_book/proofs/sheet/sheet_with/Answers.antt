@@ -10,9 +10,9 @@ pub returns : goal.returns
 returns c =
     let a = c.args.account.now in
     let jobs = c.as_slice-jobs.ensures.value in
-    same_sheet c.args.l.now a c.args.free _
+    same_sheet c.args.lists.now a c.args.free _
     (c.into_text.ensures ∙ c.requires.name)
-    (c.from.ensures ∙ c.pages_granted-granted.ensures ∙ ap (total_of c.args.l.now.accounts.entries) c.requires.name)
+    (c.from.ensures ∙ c.pages_granted-granted.ensures ∙ ap (total_of c.args.lists.now.accounts.entries) c.requires.name)
     (search rules)
     (c.reserved_in.ensures ∙ ap (sum_by (λ j. cond (bytes_eq j.owner a) (owed j) 0)) jobs)
     (c.printed_in.ensures ∙ ap (sum_by (λ j. cond (bytes_eq j.owner a) j.count 0)) jobs)

@@ -12,11 +12,11 @@ returns-clause-before c rows are =
     c.in_ok-before.ensures.old
     ∙ are (record { batch = c.as_str.result; account = c.as_str-2.result })
     ∙ ap (λ (b : List ℕ). option_map (λ (g : GrantRow). g.pages) (find (λ (g : GrantRow). bytes_eq g.batch b && bytes_eq g.account c.as_str-2.result.now) rows)) c.as_str.ensures
-    ∙ ap (λ (a : List ℕ). option_map (λ (g : GrantRow). g.pages) (find (λ (g : GrantRow). bytes_eq g.batch c.args.r.now.batch && bytes_eq g.account a) rows)) c.as_str-2.ensures
+    ∙ ap (λ (a : List ℕ). option_map (λ (g : GrantRow). g.pages) (find (λ (g : GrantRow). bytes_eq g.batch c.args.grant.now.batch && bytes_eq g.account a) rows)) c.as_str-2.ensures
 
 pub returns-clause-new : goal.returns-clause-new
 returns-clause-new c rows are none q =
-    let r = c.args.r.now in
+    let r = c.args.grant.now in
     let under : option_map (λ (g : GrantRow). g.pages) (row_under r rows) ≡ c.in_ok-before.before = sym (returns-clause-before c rows are) in
     c.in_ok-before.ensures.updates.0 q
     ∙ ap (λ t. cond t (Some r.pages) (get is_same_key c.args.pages.now q))
@@ -27,7 +27,7 @@ returns-clause-new c rows are none q =
 
 pub returns-clause-again : goal.returns-clause-again
 returns-clause-again c rows are there q =
-    let r = c.args.r.now in
+    let r = c.args.grant.now in
     let under : option_map (λ (g : GrantRow). g.pages) (row_under r rows) ≡ c.in_ok-before.before = sym (returns-clause-before c rows are) in
     c.in_ok-before.ensures.updates.0 q
     ∙ ap (λ t. cond t (Some r.pages) (get is_same_key c.args.pages.now q))

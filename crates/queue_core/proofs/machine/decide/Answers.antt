@@ -9,11 +9,11 @@ use Rattle.queue_core.proofs.Within.{decision_within}
 use Rattle.queue_core.proofs.machine.decide.Goals as goal
 use Rattle.queue_core.proofs.machine.decide.Goals.{After-decision_on}
 
-decides : (c : After-decision_on) → IfOk c.decision_on.result (λ d. decision_of d ≡ decision c.args.s.now c.args.now (event_of c.args.e.now))
+decides : (c : After-decision_on) → IfOk c.decision_on.result (λ d. decision_of d ≡ decision c.args.scene.now c.args.now (event_of c.args.event.now))
 decides c = c.decision_on.ensures
 
-within : (c : After-decision_on) (d : Decision) → d ≡ decision c.args.s.now c.args.now (event_of c.args.e.now) → IsSoundDecision (event_of c.args.e.now) d
-within c d is = subst (IsSoundDecision (event_of c.args.e.now)) (sym is) (decision_within c.args.s.now c.args.now (event_of c.args.e.now) c.requires.fair c.requires.moment c.requires.event)
+within : (c : After-decision_on) (d : Decision) → d ≡ decision c.args.scene.now c.args.now (event_of c.args.event.now) → IsSoundDecision (event_of c.args.event.now) d
+within c d is = subst (IsSoundDecision (event_of c.args.event.now)) (sym is) (decision_within c.args.scene.now c.args.now (event_of c.args.event.now) c.requires.fair c.requires.moment c.requires.event)
 
 pub returns-clause-limits : goal.returns-clause-limits
 returns-clause-limits c = if_ok c.decision_on.result _ _ (λ d is. (within c (decision_of d) is).reply) (decides c)
@@ -22,10 +22,10 @@ pub returns-clause-rows : goal.returns-clause-rows
 returns-clause-rows c = if_ok c.decision_on.result _ _ (λ d is. (within c (decision_of d) is).change) (decides c)
 
 pub returns-clause-sound : goal.returns-clause-sound
-returns-clause-sound c = if_ok c.decision_on.result _ _ (λ d is w same sound. (step_keeps w (decision_of d) sound (decided_on w c.args.s.now c.args.now (event_of c.args.e.now) (decision_of d) c.requires.moment c.requires.event same is)).sound) (decides c)
+returns-clause-sound c = if_ok c.decision_on.result _ _ (λ d is w same sound. (step_keeps w (decision_of d) sound (decided_on w c.args.scene.now c.args.now (event_of c.args.event.now) (decision_of d) c.requires.moment c.requires.event same is)).sound) (decides c)
 
 pub returns-clause-moves : goal.returns-clause-moves
-returns-clause-moves c = if_ok c.decision_on.result _ _ (λ d is w same sound. (step_keeps w (decision_of d) sound (decided_on w c.args.s.now c.args.now (event_of c.args.e.now) (decision_of d) c.requires.moment c.requires.event same is)).moves) (decides c)
+returns-clause-moves c = if_ok c.decision_on.result _ _ (λ d is w same sound. (step_keeps w (decision_of d) sound (decided_on w c.args.scene.now c.args.now (event_of c.args.event.now) (decision_of d) c.requires.moment c.requires.event same is)).moves) (decides c)
 
 pub returns-clause-balances : goal.returns-clause-balances
-returns-clause-balances c = if_ok c.decision_on.result _ _ (λ d is w same sound. (step_keeps w (decision_of d) sound (decided_on w c.args.s.now c.args.now (event_of c.args.e.now) (decision_of d) c.requires.moment c.requires.event same is)).sound.balances) (decides c)
+returns-clause-balances c = if_ok c.decision_on.result _ _ (λ d is w same sound. (step_keeps w (decision_of d) sound (decided_on w c.args.scene.now c.args.now (event_of c.args.event.now) (decision_of d) c.requires.moment c.requires.event same is)).sound.balances) (decides c)

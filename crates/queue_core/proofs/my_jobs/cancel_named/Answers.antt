@@ -9,7 +9,7 @@ use Rattle.queue_core.proofs.my_jobs.cancel_named.Goals as goal
 
 pub returns : goal.returns
 returns c =
-    let s = c.args.s.now in
+    let s = c.args.scene.now in
     let ns = c.args.numbers.now in
     let there : are_there s.jobs ns ≡ true = ap (λ (js : List Job). are_there js ns) (sym c.as_slice.ensures) ∙ sym c.in_ok-has_each.ensures ∙ c.if-not-branch.false in
     let each : list_all is_cancelable s.jobs ≡ true = ap (λ (js : List Job). list_all is_cancelable js) (sym c.as_slice-2.ensures) ∙ sym c.can_cancel_all.ensures ∙ c.if-not-can_cancel_all.false in

@@ -10,5 +10,5 @@ pub returns-in-Some-clause-done : goal.returns-in-Some-clause-done
 returns-in-Some-clause-done g c clean =
     on_ok c.add_document.result _ _ (λ adds w distinct has.
     let it = c.in_ok-find_job.ensures.found (c.add_document.ensures.clean clean) w distinct has in
-    let was = was_found _ (job_at c.args.d.now.job (rows w)) (subst (λ (o : Option Job). o ≡ option_map bare (job_at c.args.d.now.job (rows w))) c.in-Some.is it.0) in
+    let was = was_found _ (job_at c.args.document.now.job (rows w)) (subst (λ (o : Option Job). o ≡ option_map bare (job_at c.args.document.now.job (rows w))) c.in-Some.is it.0) in
     adds w was.0 distinct was.1 it.1) (c.add_document.ensures.done clean)

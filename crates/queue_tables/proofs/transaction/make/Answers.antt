@@ -15,7 +15,7 @@ returns-in-Ok-clause-made g c clean =
     let mid = state g.S.Store c.write_change.new.tx.conn.now in
     let early : HasCleanDisk mid = clean_before mid after c.commit.ensures.survives.clean ended in
     let shown = c.in-Ok.ensures.ok ended in λ w sound decided has.
-    let made = made_on (change_of c.args.d.now.change) w in
+    let made = made_on (change_of c.args.decision.now.change) w in
     let begun = begun_holds g.S.Store (content_of w) c.args.conn.now _ c.transaction-tx.ensures.begun has in
     let put = c.in_ok-write_change.ensures.made early w sound decided begun in
     subst (λ h. Holds (content_of made) (state g.S.Store h)) (sym tie) (committed_holds (content_of made) mid after _ put shown.1)

@@ -6,7 +6,7 @@ returns-in-Ok-clause-ok g c w stands honest =
     let was = stands (c.make.ensures.clean honest) in
     let decided = c.requires.decided w (c.make.ensures.clean honest) stands in
     record {
-      sound = c.decisions_are_sound.ensures.made w (decision_of c.args.d) was.sound decided;
+      sound = c.decisions_are_sound.ensures.made w (decision_of c.args.decision) was.sound decided;
       settings_are = was.settings_are;
       holds = λ is_open. c.in-Ok.ensures.made honest w was.sound decided (was.holds (c.make.ensures.opened honest is_open));
     }

@@ -20,4 +20,4 @@ pub returns-clause-decides : goal.returns-clause-decides
 returns-clause-decides g c honest w stands =
     let now = stands honest in
     let held = held_by c.scene.ensures.leaves honest (content_of w) (now.holds (c.in_ok-s.ensures.live honest)) in
-    c.in_ok-d.ensures.decides ∙ ap (λ s. decision s c.args.now (event_of c.args.e.now)) (c.in_ok-s.ensures.shows honest w now.sound held now.settings_are)
+    c.in_ok-d.ensures.decides ∙ ap (λ s. decision s c.args.now (event_of c.args.event.now)) (c.in_ok-s.ensures.shows honest w now.sound held now.settings_are)

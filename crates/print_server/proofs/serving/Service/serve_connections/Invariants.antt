@@ -3,12 +3,12 @@ use Rattle.std.specs.Io.KnownBytes.{Appends}
 use Rattle.queue_core.specs.World.{World}
 use Rattle.print_server.specs.Connections.{AreConnections}
 use Rattle.print_server.specs.Lines.{served_lines}
-use Rattle.print_server.proofs.serving.serve_connections.Given as goal
+use Rattle.print_server.proofs.serving.Service.serve_connections.Given as goal
 
 abbrev pub invariant-loop-round : goal.invariant-loop-round
 invariant-loop-round g l = record {
   began : g.B.QueueBook.is_honest l.book → g.B.QueueBook.is_honest l.initial.book;
-  served : g.B.QueueBook.is_honest l.book → (w : World) → g.B.QueueBook.stands l.initial.book w → l.s ≡ w.settings
+  served : g.B.QueueBook.is_honest l.book → (w : World) → g.B.QueueBook.stands l.initial.book w → l.self.settings.now ≡ w.settings
       → (u : World) × g.B.QueueBook.stands l.book u × (counts : List ℕ) × AreConnections w counts u × (length counts ≡ l._round)
       × Appends (g.O.Write.contents l.initial.out) (g.O.Write.contents l.out) (served_lines counts);
 }

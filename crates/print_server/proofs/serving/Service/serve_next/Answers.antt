@@ -1,6 +1,6 @@
 use Rattle.std.proofs.Common.{[], ◌∷◌, refl, arith}
 use Rattle.print_server.proofs.ConnectionLemmas.{on_err, one, told_one}
-use Rattle.print_server.proofs.serving.serve_next.Goals as goal
+use Rattle.print_server.proofs.serving.Service.serve_next.Goals as goal
 
 pub returns-in_err-stream-clause-err : goal.returns-in_err-stream-clause-err
 returns-in_err-stream-clause-err g c = λ h. on_err c.from_residual.result _ (λ w st set. (w, st, [], refl, omega arith))

@@ -1,7 +1,7 @@
 use Rattle.std.proofs.Common.{sym, subst}
 use Rattle.http_front.specs.Connections.{Worked}
 use Rattle.print_server.proofs.ConnectionLemmas.{worked_none}
-use Rattle.print_server.proofs.serving.serve_stream.Goals as goal
+use Rattle.print_server.proofs.serving.Service.serve_stream.Goals as goal
 
 pub returns-then-is_err-clause-worked : goal.returns-then-is_err-clause-worked
 returns-then-is_err-clause-worked g c = λ h w st set. (w, st, worked_none c.args.now w)

@@ -1,7 +1,7 @@
 use Rattle.std.proofs.Common.{[], ◌++◌, refl, arith, length-append}
 use Rattle.std.proofs.KnownBytes.{Appends-nil}
 use Rattle.print_server.proofs.ConnectionLemmas.{joined, on_err, settings_kept, told_on}
-use Rattle.print_server.proofs.serving.serve_connections.Goals as goal
+use Rattle.print_server.proofs.serving.Service.serve_connections.Goals as goal
 
 pub loop-round-init : goal.loop-round-init
 loop-round-init g c = record { began = λ h. h; served = λ h w st set. (w, st, [], refl, refl, Appends-nil _) }
@@ -11,7 +11,7 @@ loop-round-preserved g c = record {
   began = λ h. c.loop-round.invariant.began (c.serve_next.ensures.began h);
   served = λ h w st set.
       let r = c.loop-round.invariant.served (c.serve_next.ensures.began h) w st set in
-      let t = c.in_ok-serve_next.ensures.ok h r.0 r.1 (settings_kept c.args.s.now w r.0 r.2 r.3 set) in
+      let t = c.in_ok-serve_next.ensures.ok h r.0 r.1 (settings_kept c.args.self.settings.now w r.0 r.2 r.3 set) in
       let more = length-append r.2 t.2 in
       (t.0, t.1, r.2 ++ t.2, joined w r.0 t.0 r.2 t.2 r.3 t.3, omega (arith, more, r.4, t.4), told_on _ _ _ r.2 t.2 r.5 t.5);
 }
@@ -19,7 +19,7 @@ loop-round-preserved g c = record {
 pub returns-in_err-serve_next-clause-err : goal.returns-in_err-serve_next-clause-err
 returns-in_err-serve_next-clause-err g c = λ h. on_err c.from_residual.result _ (λ w st set.
     let r = c.loop-round.invariant.served (c.serve_next.ensures.began h) w st set in
-    let t = c.in_err-serve_next.ensures.err h r.0 r.1 (settings_kept c.args.s.now w r.0 r.2 r.3 set) in
+    let t = c.in_err-serve_next.ensures.err h r.0 r.1 (settings_kept c.args.self.settings.now w r.0 r.2 r.3 set) in
     let more = length-append r.2 t.2 in
     (t.0, t.1, r.2 ++ t.2, joined w r.0 t.0 r.2 t.2 r.3 t.3, omega (arith, more, r.4, t.4)))
 
