@@ -2,7 +2,9 @@
 
 use crate::tests::folder::Asked::{Import, Statement};
 use crate::tests::folder::Step::{Asks, Imports, Lacks, Zeros};
-use crate::tests::folder::{At, DISK, FILE, MADE, NO_ACCOUNT, STORE, Step, Told, take_steps};
+use crate::tests::folder::{
+    At, DISK, FILE, Folder, MADE, NO_ACCOUNT, STORE, Step, Told, take_steps,
+};
 use std::io::Write;
 use std::test::Fail;
 
@@ -72,7 +74,15 @@ fn account_files_and_statements(rt: HostRuntime) -> Result<(), Fail> {
     take_steps(&rt, "accounts", FILES)
 }
 
-/// Adds so many rows of 1,000,000 pages each to an account file.
+/// Writes an account file of so many rows of 1,000,000 pages each.
+fn write_rows(folder: &Folder<'_>, account: &str, rows: u32) -> Result<(), Fail> {
+    let mut file = Vec::from_slice(folder.alloc(), b"batch,account,pages\n")?;
+    put_rows(&mut file, account, rows)?;
+    folder.write(FILE, file.as_slice())?;
+    Ok(())
+}
+
+/// Adds those rows.
 fn put_rows(file: &mut Vec<u8>, account: &str, rows: u32) -> Result<(), Fail> {
     for row in 1..=rows {
         writeln!(file, "b{row},{account},1000000")?;
@@ -81,20 +91,23 @@ fn put_rows(file: &mut Vec<u8>, account: &str, rows: u32) -> Result<(), Fail> {
 }
 
 /// An account may have 1,000,000,000 pages, and not one more.
+const ALL_ITS_PAGES: &[Step<'static>] = &[
+    MADE,
+    Asks(Import(STORE, FILE), (0, "new 1000 repeats 0\n", "")),
+    Imports(
+        b"batch,account,pages\nf24,erin,1\nf24,dave,1\n",
+        (1, "", "printd: import fault 5 at row 2\n"),
+    ),
+    Asks(Statement(STORE, "erin"), NO_ACCOUNT),
+];
+
 #[test]
 fn more_pages_than_an_account_may_have(rt: HostRuntime) -> Result<(), Fail> {
-    let mut rows = Vec::from_slice(rt.alloc(), b"batch,account,pages\n")?;
-    put_rows(&mut rows, "dave", 1000)?;
-    let steps = [
-        MADE,
-        Imports(rows.as_slice(), (0, "new 1000 repeats 0\n", "")),
-        Imports(
-            b"batch,account,pages\nf24,erin,1\nf24,dave,1\n",
-            (1, "", "printd: import fault 5 at row 2\n"),
-        ),
-        Asks(Statement(STORE, "erin"), NO_ACCOUNT),
-    ];
-    take_steps(&rt, "pages", &steps)
+    let folder = Folder::new(&rt, "pages")?;
+    write_rows(&folder, "dave", 1000)?;
+    folder.take_each(ALL_ITS_PAGES)?;
+    folder.remove()?;
+    Ok(())
 }
 
 const IO: Told<'static> = (1, "", "printd: io\n");

@@ -65,27 +65,26 @@ fn bytes_of_no_store(rt: HostRuntime) -> Result<(), Fail> {
 
 const CUT: At<'static> = At::In("cut");
 
-/// The first bytes of a store, so many of 8 parts, are no store.
-fn refuse_fronts(folder: &Folder<'_>, whole: &[u8]) -> Result<(), StepFault> {
+/// The first bytes of a store, so many of 8 parts, are no store. All of them are one: it is whole in its one file once its command has ended.
+fn refuse_fronts(folder: &Folder<'_>) -> Result<(), Fail> {
+    let whole = folder.read(STORE)?;
     for parts in 0..8usize {
         let length = whole.len() / 8 * parts;
-        refuse_bytes(folder, CUT, whole.get(..length).unwrap_or(&[]))?;
+        refuse_bytes(folder, CUT, whole.as_slice().get(..length).unwrap_or(&[]))?;
     }
     Ok(())
 }
 
-/// The store is whole in its one file once its command has ended.
+/// A copy of a store takes what the store has taken.
+const COPIED: &[Step<'static>] = &[Asks(Import(CUT, FILE), (0, "new 0 repeats 1\n", ""))];
+
 #[test]
 fn stores_that_are_cut(rt: HostRuntime) -> Result<(), Fail> {
     let folder = Folder::new(&rt, "cut")?;
     folder.take_each(&WITH_AN_ACCOUNT)?;
-    let whole = folder.read(STORE)?;
-    refuse_fronts(&folder, whole.as_slice())?;
-    let steps = [
-        Writes(CUT, whole.as_slice()),
-        Asks(Import(CUT, FILE), (0, "new 0 repeats 1\n", "")),
-    ];
-    folder.take_each(&steps)?;
+    refuse_fronts(&folder)?;
+    folder.copy(STORE, CUT)?;
+    folder.take_each(COPIED)?;
     folder.remove()?;
     Ok(())
 }

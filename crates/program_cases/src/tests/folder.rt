@@ -152,6 +152,12 @@ impl<'a> Folder<'a> {
         Ok(())
     }
 
+    /// Copies a file.
+    pub(super) fn copy(&self, from: At<'_>, to: At<'_>) -> Result<(), Mismatch> {
+        let bytes = self.read(from)?;
+        self.write(to, bytes.as_slice())
+    }
+
     fn write_zeros(&self, at: At<'_>, length: u64) -> Result<(), Mismatch> {
         let path = self.path(at)?;
         fs::create(self.rt, path.as_path())?.set_len(length)?;

@@ -1,10 +1,10 @@
 //! Stores that are made, and settings that aren't taken.
 
 use crate::tests::folder::Asked::{Import, Init, Statement};
-use crate::tests::folder::Step::{Asks, Imports, IsPrivate, Keeps, Lacks, Writes};
+use crate::tests::folder::Step::{Asks, Imports, IsPrivate, Keeps, Writes};
 use crate::tests::folder::{
-    At, DAMAGED, DISK, FILE, Folder, MADE, NO_ACCOUNT, STORE, Step, StepFault, Told, URI,
-    take_steps, take_steps_for_nothing,
+    At, DAMAGED, DISK, FILE, MADE, NO_ACCOUNT, STORE, Step, Told, URI, take_steps,
+    take_steps_for_nothing,
 };
 use commands::run;
 use std::test::Fail;
@@ -15,36 +15,26 @@ const BAD_SETTING: Told<'static> = (1, "", "printd: bad setting\n");
 const LONG_NAME: &str =
     "nnnnnnnnnnnnnnnnnnnnnnnnnnnnnnnnnnnnnnnnnnnnnnnnnnnnnnnnnnnnnnnnnnnnnnnnnnnnnnnnnnnnnnnnnnnnnnnnnnnnnnnnnnnnnnnnnnnnnnnnnnnnnnnn";
 
-/// A printer's URI and name that aren't both taken.
-const BAD_SETTINGS: [(&str, &str); 8] = [
-    ("ipp://h/x", "release"),
-    ("ipp://h/ipp/print?a", "release"),
-    ("ipp://h/ipp/print/", "release"),
-    ("/ipp/print", "release"),
-    ("", "release"),
-    ("ipp://\u{e9}/ipp/print", "release"),
-    (URI, ""),
-    (URI, LONG_NAME),
+/// URIs and names of a printer that aren't both taken. The settings come before the store, and make no file.
+const BAD_SETTINGS: &[Step<'static>] = &[
+    Asks(Init(STORE, "ipp://h/x", "release"), BAD_SETTING),
+    Asks(Init(STORE, "ipp://h/ipp/print?a", "release"), BAD_SETTING),
+    Asks(Init(STORE, "ipp://h/ipp/print/", "release"), BAD_SETTING),
+    Asks(Init(STORE, "/ipp/print", "release"), BAD_SETTING),
+    Asks(Init(STORE, "", "release"), BAD_SETTING),
+    Asks(
+        Init(STORE, "ipp://\u{e9}/ipp/print", "release"),
+        BAD_SETTING,
+    ),
+    Asks(Init(STORE, URI, ""), BAD_SETTING),
+    Asks(Init(STORE, URI, LONG_NAME), BAD_SETTING),
+    Asks(Init(At::Folder, "", "release"), BAD_SETTING),
+    Asks(Init(At::Folder, URI, LONG_NAME), BAD_SETTING),
 ];
-
-/// The settings come before the store, and make no file.
-fn refuse_settings<'x>(folder: &Folder<'_>, uri: &'x str, name: &'x str) -> Result<(), StepFault> {
-    let steps = [
-        Asks(Init(STORE, uri, name), BAD_SETTING),
-        Asks(Init(At::Folder, uri, name), BAD_SETTING),
-        Lacks(STORE),
-    ];
-    folder.take_each(&steps)
-}
 
 #[test]
 fn settings_that_are_refused(rt: HostRuntime) -> Result<(), Fail> {
-    let folder = Folder::new(&rt, "settings")?;
-    for (uri, name) in BAD_SETTINGS {
-        refuse_settings(&folder, uri, name)?;
-    }
-    folder.remove_empty()?;
-    Ok(())
+    take_steps_for_nothing(&rt, "settings", BAD_SETTINGS)
 }
 
 const TWICE: &[Step<'static>] = &[

@@ -132,8 +132,9 @@ impl<B: DeskBook> Server<B> {
     /// Serves so many connections, and prints these lines.
     fn serve(&mut self, rt: &HostRuntime, connections: u32, lines: &str) -> Result<(), Mismatch> {
         let mut printed = Vec::new(self.alloc);
-        self.serve_into(rt, &mut printed, connections)
-            .map_err(mismatch_of)?;
+        if let Err(stopped) = self.serve_into(rt, &mut printed, connections) {
+            return Err(mismatch_of(stopped));
+        }
         AT.same_bytes(lines.as_bytes(), printed.as_slice())
     }
 

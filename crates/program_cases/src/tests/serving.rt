@@ -127,32 +127,43 @@ fn refuses(
 
 /// What a server took stands in the store that the next one opens. A store is whole in its one file once its server has ended, so that a copy of that file
 /// alone is served too.
+fn is_served_again(rt: &HostRuntime, folder: &Folder<'_>) -> Result<(), Mismatch> {
+    serves(rt, folder, STORE, &[], JOB_1)?;
+    folder.copy(STORE, FILE)?;
+    serves(rt, folder, STORE, &[], JOB_2)?;
+    serves(rt, folder, FILE, &[], JOB_2)
+}
+
 #[test]
-fn a_store_that_is_served_twice(rt: HostRuntime) -> Result<(), Fail> {
+fn a_store_that_is_served_again(rt: HostRuntime) -> Result<(), Fail> {
     let folder = Folder::new(&rt, "served")?;
     folder.take_each(&[MADE])?;
-    serves(&rt, &folder, STORE, &[], JOB_1)?;
-    let whole = folder.read(STORE)?;
-    folder.write(FILE, whole.as_slice())?;
-    serves(&rt, &folder, STORE, &[], JOB_2)?;
-    serves(&rt, &folder, FILE, &[], JOB_2)?;
+    is_served_again(&rt, &folder)?;
     folder.remove()?;
     Ok(())
 }
 
 /// A command on a store that is served is refused, and the store stays as it was.
-const IN_USE: [Step<'static>; 3] = [
+const IN_USE: &[Step<'static>] = &[
     Keeps(STORE, Statement(STORE, "alice"), DISK),
     Keeps(STORE, Import(STORE, FILE), DISK),
     Keeps(STORE, Init(STORE, URI, "release"), DISK),
 ];
 
+/// Once its server has ended it isn't.
+const AGAIN: &[Step<'static>] = &[Asks(Import(STORE, FILE), (0, "new 0 repeats 1\n", ""))];
+
+fn is_in_use(rt: &HostRuntime, folder: &Folder<'_>) -> Result<(), Fail> {
+    folder.take_each(&WITH_AN_ACCOUNT)?;
+    serves(rt, folder, STORE, IN_USE, JOB_1)?;
+    folder.take_each(AGAIN)?;
+    Ok(())
+}
+
 #[test]
 fn a_store_in_use(rt: HostRuntime) -> Result<(), Fail> {
     let folder = Folder::new(&rt, "used")?;
-    folder.take_each(&WITH_AN_ACCOUNT)?;
-    serves(&rt, &folder, STORE, &IN_USE, JOB_1)?;
-    folder.take_each(&[Asks(Import(STORE, FILE), (0, "new 0 repeats 1\n", ""))])?;
+    is_in_use(&rt, &folder)?;
     folder.remove()?;
     Ok(())
 }
