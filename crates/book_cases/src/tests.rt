@@ -8,4 +8,5 @@ mod great_files;
 mod job_numbers;
 mod lists_of_jobs;
 mod sending;
+mod stops;
 mod two_accounts;

@@ -24,6 +24,20 @@ const HEADER: &[u8] = b"batch,account,pages\n";
 /// The most bytes that a request may have.
 const MOST: usize = 16_777_216;
 
+/// Where a desk is in its row.
+#[derive(Clone, Copy)]
+pub struct Place {
+    taken: usize,
+    now: u32,
+}
+
+impl Place {
+    /// How many steps of the row lie between an earlier place and this one.
+    pub fn behind(self, earlier: Place) -> usize {
+        self.taken.saturating_sub(earlier.taken)
+    }
+}
+
 /// What stands beside the book of a queue while the steps of a row are taken.
 #[derive(Drop)]
 pub struct Desk {
@@ -60,6 +74,20 @@ impl Desk {
     /// The number of the step that was not well, from 0.
     pub(crate) fn step(&self) -> usize {
         self.taken
+    }
+
+    /// Where the desk is in its row.
+    pub fn place(&self) -> Place {
+        Place {
+            taken: self.taken,
+            now: self.now,
+        }
+    }
+
+    /// Goes back to a place in the row.
+    pub fn go_to(&mut self, place: Place) {
+        self.taken = place.taken;
+        self.now = place.now;
     }
 
     /// The moment that a step comes at, brought into the moments of a printer.

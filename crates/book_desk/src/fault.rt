@@ -20,6 +20,10 @@ pub enum StepFault {
     Request,
     /// There is no such document.
     NoDocument,
+    /// What a disk left as it stopped is not well.
+    AtStop(String),
+    /// A disk is called on and on.
+    NoEnd,
 }
 
 impl From<AllocError> for StepFault {

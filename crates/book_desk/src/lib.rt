@@ -8,7 +8,7 @@ mod request;
 mod shelf;
 mod step;
 
-pub use desk::Desk;
+pub use desk::{Desk, Place};
 pub use fault::{RowFault, StepFault};
 pub use request::{JobsWanted, Request};
 pub use shelf::{Shelf, take_row};

@@ -1,9 +1,12 @@
 //! The books that tests of a print queue run over alike: in lists, in tables in memory, in tables in memory that are
-//! closed and adopted before every step, and in tables in a file that is opened again before every step.
+//! closed and adopted before every step, in tables in a file that is opened again before every step, and in tables on a disk
+//! that stops.
 #![tactic(auto)]
 
 mod books;
 mod shelves;
+mod stops;
 
 pub use books::{TestBooks, take_in_memory};
 pub use shelves::{adopt, tables_in_memory, take_adopted};
+pub use stops::Stopping;

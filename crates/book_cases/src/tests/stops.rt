@@ -1,0 +1,156 @@
+//! A disk that stops at any of its calls, where the log grows long and where it is copied again and again.
+
+use book_desk::Request::{Cancel, Create, Hold, Print, Release, Send};
+use book_desk::Step::{Ask, Dev, Fetch, Grant, Look, Queue, Sheet};
+use book_desk::{Request, RowFault, Step, take_row};
+use book_shelves::Stopping;
+use std::alloc::Global;
+
+/// Takes the first steps, and then those of a row over a disk that stops. The last ones look at what came of them.
+fn stop(
+    alloc: Global,
+    first: &[Step<'_>],
+    steps: &[Step<'_>],
+    last: &'static [Step<'static>],
+) -> Result<(), RowFault> {
+    for log_pages in [4, 1000] {
+        let shelf = Stopping { log_pages, last };
+        take_row(alloc, &shelf, log_pages, first, steps)?;
+    }
+    Ok(())
+}
+
+/// Alice has pages.
+const GRANTED: Step<'static> = Grant(b"f24,alice,30\n", Ok((1, 0)));
+
+/// A document of so many bytes that it lies on pages of its own.
+const LONG: &[u8] = &[b'.'; 70_000];
+
+#[test]
+fn a_job_that_is_made(rt: HostRuntime) -> Result<(), RowFault> {
+    const STEPS: &[Step<'static>] = &[
+        Ask("alice", Print, 0x0000),
+        Ask("bob", Create, 0x0000),
+        Ask("alice", Print, 0x0000),
+    ];
+    const LAST: &[Step<'static>] = &[
+        Look("alice", 1, 4, &["job-hold-until-specified"]),
+        Look("bob", 2, 4, &["job-incoming", "job-hold-until-specified"]),
+        Look("alice", 3, 4, &["job-hold-until-specified"]),
+        Ask("alice", Request::Look(4), 0x0406),
+    ];
+    stop(rt.alloc(), &[], STEPS, LAST)
+}
+
+#[test]
+fn a_long_document(rt: HostRuntime) -> Result<(), RowFault> {
+    const FIRST: &[Step<'static>] = &[GRANTED, Ask("alice", Create, 0x0000)];
+    const STEPS: &[Step<'static>] = &[
+        Ask(
+            "alice",
+            Send {
+                job: 1,
+                document: LONG,
+                last: true,
+            },
+            0x0000,
+        ),
+        Ask("alice", Release(1), 0x0000),
+    ];
+    const LAST: &[Step<'static>] = &[Fetch(1, 1, LONG), Queue("1 1 1 70000\n")];
+    stop(rt.alloc(), FIRST, STEPS, LAST)
+}
+
+#[test]
+fn pages_that_are_reserved(rt: HostRuntime) -> Result<(), RowFault> {
+    const FIRST: &[Step<'static>] = &[GRANTED, Ask("alice", Print, 0x0000)];
+    const STEPS: &[Step<'static>] = &[
+        Ask("alice", Release(1), 0x0000),
+        Ask("alice", Print, 0x0000),
+        Ask("alice", Release(2), 0x0404),
+    ];
+    const LAST: &[Step<'static>] = &[
+        Sheet("alice", (30, 10, 20, 0)),
+        Look("alice", 1, 3, &["none"]),
+        Look("alice", 2, 4, &["job-hold-until-specified"]),
+        Queue("1 1 1 2\n"),
+    ];
+    stop(rt.alloc(), FIRST, STEPS, LAST)
+}
+
+#[test]
+fn jobs_that_are_held_and_canceled(rt: HostRuntime) -> Result<(), RowFault> {
+    const FIRST: &[Step<'static>] = &[
+        Grant(b"f24,alice,60\n", Ok((1, 0))),
+        Ask("alice", Print, 0x0000),
+        Ask("alice", Print, 0x0000),
+        Ask("alice", Release(1), 0x0000),
+        Ask("alice", Release(2), 0x0000),
+        Sheet("alice", (60, 20, 40, 0)),
+    ];
+    const STEPS: &[Step<'static>] = &[
+        Ask("alice", Hold(1), 0x0000),
+        Ask("alice", Cancel(2), 0x0000),
+        Ask("alice", Cancel(1), 0x0000),
+    ];
+    const LAST: &[Step<'static>] = &[
+        Sheet("alice", (60, 60, 0, 0)),
+        Look("alice", 1, 7, &["job-canceled-by-user"]),
+        Look("alice", 2, 7, &["job-canceled-by-user"]),
+        Queue(""),
+    ];
+    stop(rt.alloc(), FIRST, STEPS, LAST)
+}
+
+/// Job 1 of alice may be printed.
+const RELEASED: &[Step<'static>] = &[
+    GRANTED,
+    Ask("alice", Print, 0x0000),
+    Ask("alice", Release(1), 0x0000),
+];
+
+#[test]
+fn a_job_that_is_printed(rt: HostRuntime) -> Result<(), RowFault> {
+    const STEPS: &[Step<'static>] = &[
+        Dev("1 1 start 0", "ok 1 5 0"),
+        Dev("1 2 count 12", "ok 1 5 12"),
+        Dev("1 3 done 25", "ok 1 9 25"),
+    ];
+    const LAST: &[Step<'static>] = &[
+        Sheet("alice", (30, 5, 0, 25)),
+        Look("alice", 1, 9, &["job-completed-successfully"]),
+        Queue(""),
+    ];
+    stop(rt.alloc(), RELEASED, STEPS, LAST)
+}
+
+#[test]
+fn a_job_that_is_told_to_stop(rt: HostRuntime) -> Result<(), RowFault> {
+    const STEPS: &[Step<'static>] = &[
+        Dev("1 1 start 0", "ok 1 5 0"),
+        Ask("alice", Cancel(1), 0x0000),
+        Dev("1 2 halt 9", "ok 1 7 9"),
+    ];
+    const LAST: &[Step<'static>] = &[
+        Sheet("alice", (30, 21, 0, 9)),
+        Look("alice", 1, 7, &["job-canceled-by-user"]),
+        Queue(""),
+    ];
+    stop(rt.alloc(), RELEASED, STEPS, LAST)
+}
+
+#[test]
+fn account_files(rt: HostRuntime) -> Result<(), RowFault> {
+    const STEPS: &[Step<'static>] = &[
+        Grant(b"f24,alice,30\nf24,bob,50\nf24,carol,20\n", Ok((3, 0))),
+        Grant(b"f25,alice,5\nf24,bob,60\n", Err((4, 2))),
+        Grant(b"f25,alice,5\nf25,dave,1\n", Ok((2, 0))),
+    ];
+    const LAST: &[Step<'static>] = &[
+        Sheet("alice", (35, 35, 0, 0)),
+        Sheet("bob", (50, 50, 0, 0)),
+        Sheet("carol", (20, 20, 0, 0)),
+        Sheet("dave", (1, 1, 0, 0)),
+    ];
+    stop(rt.alloc(), &[], STEPS, LAST)
+}
