@@ -4,7 +4,7 @@ use book_desk::{Desk, Place, Shelf, Step, StepFault};
 use queue_core::book::BookFault;
 use queue_store::TableBook;
 use queue_types::settings::Settings;
-use sqlite::{Connection, FileStore, Files, Options};
+use sqlite::{Alter, Connection, FileStore, Files, Options};
 use sqlite_disk::{Crash, Disk, Fuse, Memory};
 use std::alloc::{AllocError, Global};
 
@@ -13,9 +13,6 @@ const MOST_CALLS: u64 = 1_000_000;
 
 /// A file in memory that fails from a call on.
 type StoppingFile = Fuse<Memory>;
-
-/// A book in two such files.
-type StoppingBook = TableBook<FileStore<StoppingFile>>;
 
 /// The file that fails, from which call on.
 #[derive(Clone, Copy, Debug)]
@@ -102,60 +99,72 @@ impl Contents {
     }
 }
 
-/// A new book in two files.
-fn new_book(
+/// A connection over two files, or these, where they can't be opened.
+fn connect<D: Disk + Drop>(
     alloc: Global,
-    files: Files<StoppingFile>,
+    files: Files<D>,
     options: Options,
-    settings: Settings,
-) -> Result<StoppingBook, StepFault> {
-    if !files.may_be_used() {
-        return Err(StepFault::Book(BookFault::Disk));
-    }
-    match Connection::open_files(alloc, files, options) {
-        Ok(conn) => Ok(TableBook::create_or_drop(alloc, conn, settings)?),
-        Err((_error, _left)) => Err(StepFault::Book(BookFault::Disk)),
-    }
-}
-
-/// The book that two files hold, or these, where they can't be opened.
-fn open_book(
-    alloc: Global,
-    files: Files<StoppingFile>,
-    options: Options,
-) -> Result<StoppingBook, Files<StoppingFile>> {
+) -> Result<Connection<FileStore<D>>, Files<D>> {
     if !files.may_be_used() {
         return Err(files);
     }
     match Connection::open_files(alloc, files, options) {
-        Ok(conn) => match TableBook::adopt(alloc, conn) {
-            Ok(book) => Ok(book),
-            Err((_fault, conn)) => Err(conn.into_store().close()),
-        },
+        Ok(conn) => Ok(conn),
         Err((_error, left)) => Err(left.into_files()),
     }
 }
 
+/// The files of a connection, as they are.
+fn disconnect<D: Disk + Drop>(conn: Connection<FileStore<D>>) -> Files<D> {
+    conn.into_store().close()
+}
+
+/// A new book in two files.
+fn new_book<D: Disk + Drop>(
+    alloc: Global,
+    files: Files<D>,
+    options: Options,
+    settings: Settings,
+) -> Result<TableBook<FileStore<D>>, StepFault> {
+    match connect(alloc, files, options) {
+        Ok(conn) => Ok(TableBook::create_or_drop(alloc, conn, settings)?),
+        Err(_files) => Err(StepFault::Book(BookFault::Disk)),
+    }
+}
+
+/// The book that two files hold, or these, where they can't be opened.
+fn open_book<D: Disk + Drop>(
+    alloc: Global,
+    files: Files<D>,
+    options: Options,
+) -> Result<TableBook<FileStore<D>>, Files<D>> {
+    let conn = connect(alloc, files, options)?;
+    match TableBook::adopt(alloc, conn) {
+        Ok(book) => Ok(book),
+        Err((_fault, conn)) => Err(disconnect(conn)),
+    }
+}
+
 /// The files of a book, as they are.
-fn files_of(book: StoppingBook) -> Files<StoppingFile> {
-    book.close().into_store().close()
+fn files_of<D: Disk + Drop>(book: TableBook<FileStore<D>>) -> Files<D> {
+    disconnect(book.close())
 }
 
 /// Takes steps and then others over a book, and gives its files back.
-fn take_in_book(
+fn take_in_book<D: Disk + Drop>(
     desk: &mut Desk,
-    mut book: StoppingBook,
+    mut book: TableBook<FileStore<D>>,
     steps: &[Step<'_>],
     last: &[Step<'_>],
-) -> (Result<(), StepFault>, Files<StoppingFile>) {
+) -> (Result<(), StepFault>, Files<D>) {
     let taken = take_both(desk, &mut book, steps, last);
     (taken, files_of(book))
 }
 
 /// Takes steps and then others.
-fn take_both(
+fn take_both<S: Alter>(
     desk: &mut Desk,
-    book: &mut StoppingBook,
+    book: &mut TableBook<S>,
     steps: &[Step<'_>],
     last: &[Step<'_>],
 ) -> Result<(), StepFault> {

@@ -13,8 +13,8 @@ pub fn queue_text(alloc: Global, jobs: &[Job]) -> Result<String, AllocError>
     ensures { IfOk result (λ text. string_bytes text ≡ queue_lines jobs.now) }
 {
     let mut text = String::new(alloc);
-    for j in jobs {
-        push_job(&mut text, j)?;
+    for job in jobs {
+        push_job(&mut text, job)?;
     }
     Ok(text)
 }

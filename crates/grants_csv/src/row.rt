@@ -13,7 +13,7 @@ use crate::fault::{ImportCause, ImportFault};
 use csv::ByteRecord;
 use queue_types::event::GrantRow;
 use queue_types::limits::{MOST_NAME_OCTETS, MOST_ROW_PAGES};
-use queue_types::text::Text;
+use queue_types::text::{Text, utf8_text};
 use std::alloc::Global;
 
 fn is_batch_byte(b: u8) -> bool
@@ -52,16 +52,6 @@ fn has_leading_zero(bytes: &[u8]) -> bool
     match bytes {
         [first, _, ..] => *first == b'0',
         _ => false,
-    }
-}
-
-/// The bytes as text, where they are UTF-8.
-fn utf8_text(bytes: &[u8]) -> Option<&str>
-    ensures { option_copied result ≡ (if is_utf8 bytes.now then Some bytes.now else None) }
-{
-    match str::from_utf8(bytes) {
-        Ok(text) => Some(text),
-        Err(_) => None,
     }
 }
 

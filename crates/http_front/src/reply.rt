@@ -70,9 +70,9 @@ fn reply_report<W: Write, B: QueueBook>(
         → (u : World) × B.stands book.new u
         × IsReplied now w u Report content.now closes (W.contents writer.old) (W.contents writer.new) result }
 {
-    let a = report(book, now, content);
-    let is_fault = a.is_fault();
-    match send_success(writer, "text/plain", a.bytes(), closes) {
+    let answer = report(book, now, content);
+    let is_fault = answer.is_fault();
+    match send_success(writer, "text/plain", answer.bytes(), closes) {
         Ok(()) => Ok(Replied::Answered(is_fault)),
         Err(WriteFault) => Err(Stopped {
             acted: true,

@@ -40,9 +40,9 @@ pub fn values(come: &[u8], headers: &[HeaderSpan], name: &[u8]) -> ArrayVec<Span
     ensures { map (span_bytes come.now) result.items ≡ spec.values name.now (map (header_bytes come.now) headers.now) }
 {
     let mut found = ArrayVec::new();
-    for h in headers {
-        if is_named(come, h, name) {
-            found.push(h.value);
+    for header in headers {
+        if is_named(come, header, name) {
+            found.push(header.value);
         }
     }
     found

@@ -69,10 +69,9 @@ fn from_slash(text: &[u8]) -> &[u8]
 fn origin_form(target: &[u8]) -> &[u8]
     ensures { result.now ≡ spec.origin_form target.now }
 {
-    if target.starts_with(b"http://") {
-        from_slash(&target[7..])
-    } else {
-        target
+    match target.strip_prefix(b"http://") {
+        Some(rest) => from_slash(rest),
+        None => target,
     }
 }
 
@@ -86,7 +85,7 @@ pub fn path_of(target: &[u8]) -> &[u8]
 fn behind_document(path: &[u8]) -> &[u8]
     ensures { result.now ≡ drop 17 path.now }
 {
-    if path.len() < 17 { &[] } else { &path[17..] }
+    path.get(17..).unwrap_or(&[])
 }
 
 fn numbers_in(text: &[u8]) -> Option<(u32, u32)>

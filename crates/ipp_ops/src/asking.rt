@@ -47,8 +47,8 @@ fn numbers(alloc: Global, values: &[ValueView<'_>]) -> Result<Vec<u32>, AllocErr
     ensures { IfOk result (λ n. n.items ≡ map (λ v. unwrap_or (number_of v.bytes) 0) (values_of values.now)) }
 {
     let mut numbers = Vec::new(alloc);
-    for v in values {
-        numbers.push(number(v.bytes).unwrap_or(0))?;
+    for value in values {
+        numbers.push(number(value.bytes).unwrap_or(0))?;
     }
     Ok(numbers)
 }

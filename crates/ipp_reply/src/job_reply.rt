@@ -199,8 +199,8 @@ pub(crate) fn put_jobs(
     requires jobs { All IsSoundJob jobs.now }
     ensures { OnOk result (message.new ≡ record message.old { groups = message.old.groups ++ map (spec.job_group uri.now now rows.now) jobs.now }) }
 {
-    for j in jobs {
-        put_job(alloc, message, uri, now, rows, j)?;
+    for job in jobs {
+        put_job(alloc, message, uri, now, rows, job)?;
     }
     Ok(())
 }

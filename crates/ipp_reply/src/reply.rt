@@ -28,23 +28,23 @@ use std::alloc::{AllocError, Global};
 fn bare_message(alloc: Global, head: Head, code: u16) -> Result<Message, AllocError>
     ensures { IfOk result (λ m. m ≡ bare head code) }
 {
-    let mut m = Message::new(alloc, reply_head(head, code));
-    m.group(OPERATION_ATTRIBUTES)?;
-    m.attribute(
+    let mut message = Message::new(alloc, reply_head(head, code));
+    message.group(OPERATION_ATTRIBUTES)?;
+    message.attribute(
         b"attributes-charset",
         &[ValueView {
             tag: CHARSET,
             bytes: b"utf-8",
         }],
     )?;
-    m.attribute(
+    message.attribute(
         b"attributes-natural-language",
         &[ValueView {
             tag: NATURAL_LANGUAGE,
             bytes: b"en",
         }],
     )?;
-    Ok(m)
+    Ok(message)
 }
 
 fn put_attributes(message: &mut Message, attrs: &[AttrView<'_>]) -> Result<(), AllocError>
@@ -53,8 +53,8 @@ fn put_attributes(message: &mut Message, attrs: &[AttrView<'_>]) -> Result<(), A
     ensures ok { OnOk result (message.new ≡ record message.old { groups = fold (λ gs a. add_attribute a gs) message.old.groups (attributes_of attrs.now) }) }
     ensures still_begun { 0 < length message.new.groups }
 {
-    for a in attrs {
-        message.attribute(a.name, a.values.as_slice())?;
+    for attribute in attrs {
+        message.attribute(attribute.name, attribute.values.as_slice())?;
     }
     Ok(())
 }
@@ -81,12 +81,12 @@ fn refusal_message(
     requires { CanList (unsupported_of unsupported.now) }
     ensures { IfOk result (λ m. m ≡ with_groups (bare head code) (if code == 0x040B then unsupported_groups (unsupported_of unsupported.now) else [])) }
 {
-    let mut m = bare_message(alloc, head, code)?;
+    let mut message = bare_message(alloc, head, code)?;
     if code != CLIENT_ERROR_ATTRIBUTES_OR_VALUES_NOT_SUPPORTED {
-        return Ok(m);
+        return Ok(message);
     }
-    put_unsupported(&mut m, unsupported)?;
-    Ok(m)
+    put_unsupported(&mut message, unsupported)?;
+    Ok(message)
 }
 
 fn success_message(
@@ -102,9 +102,9 @@ fn success_message(
     } else {
         SUCCESSFUL_OK
     };
-    let mut m = bare_message(alloc, head, code)?;
-    put_unsupported(&mut m, unsupported)?;
-    Ok(m)
+    let mut message = bare_message(alloc, head, code)?;
+    put_unsupported(&mut message, unsupported)?;
+    Ok(message)
 }
 
 /// The reply to a request with this head as a message: its version and request-id, the status code, the
@@ -139,23 +139,23 @@ pub fn reply_message(
                 queued: *queued,
                 accepting: *accepting,
             };
-            let mut m = success_message(alloc, head, unsupported)?;
+            let mut message = success_message(alloc, head, unsupported)?;
             // its contract says that the settings are within their limits
             let _within_limits = settings.name();
-            put_printer(alloc, &mut m, printer, wanted.printer_rows())?;
-            Ok(m)
+            put_printer(alloc, &mut message, printer, wanted.printer_rows())?;
+            Ok(message)
         }
         Reply::Jobs(jobs) => {
-            let mut m = success_message(alloc, head, unsupported)?;
+            let mut message = success_message(alloc, head, unsupported)?;
             put_jobs(
                 alloc,
-                &mut m,
+                &mut message,
                 settings.uri(),
                 now,
                 wanted.job_rows(),
                 jobs.as_slice(),
             )?;
-            Ok(m)
+            Ok(message)
         }
         // These answer reports and account files.
         Reply::Told { .. } => unreachable!(),

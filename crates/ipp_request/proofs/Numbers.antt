@@ -3,27 +3,12 @@ use Rattle.std.proofs.Common.{◌≡◌, ℕ, ◌<◌, ◌≤◌, ◌^◌, List,
 use Rattle.std.specs.Prelude.{Some, None, if◌then◌else◌, nat_le}
 use Rattle.std.specs.List.{list_all}
 use Rattle.std.specs.Char.{is_ascii_digit}
-use Rattle.std.specs.Str.{IsAscii, is_utf8}
 use Rattle.std.specs.Str.Parse.{digits_value, ParsesUnsigned}
-use Rattle.std.proofs.lemmas.Bool.Decides.{nat_tests}
-use Rattle.std.proofs.lemmas.Str.{IsUtf8-from_ascii, is_utf8-from_IsUtf8}
-use Rattle.std.proofs.lemmas.Str.Ascii.{IsAscii-nil, IsAscii-cons}
 use Rattle.std.proofs.lemmas.Str.Parse.{IsNumeralModel, numerals_by_value, parse_digits}
 use borrow.Author.Tests.{leb-true}
 use Rattle.ipp_request.specs.Values.{is_positive}
 use Rattle.ipp_request.specs.Request.{number_in}
 use Rattle.ipp_request.proofs.Tests.{and_true}
-
-digit_ascii : (b : ℕ) → is_ascii_digit b ≡ true → b < 128
-digit_ascii b h = grind (arith, nat_tests)
-
-digits_ascii : (bs : List ℕ) → list_all is_ascii_digit bs ≡ true → IsAscii bs
-digits_ascii [] h = IsAscii-nil
-digits_ascii (b ∷ bs) h = let e = and_true (is_ascii_digit b) (list_all is_ascii_digit bs) h in IsAscii-cons b bs (digit_ascii b e.0) (digits_ascii bs e.1)
-
--- digits are text
-pub digits_utf8 : (bs : List ℕ) → list_all is_ascii_digit bs ≡ true → is_utf8 bs ≡ true
-digits_utf8 bs h = is_utf8-from_IsUtf8 bs (IsUtf8-from_ascii bs (digits_ascii bs h))
 
 pub model : IsNumeralModel (λ ds. list_all is_ascii_digit ds ≡ true) (digits_value 10)
 model = numerals_by_value _ (search rules)

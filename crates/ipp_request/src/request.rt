@@ -10,11 +10,12 @@ ghost use Rattle.ipp_request.specs.Request.{request_for, request_of};
 
 use crate::attribute::{OF_JOB, OF_NEW_JOB, OperationAttribute, is_one_of, knows};
 use crate::head::operation_in;
-use crate::value::{first_value, is_tagged, text, utf8_text};
+use crate::value::{first_value, is_tagged, text};
 use ipp_reply::Operation;
 use ipp_wire::tags::{JOB_ATTRIBUTES, OPERATION_ATTRIBUTES};
 use ipp_wire::{AttrView, GroupView, ValueView, View};
 use queue_types::status::CLIENT_ERROR_BAD_REQUEST;
+use queue_types::text::utf8_text;
 
 /// What a request has.
 #[derive(Clone, Copy)]

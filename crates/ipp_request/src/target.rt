@@ -8,8 +8,9 @@ ghost use Rattle.ipp_request.specs.Request.{request_of};
 
 use crate::attribute::OperationAttribute;
 use crate::request::Request;
-use crate::value::{is_positive_number, job_of_id, number, utf8_text};
+use crate::value::{is_positive_number, job_of_id, number};
 use ipp_wire::ValueView;
+use queue_types::text::utf8_text;
 use queue_types::uri::path;
 
 fn is_printer(uri: &[u8]) -> bool
@@ -41,11 +42,7 @@ fn number_in(bytes: &[u8]) -> Option<u32>
 fn job_in(path: &[u8]) -> Option<u32>
     ensures { result ≡ spec.job_in path.now }
 {
-    if path.starts_with(b"/ipp/print/") {
-        number_in(&path[11..])
-    } else {
-        None
-    }
+    number_in(path.strip_prefix(b"/ipp/print/")?)
 }
 
 /// The number of the job that a request is about: by job-uri where it is there, else by printer-uri and

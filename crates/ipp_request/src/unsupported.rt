@@ -50,13 +50,13 @@ impl Source {
         ensures { option_map support_of result ≡ spec.support_for self name.now }
     {
         match self {
-            Source::OperationGroup(o) => {
-                let k = attribute_named(o, name)?;
-                Some(k.row().support)
+            Source::OperationGroup(operation) => {
+                let attribute = attribute_named(operation, name)?;
+                Some(attribute.row().support)
             }
             Source::JobGroup => {
-                let k = template_attribute(name)?;
-                Some(k.support())
+                let attribute = template_attribute(name)?;
+                Some(attribute.support())
             }
         }
     }
@@ -118,11 +118,11 @@ fn listed_in<'a>(
 {
     let mut out = Vec::new(alloc);
     let mut seen = BTreeSet::new(alloc);
-    for a in attrs {
-        if !seen.insert(a.name)? {
+    for attribute in attrs {
+        if !seen.insert(attribute.name)? {
             continue;
         }
-        push_listed(alloc, &mut out, source, a)?;
+        push_listed(alloc, &mut out, source, attribute)?;
     }
     Ok(out)
 }

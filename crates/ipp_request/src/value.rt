@@ -12,7 +12,7 @@ use crate::attribute::{Row, Support, Syntax};
 use ipp_wire::ValueView;
 use ipp_wire::tags::{INTEGER, KEYWORD, NAME_WITH_LANGUAGE};
 use queue_types::limits::LAST_JOB_NUMBER;
-use std::str;
+use queue_types::text::utf8_text;
 
 /// A number of 4 bytes.
 pub fn number(bytes: &[u8]) -> Option<u32>
@@ -99,16 +99,6 @@ fn has_control(text: &[u8]) -> bool
     ensures { result ≡ list_any spec.is_control text.now }
 {
     text.iter().any(|b| *b < 0x20 || *b == 0x7f)
-}
-
-/// The bytes as text, where they are UTF-8.
-pub fn utf8_text(bytes: &[u8]) -> Option<&str>
-    ensures { option_copied result ≡ (if is_utf8 bytes.now then Some bytes.now else None) }
-{
-    match str::from_utf8(bytes) {
-        Ok(text) => Some(text),
-        Err(_) => None,
-    }
 }
 
 fn is_utf8(text: &[u8]) -> bool

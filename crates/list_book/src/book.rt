@@ -96,9 +96,9 @@ impl QueueBook for ListBook {
         ensures fault { IfErr result (λ f. f ≡ BookFault.Memory) }
     {
         cut_is_fair();
-        let s = scene(self.alloc, &self.lists, event)?;
-        let d = queue_core::decide(self.alloc, &s, now, event)?;
-        Ok(d)
+        let scene = scene(self.alloc, &self.lists, event)?;
+        let decision = queue_core::decide(self.alloc, &scene, now, event)?;
+        Ok(decision)
     }
 
     fn apply(&mut self, decision: Decision<'_>) -> Result<(), BookFault>
@@ -163,8 +163,8 @@ impl QueueBook for ListBook {
         ensures sheet { ⊤ → IfOk result (λ s. (w : World) → IsContent self.new w → s ≡ sheet_of w account.now) }
         ensures fault { IfErr result (λ f. f ≡ BookFault.Memory) }
     {
-        let s = sheet::sheet(self.alloc, &self.lists, account)?;
-        Ok(s)
+        let sheet = sheet::sheet(self.alloc, &self.lists, account)?;
+        Ok(sheet)
     }
 
     ghost sound = { λ b w honest h. h.1 };

@@ -63,11 +63,11 @@ fn nth_document(documents: &[KeptDocument], job: u32, n: u32) -> Option<&Documen
 pub(crate) fn document(lists: &Lists, job: u32, n: u32) -> Option<&Document>
     ensures { option_copied result ≡ document_at (world_of lists.now) job n }
 {
-    let Some(j) = numbered_job(lists.jobs.as_slice(), job) else {
+    let Some(found) = numbered_job(lists.jobs.as_slice(), job) else {
         return None;
     };
-    if is_fetched(j) {
-        nth_document(lists.documents.as_slice(), j.number, n)
+    if is_fetched(found) {
+        nth_document(lists.documents.as_slice(), found.number, n)
     } else {
         None
     }
@@ -77,9 +77,9 @@ pub(crate) fn document(lists: &Lists, job: u32, n: u32) -> Option<&Document>
 pub(crate) fn document_head(lists: &Lists, job: u32, n: u32) -> Option<DocumentHead>
     ensures { result ≡ option_map head_of (document_at (world_of lists.now) job n) }
 {
-    let d = document(lists, job, n)?;
+    let document = document(lists, job, n)?;
     Some(DocumentHead {
-        format: d.format,
-        octets: d.bytes.as_slice().len() as u64,
+        format: document.format,
+        octets: document.bytes.as_slice().len() as u64,
     })
 }

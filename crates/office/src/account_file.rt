@@ -59,6 +59,6 @@ pub fn import_file<R: Read + Drop, W: Write, B: QueueBook>(
     ensures refused { IfErr result (λ f. (code row : ℕ) → f ≡ Import code row → (w : World) → B.stands book.old w → B.stands book.new w) }
 {
     let bytes = read_file(alloc, reader, MOST_READ)?;
-    let n = import(alloc, book, now, bytes.as_slice())?;
-    tell(writer, n)
+    let imported = import(alloc, book, now, bytes.as_slice())?;
+    tell(writer, imported)
 }

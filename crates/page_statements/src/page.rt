@@ -31,8 +31,8 @@ fn put_table(out: &mut String, sheet: &AccountSheet) -> Result<(), AllocError>
     ensures { OnOk result (string_bytes out.new ≡ string_bytes out.old ++ table sheet.now) }
 {
     out.push_str("       job state  reserved   printed\n")?;
-    for j in sheet.jobs.as_slice() {
-        put_job(out, j)?;
+    for job in sheet.jobs.as_slice() {
+        put_job(out, job)?;
     }
     writeln!(
         out,

@@ -60,6 +60,10 @@ rows w = map (λ e. e.row) w.jobs
 abbrev pub job_at : ℕ → List Job → Option Job
 job_at n js = find (λ j. j.number == n) js
 
+-- a job has this number
+abbrev pub has_number : ℕ → List Entry → Bool
+has_number n es = list_any (λ e. e.row.number == n) es
+
 -- ---- what a change makes of a world
 
 -- the job of that number is this row, and the other jobs stay; a new number stands last

@@ -53,8 +53,8 @@ fn returned_to(before: &[Job], after: &[Job], account: &str) -> i64
     ensures bound { IsBelow (2 ^ 59) result }
 {
     let mut back: i64 = 0;
-    for j in after {
-        back += given_back_by(before, j, account);
+    for job in after {
+        back += given_back_by(before, job, account);
     }
     back
 }
@@ -73,12 +73,12 @@ pub fn credited_rows(
     ensures { IfOk result (λ v. v.items ≡ map (credited before.now after.now) free.now) }
 {
     let mut rows = Vec::new(alloc);
-    for a in free {
-        let account = a.account.try_clone()?;
-        let back = returned_to(before, after, a.account.as_str());
+    for row in free {
+        let account = row.account.try_clone()?;
+        let back = returned_to(before, after, row.account.as_str());
         rows.push(FreeRow {
             account,
-            free: a.free + back,
+            free: row.free + back,
         })?;
     }
     Ok(rows)

@@ -220,16 +220,16 @@ fn take_all(alloc: Global, rows: &[GrantRow], known: &[KnownGrant]) -> Result<Ta
     ensures taken { IfOk result (λ t. taken_in t ≡ rows_taken rows.now known.now 1 [] [] 0) }
     ensures within { IfOk result (λ t. IsWithin t (length rows.now)) }
 {
-    let mut t = Tally {
+    let mut tally = Tally {
         rows: Vec::new(alloc),
         free: Vec::new(alloc),
         pages: HashMap::new(alloc),
         totals: HashMap::new(alloc),
     };
-    match take_rows(&mut t, rows, known)? {
+    match take_rows(&mut tally, rows, known)? {
         End::Whole { repeats } => Ok(Taken::All {
-            rows: t.rows,
-            free: t.free,
+            rows: tally.rows,
+            free: tally.free,
             repeats,
         }),
         End::At { fault, row } => Ok(Taken::Not { fault, row }),

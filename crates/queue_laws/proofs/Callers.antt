@@ -7,8 +7,8 @@ use Rattle.std.specs.Cmp.Lexicographic.{nat_list_cmp_total}
 use Rattle.std.proofs.lemmas.Map.Text.{is_eq-slice_cmp}
 use Rattle.std.proofs.lemmas.Cmp.{nat_list_eq_equiv}
 use Rattle.queue_types.specs.Event.{Change, NewDocument}
-use Rattle.queue_core.specs.World.{World, Entry, with_row, add_document, with_document, put_free, put_grant, with_report, text_cmp, report_cmp, made_on}
-use Rattle.queue_laws.specs.Own.{Own, own, own_jobs, has_number, reports_of}
+use Rattle.queue_core.specs.World.{World, Entry, with_row, add_document, with_document, put_free, put_grant, with_report, text_cmp, report_cmp, made_on, has_number}
+use Rattle.queue_laws.specs.Own.{Own, own, own_jobs, reports_of}
 use Rattle.queue_core.specs.Sound.{IsSound, IsKept}
 use Rattle.queue_types.specs.declared.job.Job.{Job}
 use Rattle.queue_types.specs.declared.event.FreeRow.{FreeRow}

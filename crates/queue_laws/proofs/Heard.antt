@@ -5,14 +5,14 @@ use Rattle.std.specs.List.{AllByRecursion as Each}
 use Rattle.std.specs.FinMap.{get}
 use Rattle.queue_types.specs.Settings.{SettingValues}
 use Rattle.queue_types.specs.Event.{Decision, tell}
-use Rattle.queue_core.specs.World.{World, Entry, rows, cut, made_on, numbered, found_row, owner_row, queue_counts}
+use Rattle.queue_core.specs.World.{World, Entry, rows, cut, made_on, numbered, found_row, owner_row, queue_counts, has_number}
 use Rattle.queue_core.specs.Machine.{decision, step, credited, accepted}
 use Rattle.queue_core.specs.Sound.{IsSound}
 use Rattle.queue_types.specs.declared.job.Job.{Job}
 use Rattle.queue_types.specs.declared.event.FreeRow.{FreeRow}
 use Rattle.queue_types.specs.declared.event.Report.{Report}
 use Rattle.queue_types.specs.declared.event.Scene.{Scene}
-use Rattle.queue_laws.specs.Own.{Own, own, own_jobs, has_number}
+use Rattle.queue_laws.specs.Own.{Own, own, own_jobs}
 use Rattle.queue_laws.proofs.Asked.{nothing_by, credited_by, number_of}
 use Rattle.queue_laws.proofs.Base.{at, rows_of, same_key, each_filter}
 use Rattle.queue_laws.proofs.Callers.{IsBy, IsNumberOf, own_made, own_made_on, others_made}

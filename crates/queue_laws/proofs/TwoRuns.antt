@@ -5,7 +5,7 @@ use Rattle.std.specs.List.{AllByRecursion as Each}
 use Rattle.std.proofs.lemmas.Bool.Decides.{nat_tests}
 use Rattle.queue_types.specs.Settings.{SettingValues}
 use Rattle.queue_types.specs.Event.{Call, Event, ask, tell, grant}
-use Rattle.queue_core.specs.World.{World, cut}
+use Rattle.queue_core.specs.World.{World, cut, has_number}
 use Rattle.queue_core.specs.Machine.{decision, step}
 use Rattle.queue_core.specs.Runs.{Place, IsPlace, after}
 use Rattle.queue_core.specs.Sound.{IsSound}
@@ -13,7 +13,7 @@ use Rattle.queue_types.specs.declared.event.GrantRow.{GrantRow}
 use Rattle.queue_types.specs.declared.event.Report.{Report}
 use Rattle.queue_types.specs.declared.event.Reply.{Reply}
 use Rattle.queue_laws.specs.Alike.{own_along, told, told_along, counts_all, is_others, draws, IsAlikePlace, IsAlike}
-use Rattle.queue_laws.specs.Own.{Own, own, own_jobs, has_number}
+use Rattle.queue_laws.specs.Own.{Own, own, own_jobs}
 use Rattle.queue_laws.proofs.Again.{KeepsSound}
 use Rattle.queue_laws.proofs.Asked.{asked_by}
 use Rattle.queue_laws.proofs.Base.{same_key, itself, left_none, right_none, either, negated}

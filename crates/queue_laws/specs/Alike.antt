@@ -1,11 +1,11 @@
 -- What a caller is told, and when two lists of places differ in nothing but what other callers ask.
 use Rattle.std.specs.Prelude.{◌≡◌, List, [], ◌∷◌, Option, Some, None, ⊤, ◌⊎◌, not, is_none, ◌==◌, ◌&&◌, ◌||◌, bytes_eq, ℕ, Bool, true, false, IsTrue, if◌then◌else◌}
 use Rattle.queue_types.specs.Event.{Event, Call, ask, tell, grant, print_job, validate_job, create_job, send_document, cancel_job, cancel_my_jobs, hold_job, release_job, get_job_attributes, get_jobs, get_printer_attributes}
-use Rattle.queue_core.specs.World.{World}
+use Rattle.queue_core.specs.World.{World, has_number}
 use Rattle.queue_core.specs.Machine.{step}
 use Rattle.queue_core.specs.Runs.{Place, after}
 use Rattle.queue_types.specs.declared.event.Reply.{Reply}
-use Rattle.queue_laws.specs.Own.{Own, own, own_jobs, has_number}
+use Rattle.queue_laws.specs.Own.{Own, own, own_jobs}
 
 -- what is the caller's own after each place
 abbrev pub own_along : List ℕ → World → List Place → List Own

@@ -1,16 +1,12 @@
 -- What of a queue is one caller's own.
-use Rattle.std.specs.Prelude.{ℕ, ℤ, List, Option, None, filter, ◌==◌, bytes_eq, Bool, if◌then◌else◌}
-use Rattle.std.specs.List.{list_any}
+use Rattle.std.specs.Prelude.{ℕ, ℤ, List, Option, None, filter, bytes_eq, if◌then◌else◌}
 use Rattle.std.specs.FinMap.{FinMap, get}
-use Rattle.queue_core.specs.World.{World, Entry, grant_cmp, report_cmp}
+use Rattle.queue_core.specs.World.{World, Entry, grant_cmp, report_cmp, has_number}
 use Rattle.queue_types.specs.declared.event.KeptReport.{KeptReport}
 
 -- of these jobs those of the caller's, with their numbers and documents
 abbrev pub own_jobs : List ℕ → List Entry → List Entry
 own_jobs u es = filter (λ e. bytes_eq e.row.owner u) es
-
-abbrev pub has_number : ℕ → List Entry → Bool
-has_number n es = list_any (λ e. e.row.number == n) es
 
 -- the report of that job and sequence number, where the job is one of these
 abbrev pub reports_of : List Entry → FinMap report_cmp KeptReport → ℕ → ℕ → Option KeptReport

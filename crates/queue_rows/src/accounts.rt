@@ -30,10 +30,10 @@ pub fn accounts_are_in_order(accounts: &[AccountRow]) -> bool
     true
 }
 
-fn has_total(m: &HashMap<&str, u128>, name: &str) -> bool
-    ensures { IsTrue result ↔ (1 ≤ total_in m.now name.now) }
+fn has_total(sums: &HashMap<&str, u128>, name: &str) -> bool
+    ensures { IsTrue result ↔ (1 ≤ total_in sums.now name.now) }
 {
-    total_of(m, name) >= 1
+    total_of(sums, name) >= 1
 }
 
 fn has_grant(granted: &HashMap<&str, u128>, account: &AccountRow) -> bool
@@ -57,8 +57,8 @@ pub fn grants_have_accounts(
     ensures { IfOk result (λ b. IsTrue b ↔ All (λ g. 1 ≤ accounts_of g.account accounts.now) grants.now) }
 {
     let names = name_totals(alloc, accounts)?;
-    for g in grants {
-        if !has_account(&names, g) {
+    for grant in grants {
+        if !has_account(&names, grant) {
             return Ok(false);
         }
     }
@@ -75,8 +75,8 @@ pub fn accounts_have_grants(
     ensures { IfOk result (λ b. IsTrue b ↔ All (λ a. 1 ≤ granted_to a.name grants.now) accounts.now) }
 {
     let granted = granted_totals(alloc, grants)?;
-    for a in accounts {
-        if !has_grant(&granted, a) {
+    for account in accounts {
+        if !has_grant(&granted, account) {
             return Ok(false);
         }
     }

@@ -21,8 +21,8 @@ pub fn grant_amounts<'a>(
     ensures { IfOk result (λ v. map named v.items ≡ map grant_amount grants.now) }
 {
     let mut amounts = Vec::new(alloc);
-    for g in grants {
-        amounts.push((g.account.as_str(), u64::from(g.pages)))?;
+    for grant in grants {
+        amounts.push((grant.account.as_str(), u64::from(grant.pages)))?;
     }
     Ok(amounts)
 }
@@ -32,8 +32,8 @@ fn reserved_amounts<'a>(alloc: Global, jobs: &'a [Job]) -> Result<Vec<(&'a str, 
     ensures { IfOk result (λ v. map named v.items ≡ map reserved_amount jobs.now) }
 {
     let mut amounts = Vec::new(alloc);
-    for j in jobs {
-        amounts.push((j.owner.as_str(), j.owed()))?;
+    for job in jobs {
+        amounts.push((job.owner.as_str(), job.owed()))?;
     }
     Ok(amounts)
 }
@@ -42,8 +42,8 @@ fn printed_amounts<'a>(alloc: Global, jobs: &'a [Job]) -> Result<Vec<(&'a str, u
     ensures { IfOk result (λ v. map named v.items ≡ map printed_amount jobs.now) }
 {
     let mut amounts = Vec::new(alloc);
-    for j in jobs {
-        amounts.push((j.owner.as_str(), u64::from(j.count)))?;
+    for job in jobs {
+        amounts.push((job.owner.as_str(), u64::from(job.count)))?;
     }
     Ok(amounts)
 }
@@ -55,8 +55,8 @@ fn name_amounts<'a>(
     ensures { IfOk result (λ v. map named v.items ≡ map name_amount accounts.now) }
 {
     let mut amounts = Vec::new(alloc);
-    for a in accounts {
-        amounts.push((a.name.as_str(), 1u64))?;
+    for account in accounts {
+        amounts.push((account.name.as_str(), 1u64))?;
     }
     Ok(amounts)
 }
@@ -66,8 +66,8 @@ pub fn live_amounts<'a>(alloc: Global, jobs: &'a [Job]) -> Result<Vec<(&'a str, 
     ensures { IfOk result (λ v. map named v.items ≡ map live_amount jobs.now) }
 {
     let mut amounts = Vec::new(alloc);
-    for j in jobs {
-        amounts.push((j.owner.as_str(), u64::from(j.is_live())))?;
+    for job in jobs {
+        amounts.push((job.owner.as_str(), u64::from(job.is_live())))?;
     }
     Ok(amounts)
 }

@@ -66,8 +66,8 @@ pub fn accounts_are_balanced(
     let granted = granted_totals(alloc, grants)?;
     let reserved = reserved_totals(alloc, jobs)?;
     let printed = printed_totals(alloc, jobs)?;
-    for a in accounts {
-        if !is_account_balanced(a, &granted, &reserved, &printed) {
+    for account in accounts {
+        if !is_account_balanced(account, &granted, &reserved, &printed) {
             return Ok(false);
         }
     }

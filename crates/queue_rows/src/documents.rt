@@ -12,14 +12,14 @@ fn leading_documents(documents: &[DocumentRow], number: u32) -> Option<u32>
     ensures { MatchOption result (¬ IsGroup number documents.now) (λ n. IsGroup number documents.now × (n ≡ next_of number documents.now)) }
 {
     let mut count = 0u32;
-    for d in documents {
-        if d.job != number {
+    for document in documents {
+        if document.job != number {
             return Some(count);
         }
         if count == MOST_DOCUMENTS {
             return None;
         }
-        if d.doc != count + 1 {
+        if document.doc != count + 1 {
             return None;
         }
         count += 1;
@@ -39,8 +39,8 @@ pub fn documents_follow(jobs: &[Job], documents: &[DocumentRow]) -> bool
     ensures { IsTrue result ↔ AreGrouped jobs.now documents.now }
 {
     let mut rest = documents;
-    for j in jobs {
-        let Some(count) = leading_documents(rest, j.number) else {
+    for job in jobs {
+        let Some(count) = leading_documents(rest, job.number) else {
             return false;
         };
         rest = behind(rest, count);

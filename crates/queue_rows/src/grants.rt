@@ -25,8 +25,8 @@ fn is_grant(grant: &GrantRow) -> bool
 pub fn grants_are_sound(grants: &[GrantRow]) -> bool
     ensures { IsTrue result ↔ All IsGrantRow grants.now }
 {
-    for g in grants {
-        if !is_grant(g) {
+    for grant in grants {
+        if !is_grant(grant) {
             return false;
         }
     }

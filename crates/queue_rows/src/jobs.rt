@@ -13,10 +13,10 @@ fn is_positive(n: u32) -> bool
     n >= 1 && n <= LAST_JOB_NUMBER
 }
 
-fn is_moment_if_some(m: Option<u32>) -> bool
-    ensures { IsTrue result ↔ IfSome m IsMoment }
+fn is_moment_if_some(moment: Option<u32>) -> bool
+    ensures { IsTrue result ↔ IfSome moment IsMoment }
 {
-    match m {
+    match moment {
         Some(n) => is_positive(n),
         None => true,
     }
@@ -74,8 +74,8 @@ pub fn is_job_row(job: &Job) -> bool
 pub fn jobs_are_sound(jobs: &[Job]) -> bool
     ensures { IsTrue result ↔ All IsJobRow jobs.now }
 {
-    for j in jobs {
-        if !is_job_row(j) {
+    for job in jobs {
+        if !is_job_row(job) {
             return false;
         }
     }
@@ -87,11 +87,11 @@ pub fn numbers_rise(jobs: &[Job], next: u32) -> bool
     ensures { IsTrue result ↔ NumbersRise 1 jobs.now next }
 {
     let mut least = 1u64;
-    for j in jobs {
-        if u64::from(j.number) < least {
+    for job in jobs {
+        if u64::from(job.number) < least {
             return false;
         }
-        least = u64::from(j.number) + 1;
+        least = u64::from(job.number) + 1;
     }
     least <= u64::from(next)
 }

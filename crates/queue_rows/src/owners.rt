@@ -43,8 +43,8 @@ pub fn others_are_idle(alloc: Global, jobs: &[Job], grants: &[GrantRow]) -> Resu
     ensures { IfOk result (λ b. IsTrue b ↔ All (λ j. granted_to j.owner grants.now ≡ 0 → IsIdle j) jobs.now) }
 {
     let granted = granted_totals(alloc, grants)?;
-    for j in jobs {
-        if !is_covered(&granted, j) {
+    for job in jobs {
+        if !is_covered(&granted, job) {
             return Ok(false);
         }
     }

@@ -42,8 +42,8 @@ pub fn pieces_follow(documents: &[DocumentRow], pieces: &[PieceRow]) -> bool
     ensures { IsTrue result ↔ (pieces.now ≡ flat_map pieces_of documents.now) }
 {
     let mut rest = pieces;
-    for d in documents {
-        let Some(behind) = behind_pieces(rest, d) else {
+    for document in documents {
+        let Some(behind) = behind_pieces(rest, document) else {
             return false;
         };
         rest = behind;

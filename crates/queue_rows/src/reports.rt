@@ -25,12 +25,7 @@ fn is_report(kept: &KeptReport) -> bool
 pub fn reports_are_sound(reports: &[KeptReport]) -> bool
     ensures { IsTrue result ↔ All IsReportRow reports.now }
 {
-    for k in reports {
-        if !is_report(k) {
-            return false;
-        }
-    }
-    true
+    reports.iter().all(is_report)
 }
 
 fn is_report_before(a: &KeptReport, b: &KeptReport) -> bool
@@ -55,11 +50,11 @@ pub fn reports_are_in_order(reports: &[KeptReport]) -> bool
 fn job_numbers(alloc: Global, jobs: &[Job]) -> Result<HashMap<u32, u32>, AllocError>
     ensures { IfOk result (λ m. (n : ℕ) → unwrap_or (get nat_eq m n) 0 ≡ has_number n jobs.now) }
 {
-    let mut m = HashMap::new(alloc);
-    for j in jobs {
-        m.insert(j.number, 1)?;
+    let mut numbers = HashMap::new(alloc);
+    for job in jobs {
+        numbers.insert(job.number, 1)?;
     }
-    Ok(m)
+    Ok(numbers)
 }
 
 /// Each report's job is there.
@@ -70,9 +65,9 @@ pub fn reports_have_jobs(
 ) -> Result<bool, AllocError>
     ensures { IfOk result (λ b. IsTrue b ↔ All (λ k. has_number k.report.job jobs.now ≡ 1) reports.now) }
 {
-    let m = job_numbers(alloc, jobs)?;
-    for k in reports {
-        if m.get(&k.report.job).copied().unwrap_or(0) != 1 {
+    let numbers = job_numbers(alloc, jobs)?;
+    for kept in reports {
+        if numbers.get(&kept.report.job).copied().unwrap_or(0) != 1 {
             return Ok(false);
         }
     }
@@ -83,12 +78,12 @@ pub fn reports_have_jobs(
 fn greatest_counts(alloc: Global, reports: &[KeptReport]) -> Result<HashMap<u32, u32>, AllocError>
     ensures { IfOk result (λ m. (n : ℕ) → unwrap_or (get nat_eq m n) 0 ≡ greatest n reports.now) }
 {
-    let mut m = HashMap::new(alloc);
-    for r in reports {
-        let before = m.get(&r.report.job).copied().unwrap_or(0);
-        m.insert(r.report.job, before.max(r.report.count))?;
+    let mut counts = HashMap::new(alloc);
+    for kept in reports {
+        let before = counts.get(&kept.report.job).copied().unwrap_or(0);
+        counts.insert(kept.report.job, before.max(kept.report.count))?;
     }
-    Ok(m)
+    Ok(counts)
 }
 
 /// Each job's count is the greatest of its reports.
@@ -99,9 +94,9 @@ pub fn counts_are_greatest(
 ) -> Result<bool, AllocError>
     ensures { IfOk result (λ b. IsTrue b ↔ All (λ j. j.count ≡ greatest j.number reports.now) jobs.now) }
 {
-    let m = greatest_counts(alloc, reports)?;
-    for j in jobs {
-        if j.count != m.get(&j.number).copied().unwrap_or(0) {
+    let counts = greatest_counts(alloc, reports)?;
+    for job in jobs {
+        if job.count != counts.get(&job.number).copied().unwrap_or(0) {
             return Ok(false);
         }
     }

@@ -13,18 +13,18 @@ pub fn totals<'a>(
     requires { sum_by (λ p. p.1) amounts.now < 2 ^ 128 }
     ensures { IfOk result (λ m. (q : List ℕ) → total_in m q ≡ total q amounts.now) }
 {
-    let mut m = HashMap::new(alloc);
+    let mut sums = HashMap::new(alloc);
     for (name, amount) in amounts {
-        *m.entry(*name)?.or_insert(0) += u128::from(*amount);
+        *sums.entry(*name)?.or_insert(0) += u128::from(*amount);
     }
-    Ok(m)
+    Ok(sums)
 }
 
 /// The sum of a name.
-pub fn total_of(m: &HashMap<&str, u128>, name: &str) -> u128
-    ensures { result ≡ total_in m.now name.now }
+pub fn total_of(sums: &HashMap<&str, u128>, name: &str) -> u128
+    ensures { result ≡ total_in sums.now name.now }
 {
-    m.get(name).copied().unwrap_or(0)
+    sums.get(name).copied().unwrap_or(0)
 }
 
 /// No name has more than the most.
@@ -32,9 +32,9 @@ pub fn are_within(alloc: Global, amounts: &[(&str, u64)], most: u128) -> Result<
     requires { sum_by (λ p. p.1) amounts.now < 2 ^ 128 }
     ensures { IfOk result (λ b. IsTrue b ↔ ((q : List ℕ) → total q amounts.now ≤ most)) }
 {
-    let m = totals(alloc, amounts)?;
+    let sums = totals(alloc, amounts)?;
     for (name, _) in amounts {
-        if total_of(&m, *name) > most {
+        if total_of(&sums, *name) > most {
             return Ok(false);
         }
     }

@@ -11,10 +11,10 @@ use Rattle.sqlite_keyed.proofs.ListLemmas.{all_both, all-filter}
 use Rattle.queue_types.specs.declared.job.Job.{Job}
 use Rattle.queue_types.specs.Job.{is_live, state}
 use Rattle.queue_core.specs.Sound.{IsSound}
-use Rattle.queue_core.specs.World.{World, Entry, rows, job_at, numbered}
+use Rattle.queue_core.specs.World.{World, Entry, rows, job_at, numbered, has_number}
 use Rattle.queue_core.proofs.Ordered.{all_of}
 use Rattle.queue_tables.specs.Content.{Holds, content_of}
-use Rattle.queue_tables.specs.Steps.{AreDistinct, has_number}
+use Rattle.queue_tables.specs.Steps.{AreDistinct}
 use Rattle.queue_tables.specs.Values.{number, job_values, job_view}
 use Rattle.queue_tables.proofs.Entries.{rows_in, found_rows, distinct_of}
 use Rattle.queue_tables.proofs.JobPut.{reads_job_at}

@@ -10,10 +10,10 @@ use Rattle.sqlite.specs.Collation.TheVariants.{Binary}
 use Rattle.sqlite_sql.specs.declared.ops.BinaryOp.TheVariants.{Compare}
 use Rattle.sqlite_sql.specs.declared.ops.CompareOp.TheVariants.{Eq}
 use Rattle.sqlite_value.proofs.OrderLemmas.{value_cmp-Int}
-use Rattle.queue_core.specs.World.{Entry}
+use Rattle.queue_core.specs.World.{Entry, has_number}
 use Rattle.queue_types.specs.declared.document.Document.{Document}
 use Rattle.queue_tables.specs.Values.{number}
-use Rattle.queue_tables.specs.Steps.{has_number, AreDistinct}
+use Rattle.queue_tables.specs.Steps.{AreDistinct}
 use Rattle.queue_tables.proofs.Numbers.{same_number}
 use Rattle.queue_shown.specs.Fetched.{document_in}
 

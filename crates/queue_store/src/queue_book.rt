@@ -19,9 +19,9 @@ impl<S: Alter> QueueBook for TableBook<S> {
     ghost is_honest = { λ b. IsHonest S.Store b };
 
     fn decide<'a>(&mut self, now: u32, event: &Event<'a>) -> Result<Decision<'a>, BookFault> {
-        let s = queue_scenes::scene::scene(self.alloc, &mut self.conn, &self.settings, event)?;
-        let d = queue_core::decide(self.alloc, &s, now, event)?;
-        Ok(d)
+        let scene = queue_scenes::scene::scene(self.alloc, &mut self.conn, &self.settings, event)?;
+        let decision = queue_core::decide(self.alloc, &scene, now, event)?;
+        Ok(decision)
     }
 
     fn apply(&mut self, decision: Decision<'_>) -> Result<(), BookFault> {

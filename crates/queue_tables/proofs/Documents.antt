@@ -14,14 +14,14 @@ use Rattle.sqlite.specs.Order.{Row, column}
 use Rattle.sqlite.specs.State.{State, Shown}
 use Rattle.queue_types.specs.declared.job.Job.{Job}
 use Rattle.queue_types.specs.declared.document.Document.{Document}
-use Rattle.queue_core.specs.World.{World, Entry, add_document, job_at, rows, with_document, with_row, made_on}
+use Rattle.queue_core.specs.World.{World, Entry, add_document, job_at, rows, with_document, with_row, made_on, has_number}
 use Rattle.queue_types.specs.Event.{NewDocument, Change}
 use Rattle.queue_core.specs.Sound.{IsSound}
 use Rattle.queue_rows.specs.Pieces.{pieces_in}
 use Rattle.queue_rows.specs.declared.rows.DocumentRow.{DocumentRow}
 use Rattle.queue_tables.specs.Values.{number, document_values, document_view, job_values, account_values}
 use Rattle.queue_tables.specs.Content.{Holds, content_of, document_rows, piece_rows, pieces_from}
-use Rattle.queue_tables.specs.Steps.{has_number, is_numbered, AreDistinct, with_added, with_document_row, with_pieces, documents_at}
+use Rattle.queue_tables.specs.Steps.{is_numbered, AreDistinct, with_added, with_document_row, with_pieces, documents_at}
 use Rattle.queue_tables.proofs.Numbers.{numbered_document}
 use Rattle.queue_tables.proofs.Entries.{rows_in, length_of}
 use Rattle.queue_tables.proofs.Held.{like_holds, same_order}

@@ -6,12 +6,12 @@ use Rattle.std.proofs.lemmas.Bool.{cases_Bool, eqb-true, ne_eqb, eqb-false, or_p
 use Rattle.std.proofs.lemmas.List.Sums.{sum_by-cons}
 use Rattle.sqlite.specs.Order.{Row}
 use Rattle.queue_types.specs.declared.job.Job.{Job}
-use Rattle.queue_core.specs.World.{World, Entry, with_row, job_at}
+use Rattle.queue_core.specs.World.{World, Entry, with_row, job_at, has_number}
 use Rattle.queue_core.specs.Balance.{AreAmounts}
 use Rattle.queue_core.specs.Sound.{Rise, IsSoundEntry, IsSound}
 use Rattle.queue_tables.specs.Kept.{replaced}
 use Rattle.queue_tables.specs.Values.{job_values}
-use Rattle.queue_tables.specs.Steps.{has_number, is_numbered, AreDistinct, IsSummable}
+use Rattle.queue_tables.specs.Steps.{is_numbered, AreDistinct, IsSummable}
 use Rattle.queue_tables.proofs.Permuting.{replaced_none}
 use Rattle.queue_tables.proofs.Numbers.{numbered_job}
 

@@ -11,9 +11,9 @@ use Rattle.sqlite.specs.State.{State, Shown}
 use Rattle.queue_types.specs.declared.job.Job.{Job}
 use Rattle.queue_types.specs.declared.document.Document.{Document}
 use Rattle.queue_core.specs.Sound.{IsSound, IsSoundEntry}
-use Rattle.queue_core.specs.World.{World, Entry, job_at, rows}
+use Rattle.queue_core.specs.World.{World, Entry, job_at, rows, has_number}
 use Rattle.queue_tables.specs.Content.{Holds, content_of, document_rows}
-use Rattle.queue_tables.specs.Steps.{AreDistinct, has_number, is_numbered}
+use Rattle.queue_tables.specs.Steps.{AreDistinct, is_numbered}
 use Rattle.queue_tables.specs.Values.{number, document_values, document_view}
 use Rattle.queue_tables.proofs.Documents.{row_of, all_documents}
 use Rattle.queue_tables.proofs.Entries.{rows_in, distinct_of}

@@ -1,6 +1,6 @@
 -- What single statements make of the rows, and the worlds that the tables show between them. Those need not be sound.
 use Rattle.std.specs.Prelude.{◌≡◌, ◌⊎◌, ℕ, ℤ, ◌+ℤ◌, ◌≤◌, ◌^◌, List, [], ◌∷◌, ◌++◌, Option, None, ⊤, Bool, true, false, ◌==◌, ◌&&◌, length, map, filter, fold, if◌then◌else◌}
-use Rattle.std.specs.List.{list_any, range_with_len, AllByRecursion as Each}
+use Rattle.std.specs.List.{range_with_len, AllByRecursion as Each}
 use Rattle.std.specs.FinMap.{get}
 use Rattle.sqlite.specs.declared.types.Value.{Value}
 use Rattle.sqlite.specs.declared.types.Value.TheVariants.{Null, Int, Real, Text as Words, Blob}
@@ -13,7 +13,7 @@ use Rattle.queue_types.specs.declared.job.Job.{Job}
 use Rattle.queue_types.specs.declared.event.FreeRow.{FreeRow}
 use Rattle.queue_types.specs.declared.event.GrantRow.{GrantRow}
 use Rattle.queue_types.specs.declared.event.KeptReport.{KeptReport}
-use Rattle.queue_core.specs.World.{World, Entry, with_row, put_free, put_grant, with_report, with_document}
+use Rattle.queue_core.specs.World.{World, Entry, has_number, with_row, put_free, put_grant, with_report, with_document}
 use Rattle.queue_types.specs.Event.{NewDocument}
 use Rattle.queue_core.specs.Balance.{AreAmounts}
 use Rattle.queue_core.specs.Sound.{reserved, printed}
@@ -92,10 +92,6 @@ CanAdd name set_aside done c =
 -- nothing of its documents
 abbrev pub bare : Job → Job
 bare j = record j { documents = 0; octets = 0 }
-
--- a job has this number
-abbrev pub has_number : ℕ → List Entry → Bool
-has_number n es = list_any (λ e. e.row.number == n) es
 
 -- no number stands twice
 abbrev pub AreDistinct : List Entry → Type 0

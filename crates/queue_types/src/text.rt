@@ -1,10 +1,13 @@
 //! A short text that contracts see as its bytes.
-ghost use Rattle.std.specs.Prelude.{◌≡◌, IfOk};
+ghost use Rattle.std.specs.Prelude.{◌≡◌, IfOk, Some, None, if◌then◌else◌};
+ghost use Rattle.std.specs.Option.{option_copied};
+ghost use Rattle.std.specs.Str.{is_utf8};
 ghost use Rattle.queue_types.specs.Text.{bytes_of};
 
 use arrayvec::ArrayString;
 use std::alloc::{AllocError, Global};
 use std::marker::Model;
+use std::str;
 
 /// A text of at most this many bytes lies in the value itself, as most names do.
 const MOST_INLINE: usize = 24;
@@ -67,5 +70,15 @@ impl Text {
             Stored::Allocated(text) => Stored::Allocated(text.clone()?),
         };
         Ok(Text { stored })
+    }
+}
+
+/// The bytes as text, where they are UTF-8.
+pub fn utf8_text(bytes: &[u8]) -> Option<&str>
+    ensures { option_copied result ≡ (if is_utf8 bytes.now then Some bytes.now else None) }
+{
+    match str::from_utf8(bytes) {
+        Ok(text) => Some(text),
+        Err(_) => None,
     }
 }

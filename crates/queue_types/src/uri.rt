@@ -10,8 +10,8 @@ fn after_scheme(uri: &[u8]) -> &[u8]
 {
     let mut at = uri;
     while let [_, rest @ ..] = at {
-        if at.starts_with(b"://") {
-            return &at[3..];
+        if let Some(behind) = at.strip_prefix(b"://") {
+            return behind;
         }
         at = rest;
     }

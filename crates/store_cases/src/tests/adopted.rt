@@ -10,19 +10,34 @@ use crate::tests::shown::shown;
 use crate::tests::tables::{DAMAGED, Tables};
 use ipp_ops::Answer;
 use list_book::ListBook;
-use queue_core::book::BookFault;
+use queue_core::book::{BookFault, QueueBook};
 use queue_store::TableBook;
 use queue_types::settings::Settings;
 use sqlite::{Alter, MemStore};
 use std::alloc::Global;
 use std::test::Fail;
 
+/// Makes the queue in a book without jobs, and tells what the book shows at moment 100.
+fn fill_and_show<B: QueueBook>(
+    alloc: Global,
+    settings: &Settings,
+    book: &mut B,
+) -> Result<Vec<u8>, Fail> {
+    fill(alloc, book)?;
+    shown(&Desk::new(alloc, settings, 100), book)
+}
+
 /// What a plain book of the queue shows at moment 100.
 fn plain_queue(alloc: Global) -> Result<Vec<u8>, Fail> {
     let settings = settings(alloc)?;
     let mut book = ListBook::new(alloc, settings.try_clone()?);
-    fill(alloc, &mut book)?;
-    shown(&Desk::new(alloc, &settings, 100), &mut book)
+    fill_and_show(alloc, &settings, &mut book)
+}
+
+/// What a book shows at moment 100.
+fn queue_of<S: Alter>(alloc: Global, book: &mut TableBook<S>) -> Result<Vec<u8>, Fail> {
+    let settings = book.settings()?;
+    shown(&Desk::new(alloc, &settings, 100), book)
 }
 
 /// At moment 100 the book shows what a plain book of the queue shows.
@@ -30,8 +45,7 @@ pub(super) fn shows_the_queue<S: Alter>(
     alloc: Global,
     book: &mut TableBook<S>,
 ) -> Result<(), Fail> {
-    let settings = book.settings()?;
-    let came = shown(&Desk::new(alloc, &settings, 100), book)?;
+    let came = queue_of(alloc, book)?;
     let wanted = plain_queue(alloc)?;
     same(&came.as_slice(), &wanted.as_slice(), "the queue")
 }

@@ -4,7 +4,8 @@ use Rattle.std.specs.Char.{is_ascii_digit}
 use Rattle.std.specs.Str.{is_utf8}
 use Rattle.grants_csv.specs.File.{is_number}
 use Rattle.grants_csv.proofs.Tests.{chosen}
-use Rattle.grants_csv.proofs.Texts.{digits_utf8, is_number_of}
+use Rattle.queue_types.proofs.Texts.{digits_utf8}
+use Rattle.grants_csv.proofs.Texts.{is_number_of}
 use Rattle.grants_csv.proofs.row.number_text.Goals as goal
 
 pub returns-then-not-has_leading_zero : goal.returns-then-not-has_leading_zero

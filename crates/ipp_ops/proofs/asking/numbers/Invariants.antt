@@ -4,5 +4,5 @@ use Rattle.ipp_wire.specs.Viewed.{values_of}
 use Rattle.ipp_request.specs.Values.{number_of}
 use Rattle.ipp_ops.proofs.asking.numbers.Given as goal
 
-abbrev pub invariant-loop-v : goal.invariant-loop-v
-invariant-loop-v l = l.numbers.items ≡ map (λ v. unwrap_or (number_of v.bytes) 0) (values_of (take l.v-index l.values))
+abbrev pub invariant-loop-value : goal.invariant-loop-value
+invariant-loop-value l = l.numbers.items ≡ map (λ v. unwrap_or (number_of v.bytes) 0) (values_of (take l.value-index l.values))

@@ -3,5 +3,5 @@ use Rattle.std.specs.Prelude.{map}
 use Rattle.ipp_reply.specs.JobReply.{job_group}
 use Rattle.ipp_reply.proofs.job_reply.put_jobs.Given as goal
 
-abbrev pub invariant-loop-j : goal.invariant-loop-j
-invariant-loop-j l = l.message ≡ record l.fn.message { groups = l.fn.message.groups ++ map (job_group l.uri l.now l.rows) (take l.j-index l.jobs) }
+abbrev pub invariant-loop-job : goal.invariant-loop-job
+invariant-loop-job l = l.message ≡ record l.fn.message { groups = l.fn.message.groups ++ map (job_group l.uri l.now l.rows) (take l.job-index l.jobs) }

@@ -2,7 +2,8 @@ use Rattle.std.proofs.Common.{◌≡◌, true, sym, ◌∙◌}
 use Rattle.std.specs.Char.{is_ascii_digit}
 use Rattle.std.specs.List.{list_all}
 use Rattle.std.specs.Str.{is_utf8}
-use Rattle.ipp_request.proofs.Numbers.{digits_utf8, text_chosen, text_missed, unparsed}
+use Rattle.queue_types.proofs.Texts.{digits_utf8}
+use Rattle.ipp_request.proofs.Numbers.{text_chosen, text_missed, unparsed}
 use Rattle.ipp_request.proofs.target.number_in.Goals as goal
 
 pub returns-in_err-text : goal.returns-in_err-text

@@ -8,7 +8,7 @@ use Rattle.ipp_request.specs.Unsupported.{counted, listed}
 use Rattle.ipp_request.proofs.Listing.{has_name}
 use Rattle.ipp_request.proofs.unsupported.listed_in.Given as goal
 
-abbrev pub invariant-loop-a : goal.invariant-loop-a
-invariant-loop-a l =
-    (attributes_of l.out.items ≡ filter_map (listed l.source) (counted (attributes_of (take l.a-index l.attrs))))
-    × ((q : Bor (List ℕ)) → contains (λ a b. slice_cmp nat_cmp a.now b.now) l.seen q ≡ has_name (attributes_of (take l.a-index l.attrs)) q.now)
+abbrev pub invariant-loop-attribute : goal.invariant-loop-attribute
+invariant-loop-attribute l =
+    (attributes_of l.out.items ≡ filter_map (listed l.source) (counted (attributes_of (take l.attribute-index l.attrs))))
+    × ((q : Bor (List ℕ)) → contains (λ a b. slice_cmp nat_cmp a.now b.now) l.seen q ≡ has_name (attributes_of (take l.attribute-index l.attrs)) q.now)

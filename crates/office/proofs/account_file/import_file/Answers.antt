@@ -8,10 +8,10 @@ use Rattle.office.proofs.account_file.import_file.Goals as goal
 
 pub returns-clause-taken : goal.returns-clause-taken
 returns-clause-taken g c = λ honest. then c.tell.result c.tell.ensures.told (λ told w stands.
-    let a = c.in_ok-n.ensures.added honest w stands in (
+    let a = c.in_ok-imported.ensures.added honest w stands in (
       c.in_ok-bytes.bytes.items,
       c.in_ok-bytes.ensures.bytes,
-      c.in_ok-n.n,
+      c.in_ok-imported.imported,
       (step w c.args.now (grant a.0)).world,
       (a.0, ap rows_of (sym c.as_slice.ensures.value) ∙ a.1, a.2, refl),
       a.3,
@@ -20,12 +20,12 @@ returns-clause-taken g c = λ honest. then c.tell.result c.tell.ensures.told (λ
 
 pub returns-clause-left : goal.returns-clause-left
 returns-clause-left g c = λ honest. failing c.tell.result IsOfStream _ c.tell.ensures.failed (λ f of_stream w stands.
-    let a = c.in_ok-n.ensures.added honest w stands in
+    let a = c.in_ok-imported.ensures.added honest w stands in
     inr (
       of_stream,
       c.in_ok-bytes.bytes.items,
       c.in_ok-bytes.ensures.bytes,
-      c.in_ok-n.n,
+      c.in_ok-imported.imported,
       (step w c.args.now (grant a.0)).world,
       (a.0, ap rows_of (sym c.as_slice.ensures.value) ∙ a.1, a.2, refl),
       a.3,

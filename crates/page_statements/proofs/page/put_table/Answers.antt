@@ -12,9 +12,9 @@ returns c =
     let old = string_bytes c.args.out.now in
     let header = row (codes "job") (codes "state") (codes "reserved") (codes "printed") in
     let total = row (codes "total") [] (decimal s.reserved) (decimal s.printed) in
-    let each : take c.loop-j.j-index c.as_slice-j-items.result.now ≡ s.jobs = take_all c.loop-j.j-index c.as_slice-j-items.result.now (omega (arith, c.loop-j-test.false)) ∙ c.as_slice-j-items.ensures in
-    let jobs : string_bytes c.loop-j.out ≡ old ++ header ++ flat_map job_row s.jobs = c.loop-j.invariant ∙ ap (λ (js : List Job). old ++ header ++ flat_map job_row js) each in
-    let lines : string_bytes c.loop-j.out ++ total ≡ old ++ table s = rw jobs (three_parts old header (flat_map job_row s.jobs) total) in
+    let each : take c.loop-job.job-index c.as_slice-job-items.result.now ≡ s.jobs = take_all c.loop-job.job-index c.as_slice-job-items.result.now (omega (arith, c.loop-job-test.false)) ∙ c.as_slice-job-items.ensures in
+    let jobs : string_bytes c.loop-job.out ≡ old ++ header ++ flat_map job_row s.jobs = c.loop-job.invariant ∙ ap (λ (js : List Job). old ++ header ++ flat_map job_row js) each in
+    let lines : string_bytes c.loop-job.out ++ total ≡ old ++ table s = rw jobs (three_parts old header (flat_map job_row s.jobs) total) in
     let P : List ℕ → Type 0 = λ text. OnOk c.writeln.result (string_bytes c.writeln.new.self ≡ text) in
-    subst P (total_line (string_bytes c.loop-j.out) _ _ (decimal s.reserved) (decimal s.printed) (right_digits 9 (decimal s.reserved)) (right_digits 9 (decimal s.printed)) ∙ lines)
+    subst P (total_line (string_bytes c.loop-job.out) _ _ (decimal s.reserved) (decimal s.printed) (right_digits 9 (decimal s.reserved)) (right_digits 9 (decimal s.printed)) ∙ lines)
     (rw (c.laid_out.ensures, c.laid_out-2.ensures) at c.writeln.ensures.bytes)

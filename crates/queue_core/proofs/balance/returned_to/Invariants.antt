@@ -5,8 +5,8 @@ use Rattle.queue_core.specs.Balance.{IsBelow}
 use Rattle.queue_core.proofs.balance.returned_to.Given as goal
 
 -- the sum over the jobs that were looked at
-abbrev pub invariant-loop-j : goal.invariant-loop-j
-invariant-loop-j l = record {
-  sum : l.back ≡ fold (λ sum j. sum +ℤ given_back l.before l.account j) (pos 0) (take l.j-index l.after);
-  bound : IsBelow (2 ^ 28 * l.j-index) l.back;
+abbrev pub invariant-loop-job : goal.invariant-loop-job
+invariant-loop-job l = record {
+  sum : l.back ≡ fold (λ sum j. sum +ℤ given_back l.before l.account j) (pos 0) (take l.job-index l.after);
+  bound : IsBelow (2 ^ 28 * l.job-index) l.back;
 }

@@ -10,17 +10,17 @@ returns-then-not-has_grant c = (
   λ t. absurd cc,
   λ all.
       let P = λ (a : AccountRow). 1 ≤ granted_to a.name c.args.grants.now in
-      let here : P c.a-item.result = subst P (sym c.a-item.is) (all c.loop-a.a-index c.a-item.result (omega arith)) in
-      let passes = c.has_grant.ensures.1 (subst (λ (n : ℕ). 1 ≤ n) (sym (c.in_ok-granted.ensures c.a-item.result.name)) here) in
+      let here : P c.account-item.result = subst P (sym c.account-item.is) (all c.loop-account.account-index c.account-item.result (omega arith)) in
+      let passes = c.has_grant.ensures.1 (subst (λ (n : ℕ). 1 ≤ n) (sym (c.in_ok-granted.ensures c.account-item.result.name)) here) in
       absurd (cc (passes, c.if-not-has_grant.true)),
 )
 
-pub loop-a-preserved : goal.loop-a-preserved
-loop-a-preserved c =
+pub loop-account-preserved : goal.loop-account-preserved
+loop-account-preserved c =
     let P = λ (a : AccountRow). 1 ≤ granted_to a.name c.args.grants.now in
     let told = c.has_grant.ensures.0 (cc (c.if-not-has_grant.false)) in
-    let here : P c.a-item.result = subst (λ (n : ℕ). 1 ≤ n) (c.in_ok-granted.ensures c.a-item.result.name) told in
-    All-more P c.args.accounts.now c.loop-a.a-index c.a-item.result (omega arith) c.loop-a.invariant (subst P c.a-item.is here)
+    let here : P c.account-item.result = subst (λ (n : ℕ). 1 ≤ n) (c.in_ok-granted.ensures c.account-item.result.name) told in
+    All-more P c.args.accounts.now c.loop-account.account-index c.account-item.result (omega arith) c.loop-account.invariant (subst P c.account-item.is here)
 
 pub returns : goal.returns
-returns c = (λ t. rw (sym (take_all c.loop-a.a-index c.args.accounts.now (omega (arith, c.loop-a-test.false)))) c.loop-a.invariant, λ all. refl)
+returns c = (λ t. rw (sym (take_all c.loop-account.account-index c.args.accounts.now (omega (arith, c.loop-account-test.false)))) c.loop-account.invariant, λ all. refl)

@@ -10,17 +10,17 @@ returns-then-not-has_account c = (
   λ t. absurd cc,
   λ all.
       let P = λ (g : GrantRow). 1 ≤ accounts_of g.account c.args.accounts.now in
-      let here : P c.g-item.result = subst P (sym c.g-item.is) (all c.loop-g.g-index c.g-item.result (omega arith)) in
-      let passes = c.has_account.ensures.1 (subst (λ (n : ℕ). 1 ≤ n) (sym (c.in_ok-names.ensures c.g-item.result.account)) here) in
+      let here : P c.grant-item.result = subst P (sym c.grant-item.is) (all c.loop-grant.grant-index c.grant-item.result (omega arith)) in
+      let passes = c.has_account.ensures.1 (subst (λ (n : ℕ). 1 ≤ n) (sym (c.in_ok-names.ensures c.grant-item.result.account)) here) in
       absurd (cc (passes, c.if-not-has_account.true)),
 )
 
-pub loop-g-preserved : goal.loop-g-preserved
-loop-g-preserved c =
+pub loop-grant-preserved : goal.loop-grant-preserved
+loop-grant-preserved c =
     let P = λ (g : GrantRow). 1 ≤ accounts_of g.account c.args.accounts.now in
     let told = c.has_account.ensures.0 (cc (c.if-not-has_account.false)) in
-    let here : P c.g-item.result = subst (λ (n : ℕ). 1 ≤ n) (c.in_ok-names.ensures c.g-item.result.account) told in
-    All-more P c.args.grants.now c.loop-g.g-index c.g-item.result (omega arith) c.loop-g.invariant (subst P c.g-item.is here)
+    let here : P c.grant-item.result = subst (λ (n : ℕ). 1 ≤ n) (c.in_ok-names.ensures c.grant-item.result.account) told in
+    All-more P c.args.grants.now c.loop-grant.grant-index c.grant-item.result (omega arith) c.loop-grant.invariant (subst P c.grant-item.is here)
 
 pub returns : goal.returns
-returns c = (λ t. rw (sym (take_all c.loop-g.g-index c.args.grants.now (omega (arith, c.loop-g-test.false)))) c.loop-g.invariant, λ all. refl)
+returns c = (λ t. rw (sym (take_all c.loop-grant.grant-index c.args.grants.now (omega (arith, c.loop-grant-test.false)))) c.loop-grant.invariant, λ all. refl)

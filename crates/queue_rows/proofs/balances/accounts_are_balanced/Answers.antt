@@ -10,21 +10,21 @@ returns-then-not-is_account_balanced c = (
   λ t. absurd cc,
   λ all.
       let P = λ (x : AccountRow). (IsBalanced c.args.grants.now c.args.jobs.now) x in
-      let here : P c.a-item.result = subst P (sym c.a-item.is) (all c.loop-a.a-index c.a-item.result (omega arith)) in
-      let passes = c.is_account_balanced.ensures.1 ((here.reserved ∙ sym (c.in_ok-reserved.ensures c.a-item.result.name), here.printed ∙ sym (c.in_ok-printed.ensures c.a-item.result.name), ap pos (c.in_ok-granted.ensures c.a-item.result.name) ∙ here.granted)) in
+      let here : P c.account-item.result = subst P (sym c.account-item.is) (all c.loop-account.account-index c.account-item.result (omega arith)) in
+      let passes = c.is_account_balanced.ensures.1 ((here.reserved ∙ sym (c.in_ok-reserved.ensures c.account-item.result.name), here.printed ∙ sym (c.in_ok-printed.ensures c.account-item.result.name), ap pos (c.in_ok-granted.ensures c.account-item.result.name) ∙ here.granted)) in
       absurd (cc (passes, c.if-not-is_account_balanced.true)),
 )
 
-pub loop-a-preserved : goal.loop-a-preserved
-loop-a-preserved c =
+pub loop-account-preserved : goal.loop-account-preserved
+loop-account-preserved c =
     let P = λ (x : AccountRow). (IsBalanced c.args.grants.now c.args.jobs.now) x in
     let told = c.is_account_balanced.ensures.0 (cc (c.if-not-is_account_balanced.false)) in
-    let here : P c.a-item.result = record {
-      reserved = told.0 ∙ c.in_ok-reserved.ensures c.a-item.result.name;
-      printed = told.1 ∙ c.in_ok-printed.ensures c.a-item.result.name;
-      granted = ap pos (sym (c.in_ok-granted.ensures c.a-item.result.name)) ∙ told.2;
+    let here : P c.account-item.result = record {
+      reserved = told.0 ∙ c.in_ok-reserved.ensures c.account-item.result.name;
+      printed = told.1 ∙ c.in_ok-printed.ensures c.account-item.result.name;
+      granted = ap pos (sym (c.in_ok-granted.ensures c.account-item.result.name)) ∙ told.2;
     } in
-    All-more P c.args.accounts.now c.loop-a.a-index c.a-item.result (omega arith) c.loop-a.invariant (subst P c.a-item.is here)
+    All-more P c.args.accounts.now c.loop-account.account-index c.account-item.result (omega arith) c.loop-account.invariant (subst P c.account-item.is here)
 
 pub returns : goal.returns
-returns c = (λ t. rw (sym (take_all c.loop-a.a-index c.args.accounts.now (omega (arith, c.loop-a-test.false)))) c.loop-a.invariant, λ all. refl)
+returns c = (λ t. rw (sym (take_all c.loop-account.account-index c.args.accounts.now (omega (arith, c.loop-account-test.false)))) c.loop-account.invariant, λ all. refl)

@@ -10,14 +10,14 @@ returns-then-not-is_grant c = (
   λ t. absurd cc,
   λ all.
       let P = λ (x : GrantRow). IsGrantRow x in
-      let passes = c.is_grant.ensures.1 (subst P (sym c.g-item.is) (all c.loop-g.g-index c.g-item.result (omega arith))) in
+      let passes = c.is_grant.ensures.1 (subst P (sym c.grant-item.is) (all c.loop-grant.grant-index c.grant-item.result (omega arith))) in
       absurd (cc (passes, c.if-not-is_grant.true)),
 )
 
-pub loop-g-preserved : goal.loop-g-preserved
-loop-g-preserved c =
+pub loop-grant-preserved : goal.loop-grant-preserved
+loop-grant-preserved c =
     let P = λ (x : GrantRow). IsGrantRow x in
-    All-more P c.args.grants.now c.loop-g.g-index c.g-item.result (omega arith) c.loop-g.invariant (subst P c.g-item.is (c.is_grant.ensures.0 (cc (c.if-not-is_grant.false))))
+    All-more P c.args.grants.now c.loop-grant.grant-index c.grant-item.result (omega arith) c.loop-grant.invariant (subst P c.grant-item.is (c.is_grant.ensures.0 (cc (c.if-not-is_grant.false))))
 
 pub returns : goal.returns
-returns c = (λ t. rw (sym (take_all c.loop-g.g-index c.args.grants.now (omega (arith, c.loop-g-test.false)))) c.loop-g.invariant, λ all. refl)
+returns c = (λ t. rw (sym (take_all c.loop-grant.grant-index c.args.grants.now (omega (arith, c.loop-grant-test.false)))) c.loop-grant.invariant, λ all. refl)

@@ -10,14 +10,14 @@ returns-then-not-is_job_row c = (
   λ t. absurd cc,
   λ all.
       let P = λ (x : Job). IsJobRow x in
-      let passes = c.is_job_row.ensures.1 (subst P (sym c.j-item.is) (all c.loop-j.j-index c.j-item.result (omega arith))) in
+      let passes = c.is_job_row.ensures.1 (subst P (sym c.job-item.is) (all c.loop-job.job-index c.job-item.result (omega arith))) in
       absurd (cc (passes, c.if-not-is_job_row.true)),
 )
 
-pub loop-j-preserved : goal.loop-j-preserved
-loop-j-preserved c =
+pub loop-job-preserved : goal.loop-job-preserved
+loop-job-preserved c =
     let P = λ (x : Job). IsJobRow x in
-    All-more P c.args.jobs.now c.loop-j.j-index c.j-item.result (omega arith) c.loop-j.invariant (subst P c.j-item.is (c.is_job_row.ensures.0 (cc (c.if-not-is_job_row.false))))
+    All-more P c.args.jobs.now c.loop-job.job-index c.job-item.result (omega arith) c.loop-job.invariant (subst P c.job-item.is (c.is_job_row.ensures.0 (cc (c.if-not-is_job_row.false))))
 
 pub returns : goal.returns
-returns c = (λ t. rw (sym (take_all c.loop-j.j-index c.args.jobs.now (omega (arith, c.loop-j-test.false)))) c.loop-j.invariant, λ all. refl)
+returns c = (λ t. rw (sym (take_all c.loop-job.job-index c.args.jobs.now (omega (arith, c.loop-job-test.false)))) c.loop-job.invariant, λ all. refl)

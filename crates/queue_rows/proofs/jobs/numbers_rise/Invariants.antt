@@ -2,5 +2,5 @@ use Rattle.std.proofs.Common.{drop}
 use Rattle.queue_rows.specs.Jobs.{NumbersRise}
 use Rattle.queue_rows.proofs.jobs.numbers_rise.Given as goal
 
-abbrev pub invariant-loop-j : goal.invariant-loop-j
-invariant-loop-j l = (NumbersRise 1 l.jobs l.next → NumbersRise l.least (drop l.j-index l.jobs) l.next) × (NumbersRise l.least (drop l.j-index l.jobs) l.next → NumbersRise 1 l.jobs l.next)
+abbrev pub invariant-loop-job : goal.invariant-loop-job
+invariant-loop-job l = (NumbersRise 1 l.jobs l.next → NumbersRise l.least (drop l.job-index l.jobs) l.next) × (NumbersRise l.least (drop l.job-index l.jobs) l.next → NumbersRise 1 l.jobs l.next)

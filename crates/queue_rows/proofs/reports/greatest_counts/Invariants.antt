@@ -3,5 +3,5 @@ use Rattle.std.specs.HashMap.{get}
 use Rattle.queue_rows.specs.Reports.{greatest}
 use Rattle.queue_rows.proofs.reports.greatest_counts.Given as goal
 
-abbrev pub invariant-loop-r : goal.invariant-loop-r
-invariant-loop-r l = (n : ℕ) → unwrap_or (get nat_eq l.m n) 0 ≡ greatest n (take l.r-index l.reports)
+abbrev pub invariant-loop-kept : goal.invariant-loop-kept
+invariant-loop-kept l = (n : ℕ) → unwrap_or (get nat_eq l.counts n) 0 ≡ greatest n (take l.kept-index l.reports)

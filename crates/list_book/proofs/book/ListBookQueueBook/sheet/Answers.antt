@@ -12,6 +12,6 @@ sheet-requires-clause-printed c = printed_fits c.self.inside.lists c.args.accoun
 
 pub returns-clause-sheet : goal.returns-clause-sheet
 returns-clause-sheet c = λ _ w h.
-    c.in_ok-s.ensures
+    c.in_ok-sheet.ensures
     ∙ sheet_is c.self.inside.lists c.args.account.now c.self.invariant.2
     ∙ ap (λ (v : World). sheet_of v c.args.account.now) (c.self.view_is ∙ h.0)

@@ -7,11 +7,11 @@ use Rattle.queue_store.proofs.Keeping.{still_keeps}
 use Rattle.queue_tables.proofs.Leaving.{held_by}
 use Rattle.queue_store.proofs.queue_book.TableBookQueueBook.decide.Goals as goal
 
-pub returns-in_err-s-clause-kept : goal.returns-in_err-s-clause-kept
-returns-in_err-s-clause-kept g c w stood = still_keeps (state g.S.Store c.args.self.now.conn) (state g.S.Store c.scene.new.conn) c.args.self.now.settings w c.scene.ensures.leaves stood
+pub returns-in_err-scene-clause-kept : goal.returns-in_err-scene-clause-kept
+returns-in_err-scene-clause-kept g c w stood = still_keeps (state g.S.Store c.args.self.now.conn) (state g.S.Store c.scene.new.conn) c.args.self.now.settings w c.scene.ensures.leaves stood
 
-pub returns-in_err-d-clause-kept : goal.returns-in_err-d-clause-kept
-returns-in_err-d-clause-kept g c w stood = still_keeps (state g.S.Store c.args.self.now.conn) (state g.S.Store c.scene.new.conn) c.args.self.now.settings w c.scene.ensures.leaves stood
+pub returns-in_err-decision-clause-kept : goal.returns-in_err-decision-clause-kept
+returns-in_err-decision-clause-kept g c w stood = still_keeps (state g.S.Store c.args.self.now.conn) (state g.S.Store c.scene.new.conn) c.args.self.now.settings w c.scene.ensures.leaves stood
 
 pub returns-clause-kept : goal.returns-clause-kept
 returns-clause-kept g c w stood = still_keeps (state g.S.Store c.args.self.now.conn) (state g.S.Store c.scene.new.conn) c.args.self.now.settings w c.scene.ensures.leaves stood
@@ -19,5 +19,5 @@ returns-clause-kept g c w stood = still_keeps (state g.S.Store c.args.self.now.c
 pub returns-clause-decides : goal.returns-clause-decides
 returns-clause-decides g c honest w stands =
     let now = stands honest in
-    let held = held_by c.scene.ensures.leaves honest (content_of w) (now.holds (c.in_ok-s.ensures.live honest)) in
-    c.in_ok-d.ensures.decides ∙ ap (λ s. decision s c.args.now (event_of c.args.event.now)) (c.in_ok-s.ensures.shows honest w now.sound held now.settings_are)
+    let held = held_by c.scene.ensures.leaves honest (content_of w) (now.holds (c.in_ok-scene.ensures.live honest)) in
+    c.in_ok-decision.ensures.decides ∙ ap (λ s. decision s c.args.now (event_of c.args.event.now)) (c.in_ok-scene.ensures.shows honest w now.sound held now.settings_are)

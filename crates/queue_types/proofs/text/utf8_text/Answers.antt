@@ -1,13 +1,9 @@
 use Rattle.std.proofs.Common.{◌≡◌, List, ℕ, Bool, true, false, refl, ap}
-use Rattle.std.specs.Prelude.{IsUtf8, Some, None, if◌then◌else◌}
+use Rattle.std.specs.Prelude.{Some, None, if◌then◌else◌}
 use Rattle.std.specs.Str.{is_utf8}
-use Rattle.std.proofs.lemmas.Str.{is_utf8-from_IsUtf8, IsUtf8-from_is_utf8}
-use Rattle.ipp_request.proofs.value.utf8_text.Goals as goal
-
--- a test fails of what it would decide wrongly
-no_text : (text : List ℕ) → (IsUtf8 text → ⊥) → is_utf8 text ≡ false
-no_text text h =
-    elim (is_utf8 text) as (λ b. is_utf8 text ≡ b → b ≡ false) [ true ↦ λ t. absurd (h (IsUtf8-from_is_utf8 text t)) | false ↦ λ _. refl ] refl
+use Rattle.std.proofs.lemmas.Str.{is_utf8-from_IsUtf8}
+use Rattle.queue_types.proofs.Texts.{no_text}
+use Rattle.queue_types.proofs.text.utf8_text.Goals as goal
 
 chosen : (b : Bool) (text bytes : List ℕ) → b ≡ true → text ≡ bytes → Some text ≡ (if b then Some bytes else None)
 chosen true text bytes t e = ap Some e
