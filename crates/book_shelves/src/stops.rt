@@ -99,6 +99,34 @@ impl Contents {
     }
 }
 
+/// What a stop leaves: what was written by then, and what of that was synced.
+#[derive(Drop)]
+struct Remains {
+    written: Contents,
+    synced: Contents,
+}
+
+impl Remains {
+    /// What two files that stopped have left.
+    fn of(alloc: Global, mut files: Files<StoppingFile>) -> Result<Remains, AllocError> {
+        let written = Contents::of(alloc, &files)?;
+        files.log.crash();
+        files.db.crash();
+        let synced = Contents::of(alloc, &files)?;
+        Ok(Remains { written, synced })
+    }
+
+    /// Each file may be left as it was written, or as it was synced.
+    fn each(&self) -> [Left<'_>; 4] {
+        [
+            self.written.beside(&self.written),
+            self.synced.beside(&self.synced),
+            self.written.beside(&self.synced),
+            self.synced.beside(&self.written),
+        ]
+    }
+}
+
 /// A connection over two files, or these, where they can't be opened.
 fn connect<D: Disk + Drop>(
     alloc: Global,
@@ -249,26 +277,6 @@ impl Stopping<'_> {
         }
     }
 
-    /// Each file may be left as it was written, or as it was synced.
-    fn compare_each_left(
-        self,
-        desk: &mut Desk,
-        written: &Contents,
-        synced: &Contents,
-        steps: &[Step<'_>],
-    ) -> Result<(), StepFault> {
-        let place = desk.place();
-        for left in [
-            written.beside(written),
-            synced.beside(synced),
-            written.beside(synced),
-            synced.beside(written),
-        ] {
-            self.compare_left(desk, left, place, steps)?;
-        }
-        Ok(())
-    }
-
     /// Takes the steps with files that stop, and compares what is left of them with what it may be. Whether they
     /// stopped.
     fn stops(
@@ -278,19 +286,18 @@ impl Stopping<'_> {
         stop: Stop,
         steps: &[Step<'_>],
     ) -> Result<bool, StepFault> {
-        let alloc = desk.alloc();
         let begun = desk.place();
-        let files = start.beside(start).files(alloc, stop)?;
-        let (taken, mut files) = take_in_files(desk, files, self.options(), steps, &[]);
+        let files = start.beside(start).files(desk.alloc(), stop)?;
+        let (taken, files) = take_in_files(desk, files, self.options(), steps, &[]);
         if taken.is_ok() {
             return Ok(false);
         }
-        let written = Contents::of(alloc, &files)?;
-        files.log.crash();
-        files.db.crash();
-        let synced = Contents::of(alloc, &files)?;
-        let rest = steps.get(desk.place().behind(begun)..).unwrap_or(&[]);
-        self.compare_each_left(desk, &written, &synced, rest)?;
+        let remains = Remains::of(desk.alloc(), files)?;
+        let place = desk.place();
+        let rest = steps.get(place.behind(begun)..).unwrap_or(&[]);
+        for left in remains.each() {
+            self.compare_left(desk, left, place, rest)?;
+        }
         Ok(true)
     }
 
