@@ -12,17 +12,24 @@ use std::alloc::{AllocError, Global};
 /// The most pages that a printer may take a copy for that says nothing of its own.
 pub(crate) const MOST_ESTIMATE: u32 = 100_000;
 
+/// A word with no name.
+fn place<'a>(alloc: Global, name: &'a str, value: &'a str, help: &'a str) -> Arg<'a>
+    ensures rule { rule_of result ≡ place_rule name.entry.now }
+    ensures own { result.global ≡ false }
+{
+    Arg::new(alloc, name)
+        .value_name(value)
+        .action(ArgAction::Set)
+        .required(true)
+        .help(help)
+}
+
 /// An option whose value is a text.
 fn text<'a>(alloc: Global, name: &'a str, value: &'a str, help: &'a str) -> Arg<'a>
     ensures rule { rule_of result ≡ text_rule name.entry.now }
     ensures own { result.global ≡ false }
 {
-    Arg::new(alloc, name)
-        .long(name)
-        .value_name(value)
-        .action(ArgAction::Set)
-        .required(true)
-        .help(help)
+    place(alloc, name, value, help).long(name)
 }
 
 /// An option whose value is a number within these limits.
@@ -37,13 +44,8 @@ fn number<'a>(
     ensures rule { rule_of result ≡ number_rule name.entry.now least most }
     ensures own { result.global ≡ false }
 {
-    Arg::new(alloc, name)
-        .long(name)
-        .value_name(value)
-        .action(ArgAction::Set)
-        .required(true)
-        .help(help)
-        .value_parser(ValueParser::unsigned(u64::from(least), u64::from(most)))
+    let limits = ValueParser::unsigned(u64::from(least), u64::from(most));
+    text(alloc, name, value, help).value_parser(limits)
 }
 
 /// The same, where the words may leave the option out.
@@ -59,25 +61,9 @@ fn optional<'a>(
     ensures rule { rule_of result ≡ optional_rule name.entry.now least most usual.entry.now }
     ensures own { result.global ≡ false }
 {
-    Arg::new(alloc, name)
-        .long(name)
-        .value_name(value)
-        .action(ArgAction::Set)
-        .help(help)
-        .value_parser(ValueParser::unsigned(u64::from(least), u64::from(most)))
+    number(alloc, name, value, help, least, most)
+        .required(false)
         .default_value(usual)
-}
-
-/// A word with no name.
-fn place<'a>(alloc: Global, name: &'a str, value: &'a str, help: &'a str) -> Arg<'a>
-    ensures rule { rule_of result ≡ place_rule name.entry.now }
-    ensures own { result.global ≡ false }
-{
-    Arg::new(alloc, name)
-        .value_name(value)
-        .action(ArgAction::Set)
-        .required(true)
-        .help(help)
 }
 
 /// The option that each command on a store has.

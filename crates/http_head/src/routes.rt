@@ -1,5 +1,5 @@
 //! The routes of the server.
-ghost use Rattle.std.specs.Prelude.{◌≡◌, IfOk};
+ghost use Rattle.std.specs.Prelude.{◌≡◌, IfOk, OnOk, map};
 ghost use Rattle.http_head.specs.Routes as spec;
 
 use matchit::{InsertError, Router};
@@ -14,16 +14,31 @@ pub enum Route {
     Document,
 }
 
+/// Adds these paths, each with what answers it.
+fn add(router: &mut Router<Route>, routes: &[(&str, Route)]) -> Result<(), InsertError>
+    ensures { OnOk result (router.new ≡ spec.rows_of (map (λ r. (r.0.now, r.1)) routes.now) router.old) }
+{
+    for (path, route) in routes {
+        router.insert(*path, *route)?;
+    }
+    Ok(())
+}
+
 /// The router of the server.
 pub fn router(alloc: Global) -> Result<Router<Route>, InsertError>
     ensures { IfOk result (λ r. r ≡ spec.routes) }
 {
     let mut router = Router::new(alloc);
-    router.insert("/ipp/print", Route::Print)?;
-    router.insert("/ipp/print/{job}", Route::Print)?;
-    router.insert("/device/report", Route::Report)?;
-    router.insert("/device/queue", Route::Queue)?;
-    router.insert("/device/document/{job}/{n}", Route::Document)?;
+    add(
+        &mut router,
+        &[
+            ("/ipp/print", Route::Print),
+            ("/ipp/print/{job}", Route::Print),
+            ("/device/report", Route::Report),
+            ("/device/queue", Route::Queue),
+            ("/device/document/{job}/{n}", Route::Document),
+        ],
+    )?;
     Ok(router)
 }
 
