@@ -8,7 +8,7 @@ use crate::store::{FileBook, make_store};
 use crate::work::{Work, work_at};
 use command_ends::{Fault, end, tell_words};
 use command_words::{Command, CommandFault, command};
-use replay::replay;
+use replay_in_memory::replay;
 use sqlite_std_file::Unknown;
 use std::io::{Input, Write};
 use std::rt::HostRuntime;

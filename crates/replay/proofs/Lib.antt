@@ -1,5 +1,4 @@
 pub mod DecimalLemmas
 pub mod HexadecimalLemmas
 pub mod LineLemmas
-pub mod MemoryLemmas
 pub mod SessionLemmas

@@ -3,7 +3,6 @@
 
 mod fault;
 mod hexadecimal;
-mod in_memory;
 mod lines;
 mod replaying;
 mod request_line;
@@ -12,6 +11,5 @@ mod settings;
 
 pub use fault::Fault;
 pub use hexadecimal::{HexFault, MAX_BYTES, put_hex, read_hex};
-pub use in_memory::replay;
 pub use replaying::replay_over;
 pub use settings::replay_settings;

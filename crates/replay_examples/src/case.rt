@@ -1,7 +1,8 @@
 //! A worked example: the lines of a replay, and what they are answered.
 
 use list_book::ListBook;
-use replay::{Fault, replay, replay_over, replay_settings};
+use replay::{Fault, replay_over, replay_settings};
+use replay_in_memory::replay;
 use std::alloc::Global;
 use std::io;
 use std::io::{Read, Write};

@@ -1,7 +1,8 @@
 //! Replays over streams that fail, text of bytes, and examples that are not answered as they are to be.
 
-use replay::{Fault, HexFault, put_hex, read_hex, replay};
+use replay::{Fault, HexFault, put_hex, read_hex};
 use replay_examples::run_cases;
+use replay_in_memory::replay;
 use std::alloc::Global;
 use std::io;
 use std::io::{Read, Write};
