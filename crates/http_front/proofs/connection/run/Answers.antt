@@ -1,9 +1,14 @@
-use Rattle.std.proofs.Common.{false, ◌+◌, ◌∙◌, arith, rules, ap, sym, subst, if◌then◌else◌, ◌^◌}
+use Rattle.std.proofs.Common.{◌≡◌, ℕ, Bool, true, false, ◌+◌, ◌∙◌, arith, rules, ap, sym, subst, if◌then◌else◌, ◌^◌}
 use Rattle.http_head.specs.Left.{left}
 use Rattle.http_head.specs.declared.end.End.{End}
 use Rattle.http_front.specs.Connections.{IsServed}
 use Rattle.http_front.proofs.RunLemmas.{worked_none, worked_on, worked_settings, worked_within, ran_none, ran_on, run_settings, served_done, served_ended, stopped_at}
 use Rattle.http_front.proofs.connection.run.Goals as goal
+use mir.Val.{bool_byte}
+
+counted : (n : ℕ) (b : Bool) → n ≡ bool_byte b → n ≡ (if b then 1 else 0)
+counted n false is = is
+counted n true is = is
 
 pub turns-init : goal.turns-init
 turns-init g c = record { few = omega arith; acted_few = omega arith; below = omega arith; began = λ h. h; ran = λ h w st set. (w, st, ran_none _ _ _ _); worked = λ h w st set. (w, st, worked_none _ _) }
@@ -20,12 +25,12 @@ turns-preserved g c = record {
         t.0,
         t.1,
         ran_on c.turns.k c.args.context.moment w r.0 t.0 _ _ _ _ _ _ c.turns.acted c.turns.faults c.from-acted.result c.mark-faults.result c.in-Ok-Answered.acts c.in-Ok-Answered.is_fault c.in-Ok-Answered.closes
-            r.2 t.2 (search rules) c.mark-faults.ensures.exact c.if-closes.false,
+            r.2 t.2 (counted _ _ c.from-acted.ensures) c.mark-faults.ensures.exact c.if-closes.false,
       );
   worked = λ h w st set.
       let r = c.turns.invariant.worked (c.turn.ensures.began h) w st set in
       let t = rw c.in-Ok-Answered.field-0-is at (c.in-Ok-Answered.ensures.worked h r.0 r.1 (worked_settings c.turns.k c.args.context.moment w r.0 c.turns.acted c.args.context.settings.now r.2 set)) in
-      (t.0, t.1, worked_on c.turns.k c.args.context.moment w r.0 t.0 c.turns.acted _ c.in-Ok-Answered.acts r.2 t.2 (search rules));
+      (t.0, t.1, worked_on c.turns.k c.args.context.moment w r.0 t.0 c.turns.acted _ c.in-Ok-Answered.acts r.2 t.2 (ap (λ n. c.turns.acted + n) (counted _ _ c.from-acted.ensures)));
 }
 
 pub returns-then-closes-clause-served : goal.returns-then-closes-clause-served
@@ -38,7 +43,7 @@ returns-then-closes-clause-served g c = λ h w st set.
           (left c.args.input.now.buffer (g.R.Read.remaining c.args.input.now.reader)) (left c.turns.input.buffer (g.R.Read.remaining c.turns.input.reader)) (left c.turn.new.input.buffer (g.R.Read.remaining c.turn.new.input.reader))
           (g.W.Write.contents c.args.writer.now) (g.W.Write.contents c.turns.writer) (g.W.Write.contents c.turn.new.writer)
           c.turns.acted c.turns.faults c.from-acted.result c.mark-faults.result c.in-Ok-Answered.acts c.in-Ok-Answered.is_fault c.in-Ok-Answered.closes
-          c.turns.invariant.few r.2 t.2 (search rules) c.mark-faults.ensures.exact c.if-closes.true,
+          c.turns.invariant.few r.2 t.2 (counted _ _ c.from-acted.ensures) c.mark-faults.ensures.exact c.if-closes.true,
     )
 
 pub returns-in-Ok-Ended-clause-served : goal.returns-in-Ok-Ended-clause-served
@@ -66,7 +71,7 @@ returns-in-Err-clause-broken g c = λ h w st set.
           (left c.args.input.now.buffer (g.R.Read.remaining c.args.input.now.reader)) (left c.turns.input.buffer (g.R.Read.remaining c.turns.input.reader))
           (g.W.Write.contents c.args.writer.now) (g.W.Write.contents c.turns.writer) (g.W.Write.contents c.turn.new.writer)
           c.turns.acted c.turns.faults c.from.result c.mark-in-Err.result c.in-Err.stopped.acted c.in-Err.stopped.is_fault
-          c.turns.invariant.few r.2 t.2 (search rules) c.mark-in-Err.ensures.exact,
+          c.turns.invariant.few r.2 t.2 (counted _ _ c.from.ensures) c.mark-in-Err.ensures.exact,
     )
 
 pub returns-then-closes-clause-worked : goal.returns-then-closes-clause-worked
@@ -76,7 +81,7 @@ returns-then-closes-clause-worked g c = λ h w st set.
       t.0,
       t.1,
       worked_within (c.turns.k + 1) c.args.context.moment w t.0 _ (let f = c.turns.invariant.few in omega (arith, f))
-          (worked_on c.turns.k c.args.context.moment w r.0 t.0 c.turns.acted _ c.in-Ok-Answered.acts r.2 t.2 (search rules)),
+          (worked_on c.turns.k c.args.context.moment w r.0 t.0 c.turns.acted _ c.in-Ok-Answered.acts r.2 t.2 (ap (λ n. c.turns.acted + n) (counted _ _ c.from-acted.ensures))),
     )
 
 pub returns-in-Ok-Ended-clause-worked : goal.returns-in-Ok-Ended-clause-worked
@@ -96,5 +101,5 @@ returns-in-Err-clause-worked g c = λ h w st set.
       t.0,
       t.1,
       worked_within (c.turns.k + 1) c.args.context.moment w t.0 _ (let f = c.turns.invariant.few in omega (arith, f))
-          (worked_on c.turns.k c.args.context.moment w r.0 t.0 c.turns.acted _ c.in-Err.stopped.acted r.2 t.2 (search rules)),
+          (worked_on c.turns.k c.args.context.moment w r.0 t.0 c.turns.acted _ c.in-Err.stopped.acted r.2 t.2 (ap (λ n. c.turns.acted + n) (counted _ _ c.from.ensures))),
     )
