@@ -65,7 +65,7 @@ fn bytes_of_no_store(rt: HostRuntime) -> Result<(), Fail> {
 
 const CUT: At<'static> = At::In("cut");
 
-/// The first bytes of a store, so many of 8 parts, are no store. All of them are one: it is whole in its one file once its command has ended.
+/// The first bytes of a store, so many of 8 parts, are no store.
 fn refuse_fronts(folder: &Folder<'_>) -> Result<(), Fail> {
     let whole = folder.read(STORE)?;
     for parts in 0..8usize {
@@ -78,13 +78,19 @@ fn refuse_fronts(folder: &Folder<'_>) -> Result<(), Fail> {
 /// A copy of a store takes what the store has taken.
 const COPIED: &[Step<'static>] = &[Asks(Import(CUT, FILE), (0, "new 0 repeats 1\n", ""))];
 
+/// A store is whole in its one file once its command has ended: all of its bytes are a store, and no front of them is.
+fn is_whole_alone(folder: &Folder<'_>) -> Result<(), Fail> {
+    folder.take_each(&WITH_AN_ACCOUNT)?;
+    refuse_fronts(folder)?;
+    folder.copy(STORE, CUT)?;
+    folder.take_each(COPIED)?;
+    Ok(())
+}
+
 #[test]
 fn stores_that_are_cut(rt: HostRuntime) -> Result<(), Fail> {
     let folder = Folder::new(&rt, "cut")?;
-    folder.take_each(&WITH_AN_ACCOUNT)?;
-    refuse_fronts(&folder)?;
-    folder.copy(STORE, CUT)?;
-    folder.take_each(COPIED)?;
+    is_whole_alone(&folder)?;
     folder.remove()?;
     Ok(())
 }

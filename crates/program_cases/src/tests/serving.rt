@@ -178,13 +178,19 @@ fn a_store_that_is_not_there(rt: HostRuntime) -> Result<(), Fail> {
     Ok(())
 }
 
+/// A store isn't served on a port that another listens on.
+fn is_taken(rt: &HostRuntime, folder: &Folder<'_>) -> Result<(), Fail> {
+    folder.take_each(&[MADE])?;
+    let other = TcpListener::bind(rt, SocketAddr::from((Ipv4Addr::LOCALHOST, 0)))?;
+    let port = other.local_addr()?.port();
+    refuses(folder, STORE, port, "printd: io\n")?;
+    Ok(())
+}
+
 #[test]
 fn a_port_that_another_has(rt: HostRuntime) -> Result<(), Fail> {
     let folder = Folder::new(&rt, "taken")?;
-    folder.take_each(&[MADE])?;
-    let other = TcpListener::bind(&rt, SocketAddr::from((Ipv4Addr::LOCALHOST, 0)))?;
-    let port = other.local_addr()?.port();
-    refuses(&folder, STORE, port, "printd: io\n")?;
+    is_taken(&rt, &folder)?;
     folder.remove()?;
     Ok(())
 }
