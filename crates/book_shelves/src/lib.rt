@@ -8,5 +8,5 @@ mod shelves;
 mod stops;
 
 pub use books::{TestBooks, take_in_memory};
-pub use shelves::{adopt, tables_in_memory, take_adopted};
+pub use shelves::{adopt, take_adopted};
 pub use stops::Stopping;

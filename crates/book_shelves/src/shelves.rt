@@ -43,16 +43,6 @@ pub fn adopt<S: Alter + Drop>(
     }
 }
 
-/// A book in tables in memory.
-pub fn tables_in_memory(
-    alloc: Global,
-    settings: Settings,
-) -> Result<TableBook<MemStore>, StepFault> {
-    let conn = Connection::open_in_memory(alloc)?;
-    let book = TableBook::create_or_drop(alloc, conn, settings)?;
-    Ok(book)
-}
-
 /// Books in tables in memory.
 pub struct InTables;
 
@@ -67,7 +57,7 @@ impl Shelf for InTables {
         first: &[Step<'_>],
         steps: &[Step<'_>],
     ) -> Result<(), StepFault> {
-        let mut book = tables_in_memory(desk.alloc(), desk.settings()?)?;
+        let mut book = TableBook::in_memory(desk.alloc(), desk.settings()?)?;
         desk.take_each(&mut book, first)?;
         desk.take_each(&mut book, steps)
     }
@@ -102,7 +92,7 @@ impl Shelf for Adopted {
         first: &[Step<'_>],
         steps: &[Step<'_>],
     ) -> Result<(), StepFault> {
-        let book = tables_in_memory(desk.alloc(), desk.settings()?)?;
+        let book = TableBook::in_memory(desk.alloc(), desk.settings()?)?;
         take_adopted(desk, book, first, steps)
     }
 }

@@ -25,7 +25,7 @@ fault_of_office office.Memory = Memory
 fault_of_office office.Disk = Disk
 fault_of_office office.Damaged = Damaged
 fault_of_office office.NoAccount = NoAccount
-fault_of_office (office.Import code row) = Import code row
+fault_of_office (office.Import told) = Import told
 fault_of_office office.Io = Io
 
 abbrev pub fault_of_replay : ReplayFault → Fault

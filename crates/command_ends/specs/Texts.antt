@@ -1,6 +1,7 @@
 -- The texts that tell of a refusal.
 use Rattle.std.specs.Prelude.{ℕ, List, ◌++◌, codes}
 use Rattle.std.specs.Fmt.{decimal}
+use Rattle.grants_csv.specs.Fault.{code_of}
 use Rattle.command_ends.specs.declared.fault.Fault.{Fault}
 use Rattle.command_ends.specs.declared.fault.Fault.TheVariants.{Memory, Disk, Damaged, NoAccount, Import, BadSetting, Io}
 
@@ -9,7 +10,7 @@ fault_text Memory = codes "memory"
 fault_text Disk = codes "disk"
 fault_text Damaged = codes "damaged"
 fault_text NoAccount = codes "no account"
-fault_text (Import code row) = codes "import fault " ++ decimal code ++ codes " at row " ++ decimal row
+fault_text (Import told) = codes "import fault " ++ decimal (code_of told.cause) ++ codes " at row " ++ decimal told.row
 fault_text BadSetting = codes "bad setting"
 fault_text Io = codes "io"
 

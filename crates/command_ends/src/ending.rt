@@ -47,6 +47,7 @@ pub fn tell_words<O: Write, E: Write>(
     ensures wrong { IfOk result (λ status. kind_of error.now ≢ DisplayHelp → kind_of error.now ≢ DisplayVersion → status ≡ 2) }
     ensures asked { IfOk result (λ status. (kind_of error.now ≡ DisplayHelp) ⊎ (kind_of error.now ≡ DisplayVersion) → status ≡ 0) }
     ensures status { IfOk result (λ status. status ≤ 2) }
+    ensures apart { IfOk result (λ status. (status ≡ 2 → out.new ≡ out.old) × (status ≡ 0 → err.new ≡ err.old)) }
 {
     if error.use_stderr() {
         write!(err, "{error}")?;

@@ -3,10 +3,11 @@ ghost use Rattle.std.specs.Prelude.{◌≡◌};
 ghost use Rattle.command_ends.specs.declared.fault.Fault.TheVariants as faults;
 ghost use Rattle.command_ends.specs.Faults.{fault_of_book, fault_of_office, fault_of_replay, fault_of_setting};
 
+use grants_csv::ImportFault;
 use office::OfficeFault;
 use queue_core::book::BookFault;
 use queue_types::settings::SettingFault;
-use std::alloc::{AllocError, AllocFailed};
+use std::alloc::AllocError;
 use std::{error, fmt, io};
 
 /// Why a command is refused.
@@ -20,8 +21,8 @@ pub enum Fault {
     Damaged,
     /// Nothing was ever granted to the account.
     NoAccount,
-    /// The account file was refused, by its number, 1 to 6, for that row, 0 for the file.
-    Import { code: u8, row: u32 },
+    /// The account file was refused.
+    Import(ImportFault),
     /// A setting of the printer is not within its limits.
     BadSetting,
     /// A port, a file or a standard stream can't be opened, read or written.
@@ -41,7 +42,11 @@ impl fmt::Display for Fault {
             Fault::Disk => f.write_str("disk"),
             Fault::Damaged => f.write_str("damaged"),
             Fault::NoAccount => f.write_str("no account"),
-            Fault::Import { code, row } => write!(f, "import fault {code} at row {row}"),
+            Fault::Import(told) => {
+                let code = told.cause.code();
+                let row = told.row;
+                write!(f, "import fault {code} at row {row}")
+            }
             Fault::BadSetting => f.write_str("bad setting"),
             Fault::Io => f.write_str("io"),
         }
@@ -54,14 +59,6 @@ impl From<AllocError> for Fault {
     ghost from_gives = { λ _ fault. fault ≡ faults.Memory };
 
     fn from(_error: AllocError) -> Fault {
-        Fault::Memory
-    }
-}
-
-impl<T: Drop> From<AllocFailed<T>> for Fault {
-    ghost from_gives = { λ _ fault. fault ≡ faults.Memory };
-
-    fn from(_error: AllocFailed<T>) -> Fault {
         Fault::Memory
     }
 }
@@ -98,7 +95,7 @@ impl From<OfficeFault> for Fault {
             OfficeFault::Disk => Fault::Disk,
             OfficeFault::Damaged => Fault::Damaged,
             OfficeFault::NoAccount => Fault::NoAccount,
-            OfficeFault::Import { code, row } => Fault::Import { code, row },
+            OfficeFault::Import(told) => Fault::Import(told),
             OfficeFault::Io => Fault::Io,
         }
     }

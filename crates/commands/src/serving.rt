@@ -13,8 +13,10 @@ use command_ends::Fault;
 use command_words::Serve;
 use print_server::{ServerFault, Service, listen};
 use queue_store::TableBook;
+use queue_types::settings::Settings;
 use sqlite::Alter;
 use std::io::Write;
+use std::net::TcpListener;
 use std::rt::HostRuntime;
 
 /// A server that stopped.
@@ -24,6 +26,33 @@ fn fault_of_server(stopped: ServerFault) -> Fault
     match stopped {
         ServerFault::Io(error) => Fault::from(error),
         ServerFault::Book(fault) => Fault::from(fault),
+    }
+}
+
+/// Serves connections that come in at a listener over a book with these settings.
+fn serve_at<S: Alter, W: Write>(
+    rt: &HostRuntime,
+    words: Serve<'_>,
+    listener: &TcpListener,
+    settings: &Settings,
+    output: &mut W,
+    book: &mut TableBook<S>,
+) -> Result<(), Fault>
+    requires { 1 ≤ words.timeout }
+    ensures began { IsHonest S.Store book.new → IsHonest S.Store book.old }
+    ensures served { IsHonest S.Store book.new → OnOk result ((w : World) → StandsFor S.Store book.old w → settings.now ≡ w.settings
+        → (u : World) × StandsFor S.Store book.new u × (counts : List ℕ) × AreConnections w counts u × (length counts ≡ words.entry.connections)
+        × Appends (W.contents output.old) (W.contents output.new) (served_lines counts)) }
+{
+    let service = Service {
+        alloc: rt.alloc(),
+        listener,
+        settings,
+        timeout: words.timeout,
+    };
+    match service.serve_connections(rt, output, book, words.connections) {
+        Ok(()) => Ok(()),
+        Err(stopped) => Err(fault_of_server(stopped)),
     }
 }
 
@@ -42,14 +71,5 @@ pub(crate) fn serve_book<S: Alter, W: Write>(
 {
     let settings = book.settings()?;
     let listener = listen(rt, output, words.port)?;
-    let service = Service {
-        alloc: rt.alloc(),
-        listener: &listener,
-        settings: &settings,
-        timeout: words.timeout,
-    };
-    match service.serve_connections(rt, output, book, words.connections) {
-        Ok(()) => Ok(()),
-        Err(stopped) => Err(fault_of_server(stopped)),
-    }
+    serve_at(rt, words, &listener, &settings, output, book)
 }

@@ -5,8 +5,7 @@ use list_book::ListBook;
 use queue_core::book::QueueBook;
 use queue_store::TableBook;
 use queue_types::settings::Settings;
-use sqlite::Connection;
-use sqlite_trees::memory::MemStore;
+use sqlite::MemStore;
 use std::alloc::Global;
 
 /// A book in tables in memory.
@@ -37,7 +36,6 @@ impl DeskBook for MemoryBook {
     }
 
     fn empty(alloc: Global, settings: Settings) -> Result<MemoryBook, Mismatch> {
-        let conn = Connection::open_in_memory(alloc)?;
-        TableBook::create_or_drop(alloc, conn, settings).map_err(|fault| no_book("tables", fault))
+        TableBook::in_memory(alloc, settings).map_err(|fault| no_book("tables", fault))
     }
 }

@@ -20,6 +20,14 @@ pub const PRINT_JOB_3_0: &[u8] =
 pub const RELEASE_JOB: &[u8] =
     b"\x01\x01\x00\r\x00\x00\x00\x01\x01G\x00\x12attributes-charset\x00\x05utf-8H\x00\x1battributes-natural-language\x00\x02enE\x00\x0bprinter-uri\x00\x19ipp://localhost/ipp/print!\x00\x06job-id\x00\x04\x00\x00\x00\x01B\x00\x14requesting-user-name\x00\x05alice\x03";
 
+/// Get-Printer-Attributes of `printer-up-time`: 153 bytes.
+pub const GET_UP_TIME: &[u8] =
+    b"\x01\x01\x00\x0b\x00\x00\x00\x01\x01G\x00\x12attributes-charset\x00\x05utf-8H\x00\x1battributes-natural-language\x00\x02enE\x00\x0bprinter-uri\x00\x19ipp://localhost/ipp/printD\x00\x14requested-attributes\x00\x0fprinter-up-time\x03";
+
+/// The reply of a printer that is up for 42 seconds.
+pub const UP_FOR_42: &[u8] =
+    b"\x01\x01\x00\x00\x00\x00\x00\x01\x01G\x00\x12attributes-charset\x00\x05utf-8H\x00\x1battributes-natural-language\x00\x02en\x04!\x00\x0fprinter-up-time\x00\x04\x00\x00\x00*\x03";
+
 /// A message of nine bytes that breaks off: its operation group has no end.
 pub const BROKEN_OFF: &[u8] = b"\x01\x01\x00\x02\x00\x00\x00\x01\x01";
 

@@ -13,6 +13,10 @@ pub const OCTETS: &str = "application/octet-stream";
 pub const POST_JOB: &[u8] =
     b"POST /ipp/print HTTP/1.1\r\nContent-Type: application/ipp\r\nContent-Length: 145\r\n\r\n";
 
+/// The head of a POST that asks for the printer's up time.
+pub const POST_UP_TIME: &[u8] =
+    b"POST /ipp/print HTTP/1.1\r\nContent-Type: application/ipp\r\nContent-Length: 153\r\n\r\n";
+
 /// The head of a POST of the release of a job.
 pub const POST_RELEASE: &[u8] =
     b"POST /ipp/print HTTP/1.1\r\nContent-Type: application/ipp\r\nContent-Length: 158\r\n\r\n";

@@ -2,7 +2,6 @@
 ghost use Rattle.std.specs.Prelude.{◌≡◌, ◌≤◌, ℕ, List, false, length};
 ghost use Rattle.queue_core.specs.Limits.{IsMoment};
 ghost use Rattle.queue_core.specs.World.{World};
-ghost use Rattle.queue_types.specs.Formats as formats;
 ghost use Rattle.http_front.specs.Turned.{IsReplied};
 ghost use Rattle.http_head.specs.declared.target.Target.TheVariants.{Ipp, Report, Queue, Document};
 
@@ -14,7 +13,6 @@ use http_head::target::Target;
 use http_wire::respond::{send_head, send_success};
 use ipp_ops::{TooShort, answer};
 use queue_core::book::{QueueBook, SendCause};
-use queue_types::document::Format;
 use std::alloc::Global;
 use std::io::Write;
 
@@ -126,14 +124,6 @@ fn cause_of(cause: SendCause) -> ServeCause {
     }
 }
 
-/// The media type of a format. It is short.
-fn media_type_of(format: Format) -> &'static str
-    ensures value { result.now ≡ formats.format_name format }
-    ensures short { length result.now ≤ 64 }
-{
-    format.name()
-}
-
 /// Answers with a document: its head first, by its length, and then its bytes as the book gives them.
 fn reply_document<W: Write, B: QueueBook>(
     writer: &mut W,
@@ -154,7 +144,7 @@ fn reply_document<W: Write, B: QueueBook>(
         Ok(None) => return Ok(Replied::Declined(Refusal::NotFound)),
         Err(_) => return Ok(Replied::Declined(Refusal::Unavailable)),
     };
-    match send_head(writer, media_type_of(head.format), head.octets, closes) {
+    match send_head(writer, head.format.name(), head.octets, closes) {
         Ok(()) => {}
         Err(WriteFault) => return Err(stopped_by(ServeCause::Write)),
     }

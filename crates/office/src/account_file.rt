@@ -3,6 +3,7 @@ ghost use Rattle.std.specs.Prelude.{◌≡◌, ◌⊎◌, ℕ, List, IfErr, IfOk
 ghost use Rattle.office.specs.declared.fault.OfficeFault.TheVariants.{Import};
 ghost use Rattle.std.specs.Io.KnownBytes.{Appends};
 ghost use Rattle.std.specs.Option.{IfSome};
+ghost use Rattle.grants_csv.specs.declared.fault.ImportFault.{ImportFault};
 ghost use Rattle.grants_csv.specs.declared.importing.Imported.{Imported as ImportedRows};
 ghost use Rattle.office.specs.Faults.{IsOfStream};
 ghost use Rattle.office.specs.Told.{AreReadOf, IsTaken, import_line};
@@ -56,7 +57,7 @@ pub fn import_file<R: Read + Drop, W: Write, B: QueueBook>(
         × Appends (W.contents writer.old) (W.contents writer.new) (import_line n)) }
     ensures left { B.is_honest book.new → IfErr result (λ f. (w : World) → B.stands book.old w → B.stands book.new w
         ⊎ (IsOfStream f × (bytes : List ℕ) × AreReadOf (R.remaining reader) bytes × (n : ImportedRows) × (u : World) × IsTaken now w u bytes n × B.stands book.new u)) }
-    ensures refused { IfErr result (λ f. (code row : ℕ) → f ≡ Import code row → (w : World) → B.stands book.old w → B.stands book.new w) }
+    ensures refused { IfErr result (λ f. (told : ImportFault) → f ≡ Import told → (w : World) → B.stands book.old w → B.stands book.new w) }
 {
     let bytes = read_file(alloc, reader, MOST_READ)?;
     let imported = import(alloc, book, now, bytes.as_slice())?;

@@ -24,9 +24,9 @@ pub enum OfficeFault {
     /// Nothing was ever granted to the account.
     #[error("no account")]
     NoAccount,
-    /// The account file was refused, by its number, 1 to 6, for that row, 0 for the file.
-    #[error("import fault {code} at row {row}")]
-    Import { code: u8, row: u32 },
+    /// The account file was refused.
+    #[error("import fault {code} at row {row}", code = .0.cause.code(), row = .0.row)]
+    Import(ImportFault),
     /// A file or a stream couldn't be read or written.
     #[error("io")]
     Io,
@@ -53,14 +53,10 @@ impl From<BookFault> for OfficeFault {
 }
 
 impl From<ImportFault> for OfficeFault {
-    ghost use Rattle.grants_csv.specs.Fault.{code_of};
-
-    ghost from_gives = { λ told fault. fault ≡ faults.Import (code_of told.cause) told.row };
+    ghost from_gives = { λ told fault. fault ≡ faults.Import told };
 
     fn from(told: ImportFault) -> OfficeFault {
-        let code = told.cause.code();
-        let row = told.row;
-        OfficeFault::Import { code, row }
+        OfficeFault::Import(told)
     }
 }
 

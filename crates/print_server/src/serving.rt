@@ -1,5 +1,6 @@
 //! Connections one after another.
-ghost use Rattle.std.specs.Prelude.{◌≡◌, ◌≤◌, List, ℕ, OnOk, OnErr, length};
+ghost use Rattle.std.specs.Prelude.{◌≡◌, ◌≤◌, ◌*◌, List, ℕ, OnOk, OnErr, length};
+ghost use Rattle.std.specs.Duration.{as_nanos};
 ghost use Rattle.std.specs.Io.KnownBytes.{Appends};
 ghost use Rattle.queue_core.specs.Limits.{IsMoment};
 ghost use Rattle.queue_core.specs.World.{World};
@@ -37,11 +38,18 @@ pub struct Service<'a> {
 /// How long one read waits for what a client sends behind its last request.
 const LINGER_SECONDS: u64 = 1;
 
+/// So many seconds.
+fn seconds(count: u32) -> Duration
+    ensures { as_nanos result ≡ count * 1000000000 }
+{
+    Duration::from_secs(u64::from(count))
+}
+
 /// Readies a stream: no read and no write waits longer than so many seconds, and small writes go out at once.
 fn prepare(stream: &TcpStream, timeout: u32) -> io::Result<()>
     requires { 1 ≤ timeout }
 {
-    let wait = Some(Duration::from_secs(u64::from(timeout)));
+    let wait = Some(seconds(timeout));
     stream.set_read_timeout(wait)?;
     stream.set_write_timeout(wait)?;
     stream.set_nodelay(true)

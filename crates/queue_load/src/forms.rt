@@ -2,30 +2,13 @@
 ghost use Rattle.std.specs.Prelude.{◌≡◌, ◌≢◌, ◌<◌, ℕ, List, length, IfOk, IfErr};
 ghost use Rattle.sqlite.specs.Order.{column};
 ghost use Rattle.sqlite.specs.declared.types.Value.TheVariants.{Blob};
-ghost use Rattle.queue_types.specs.declared.event.Kind.{Kind as KindValue};
-ghost use Rattle.queue_rows.specs.Codes.{kind_number};
 ghost use Rattle.queue_tables.specs.Values.{number};
 ghost use Rattle.queue_tables.specs.declared.fault.Fault.TheVariants.{Damaged, Disk};
 
-use queue_rows::codes::kind_of;
 use queue_tables::fault::Fault;
 use queue_tables::read::value;
-use queue_types::event::Kind;
 use sqlite::Row;
 use sqlite::types::ValueRef;
-
-/// The kind of a report, of a column.
-pub(crate) fn kind(row: &Row, at: usize) -> Result<Kind, Fault>
-    ensures ok { IfOk result (λ k. column row.now at ≡ number (kind_number k)) }
-    ensures err { IfErr result (λ e. e ≡ Damaged → at < length row.now → (k : KindValue) → column row.now at ≢ number (kind_number k)) }
-    ensures never { IfErr result (λ e. e ≢ Disk) }
-{
-    let code: i64 = value(row, at)?;
-    match kind_of(code) {
-        Some(k) => Ok(k),
-        None => Err(Fault::Damaged),
-    }
-}
 
 /// The length of a blob, of a column.
 pub(crate) fn blob_length(row: &Row, at: usize) -> Result<u32, Fault>

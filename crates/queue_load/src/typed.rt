@@ -1,9 +1,9 @@
 //! The rows of each table as typed rows.
-use crate::forms::{blob_length, kind, small};
+use crate::forms::{blob_length, small};
 use crate::table::TableRow;
 use queue_rows::rows::{AccountRow, DocumentRow, MetaRow, PieceRow};
 use queue_tables::fault::Fault;
-use queue_tables::read::{format, read_job, text, value};
+use queue_tables::read::{format, kind, read_job, text, value};
 use queue_types::event::{GrantRow, KeptReport, Report};
 use queue_types::job::Job;
 use sqlite::Row;

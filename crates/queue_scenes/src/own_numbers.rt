@@ -38,12 +38,12 @@ fn in_order(alloc: Global, numbers: &[u32]) -> Result<Vec<u32>, AllocError>
 }
 
 /// Adds those of the jobs that are the owner's.
-fn push_owned(own: &mut Vec<Job>, jobs: &[Job], owner: &str) -> Result<(), AllocError>
-    ensures { OnOk result (own.new.items ≡ own.old.items ++ filter (λ (j : JobValue). bytes_eq j.owner owner.now) jobs.now) }
+fn push_owned(own: &mut Vec<Job>, jobs: Vec<Job>, owner: &str) -> Result<(), AllocError>
+    ensures { OnOk result (own.new.items ≡ own.old.items ++ filter (λ (j : JobValue). bytes_eq j.owner owner.now) jobs.items) }
 {
     for job in jobs {
         if job.owner.as_str() == owner {
-            own.push(job.try_clone()?)?;
+            own.push(job)?;
         }
     }
     Ok(())
@@ -65,7 +65,7 @@ fn owned_of<S: Alter>(
     let mut own = Vec::new(alloc);
     for number in numbers {
         let found = with_number(alloc, conn, *number)?;
-        push_owned(&mut own, found.as_slice(), owner)?;
+        push_owned(&mut own, found, owner)?;
     }
     Ok(own)
 }

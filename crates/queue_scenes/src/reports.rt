@@ -11,25 +11,13 @@ ghost use Rattle.queue_tables.specs.Leaving.{LeavesTables};
 ghost use Rattle.queue_tables.specs.Content.{Holds, content_of};
 ghost use Rattle.queue_tables.specs.Values.{number};
 
-use queue_rows::codes::kind_of;
 use queue_rows::laws::numbers_tell_names;
 use queue_tables::fault::Fault;
-use queue_tables::read::value;
+use queue_tables::read::{kind, value};
 use queue_tables::select::select;
-use queue_types::event::{KeptReport, Kind, Report};
+use queue_types::event::{KeptReport, Report};
 use queue_types::limits::MOST_PRINTED_PAGES;
 use sqlite::{Alter, Connection, Row, params};
-
-/// The kind of a report, in its column.
-fn kind_at(row: &Row, at: usize) -> Result<Kind, Fault>
-    ensures { IfOk result (λ k. column row.now at ≡ number (kind_number k)) }
-{
-    let code: i64 = value(row, at)?;
-    match kind_of(code) {
-        Some(kind) => Ok(kind),
-        None => Err(Fault::Damaged),
-    }
-}
 
 /// The state of a job, in its column.
 fn state_at(row: &Row, at: usize) -> Result<u8, Fault>
@@ -53,7 +41,7 @@ fn read_report(row: &Row, job: u32, seq: u32) -> Result<KeptReport, Fault>
     ensures total { IfOk result (λ k. column row.now 3 ≡ number k.total) }
     ensures within { IfOk result (λ k. (3 ≤ k.state) × (k.state ≤ 9) × (k.total ≤ 100000000)) }
 {
-    let kind = kind_at(row, 0)?;
+    let kind = kind(row, 0)?;
     let count = value(row, 1)?;
     let state = state_at(row, 2)?;
     let total = value(row, 3)?;

@@ -4,7 +4,6 @@ ghost use Rattle.sqlite.specs.Held.{state};
 ghost use Rattle.sqlite.specs.State.{HasCleanDisk};
 ghost use Rattle.queue_types.specs.Event.{ask, tell, grant, event_of, call_of};
 ghost use Rattle.queue_core.specs.Limits.{IsAmount, IsFair, IsSoundJob};
-ghost use Rattle.queue_types.specs.Settings.{AreSettings};
 ghost use Rattle.queue_core.specs.Sound.{IsSound};
 ghost use Rattle.queue_core.specs.World.{World, cut, counts_for, jobs_for, live_for, numbered, owner_row, queue_counts, rows};
 ghost use Rattle.queue_tables.specs.Leaving.{LeavesTables};
@@ -26,7 +25,7 @@ use queue_types::job::{Job, JobList};
 use queue_types::limits::LAST_JOB_NUMBER;
 use queue_types::settings::Settings;
 use sqlite::{Alter, Connection};
-use std::alloc::{AllocError, Global};
+use std::alloc::Global;
 
 /// The jobs that the caller's call speaks of.
 fn concerned<S: Alter>(
@@ -147,15 +146,6 @@ fn numbers_for_call<S: Alter>(
     Ok(Numbers { live, counts, next })
 }
 
-/// A copy of the settings, which are within their limits.
-fn copy_of(settings: &Settings) -> Result<Settings, AllocError>
-    ensures same { IfOk result (λ s. s ≡ settings.now) }
-    ensures limits { IfOk result AreSettings }
-{
-    let _ = settings.estimate();
-    settings.try_clone()
-}
-
 /// The rows that a caller's call needs.
 fn scene_of_call<S: Alter>(
     alloc: Global,
@@ -172,7 +162,7 @@ fn scene_of_call<S: Alter>(
     let numbers = numbers_for_call(conn, caller, call)?;
     let free = free_rows(alloc, conn, caller)?;
     let jobs = few_concerned(alloc, conn, caller, call)?;
-    let settings = copy_of(settings)?;
+    let settings = settings.try_clone()?;
     Ok(Scene {
         settings,
         jobs,
@@ -237,7 +227,7 @@ fn scene_of_report<S: Alter>(
     let report = kept_report(conn, r.job, r.seq)?;
     let jobs = job_of_report(alloc, conn, r.job)?;
     let free = owner_rows(alloc, conn, jobs.as_slice())?;
-    let settings = copy_of(settings)?;
+    let settings = settings.try_clone()?;
     Ok(Scene {
         settings,
         jobs: JobList::from_items(jobs),
@@ -264,7 +254,7 @@ fn scene_of_grants<S: Alter>(
 {
     let next = next_number(conn)?;
     let known = known_rows(alloc, conn, rows)?;
-    let settings = copy_of(settings)?;
+    let settings = settings.try_clone()?;
     Ok(Scene {
         settings,
         jobs: JobList::from_items(Vec::new(alloc)),

@@ -124,9 +124,10 @@ fn send_pieces<S: Alter, W: Write>(
     send_rows(&mut rows, out, written)
 }
 
-/// Writes the bytes of document n, counted from 1, of a job in state 3, 5 or 6, and says how many they are.
+/// Writes the bytes of document n, counted from 1, of a job, which `document_head` has found, and says how many they are.
 /// After a fault a front of them was written. Never more than a piece of them is held. The tables stay as they
-/// were, where the connection is still open. Within a transaction it answers Disk.
+/// were, where the connection is still open. Within a transaction it answers Disk. It doesn't look at the job's state: of a
+/// document that `document_head` doesn't find, those pieces are written that are there.
 pub fn send_document<S: Alter, W: Write>(
     conn: &mut Connection<S>,
     job: u32,

@@ -20,3 +20,7 @@ if_err (Err e) P Q then_q p = then_q e p
 pub if_ok_then : {A E : Type 0} (r : Result A E) (P Q : A → Type 0) → ((x : A) → P x → Q x) → IfOk r P → IfOk r Q
 if_ok_then (Ok x) P Q then_q p = then_q x p
 if_ok_then (Err e) P Q then_q p = tt
+
+pub both_ok : {A E : Type 0} (r : Result A E) (P Q R : A → Type 0) → ((x : A) → P x → Q x → R x) → IfOk r P → IfOk r Q → IfOk r R
+both_ok (Ok x) P Q R then_r p q = then_r x p q
+both_ok (Err e) P Q R then_r p q = tt

@@ -2,6 +2,7 @@
 ghost use Rattle.std.specs.Prelude.{◌≡◌, IfErr, IfOk, IsTrue};
 ghost use Rattle.sqlite.specs.Held.{state};
 ghost use Rattle.sqlite.specs.State.{HasCleanDisk};
+ghost use Rattle.sqlite.specs.Steps.{over_memory};
 ghost use Rattle.queue_core.specs.World.{World, empty_queue};
 ghost use Rattle.queue_core.specs.declared.book.BookFault.TheVariants.{Damaged};
 ghost use Rattle.queue_store.specs.Kept.{IsHonest, StandsFor, connection_of, shown_by};
@@ -16,7 +17,7 @@ use queue_rows::rows::MetaRow;
 use queue_tables::fault::Fault;
 use queue_types::settings::Settings;
 use queue_types::text::Text;
-use sqlite::{Alter, Connection};
+use sqlite::{Alter, Connection, MemStore};
 use std::alloc::{AllocError, Global};
 
 /// A book kept in the tables of a connection.
@@ -156,5 +157,15 @@ impl<S: Alter + Drop> TableBook<S> {
             Ok(book) => Ok(book),
             Err((fault, _conn)) => Err(fault),
         }
+    }
+}
+
+impl TableBook<MemStore> {
+    /// A new book with these settings, without jobs, accounts and reports, in tables in memory.
+    pub fn in_memory(alloc: Global, settings: Settings) -> Result<TableBook<MemStore>, BookFault>
+        ensures { IfOk result (λ b. StandsFor over_memory b (empty_queue settings)) }
+    {
+        let conn = Connection::open_in_memory(alloc)?;
+        TableBook::create_or_drop(alloc, conn, settings)
     }
 }

@@ -1,6 +1,8 @@
 //! A book from a file.
 ghost use Rattle.std.specs.Prelude.{◌≡◌, codes, Err, IfOk, IsTrue};
-ghost use Rattle.sqlite.specs.Files.{HoldsDatabase, file_state, over_files};
+ghost use Rattle.sqlite.specs.Files.{HoldsDatabase, IsOpened, file_state, over_files};
+ghost use Rattle.sqlite.specs.Start.{FindsIn};
+ghost use Rattle.sqlite.specs.State.{HasCleanDisk};
 ghost use Rattle.sqlite_trees.specs.Tree.{Trees};
 ghost use Rattle.sqlite_wal.specs.Files.{image_at};
 ghost use Rattle.queue_core.specs.World.{empty_queue};
@@ -37,6 +39,22 @@ fn let_files_go<D: Disk + Drop>(_conn: Connection<FileStore<D>>) {}
 /// Copies the log of a connection's files into the database file, and closes both.
 fn close_files<D: Disk + Drop>(conn: Connection<FileStore<D>>) -> Result<(), BookFault> {
     conn.close().map_err(fault_of_open)
+}
+
+/// A connection to the files at a path. Files that can't be connected to are let go.
+fn connect<S: Start>(
+    rt: &HostRuntime,
+    path: &str,
+    start: S,
+) -> Result<Connection<FileStore<FileFrom<S>>>, BookFault>
+    ensures opened { IfOk result (λ c. HasCleanDisk (file_state c) → IsOpened c) }
+    ensures found { IfOk result (λ c. HasCleanDisk (file_state c) → FindsIn (image_at S.Start) (file_state c)) }
+    ensures memory { path.now ≡ codes ":memory:" → result ≡ Err BookFault.Disk }
+{
+    match Connection::open_from(rt, path, false, start) {
+        Ok(conn) => Ok(conn),
+        Err((error, _left)) => Err(fault_of_open(error)),
+    }
 }
 
 /// `TableBook::adopt_or_drop` over files.
@@ -98,13 +116,8 @@ impl<S: Start> TableBook<FileStore<FileFrom<S>>> {
         ensures stands { IfOk result (λ b. StandsFor over_files b (empty_queue settings)) }
         ensures live { IfOk result (λ b. IsHonest over_files b → IsTrue (shown_by over_files b).is_open) }
     {
-        match Connection::open_from(rt, path, false, start) {
-            Ok(conn) => {
-                let book = create_in_files(rt.alloc(), conn, settings)?;
-                Ok(book)
-            }
-            Err((error, _left)) => Err(fault_of_open(error)),
-        }
+        let conn = connect(rt, path, start)?;
+        create_in_files(rt.alloc(), conn, settings)
     }
 
     /// The book that the files at a path hold, where `start` stands for what they hold as they are opened. Disk is
@@ -119,12 +132,7 @@ impl<S: Start> TableBook<FileStore<FileFrom<S>>> {
         ensures found { FitsFile (image_at S.Start) → IfOk result (λ b. IsHonest over_files b → (db : Trees) → HoldsDatabase (image_at S.Start) db → (shown_by over_files b).now.trees ≡ db) }
         ensures memory { path.now ≡ codes ":memory:" → result ≡ Err BookFault.Disk }
     {
-        match Connection::open_from(rt, path, false, start) {
-            Ok(conn) => {
-                let book = adopt_in_files(rt.alloc(), conn)?;
-                Ok(book)
-            }
-            Err((error, _left)) => Err(fault_of_open(error)),
-        }
+        let conn = connect(rt, path, start)?;
+        adopt_in_files(rt.alloc(), conn)
     }
 }

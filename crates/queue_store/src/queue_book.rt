@@ -1,15 +1,37 @@
 //! The book in tables as a book that keeps a queue.
+ghost use Rattle.std.specs.Prelude.{◌≡◌, IfOk};
+ghost use Rattle.queue_core.specs.Limits.{IsEvent, IsFair, IsMoment, IsReplyTo};
+ghost use Rattle.queue_core.specs.Machine.{decision};
 ghost use Rattle.queue_store.specs.Kept.{IsHonest, StandsFor};
+ghost use Rattle.queue_types.specs.Event.{decision_of, event_of};
 
 use crate::book::TableBook;
 use queue_core::book::{BookFault, QueueBook, SendFault};
 use queue_core::{decisions_are_sound, empty_is_sound};
 use queue_types::document::DocumentHead;
-use queue_types::event::{Decision, Event};
+use queue_types::event::{Decision, Event, Scene};
 use queue_types::job::JobList;
 use queue_types::sheet::AccountSheet;
 use sqlite::Alter;
+use std::alloc::Global;
 use std::io::Write;
+
+/// What the machine decides on a scene, which is let go.
+fn decide_on<'a>(
+    alloc: Global,
+    scene: Scene,
+    now: u32,
+    event: &Event<'a>,
+) -> Result<Decision<'a>, BookFault>
+    requires fair { IsFair scene }
+    requires moment { IsMoment now }
+    requires event { IsEvent (event_of event.now) }
+    ensures decides { IfOk result (λ d. decision_of d ≡ decision scene now (event_of event.now)) }
+    ensures limits { IfOk result (λ d. IsReplyTo (event_of event.now) d.reply) }
+{
+    let decision = queue_core::decide(alloc, &scene, now, event)?;
+    Ok(decision)
+}
 
 /// A `TableBook` stands for a world that its tables hold, as long as the connection is open. It is honest where
 /// the disk has returned what was written to it.
@@ -20,8 +42,7 @@ impl<S: Alter> QueueBook for TableBook<S> {
 
     fn decide<'a>(&mut self, now: u32, event: &Event<'a>) -> Result<Decision<'a>, BookFault> {
         let scene = queue_scenes::scene::scene(self.alloc, &mut self.conn, &self.settings, event)?;
-        let decision = queue_core::decide(self.alloc, &scene, now, event)?;
-        Ok(decision)
+        decide_on(self.alloc, scene, now, event)
     }
 
     fn apply(&mut self, decision: Decision<'_>) -> Result<(), BookFault> {

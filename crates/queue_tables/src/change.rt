@@ -36,10 +36,7 @@ fn put_any_document<S: Alter>(
 {
     match document {
         Some(d) => put_document(alloc, tx, d),
-        None => {
-            let _changes = tx.changes();
-            Ok(())
-        }
+        None => Ok(()),
     }
 }
 
@@ -56,10 +53,7 @@ fn put_any_report<S: Alter>(
 {
     match report {
         Some(kept) => insert_report(tx, kept),
-        None => {
-            let _changes = tx.changes();
-            Ok(())
-        }
+        None => Ok(()),
     }
 }
 
@@ -73,15 +67,12 @@ fn put_any_next<S: Alter>(tx: &mut Transaction<'_, S>, next: Option<u32>) -> Res
 {
     match next {
         Some(n) => update_next(tx, n),
-        None => {
-            let _changes = tx.changes();
-            Ok(())
-        }
+        None => Ok(()),
     }
 }
 
 /// Puts what a decision makes of the rows, within a transaction. It commits nothing.
-pub fn write_change<S: Alter>(
+pub(crate) fn write_change<S: Alter>(
     alloc: Global,
     tx: &mut Transaction<'_, S>,
     decision: &Decision<'_>,

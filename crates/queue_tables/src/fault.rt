@@ -70,7 +70,7 @@ impl From<Fault> for BookFault {
 }
 
 /// A value that was read and has not the form of its column.
-pub fn fault_of_value(error: Error) -> Fault
+pub(crate) fn fault_of_value(error: Error) -> Fault
     ensures { result ≡ form_fault error }
 {
     match error {
@@ -80,7 +80,7 @@ pub fn fault_of_value(error: Error) -> Fault
 }
 
 /// A statement that writes was refused: a refusal that is neither for memory nor for the disk is one of a row.
-pub fn fault_of_write(error: Error) -> Fault
+pub(crate) fn fault_of_write(error: Error) -> Fault
     ensures { result ≡ write_fault error }
 {
     match error {

@@ -4,7 +4,7 @@
 
 pub mod account_pages;
 mod account_rows;
-pub mod change;
+mod change;
 mod document_rows;
 pub mod document_sizes;
 pub mod fault;
@@ -20,6 +20,4 @@ mod run;
 pub mod select;
 pub mod transaction;
 
-pub use change::write_change;
-pub use fault::Fault;
 pub use transaction::make;

@@ -6,15 +6,17 @@ ghost use Rattle.std.specs.Str.{IsUtf8};
 ghost use Rattle.std.specs.Prelude.{ℕ, List};
 ghost use Rattle.queue_types.specs.Formats.{format_name};
 ghost use Rattle.queue_types.specs.declared.document.Format.{Format as FormatValue};
+ghost use Rattle.queue_types.specs.declared.event.Kind.{Kind as KindValue};
 ghost use Rattle.queue_types.specs.declared.job.Job.{Job as JobValue};
 ghost use Rattle.queue_types.specs.declared.job.Phase.{Phase as PhaseValue};
-ghost use Rattle.queue_rows.specs.Codes.{phase_number, why_number};
+ghost use Rattle.queue_rows.specs.Codes.{kind_number, phase_number, why_number};
 ghost use Rattle.queue_tables.specs.Forms.{IsFormedJob};
 ghost use Rattle.queue_tables.specs.Values.{job_values, moment, number, truth};
 
 use crate::fault::{Fault, fault_of_value};
-use queue_rows::codes::{flag_of, phase_of};
+use queue_rows::codes::{flag_of, kind_of, phase_of};
 use queue_types::document::Format;
+use queue_types::event::Kind;
 use queue_types::job::{Job, Phase};
 use queue_types::text::Text;
 use sqlite::Row;
@@ -71,6 +73,19 @@ pub fn phase(row: &Row, at: usize, why_at: usize) -> Result<Phase, Fault>
     }
 }
 
+/// The kind of a report, by its number.
+pub fn kind(row: &Row, at: usize) -> Result<Kind, Fault>
+    ensures ok { IfOk result (λ k. column row.now at ≡ number (kind_number k)) }
+    ensures err { IfErr result (λ e. e ≡ Fault.Damaged → at < length row.now → (k : KindValue) → column row.now at ≢ number (kind_number k)) }
+    ensures never { IfErr result (λ e. e ≢ Fault.Disk) }
+{
+    let code: i64 = value(row, at)?;
+    match kind_of(code) {
+        Some(kind) => Ok(kind),
+        None => Err(Fault::Damaged),
+    }
+}
+
 /// A document format, by its name.
 pub fn format(row: &Row, at: usize) -> Result<Format, Fault>
     ensures ok { IfOk result (λ f. column row.now at ≡ Words (format_name f)) }
@@ -97,6 +112,18 @@ pub fn moment_at(row: &Row, at: usize) -> Result<Option<u32>, Fault>
     value(row, at)
 }
 
+/// When a job was created, begun and ended, from the columns of `read_job`.
+fn moments(row: &Row) -> Result<(u32, Option<u32>, Option<u32>), Fault>
+    ensures ok { IfOk result (λ m. (column row.now 11 ≡ number m.0) × (column row.now 12 ≡ moment m.1) × (column row.now 13 ≡ moment m.2)) }
+    ensures err { IfErr result (λ e. e ≡ Fault.Damaged → (j : JobValue) → IsFormedJob j → row.now ≢ job_values j) }
+    ensures never { IfErr result (λ e. e ≢ Fault.Disk) }
+{
+    let created = value(row, 11)?;
+    let begun = moment_at(row, 12)?;
+    let ended = moment_at(row, 13)?;
+    Ok((created, begun, ended))
+}
+
 /// A job without its documents, from the columns that a SELECT shows. Damaged is told only where they are
 /// no job's.
 pub fn read_job(alloc: Global, row: &Row) -> Result<Job, Fault>
@@ -105,6 +132,7 @@ pub fn read_job(alloc: Global, row: &Row) -> Result<Job, Fault>
     ensures err { IfErr result (λ e. e ≡ Fault.Damaged → (j : JobValue) → IsFormedJob j → row.now ≢ job_values j) }
     ensures never { IfErr result (λ e. e ≢ Fault.Disk) }
 {
+    let (created, begun, ended) = moments(row)?;
     // The texts last: an error after them would have to let them go.
     Ok(Job {
         number: value(row, 0)?,
@@ -115,9 +143,9 @@ pub fn read_job(alloc: Global, row: &Row) -> Result<Job, Fault>
         phase: phase(row, 7, 8)?,
         stopping: flag(row, 9)?,
         count: value(row, 10)?,
-        created: value(row, 11)?,
-        begun: moment_at(row, 12)?,
-        ended: moment_at(row, 13)?,
+        created,
+        begun,
+        ended,
         documents: 0,
         octets: 0,
         owner: text(alloc, row, 1)?,

@@ -10,7 +10,7 @@ pub record SettingValues : Type 0 where
   pub name : List ℕ
   -- the pages set aside for one copy of a job that does not say its impressions
   pub estimate : ℕ
-  -- the second of the clock at which the printer's up time is 0
+  -- the second of the clock, since 1970, that is moment 1
   pub epoch : ℤ
 
 -- a printable character of ASCII that begins neither a query nor a fragment

@@ -1,5 +1,5 @@
 //! The documents of a job.
-ghost use Rattle.std.specs.Prelude.{◌≡◌, ◌≢◌, IfOk, MatchOption};
+ghost use Rattle.std.specs.Prelude.{◌≡◌, ◌≢◌, ◌≤◌, IfOk, MatchOption, length};
 ghost use Rattle.queue_types.specs.Formats as formats;
 ghost use Rattle.queue_types.specs.declared.document.Format.{Format as FormatValue};
 
@@ -37,9 +37,10 @@ pub const FORMATS: [Format; 7] = [
 ];
 
 impl Format {
-    /// Its name, a MIME media type.
+    /// Its name, a MIME media type, which is short.
     pub fn name(self) -> &'static str
-        ensures { result.now ≡ formats.format_name self }
+        ensures name { result.now ≡ formats.format_name self }
+        ensures short { length result.now ≤ 64 }
     {
         match self {
             Format::OctetStream => "application/octet-stream",

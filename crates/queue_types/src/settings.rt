@@ -127,8 +127,10 @@ impl Settings {
         self.epoch
     }
 
+    /// A copy. The one error is want of memory.
     pub fn try_clone(&self) -> Result<Settings, AllocError>
-        ensures { IfOk result (λ s. s ≡ self.now) }
+        ensures same { IfOk result (λ s. s ≡ self.now) }
+        ensures limits { IfOk result AreSettings }
     {
         let Settings {
             uri,

@@ -2,7 +2,7 @@
 
 use queue_core::book::BookFault;
 use queue_types::settings::SettingFault;
-use std::alloc::{AllocError, AllocFailed};
+use std::alloc::AllocError;
 use std::io;
 use thiserror::Error;
 
@@ -28,12 +28,6 @@ pub enum Fault {
 
 impl From<AllocError> for Fault {
     fn from(_error: AllocError) -> Fault {
-        Fault::Memory
-    }
-}
-
-impl<T: Drop> From<AllocFailed<T>> for Fault {
-    fn from(_error: AllocFailed<T>) -> Fault {
         Fault::Memory
     }
 }

@@ -11,7 +11,7 @@ use std::io;
 use std::io::Write;
 
 /// The most bytes that a message may have.
-pub const MAX_BYTES: usize = 16_777_216;
+pub const MOST_BYTES: usize = 16_777_216;
 
 /// How many bytes are turned into text at a time.
 const PIECE: usize = 512;
@@ -21,7 +21,7 @@ const PIECE: usize = 512;
 pub enum HexFault {
     /// It isn't an even number of hexadecimal digits.
     NotOfTheForm = 1,
-    /// It stands for more bytes than [`MAX_BYTES`].
+    /// It stands for more bytes than [`MOST_BYTES`].
     TooLong = 2,
     /// There was no memory for its bytes.
     Memory = 3,
@@ -40,7 +40,7 @@ pub fn read_hex(alloc: Global, text: &[u8]) -> Result<Vec<u8>, HexFault>
     if !is_hexadecimal(text) {
         return Err(HexFault::NotOfTheForm);
     }
-    if text.len() / 2 > MAX_BYTES {
+    if text.len() / 2 > MOST_BYTES {
         return Err(HexFault::TooLong);
     }
     hex::decode(alloc, text).map_err(|_| HexFault::Memory)

@@ -10,6 +10,6 @@ mod session;
 mod settings;
 
 pub use fault::Fault;
-pub use hexadecimal::{HexFault, MAX_BYTES, put_hex, read_hex};
+pub use hexadecimal::{HexFault, MOST_BYTES, put_hex, read_hex};
 pub use replaying::replay_over;
 pub use settings::replay_settings;

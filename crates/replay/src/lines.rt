@@ -13,10 +13,10 @@ use std::io::{ErrorKind, Read, Write};
 use std::marker::Model;
 
 /// The most bytes of a line that are kept, which is what a line with the longest message has.
-pub const MAX_LINE: usize = 33_554_436;
+pub const MOST_LINE: usize = 33_554_436;
 
 /// How many times an input is read at most. After that it ends as by a read that fails.
-pub const MAX_READS: u32 = 4_294_967_295;
+pub const MOST_READS: u32 = 4_294_967_295;
 
 /// How many bytes a read may give.
 const BUFFER: usize = 65_536;
@@ -24,7 +24,7 @@ const BUFFER: usize = 65_536;
 /// A line without its line feed.
 #[derive(Drop)]
 pub struct Line {
-    /// Its first bytes, at most [`MAX_LINE`].
+    /// Its first bytes, at most [`MOST_LINE`].
     pub bytes: Vec<u8>,
     /// Whether it has more bytes than those.
     pub is_cut: bool,
@@ -52,7 +52,7 @@ impl Line {
     fn push(&mut self, piece: &[u8]) -> Result<(), AllocError>
         ensures { OnOk result ((bytes : List ℕ) → IsFrontOf bytes self.old → IsFrontOf (bytes ++ piece.now) self.new) }
     {
-        let room = MAX_LINE.saturating_sub(self.bytes.len());
+        let room = MOST_LINE.saturating_sub(self.bytes.len());
         let kept = piece.len().min(room);
         self.bytes.extend_from_slice(&piece[..kept])?;
         self.is_cut |= kept < piece.len();
@@ -152,7 +152,7 @@ impl LineReader {
         ensures counted { OnOk result (self.new.reads ≡ self.old.reads + 1) }
         ensures few { (self.old.reads ≤ self.new.reads) × (self.new.reads ≤ 4294967295) }
     {
-        if self.reads == MAX_READS {
+        if self.reads == MOST_READS {
             return Err(Fault::Io);
         }
         self.reads += 1;

@@ -6,9 +6,10 @@ ghost use Rattle.std.specs.Prelude.{◌≤◌};
 use book_desk::Request::{Create, Print};
 use book_desk::Step::{Ask, Jobs, Look};
 use book_desk::{Desk, JobsWanted, RowFault, Shelf, Step, StepFault, take_row};
-use book_shelves::{adopt, tables_in_memory, take_adopted};
+use book_shelves::{adopt, take_adopted};
 use queue_core::book::BookFault;
 use queue_core::machine::decide;
+use queue_store::TableBook;
 use queue_types::document::Format;
 use queue_types::event::{
     Call, Decision, Event, FreeList, KnownList, NewJob, QueueCounts, Reply, Scene,
@@ -110,7 +111,7 @@ impl Shelf for AtLastNumber {
         first: &[Step<'_>],
         steps: &[Step<'_>],
     ) -> Result<(), StepFault> {
-        let mut conn = tables_in_memory(desk.alloc(), desk.settings()?)?.close();
+        let mut conn = TableBook::in_memory(desk.alloc(), desk.settings()?)?.close();
         skip_numbers(&mut conn)?;
         let book = adopt(desk.alloc(), conn)?;
         take_adopted(desk, book, first, steps)

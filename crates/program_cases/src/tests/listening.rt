@@ -17,13 +17,16 @@ pub(super) fn free_port(rt: &HostRuntime) -> io::Result<u16> {
     Ok(listener.local_addr()?.port())
 }
 
+/// It is told of, and listened on by the loopback interface alone.
 #[test]
 fn the_line_that_tells_of_a_port(rt: HostRuntime) -> Result<(), Mismatch> {
     let port = free_port(&rt)?;
     let line = format!(in rt.alloc(); "listening 127.0.0.1:{port}\n")?;
     let mut printed = Vec::new(rt.alloc());
-    let _listener = listen(&rt, &mut printed, port)?;
-    AT.same_bytes(line.as_bytes(), printed.as_slice())
+    let listener = listen(&rt, &mut printed, port)?;
+    AT.same_bytes(line.as_bytes(), printed.as_slice())?;
+    let address = SocketAddr::from((Ipv4Addr::LOCALHOST, port));
+    AT.is_so(listener.local_addr()? == address, "the address")
 }
 
 /// A port that is listened on can't be listened on again, and no line is printed.

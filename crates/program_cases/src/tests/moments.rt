@@ -1,8 +1,15 @@
 //! The moment of a connection.
 
-use crate::tests::server::AT;
+use crate::tests::server::{AT, Server};
+use http_desk::books::{DeskBook, MemoryBook};
 use http_desk::compare::Mismatch;
+use http_desk::connection::Wanted::Success;
+use http_desk::messages::{GET_UP_TIME, UP_FOR_42};
+use http_desk::requests::{IPP, POST_UP_TIME};
 use print_server::present_moment;
+use std::io;
+use std::rt::Clock;
+use std::time::Duration;
 
 /// The second at which the year 2020 began.
 const YEAR_2020: i64 = 1_577_836_800;
@@ -26,4 +33,30 @@ fn moments_between(rt: HostRuntime) -> Result<(), Mismatch> {
     let older = present_moment(&rt, YEAR_2020)?;
     let apart = older.saturating_sub(younger);
     AT.is_so(apart >= 3600 && apart < 3660, "an hour")
+}
+
+/// A clock that stands at second 41 of the year 1970.
+struct StandsAt41;
+
+impl Clock for StandsAt41 {
+    fn monotonic(&self) -> io::Result<Duration> {
+        Ok(Duration::from_secs(41))
+    }
+
+    fn since_1970(&self) -> io::Result<Duration> {
+        Ok(Duration::from_secs(41))
+    }
+}
+
+fn is_served_by_the_clock<B: DeskBook>(rt: &HostRuntime) -> Result<(), Mismatch> {
+    let mut server = Server::<B>::new(rt)?;
+    server.add_last_client(rt, &[POST_UP_TIME, GET_UP_TIME])?;
+    server.serve(&StandsAt41, 1, "served 1\n")?;
+    server.answers(0, &[Success(IPP, UP_FOR_42)])
+}
+
+/// A printer that was up at second 0 is up for 42 seconds at second 41.
+#[test]
+fn the_moment_of_a_connection(rt: HostRuntime) -> Result<(), Mismatch> {
+    is_served_by_the_clock::<MemoryBook>(&rt)
 }

@@ -12,6 +12,7 @@ use std::alloc::{AllocError, Global};
 use std::io;
 use std::io::{Read, Write};
 use std::net::{Shutdown, SocketAddr, TcpListener, TcpStream};
+use std::rt::Clock;
 use std::time::Duration;
 
 /// The seconds that a server of a test waits for a client.
@@ -113,10 +114,10 @@ impl<B: DeskBook> Server<B> {
         self.keep(client)
     }
 
-    /// Serves so many connections, and prints to a writer.
-    fn serve_into<W: Write>(
+    /// Serves so many connections by this clock, and prints to a writer.
+    fn serve_into<C: Clock, W: Write>(
         &mut self,
-        rt: &HostRuntime,
+        clock: &C,
         out: &mut W,
         connections: u32,
     ) -> Result<(), ServerFault> {
@@ -126,13 +127,18 @@ impl<B: DeskBook> Server<B> {
             settings: &self.settings,
             timeout: PATIENCE,
         };
-        service.serve_connections(rt, out, &mut self.book, connections)
+        service.serve_connections(clock, out, &mut self.book, connections)
     }
 
-    /// Serves so many connections, and prints these lines.
-    fn serve(&mut self, rt: &HostRuntime, connections: u32, lines: &str) -> Result<(), Mismatch> {
+    /// Serves so many connections by this clock, and prints these lines.
+    pub(super) fn serve<C: Clock>(
+        &mut self,
+        clock: &C,
+        connections: u32,
+        lines: &str,
+    ) -> Result<(), Mismatch> {
         let mut printed = Vec::new(self.alloc);
-        if let Err(stopped) = self.serve_into(rt, &mut printed, connections) {
+        if let Err(stopped) = self.serve_into(clock, &mut printed, connections) {
             return Err(mismatch_of(stopped));
         }
         AT.same_bytes(lines.as_bytes(), printed.as_slice())
@@ -157,7 +163,7 @@ impl<B: DeskBook> Server<B> {
     }
 
     /// The client of this number gets this, and then the end of its connection.
-    fn answers(&self, client: usize, wanted: &[Wanted<'_>]) -> Result<(), Mismatch> {
+    pub(super) fn answers(&self, client: usize, wanted: &[Wanted<'_>]) -> Result<(), Mismatch> {
         let Some(stream) = self.clients.get(client) else {
             return AT.is_so(false, "a client of this number");
         };

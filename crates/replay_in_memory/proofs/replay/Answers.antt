@@ -1,4 +1,4 @@
-use Rattle.std.proofs.Common.{ℕ, List, subst}
+use Rattle.std.proofs.Common.{ℕ, List, subst, ◌∙◌}
 use Rattle.std.specs.Io.KnownBytes.{Appends}
 use Rattle.queue_types.specs.Settings.{SettingValues}
 use Rattle.queue_core.specs.World.{empty_queue}
@@ -11,7 +11,7 @@ use Rattle.replay_in_memory.proofs.replay.Goals as goal
 
 pub returns-clause-answered : goal.returns-clause-answered
 returns-clause-answered g c =
-    let stands = subst (λ (s : SettingValues). StandsFor over_memory c.in_ok-book.book (empty_queue s)) c.in_ok-settings.ensures c.in_ok-book.ensures in
+    let stands = subst (λ (s : SettingValues). StandsFor over_memory c.in_ok-book.book (empty_queue s)) (c.in_ok-try_clone.ensures.same ∙ c.in_ok-settings.ensures) c.in_ok-book.ensures in
     ok_so c.replay_over.result _
     (λ (status : ℕ). (last : State) × (text : List ℕ) × Replays (g.R.Read.remaining c.args.input.now) (first (empty_queue settings)) status text last
     × Appends (g.W.Write.contents c.args.output.now) (g.W.Write.contents c.replay_over.new.output) text)

@@ -10,4 +10,4 @@ told : (r : Bool) (a b : List ℕ) → (IsTrue r ↔ (a ≡ b)) → r ≡ bytes_
 told r a b h = same_from_decides r (bytes_eq a b) h (bytes_eq-Decides a b)
 
 pub returns : goal.returns
-returns c = told _ _ _ c.eq_ignore_ascii_case.ensures.test ∙ ap (λ t. str_eq_ignore_ascii_case t c.args.media_type.now) (c.as_bytes.ensures.value ∙ c.name.ensures)
+returns c = told _ _ _ c.eq_ignore_ascii_case.ensures.test ∙ ap (λ t. str_eq_ignore_ascii_case t c.args.media_type.now) (c.as_bytes.ensures.value ∙ c.name.ensures.name)

@@ -7,7 +7,7 @@ use Rattle.list_book.proofs.scene.scene_of_call.Goals as goal
 pub returns : goal.returns
 returns c =
     scene_is c.args.lists.now c.args.caller.now (call_of c.args.call.now) _
-    c.in_ok-settings.ensures
+    c.in_ok-settings.ensures.same
     (c.from_items.ensures ∙ c.in_ok-jobs.ensures ∙ ap (jobs_for c.args.caller.now (call_of c.args.call.now)) c.as_slice.ensures.value)
     (c.from_items-2.ensures ∙ c.in_ok-free.ensures)
     (c.live_for_call.ensures ∙ ap (live_for c.args.caller.now (call_of c.args.call.now)) c.as_slice-2.ensures.value)

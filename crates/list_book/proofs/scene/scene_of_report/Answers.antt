@@ -9,7 +9,7 @@ returns c =
     let r = c.args.report.now in
     let jobs = c.in_ok-jobs.ensures ∙ ap (numbered r.job) c.as_slice.ensures.value in
     report_scene_is c.args.lists.now r _
-    c.in_ok-settings.ensures
+    c.in_ok-settings.ensures.same
     (c.from_items.ensures ∙ jobs)
     (c.from_items-2.ensures ∙ c.in_ok-free.ensures ∙ ap (owner_row (free_map c.args.lists.now.accounts.entries)) (c.as_slice-2.ensures.value ∙ jobs))
     refl

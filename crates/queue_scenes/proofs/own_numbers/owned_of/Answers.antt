@@ -39,14 +39,13 @@ loop-number-preserved g c =
     record {
       leaves = leaves_then (state g.S.Store c.args.conn.now) (state g.S.Store c.loop-number.conn) (state g.S.Store c.with_number.new.conn) first.leaves c.with_number.ensures.leaves;
       live = λ clean was. found.live clean;
-      sound = subst (λ (js : List Job). All IsSoundJob js) (sym c.in_ok-push_owned.ensures) (all_more IsSoundJob p c.loop-number.own.items c.as_slice.result.now first.sound (subst (λ (js : List Job). All IsSoundJob js) (sym c.as_slice.ensures.value) found.sound));
+      sound = subst (λ (js : List Job). All IsSoundJob js) (sym c.in_ok-push_owned.ensures) (all_more IsSoundJob p c.loop-number.own.items c.in_ok-found.found.items first.sound found.sound);
       found = λ clean w sound has.
           let early = c.with_number.ensures.leaves.clean clean in
           let kept = holds_after first.leaves early (content_of w) has (first.live early has.live) in
           let is = found.found clean w sound kept in
           let before = first.found early w sound has in
-          let some = c.as_slice.ensures.value ∙ is in
-          c.in_ok-push_owned.ensures ∙ (λ t. before t ++ filter p (some t)) ∙ sym (picked_more p (take i ns) k (rows w) (before_next ns i k c.requires low at) (world_rising w sound))
+          c.in_ok-push_owned.ensures ∙ (λ t. before t ++ filter p (is t)) ∙ sym (picked_more p (take i ns) k (rows w) (before_next ns i k c.requires low at) (world_rising w sound))
           ∙ ap (λ (ms : List ℕ). picked p ms (rows w)) (sym (taken_more ns i k low at));
     }
 

@@ -4,20 +4,18 @@ use Rattle.queue_types.specs.Event.{event_of}
 use Rattle.queue_core.specs.Machine.{decision}
 use Rattle.queue_tables.specs.Content.{content_of}
 use Rattle.queue_store.proofs.Keeping.{still_keeps}
+use Rattle.queue_store.proofs.Results.{if_ok_then}
 use Rattle.queue_tables.proofs.Leaving.{held_by}
 use Rattle.queue_store.proofs.queue_book.TableBookQueueBook.decide.Goals as goal
 
 pub returns-in_err-scene-clause-kept : goal.returns-in_err-scene-clause-kept
 returns-in_err-scene-clause-kept g c w stood = still_keeps (state g.S.Store c.args.self.now.conn) (state g.S.Store c.scene.new.conn) c.args.self.now.settings w c.scene.ensures.leaves stood
 
-pub returns-in_err-decision-clause-kept : goal.returns-in_err-decision-clause-kept
-returns-in_err-decision-clause-kept g c w stood = still_keeps (state g.S.Store c.args.self.now.conn) (state g.S.Store c.scene.new.conn) c.args.self.now.settings w c.scene.ensures.leaves stood
-
 pub returns-clause-kept : goal.returns-clause-kept
 returns-clause-kept g c w stood = still_keeps (state g.S.Store c.args.self.now.conn) (state g.S.Store c.scene.new.conn) c.args.self.now.settings w c.scene.ensures.leaves stood
 
 pub returns-clause-decides : goal.returns-clause-decides
-returns-clause-decides g c honest w stands =
+returns-clause-decides g c honest = if_ok_then c.decide_on.result _ _ (λ d decided w stands.
     let now = stands honest in
     let held = held_by c.scene.ensures.leaves honest (content_of w) (now.holds (c.in_ok-scene.ensures.live honest)) in
-    c.in_ok-decision.ensures.decides ∙ ap (λ s. decision s c.args.now (event_of c.args.event.now)) (c.in_ok-scene.ensures.shows honest w now.sound held now.settings_are)
+    decided ∙ ap (λ s. decision s c.args.now (event_of c.args.event.now)) (c.in_ok-scene.ensures.shows honest w now.sound held now.settings_are)) c.decide_on.ensures.decides
