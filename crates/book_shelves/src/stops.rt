@@ -147,6 +147,26 @@ fn disconnect<D: Disk + Drop>(conn: Connection<FileStore<D>>) -> Files<D> {
     conn.into_store().close()
 }
 
+/// `TableBook::create_or_drop` over files.
+fn create_in_files<D: Disk + Drop>(
+    alloc: Global,
+    conn: Connection<FileStore<D>>,
+    settings: Settings,
+) -> Result<TableBook<FileStore<D>>, BookFault> {
+    TableBook::create_or_drop(alloc, conn, settings)
+}
+
+/// `TableBook::adopt` over files. A refusal gives the connection back.
+fn adopt_in_files<D: Disk + Drop>(
+    alloc: Global,
+    conn: Connection<FileStore<D>>,
+) -> Result<TableBook<FileStore<D>>, Connection<FileStore<D>>> {
+    match TableBook::adopt(alloc, conn) {
+        Ok(book) => Ok(book),
+        Err((_fault, conn)) => Err(conn),
+    }
+}
+
 /// A new book in two files.
 fn new_book<D: Disk + Drop>(
     alloc: Global,
@@ -155,7 +175,7 @@ fn new_book<D: Disk + Drop>(
     settings: Settings,
 ) -> Result<TableBook<FileStore<D>>, StepFault> {
     match connect(alloc, files, options) {
-        Ok(conn) => Ok(TableBook::create_or_drop(alloc, conn, settings)?),
+        Ok(conn) => Ok(create_in_files(alloc, conn, settings)?),
         Err(_files) => Err(StepFault::Book(BookFault::Disk)),
     }
 }
@@ -167,10 +187,7 @@ fn open_book<D: Disk + Drop>(
     options: Options,
 ) -> Result<TableBook<FileStore<D>>, Files<D>> {
     let conn = connect(alloc, files, options)?;
-    match TableBook::adopt(alloc, conn) {
-        Ok(book) => Ok(book),
-        Err((_fault, conn)) => Err(disconnect(conn)),
-    }
+    adopt_in_files(alloc, conn).map_err(disconnect)
 }
 
 /// The files of a book, as they are.
