@@ -1,5 +1,6 @@
 -- What a subcommand's name and the values of its arguments stand for.
 use Rattle.std.specs.Prelude.{◌≡◌, ◌≤◌, ℕ, List, [], codes, unwrap_or, IfSome}
+use Rattle.std.specs.Int.NonZero.{non_zero_u32_get}
 use Rattle.std.specs.Str.Parse.{digits_value, without_leading_plus}
 use Rattle.clap.specs.Values.{IsUnsignedIn}
 use Rattle.clap.specs.Walk.{Row, Text, first_of, one_of}
@@ -40,8 +41,8 @@ pub record IsServe (rows : List Row) (s : Serve) : Type 0 where
   pub port_fits : (1 ≤ s.port) × (s.port ≤ 65535)
   pub connections : IsNumberAt (codes "connections") 1 4294967295 rows s.connections
   pub connections_fit : 1 ≤ s.connections
-  pub timeout : IsNumberAt (codes "timeout") 1 3600 rows s.timeout
-  pub timeout_fits : (1 ≤ s.timeout) × (s.timeout ≤ 3600)
+  pub timeout : IsNumberAt (codes "timeout") 1 3600 rows (non_zero_u32_get s.timeout)
+  pub timeout_fits : non_zero_u32_get s.timeout ≤ 3600
 
 -- the command is what a subcommand's name and the values of its arguments stand for
 abbrev pub IsCommand : Command → Text × List Row → Type 0

@@ -5,12 +5,10 @@ ghost use Rattle.clap.specs.Simple.{App, Shape, with_subcommand};
 ghost use Rattle.clap.specs.Words.{rule_of};
 ghost use Rattle.command_words.specs.CommandLine.{IsApp, IsPart, IsProgram, import_words, init_words, number_rule, optional_rule, place_rule, program, replay_words, serve_words, statement_words, store_rule, subcommands, text_rule, words};
 
+use crate::limits::{CONNECTIONS, ESTIMATE, Limits, PORT, TIMEOUT};
 use clap::builder::ValueParser;
 use clap::{Arg, ArgAction, Command as Definition};
 use std::alloc::{AllocError, Global};
-
-/// The most pages that a printer may take a copy for that says nothing of its own.
-pub(crate) const MOST_ESTIMATE: u32 = 100_000;
 
 /// A word with no name.
 fn place<'a>(alloc: Global, name: &'a str, value: &'a str, help: &'a str) -> Arg<'a>
@@ -38,14 +36,13 @@ fn number<'a>(
     name: &'a str,
     value: &'a str,
     help: &'a str,
-    least: u32,
-    most: u32,
+    limits: Limits,
 ) -> Arg<'a>
-    ensures rule { rule_of result ≡ number_rule name.entry.now least most }
+    ensures rule { rule_of result ≡ number_rule name.entry.now limits.least limits.most }
     ensures own { result.global ≡ false }
 {
-    let limits = ValueParser::unsigned(u64::from(least), u64::from(most));
-    text(alloc, name, value, help).value_parser(limits)
+    let parser = ValueParser::unsigned(u64::from(limits.least), u64::from(limits.most));
+    text(alloc, name, value, help).value_parser(parser)
 }
 
 /// The same, where the words may leave the option out.
@@ -54,14 +51,13 @@ fn optional<'a>(
     name: &'a str,
     value: &'a str,
     help: &'a str,
-    least: u32,
-    most: u32,
+    limits: Limits,
     usual: &'a str,
 ) -> Arg<'a>
-    ensures rule { rule_of result ≡ optional_rule name.entry.now least most usual.entry.now }
+    ensures rule { rule_of result ≡ optional_rule name.entry.now limits.least limits.most usual.entry.now }
     ensures own { result.global ≡ false }
 {
-    number(alloc, name, value, help, least, most)
+    number(alloc, name, value, help, limits)
         .required(false)
         .default_value(usual)
 }
@@ -90,7 +86,7 @@ fn init<'a>(alloc: Global) -> Result<Definition<'a>, AllocError>
     on_store(alloc, "init", "Make a new store")?
         .arg(text(alloc, "uri", "URI", uri))?
         .arg(text(alloc, "name", "NAME", name))?
-        .arg(optional(alloc, "estimate", "N", estimate, 0, MOST_ESTIMATE, "20"))
+        .arg(optional(alloc, "estimate", "N", estimate, ESTIMATE, "20"))
 }
 
 fn import<'a>(alloc: Global) -> Result<Definition<'a>, AllocError>
@@ -122,9 +118,9 @@ fn serve<'a>(alloc: Global) -> Result<Definition<'a>, AllocError>
     let connections = "How many connections to serve, one after another";
     let timeout = "How long a connection may be silent";
     on_store(alloc, "serve", "Serve the queue over HTTP")?
-        .arg(number(alloc, "port", "P", port, 1, 65_535))?
-        .arg(number(alloc, "connections", "N", connections, 1, u32::MAX))?
-        .arg(optional(alloc, "timeout", "SECONDS", timeout, 1, 3_600, "5"))
+        .arg(number(alloc, "port", "P", port, PORT))?
+        .arg(number(alloc, "connections", "N", connections, CONNECTIONS))?
+        .arg(optional(alloc, "timeout", "SECONDS", timeout, TIMEOUT, "5"))
 }
 
 fn replay<'a>(alloc: Global) -> Definition<'a>

@@ -3,6 +3,7 @@
 
 mod command_line;
 mod definition;
+mod limits;
 mod outcome;
 mod values;
 

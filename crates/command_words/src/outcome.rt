@@ -7,6 +7,7 @@ ghost use Rattle.command_words.specs.declared.outcome.CommandFault.TheVariants a
 use clap::Error;
 use clap::error::ErrorKind;
 use std::alloc::AllocError;
+use std::num::NonZeroU32;
 
 /// A new store, and the printer's settings in it. Whether they are within their limits is not said yet.
 #[derive(Debug, Clone, Copy, PartialEq, Eq)]
@@ -31,7 +32,7 @@ pub struct Serve<'a> {
     /// How many connections are served before the program ends, 1 to 4,294,967,295.
     pub connections: u32,
     /// How many seconds a read or a write of a connection may wait, 1 to 3,600.
-    pub timeout: u32,
+    pub timeout: NonZeroU32,
 }
 
 /// An account file that is to be taken.

@@ -1,12 +1,14 @@
 //! The values of a subcommand's arguments.
 
 ghost use Rattle.std.specs.Prelude.{◌≡◌, ◌≤◌};
+ghost use Rattle.std.specs.Int.NonZero.{non_zero_u32_get};
 ghost use Rattle.clap.specs.Words.{found_of, rows_of};
 ghost use Rattle.command_words.specs.Values.{IsNumberAt, IsInit, IsServe, IsImport, IsStatement, text_at};
 
-use crate::definition::MOST_ESTIMATE;
+use crate::limits::{CONNECTIONS, ESTIMATE, Limits, PORT, TIMEOUT};
 use crate::outcome::{Import, Init, Serve, Statement};
 use clap::ArgMatches;
+use std::num::NonZeroU32;
 
 /// The value of an argument. Words that leave it out are refused before; the empty text stands for it.
 fn text_of<'a>(matches: &ArgMatches<'a>, id: &str) -> &'a str
@@ -15,18 +17,27 @@ fn text_of<'a>(matches: &ArgMatches<'a>, id: &str) -> &'a str
     matches.get_str(id).unwrap_or("")
 }
 
-/// The value of an argument that is a number within these limits. Words with another number are refused before; `other` stands for it.
-fn number_of(matches: &ArgMatches<'_>, id: &str, least: u32, most: u32, other: u32) -> u32
-    requires least { least ≤ other }
-    requires most { other ≤ most }
-    ensures least { least ≤ result }
-    ensures most { result ≤ most }
-    ensures number { IsNumberAt id.now least most (rows_of (found_of matches.now)) result }
+/// The value of an argument that is a number within these limits. Words with another number are refused before; the least stands for it.
+fn number_of(matches: &ArgMatches<'_>, id: &str, limits: Limits) -> u32
+    requires { limits.least ≤ limits.most }
+    ensures least { limits.least ≤ result }
+    ensures most { result ≤ limits.most }
+    ensures number { IsNumberAt id.now limits.least limits.most (rows_of (found_of matches.now)) result }
 {
     match matches.get_one::<u32>(id) {
-        Some(number) if least <= number && number <= most => number,
-        _ => other,
+        Some(number) if limits.least <= number && number <= limits.most => number,
+        _ => limits.least,
     }
+}
+
+/// The same, where the least is 1 or more.
+fn non_zero_of(matches: &ArgMatches<'_>, id: &str, limits: Limits) -> NonZeroU32
+    requires least { 1 ≤ limits.least }
+    requires most { limits.least ≤ limits.most }
+    ensures most { non_zero_u32_get result ≤ limits.most }
+    ensures number { IsNumberAt id.now limits.least limits.most (rows_of (found_of matches.now)) (non_zero_u32_get result) }
+{
+    NonZeroU32::new(number_of(matches, id, limits)).unwrap_or(NonZeroU32::MIN)
 }
 
 pub fn init_of<'a>(matches: &ArgMatches<'a>) -> Init<'a>
@@ -36,7 +47,7 @@ pub fn init_of<'a>(matches: &ArgMatches<'a>) -> Init<'a>
         store: text_of(matches, "store"),
         uri: text_of(matches, "uri"),
         name: text_of(matches, "name"),
-        estimate: number_of(matches, "estimate", 0, MOST_ESTIMATE, 20),
+        estimate: number_of(matches, "estimate", ESTIMATE),
     }
 }
 
@@ -45,9 +56,9 @@ pub fn serve_of<'a>(matches: &ArgMatches<'a>) -> Serve<'a>
 {
     Serve {
         store: text_of(matches, "store"),
-        port: number_of(matches, "port", 1, 65_535, 631) as u16,
-        connections: number_of(matches, "connections", 1, u32::MAX, 1),
-        timeout: number_of(matches, "timeout", 1, 3_600, 5),
+        port: number_of(matches, "port", PORT) as u16,
+        connections: number_of(matches, "connections", CONNECTIONS),
+        timeout: non_zero_of(matches, "timeout", TIMEOUT),
     }
 }
 

@@ -1,22 +1,9 @@
 -- The exit status of a program whose words are read.
-use Rattle.std.proofs.Common.{◌≡◌, ◌≢◌, ◌≤◌, ℕ, List, Option, Some, None, Result, Ok, Err, IfOk, IfErr, IsOk, OnOk, IsSomeAnd, subst, arith, true, false}
+use Rattle.std.proofs.Common.{◌≡◌, ◌≢◌, ◌≤◌, ℕ, Result, Ok, Err, IfOk, IfErr, IsOk, OnOk, subst, arith, true, false}
 use Rattle.clap.specs.Kinds.{IsAmong, Kinds}
-use Rattle.clap.specs.Walk.{Row, Text}
 use Rattle.clap.specs.declared.error.kind.ErrorKind.{ErrorKind}
 use Rattle.clap.specs.declared.error.kind.ErrorKind.TheVariants.{DisplayHelp, DisplayVersion}
-use Rattle.command_words.specs.Values.{IsCommand}
-use Rattle.command_words.specs.declared.outcome.Command.{Command}
-use Rattle.command_words.specs.declared.outcome.Command.TheVariants.{Init, Import, Statement, Serve, Replay}
-use Rattle.commands.specs.Words.{AreWrong, MayServe}
-
--- a command that words name may be done
-pub may_serve : (c : Command) (met : Option (Text × List Row)) → IsSomeAnd met (IsCommand c) → MayServe c
-may_serve c None named = absurd named
-may_serve (Init words) (Some met) named = tt
-may_serve (Import words) (Some met) named = tt
-may_serve (Statement words) (Some met) named = tt
-may_serve (Serve words) (Some met) named = named.1.timeout_fits.0
-may_serve Replay (Some met) named = tt
+use Rattle.commands.specs.Words.{AreWrong}
 
 -- what holds where a call was done
 pub where_ok : {A E X : Type 0} (r : Result A E) → IsOk r → OnOk r X → X

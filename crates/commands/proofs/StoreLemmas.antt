@@ -1,30 +1,15 @@
--- What a store that was opened stands for, and when its settings are refused.
-use Rattle.std.proofs.Common.{◌≡◌, ℤ, subst, refl, inl, inr}
+-- When the settings of a new store are refused.
+use Rattle.std.proofs.Common.{◌≡◌, ℤ, refl, inl, inr}
 use Rattle.command_words.specs.declared.outcome.Init.{Init}
-use Rattle.sqlite.specs.Files.{HoldsDatabase}
-use Rattle.sqlite_trees.specs.Tree.{Trees}
-use Rattle.sqlite_trees.specs.declared.store.Store.{Ghosts}
-use Rattle.sqlite_wal.specs.Recovery.{Image}
 use Rattle.queue_types.specs.Settings.{AreSettings}
-use Rattle.queue_core.specs.World.{World}
 use Rattle.queue_core.specs.declared.book.BookFault.{BookFault}
 use Rattle.queue_core.specs.declared.book.BookFault.TheVariants as book
 use Rattle.queue_types.specs.declared.settings.SettingFault.{SettingFault}
 use Rattle.queue_types.specs.declared.settings.SettingFault.TheVariants as setting
-use Rattle.queue_tables.specs.Content.{HasContent, content_of}
-use Rattle.queue_store.specs.Kept.{HasWorld, StandsFor, shown_by}
-use Rattle.queue_store.specs.declared.book.TableBook.{TableBook}
 use Rattle.command_ends.specs.Faults.{IsOfStream, fault_of_book, fault_of_setting}
-use Rattle.commands.specs.Store.{IsKeptIn, settings_of}
+use Rattle.commands.specs.Store.{settings_of}
 use Rattle.command_ends.specs.declared.fault.Fault.{Fault}
 use Rattle.command_ends.specs.declared.fault.Fault.TheVariants.{BadSetting}
-
--- a book that was opened stands for the queue that its files keep
-pub kept : {S : Type 0} (store : Ghosts S) (b : TableBook S) (image : Image) → HasWorld (shown_by store b) b.settings
-    → ((db : Trees) → HoldsDatabase image db → (shown_by store b).now.trees ≡ db)
-    → (w : World) × IsKeptIn image w × StandsFor store b w
-kept store b image one found =
-    (one.world, (λ db held. subst (λ (trees : Trees). HasContent (content_of one.world) trees) (found db held) (one.keeps.holds one.live).rows), λ _. one.keeps)
 
 -- whether settings are within their limits does not hang on the epoch
 pub at_any_second : (words : Init) (a b : ℤ) → AreSettings (settings_of words a) → AreSettings (settings_of words b)
@@ -35,6 +20,7 @@ at_any_second words a b s = record {
   uri_path = s.uri_path;
   name_some = s.name_some;
   name_fits = s.name_fits;
+  name_utf8 = s.name_utf8;
   estimate_fits = s.estimate_fits;
 }
 

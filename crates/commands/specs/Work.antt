@@ -1,5 +1,5 @@
 -- What a command does on the book of a store.
-use Rattle.std.specs.Prelude.{◌≡◌, ◌≤◌, ◌++◌, ⊤, ℕ, List, Option, Some, length}
+use Rattle.std.specs.Prelude.{◌≡◌, ◌++◌, ℕ, List, Option, Some, length}
 use Rattle.std.specs.Io.KnownBytes.{Appends}
 use Rattle.grants_csv.specs.declared.importing.Imported.{Imported}
 use Rattle.office.specs.Told.{IsTaken, import_line}
@@ -12,11 +12,6 @@ use Rattle.queue_core.specs.World.{World}
 use Rattle.queue_types.specs.declared.sheet.AccountSheet.{AccountSheet}
 use Rattle.commands.specs.declared.work.Work.{Work}
 use Rattle.commands.specs.declared.work.Work.TheVariants.{Import, Statement, Serve}
-
--- a connection that is served may wait a second or more
-abbrev pub MayDo : Work → Type 0
-MayDo (Serve words) = 1 ≤ words.timeout
-MayDo _ = ⊤
 
 -- it made the second queue of the first, and what was written is the output then, where that was the output before:
 -- the rows of an account file are taken, and what became of them is told; the statement of the account is printed, and the

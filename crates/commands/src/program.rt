@@ -2,7 +2,7 @@
 ghost use Rattle.std.specs.Prelude.{◌≡◌, ◌≤◌, [], IfOk, map};
 ghost use Rattle.clap.specs.Words.{fault_of};
 ghost use Rattle.command_words.specs.CommandLine.{definition};
-ghost use Rattle.commands.specs.Words.{AreWrong, MayServe};
+ghost use Rattle.commands.specs.Words.{AreWrong};
 
 use crate::store::{FileBook, make_store};
 use crate::work::{Work, work_at};
@@ -22,7 +22,6 @@ fn close(done: Result<FileBook<Unknown>, Fault>) -> Result<(), Fault> {
 
 /// Does what a command asks, and gives the exit status.
 fn do_command<O: Write>(rt: &HostRuntime, command: Command<'_>, out: &mut O) -> Result<u8, Fault>
-    requires { MayServe command }
     ensures { IfOk result (λ status. status ≤ 1) }
 {
     match command {

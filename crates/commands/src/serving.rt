@@ -1,5 +1,5 @@
 //! Connections over a store.
-ghost use Rattle.std.specs.Prelude.{◌≡◌, ◌≤◌, ◌++◌, ℕ, List, OnOk, length};
+ghost use Rattle.std.specs.Prelude.{◌≡◌, ◌++◌, ℕ, List, OnOk, length};
 ghost use Rattle.std.specs.Io.KnownBytes.{Appends};
 ghost use Rattle.command_ends.specs.Faults.{fault_of_book};
 ghost use Rattle.print_server.specs.Connections.{AreConnections};
@@ -38,7 +38,6 @@ fn serve_at<S: Alter, W: Write>(
     output: &mut W,
     book: &mut TableBook<S>,
 ) -> Result<(), Fault>
-    requires { 1 ≤ words.timeout }
     ensures began { IsHonest S.Store book.new → IsHonest S.Store book.old }
     ensures served { IsHonest S.Store book.new → OnOk result ((w : World) → StandsFor S.Store book.old w → settings.now ≡ w.settings
         → (u : World) × StandsFor S.Store book.new u × (counts : List ℕ) × AreConnections w counts u × (length counts ≡ words.entry.connections)
@@ -63,7 +62,6 @@ pub(crate) fn serve_book<S: Alter, W: Write>(
     output: &mut W,
     book: &mut TableBook<S>,
 ) -> Result<(), Fault>
-    requires { 1 ≤ words.timeout }
     ensures began { IsHonest S.Store book.new → IsHonest S.Store book.old }
     ensures served { IsHonest S.Store book.new → OnOk result ((w : World) → StandsFor S.Store book.old w
         → (u : World) × StandsFor S.Store book.new u × (counts : List ℕ) × AreConnections w counts u × (length counts ≡ words.entry.connections)

@@ -6,8 +6,8 @@ ghost use Rattle.sqlite_wal.specs.Files.{image_at};
 ghost use Rattle.queue_types.specs.Settings.{AreSettings};
 ghost use Rattle.queue_core.specs.World.{World, empty_queue};
 ghost use Rattle.queue_store.specs.Kept.{IsHonest, StandsFor, shown_by};
-ghost use Rattle.queue_store.specs.Opened.{FitsFile};
-ghost use Rattle.commands.specs.Store.{IsKeptIn, settings_of};
+ghost use Rattle.queue_store.specs.Opened.{FitsFile, IsKeptIn};
+ghost use Rattle.commands.specs.Store.{settings_of};
 ghost use Rattle.commands.specs.Found.{found_in};
 ghost use Rattle.command_ends.specs.declared.fault.Fault.TheVariants.{BadSetting};
 

@@ -4,9 +4,8 @@ ghost use Rattle.sqlite.specs.Files.{over_files};
 ghost use Rattle.sqlite_wal.specs.Files.{image_at};
 ghost use Rattle.queue_core.specs.World.{World};
 ghost use Rattle.queue_store.specs.Kept.{IsHonest, StandsFor};
-ghost use Rattle.queue_store.specs.Opened.{FitsFile};
-ghost use Rattle.commands.specs.Store.{IsKeptIn};
-ghost use Rattle.commands.specs.Work.{IsDone, MayDo};
+ghost use Rattle.queue_store.specs.Opened.{FitsFile, IsKeptIn};
+ghost use Rattle.commands.specs.Work.{IsDone};
 
 use crate::office_commands::{import_into, print_from};
 use crate::serving::serve_book;
@@ -50,7 +49,6 @@ fn work_on<S: Alter, W: Write>(
     output: &mut W,
     book: &mut TableBook<S>,
 ) -> Result<(), Fault>
-    requires { MayDo work }
     ensures began { IsHonest S.Store book.new → IsHonest S.Store book.old }
     ensures done { IsHonest S.Store book.new → OnOk result ((w : World) → StandsFor S.Store book.old w
         → (u : World) × StandsFor S.Store book.new u × IsDone work.entry w u (W.contents output.old) (W.contents output.new)) }
@@ -69,7 +67,6 @@ fn work_over<D: Disk + Drop, W: Write>(
     output: &mut W,
     mut book: TableBook<FileStore<D>>,
 ) -> Result<TableBook<FileStore<D>>, Fault>
-    requires { MayDo work }
     ensures { IfOk result (λ b. IsHonest over_files b → IsHonest over_files book × ((w : World) → StandsFor over_files book w
         → (u : World) × StandsFor over_files b u × IsDone work.entry w u (W.contents output.old) (W.contents output.new))) }
 {
@@ -84,7 +81,6 @@ pub(crate) fn work_at<S: Start, W: Write>(
     output: &mut W,
     start: S,
 ) -> Result<FileBook<S>, Fault>
-    requires { MayDo work }
     ensures { FitsFile (image_at S.Start) → IfOk result (λ b. IsHonest over_files b
         → (w : World) × IsKeptIn (image_at S.Start) w × (u : World) × StandsFor over_files b u
         × IsDone work.entry w u (W.contents output.old) (W.contents output.new)) }

@@ -51,7 +51,7 @@ fn step<B: QueueBook>(book: &mut B, now: u32, report: Report) -> Result<ReportAn
     ensures quiet { IfOk result (λ a. is_fault_line a ≡ false) }
     ensures err { OnErr result ((w : World) → B.stands book.old w → B.stands book.new w) }
 {
-    let decision = book.decide(now, &Event::Tell(report))?;
+    let decision = book.decide(now, &Event::Report(report))?;
     let answer = answer_to(report.job, &decision.reply);
     book.apply(decision)?;
     Ok(answer)

@@ -60,7 +60,7 @@ fn take_rows<B: QueueBook>(
     ensures refused { B.is_honest book.new → IfErr result (λ f. (w : World) → B.stands book.old w → Refuses (step w now (grant rows.now)).reply f) }
     ensures err { OnErr result ((w : World) → B.stands book.old w → B.stands book.new w) }
 {
-    let decision = book.decide(now, &Event::Grant(rows))?;
+    let decision = book.decide(now, &Event::Grants(rows))?;
     match decision.reply {
         Reply::Added { added, repeats } => {
             book.apply(decision)?;

@@ -18,7 +18,7 @@ pub struct Input<R> {
     pub buffer: Buffer,
     pub reader: R,
     /// How many reads may still be made.
-    reads_left: u32,
+    pub reads_left: u32,
 }
 
 impl<R: Read> Input<R> {
@@ -26,6 +26,7 @@ impl<R: Read> Input<R> {
     pub fn new(reader: R) -> Input<R>
         ensures empty { result.buffer ≡ [] }
         ensures reader { result.reader ≡ reader }
+        ensures reads { result.reads_left ≡ 2148007937 }
     {
         Input {
             buffer: Buffer::new(),
@@ -58,6 +59,7 @@ impl<R: Read> Input<R> {
         ensures grows { IfOk result (λ n. length self.new.buffer ≡ length self.old.buffer + n) }
         ensures end { IfOk result (λ n. n ≡ 0 → (self.new.buffer ≡ self.old.buffer) × IsAtEnd (R.remaining self.new.reader)) }
         ensures fits { length self.new.buffer ≤ 16384 }
+        ensures counted { IfOk result (λ n. self.new.reads_left + 1 ≡ self.old.reads_left) }
     {
         let Some(reads_left) = self.reads_left.checked_sub(1) else {
             return Err(ReadFault);

@@ -9,7 +9,7 @@ use Rattle.httparse.specs.Ascii.{crlf_bytes}
 use Rattle.httparse.specs.Grammar.{ChunkLine, print_chunk_line, chunk_size, print_section}
 use Rattle.http_head.specs.Limits.{content_limit, raw_limit, line_limit, trailer_limit}
 use Rattle.http_wire.specs.Chunks.{Chunk, IsChunk, AreChunks, IsShortLine, chunks_bytes, chunks_content, chunk_bytes, content_of, chunked_bytes, chunked_content}
-use Rattle.http_wire.specs.ChunkEnds.{BeginsWithChunks, EndsAtLine, EndsAtTrailers, EndsAtLineEnd, EndsInChunk, EndsInChunks, at_line, too_large, in_chunk, at_trailers, bound_behind}
+use Rattle.http_wire.specs.ChunkEnds.{BeginsWithChunks, EndsAtLine, EndsAtTrailers, EndsAtLineEnd, EndsInChunk, EndsInChunks, IsPastLimits, at_line, too_large, in_chunk, at_trailers, bound_behind}
 use Rattle.http_wire.specs.ChunkParts.{TakesLine, TakesChunk, TakesChunks, TakesToLast, TakesTrailers, TakesChunked}
 use Rattle.http_wire.specs.Bodies.{EndsInLength, TakesMore}
 use Rattle.http_head.specs.declared.end.Finish.{Finish}
@@ -110,8 +110,7 @@ begins : (x z : List ℕ) (chunks : List Chunk) (l : ChunkLine) → AreChunks ch
 begins x z chunks l are short taken = record { are = are; line = short; bytes_are = taken }
 
 large_at : (a c : Option (List ℕ)) (chunks : List Chunk) (l : ChunkLine) → AreChunks chunks → IsShortLine l → 0 < chunk_size l → Consumes a c (chunks_bytes chunks ++ print_chunk_line l)
-    → (content_limit < length (chunks_content chunks) + chunk_size l) ⊎ (raw_limit < length (chunks_bytes chunks) + length (print_chunk_line l) + chunk_size l + 2)
-    → IfSome a (λ xs. EndsInChunks xs (Refused TooLarge))
+    → IsPastLimits chunks l → IfSome a (λ xs. EndsInChunks xs (Refused TooLarge))
 large_at None c chunks l are short some taken over = tt
 large_at (Some x) None chunks l are short some taken over = absurd taken
 large_at (Some x) (Some z) chunks l are short some taken over = too_large chunks l z (begins x z chunks l are short taken) some over
@@ -122,16 +121,19 @@ ended_too_large a b c limit raw len size body run line some over =
     large_at a c run.chunks line.line run.are line.is (omega (arith, line.size_is, some)) (past_line a b c limit raw len size body run line)
     (elim over [ inl h ↦ inl (omega (arith, h, ap length run.content_is, line.size_is)) | inr h ↦ inr (omega (arith, h, run.raw_is, line.size_is, line.len_is)) ])
 
-chunk_at : (a c : Option (List ℕ)) (chunks : List Chunk) (l : ChunkLine) (end : Finish) → AreChunks chunks → IsShortLine l → 0 < chunk_size l → Consumes a c (chunks_bytes chunks ++ print_chunk_line l)
+chunk_at : (a c : Option (List ℕ)) (chunks : List Chunk) (l : ChunkLine) (end : Finish) → AreChunks chunks → IsShortLine l → 0 < chunk_size l → ¬ IsPastLimits chunks l → Consumes a c (chunks_bytes chunks ++ print_chunk_line l)
     → IfSome c (λ xs. EndsInChunk (chunk_size l) xs end) → IfSome a (λ xs. EndsInChunks xs end)
-chunk_at None c chunks l end are short some taken e = tt
-chunk_at (Some x) None chunks l end are short some taken e = absurd taken
-chunk_at (Some x) (Some z) chunks l end are short some taken e = in_chunk chunks l z end (begins x z chunks l are short taken) some e
+chunk_at None c chunks l end are short some fits taken e = tt
+chunk_at (Some x) None chunks l end are short some fits taken e = absurd taken
+chunk_at (Some x) (Some z) chunks l end are short some fits taken e = in_chunk chunks l z end (begins x z chunks l are short taken) some fits e
 
 pub ended_in_chunk : (a b c : Option (List ℕ)) (limit raw len size : ℕ) (body : List ℕ) (end : Finish) → TakesChunks a b raw body → TakesLine limit b c len size → 0 < size
+    → length body + size ≤ content_limit → raw + len + size + 2 ≤ raw_limit
     → IfSome c (λ xs. EndsInChunk size xs end) → IfSome a (λ xs. EndsInChunks xs end)
-ended_in_chunk a b c limit raw len size body end run line some e =
-    chunk_at a c run.chunks line.line end run.are line.is (omega (arith, line.size_is, some)) (past_line a b c limit raw len size body run line)
+ended_in_chunk a b c limit raw len size body end run line some room fits e =
+    chunk_at a c run.chunks line.line end run.are line.is (omega (arith, line.size_is, some))
+    (λ past. elim past [ inl h ↦ omega (arith, h, room, ap length run.content_is, line.size_is) | inr h ↦ omega (arith, h, fits, run.raw_is, line.size_is, line.len_is) ])
+    (past_line a b c limit raw len size body run line)
     (subst (λ n. IfSome c (λ xs. EndsInChunk n xs end)) line.size_is e)
 
 pub ended_at_trailers : (a c : Option (List ℕ)) (raw : ℕ) (body : List ℕ) (end : Finish) → TakesToLast a c raw body
@@ -161,13 +163,13 @@ content_fits a c raw body run = let e = ap length run.content_is in omega (arith
 
 pub chunk_cut : (bytes : Option (List ℕ)) (size : ℕ) (end : Finish) → IfSome bytes (λ xs. EndsInLength size xs end) → IfSome bytes (λ xs. EndsInChunk size xs end)
 chunk_cut None size end h = tt
-chunk_cut (Some x) size end h = subst (λ (e : Finish). EndsInChunk size x e) (sym h.0) (omega (arith, h.1))
+chunk_cut (Some x) size end h = subst (λ (e : Finish). EndsInChunk size x e) (sym h.0) (inl h.1)
 
 chunk_end_of : (size : ℕ) (x y content : List ℕ) (end : Finish) → x ≡ content ++ y → length content ≡ size → EndsAtLineEnd y end → EndsInChunk size x end
 chunk_end_of size x y content Closed e h n = n
-chunk_end_of size x y content Cut e h n = let f = ap length e in let g = length-append content y in omega (arith, f, g, h, n)
+chunk_end_of size x y content Cut e h n = inr (y, record { content = content; bytes_are = e; size_is = h }, n)
 chunk_end_of size x y content Done e h n = n
-chunk_end_of size x y content (Refused r) e h n = (n.0, content, y, e, h, n.1, n.2)
+chunk_end_of size x y content (Refused r) e h n = (n.0, y, record { content = content; bytes_are = e; size_is = h }, n.1)
 
 pub chunk_end : (a b : Option (List ℕ)) (size : ℕ) (content : List ℕ) (end : Finish) → Consumes a b content → length content ≡ size → IfSome b (λ xs. EndsAtLineEnd xs end) → IfSome a (λ xs. EndsInChunk size xs end)
 chunk_end None b size content end t h e = tt

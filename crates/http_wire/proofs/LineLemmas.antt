@@ -4,12 +4,12 @@ use Rattle.std.specs.Io.KnownBytes.{Keeps, Consumes, IsAtEnd}
 use Rattle.std.proofs.KnownBytes.{Keeps-trans}
 use Rattle.std.proofs.lemmas.List.{length-take-le, length-take, length-map, take_all}
 use Rattle.std.proofs.Math.Seq.{drop-append_seam}
-use Rattle.httparse.specs.Grammar.{ChunkLine, HasNoChunkLine, NeverHasChunkLine, print_chunk_line, Field, print_section, HasNoSection}
+use Rattle.httparse.specs.Grammar.{ChunkLine, HasNoChunkLine, MayBecomeChunkLine, NeverHasChunkLine, print_chunk_line, Field, print_section, HasNoSection}
 use Rattle.httparse.specs.Spans.{IsChunkLineAt, SectionOverflows, IsSectionOf, AreFieldsAt, header_bytes, name_and_value}
 use Rattle.httparse.specs.declared.spans.HeaderSpan.{HeaderSpan}
 use Rattle.http_head.specs.Left.{left}
 use Rattle.http_head.specs.Limits.{line_limit, trailer_limit, field_limit}
-use Rattle.http_wire.specs.ChunkEnds.{HasNoLineWithin, HasNoTrailersWithin, EndsAtLine, EndsAtTrailers}
+use Rattle.http_wire.specs.ChunkEnds.{HasNoLineWithin, HasNoTrailersWithin, EndsAtLine, EndsAtLineEnd, EndsAtTrailers, IsOpenLineEnd, NeverHasLineEnd}
 use Rattle.http_wire.specs.ChunkParts.{TakesLine, TakesTrailers, AreTrailersAt}
 use Rattle.http_wire.specs.declared.chunk.Bound.{Bound}
 use Rattle.http_head.specs.declared.end.Finish.TheVariants.{Cut, Refused}
@@ -76,14 +76,15 @@ line_never (Some x) (Some y) come window bound p e never =
     subst (λ xs. EndsAtLine bound xs (Refused BadRequest)) p
     (inl (refl, λ more. subst HasNoChunkLine (whole_of come y more n) (cut (drop n come ++ y ++ more))))
 
-pub line_cut : (bytes r : Option (List ℕ)) (come window : List ℕ) (bound : Bound) → Keeps bytes (left come r) → length come < bound.limit → window ≡ take bound.limit come → HasNoChunkLine window → IsAtEnd r
+pub line_cut : (bytes r : Option (List ℕ)) (come window : List ℕ) (bound : Bound) → Keeps bytes (left come r) → length come < bound.limit → window ≡ take bound.limit come → HasNoChunkLine window → MayBecomeChunkLine window → IsAtEnd r
     → IfSome bytes (λ xs. EndsAtLine bound xs Cut)
-line_cut None r come window bound p few e none end = tt
-line_cut (Some x) None come window bound p few e none end = absurd p
-line_cut (Some x) (Some y) come window bound p few e none end =
+line_cut None r come window bound p few e none may end = tt
+line_cut (Some x) None come window bound p few e none may end = absurd p
+line_cut (Some x) (Some y) come window bound p few e none may end =
     let small : length come ≤ bound.limit = omega (arith, few) in
     let same : come ≡ x = sym (append-nil come) ∙ ap (λ l. come ++ l) (sym end) ∙ p in
-    subst (λ xs. EndsAtLine bound xs Cut) same (few, subst HasNoChunkLine (e ∙ take_all bound.limit come small) none)
+    let whole : window ≡ come = e ∙ take_all bound.limit come small in
+    subst (λ xs. EndsAtLine bound xs Cut) same (few, subst HasNoChunkLine whole none, subst MayBecomeChunkLine whole may)
 
 -- a line in the window is a line
 pub line_found : (come window : List ℕ) (n len size : ℕ) → window ≡ take n come → ((l : ChunkLine) × IsChunkLineAt window len size l)
@@ -102,6 +103,22 @@ line_taken bytes r come new limit len size p found small e = record {
   fits = found.2;
   taken = subst (λ (b : List ℕ). Consumes bytes (left b r) (print_chunk_line found.0)) (sym e) (head_consumed bytes r come (print_chunk_line found.0) (drop len come) p found.1.reads.1);
 }
+
+-- ---- the line end behind a chunk's content
+
+-- what can never begin a line end can't where more stands behind it
+pub line_end_never : (bytes r : Option (List ℕ)) (come : List ℕ) → Keeps bytes (left come r) → NeverHasLineEnd come → IfSome bytes (λ xs. EndsAtLineEnd xs (Refused BadRequest))
+line_end_never None r come p never = tt
+line_end_never (Some x) None come p never = absurd p
+line_end_never (Some x) (Some y) come p never =
+    subst (λ xs. EndsAtLineEnd xs (Refused BadRequest)) p (refl, λ more rest e. never (y ++ more) rest (sym (append_assoc come y more) ∙ e))
+
+pub line_end_cut : (bytes r : Option (List ℕ)) (come : List ℕ) → Keeps bytes (left come r) → IsOpenLineEnd come → IsAtEnd r → IfSome bytes (λ xs. EndsAtLineEnd xs Cut)
+line_end_cut None r come p part end = tt
+line_end_cut (Some x) None come p part end = absurd p
+line_end_cut (Some x) (Some y) come p part end =
+    let same : come ≡ x = sym (append-nil come) ∙ ap (λ l. come ++ l) (sym end) ∙ p in
+    subst IsOpenLineEnd same part
 
 -- ---- a trailer section
 

@@ -1,7 +1,7 @@
 -- Where a connection may end in a chunked body (RFC 9112, sections 7.1 and 8).
-use Rattle.std.specs.Prelude.{◌≡◌, ◌≢◌, ◌+◌, ◌-◌, ◌<◌, ◌≤◌, ◌⊎◌, ℕ, List, ◌++◌, length, nat_lt, if◌then◌else◌}
+use Rattle.std.specs.Prelude.{◌≡◌, ◌≢◌, ◌+◌, ◌-◌, ◌<◌, ◌≤◌, ◌⊎◌, ℕ, List, [], ◌∷◌, ◌++◌, length, nat_lt, if◌then◌else◌}
 use Rattle.httparse.specs.Ascii.{crlf_bytes}
-use Rattle.httparse.specs.Grammar.{ChunkLine, IsChunkLine, print_chunk_line, chunk_size, HasNoChunkLine, NeverHasChunkLine, Field, LineEnd, print_section}
+use Rattle.httparse.specs.Grammar.{ChunkLine, IsChunkLine, print_chunk_line, chunk_size, HasNoChunkLine, MayBecomeChunkLine, NeverHasChunkLine, Field, LineEnd, print_section}
 use Rattle.http_head.specs.Limits.{line_limit, content_limit, raw_limit, trailer_limit}
 use Rattle.http_wire.specs.Chunks.{Chunk, AreChunks, IsShortLine, chunks_bytes, chunks_content, AreTrailers}
 use Rattle.http_wire.specs.declared.chunk.Bound.{Bound}
@@ -23,10 +23,10 @@ bound_behind raw limit =
 abbrev pub HasNoLineWithin : ℕ → List ℕ → Type 0
 HasNoLineWithin limit bytes = (l : ChunkLine) (rest : List ℕ) → IsChunkLine l → length (print_chunk_line l) ≤ limit → bytes ≢ print_chunk_line l ++ rest
 
--- the input ends before a whole line, or no bytes behind it can make one, or as many bytes as it may have hold none
+-- the input ends within what may become a line, or no bytes behind it can make one, or as many bytes as it may have hold none
 abbrev pub EndsAtLine : Bound → List ℕ → Finish → Type 0
 EndsAtLine bound bytes Closed = ⊥
-EndsAtLine bound bytes Cut = (length bytes < bound.limit) × HasNoChunkLine bytes
+EndsAtLine bound bytes Cut = (length bytes < bound.limit) × HasNoChunkLine bytes × MayBecomeChunkLine bytes
 EndsAtLine bound bytes Done = ⊥
 EndsAtLine bound bytes (Refused r) =
     ((r ≡ BadRequest) × NeverHasChunkLine bytes) ⊎ ((r ≡ bound.refusal) × (bound.limit ≤ length bytes) × HasNoLineWithin bound.limit bytes)
@@ -48,24 +48,33 @@ EndsAtTrailers bound bytes (Refused r) =
 
 -- ---- in a chunk
 
--- no CR LF is a prefix of the bytes
-abbrev pub HasNoLineEnd : List ℕ → Type 0
-HasNoLineEnd bytes = (rest : List ℕ) → bytes ≢ crlf_bytes ++ rest
+-- nothing, or a CR: a LF may follow that makes it a line end
+abbrev pub IsOpenLineEnd : List ℕ → Type 0
+IsOpenLineEnd bytes = (bytes ≡ []) ⊎ (bytes ≡ 13 ∷ [])
 
--- where the CR LF behind a chunk's content should stand: too few bytes are left, or others
+-- no bytes behind these make CR LF their prefix
+abbrev pub NeverHasLineEnd : List ℕ → Type 0
+NeverHasLineEnd bytes = (more : List ℕ) (rest : List ℕ) → bytes ++ more ≢ crlf_bytes ++ rest
+
+-- where the CR LF behind a chunk's content should stand: the input ends before it, or others stand there
 abbrev pub EndsAtLineEnd : List ℕ → Finish → Type 0
 EndsAtLineEnd bytes Closed = ⊥
-EndsAtLineEnd bytes Cut = length bytes < 2
+EndsAtLineEnd bytes Cut = IsOpenLineEnd bytes
 EndsAtLineEnd bytes Done = ⊥
-EndsAtLineEnd bytes (Refused r) = (r ≡ BadRequest) × (0 < length bytes) × HasNoLineEnd bytes
+EndsAtLineEnd bytes (Refused r) = (r ≡ BadRequest) × NeverHasLineEnd bytes
 
--- where the content of a chunk of that size begins: too few bytes are left, or no CR LF follows the content
+-- the content of a chunk of that size stands at the front, and these bytes behind it
+pub record HasContent (size : ℕ) (bytes rest : List ℕ) : Type 0 where
+  pub content : List ℕ
+  pub bytes_are : bytes ≡ content ++ rest
+  pub size_is : length content ≡ size
+
+-- where the content of a chunk of that size begins: the input ends in the content or in the CR LF behind it, or no CR LF can follow the content
 abbrev pub EndsInChunk : ℕ → List ℕ → Finish → Type 0
 EndsInChunk size bytes Closed = ⊥
-EndsInChunk size bytes Cut = length bytes < size + 2
+EndsInChunk size bytes Cut = (length bytes < size) ⊎ ((rest : List ℕ) × HasContent size bytes rest × IsOpenLineEnd rest)
 EndsInChunk size bytes Done = ⊥
-EndsInChunk size bytes (Refused r) =
-    (r ≡ BadRequest) × (content : List ℕ) × (rest : List ℕ) × (bytes ≡ content ++ rest) × (length content ≡ size) × (0 < length rest) × HasNoLineEnd rest
+EndsInChunk size bytes (Refused r) = (r ≡ BadRequest) × (rest : List ℕ) × HasContent size bytes rest × NeverHasLineEnd rest
 
 -- ---- in the body
 
@@ -75,19 +84,22 @@ pub record BeginsWithChunks (bytes : List ℕ) (chunks : List Chunk) (l : ChunkL
   pub line : IsShortLine l
   pub bytes_are : bytes ≡ chunks_bytes chunks ++ print_chunk_line l ++ rest
 
+-- with the chunk of this line the content or the raw bytes pass their limit
+abbrev pub IsPastLimits : List Chunk → ChunkLine → Type 0
+IsPastLimits chunks l =
+    (content_limit < length (chunks_content chunks) + chunk_size l) ⊎ (raw_limit < length (chunks_bytes chunks) + length (print_chunk_line l) + chunk_size l + 2)
+
 -- whole chunks, and then
 pub data EndsInChunks (bytes : List ℕ) : Finish → Type 0 where
   -- no chunk line
   at_line : (chunks : List Chunk) (rest : List ℕ) (end : Finish) → AreChunks chunks → bytes ≡ chunks_bytes chunks ++ rest
       → EndsAtLine (bound_behind (length (chunks_bytes chunks)) line_limit) rest end → EndsInChunks bytes end
-  -- the line of a chunk with which the content or the raw bytes pass their limit
+  -- the line of a chunk that is too large
   too_large : (chunks : List Chunk) (l : ChunkLine) (rest : List ℕ) → BeginsWithChunks bytes chunks l rest → 0 < chunk_size l
-      → (content_limit < length (chunks_content chunks) + chunk_size l)
-      ⊎ (raw_limit < length (chunks_bytes chunks) + length (print_chunk_line l) + chunk_size l + 2)
-      → EndsInChunks bytes (Refused TooLarge)
-  -- the line of a chunk, and no such chunk
+      → IsPastLimits chunks l → EndsInChunks bytes (Refused TooLarge)
+  -- the line of one that is not, and no such chunk
   in_chunk : (chunks : List Chunk) (l : ChunkLine) (rest : List ℕ) (end : Finish) → BeginsWithChunks bytes chunks l rest → 0 < chunk_size l
-      → EndsInChunk (chunk_size l) rest end → EndsInChunks bytes end
+      → ¬ IsPastLimits chunks l → EndsInChunk (chunk_size l) rest end → EndsInChunks bytes end
   -- the line of the last chunk, and no trailer section
   at_trailers : (chunks : List Chunk) (l : ChunkLine) (rest : List ℕ) (end : Finish) → BeginsWithChunks bytes chunks l rest → chunk_size l ≡ 0
       → EndsAtTrailers (bound_behind (length (chunks_bytes chunks) + length (print_chunk_line l)) trailer_limit) rest end → EndsInChunks bytes end

@@ -3,8 +3,8 @@
 ghost use Rattle.std.specs.Prelude.{◌≡◌, ◌++◌, List, ℕ, []};
 ghost use Rattle.ipp_wire.specs.Message.{Attribute, Message, Spells, IsAttribute, IsPlainAttribute};
 
-/// No message has two spellings, no bytes spell two messages, and the spelling of a message without
-/// payload is no proper beginning of another's.
+/// No message has two spellings, no bytes spell two messages, and of two messages without payload neither
+/// spelling is a proper beginning of the other's.
 pub fn one_spelling()
     ensures one_text { (m : Message) (a b : List ℕ) → Spells m a → Spells m b → a ≡ b }
     ensures one_message { (m n : Message) (b : List ℕ) → Spells m b → Spells n b → m ≡ n }

@@ -306,7 +306,7 @@ pub(crate) fn scene(alloc: Global, lists: &Lists, event: &Event<'_>) -> Result<S
 {
     match event {
         Event::Ask { caller, call } => scene_of_call(alloc, lists, caller, call),
-        Event::Tell(r) => scene_of_report(alloc, lists, r),
-        Event::Grant(rows) => scene_of_grants(alloc, lists, rows),
+        Event::Report(r) => scene_of_report(alloc, lists, r),
+        Event::Grants(rows) => scene_of_grants(alloc, lists, rows),
     }
 }

@@ -20,6 +20,7 @@ use std::alloc::Global;
 use std::io;
 use std::io::Write;
 use std::net::{Shutdown, TcpListener, TcpStream};
+use std::num::NonZeroU32;
 use std::rt::Clock;
 use std::time::Duration;
 
@@ -31,8 +32,8 @@ pub struct Service<'a> {
     pub listener: &'a TcpListener,
     /// The settings of the book's queue.
     pub settings: &'a Settings,
-    /// How many seconds one read or one write may wait, at least 1. A timeout ends its connection alone.
-    pub timeout: u32,
+    /// How many seconds one read or one write may wait. A timeout ends its connection alone.
+    pub timeout: NonZeroU32,
 }
 
 /// How long one read waits for what a client sends behind its last request.
@@ -46,10 +47,8 @@ fn seconds(count: u32) -> Duration
 }
 
 /// Readies a stream: no read and no write waits longer than so many seconds, and small writes go out at once.
-fn prepare(stream: &TcpStream, timeout: u32) -> io::Result<()>
-    requires { 1 ≤ timeout }
-{
-    let wait = Some(seconds(timeout));
+fn prepare(stream: &TcpStream, timeout: NonZeroU32) -> io::Result<()> {
+    let wait = Some(seconds(timeout.get()));
     stream.set_read_timeout(wait)?;
     stream.set_write_timeout(wait)?;
     stream.set_nodelay(true)
@@ -88,8 +87,7 @@ fn check_book<B: QueueBook>(book: &mut B) -> Result<(), BookFault>
 impl Service<'_> {
     /// Serves a connection at a moment and closes it. One that can't be readied has gone away.
     fn serve_stream<B: QueueBook>(self, stream: TcpStream, book: &mut B, now: u32) -> Outcome
-        requires wait { 1 ≤ self.timeout }
-        requires moment { IsMoment now }
+        requires { IsMoment now }
         ensures began { B.is_honest book.new → B.is_honest book.old }
         ensures worked { B.is_honest book.new → (w : World) → B.stands book.old w → self.entry.settings.now ≡ w.settings
             → (u : World) × B.stands book.new u × Worked 32 now w u result.acted }
@@ -129,7 +127,6 @@ impl Service<'_> {
         out: &mut O,
         book: &mut B,
     ) -> Result<(), ServerFault>
-        requires { 1 ≤ self.timeout }
         ensures began { B.is_honest book.new → B.is_honest book.old }
         ensures ok { B.is_honest book.new → OnOk result ((w : World) → B.stands book.old w → self.entry.settings.now ≡ w.settings
             → (u : World) × B.stands book.new u × (counts : List ℕ) × AreConnections w counts u × (length counts ≡ 1)
@@ -159,7 +156,6 @@ impl Service<'_> {
         book: &mut B,
         connections: u32,
     ) -> Result<(), ServerFault>
-        requires { 1 ≤ self.timeout }
         ensures began { B.is_honest book.new → B.is_honest book.old }
         // every connection was served, and its count printed
         ensures ok { B.is_honest book.new → OnOk result ((w : World) → B.stands book.old w → self.entry.settings.now ≡ w.settings

@@ -235,8 +235,8 @@ fn decision_on<'a>(
 {
     match event {
         Event::Ask { caller, call } => answer_call(alloc, scene, now, caller, call),
-        Event::Tell(r) => report(alloc, scene, now, *r),
-        Event::Grant(rows) => grant(alloc, scene, rows),
+        Event::Report(r) => report(alloc, scene, now, *r),
+        Event::Grants(rows) => grant(alloc, scene, rows),
     }
 }
 

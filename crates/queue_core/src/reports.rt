@@ -11,7 +11,7 @@ use queue_types::event::{Decision, KeptReport, Kind, Reply, Report, ReportRefusa
 use queue_types::job::{Job, Phase, Why};
 use std::alloc::{AllocError, Global};
 
-/// Of one job and sequence number, the same report.
+/// Two reports of one job and sequence number are the same: they have the same kind and count.
 fn is_same(a: &Report, b: &Report) -> bool
     ensures { result ≡ is_same_report a.now b.now }
 {
@@ -47,7 +47,7 @@ fn why(stopping: bool) -> Why
     if stopping { Why::ByUser } else { Why::AtDevice }
 }
 
-/// The job in the phase, where it waits and may print.
+/// The job as it starts printing, where it is neither held nor open for documents.
 fn started(mut job: Job, now: u32) -> Option<Job>
     ensures is { result ≡ moved_by Kind.Start Phase.Waiting now job }
     ensures amounts { AreAmounts job → IfSome result AreAmounts }

@@ -48,12 +48,12 @@ batch_low b h = grind (arith, nat_tests)
 
 -- ---- meta
 
-pub formed_meta : (w : World) → IsSound w → IsUtf8 w.settings.name → IsFormedMeta (meta_row w)
-formed_meta w sound name = record {
+pub formed_meta : (w : World) → IsSound w → IsFormedMeta (meta_row w)
+formed_meta w sound = record {
   one = omega arith;
   schema = omega arith;
   uri = ascii_text is_uri_byte uri_low w.settings.uri sound.settings.uri_bytes;
-  name = name;
+  name = sound.settings.name_utf8;
   estimate = omega (arith, sound.settings.estimate_fits);
   next_number = omega (arith, sound.next);
 }

@@ -2,7 +2,6 @@
 use Rattle.std.proofs.Common.{◌≡◌, ℕ, List, [], ◌∷◌, Bool, map, length, IsTrue, get_or, refl, sym, ap, subst, ◌∙◌}
 use Rattle.std.specs.List.{AllByRecursion as Each}
 use Rattle.std.specs.List.Sorted.{IsPermutation}
-use Rattle.std.specs.Str.{IsUtf8}
 use Rattle.std.proofs.lemmas.List.Elements.{All-from_recursion, All-map}
 use Rattle.sqlite.specs.Effect.{Database}
 use Rattle.sqlite.specs.Order.{Row}
@@ -91,12 +90,12 @@ module _ (w : World) (db : Trees) (sound : IsSound w) (are : AreSoundRows (rows_
 
   -- ---- which have their forms
 
-  first_formed : IsUtf8 w.settings.name → HasJobTables db
+  first_formed : HasJobTables db
   unfolding wholes
-  first_formed name =
+  first_formed =
       let documents = formed_documents w.jobs sound.entries in
       record {
-        meta = record { items = meta_row w ∷ []; formed = All-from_recursion IsFormedMeta (meta_row w ∷ []) (formed_meta w sound name, tt); are = held.meta.same };
+        meta = record { items = meta_row w ∷ []; formed = All-from_recursion IsFormedMeta (meta_row w ∷ []) (formed_meta w sound, tt); are = held.meta.same };
         jobs = record { items = (rows_of w).jobs; formed = λ k d low. formed_job _ (are.tables.jobs.jobs k d low).sound; are = held.jobs.same };
         documents = record { items = (rows_of w).documents; formed = All-from_recursion IsFormedDocument (rows_of w).documents documents; are = held.documents.same };
         pieces = record {
@@ -177,10 +176,10 @@ has_tables : (s : Schema) → s ≡ book_schema → IsTrue (has_all s)
 unfolding same_name
 has_tables s is = subst (λ (t : Schema). IsTrue (has_all t)) (sym is) refl
 
-pub loadable : (w : World) (d : Database) → AreSoundRows (rows_of w) → map length (bytes_of w) ≡ map length_in (rows_of w).pieces → IsUtf8 w.settings.name → IsQueueIn w d → IsLoadable d
-loadable w d are lengths name h = record {
+pub loadable : (w : World) (d : Database) → AreSoundRows (rows_of w) → map length (bytes_of w) ≡ map length_in (rows_of w).pieces → IsQueueIn w d → IsLoadable d
+loadable w d are lengths h = record {
   tables = has_tables d.schema h.schema;
-  first = first_formed w d.trees h.sound are lengths h.rows name;
+  first = first_formed w d.trees h.sound are lengths h.rows;
   second = second_formed w d.trees h.sound are lengths h.rows;
 }
 

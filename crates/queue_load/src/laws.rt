@@ -1,6 +1,5 @@
 //! What the tables of a queue are, as laws: each is a contract on a body that does nothing.
 ghost use Rattle.std.specs.Prelude.{◌≡◌};
-ghost use Rattle.std.specs.Str.{IsUtf8};
 ghost use Rattle.sqlite.specs.Effect.{Database};
 ghost use Rattle.queue_core.specs.World.{World};
 ghost use Rattle.queue_load.specs.Content.{HaveRows};
@@ -17,9 +16,9 @@ pub fn tables_have_rows()
     ensures { HaveRows }
 {}
 
-/// Tables that hold a sound queue, whose printer's name is a text, have the forms that are read.
+/// Tables that hold a sound queue have the forms that are read.
 pub fn queues_are_loadable()
-    ensures { (w : World) (d : Database) → IsUtf8 w.settings.name → IsQueueIn w d → IsLoadable d }
+    ensures { (w : World) (d : Database) → IsQueueIn w d → IsLoadable d }
 {
     sound_queues_have_sound_rows();
 }

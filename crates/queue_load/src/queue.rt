@@ -1,6 +1,5 @@
 //! The rows of the queue that the tables hold.
 ghost use Rattle.std.specs.Prelude.{◌≡◌, IfOk, IfErr, OnOk};
-ghost use Rattle.std.specs.Str.{IsUtf8};
 ghost use Rattle.sqlite.specs.Held.{state};
 ghost use Rattle.sqlite.specs.State.{HasCleanDisk, IsUnchanged};
 ghost use Rattle.queue_core.specs.World.{World};
@@ -35,13 +34,13 @@ fn check_accounts<S: Alter>(alloc: Global, conn: &mut Connection<S>) -> Result<(
     Ok(())
 }
 
-/// The rows of the sound queue that the tables hold. Damaged is told only where they hold none whose printer's
-/// name is a text. The tables stay as they were, where the connection is still open. Within a transaction it answers Disk.
+/// The rows of the sound queue that the tables hold. Damaged is told only where they hold none. The tables stay as they were, where the
+/// connection is still open. Within a transaction it answers Disk.
 pub fn load_queue<S: Alter>(alloc: Global, conn: &mut Connection<S>) -> Result<Rows, Fault>
     ensures leaves { LeavesTables (state S.Store conn.old) (state S.Store conn.new) }
     ensures same { HasCleanDisk (state S.Store conn.new) → OnOk result (IsUnchanged (state S.Store conn.old) (state S.Store conn.new)) }
     ensures queue { FitsIn (state S.Store conn.old) → HasCleanDisk (state S.Store conn.new) → IfOk result (λ r. HasQueue (tables_in r) (state S.Store conn.old).now) }
-    ensures damaged { FitsIn (state S.Store conn.old) → HasCleanDisk (state S.Store conn.new) → IfErr result (λ e. e ≡ Damaged → (w : World) → IsUtf8 w.settings.name → ¬ IsQueueIn w (state S.Store conn.old).now) }
+    ensures damaged { FitsIn (state S.Store conn.old) → HasCleanDisk (state S.Store conn.new) → IfErr result (λ e. e ≡ Damaged → (w : World) → ¬ IsQueueIn w (state S.Store conn.old).now) }
 {
     queues_are_loadable();
     tables_give_their_queue();

@@ -5,12 +5,12 @@ ghost use Rattle.queue_rows.specs.Jobs.{IsJobRow, NumbersRise};
 
 use crate::texts::{is_job_name, is_owner};
 use queue_types::job::{Job, Phase};
-use queue_types::limits::{LAST_JOB_NUMBER, MOST_COPIES, MOST_IMPRESSIONS, MOST_PRINTED_PAGES};
+use queue_types::limits::{LAST_MOMENT, MOST_COPIES, MOST_IMPRESSIONS, MOST_PRINTED_PAGES};
 
 fn is_positive(n: u32) -> bool
     ensures { IsTrue result ↔ IsPositive n }
 {
-    n >= 1 && n <= LAST_JOB_NUMBER
+    n >= 1 && n <= LAST_MOMENT
 }
 
 fn is_moment_if_some(moment: Option<u32>) -> bool

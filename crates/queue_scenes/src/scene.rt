@@ -283,7 +283,7 @@ pub fn scene<S: Alter>(
 {
     match event {
         Event::Ask { caller, call } => scene_of_call(alloc, conn, settings, caller, call),
-        Event::Tell(r) => scene_of_report(alloc, conn, settings, r),
-        Event::Grant(rows) => scene_of_grants(alloc, conn, settings, rows),
+        Event::Report(r) => scene_of_report(alloc, conn, settings, r),
+        Event::Grants(rows) => scene_of_grants(alloc, conn, settings, rows),
     }
 }

@@ -5,16 +5,19 @@ use Rattle.sqlite.specs.Files.{AreFoundIn, HoldsDatabase}
 use Rattle.sqlite.specs.Start.{FindsIn}
 use Rattle.sqlite.specs.State.{State, HasCleanDisk, IsLive, IsUnchanged, Opens}
 use Rattle.sqlite_trees.specs.Tree.{Trees}
+use Rattle.sqlite_trees.specs.declared.store.Store.{Ghosts}
 use Rattle.sqlite_wal.specs.Recovery.{Image}
 use Rattle.queue_types.specs.Settings.{SettingValues, AreSettings}
+use Rattle.queue_core.specs.World.{World}
 use Rattle.queue_rows.specs.Meta.{settings_in}
 use Rattle.queue_rows.specs.Rows.{Tables, meta_row}
 use Rattle.queue_rows.specs.declared.rows.MetaRow.{MetaRow}
 use Rattle.queue_load.specs.Queues.{HasQueue}
 use Rattle.queue_load.specs.Store.{FitsIn}
 use Rattle.queue_tables.specs.Content.{HasContent, content_of}
-use Rattle.queue_store.specs.Kept.{HasWorld}
-use Rattle.queue_store.specs.Opened.{FitsFile}
+use Rattle.queue_store.specs.Kept.{HasWorld, StandsFor, shown_by}
+use Rattle.queue_store.specs.Opened.{FitsFile, IsKeptIn}
+use Rattle.queue_store.specs.declared.book.TableBook.{TableBook}
 
 row_of : (t : Tables) (d : Database) (has : HasQueue t d) → t.meta ≡ meta_row has.world ∷ []
 row_of t d has = sym (ap (λ (u : Tables). u.meta) has.rows)
@@ -49,3 +52,10 @@ module _ (s : State) (image : Image) (opened : HasCleanDisk s → Opens s × IsL
 
   pub holds_file : HasCleanDisk s → (db : Trees) → HoldsDatabase image db → s.now.trees ≡ db
   holds_file clean db holds = sym (same_trees clean) ∙ (found clean).holds db holds
+
+-- a book that was opened stands for the queue that its files keep
+pub kept_in : {S : Type 0} (store : Ghosts S) (b : TableBook S) (image : Image) → HasWorld (shown_by store b) b.settings
+    → ((db : Trees) → HoldsDatabase image db → (shown_by store b).now.trees ≡ db)
+    → (w : World) × IsKeptIn image w × StandsFor store b w
+kept_in store b image one found =
+    (one.world, (λ db held. subst (λ (trees : Trees). HasContent (content_of one.world) trees) (found db held) (one.keeps.holds one.live).rows), λ _. one.keeps)

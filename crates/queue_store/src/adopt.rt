@@ -1,6 +1,5 @@
 //! A book from tables that are there.
 ghost use Rattle.std.specs.Prelude.{◌≡◌, ◌∷◌, [], IfErr, IfOk};
-ghost use Rattle.std.specs.Str.{IsUtf8};
 ghost use Rattle.sqlite.specs.Held.{state};
 ghost use Rattle.sqlite.specs.State.{HasCleanDisk};
 ghost use Rattle.queue_types.specs.Settings.{AreSettings};
@@ -44,12 +43,12 @@ fn settings_of(alloc: Global, rows: &Rows) -> Result<Settings, Fault>
     }
 }
 
-/// The settings of the sound queue that the tables hold. Damaged is told only where they hold none whose printer's
-/// name is a text. Within a transaction it is refused as a disk that fails.
+/// The settings of the sound queue that the tables hold. Damaged is told only where they hold none. Within a transaction it is refused
+/// as a disk that fails.
 fn settings_in_tables<S: Alter>(alloc: Global, conn: &mut Connection<S>) -> Result<Settings, Fault>
     ensures leaves { LeavesTables (state S.Store conn.old) (state S.Store conn.new) }
     ensures stands { FitsIn (state S.Store conn.old) → HasCleanDisk (state S.Store conn.new) → IfOk result (HasWorld (state S.Store conn.new)) }
-    ensures damaged { FitsIn (state S.Store conn.old) → HasCleanDisk (state S.Store conn.new) → IfErr result (λ e. e ≡ Damaged → (w : World) → IsUtf8 w.settings.name → ¬ IsQueueIn w (state S.Store conn.old).now) }
+    ensures damaged { FitsIn (state S.Store conn.old) → HasCleanDisk (state S.Store conn.new) → IfErr result (λ e. e ≡ Damaged → (w : World) → ¬ IsQueueIn w (state S.Store conn.old).now) }
 {
     let rows = load_queue(alloc, conn)?;
     settings_of(alloc, &rows)
@@ -57,15 +56,14 @@ fn settings_in_tables<S: Alter>(alloc: Global, conn: &mut Connection<S>) -> Resu
 
 impl<S: Alter> TableBook<S> {
     /// The book that the tables hold, where those that are there are as `create` makes them. Damaged is told only
-    /// where they hold no sound queue, or one whose printer's name is no text. A refusal hands the connection
-    /// back, with its tables as they were.
+    /// where they hold no sound queue. A refusal hands the connection back, with its tables as they were.
     pub fn adopt(
         alloc: Global,
         mut conn: Connection<S>,
     ) -> Result<TableBook<S>, (BookFault, Connection<S>)>
         ensures stands { FitsIn (state S.Store conn) → IfOk result (λ b. StandsForOne S.Store b) }
         ensures kept { IfOk result (λ b. LeavesTables (state S.Store conn) (shown_by S.Store b)) }
-        ensures damaged { FitsIn (state S.Store conn) → IfErr result (λ e. HasCleanDisk (state S.Store e.1) → e.0 ≡ BookFault.Damaged → (w : World) → IsUtf8 w.settings.name → ¬ IsQueueIn w (state S.Store conn).now) }
+        ensures damaged { FitsIn (state S.Store conn) → IfErr result (λ e. HasCleanDisk (state S.Store e.1) → e.0 ≡ BookFault.Damaged → (w : World) → ¬ IsQueueIn w (state S.Store conn).now) }
         ensures handed { IfErr result (λ e. LeavesTables (state S.Store conn) (state S.Store e.1)) }
     {
         match settings_in_tables(alloc, &mut conn) {

@@ -1,14 +1,13 @@
 //! A book from a file.
 ghost use Rattle.std.specs.Prelude.{◌≡◌, codes, Err, IfOk, IsTrue};
-ghost use Rattle.sqlite.specs.Files.{HoldsDatabase, IsOpened, file_state, over_files};
+ghost use Rattle.sqlite.specs.Files.{IsOpened, file_state, over_files};
 ghost use Rattle.sqlite.specs.Start.{FindsIn};
 ghost use Rattle.sqlite.specs.State.{HasCleanDisk};
-ghost use Rattle.sqlite_trees.specs.Tree.{Trees};
 ghost use Rattle.sqlite_wal.specs.Files.{image_at};
-ghost use Rattle.queue_core.specs.World.{empty_queue};
+ghost use Rattle.queue_core.specs.World.{World, empty_queue};
 ghost use Rattle.queue_load.specs.Store.{FitsIn};
 ghost use Rattle.queue_store.specs.Kept.{IsHonest, StandsFor, StandsForOne, shown_by};
-ghost use Rattle.queue_store.specs.Opened.{FitsFile, open_fault};
+ghost use Rattle.queue_store.specs.Opened.{FitsFile, IsKeptIn, open_fault};
 ghost use Rattle.queue_tables.specs.Leaving.{LeavesTables};
 
 use crate::book::TableBook;
@@ -129,7 +128,7 @@ impl<S: Start> TableBook<FileStore<FileFrom<S>>> {
         start: S,
     ) -> Result<TableBook<FileStore<FileFrom<S>>>, BookFault>
         ensures stands { FitsFile (image_at S.Start) → IfOk result (λ b. StandsForOne over_files b) }
-        ensures found { FitsFile (image_at S.Start) → IfOk result (λ b. IsHonest over_files b → (db : Trees) → HoldsDatabase (image_at S.Start) db → (shown_by over_files b).now.trees ≡ db) }
+        ensures kept { FitsFile (image_at S.Start) → IfOk result (λ b. IsHonest over_files b → (w : World) × IsKeptIn (image_at S.Start) w × StandsFor over_files b w) }
         ensures memory { path.now ≡ codes ":memory:" → result ≡ Err BookFault.Disk }
     {
         let conn = connect(rt, path, start)?;

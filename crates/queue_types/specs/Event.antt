@@ -6,7 +6,7 @@ use Rattle.queue_types.specs.declared.event.NewJob.{NewJob as NewJobRef}
 use Rattle.queue_types.specs.declared.event.Call.{Call as CallRef}
 use Rattle.queue_types.specs.declared.event.Call.TheVariants.{PrintJob, ValidateJob, CreateJob, SendDocument, CancelJob, CancelMyJobs, HoldJob, ReleaseJob, GetJobAttributes, GetJobs, GetPrinterAttributes}
 use Rattle.queue_types.specs.declared.event.Event.{Event as EventRef}
-use Rattle.queue_types.specs.declared.event.Event.TheVariants.{Ask, Tell, Grant}
+use Rattle.queue_types.specs.declared.event.Event.TheVariants.{Ask, Report as ReportEvent, Grants}
 use Rattle.queue_types.specs.declared.event.FreeRow.{FreeRow}
 use Rattle.queue_types.specs.declared.event.GrantRow.{GrantRow}
 use Rattle.queue_types.specs.declared.event.KeptReport.{KeptReport}
@@ -96,8 +96,8 @@ on_job get_printer_attributes = None
 
 abbrev pub event_of : EventRef → Event
 event_of (Ask caller call) = ask caller.now (call_of call)
-event_of (Tell r) = tell r
-event_of (Grant rows) = grant rows.now
+event_of (ReportEvent r) = tell r
+event_of (Grants rows) = grant rows.now
 
 abbrev pub document_of : NewDocumentRef → NewDocument
 document_of d = record { job = d.job; format = d.format; bytes = d.bytes.now }

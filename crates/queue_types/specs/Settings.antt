@@ -1,7 +1,7 @@
 -- What a printer is set up with.
 use Rattle.std.specs.Prelude.{ℕ, ℤ, ◌≤◌, ◌≡◌, ◌==◌, ◌&&◌, ◌||◌, List, length, Bool, true, nat_le, not, bytes_eq}
 use Rattle.std.specs.List.{list_all}
-use Rattle.std.specs.Str.{byte}
+use Rattle.std.specs.Str.{IsUtf8, byte}
 use Rattle.queue_types.specs.Uri.{path_of, printer_path}
 
 pub record SettingValues : Type 0 where
@@ -24,4 +24,5 @@ pub record AreSettings (s : SettingValues) : Type 0 where
   pub uri_path : bytes_eq (path_of s.uri) printer_path ≡ true
   pub name_some : 1 ≤ length s.name
   pub name_fits : length s.name ≤ 127
+  pub name_utf8 : IsUtf8 s.name
   pub estimate_fits : s.estimate ≤ 100000

@@ -116,9 +116,9 @@ pub enum Event<'a> {
     /// A caller, by the requesting user name, asks for an operation.
     Ask { caller: &'a str, call: Call<'a> },
     /// The device reports of a job.
-    Tell(Report),
+    Report(Report),
     /// The office grants pages: the rows of an account file, at most 16,777,216.
-    Grant(&'a [GrantRow]),
+    Grants(&'a [GrantRow]),
 }
 
 /// What the machine answers.

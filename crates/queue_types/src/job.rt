@@ -83,9 +83,11 @@ pub struct Job {
     pub stopping: bool,
     /// Pages that the device has reported, 0 to 100,000,000.
     pub count: u32,
-    /// Seconds of printer up time, as are `begun` and `ended`.
+    /// The moment when it came, in seconds of printer up time, 1 to 2,147,483,647.
     pub created: u32,
+    /// The moment when the device began it.
     pub begun: Option<u32>,
+    /// The moment when it ended.
     pub ended: Option<u32>,
     /// The number of documents, at most 16.
     pub documents: u32,
@@ -123,7 +125,7 @@ fn with_second(first: Reason, second: Reason, is_there: bool) -> Reasons
 {
     Reasons {
         first,
-        second: if is_there { Some(second) } else { None },
+        second: is_there.then_some(second),
     }
 }
 

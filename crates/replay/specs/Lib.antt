@@ -1,3 +1,4 @@
+pub mod Faults
 pub mod Line
 pub mod Replay
 pub mod RequestLine

@@ -1,4 +1,7 @@
 //! Why the program can't go on.
+ghost use Rattle.std.specs.Prelude.{◌≡◌};
+ghost use Rattle.replay.specs.Faults.{fault_of_book, fault_of_setting};
+ghost use Rattle.replay.specs.declared.fault.Fault.TheVariants as faults;
 
 use queue_core::book::BookFault;
 use queue_types::settings::SettingFault;
@@ -27,12 +30,18 @@ pub enum Fault {
 }
 
 impl From<AllocError> for Fault {
+    ghost from_gives = { λ _ fault. fault ≡ faults.Memory };
+
     fn from(_error: AllocError) -> Fault {
         Fault::Memory
     }
 }
 
 impl From<io::Error> for Fault {
+    ghost use Rattle.replay.specs.Faults.{IsOfStream};
+
+    ghost from_gives = { λ _ fault. IsOfStream fault };
+
     fn from(error: io::Error) -> Fault {
         match error.kind() {
             io::ErrorKind::OutOfMemory => Fault::Memory,
@@ -42,8 +51,10 @@ impl From<io::Error> for Fault {
 }
 
 impl From<SettingFault> for Fault {
-    fn from(fault: SettingFault) -> Fault {
-        match fault {
+    ghost from_gives = { λ told fault. fault ≡ fault_of_setting told };
+
+    fn from(told: SettingFault) -> Fault {
+        match told {
             SettingFault::Bad => Fault::BadSetting,
             SettingFault::Memory => Fault::Memory,
         }
@@ -51,8 +62,10 @@ impl From<SettingFault> for Fault {
 }
 
 impl From<BookFault> for Fault {
-    fn from(fault: BookFault) -> Fault {
-        match fault {
+    ghost from_gives = { λ told fault. fault ≡ fault_of_book told };
+
+    fn from(told: BookFault) -> Fault {
+        match told {
             BookFault::Memory => Fault::Memory,
             BookFault::Disk => Fault::Disk,
             BookFault::Damaged => Fault::Damaged,

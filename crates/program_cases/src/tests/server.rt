@@ -12,11 +12,12 @@ use std::alloc::{AllocError, Global};
 use std::io;
 use std::io::{Read, Write};
 use std::net::{Shutdown, SocketAddr, TcpListener, TcpStream};
+use std::num::NonZeroU32;
 use std::rt::Clock;
 use std::time::Duration;
 
 /// The seconds that a server of a test waits for a client.
-const PATIENCE: u32 = 1;
+const PATIENCE: NonZeroU32 = NonZeroU32::MIN;
 
 /// The seconds that a client waits for an answer that has been sent before it asks.
 const CLIENT_SECONDS: u64 = 10;

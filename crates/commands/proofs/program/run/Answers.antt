@@ -1,9 +1,6 @@
 use Rattle.std.proofs.Common.{◌≤◌, lit≤, arith}
-use Rattle.commands.proofs.EndingLemmas.{asks_nothing, at_least_one, at_most, may_serve}
+use Rattle.commands.proofs.EndingLemmas.{asks_nothing, at_least_one, at_most}
 use Rattle.commands.proofs.program.run.Goals as goal
-
-pub do_command-done-requires : goal.do_command-done-requires
-do_command-done-requires g c = may_serve c.in-Ok.command _ c.in-Ok.ensures.named
 
 pub returns-in-Ok-clause-named : goal.returns-in-Ok-clause-named
 returns-in-Ok-clause-named g c = λ none. at_most _ c.do_command-done.result c.end.result 1 c.end.ensures.done c.end.ensures.refused c.do_command-done.ensures (lit≤ tt)

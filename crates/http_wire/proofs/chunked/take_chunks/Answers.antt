@@ -44,10 +44,12 @@ returns-in_err-take_chunk-clause-ended g c =
     let r = left c.take_line.new.input.buffer (g.R.Read.remaining c.take_line.new.input.reader) in
     let line : TakesLine c.bound_behind.result.limit b r c.in_ok-line.line.len c.in_ok-line.line.size = search rules in
     let some : 0 < c.in_ok-line.line.size = search rules in
+    let room : length c.chunks.content.items + c.in_ok-line.line.size ≤ content_limit = search rules in
+    let fits : c.chunks.raw + c.in_ok-line.line.len + c.in_ok-line.line.size + 2 ≤ raw_limit = search rules in
     rw (p.1, p.2)
     (ended_so c.in_err-take_chunk.field-0.0 _ _
     (λ end h. ended_in_chunk (left c.args.input.now.buffer (g.R.Read.remaining c.args.input.now.reader)) b r c.bound_behind.result.limit c.chunks.raw c.in_ok-line.line.len c.in_ok-line.line.size
-    c.chunks.content.items end c.chunks.invariant.chunks line some h) c.in_err-take_chunk.ensures.ended)
+    c.chunks.content.items end c.chunks.invariant.chunks line some room fits h) c.in_err-take_chunk.ensures.ended)
 
 pub chunks-preserved : goal.chunks-preserved
 chunks-preserved g c =

@@ -11,10 +11,10 @@ pub returns-in_err-rows-clause-damaged : goal.returns-in_err-rows-clause-damaged
 returns-in_err-rows-clause-damaged g c = λ fits clean.
     let first = (state g.S.Store c.args.conn.now).now in
     let told = c.in_err-rows.ensures.damaged fits clean in
-    err_after _ c.in_err-rows.field-0.0 _ c.from_residual.ensures.1 (λ d w name holds. told d (c.queues_are_loadable.ensures w first name holds))
+    err_after _ c.in_err-rows.field-0.0 _ c.from_residual.ensures.1 (λ d w holds. told d (c.queues_are_loadable.ensures w first holds))
 
 pub returns-then-not-branch-clause-damaged : goal.returns-then-not-branch-clause-damaged
-returns-then-not-branch-clause-damaged g c = λ fits clean d w name holds.
+returns-then-not-branch-clause-damaged g c = λ fits clean d w holds.
     let first = (state g.S.Store c.args.conn.now).now in
     let are = c.in_ok-rows.ensures.read fits clean in
     let unsound : c.in_ok-are_sound_rows.field-0 ≡ false = search rules in

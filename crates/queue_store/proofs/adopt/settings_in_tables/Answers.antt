@@ -12,4 +12,4 @@ returns-clause-stands g c = λ fits clean.
 
 pub returns-clause-damaged : goal.returns-clause-damaged
 returns-clause-damaged g c = λ fits clean.
-    if_err c.settings_of.result _ _ (λ e beyond is w name holds. within_limits (tables_in c.in_ok-rows.rows) (state g.S.Store c.args.conn.now).now (c.in_ok-rows.ensures.queue fits clean) (beyond is)) c.settings_of.ensures.damaged
+    if_err c.settings_of.result _ _ (λ e beyond is w holds. within_limits (tables_in c.in_ok-rows.rows) (state g.S.Store c.args.conn.now).now (c.in_ok-rows.ensures.queue fits clean) (beyond is)) c.settings_of.ensures.damaged
