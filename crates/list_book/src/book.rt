@@ -7,7 +7,7 @@ ghost use Rattle.queue_core.specs.Limits.{IsMoment, IsEvent, IsReplyTo};
 ghost use Rattle.queue_core.specs.Machine.{decision};
 ghost use Rattle.queue_core.specs.Shown.{document_at, head_of, pending_jobs, sheet_of};
 ghost use Rattle.queue_core.specs.World.{World, cut, made_on};
-ghost use Rattle.queue_core.specs.declared.book.SendCause.TheVariants.{Write as ByWriter};
+ghost use Rattle.queue_core.specs.declared.book.SendCause.TheVariants.{Book as ByBook, Write as ByWriter};
 ghost use Rattle.queue_types.specs.declared.document.Document.{Document};
 
 use crate::lists::{Lists, kept_document, reserve, write};
@@ -93,6 +93,7 @@ impl QueueBook for ListBook {
         ensures decides { ⊤ → IfOk result (λ d. (w : World) → IsContent self.new w
             → decision_of d ≡ decision (cut w (event_of event.now)) now (event_of event.now)) }
         ensures limits { IfOk result (λ d. IsReplyTo (event_of event.now) d.reply) }
+        ensures damaged { ⊤ → IfErr result (λ e. e ≡ BookFault.Damaged → (w : World) → ¬ IsContent self.old w) }
         ensures fault { IfErr result (λ f. f ≡ BookFault.Memory) }
     {
         cut_is_fair();
@@ -126,6 +127,7 @@ impl QueueBook for ListBook {
         ensures began { ⊤ → ⊤ }
         ensures kept { (w : World) → IsContent self.old w → IsContent self.new w }
         ensures jobs { ⊤ → IfOk result (λ js. (w : World) → IsContent self.new w → js ≡ pending_jobs w) }
+        ensures damaged { ⊤ → IfErr result (λ e. e ≡ BookFault.Damaged → (w : World) → ¬ IsContent self.old w) }
         ensures fault { IfErr result (λ f. f ≡ BookFault.Memory) }
     {
         let jobs = seen::pending(self.alloc, self.lists.jobs.as_slice())?;
@@ -136,6 +138,7 @@ impl QueueBook for ListBook {
         ensures began { ⊤ → ⊤ }
         ensures kept { (w : World) → IsContent self.old w → IsContent self.new w }
         ensures head { ⊤ → IfOk result (λ h. (w : World) → IsContent self.new w → h ≡ option_map head_of (document_at w job n)) }
+        ensures damaged { ⊤ → IfErr result (λ e. e ≡ BookFault.Damaged → (w : World) → ¬ IsContent self.old w) }
         ensures fault { IfErr result (λ f. f ≡ BookFault.Memory) }
     {
         Ok(seen::document_head(&self.lists, job, n))
@@ -149,6 +152,7 @@ impl QueueBook for ListBook {
             → (sent ≡ length d.bytes) × Appends (W.contents out.old) (W.contents out.new) d.bytes) }
         ensures err { ⊤ → IfErr result (λ f. (w : World) (d : Document) → IsContent self.old w → document_at w job n ≡ Some d
             → (f.written ≤ length d.bytes) × Appends (W.contents out.old) (W.contents out.new) (take f.written d.bytes)) }
+        ensures damaged { ⊤ → IfErr result (λ f. f.cause ≡ ByBook BookFault.Damaged → (w : World) → ¬ IsContent self.old w) }
         ensures fault { IfErr result (λ f. f.cause ≡ ByWriter) }
     {
         match seen::document(&self.lists, job, n) {
@@ -161,6 +165,7 @@ impl QueueBook for ListBook {
         ensures began { ⊤ → ⊤ }
         ensures kept { (w : World) → IsContent self.old w → IsContent self.new w }
         ensures sheet { ⊤ → IfOk result (λ s. (w : World) → IsContent self.new w → s ≡ sheet_of w account.now) }
+        ensures damaged { ⊤ → IfErr result (λ e. e ≡ BookFault.Damaged → (w : World) → ¬ IsContent self.old w) }
         ensures fault { IfErr result (λ f. f ≡ BookFault.Memory) }
     {
         let sheet = sheet::sheet(self.alloc, &self.lists, account)?;

@@ -1,7 +1,8 @@
 //! A book keeps a queue, whichever way: in lists, or in tables.
 //!
 //! What a book may stand for is a relation to worlds. What is read of a book holds where it is honest as
-//! the call ends; a call that ends honest began so. A refused call leaves what the book stands for.
+//! the call ends; a call that ends honest began so. A refused call leaves what the book stands for. What reads an
+//! honest book that stands for a queue is never told Damaged.
 ghost use Rattle.std.specs.Prelude.{◌≡◌, ◌≤◌, Some, IfErr, IfOk, IsSome, OnOk, OnErr, length, option_map, take};
 ghost use Rattle.std.specs.Io.KnownBytes.{Appends};
 ghost use Rattle.queue_core.specs.Book.{IsDecisionOn};
@@ -71,6 +72,7 @@ pub trait QueueBook {
         ensures kept { (w : World) → stands self.old w → stands self.new w }
         ensures decides { is_honest self.new → IfOk result (λ d. (w : World) → stands self.new w
             → decision_of d ≡ decision (cut w (event_of event.now)) now (event_of event.now)) }
+        ensures damaged { is_honest self.new → IfErr result (λ e. e ≡ BookFault.Damaged → (w : World) → ¬ stands self.old w) }
         // on any book, also one that is not honest
         ensures limits { IfOk result (λ d. IsReplyTo (event_of event.now) d.reply) };
 
@@ -85,13 +87,15 @@ pub trait QueueBook {
     fn pending(&mut self) -> Result<JobList, BookFault>
         ensures began { is_honest self.new → is_honest self.old }
         ensures kept { (w : World) → stands self.old w → stands self.new w }
-        ensures jobs { is_honest self.new → IfOk result (λ js. (w : World) → stands self.new w → js ≡ pending_jobs w) };
+        ensures jobs { is_honest self.new → IfOk result (λ js. (w : World) → stands self.new w → js ≡ pending_jobs w) }
+        ensures damaged { is_honest self.new → IfErr result (λ e. e ≡ BookFault.Damaged → (w : World) → ¬ stands self.old w) };
 
     /// The format and the length of document n, counted from 1, of a job in state 3, 5 or 6.
     fn document_head(&mut self, job: u32, n: u32) -> Result<Option<DocumentHead>, BookFault>
         ensures began { is_honest self.new → is_honest self.old }
         ensures kept { (w : World) → stands self.old w → stands self.new w }
-        ensures head { is_honest self.new → IfOk result (λ h. (w : World) → stands self.new w → h ≡ option_map head_of (document_at w job n)) };
+        ensures head { is_honest self.new → IfOk result (λ h. (w : World) → stands self.new w → h ≡ option_map head_of (document_at w job n)) }
+        ensures damaged { is_honest self.new → IfErr result (λ e. e ≡ BookFault.Damaged → (w : World) → ¬ stands self.old w) };
 
     /// Writes the bytes of such a document, and says how many they are. After a fault a front of them was
     /// written.
@@ -102,13 +106,15 @@ pub trait QueueBook {
         ensures ok { is_honest self.new → IfOk result (λ sent. (w : World) (d : Document) → stands self.new w → document_at w job n ≡ Some d
             → (sent ≡ length d.bytes) × Appends (W.contents out.old) (W.contents out.new) d.bytes) }
         ensures err { is_honest self.new → IfErr result (λ f. (w : World) (d : Document) → stands self.old w → document_at w job n ≡ Some d
-            → (f.written ≤ length d.bytes) × Appends (W.contents out.old) (W.contents out.new) (take f.written d.bytes)) };
+            → (f.written ≤ length d.bytes) × Appends (W.contents out.old) (W.contents out.new) (take f.written d.bytes)) }
+        ensures damaged { is_honest self.new → IfErr result (λ f. f.cause ≡ SendCause.Book BookFault.Damaged → (w : World) → ¬ stands self.old w) };
 
     /// What is told of an account, where it is there.
     fn sheet(&mut self, account: &str) -> Result<Option<AccountSheet>, BookFault>
         ensures began { is_honest self.new → is_honest self.old }
         ensures kept { (w : World) → stands self.old w → stands self.new w }
-        ensures sheet { is_honest self.new → IfOk result (λ s. (w : World) → stands self.new w → s ≡ sheet_of w account.now) };
+        ensures sheet { is_honest self.new → IfOk result (λ s. (w : World) → stands self.new w → s ≡ sheet_of w account.now) }
+        ensures damaged { is_honest self.new → IfErr result (λ e. e ≡ BookFault.Damaged → (w : World) → ¬ stands self.old w) };
 
     /// A world that an honest book stands for is sound.
     ghost sound: { (b : Self) (w : World) → is_honest b → stands b w → IsSound w };

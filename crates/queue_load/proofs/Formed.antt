@@ -1,5 +1,5 @@
 -- The rows of a sound queue have the forms in which they are read.
-use Rattle.std.proofs.Common.{◌≡◌, inl, inr, ℕ, ◌+◌, ◌^◌, ◌<◌, ◌≤◌, ◌==◌, suc, zero, List, [], ◌∷◌, Bool, true, cond, Option, Some, None, IfSome, All, fold, length, bytes_eq, refl, ap, subst, ◌∙◌, arith, rules}
+use Rattle.std.proofs.Common.{◌≡◌, inl, inr, ℕ, ◌+◌, ◌^◌, ◌<◌, ◌≤◌, ◌==◌, suc, zero, List, [], ◌∷◌, Bool, true, cond, All, fold, length, bytes_eq, refl, ap, subst, ◌∙◌, arith, rules}
 use Rattle.std.specs.List.{AllByRecursion as Each, flat_map, list_all, range_with_len}
 use Rattle.std.specs.Str.{IsAscii, IsUtf8}
 use Rattle.std.proofs.lemmas.Bool.{and_parts, cases_Bool, cases_eq, ne_eqb}
@@ -9,7 +9,7 @@ use Rattle.std.proofs.lemmas.List.Sums.{sum_by-cons}
 use Rattle.std.proofs.lemmas.Slice.Eq.{bytes_eq-Decides}
 use Rattle.std.proofs.lemmas.Str.{IsUtf8-from_ascii}
 use Rattle.sqlite_keyed.proofs.ListLemmas.{all_map, all-flat_map, all_weaker}
-use Rattle.queue_core.specs.Limits.{IsOwner, IsMoment, IsSoundJob, is_batch_byte}
+use Rattle.queue_core.specs.Limits.{IsOwner, is_batch_byte}
 use Rattle.queue_types.specs.Settings.{is_uri_byte}
 use Rattle.queue_core.specs.Sound.{IsSound, IsSoundDocument, IsSoundEntry}
 use Rattle.queue_core.specs.World.{Entry, World}
@@ -25,7 +25,6 @@ use Rattle.queue_rows.specs.Reports.{IsReportRow}
 use Rattle.queue_rows.specs.Rows.{document_rows, meta_row}
 use Rattle.queue_rows.specs.declared.rows.AccountRow.{AccountRow}
 use Rattle.queue_rows.specs.declared.rows.DocumentRow.{DocumentRow}
-use Rattle.queue_tables.specs.Forms.{IsFormedJob}
 use Rattle.queue_load.specs.Tells.{IsFormedAccount, IsFormedDocument, IsFormedGrant, IsFormedMeta, IsFormedPiece, IsFormedReport}
 use Rattle.queue_load.proofs.Rising.{range_rises}
 
@@ -56,25 +55,6 @@ formed_meta w sound = record {
   name = sound.settings.name_utf8;
   estimate = omega (arith, sound.settings.estimate_fits);
   next_number = omega (arith, sound.next);
-}
-
--- ---- jobs
-
-moment_fits : (o : Option ℕ) → IfSome o IsMoment → IfSome o (λ n. n < 2 ^ 32)
-moment_fits None h = h
-moment_fits (Some n) h = omega (arith, h.1)
-
-pub formed_job : (j : Job) → IsSoundJob j → IsFormedJob j
-formed_job j h = record {
-  number = omega (arith, h.number.1);
-  owner = h.owner.utf8;
-  name = h.name.utf8;
-  copies = omega (arith, h.copies.1);
-  impressions = omega (arith, h.impressions);
-  count = omega (arith, h.count);
-  created = omega (arith, h.created.1);
-  begun = moment_fits j.begun h.begun;
-  ended = moment_fits j.ended h.ended;
 }
 
 -- ---- documents and pieces

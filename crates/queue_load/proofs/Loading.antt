@@ -1,5 +1,5 @@
 -- A table that is read whole, row by row.
-use Rattle.std.proofs.Common.{◌≡◌, ℕ, List, [], ◌∷◌, ◌++◌, Ok, Err, Result, IsErrAnd, IfErr, sym, ap, subst, ◌∙◌}
+use Rattle.std.proofs.Common.{◌≡◌, ℕ, List, [], ◌∷◌, ◌++◌, sym, ap, subst, ◌∙◌}
 use Rattle.sqlite.specs.Order.{Row}
 use Rattle.sqlite.specs.Effect.{Database}
 use Rattle.sqlite.specs.Listing.{understood}
@@ -9,8 +9,6 @@ use Rattle.sqlite_schema.specs.declared.schema.Schema.{Schema}
 use Rattle.queue_load.specs.Reads.{FindsFormless, HasRead, Tell}
 use Rattle.queue_tables.specs.Tables.{book_schema}
 use Rattle.queue_tables.proofs.Reading.{answers_same, begins_at}
-use Rattle.queue_tables.specs.declared.fault.Fault.{Fault}
-use Rattle.queue_tables.specs.declared.fault.Fault.TheVariants.{Damaged}
 
 pub plain_in : (sql : List ℕ) (schema : Schema) → IsPlain (understood book_schema sql) → schema ≡ book_schema → IsPlain (understood schema sql)
 plain_in sql schema plain has = subst (λ (s : Schema). IsPlain (understood s sql)) (sym has) plain
@@ -32,8 +30,3 @@ module _ (sql : List ℕ) (old now : State) (same : now.now ≡ old.now) where
 
   pub same_formless : (is_formless : Row → Type 0) → FindsFormless is_formless sql now → FindsFormless is_formless sql old
   same_formless is_formless h = record { before = h.before; row = h.row; there = begins_at sql [] old now (h.before ++ h.row ∷ []) same h.there; formless = h.formless }
-
--- an error that a `?` hands on
-pub err_after : {T : Type 0} (r : Result T Fault) (e : Fault) (P : Type 0) → IsErrAnd r (λ f. f ≡ e) → (e ≡ Damaged → P) → IfErr r (λ f. f ≡ Damaged → P)
-err_after (Err f) e P same then = λ d. then (sym same ∙ d)
-err_after (Ok x) e P same then = tt

@@ -27,8 +27,9 @@ use Rattle.queue_load.specs.Loaded.{IsBare, IsFormedWhole, IsLong, Piece, row_of
 use Rattle.queue_load.specs.Queues.{IsQueueIn}
 use Rattle.queue_load.specs.Store.{AreAccountTables, AreJobTables, AreTables, HasAccountTables, HasJobTables, IsLoadable, has_all}
 use Rattle.queue_load.specs.Tells.{IsFormedDocument, IsFormedMeta, IsFormedPiece, account_row_values}
+use Rattle.queue_tables.proofs.Formed.{formed_job}
 use Rattle.queue_load.proofs.Contents.{content_is}
-use Rattle.queue_load.proofs.Formed.{formed_account, formed_documents, formed_grant, formed_job, formed_meta, formed_pieces, formed_report}
+use Rattle.queue_load.proofs.Formed.{formed_account, formed_documents, formed_grant, formed_meta, formed_pieces, formed_report}
 use Rattle.queue_load.proofs.Injects.{same_account, same_bare, same_document, same_grant, same_meta, same_piece, same_report}
 use Rattle.queue_load.proofs.Rising.{EntryBefore, PieceBefore, accounts_rise, documents_rise, entries_rise, grants_rise, jobs_rise, piece_less, pieces_rise, reports_rise}
 use Rattle.queue_load.proofs.Unique.{Before, injected, one_order}

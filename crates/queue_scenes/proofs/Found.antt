@@ -30,6 +30,7 @@ use Rattle.queue_tables.specs.Values.{number, meta_values, meta_view, grant_valu
 use Rattle.queue_tables.proofs.Numbers.{numbered_meta}
 use Rattle.queue_tables.proofs.Puts.{turned}
 use Rattle.queue_tables.proofs.Showing.{shows_all}
+use Rattle.queue_scenes.specs.Reports.{told_values}
 use Rattle.queue_scenes.proofs.Lookup.{entry_of, found_in, rows_passing, map_alike, exactly}
 use Rattle.queue_scenes.proofs.Statements.{select_next, select_next_is, select_grant, select_grant_is, select_report, select_report_is}
 use Rattle.queue_scenes.proofs.Tests.{equals, names, and_true}
@@ -121,7 +122,7 @@ reports_keyed w sound = recursion_from_All (λ (r : (ℕ × ℕ) × KeptReport).
     ap₂ (λ (n m : ℕ). number n ∷ number m ∷ number (kind_number e.1.report.kind) ∷ number e.1.report.count ∷ number e.1.state ∷ number e.1.total ∷ []) kept.job kept.seq)
 
 abbrev pub told_row : (ℕ × ℕ) × KeptReport → Row
-told_row r = number (kind_number r.1.report.kind) ∷ number r.1.report.count ∷ number r.1.state ∷ number r.1.total ∷ []
+told_row r = told_values r.1
 
 one_report : (k : ℕ × ℕ) (o : Option KeptReport) → map (λ (v : Row). column v 2 ∷ column v 3 ∷ column v 4 ∷ column v 5 ∷ []) (map keyed_values (entry_of k o)) ≡ map told_row (entry_of k o)
 one_report k None = refl

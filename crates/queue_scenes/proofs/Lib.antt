@@ -13,3 +13,4 @@ pub mod Known
 pub mod Told
 pub mod Picked
 pub mod Cut
+pub mod Bounds

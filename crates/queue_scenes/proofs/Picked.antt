@@ -68,6 +68,10 @@ has_none : (q : ℕ) (ns : List ℕ) → Each (λ n. n < q) ns → has q ns ≡ 
 has_none q [] all = refl
 has_none q (n ∷ ns) all = rw (ne_eqb n q (λ same. let low = all.0 in omega (arith, low, same)), has_none q ns all.1) refl
 
+pub none_numbered : (k : ℕ) (js : List Job) → Each (λ (j : Job). k < j.number) js → numbered k js ≡ []
+none_numbered k [] high = refl
+none_numbered k (j ∷ js) high = let low = high.0 in rw (ne_eqb j.number k (λ same. omega (arith, low, same))) (none_numbered k js high.1)
+
 module _ (p : Job → Bool) where
   abbrev pub picked : List ℕ → List Job → List Job
   picked ns js = filter (λ (j : Job). p j && has j.number ns) js
@@ -83,10 +87,6 @@ module _ (p : Job → Bool) where
       and_false : (b : Bool) → (b && false) ≡ false
       and_false true = refl
       and_false false = refl
-
-  none_numbered : (k : ℕ) (js : List Job) → Each (λ (j : Job). k < j.number) js → numbered k js ≡ []
-  none_numbered k [] high = refl
-  none_numbered k (j ∷ js) high = let low = high.0 in rw (ne_eqb j.number k (λ same. omega (arith, low, same))) (none_numbered k js high.1)
 
   pub picked_more : (ns : List ℕ) (k : ℕ) (js : List Job) → Each (λ n. n < k) ns → AreRising js → picked (ns ++ k ∷ []) js ≡ picked ns js ++ filter p (numbered k js)
   picked_more ns k [] all rise = refl

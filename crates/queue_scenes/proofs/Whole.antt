@@ -14,12 +14,16 @@ use Rattle.queue_tables.proofs.JobPut.{same_job}
 abbrev pub sized : Job → ℕ → ℕ → Job
 sized j d o = record j { documents = d; octets = o }
 
+-- what was read of a row is the job of it, without its documents
+pub read_is : ((p q : Phase) → phase_number p ≡ phase_number q → why_number p ≡ why_number q → p ≡ q) → ((a b : Bool) → flag_number a ≡ flag_number b → a ≡ b)
+    → (j k : Job) (row : Row) → (length row ≡ 14 → row ≡ job_values j) → (j.documents ≡ 0) × (j.octets ≡ 0) → row ≡ job_values k → j ≡ bare k
+read_is phases flags j k row reads plain is = same_job phases flags j k (sym (reads (ap (length {A = Value}) is)) ∙ is) plain.0 plain.1
+
 -- the job that was read is the one of the row, with its sizes
 pub sized_is : ((p q : Phase) → phase_number p ≡ phase_number q → why_number p ≡ why_number q → p ≡ q) → ((a b : Bool) → flag_number a ≡ flag_number b → a ≡ b)
     → (j k : Job) (row : Row) (d o : ℕ) → (length row ≡ 14 → row ≡ job_values j) → (j.documents ≡ 0) × (j.octets ≡ 0) → row ≡ job_values k → (j.number ≡ k.number → (d ≡ k.documents) × (o ≡ k.octets)) → sized j d o ≡ k
 sized_is phases flags j k row d o reads plain is sizes =
-    let read : row ≡ job_values j = reads (ap (length {A = Value}) is) in
-    let same : j ≡ bare k = same_job phases flags j k (sym read ∙ is) plain.0 plain.1 in
+    let same = read_is phases flags j k row reads plain is in
     let found = sizes (ap (λ (x : Job). x.number) same) in
     λ i. record (same i) { documents = found.0 i; octets = found.1 i }
 

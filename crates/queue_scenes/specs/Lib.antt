@@ -1,2 +1,4 @@
 pub mod Jobs
 pub mod Counts
+pub mod Reports
+pub mod Accounts

@@ -1,12 +1,13 @@
 //! One account, by its name.
-ghost use Rattle.std.specs.Prelude.{◌≡◌, ◌≤◌, ◌+◌, ◌+ℤ◌, pos, All, IfOk, OnOk, IsTrue};
+ghost use Rattle.std.specs.Prelude.{◌≡◌, ◌≤◌, ◌+◌, ◌+ℤ◌, pos, All, IfOk, IfErr, OnOk, IsTrue};
 ghost use Rattle.std.specs.FinMap.{get};
 ghost use Rattle.sqlite.specs.Held.{state};
 ghost use Rattle.sqlite.specs.State.{HasCleanDisk};
 ghost use Rattle.queue_core.specs.Limits.{IsAmount};
 ghost use Rattle.queue_core.specs.World.{World, found_row};
 ghost use Rattle.queue_tables.specs.Leaving.{LeavesTables};
-ghost use Rattle.queue_tables.specs.Content.{Holds, content_of};
+ghost use Rattle.queue_tables.specs.Content.{HoldNoQueue, Holds, content_of};
+ghost use Rattle.queue_scenes.specs.Accounts.{FitAccount};
 
 use queue_tables::account_pages::{AccountPages, find_account};
 use queue_tables::fault::Fault;
@@ -23,6 +24,7 @@ const MOST_SUM: i64 = 1_152_921_504_606_846_976;
 pub(crate) fn free_in(pages: AccountPages) -> Result<i64, Fault>
     ensures same { IfOk result (λ free. free ≡ pages.free) }
     ensures within { IfOk result IsAmount }
+    ensures damaged { IfErr result (λ _. ¬ FitAccount pages) }
 {
     if pages.free < -MOST_SUM || pages.free > MOST_SUM {
         return Err(Fault::Damaged);
@@ -34,6 +36,7 @@ pub(crate) fn free_in(pages: AccountPages) -> Result<i64, Fault>
 pub(crate) fn granted_in(pages: AccountPages) -> Result<u32, Fault>
     ensures most { IfOk result (λ n. n ≤ 1000000000) }
     ensures sum { IfOk result (λ n. pos n ≡ pages.free +ℤ pos (pages.reserved + pages.printed)) }
+    ensures damaged { IfErr result (λ _. ¬ FitAccount pages) }
 {
     let granted = pages.granted()?;
     if granted > u64::from(MOST_GRANTED_PAGES) {
@@ -52,6 +55,7 @@ pub(crate) fn free_rows<S: Alter>(
     ensures live { HasCleanDisk (state S.Store conn.new) → OnOk result (IsTrue (state S.Store conn.new).is_open) }
     ensures within { IfOk result (λ rows. All (λ a. IsAmount a.free) rows.items) }
     ensures found { HasCleanDisk (state S.Store conn.new) → IfOk result (λ rows. (w : World) → Holds (content_of w) (state S.Store conn.old) → rows.items ≡ found_row name.now (get w.free name.now)) }
+    ensures damaged { HasCleanDisk (state S.Store conn.new) → IfErr result (λ e. e ≡ Fault.Damaged → HoldNoQueue (state S.Store conn.old)) }
 {
     let found = find_account(conn, name)?;
     let mut rows = Vec::new(alloc);

@@ -1,12 +1,12 @@
 //! How many jobs there are, by their phases.
-ghost use Rattle.std.specs.Prelude.{◌≡◌, ◌<◌, ◌^◌, ℕ, IfOk, OnOk, IsTrue};
+ghost use Rattle.std.specs.Prelude.{◌≡◌, ◌<◌, ◌^◌, ◌≢◌, ℕ, IfOk, OnOk, IsTrue, IfErr};
 ghost use Rattle.sqlite.specs.Held.{state};
 ghost use Rattle.sqlite.specs.State.{HasCleanDisk};
 ghost use Rattle.sqlite.specs.Values.{bound};
 ghost use Rattle.queue_core.specs.World.{World, live_jobs, queue_counts, rows};
 ghost use Rattle.queue_scenes.specs.Counts.{ShowsMany};
 ghost use Rattle.queue_tables.specs.Leaving.{LeavesTables};
-ghost use Rattle.queue_tables.specs.Content.{Content, Holds, content_of};
+ghost use Rattle.queue_tables.specs.Content.{Content, HoldNoQueue, Holds, content_of};
 ghost use Rattle.queue_tables.specs.Queries.{IsQueryText};
 
 use queue_tables::fault::Fault;
@@ -26,6 +26,7 @@ fn count<S: Alter>(
     ensures leaves { LeavesTables (state S.Store conn.old) (state S.Store conn.new) }
     ensures live { HasCleanDisk (state S.Store conn.new) → OnOk result (IsTrue (state S.Store conn.new).is_open) }
     ensures found { HasCleanDisk (state S.Store conn.new) → IfOk result (λ n. (c : Content) (m : ℕ) → Holds c (state S.Store conn.old) → ShowsMany sql.now (bound params.now) (state S.Store conn.old) m → n ≡ m) }
+    ensures never { IfErr result (λ e. e ≢ Fault.Damaged) }
 {
     let found = select(conn, sql, params)?;
     Ok(found.len())
@@ -36,6 +37,7 @@ pub(crate) fn live_count<S: Alter>(conn: &mut Connection<S>, caller: &str) -> Re
     ensures leaves { LeavesTables (state S.Store conn.old) (state S.Store conn.new) }
     ensures live { HasCleanDisk (state S.Store conn.new) → OnOk result (IsTrue (state S.Store conn.new).is_open) }
     ensures found { HasCleanDisk (state S.Store conn.new) → IfOk result (λ n. (w : World) → Holds (content_of w) (state S.Store conn.old) → n ≡ live_jobs caller.now (rows w)) }
+    ensures never { IfErr result (λ e. e ≢ Fault.Damaged) }
 {
     count(
         conn,
@@ -50,6 +52,8 @@ pub(crate) fn all_counts<S: Alter>(conn: &mut Connection<S>) -> Result<QueueCoun
     ensures live { HasCleanDisk (state S.Store conn.new) → OnOk result (IsTrue (state S.Store conn.new).is_open) }
     ensures few { IfOk result (λ c. c.queued < 2 ^ 31) }
     ensures found { HasCleanDisk (state S.Store conn.new) → IfOk result (λ c. (w : World) → Holds (content_of w) (state S.Store conn.old) → c ≡ queue_counts (rows w)) }
+    ensures damaged { HasCleanDisk (state S.Store conn.new) → IfErr result (λ e. e ≡ Fault.Damaged → HoldNoQueue (state S.Store conn.old)) }
+    ensures opened { HasCleanDisk (state S.Store conn.new) → IfErr result (λ e. e ≡ Fault.Damaged → IsTrue (state S.Store conn.old).is_open) }
 {
     let running = count(conn, "SELECT number FROM jobs WHERE phase = 1", &[])?;
     let stopped = count(conn, "SELECT number FROM jobs WHERE phase = 2", &[])?;

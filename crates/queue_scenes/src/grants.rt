@@ -1,5 +1,5 @@
 //! What is known of the rows of an account file.
-ghost use Rattle.std.specs.Prelude.{◌≡◌, ◌+◌, ◌+ℤ◌, pos, All, map, IfOk, OnOk, IfSome, IsNone, IsTrue, option_map};
+ghost use Rattle.std.specs.Prelude.{◌≡◌, ◌+◌, ◌+ℤ◌, pos, All, map, IfOk, OnOk, IfSome, IsNone, IsTrue, option_map, IfErr, IsSomeAnd};
 ghost use Rattle.std.specs.FinMap.{get};
 ghost use Rattle.sqlite.specs.Held.{state};
 ghost use Rattle.sqlite.specs.State.{HasCleanDisk};
@@ -7,7 +7,8 @@ ghost use Rattle.queue_core.specs.Limits.{IsKnown};
 ghost use Rattle.queue_core.specs.Sound.{IsSound};
 ghost use Rattle.queue_core.specs.World.{World, known_grant};
 ghost use Rattle.queue_tables.specs.Leaving.{LeavesTables};
-ghost use Rattle.queue_tables.specs.Content.{Holds, content_of};
+ghost use Rattle.queue_tables.specs.Content.{HoldNoQueue, Holds, content_of};
+ghost use Rattle.queue_scenes.specs.Accounts.{FitAccount};
 
 use crate::accounts::{free_in, granted_in};
 use queue_tables::account_pages::{AccountPages, find_account};
@@ -27,6 +28,7 @@ fn pages_under<S: Alter>(
     ensures leaves { LeavesTables (state S.Store conn.old) (state S.Store conn.new) }
     ensures live { HasCleanDisk (state S.Store conn.new) → OnOk result (IsTrue (state S.Store conn.new).is_open) }
     ensures found { HasCleanDisk (state S.Store conn.new) → IfOk result (λ found. (w : World) → Holds (content_of w) (state S.Store conn.old) → found ≡ get w.grants (batch.now, account.now)) }
+    ensures damaged { HasCleanDisk (state S.Store conn.new) → IfErr result (λ e. e ≡ Fault.Damaged → HoldNoQueue (state S.Store conn.old)) }
 {
     let found = select(
         conn,
@@ -50,6 +52,7 @@ fn known_of(pages: Option<u32>, found: Option<AccountPages>) -> Result<KnownGran
     ensures free { IfOk result (λ k. k.free ≡ option_map (λ p. p.free) found) }
     ensures none { IsNone found → IfOk result (λ k. k.granted ≡ 0) }
     ensures sum { IfSome found (λ p. IfOk result (λ k. pos k.granted ≡ p.free +ℤ pos (p.reserved + p.printed))) }
+    ensures damaged { IfErr result (λ _. IsSomeAnd found (λ p. ¬ FitAccount p)) }
 {
     let Some(account) = found else {
         return Ok(KnownGrant {
@@ -73,6 +76,7 @@ fn known<S: Alter>(conn: &mut Connection<S>, row: &GrantRow) -> Result<KnownGran
     ensures live { HasCleanDisk (state S.Store conn.new) → OnOk result (IsTrue (state S.Store conn.new).is_open) }
     ensures within { IfOk result IsKnown }
     ensures found { HasCleanDisk (state S.Store conn.new) → IfOk result (λ k. (w : World) → IsSound w → Holds (content_of w) (state S.Store conn.old) → k ≡ known_grant w row.now) }
+    ensures damaged { HasCleanDisk (state S.Store conn.new) → IfErr result (λ e. e ≡ Fault.Damaged → HoldNoQueue (state S.Store conn.old)) }
 {
     let batch = row.batch.as_str();
     let account = row.account.as_str();
@@ -91,6 +95,7 @@ pub(crate) fn known_rows<S: Alter>(
     ensures live { HasCleanDisk (state S.Store conn.new) → OnOk result (IsTrue (state S.Store conn.old).is_open → IsTrue (state S.Store conn.new).is_open) }
     ensures within { IfOk result (λ v. All IsKnown v.items) }
     ensures found { HasCleanDisk (state S.Store conn.new) → IfOk result (λ v. (w : World) → IsSound w → Holds (content_of w) (state S.Store conn.old) → v.items ≡ map (known_grant w) rows.now) }
+    ensures damaged { HasCleanDisk (state S.Store conn.new) → IfErr result (λ e. e ≡ Fault.Damaged → HoldNoQueue (state S.Store conn.old)) }
 {
     let mut all = Vec::new(alloc);
     for row in rows {

@@ -1,5 +1,5 @@
 //! Jobs as they are read, each with the sizes of its documents.
-ghost use Rattle.std.specs.Prelude.{◌≡◌, List, Some, All, map, IfOk, OnOk, IsTrue};
+ghost use Rattle.std.specs.Prelude.{◌≡◌, ◌≢◌, List, Some, All, map, IfOk, OnOk, IsTrue, IfErr};
 ghost use Rattle.sqlite.specs.Held.{state};
 ghost use Rattle.sqlite.specs.State.{HasCleanDisk};
 ghost use Rattle.sqlite.specs.Values.{bound};
@@ -9,7 +9,7 @@ ghost use Rattle.queue_core.specs.World.{World, job_at, numbered, rows};
 ghost use Rattle.queue_types.specs.declared.job.Job.{Job as JobValue};
 ghost use Rattle.queue_scenes.specs.Jobs.{AreRowsOf, ShowsJobs};
 ghost use Rattle.queue_tables.specs.Leaving.{LeavesTables};
-ghost use Rattle.queue_tables.specs.Content.{Holds, content_of};
+ghost use Rattle.queue_tables.specs.Content.{HoldNoQueue, Holds, content_of};
 ghost use Rattle.queue_tables.specs.Queries.{IsQueryText};
 ghost use Rattle.queue_tables.specs.Values.{job_values};
 
@@ -30,6 +30,7 @@ fn whole_job<S: Alter>(alloc: Global, conn: &mut Connection<S>, row: &Row) -> Re
     ensures live { HasCleanDisk (state S.Store conn.new) → OnOk result (IsTrue (state S.Store conn.new).is_open) }
     ensures sound { IfOk result IsSoundJob }
     ensures found { HasCleanDisk (state S.Store conn.new) → IfOk result (λ j. (w : World) (k : JobValue) → IsSound w → Holds (content_of w) (state S.Store conn.old) → job_at k.number (rows w) ≡ Some k → row.now ≡ job_values k → j ≡ k) }
+    ensures damaged { HasCleanDisk (state S.Store conn.new) → IfErr result (λ e. e ≡ Fault.Damaged → (w : World) (k : JobValue) → IsSound w → Holds (content_of w) (state S.Store conn.old) → job_at k.number (rows w) ≡ Some k → row.now ≢ job_values k) }
 {
     numbers_tell_names();
     let mut job = read_job(alloc, row)?;
@@ -52,6 +53,7 @@ fn whole_jobs<S: Alter>(
     ensures live { HasCleanDisk (state S.Store conn.new) → OnOk result (IsTrue (state S.Store conn.old).is_open → IsTrue (state S.Store conn.new).is_open) }
     ensures sound { IfOk result (λ v. All IsSoundJob v.items) }
     ensures found { HasCleanDisk (state S.Store conn.new) → IfOk result (λ v. (w : World) (js : List JobValue) → IsSound w → Holds (content_of w) (state S.Store conn.old) → AreRowsOf w js → rows.now ≡ map job_values js → v.items ≡ js) }
+    ensures damaged { HasCleanDisk (state S.Store conn.new) → IfErr result (λ e. e ≡ Fault.Damaged → (w : World) (js : List JobValue) → IsSound w → Holds (content_of w) (state S.Store conn.old) → AreRowsOf w js → rows.now ≢ map job_values js) }
 {
     let mut jobs = Vec::new(alloc);
     for row in rows {
@@ -72,6 +74,8 @@ pub(crate) fn select_jobs<S: Alter>(
     ensures live { HasCleanDisk (state S.Store conn.new) → OnOk result (IsTrue (state S.Store conn.new).is_open) }
     ensures sound { IfOk result (λ v. All IsSoundJob v.items) }
     ensures found { HasCleanDisk (state S.Store conn.new) → IfOk result (λ v. (w : World) (js : List JobValue) → IsSound w → Holds (content_of w) (state S.Store conn.old) → AreRowsOf w js → ShowsJobs sql.now (bound params.now) (state S.Store conn.old) js → v.items ≡ js) }
+    ensures damaged { HasCleanDisk (state S.Store conn.new) → IfErr result (λ e. e ≡ Fault.Damaged → (w : World) (js : List JobValue) → IsSound w → Holds (content_of w) (state S.Store conn.old) → AreRowsOf w js → ¬ ShowsJobs sql.now (bound params.now) (state S.Store conn.old) js) }
+    ensures opened { HasCleanDisk (state S.Store conn.new) → IfErr result (λ e. e ≡ Fault.Damaged → IsTrue (state S.Store conn.old).is_open) }
 {
     let rows = select(conn, sql, params)?;
     whole_jobs(alloc, conn, rows.as_slice())
@@ -87,6 +91,7 @@ pub(crate) fn with_number<S: Alter>(
     ensures live { HasCleanDisk (state S.Store conn.new) → OnOk result (IsTrue (state S.Store conn.new).is_open) }
     ensures sound { IfOk result (λ v. All IsSoundJob v.items) }
     ensures found { HasCleanDisk (state S.Store conn.new) → IfOk result (λ v. (w : World) → IsSound w → Holds (content_of w) (state S.Store conn.old) → v.items ≡ numbered number (rows w)) }
+    ensures damaged { HasCleanDisk (state S.Store conn.new) → IfErr result (λ e. e ≡ Fault.Damaged → HoldNoQueue (state S.Store conn.old)) }
 {
     select_jobs(
         alloc,

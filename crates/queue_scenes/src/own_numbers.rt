@@ -1,5 +1,5 @@
 //! The jobs of one owner that have given numbers.
-ghost use Rattle.std.specs.Prelude.{◌≡◌, ◌++◌, ◌==◌, ◌&&◌, ℕ, All, bytes_eq, filter, IfOk, OnOk, IsTrue};
+ghost use Rattle.std.specs.Prelude.{◌≡◌, ◌++◌, ◌==◌, ◌&&◌, ℕ, All, bytes_eq, filter, IfOk, OnOk, IsTrue, IfErr};
 ghost use Rattle.std.specs.List.{list_any};
 ghost use Rattle.std.specs.List.Sorted.{IsStrictlySortedBy};
 ghost use Rattle.std.specs.Ordering.{nat_cmp};
@@ -10,7 +10,7 @@ ghost use Rattle.queue_core.specs.Sound.{IsSound};
 ghost use Rattle.queue_core.specs.World.{World, is_one_of, rows};
 ghost use Rattle.queue_types.specs.declared.job.Job.{Job as JobValue};
 ghost use Rattle.queue_tables.specs.Leaving.{LeavesTables};
-ghost use Rattle.queue_tables.specs.Content.{Holds, content_of};
+ghost use Rattle.queue_tables.specs.Content.{HoldNoQueue, Holds, content_of};
 
 use crate::jobs::with_number;
 use queue_core::number_set;
@@ -61,6 +61,7 @@ fn owned_of<S: Alter>(
     ensures live { HasCleanDisk (state S.Store conn.new) → IsTrue (state S.Store conn.old).is_open → OnOk result (IsTrue (state S.Store conn.new).is_open) }
     ensures sound { IfOk result (λ v. All IsSoundJob v.items) }
     ensures found { HasCleanDisk (state S.Store conn.new) → IfOk result (λ v. (w : World) → IsSound w → Holds (content_of w) (state S.Store conn.old) → v.items ≡ filter (λ (j : JobValue). bytes_eq j.owner owner.now && list_any (λ n. n == j.number) numbers.now) (rows w)) }
+    ensures damaged { HasCleanDisk (state S.Store conn.new) → IfErr result (λ e. e ≡ Fault.Damaged → HoldNoQueue (state S.Store conn.old)) }
 {
     let mut own = Vec::new(alloc);
     for number in numbers {
@@ -81,6 +82,7 @@ pub(crate) fn numbered_jobs<S: Alter>(
     ensures live { HasCleanDisk (state S.Store conn.new) → IsTrue (state S.Store conn.old).is_open → OnOk result (IsTrue (state S.Store conn.new).is_open) }
     ensures sound { IfOk result (λ v. All IsSoundJob v.items) }
     ensures found { HasCleanDisk (state S.Store conn.new) → IfOk result (λ v. (w : World) → IsSound w → Holds (content_of w) (state S.Store conn.old) → v.items ≡ filter (λ (j : JobValue). bytes_eq j.owner owner.now && is_one_of numbers.now j) (rows w)) }
+    ensures damaged { HasCleanDisk (state S.Store conn.new) → IfErr result (λ e. e ≡ Fault.Damaged → HoldNoQueue (state S.Store conn.old)) }
 {
     let wanted = in_order(alloc, numbers)?;
     owned_of(alloc, conn, owner, wanted.as_slice())

@@ -1,5 +1,5 @@
 //! A kept report, by its job and sequence number.
-ghost use Rattle.std.specs.Prelude.{◌≡◌, ◌≤◌, IfOk, OnOk, IfSome, IsTrue};
+ghost use Rattle.std.specs.Prelude.{◌≡◌, ◌≤◌, ◌≢◌, ◌<◌, IfOk, OnOk, IfSome, IsTrue, ℕ, length, IfErr};
 ghost use Rattle.std.specs.FinMap.{get};
 ghost use Rattle.sqlite.specs.Held.{state};
 ghost use Rattle.sqlite.specs.Order.{column};
@@ -8,8 +8,10 @@ ghost use Rattle.queue_core.specs.Sound.{IsSound};
 ghost use Rattle.queue_core.specs.World.{World};
 ghost use Rattle.queue_rows.specs.Codes.{kind_number};
 ghost use Rattle.queue_tables.specs.Leaving.{LeavesTables};
-ghost use Rattle.queue_tables.specs.Content.{Holds, content_of};
+ghost use Rattle.queue_tables.specs.Content.{HoldNoQueue, Holds, content_of};
 ghost use Rattle.queue_tables.specs.Values.{number};
+ghost use Rattle.queue_types.specs.declared.event.KeptReport.{KeptReport as KeptValue};
+ghost use Rattle.queue_scenes.specs.Reports.{IsFormedReport, told_values};
 
 use queue_rows::laws::numbers_tell_names;
 use queue_tables::fault::Fault;
@@ -23,6 +25,7 @@ use sqlite::{Alter, Connection, Row, params};
 fn state_at(row: &Row, at: usize) -> Result<u8, Fault>
     ensures is { IfOk result (λ n. column row.now at ≡ number n) }
     ensures within { IfOk result (λ n. (3 ≤ n) × (n ≤ 9)) }
+    ensures damaged { IfErr result (λ e. e ≡ Fault.Damaged → at < length row.now → (n : ℕ) → 3 ≤ n → n ≤ 9 → column row.now at ≢ number n) }
 {
     let state: u32 = value(row, at)?;
     if state < 3 || state > 9 {
@@ -40,6 +43,7 @@ fn read_report(row: &Row, job: u32, seq: u32) -> Result<KeptReport, Fault>
     ensures told { IfOk result (λ k. column row.now 2 ≡ number k.state) }
     ensures total { IfOk result (λ k. column row.now 3 ≡ number k.total) }
     ensures within { IfOk result (λ k. (3 ≤ k.state) × (k.state ≤ 9) × (k.total ≤ 100000000)) }
+    ensures damaged { IfErr result (λ e. e ≡ Fault.Damaged → (k : KeptValue) → IsFormedReport k → row.now ≢ told_values k) }
 {
     let kind = kind(row, 0)?;
     let count = value(row, 1)?;
@@ -70,6 +74,7 @@ pub(crate) fn kept_report<S: Alter>(
     ensures live { HasCleanDisk (state S.Store conn.new) → OnOk result (IsTrue (state S.Store conn.new).is_open) }
     ensures within { IfOk result (λ found. IfSome found (λ k. (3 ≤ k.state) × (k.state ≤ 9) × (k.total ≤ 100000000))) }
     ensures found { HasCleanDisk (state S.Store conn.new) → IfOk result (λ found. (w : World) → IsSound w → Holds (content_of w) (state S.Store conn.old) → found ≡ get w.reports (job, seq)) }
+    ensures damaged { HasCleanDisk (state S.Store conn.new) → IfErr result (λ e. e ≡ Fault.Damaged → HoldNoQueue (state S.Store conn.old)) }
 {
     numbers_tell_names();
     let found = select(

@@ -1,5 +1,5 @@
 //! The rows that an event needs.
-ghost use Rattle.std.specs.Prelude.{◌≡◌, ◌≤◌, ◌<◌, ◌^◌, [], All, length, IfOk, OnOk, IsTrue};
+ghost use Rattle.std.specs.Prelude.{◌≡◌, ◌≤◌, ◌<◌, ◌^◌, ◌≢◌, [], All, length, IfOk, OnOk, IsTrue, IfErr};
 ghost use Rattle.sqlite.specs.Held.{state};
 ghost use Rattle.sqlite.specs.State.{HasCleanDisk};
 ghost use Rattle.queue_types.specs.Event.{ask, tell, grant, event_of, call_of};
@@ -7,7 +7,7 @@ ghost use Rattle.queue_core.specs.Limits.{IsAmount, IsFair, IsSoundJob};
 ghost use Rattle.queue_core.specs.Sound.{IsSound};
 ghost use Rattle.queue_core.specs.World.{World, cut, counts_for, jobs_for, live_for, numbered, owner_row, queue_counts, rows};
 ghost use Rattle.queue_tables.specs.Leaving.{LeavesTables};
-ghost use Rattle.queue_tables.specs.Content.{Holds, content_of};
+ghost use Rattle.queue_tables.specs.Content.{HoldNoQueue, Holds, content_of};
 
 use crate::accounts::free_rows;
 use crate::counts::{all_counts, live_count};
@@ -38,6 +38,7 @@ fn concerned<S: Alter>(
     ensures live { HasCleanDisk (state S.Store conn.new) → IsTrue (state S.Store conn.old).is_open → OnOk result (IsTrue (state S.Store conn.new).is_open) }
     ensures sound { IfOk result (λ v. All IsSoundJob v.items) }
     ensures found { HasCleanDisk (state S.Store conn.new) → IfOk result (λ v. (w : World) → IsSound w → Holds (content_of w) (state S.Store conn.old) → v.items ≡ jobs_for caller.now (call_of call.now) (rows w)) }
+    ensures damaged { HasCleanDisk (state S.Store conn.new) → IfErr result (λ e. e ≡ Fault.Damaged → HoldNoQueue (state S.Store conn.old)) }
 {
     if let Some(job) = call.job() {
         return with_number(alloc, conn, job);
@@ -67,6 +68,7 @@ fn few_concerned<S: Alter>(
     ensures sound { IfOk result (λ js. All IsSoundJob js) }
     ensures few { IfOk result (λ js. length js < 2 ^ 31) }
     ensures found { HasCleanDisk (state S.Store conn.new) → IfOk result (λ js. (w : World) → IsSound w → Holds (content_of w) (state S.Store conn.old) → js ≡ jobs_for caller.now (call_of call.now) (rows w)) }
+    ensures damaged { HasCleanDisk (state S.Store conn.new) → IfErr result (λ e. e ≡ Fault.Damaged → HoldNoQueue (state S.Store conn.old)) }
 {
     let jobs = concerned(alloc, conn, caller, call)?;
     if jobs.len() > LAST_JOB_NUMBER as usize {
@@ -103,6 +105,7 @@ fn live_for_call<S: Alter>(
     ensures leaves { LeavesTables (state S.Store conn.old) (state S.Store conn.new) }
     ensures live { HasCleanDisk (state S.Store conn.new) → IsTrue (state S.Store conn.old).is_open → OnOk result (IsTrue (state S.Store conn.new).is_open) }
     ensures found { HasCleanDisk (state S.Store conn.new) → IfOk result (λ n. (w : World) → Holds (content_of w) (state S.Store conn.old) → n ≡ live_for caller.now (call_of call.now) (rows w)) }
+    ensures never { IfErr result (λ e. e ≢ Fault.Damaged) }
 {
     match call {
         Call::PrintJob { .. } | Call::ValidateJob { .. } | Call::CreateJob { .. } => {
@@ -121,6 +124,8 @@ fn counts_for_call<S: Alter>(
     ensures live { HasCleanDisk (state S.Store conn.new) → IsTrue (state S.Store conn.old).is_open → OnOk result (IsTrue (state S.Store conn.new).is_open) }
     ensures few { IfOk result (λ c. c.queued < 2 ^ 31) }
     ensures found { HasCleanDisk (state S.Store conn.new) → IfOk result (λ c. (w : World) → Holds (content_of w) (state S.Store conn.old) → c ≡ counts_for (call_of call.now) (rows w)) }
+    ensures damaged { HasCleanDisk (state S.Store conn.new) → IfErr result (λ e. e ≡ Fault.Damaged → HoldNoQueue (state S.Store conn.old)) }
+    ensures opened { HasCleanDisk (state S.Store conn.new) → IfErr result (λ e. e ≡ Fault.Damaged → IsTrue (state S.Store conn.old).is_open) }
 {
     match call {
         Call::GetPrinterAttributes => all_counts(conn),
@@ -139,6 +144,8 @@ fn numbers_for_call<S: Alter>(
     ensures few { IfOk result (λ n. n.counts.queued < 2 ^ 31) }
     ensures least { IfOk result (λ n. 1 ≤ n.next) }
     ensures found { HasCleanDisk (state S.Store conn.new) → IfOk result (λ n. (w : World) → Holds (content_of w) (state S.Store conn.old) → (n.live ≡ live_for caller.now (call_of call.now) (rows w)) × (n.counts ≡ counts_for (call_of call.now) (rows w)) × (n.next ≡ w.next)) }
+    ensures damaged { HasCleanDisk (state S.Store conn.new) → IfErr result (λ e. e ≡ Fault.Damaged → HoldNoQueue (state S.Store conn.old)) }
+    ensures opened { HasCleanDisk (state S.Store conn.new) → IfErr result (λ e. e ≡ Fault.Damaged → IsTrue (state S.Store conn.old).is_open) }
 {
     let live = live_for_call(conn, caller, call)?;
     let counts = counts_for_call(conn, call)?;
@@ -158,6 +165,8 @@ fn scene_of_call<S: Alter>(
     ensures live { HasCleanDisk (state S.Store conn.new) → OnOk result (IsTrue (state S.Store conn.new).is_open) }
     ensures fair { IfOk result IsFair }
     ensures found { HasCleanDisk (state S.Store conn.new) → IfOk result (λ s. (w : World) → IsSound w → Holds (content_of w) (state S.Store conn.old) → settings.now ≡ w.settings → s ≡ cut w (ask caller.now (call_of call.now))) }
+    ensures damaged { HasCleanDisk (state S.Store conn.new) → IfErr result (λ e. e ≡ Fault.Damaged → HoldNoQueue (state S.Store conn.old)) }
+    ensures opened { HasCleanDisk (state S.Store conn.new) → IfErr result (λ e. e ≡ Fault.Damaged → IsTrue (state S.Store conn.old).is_open) }
 {
     let numbers = numbers_for_call(conn, caller, call)?;
     let free = free_rows(alloc, conn, caller)?;
@@ -185,6 +194,7 @@ fn owner_rows<S: Alter>(
     ensures live { HasCleanDisk (state S.Store conn.new) → IsTrue (state S.Store conn.old).is_open → OnOk result (IsTrue (state S.Store conn.new).is_open) }
     ensures within { IfOk result (λ v. All (λ a. IsAmount a.free) v.items) }
     ensures found { HasCleanDisk (state S.Store conn.new) → IfOk result (λ v. (w : World) → Holds (content_of w) (state S.Store conn.old) → v.items ≡ owner_row w.free jobs.now) }
+    ensures damaged { HasCleanDisk (state S.Store conn.new) → IfErr result (λ e. e ≡ Fault.Damaged → HoldNoQueue (state S.Store conn.old)) }
 {
     match jobs {
         [] => Ok(Vec::new(alloc)),
@@ -203,6 +213,7 @@ fn job_of_report<S: Alter>(
     ensures sound { IfOk result (λ v. All IsSoundJob v.items) }
     ensures few { IfOk result (λ v. length v.items ≤ 1) }
     ensures found { HasCleanDisk (state S.Store conn.new) → IfOk result (λ v. (w : World) → IsSound w → Holds (content_of w) (state S.Store conn.old) → v.items ≡ numbered number (rows w)) }
+    ensures damaged { HasCleanDisk (state S.Store conn.new) → IfErr result (λ e. e ≡ Fault.Damaged → HoldNoQueue (state S.Store conn.old)) }
 {
     let jobs = with_number(alloc, conn, number)?;
     if jobs.len() > 1 {
@@ -222,6 +233,8 @@ fn scene_of_report<S: Alter>(
     ensures live { HasCleanDisk (state S.Store conn.new) → OnOk result (IsTrue (state S.Store conn.new).is_open) }
     ensures fair { IfOk result IsFair }
     ensures found { HasCleanDisk (state S.Store conn.new) → IfOk result (λ s. (w : World) → IsSound w → Holds (content_of w) (state S.Store conn.old) → settings.now ≡ w.settings → s ≡ cut w (tell r.now)) }
+    ensures damaged { HasCleanDisk (state S.Store conn.new) → IfErr result (λ e. e ≡ Fault.Damaged → HoldNoQueue (state S.Store conn.old)) }
+    ensures opened { HasCleanDisk (state S.Store conn.new) → IfErr result (λ e. e ≡ Fault.Damaged → IsTrue (state S.Store conn.old).is_open) }
 {
     let next = next_number(conn)?;
     let report = kept_report(conn, r.job, r.seq)?;
@@ -251,6 +264,8 @@ fn scene_of_grants<S: Alter>(
     ensures live { HasCleanDisk (state S.Store conn.new) → OnOk result (IsTrue (state S.Store conn.new).is_open) }
     ensures fair { IfOk result IsFair }
     ensures found { HasCleanDisk (state S.Store conn.new) → IfOk result (λ s. (w : World) → IsSound w → Holds (content_of w) (state S.Store conn.old) → settings.now ≡ w.settings → s ≡ cut w (grant rows.now)) }
+    ensures damaged { HasCleanDisk (state S.Store conn.new) → IfErr result (λ e. e ≡ Fault.Damaged → HoldNoQueue (state S.Store conn.old)) }
+    ensures opened { HasCleanDisk (state S.Store conn.new) → IfErr result (λ e. e ≡ Fault.Damaged → IsTrue (state S.Store conn.old).is_open) }
 {
     let next = next_number(conn)?;
     let known = known_rows(alloc, conn, rows)?;
@@ -269,7 +284,7 @@ fn scene_of_grants<S: Alter>(
 
 /// The rows that an event needs, under the settings of the queue. Whatever rows the tables hold, they hold after it,
 /// where the connection is open still; whatever they hold after it, they held before; and a scene is within its limits
-/// on any disk.
+/// on any disk. Damaged is told only where the tables of an open connection hold no sound queue.
 pub fn scene<S: Alter>(
     alloc: Global,
     conn: &mut Connection<S>,
@@ -280,6 +295,8 @@ pub fn scene<S: Alter>(
     ensures live { HasCleanDisk (state S.Store conn.new) → OnOk result (IsTrue (state S.Store conn.new).is_open) }
     ensures fair { IfOk result IsFair }
     ensures shows { HasCleanDisk (state S.Store conn.new) → IfOk result (λ s. (w : World) → IsSound w → Holds (content_of w) (state S.Store conn.old) → settings.now ≡ w.settings → s ≡ cut w (event_of event.now)) }
+    ensures damaged { HasCleanDisk (state S.Store conn.new) → IfErr result (λ e. e ≡ Fault.Damaged → HoldNoQueue (state S.Store conn.old)) }
+    ensures opened { HasCleanDisk (state S.Store conn.new) → IfErr result (λ e. e ≡ Fault.Damaged → IsTrue (state S.Store conn.old).is_open) }
 {
     match event {
         Event::Ask { caller, call } => scene_of_call(alloc, conn, settings, caller, call),

@@ -9,3 +9,6 @@ pub mod Sending
 pub mod PiecesSent
 pub mod OwnedJobs
 pub mod SheetLemmas
+pub mod ShortDocuments
+pub mod Damage
+pub mod PieceRows

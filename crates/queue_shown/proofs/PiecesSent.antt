@@ -64,7 +64,7 @@ only job n w d distinct there = ap (filter (is_of job n)) (all_are w.jobs) ∙ o
 
 -- ---- in order
 
-abbrev out : Row → Output
+abbrev pub out : Row → Output
 out v = (column v 2 ∷ [], column v 3 ∷ [])
 
 abbrev sent : List ℕ → ℕ → Output

@@ -1,5 +1,5 @@
 -- A document on its way out.
-use Rattle.std.proofs.Common.{◌≡◌, inl, inr, ℕ, List, [], ◌⊎◌, ◌++◌, length, Option, Ok, Err, Result, OnErr, sym, subst, append-nil}
+use Rattle.std.proofs.Common.{◌≡◌, inl, inr, ℕ, List, [], ◌∷◌, ◌⊎◌, ◌++◌, length, Option, Ok, Err, Result, OnErr, sym, subst, append-nil}
 use Rattle.std.specs.Io.KnownBytes.{Appends}
 use Rattle.sqlite.specs.Order.{Row}
 use Rattle.sqlite_schema.specs.declared.schema.Schema.{Schema}
@@ -8,7 +8,7 @@ use Rattle.sqlite.specs.State.{State, Begins}
 use Rattle.sqlite.proofs.Callers.{IsPlain}
 use Rattle.queue_tables.specs.Tables.{book_schema}
 use Rattle.queue_tables.proofs.Reading.{answers_same, begins_at}
-use Rattle.queue_shown.specs.Sent.{pieces_select, bytes_of, HasSent, HasSentFront}
+use Rattle.queue_shown.specs.Sent.{pieces_select, bytes_of, FindsNoBlob, HasSent, HasSentFront}
 use Rattle.queue_shown.proofs.Texts.{select_pieces_is}
 
 pub pieces_plain_in : (schema : Schema) → schema ≡ book_schema → IsPlain (understood schema pieces_select)
@@ -38,3 +38,6 @@ module _ (params : Row) (old now : State) (a b : Option (List ℕ)) (n : ℕ) (s
 
   pub same_front : HasSentFront params now a b n → HasSentFront params old a b n
   same_front h = record { bytes = h.bytes; appends = h.appends; count = h.count; front = begins_there h.front }
+
+pub same_found : (params : Row) (old now : State) → now.now ≡ old.now → FindsNoBlob params now → FindsNoBlob params old
+same_found params old now same h = record { before = h.before; row = h.row; there = begins_at pieces_select params old now (h.before ++ h.row ∷ []) same h.there; bare = h.bare }

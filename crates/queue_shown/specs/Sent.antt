@@ -1,5 +1,5 @@
 -- A document on its way out, piece by piece.
-use Rattle.std.specs.Prelude.{◌≡◌, ◌⊎◌, ℕ, List, [], ◌++◌, flat_map, length, Option, codes}
+use Rattle.std.specs.Prelude.{◌≡◌, ◌≢◌, ◌⊎◌, ℕ, List, [], ◌∷◌, ◌++◌, flat_map, length, Option, codes}
 use Rattle.std.specs.Io.KnownBytes.{Appends}
 use Rattle.sqlite.specs.declared.types.Value.{Value}
 use Rattle.sqlite.specs.declared.types.Value.TheVariants.{Null, Int, Real, Text as Words, Blob}
@@ -37,3 +37,14 @@ pub record HasSentFront (params : Row) (s : State) (before after : Option (List 
   pub appends : Appends before after bytes
   pub count : n ≡ length bytes
   pub front : (bytes ≡ []) ⊎ ((rows : List Row) × Begins pieces_select params s rows × (rest : List ℕ) × (bytes_of rows ≡ bytes ++ rest))
+
+-- no bytes stand in the row's first column
+abbrev pub ShowsNoBlob : Row → Type 0
+ShowsNoBlob r = (b : List ℕ) → column r 0 ≢ Blob b
+
+-- such a row is in the answer
+pub record FindsNoBlob (params : Row) (s : State) : Type 0 where
+  pub before : List Row
+  pub row : Row
+  pub there : Begins pieces_select params s (before ++ row ∷ [])
+  pub bare : ShowsNoBlob row

@@ -1,5 +1,5 @@
 //! The head of a document: its format and its length.
-ghost use Rattle.std.specs.Prelude.{◌≡◌, IfOk, OnOk, IsTrue, option_map};
+ghost use Rattle.std.specs.Prelude.{◌≡◌, ◌≢◌, ◌<◌, ◌^◌, length, IfOk, IfErr, OnOk, IsTrue, option_map};
 ghost use Rattle.sqlite.specs.Held.{state};
 ghost use Rattle.sqlite.specs.State.{HasCleanDisk};
 ghost use Rattle.queue_core.specs.Shown.{document_at, head_of};
@@ -9,7 +9,7 @@ ghost use Rattle.queue_types.specs.declared.document.Document.{Document};
 ghost use Rattle.queue_types.specs.declared.job.Job.{Job as JobValue};
 ghost use Rattle.queue_shown.specs.Fetched.{document_in, is_fetched, is_fetched_job, state_values};
 ghost use Rattle.queue_shown.specs.Heads.{head_values};
-ghost use Rattle.queue_tables.specs.Content.{Holds, content_of};
+ghost use Rattle.queue_tables.specs.Content.{HoldNoQueue, Holds, content_of};
 ghost use Rattle.queue_tables.specs.Leaving.{LeavesTables};
 ghost use Rattle.queue_tables.specs.Steps.{AreDistinct};
 
@@ -32,9 +32,11 @@ fn is_open_in(phase: Phase, hold: bool, incoming: bool) -> bool
     }
 }
 
-/// Whether the device may fetch the documents of the job of those columns.
+/// Whether the device may fetch the documents of the job of those columns. Damaged is told only where they are
+/// no job's.
 fn is_fetched_row(row: &Row) -> Result<bool, Fault>
-    ensures { IfOk result (λ b. (j : JobValue) → row.now ≡ state_values j → b ≡ is_fetched j) }
+    ensures told { IfOk result (λ b. (j : JobValue) → row.now ≡ state_values j → b ≡ is_fetched j) }
+    ensures damaged { IfErr result (λ e. e ≡ Fault.Damaged → (j : JobValue) → row.now ≢ state_values j) }
 {
     numbers_tell_names();
     let hold = flag(row, 0)?;
@@ -43,11 +45,14 @@ fn is_fetched_row(row: &Row) -> Result<bool, Fault>
     Ok(is_open_in(phase, hold, incoming))
 }
 
-/// Whether the device may fetch the documents of the job of that number.
+/// Whether the device may fetch the documents of the job of that number. Damaged is told only where the tables
+/// hold no sound queue.
 fn may_fetch<S: Alter>(conn: &mut Connection<S>, job: u32) -> Result<bool, Fault>
     ensures leaves { LeavesTables (state S.Store conn.old) (state S.Store conn.new) }
     ensures live { HasCleanDisk (state S.Store conn.new) → OnOk result (IsTrue (state S.Store conn.new).is_open) }
+    ensures damaged { HasCleanDisk (state S.Store conn.new) → IfErr result (λ e. e ≡ Fault.Damaged → HoldNoQueue (state S.Store conn.old)) }
     ensures told { HasCleanDisk (state S.Store conn.new) → IfOk result (λ b. (w : World) → AreDistinct w.jobs → Holds (content_of w) (state S.Store conn.old) → b ≡ is_fetched_job (job_at job (rows w))) }
+    ensures opened { HasCleanDisk (state S.Store conn.new) → IfErr result (λ e. e ≡ Fault.Damaged → IsTrue (state S.Store conn.old).is_open) }
 {
     let found = select(
         conn,
@@ -60,16 +65,19 @@ fn may_fetch<S: Alter>(conn: &mut Connection<S>, job: u32) -> Result<bool, Fault
     }
 }
 
-/// The head of a document of those columns.
+/// The head of a document of those columns. Damaged is told only where they are of no document shorter than 2^32
+/// bytes.
 fn read_head(row: &Row) -> Result<DocumentHead, Fault>
-    ensures { IfOk result (λ h. (d : Document) → row.now ≡ head_values d → h ≡ head_of d) }
+    ensures head { IfOk result (λ h. (d : Document) → row.now ≡ head_values d → h ≡ head_of d) }
+    ensures damaged { IfErr result (λ e. e ≡ Fault.Damaged → (d : Document) → length d.bytes < 2 ^ 32 → row.now ≢ head_values d) }
 {
     let format = format(row, 0)?;
     let octets = value(row, 1)?;
     Ok(DocumentHead { format, octets })
 }
 
-/// The head of document n, from 1, of the job of that number.
+/// The head of document n, from 1, of the job of that number. Damaged is told only where the tables hold no
+/// sound queue.
 fn find_head<S: Alter>(
     conn: &mut Connection<S>,
     job: u32,
@@ -77,6 +85,7 @@ fn find_head<S: Alter>(
 ) -> Result<Option<DocumentHead>, Fault>
     ensures leaves { LeavesTables (state S.Store conn.old) (state S.Store conn.new) }
     ensures live { HasCleanDisk (state S.Store conn.new) → OnOk result (IsTrue (state S.Store conn.new).is_open) }
+    ensures damaged { HasCleanDisk (state S.Store conn.new) → IfErr result (λ e. e ≡ Fault.Damaged → HoldNoQueue (state S.Store conn.old)) }
     ensures found { HasCleanDisk (state S.Store conn.new) → IfOk result (λ h. (w : World) → AreDistinct w.jobs → Holds (content_of w) (state S.Store conn.old) → h ≡ option_map head_of (document_in w.jobs job n)) }
 {
     let found = select(
@@ -94,7 +103,8 @@ fn find_head<S: Alter>(
 }
 
 /// The format and the length of document n, counted from 1, of a job in state 3, 5 or 6. It writes nothing:
-/// the tables stay as they were, where the connection is still open. Within a transaction it answers Disk.
+/// the tables stay as they were, where the connection is still open. Within a transaction it answers Disk. Damaged
+/// is told only where the tables hold no sound queue.
 pub fn document_head<S: Alter>(
     conn: &mut Connection<S>,
     job: u32,
@@ -102,7 +112,9 @@ pub fn document_head<S: Alter>(
 ) -> Result<Option<DocumentHead>, Fault>
     ensures leaves { LeavesTables (state S.Store conn.old) (state S.Store conn.new) }
     ensures live { HasCleanDisk (state S.Store conn.new) → OnOk result (IsTrue (state S.Store conn.new).is_open) }
+    ensures damaged { HasCleanDisk (state S.Store conn.new) → IfErr result (λ e. e ≡ Fault.Damaged → HoldNoQueue (state S.Store conn.old)) }
     ensures head { HasCleanDisk (state S.Store conn.new) → IfOk result (λ h. (w : World) → IsSound w → Holds (content_of w) (state S.Store conn.old) → h ≡ option_map head_of (document_at w job n)) }
+    ensures opened { HasCleanDisk (state S.Store conn.new) → IfErr result (λ e. e ≡ Fault.Damaged → IsTrue (state S.Store conn.old).is_open) }
 {
     let is_shown = may_fetch(conn, job)?;
     if !is_shown {

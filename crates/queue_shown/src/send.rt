@@ -1,5 +1,5 @@
 //! A document, written a piece at a time while its rows borrow the connection.
-ghost use Rattle.std.specs.Prelude.{◌≡◌, ◌+◌, ◌<◌, ◌≤◌, ◌^◌, ℕ, [], ◌∷◌, Some, length, take, IfOk, IfErr, OnOk, OnErr, IsTrue};
+ghost use Rattle.std.specs.Prelude.{◌≡◌, ◌≢◌, ◌+◌, ◌<◌, ◌≤◌, ◌^◌, ℕ, [], ◌∷◌, Some, length, take, IfOk, IfErr, OnOk, OnErr, IsTrue};
 ghost use Rattle.std.specs.Io.KnownBytes.{Appends};
 ghost use Rattle.sqlite.specs.Given.{HasGiven, IsPlain};
 ghost use Rattle.sqlite.specs.Held.{state};
@@ -10,8 +10,9 @@ ghost use Rattle.queue_core.specs.Shown.{document_at};
 ghost use Rattle.queue_core.specs.Sound.{IsSound};
 ghost use Rattle.queue_core.specs.World.{World};
 ghost use Rattle.queue_types.specs.declared.document.Document.{Document};
-ghost use Rattle.queue_shown.specs.Sent.{HasBook, HasSent, HasSentFront, LeavesRows, piece_bytes, pieces_select};
-ghost use Rattle.queue_tables.specs.Content.{Holds, content_of};
+ghost use Rattle.queue_shown.specs.Sent.{FindsNoBlob, HasBook, HasSent, HasSentFront, LeavesRows, ShowsNoBlob, piece_bytes, pieces_select};
+ghost use Rattle.queue_shown.specs.Stops.{told_cause};
+ghost use Rattle.queue_tables.specs.Content.{HoldNoQueue, Holds, content_of};
 ghost use Rattle.queue_tables.specs.Leaving.{LeavesTables};
 ghost use Rattle.queue_tables.specs.Values.{number};
 
@@ -30,22 +31,32 @@ enum Stop {
 }
 
 impl From<Error> for Stop {
+    ghost use Rattle.std.specs.Prelude.{◌≡◌};
+    ghost use Rattle.queue_tables.specs.Faults.{read_fault};
+    ghost use Rattle.queue_shown.specs.declared.send.Stop.TheVariants.{Tables};
+
+    ghost from_gives = { λ e stop. stop ≡ Tables (read_fault e) };
+
     fn from(error: Error) -> Stop {
         Stop::Tables(Fault::from(error))
     }
 }
 
-fn cause_of(stop: Stop) -> SendCause {
+fn cause_of(stop: Stop) -> SendCause
+    ensures { result ≡ told_cause stop }
+{
     match stop {
         Stop::Tables(fault) => SendCause::Book(BookFault::from(fault)),
         Stop::Write => SendCause::Write,
     }
 }
 
-/// Writes all the bytes, by as many writes as it takes. After a fault a front of them was written.
+/// Writes all the bytes, by as many writes as it takes. After a fault a front of them was written. Damaged is never
+/// told.
 fn put<W: Write>(out: &mut W, bytes: &[u8], written: &mut u64) -> Result<(), Stop>
     requires { written.old + length bytes.now < 2 ^ 64 }
     ensures ok { OnOk result (Appends (W.contents out.old) (W.contents out.new) bytes.now × (written.new ≡ written.old + length bytes.now)) }
+    ensures never { IfErr result (λ stop. stop ≢ Stop.Tables Fault.Damaged) }
     ensures err { OnErr result ((n : ℕ) × (n ≤ length bytes.now) × Appends (W.contents out.old) (W.contents out.new) (take n bytes.now) × (written.new ≡ written.old + n)) }
 {
     let mut at = 0;
@@ -62,9 +73,10 @@ fn put<W: Write>(out: &mut W, bytes: &[u8], written: &mut u64) -> Result<(), Sto
     Ok(())
 }
 
-/// Writes the bytes of a row.
+/// Writes the bytes of a row. Damaged is told only where it shows none.
 fn put_piece<W: Write>(row: &Row, out: &mut W, written: &mut u64) -> Result<(), Stop>
     ensures ok { OnOk result (Appends (W.contents out.old) (W.contents out.new) (piece_bytes row.now) × (written.new ≡ written.old + length (piece_bytes row.now))) }
+    ensures damaged { IfErr result (λ stop. stop ≡ Stop.Tables Fault.Damaged → ShowsNoBlob row.now) }
     ensures err { OnErr result ((n : ℕ) × (n ≤ length (piece_bytes row.now)) × Appends (W.contents out.old) (W.contents out.new) (take n (piece_bytes row.now)) × (written.new ≡ written.old + n)) }
 {
     let bytes = match row.get_ref(0) {
@@ -78,7 +90,8 @@ fn put_piece<W: Write>(row: &Row, out: &mut W, written: &mut u64) -> Result<(), 
     put(out, bytes, written)
 }
 
-/// Writes the pieces that a query shows, which stands before its first, in order.
+/// Writes the pieces that a query shows, which stands before its first, in order. Damaged is told only where one of
+/// its rows shows no bytes.
 fn send_rows<S: Alter, W: Write>(
     rows: &mut Rows<S>,
     out: &mut W,
@@ -89,6 +102,7 @@ fn send_rows<S: Alter, W: Write>(
     ensures clean { HasCleanDisk (state S.Store rows.new.conn.now) → HasCleanDisk (state S.Store rows.old.conn.now) }
     ensures sent { HasCleanDisk (state S.Store rows.new.conn.now) → IsTrue (state S.Store rows.old.conn.now).is_open → (params : Columns) → IsPlain (understood (state S.Store rows.old.conn.now).now.schema pieces_select) → HasGiven S.Store pieces_select params rows.old.conn.now [] → OnOk result (HasSent params (state S.Store rows.old.conn.now) (W.contents out.old) (W.contents out.new) written.new) }
     ensures front { HasCleanDisk (state S.Store rows.new.conn.now) → IsTrue (state S.Store rows.old.conn.now).is_open → (params : Columns) → HasGiven S.Store pieces_select params rows.old.conn.now [] → OnErr result (HasSentFront params (state S.Store rows.old.conn.now) (W.contents out.old) (W.contents out.new) written.new) }
+    ensures damaged { HasCleanDisk (state S.Store rows.new.conn.now) → IsTrue (state S.Store rows.old.conn.now).is_open → (params : Columns) → HasGiven S.Store pieces_select params rows.old.conn.now [] → IfErr result (λ stop. stop ≡ Stop.Tables Fault.Damaged → FindsNoBlob params (state S.Store rows.old.conn.now)) }
     ensures same { HasCleanDisk (state S.Store rows.new.conn.now) → IsTrue (state S.Store rows.old.conn.now).is_open → OnOk result (IsUnchanged (state S.Store rows.old.conn.now) (state S.Store rows.new.conn.now)) }
     ensures left { HasCleanDisk (state S.Store rows.new.conn.now) → IsTrue (state S.Store rows.old.conn.now).is_open → LeavesRows (state S.Store rows.old.conn.now) (state S.Store rows.new.conn.now) }
 {
@@ -101,7 +115,7 @@ fn send_rows<S: Alter, W: Write>(
     Err(Stop::Tables(Fault::Disk))
 }
 
-/// Writes the pieces of a document in order.
+/// Writes the pieces of a document in order. Damaged is told only where a row of them shows no bytes.
 fn send_pieces<S: Alter, W: Write>(
     conn: &mut Connection<S>,
     job: u32,
@@ -115,6 +129,7 @@ fn send_pieces<S: Alter, W: Write>(
     ensures live { HasCleanDisk (state S.Store conn.new) → OnOk result (IsTrue (state S.Store conn.new).is_open) }
     ensures sent { HasBook (state S.Store conn.old) → HasCleanDisk (state S.Store conn.new) → OnOk result (HasSent (number job ∷ number doc ∷ []) (state S.Store conn.old) (W.contents out.old) (W.contents out.new) written.new) }
     ensures front { HasBook (state S.Store conn.old) → HasCleanDisk (state S.Store conn.new) → OnErr result (HasSentFront (number job ∷ number doc ∷ []) (state S.Store conn.old) (W.contents out.old) (W.contents out.new) written.new) }
+    ensures damaged { HasBook (state S.Store conn.old) → HasCleanDisk (state S.Store conn.new) → IfErr result (λ stop. stop ≡ Stop.Tables Fault.Damaged → FindsNoBlob (number job ∷ number doc ∷ []) (state S.Store conn.old)) }
     ensures left { HasCleanDisk (state S.Store conn.new) → LeavesRows (state S.Store conn.old) (state S.Store conn.new) }
 {
     let mut rows = conn.query(
@@ -127,7 +142,8 @@ fn send_pieces<S: Alter, W: Write>(
 /// Writes the bytes of document n, counted from 1, of a job, which `document_head` has found, and says how many they are.
 /// After a fault a front of them was written. Never more than a piece of them is held. The tables stay as they
 /// were, where the connection is still open. Within a transaction it answers Disk. It doesn't look at the job's state: of a
-/// document that `document_head` doesn't find, those pieces are written that are there.
+/// document that `document_head` doesn't find, those pieces are written that are there. Damaged is told only where the
+/// tables hold no sound queue.
 pub fn send_document<S: Alter, W: Write>(
     conn: &mut Connection<S>,
     job: u32,
@@ -136,6 +152,7 @@ pub fn send_document<S: Alter, W: Write>(
 ) -> Result<u64, SendFault>
     ensures leaves { LeavesTables (state S.Store conn.old) (state S.Store conn.new) }
     ensures live { HasCleanDisk (state S.Store conn.new) → OnOk result (IsTrue (state S.Store conn.new).is_open) }
+    ensures damaged { HasCleanDisk (state S.Store conn.new) → IfErr result (λ f. f.cause ≡ SendCause.Book BookFault.Damaged → HoldNoQueue (state S.Store conn.old)) }
     ensures ok { HasCleanDisk (state S.Store conn.new) → IfOk result (λ sent. (w : World) (d : Document) → IsSound w → Holds (content_of w) (state S.Store conn.old) → document_at w job n ≡ Some d → (sent ≡ length d.bytes) × Appends (W.contents out.old) (W.contents out.new) d.bytes) }
     ensures err { HasCleanDisk (state S.Store conn.new) → IfErr result (λ f. (w : World) (d : Document) → IsSound w → Holds (content_of w) (state S.Store conn.old) → document_at w job n ≡ Some d → (f.written ≤ length d.bytes) × Appends (W.contents out.old) (W.contents out.new) (take f.written d.bytes)) }
 {

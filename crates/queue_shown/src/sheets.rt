@@ -1,5 +1,5 @@
 //! What the office is told of an account.
-ghost use Rattle.std.specs.Prelude.{◌≡◌, List, [], ◌∷◌, ◌++◌, Some, IfOk, OnOk, IsTrue, filter, if◌then◌else◌, map};
+ghost use Rattle.std.specs.Prelude.{◌≡◌, ◌≢◌, List, [], ◌∷◌, ◌++◌, Some, IfOk, IfErr, OnOk, IsTrue, filter, if◌then◌else◌, map};
 ghost use Rattle.sqlite.specs.Held.{state};
 ghost use Rattle.sqlite.specs.State.{HasCleanDisk};
 ghost use Rattle.queue_types.specs.Job.{owed};
@@ -8,7 +8,7 @@ ghost use Rattle.queue_core.specs.Sound.{IsSound};
 ghost use Rattle.queue_core.specs.World.{World, job_at, rows};
 ghost use Rattle.queue_types.specs.declared.job.Job.{Job as JobValue};
 ghost use Rattle.queue_shown.specs.Pages.{has_pages};
-ghost use Rattle.queue_tables.specs.Content.{AreRowsOf, Holds, content_of};
+ghost use Rattle.queue_tables.specs.Content.{AreRowsOf, HoldNoQueue, Holds, content_of};
 ghost use Rattle.queue_tables.specs.Leaving.{LeavesTables};
 ghost use Rattle.queue_tables.specs.Values.{job_values};
 
@@ -31,7 +31,8 @@ fn is_told(job: &Job) -> bool
     0 < job.owed() || 0 < job.count
 }
 
-/// Adds the job of that row where it has pages reserved or printed.
+/// Adds the job of that row where it has pages reserved or printed. Damaged is told only where the tables hold no
+/// sound queue with a job of that row.
 fn push_told<S: Alter>(
     alloc: Global,
     conn: &mut Connection<S>,
@@ -40,6 +41,7 @@ fn push_told<S: Alter>(
 ) -> Result<(), Fault>
     ensures leaves { LeavesTables (state S.Store conn.old) (state S.Store conn.new) }
     ensures live { HasCleanDisk (state S.Store conn.new) → OnOk result (IsTrue (state S.Store conn.old).is_open → IsTrue (state S.Store conn.new).is_open) }
+    ensures damaged { HasCleanDisk (state S.Store conn.new) → IfErr result (λ e. e ≡ Fault.Damaged → (w : World) (j : JobValue) → IsSound w → Holds (content_of w) (state S.Store conn.old) → job_at j.number (rows w) ≡ Some j → row.now ≢ job_values j) }
     ensures told { HasCleanDisk (state S.Store conn.new) → OnOk result ((w : World) (j : JobValue) → IsSound w → Holds (content_of w) (state S.Store conn.old) → job_at j.number (rows w) ≡ Some j → row.now ≡ job_values j → jobs.new.items ≡ jobs.old.items ++ (if has_pages j then j ∷ [] else [])) }
 {
     numbers_tell_names();
@@ -54,7 +56,8 @@ fn push_told<S: Alter>(
     Ok(())
 }
 
-/// The jobs of those rows that have pages reserved or printed.
+/// The jobs of those rows that have pages reserved or printed. Damaged is told only where the tables hold no
+/// sound queue with jobs of those rows.
 fn jobs_of<S: Alter>(
     alloc: Global,
     conn: &mut Connection<S>,
@@ -62,6 +65,7 @@ fn jobs_of<S: Alter>(
 ) -> Result<Vec<Job>, Fault>
     ensures leaves { LeavesTables (state S.Store conn.old) (state S.Store conn.new) }
     ensures live { HasCleanDisk (state S.Store conn.new) → OnOk result (IsTrue (state S.Store conn.old).is_open → IsTrue (state S.Store conn.new).is_open) }
+    ensures damaged { HasCleanDisk (state S.Store conn.new) → IfErr result (λ e. e ≡ Fault.Damaged → (w : World) (js : List JobValue) → IsSound w → Holds (content_of w) (state S.Store conn.old) → AreRowsOf w js → found.now ≢ map job_values js) }
     ensures told { HasCleanDisk (state S.Store conn.new) → IfOk result (λ v. (w : World) (js : List JobValue) → IsSound w → Holds (content_of w) (state S.Store conn.old) → AreRowsOf w js → found.now ≡ map job_values js → v.items ≡ filter has_pages js) }
 {
     let mut jobs = Vec::new(alloc);
@@ -71,7 +75,8 @@ fn jobs_of<S: Alter>(
     Ok(jobs)
 }
 
-/// The jobs of an account that have pages reserved or printed, by number.
+/// The jobs of an account that have pages reserved or printed, by number. Damaged is told only where the tables hold
+/// no sound queue.
 fn told_jobs<S: Alter>(
     alloc: Global,
     conn: &mut Connection<S>,
@@ -79,6 +84,7 @@ fn told_jobs<S: Alter>(
 ) -> Result<JobList, Fault>
     ensures leaves { LeavesTables (state S.Store conn.old) (state S.Store conn.new) }
     ensures live { HasCleanDisk (state S.Store conn.new) → OnOk result (IsTrue (state S.Store conn.new).is_open) }
+    ensures damaged { HasCleanDisk (state S.Store conn.new) → IfErr result (λ e. e ≡ Fault.Damaged → HoldNoQueue (state S.Store conn.old)) }
     ensures told { HasCleanDisk (state S.Store conn.new) → IfOk result (λ js. (w : World) → IsSound w → Holds (content_of w) (state S.Store conn.old) → js ≡ sheet_jobs w account.now) }
 {
     let found = select(
@@ -92,7 +98,7 @@ fn told_jobs<S: Alter>(
 
 /// What is granted to an account, what of it is free, reserved and printed, and its jobs, where the account is
 /// there. It writes nothing: the tables stay as they were, where the connection is still open. Within a
-/// transaction it answers Disk.
+/// transaction it answers Disk. Damaged is told only where the tables hold no sound queue.
 pub fn sheet<S: Alter>(
     alloc: Global,
     conn: &mut Connection<S>,
@@ -100,7 +106,9 @@ pub fn sheet<S: Alter>(
 ) -> Result<Option<AccountSheet>, Fault>
     ensures leaves { LeavesTables (state S.Store conn.old) (state S.Store conn.new) }
     ensures live { HasCleanDisk (state S.Store conn.new) → OnOk result (IsTrue (state S.Store conn.new).is_open) }
+    ensures damaged { HasCleanDisk (state S.Store conn.new) → IfErr result (λ e. e ≡ Fault.Damaged → HoldNoQueue (state S.Store conn.old)) }
     ensures sheet { HasCleanDisk (state S.Store conn.new) → IfOk result (λ s. (w : World) → IsSound w → Holds (content_of w) (state S.Store conn.old) → s ≡ sheet_of w account.now) }
+    ensures opened { HasCleanDisk (state S.Store conn.new) → IfErr result (λ e. e ≡ Fault.Damaged → IsTrue (state S.Store conn.old).is_open) }
 {
     let found = find_account(conn, account)?;
     let Some(pages) = found else {

@@ -1,5 +1,5 @@
 //! The book in tables as a book that keeps a queue.
-ghost use Rattle.std.specs.Prelude.{◌≡◌, IfOk};
+ghost use Rattle.std.specs.Prelude.{◌≡◌, IfErr, IfOk};
 ghost use Rattle.queue_core.specs.Limits.{IsEvent, IsFair, IsMoment, IsReplyTo};
 ghost use Rattle.queue_core.specs.Machine.{decision};
 ghost use Rattle.queue_store.specs.Kept.{IsHonest, StandsFor};
@@ -28,6 +28,7 @@ fn decide_on<'a>(
     requires event { IsEvent (event_of event.now) }
     ensures decides { IfOk result (λ d. decision_of d ≡ decision scene now (event_of event.now)) }
     ensures limits { IfOk result (λ d. IsReplyTo (event_of event.now) d.reply) }
+    ensures fault { IfErr result (λ e. e ≡ BookFault.Memory) }
 {
     let decision = queue_core::decide(alloc, &scene, now, event)?;
     Ok(decision)

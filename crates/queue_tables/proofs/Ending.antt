@@ -1,5 +1,5 @@
 -- How a transaction ends.
-use Rattle.std.proofs.Common.{◌≡◌, ◌⊎◌, inl, inr, sym, ap, subst, ◌∙◌, List, ℕ, Option, None, Some, IsTrue, true, Bool, Result, Ok, Err, OnOk, OnErr, IfOk, IfErr, ◌≤◌, arith}
+use Rattle.std.proofs.Common.{◌≡◌, ◌⊎◌, inl, inr, sym, ap, subst, ◌∙◌, List, ℕ, Option, None, Some, IsTrue, true, Bool, Result, Ok, Err, OnOk, OnErr, IfOk, IfErr, IsErrAnd, ◌≤◌, arith}
 use Rattle.sqlite.specs.declared.error.Error.{Error}
 use Rattle.sqlite.specs.Effect.{Database}
 use Rattle.sqlite.specs.State.{State, HasCleanDisk, IsRolledBack, Shows, IsUnchanged, FailsToQuery, FailsToShow, IsNotRun}
@@ -12,6 +12,8 @@ use Rattle.sqlite_trees.specs.View.{doubt}
 use Rattle.sqlite_trees.specs.declared.store.Store.{Ghosts}
 use Rattle.sqlite.specs.Held.{Held, state}
 use Rattle.queue_tables.specs.Content.{Content, Holds, HasContent}
+use Rattle.queue_tables.specs.declared.fault.Fault.{Fault}
+use Rattle.queue_tables.specs.declared.fault.Fault.TheVariants.{Damaged}
 
 -- a commit that fails leaves the last commit, where the connection is open still
 pub fails_back : (old new : State) (e : Error) → FailsToCommit old new e → IsTrue new.is_open → IsTrue old.in_transaction → (IsTrue old.is_open) × (new.now ≡ old.committed)
@@ -63,3 +65,8 @@ query_fails sql params old new e (inr h) = shown_fails h.0 (timed params h.0.for
 pub if_err : {A E : Type 0} (r : Result A E) (P : E → Type 0) (Q : Type 0) → ((e : E) → P e → Q) → IfErr r P → OnErr r Q
 if_err (Ok x) P Q then_q p = tt
 if_err (Err e) P Q then_q p = then_q e p
+
+-- an error that a `?` hands on
+pub err_after : {T : Type 0} (r : Result T Fault) (e : Fault) (P : Type 0) → IsErrAnd r (λ f. f ≡ e) → (e ≡ Damaged → P) → IfErr r (λ f. f ≡ Damaged → P)
+err_after (Err f) e P same then = λ d. then (sym same ∙ d)
+err_after (Ok x) e P same then = tt

@@ -9,7 +9,7 @@ use Rattle.sqlite.specs.Clock.{timed}
 use Rattle.sqlite_resolve.specs.declared.compiled.Compiled.{Compiled}
 use Rattle.sqlite_schema.specs.declared.command.Returning.{Returning}
 use Rattle.sqlite_trees.specs.declared.store.Store.{Ghosts}
-use Rattle.queue_tables.specs.Content.{Content, Holds}
+use Rattle.queue_tables.specs.Content.{Content, HoldNoQueue, Holds, content_of}
 use Rattle.queue_tables.specs.Queries.{IsQueryText}
 use Rattle.queue_tables.proofs.Ending.{query_fails, same_holds}
 use Rattle.queue_tables.proofs.Queries.{query_changes_nothing, query_is_bare}
@@ -49,6 +49,10 @@ holds_after {old} {new} leaves clean c has live = same_holds c old new has (leav
 -- and what they hold they held
 pub held_by : {old new : State} → LeavesTables old new → HasCleanDisk new → (c : Content) → Holds c new → Holds c old
 held_by {old} {new} leaves clean c has = same_holds c new old has (sym (leaves.same clean has.live)) (leaves.opened clean has.live)
+
+-- tables that hold no queue held none
+pub none_before : {old new : State} → LeavesTables old new → HasCleanDisk new → IsTrue new.is_open → HoldNoQueue new → HoldNoQueue old
+none_before leaves clean live none = λ w sound has. none w sound (holds_after leaves clean (content_of w) has live)
 
 -- outside a transaction: nothing is changed, or what was begun is undone
 pub left_leaves : (old new : State) → (IsTrue old.is_open → old.now ≡ old.committed) → (HasCleanDisk new → HasCleanDisk old) → (HasCleanDisk new → IsUnchanged old new ⊎ IsRolledBack old new) → LeavesTables old new

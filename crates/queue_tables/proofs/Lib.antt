@@ -30,3 +30,4 @@ pub mod Leaving
 pub mod Firsts
 pub mod AccountRows
 pub mod Sizes
+pub mod Formed

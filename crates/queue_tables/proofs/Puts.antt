@@ -102,14 +102,14 @@ small_owed true true i k n low less = omega arith
 small_owed true false i k n low less = let it : i * k ≤ 100000 * 999 = mul-le i k 100000 999 low less in omega (arith, it)
 small_owed false hold i k n low less = omega arith
 
-owed_is_small : (j : Job) → AreAmounts j → owed j ≤ 100000000
+pub owed_is_small : (j : Job) → AreAmounts j → owed j ≤ 100000000
 owed_is_small j a = small_owed (is_live j) j.hold j.impressions j.copies j.count a.impressions a.copies
 
 small_if : (b : Bool) (n : ℕ) → n ≤ 100000000 → (if b then n else 0) ≤ 100000000
 small_if true n low = low
 small_if false n low = omega arith
 
-sum_fits : (f : Job → ℕ) → ((j : Job) → AreAmounts j → f j ≤ 100000000) → (a : List ℕ) (w : World) → IsSummable w.jobs → sum_by (of_account f a) (rows w) ≤ 214748364800000000
+pub sum_fits : (f : Job → ℕ) → ((j : Job) → AreAmounts j → f j ≤ 100000000) → (a : List ℕ) (w : World) → IsSummable w.jobs → sum_by (of_account f a) (rows w) ≤ 214748364800000000
 sum_fits f small a w s =
     let b = sum_bound (of_account f a) (λ j it. small_if (bytes_eq j.owner a) (f j) (small j it)) w.jobs s.amounts in
     let few : length w.jobs ≤ 2147483648 = s.few in
@@ -137,7 +137,7 @@ pages_in f w a = pos (sum_by (of_account f a) (rows w))
 abbrev less : (Job → ℕ) → Job → World → List ℕ → ℤ
 less f was w = added_at was.owner (neg_ℤ (pos (f was))) (pages_in f w)
 
-count_is_small : (j : Job) → AreAmounts j → j.count ≤ 100000000
+pub count_is_small : (j : Job) → AreAmounts j → j.count ≤ 100000000
 count_is_small j a = a.count
 
 -- ---- a new job

@@ -1,16 +1,16 @@
 -- The documents of a job, by their rows.
-use Rattle.std.proofs.Common.{◌≡◌, inl, inr, ℕ, ◌+◌, List, [], ◌∷◌, ◌++◌, map, filter, length, true, false, ◌==◌, Option, Some, refl, sym, ap, subst, ◌∙◌, arith, sum_by, append-nil}
+use Rattle.std.proofs.Common.{◌≡◌, ◌≤◌, ◌*◌, inl, inr, ℕ, ◌+◌, All, List, [], ◌∷◌, ◌++◌, map, filter, length, true, false, ◌==◌, Option, Some, refl, sym, ap, subst, ◌∙◌, arith, sum_by, append-nil}
 use Rattle.std.specs.List.{AllByRecursion as Each}
 use Rattle.std.specs.List.Sorted.{IsPermutation}
 use Rattle.std.proofs.lemmas.Bool.{cases_Bool, eqb-true, or_parts}
-use Rattle.std.proofs.lemmas.List.Elements.{filter-append}
+use Rattle.std.proofs.lemmas.List.Elements.{All-from_recursion, filter-append}
 use Rattle.std.proofs.lemmas.List.Sums.{sum_by-cons}
-use Rattle.std.proofs.lemmas.List.Sorted.{length_permutation, sum_by-IsPermutation}
+use Rattle.std.proofs.lemmas.List.Sorted.{All-permutation, length_permutation, sum_by-IsPermutation}
 use Rattle.sqlite.specs.Order.{Row, column}
 use Rattle.sqlite.specs.State.{State, Shown}
 use Rattle.queue_types.specs.declared.job.Job.{Job}
 use Rattle.queue_types.specs.declared.document.Document.{Document}
-use Rattle.queue_core.specs.Sound.{IsSound, IsSoundEntry}
+use Rattle.queue_core.specs.Sound.{IsSound, IsSoundDocument, IsSoundEntry}
 use Rattle.queue_core.specs.World.{World, Entry, job_at, rows, has_number}
 use Rattle.queue_tables.specs.Content.{Holds, content_of, document_rows}
 use Rattle.queue_tables.specs.Steps.{AreDistinct, is_numbered}
@@ -20,7 +20,7 @@ use Rattle.queue_tables.proofs.Entries.{rows_in, distinct_of}
 use Rattle.queue_tables.proofs.Numbers.{numbered_document}
 use Rattle.queue_tables.proofs.Showing.{shows_all}
 use Rattle.queue_tables.proofs.Statements.{select_octets, select_octets_is}
-use Rattle.queue_tables.specs.Sizes.{first_number}
+use Rattle.queue_tables.specs.Sizes.{IsLengthRow, first_number}
 
 -- ---- the rows of one job's documents
 
@@ -100,4 +100,28 @@ sizes_shown old new n shown_rows w k sound has there h =
     let all : IsPermutation (map octets_out docs) shown_rows = subst (λ (vs : List Row). IsPermutation (map octets_out vs) shown_rows) it.documents p in (
       length_permutation (map octets_out docs) shown_rows all ∙ count_rows it.entry.row.number 1 it.entry.documents ∙ sym it.sound.documents ∙ ap (λ (j : Job). j.documents) it.row,
       sum_by-IsPermutation first_number (map octets_out docs) shown_rows all ∙ sum_rows it.entry.row.number 1 it.entry.documents ∙ sym it.sound.octets ∙ ap (λ (j : Job). j.octets) it.row,
+    )
+
+-- ---- and that both are within their limits
+
+rows_of_lengths : (job from : ℕ) (ds : List Document) → Each IsSoundDocument ds → Each IsLengthRow (map octets_out (document_rows job from ds))
+unfolding octets_out
+rows_of_lengths job from [] sound = tt
+rows_of_lengths job from (d ∷ ds) sound = ((length d.bytes, omega (arith, sound.0.1), refl), rows_of_lengths job (from + 1) ds sound.1)
+
+pub lengths_shown : (old new : State) (n : ℕ) (shown_rows : List Row) (w : World) (k : Job) → IsSound w → Holds (content_of w) old → job_at n (rows w) ≡ Some k → Shown select_octets.text (number n ∷ []) old new shown_rows → All IsLengthRow shown_rows
+unfolding octets_out
+lengths_shown old new n shown_rows w k sound has there h =
+    let it = entry_there n w.jobs k (distinct_of 1 w.jobs w.next sound.numbers) sound.entries there in
+    let docs = document_rows it.entry.row.number 1 it.entry.documents in
+    let p = shows_all select_octets select_octets_is
+    old new (number n ∷ []) document_view (is_numbered n) octets_out (content_of w).documents shown_rows has.schema (λ r. refl) (λ r. refl) has.rows.documents h in
+    let all : IsPermutation (map octets_out docs) shown_rows = subst (λ (vs : List Row). IsPermutation (map octets_out vs) shown_rows) it.documents p in
+    All-permutation IsLengthRow (map octets_out docs) shown_rows all (All-from_recursion IsLengthRow (map octets_out docs) (rows_of_lengths it.entry.row.number 1 it.entry.documents it.sound.sizes))
+
+pub sizes_fit : (n : ℕ) (w : World) (k : Job) → IsSound w → job_at n (rows w) ≡ Some k → (k.documents ≤ 16) × (k.octets ≤ k.documents * 16777216)
+sizes_fit n w k sound there =
+    let it = entry_there n w.jobs k (distinct_of 1 w.jobs w.next sound.numbers) sound.entries there in (
+      subst (λ (j : Job). j.documents ≤ 16) it.row it.sound.row.documents,
+      subst (λ (j : Job). j.octets ≤ j.documents * 16777216) it.row it.sound.row.octets,
     )

@@ -8,7 +8,7 @@ use Rattle.sqlite.specs.State.{State}
 use Rattle.queue_types.specs.declared.document.Document.{Document}
 use Rattle.queue_types.specs.declared.job.Job.{Job}
 use Rattle.queue_core.specs.World.{World, job_at, rows}
-use Rattle.queue_core.specs.Sound.{reserved, printed}
+use Rattle.queue_core.specs.Sound.{IsSound, reserved, printed}
 use Rattle.queue_rows.specs.Documents.{documents_from}
 use Rattle.queue_rows.specs.Pieces.{pieces_in, piece_at}
 use Rattle.queue_rows.specs.Rows.{meta_row, grant_row}
@@ -71,3 +71,7 @@ pub record Holds (c : Content) (s : State) : Type 0 where
 -- each of them is the world's job of its number
 abbrev pub AreRowsOf : World → List Job → Type 0
 AreRowsOf w js = All (λ j. job_at j.number (rows w) ≡ Some j) js
+
+-- the tables hold no sound queue
+abbrev pub HoldNoQueue : State → Type 0
+HoldNoQueue s = (w : World) → IsSound w → ¬ Holds (content_of w) s

@@ -1,5 +1,5 @@
 //! The pages of an account, as its row has them.
-ghost use Rattle.std.specs.Prelude.{◌≡◌, ◌+◌, ◌+ℤ◌, pos, IfOk, OnOk, IsTrue, option_map};
+ghost use Rattle.std.specs.Prelude.{◌≡◌, ◌≢◌, ◌<◌, ◌^◌, ◌+◌, ◌+ℤ◌, pos, ℕ, ℤ, [], ◌∷◌, IfOk, IfErr, OnOk, IsTrue, option_map};
 ghost use Rattle.std.specs.FinMap.{get};
 ghost use Rattle.sqlite.specs.Held.{state};
 ghost use Rattle.sqlite.specs.Order.{column};
@@ -7,7 +7,7 @@ ghost use Rattle.sqlite.specs.State.{HasCleanDisk};
 ghost use Rattle.sqlite.specs.declared.types.Value.TheVariants.{Int};
 ghost use Rattle.queue_core.specs.World.{World};
 ghost use Rattle.queue_tables.specs.Accounts.{pages_of};
-ghost use Rattle.queue_tables.specs.Content.{Holds, content_of};
+ghost use Rattle.queue_tables.specs.Content.{HoldNoQueue, Holds, content_of};
 ghost use Rattle.queue_tables.specs.Leaving.{LeavesTables};
 
 use crate::fault::Fault;
@@ -27,7 +27,8 @@ impl AccountPages {
     /// The pages that were granted: those that are free, reserved and printed, together. They are damaged where they are
     /// below zero or past 64 bits.
     pub fn granted(self) -> Result<u64, Fault>
-        ensures { IfOk result (λ n. pos n ≡ self.free +ℤ pos (self.reserved + self.printed)) }
+        ensures sum { IfOk result (λ n. pos n ≡ self.free +ℤ pos (self.reserved + self.printed)) }
+        ensures damaged { IfErr result (λ _. (n : ℕ) → n < 2 ^ 64 → self.reserved + self.printed < 2 ^ 64 → pos n ≢ self.free +ℤ pos (self.reserved + self.printed)) }
     {
         let Some(used) = self.reserved.checked_add(self.printed) else {
             return Err(Fault::Damaged);
@@ -44,6 +45,7 @@ fn read_pages(row: &Row) -> Result<AccountPages, Fault>
     ensures free { IfOk result (λ p. column row.now 0 ≡ Int p.free) }
     ensures reserved { IfOk result (λ p. column row.now 1 ≡ Int (pos p.reserved)) }
     ensures printed { IfOk result (λ p. column row.now 2 ≡ Int (pos p.printed)) }
+    ensures damaged { IfErr result (λ e. e ≡ Fault.Damaged → (free : ℤ) (reserved printed : ℕ) → row.now ≢ Int free ∷ Int (pos reserved) ∷ Int (pos printed) ∷ []) }
 {
     let free = value(row, 0)?;
     let reserved = value(row, 1)?;
@@ -55,14 +57,16 @@ fn read_pages(row: &Row) -> Result<AccountPages, Fault>
     })
 }
 
-/// The pages of the account of that name, where it is there.
+/// The pages of the account of that name, where it is there. Damaged is told only where the tables hold no sound queue.
 pub fn find_account<S: Alter>(
     conn: &mut Connection<S>,
     account: &str,
 ) -> Result<Option<AccountPages>, Fault>
     ensures leaves { LeavesTables (state S.Store conn.old) (state S.Store conn.new) }
     ensures live { HasCleanDisk (state S.Store conn.new) → OnOk result (IsTrue (state S.Store conn.new).is_open) }
+    ensures damaged { HasCleanDisk (state S.Store conn.new) → IfErr result (λ e. e ≡ Fault.Damaged → HoldNoQueue (state S.Store conn.old)) }
     ensures found { HasCleanDisk (state S.Store conn.new) → IfOk result (λ found. (w : World) → Holds (content_of w) (state S.Store conn.old) → found ≡ option_map (pages_of w account.now) (get w.free account.now)) }
+    ensures opened { HasCleanDisk (state S.Store conn.new) → IfErr result (λ e. e ≡ Fault.Damaged → IsTrue (state S.Store conn.old).is_open) }
 {
     let found = select(
         conn,

@@ -1,12 +1,12 @@
 //! How many documents a job has, and how long they are.
-ghost use Rattle.std.specs.Prelude.{◌≡◌, ◌≤◌, ◌*◌, length, sum_by, Some, IfOk, OnOk, IsTrue};
+ghost use Rattle.std.specs.Prelude.{◌≡◌, ◌≢◌, ◌≤◌, ◌*◌, All, length, sum_by, Some, IfOk, IfErr, OnOk, IsTrue};
 ghost use Rattle.sqlite.specs.Held.{state};
 ghost use Rattle.sqlite.specs.State.{HasCleanDisk};
 ghost use Rattle.queue_core.specs.Sound.{IsSound};
 ghost use Rattle.queue_core.specs.World.{World, job_at, rows};
 ghost use Rattle.queue_types.specs.declared.job.Job.{Job};
 ghost use Rattle.queue_tables.specs.Leaving.{LeavesTables};
-ghost use Rattle.queue_tables.specs.Sizes.{first_number};
+ghost use Rattle.queue_tables.specs.Sizes.{IsLengthRow, first_number};
 ghost use Rattle.queue_tables.specs.Content.{Holds, content_of};
 
 use crate::fault::Fault;
@@ -25,7 +25,8 @@ pub struct Sizes {
 /// The sum of the lengths in rows.
 fn octets_in(rows: &[Row]) -> Result<u64, Fault>
     requires { length rows.now ≤ 16 }
-    ensures { IfOk result (λ n. n ≡ sum_by first_number rows.now) }
+    ensures sum { IfOk result (λ n. n ≡ sum_by first_number rows.now) }
+    ensures damaged { All IsLengthRow rows.now → IfErr result (λ e. e ≢ Fault.Damaged) }
 {
     let mut octets: u64 = 0;
     for row in rows {
@@ -42,6 +43,7 @@ pub fn sizes_of<S: Alter>(conn: &mut Connection<S>, job: u32) -> Result<Sizes, F
     ensures live { HasCleanDisk (state S.Store conn.new) → OnOk result (IsTrue (state S.Store conn.new).is_open) }
     ensures few { IfOk result (λ s. s.documents ≤ 16) }
     ensures short { IfOk result (λ s. s.octets ≤ s.documents * 16777216) }
+    ensures damaged { HasCleanDisk (state S.Store conn.new) → IfErr result (λ e. e ≡ Fault.Damaged → (w : World) (k : Job) → IsSound w → Holds (content_of w) (state S.Store conn.old) → job_at job (rows w) ≢ Some k) }
     ensures found { HasCleanDisk (state S.Store conn.new) → IfOk result (λ s. (w : World) (k : Job) → IsSound w → Holds (content_of w) (state S.Store conn.old) → job_at job (rows w) ≡ Some k → (s.documents ≡ k.documents) × (s.octets ≡ k.octets)) }
 {
     let found = select(

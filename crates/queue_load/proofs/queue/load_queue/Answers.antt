@@ -4,7 +4,7 @@ use Rattle.sqlite.specs.Held.{state}
 use Rattle.queue_rows.specs.Rows.{tables_in}
 use Rattle.queue_tables.specs.Kept.{AreKeyed}
 use Rattle.queue_tables.proofs.Leaving.{leaves_then}
-use Rattle.queue_load.proofs.Loading.{err_after}
+use Rattle.queue_tables.proofs.Ending.{err_after}
 use Rattle.queue_load.proofs.queue.load_queue.Goals as goal
 
 pub returns-in_err-rows-clause-damaged : goal.returns-in_err-rows-clause-damaged

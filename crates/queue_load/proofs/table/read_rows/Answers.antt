@@ -2,7 +2,8 @@ use Rattle.std.proofs.Common.{[], ◌∷◌, ◌++◌, refl, rules, arith, ◌�
 use Rattle.sqlite.specs.State.{HasCleanDisk}
 use Rattle.sqlite.specs.Held.{state}
 use Rattle.sqlite.proofs.Callers.{unchanged_then, given_begin}
-use Rattle.queue_load.proofs.Loading.{err_after, tell_more}
+use Rattle.queue_load.proofs.Loading.{tell_more}
+use Rattle.queue_tables.proofs.Ending.{err_after}
 use Rattle.queue_tables.proofs.Reading.{answers_at, begins_at, plain_at, unchanged_open}
 use Rattle.queue_load.proofs.table.read_rows.Goals as goal
 

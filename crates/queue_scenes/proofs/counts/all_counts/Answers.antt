@@ -6,6 +6,8 @@ use Rattle.queue_tables.specs.Content.{content_of}
 use Rattle.queue_scenes.proofs.Counting.{counts_queued, counts_running, counts_stopped}
 use Rattle.queue_tables.proofs.Leaving.{leaves_then, leaves_three, holds_after}
 use Rattle.queue_scenes.proofs.Statements.{select_queued_is, select_running_is, select_stopped_is}
+use Rattle.queue_scenes.proofs.Bounds.{queued_fit}
+use Rattle.std.proofs.Common.{arith}
 use Rattle.queue_scenes.proofs.counts.all_counts.Goals as goal
 
 pub count-requires : goal.count-requires
@@ -42,3 +44,19 @@ returns-clause-found g c clean w has =
     let s = c.in_ok-stopped.ensures.found second (content_of w) (count_by is_stopped (rows w)) has_first (counts_stopped (state g.S.Store c.count.new.conn) w has_first) in
     let q = c.in_ok-queued.ensures.found clean (content_of w) (count_by is_live (rows w)) has_second (counts_queued (state g.S.Store c.count-2.new.conn) w has_second) in
     λ i. record { running = r i; stopped = s i; queued = q i }
+
+pub returns-then-queued-clause-damaged : goal.returns-then-queued-clause-damaged
+returns-then-queued-clause-damaged g c clean d w sound has =
+    let second = c.count-3.ensures.leaves.clean clean in
+    let first = c.count-2.ensures.leaves.clean second in
+    let has_first = holds_after c.count.ensures.leaves first (content_of w) has (c.in_ok-running.ensures.live first) in
+    let has_second = holds_after c.count-2.ensures.leaves second (content_of w) has_first (c.in_ok-stopped.ensures.live second) in
+    let q = c.in_ok-queued.ensures.found clean (content_of w) (count_by is_live (rows w)) has_second (counts_queued (state g.S.Store c.count-2.new.conn) w has_second) in
+    let few = queued_fit w sound in
+    omega (arith, q, few)
+
+pub returns-then-queued-clause-opened : goal.returns-then-queued-clause-opened
+returns-then-queued-clause-opened g c clean d =
+    let second = c.count-3.ensures.leaves.clean clean in
+    let first = c.count-2.ensures.leaves.clean second in
+    c.count.ensures.leaves.opened first (c.in_ok-running.ensures.live first)

@@ -6,6 +6,7 @@ use Rattle.queue_types.specs.declared.event.KnownGrant.{KnownGrant}
 use Rattle.queue_tables.specs.Content.{content_of}
 use Rattle.queue_scenes.proofs.Known.{known_more}
 use Rattle.queue_tables.proofs.Leaving.{leaves_then, holds_after}
+use Rattle.queue_tables.proofs.Ending.{err_after}
 use Rattle.queue_scenes.proofs.grants.known_rows.Goals as goal
 
 pub returns-in_err-known-clause-leaves : goal.returns-in_err-known-clause-leaves
@@ -29,3 +30,9 @@ loop-row-preserved g c =
           let before = first.found early w sound has in
           c.in_ok-push.ensures.items ∙ (λ t. before t ++ is t ∷ []) ∙ known_more w c.args.rows.now c.loop-row.row-index c.row-item.result c.loop-row-test.true c.row-item.is;
     }
+
+pub returns-in_err-known-clause-damaged : goal.returns-in_err-known-clause-damaged
+returns-in_err-known-clause-damaged g c clean = err_after _ c.in_err-known.field-0.0 _ c.from_residual.ensures.1 (λ d w sound has.
+    let first = c.loop-row.invariant in
+    let early = c.known.ensures.leaves.clean clean in
+    c.in_err-known.ensures.damaged clean d w sound (holds_after first.leaves early (content_of w) has (first.live early has.live)))

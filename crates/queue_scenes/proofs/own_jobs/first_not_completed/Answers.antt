@@ -7,8 +7,9 @@ use Rattle.queue_core.specs.World.{rows}
 use Rattle.queue_tables.specs.Content.{content_of}
 use Rattle.queue_types.specs.declared.job.Job.{Job}
 use Rattle.queue_scenes.specs.Jobs.{own_live}
-use Rattle.queue_tables.proofs.Leaving.{leaves_then, leaves_three, holds_after}
+use Rattle.queue_tables.proofs.Leaving.{leaves_then, leaves_three, holds_after, none_before}
 use Rattle.queue_scenes.proofs.Ranked.{first_of_three}
+use Rattle.queue_tables.proofs.Ending.{err_after}
 use Rattle.queue_scenes.proofs.own_jobs.first_not_completed.Goals as goal
 
 pub returns-in_err-pending-clause-leaves : goal.returns-in_err-pending-clause-leaves
@@ -58,3 +59,15 @@ returns-clause-found g c clean w sound has =
     ∙ first_of_three most (in_states 5 6 mine) (in_states 3 3 mine) (in_states 4 4 mine) shown pending held (c.in_ok-shown.ensures.found first w sound has)
     (c.in_ok-pending.ensures.found second w sound has_first ∙ ap (λ n. take n (in_states 3 3 mine)) left)
     (c.in_ok-held.ensures.found clean w sound has_second ∙ ap (λ n. take n (in_states 4 4 mine)) left_then)
+
+pub returns-in_err-pending-clause-damaged : goal.returns-in_err-pending-clause-damaged
+returns-in_err-pending-clause-damaged g c clean = err_after _ c.in_err-pending.field-0.0 _ c.from_residual-in_err-pending.ensures.1 (λ d.
+    let first = c.first_pending.ensures.leaves.clean clean in
+    none_before c.first_at_device.ensures.leaves first (c.in_ok-shown.ensures.live first) (c.in_err-pending.ensures.damaged clean d))
+
+pub returns-in_err-held-clause-damaged : goal.returns-in_err-held-clause-damaged
+returns-in_err-held-clause-damaged g c clean = err_after _ c.in_err-held.field-0.0 _ c.from_residual-in_err-held.ensures.1 (λ d.
+    let second = c.first_held.ensures.leaves.clean clean in
+    let first = c.first_pending.ensures.leaves.clean second in
+    none_before c.first_at_device.ensures.leaves first (c.in_ok-shown.ensures.live first)
+    (none_before c.first_pending.ensures.leaves second (c.in_ok-pending.ensures.live second) (c.in_err-held.ensures.damaged clean d)))

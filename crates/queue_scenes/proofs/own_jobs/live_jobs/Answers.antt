@@ -7,6 +7,7 @@ use Rattle.queue_scenes.specs.Jobs.{own_live}
 use Rattle.queue_tables.proofs.Ending.{if_ok}
 use Rattle.queue_scenes.proofs.Lists.{filtered_rows, shows_own_live}
 use Rattle.queue_scenes.proofs.Statements.{select_own_live_is}
+use Rattle.queue_tables.proofs.Columns.{map_err}
 use Rattle.queue_scenes.proofs.own_jobs.live_jobs.Goals as goal
 
 pub select_jobs-requires : goal.select_jobs-requires
@@ -18,3 +19,8 @@ returns-clause-found g c clean =
     let mine = λ (j : Job). bytes_eq j.owner c.args.owner.now && is_live j in
     it w (own_live c.args.owner.now (rows w)) sound has (filtered_rows w sound mine) (shows_own_live c.args.owner.now (state g.S.Store c.args.conn.now) w sound has))
     (rw (c.params-to_sql.ensures) at (c.select_jobs.ensures.found clean))
+
+pub returns-clause-damaged : goal.returns-clause-damaged
+returns-clause-damaged g c clean =
+    map_err c.select_jobs.result _ _ (λ e it d w sound has. it d w (own_live c.args.owner.now (rows w)) sound has (filtered_rows w sound (λ (j : Job). bytes_eq j.owner c.args.owner.now && is_live j)) (shows_own_live c.args.owner.now (state g.S.Store c.args.conn.now) w sound has))
+    (rw (c.params-to_sql.ensures) at (c.select_jobs.ensures.damaged clean))

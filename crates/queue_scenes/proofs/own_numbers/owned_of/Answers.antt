@@ -8,6 +8,7 @@ use Rattle.queue_tables.specs.Content.{content_of}
 use Rattle.queue_tables.proofs.Leaving.{leaves_all, leaves_then, holds_after}
 use Rattle.queue_scenes.proofs.Lists.{world_rising}
 use Rattle.queue_scenes.proofs.Picked.{all_more, before_next, picked, picked_more, picked_none, taken_more}
+use Rattle.queue_tables.proofs.Ending.{err_after}
 use Rattle.queue_scenes.proofs.own_numbers.owned_of.Goals as goal
 
 pub loop-number-init : goal.loop-number-init
@@ -53,3 +54,9 @@ pub returns-clause-found : goal.returns-clause-found
 returns-clause-found g c clean w sound has =
     c.loop-number.invariant.found clean w sound has
     ∙ ap (λ (ms : List ℕ). picked (λ (j : Job). bytes_eq j.owner c.args.owner.now) ms (rows w)) (take_all c.loop-number.number-index c.args.numbers.now c.loop-number-test.false)
+
+pub returns-in_err-found-clause-damaged : goal.returns-in_err-found-clause-damaged
+returns-in_err-found-clause-damaged g c clean = err_after _ c.in_err-found.field-0.0 _ c.from_residual.ensures.1 (λ d w sound has.
+    let first = c.loop-number.invariant in
+    let early = c.with_number.ensures.leaves.clean clean in
+    c.in_err-found.ensures.damaged clean d w sound (holds_after first.leaves early (content_of w) has (first.live early has.live)))

@@ -7,6 +7,8 @@ use Rattle.queue_scenes.proofs.Found.{report_shown, report_keyed, told_row}
 use Rattle.queue_scenes.proofs.Lookup.{none_found, some_found}
 use Rattle.queue_scenes.proofs.Statements.{select_report_is}
 use Rattle.queue_scenes.proofs.Told.{same_report}
+use Rattle.queue_tables.proofs.Ending.{err_after}
+use Rattle.queue_scenes.proofs.Bounds.{report_fits}
 use Rattle.queue_scenes.proofs.reports.kept_report.Goals as goal
 
 pub select-requires : goal.select-requires
@@ -27,3 +29,9 @@ returns-clause-found g c clean w sound has =
     let same : c.in_ok-kept-in-Some.kept ≡ at.0 = same_report c.numbers_tell_names.ensures.kinds c.in_ok-kept-in-Some.kept at.0 (read.job ∙ sym key.0) (read.seq ∙ sym key.1)
     (sym read.kind ∙ cell 0) (sym read.count ∙ cell 1) (sym read.told ∙ cell 2) (sym read.total ∙ cell 3) in
     ap (λ (k : KeptReport). Some k) same ∙ sym at.1
+
+pub returns-in_err-kept-in-Some-clause-damaged : goal.returns-in_err-kept-in-Some-clause-damaged
+returns-in_err-kept-in-Some-clause-damaged g c clean = err_after _ c.in_err-kept-in-Some.field-0.0 _ c.from_residual-in_err-kept-in-Some.ensures.1 (λ d w sound has.
+    let rows = report_shown (state g.S.Store c.args.conn.now) (state g.S.Store c.select.new.conn) c.args.job c.args.seq c.in_ok-found.found.items w sound has (rw (c.params-to_sql.ensures, c.params-to_sql-2.ensures) at (c.in_ok-found.ensures.shown clean)) in
+    let at = some_found (c.args.job, c.args.seq) told_row (get w.reports (c.args.job, c.args.seq)) c.in_ok-found.found.items c.in-Some.row.now (search rules) rows in
+    c.in_err-kept-in-Some.ensures.damaged d at.0 (report_fits w c.args.job c.args.seq at.0 sound at.1) at.2)

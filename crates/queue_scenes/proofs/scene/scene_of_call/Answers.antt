@@ -7,7 +7,8 @@ use Rattle.queue_types.specs.declared.event.FreeRow.{FreeRow}
 use Rattle.queue_types.specs.declared.event.KnownGrant.{KnownGrant}
 use Rattle.queue_tables.specs.Content.{content_of}
 use Rattle.queue_scenes.proofs.Cut.{same_scene}
-use Rattle.queue_tables.proofs.Leaving.{leaves_then, leaves_three, holds_after}
+use Rattle.queue_tables.proofs.Leaving.{leaves_then, leaves_three, holds_after, none_before}
+use Rattle.queue_tables.proofs.Ending.{err_after}
 use Rattle.queue_scenes.proofs.scene.scene_of_call.Goals as goal
 
 pub returns-in_err-free-clause-leaves : goal.returns-in_err-free-clause-leaves
@@ -59,3 +60,24 @@ returns-clause-found g c clean w sound has settings_are =
     refl
     (c.from_items-2.ensures ∙ c.new.ensures.items)
     numbers.2
+
+pub returns-in_err-free-clause-damaged : goal.returns-in_err-free-clause-damaged
+returns-in_err-free-clause-damaged g c clean = err_after _ c.in_err-free.field-0.0 _ c.from_residual-in_err-free.ensures.1 (λ d.
+    let at_1 = c.free_rows.ensures.leaves.clean clean in
+    none_before c.numbers_for_call.ensures.leaves at_1 (c.in_ok-numbers.ensures.live at_1) (c.in_err-free.ensures.damaged clean d))
+
+pub returns-in_err-jobs-clause-damaged : goal.returns-in_err-jobs-clause-damaged
+returns-in_err-jobs-clause-damaged g c clean = err_after _ c.in_err-jobs.field-0.0 _ c.from_residual-in_err-jobs.ensures.1 (λ d.
+    let at_2 = c.few_concerned.ensures.leaves.clean clean in
+    let at_1 = c.free_rows.ensures.leaves.clean at_2 in
+    none_before c.numbers_for_call.ensures.leaves at_1 (c.in_ok-numbers.ensures.live at_1) (none_before c.free_rows.ensures.leaves at_2 (c.in_ok-free.ensures.live at_2) (c.in_err-jobs.ensures.damaged clean d)))
+
+pub returns-in_err-free-clause-opened : goal.returns-in_err-free-clause-opened
+returns-in_err-free-clause-opened g c clean = err_after _ c.in_err-free.field-0.0 _ c.from_residual-in_err-free.ensures.1 (λ d.
+    let first = c.free_rows.ensures.leaves.clean clean in
+    c.numbers_for_call.ensures.leaves.opened first (c.in_ok-numbers.ensures.live first))
+
+pub returns-in_err-jobs-clause-opened : goal.returns-in_err-jobs-clause-opened
+returns-in_err-jobs-clause-opened g c clean = err_after _ c.in_err-jobs.field-0.0 _ c.from_residual-in_err-jobs.ensures.1 (λ d.
+    let first = c.free_rows.ensures.leaves.clean (c.few_concerned.ensures.leaves.clean clean) in
+    c.numbers_for_call.ensures.leaves.opened first (c.in_ok-numbers.ensures.live first))

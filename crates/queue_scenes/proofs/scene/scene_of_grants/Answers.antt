@@ -9,7 +9,8 @@ use Rattle.queue_types.specs.declared.event.QueueCounts.{QueueCounts}
 use Rattle.queue_types.specs.declared.job.Job.{Job}
 use Rattle.queue_tables.specs.Content.{content_of}
 use Rattle.queue_scenes.proofs.Cut.{same_scene}
-use Rattle.queue_tables.proofs.Leaving.{leaves_then, holds_after}
+use Rattle.queue_tables.proofs.Leaving.{leaves_then, holds_after, none_before}
+use Rattle.queue_tables.proofs.Ending.{err_after}
 use Rattle.queue_scenes.proofs.scene.scene_of_grants.Goals as goal
 
 pub returns-in_err-known-clause-leaves : goal.returns-in_err-known-clause-leaves
@@ -51,3 +52,13 @@ returns-clause-found g c clean w sound has settings_are =
     refl
     (c.from_items-3.ensures ∙ c.in_ok-known.ensures.found clean w sound has_first)
     (c.in_ok-next.ensures.found first w has)
+
+pub returns-in_err-known-clause-damaged : goal.returns-in_err-known-clause-damaged
+returns-in_err-known-clause-damaged g c clean = err_after _ c.in_err-known.field-0.0 _ c.from_residual-in_err-known.ensures.1 (λ d.
+    let at_1 = c.known_rows.ensures.leaves.clean clean in
+    none_before c.next_number.ensures.leaves at_1 (c.in_ok-next.ensures.live at_1) (c.in_err-known.ensures.damaged clean d))
+
+pub returns-in_err-known-clause-opened : goal.returns-in_err-known-clause-opened
+returns-in_err-known-clause-opened g c clean = err_after _ c.in_err-known.field-0.0 _ c.from_residual-in_err-known.ensures.1 (λ d.
+    let first = c.known_rows.ensures.leaves.clean clean in
+    c.next_number.ensures.leaves.opened first (c.in_ok-next.ensures.live first))

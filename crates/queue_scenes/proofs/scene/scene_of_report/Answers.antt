@@ -9,7 +9,8 @@ use Rattle.queue_types.specs.declared.event.QueueCounts.{QueueCounts}
 use Rattle.queue_types.specs.declared.job.Job.{Job}
 use Rattle.queue_tables.specs.Content.{content_of}
 use Rattle.queue_scenes.proofs.Cut.{same_scene}
-use Rattle.queue_tables.proofs.Leaving.{leaves_then, leaves_three, leaves_four, holds_after}
+use Rattle.queue_tables.proofs.Leaving.{leaves_then, leaves_three, leaves_four, holds_after, none_before}
+use Rattle.queue_tables.proofs.Ending.{err_after}
 use Rattle.queue_scenes.proofs.scene.scene_of_report.Goals as goal
 
 pub returns-in_err-report-clause-leaves : goal.returns-in_err-report-clause-leaves
@@ -68,3 +69,36 @@ returns-clause-found g c clean w sound has settings_are =
     (c.in_ok-report.ensures.found second w sound has_first)
     (c.from_items-3.ensures ∙ c.new.ensures.items)
     (c.in_ok-next.ensures.found first w has)
+
+pub returns-in_err-report-clause-damaged : goal.returns-in_err-report-clause-damaged
+returns-in_err-report-clause-damaged g c clean = err_after _ c.in_err-report.field-0.0 _ c.from_residual-in_err-report.ensures.1 (λ d.
+    let at_1 = c.kept_report.ensures.leaves.clean clean in
+    none_before c.next_number.ensures.leaves at_1 (c.in_ok-next.ensures.live at_1) (c.in_err-report.ensures.damaged clean d))
+
+pub returns-in_err-jobs-clause-damaged : goal.returns-in_err-jobs-clause-damaged
+returns-in_err-jobs-clause-damaged g c clean = err_after _ c.in_err-jobs.field-0.0 _ c.from_residual-in_err-jobs.ensures.1 (λ d.
+    let at_2 = c.job_of_report.ensures.leaves.clean clean in
+    let at_1 = c.kept_report.ensures.leaves.clean at_2 in
+    none_before c.next_number.ensures.leaves at_1 (c.in_ok-next.ensures.live at_1) (none_before c.kept_report.ensures.leaves at_2 (c.in_ok-report.ensures.live at_2) (c.in_err-jobs.ensures.damaged clean d)))
+
+pub returns-in_err-free-clause-damaged : goal.returns-in_err-free-clause-damaged
+returns-in_err-free-clause-damaged g c clean = err_after _ c.in_err-free.field-0.0 _ c.from_residual-in_err-free.ensures.1 (λ d.
+    let at_3 = c.owner_rows.ensures.leaves.clean clean in
+    let at_2 = c.job_of_report.ensures.leaves.clean at_3 in
+    let at_1 = c.kept_report.ensures.leaves.clean at_2 in
+    none_before c.next_number.ensures.leaves at_1 (c.in_ok-next.ensures.live at_1) (none_before c.kept_report.ensures.leaves at_2 (c.in_ok-report.ensures.live at_2) (none_before c.job_of_report.ensures.leaves at_3 (c.in_ok-jobs.ensures.live at_3) (c.in_err-free.ensures.damaged clean d))))
+
+pub returns-in_err-report-clause-opened : goal.returns-in_err-report-clause-opened
+returns-in_err-report-clause-opened g c clean = err_after _ c.in_err-report.field-0.0 _ c.from_residual-in_err-report.ensures.1 (λ d.
+    let first = c.kept_report.ensures.leaves.clean clean in
+    c.next_number.ensures.leaves.opened first (c.in_ok-next.ensures.live first))
+
+pub returns-in_err-jobs-clause-opened : goal.returns-in_err-jobs-clause-opened
+returns-in_err-jobs-clause-opened g c clean = err_after _ c.in_err-jobs.field-0.0 _ c.from_residual-in_err-jobs.ensures.1 (λ d.
+    let first = c.kept_report.ensures.leaves.clean (c.job_of_report.ensures.leaves.clean clean) in
+    c.next_number.ensures.leaves.opened first (c.in_ok-next.ensures.live first))
+
+pub returns-in_err-free-clause-opened : goal.returns-in_err-free-clause-opened
+returns-in_err-free-clause-opened g c clean = err_after _ c.in_err-free.field-0.0 _ c.from_residual-in_err-free.ensures.1 (λ d.
+    let first = c.kept_report.ensures.leaves.clean (c.job_of_report.ensures.leaves.clean (c.owner_rows.ensures.leaves.clean clean)) in
+    c.next_number.ensures.leaves.opened first (c.in_ok-next.ensures.live first))

@@ -1,6 +1,7 @@
 use Rattle.std.proofs.Common.{◌∙◌, sym, ap, rules, option_map}
 use Rattle.queue_core.specs.Shown.{head_of}
 use Rattle.queue_tables.specs.Content.{content_of}
+use Rattle.queue_tables.proofs.Columns.{map_err}
 use Rattle.queue_tables.proofs.Ending.{if_ok}
 use Rattle.sqlite.specs.Held.{state}
 use Rattle.queue_tables.proofs.Entries.{distinct_of}
@@ -24,3 +25,14 @@ returns-clause-head g c clean =
     let told = c.in_ok-is_shown.ensures.told early w distinct has in
     let mid = holds_after c.may_fetch.ensures.leaves early (content_of w) has (c.in_ok-is_shown.ensures.live early) in
     found w distinct mid ∙ ap (option_map head_of) (sym (is_shown w c.args.job c.args.n c.in_ok-is_shown.is_shown (search rules) told))) (c.find_head.ensures.found clean)
+
+pub returns-clause-damaged : goal.returns-clause-damaged
+returns-clause-damaged g c clean =
+    map_err c.find_head.result _ _ (λ e told damaged w sound has.
+    let early = c.find_head.ensures.leaves.clean clean in
+    told damaged w sound (holds_after c.may_fetch.ensures.leaves early (content_of w) has (c.in_ok-is_shown.ensures.live early))) (c.find_head.ensures.damaged clean)
+
+pub returns-clause-opened : goal.returns-clause-opened
+returns-clause-opened g c clean =
+    let early = c.find_head.ensures.leaves.clean clean in
+    map_err c.find_head.result _ _ (λ e none d. c.may_fetch.ensures.leaves.opened early (c.in_ok-is_shown.ensures.live early)) (c.find_head.ensures.damaged clean)

@@ -5,6 +5,9 @@ use Rattle.queue_types.specs.declared.document.DocumentHead.{DocumentHead}
 use Rattle.queue_shown.specs.Fetched.{document_in}
 use Rattle.queue_shown.specs.Heads.{head_values}
 use Rattle.queue_shown.proofs.Fetching.{reads_head}
+use Rattle.queue_shown.proofs.ShortDocuments.{document_fits}
+use Rattle.queue_tables.proofs.Ending.{err_after}
+use Rattle.queue_tables.proofs.Entries.{distinct_of}
 use Rattle.queue_tables.proofs.Firsts.{first_none, first_some}
 use Rattle.queue_shown.proofs.Texts.{select_head_is}
 use Rattle.queue_shown.proofs.head.find_head.Goals as goal
@@ -24,4 +27,12 @@ returns-clause-found g c clean w distinct has =
     let is = reads_head (state g.S.Store c.args.conn.now) (state g.S.Store c.select.new.conn) c.args.job c.args.n c.in_ok-found.found.items w distinct has
     (rw (c.params-to_sql.ensures, c.params-to_sql-2.ensures) at (c.in_ok-found.ensures.shown clean)) in
     let some = first_some head_values c.in_ok-found.found.items c.in-Some.row.now (document_in w.jobs c.args.job c.args.n) (search rules) is in
-    ap (λ (x : DocumentHead). Some x) (c.in_ok-head-in-Some.ensures some.0 some.2) ∙ ap (option_map head_of) (sym some.1)
+    ap (λ (x : DocumentHead). Some x) (c.in_ok-head-in-Some.ensures.head some.0 some.2) ∙ ap (option_map head_of) (sym some.1)
+
+pub returns-in_err-head-in-Some-clause-damaged : goal.returns-in_err-head-in-Some-clause-damaged
+returns-in_err-head-in-Some-clause-damaged g c clean =
+    err_after _ c.in_err-head-in-Some.field-0.0 _ c.from_residual-in_err-head-in-Some.ensures.1 (λ damaged w sound has.
+    let is = reads_head (state g.S.Store c.args.conn.now) (state g.S.Store c.select.new.conn) c.args.job c.args.n c.in_ok-found.found.items w (distinct_of 1 w.jobs w.next sound.numbers) has
+    (rw (c.params-to_sql.ensures, c.params-to_sql-2.ensures) at (c.in_ok-found.ensures.shown clean)) in
+    let some = first_some head_values c.in_ok-found.found.items c.in-Some.row.now (document_in w.jobs c.args.job c.args.n) (search rules) is in
+    c.in_err-head-in-Some.ensures.damaged damaged some.0 (document_fits w c.args.job c.args.n some.0 sound some.1) some.2)

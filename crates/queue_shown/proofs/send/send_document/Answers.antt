@@ -1,7 +1,9 @@
-use Rattle.std.proofs.Common.{IsTrue, rules, arith}
+use Rattle.std.proofs.Common.{IsTrue, rules, arith, sym, ◌∙◌}
 use Rattle.std.proofs.KnownBytes.{Appends-nil}
 use Rattle.sqlite.specs.Held.{state}
 use Rattle.queue_tables.proofs.Entries.{distinct_of}
+use Rattle.queue_shown.proofs.Damage.{damage_told}
+use Rattle.queue_shown.proofs.PieceRows.{none_without}
 use Rattle.queue_shown.proofs.PiecesSent.{whole_sent, front_sent, there_shown}
 use Rattle.queue_tables.proofs.Leaving.{leaves_all, left_leaves}
 use Rattle.queue_shown.proofs.send.send_document.Goals as goal
@@ -31,3 +33,8 @@ pub returns-in-Err-clause-err : goal.returns-in-Err-clause-err
 returns-in-Err-clause-err g c clean w d sound has there =
     front_sent (state g.S.Store c.args.conn.now) c.args.job c.args.n w d (distinct_of 1 w.jobs w.next sound.numbers) has (there_shown w c.args.job c.args.n d there)
     (g.W.Write.contents c.args.out.now) (g.W.Write.contents c.send_pieces.new.out) c.send_pieces.new.written (c.in-Err.ensures.front (λ early. has.schema) clean)
+
+pub returns-in-Err-clause-damaged : goal.returns-in-Err-clause-damaged
+returns-in-Err-clause-damaged g c clean damaged w sound has =
+    let found = c.in-Err.ensures.damaged (λ early. has.schema) clean (damage_told c.in-Err.stop (sym c.cause_of.ensures ∙ damaged)) in
+    none_without (state g.S.Store c.args.conn.now) c.args.job c.args.n w has found

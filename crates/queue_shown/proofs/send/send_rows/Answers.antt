@@ -4,6 +4,7 @@ use Rattle.sqlite.specs.State.{HasCleanDisk}
 use Rattle.sqlite.specs.Held.{state}
 use Rattle.sqlite.proofs.Callers.{unchanged_then, given_begin}
 use Rattle.queue_shown.specs.Sent.{pieces_select, bytes_of, piece_bytes}
+use Rattle.queue_shown.proofs.Damage.{stop_after}
 use Rattle.queue_shown.proofs.Writes.{one_more, front_of}
 use Rattle.queue_shown.proofs.Sending.{on_err, front_whole}
 use Rattle.queue_tables.proofs.Reading.{answers_at, begins_at, plain_at, unchanged_open}
@@ -88,3 +89,20 @@ returns-clause-front g c clean live params begun =
     let mid : HasCleanDisk (state g.S.Store h) = search rules in
     let was = c.rows.invariant.3 mid params begun in
     front_whole params first _ _ was.0 _ (begins_at pieces_select params first (state g.S.Store h) was.0 (c.rows.invariant.2 mid live).0.now_is (given_begin g.S.Store pieces_select params h was.0 was.1)) was.2 was.3
+
+pub returns-in_err-put_piece-clause-damaged : goal.returns-in_err-put_piece-clause-damaged
+returns-in_err-put_piece-clause-damaged g c clean live params begun =
+    let first = state g.S.Store c.args.rows.now.conn.now in
+    let moved = c.next.follows.holds-at-none in
+    let before = state g.S.Store c.rows.rows.conn.now in
+    let h = c.next.follows.lender-at-none.conn.now in
+    let now = state g.S.Store h in
+    let late : HasCleanDisk now = search rules in
+    let mid : HasCleanDisk before = omega (arith, moved.survives.clean) in
+    let was = c.rows.invariant.3 mid params begun in
+    let given = (rw (c.in_ok-row.was, c.in-Some.is) at (moved.ok late)) pieces_select params was.0 was.1 in
+    let same = rw c.in_ok-row.was at (moved.same late) in
+    let kept = unchanged_then first before now (c.rows.invariant.2 mid live) same in
+    let begins = begins_at pieces_select params first now (was.0 ++ c.in-Some.row.now ∷ []) kept.0.now_is (given_begin g.S.Store pieces_select params h (was.0 ++ c.in-Some.row.now ∷ []) given) in
+    let told = c.in_err-put_piece.ensures.damaged in
+    stop_after _ c.in_err-put_piece.field-0.0 _ c.from_residual-in_err-put_piece.ensures.1 (λ damaged. record { before = was.0; row = c.in-Some.row.now; there = begins; bare = told damaged })

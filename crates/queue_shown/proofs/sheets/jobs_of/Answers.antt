@@ -6,6 +6,7 @@ use Rattle.queue_tables.specs.Content.{content_of}
 use Rattle.queue_tables.specs.Values.{job_values}
 use Rattle.queue_shown.specs.Pages.{has_pages}
 use Rattle.queue_shown.proofs.SheetLemmas.{nth_job, nth_in, told_more}
+use Rattle.queue_tables.proofs.Ending.{err_after}
 use Rattle.queue_tables.proofs.Leaving.{holds_after, leaves_then}
 use Rattle.queue_shown.proofs.sheets.jobs_of.Goals as goal
 
@@ -31,3 +32,13 @@ returns-clause-told g c clean w js sound has all is =
     let size = ap (length {A = Row}) is in
     let whole : length js ≤ c.loop-row.row-index = (let past = c.loop-row-test.false in omega (arith, past, size, length-map js job_values)) in
     c.loop-row.invariant.told clean w js sound has all is ∙ ap (filter has_pages) (take_all c.loop-row.row-index js whole)
+
+pub returns-in_err-push_told-clause-damaged : goal.returns-in_err-push_told-clause-damaged
+returns-in_err-push_told-clause-damaged g c clean =
+    err_after _ c.in_err-push_told.field-0.0 _ c.from_residual.ensures.1 (λ damaged w js sound has all is.
+    let before = c.loop-row.invariant in
+    let early = c.push_told.ensures.leaves.clean clean in
+    let low : c.loop-row.row-index < length js = (let below = c.loop-row-test.true in let size = ap (length {A = Row}) is in omega (arith, below, size, length-map js job_values)) in
+    let here = nth_job js c.loop-row.row-index c.row-item.result low (c.row-item.is ∙ ap (λ (rs : List Row). get_or rs c.loop-row.row-index c.row-item.result) is) in
+    let mid = holds_after before.leaves early (content_of w) has (before.live early has.live) in
+    c.in_err-push_told.ensures.damaged clean damaged w here.0 sound mid (nth_in w js c.loop-row.row-index here.0 low here.2 all) here.1)

@@ -5,6 +5,8 @@ use Rattle.queue_types.specs.declared.job.Job.{Job}
 use Rattle.queue_shown.specs.Pages.{has_pages}
 use Rattle.queue_shown.proofs.OwnedJobs.{counted_job}
 use Rattle.queue_shown.proofs.SheetLemmas.{read_bare, idle_left, told_pushed}
+use Rattle.queue_tables.proofs.Ending.{err_after}
+use Rattle.queue_tables.proofs.Formed.{formed_job, sound_job}
 use Rattle.queue_tables.proofs.Leaving.{leaves_all}
 use Rattle.queue_shown.proofs.sheets.push_told.Goals as goal
 
@@ -30,3 +32,15 @@ returns-in_err-job-clause-leaves g c = leaves_all (state g.S.Store c.args.conn.n
 
 pub returns-then-not-is_told-clause-leaves : goal.returns-then-not-is_told-clause-leaves
 returns-then-not-is_told-clause-leaves g c = leaves_all (state g.S.Store c.args.conn.now)
+
+pub returns-in_err-job-clause-damaged : goal.returns-in_err-job-clause-damaged
+returns-in_err-job-clause-damaged g c clean =
+    err_after _ c.in_err-job.field-0.0 _ c.from_residual.ensures.1 (λ damaged w j sound has there is.
+    c.in_err-job.ensures.err damaged j (formed_job j (sound_job j.number w j sound there)) is)
+
+pub returns-in_err-sizes-clause-damaged : goal.returns-in_err-sizes-clause-damaged
+returns-in_err-sizes-clause-damaged g c clean =
+    err_after _ c.in_err-sizes.field-0.0 _ c.from_residual-in_err-sizes.ensures.1 (λ damaged w j sound has there is.
+    let read = read_bare c.numbers_tell_names.ensures.phases c.numbers_tell_names.ensures.flags c.args.row.now c.in_ok-job.job j c.in_ok-job.ensures.ok c.in_ok-job.ensures.bare is in
+    let number : c.in_ok-job.job.number ≡ j.number = ap (λ (k : Job). k.number) read in
+    c.in_err-sizes.ensures.damaged clean damaged w j sound has (subst (λ (n : ℕ). job_at n (rows w) ≡ Some j) (sym number) there))

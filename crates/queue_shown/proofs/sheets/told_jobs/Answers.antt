@@ -2,6 +2,7 @@ use Rattle.std.proofs.Common.{◌∙◌, filter, bytes_eq}
 use Rattle.sqlite.specs.Held.{state}
 use Rattle.queue_core.specs.World.{rows}
 use Rattle.queue_tables.specs.Content.{content_of}
+use Rattle.queue_tables.proofs.Ending.{err_after}
 use Rattle.queue_tables.proofs.Entries.{distinct_of}
 use Rattle.queue_shown.proofs.OwnedJobs.{reads_owned, owned_in, told_owned}
 use Rattle.queue_shown.proofs.Texts.{select_owned_is}
@@ -25,3 +26,13 @@ returns-clause-told g c clean w sound has =
     let mid = holds_after c.select.ensures.leaves early (content_of w) has (c.in_ok-found.ensures.live early) in
     let js = filter (λ j. bytes_eq j.owner a) (rows w) in
     c.from_items.ensures ∙ c.in_ok-jobs.ensures.told clean w js sound mid (owned_in w a (distinct_of 1 w.jobs w.next sound.numbers)) (c.as_slice.ensures.value ∙ shown) ∙ told_owned a (rows w)
+
+pub returns-in_err-jobs-clause-damaged : goal.returns-in_err-jobs-clause-damaged
+returns-in_err-jobs-clause-damaged g c clean =
+    err_after _ c.in_err-jobs.field-0.0 _ c.from_residual-in_err-jobs.ensures.1 (λ damaged w sound has.
+    let a = c.args.account.now in
+    let early = c.jobs_of.ensures.leaves.clean clean in
+    let shown = reads_owned (state g.S.Store c.args.conn.now) (state g.S.Store c.select.new.conn) a c.in_ok-found.found.items w sound has (rw (c.params-to_sql.ensures) at (c.in_ok-found.ensures.shown early)) in
+    let mid = holds_after c.select.ensures.leaves early (content_of w) has (c.in_ok-found.ensures.live early) in
+    let js = filter (λ j. bytes_eq j.owner a) (rows w) in
+    c.in_err-jobs.ensures.damaged clean damaged w js sound mid (owned_in w a (distinct_of 1 w.jobs w.next sound.numbers)) (c.as_slice.ensures.value ∙ shown))

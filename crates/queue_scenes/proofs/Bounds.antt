@@ -1,0 +1,110 @@
+-- What is read of a sound queue is within its bounds.
+use Rattle.std.proofs.Common.{◌≡◌, inl, inr, ℕ, ℤ, pos, ◌+ℤ◌, ◌+◌, Option, None, Some, option_map, IsSomeAnd, ◌<◌, ◌≤◌, ◌^◌, ◌==◌, List, [], ◌∷◌, IfSome, length, refl, sym, subst, arith}
+use Rattle.std.specs.FinMap.{get}
+use Rattle.std.specs.List.{AllByRecursion as Each}
+use Rattle.std.proofs.lemmas.Bool.{cases_Bool, eqb-true}
+use Rattle.queue_types.specs.Event.{Call, ask, get_printer_attributes, grant}
+use Rattle.queue_types.specs.declared.event.GrantRow.{GrantRow}
+use Rattle.queue_types.specs.declared.job.Job.{Job}
+use Rattle.queue_types.specs.declared.job.Phase.{Phase}
+use Rattle.queue_types.specs.declared.job.Phase.TheVariants.{Aborted, Canceled, Completed, Running, Stopped, Waiting}
+use Rattle.queue_core.specs.Limits.{FitsPhase, IsAmount, IsGrant, IsKnown, IsSoundJob}
+use Rattle.queue_core.specs.Sound.{IsKept, IsSound, printed, reserved}
+use Rattle.queue_core.specs.World.{World, granted, jobs_for, known_grant, numbered, queue_counts, rows}
+use Rattle.queue_core.proofs.Fair.{fair_of}
+use Rattle.queue_rows.specs.Jobs.{IsJobRow}
+use Rattle.queue_tables.specs.Steps.{bare}
+use Rattle.queue_tables.specs.Accounts.{pages_of}
+use Rattle.queue_tables.specs.declared.account_pages.AccountPages.{AccountPages}
+use Rattle.queue_tables.proofs.Formed.{sums_fit}
+use Rattle.queue_types.specs.declared.event.KeptReport.{KeptReport}
+use Rattle.queue_scenes.specs.Accounts.{FitAccount}
+use Rattle.queue_scenes.specs.Reports.{IsFormedReport}
+use Rattle.queue_scenes.proofs.Lists.{world_rising}
+use Rattle.queue_scenes.proofs.Numbers.{AreRising}
+use Rattle.queue_scenes.proofs.Picked.{none_numbered}
+
+-- ---- numbers of jobs
+
+pub queued_fit : (w : World) → IsSound w → (queue_counts (rows w)).queued < 2 ^ 31
+queued_fit w sound = (fair_of w (ask [] get_printer_attributes) sound).queued
+
+pub jobs_fit : (w : World) (caller : List ℕ) (call : Call) → IsSound w → length (jobs_for caller call (rows w)) < 2 ^ 31
+jobs_fit w caller call sound = (fair_of w (ask caller call) sound).few
+
+one_numbered : (n : ℕ) (js : List Job) → AreRising js → length (numbered n js) ≤ 1
+one_numbered n [] rise = omega arith
+one_numbered n (j ∷ js) rise = elim (cases_Bool (j.number == n)) [
+  | inl same ↦ rw (same, none_numbered n js (subst (λ m. Each (λ (x : Job). m < x.number) js) (eqb-true j.number n same) rise.0)) (omega arith)
+  | inr apart ↦ rw apart (one_numbered n js rise.1)
+]
+
+pub number_is_one : (w : World) (n : ℕ) → IsSound w → length (numbered n (rows w)) ≤ 1
+number_is_one w n sound = one_numbered n (rows w) (world_rising w sound)
+
+-- ---- accounts
+
+row_is_known : (w : World) (g : GrantRow) → IsSound w → IsKnown (known_grant w g)
+row_is_known w g sound = (fair_of w (grant (g ∷ [])) sound).known 0 (known_grant w g) (omega arith)
+
+pub free_fits : (w : World) (a : List ℕ) → IsSound w → IfSome (get w.free a) IsAmount
+free_fits w a sound = (row_is_known w (record { batch = []; account = a; pages = 0 }) sound).free
+
+module _ (w : World) (a : List ℕ) (sound : IsSound w) where
+  fits_at : (o : Option ℤ) (p : AccountPages) → IfSome o IsAmount → IfSome o (λ free. pos (granted a w) ≡ free +ℤ pos (reserved a w + printed a w)) → Some p ≡ option_map (pages_of w a) o → FitAccount p
+  fits_at None p amount balance is = absurd cc
+  fits_at (Some free) p amount balance is =
+      let same : p ≡ pages_of w a free = cc in
+      let sums = sums_fit a w sound in
+      subst FitAccount (sym same) (granted a w, sound.most a, amount, omega (arith, sums.0, sums.1), balance)
+
+  pub account_fits : (p : AccountPages) → Some p ≡ option_map (pages_of w a) (get w.free a) → FitAccount p
+  account_fits p is = fits_at (get w.free a) p (free_fits w a sound) (sound.balances a) is
+
+  pub found_fits : (found : Option AccountPages) → found ≡ option_map (pages_of w a) (get w.free a) → IsSomeAnd found (λ p. FitAccount p → ⊥) → ⊥
+  found_fits None is misfits = misfits
+  found_fits (Some p) is misfits = misfits (account_fits p is)
+
+pub grant_fits : (w : World) (batch account : List ℕ) (n : ℕ) → IsSound w → get w.grants (batch, account) ≡ Some n → n < 2 ^ 32
+grant_fits w batch account n sound there =
+    let it : IsGrant batch account n = subst (λ o. IfSome o (IsGrant batch account)) there (sound.grants batch account) in
+    omega (arith, it.3)
+
+-- ---- the next number, and a kept report
+
+pub next_fits : (w : World) → IsSound w → (1 ≤ w.next) × (w.next < 2 ^ 32)
+next_fits w sound = ((fair_of w (ask [] get_printer_attributes) sound).next, omega (arith, sound.next))
+
+pub report_fits : (w : World) (job seq : ℕ) (k : KeptReport) → IsSound w → get w.reports (job, seq) ≡ Some k → IsFormedReport k
+report_fits w job seq k sound there =
+    let it : IsKept w job seq k = subst (λ o. IfSome o (IsKept w job seq)) there (sound.reports job seq) in
+    record { count = omega (arith, it.count); state = it.state; total = it.total }
+
+-- ---- the row of a job
+
+fits_bare : (p : Phase) (j : Job) → FitsPhase p j → FitsPhase p (bare j)
+fits_bare Waiting j h = h
+fits_bare Running j h = h
+fits_bare Stopped j h = h
+fits_bare (Canceled why) j h = h
+fits_bare Aborted j h = h
+fits_bare Completed j h = h
+
+pub bare_row : (j : Job) → IsSoundJob j → IsJobRow (bare j)
+bare_row j s = record {
+  sound = record {
+    number = s.number;
+    owner = s.owner;
+    name = s.name;
+    copies = s.copies;
+    impressions = s.impressions;
+    count = s.count;
+    created = s.created;
+    begun = s.begun;
+    ended = s.ended;
+    documents = omega arith;
+    octets = omega arith;
+    phase = fits_bare j.phase j s.phase;
+  };
+  bare = refl;
+}
