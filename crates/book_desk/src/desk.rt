@@ -3,7 +3,7 @@
 ghost use Rattle.queue_core.specs.Limits.{IsMoment};
 
 use crate::fault::StepFault;
-use crate::request::{JobsWanted, Request, jobs_reply, message, state_reply};
+use crate::request::{JobsWanted, Request, fault_reply, jobs_reply, message, state_reply};
 use crate::step::{Outcome, Pages, Step};
 use device_lines::{queue_text, report};
 use grants_csv::import;
@@ -21,6 +21,9 @@ use std::io::Write;
 /// The first record of an account file.
 const HEADER: &[u8] = b"batch,account,pages\n";
 
+/// The answer to a line of the device that tells a fault.
+const DEVICE_FAULT: &[u8] = b"refused 6 fault\n";
+
 /// The most bytes that a request may have.
 const MOST: usize = 16_777_216;
 
@@ -35,6 +38,14 @@ impl Place {
     /// How many steps of the row lie between an earlier place and this one.
     pub fn behind(self, earlier: Place) -> usize {
         self.taken.saturating_sub(earlier.taken)
+    }
+
+    /// The place behind the step that stands here.
+    pub fn next(self) -> Place {
+        Place {
+            taken: self.taken.wrapping_add(1),
+            now: self.now,
+        }
     }
 }
 
@@ -177,6 +188,9 @@ impl Desk {
         wanted: Outcome,
     ) -> Result<(), StepFault> {
         let came = self.import(book, file);
+        if matches!(came, Err((6, 0))) {
+            return Err(StepFault::Told);
+        }
         self.compare(&came, &wanted)
     }
 
@@ -219,6 +233,9 @@ impl Desk {
         bytes.push(b'\n')?;
         let now = self.moment();
         let answer = report(book, now, bytes.as_slice());
+        if answer.bytes() == DEVICE_FAULT {
+            return Err(StepFault::Told);
+        }
         let came = answer.bytes().strip_suffix(b"\n".as_slice());
         self.compare(&came, &Some(wanted.as_bytes()))
     }
@@ -236,7 +253,18 @@ impl Desk {
         }
         let now = self.moment();
         let answer = answer(self.alloc, book, &self.settings, now, bytes.as_slice())?;
+        self.find_fault(answer.bytes())?;
         Ok(answer)
+    }
+
+    /// A reply that tells a fault answers nothing, and has these bytes alone.
+    fn find_fault(&self, reply: &[u8]) -> Result<(), StepFault> {
+        if code_of(reply) != Some(0x0505) {
+            return Ok(());
+        }
+        let wanted = fault_reply(self.alloc)?;
+        self.compare(&reply, &wanted.as_slice())?;
+        Err(StepFault::Told)
     }
 
     fn compare_code<B: QueueBook>(
@@ -386,8 +414,24 @@ impl Desk {
     ) -> Result<(), StepFault> {
         let mut bytes = Vec::new(self.alloc);
         let sent = self.send_document(book, job, number, &mut bytes)?;
+        if let Err(
+            SendFault {
+                written,
+                cause: SendCause::Book(fault),
+            },
+        ) = sent
+        {
+            self.compare_front(bytes.as_slice(), wanted, written)?;
+            return Err(StepFault::Book(fault));
+        }
         self.compare(&sent, &Ok(wanted.len() as u64))?;
         self.compare(&bytes.as_slice(), &wanted)
+    }
+
+    /// What was sent of a document is so long a front of it.
+    fn compare_front(&self, sent: &[u8], wanted: &[u8], written: u64) -> Result<(), StepFault> {
+        self.compare(&(sent.len() as u64), &written)?;
+        self.compare(&Some(sent), &wanted.get(..sent.len()))
     }
 
     /// A document is cut where a writer has no more room, and this front of it is taken.

@@ -12,6 +12,8 @@ pub enum StepFault {
     Differs { wanted: String, came: String },
     /// The book could not do it.
     Book(BookFault),
+    /// The book could not do it, and the answer is the one that tells this, and not why.
+    Told,
     /// There was no memory.
     Memory,
     /// The printer's settings are not within their limits.
@@ -20,10 +22,23 @@ pub enum StepFault {
     Request,
     /// There is no such document.
     NoDocument,
-    /// What a disk left as it stopped is not well.
+    /// What came of a disk that stops is not well.
     AtStop(String),
+    /// A store that a fault shut for good answers.
+    ShutAnswers,
+    /// A fault was told, and no call of the disk has failed.
+    NoStop,
+    /// A row that a disk stops has a step with no look before it.
+    NoLook,
     /// A disk is called on and on.
     NoEnd,
+}
+
+impl StepFault {
+    /// It may be what a disk that fails makes of a step.
+    pub fn may_be_of_disk(&self) -> bool {
+        matches!(self, StepFault::Book(BookFault::Disk) | StepFault::Told)
+    }
 }
 
 impl From<AllocError> for StepFault {

@@ -214,6 +214,14 @@ fn put_state(bytes: &mut Vec<u8>, state: u8, reasons: &[&str]) -> Result<(), All
     bytes.extend_from_slice(b"\x03")
 }
 
+/// The bytes of the reply that tells a fault, `server-error-temporary-error`.
+pub(crate) fn fault_reply(alloc: Global) -> Result<Vec<u8>, AllocError> {
+    let mut bytes = Vec::from_slice(alloc, b"\x01\x01\x05\x05\x00\x00\x00\x01")?;
+    put_language(&mut bytes)?;
+    bytes.extend_from_slice(b"\x03")?;
+    Ok(bytes)
+}
+
 /// The bytes of the reply to [`Request::Jobs`].
 pub(crate) fn jobs_reply(alloc: Global, numbers: &[u32]) -> Result<Vec<u8>, AllocError> {
     let mut bytes = Vec::from_slice(alloc, b"\x01\x01\x00\x00\x00\x00\x00\x01")?;

@@ -49,3 +49,29 @@ pub enum Step<'a> {
     /// The document of a job is fetched to a writer that has room for so many bytes and then fails, and takes this front.
     Cut(u32, u32, usize, &'a [u8]),
 }
+
+impl Step<'_> {
+    /// It looks at the queue, and changes nothing of it.
+    pub fn only_looks(self) -> bool {
+        match self {
+            Step::Look(..)
+            | Step::Jobs(..)
+            | Step::Sheet(..)
+            | Step::NoSheet(_)
+            | Step::Statement(..)
+            | Step::Queue(_)
+            | Step::Document(..)
+            | Step::Fetch(..)
+            | Step::Cut(..) => true,
+            Step::Now(_)
+            | Step::Grant(..)
+            | Step::Parts(..)
+            | Step::NoRow(_)
+            | Step::File(..)
+            | Step::Millions(..)
+            | Step::Dev(..)
+            | Step::Ask(..)
+            | Step::AskTimes(..) => false,
+        }
+    }
+}

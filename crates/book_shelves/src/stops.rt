@@ -4,7 +4,7 @@ use book_desk::{Desk, Place, Shelf, Step, StepFault};
 use queue_core::book::BookFault;
 use queue_store::TableBook;
 use queue_types::settings::Settings;
-use sqlite::{Alter, Connection, FileStore, Files, Options};
+use sqlite::{Alter, Connection, Error, ErrorCode, FileStore, Files, Options};
 use sqlite_disk::{Crash, Disk, Fuse, Memory};
 use std::alloc::{AllocError, Global};
 
@@ -72,7 +72,18 @@ fn file_of(alloc: Global, bytes: &[u8], calls: u64) -> Result<StoppingFile, Step
     Ok(Fuse::new(file, calls))
 }
 
+/// No further call of the file is well.
+fn is_spent(file: &mut StoppingFile) -> bool {
+    !file.may_be_used() || file.len().is_err()
+}
+
 impl Left<'_> {
+    /// Two empty files.
+    const NOTHING: Left<'static> = Left {
+        log: b"",
+        database: b"",
+    };
+
     /// Two files that hold this, and fail after so many calls.
     fn files(self, alloc: Global, stop: Stop) -> Result<Files<StoppingFile>, StepFault> {
         let log = file_of(alloc, self.log, stop.of_log())?;
@@ -116,13 +127,15 @@ impl Remains {
         Ok(Remains { written, synced })
     }
 
-    /// Each file may be left as it was written, or as it was synced.
-    fn each(&self) -> [Left<'_>; 4] {
+    /// Each file may be left as it was written, or as it was synced. What is the same stands once.
+    fn each(&self) -> [Option<Left<'_>>; 4] {
+        let logs_differ = self.written.log != self.synced.log;
+        let databases_differ = self.written.database != self.synced.database;
         [
-            self.written.beside(&self.written),
-            self.synced.beside(&self.synced),
-            self.written.beside(&self.synced),
-            self.synced.beside(&self.written),
+            Some(self.written.beside(&self.written)),
+            logs_differ.then_some(self.synced.beside(&self.written)),
+            databases_differ.then_some(self.written.beside(&self.synced)),
+            (logs_differ && databases_differ).then_some(self.synced.beside(&self.synced)),
         ]
     }
 }
@@ -132,13 +145,22 @@ fn connect<D: Disk + Drop>(
     alloc: Global,
     files: Files<D>,
     options: Options,
-) -> Result<Connection<FileStore<D>>, Files<D>> {
+) -> Result<Connection<FileStore<D>>, (BookFault, Files<D>)> {
     if !files.may_be_used() {
-        return Err(files);
+        return Err((BookFault::Disk, files));
     }
     match Connection::open_files(alloc, files, options) {
         Ok(conn) => Ok(conn),
-        Err((_error, left)) => Err(left.into_files()),
+        Err((error, left)) => Err((fault_of(error), left.into_files())),
+    }
+}
+
+/// Why files can't be opened. What no disk that stops makes of them counts as damage.
+fn fault_of(error: Error) -> BookFault {
+    match error {
+        Error::SqliteFailure(ErrorCode::OutOfMemory) => BookFault::Memory,
+        Error::SqliteFailure(ErrorCode::SystemIoFailure) => BookFault::Disk,
+        _ => BookFault::Damaged,
     }
 }
 
@@ -147,63 +169,132 @@ fn disconnect<D: Disk + Drop>(conn: Connection<FileStore<D>>) -> Files<D> {
     conn.into_store().close()
 }
 
-/// `TableBook::create_or_drop` over files.
+/// `TableBook::create` over files. A refusal gives the connection back.
 fn create_in_files<D: Disk + Drop>(
     alloc: Global,
     conn: Connection<FileStore<D>>,
     settings: Settings,
-) -> Result<TableBook<FileStore<D>>, BookFault> {
-    TableBook::create_or_drop(alloc, conn, settings)
+) -> Result<TableBook<FileStore<D>>, (BookFault, Connection<FileStore<D>>)> {
+    TableBook::create(alloc, conn, settings)
 }
 
 /// `TableBook::adopt` over files. A refusal gives the connection back.
 fn adopt_in_files<D: Disk + Drop>(
     alloc: Global,
     conn: Connection<FileStore<D>>,
-) -> Result<TableBook<FileStore<D>>, Connection<FileStore<D>>> {
-    match TableBook::adopt(alloc, conn) {
-        Ok(book) => Ok(book),
-        Err((_fault, conn)) => Err(conn),
-    }
+) -> Result<TableBook<FileStore<D>>, (BookFault, Connection<FileStore<D>>)> {
+    TableBook::adopt(alloc, conn)
 }
 
-/// A new book in two files.
-fn new_book<D: Disk + Drop>(
+/// A new book in two files, where settings of it are given, and else the book that they hold. A refusal gives them back.
+fn book_in<D: Disk + Drop>(
     alloc: Global,
     files: Files<D>,
     options: Options,
-    settings: Settings,
-) -> Result<TableBook<FileStore<D>>, StepFault> {
-    match connect(alloc, files, options) {
-        Ok(conn) => Ok(create_in_files(alloc, conn, settings)?),
-        Err(_files) => Err(StepFault::Book(BookFault::Disk)),
-    }
-}
-
-/// The book that two files hold, or these, where they can't be opened.
-fn open_book<D: Disk + Drop>(
-    alloc: Global,
-    files: Files<D>,
-    options: Options,
-) -> Result<TableBook<FileStore<D>>, Files<D>> {
+    settings: Option<Settings>,
+) -> Result<TableBook<FileStore<D>>, (BookFault, Files<D>)> {
     let conn = connect(alloc, files, options)?;
-    adopt_in_files(alloc, conn).map_err(disconnect)
+    let book = match settings {
+        Some(settings) => create_in_files(alloc, conn, settings),
+        None => adopt_in_files(alloc, conn),
+    };
+    match book {
+        Ok(book) => Ok(book),
+        Err((fault, conn)) => Err((fault, disconnect(conn))),
+    }
 }
 
-/// The files of a book, as they are.
-fn files_of<D: Disk + Drop>(book: TableBook<FileStore<D>>) -> Files<D> {
-    disconnect(book.close())
+/// An earlier fault shut the store of a connection for good.
+fn is_shut<S: Alter>(conn: &mut Connection<S>) -> bool {
+    match conn.prepare("SELECT 1") {
+        Ok(_statement) => false,
+        Err(error) => error == Error::SqliteFailure(ErrorCode::Closed),
+    }
 }
 
-/// Takes steps and then others over a book, and gives its files back.
-fn take_in_book<D: Disk + Drop>(
+/// The files of a book, as they are, and whether a fault shut its store.
+fn close<D: Disk + Drop>(book: TableBook<FileStore<D>>) -> (Files<D>, bool) {
+    let mut conn = book.close();
+    let is_shut = is_shut(&mut conn);
+    (disconnect(conn), is_shut)
+}
+
+/// How steps over a disk that stops ended.
+#[derive(Clone, Copy, Debug, PartialEq, Eq)]
+enum End {
+    /// There was no book to take them over.
+    Unopened,
+    /// Each was well.
+    Well,
+    /// One met the stop, and so did the look behind it.
+    Stopped,
+    /// One met the stop, and the look behind it was well.
+    Answering,
+}
+
+/// A fault that a disk which stops may make is how a step ended.
+fn stopped(fault: StepFault) -> Result<End, StepFault> {
+    if fault.may_be_of_disk() {
+        Ok(End::Stopped)
+    } else {
+        Err(fault)
+    }
+}
+
+/// The look that tells what stands as a step meets the stop: that step itself, or the one before it.
+fn look_at<'a>(steps: &[Step<'a>], at: usize) -> Option<Step<'a>> {
+    let before = at.saturating_sub(1);
+    match (steps.get(at), steps.get(before)) {
+        (Some(look), _) if look.only_looks() => Some(*look),
+        (_, Some(look)) if look.only_looks() => Some(*look),
+        _ => None,
+    }
+}
+
+/// Each step that changes the queue stands behind a look at it.
+fn are_looked_at(steps: &[Step<'_>]) -> bool {
+    let mut looked = false;
+    for step in steps {
+        let looks = step.only_looks();
+        if !looks && !looked {
+            return false;
+        }
+        looked = looks;
+    }
+    true
+}
+
+/// Looks once more at a book where a step has met the stop.
+fn look_again<S: Alter>(
     desk: &mut Desk,
-    mut book: TableBook<FileStore<D>>,
+    book: &mut TableBook<S>,
+    look: Step<'_>,
+) -> Result<End, StepFault> {
+    let place = desk.place();
+    let looked = desk.take(book, look);
+    desk.go_to(place);
+    match looked {
+        Ok(()) => Ok(End::Answering),
+        Err(fault) => stopped(fault),
+    }
+}
+
+/// Takes steps and then others over a book until one meets the stop.
+fn take_to_stop<S: Alter>(
+    desk: &mut Desk,
+    book: &mut TableBook<S>,
     steps: &[Step<'_>],
     last: &[Step<'_>],
-) -> (Result<(), StepFault>, Files<D>) {
-    let taken = take_both(desk, &mut book, steps, last);
-    (taken, files_of(book))
+) -> Result<End, StepFault> {
+    let begun = desk.place();
+    let Err(fault) = take_both(desk, book, steps, last) else {
+        return Ok(End::Well);
+    };
+    let ended = stopped(fault)?;
+    match look_at(steps, desk.place().behind(begun)) {
+        Some(look) => look_again(desk, book, look),
+        None => Ok(ended),
+    }
 }
 
 /// Takes steps and then others.
@@ -217,28 +308,57 @@ fn take_both<S: Alter>(
     desk.take_each(book, last)
 }
 
-/// Opens the book that two files hold, takes steps and then others over it, and gives the files back.
+/// Takes steps and then others over a book until one meets the stop, and gives its files back.
+fn take_in_book<D: Disk + Drop>(
+    desk: &mut Desk,
+    mut book: TableBook<FileStore<D>>,
+    steps: &[Step<'_>],
+    last: &[Step<'_>],
+) -> (Result<End, StepFault>, Files<D>) {
+    let ended = take_to_stop(desk, &mut book, steps, last);
+    let (files, is_shut) = close(book);
+    match ended {
+        Ok(End::Answering) if is_shut => (Err(StepFault::ShutAnswers), files),
+        ended => (ended, files),
+    }
+}
+
+/// Makes or opens the book of two files, takes steps and then others over it until one meets the stop, and gives the
+/// files back.
 fn take_in_files(
     desk: &mut Desk,
     files: Files<StoppingFile>,
     options: Options,
+    settings: Option<Settings>,
     steps: &[Step<'_>],
     last: &[Step<'_>],
-) -> (Result<(), StepFault>, Files<StoppingFile>) {
-    match open_book(desk.alloc(), files, options) {
+) -> (Result<End, StepFault>, Files<StoppingFile>) {
+    match book_in(desk.alloc(), files, options, settings) {
         Ok(book) => take_in_book(desk, book, steps, last),
-        Err(files) => (Err(StepFault::Book(BookFault::Disk)), files),
+        Err((BookFault::Disk, files)) => (Ok(End::Unopened), files),
+        Err((fault, files)) => (Err(StepFault::Book(fault)), files),
+    }
+}
+
+/// Each step was well.
+fn all_well(ended: Result<End, StepFault>) -> Result<(), StepFault> {
+    match ended? {
+        End::Well => Ok(()),
+        End::Unopened | End::Stopped | End::Answering => Err(StepFault::Book(BookFault::Disk)),
     }
 }
 
 /// Books in tables in two files of a disk that stops: at each call of the log, and at each of the database file, until
-/// the steps come to no further one. What is left then is opened again, as it was written (as by a program that is
-/// killed) and as it was synced (as by a machine without power), and goes on from the step that met the stop or from
-/// the one behind it.
+/// the steps come to no further one. A book without first steps is made on that disk, another is opened on it behind
+/// them. The step that meets the stop, and the look behind it, tell a fault, or what is right. What is left then is
+/// opened again, as it was written (as by a program that is killed) and as it was synced (as by a machine without
+/// power), and goes on from the step that met the stop or from the one behind it.
 #[derive(Clone, Copy)]
 pub struct Stopping<'a> {
     /// The pages that the log may have before it is copied into the database file.
     pub log_pages: usize,
+    /// The pages that are kept in memory.
+    pub cache_pages: usize,
     /// Steps behind those of a row, which only look at what came of them.
     pub last: &'a [Step<'a>],
 }
@@ -248,20 +368,17 @@ impl Stopping<'_> {
     fn options(self) -> Options {
         let mut options = Options::new(1);
         options.checkpoint_frames = self.log_pages;
+        options.cache_pages = self.cache_pages;
         options
     }
 
     /// What the files of a new book hold behind the first steps.
     fn begin(self, desk: &mut Desk, first: &[Step<'_>]) -> Result<Contents, StepFault> {
         let alloc = desk.alloc();
-        let nothing = Left {
-            log: b"",
-            database: b"",
-        };
-        let files = nothing.files(alloc, Stop::Never)?;
-        let book = new_book(alloc, files, self.options(), desk.settings()?)?;
-        let (taken, files) = take_in_book(desk, book, first, &[]);
-        taken?;
+        let settings = desk.settings()?;
+        let files = Left::NOTHING.files(alloc, Stop::Never)?;
+        let (ended, files) = take_in_files(desk, files, self.options(), Some(settings), first, &[]);
+        all_well(ended)?;
         Ok(Contents::of(alloc, &files)?)
     }
 
@@ -275,8 +392,8 @@ impl Stopping<'_> {
     ) -> Result<(), StepFault> {
         desk.go_to(place);
         let files = left.files(desk.alloc(), Stop::Never)?;
-        let (taken, _files) = take_in_files(desk, files, self.options(), steps, self.last);
-        taken
+        let (ended, _files) = take_in_files(desk, files, self.options(), None, steps, self.last);
+        all_well(ended)
     }
 
     /// A stop left the book as it was before the first of the steps, or as that step makes it.
@@ -288,10 +405,45 @@ impl Stopping<'_> {
         steps: &[Step<'_>],
     ) -> Result<(), StepFault> {
         let before = self.go_on(desk, left, place, steps);
-        match (before, steps) {
-            (Err(_fault), [_, behind @ ..]) => self.go_on(desk, left, place, behind),
-            (before, _) => before,
+        match steps {
+            [step, behind @ ..] if before.is_err() && !step.only_looks() => {
+                self.go_on(desk, left, place.next(), behind)
+            }
+            _ => before,
         }
+    }
+
+    /// What a stop left is well, however much of it was synced.
+    fn compare_remains(
+        self,
+        desk: &mut Desk,
+        remains: &Remains,
+        place: Place,
+        steps: &[Step<'_>],
+    ) -> Result<(), StepFault> {
+        for left in remains.each() {
+            if let Some(left) = left {
+                self.compare_left(desk, left, place, steps)?;
+            }
+        }
+        Ok(())
+    }
+
+    /// Takes the steps over a new book, or one that files hold, with files that stop.
+    fn take_stopping(
+        self,
+        desk: &mut Desk,
+        kept: Option<&Contents>,
+        stop: Stop,
+        steps: &[Step<'_>],
+    ) -> Result<(End, Files<StoppingFile>), StepFault> {
+        let (left, settings) = match kept {
+            Some(contents) => (contents.beside(contents), None),
+            None => (Left::NOTHING, Some(desk.settings()?)),
+        };
+        let files = left.files(desk.alloc(), stop)?;
+        let (ended, files) = take_in_files(desk, files, self.options(), settings, steps, &[]);
+        Ok((ended?, files))
     }
 
     /// Takes the steps with files that stop, and compares what is left of them with what it may be. Whether they
@@ -299,22 +451,27 @@ impl Stopping<'_> {
     fn stops(
         self,
         desk: &mut Desk,
-        start: &Contents,
+        kept: Option<&Contents>,
         stop: Stop,
         steps: &[Step<'_>],
     ) -> Result<bool, StepFault> {
         let begun = desk.place();
-        let files = start.beside(start).files(desk.alloc(), stop)?;
-        let (taken, files) = take_in_files(desk, files, self.options(), steps, &[]);
-        if taken.is_ok() {
-            return Ok(false);
+        let (ended, mut files) = self.take_stopping(desk, kept, stop, steps)?;
+        let spent = is_spent(&mut files.log) || is_spent(&mut files.db);
+        if !spent {
+            return match ended {
+                End::Well => Ok(false),
+                End::Unopened | End::Stopped | End::Answering => Err(StepFault::NoStop),
+            };
+        }
+        // a book that was not made has nothing to tell
+        if kept.is_none() && ended == End::Unopened {
+            return Ok(true);
         }
         let remains = Remains::of(desk.alloc(), files)?;
         let place = desk.place();
         let rest = steps.get(place.behind(begun)..).unwrap_or(&[]);
-        for left in remains.each() {
-            self.compare_left(desk, left, place, rest)?;
-        }
+        self.compare_remains(desk, &remains, place, rest)?;
         Ok(true)
     }
 
@@ -322,11 +479,11 @@ impl Stopping<'_> {
     fn stops_at(
         self,
         desk: &mut Desk,
-        start: &Contents,
+        kept: Option<&Contents>,
         stop: Stop,
         steps: &[Step<'_>],
     ) -> Result<bool, StepFault> {
-        match self.stops(desk, start, stop, steps) {
+        match self.stops(desk, kept, stop, steps) {
             Ok(stopped) => Ok(stopped),
             Err(fault) => {
                 let text = format!(in desk.alloc(); "{stop:?}: {fault:?}")?;
@@ -339,18 +496,26 @@ impl Stopping<'_> {
     fn stop_at_each(
         self,
         desk: &mut Desk,
-        start: &Contents,
+        kept: Option<&Contents>,
         stop: Stop,
         steps: &[Step<'_>],
     ) -> Result<(), StepFault> {
         let place = desk.place();
         for calls in 0..MOST_CALLS {
             desk.go_to(place);
-            if !self.stops_at(desk, start, stop.after(calls), steps)? {
+            if !self.stops_at(desk, kept, stop.after(calls), steps)? {
                 return Ok(());
             }
         }
         Err(StepFault::NoEnd)
+    }
+
+    /// The files as the steps begin, where their book is not a new one.
+    fn kept(self, desk: &mut Desk, first: &[Step<'_>]) -> Result<Option<Contents>, StepFault> {
+        if first.is_empty() {
+            return Ok(None);
+        }
+        Ok(Some(self.begin(desk, first)?))
     }
 }
 
@@ -365,10 +530,13 @@ impl Shelf for Stopping<'_> {
         first: &[Step<'_>],
         steps: &[Step<'_>],
     ) -> Result<(), StepFault> {
-        let start = self.begin(desk, first)?;
+        if !are_looked_at(steps) {
+            return Err(StepFault::NoLook);
+        }
+        let kept = self.kept(desk, first)?;
         let place = desk.place();
-        self.stop_at_each(desk, &start, Stop::Log { calls: 0 }, steps)?;
+        self.stop_at_each(desk, kept.as_ref(), Stop::Log { calls: 0 }, steps)?;
         desk.go_to(place);
-        self.stop_at_each(desk, &start, Stop::Database { calls: 0 }, steps)
+        self.stop_at_each(desk, kept.as_ref(), Stop::Database { calls: 0 }, steps)
     }
 }

@@ -1,7 +1,15 @@
 //! Whole HTTP connections to a print queue, by their bytes. It has tests alone.
 //!
-//! Where a request acts, or shows the queue or a document, its connections run over each kind of book, but for those of limits and of a
-//! connection's end. These, and what is of the bytes of HTTP alone, run over one.
+//! They run over the queue in lists and over the one in tables alike. A read gives at most 1, 2, 7 or 4,096 bytes; of a stream of 8,192 bytes
+//! and more, or of a head without end, 100 or 4,096. Other than that:
+//!
+//! - A method without end comes over lists at 1, 2 and 7 bytes a read too.
+//! - Chunked bodies of 67,108,864 bytes, and about as many, come over lists alone, at 4,096 bytes a read.
+//! - Requests that are cut at each length come over both at 1 and 4,096 bytes a read, messages that are cut, and large documents, at 4,096.
+//!   Documents that aren't there are asked for at one of the speeds each.
+//! - Where reads or writes fail, and where a book does, a read gives all that there is. Reads fail behind each byte of the requests over lists, and
+//!   behind each 25th over tables. Writes fail after each byte of an answer over lists, with at most 50, 7 and 1 bytes a write, and after each 25th
+//!   over tables, with at most 50; inside a large document they fail at nine places over both. Books fail over both.
 #![tactic(auto)]
 
 #[cfg(test)]

@@ -29,6 +29,16 @@ pub struct Connection<'a> {
     pub wanted: &'a [Wanted<'a>],
 }
 
+/// A connection that ends so, and of whose requests none acts.
+pub fn stopped<'a>(stream: &'a [&'a [u8]], end: End, wanted: &'a [Wanted<'a>]) -> Connection<'a> {
+    Connection {
+        stream,
+        acted: 0,
+        end,
+        wanted,
+    }
+}
+
 /// A connection that the client ends, so many of whose requests act.
 pub fn closed<'a>(stream: &'a [&'a [u8]], acted: u32, wanted: &'a [Wanted<'a>]) -> Connection<'a> {
     Connection {
@@ -37,6 +47,15 @@ pub fn closed<'a>(stream: &'a [&'a [u8]], acted: u32, wanted: &'a [Wanted<'a>]) 
         end: End::Closed,
         wanted,
     }
+}
+
+/// How many bytes these parts have.
+pub fn length_of(parts: &[&[u8]]) -> usize {
+    let mut length: usize = 0;
+    for part in parts {
+        length = length.saturating_add(part.len());
+    }
+    length
 }
 
 /// Adds these parts.

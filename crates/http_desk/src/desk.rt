@@ -2,10 +2,10 @@
 
 use crate::books::{DeskBook, MemoryBook};
 use crate::compare::{Mismatch, Place};
-use crate::connection::{Connection, Wanted, closed, joined, wanted_bytes};
+use crate::connection::{Connection, Wanted, closed, joined, length_of, wanted_bytes};
 use crate::messages::{PRINT_JOB, job_reply};
 use crate::requests::{IPP, POST_JOB};
-use crate::streams::{BrokenWriter, SPEEDS, SlowReader};
+use crate::streams::{BrokenWriter, SPEEDS, SlowReader, speeds_for};
 use grants_csv::{Imported, import};
 use http_front::{ServeCause, ServeFault, Served, serve};
 use list_book::ListBook;
@@ -192,6 +192,14 @@ impl<B: QueueBook + Drop> Desk<B> {
         Ok(())
     }
 
+    /// A connection that changes nothing, at each of the speeds of a stream that is as long as its own.
+    fn take_at_its_speeds(&mut self, connection: &Connection<'_>) -> Result<(), Mismatch> {
+        for most in speeds_for(length_of(connection.stream)) {
+            self.take(connection, *most)?;
+        }
+        Ok(())
+    }
+
     /// The next Print-Job gets this number, of 1 to 3.
     pub fn take_job(&mut self, number: u32) -> Result<(), Mismatch> {
         let wanted = [Wanted::Success(IPP, job_reply(number))];
@@ -210,10 +218,7 @@ fn take_at<B: DeskBook>(
 }
 
 /// Connections to such a queue, at each speed.
-pub fn take_all<B: DeskBook>(
-    alloc: Global,
-    connections: &[Connection<'_>],
-) -> Result<(), Mismatch> {
+fn take_all<B: DeskBook>(alloc: Global, connections: &[Connection<'_>]) -> Result<(), Mismatch> {
     for most in SPEEDS {
         take_at::<B>(alloc, connections, most)?;
     }
@@ -230,25 +235,15 @@ pub fn take_all_over_both(alloc: Global, connections: &[Connection<'_>]) -> Resu
     take_all_over_tables(alloc, connections)
 }
 
-/// A connection to an empty queue leaves it empty: the next Print-Job is job 1.
-fn keep_empty_at<B: DeskBook>(
-    alloc: Global,
-    connection: &Connection<'_>,
-    most: usize,
-) -> Result<(), Mismatch> {
+/// A connection to an empty queue leaves it empty, at each of its speeds: the next Print-Job is job 1.
+fn keep_empty<B: DeskBook>(alloc: Global, connection: &Connection<'_>) -> Result<(), Mismatch> {
     let mut desk = Desk::<B>::new(alloc)?;
-    desk.take(connection, most)?;
+    desk.take_at_its_speeds(connection)?;
     desk.take_job(1)
 }
 
-/// A connection to an empty queue leaves it empty, at each of these speeds.
-pub fn keep_empty<B: DeskBook>(
-    alloc: Global,
-    connection: &Connection<'_>,
-    speeds: &[usize],
-) -> Result<(), Mismatch> {
-    for most in speeds {
-        keep_empty_at::<B>(alloc, connection, *most)?;
-    }
-    Ok(())
+/// A connection to an empty queue leaves it empty, in each book, at each of its speeds.
+pub fn keep_empty_over_both(alloc: Global, connection: &Connection<'_>) -> Result<(), Mismatch> {
+    keep_empty::<ListBook>(alloc, connection)?;
+    keep_empty::<MemoryBook>(alloc, connection)
 }

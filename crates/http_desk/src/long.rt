@@ -2,10 +2,8 @@
 
 use crate::compare::Mismatch;
 use crate::connection::{Wanted, closed, filled};
-use crate::desk::keep_empty;
+use crate::desk::keep_empty_over_both;
 use crate::refused::refuse;
-use crate::streams::speeds_for;
-use list_book::ListBook;
 use std::alloc::Global;
 
 /// A stream: its front, what is behind that, a part and how often it stands there, and its end.
@@ -16,16 +14,13 @@ pub type Long = (
     &'static [u8],
 );
 
-/// This stream is served at each of its speeds, with so many requests acted and these answers, and the queue stays empty.
+/// This stream is served over each book and at each of its speeds, with so many requests acted and these answers, and the queue stays
+/// empty.
 fn serve_one(alloc: Global, acted: u32, wanted: &[Wanted<'_>], row: &Long) -> Result<(), Mismatch> {
     let (front, behind, (part, count), end) = *row;
     let rest = filled(alloc, behind, part, count, end)?;
     let stream = [front, rest.as_slice()];
-    keep_empty::<ListBook>(
-        alloc,
-        &closed(&stream, acted, wanted),
-        speeds_for(rest.len()),
-    )
+    keep_empty_over_both(alloc, &closed(&stream, acted, wanted))
 }
 
 /// Each of these streams is served so.

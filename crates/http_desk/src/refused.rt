@@ -2,13 +2,11 @@
 
 use crate::compare::Mismatch;
 use crate::connection::Wanted::Refusal;
-use crate::connection::{Connection, Wanted};
-use crate::desk::keep_empty;
+use crate::connection::{Wanted, stopped};
+use crate::desk::keep_empty_over_both;
 use crate::messages::PRINT_JOB;
 use crate::requests::POST_JOB;
-use crate::streams::speeds_for;
 use http_front::End;
-use list_book::ListBook;
 use std::alloc::Global;
 
 pub const BAD: Wanted<'static> = Refusal("400 Bad Request");
@@ -27,8 +25,8 @@ pub const OTHER_TYPE: Wanted<'static> = Refusal("415 Unsupported Media Type");
 
 pub const HEAD_TOO_LARGE: Wanted<'static> = Refusal("431 Request Header Fields Too Large");
 
-/// A stream, by its front and what is behind that, is refused so at each of its speeds; a request behind it isn't acted on, and the
-/// queue stays empty.
+/// A stream, by its front and what is behind that, is refused so over each book and at each of its speeds; a request behind it isn't
+/// acted on, and the queue stays empty.
 pub fn refuse(
     alloc: Global,
     front: &[u8],
@@ -36,13 +34,8 @@ pub fn refuse(
     code: u16,
     wanted: &[Wanted<'_>],
 ) -> Result<(), Mismatch> {
-    let connection = Connection {
-        stream: &[front, rest, POST_JOB, PRINT_JOB],
-        acted: 0,
-        end: End::Refused(code),
-        wanted,
-    };
-    keep_empty::<ListBook>(alloc, &connection, speeds_for(rest.len()))
+    let stream = [front, rest, POST_JOB, PRINT_JOB];
+    keep_empty_over_both(alloc, &stopped(&stream, End::Refused(code), wanted))
 }
 
 /// Each of these streams behind that front is refused so.
@@ -67,4 +60,31 @@ pub fn refuse_all(
     streams: &[&[u8]],
 ) -> Result<(), Mismatch> {
     refuse_behind(alloc, b"", code, &[wanted], streams)
+}
+
+/// What is behind that front comes to this end over each book and at each of its speeds. The queue stays empty.
+fn end_one(
+    alloc: Global,
+    front: &[u8],
+    rest: &[u8],
+    end: End,
+    wanted: &[Wanted<'_>],
+) -> Result<(), Mismatch> {
+    let stream = [front, rest];
+    keep_empty_over_both(alloc, &stopped(&stream, end, wanted))
+}
+
+/// Each of these streams behind that front comes to this end over each book and at each of its speeds. Nothing is behind it, and the
+/// queue stays empty.
+pub fn end_behind(
+    alloc: Global,
+    front: &[u8],
+    end: End,
+    wanted: &[Wanted<'_>],
+    streams: &[&[u8]],
+) -> Result<(), Mismatch> {
+    for stream in streams {
+        end_one(alloc, front, stream, end, wanted)?;
+    }
+    Ok(())
 }

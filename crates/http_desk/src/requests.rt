@@ -21,7 +21,11 @@ pub const POST_UP_TIME: &[u8] =
 pub const POST_RELEASE: &[u8] =
     b"POST /ipp/print HTTP/1.1\r\nContent-Type: application/ipp\r\nContent-Length: 158\r\n\r\n";
 
-/// The head of a POST whose body comes in chunks, and waits for leave.
+/// The head of a POST whose body comes in chunks.
+pub const POST_CHUNKED: &[u8] =
+    b"POST /ipp/print HTTP/1.1\r\nContent-Type: application/ipp\r\nTransfer-Encoding: chunked\r\n\r\n";
+
+/// The same, which waits for leave.
 pub const POST_WAITING: &[u8] =
     b"POST /ipp/print HTTP/1.1\r\nExpect: 100-continue\r\nContent-Type: application/ipp\r\nTransfer-Encoding: chunked\r\n\r\n";
 

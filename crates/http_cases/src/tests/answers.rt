@@ -113,6 +113,34 @@ fn the_queue_and_a_document(rt: HostRuntime) -> Result<(), Mismatch> {
     take_all_over_both(rt.alloc(), QUEUE_AND_DOCUMENT)
 }
 
+/// Of two jobs one is released.
+const RELEASED_AND_HELD: &[Connection<'static>] = &[
+    Connection {
+        stream: &[
+            POST_JOB,
+            PRINT_JOB,
+            POST_JOB,
+            PRINT_JOB,
+            POST_RELEASE,
+            RELEASE_JOB,
+        ],
+        acted: 3,
+        end: End::Closed,
+        wanted: &[PRINTED, Success(IPP, JOB_2), Success(IPP, DONE)],
+    },
+    Connection {
+        stream: &[GET_QUEUE],
+        acted: 0,
+        end: End::Closed,
+        wanted: &[Success(TEXT, b"1 1 1 2\n")],
+    },
+];
+
+#[test]
+fn the_queue_of_a_released_and_a_held_job(rt: HostRuntime) -> Result<(), Mismatch> {
+    take_all_over_both(rt.alloc(), RELEASED_AND_HELD)
+}
+
 const PDF_DOCUMENT: &[Connection<'static>] = &[
     Connection {
         stream: &[

@@ -2,29 +2,44 @@
 
 use http_desk::books::{DeskBook, MemoryBook};
 use http_desk::compare::Mismatch;
-use http_desk::connection::Wanted::{Continue, Refusal, Success};
-use http_desk::connection::{Wanted, joined, wanted_bytes};
+use http_desk::connection::Wanted::{Continue, Success};
+use http_desk::connection::{Connection, Wanted, joined, wanted_bytes};
 use http_desk::desk::Desk;
-use http_desk::messages::{JOB_1, JOB_2, PRINT_JOB};
-use http_desk::requests::{IPP, POST_JOB, POST_WAITING};
+use http_desk::messages::{DONE, JOB_1, JOB_2, JOB_3, PRINT_JOB, RELEASE_JOB};
+use http_desk::refused::POST_ALLOWED;
+use http_desk::requests::{
+    GET_QUEUE, IPP, POST_JOB, POST_RELEASE, POST_WAITING, REPORT_DONE, REPORT_START, TEXT,
+};
 use http_desk::streams::BrokenReader;
-use http_front::{ServeCause, ServeFault};
+use http_front::{End, ServeCause, ServeFault};
 use list_book::ListBook;
 use std::alloc::Global;
 use std::ops::Range;
 
-/// The answers to a stream go to a writer that takes so many bytes in all, and so many at once: when it fails, so many requests have
-/// acted, and the next Print-Job is the next job.
+/// Requests of which the last that is answered has its answer broken off.
+struct Broken {
+    /// What comes before, to a queue in which alice has 30 pages.
+    before: &'static [Connection<'static>],
+    stream: &'static [&'static [u8]],
+    /// The answers up to that one.
+    answers: &'static [Wanted<'static>],
+    /// How many of the requests have acted.
+    acted: u32,
+    /// What comes behind, which shows that they have.
+    after: Connection<'static>,
+}
+
+/// The answers go to a writer that takes so many bytes in all, and so many at once.
 fn break_writer<B: DeskBook>(
     alloc: Global,
-    stream: &[u8],
-    answers: &[u8],
+    row: &Broken,
+    (stream, answers): (&[u8], &[u8]),
     rooms: (usize, usize),
-    acted: u32,
 ) -> Result<(), Mismatch> {
-    let mut desk = Desk::<B>::new(alloc)?;
-    desk.take_writer(stream, rooms, acted, answers)?;
-    desk.take_job(acted.saturating_add(1))
+    let mut desk = Desk::<B>::granted(alloc)?;
+    desk.take_each(row.before, 4096)?;
+    desk.take_writer(stream, rooms, row.acted, answers)?;
+    desk.take(&row.after, 4096)
 }
 
 /// Over tables, which take longer to make, failures are so many bytes apart: where in an answer one comes is a matter of HTTP alone.
@@ -33,33 +48,54 @@ const APART: usize = 25;
 /// Writers that fail after this number of bytes of the answers.
 fn break_writers_at(
     alloc: Global,
-    stream: &[u8],
-    answers: &[u8],
+    row: &Broken,
+    bytes: (&[u8], &[u8]),
     room: usize,
-    acted: u32,
 ) -> Result<(), Mismatch> {
     for most in [50, 7, 1] {
-        break_writer::<ListBook>(alloc, stream, answers, (room, most), acted)?;
+        break_writer::<ListBook>(alloc, row, bytes, (room, most))?;
     }
     if room % APART == 0 {
-        break_writer::<MemoryBook>(alloc, stream, answers, (room, 50), acted)?;
+        break_writer::<MemoryBook>(alloc, row, bytes, (room, 50))?;
     }
     Ok(())
 }
 
-/// Writers that fail after each of these numbers of bytes of the answers, when so many requests have acted.
+/// Writers that fail after each of these numbers of bytes of the answers.
 fn break_writers(
     alloc: Global,
-    stream: &[u8],
-    answers: &[u8],
+    row: &Broken,
+    bytes: (&[u8], &[u8]),
     rooms: Range<usize>,
-    acted: u32,
 ) -> Result<(), Mismatch> {
     for room in rooms {
-        break_writers_at(alloc, stream, answers, room, acted)?;
+        break_writers_at(alloc, row, bytes, room)?;
     }
     Ok(())
 }
+
+/// How many bytes the answers before the last one have.
+fn length_before_last(alloc: Global, answers: &[Wanted<'_>]) -> Result<usize, Mismatch> {
+    match answers {
+        [whole @ .., _] => Ok(wanted_bytes(alloc, whole)?.len()),
+        [] => Ok(0),
+    }
+}
+
+/// Writers that fail after each byte of the last of the answers.
+fn break_last(alloc: Global, row: &Broken) -> Result<(), Mismatch> {
+    let whole = length_before_last(alloc, row.answers)?;
+    let stream = joined(alloc, row.stream)?;
+    let answers = wanted_bytes(alloc, row.answers)?;
+    let bytes = (stream.as_slice(), answers.as_slice());
+    break_writers(alloc, row, bytes, whole..answers.len())
+}
+
+/// A Print-Job.
+const ONE: &[&[u8]] = &[POST_JOB, PRINT_JOB];
+
+/// Two Print-Jobs.
+const TWO: &[&[u8]] = &[POST_JOB, PRINT_JOB, POST_JOB, PRINT_JOB];
 
 /// The answer to a first Print-Job.
 const FIRST: &[Wanted<'static>] = &[Success(IPP, JOB_1)];
@@ -67,45 +103,127 @@ const FIRST: &[Wanted<'static>] = &[Success(IPP, JOB_1)];
 /// The answers to two.
 const BOTH: &[Wanted<'static>] = &[Success(IPP, JOB_1), Success(IPP, JOB_2)];
 
-/// How many bytes the first of these answers has.
-fn first_length(alloc: Global) -> Result<usize, Mismatch> {
-    Ok(wanted_bytes(alloc, FIRST)?.len())
-}
+/// A Print-Job that is job 1.
+const PRINT_FIRST: Connection<'static> = Connection {
+    stream: ONE,
+    acted: 1,
+    end: End::Closed,
+    wanted: FIRST,
+};
 
-/// Two Print-Jobs.
-const TWO: &[&[u8]] = &[POST_JOB, PRINT_JOB, POST_JOB, PRINT_JOB];
+/// The answer to the first of two Print-Jobs is broken off.
+const FIRST_BROKEN: Broken = Broken {
+    before: &[],
+    stream: TWO,
+    answers: FIRST,
+    acted: 1,
+    after: Connection {
+        stream: ONE,
+        acted: 1,
+        end: End::Closed,
+        wanted: &[Success(IPP, JOB_2)],
+    },
+};
 
 #[test]
-fn writes_that_fail_after_each_byte(rt: HostRuntime) -> Result<(), Mismatch> {
-    let alloc = rt.alloc();
-    let first = first_length(alloc)?;
-    let stream = joined(alloc, TWO)?;
-    let answers = wanted_bytes(alloc, BOTH)?;
-    let (asked, told) = (stream.as_slice(), answers.as_slice());
-    break_writers(alloc, asked, told, 0..first, 1)?;
-    break_writers(alloc, asked, told, first..told.len(), 2)
+fn first_answers_that_cannot_be_written(rt: HostRuntime) -> Result<(), Mismatch> {
+    break_last(rt.alloc(), &FIRST_BROKEN)
 }
 
-/// Writers that fail after each byte of this answer to a stream of which nothing acts.
-fn break_all(alloc: Global, parts: &[&[u8]], wanted: Wanted<'_>) -> Result<(), Mismatch> {
-    let stream = joined(alloc, parts)?;
-    let answer = wanted_bytes(alloc, &[wanted])?;
-    let told = answer.as_slice();
-    break_writers(alloc, stream.as_slice(), told, 0..told.len(), 0)
+/// The answer to the second of them is broken off.
+const SECOND_BROKEN: Broken = Broken {
+    before: &[],
+    stream: TWO,
+    answers: BOTH,
+    acted: 2,
+    after: Connection {
+        stream: ONE,
+        acted: 1,
+        end: End::Closed,
+        wanted: &[Success(IPP, JOB_3)],
+    },
+};
+
+#[test]
+fn second_answers_that_cannot_be_written(rt: HostRuntime) -> Result<(), Mismatch> {
+    break_last(rt.alloc(), &SECOND_BROKEN)
 }
+
+/// A refusal is broken off.
+const REFUSAL_BROKEN: Broken = Broken {
+    before: &[],
+    stream: &[b"PUT /ipp/print HTTP/1.1\r\n\r\n"],
+    answers: &[POST_ALLOWED],
+    acted: 0,
+    after: PRINT_FIRST,
+};
 
 #[test]
 fn refusals_that_cannot_be_written(rt: HostRuntime) -> Result<(), Mismatch> {
-    break_all(
-        rt.alloc(),
-        &[b"PUT /ipp/print HTTP/1.1\r\n\r\n"],
-        Refusal("405 Method Not Allowed\r\nAllow: POST"),
-    )
+    break_last(rt.alloc(), &REFUSAL_BROKEN)
 }
+
+/// The leave to send a body is broken off.
+const LEAVE_BROKEN: Broken = Broken {
+    before: &[],
+    stream: &[POST_WAITING, b"1\r\n"],
+    answers: &[Continue],
+    acted: 0,
+    after: PRINT_FIRST,
+};
 
 #[test]
 fn leaves_that_cannot_be_written(rt: HostRuntime) -> Result<(), Mismatch> {
-    break_all(rt.alloc(), &[POST_WAITING, b"1\r\n"], Continue)
+    break_last(rt.alloc(), &LEAVE_BROKEN)
+}
+
+/// Job 1 is printed by its Print-Job, and released.
+const RELEASED: &[Connection<'static>] = &[
+    PRINT_FIRST,
+    Connection {
+        stream: &[POST_RELEASE, RELEASE_JOB],
+        acted: 1,
+        end: End::Closed,
+        wanted: &[Success(IPP, DONE)],
+    },
+];
+
+/// The answer to the device, which starts job 1, is broken off: job 1 is started.
+const REPORT_BROKEN: Broken = Broken {
+    before: RELEASED,
+    stream: &[REPORT_START, POST_JOB, PRINT_JOB],
+    answers: &[Success(TEXT, b"ok 1 5 0\n")],
+    acted: 1,
+    after: Connection {
+        stream: &[REPORT_DONE, POST_JOB, PRINT_JOB],
+        acted: 2,
+        end: End::Closed,
+        wanted: &[Success(TEXT, b"ok 1 9 20\n"), Success(IPP, JOB_2)],
+    },
+};
+
+#[test]
+fn answers_to_the_device_that_cannot_be_written(rt: HostRuntime) -> Result<(), Mismatch> {
+    break_last(rt.alloc(), &REPORT_BROKEN)
+}
+
+/// The device's queue is broken off, and stays as it is.
+const QUEUE_BROKEN: Broken = Broken {
+    before: RELEASED,
+    stream: &[GET_QUEUE, POST_JOB, PRINT_JOB],
+    answers: &[Success(TEXT, b"1 1 1 2\n")],
+    acted: 0,
+    after: Connection {
+        stream: &[GET_QUEUE, POST_JOB, PRINT_JOB],
+        acted: 1,
+        end: End::Closed,
+        wanted: &[Success(TEXT, b"1 1 1 2\n"), Success(IPP, JOB_2)],
+    },
+};
+
+#[test]
+fn queues_that_cannot_be_written(rt: HostRuntime) -> Result<(), Mismatch> {
+    break_last(rt.alloc(), &QUEUE_BROKEN)
 }
 
 /// A reader that fails behind these bytes: so many requests have acted, and these are their answers.

@@ -6,7 +6,8 @@ use http_desk::connection::Wanted::Success;
 use http_desk::connection::{Connection, Wanted, in_chunks_of_one_byte, joined};
 use http_desk::desk::Desk;
 use http_desk::messages::{BAD_REQUEST, JOB_1, JOB_2, PRINT_JOB};
-use http_desk::requests::{IPP, POST_JOB, POST_WAITING};
+use http_desk::refused::end_behind;
+use http_desk::requests::{IPP, POST_CHUNKED, POST_JOB, POST_WAITING};
 use http_front::{End, Served};
 use list_book::ListBook;
 use std::alloc::Global;
@@ -80,6 +81,23 @@ fn chunks_cut_at_each_length(rt: HostRuntime) -> Result<(), Mismatch> {
     let head = POST_WAITING.len();
     let request = in_chunks_of_one_byte(rt.alloc(), POST_WAITING, PRINT_JOB)?;
     cut_over_both(rt.alloc(), request.as_slice(), head, leave)
+}
+
+/// Bodies that are right as far as they go.
+const BEGUN_CHUNKS: &[&[u8]] = &[
+    b"1",
+    b"1\r",
+    b"1\r\n",
+    b"1\r\na",
+    b"1\r\na\r",
+    b"1\r\na\r\n",
+    b"1\r\na\r\n0\r\n",
+    b"1\r\na\r\n0\r\na: b\r\n\r",
+];
+
+#[test]
+fn chunks_that_may_go_on(rt: HostRuntime) -> Result<(), Mismatch> {
+    end_behind(rt.alloc(), POST_CHUNKED, End::Cut, &[], BEGUN_CHUNKS)
 }
 
 /// A message behind its head is answered so.

@@ -1,13 +1,12 @@
-//! How connections end.
+//! How connections end, over each book.
 
 use http_desk::compare::Mismatch;
 use http_desk::connection::Wanted::{Last, Success};
 use http_desk::connection::{Connection, Wanted};
-use http_desk::desk::take_all;
+use http_desk::desk::keep_empty_over_both;
 use http_desk::messages::PRINT_JOB;
 use http_desk::requests::{POST_JOB, TEXT};
 use http_front::End;
-use list_book::ListBook;
 
 /// The answer to a body that is no line of the device.
 const NO_LINE: Wanted<'static> = Success(TEXT, b"refused 1 syntax\n");
@@ -24,7 +23,7 @@ const NO_REQUEST: Connection<'static> = Connection {
 
 #[test]
 fn no_request(rt: HostRuntime) -> Result<(), Mismatch> {
-    take_all::<ListBook>(rt.alloc(), &[NO_REQUEST])
+    keep_empty_over_both(rt.alloc(), &NO_REQUEST)
 }
 
 /// The ends of request lines, and fields, by which a connection is asked to end.
@@ -51,7 +50,7 @@ fn connections_that_are_asked_to_end(rt: HostRuntime) -> Result<(), Mismatch> {
             end: End::Done,
             wanted: &[LAST_NO_LINE],
         };
-        take_all::<ListBook>(rt.alloc(), &[connection])?;
+        keep_empty_over_both(rt.alloc(), &connection)?;
     }
     Ok(())
 }
@@ -72,7 +71,7 @@ const GOING_ON: Connection<'static> = Connection {
 
 #[test]
 fn a_connection_that_goes_on(rt: HostRuntime) -> Result<(), Mismatch> {
-    take_all::<ListBook>(rt.alloc(), &[GOING_ON])
+    keep_empty_over_both(rt.alloc(), &GOING_ON)
 }
 
 /// Of 40 requests 32 are answered.
@@ -86,5 +85,5 @@ fn the_requests_that_a_connection_may_have(rt: HostRuntime) -> Result<(), Mismat
         end: End::Done,
         wanted: &wanted,
     };
-    take_all::<ListBook>(rt.alloc(), &[connection])
+    keep_empty_over_both(rt.alloc(), &connection)
 }

@@ -1,14 +1,14 @@
 //! Heads, chunks and lengths at their limits.
 
-use http_desk::books::DeskBook;
+use http_desk::books::{DeskBook, MemoryBook};
 use http_desk::compare::Mismatch;
 use http_desk::connection::Wanted::Success;
-use http_desk::connection::{Connection, Wanted, filled, wanted_bytes};
-use http_desk::desk::{Desk, keep_empty};
+use http_desk::connection::{Wanted, filled, wanted_bytes};
+use http_desk::desk::Desk;
 use http_desk::long::{Long, refuse_long, serve_long};
-use http_desk::refused::{BAD, HEAD_TOO_LARGE, TOO_LARGE};
+use http_desk::refused::{BAD, HEAD_TOO_LARGE, TOO_LARGE, end_behind};
 use http_desk::requests::TEXT;
-use http_desk::streams::{EndlessReader, SPEEDS, speeds_for};
+use http_desk::streams::{EndlessReader, speeds_for};
 use http_front::{End, Served};
 use list_book::ListBook;
 use std::alloc::Global;
@@ -123,20 +123,21 @@ fn refuse_endless_at<B: DeskBook>(
     desk.place(most).few_reads(reader.given, bytes)
 }
 
-/// It is refused so at each of the speeds of so many bytes.
-fn refuse_at_each_speed(
+/// It is refused so in such a book, at each of these speeds.
+fn refuse_endless_in<B: DeskBook>(
     alloc: Global,
-    (front, room): (&[u8], usize),
+    stream: (&[u8], usize),
+    speeds: &[usize],
     code: u16,
     answer: &[u8],
 ) -> Result<(), Mismatch> {
-    for most in speeds_for(room) {
-        refuse_endless_at::<ListBook>(alloc, (front, room), code, answer, *most)?;
+    for most in speeds {
+        refuse_endless_at::<B>(alloc, stream, code, answer, *most)?;
     }
     Ok(())
 }
 
-/// It is refused by this answer.
+/// It is refused by this answer over each book, at each of the speeds of so many bytes.
 fn refuse_endless(
     alloc: Global,
     stream: (&[u8], usize),
@@ -144,7 +145,9 @@ fn refuse_endless(
     wanted: Wanted<'_>,
 ) -> Result<(), Mismatch> {
     let answer = wanted_bytes(alloc, &[wanted])?;
-    refuse_at_each_speed(alloc, stream, code, answer.as_slice())
+    let speeds = speeds_for(stream.1);
+    refuse_endless_in::<ListBook>(alloc, stream, speeds, code, answer.as_slice())?;
+    refuse_endless_in::<MemoryBook>(alloc, stream, speeds, code, answer.as_slice())
 }
 
 #[test]
@@ -152,6 +155,22 @@ fn input_without_end(rt: HostRuntime) -> Result<(), Mismatch> {
     refuse_endless(rt.alloc(), (b"", 20_480), 431, HEAD_TOO_LARGE)?;
     refuse_endless(rt.alloc(), (QUEUE_LINE, 20_480), 431, HEAD_TOO_LARGE)?;
     refuse_endless(rt.alloc(), (CHUNK, 5_120), 400, BAD)
+}
+
+/// A method without end is refused at these speeds.
+fn refuse_slow(alloc: Global, speeds: &[usize]) -> Result<(), Mismatch> {
+    let answer = wanted_bytes(alloc, &[HEAD_TOO_LARGE])?;
+    refuse_endless_in::<ListBook>(alloc, (b"", 20_480), speeds, 431, answer.as_slice())
+}
+
+#[test]
+fn input_without_end_byte_by_byte(rt: HostRuntime) -> Result<(), Mismatch> {
+    refuse_slow(rt.alloc(), &[1])
+}
+
+#[test]
+fn input_without_end_by_few_bytes(rt: HostRuntime) -> Result<(), Mismatch> {
+    refuse_slow(rt.alloc(), &[2, 7])
 }
 
 /// The heads of bodies of 16,777,216 bytes, and one whose chunks have as many.
@@ -163,28 +182,21 @@ const MAY_COME: [&[u8]; 3] = [
 
 #[test]
 fn lengths_that_may_still_come(rt: HostRuntime) -> Result<(), Mismatch> {
-    for stream in MAY_COME {
-        let connection = Connection {
-            stream: &[stream],
-            acted: 0,
-            end: End::Cut,
-            wanted: &[],
-        };
-        keep_empty::<ListBook>(rt.alloc(), &connection, &SPEEDS)?;
-    }
-    Ok(())
+    end_behind(rt.alloc(), b"", End::Cut, &[], &MAY_COME)
 }
 
 /// The head of a POST whose body comes in chunks.
 const CHUNKED: &[u8] =
     b"POST /device/report HTTP/1.1\r\nContent-Type: text/plain\r\nTransfer-Encoding: chunked\r\n\r\n";
 
-/// A POST in 65,344 chunks of one byte, each 1,027 bytes long by its extension, and a last one whose extension has so many bytes: with
-/// 570 of them the body has 67,108,864 bytes as it stands in the stream.
-fn in_long_chunks(alloc: Global, extension: usize) -> Result<Vec<u8>, Mismatch> {
+/// The end of a body: its front, how many bytes `a` are behind that, and what is behind those.
+type Rest = (&'static [u8], usize, &'static [u8]);
+
+/// A POST in 65,344 chunks of one byte, each 1,027 bytes long by its extension, and this end, to which the raw limit leaves 576 bytes.
+fn in_long_chunks(alloc: Global, (begin, count, end): Rest) -> Result<Vec<u8>, Mismatch> {
     let chunk = filled(alloc, b"1;", b"a", 1020, b"\r\nx\r\n")?;
-    let last = filled(alloc, b"0;", b"a", extension, b"\r\n\r\n")?;
-    filled(alloc, CHUNKED, chunk.as_slice(), 65_344, last.as_slice())
+    let rest = filled(alloc, begin, b"a", count, end)?;
+    filled(alloc, CHUNKED, chunk.as_slice(), 65_344, rest.as_slice())
 }
 
 /// Bytes come to this in an empty queue, where a read gives 4,096 of them.
@@ -198,15 +210,15 @@ fn take_long<B: DeskBook>(
     desk.take_bytes(stream, served, answer, 4096)
 }
 
-/// A POST in such chunks comes to this.
+/// A POST in such chunks with this end comes to this.
 fn take_long_chunks(
     alloc: Global,
-    extension: usize,
+    rest: Rest,
     served: Served,
-    wanted: Wanted<'_>,
+    wanted: &[Wanted<'_>],
 ) -> Result<(), Mismatch> {
-    let stream = in_long_chunks(alloc, extension)?;
-    let answer = wanted_bytes(alloc, &[wanted])?;
+    let stream = in_long_chunks(alloc, rest)?;
+    let answer = wanted_bytes(alloc, wanted)?;
     take_long::<ListBook>(alloc, stream.as_slice(), served, answer.as_slice())
 }
 
@@ -217,16 +229,49 @@ fn a_chunked_body_at_its_raw_limit(rt: HostRuntime) -> Result<(), Mismatch> {
         faults: 0,
         end: End::Closed,
     };
-    let answer = Success(TEXT, b"refused 1 syntax\n");
-    take_long_chunks(rt.alloc(), 570, served, answer)
+    let answer = [Success(TEXT, b"refused 1 syntax\n")];
+    take_long_chunks(rt.alloc(), (b"0;", 570, b"\r\n\r\n"), served, &answer)
 }
 
-#[test]
-fn a_chunked_body_past_its_raw_limit(rt: HostRuntime) -> Result<(), Mismatch> {
+/// A POST in such chunks ends so, with these answers, and doesn't act.
+fn stop_long_chunks(
+    alloc: Global,
+    rest: Rest,
+    end: End,
+    wanted: &[Wanted<'_>],
+) -> Result<(), Mismatch> {
     let served = Served {
         acted: 0,
         faults: 0,
-        end: End::Refused(413),
+        end,
     };
-    take_long_chunks(rt.alloc(), 571, served, TOO_LARGE)
+    take_long_chunks(alloc, rest, served, wanted)
+}
+
+/// A POST in such chunks passes the raw limit by this end.
+fn refuse_long_chunks(alloc: Global, rest: Rest) -> Result<(), Mismatch> {
+    stop_long_chunks(alloc, rest, End::Refused(413), &[TOO_LARGE])
+}
+
+#[test]
+fn trailers_past_the_raw_limit(rt: HostRuntime) -> Result<(), Mismatch> {
+    refuse_long_chunks(rt.alloc(), (b"0;", 571, b"\r\n\r\n"))
+}
+
+/// It has no end in 576 bytes.
+#[test]
+fn a_chunk_line_past_the_raw_limit(rt: HostRuntime) -> Result<(), Mismatch> {
+    refuse_long_chunks(rt.alloc(), (b"1;", 574, b""))
+}
+
+/// The line announces 570 bytes, which are 577 with it and the CR LF behind them, and the input ends.
+#[test]
+fn a_chunk_past_the_raw_limit(rt: HostRuntime) -> Result<(), Mismatch> {
+    refuse_long_chunks(rt.alloc(), (b"23a\r\n", 0, b""))
+}
+
+/// The line announces one byte less, which may still come.
+#[test]
+fn a_chunk_up_to_the_raw_limit(rt: HostRuntime) -> Result<(), Mismatch> {
+    stop_long_chunks(rt.alloc(), (b"239\r\n", 0, b""), End::Cut, &[])
 }

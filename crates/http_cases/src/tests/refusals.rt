@@ -3,10 +3,11 @@
 use http_desk::compare::Mismatch;
 use http_desk::connection::Wanted::Continue;
 use http_desk::refused::{
-    BAD, GET_ALLOWED, NO_LENGTH, NOT_FOUND, OTHER_TYPE, POST_ALLOWED, TOO_LARGE, refuse_all,
-    refuse_behind,
+    BAD, GET_ALLOWED, NO_LENGTH, NOT_FOUND, OTHER_TYPE, POST_ALLOWED, TOO_LARGE, end_behind,
+    refuse_all, refuse_behind,
 };
-use http_desk::requests::POST_WAITING;
+use http_desk::requests::{POST_CHUNKED, POST_WAITING};
+use http_front::End;
 
 const UNREADABLE_HEADS: &[&[u8]] = &[
     b"GET /\x80 HTTP/1.1\r\n\r\n",
@@ -146,7 +147,9 @@ const UNREADABLE_CHUNKS: &[&[u8]] = &[
     b"zz\r\n",
     b"\r\n",
     b"1\r\nab",
+    b"1\r\nax",
     b"1\r\na\n",
+    b"1\r\na\rx",
     b"00000000000000001\r\n",
     b"0\r\na b\r\n\r\n",
 ];
@@ -155,6 +158,13 @@ const UNREADABLE_CHUNKS: &[&[u8]] = &[
 fn chunks_that_cannot_be_read(rt: HostRuntime) -> Result<(), Mismatch> {
     let wanted = [Continue, BAD];
     refuse_behind(rt.alloc(), POST_WAITING, 400, &wanted, UNREADABLE_CHUNKS)
+}
+
+/// One wrong byte refuses them, also where the input ends behind it.
+#[test]
+fn chunks_that_cannot_be_read_at_the_end_of_the_input(rt: HostRuntime) -> Result<(), Mismatch> {
+    let end = End::Refused(400);
+    end_behind(rt.alloc(), POST_CHUNKED, end, &[BAD], UNREADABLE_CHUNKS)
 }
 
 const TOO_LARGE_CHUNKS: &[&[u8]] = &[

@@ -1,8 +1,7 @@
 //! Books that can't do what they are asked.
 
 use crate::tests::server::Step::{Gets, SendsLast, Serves, Stops};
-use crate::tests::server::{Step, take_steps};
-use http_desk::books::DeskBook;
+use crate::tests::server::{Server, Step};
 use http_desk::compare::Mismatch;
 use http_desk::connection::Wanted::Success;
 use http_desk::messages::{FAULT, PRINT_JOB};
@@ -11,18 +10,19 @@ use queue_core::book::{BookFault, QueueBook, SendCause, SendFault};
 use queue_types::document::DocumentHead;
 use queue_types::event::{Decision, Event};
 use queue_types::job::JobList;
-use queue_types::settings::Settings;
 use queue_types::sheet::AccountSheet;
 use std::alloc::Global;
 use std::io::Write;
 
-/// A book that takes nothing, as one whose disk is full. One that is shut can't be read either.
+/// A book that takes nothing, as one whose disk is full.
 #[derive(Drop)]
-struct FaultyBook<const IS_SHUT: bool> {
+struct FaultyBook {
     alloc: Global,
+    /// Why the jobs that wait can't be read, where they can't be.
+    unread: Option<BookFault>,
 }
 
-impl<const IS_SHUT: bool> QueueBook for FaultyBook<IS_SHUT> {
+impl QueueBook for FaultyBook {
     ghost stands = { λ b w. ⊥ };
 
     ghost is_honest = { λ b. ⊥ };
@@ -38,10 +38,9 @@ impl<const IS_SHUT: bool> QueueBook for FaultyBook<IS_SHUT> {
     }
 
     fn pending(&mut self) -> Result<JobList, BookFault> {
-        if IS_SHUT {
-            Err(BookFault::Disk)
-        } else {
-            Ok(JobList::from_items(Vec::new(self.alloc)))
+        match self.unread {
+            Some(fault) => Err(fault),
+            None => Ok(JobList::from_items(Vec::new(self.alloc))),
         }
     }
 
@@ -66,17 +65,18 @@ impl<const IS_SHUT: bool> QueueBook for FaultyBook<IS_SHUT> {
     }
 }
 
-impl<const IS_SHUT: bool> DeskBook for FaultyBook<IS_SHUT> {
-    fn name() -> &'static str {
-        "faults"
-    }
-
-    fn empty(alloc: Global, _settings: Settings) -> Result<Self, Mismatch> {
-        Ok(FaultyBook { alloc })
-    }
+/// Takes steps, one after another, with a server over such a book.
+fn take_steps_over(
+    rt: &HostRuntime,
+    unread: Option<BookFault>,
+    steps: &[Step<'_>],
+) -> Result<(), Mismatch> {
+    let alloc = rt.alloc();
+    let mut server = Server::over(rt, FaultyBook { alloc, unread })?;
+    server.take_each(rt, steps)
 }
 
-/// The server goes on over a book that takes nothing and can be read.
+/// The server goes on over a book that takes nothing.
 const GOES_ON: &[Step<'static>] = &[
     SendsLast(&[POST_JOB, PRINT_JOB]),
     SendsLast(&[POST_JOB, PRINT_JOB]),
@@ -85,19 +85,29 @@ const GOES_ON: &[Step<'static>] = &[
     Gets(1, &[Success(IPP, FAULT)]),
 ];
 
-/// The first client of a book that is shut has its answer; the server stops before the second comes.
-const STOPS: &[Step<'static>] = &[
-    SendsLast(&[POST_JOB, PRINT_JOB]),
-    Stops(2, "served 1\n"),
-    Gets(0, &[Success(IPP, FAULT)]),
-];
-
 #[test]
 fn a_book_that_takes_nothing(rt: HostRuntime) -> Result<(), Mismatch> {
-    take_steps::<FaultyBook<false>>(&rt, GOES_ON)
+    take_steps_over(&rt, None, GOES_ON)
+}
+
+/// It may be read again once there is memory.
+#[test]
+fn a_book_that_has_no_memory(rt: HostRuntime) -> Result<(), Mismatch> {
+    take_steps_over(&rt, Some(BookFault::Memory), GOES_ON)
+}
+
+/// The first client of a book that can't be read has its answer; the server stops before the second comes.
+fn stops(rt: &HostRuntime, fault: BookFault) -> Result<(), Mismatch> {
+    let steps = [
+        SendsLast(&[POST_JOB, PRINT_JOB]),
+        Stops(2, "served 1\n", fault),
+        Gets(0, &[Success(IPP, FAULT)]),
+    ];
+    take_steps_over(rt, Some(fault), &steps)
 }
 
 #[test]
-fn a_book_that_is_shut(rt: HostRuntime) -> Result<(), Mismatch> {
-    take_steps::<FaultyBook<true>>(&rt, STOPS)
+fn a_book_that_cannot_be_read(rt: HostRuntime) -> Result<(), Mismatch> {
+    stops(&rt, BookFault::Disk)?;
+    stops(&rt, BookFault::Damaged)
 }

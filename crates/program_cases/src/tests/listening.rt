@@ -1,7 +1,7 @@
 //! The port that a server listens on, and lines that can't be printed.
 
 use crate::tests::server::Step::{Gets, SendsLast, Serves, ServesUntold};
-use crate::tests::server::{AT, Step, narrow, take_steps};
+use crate::tests::server::{AT, NO_ROOM, Step, narrow, take_steps};
 use http_desk::books::MemoryBook;
 use http_desk::compare::Mismatch;
 use http_desk::connection::Wanted::Success;
@@ -9,6 +9,7 @@ use http_desk::messages::{JOB_1, JOB_2, PRINT_JOB};
 use http_desk::requests::{IPP, POST_JOB};
 use print_server::listen;
 use std::io;
+use std::io::ErrorKind;
 use std::net::{Ipv4Addr, SocketAddr, TcpListener};
 
 /// A port that nobody listens on: one that the system has just given and taken back.
@@ -29,6 +30,15 @@ fn the_line_that_tells_of_a_port(rt: HostRuntime) -> Result<(), Mismatch> {
     AT.is_so(listener.local_addr()? == address, "the address")
 }
 
+/// What was tried has failed so.
+fn has_failed<T: Drop>(
+    came: io::Result<T>,
+    kind: ErrorKind,
+    said: &'static str,
+) -> Result<(), Mismatch> {
+    AT.is_so(matches!(&came, Err(error) if error.kind() == kind), said)
+}
+
 /// A port that is listened on can't be listened on again, and no line is printed.
 #[test]
 fn a_port_that_is_taken(rt: HostRuntime) -> Result<(), Mismatch> {
@@ -36,14 +46,14 @@ fn a_port_that_is_taken(rt: HostRuntime) -> Result<(), Mismatch> {
     let port = listener.local_addr()?.port();
     let mut printed = Vec::new(rt.alloc());
     let came = listen(&rt, &mut printed, port);
-    AT.is_so(came.is_err(), "a port that is taken")?;
+    has_failed(came, ErrorKind::AddrInUse, "a port that is taken")?;
     AT.same_bytes(b"", printed.as_slice())
 }
 
 #[test]
 fn a_port_that_cannot_be_told(rt: HostRuntime) -> Result<(), Mismatch> {
     let came = listen(&rt, &mut narrow(rt.alloc()), 0);
-    AT.is_so(came.is_err(), "a line that can't be written")
+    has_failed(came, NO_ROOM, "a line that can't be written")
 }
 
 /// The first of two connections has been served when its line can't be printed; the second is not taken, and served later.

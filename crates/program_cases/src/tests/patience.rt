@@ -1,12 +1,15 @@
-//! Clients that keep a connection and say nothing. Each costs the server its timeout.
+//! Clients that keep a connection and say nothing, or don't read. Each costs the server its timeout.
 
-use crate::tests::server::Step::{Gets, Sends, SendsLast, Serves};
-use crate::tests::server::{Step, take_steps};
-use http_desk::books::MemoryBook;
+use crate::tests::server::Step::{Gets, GetsFront, Sends, SendsLast, Serves};
+use crate::tests::server::{Server, Step, take_steps};
+use http_desk::books::{DeskBook, MemoryBook};
 use http_desk::compare::Mismatch;
 use http_desk::connection::Wanted::Success;
-use http_desk::messages::{JOB_1, JOB_2, JOB_3, PRINT_JOB};
-use http_desk::requests::{IPP, POST_JOB};
+use http_desk::connection::{Wanted, closed};
+use http_desk::desk::Desk;
+use http_desk::messages::{DONE, JOB_1, JOB_2, JOB_3, PRINT_JOB, PRINT_JOB_BEGUN, RELEASE_JOB};
+use http_desk::requests::{GET_DOCUMENT, IPP, OCTETS, POST_JOB, POST_RELEASE};
+use std::alloc::Global;
 
 /// Another client prints.
 const PRINTS: Step<'static> = SendsLast(&[POST_JOB, PRINT_JOB]);
@@ -66,4 +69,48 @@ const IDLE: &[Step<'static>] = &[
 #[test]
 fn a_client_that_sits_idle(rt: HostRuntime) -> Result<(), Mismatch> {
     take_steps::<MemoryBook>(&rt, IDLE)
+}
+
+/// The head of a POST of the largest message.
+const POST_LARGEST: &[u8] =
+    b"POST /ipp/print HTTP/1.1\r\nContent-Type: application/ipp\r\nContent-Length: 16777216\r\n\r\n";
+
+/// How many bytes the document of the largest Print-Job has: many more than wait on the way to a client that doesn't read.
+const MOST_BYTES: usize = 16_777_216 - PRINT_JOB_BEGUN.len();
+
+/// The answers to a Print-Job and to its Release-Job.
+const RELEASED: &[Wanted<'static>] = &[Success(IPP, JOB_1), Success(IPP, DONE)];
+
+/// A book in which job 1 has this document, as long as it may be, and is released.
+fn released<B: DeskBook>(alloc: Global, document: &[u8]) -> Result<B, Mismatch> {
+    let mut desk = Desk::<B>::granted(alloc)?;
+    let stream = [
+        POST_LARGEST,
+        PRINT_JOB_BEGUN,
+        document,
+        POST_RELEASE,
+        RELEASE_JOB,
+    ];
+    desk.take(&closed(&stream, 2, RELEASED), 65_536)?;
+    Ok(desk.into_book())
+}
+
+/// The device asks for this document and doesn't read it while another client prints.
+fn is_left_unread<B: DeskBook>(rt: &HostRuntime, document: &[u8]) -> Result<(), Mismatch> {
+    let steps = [
+        Sends(&[GET_DOCUMENT]),
+        PRINTS,
+        SERVES_BOTH,
+        Gets(1, &[Success(IPP, JOB_2)]),
+        GetsFront(0, &[Success(OCTETS, document)]),
+    ];
+    let mut server = Server::over(rt, released::<B>(rt.alloc(), document)?)?;
+    server.take_each(rt, &steps)
+}
+
+/// A server that waited for it would wait for ever, and the test would be cut off.
+#[test]
+fn a_client_that_does_not_read(rt: HostRuntime) -> Result<(), Mismatch> {
+    let document = vec![in rt.alloc(); b'0'; MOST_BYTES]?;
+    is_left_unread::<MemoryBook>(&rt, document.as_slice())
 }

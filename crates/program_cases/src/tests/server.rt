@@ -6,11 +6,11 @@ use http_desk::connection::{Wanted, wanted_bytes};
 use http_desk::desk::settings;
 use http_desk::streams::BrokenWriter;
 use print_server::{ServerFault, Service, listen};
-use queue_core::book::BookFault;
+use queue_core::book::{BookFault, QueueBook};
 use queue_types::settings::Settings;
 use std::alloc::{AllocError, Global};
 use std::io;
-use std::io::{Read, Write};
+use std::io::{ErrorKind, Read, Write};
 use std::net::{Shutdown, SocketAddr, TcpListener, TcpStream};
 use std::num::NonZeroU32;
 use std::rt::Clock;
@@ -41,10 +41,12 @@ pub(super) enum Step<'a> {
     Serves(u32, &'a str),
     /// The server serves so many connections, and can't print its lines.
     ServesUntold(u32),
-    /// The server is to serve so many connections, prints these lines, and stops since its book can't be read any more.
-    Stops(u32, &'a str),
+    /// The server is to serve so many connections, prints these lines, and stops since its book can't be read any more, by this fault.
+    Stops(u32, &'a str, BookFault),
     /// The client of this number, of those that stayed, gets this and then the end of its connection. The first is number 0.
     Gets(usize, &'a [Wanted<'a>]),
+    /// Such a client gets a front of this, and then the end of its connection.
+    GetsFront(usize, &'a [Wanted<'a>]),
 }
 
 /// A server that stopped where it was to go on.
@@ -57,7 +59,7 @@ fn mismatch_of(stopped: ServerFault) -> Mismatch {
 
 /// A server over a book, and the clients that stayed.
 #[derive(Drop)]
-pub(super) struct Server<B: DeskBook> {
+pub(super) struct Server<B: QueueBook> {
     alloc: Global,
     listener: TcpListener,
     address: SocketAddr,
@@ -69,10 +71,17 @@ pub(super) struct Server<B: DeskBook> {
 impl<B: DeskBook> Server<B> {
     /// A server on a port that the system chose, with an empty queue.
     pub(super) fn new(rt: &HostRuntime) -> Result<Server<B>, Mismatch> {
+        let book = B::empty(rt.alloc(), settings(rt.alloc())?)?;
+        Server::over(rt, book)
+    }
+}
+
+impl<B: QueueBook + Drop> Server<B> {
+    /// A server on a port that the system chose, with the queue of a book of such a printer.
+    pub(super) fn over(rt: &HostRuntime, book: B) -> Result<Server<B>, Mismatch> {
         let alloc = rt.alloc();
         let listener = listen(rt, &mut io::sink(), 0)?;
         let address = listener.local_addr()?;
-        let book = B::empty(alloc, settings(alloc)?)?;
         let settings = settings(alloc)?;
         Ok(Server {
             alloc,
@@ -145,12 +154,18 @@ impl<B: DeskBook> Server<B> {
         AT.same_bytes(lines.as_bytes(), printed.as_slice())
     }
 
-    /// Is to serve so many connections, prints these lines, and stops since its book can't be read any more.
-    fn stop(&mut self, rt: &HostRuntime, connections: u32, lines: &str) -> Result<(), Mismatch> {
+    /// Is to serve so many connections, prints these lines, and stops since its book can't be read any more, by this fault.
+    fn stop(
+        &mut self,
+        rt: &HostRuntime,
+        connections: u32,
+        lines: &str,
+        fault: BookFault,
+    ) -> Result<(), Mismatch> {
         let mut printed = Vec::new(self.alloc);
         let came = self.serve_into(rt, &mut printed, connections);
         AT.is_so(
-            matches!(came, Err(ServerFault::Book(BookFault::Disk))),
+            matches!(came, Err(ServerFault::Book(stopped)) if stopped == fault),
             "a book that can't be read any more",
         )?;
         AT.same_bytes(lines.as_bytes(), printed.as_slice())
@@ -160,7 +175,10 @@ impl<B: DeskBook> Server<B> {
     fn serve_untold(&mut self, rt: &HostRuntime, connections: u32) -> Result<(), Mismatch> {
         let mut printed = narrow(self.alloc);
         let came = self.serve_into(rt, &mut printed, connections);
-        AT.is_so(came.is_err(), "a line that can't be written")
+        AT.is_so(
+            matches!(&came, Err(ServerFault::Io(error)) if error.kind() == NO_ROOM),
+            "a line that can't be written",
+        )
     }
 
     /// The client of this number gets this, and then the end of its connection.
@@ -170,6 +188,15 @@ impl<B: DeskBook> Server<B> {
         };
         let mut reader = stream;
         reads(self.alloc, &mut reader, wanted)
+    }
+
+    /// The client of this number gets a front of this, and then the end of its connection.
+    fn breaks_off(&self, client: usize, wanted: &[Wanted<'_>]) -> Result<(), Mismatch> {
+        let Some(stream) = self.clients.get(client) else {
+            return AT.is_so(false, "a client of this number");
+        };
+        let mut reader = stream;
+        reads_front(self.alloc, &mut reader, wanted)
     }
 
     /// Takes a step.
@@ -183,8 +210,9 @@ impl<B: DeskBook> Server<B> {
             }
             Step::Serves(connections, lines) => self.serve(rt, *connections, lines),
             Step::ServesUntold(connections) => self.serve_untold(rt, *connections),
-            Step::Stops(connections, lines) => self.stop(rt, *connections, lines),
+            Step::Stops(connections, lines, fault) => self.stop(rt, *connections, lines, *fault),
             Step::Gets(client, wanted) => self.answers(*client, wanted),
+            Step::GetsFront(client, wanted) => self.breaks_off(*client, wanted),
         }
     }
 
@@ -229,6 +257,25 @@ pub(super) fn reads<R: Read>(
     reader.read_to_end(&mut came)?;
     AT.same_bytes(wanted.as_slice(), came.as_slice())
 }
+
+/// A client gets a front of this, and then the end of its connection.
+fn reads_front<R: Read>(
+    alloc: Global,
+    reader: &mut R,
+    wanted: &[Wanted<'_>],
+) -> Result<(), Mismatch> {
+    let wanted = wanted_bytes(alloc, wanted)?;
+    let mut came = Vec::new(alloc);
+    reader.read_to_end(&mut came)?;
+    AT.is_so(came.len() < wanted.len(), "an answer that isn't whole")?;
+    AT.is_so(
+        wanted.as_slice().starts_with(came.as_slice()),
+        "a front of the answer",
+    )
+}
+
+/// How a writer fails that has no more room.
+pub(super) const NO_ROOM: ErrorKind = ErrorKind::Other;
 
 /// A writer in which no line has room: it takes five bytes.
 pub(super) fn narrow(alloc: Global) -> BrokenWriter {

@@ -2,7 +2,7 @@
 
 use crate::tests::folder::Asked::{Import, Init, Statement};
 use crate::tests::folder::Step::{Asks, Keeps};
-use crate::tests::folder::{At, DISK, FILE, Folder, MADE, STORE, Step, URI, WITH_AN_ACCOUNT};
+use crate::tests::folder::{At, DISK, DONE, FILE, Folder, MADE, STORE, Step, URI, WITH_AN_ACCOUNT};
 use crate::tests::listening::free_port;
 use crate::tests::server::{AT, reads};
 use http_desk::compare::Mismatch;
@@ -23,17 +23,31 @@ const CLIENT_SECONDS: u64 = 10;
 /// The tag of the end of an IPP message's attributes (RFC 8010, section 3.5.1).
 const END_OF_ATTRIBUTES: u8 = 3;
 
-/// An output that has one client: as it is first flushed, steps are taken in the folder of the test, and the client comes and sends what it has. One that
-/// has something tells that it sends no more, and one that has nothing is silent.
+/// An output that has clients: as it is first flushed, steps are taken in the folder of the test, and the clients come one after another, each with what it
+/// sends.
 #[derive(Drop)]
 struct Greeter<'a> {
     rt: &'a HostRuntime,
     folder: &'a Folder<'a>,
     steps: &'a [Step<'a>],
-    sends: &'a [&'a [u8]],
+    sends: &'a [&'a [&'a [u8]]],
     port: u16,
     printed: Vec<u8>,
-    client: Option<TcpStream>,
+    clients: Vec<TcpStream>,
+}
+
+/// A client comes to a port and sends these parts. One that has something tells that it sends no more, and one that has nothing is silent.
+fn client_at(rt: &HostRuntime, port: u16, parts: &[&[u8]]) -> io::Result<TcpStream> {
+    let address = SocketAddr::from((Ipv4Addr::LOCALHOST, port));
+    let mut client = TcpStream::connect(rt, address)?;
+    client.set_read_timeout(Some(Duration::from_secs(CLIENT_SECONDS)))?;
+    for part in parts {
+        client.write_all(part)?;
+    }
+    if !parts.is_empty() {
+        client.shutdown(Shutdown::Write)?;
+    }
+    Ok(client)
 }
 
 impl Write for Greeter<'_> {
@@ -45,45 +59,46 @@ impl Write for Greeter<'_> {
     }
 
     fn flush(&mut self) -> io::Result<()> {
-        if self.client.is_some() {
+        if !self.clients.is_empty() {
             return Ok(());
         }
         if self.folder.take_each(self.steps).is_err() {
             return Err(io::Error::other("a step"));
         }
-        let address = SocketAddr::from((Ipv4Addr::LOCALHOST, self.port));
-        let mut client = TcpStream::connect(self.rt, address)?;
-        client.set_read_timeout(Some(Duration::from_secs(CLIENT_SECONDS)))?;
-        for part in self.sends {
-            client.write_all(part)?;
-        }
-        if !self.sends.is_empty() {
-            client.shutdown(Shutdown::Write)?;
-        }
-        self.client = Some(client);
-        Ok(())
+        self.greet()
     }
 }
 
 impl Greeter<'_> {
+    /// Its clients come.
+    fn greet(&mut self) -> io::Result<()> {
+        for parts in self.sends {
+            let client = client_at(self.rt, self.port, parts)?;
+            if self.clients.push(client).is_err() {
+                return Err(io::Error::other("memory"));
+            }
+        }
+        Ok(())
+    }
+
     /// It has got these lines.
     fn has_lines(&self, lines: &str) -> Result<(), Mismatch> {
         AT.same_bytes(lines.as_bytes(), self.printed.as_slice())
     }
 
-    /// Its client has got this and then the end of its connection.
-    fn gets(&self, wanted: &[Wanted<'_>]) -> Result<(), Mismatch> {
-        let Some(client) = &self.client else {
-            return AT.is_so(false, "a client");
+    /// The client of this number, from 0, has got this and then the end of its connection.
+    fn gets(&self, client: usize, wanted: &[Wanted<'_>]) -> Result<(), Mismatch> {
+        let Some(client) = self.clients.get(client) else {
+            return AT.is_so(false, "a client of this number");
         };
         let mut reader = client;
         reads(self.rt.alloc(), &mut reader, wanted)
     }
 
-    /// The integer that its client has got, the last attribute of a reply, and then the end of its connection.
+    /// The integer that its first client has got, the last attribute of a reply, and then the end of its connection.
     fn gets_integer(&self) -> Result<u32, Mismatch> {
         let mut came = Vec::new(self.rt.alloc());
-        if let Some(client) = &self.client {
+        if let Some(client) = self.clients.first() {
             let mut reader = client;
             reader.read_to_end(&mut came)?;
         }
@@ -97,15 +112,16 @@ impl Greeter<'_> {
     }
 }
 
-/// A server of one connection over a store, which waits a second for it, prints to a writer, and leaves this status and this line on standard error.
+/// A server of so many connections over a store, which waits a second for each, prints to a writer, and leaves this status and this line on standard error.
 fn runs<O: Write>(
     folder: &Folder<'_>,
     store: At<'_>,
-    port: u16,
+    (port, connections): (u16, usize),
     out: &mut O,
     wanted: (u8, &str),
 ) -> Result<(), Mismatch> {
-    let number = format!(in folder.alloc(); "{port}")?;
+    let port = format!(in folder.alloc(); "{port}")?;
+    let connections = format!(in folder.alloc(); "{connections}")?;
     let store = folder.path(store)?;
     let words = [
         "printd",
@@ -113,23 +129,24 @@ fn runs<O: Write>(
         "--store",
         store.as_str(),
         "--port",
-        number.as_str(),
+        port.as_str(),
         "--connections",
-        "1",
+        connections.as_str(),
         "--timeout",
         "1",
     ];
     folder.tell_to(&words, out, wanted)
 }
 
-/// Such a server ends well. As it listens these steps are taken, and then its client comes, sends this, and so many requests act.
+/// Such a server ends well. As it listens these steps are taken, and then its clients come, one for each connection, each sends its own, and the server prints
+/// these lines of them.
 fn served<'a>(
     rt: &'a HostRuntime,
     folder: &'a Folder<'a>,
     store: At<'_>,
     steps: &'a [Step<'a>],
-    sends: &'a [&'a [u8]],
-    acted: u32,
+    sends: &'a [&'a [&'a [u8]]],
+    counts: &str,
 ) -> Result<Greeter<'a>, Mismatch> {
     let port = free_port(rt)?;
     let mut out = Greeter {
@@ -139,13 +156,16 @@ fn served<'a>(
         sends,
         port,
         printed: Vec::new(rt.alloc()),
-        client: None,
+        clients: Vec::new(rt.alloc()),
     };
-    runs(folder, store, port, &mut out, (0, ""))?;
-    let lines = format!(in rt.alloc(); "listening 127.0.0.1:{port}\nserved {acted}\n")?;
+    runs(folder, store, (port, sends.len()), &mut out, (0, ""))?;
+    let lines = format!(in rt.alloc(); "listening 127.0.0.1:{port}\n{counts}")?;
     out.has_lines(lines.as_str())?;
     Ok(out)
 }
+
+/// A client prints.
+const PRINTS: &[&[&[u8]]] = &[&[POST_JOB, PRINT_JOB]];
 
 /// A client of such a server gets the reply to its Print-Job.
 fn serves(
@@ -155,8 +175,8 @@ fn serves(
     steps: &[Step<'_>],
     reply: &'static [u8],
 ) -> Result<(), Mismatch> {
-    let out = served(rt, folder, store, steps, &[POST_JOB, PRINT_JOB], 1)?;
-    out.gets(&[Success(IPP, reply)])
+    let out = served(rt, folder, store, steps, PRINTS, "served 1\n")?;
+    out.gets(0, &[Success(IPP, reply)])
 }
 
 /// Such a server can't begin: it prints nothing, and leaves this line on standard error.
@@ -167,7 +187,7 @@ fn refuses(
     wanted: &'static str,
 ) -> Result<(), Mismatch> {
     let mut out = Vec::new(folder.alloc());
-    runs(folder, store, port, &mut out, (1, wanted))?;
+    runs(folder, store, (port, 1), &mut out, (1, wanted))?;
     AT.same_bytes(b"", out.as_slice())
 }
 
@@ -241,10 +261,13 @@ fn a_port_that_another_has(rt: HostRuntime) -> Result<(), Fail> {
     Ok(())
 }
 
+/// A client asks for the printer's up time.
+const ASKS_UP_TIME: &[&[&[u8]]] = &[&[POST_UP_TIME, GET_UP_TIME]];
+
 /// A printer is up from the second at which its store is made, the first of its moments.
 fn is_just_up(rt: &HostRuntime, folder: &Folder<'_>) -> Result<(), Fail> {
     folder.take_each(&[MADE])?;
-    let out = served(rt, folder, STORE, &[], &[POST_UP_TIME, GET_UP_TIME], 1)?;
+    let out = served(rt, folder, STORE, &[], ASKS_UP_TIME, "served 1\n")?;
     let seconds = out.gets_integer()?;
     AT.is_so(seconds >= 1 && seconds <= 60, "the seconds since then")?;
     Ok(())
@@ -262,9 +285,9 @@ fn a_store_that_was_just_made(rt: HostRuntime) -> Result<(), Fail> {
 fn is_given_up(rt: &HostRuntime, folder: &Folder<'_>) -> Result<(), Fail> {
     folder.take_each(&[MADE])?;
     let began = rt.monotonic()?;
-    let out = served(rt, folder, STORE, &[], &[], 0)?;
+    let out = served(rt, folder, STORE, &[], &[&[]], "served 0\n")?;
     let ended = rt.monotonic()?;
-    out.gets(&[])?;
+    out.gets(0, &[])?;
     let waited = ended.saturating_sub(began);
     AT.is_so(
         waited >= Duration::from_secs(1) && waited < Duration::from_secs(5),
@@ -277,6 +300,60 @@ fn is_given_up(rt: &HostRuntime, folder: &Folder<'_>) -> Result<(), Fail> {
 fn a_silent_client_of_the_program(rt: HostRuntime) -> Result<(), Fail> {
     let folder = Folder::new(&rt, "silent")?;
     is_given_up(&rt, &folder)?;
+    folder.remove()?;
+    Ok(())
+}
+
+/// Get-Printer-Attributes of `printer-name`: 150 bytes, behind its head.
+const POST_NAME: &[u8] =
+    b"POST /ipp/print HTTP/1.1\r\nContent-Type: application/ipp\r\nContent-Length: 150\r\n\r\n\x01\x01\x00\x0b\x00\x00\x00\x01\x01G\x00\x12attributes-charset\x00\x05utf-8H\x00\x1battributes-natural-language\x00\x02enE\x00\x0bprinter-uri\x00\x19ipp://localhost/ipp/printD\x00\x14requested-attributes\x00\x0cprinter-name\x03";
+
+/// The reply of a printer that is named `other`.
+const NAMED_OTHER: &[u8] =
+    b"\x01\x01\x00\x00\x00\x00\x00\x01\x01G\x00\x12attributes-charset\x00\x05utf-8H\x00\x1battributes-natural-language\x00\x02en\x04B\x00\x0cprinter-name\x00\x05other\x03";
+
+/// Get-Job-Attributes of `job-impressions` of job 1 by alice: 198 bytes, behind its head.
+const POST_IMPRESSIONS: &[u8] =
+    b"POST /ipp/print HTTP/1.1\r\nContent-Type: application/ipp\r\nContent-Length: 198\r\n\r\n\x01\x01\x00\x09\x00\x00\x00\x01\x01G\x00\x12attributes-charset\x00\x05utf-8H\x00\x1battributes-natural-language\x00\x02enE\x00\x0bprinter-uri\x00\x19ipp://localhost/ipp/print!\x00\x06job-id\x00\x04\x00\x00\x00\x01B\x00\x14requesting-user-name\x00\x05aliceD\x00\x14requested-attributes\x00\x0fjob-impressions\x03";
+
+/// The reply of a job of 7 impressions.
+const OF_7_PAGES: &[u8] =
+    b"\x01\x01\x00\x00\x00\x00\x00\x01\x01G\x00\x12attributes-charset\x00\x05utf-8H\x00\x1battributes-natural-language\x00\x02en\x02!\x00\x0fjob-impressions\x00\x04\x00\x00\x00\x07\x03";
+
+/// A client asks for the printer's name, and another prints a job that does not say its impressions and asks for them.
+const ASK_THE_SETTINGS: &[&[&[u8]]] = &[&[POST_NAME], &[POST_JOB, PRINT_JOB, POST_IMPRESSIONS]];
+
+/// A store is made of a printer that is named `other` and takes 7 pages for a job that does not say them.
+fn init_other(folder: &Folder<'_>) -> Result<(), Mismatch> {
+    let store = folder.path(STORE)?;
+    let words = [
+        "printd",
+        "init",
+        "--store",
+        store.as_str(),
+        "--uri",
+        URI,
+        "--name",
+        "other",
+        "--estimate",
+        "7",
+    ];
+    folder.tell(&words, DONE)
+}
+
+/// Both clients of its server are told so.
+fn are_told(rt: &HostRuntime, folder: &Folder<'_>) -> Result<(), Mismatch> {
+    let counts = "served 1\nserved 2\n";
+    let out = served(rt, folder, STORE, &[], ASK_THE_SETTINGS, counts)?;
+    out.gets(0, &[Success(IPP, NAMED_OTHER)])?;
+    out.gets(1, &[Success(IPP, JOB_1), Success(IPP, OF_7_PAGES)])
+}
+
+#[test]
+fn settings_and_connections_of_the_words(rt: HostRuntime) -> Result<(), Fail> {
+    let folder = Folder::new(&rt, "words")?;
+    init_other(&folder)?;
+    are_told(&rt, &folder)?;
     folder.remove()?;
     Ok(())
 }

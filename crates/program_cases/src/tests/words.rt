@@ -1,17 +1,124 @@
 //! Words that name a command, and words that name none.
 
-use command_words::{Command, CommandFault, command};
+use command_words::{Command, CommandFault, Import, Init, Serve, Statement, command};
 use commands::run;
+use std::alloc::Global;
+use std::num::NonZeroU32;
+use std::process::Abort;
 use std::str::from_utf8;
+
+/// Words, and the command that they name. A printer's estimate is 20 where they leave it out.
+const COMMANDS: [(&[&str], Command<'static>); 5] = [
+    (
+        &[
+            "printd",
+            "init",
+            "--store",
+            "a",
+            "--uri",
+            "b",
+            "--name",
+            "c",
+            "--estimate",
+            "7",
+        ],
+        Command::Init(Init {
+            store: "a",
+            uri: "b",
+            name: "c",
+            estimate: 7,
+        }),
+    ),
+    (
+        &[
+            "printd", "init", "--store", "a", "--uri", "b", "--name", "c",
+        ],
+        Command::Init(Init {
+            store: "a",
+            uri: "b",
+            name: "c",
+            estimate: 20,
+        }),
+    ),
+    (
+        &["printd", "import", "--store", "a", "b"],
+        Command::Import(Import {
+            store: "a",
+            file: "b",
+        }),
+    ),
+    (
+        &["printd", "statement", "--store", "a", "b"],
+        Command::Statement(Statement {
+            store: "a",
+            account: "b",
+        }),
+    ),
+    (&["printd", "replay"], Command::Replay),
+];
+
+/// These words name this command.
+fn assert_named<'a>(rt: &impl Abort, alloc: Global, words: &[&'a str], wanted: Command<'a>) {
+    match command(alloc, &*words) {
+        Ok(came) => assert_eq!(rt; came, wanted, "{words:?}"),
+        Err(_) => panic!(rt; "no command: {words:?}"),
+    }
+}
 
 #[test]
 fn words_and_commands(rt: HostRuntime) {
-    assert!(rt;
-        matches!(
-            &command(rt.alloc(), &["printd", "replay"]),
-            Ok(Command::Replay)
-        )
-    );
+    for (words, wanted) in COMMANDS {
+        assert_named(&rt, rt.alloc(), words, wanted);
+    }
+}
+
+/// Words of `serve`, and the seconds of its timeout: 5 where they leave it out.
+const SERVES: &[(&[&str], u32)] = &[
+    (
+        &[
+            "printd",
+            "serve",
+            "--store",
+            "a",
+            "--port",
+            "8631",
+            "--connections",
+            "4294967295",
+            "--timeout",
+            "60",
+        ],
+        60,
+    ),
+    (
+        &[
+            "printd",
+            "serve",
+            "--store",
+            "a",
+            "--port",
+            "8631",
+            "--connections",
+            "4294967295",
+        ],
+        5,
+    ),
+];
+
+#[test]
+fn words_that_serve(rt: HostRuntime) {
+    for (words, seconds) in SERVES {
+        let wanted = Command::Serve(Serve {
+            store: "a",
+            port: 8631,
+            connections: 4_294_967_295,
+            timeout: NonZeroU32::new(*seconds).expect(&rt, "no seconds"),
+        });
+        assert_named(&rt, rt.alloc(), *words, wanted);
+    }
+}
+
+#[test]
+fn words_that_name_none(rt: HostRuntime) {
     for (words, status) in [
         (&["printd"] as &[&str], 2),
         (&["printd", "print"], 2),
@@ -46,7 +153,7 @@ error: invalid value '0' for '--port <P>': 0 is not in 1..=65535
 For more information, try '--help'.
 ";
 
-/// A help text is printed on standard output, and what is wrong with words on standard error.
+/// A help text is printed on standard output, and what is wrong with words on standard error. The exit status is 0 and 2.
 #[test]
 fn texts_of_words(rt: HostRuntime) {
     let help = ["printd", "serve", "--help"];
@@ -60,13 +167,17 @@ fn texts_of_words(rt: HostRuntime) {
         "--connections",
         "1",
     ];
-    for (words, wanted_out, wanted_err) in [
-        (help.as_slice(), SERVE_HELP, ""),
-        (wrong.as_slice(), "", NO_PORT),
+    for (words, wanted_status, wanted_out, wanted_err) in [
+        (help.as_slice(), 0, SERVE_HELP, ""),
+        (wrong.as_slice(), 2, "", NO_PORT),
     ] {
         let mut out = Vec::new(rt.alloc());
         let mut err = Vec::new(rt.alloc());
-        let _status = run(&rt, words, &mut out, &mut err);
+        assert_eq!(rt;
+            run(&rt, words, &mut out, &mut err),
+            wanted_status,
+            "{words:?}"
+        );
         assert_eq!(rt; from_utf8(out.as_slice()), Ok(wanted_out), "{words:?}");
         assert_eq!(rt; from_utf8(err.as_slice()), Ok(wanted_err), "{words:?}");
     }
