@@ -1,5 +1,6 @@
-"""The jobs of a printer, and what it answers (docs/queue.md and "Replies" in docs/protocol.md)."""
-from dataclasses import replace
+"""The jobs and the accounts of a printer, and what it answers (docs/queue.md, docs/device.md, docs/accounts.md and "Replies" in
+docs/protocol.md)."""
+from dataclasses import dataclass, replace
 
 import ipp
 from ipp import (
@@ -22,6 +23,8 @@ from ipp import (
     unsupported,
 )
 from second.checks import OPERATIONS, Refused, asked, name_of, signed
+from second.device import KINDS, RefusedReport, is_taken, read_report
+from second.grants import RefusedFile, new_rows, read_row, records
 
 MOST_LIVE_JOBS = 100
 MOST_DOCUMENTS = 16
@@ -29,18 +32,58 @@ ESTIMATE = 20
 
 HELD = "job-hold-until-specified"
 INCOMING = "job-incoming"
+STOPPING = "processing-to-stop-point"
+BY_USER = "job-canceled-by-user"
+AT_DEVICE = "job-canceled-at-device"
+ABORTED = "aborted-by-system"
+COMPLETED = "job-completed-successfully"
+
+WAITING, RUNNING = (3, 4), (5, 6)
 
 
-def printer_rows(now, queued):
+@dataclass(frozen=True)
+class KeptJob(Job):
+    """A job, with the marks that replies tell by its state and reasons alone."""
+
+    takes_documents: bool = False
+    is_stopping: bool = False
+
+    def is_live(self):
+        return self.ended is None
+
+    def told(self):
+        """The job with the state and the reasons that its marks make, as long as it is live."""
+        if not self.is_live():
+            return self
+        if self.state in RUNNING:
+            reasons = ["job-printing" if self.state == 5 else "printer-stopped"] + [STOPPING] * self.is_stopping
+            return replace(self, reasons=tuple(reasons))
+        reasons = [INCOMING] * self.takes_documents + [HELD] * self.is_held
+        return replace(self, state=4 if reasons else 3, reasons=tuple(reasons or ["none"]))
+
+    def ended_at(self, now, state, reason):
+        return replace(self, state=state, reasons=(reason,), ended=now, is_held=False, takes_documents=False)
+
+    def estimate(self):
+        return self.impressions * self.copies
+
+    def pages(self):
+        """The pages that are reserved for it or printed."""
+        reserved = max(self.estimate() - self.completed, 0) if self.is_live() and not self.is_held else 0
+        return reserved + self.completed
+
+
+def printer_rows(now, jobs):
     """All attributes of the printer by their names, in the order of the table."""
     formats = ["application/octet-stream", "application/pdf", "application/postscript"]
     formats += ["image/jpeg", "image/pwg-raster", "image/urf", "text/plain"]
+    states = [job.state for job in jobs]
     rows = [
         (ipp.URI, "printer-uri-supported", ipp.PRINTER),
         (ipp.KEYWORD, "uri-authentication-supported", "requesting-user-name"),
         (ipp.KEYWORD, "uri-security-supported", "none"),
         (ipp.NAME, "printer-name", "release"),
-        (ipp.ENUM, "printer-state", 3),
+        (ipp.ENUM, "printer-state", 4 if 5 in states else 5 if 6 in states else 3),
         (ipp.KEYWORD, "printer-state-reasons", "none"),
         (ipp.KEYWORD, "ipp-versions-supported", "1.1", "2.0"),
         (ipp.ENUM, "operations-supported", *sorted(OPERATIONS)),
@@ -51,7 +94,7 @@ def printer_rows(now, queued):
         (ipp.MEDIA_TYPE, "document-format-default", "application/octet-stream"),
         (ipp.MEDIA_TYPE, "document-format-supported", *formats),
         (ipp.BOOLEAN, "printer-is-accepting-jobs", True),
-        (ipp.INTEGER, "queued-job-count", queued),
+        (ipp.INTEGER, "queued-job-count", len(states)),
         (ipp.KEYWORD, "pdl-override-supported", "not-attempted"),
         (ipp.INTEGER, "printer-up-time", now),
         (ipp.KEYWORD, "compression-supported", "none"),
@@ -68,20 +111,32 @@ def selected(rows, names, groups):
 
 
 class Queue:
-    """The jobs of a printer in the order of their numbers, and which of them take documents."""
+    """The jobs of a printer in the order of their numbers, the accounts of their owners, and the reports that were accepted."""
 
     def __init__(self):
         self.jobs = {}
-        self.incoming = set()
+        self.granted = {}
+        self.free = {}
+        self.reports = {}
 
     def live(self, caller=None):
-        return [job for job in self.jobs.values() if job.ended is None and caller in (None, job.owner)]
+        return [job for job in self.jobs.values() if job.is_live() and caller in (None, job.owner)]
 
     def own(self, caller, number):
         job = self.jobs.get(number)
         if job is None or job.owner != caller:
             raise Refused(0x0406)
         return job
+
+    def keep(self, job):
+        """Keeps a job as it is now. What it had reserved and printed, less what it has now, goes back to its owner's account."""
+        before, job = self.jobs.get(job.number), job.told()
+        if before is not None and job.owner in self.free:
+            self.free[job.owner] += before.pages() - job.pages()
+        self.jobs[job.number] = job
+        return job
+
+    # ---- requests
 
     def answer(self, octets, now):
         """The reply to a request by its bytes, and none under 8 of them."""
@@ -111,7 +166,7 @@ class Queue:
         if operation == GET_JOBS:
             return self.list_jobs(request, now)
         if operation == GET_PRINTER_ATTRIBUTES:
-            rows = printer_rows(now, len(self.live()))
+            rows = printer_rows(now, self.live())
             groups = {b"all": rows, b"printer-description": rows}
             return [PRINTER_GROUP + selected(rows, [b"all"] if request.names is None else request.names, groups)]
         job = self.own(request.caller, request.job)
@@ -119,12 +174,13 @@ class Queue:
             return [job_group(job, now, request.names, [b"all"])]
         if operation == SEND_DOCUMENT:
             return self.send_document(request, job)
-        # no account has pages, so no job is released
-        if job.ended is not None or operation == RELEASE_JOB:
-            raise Refused(0x0404)
         if operation == CANCEL_JOB:
             self.cancel(job, now)
-        assert operation in (CANCEL_JOB, HOLD_JOB)
+        elif operation == HOLD_JOB:
+            self.hold(job)
+        else:
+            assert operation == RELEASE_JOB
+            self.release(job)
         return []
 
     def new_job(self, request, now):
@@ -135,7 +191,7 @@ class Queue:
         names = [request.values.get(name) for name in (b"job-name", b"document-name")]
         names = [name_of(*name) for name in names if name] + [b"untitled"]
         impressions = request.values.get(b"job-impressions", (None, request.job_values.get(b"job-impressions")))[1]
-        job = Job(
+        job = KeptJob(
             number=len(self.jobs) + 1,
             name=next(name for name in names if name),
             owner=request.caller,
@@ -144,49 +200,113 @@ class Queue:
             copies=signed(request.job_values.get(b"copies", b"\x00\x00\x00\x01")),
             octets=0,
             documents=0,
+            takes_documents=request.operation == CREATE_JOB,
         )
-        if request.operation == CREATE_JOB:
-            self.incoming.add(job.number)
-        else:
+        if request.operation == PRINT_JOB:
             job = with_document(job, request.payload)
         return [self.keep(job).new_group()]
 
-    def keep(self, job):
-        """Keeps a job that waits, with its reasons."""
-        job = replace(job, reasons=(INCOMING, HELD) if job.number in self.incoming else (HELD,))
-        self.jobs[job.number] = job
-        return job
-
     def send_document(self, request, job):
-        if job.number not in self.incoming or (request.payload and job.documents == MOST_DOCUMENTS):
+        if not job.takes_documents or (request.payload and job.documents == MOST_DOCUMENTS):
             raise Refused(0x0404)
-        if request.values[b"last-document"][1] == b"\x01":
-            self.incoming.remove(job.number)
-        return [self.keep(with_document(job, request.payload)).new_group()]
+        is_last = request.values[b"last-document"][1] == b"\x01"
+        job = replace(with_document(job, request.payload), takes_documents=not is_last)
+        return [self.keep(job).new_group()]
+
+    def hold(self, job):
+        if job.state not in WAITING:
+            raise Refused(0x0404)
+        self.keep(replace(job, is_held=True))
+
+    def release(self, job):
+        if not job.is_live():
+            raise Refused(0x0404)
+        if not job.is_held:
+            return
+        if job.owner not in self.free or self.free[job.owner] < job.estimate():
+            raise Refused(0x0404)
+        self.keep(replace(job, is_held=False))
 
     def cancel(self, job, now):
-        self.incoming.discard(job.number)
-        self.jobs[job.number] = replace(job, state=7, reasons=("job-canceled-by-user",), is_held=False, ended=now)
+        if not can_be_canceled(job):
+            raise Refused(0x0404)
+        if job.state in RUNNING:
+            self.keep(replace(job, is_stopping=True))
+        else:
+            self.keep(job.ended_at(now, 7, BY_USER))
 
     def cancel_jobs(self, request, now):
         if request.jobs is None:
-            jobs = self.live(request.caller)
+            jobs = [job for job in self.live(request.caller) if can_be_canceled(job)]
         else:
-            jobs = [self.own(request.caller, number) for number in request.jobs]
-        if any(job.ended is not None for job in jobs):
+            jobs = [self.own(request.caller, number) for number in dict.fromkeys(request.jobs)]
+        if not all(can_be_canceled(job) for job in jobs):
             raise Refused(0x0404)
         for job in jobs:
             self.cancel(job, now)
         return []
 
     def list_jobs(self, request, now):
-        jobs = self.live(request.caller)
         if request.values.get(b"which-jobs", (None, b""))[1] == b"completed":
-            jobs = [job for job in self.jobs.values() if job.owner == request.caller and job.ended is not None]
+            jobs = [job for job in self.jobs.values() if job.owner == request.caller and not job.is_live()]
             jobs.sort(key=lambda job: (-job.ended, -job.number))
+        else:
+            # those that the device has, those that it may start, those that wait
+            ranks = {5: 0, 6: 0, 3: 1, 4: 2}
+            jobs = sorted(self.live(request.caller), key=lambda job: (ranks[job.state], job.number))
         if b"limit" in request.values:
             jobs = jobs[: signed(request.values[b"limit"][1])]
         return [job_group(job, now, request.names, [b"job-uri", b"job-id"]) for job in jobs]
+
+    # ---- the device and the office
+
+    def report(self, text, now):
+        """The answer to a line of the device, both without their line feeds."""
+        try:
+            report = read_report(text)
+            job = self.jobs.get(report.job)
+            if job is None:
+                raise RefusedReport(b"refused 2 no-job")
+            key = report.job, report.sequence
+            if key not in self.reports:
+                if not is_taken(report, job):
+                    raise RefusedReport(b"refused 3 state")
+                job = self.keep(reported(job, report, now))
+                self.reports[key] = report, b"ok %d %d %d" % (job.number, job.state, job.completed)
+            accepted, answer = self.reports[key]
+            if accepted != report:
+                raise RefusedReport(b"refused 5 conflict")
+            return answer
+        except RefusedReport as refusal:
+            return refusal.args[0]
+
+    def grant(self, text):
+        """What comes of an account file with these rows under its header."""
+        try:
+            rows = [read_row(fields) for fields in records(text)]
+            new = new_rows(rows, self.granted)
+        except RefusedFile as refusal:
+            return b"refused %d" % refusal.args[0]
+        for (_, account), pages in new.items():
+            self.free[account] = self.free.get(account, 0) + pages
+        self.granted.update(new)
+        return b"new %d repeats %d" % (len(new), len(rows) - len(new))
+
+
+def can_be_canceled(job):
+    return job.is_live() and not job.is_stopping
+
+
+def reported(job, report, now):
+    """What a report that is taken makes of its job."""
+    job = replace(job, completed=max(job.completed, report.count))
+    state = KINDS[report.kind][1]
+    if state in RUNNING:
+        return replace(job, state=state, begun=now if report.kind == b"start" else job.begun)
+    if state is None:
+        return job
+    reasons = {7: BY_USER if job.is_stopping else AT_DEVICE, 8: ABORTED, 9: COMPLETED}
+    return job.ended_at(now, state, reasons[state])
 
 
 def with_document(job, payload):

@@ -1,4 +1,6 @@
 """What an example is made of."""
+import re
+
 from ipp import INTEGER, KEYWORD, PRINT_JOB, Job, Message, NAME, octets, record, reply, request
 
 CASES = []
@@ -6,11 +8,15 @@ CASES = []
 # the first exchange of an example has this request-id, and each further one the next
 FIRST_REQUEST_ID = 0x0A0B0C0D
 
+# the answers that a server gives for want of memory, which no example wants
+FAULT = re.compile(rb"^(ipp .{4}0505|refused 6|grant refused 6)", re.MULTILINE)
+
 
 def replay(name, text, wanted, status=0):
     """An example by its lines: the text that comes in, the text that answers it and the exit status."""
     assert name not in (case[0] for case in CASES), name
     assert not set("#=\n") & set(name) and not set(b"#=") & set(text), name
+    assert FAULT.search(wanted) is None, name
     CASES.append((name, text, wanted, status))
 
 

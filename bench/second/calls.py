@@ -1,0 +1,162 @@
+"""Calls of several callers, the device and the office on one queue, drawn by a fixed rule. Most of them are such as are taken."""
+from ipp import (
+    BOOLEAN,
+    CANCEL_JOB,
+    CANCEL_MY_JOBS,
+    CREATE_JOB,
+    GET_JOB_ATTRIBUTES,
+    GET_JOBS,
+    GET_PRINTER_ATTRIBUTES,
+    HOLD_JOB,
+    INTEGER,
+    KEYWORD,
+    NAME,
+    PRINT_JOB,
+    PRINTER,
+    RELEASE_JOB,
+    SEND_DOCUMENT,
+    URI,
+    VALIDATE_JOB,
+    attribute,
+    job_request,
+    octets,
+    record,
+    request,
+)
+
+# the last of them has no account
+CALLERS = ["alice", "bob", "Jürg", "dora"]
+ACCOUNTS = CALLERS[:-1]
+
+# by the state of a job: the kinds of reports that are taken
+TAKEN = {3: ["start"], 5: ["stop", "stop", "count", "count", "done", "fail", "halt"], 6: 3 * ["resume"] + ["count", "fail", "halt"]}
+KINDS = ["start", "stop", "resume", "count", "done", "fail", "halt"]
+
+
+class Draws:
+    """Numbers drawn by a linear congruential generator, whose multiplier and increment are those of Knuth's MMIX."""
+
+    def __init__(self, state):
+        self.state = state
+
+    def below(self, count):
+        self.state = (6364136223846793005 * self.state + 1442695040888963407) % 2**64
+        return (self.state >> 33) % count
+
+    def choice(self, choices):
+        return choices[self.below(len(choices))]
+
+    def chance(self, percent):
+        return self.below(100) < percent
+
+
+class Calls:
+    """Draws calls on a queue as it is just then."""
+
+    def __init__(self, draws, queue):
+        self.draws = draws
+        self.queue = queue
+
+    def call(self):
+        """A request, or a line of the device or the office as a replay has it."""
+        calls = 5 * [self.new_job] + 7 * [self.on_job] + [self.cancel_jobs] + 2 * [self.look] + 8 * [self.device] + 2 * [self.office]
+        return self.draws.choice(calls)()
+
+    def a_job(self, caller, is_fit):
+        """A job of the caller's that is fit, else another of its own, and at times just any number."""
+        own = [job for job in self.queue.jobs.values() if job.owner == octets(caller)]
+        fit = [job for job in own if is_fit(job)] or own
+        if not fit or self.draws.chance(8):
+            return self.draws.below(len(self.queue.jobs) + 2)
+        return self.draws.choice(fit).number
+
+    def new_job(self):
+        operation = self.draws.choice([PRINT_JOB, PRINT_JOB, CREATE_JOB, CREATE_JOB, CREATE_JOB, VALIDATE_JOB])
+        rows, job = [], None
+        if self.draws.chance(40):
+            rows.append(record(INTEGER, "job-impressions", self.draws.below(12)))
+        if self.draws.chance(20):
+            rows.append(record(NAME, "job-name", self.draws.choice(["memo", "résumé", ""])))
+        if self.draws.chance(20):
+            rows.append(record(KEYWORD, "compression", self.draws.choice(["none", "none", "gzip"])))
+        if self.draws.chance(20):
+            rows.append(record(BOOLEAN, "ipp-attribute-fidelity", self.draws.chance(50)))
+        if self.draws.chance(30):
+            job = [record(INTEGER, "copies", self.draws.below(5)), *self.draws.below(2) * [record(KEYWORD, "sides", "one-sided")]]
+        payload = self.draws.choice([b"hi", b"%PDF", b""])
+        return request(operation, *rows, job=job, caller=self.draws.choice(CALLERS), payload=payload)
+
+    def on_job(self):
+        operation = self.draws.choice(4 * [RELEASE_JOB] + 4 * [SEND_DOCUMENT] + 2 * [HOLD_JOB, CANCEL_JOB] + [GET_JOB_ATTRIBUTES])
+        caller = self.draws.choice(CALLERS)
+        fit = {
+            RELEASE_JOB: lambda job: job.is_live() and job.is_held,
+            SEND_DOCUMENT: lambda job: job.takes_documents,
+            HOLD_JOB: lambda job: job.is_live() and not job.is_held,
+        }
+        number = self.a_job(caller, fit.get(operation, lambda job: job.is_live()))
+        rows, payload = [], b""
+        if operation == SEND_DOCUMENT:
+            rows.append(record(BOOLEAN, "last-document", self.draws.chance(60)))
+            payload = self.draws.choice([b"a", b"hello", b""])
+        if operation == HOLD_JOB and self.draws.chance(30):
+            rows.append(record(KEYWORD, "job-hold-until", self.draws.choice(["indefinite", "indefinite", "evening"])))
+        if self.draws.chance(30):
+            uri = record(URI, "job-uri", f"{PRINTER}/{number}")
+            return request(operation, uri, *rows, printer=None, caller=caller, payload=payload)
+        return job_request(operation, number, *rows, caller=caller, payload=payload)
+
+    def cancel_jobs(self):
+        caller = self.draws.choice(CALLERS)
+        numbers = [self.a_job(caller, lambda job: job.is_live()) for _ in range(1 + self.draws.below(3))]
+        rows = [] if self.draws.chance(25) else [attribute(INTEGER, "job-ids", *numbers)]
+        return request(CANCEL_MY_JOBS, *rows, caller=caller)
+
+    def look(self):
+        """Asks for the printer, a job that has ended, or a list of jobs."""
+        caller = self.draws.choice(CALLERS)
+        which = self.draws.below(4)
+        if which == 0:
+            names = attribute(KEYWORD, "requested-attributes", "printer-state", "queued-job-count", "printer-up-time")
+            return request(GET_PRINTER_ATTRIBUTES, names, caller=caller)
+        if which == 1:
+            names = self.draws.below(2) * [attribute(KEYWORD, "requested-attributes", "job-state-reasons")]
+            return job_request(GET_JOB_ATTRIBUTES, self.a_job(caller, lambda job: not job.is_live()), *names, caller=caller)
+        names = attribute(KEYWORD, "requested-attributes", "job-id", "job-state", "job-impressions-completed")
+        rows = [record(KEYWORD, "which-jobs", self.draws.choice(["completed", "not-completed"])), *self.draws.below(2) * [names]]
+        return request(GET_JOBS, *rows, record(INTEGER, "limit", 1 + self.draws.below(6)), caller=caller)
+
+    def device(self):
+        """A new report, one that came before, one that came before with another count, or no report."""
+        which = self.draws.below(20)
+        if which == 0:
+            no_reports = ["1 1 start", "0 1 start 0", "01 1 count 5", "7 1 halt 100000001", "4711 3 count 5"]
+            return b"dev " + octets(self.draws.choice(no_reports))
+        if which <= 4 and self.queue.reports:
+            report, _ = self.draws.choice(list(self.queue.reports.values()))
+            return b"dev %d %d %s %d" % (report.job, report.sequence, report.kind, report.count + (which == 4))
+        return b"dev " + octets(self.new_report())
+
+    def new_report(self):
+        jobs = list(self.queue.jobs.values())
+        if not jobs:
+            return "1 1 start 0"
+        # most often of a job that the device has or may start
+        fit = [job for job in jobs if job.state in TAKEN]
+        job = self.draws.choice(fit if fit and self.draws.chance(90) else jobs)
+        kind = self.draws.choice(TAKEN[job.state] if job.state in TAKEN and self.draws.chance(90) else KINDS)
+        count = max(job.completed + self.draws.below(9) - 2, 0)
+        return f"{job.number} {1 + self.draws.below(1_000_000)} {kind} {count}"
+
+    def office(self):
+        """An account file of one to three rows: new ones, some that came before, and a few that conflict or are none."""
+        return b"grant " + b"\r".join(self.row() for _ in range(1 + self.draws.below(3)))
+
+    def row(self):
+        which = self.draws.below(10)
+        if which == 0:
+            return octets(self.draws.choice(["b1,alice,0", "b1,alice", "b 1,alice,5"]))
+        if which < 4 and self.queue.granted:
+            (batch, account), pages = self.draws.choice(list(self.queue.granted.items()))
+            return b"%s,%s,%d" % (batch, account, pages + (which == 1))
+        return octets(f"b{self.draws.below(1000)},{self.draws.choice(ACCOUNTS)},{20 * (1 + self.draws.below(5))}")

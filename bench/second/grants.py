@@ -1,0 +1,71 @@
+"""Account files (docs/accounts.md): the rows of a file, and which of them are new."""
+import re
+from collections import ChainMap
+
+MOST_PAGES_OF_ROW = 1_000_000
+MOST_PAGES_OF_ACCOUNT = 1_000_000_000
+
+BATCH = re.compile(rb"[A-Za-z0-9._-]{1,40}")
+PAGES = re.compile(rb"0|[1-9][0-9]*")
+
+# a field in quotes, in which two stand for one and which need not be closed, with what stands behind it; or one without
+FIELD = re.compile(rb'"((?:[^"]|"")*)(?:"|\Z)([^,\r\n]*)|([^,\r\n]*)')
+
+
+class RefusedFile(Exception):
+    """An account file that is refused, with the code."""
+
+
+def records(text):
+    """The records of comma-separated text (RFC 4180), as lists of fields. Empty lines are none."""
+    at, fields = 0, []
+    while at < len(text):
+        if not fields and text[at : at + 1] in (b"\r", b"\n"):
+            at += 1
+            continue
+        found = FIELD.match(text, at)
+        quoted, behind, plain = found.groups()
+        fields.append(plain if quoted is None else quoted.replace(b'""', b'"') + behind)
+        at = found.end() + 1
+        if text[found.end() : at] == b"," and at < len(text):
+            continue
+        if text[found.end() : at] == b",":
+            fields.append(b"")
+        yield fields
+        fields = []
+
+
+def is_account(name):
+    try:
+        name.decode()
+    except UnicodeDecodeError:
+        return False
+    return 1 <= len(name) <= 255 and not set(name) & {*range(0x20), 0x7F}
+
+
+def read_row(fields):
+    """A row's batch, account and pages."""
+    if len(fields) != 3:
+        raise RefusedFile(2)
+    batch, account, pages = fields
+    if not BATCH.fullmatch(batch) or not is_account(account) or not PAGES.fullmatch(pages):
+        raise RefusedFile(2)
+    if not 1 <= int(pages) <= MOST_PAGES_OF_ROW:
+        raise RefusedFile(3)
+    return batch, account, int(pages)
+
+
+def new_rows(rows, granted):
+    """The rows that are new beside those that are granted, as pages by batch and account."""
+    new = {}
+    known = ChainMap(new, granted)
+    for batch, account, pages in rows:
+        if (batch, account) in known:
+            if known[batch, account] != pages:
+                raise RefusedFile(4)
+            continue
+        sum_of = sum(some for (_, other), some in known.items() if other == account)
+        if sum_of + pages > MOST_PAGES_OF_ACCOUNT:
+            raise RefusedFile(5)
+        new[batch, account] = pages
+    return new
