@@ -1,15 +1,12 @@
 """Attributes of new jobs: those that are used, those that are ignored, and those for which a job is refused."""
 from ipp import (
-    BEGIN_COLLECTION,
     BOOLEAN,
     CANCEL_JOB,
     CREATE_JOB,
-    END_COLLECTION,
     GET_JOB_ATTRIBUTES,
     INTEGER,
     KEYWORD,
     MEDIA_TYPE,
-    MEMBER_NAME,
     NAME,
     NAME_WITH_LANGUAGE,
     Job,
@@ -24,18 +21,8 @@ from ipp import (
     unknown,
     unsupported,
 )
-from worked.case import case, print_job, refused, refuses, sized, taken, takes, wants
+from worked.case import MEDIA_COL, case, print_job, refused, refuses, sized, taken, takes, wants
 
-# a collection media-col with a media-size with an x-dimension of 21000
-MEDIA_COL = [
-    record(BEGIN_COLLECTION, "media-col", ""),
-    record(MEMBER_NAME, "", "media-size"),
-    record(BEGIN_COLLECTION, "", ""),
-    record(MEMBER_NAME, "", "x-dimension"),
-    record(INTEGER, "", 21000),
-    record(END_COLLECTION, "", ""),
-    record(END_COLLECTION, "", ""),
-]
 STRICT = record(BOOLEAN, "ipp-attribute-fidelity", True)
 
 case("media-col is ignored", (print_job(job=MEDIA_COL), sized(206, taken(1, unsupported(unknown("media-col"))))))

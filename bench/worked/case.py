@@ -1,12 +1,37 @@
 """What an example is made of."""
 import re
 
-from ipp import INTEGER, KEYWORD, PRINT_JOB, Job, Message, NAME, octets, record, reply, request
+from ipp import (
+    BEGIN_COLLECTION,
+    END_COLLECTION,
+    INTEGER,
+    KEYWORD,
+    MEMBER_NAME,
+    NAME,
+    PRINT_JOB,
+    Job,
+    Message,
+    octets,
+    record,
+    reply,
+    request,
+)
 
 CASES = []
 
 # the first exchange of an example has this request-id, and each further one the next
 FIRST_REQUEST_ID = 0x0A0B0C0D
+
+# a collection media-col with a media-size with an x-dimension of 21000
+MEDIA_COL = [
+    record(BEGIN_COLLECTION, "media-col", ""),
+    record(MEMBER_NAME, "", "media-size"),
+    record(BEGIN_COLLECTION, "", ""),
+    record(MEMBER_NAME, "", "x-dimension"),
+    record(INTEGER, "", 21000),
+    record(END_COLLECTION, "", ""),
+    record(END_COLLECTION, "", ""),
+]
 
 # the answers that a server gives for want of memory, which no example wants
 FAULT = re.compile(rb"^(ipp .{4}0505|refused 6|grant refused 6)", re.MULTILINE)

@@ -1,9 +1,7 @@
 """Jobs that take documents one by one, and jobs that are only validated."""
 from ipp import (
-    BEGIN_COLLECTION,
     BOOLEAN,
     CREATE_JOB,
-    END_COLLECTION,
     GET_JOBS,
     GET_JOB_ATTRIBUTES,
     KEYWORD,
@@ -19,7 +17,7 @@ from ipp import (
     unknown,
     unsupported,
 )
-from worked.case import case, done, print_job, refused, sized, taken, wants
+from worked.case import MEDIA_COL, case, done, print_job, refused, sized, taken, wants
 from worked.jobs import HUNDRED, look, seen
 
 OPEN = Job(reasons=("job-incoming", "job-hold-until-specified"))
@@ -96,7 +94,7 @@ case(
 case(
     "validated with an unknown attribute",
     (
-        request(VALIDATE_JOB, job=[record(BEGIN_COLLECTION, "media-col", ""), record(END_COLLECTION, "", "")]),
+        request(VALIDATE_JOB, job=MEDIA_COL),
         sized(87, reply(0x0001, unsupported(unknown("media-col")))),
     ),
     (print_job(), taken(1)),

@@ -71,12 +71,12 @@ replay(
 
 def nested(depth):
     """A Print-Job whose job group has an attribute of so many collections, one in the other."""
-    values = [(BEGIN_COLLECTION, "x" if place == 0 else "", b"") for place in range(depth)]
+    values = [(BEGIN_COLLECTION, "a" if place == 0 else "", b"") for place in range(depth)]
     values += [(END_COLLECTION, "", b"")] * depth
     return print_job(job=[record(*value) for value in values])
 
 
-case("collections eight deep", (nested(8), sized(198, taken(1, unsupported(unknown("x"))))))
+case("collections eight deep", (nested(8), sized(198, taken(1, unsupported(unknown("a"))))))
 refuses("collections nine deep", nested(9), 0x0400)
 refuses("collection without its end", print_job(job=[record(BEGIN_COLLECTION, "x", b"")]), 0x0400)
 refuses("end of no collection", print_job(job=[record(END_COLLECTION, "x", b"")]), 0x0400)
