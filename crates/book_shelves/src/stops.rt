@@ -164,26 +164,29 @@ fn fault_of(error: Error) -> BookFault {
     }
 }
 
-/// The files of a connection, as they are.
-fn disconnect<D: Disk + Drop>(conn: Connection<FileStore<D>>) -> Files<D> {
-    conn.into_store().close()
+/// A new book over the store of a connection, where settings of it are given, and else the book that it holds. A refusal gives the store back.
+fn book_over<S: Alter + Drop>(
+    alloc: Global,
+    conn: Connection<S>,
+    settings: Option<Settings>,
+) -> Result<TableBook<S>, (BookFault, S)> {
+    let book = match settings {
+        Some(settings) => TableBook::create(alloc, conn, settings),
+        None => TableBook::adopt(alloc, conn),
+    };
+    match book {
+        Ok(book) => Ok(book),
+        Err((fault, conn)) => Err((fault, conn.into_store())),
+    }
 }
 
-/// `TableBook::create` over files. A refusal gives the connection back.
-fn create_in_files<D: Disk + Drop>(
+/// `book_over` over files.
+fn book_over_files<D: Disk + Drop>(
     alloc: Global,
     conn: Connection<FileStore<D>>,
-    settings: Settings,
-) -> Result<TableBook<FileStore<D>>, (BookFault, Connection<FileStore<D>>)> {
-    TableBook::create(alloc, conn, settings)
-}
-
-/// `TableBook::adopt` over files. A refusal gives the connection back.
-fn adopt_in_files<D: Disk + Drop>(
-    alloc: Global,
-    conn: Connection<FileStore<D>>,
-) -> Result<TableBook<FileStore<D>>, (BookFault, Connection<FileStore<D>>)> {
-    TableBook::adopt(alloc, conn)
+    settings: Option<Settings>,
+) -> Result<TableBook<FileStore<D>>, (BookFault, FileStore<D>)> {
+    book_over(alloc, conn, settings)
 }
 
 /// A new book in two files, where settings of it are given, and else the book that they hold. A refusal gives them back.
@@ -194,13 +197,9 @@ fn book_in<D: Disk + Drop>(
     settings: Option<Settings>,
 ) -> Result<TableBook<FileStore<D>>, (BookFault, Files<D>)> {
     let conn = connect(alloc, files, options)?;
-    let book = match settings {
-        Some(settings) => create_in_files(alloc, conn, settings),
-        None => adopt_in_files(alloc, conn),
-    };
-    match book {
+    match book_over_files(alloc, conn, settings) {
         Ok(book) => Ok(book),
-        Err((fault, conn)) => Err((fault, disconnect(conn))),
+        Err((fault, store)) => Err((fault, store.close())),
     }
 }
 
@@ -212,11 +211,11 @@ fn is_shut<S: Alter>(conn: &mut Connection<S>) -> bool {
     }
 }
 
-/// The files of a book, as they are, and whether a fault shut its store.
-fn close<D: Disk + Drop>(book: TableBook<FileStore<D>>) -> (Files<D>, bool) {
+/// The store of a book, as it is, and whether a fault shut it.
+fn close<S: Alter + Drop>(book: TableBook<S>) -> (S, bool) {
     let mut conn = book.close();
     let is_shut = is_shut(&mut conn);
-    (disconnect(conn), is_shut)
+    (conn.into_store(), is_shut)
 }
 
 /// How steps over a disk that stops ended.
@@ -308,19 +307,30 @@ fn take_both<S: Alter>(
     desk.take_each(book, last)
 }
 
-/// Takes steps and then others over a book until one meets the stop, and gives its files back.
+/// Takes steps and then others over a book until one meets the stop, and gives its store back.
+fn take_and_close<S: Alter + Drop>(
+    desk: &mut Desk,
+    mut book: TableBook<S>,
+    steps: &[Step<'_>],
+    last: &[Step<'_>],
+) -> (Result<End, StepFault>, S) {
+    let ended = take_to_stop(desk, &mut book, steps, last);
+    let (store, is_shut) = close(book);
+    match ended {
+        Ok(End::Answering) if is_shut => (Err(StepFault::ShutAnswers), store),
+        ended => (ended, store),
+    }
+}
+
+/// `take_and_close` over a book in files, which it gives back.
 fn take_in_book<D: Disk + Drop>(
     desk: &mut Desk,
-    mut book: TableBook<FileStore<D>>,
+    book: TableBook<FileStore<D>>,
     steps: &[Step<'_>],
     last: &[Step<'_>],
 ) -> (Result<End, StepFault>, Files<D>) {
-    let ended = take_to_stop(desk, &mut book, steps, last);
-    let (files, is_shut) = close(book);
-    match ended {
-        Ok(End::Answering) if is_shut => (Err(StepFault::ShutAnswers), files),
-        ended => (ended, files),
-    }
+    let (ended, store) = take_and_close(desk, book, steps, last);
+    (ended, store.close())
 }
 
 /// Makes or opens the book of two files, takes steps and then others over it until one meets the stop, and gives the

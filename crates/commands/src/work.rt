@@ -60,6 +60,20 @@ fn work_on<S: Alter, W: Write>(
     }
 }
 
+/// Does the work on a book in files.
+fn work_in<D: Disk + Drop, W: Write>(
+    rt: &HostRuntime,
+    work: Work<'_>,
+    output: &mut W,
+    book: &mut TableBook<FileStore<D>>,
+) -> Result<(), Fault>
+    ensures began { IsHonest over_files book.new → IsHonest over_files book.old }
+    ensures done { IsHonest over_files book.new → OnOk result ((w : World) → StandsFor over_files book.old w
+        → (u : World) × StandsFor over_files book.new u × IsDone work.entry w u (W.contents output.old) (W.contents output.new)) }
+{
+    work_on(rt, work, output, book)
+}
+
 /// Does the work on a book in files, and gives the book back; one on which it was not done is let go.
 fn work_over<D: Disk + Drop, W: Write>(
     rt: &HostRuntime,
@@ -70,7 +84,7 @@ fn work_over<D: Disk + Drop, W: Write>(
     ensures { IfOk result (λ b. IsHonest over_files b → IsHonest over_files book × ((w : World) → StandsFor over_files book w
         → (u : World) × StandsFor over_files b u × IsDone work.entry w u (W.contents output.old) (W.contents output.new))) }
 {
-    let done = work_on(rt, work, output, &mut book);
+    let done = work_in(rt, work, output, &mut book);
     left(book, done)
 }
 

@@ -1,6 +1,7 @@
 //! A worked example: the lines of a replay, and what they are answered.
 
 use list_book::ListBook;
+use queue_types::settings::Settings;
 use replay::{Fault, replay_over, replay_settings};
 use replay_in_memory::replay;
 use std::alloc::Global;
@@ -14,6 +15,17 @@ pub(crate) enum Book {
     Lists,
     /// In the tables of a store in memory.
     Tables,
+}
+
+/// Answers the lines of an input over an empty queue with these settings, in lists.
+fn replay_in_lists<R: Read, W: Write>(
+    alloc: Global,
+    input: &mut R,
+    output: &mut W,
+    settings: &Settings,
+) -> Result<u8, Fault> {
+    let mut book = ListBook::new(alloc, settings.try_clone()?);
+    replay_over(alloc, input, output, &mut book, settings)
 }
 
 impl Book {
@@ -33,11 +45,7 @@ impl Book {
         output: &mut W,
     ) -> Result<u8, Fault> {
         match self {
-            Book::Lists => {
-                let settings = replay_settings(alloc)?;
-                let mut book = ListBook::new(alloc, settings.try_clone()?);
-                replay_over(alloc, input, output, &mut book, &settings)
-            }
+            Book::Lists => replay_in_lists(alloc, input, output, &replay_settings(alloc)?),
             Book::Tables => replay(alloc, input, output),
         }
     }

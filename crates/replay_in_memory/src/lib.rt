@@ -8,9 +8,26 @@ ghost use Rattle.replay.specs.Replay.{Replays, first, settings};
 ghost use Rattle.replay.specs.Session.{State};
 
 use queue_store::TableBook;
+use queue_types::settings::Settings;
 use replay::{Fault, replay_over, replay_settings};
 use std::alloc::Global;
 use std::io::{Read, Write};
+
+/// Answers the lines of an input over an empty queue with these settings, in the tables of a store in memory.
+fn replay_with<R: Read, W: Write>(
+    alloc: Global,
+    input: &mut R,
+    output: &mut W,
+    printer: &Settings,
+) -> Result<u8, Fault>
+    ensures status { IfOk result (λ status. status ≤ 1) }
+    ensures answered { IfOk result (λ status. (last : State) × (text : List ℕ)
+        × Replays (R.remaining input.old) (first (empty_queue printer.now)) status text last
+        × Appends (W.contents output.old) (W.contents output.new) text) }
+{
+    let mut book = TableBook::in_memory(alloc, printer.try_clone()?)?;
+    replay_over(alloc, input, output, &mut book, printer)
+}
 
 /// Answers the lines of an input over an empty queue in the tables of a store in memory, as [`replay_over`] does.
 pub fn replay<R: Read, W: Write>(alloc: Global, input: &mut R, output: &mut W) -> Result<u8, Fault>
@@ -20,6 +37,5 @@ pub fn replay<R: Read, W: Write>(alloc: Global, input: &mut R, output: &mut W) -
         × Appends (W.contents output.old) (W.contents output.new) text) }
 {
     let settings = replay_settings(alloc)?;
-    let mut book = TableBook::in_memory(alloc, settings.try_clone()?)?;
-    replay_over(alloc, input, output, &mut book, &settings)
+    replay_with(alloc, input, output, &settings)
 }

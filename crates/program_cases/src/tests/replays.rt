@@ -84,24 +84,39 @@ fn a_long_message_as_text_and_back(rt: HostRuntime) -> Result<(), Fail> {
     Ok(())
 }
 
+/// Cases of which one is right, and the others differ in an answer, a status or its being there.
+const CASES_THAT_DIFFER: &[u8] = b"# short\nipp 00\n=\nipp short\nstatus 0\n\
+    # another answer\nnow 3\nipp 00\n=\nipp 0101\nstatus 0\n\
+    # another status\nnow 0\n=\nbad line 1\nstatus 0\n\
+    # an answer more\nipp 00\n=\nstatus 0\n\
+    # no lines that are wanted\n";
+
+/// What is complained of these.
+const COMPLAINTS: &[u8] =
+    b"differs over lists: another answer\nwanted: ipp 0101\ncame:   ipp short\n\
+    differs over tables: another answer\nwanted: ipp 0101\ncame:   ipp short\n\
+    differs over lists: another status\nwanted: status 0\ncame:   status 1\n\
+    differs over tables: another status\nwanted: status 0\ncame:   status 1\n\
+    differs over lists: an answer more\nwanted: status 0\ncame:   ipp short\n\
+    differs over tables: an answer more\nwanted: status 0\ncame:   ipp short\n\
+    no case:  no lines that are wanted\n";
+
+/// The cases are told to differ on two empty streams.
+fn assert_they_differ(
+    rt: &impl Abort,
+    alloc: Global,
+    output: &mut Vec<u8>,
+    complaints: &mut Vec<u8>,
+) -> Result<(), Fail> {
+    assert!(rt; !run_cases(alloc, CASES_THAT_DIFFER, output, complaints)?);
+    assert_eq!(rt; output.as_slice(), b"ok short\n".as_slice());
+    assert_eq!(rt; complaints.as_slice(), COMPLAINTS);
+    Ok(())
+}
+
 #[test]
 fn cases_that_differ(rt: HostRuntime) -> Result<(), Fail> {
-    let text = b"# short\nipp 00\n=\nipp short\nstatus 0\n\
-        # another answer\nnow 3\nipp 00\n=\nipp 0101\nstatus 0\n\
-        # another status\nnow 0\n=\nbad line 1\nstatus 0\n\
-        # an answer more\nipp 00\n=\nstatus 0\n\
-        # no lines that are wanted\n";
     let mut output = Vec::new(rt.alloc());
     let mut complaints = Vec::new(rt.alloc());
-    assert!(rt; !run_cases(rt.alloc(), text, &mut output, &mut complaints)?);
-    assert_eq!(rt; output.as_slice(), b"ok short\n".as_slice());
-    let wanted = "differs over lists: another answer\nwanted: ipp 0101\ncame:   ipp short\n\
-        differs over tables: another answer\nwanted: ipp 0101\ncame:   ipp short\n\
-        differs over lists: another status\nwanted: status 0\ncame:   status 1\n\
-        differs over tables: another status\nwanted: status 0\ncame:   status 1\n\
-        differs over lists: an answer more\nwanted: status 0\ncame:   ipp short\n\
-        differs over tables: an answer more\nwanted: status 0\ncame:   ipp short\n\
-        no case:  no lines that are wanted\n";
-    assert_eq!(rt; complaints.as_slice(), wanted.as_bytes());
-    Ok(())
+    assert_they_differ(&rt, rt.alloc(), &mut output, &mut complaints)
 }

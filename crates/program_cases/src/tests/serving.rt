@@ -281,14 +281,19 @@ fn a_store_that_was_just_made(rt: HostRuntime) -> Result<(), Fail> {
     Ok(())
 }
 
+/// A client that is silent is served, and gets nothing.
+fn serve_a_silent_client(rt: &HostRuntime, folder: &Folder<'_>) -> Result<(), Fail> {
+    let out = served(rt, folder, STORE, &[], &[&[]], "served 0\n")?;
+    out.gets(0, &[])?;
+    Ok(())
+}
+
 /// A client that is silent is given up after the second that the words say.
 fn is_given_up(rt: &HostRuntime, folder: &Folder<'_>) -> Result<(), Fail> {
     folder.take_each(&[MADE])?;
     let began = rt.monotonic()?;
-    let out = served(rt, folder, STORE, &[], &[&[]], "served 0\n")?;
-    let ended = rt.monotonic()?;
-    out.gets(0, &[])?;
-    let waited = ended.saturating_sub(began);
+    serve_a_silent_client(rt, folder)?;
+    let waited = rt.monotonic()?.saturating_sub(began);
     AT.is_so(
         waited >= Duration::from_secs(1) && waited < Duration::from_secs(5),
         "a second",

@@ -153,32 +153,58 @@ error: invalid value '0' for '--port <P>': 0 is not in 1..=65535
 For more information, try '--help'.
 ";
 
-/// A help text is printed on standard output, and what is wrong with words on standard error. The exit status is 0 and 2.
+/// Words, the exit status that they end with, and what is printed of them on standard output and on standard error.
+#[derive(Clone, Copy)]
+struct Told<'a> {
+    words: &'a [&'a str],
+    status: u8,
+    out: &'a str,
+    err: &'a str,
+}
+
+/// This is told of the words.
+fn assert_told(rt: &impl Abort, told: &Told<'_>, status: u8, out: &[u8], err: &[u8]) {
+    let words = told.words;
+    assert_eq!(rt; status, told.status, "{words:?}");
+    assert_eq!(rt; from_utf8(out), Ok(told.out), "{words:?}");
+    assert_eq!(rt; from_utf8(err), Ok(told.err), "{words:?}");
+}
+
+/// A help text that was asked for is printed on standard output, and the exit status is 0.
 #[test]
-fn texts_of_words(rt: HostRuntime) {
-    let help = ["printd", "serve", "--help"];
-    let wrong = [
-        "printd",
-        "serve",
-        "--store",
-        "a",
-        "--port",
-        "0",
-        "--connections",
-        "1",
-    ];
-    for (words, wanted_status, wanted_out, wanted_err) in [
-        (help.as_slice(), 0, SERVE_HELP, ""),
-        (wrong.as_slice(), 2, "", NO_PORT),
-    ] {
-        let mut out = Vec::new(rt.alloc());
-        let mut err = Vec::new(rt.alloc());
-        assert_eq!(rt;
-            run(&rt, words, &mut out, &mut err),
-            wanted_status,
-            "{words:?}"
-        );
-        assert_eq!(rt; from_utf8(out.as_slice()), Ok(wanted_out), "{words:?}");
-        assert_eq!(rt; from_utf8(err.as_slice()), Ok(wanted_err), "{words:?}");
-    }
+fn text_of_a_help(rt: HostRuntime) {
+    let told = Told {
+        words: &["printd", "serve", "--help"],
+        status: 0,
+        out: SERVE_HELP,
+        err: "",
+    };
+    let mut out = Vec::new(rt.alloc());
+    let mut err = Vec::new(rt.alloc());
+    let status = run(&rt, told.words, &mut out, &mut err);
+    assert_told(&rt, &told, status, out.as_slice(), err.as_slice());
+}
+
+/// What is wrong with words is printed on standard error, and the exit status is 2.
+#[test]
+fn text_of_a_wrong_word(rt: HostRuntime) {
+    let told = Told {
+        words: &[
+            "printd",
+            "serve",
+            "--store",
+            "a",
+            "--port",
+            "0",
+            "--connections",
+            "1",
+        ],
+        status: 2,
+        out: "",
+        err: NO_PORT,
+    };
+    let mut out = Vec::new(rt.alloc());
+    let mut err = Vec::new(rt.alloc());
+    let status = run(&rt, told.words, &mut out, &mut err);
+    assert_told(&rt, &told, status, out.as_slice(), err.as_slice());
 }

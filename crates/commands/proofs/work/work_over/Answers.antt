@@ -7,8 +7,8 @@ use Rattle.commands.proofs.work.work_over.Goals as goal
 pub returns : goal.returns
 returns g c = if_ok c.left.result _ _ c.left.ensures (λ b is honest.
     let before = subst (IsHonest over_files) is.0 honest in (
-      c.work_on-done.ensures.began before,
+      c.work_in-done.ensures.began before,
       λ w stands.
-          let end = where_ok c.work_on-done.result is.1 (c.work_on-done.ensures.done before) w stands in
+          let end = where_ok c.work_in-done.result is.1 (c.work_in-done.ensures.done before) w stands in
           (end.0, subst (λ x. StandsFor over_files x end.0) (sym is.0) end.1, end.2),
     ))
