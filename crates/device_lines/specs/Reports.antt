@@ -1,6 +1,6 @@
 -- What a line of the device brings about: an answer, and the world after it.
-use Rattle.std.specs.Prelude.{◌≡◌, ◌++◌, ℕ, Bool, List, Result, Ok, Err, codes, decimal, bytes_eq}
-use Rattle.queue_types.specs.Event.{tell}
+use Rattle.std.specs.Prelude.{◌≡◌, ◌⊎◌, ◌++◌, ℕ, Bool, List, Option, Some, None, Result, Ok, Err, codes, decimal, bytes_eq}
+use Rattle.queue_types.specs.Event.{Event, tell}
 use Rattle.queue_core.specs.Machine.{step}
 use Rattle.queue_core.specs.World.{World}
 use Rattle.queue_types.specs.declared.event.Reply.{Reply}
@@ -60,3 +60,12 @@ pub record IsUntaken (line : List ℕ) (out : List ℕ) : Type 0 where
   pub report : Report
   pub reads : Reads line (Ok report)
   pub text : out ≡ fault_line
+
+-- out answers the line at this moment, and new is the world after it; or out tells of a fault, and the world stays
+abbrev pub AnswersLine : World → ℕ → List ℕ → World → List ℕ → Type 0
+AnswersLine old now line new out = IsReported old now line new out ⊎ (IsUntaken line out × (new ≡ old))
+
+-- what a line asks of the machine: to take a report, or nothing where it is none
+pub data Tells (line : List ℕ) : Option Event → Type 0 where
+  reports : (r : Report) → Reads line (Ok r) → Tells line (Some (tell r))
+  unread : (f : LineFault) → Reads line (Err f) → Tells line None

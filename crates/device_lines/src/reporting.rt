@@ -6,7 +6,7 @@ ghost use Rattle.queue_core.specs.Limits.{IsMoment, IsReport, IsReportReply};
 ghost use Rattle.queue_core.specs.Machine.{step as step_of};
 ghost use Rattle.queue_core.specs.World.{World};
 ghost use Rattle.device_lines.specs.Lines.{Reads};
-ghost use Rattle.device_lines.specs.Reports.{AnswersReport, IsReported, IsUntaken, is_fault_line, unread_line};
+ghost use Rattle.device_lines.specs.Reports.{AnswersLine, AnswersReport, IsReported, IsUntaken, is_fault_line, unread_line};
 ghost use Rattle.device_lines.specs.declared.line.LineFault.{LineFault};
 
 use crate::line::read_report;
@@ -21,6 +21,8 @@ use queue_types::event::{Event, Reply, Report};
 pub fn report<B: QueueBook>(book: &mut B, now: u32, line: &[u8]) -> ReportAnswer
     requires moment { IsMoment now }
     ensures began { B.is_honest book.new → B.is_honest book.old }
+    ensures answers { B.is_honest book.new → (w : World) → B.stands book.old w
+        → (after : World) × AnswersLine w now line.now after result × B.stands book.new after }
     ensures told { B.is_honest book.new → OnFalse (is_fault_line result) ((w : World) → B.stands book.old w
         → (after : World) × IsReported w now line.now after result × B.stands book.new after) }
     ensures failed { B.is_honest book.new → OnTrue (is_fault_line result) ((w : World) → B.stands book.old w

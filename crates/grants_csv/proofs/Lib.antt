@@ -4,3 +4,4 @@ pub mod Numbers
 pub mod Forms
 pub mod Marks
 pub mod Rows
+pub mod ImportLemmas

@@ -8,7 +8,7 @@ ghost use Rattle.queue_types.specs.declared.event.GrantRow.{GrantRow};
 ghost use Rattle.grants_csv.specs.Fault.{IsUnlessFault, at_row};
 ghost use Rattle.grants_csv.specs.File.{rows_of};
 ghost use Rattle.grants_csv.specs.declared.fault.ImportCause.TheVariants.{Range};
-ghost use Rattle.grants_csv.specs.Import.{Adds, Refuses};
+ghost use Rattle.grants_csv.specs.Import.{Adds, Imports, Refuses};
 
 use crate::fault::{ImportCause, ImportFault};
 use crate::reading::read_grants;
@@ -85,10 +85,13 @@ pub fn import<B: QueueBook>(
 ) -> Result<Imported, ImportFault>
     requires { IsMoment now }
     ensures began { B.is_honest book.new → B.is_honest book.old }
+    ensures imports { B.is_honest book.new → (w : World) → B.stands book.old w
+        → (after : World) × Imports w now bytes.now after result × B.stands book.new after }
     ensures added { B.is_honest book.new → IfOk result (λ n. (w : World) → B.stands book.old w
         → (rows : List GrantRow) × (rows_of bytes.now ≡ Ok rows) × Adds (step w now (grant rows)).reply n × B.stands book.new (step w now (grant rows)).world) }
 
     // on any book, also one that is not honest
+    ensures event { IfOk result (λ n. (rows : List GrantRow) → rows_of bytes.now ≡ Ok rows → IsEvent (grant rows)) }
     ensures size { 16777216 < length bytes.now → result ≡ Err (at_row Range 0) }
     ensures unread { (f : ImportFault) → rows_of bytes.now ≡ Err f → IsUnlessFault result (Err f) }
     ensures refused { B.is_honest book.new → IfErr result (λ f. (rows : List GrantRow) (w : World) → rows_of bytes.now ≡ Ok rows → B.stands book.old w

@@ -4,6 +4,7 @@ mod answers;
 mod bodies;
 mod broken;
 mod cut;
+mod days;
 mod documents;
 mod ends;
 mod faults;

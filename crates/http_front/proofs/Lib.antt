@@ -3,3 +3,4 @@ pub mod ReplyLemmas
 pub mod TurnedLemmas
 pub mod Runs
 pub mod RunLemmas
+pub mod PlaceLemmas

@@ -2,3 +2,4 @@ pub mod Turns
 pub mod Ends
 pub mod Connections
 pub mod Turned
+pub mod Places

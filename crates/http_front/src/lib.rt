@@ -10,10 +10,12 @@
 
 mod connection;
 mod context;
+mod law;
 mod outcome;
 mod reply;
 mod turn;
 
 pub use connection::serve;
 pub use http_head::end::End;
+pub use law::connections_are_runs;
 pub use outcome::{ServeCause, ServeFault, Served};

@@ -1,12 +1,13 @@
 -- What a request asks is within the machine's limits.
-use Rattle.std.proofs.Common.{◌≡◌, ℕ, ◌≤◌, List, [], ◌∷◌, Bool, true, false, ◌&&◌, length, refl, lit≤, Result, Ok, Err}
+use Rattle.std.proofs.Common.{◌≡◌, ℕ, ◌≤◌, List, [], ◌∷◌, ◌++◌, Bool, true, false, ◌&&◌, length, length-append, refl, sym, subst, arith, lit≤, Result, Ok, Err}
 use Rattle.std.specs.Prelude.{Option, Some, None, codes, unwrap_or, nat_le, IfSome, not, if◌then◌else◌}
 use Rattle.std.specs.Option.{option_map_or}
+use Rattle.std.specs.List.{flat_map}
 use borrow.Author.Tests.{leb-true}
-use Rattle.ipp_wire.specs.Message.{Value, Attribute, Message}
+use Rattle.ipp_wire.specs.Message.{Value, Attribute, Message, Spells, head_bytes, group_bytes}
 use Rattle.queue_types.specs.Event.{Event, ask, tell, grant}
 use Rattle.queue_types.specs.declared.event.Reply.{Reply}
-use Rattle.queue_core.specs.Limits.{IsOwner, IsJobName, IsNewJob, IsCall, IsReplyTo, IsSoundReply}
+use Rattle.queue_core.specs.Limits.{IsOwner, IsJobName, IsNewJob, IsCall, IsEvent, IsReplyTo, IsSoundReply}
 use Rattle.ipp_reply.specs.declared.operation.Operation.{Operation}
 use Rattle.ipp_reply.specs.declared.operation.Operation.TheVariants.{PrintJob, ValidateJob, CreateJob, SendDocument, CancelJob, GetJobAttributes, GetJobs, GetPrinterAttributes, HoldJob, ReleaseJob, CancelMyJobs}
 use Rattle.ipp_reply.specs.Unsupported.{Unsupported}
@@ -17,12 +18,12 @@ use Rattle.ipp_request.specs.Attributes.{row, table, template_name, between}
 use Rattle.ipp_request.specs.Values.{are_formed, are_long, is_within, number_of}
 use Rattle.ipp_request.specs.Request.{Request, request_for, known, named, has, text_in, caller}
 use Rattle.ipp_request.specs.Unsupported.{unsupported}
-use Rattle.ipp_ops.specs.Answer.{IsAsk}
+use Rattle.ipp_ops.specs.Answer.{Asks, refuses, calls, IsAsk, IsVerdictOn, by_head, malformed, request}
 use Rattle.ipp_ops.specs.Checks.{applies, checks, refusal, fails, some_fails}
 use Rattle.ipp_request.specs.Reading.{groups_begin, request_by}
 use Rattle.ipp_request.specs.Unsupported.{is_refused_for}
 use Rattle.ipp_ops.specs.NewJob.{supported_number, template_number, job_name, new_job}
-use Rattle.ipp_ops.specs.Verdict.{call_by, verdict, request_verdict, listed_verdict, checked_verdict, IsWithinLimits}
+use Rattle.ipp_ops.specs.Verdict.{Verdict, passed, call_by, verdict, request_verdict, listed_verdict, checked_verdict, IsWithinLimits}
 use Rattle.ipp_request.proofs.Tests.{and_true, list_any_false, find_none}
 use Rattle.ipp_request.proofs.Texts.{anonymous_owns, untitled_names, owns, names, of_attribute}
 
@@ -129,6 +130,24 @@ by_operation_fits (Ok o) m h = ordered_fits (groups_begin m.groups) o m h
 -- a request with such a payload asks nothing but events within the limits
 pub verdict_fits : (m : Message) → length m.payload ≤ 16777216 → IsWithinLimits (verdict m)
 verdict_fits m h = by_operation_fits _ m h
+
+-- ---- what bytes ask
+
+longer_by : (a c : List ℕ) → length c ≤ length (a ++ 3 ∷ c)
+longer_by a c = omega (arith, length-append a (3 ∷ c))
+
+-- a payload is no longer than the bytes of its message
+payload_short : (m : Message) (b : List ℕ) → Spells m b → length m.payload ≤ length b
+payload_short m b s = subst (λ (x : List ℕ). length m.payload ≤ length x) (sym s.bytes) (longer_by (head_bytes m.head ++ flat_map group_bytes m.groups) m.payload)
+
+bytes_fit : (b : List ℕ) (v : Verdict) → length b ≤ 16777216 → IsVerdictOn b v → IsWithinLimits v
+bytes_fit b _ h (by_head code e) = tt
+bytes_fit b _ h (malformed e p) = tt
+bytes_fit b _ h (request m s) = verdict_fits m (omega (arith, payload_short m b s))
+
+pub asked_fits : (b : List ℕ) (e : Option Event) → length b ≤ 16777216 → Asks b e → IfSome e IsEvent
+asked_fits b _ h (refuses code u on) = tt
+asked_fits b _ h (calls caller call rows u on) = bytes_fit b (passed caller call rows u) h on
 
 -- ---- what is answered
 

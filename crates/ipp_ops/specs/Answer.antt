@@ -1,19 +1,19 @@
 -- What the bytes of a request bring about: a reply, and the world after it.
-use Rattle.std.specs.Prelude.{◌≡◌, ◌∷◌, ◌==◌, ◌&&◌, ⊤, ℕ, Bool, false, nat_le, List, Some, None}
+use Rattle.std.specs.Prelude.{◌≡◌, ◌∷◌, ◌==◌, ◌&&◌, ⊤, ℕ, Bool, false, nat_le, List, Option, Some, None}
 use Rattle.ipp_wire.specs.declared.view.Head.{Head}
 use Rattle.ipp_wire.specs.Message.{Message, Spells, head_of}
 use Rattle.ipp_wire.specs.Bare.{bare}
-use Rattle.queue_types.specs.Event.{Event, ask}
+use Rattle.queue_types.specs.Event.{Event, Call, ask}
 use Rattle.queue_core.specs.World.{World}
 use Rattle.queue_core.specs.Machine.{step}
 use Rattle.queue_types.specs.declared.event.Reply.TheVariants.{Refused as RefusedReply}
 use Rattle.ipp_ops.specs.declared.outcome.Answer.{Answer}
 use Rattle.ipp_ops.specs.declared.outcome.Answer.TheVariants.{Whole, Bare}
 use Rattle.ipp_ops.specs.Verdict.{Verdict, passed, refused, verdict}
-use Rattle.ipp_reply.specs.Unsupported.{nothing}
+use Rattle.ipp_reply.specs.Unsupported.{Unsupported, nothing}
 use Rattle.ipp_request.specs.Reading.{head_refusal}
 use Rattle.ipp_reply.specs.Reply.{reply_of}
-use Rattle.ipp_reply.specs.Wanted.{no_rows}
+use Rattle.ipp_reply.specs.Wanted.{Rows, no_rows}
 
 -- a request's event
 abbrev pub IsAsk : Event → Type 0
@@ -41,6 +41,11 @@ outcome (passed caller call rows u) h w now = record {
   world = (step w now (ask caller call)).world;
   reply = reply_of (step w now (ask caller call)).reply h rows u w.settings now;
 }
+
+-- what the bytes of a request ask of the machine: a call, or nothing where they are refused
+pub data Asks (b : List ℕ) : Option Event → Type 0 where
+  refuses : (code : ℕ) (u : Unsupported) → IsVerdictOn b (refused code u) → Asks b None
+  calls : (caller : List ℕ) (call : Call) (rows : Rows) (u : Unsupported) → IsVerdictOn b (passed caller call rows u) → Asks b (Some (ask caller call))
 
 -- out is the reply to the verdict on the bytes, and new the world after it
 pub record Answers (old : World) (now : ℕ) (b : List ℕ) (new : World) (out : List ℕ) : Type 0 where

@@ -1,10 +1,12 @@
 //! What the definitions of requests promise: laws over them, in functions that do nothing.
-ghost use Rattle.std.specs.Prelude.{◌≡◌, ℕ, List, Contains};
+ghost use Rattle.std.specs.Prelude.{◌≡◌, ◌≤◌, ℕ, List, Contains, IfSome, Option, length};
 ghost use Rattle.queue_types.specs.Formats.{formats};
 ghost use Rattle.queue_types.specs.declared.document.Format.{Format};
 ghost use Rattle.ipp_reply.specs.Operations.{operations};
 ghost use Rattle.ipp_reply.specs.declared.operation.Operation.{Operation};
-ghost use Rattle.ipp_ops.specs.Answer.{IsVerdictOn};
+ghost use Rattle.ipp_ops.specs.Answer.{Asks, IsVerdictOn};
+ghost use Rattle.queue_core.specs.Limits.{IsEvent};
+ghost use Rattle.queue_types.specs.Event.{Event};
 ghost use Rattle.ipp_request.specs.Attributes.{table, template_table};
 ghost use Rattle.ipp_ops.specs.Checks.{checks};
 ghost use Rattle.ipp_request.specs.Request.{IsJobPath, job_in};
@@ -21,6 +23,11 @@ pub fn one_verdict()
 {
     one_spelling();
 }
+
+/// What bytes ask, of which there are at most 16,777,216, is an event within the machine's limits.
+pub fn calls_are_events()
+    ensures { (b : List ℕ) (e : Option Event) → length b ≤ 16777216 → Asks b e → IfSome e IsEvent }
+{}
 
 /// A path names a job exactly where it is the printer's, a slash and the job's number in decimal, which is
 /// from 1 to 2,147,483,647.

@@ -2,13 +2,9 @@
 use Rattle.std.specs.Prelude.{◌≡◌, ℕ, List, [], ◌∷◌, ◌++◌, Ok, Option, codes, take}
 use Rattle.std.specs.Fmt.{decimal}
 use Rattle.std.specs.Option.{IfSome}
-use Rattle.grants_csv.specs.File.{rows_of}
-use Rattle.grants_csv.specs.Import.{Adds}
+use Rattle.grants_csv.specs.Import.{Imports}
 use Rattle.grants_csv.specs.declared.importing.Imported.{Imported}
-use Rattle.queue_types.specs.Event.{grant}
-use Rattle.queue_core.specs.Machine.{step}
 use Rattle.queue_core.specs.World.{World}
-use Rattle.queue_types.specs.declared.event.GrantRow.{GrantRow}
 
 -- the most bytes of a file that are read: one more than a file may have
 abbrev pub most_read : ℕ
@@ -24,4 +20,4 @@ AreReadOf known bytes = IfSome known (λ file. bytes ≡ take most_read file)
 
 -- the rows of these bytes are taken as one event at this moment, so many of them new, and this is the queue after it
 abbrev pub IsTaken : ℕ → World → World → List ℕ → Imported → Type 0
-IsTaken now old new bytes n = (rows : List GrantRow) × (rows_of bytes ≡ Ok rows) × Adds (step old now (grant rows)).reply n × (new ≡ (step old now (grant rows)).world)
+IsTaken now old new bytes n = Imports old now bytes new (Ok n)

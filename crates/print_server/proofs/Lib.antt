@@ -1,1 +1,2 @@
 pub mod ConnectionLemmas
+pub mod RunLemmas

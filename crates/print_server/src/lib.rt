@@ -10,12 +10,14 @@
 
 mod connection;
 mod fault;
+mod law;
 mod lines;
 mod listening;
 mod moment;
 mod serving;
 
 pub use fault::ServerFault;
+pub use law::served_queues_are_runs;
 pub use listening::listen;
 pub use moment::present_moment;
 pub use serving::Service;

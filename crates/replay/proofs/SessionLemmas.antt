@@ -1,12 +1,10 @@
 -- What a line of a replay makes of a queue, by what each call on its book says.
 use Rattle.std.proofs.Common.{◌≡◌, ℕ, Bool, true, false, List, [], ◌∷◌, ◌++◌, Result, Ok, Err, ◌⊎◌, inl, inr, refl, ap}
-use Rattle.std.specs.Prelude.{IfErr, IfOk, MatchResult, OnErr}
+use Rattle.std.specs.Prelude.{IfOk}
 use Rattle.std.specs.Bool.{OnFalse, OnTrue}
-use Rattle.device_lines.specs.Reports.{BringsAbout, IsReported, IsUntaken}
+use Rattle.device_lines.specs.Reports.{AnswersLine, BringsAbout}
 use Rattle.device_lines.specs.declared.line.LineFault.{LineFault}
-use Rattle.grants_csv.specs.Fault.{IsUnlessFault, fault}
-use Rattle.grants_csv.specs.File.{rows_of}
-use Rattle.grants_csv.specs.Import.{Adds, Refuses}
+use Rattle.grants_csv.specs.Import.{Imports}
 use Rattle.grants_csv.specs.declared.fault.ImportFault.{ImportFault}
 use Rattle.grants_csv.specs.declared.importing.Imported.{Imported}
 use Rattle.ipp_ops.specs.Answer.{Answers, Fails, bytes_of, is_fault, outcome}
@@ -14,13 +12,10 @@ use Rattle.ipp_ops.specs.Verdict.{Verdict, passed, refused}
 use Rattle.ipp_ops.specs.declared.outcome.Answer.{Answer}
 use Rattle.ipp_ops.specs.declared.outcome.TooShort.{TooShort}
 use Rattle.ipp_wire.specs.Message.{head_of}
-use Rattle.queue_types.specs.Event.{grant}
-use Rattle.queue_core.specs.Machine.{step}
 use Rattle.queue_types.specs.Settings.{SettingValues}
 use Rattle.queue_core.specs.World.{World}
-use Rattle.queue_types.specs.declared.event.GrantRow.{GrantRow}
 use Rattle.queue_types.specs.declared.event.Report.{Report}
-use Rattle.replay.specs.Session.{AnswersLine, AnswersMessage, Imports, IsReply, State, Takes, file_of}
+use Rattle.replay.specs.Session.{AnswersMessage, IsReply, State, Takes, file_of}
 use Rattle.replay.specs.declared.request_line.RequestLine.{RequestLine}
 use Rattle.replay.specs.declared.request_line.RequestLine.TheVariants.{Now, Ipp, Dev, Grant}
 
@@ -71,35 +66,3 @@ pub is_reply : (old new : World → Type 0) (now : ℕ) (set : SettingValues) (m
     → IfOk r (λ a. (w : World) → old w → set ≡ w.settings → (u : World) × IsReply w now message u (bytes_of a) × new u)
 is_reply old new now set message (Ok a) told failed = reply_by old new now set message (bytes_of a) (is_fault (bytes_of a)) told failed
 is_reply old new now set message (Err e) told failed = tt
-
--- ---- a line of the device
-
-pub is_line_answer : (old new : World → Type 0) (now : ℕ) (line out : List ℕ) (b : Bool)
-    → OnFalse b ((w : World) → old w → (after : World) × IsReported w now line after out × new after)
-    → OnTrue b ((w : World) → old w → IsUntaken line out × new w)
-    → (w : World) → old w → (u : World) × AnswersLine w now line u out × new u
-is_line_answer old new now line out true told failed w s = let f = failed w s in (w, inr (f.0, refl), f.1)
-is_line_answer old new now line out false told failed w s = let a = told w s in (a.0, inl a.1, a.2)
-
--- ---- a row of an account file
-
-unread_by : (f bad : ImportFault) → IsUnlessFault {A = Imported} (Err f) (Err bad) → (f ≡ bad) ⊎ (f ≡ fault)
-unread_by f bad (inl e) = inl (cc)
-unread_by f bad (inr e) = inr (cc)
-
-cause_by : (w : World) (now : ℕ) (file : List ℕ) (f : ImportFault) (read : Result (List GrantRow) ImportFault) → rows_of file ≡ read
-    → ((bad : ImportFault) → rows_of file ≡ Err bad → IsUnlessFault {A = Imported} (Err f) (Err bad))
-    → ((rows : List GrantRow) → rows_of file ≡ Ok rows → Refuses (step w now (grant rows)).reply f)
-    → MatchResult read (λ rows. Refuses (step w now (grant rows)).reply f) (λ bad. (f ≡ bad) ⊎ (f ≡ fault))
-cause_by w now file f (Ok rows) is unread refuses = refuses rows is
-cause_by w now file f (Err bad) is unread refuses = unread_by f bad (unread bad is)
-
-pub is_imported : (old new : World → Type 0) (now : ℕ) (file : List ℕ) (r : Result Imported ImportFault)
-    → IfOk r (λ n. (w : World) → old w → (rows : List GrantRow) × (rows_of file ≡ Ok rows) × Adds (step w now (grant rows)).reply n × new (step w now (grant rows)).world)
-    → ((f : ImportFault) → rows_of file ≡ Err f → IsUnlessFault r (Err f))
-    → IfErr r (λ f. (rows : List GrantRow) (w : World) → rows_of file ≡ Ok rows → old w → Refuses (step w now (grant rows)).reply f)
-    → OnErr r ((w : World) → old w → new w)
-    → (w : World) → old w → (u : World) × Imports w now file u r × new u
-is_imported old new now file (Ok n) added unread refuses kept w s = let a = added w s in ((step w now (grant a.0)).world, (a.0, a.1, a.2, refl), a.3)
-is_imported old new now file (Err f) added unread refuses kept w s =
-    (w, (cause_by w now file f (rows_of file) refl unread (λ rows is. refuses rows w is s), refl), kept w s)

@@ -1,15 +1,11 @@
 -- What a line of a replay brings about, and the text that answers it.
-use Rattle.std.specs.Prelude.{◌≡◌, ◌<◌, ◌⊎◌, ℕ, List, [], ◌∷◌, ◌++◌, Result, Ok, Err, IsErr, IsOkAnd, MatchResult, codes, length}
+use Rattle.std.specs.Prelude.{◌≡◌, ◌<◌, ◌⊎◌, ℕ, List, [], ◌∷◌, ◌++◌, Result, Ok, Err, IsErr, IsOkAnd, codes, length}
 use Rattle.std.specs.Fmt.{decimal}
-use Rattle.device_lines.specs.Reports.{IsReported, IsUntaken}
-use Rattle.grants_csv.specs.Fault.{code_of, fault}
-use Rattle.grants_csv.specs.File.{rows_of}
-use Rattle.grants_csv.specs.Import.{Adds, Refuses}
+use Rattle.device_lines.specs.Reports.{AnswersLine}
+use Rattle.grants_csv.specs.Fault.{code_of}
+use Rattle.grants_csv.specs.Import.{Imports}
 use Rattle.grants_csv.specs.declared.fault.ImportFault.{ImportFault}
 use Rattle.grants_csv.specs.declared.importing.Imported.{Imported}
-use Rattle.queue_types.specs.Event.{grant}
-use Rattle.queue_core.specs.Machine.{step}
-use Rattle.queue_types.specs.declared.event.GrantRow.{GrantRow}
 use Rattle.hex.specs.Hex.{decode_of, encode_lower}
 use Rattle.ipp_ops.specs.Answer.{Answers, Fails}
 use Rattle.queue_core.specs.World.{World}
@@ -40,19 +36,9 @@ AnswersMessage old now message new text =
     ((out : List ℕ) × IsReply old now message new out × (text ≡ reply_line out))
     ⊎ ((length message < 8) × (new ≡ old) × (text ≡ codes "ipp short" ++ 10 ∷ []))
 
--- out answers the line of the device at this moment, and new is the queue after it; or out tells of a fault, and the queue stays
-abbrev pub AnswersLine : World → ℕ → List ℕ → World → List ℕ → Type 0
-AnswersLine old now line new out = IsReported old now line new out ⊎ (IsUntaken line out × (new ≡ old))
-
 -- the account file with this one row
 abbrev pub file_of : List ℕ → List ℕ
 file_of row = codes "batch,account,pages\n" ++ row ++ 10 ∷ []
-
--- what the import of an account file at this moment says, and the queue after it: its rows are taken as one event; or
--- this is why they are not, or a fault, and the queue stays
-abbrev pub Imports : World → ℕ → List ℕ → World → Result Imported ImportFault → Type 0
-Imports old now file new (Ok n) = (rows : List GrantRow) × (rows_of file ≡ Ok rows) × Adds (step old now (grant rows)).reply n × (new ≡ (step old now (grant rows)).world)
-Imports old now file new (Err f) = MatchResult (rows_of file) (λ rows. Refuses (step old now (grant rows)).reply f) (λ bad. (f ≡ bad) ⊎ (f ≡ fault)) × (new ≡ old)
 
 -- `grant new N repeats M` or `grant refused CODE`
 abbrev pub import_line : Result Imported ImportFault → List ℕ

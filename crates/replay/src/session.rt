@@ -5,20 +5,22 @@ ghost use Rattle.std.specs.Fmt.{decimal};
 ghost use Rattle.std.specs.Bool.{OnFalse, OnTrue};
 ghost use Rattle.std.specs.Io.KnownBytes.{Appends};
 ghost use Rattle.hex.specs.Hex.{decode_of};
+ghost use Rattle.device_lines.specs.Reports.{AnswersLine};
 ghost use Rattle.grants_csv.specs.Fault.{code_of};
+ghost use Rattle.grants_csv.specs.Import.{Imports};
 ghost use Rattle.grants_csv.specs.declared.fault.ImportFault.{ImportFault};
 ghost use Rattle.grants_csv.specs.declared.importing.Imported.{Imported};
 ghost use Rattle.ipp_ops.specs.Answer.{bytes_of};
 ghost use Rattle.queue_core.specs.Limits.{IsMoment};
 ghost use Rattle.queue_core.specs.World.{World};
 ghost use Rattle.replay.specs.Replay.{IsBadLine, TakesLine};
-ghost use Rattle.replay.specs.Session.{AnswersLine, AnswersMessage, Imports, IsNoMessage, IsReply, file_of, import_line, state};
+ghost use Rattle.replay.specs.Session.{AnswersMessage, IsNoMessage, IsReply, file_of, import_line, state};
 
 use crate::fault::Fault;
 use crate::hexadecimal::{HexFault, put_hex, read_hex};
 use crate::lines::Line;
 use crate::request_line::RequestLine;
-use device_lines::{ReportAnswer, report};
+use device_lines::report;
 use grants_csv::{ImportCause, ImportFault, Imported, import};
 use ipp_ops::{Answer, TooShort, answer};
 use queue_core::book::QueueBook;
@@ -156,19 +158,9 @@ fn answer_device<B: QueueBook, W: Write>(
         × B.stands book.new u × Appends (W.contents output.old) (W.contents output.new) out) }
 {
     let line = ended_line(alloc, text)?;
-    let answer = reported(book, now, line.as_slice());
+    let answer = report(book, now, line.as_slice());
     output.write_all(answer.bytes())?;
     Ok(())
-}
-
-/// The answer to a line of the device.
-fn reported<B: QueueBook>(book: &mut B, now: u32, line: &[u8]) -> ReportAnswer
-    requires { IsMoment now }
-    ensures began { B.is_honest book.new → B.is_honest book.old }
-    ensures answer { B.is_honest book.new → (w : World) → B.stands book.old w
-        → (u : World) × AnswersLine w now line.now u result × B.stands book.new u }
-{
-    report(book, now, line)
 }
 
 /// Imports the account file of one row, and writes what came of it.
@@ -186,24 +178,9 @@ fn import_row<B: QueueBook, W: Write>(
         × B.stands book.new u × Appends (W.contents output.old) (W.contents output.new) (import_line answer)) }
 {
     let file = account_file(alloc, row)?;
-    let answer = imported(alloc, book, now, file.as_slice());
+    let answer = import(alloc, book, now, file.as_slice());
     tell_import(output, &answer)?;
     Ok(())
-}
-
-/// What came of the import of an account file.
-fn imported<B: QueueBook>(
-    alloc: Global,
-    book: &mut B,
-    now: u32,
-    file: &[u8],
-) -> Result<Imported, ImportFault>
-    requires { IsMoment now }
-    ensures began { B.is_honest book.new → B.is_honest book.old }
-    ensures imports { B.is_honest book.new → (w : World) → B.stands book.old w
-        → (u : World) × Imports w now file.now u result × B.stands book.new u }
-{
-    import(alloc, book, now, file)
 }
 
 /// A line with its line feed.

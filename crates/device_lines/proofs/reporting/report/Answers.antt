@@ -1,10 +1,21 @@
-use Rattle.std.proofs.Common.{refl, Ok, Err}
+use Rattle.std.proofs.Common.{refl, Ok, Err, inl, inr}
 use Rattle.queue_types.specs.Event.{tell}
 use Rattle.queue_core.specs.Machine.{step}
 use Rattle.device_lines.specs.Reports.{is_fault_line}
 use Rattle.device_lines.proofs.Flags.{on_false, on_true}
 use Rattle.device_lines.proofs.Readings.{refused_reads}
 use Rattle.device_lines.proofs.reporting.report.Goals as goal
+
+pub returns-in-Ok-step-clause-answers : goal.returns-in-Ok-step-clause-answers
+returns-in-Ok-step-clause-answers g c = λ honest w stands. (
+  (step w c.args.now (tell c.in-Ok.r)).world,
+  inl record {
+    reading = Ok c.in-Ok.r;
+    reads = (c.in-Ok.ensures.ok c.in-Ok.r).0 refl;
+    brings = (refl, c.in-Ok-step.ensures.answer honest w stands);
+  },
+  c.in-Ok-step.ensures.world honest w stands,
+)
 
 pub returns-in-Ok-step-clause-told : goal.returns-in-Ok-step-clause-told
 returns-in-Ok-step-clause-told g c = λ honest. on_false _ (is_fault_line c.in-Ok-step.answer) (λ w stands. (
@@ -17,6 +28,20 @@ returns-in-Ok-step-clause-told g c = λ honest. on_false _ (is_fault_line c.in-O
   c.in-Ok-step.ensures.world honest w stands,
 ))
 
+pub returns-in-Err-step-clause-answers : goal.returns-in-Err-step-clause-answers
+returns-in-Err-step-clause-answers g c = λ honest w stands. (
+  w,
+  inr (
+    record {
+      report = c.in-Ok.r;
+      reads = (c.in-Ok.ensures.ok c.in-Ok.r).0 refl;
+      text = c.fault.ensures;
+    },
+    refl,
+  ),
+  c.in-Err-step.ensures.err w stands,
+)
+
 pub returns-in-Err-step-clause-failed : goal.returns-in-Err-step-clause-failed
 returns-in-Err-step-clause-failed g c = λ honest. on_true _ (is_fault_line c.fault.result) (λ w stands. (
   record {
@@ -26,6 +51,17 @@ returns-in-Err-step-clause-failed g c = λ honest. on_true _ (is_fault_line c.fa
   },
   c.in-Err-step.ensures.err w stands,
 ))
+
+pub returns-in-Err-clause-answers : goal.returns-in-Err-clause-answers
+returns-in-Err-clause-answers g c = λ honest w stands. (
+  w,
+  inl record {
+    reading = Err c.in-Err.fault;
+    reads = refused_reads c.args.line.now c.in-Err.fault c.read_report.result c.in-Err.is c.read_report.ensures.syntax c.read_report.ensures.range;
+    brings = (refl, c.unread.ensures);
+  },
+  stands,
+)
 
 pub returns-in-Err-clause-told : goal.returns-in-Err-clause-told
 returns-in-Err-clause-told g c = λ honest. on_false _ (is_fault_line c.unread.result) (λ w stands. (

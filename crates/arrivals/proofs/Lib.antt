@@ -1,0 +1,2 @@
+pub mod TakenLemmas
+pub mod HistoryLemmas

@@ -1,0 +1,43 @@
+use Rattle.std.proofs.Common.{◌+◌, [], ◌∷◌, ◌++◌, arith, ap, get_or, length, length-append, take}
+use Rattle.std.proofs.lemmas.List.{take_all, take_more}
+use Rattle.arrivals.proofs.HistoryLemmas.{history_of, more_taken, none_taken, settings_after, taken_by}
+use Rattle.arrivals.specs.declared.arrival.Arrival.{Arrival}
+use Rattle.arrivals.specs.declared.arrival.Arrived.TheVariants.{Connection}
+use Rattle.arrivals.proofs.taking.take_all.Goals as goal
+
+pub loop-arrival-init : goal.loop-arrival-init
+loop-arrival-init g c = record {
+  began = λ h. h;
+  count = omega (arith, ap length c.in_ok-outcomes.ensures.items);
+  room = c.in_ok-outcomes.ensures.capacity;
+  taken = λ honest w s set. none_taken (g.B.QueueBook.stands c.args.book.now) w c.in_ok-outcomes.outcomes.items (g.W.Write.contents c.args.writer.now) c.in_ok-outcomes.ensures.items s;
+}
+
+-- past the end of a list
+abbrev blank : Arrival
+blank = record { moment = 0; what = Connection (record { ref_ptr = (0, 0); now = [] }) }
+
+pub loop-arrival-preserved : goal.loop-arrival-preserved
+loop-arrival-preserved g c = record {
+  began = λ honest. c.loop-arrival.invariant.began (c.take-outcome.ensures.began honest);
+  count = omega (arith, ap length c.in-Ok.ensures.items, length-append c.loop-arrival.outcomes.items (c.take-outcome.result ∷ []), c.loop-arrival.invariant.count);
+  room = omega (arith, c.in-Ok.ensures.capacity, c.loop-arrival.invariant.room);
+  taken = λ honest w s set.
+      let i = c.loop-arrival.arrival-index in
+      let arrivals = c.args.arrivals.now in
+      let t = c.loop-arrival.invariant.taken (c.take-outcome.ensures.began honest) w s set in
+      let k = c.take-outcome.ensures.taken honest t.after t.stands_after (settings_after c.args.settings.now w t.after t.places t.run_is set) in
+      let x = g.W.Write.contents c.args.writer.now in
+      let z = g.W.Write.contents c.take-outcome.new.writer in
+      taken_by (g.B.QueueBook.stands c.take-outcome.new.book) w x z (take i arrivals ++ get_or arrivals i blank ∷ []) (take (i + 1) arrivals)
+      (c.loop-arrival.outcomes.items ++ c.take-outcome.result ∷ []) c.push.new.self.items (take_more arrivals i blank c.loop-arrival-test.true) c.in-Ok.ensures.items
+      (more_taken (g.B.QueueBook.stands c.loop-arrival.book) (g.B.QueueBook.stands c.take-outcome.new.book) w (take i arrivals) c.loop-arrival.outcomes.items (get_or arrivals i blank)
+      c.take-outcome.result x (g.W.Write.contents c.loop-arrival.writer) z t k);
+}
+
+pub returns-clause-history : goal.returns-clause-history
+returns-clause-history g c = λ honest w s set. history_of c.run_keeps.ensures.sound c.run_keeps.ensures.moves c.run_keeps.ensures.balances (g.B.QueueBook.stands c.loop-arrival.book) w
+    (take c.loop-arrival.arrival-index c.args.arrivals.now) c.args.arrivals.now c.loop-arrival.outcomes.items (g.W.Write.contents c.args.writer.now) (g.W.Write.contents c.loop-arrival.writer)
+    (take_all c.loop-arrival.arrival-index c.args.arrivals.now c.loop-arrival-test.false)
+    (g.met.B.QueueBook.sound c.args.book.now w (c.loop-arrival.invariant.began honest) s)
+    (c.loop-arrival.invariant.taken honest w s set)

@@ -1,0 +1,16 @@
+use Rattle.std.proofs.Common.{◌≡◌, ◌≤◌, length, take}
+use Rattle.std.specs.Prelude.{vec_capacity}
+use Rattle.queue_core.specs.World.{World}
+use Rattle.arrivals.specs.History.{AreTaken}
+use Rattle.arrivals.specs.Taken.{IsTaken}
+use Rattle.arrivals.proofs.taking.take_all.Given as goal
+
+-- those before the index are taken, and there is room for the outcomes of all
+abbrev pub invariant-loop-arrival : goal.invariant-loop-arrival
+invariant-loop-arrival g l = record {
+  began : g.B.QueueBook.is_honest l.book → g.B.QueueBook.is_honest l.fn.book;
+  count : length l.outcomes.items ≡ l.arrival-index;
+  room : length l.arrivals ≤ vec_capacity l.outcomes;
+  taken : g.B.QueueBook.is_honest l.book → (w : World) → g.B.QueueBook.stands l.fn.book w → l.fn.settings ≡ w.settings
+      → IsTaken (g.B.QueueBook.stands l.book) w (g.W.Write.contents l.fn.writer) (g.W.Write.contents l.writer) (AreTaken w (take l.arrival-index l.arrivals) l.outcomes.items);
+}

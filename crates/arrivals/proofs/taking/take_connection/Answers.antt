@@ -1,0 +1,13 @@
+use Rattle.arrivals.proofs.taking.take_connection.Goals as goal
+
+pub returns-in-Ok-clause-taken : goal.returns-in-Ok-clause-taken
+returns-in-Ok-clause-taken g c = λ honest w s set.
+    let a = c.in-Ok.ensures.served honest w s set in
+    let p = c.connections_are_runs.ensures.served c.args.now w a.0 c.args.stream.now a.2.0 c.in-Ok.served.acted c.in-Ok.served.faults c.in-Ok.served.end c.requires a.2.2 in
+    record { after = a.0; stands_after = a.1; written = a.2.0; appended = a.2.1; places = p.0; are = p.2; run_is = p.3; comes = (a.2.2, p.1) }
+
+pub returns-in-Err-clause-taken : goal.returns-in-Err-clause-taken
+returns-in-Err-clause-taken g c = λ honest w s set.
+    let a = c.in-Err.ensures.broken honest w s set in
+    let p = c.connections_are_runs.ensures.broken c.args.now w a.0 c.args.stream.now a.2.0 c.in-Err.fault.acted c.in-Err.fault.faults c.requires a.2.2 in
+    record { after = a.0; stands_after = a.1; written = a.2.0; appended = a.2.1; places = p.0; are = p.2; run_is = p.3; comes = (a.2.2, p.1) }

@@ -1,0 +1,115 @@
+//! What reaches a queue is taken, one after another.
+ghost use Rattle.std.specs.Prelude.{◌≡◌, ℕ, All, List, IfOk, OnErr};
+ghost use Rattle.std.specs.Io.KnownBytes.{Appends};
+ghost use Rattle.queue_core.specs.Limits.{IsMoment};
+ghost use Rattle.queue_core.specs.World.{World};
+ghost use Rattle.arrivals.specs.History.{History};
+ghost use Rattle.arrivals.specs.Taken.{Takes, IsTaken};
+ghost use Rattle.arrivals.specs.declared.arrival.Arrived.TheVariants.{AccountFile, Connection, Line};
+
+use crate::arrival::{Arrival, Arrived, Outcome};
+use device_lines::report;
+use grants_csv::import;
+use http_front::{connections_are_runs, serve};
+use queue_core::book::QueueBook;
+use queue_core::run_keeps;
+use queue_types::settings::Settings;
+use std::alloc::{AllocError, Global};
+use std::io::Write;
+
+/// Serves a connection; what answers it is written.
+fn take_connection<W: Write, B: QueueBook>(
+    alloc: Global,
+    book: &mut B,
+    settings: &Settings,
+    now: u32,
+    stream: &[u8],
+    writer: &mut W,
+) -> Outcome
+    requires { IsMoment now }
+    ensures began { B.is_honest book.new → B.is_honest book.old }
+    ensures taken { B.is_honest book.new → (w : World) → B.stands book.old w → settings.now ≡ w.settings
+        → IsTaken (B.stands book.new) w (W.contents writer.old) (W.contents writer.new) (Takes now w (Connection stream.entry) result) }
+{
+    connections_are_runs();
+    let mut reader = stream;
+    match serve(alloc, &mut reader, writer, book, settings, now) {
+        Ok(served) => Outcome::Served(served),
+        Err(fault) => Outcome::Broken(fault),
+    }
+}
+
+/// Answers a line of the device.
+fn take_line<B: QueueBook>(book: &mut B, now: u32, line: &[u8]) -> Outcome
+    requires { IsMoment now }
+    ensures began { B.is_honest book.new → B.is_honest book.old }
+    ensures taken { B.is_honest book.new → (w : World) → B.stands book.old w → (v : _)
+        → IsTaken (B.stands book.new) w v v (Takes now w (Line line.entry) result) }
+{
+    Outcome::Told(report(book, now, line))
+}
+
+/// Imports an account file.
+fn take_file<B: QueueBook>(alloc: Global, book: &mut B, now: u32, file: &[u8]) -> Outcome
+    requires { IsMoment now }
+    ensures began { B.is_honest book.new → B.is_honest book.old }
+    ensures taken { B.is_honest book.new → (w : World) → B.stands book.old w → (v : _)
+        → IsTaken (B.stands book.new) w v v (Takes now w (AccountFile file.entry) result) }
+{
+    match import(alloc, book, now, file) {
+        Ok(imported) => Outcome::Imported(imported),
+        Err(fault) => Outcome::Refused(fault),
+    }
+}
+
+/// Takes one thing.
+fn take<W: Write, B: QueueBook>(
+    alloc: Global,
+    book: &mut B,
+    settings: &Settings,
+    arrival: Arrival<'_>,
+    writer: &mut W,
+) -> Outcome
+    requires { IsMoment arrival.moment }
+    ensures began { B.is_honest book.new → B.is_honest book.old }
+    ensures taken { B.is_honest book.new → (w : World) → B.stands book.old w → settings.now ≡ w.settings
+        → IsTaken (B.stands book.new) w (W.contents writer.old) (W.contents writer.new) (Takes arrival.entry.moment w arrival.entry.what result) }
+{
+    match arrival.what {
+        Arrived::Connection(stream) => {
+            take_connection(alloc, book, settings, arrival.moment, stream, writer)
+        }
+        Arrived::Line(line) => take_line(book, arrival.moment, line),
+        Arrived::AccountFile(file) => take_file(alloc, book, arrival.moment, file),
+    }
+}
+
+/// Takes a list of things, one after another, over any book of a queue with these settings: serves connections, answers lines of the device, imports
+/// account files. What answers the connections is written, and what came of each thing is handed back in order.
+///
+/// The one error is want of memory, before anything is taken.
+pub fn take_all<W: Write, B: QueueBook>(
+    alloc: Global,
+    book: &mut B,
+    settings: &Settings,
+    arrivals: &[Arrival<'_>],
+    writer: &mut W,
+) -> Result<Vec<Outcome>, AllocError>
+    requires { All (λ a. IsMoment a.moment) arrivals.now }
+    ensures began { B.is_honest book.new → B.is_honest book.old }
+    ensures history { B.is_honest book.new → IfOk result (λ outcomes. (w : World) → B.stands book.old w → settings.now ≡ w.settings
+        → (u : World) × B.stands book.new u × (written : List ℕ) × Appends (W.contents writer.old) (W.contents writer.new) written
+        × History w arrivals.now outcomes.items written u) }
+    ensures err { OnErr result ((w : World) → B.stands book.old w → B.stands book.new w) }
+{
+    run_keeps();
+    let mut outcomes = Vec::with_capacity(alloc, arrivals.len())?;
+    for arrival in arrivals {
+        let outcome = take(alloc, book, settings, *arrival, writer);
+        match outcomes.push(outcome) {
+            Ok(()) => {}
+            Err(_) => unreachable!(),
+        }
+    }
+    Ok(outcomes)
+}

@@ -1,0 +1,162 @@
+//! Connections, lines of the device and account files, one after another, over each book.
+ghost use Rattle.std.specs.Prelude.{All};
+ghost use Rattle.queue_core.specs.Limits.{IsMoment};
+
+use arrivals::{Arrival, Arrived, Outcome, take_all};
+use grants_csv::{ImportCause, ImportFault, Imported};
+use http_desk::books::{DeskBook, MemoryBook};
+use http_desk::compare::{Mismatch, Place};
+use http_desk::connection::Wanted::Success;
+use http_desk::connection::{Wanted, joined, wanted_bytes};
+use http_desk::desk::settings;
+use http_desk::messages::{DONE, JOB_1, PRINT_JOB, RELEASE_JOB};
+use http_desk::requests::{GET_QUEUE, IPP, POST_JOB, POST_RELEASE, TEXT};
+use http_front::{End, ServeFault, Served};
+use list_book::ListBook;
+use queue_types::limits::LAST_MOMENT;
+use std::alloc::Global;
+
+/// What is wanted of one of them.
+#[derive(Clone, Copy)]
+enum Comes {
+    /// A connection ends so, and so many of its requests act.
+    Serves(u32, End),
+    /// The device is answered this.
+    Tells(&'static str),
+    /// So many rows are added, and so many are repeats.
+    Imports(u32, u32),
+    /// The file is refused for this, at this row.
+    Refuses(ImportCause, u32),
+}
+
+/// What is wanted of each.
+const WANTED: [Comes; 11] = [
+    Comes::Imports(1, 0),
+    Comes::Serves(2, End::Closed),
+    Comes::Serves(0, End::Closed),
+    Comes::Tells("ok 1 5 0\n"),
+    Comes::Tells("ok 1 5 12\n"),
+    Comes::Imports(0, 1),
+    Comes::Tells("ok 1 5 12\n"),
+    Comes::Refuses(ImportCause::Conflict, 1),
+    Comes::Serves(0, End::Cut),
+    Comes::Tells("ok 1 9 25\n"),
+    Comes::Tells("refused 1 syntax\n"),
+];
+
+/// What the clients get: the replies to the Print-Job and its release, and the device's queue.
+const ANSWERS: &[Wanted<'static>] = &[
+    Success(IPP, JOB_1),
+    Success(IPP, DONE),
+    Success(TEXT, b"1 1 1 2\n"),
+];
+
+/// An account file that grants alice 30 pages.
+const GRANT: &[u8] = b"batch,account,pages\nf24,alice,30\n";
+
+/// One that grants her other pages in the same batch.
+const OTHER_GRANT: &[u8] = b"batch,account,pages\nf24,alice,31\n";
+
+/// This comes at a moment.
+fn at(moment: u32, what: Arrived<'_>) -> Arrival<'_>
+    requires { IsMoment moment }
+    ensures { IsMoment result.moment }
+{
+    Arrival { moment, what }
+}
+
+/// One client prints a job and releases it, the device asks for its queue, and another client breaks off. Moments may fall.
+fn day(print: &[u8]) -> [Arrival<'_>; 11]
+    ensures { All (λ a. IsMoment a.moment) result }
+{
+    [
+        at(1, Arrived::AccountFile(GRANT)),
+        at(2, Arrived::Connection(print)),
+        at(2, Arrived::Connection(GET_QUEUE)),
+        at(3, Arrived::Line(b"1 1 start 0\n")),
+        at(60, Arrived::Line(b"1 2 count 12\n")),
+        at(60, Arrived::AccountFile(GRANT)),
+        at(59, Arrived::Line(b"1 2 count 12\n")),
+        at(61, Arrived::AccountFile(OTHER_GRANT)),
+        at(62, Arrived::Connection(POST_JOB)),
+        at(LAST_MOMENT, Arrived::Line(b"1 3 done 25\n")),
+        at(1, Arrived::Line(b"1 3 done\n")),
+    ]
+}
+
+/// One came to what it was to come to.
+fn compare(place: &Place, wanted: Comes, came: &Outcome) -> Result<(), Mismatch> {
+    match (wanted, came) {
+        (Comes::Serves(acted, end), Outcome::Served(served)) => {
+            let faults = 0;
+            let wanted = Served { acted, faults, end };
+            place.same_outcome(Ok(wanted), Ok(*served))
+        }
+        (Comes::Tells(line), Outcome::Told(answer)) => {
+            place.same_bytes(line.as_bytes(), answer.bytes())
+        }
+        (Comes::Imports(added, repeats), Outcome::Imported(imported)) => {
+            place.is_so(
+                *imported == Imported { added, repeats },
+                "the rows that are new",
+            )
+        }
+        (Comes::Refuses(cause, row), Outcome::Refused(fault)) => {
+            place.is_so(
+                *fault == ImportFault { cause, row },
+                "why the file is refused",
+            )
+        }
+        _ => place.is_so(false, "an outcome of its kind"),
+    }
+}
+
+/// Each did.
+fn compare_each(place: &Place, came: &[Outcome]) -> Result<(), Mismatch> {
+    place.is_so(came.len() == WANTED.len(), "an outcome for each")?;
+    for (wanted, one) in WANTED.iter().zip(came) {
+        compare(place, *wanted, one)?;
+    }
+    Ok(())
+}
+
+/// In alice's account 5 pages are free, none are reserved and 25 were printed.
+fn has_printed<B: DeskBook>(place: &Place, book: &mut B) -> Result<(), Mismatch> {
+    match book.sheet("alice") {
+        Ok(Some(sheet)) => place.is_so(
+            sheet.granted == 30 && sheet.free == 5 && sheet.reserved == 0 && sheet.printed == 25,
+            "the pages of alice",
+        ),
+        _ => place.is_so(false, "the account of alice"),
+    }
+}
+
+/// They are taken over a book.
+fn take_over<B: DeskBook>(alloc: Global, print: &[u8], answers: &[u8]) -> Result<(), Mismatch> {
+    let place = Place {
+        book: B::name(),
+        most: print.len(),
+    };
+    let settings = settings(alloc)?;
+    let mut book = B::empty(alloc, settings.try_clone()?)?;
+    let mut written = Vec::new(alloc);
+    let came = take_all(
+        alloc,
+        &mut book,
+        &settings,
+        day(print).as_slice(),
+        &mut written,
+    )?;
+    compare_each(&place, came.as_slice())?;
+    place.same_bytes(answers, written.as_slice())?;
+    has_printed(&place, &mut book)
+}
+
+#[test]
+fn a_day_of_a_queue(rt: HostRuntime) -> Result<(), Mismatch> {
+    let alloc = rt.alloc();
+    let print = joined(alloc, &[POST_JOB, PRINT_JOB, POST_RELEASE, RELEASE_JOB])?;
+    let answers = wanted_bytes(alloc, ANSWERS)?;
+    take_over::<ListBook>(alloc, print.as_slice(), answers.as_slice())?;
+    take_over::<MemoryBook>(alloc, print.as_slice(), answers.as_slice())
+}

@@ -1,0 +1,124 @@
+-- The turns of a connection as places of a run.
+use Rattle.std.proofs.Common.{◌≡◌, ◌∙◌, Bool, true, false, ℕ, ◌≤◌, List, [], ◌∷◌, ◌++◌, Option, None, Some, Ok, Err, Result, IfSome, inl, inr, length, refl, sym, ap, subst, arith, lit≤}
+use Rattle.std.specs.Prelude.{MatchBool}
+use Rattle.std.specs.List.{AllByRecursion as Each}
+use Rattle.queue_types.specs.Event.{Event, ask, tell}
+use Rattle.queue_types.specs.declared.event.Report.{Report as DeviceReport}
+use Rattle.queue_core.specs.Limits.{IsEvent, IsMoment}
+use Rattle.queue_core.specs.Runs.{Place, IsPlace, after, run}
+use Rattle.queue_core.specs.World.{World}
+use Rattle.ipp_wire.specs.Message.{head_of}
+use Rattle.ipp_ops.specs.Answer.{Asks, refuses, calls, IsVerdictOn, outcome}
+use Rattle.ipp_ops.specs.Verdict.{Verdict, passed, refused}
+use Rattle.device_lines.specs.Lines.{Reads}
+use Rattle.device_lines.specs.Reports.{BringsAbout, Tells, reports, unread}
+use Rattle.device_lines.specs.declared.line.LineFault.{LineFault}
+use Rattle.http_head.specs.Checks.{head_of as head_in}
+use Rattle.http_head.specs.Framing.{size_of}
+use Rattle.http_head.specs.declared.framing.Framing.{Framing}
+use Rattle.http_head.specs.declared.framing.Framing.TheVariants.{Nothing, Sized, Chunked}
+use Rattle.http_head.specs.declared.target.Target.{Target}
+use Rattle.http_head.specs.declared.target.Target.TheVariants.{Ipp, Report, Queue, Document as DocumentTarget}
+use Rattle.http_head.proofs.PlanLemmas.{fits_by}
+use Rattle.http_wire.specs.Bodies.{IsBody}
+use Rattle.http_wire.specs.Chunks.{ChunkedBody, IsChunkedBody, chunked_content}
+use Rattle.http_front.specs.Turns.{Turn, plan, IsTurn, IsAnswered}
+use Rattle.http_front.specs.Ends.{IsBegun, nothing, interim, answered, ended}
+use Rattle.http_front.specs.Connections.{AreTurns, Breaks, world_after}
+use Rattle.http_front.specs.Places.{AsksFor, IsPlaceOf, ArePlacesOf, IsLast, AreBrokenPlaces}
+
+-- what calls are: the law of requests
+abbrev pub AreCalls : Type 0
+AreCalls = (b : List ℕ) (e : Option Event) → length b ≤ 16777216 → Asks b e → IfSome e IsEvent
+
+-- ---- the length of a body
+
+chunks_fit : (b : ChunkedBody) → IsChunkedBody b → length (chunked_content b) ≤ 16777216
+unfolding chunked_content
+chunks_fit b is = is.chunks.fits
+
+body_fits : (f : Framing) (raw content : List ℕ) → size_of f ≤ 16777216 → IsBody f raw content → length content ≤ 16777216
+body_fits Nothing raw content h b = subst (λ (c : List ℕ). length c ≤ 16777216) (sym b.1) (lit≤ tt)
+body_fits (Sized n) raw content h b = omega (arith, b.1)
+body_fits Chunked raw content h b = subst (λ (c : List ℕ). length c ≤ 16777216) (sym b.3) (chunks_fit b.0 b.1)
+
+turn_fits : (now : ℕ) (w : World) (t : Turn) → IsTurn now w t → length t.content ≤ 16777216
+turn_fits now w t is = body_fits (plan t).framing t.raw t.content (fits_by (head_in t.head) (Ok (plan t)) (is.passes, refl)) is.body
+
+-- ---- one turn
+
+verdict_event : (now : ℕ) (w u : World) (content : List ℕ) (v : Verdict) → IsVerdictOn content v → u ≡ (outcome v (head_of content) w now).world
+    → (e : Option Event) × Asks content e × (u ≡ after w now e)
+verdict_event now w u content (refused code list) on world = (None, refuses code list on, world)
+verdict_event now w u content (passed caller call rows list) on world = (Some (ask caller call), calls caller call rows list on, world)
+
+pub report_event : (now : ℕ) (w u : World) (line out : List ℕ) (r : Result DeviceReport LineFault) → Reads line r → BringsAbout r w now u out
+    → (e : Option Event) × Tells line e × IfSome e IsEvent × (u ≡ after w now e)
+report_event now w u line out (Ok r) reads brings = (Some (tell r), reports r reads, reads.1, brings.0)
+report_event now w u line out (Err f) reads brings = (None, unread f reads, tt, brings.0)
+
+answered_event : AreCalls → (now : ℕ) (w : World) (target : Target) (content : List ℕ) (fault : Bool) (kind reply : List ℕ) (u : World) → length content ≤ 16777216
+    → IsAnswered now w target content fault kind reply u
+    → (e : Option Event) × MatchBool fault (e ≡ None) (AsksFor target content e) × IfSome e IsEvent × (u ≡ after w now e)
+answered_event are now w Ipp content true kind reply u fits a = (None, refl, tt, a.answers.1)
+answered_event are now w Ipp content false kind reply u fits a =
+    let v = verdict_event now w u content a.answers.verdict a.answers.on_bytes a.answers.world in (v.0, v.1, are content v.0 fits v.1, v.2)
+answered_event are now w Report content true kind reply u fits a = (None, refl, tt, a.answers.1)
+answered_event are now w Report content false kind reply u fits a = report_event now w u content reply a.answers.reading a.answers.reads a.answers.brings
+answered_event are now w Queue content true kind reply u fits a = (None, refl, tt, a.after_is)
+answered_event are now w Queue content false kind reply u fits a = (None, refl, tt, a.after_is)
+answered_event are now w (DocumentTarget n) content true kind reply u fits a = (None, refl, tt, a.after_is)
+answered_event are now w (DocumentTarget n) content false kind reply u fits a = (None, refl, tt, a.after_is)
+
+turn_place : AreCalls → (now : ℕ) (w : World) (t : Turn) → IsMoment now → IsTurn now w t → (p : Place) × IsPlaceOf now w t p × IsPlace p × (t.after ≡ run w (p ∷ []))
+turn_place are now w t moment is =
+    let e = answered_event are now w (plan t).target t.content t.is_fault t.media_type t.reply t.after (turn_fits now w t is) is.answered in (
+      record { now = now; event = e.0 },
+      record { moment = refl; within = (moment, e.2); asks = e.1; world = e.3 },
+      (moment, e.2),
+      e.3,
+    )
+
+-- ---- the turns of a connection
+
+run_on : (w v u : World) (p : Place) (ps : List Place) → v ≡ run w (p ∷ []) → u ≡ run v ps → u ≡ run w (p ∷ ps)
+run_on w v u p ps first rest = rest ∙ ap (λ (x : World). run x ps) first
+
+pub turns_places : AreCalls → (now : ℕ) (w : World) (ts : List Turn) → IsMoment now → AreTurns now w ts
+    → (ps : List Place) × ArePlacesOf now w ts ps × Each IsPlace ps × (world_after w ts ≡ run w ps)
+turns_places are now w [] moment a = ([], refl, tt, refl)
+turns_places are now w (t ∷ ts) moment a =
+    let p = turn_place are now w t moment a.0 in
+    let ps = turns_places are now t.after ts moment a.1 in
+    (p.0 ∷ ps.0, (p.0, ps.0, refl, p.1, ps.1), (p.2, ps.2), run_on w t.after (world_after t.after ts) p.0 ps.0 p.3 ps.3)
+
+-- those of a connection whose end world has another name
+pub served_places : AreCalls → (now : ℕ) (w u : World) (ts : List Turn) → IsMoment now → AreTurns now w ts → u ≡ world_after w ts
+    → (ps : List Place) × ArePlacesOf now w ts ps × Each IsPlace ps × (u ≡ run w ps)
+served_places are now w u ts moment a e = let ps = turns_places are now w ts moment a in (ps.0, ps.1, ps.2, e ∙ ps.3)
+
+-- ---- one that was broken off
+
+last_places : AreCalls → (now k : ℕ) (w : World) (bytes begun : List ℕ) (u : World) (acted fault : Bool) → IsMoment now → IsBegun now k w bytes begun u acted fault
+    → (ps : List Place) × IsLast now w u ps × Each IsPlace ps × (u ≡ run w ps)
+last_places are now k w bytes _ _ _ _ moment nothing = ([], inl (refl, refl), tt, refl)
+last_places are now k w bytes _ _ _ _ moment (interim h rest b p) = ([], inl (refl, refl), tt, refl)
+last_places are now k w bytes _ _ _ _ moment (answered t rest e is) =
+    let p = turn_place are now w t moment is in (p.0 ∷ [], inr (t, p.0, refl, is, p.1, refl), (p.2, tt), p.3)
+last_places are now k w bytes _ _ _ _ moment (ended end last e) = ([], inl (refl, refl), tt, refl)
+
+pub each_append : (xs ys : List Place) → Each IsPlace xs → Each IsPlace ys → Each IsPlace (xs ++ ys)
+each_append [] ys h k = k
+each_append (x ∷ xs) ys h k = (h.0, each_append xs ys h.1 k)
+
+pub broken_places : AreCalls → ((w : World) (ps qs : List Place) → run w (ps ++ qs) ≡ run (run w ps) qs)
+    → (now : ℕ) (w u : World) (stream written : List ℕ) (acted faults : ℕ) → IsMoment now → (b : Breaks now w stream written u acted faults)
+    → (ps : List Place) × AreBrokenPlaces now w u b.turns ps × Each IsPlace ps × (u ≡ run w ps)
+broken_places are joined now w u stream written acted faults moment b =
+    let front = turns_places are now w b.turns moment b.are in
+    let last = last_places are now (length b.turns) (world_after w b.turns) b.rest b.begun u b.acted_last b.fault_last moment b.begins in (
+      front.0 ++ last.0,
+      (front.0, last.0, refl, front.1, last.1),
+      each_append front.0 last.0 front.2 last.2,
+      last.3 ∙ ap (λ (x : World). run x last.0) front.3 ∙ sym (joined w front.0 last.0),
+    )

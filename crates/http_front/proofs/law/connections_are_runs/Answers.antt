@@ -1,0 +1,11 @@
+use Rattle.http_front.proofs.PlaceLemmas.{broken_places, served_places}
+use Rattle.http_front.proofs.law.connections_are_runs.Goals as goal
+
+pub returns-clause-served : goal.returns-clause-served
+returns-clause-served c = λ now w u stream written acted faults end moment a. served_places c.calls_are_events.ensures now w u a.turns moment a.are a.world
+
+pub returns-clause-broken : goal.returns-clause-broken
+returns-clause-broken c = broken_places c.calls_are_events.ensures c.run_keeps.ensures.joined
+
+pub returns-clause-worked : goal.returns-clause-worked
+returns-clause-worked c = λ most now w u acted moment k. served_places c.calls_are_events.ensures now w u k.turns moment k.are k.world

@@ -1,0 +1,39 @@
+-- What the turns of a connection are to the machine: places of a run.
+use Rattle.std.specs.Prelude.{◌≡◌, ◌⊎◌, ℕ, List, [], ◌∷◌, ◌++◌, Option, None, MatchBool}
+use Rattle.queue_types.specs.Event.{Event}
+use Rattle.queue_core.specs.Runs.{Place, IsPlace, after}
+use Rattle.queue_core.specs.World.{World}
+use Rattle.ipp_ops.specs.Answer.{Asks}
+use Rattle.device_lines.specs.Reports.{Tells}
+use Rattle.http_head.specs.declared.target.Target.{Target}
+use Rattle.http_head.specs.declared.target.Target.TheVariants.{Ipp, Report, Queue, Document as DocumentTarget}
+use Rattle.http_front.specs.Turns.{Turn, IsTurn, plan}
+use Rattle.http_front.specs.Connections.{world_after}
+
+-- what a request asks of the machine: its event, or nothing where it is refused or only reads
+abbrev pub AsksFor : Target → List ℕ → Option Event → Type 0
+AsksFor Ipp content e = Asks content e
+AsksFor Report content e = Tells content e
+AsksFor Queue content e = e ≡ None
+AsksFor (DocumentTarget n) content e = e ≡ None
+
+-- a turn is a place of a run: at its moment, what it asks for makes the world after it; and where a fault answers it, nothing happens
+pub record IsPlaceOf (now : ℕ) (w : World) (t : Turn) (p : Place) : Type 0 where
+  pub moment : p.now ≡ now
+  pub within : IsPlace p
+  pub asks : MatchBool t.is_fault (p.event ≡ None) (AsksFor (plan t).target t.content p.event)
+  pub world : t.after ≡ after w now p.event
+
+-- each of the turns is one of the places, in the world that the one before it leaves
+abbrev pub ArePlacesOf : ℕ → World → List Turn → List Place → Type 0
+ArePlacesOf now w [] ps = ps ≡ []
+ArePlacesOf now w (t ∷ ts) ps = (p : Place) × (rest : List Place) × (ps ≡ p ∷ rest) × IsPlaceOf now w t p × ArePlacesOf now t.after ts rest
+
+-- behind the turns that were answered whole, u is the world still; or one more was taken, and u is the world after it
+abbrev pub IsLast : ℕ → World → World → List Place → Type 0
+IsLast now w u ps = ((ps ≡ []) × (u ≡ w)) ⊎ ((t : Turn) × (p : Place) × (ps ≡ p ∷ []) × IsTurn now w t × IsPlaceOf now w t p × (u ≡ t.after))
+
+-- the places of a connection that was broken off: those of its turns, and of the one whose answer was broken off
+abbrev pub AreBrokenPlaces : ℕ → World → World → List Turn → List Place → Type 0
+AreBrokenPlaces now w u ts ps = (front : List Place) × (last : List Place) × (ps ≡ front ++ last)
+    × ArePlacesOf now w ts front × IsLast now (world_after w ts) u last

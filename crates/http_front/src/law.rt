@@ -1,0 +1,29 @@
+//! What a connection is to the machine: a law over the definitions, in a function that does nothing.
+ghost use Rattle.std.specs.Prelude.{◌≡◌, ℕ, List};
+ghost use Rattle.std.specs.List.{AllByRecursion};
+ghost use Rattle.queue_core.specs.Limits.{IsMoment};
+ghost use Rattle.queue_core.specs.Runs.{IsPlace, Place, run};
+ghost use Rattle.queue_core.specs.World.{World};
+ghost use Rattle.http_head.specs.declared.end.End.{End};
+ghost use Rattle.http_front.specs.Connections.{Answers, Breaks, Worked};
+ghost use Rattle.http_front.specs.Places.{AreBrokenPlaces, ArePlacesOf};
+
+use ipp_ops::calls_are_events;
+use queue_core::run_keeps;
+
+/// What a connection makes of a queue is a run of the machine: each of its requests is a place of the run, at the connection's moment, with the event that
+/// the request asks for; or with nothing, where it is refused, only reads, or is answered by a fault.
+pub fn connections_are_runs()
+    ensures served { (now : ℕ) (w u : World) (stream written : List ℕ) (acted faults : ℕ) (end : End) → IsMoment now
+        → (a : Answers now w stream written u acted faults end)
+        → (ps : List Place) × ArePlacesOf now w a.turns ps × AllByRecursion IsPlace ps × (u ≡ run w ps) }
+    ensures broken { (now : ℕ) (w u : World) (stream written : List ℕ) (acted faults : ℕ) → IsMoment now
+        → (b : Breaks now w stream written u acted faults)
+        → (ps : List Place) × AreBrokenPlaces now w u b.turns ps × AllByRecursion IsPlace ps × (u ≡ run w ps) }
+    // whatever the bytes were
+    ensures worked { (most now : ℕ) (w u : World) (acted : ℕ) → IsMoment now → (k : Worked most now w u acted)
+        → (ps : List Place) × ArePlacesOf now w k.turns ps × AllByRecursion IsPlace ps × (u ≡ run w ps) }
+{
+    calls_are_events();
+    run_keeps();
+}

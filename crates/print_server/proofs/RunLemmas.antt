@@ -1,0 +1,21 @@
+-- Connections, one after another, as a run of the machine.
+use Rattle.std.proofs.Common.{◌≡◌, ◌∙◌, ℕ, List, [], ◌∷◌, ◌++◌, sym, ap}
+use Rattle.std.specs.List.{AllByRecursion as Each}
+use Rattle.queue_core.specs.Limits.{IsMoment}
+use Rattle.queue_core.specs.Runs.{Place, IsPlace, run}
+use Rattle.queue_core.specs.World.{World}
+use Rattle.http_front.specs.Connections.{Worked}
+use Rattle.http_front.proofs.PlaceLemmas.{each_append}
+use Rattle.print_server.specs.Connections.{AreConnections}
+
+pub connections_run : ((now : ℕ) (w u : World) (acted : ℕ) → IsMoment now → Worked 32 now w u acted → (ps : List Place) × Each IsPlace ps × (u ≡ run w ps))
+    → ((w : World) (ps qs : List Place) → run w (ps ++ qs) ≡ run (run w ps) qs)
+    → (w u : World) (counts : List ℕ) → AreConnections w counts u → (ps : List Place) × Each IsPlace ps × (u ≡ run w ps)
+connections_run one joined w u [] are = ([], tt, are)
+connections_run one joined w u (acted ∷ rest) are =
+    let first = one are.1.now w are.0 acted are.1.moment are.1.worked in
+    let others = connections_run one joined are.0 u rest are.2 in (
+      first.0 ++ others.0,
+      each_append first.0 others.0 first.1 others.1,
+      others.2 ∙ ap (λ (x : World). run x others.0) first.2 ∙ sym (joined w first.0 others.0),
+    )
