@@ -1,5 +1,5 @@
 -- What came of an import, by what the reading of the file and the machine say.
-use Rattle.std.proofs.Common.{◌≡◌, ◌∙◌, ◌≤◌, ℕ, List, length, Result, Ok, Err, ◌⊎◌, inl, inr, refl, subst, sym}
+use Rattle.std.proofs.Common.{◌≡◌, ◌≤◌, ℕ, List, length, Result, Ok, Err, ◌⊎◌, inl, inr, refl, subst, sym}
 use Rattle.std.specs.Prelude.{All, IfErr, IfOk, IsErr, MatchResult, OnErr}
 use Rattle.std.specs.Result.{IsErrAnd}
 use Rattle.queue_types.specs.Event.{grant}
