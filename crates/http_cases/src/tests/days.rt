@@ -11,16 +11,20 @@ use http_desk::connection::{Wanted, joined, wanted_bytes};
 use http_desk::desk::settings;
 use http_desk::messages::{DONE, JOB_1, PRINT_JOB, RELEASE_JOB};
 use http_desk::requests::{GET_QUEUE, IPP, POST_JOB, POST_RELEASE, TEXT};
-use http_front::{End, ServeFault, Served};
+use http_desk::streams::BrokenWriter;
+use http_front::{End, ServeCause, ServeFault, Served};
 use list_book::ListBook;
 use queue_types::limits::LAST_MOMENT;
 use std::alloc::Global;
+use std::io::Write;
 
 /// What is wanted of one of them.
 #[derive(Clone, Copy)]
 enum Comes {
     /// A connection ends so, and so many of its requests act.
     Serves(u32, End),
+    /// A connection breaks off as its answers can't be written, and so many of its requests have acted.
+    Breaks(u32),
     /// The device is answered this.
     Tells(&'static str),
     /// So many rows are added, and so many are repeats.
@@ -29,8 +33,8 @@ enum Comes {
     Refuses(ImportCause, u32),
 }
 
-/// What is wanted of each.
-const WANTED: [Comes; 11] = [
+/// What is wanted of each of a day.
+const OF_A_DAY: &[Comes] = &[
     Comes::Imports(1, 0),
     Comes::Serves(2, End::Closed),
     Comes::Serves(0, End::Closed),
@@ -86,11 +90,21 @@ fn day(print: &[u8]) -> [Arrival<'_>; 11]
 
 /// One came to what it was to come to.
 fn compare(place: &Place, wanted: Comes, came: &Outcome) -> Result<(), Mismatch> {
+    let faults = 0;
     match (wanted, came) {
         (Comes::Serves(acted, end), Outcome::Served(served)) => {
-            let faults = 0;
-            let wanted = Served { acted, faults, end };
-            place.same_outcome(Ok(wanted), Ok(*served))
+            place.same_outcome(Ok(Served { acted, faults, end }), Ok(*served))
+        }
+        (Comes::Breaks(acted), Outcome::Broken(fault)) => {
+            let cause = ServeCause::Write;
+            place.same_outcome(
+                Err(ServeFault {
+                    acted,
+                    faults,
+                    cause,
+                }),
+                Err(*fault),
+            )
         }
         (Comes::Tells(line), Outcome::Told(answer)) => {
             place.same_bytes(line.as_bytes(), answer.bytes())
@@ -112,9 +126,9 @@ fn compare(place: &Place, wanted: Comes, came: &Outcome) -> Result<(), Mismatch>
 }
 
 /// Each did.
-fn compare_each(place: &Place, came: &[Outcome]) -> Result<(), Mismatch> {
-    place.is_so(came.len() == WANTED.len(), "an outcome for each")?;
-    for (wanted, one) in WANTED.iter().zip(came) {
+fn compare_each(place: &Place, wanted: &[Comes], came: &[Outcome]) -> Result<(), Mismatch> {
+    place.is_so(came.len() == wanted.len(), "an outcome for each")?;
+    for (wanted, one) in wanted.iter().zip(came) {
         compare(place, *wanted, one)?;
     }
     Ok(())
@@ -131,25 +145,36 @@ fn has_printed<B: DeskBook>(place: &Place, book: &mut B) -> Result<(), Mismatch>
     }
 }
 
-/// They are taken over a book.
-fn take_over<B: DeskBook>(alloc: Global, print: &[u8], answers: &[u8]) -> Result<(), Mismatch> {
-    let place = Place {
+/// Where comparisons of a book are made.
+fn place_of<B: DeskBook>() -> Place {
+    Place {
         book: B::name(),
-        most: print.len(),
-    };
+        most: usize::MAX,
+    }
+}
+
+/// They come to this in a new book, which is handed back.
+fn take_over<B: DeskBook, W: Write>(
+    alloc: Global,
+    arrivals: &[Arrival<'_>],
+    wanted: &[Comes],
+    writer: &mut W,
+) -> Result<B, Mismatch>
+    requires { All (λ a. IsMoment a.moment) arrivals.now }
+{
     let settings = settings(alloc)?;
     let mut book = B::empty(alloc, settings.try_clone()?)?;
+    let came = take_all(alloc, &mut book, &settings, arrivals, writer)?;
+    compare_each(&place_of::<B>(), wanted, came.as_slice())?;
+    Ok(book)
+}
+
+/// A day passes over a book.
+fn pass_a_day<B: DeskBook>(alloc: Global, print: &[u8], answers: &[u8]) -> Result<(), Mismatch> {
     let mut written = Vec::new(alloc);
-    let came = take_all(
-        alloc,
-        &mut book,
-        &settings,
-        day(print).as_slice(),
-        &mut written,
-    )?;
-    compare_each(&place, came.as_slice())?;
-    place.same_bytes(answers, written.as_slice())?;
-    has_printed(&place, &mut book)
+    let mut book = take_over::<B, Vec<u8>>(alloc, day(print).as_slice(), OF_A_DAY, &mut written)?;
+    place_of::<B>().same_bytes(answers, written.as_slice())?;
+    has_printed(&place_of::<B>(), &mut book)
 }
 
 #[test]
@@ -157,6 +182,43 @@ fn a_day_of_a_queue(rt: HostRuntime) -> Result<(), Mismatch> {
     let alloc = rt.alloc();
     let print = joined(alloc, &[POST_JOB, PRINT_JOB, POST_RELEASE, RELEASE_JOB])?;
     let answers = wanted_bytes(alloc, ANSWERS)?;
-    take_over::<ListBook>(alloc, print.as_slice(), answers.as_slice())?;
-    take_over::<MemoryBook>(alloc, print.as_slice(), answers.as_slice())
+    pass_a_day::<ListBook>(alloc, print.as_slice(), answers.as_slice())?;
+    pass_a_day::<MemoryBook>(alloc, print.as_slice(), answers.as_slice())
+}
+
+/// A job is printed and released, and the device starts it, in a connection and a line.
+fn print_and_start(print: &[u8]) -> [Arrival<'_>; 2]
+    ensures { All (λ a. IsMoment a.moment) result }
+{
+    [
+        at(1, Arrived::Connection(print)),
+        at(2, Arrived::Line(b"1 1 start 0\n")),
+    ]
+}
+
+/// Where the answer to the Print-Job can't be written, the job is there and isn't released.
+const OF_A_LOST_ANSWER: &[Comes] = &[Comes::Breaks(1), Comes::Tells("refused 3 state\n")];
+
+/// The answer is lost over a book.
+fn lose_an_answer<B: DeskBook>(alloc: Global, print: &[u8]) -> Result<(), Mismatch> {
+    let mut writer = BrokenWriter {
+        room: 100,
+        most: usize::MAX,
+        taken: Vec::new(alloc),
+    };
+    let _book = take_over::<B, BrokenWriter>(
+        alloc,
+        print_and_start(print).as_slice(),
+        OF_A_LOST_ANSWER,
+        &mut writer,
+    )?;
+    Ok(())
+}
+
+#[test]
+fn a_day_of_a_lost_answer(rt: HostRuntime) -> Result<(), Mismatch> {
+    let alloc = rt.alloc();
+    let print = joined(alloc, &[POST_JOB, PRINT_JOB, POST_RELEASE, RELEASE_JOB])?;
+    lose_an_answer::<ListBook>(alloc, print.as_slice())?;
+    lose_an_answer::<MemoryBook>(alloc, print.as_slice())
 }
