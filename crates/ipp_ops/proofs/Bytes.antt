@@ -6,11 +6,12 @@ use Rattle.ipp_wire.specs.Message.{Group, Message, Spells, head_of}
 use Rattle.ipp_wire.specs.Bare.{bare}
 use Rattle.queue_types.specs.Settings.{SettingValues}
 use Rattle.queue_core.specs.World.{World}
-use Rattle.queue_types.specs.declared.event.Reply.TheVariants.{Refused}
-use Rattle.ipp_reply.specs.Unsupported.{nothing}
-use Rattle.ipp_reply.specs.Wanted.{no_rows}
+use Rattle.queue_types.specs.declared.event.Reply.{Reply}
+use Rattle.queue_types.specs.declared.event.Reply.TheVariants.{Refused, Done, Jobs, Printer}
+use Rattle.ipp_reply.specs.Unsupported.{Unsupported, nothing}
+use Rattle.ipp_reply.specs.Wanted.{Rows, no_rows}
 use Rattle.ipp_reply.specs.Reply.{reply_of, with_groups}
-use Rattle.ipp_ops.specs.Answer.{Answers, IsVerdictOn, IsMalformed, by_head, malformed, request, outcome}
+use Rattle.ipp_ops.specs.Answer.{IsReplyTo, Answers, IsVerdictOn, IsMalformed, by_head, malformed, request, outcome}
 use Rattle.ipp_ops.specs.Verdict.{refused, verdict}
 use Rattle.ipp_request.specs.Reading.{head_refusal}
 
@@ -50,3 +51,15 @@ message_answers m b out w now e found spelled = record {
   world = ap (λ (x : Head). (outcome (verdict m) x w now).world) e;
   spelled = subst (λ (x : Head). Spells (outcome (verdict m) x w now).reply out) e spelled;
 }
+
+-- a bare reply is one to its head
+pub bare_replies : (h : Head) (code : ℕ) (out : List ℕ) → Spells (bare h code) out → IsReplyTo h out
+bare_replies h code out spelled = record { code = code; groups = []; spelled = spelled }
+
+-- and so is each reply of the machine's
+pub each_replies : (r : Reply) (h : Head) (rows : Rows) (u : Unsupported) (s : SettingValues) (now : ℕ) (out : List ℕ) → Spells (reply_of r h rows u s now) out → IsReplyTo h out
+each_replies (Refused code) h rows u s now out spelled = record { code = _; groups = _; spelled = spelled }
+each_replies Done h rows u s now out spelled = record { code = _; groups = _; spelled = spelled }
+each_replies (Jobs js) h rows u s now out spelled = record { code = _; groups = _; spelled = spelled }
+each_replies (Printer state queued accepting) h rows u s now out spelled = record { code = _; groups = _; spelled = spelled }
+each_replies _ h rows u s now out spelled = bare_replies h 0x0505 out spelled

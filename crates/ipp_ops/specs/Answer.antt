@@ -1,7 +1,7 @@
 -- What the bytes of a request bring about: a reply, and the world after it.
 use Rattle.std.specs.Prelude.{◌≡◌, ◌∷◌, ◌==◌, ◌&&◌, ⊤, ℕ, Bool, false, nat_le, List, Option, Some, None}
 use Rattle.ipp_wire.specs.declared.view.Head.{Head}
-use Rattle.ipp_wire.specs.Message.{Message, Spells, head_of}
+use Rattle.ipp_wire.specs.Message.{Group, Message, Spells, head_of}
 use Rattle.ipp_wire.specs.Bare.{bare}
 use Rattle.queue_types.specs.Event.{Event, Call, ask}
 use Rattle.queue_core.specs.World.{World}
@@ -12,7 +12,7 @@ use Rattle.ipp_ops.specs.declared.outcome.Answer.TheVariants.{Whole, Bare}
 use Rattle.ipp_ops.specs.Verdict.{Verdict, passed, refused, verdict}
 use Rattle.ipp_reply.specs.Unsupported.{Unsupported, nothing}
 use Rattle.ipp_request.specs.Reading.{head_refusal}
-use Rattle.ipp_reply.specs.Reply.{reply_of}
+use Rattle.ipp_reply.specs.Reply.{reply_of, with_groups}
 use Rattle.ipp_reply.specs.Wanted.{Rows, no_rows}
 
 -- a request's event
@@ -58,6 +58,12 @@ pub record Answers (old : World) (now : ℕ) (b : List ℕ) (new : World) (out :
 pub record Fails (b : List ℕ) (out : List ℕ) : Type 0 where
   pub supported : head_refusal (head_of b) ≡ None
   pub spelled : Spells (bare (head_of b) 0x0505) out
+
+-- out is a reply to a request of this head, whatever it says: a bare reply with some code, and groups behind its first
+pub record IsReplyTo (h : Head) (out : List ℕ) : Type 0 where
+  pub code : ℕ
+  pub groups : List Group
+  pub spelled : Spells (with_groups (bare h code) groups) out
 
 -- ---- the bytes of an answer
 

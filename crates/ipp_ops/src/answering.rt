@@ -5,13 +5,14 @@ ghost use Rattle.ipp_wire.specs.Message.{IsMessage, Spells, head_of};
 ghost use Rattle.ipp_wire.specs.Viewed.{message_of};
 ghost use Rattle.ipp_wire.specs.Bare.{bare};
 ghost use Rattle.queue_types.specs.Event.{event_of};
+ghost use Rattle.queue_types.specs.declared.event.Reply.TheVariants.{Refused};
 ghost use Rattle.queue_core.specs.Limits.{IsEvent, IsMoment, IsSoundReply};
 ghost use Rattle.queue_core.specs.Machine.{step as machine_step};
 ghost use Rattle.queue_core.specs.World.{World};
 ghost use Rattle.ipp_reply.specs.Reply.{reply_of};
 ghost use Rattle.ipp_reply.specs.Unsupported.{CanList, unsupported_of};
-ghost use Rattle.ipp_reply.specs.Wanted.{rows_of};
-ghost use Rattle.ipp_ops.specs.Answer.{Answers, Fails, IsAsk, IsMalformed, bytes_of, is_fault, is_refusal, outcome};
+ghost use Rattle.ipp_reply.specs.Wanted.{no_rows, rows_of};
+ghost use Rattle.ipp_ops.specs.Answer.{Answers, Fails, IsReplyTo, IsAsk, IsMalformed, bytes_of, is_fault, is_refusal, outcome};
 ghost use Rattle.ipp_ops.specs.Verdict.{verdict};
 ghost use Rattle.ipp_request.specs.Reading.{head_refusal};
 
@@ -46,6 +47,7 @@ struct ReplyContext<'a> {
 }
 
 /// The bytes of the message that is a reply.
+#[tactic(auto, using(crate::proofs::Bytes::each_replies))]
 fn reply_bytes(
     context: ReplyContext<'_>,
     reply: &Reply,
@@ -54,7 +56,8 @@ fn reply_bytes(
 ) -> Result<Vec<u8>, AllocError>
     requires sound { IsSoundReply reply.now }
     requires listed { CanList (unsupported_of unsupported.now) }
-    ensures { IfOk result (λ b. Spells (reply_of reply.now context.entry.head (rows_of wanted.now) (unsupported_of unsupported.now) context.entry.settings.now context.entry.now) b.items) }
+    ensures spelled { IfOk result (λ b. Spells (reply_of reply.now context.entry.head (rows_of wanted.now) (unsupported_of unsupported.now) context.entry.settings.now context.entry.now) b.items) }
+    ensures replies { IfOk result (λ b. IsReplyTo context.entry.head b.items) }
 {
     let message = reply_message(
         context.alloc,
@@ -68,9 +71,23 @@ fn reply_bytes(
     write(&message)
 }
 
+/// The bytes of the reply that refuses a request.
+fn refusal_bytes(
+    context: ReplyContext<'_>,
+    code: u16,
+    unsupported: &Unsupported<'_>,
+) -> Result<Vec<u8>, AllocError>
+    requires listed { CanList (unsupported_of unsupported.now) }
+    ensures spelled { IfOk result (λ b. Spells (reply_of (Refused code) context.entry.head no_rows (unsupported_of unsupported.now) context.entry.settings.now context.entry.now) b.items) }
+    ensures replies { IfOk result (λ b. IsReplyTo context.entry.head b.items) }
+{
+    let wanted = Wanted::nothing(context.alloc);
+    reply_bytes(context, &Reply::Refused(code), &wanted, unsupported)
+}
+
 /// One step of the machine, or a fault and no change: the book is changed last, once the reply's bytes
 /// are there.
-fn take<B: QueueBook>(
+fn take_step<B: QueueBook>(
     context: ReplyContext<'_>,
     book: &mut B,
     event: &Event<'_>,
@@ -84,6 +101,7 @@ fn take<B: QueueBook>(
     ensures began { B.is_honest book.new → B.is_honest book.old }
     ensures reply { B.is_honest book.new → IfOk result (λ b. (w : World) → B.stands book.old w → context.entry.settings.now ≡ w.settings
         → Spells (reply_of (machine_step w context.entry.now (event_of event.now)).reply context.entry.head (rows_of wanted.now) (unsupported_of unsupported.now) w.settings context.entry.now) b.items) }
+    ensures replies { IfOk result (λ b. IsReplyTo context.entry.head b.items) }
     ensures world { B.is_honest book.new → IfOk result (λ b. (w : World) → B.stands book.old w
         → B.stands book.new (machine_step w context.entry.now (event_of event.now)).world) }
     ensures err { OnErr result ((w : World) → B.stands book.old w → B.stands book.new w) }
@@ -95,7 +113,7 @@ fn take<B: QueueBook>(
 }
 
 /// What a request that was read is answered: the reply to it, or a fault and no change.
-fn step<B: QueueBook>(
+fn answer_message<B: QueueBook>(
     alloc: Global,
     book: &mut B,
     settings: &Settings,
@@ -108,6 +126,7 @@ fn step<B: QueueBook>(
     ensures began { B.is_honest book.new → B.is_honest book.old }
     ensures reply { B.is_honest book.new → IfOk result (λ b. (w : World) → B.stands book.old w → settings.now ≡ w.settings
         → Spells (outcome (verdict (message_of view.now)) view.now.head w now).reply b.items) }
+    ensures replies { IfOk result (λ b. IsReplyTo view.now.head b.items) }
     ensures world { B.is_honest book.new → IfOk result (λ b. (w : World) → B.stands book.old w
         → B.stands book.new (outcome (verdict (message_of view.now)) view.now.head w now).world) }
     ensures err { OnErr result ((w : World) → B.stands book.old w → B.stands book.new w) }
@@ -120,8 +139,7 @@ fn step<B: QueueBook>(
     };
     match ask(alloc, view)? {
         Ask::Refused { code, unsupported } => {
-            let wanted = Wanted::nothing(alloc);
-            let bytes = reply_bytes(context, &Reply::Refused(code), &wanted, &unsupported)?;
+            let bytes = refusal_bytes(context, code, &unsupported)?;
             Ok(bytes)
         }
         Ask::Call {
@@ -131,7 +149,7 @@ fn step<B: QueueBook>(
             unsupported,
         } => {
             let event = Event::Ask { caller, call };
-            take(context, book, &event, &wanted, &unsupported)
+            take_step(context, book, &event, &wanted, &unsupported)
         }
     }
 }
@@ -162,6 +180,7 @@ pub fn answer<B: QueueBook>(
         ((w : World) → B.stands book.old w → settings.now ≡ w.settings → B.stands book.new w)) }
 
     // These hold on any book, also on one that is not honest.
+    ensures replies { IfOk result (λ a. IsReplyTo (head_of body.now) (bytes_of a)) }
     ensures head_refused { (code : ℕ) → head_refusal (head_of body.now) ≡ Some code → IfOk result (λ a. Spells (bare (head_of body.now) code) (bytes_of a)) }
     ensures head_refused_kept { (code : ℕ) → head_refusal (head_of body.now) ≡ Some code → (w : World) → B.stands book.old w → B.stands book.new w }
     ensures malformed { head_refusal (head_of body.now) ≡ None → IsMalformed body.now → IfOk result (λ a. MatchBool (is_fault (bytes_of a)) (Fails body.now (bytes_of a)) (Spells (bare (head_of body.now) 0x0400) (bytes_of a))) }
@@ -175,7 +194,7 @@ pub fn answer<B: QueueBook>(
         return Ok(bare_answer(h, code));
     }
     match read(alloc, body) {
-        Ok(view) => match step(alloc, book, settings, now, &view) {
+        Ok(view) => match answer_message(alloc, book, settings, now, &view) {
             Ok(bytes) => Ok(Answer::Whole(bytes)),
             Err(_) => Ok(bare_answer(h, SERVER_ERROR_TEMPORARY_ERROR)),
         },

@@ -4,6 +4,10 @@ ghost use Rattle.queue_types.specs.Formats.{formats};
 ghost use Rattle.queue_types.specs.declared.document.Format.{Format};
 ghost use Rattle.ipp_reply.specs.Operations.{operations};
 ghost use Rattle.ipp_reply.specs.declared.operation.Operation.{Operation};
+ghost use Rattle.ipp_reply.specs.JobReply.{table as job_reply_table};
+ghost use Rattle.ipp_reply.specs.PrinterReply.{table as printer_reply_table};
+ghost use Rattle.ipp_reply.specs.declared.job_reply.JobAttribute.{JobAttribute};
+ghost use Rattle.ipp_reply.specs.declared.printer_reply.PrinterAttribute.{PrinterAttribute};
 ghost use Rattle.ipp_ops.specs.Answer.{Asks, IsVerdictOn};
 ghost use Rattle.queue_core.specs.Limits.{IsEvent};
 ghost use Rattle.queue_types.specs.Event.{Event};
@@ -36,11 +40,13 @@ pub fn job_paths()
     ensures found { (path : List ℕ) (n : ℕ) → IsJobPath path n → job_in path ≡ Some n }
 {}
 
-/// Each operation, each attribute, each check and each document format stands in its table.
+/// Each operation, each attribute of requests and of replies, each check and each document format stands in its table.
 pub fn whole_tables()
     ensures operations { (o : Operation) → Contains operations o }
     ensures attributes { (k : OperationAttribute) → Contains table k }
     ensures job_attributes { (k : TemplateAttribute) → Contains template_table k }
+    ensures job_replies { (a : JobAttribute) → Contains job_reply_table a }
+    ensures printer_replies { (a : PrinterAttribute) → Contains printer_reply_table a }
     ensures checks { (c : Check) → Contains checks c }
     ensures formats { (f : Format) → Contains formats f }
 {}

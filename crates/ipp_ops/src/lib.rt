@@ -1,4 +1,4 @@
-//! Requests of print operations over IPP: what one says, the checks that refuse it, the call that it makes, and
+//! Requests of print operations over IPP: the checks that refuse one, the call that it makes, and
 //! [`answer`], which goes from its bytes to those of its reply over any book of a print queue.
 #![tactic(auto)]
 

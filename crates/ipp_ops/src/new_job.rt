@@ -19,15 +19,11 @@ use queue_types::event::NewJob;
 fn supported_number(support: Support, attribute: Option<&AttrView<'_>>) -> Option<u32>
     ensures { result ≡ spec.supported_number (support_of support) (option_map attribute_of (option_copied attribute.entry)) }
 {
-    match attribute {
-        None => None,
-        Some(attribute) => {
-            if are_supported(support, attribute.values.as_slice()) {
-                number(first_value(attribute.values.as_slice())?.bytes)
-            } else {
-                None
-            }
-        }
+    let values = attribute?.values.as_slice();
+    if are_supported(support, values) {
+        number(first_value(values)?.bytes)
+    } else {
+        None
     }
 }
 

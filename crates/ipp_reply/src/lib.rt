@@ -1,6 +1,5 @@
-//! What the printer answers over IPP: its operations and document formats by their names, the tables of the
-//! job attributes and the printer attributes, and [`reply_message`], which makes a reply a message. It knows
-//! nothing of requests.
+//! What the printer answers over IPP: its operations by their ids, the tables of the job attributes and the
+//! printer attributes, and [`reply_message`], which makes a reply a message. It knows nothing of requests.
 #![tactic(auto)]
 
 mod content;

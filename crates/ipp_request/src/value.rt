@@ -11,10 +11,9 @@ ghost use Rattle.ipp_request.specs.Values as spec;
 use crate::attribute::{Row, Support, Syntax};
 use ipp_wire::ValueView;
 use ipp_wire::tags::{INTEGER, KEYWORD, NAME_WITH_LANGUAGE};
-use queue_types::limits::LAST_JOB_NUMBER;
 use queue_types::text::utf8_text;
 
-/// A number of 4 bytes.
+/// A number of 4 bytes, by its bits: one of 2,147,483,648 or more stands for a number below zero (RFC 8010, section 3.9).
 pub fn number(bytes: &[u8]) -> Option<u32>
     ensures { result ≡ spec.number_of bytes.now }
 {
@@ -24,23 +23,26 @@ pub fn number(bytes: &[u8]) -> Option<u32>
     }
 }
 
-/// A number that a job may have.
+/// At least 1, and not one that stands for a number below zero.
+fn is_positive(n: u32) -> bool
+    ensures { result ≡ spec.is_positive n }
+{
+    1 <= n && n <= i32::MAX as u32
+}
+
+/// The number, where a job may have it: 1 to 2,147,483,647.
 pub fn job_of_id(n: u32) -> Option<u32>
     ensures { result ≡ job_of_id n }
 {
-    if 1 <= n && n <= LAST_JOB_NUMBER {
-        Some(n)
-    } else {
-        None
-    }
+    is_positive(n).then_some(n)
 }
 
-/// A number of 4 bytes, at least 1.
+/// A number of 4 bytes, at least 1 (at most 2,147,483,647).
 pub fn is_positive_number(bytes: &[u8]) -> bool
     ensures { result ≡ option_map_or spec.is_positive (spec.number_of bytes.now) false }
 {
     match number(bytes) {
-        Some(n) => job_of_id(n).is_some(),
+        Some(n) => is_positive(n),
         None => false,
     }
 }

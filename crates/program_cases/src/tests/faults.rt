@@ -18,7 +18,7 @@ use std::io::Write;
 #[derive(Drop)]
 struct FaultyBook {
     alloc: Global,
-    /// Why the jobs that wait can't be read, where they can't be.
+    /// Why neither what an event needs nor the jobs that wait can be read. Where they can be read the disk is full.
     unread: Option<BookFault>,
 }
 
@@ -30,7 +30,7 @@ impl QueueBook for FaultyBook {
     ghost sound = { λ b w h s. absurd h };
 
     fn decide<'a>(&mut self, _now: u32, _e: &Event<'a>) -> Result<Decision<'a>, BookFault> {
-        Err(BookFault::Disk)
+        Err(self.unread.unwrap_or(BookFault::Disk))
     }
 
     fn apply(&mut self, _d: Decision<'_>) -> Result<(), BookFault> {

@@ -20,31 +20,31 @@ returns-in-Some-head_check-clause-failed g c = λ honest. on_true _ (is_fault (b
     let quiet = head_tells c.in-Some.h c.in-Some-head_check.code (bytes_of c.bare_answer.result) (sym c.in-Some-head_check.ensures) c.bare_answer.ensures in
     absurd (cc))
 
-pub returns-in-Ok-step-clause-answered : goal.returns-in-Ok-step-clause-answered
-returns-in-Ok-step-clause-answered g c = λ honest. on_false _ (is_fault c.in-Ok-step.bytes.items) (λ w stands set.
+pub returns-in-Ok-answer_message-clause-answered : goal.returns-in-Ok-answer_message-clause-answered
+returns-in-Ok-answer_message-clause-answered g c = λ honest. on_false _ (is_fault c.in-Ok-answer_message.bytes.items) (λ w stands set.
     let m = message_of c.in-Ok.view in (
       (outcome (verdict m) m.head w c.args.now).world,
-      message_answers m c.args.body.now _ w c.args.now c.in-Ok.ensures.head c.in-Ok.ensures.found (c.in-Ok-step.ensures.reply honest w stands set),
-      c.in-Ok-step.ensures.world honest w stands,
+      message_answers m c.args.body.now _ w c.args.now c.in-Ok.ensures.head c.in-Ok.ensures.found (c.in-Ok-answer_message.ensures.reply honest w stands set),
+      c.in-Ok-answer_message.ensures.world honest w stands,
     ))
 
-pub returns-in-Ok-step-clause-failed : goal.returns-in-Ok-step-clause-failed
-returns-in-Ok-step-clause-failed g c = λ honest. on_true _ (is_fault c.in-Ok-step.bytes.items) (λ fault w stands set.
-    let quiet : is_fault c.in-Ok-step.bytes.items ≡ false =
-    request_tells (message_of c.in-Ok.view) w c.args.now c.in-Ok-step.bytes.items (c.in-Ok-step.ensures.reply honest w stands set) in
+pub returns-in-Ok-answer_message-clause-failed : goal.returns-in-Ok-answer_message-clause-failed
+returns-in-Ok-answer_message-clause-failed g c = λ honest. on_true _ (is_fault c.in-Ok-answer_message.bytes.items) (λ fault w stands set.
+    let quiet : is_fault c.in-Ok-answer_message.bytes.items ≡ false =
+    request_tells (message_of c.in-Ok.view) w c.args.now c.in-Ok-answer_message.bytes.items (c.in-Ok-answer_message.ensures.reply honest w stands set) in
     absurd (cc))
 
-pub returns-in-Ok-step-clause-refused : goal.returns-in-Ok-step-clause-refused
-returns-in-Ok-step-clause-refused g c = λ honest. on_true _ (is_refusal c.in-Ok-step.bytes.items) (λ refusal w stands set.
-    let P : World → Type 0 = λ after. g.B.QueueBook.stands c.step.new.book after in
-    subst P (request_keeps (message_of c.in-Ok.view) w c.args.now c.in-Ok-step.bytes.items (c.in-Ok-step.ensures.reply honest w stands set) refusal)
-    (c.in-Ok-step.ensures.world honest w stands))
+pub returns-in-Ok-answer_message-clause-refused : goal.returns-in-Ok-answer_message-clause-refused
+returns-in-Ok-answer_message-clause-refused g c = λ honest. on_true _ (is_refusal c.in-Ok-answer_message.bytes.items) (λ refusal w stands set.
+    let P : World → Type 0 = λ after. g.B.QueueBook.stands c.answer_message.new.book after in
+    subst P (request_keeps (message_of c.in-Ok.view) w c.args.now c.in-Ok-answer_message.bytes.items (c.in-Ok-answer_message.ensures.reply honest w stands set) refusal)
+    (c.in-Ok-answer_message.ensures.world honest w stands))
 
-pub returns-in-Ok-step-clause-malformed : goal.returns-in-Ok-step-clause-malformed
-returns-in-Ok-step-clause-malformed g c = λ found unspelled. absurd (unspelled (message_of c.in-Ok.view) c.in-Ok.ensures.found)
+pub returns-in-Ok-answer_message-clause-malformed : goal.returns-in-Ok-answer_message-clause-malformed
+returns-in-Ok-answer_message-clause-malformed g c = λ found unspelled. absurd (unspelled (message_of c.in-Ok.view) c.in-Ok.ensures.found)
 
-pub returns-in-Ok-step-clause-malformed_kept : goal.returns-in-Ok-step-clause-malformed_kept
-returns-in-Ok-step-clause-malformed_kept g c = λ unspelled. absurd (unspelled (message_of c.in-Ok.view) c.in-Ok.ensures.found)
+pub returns-in-Ok-answer_message-clause-malformed_kept : goal.returns-in-Ok-answer_message-clause-malformed_kept
+returns-in-Ok-answer_message-clause-malformed_kept g c = λ unspelled. absurd (unspelled (message_of c.in-Ok.view) c.in-Ok.ensures.found)
 
 pub returns-in-Err-Malformed-clause-answered : goal.returns-in-Err-Malformed-clause-answered
 returns-in-Err-Malformed-clause-answered g c = λ honest. on_false _ (is_fault (bytes_of c.bare_answer-in-Err-Malformed.result)) (λ w stands set. (

@@ -3,6 +3,12 @@ use Rattle.std.specs.Prelude.{Contains}
 use Rattle.ipp_reply.specs.Operations.{operations}
 use Rattle.ipp_reply.specs.declared.operation.Operation.{Operation}
 use Rattle.ipp_reply.specs.declared.operation.Operation.TheVariants as operation
+use Rattle.ipp_reply.specs.JobReply.{table as job_reply_table}
+use Rattle.ipp_reply.specs.PrinterReply.{table as printer_reply_table}
+use Rattle.ipp_reply.specs.declared.job_reply.JobAttribute.{JobAttribute}
+use Rattle.ipp_reply.specs.declared.job_reply.JobAttribute.TheVariants as job
+use Rattle.ipp_reply.specs.declared.printer_reply.PrinterAttribute.{PrinterAttribute}
+use Rattle.ipp_reply.specs.declared.printer_reply.PrinterAttribute.TheVariants as printer
 use Rattle.ipp_request.specs.Attributes.{table, template_table}
 use Rattle.ipp_ops.specs.Checks.{checks}
 use Rattle.ipp_request.specs.declared.attribute.OperationAttribute.{OperationAttribute}
@@ -55,6 +61,48 @@ each_job_attribute template.Copies = (0, lit< tt, refl)
 each_job_attribute template.JobHoldUntil = (1, lit< tt, refl)
 each_job_attribute template.JobImpressions = (2, lit< tt, refl)
 
+each_job_reply : (x : JobAttribute) → Contains job_reply_table x
+each_job_reply job.JobUri = (0, lit< tt, refl)
+each_job_reply job.JobId = (1, lit< tt, refl)
+each_job_reply job.JobPrinterUri = (2, lit< tt, refl)
+each_job_reply job.JobName = (3, lit< tt, refl)
+each_job_reply job.JobOriginatingUserName = (4, lit< tt, refl)
+each_job_reply job.JobState = (5, lit< tt, refl)
+each_job_reply job.JobStateReasons = (6, lit< tt, refl)
+each_job_reply job.TimeAtCreation = (7, lit< tt, refl)
+each_job_reply job.TimeAtProcessing = (8, lit< tt, refl)
+each_job_reply job.TimeAtCompleted = (9, lit< tt, refl)
+each_job_reply job.JobPrinterUpTime = (10, lit< tt, refl)
+each_job_reply job.AttributesCharset = (11, lit< tt, refl)
+each_job_reply job.AttributesNaturalLanguage = (12, lit< tt, refl)
+each_job_reply job.JobKOctets = (13, lit< tt, refl)
+each_job_reply job.JobImpressions = (14, lit< tt, refl)
+each_job_reply job.JobImpressionsCompleted = (15, lit< tt, refl)
+each_job_reply job.NumberOfDocuments = (16, lit< tt, refl)
+each_job_reply job.Copies = (17, lit< tt, refl)
+each_job_reply job.JobHoldUntil = (18, lit< tt, refl)
+
+each_printer_reply : (x : PrinterAttribute) → Contains printer_reply_table x
+each_printer_reply printer.PrinterUriSupported = (0, lit< tt, refl)
+each_printer_reply printer.UriAuthenticationSupported = (1, lit< tt, refl)
+each_printer_reply printer.UriSecuritySupported = (2, lit< tt, refl)
+each_printer_reply printer.PrinterName = (3, lit< tt, refl)
+each_printer_reply printer.PrinterState = (4, lit< tt, refl)
+each_printer_reply printer.PrinterStateReasons = (5, lit< tt, refl)
+each_printer_reply printer.IppVersionsSupported = (6, lit< tt, refl)
+each_printer_reply printer.OperationsSupported = (7, lit< tt, refl)
+each_printer_reply printer.CharsetConfigured = (8, lit< tt, refl)
+each_printer_reply printer.CharsetSupported = (9, lit< tt, refl)
+each_printer_reply printer.NaturalLanguageConfigured = (10, lit< tt, refl)
+each_printer_reply printer.GeneratedNaturalLanguageSupported = (11, lit< tt, refl)
+each_printer_reply printer.DocumentFormatDefault = (12, lit< tt, refl)
+each_printer_reply printer.DocumentFormatSupported = (13, lit< tt, refl)
+each_printer_reply printer.PrinterIsAcceptingJobs = (14, lit< tt, refl)
+each_printer_reply printer.QueuedJobCount = (15, lit< tt, refl)
+each_printer_reply printer.PdlOverrideSupported = (16, lit< tt, refl)
+each_printer_reply printer.PrinterUpTime = (17, lit< tt, refl)
+each_printer_reply printer.CompressionSupported = (18, lit< tt, refl)
+
 each_check : (x : Check) → Contains checks x
 each_check check.Charset = (0, lit< tt, refl)
 each_check check.Form = (1, lit< tt, refl)
@@ -81,6 +129,12 @@ returns-clause-attributes c = each_attribute
 
 pub returns-clause-job_attributes : goal.returns-clause-job_attributes
 returns-clause-job_attributes c = each_job_attribute
+
+pub returns-clause-job_replies : goal.returns-clause-job_replies
+returns-clause-job_replies c = each_job_reply
+
+pub returns-clause-printer_replies : goal.returns-clause-printer_replies
+returns-clause-printer_replies c = each_printer_reply
 
 pub returns-clause-checks : goal.returns-clause-checks
 returns-clause-checks c = each_check
