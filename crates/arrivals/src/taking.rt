@@ -1,6 +1,6 @@
 //! What reaches a queue is taken, one after another.
 ghost use Rattle.std.specs.Prelude.{◌≡◌, ℕ, All, List, IfOk, OnErr};
-ghost use Rattle.std.specs.Io.KnownBytes.{Appends};
+ghost use Rattle.std.specs.Io.KnownBytes.{Appends, Keeps};
 ghost use Rattle.queue_core.specs.Limits.{IsMoment};
 ghost use Rattle.queue_core.specs.World.{World};
 ghost use Rattle.arrivals.specs.History.{History};
@@ -87,7 +87,7 @@ fn take<W: Write, B: QueueBook>(
 /// Takes a list of things, one after another, over any book of a queue with these settings: serves connections, answers lines of the device, imports
 /// account files. What answers the connections is written, and what came of each thing is handed back in order.
 ///
-/// The one error is want of memory, before anything is taken.
+/// The one error is want of memory, before anything is taken or written.
 pub fn take_all<W: Write, B: QueueBook>(
     alloc: Global,
     book: &mut B,
@@ -101,6 +101,7 @@ pub fn take_all<W: Write, B: QueueBook>(
         → (u : World) × B.stands book.new u × (written : List ℕ) × Appends (W.contents writer.old) (W.contents writer.new) written
         × History w arrivals.now outcomes.items written u) }
     ensures err { OnErr result ((w : World) → B.stands book.old w → B.stands book.new w) }
+    ensures unwritten { OnErr result (Keeps (W.contents writer.old) (W.contents writer.new)) }
 {
     run_keeps();
     let mut outcomes = Vec::with_capacity(alloc, arrivals.len())?;

@@ -24,7 +24,7 @@ use Rattle.http_head.specs.declared.end.Finish.{Finish}
 use Rattle.http_head.specs.declared.end.Finish.TheVariants.{Done}
 use Rattle.http_head.specs.declared.target.Target.{Target}
 use Rattle.http_head.specs.declared.target.Target.TheVariants.{Ipp, Report, Queue, Document as DocumentTarget}
-use Rattle.http_front.specs.Turns.{Turn, plan, IsTurn, IsAnswered, request_bytes, answer_bytes, acts, closes_at}
+use Rattle.http_front.specs.Turns.{Turn, plan, IsTurn, IsAnswered, request_bytes, answer_bytes, acts, closes_at, last_request, most_requests}
 use Rattle.http_front.specs.Ends.{IsEnd, IsBegun, nothing, interim, answered, ended}
 use Rattle.http_front.specs.Connections.{AreTurns, GoesOn, EndsAt, Answers, Breaks, Worked, written_for, world_after, bits, flag_of}
 use Rattle.http_front.specs.Turned.{IsTurned, Works}
@@ -159,7 +159,7 @@ ran_on k now w u p r s q v x y acted faults n m a f c h turned acted_is faults_a
 
 -- ---- ends
 
-answers_from : (now : ℕ) (w u : World) (r s v x y : Option (List ℕ)) (acted faults m : ℕ) (finish : Finish) (run : Ran now w u r s v x acted faults) → length run.turns ≤ 32
+answers_from : (now : ℕ) (w u : World) (r s v x y : Option (List ℕ)) (acted faults m : ℕ) (finish : Finish) (run : Ran now w u r s v x acted faults) → length run.turns ≤ most_requests
     → IfSome s (λ rest. (last : List ℕ) × EndsAt u run.turns rest finish last × Appends x y last)
     → m ≡ faults + (if is_unavailable finish then 2 ^ length run.turns else 0)
     → IfSome r (λ stream. (written : List ℕ) × Appends v y written × Answers now w stream written u acted m (end_of finish))
@@ -195,7 +195,7 @@ ended_at u None x y end turns g h = tt
 ended_at u (Some rest) x y end turns g h = (h.0, inr (g, h.1), h.2)
 
 pub served_ended : (k now : ℕ) (w u p : World) (r s q v x y : Option (List ℕ)) (acted faults m : ℕ) (end : Finish)
-    → k ≤ 31 → RanOn k now w u r s v x acted faults → IsTurned now k u p s q x y (Ok (Ended end))
+    → k ≤ last_request → RanOn k now w u r s v x acted faults → IsTurned now k u p s q x y (Ok (Ended end))
     → m ≡ faults + (if is_unavailable end then 2 ^ k else 0)
     → IfSome r (λ stream. (written : List ℕ) × Appends v y written × Answers now w stream written p acted m (end_of end))
 served_ended k now w u p r s q v x y acted faults m end few h turned faults_are =
@@ -209,7 +209,7 @@ closed_at u None y turns front t e g c = tt
 closed_at u (Some rest) y turns front t e g c = ([], inl (refl, refl, (front, t, e, g, c)), Appends-nil y)
 
 pub served_done : (k now : ℕ) (w u p : World) (r s q v x y : Option (List ℕ)) (acted faults n m : ℕ) (a f c : Bool)
-    → k ≤ 31 → RanOn k now w u r s v x acted faults → IsTurned now k u p s q x y (Ok (Answered a f c))
+    → k ≤ last_request → RanOn k now w u r s v x acted faults → IsTurned now k u p s q x y (Ok (Answered a f c))
     → n ≡ (if a then 1 else 0) → m ≡ faults + (if f then 2 ^ k else 0) → c ≡ true
     → IfSome r (λ stream. (written : List ℕ) × Appends v y written × Answers now w stream written p (acted + n) m (end_of Done))
 served_done k now w u p r s q v x y acted faults n m a f c few h turned acted_is faults_are c_is =
@@ -224,7 +224,7 @@ served_done k now w u p r s q v x y acted faults n m a f c few h turned acted_is
 
 -- ---- broken off
 
-pub stopped_at : (k now : ℕ) (w u p : World) (r s v x y : Option (List ℕ)) (acted faults n m : ℕ) (a f : Bool) → k ≤ 31 → (h : RanOn k now w u r s v x acted faults)
+pub stopped_at : (k now : ℕ) (w u p : World) (r s v x y : Option (List ℕ)) (acted faults n m : ℕ) (a f : Bool) → k ≤ last_request → (h : RanOn k now w u r s v x acted faults)
     → IfSome s (λ bytes. (begun : List ℕ) × IsBegun now k u bytes begun p a f × WritesFront x y begun)
     → n ≡ (if a then 1 else 0) → m ≡ faults + (if f then 2 ^ k else 0)
     → IfSome r (λ stream. (written : List ℕ) × Appends v y written × Breaks now w stream written p (acted + n) m)
@@ -240,6 +240,7 @@ stopped_at k now w u p (Some stream) (Some rest) v x y acted faults n m a f few 
         begun = begun.0;
         acted_last = a;
         fault_last = f;
+        front = begun.2.front;
         unwritten = begun.2.rest;
         stream_is = h.run.taken;
         few = (let e = h.count in omega (arith, e, few));
@@ -247,7 +248,8 @@ stopped_at k now w u p (Some stream) (Some rest) v x y acted faults n m a f few 
         goes_on = h.goes_on;
         begins = subst (λ (z : World). IsBegun now (length turns) z rest begun.0 p a f) h.run.world (subst (λ (j : ℕ). IsBegun now j u rest begun.0 p a f) (sym h.count) begun.1);
         settings = begun_settings now k u p rest begun.0 a f begun.1 ∙ ran_settings now w u (Some stream) (Some rest) v x acted faults h.run;
-        written_is = ap (λ l. written_for 0 turns ++ l) begun.2.is ∙ sym (append_assoc (written_for 0 turns) begun.2.front begun.2.rest);
+        begun_is = begun.2.is;
+        written_is = refl;
         acted_is = (let e = h.run.acted_is in omega (arith, e, acted_is));
         faults_are = faults_are ∙ ap (λ z. z + (if f then 2 ^ k else 0)) h.run.faults_are
             ∙ ap (λ j. bits (map flag_of turns) + (if f then 2 ^ j else 0)) (sym h.count ∙ sym (length-map turns flag_of))
@@ -284,7 +286,7 @@ worked_on k now w u p acted more b h (inr t) more_is = record {
   acted_is = more_is ∙ ap (λ z. acted + (if z then 1 else 0)) t.3 ∙ ap (λ n. n + (if acts t.0 then 1 else 0)) h.acted_is ∙ sym (count_more h.turns t.0);
 }
 
-pub worked_within : (k now : ℕ) (w u : World) (acted : ℕ) → k ≤ 32 → Worked k now w u acted → Worked 32 now w u acted
+pub worked_within : (k now : ℕ) (w u : World) (acted : ℕ) → k ≤ most_requests → Worked k now w u acted → Worked most_requests now w u acted
 worked_within k now w u acted few h =
     record { turns = h.turns; few = (let f = h.few in omega (arith, f, few)); are = h.are; world = h.world; settings = h.settings; acted_is = h.acted_is }
 

@@ -17,7 +17,7 @@ use Rattle.http_head.specs.declared.end.Refusal.{Refusal}
 use Rattle.http_head.specs.declared.end.Refusal.TheVariants.{Unavailable}
 use Rattle.http_head.specs.declared.plan.Plan.{Plan}
 use Rattle.http_head.specs.declared.framing.Framing.{Framing}
-use Rattle.http_front.specs.Turns.{Turn, IsTurn, acts_on, answer_bytes}
+use Rattle.http_front.specs.Turns.{Turn, IsTurn, acts_on, answer_bytes, last_request}
 use Rattle.http_front.specs.Ends.{IsEnd, IsBegun}
 use Rattle.http_front.specs.Ends.{no_head, checked, in_body, declined, unavailable, unavailable_later, nothing, interim, answered, ended}
 use Rattle.http_front.specs.Turned.{IsReply, IsDeclined, IsClosed, IsPlanEnd, IsPlanTurn, IsPlanBegun, IsPlanned, IsTurned, PlanWorks, Works, acted_in}
@@ -80,13 +80,13 @@ end_declined w plan (Some x) None raw content z taken body d = absurd taken
 end_declined w plan (Some x) (Some y) raw content z taken body d = declined_at w plan x y raw content z taken body d
 
 pub planned_answered : (now k : ℕ) (w u : World) (plan : Plan) (r s v m x : Option (List ℕ)) (raw content bytes : List ℕ) (acted fault closes : Bool) → Appends v m (interim_response plan)
-    → IsBody plan.framing raw content → Consumes r s raw → IsReply now w plan.target content closes fault bytes u → Appends m x bytes → acted ≡ acts_on plan.target → closes ≡ (plan.closes || (k == 31))
+    → IsBody plan.framing raw content → Consumes r s raw → IsReply now w plan.target content closes fault bytes u → Appends m x bytes → acted ≡ acts_on plan.target → closes ≡ (plan.closes || (k == last_request))
     → IsPlanned now k w u plan r s v x (Ok (Answered acted fault closes))
 planned_answered now k w u plan r s v m x raw content bytes acted fault closes a body taken reply written acted_is closes_is =
     (raw, bytes, record { content = content; body = body; reply = reply; acted_is = acted_is; closes_is = closes_is }, taken, Appends-trans v m x (interim_response plan) bytes a written)
 
 pub planned_broken : (now k : ℕ) (w u : World) (plan : Plan) (r s v m x : Option (List ℕ)) (raw content bytes : List ℕ) (f : Stopped) (closes : Bool) → Appends v m (interim_response plan)
-    → IsBody plan.framing raw content → Consumes r s raw → IsReply now w plan.target content closes f.is_fault bytes u → WritesFront m x bytes → f.acted ≡ acts_on plan.target → closes ≡ (plan.closes || (k == 31))
+    → IsBody plan.framing raw content → Consumes r s raw → IsReply now w plan.target content closes f.is_fault bytes u → WritesFront m x bytes → f.acted ≡ acts_on plan.target → closes ≡ (plan.closes || (k == last_request))
     → IsPlanned now k w u plan r s v x (Err f)
 planned_broken now k w u plan None s v m x raw content bytes f closes a body taken reply front acted_is closes_is = tt
 planned_broken now k w u plan (Some y) None v m x raw content bytes f closes a body taken reply front acted_is closes_is = absurd taken
@@ -235,7 +235,7 @@ pub idle : (now : ℕ) (w : World) (acted : Bool) → acted ≡ false → Works 
 idle now w acted a = inl (refl, a)
 
 pub plan_works : (now k : ℕ) (w u : World) (plan : Plan) (raw content bytes : List ℕ) (acted fault closes : Bool) → IsBody plan.framing raw content
-    → IsReply now w plan.target content closes fault bytes u → acted ≡ acts_on plan.target → closes ≡ (plan.closes || (k == 31)) → PlanWorks now k w u plan acted
+    → IsReply now w plan.target content closes fault bytes u → acted ≡ acts_on plan.target → closes ≡ (plan.closes || (k == last_request)) → PlanWorks now k w u plan acted
 plan_works now k w u plan raw content bytes acted fault closes body reply acted_is closes_is =
     inr (fault, closes, raw, bytes, record { content = content; body = body; reply = reply; acted_is = acted_is; closes_is = closes_is })
 

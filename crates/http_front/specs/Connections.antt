@@ -7,7 +7,7 @@ use Rattle.http_head.specs.Ends.{is_unavailable, end_of}
 use Rattle.http_head.specs.declared.end.End.{End}
 use Rattle.http_head.specs.declared.end.Finish.{Finish}
 use Rattle.http_head.specs.declared.end.Finish.TheVariants.{Done}
-use Rattle.http_front.specs.Turns.{Turn, IsTurn, request_bytes, answer_bytes, acts, closes_at}
+use Rattle.http_front.specs.Turns.{Turn, IsTurn, request_bytes, answer_bytes, acts, closes_at, most_requests}
 use Rattle.http_front.specs.Ends.{IsEnd, IsBegun}
 use Rattle.http_front.specs.declared.outcome.Served.{Served}
 use Rattle.http_front.specs.declared.outcome.ServeFault.{ServeFault}
@@ -57,7 +57,7 @@ pub record Answers (now : ℕ) (w : World) (stream written : List ℕ) (u : Worl
   pub finish : Finish
   pub end_is : end ≡ end_of finish
   pub stream_is : stream ≡ flat_map request_bytes turns ++ rest
-  pub few : length turns ≤ 32
+  pub few : length turns ≤ most_requests
   pub are : AreTurns now w turns
   pub ends : EndsAt (world_after w turns) turns rest finish last
   pub written_is : written ≡ written_for 0 turns ++ last
@@ -66,22 +66,24 @@ pub record Answers (now : ℕ) (w : World) (stream written : List ℕ) (u : Worl
   pub acted_is : acted ≡ count_by acts turns
   pub faults_are : faults ≡ bits (map flag_of turns ++ is_unavailable finish ∷ [])
 
--- the answers to a stream, when they were broken off: the requests that were answered, and what was begun at the bytes behind them;
--- of all that, a front was written
+-- the answers to a stream, when they were broken off: the requests that were answered, whose answers were written whole, and what was
+-- begun at the bytes behind them, of which a front was written
 pub record Breaks (now : ℕ) (w : World) (stream written : List ℕ) (u : World) (acted faults : ℕ) : Type 0 where
   pub turns : List Turn
   pub rest : List ℕ
   pub begun : List ℕ
   pub acted_last : Bool
   pub fault_last : Bool
+  pub front : List ℕ
   pub unwritten : List ℕ
   pub stream_is : stream ≡ flat_map request_bytes turns ++ rest
-  pub few : length turns < 32
+  pub few : length turns < most_requests
   pub are : AreTurns now w turns
   pub goes_on : GoesOn 0 turns
   pub begins : IsBegun now (length turns) (world_after w turns) rest begun u acted_last fault_last
   pub settings : u.settings ≡ w.settings
-  pub written_is : written_for 0 turns ++ begun ≡ written ++ unwritten
+  pub begun_is : begun ≡ front ++ unwritten
+  pub written_is : written ≡ written_for 0 turns ++ front
   pub acted_is : acted ≡ count_by acts turns + (if acted_last then 1 else 0)
   pub faults_are : faults ≡ bits (map flag_of turns ++ fault_last ∷ [])
 

@@ -11,7 +11,7 @@ use Rattle.http_head.specs.declared.end.Refusal.{Refusal}
 use Rattle.http_head.specs.declared.end.Refusal.TheVariants.{Unavailable}
 use Rattle.http_head.specs.declared.plan.Plan.{Plan}
 use Rattle.http_head.specs.declared.target.Target.{Target}
-use Rattle.http_front.specs.Turns.{Turn, IsTurn, IsAnswered, acts, acts_on, closes_at, answer_bytes, request_bytes}
+use Rattle.http_front.specs.Turns.{Turn, IsTurn, IsAnswered, acts, acts_on, closes_at, last_request, answer_bytes, request_bytes}
 use Rattle.http_front.specs.Ends.{Declines, IsEnd, IsBegun}
 use Rattle.http_front.specs.declared.outcome.Replied.{Replied}
 use Rattle.http_front.specs.declared.outcome.Replied.TheVariants.{Answered as ReplyAnswered, Declined as ReplyDeclined}
@@ -62,7 +62,7 @@ pub record IsPlanTurn (now k : ℕ) (w u : World) (plan : Plan) (acted fault clo
   pub body : IsBody plan.framing raw content
   pub reply : IsReply now w plan.target content closes fault bytes u
   pub acted_is : acted ≡ acts_on plan.target
-  pub closes_is : closes ≡ (plan.closes || (k == 31))
+  pub closes_is : closes ≡ (plan.closes || (k == last_request))
 
 -- what may have been begun behind a head with that plan
 pub data IsPlanBegun (now k : ℕ) (w u : World) (plan : Plan) (bytes : List ℕ) : List ℕ → Bool → Bool → Type 0 where
@@ -95,9 +95,9 @@ IsTurned now k w u r s v x (Ok (Ended end)) =
 IsTurned now k w u r s v x (Err f) =
     IfSome r (λ bytes. (begun : List ℕ) × IsBegun now k w bytes begun u f.acted f.is_fault × WritesFront v x begun)
 
--- the 32nd request is the last
+-- the last request that a connection may have ends it
 abbrev pub ClosesLast : ℕ → Result Turned Stopped → Type 0
-ClosesLast k (Ok (Answered acted fault closes)) = closes ≡ false → k < 31
+ClosesLast k (Ok (Answered acted fault closes)) = closes ≡ false → k < last_request
 ClosesLast k (Ok (Ended end)) = ⊤
 ClosesLast k (Err f) = ⊤
 

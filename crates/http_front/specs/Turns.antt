@@ -1,5 +1,5 @@
 -- A turn of a connection: one request, and its answer in a world of the queue.
-use Rattle.std.specs.Prelude.{◌≡◌, ◌≤◌, ◌==◌, ◌||◌, Bool, true, false, ℕ, List, ◌++◌, length, Option, None, Some, codes, MatchBool}
+use Rattle.std.specs.Prelude.{◌≡◌, ◌≤◌, ◌==◌, ◌-◌, ◌||◌, Bool, true, false, ℕ, List, ◌++◌, length, Option, None, Some, codes, MatchBool}
 use Rattle.httparse.specs.Grammar.{RequestHead, IsRequestHead, print_request}
 use Rattle.queue_core.specs.World.{World}
 use Rattle.queue_core.specs.Shown.{pending_jobs, document_at}
@@ -88,11 +88,15 @@ acts t = acts_on (plan t).target
 
 -- ---- what is written
 
--- the number of the last request that a connection may have, from 0
-abbrev pub last_request : ℕ
-last_request = 31
+-- the most requests that a connection may have
+abbrev pub most_requests : ℕ
+most_requests = 32
 
--- the connection ends after request k: the 32nd, or where its head says so
+-- the number, from 0, of the last of them
+abbrev pub last_request : ℕ
+last_request = most_requests - 1
+
+-- the connection ends after request k: the last that it may have, or where its head says so
 abbrev pub closes_at : ℕ → Turn → Bool
 closes_at k t = (plan t).closes || (k == last_request)
 

@@ -6,6 +6,7 @@ ghost use Rattle.queue_core.specs.World.{World};
 ghost use Rattle.http_head.specs.Left.{left};
 ghost use Rattle.http_head.specs.Routes.{routes};
 ghost use Rattle.http_front.specs.Connections.{IsServed, IsStopped, Worked, acted_of};
+ghost use Rattle.http_front.specs.Turns.{most_requests};
 
 use crate::context::Context;
 use crate::outcome::{ServeFault, Served, Turned};
@@ -22,7 +23,7 @@ use std::io::{Read, Write};
 /// Sets bit k where request k was answered by a fault.
 fn mark(faults: u32, k: u32, is_fault: bool) -> u32
     requires below { faults < 2 ^ k }
-    requires place { k < 32 }
+    requires place { k < most_requests }
     ensures exact { result ≡ faults + (if is_fault then 2 ^ k else 0) }
     ensures within { result < 2 ^ (k + 1) }
 {
@@ -47,9 +48,9 @@ fn run<R: Read, W: Write, B: QueueBook>(
         → (u : World) × B.stands book.new u
         × IsStopped context.entry.moment w u (left input.old.buffer (R.remaining input.old.reader)) (W.contents writer.old) (W.contents writer.new) fault) }
     ensures worked { B.is_honest book.new → (w : World) → B.stands book.old w → context.entry.settings.now ≡ w.settings
-        → (u : World) × B.stands book.new u × Worked 32 context.entry.moment w u (acted_of result) }
-    ensures few { IfOk result (λ served. served.acted ≤ 32) }
-    ensures few_stopped { IfErr result (λ fault. fault.acted ≤ 32) }
+        → (u : World) × B.stands book.new u × Worked most_requests context.entry.moment w u (acted_of result) }
+    ensures few { IfOk result (λ served. served.acted ≤ most_requests) }
+    ensures few_stopped { IfErr result (λ fault. fault.acted ≤ most_requests) }
 {
     let mut acted = 0;
     let mut faults = 0;
@@ -95,8 +96,8 @@ fn run<R: Read, W: Write, B: QueueBook>(
 /// Serves a connection at one moment, from 1 to 2,147,483,647: reads its requests, at most 32, and answers one after another, over a book whose queue has these
 /// settings. A request that can't be served is refused (RFC 9110, section 15), which ends the connection.
 ///
-/// It is an error where a read or a write fails, or the book fails inside a document whose head was written. What was written then is a
-/// front of what was to be written, and a request that acted before its answer's writing failed has acted.
+/// It is an error where a read or a write fails, or the book fails inside a document whose head was written. The answers before it were
+/// written whole, and of what was begun then a front; a request that acted before its answer's writing failed has acted.
 ///
 /// Of a reader that does not tell its bytes, as a socket, this is known: the queue is what at most 32 requests, answered one after
 /// another, made of it.
@@ -117,9 +118,9 @@ pub fn serve<R: Read, W: Write, B: QueueBook>(
         → (u : World) × B.stands book.new u
         × IsStopped now w u (R.remaining reader.old) (W.contents writer.old) (W.contents writer.new) fault) }
     ensures worked { B.is_honest book.new → (w : World) → B.stands book.old w → settings.now ≡ w.settings
-        → (u : World) × B.stands book.new u × Worked 32 now w u (acted_of result) }
-    ensures few { IfOk result (λ served. served.acted ≤ 32) }
-    ensures few_stopped { IfErr result (λ fault. fault.acted ≤ 32) }
+        → (u : World) × B.stands book.new u × Worked most_requests now w u (acted_of result) }
+    ensures few { IfOk result (λ served. served.acted ≤ most_requests) }
+    ensures few_stopped { IfErr result (λ fault. fault.acted ≤ most_requests) }
 {
     let mut input = Input::new(reader);
     let table = router(alloc).ok();

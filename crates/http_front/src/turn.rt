@@ -6,7 +6,7 @@ ghost use Rattle.queue_core.specs.World.{World};
 ghost use Rattle.http_head.specs.Framing.{size_of};
 ghost use Rattle.http_head.specs.Left.{left};
 ghost use Rattle.http_head.specs.Routes.{routes};
-ghost use Rattle.http_front.specs.Turns.{acts_on};
+ghost use Rattle.http_front.specs.Turns.{acts_on, last_request};
 ghost use Rattle.http_front.specs.Turned.{IsClosed, IsPlanned, IsTurned, ClosesLast, PlanWorks, Works, acted_in};
 
 use crate::context::Context;
@@ -26,8 +26,11 @@ use matchit::Router;
 use queue_core::book::QueueBook;
 use std::io::{Read, Write};
 
-/// The number, from 0, of the last request that a connection may have.
-pub const LAST_REQUEST: u32 = 31;
+/// The most requests that a connection may have.
+const MOST_REQUESTS: u32 = 32;
+
+/// The number, from 0, of the last of them.
+const LAST_REQUEST: u32 = MOST_REQUESTS - 1;
 
 /// Writes what an end has for a response.
 fn close_with<W: Write>(writer: &mut W, end: Finish) -> Result<Turned, Stopped>
@@ -54,7 +57,7 @@ fn acts_on_target(target: Target) -> bool
 
 /// The connection ends after request k, from 0.
 fn closes_after(plan: Plan, k: u32) -> bool
-    ensures { result ≡ (plan.closes || (k == 31)) }
+    ensures { result ≡ (plan.closes || (k == last_request)) }
 {
     plan.closes || k == LAST_REQUEST
 }
@@ -70,7 +73,7 @@ fn take_planned<R: Read, W: Write, B: QueueBook>(
 ) -> Result<Turned, Stopped>
     requires moment { IsMoment context.moment }
     requires size { size_of plan.framing ≤ 16777216 }
-    requires few { k ≤ 31 }
+    requires few { k ≤ last_request }
     ensures began { B.is_honest book.new → B.is_honest book.old }
     ensures planned { B.is_honest book.new → (w : World) → B.stands book.old w → context.entry.settings.now ≡ w.settings
         → (u : World) × B.stands book.new u
@@ -120,7 +123,7 @@ pub fn turn<R: Read, W: Write, B: QueueBook>(
 ) -> Result<Turned, Stopped>
     requires router { ForSome router (λ r. r.now ≡ routes) }
     requires moment { IsMoment context.moment }
-    requires few { k ≤ 31 }
+    requires few { k ≤ last_request }
     ensures began { B.is_honest book.new → B.is_honest book.old }
     ensures turned { B.is_honest book.new → (w : World) → B.stands book.old w → context.entry.settings.now ≡ w.settings
         → (u : World) × B.stands book.new u

@@ -1,8 +1,9 @@
 -- What the office is told.
-use Rattle.std.specs.Prelude.{◌≡◌, ℕ, List, [], ◌∷◌, ◌++◌, Ok, Option, codes, take}
+use Rattle.std.specs.Prelude.{◌≡◌, ℕ, List, [], ◌∷◌, ◌++◌, Err, Ok, Option, codes, take}
 use Rattle.std.specs.Fmt.{decimal}
 use Rattle.std.specs.Option.{IfSome}
 use Rattle.grants_csv.specs.Import.{Imports}
+use Rattle.grants_csv.specs.declared.fault.ImportFault.{ImportFault}
 use Rattle.grants_csv.specs.declared.importing.Imported.{Imported}
 use Rattle.queue_core.specs.World.{World}
 
@@ -21,3 +22,7 @@ AreReadOf known bytes = IfSome known (λ file. bytes ≡ take most_read file)
 -- the rows of these bytes are taken as one event at this moment, so many of them new, and this is the queue after it
 abbrev pub IsTaken : ℕ → World → World → List ℕ → Imported → Type 0
 IsTaken now old new bytes n = Imports old now bytes new (Ok n)
+
+-- this is why the rows of these bytes are not taken at this moment, and the queue stays as it is
+abbrev pub IsRefused : ℕ → World → List ℕ → ImportFault → Type 0
+IsRefused now w bytes why = Imports w now bytes w (Err why)

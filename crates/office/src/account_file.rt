@@ -6,7 +6,7 @@ ghost use Rattle.std.specs.Option.{IfSome};
 ghost use Rattle.grants_csv.specs.declared.fault.ImportFault.{ImportFault};
 ghost use Rattle.grants_csv.specs.declared.importing.Imported.{Imported as ImportedRows};
 ghost use Rattle.office.specs.Faults.{IsOfStream};
-ghost use Rattle.office.specs.Told.{AreReadOf, IsTaken, import_line};
+ghost use Rattle.office.specs.Told.{AreReadOf, IsRefused, IsTaken, import_line};
 ghost use Rattle.queue_core.specs.Limits.{IsMoment};
 ghost use Rattle.queue_core.specs.World.{World};
 
@@ -58,6 +58,9 @@ pub fn import_file<R: Read + Drop, W: Write, B: QueueBook>(
     ensures left { B.is_honest book.new → IfErr result (λ f. (w : World) → B.stands book.old w → B.stands book.new w
         ⊎ (IsOfStream f × (bytes : List ℕ) × AreReadOf (R.remaining reader) bytes × (n : ImportedRows) × (u : World) × IsTaken now w u bytes n × B.stands book.new u)) }
     ensures refused { IfErr result (λ f. (told : ImportFault) → f ≡ Import told → (w : World) → B.stands book.old w → B.stands book.new w) }
+    // a stream failed, or the file is refused
+    ensures why { B.is_honest book.new → IfErr result (λ f. (w : World) → B.stands book.old w
+        → IsOfStream f ⊎ ((told : ImportFault) × (f ≡ Import told) × (bytes : List ℕ) × AreReadOf (R.remaining reader) bytes × IsRefused now w bytes told)) }
 {
     let bytes = read_file(alloc, reader, MOST_READ)?;
     let imported = import(alloc, book, now, bytes.as_slice())?;

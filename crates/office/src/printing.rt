@@ -1,7 +1,7 @@
 //! The statement of an account is printed.
 ghost use Rattle.std.specs.Prelude.{◌≡◌, OnOk, IfErr, None, Some};
 ghost use Rattle.std.specs.Io.KnownBytes.{Appends};
-ghost use Rattle.office.specs.declared.fault.OfficeFault.TheVariants.{NoAccount};
+ghost use Rattle.office.specs.declared.fault.OfficeFault.TheVariants.{Damaged, NoAccount};
 ghost use Rattle.office.specs.Faults.{IsOfStream};
 ghost use Rattle.page_statements.specs.Statement.{sheet_text};
 ghost use Rattle.queue_core.specs.Shown.{sheet_of};
@@ -41,6 +41,7 @@ pub fn print_statement<W: Write, B: QueueBook>(
     ensures printed { B.is_honest book.new → OnOk result ((w : World) → B.stands book.old w
         → (s : Sheet) × (sheet_of w account.now ≡ Some s) × Appends (W.contents writer.old) (W.contents writer.new) (sheet_text s)) }
     ensures unknown { B.is_honest book.new → IfErr result (λ f. f ≡ NoAccount → (w : World) → B.stands book.old w → sheet_of w account.now ≡ None) }
+    ensures damaged { B.is_honest book.new → IfErr result (λ f. f ≡ Damaged → (w : World) → ¬ B.stands book.old w) }
 {
     match book.sheet(account)? {
         Some(sheet) => write_sheet(alloc, writer, &sheet),

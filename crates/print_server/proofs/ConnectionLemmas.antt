@@ -7,11 +7,12 @@ use Rattle.queue_core.specs.Limits.{IsMoment}
 use Rattle.queue_types.specs.Settings.{SettingValues}
 use Rattle.queue_core.specs.World.{World}
 use Rattle.http_front.specs.Connections.{Worked}
+use Rattle.http_front.specs.Turns.{most_requests}
 use Rattle.print_server.specs.Connections.{AreConnections}
 use Rattle.print_server.specs.Lines.{served_line, served_lines}
 
 -- a connection that was not served has changed nothing
-pub worked_none : (now : ℕ) (w : World) → Worked 32 now w w 0
+pub worked_none : (now : ℕ) (w : World) → Worked most_requests now w w 0
 worked_none now w = record { turns = []; few = omega arith; are = tt; world = refl; settings = refl; acted_is = refl }
 
 settings_after : (w u : World) (counts : List ℕ) → AreConnections w counts u → u.settings ≡ w.settings
@@ -21,7 +22,7 @@ settings_after w u (n ∷ rest) h = settings_after h.0 u rest h.2 ∙ h.1.worked
 pub settings_kept : (set : SettingValues) (w u : World) (counts : List ℕ) → AreConnections w counts u → set ≡ w.settings → set ≡ u.settings
 settings_kept set w u counts h is = is ∙ sym (settings_after w u counts h)
 
-pub one : (now : ℕ) (w u : World) (acted : ℕ) → IsMoment now → Worked 32 now w u acted → AreConnections w (acted ∷ []) u
+pub one : (now : ℕ) (w u : World) (acted : ℕ) → IsMoment now → Worked most_requests now w u acted → AreConnections w (acted ∷ []) u
 one now w u acted moment worked = (u, record { now = now; moment = moment; worked = worked }, refl)
 
 pub joined : (w v u : World) (front rest : List ℕ) → AreConnections w front v → AreConnections v rest u → AreConnections w (front ++ rest) u

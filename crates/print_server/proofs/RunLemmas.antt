@@ -5,10 +5,11 @@ use Rattle.queue_core.specs.Limits.{IsMoment}
 use Rattle.queue_core.specs.Runs.{Place, IsPlace, run}
 use Rattle.queue_core.specs.World.{World}
 use Rattle.http_front.specs.Connections.{Worked}
+use Rattle.http_front.specs.Turns.{most_requests}
 use Rattle.http_front.proofs.PlaceLemmas.{each_append}
 use Rattle.print_server.specs.Connections.{AreConnections}
 
-pub connections_run : ((now : ℕ) (w u : World) (acted : ℕ) → IsMoment now → Worked 32 now w u acted → (ps : List Place) × Each IsPlace ps × (u ≡ run w ps))
+pub connections_run : ((now : ℕ) (w u : World) (acted : ℕ) → IsMoment now → Worked most_requests now w u acted → (ps : List Place) × Each IsPlace ps × (u ≡ run w ps))
     → ((w : World) (ps qs : List Place) → run w (ps ++ qs) ≡ run (run w ps) qs)
     → (w u : World) (counts : List ℕ) → AreConnections w counts u → (ps : List Place) × Each IsPlace ps × (u ≡ run w ps)
 connections_run one joined w u [] are = ([], tt, are)

@@ -5,14 +5,11 @@ use Rattle.queue_core.specs.World.{World}
 use Rattle.http_head.specs.declared.end.End.{End}
 use Rattle.http_head.specs.declared.end.End.TheVariants.{Done, Refused}
 use Rattle.http_front.specs.Connections.{Worked}
+use Rattle.http_front.specs.Turns.{most_requests}
 use Rattle.http_front.specs.declared.outcome.Served.{Served}
 use Rattle.http_front.specs.declared.outcome.ServeCause.{ServeCause}
 use Rattle.http_front.specs.declared.outcome.ServeCause.TheVariants.{Book as ByBook}
 use Rattle.http_front.specs.declared.outcome.ServeFault.{ServeFault}
-
--- the most requests of a connection
-abbrev pub most_requests : ℕ
-most_requests = 32
 
 -- at some moment a connection's requests, so many of which acted, made u of the world w
 pub record IsConnection (w : World) (acted : ℕ) (u : World) : Type 0 where

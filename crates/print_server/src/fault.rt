@@ -1,4 +1,6 @@
 //! Why a server stops.
+ghost use Rattle.std.specs.Prelude.{◌≡◌};
+ghost use Rattle.print_server.specs.declared.fault.ServerFault.TheVariants as faults;
 
 use queue_core::book::BookFault;
 use std::io;
@@ -13,13 +15,17 @@ pub enum ServerFault {
 }
 
 impl From<io::Error> for ServerFault {
+    ghost from_gives = { λ error fault. fault ≡ faults.Io error };
+
     fn from(error: io::Error) -> ServerFault {
         ServerFault::Io(error)
     }
 }
 
 impl From<BookFault> for ServerFault {
-    fn from(fault: BookFault) -> ServerFault {
-        ServerFault::Book(fault)
+    ghost from_gives = { λ told fault. fault ≡ faults.Book told };
+
+    fn from(told: BookFault) -> ServerFault {
+        ServerFault::Book(told)
     }
 }

@@ -1,10 +1,11 @@
 //! Connections one after another.
-ghost use Rattle.std.specs.Prelude.{◌≡◌, ◌≤◌, ◌*◌, List, ℕ, OnOk, OnErr, length};
+ghost use Rattle.std.specs.Prelude.{◌≡◌, ◌≤◌, ◌*◌, List, ℕ, IfErr, OnOk, OnErr, length};
 ghost use Rattle.std.specs.Duration.{as_nanos};
 ghost use Rattle.std.specs.Io.KnownBytes.{Appends};
 ghost use Rattle.queue_core.specs.Limits.{IsMoment};
 ghost use Rattle.queue_core.specs.World.{World};
 ghost use Rattle.http_front.specs.Connections.{Worked};
+ghost use Rattle.http_front.specs.Turns.{most_requests};
 ghost use Rattle.print_server.specs.Connections.{AreConnections};
 ghost use Rattle.print_server.specs.Lines.{served_lines};
 
@@ -77,6 +78,7 @@ struct Outcome {
 fn check_book<B: QueueBook>(book: &mut B) -> Result<(), BookFault>
     ensures began { B.is_honest book.new → B.is_honest book.old }
     ensures kept { (w : World) → B.stands book.old w → B.stands book.new w }
+    ensures damaged { B.is_honest book.new → IfErr result (λ e. e ≡ BookFault.Damaged → (w : World) → ¬ B.stands book.old w) }
 {
     match book.pending() {
         Ok(_) | Err(BookFault::Memory) => Ok(()),
@@ -90,8 +92,8 @@ impl Service<'_> {
         requires { IsMoment now }
         ensures began { B.is_honest book.new → B.is_honest book.old }
         ensures worked { B.is_honest book.new → (w : World) → B.stands book.old w → self.entry.settings.now ≡ w.settings
-            → (u : World) × B.stands book.new u × Worked 32 now w u result.acted }
-        ensures few { result.acted ≤ 32 }
+            → (u : World) × B.stands book.new u × Worked most_requests now w u result.acted }
+        ensures few { result.acted ≤ most_requests }
     {
         if prepare(&stream, self.timeout).is_err() {
             return Outcome {
@@ -133,6 +135,8 @@ impl Service<'_> {
             × Appends (O.contents out.old) (O.contents out.new) (served_lines counts)) }
         ensures err { B.is_honest book.new → OnErr result ((w : World) → B.stands book.old w → self.entry.settings.now ≡ w.settings
             → (u : World) × B.stands book.new u × (counts : List ℕ) × AreConnections w counts u × (length counts ≤ 1)) }
+        ensures damaged { B.is_honest book.new → IfErr result (λ f. f ≡ ServerFault.Book BookFault.Damaged
+            → (w : World) → B.stands book.old w → self.entry.settings.now ≡ w.settings → ⊥) }
     {
         let stream = next_stream(self.listener)?;
         let now = present_moment(clock, self.settings.epoch())?;
@@ -164,6 +168,9 @@ impl Service<'_> {
         // some were
         ensures err { B.is_honest book.new → OnErr result ((w : World) → B.stands book.old w → self.entry.settings.now ≡ w.settings
             → (u : World) × B.stands book.new u × (counts : List ℕ) × AreConnections w counts u × (length counts ≤ connections)) }
+        // an honest book that stands for a queue with the settings is never called damaged
+        ensures damaged { B.is_honest book.new → IfErr result (λ f. f ≡ ServerFault.Book BookFault.Damaged
+            → (w : World) → B.stands book.old w → self.entry.settings.now ≡ w.settings → ⊥) }
     {
         for _round in 0..connections {
             self.serve_next(clock, out, book)?;

@@ -2,12 +2,13 @@ use Rattle.std.proofs.Common.{◌-◌, ◌^◌, ◌<◌, ◌≤◌, ◌≡◌}
 use Rattle.queue_core.specs.World.{World}
 use Rattle.http_head.specs.Left.{left}
 use Rattle.http_front.specs.Connections.{Worked}
+use Rattle.http_front.specs.Turns.{last_request, most_requests}
 use Rattle.http_front.proofs.Runs.{RanOn}
 use Rattle.http_front.proofs.connection.run.Given as goal
 
 abbrev pub invariant-turns : goal.invariant-turns
 invariant-turns g l = record {
-  few : l.k ≤ 31;
+  few : l.k ≤ last_request;
   acted_few : l.acted ≤ l.k;
   below : l.faults < 2 ^ l.k;
   began : g.B.QueueBook.is_honest l.book → g.B.QueueBook.is_honest l.initial.book;
@@ -19,4 +20,4 @@ invariant-turns g l = record {
 }
 
 abbrev pub decreases-turns : goal.decreases-turns
-decreases-turns g l = 32 - l.k
+decreases-turns g l = most_requests - l.k

@@ -1,5 +1,6 @@
-use Rattle.std.proofs.Common.{[], ◌++◌, refl, arith, length-append}
+use Rattle.std.proofs.Common.{[], ◌++◌, ◌∙◌, refl, sym, arith, length-append}
 use Rattle.std.proofs.KnownBytes.{Appends-nil}
+use Rattle.std.proofs.lemmas.Result.{err_from_is_err_and}
 use Rattle.print_server.proofs.ConnectionLemmas.{joined, on_err, settings_kept, told_on}
 use Rattle.print_server.proofs.serving.Service.serve_connections.Goals as goal
 
@@ -22,6 +23,13 @@ returns-in_err-serve_next-clause-err g c = λ h. on_err c.from_residual.result _
     let t = c.in_err-serve_next.ensures.err h r.0 r.1 (settings_kept c.args.self.settings.now w r.0 r.2 r.3 set) in
     let more = length-append r.2 t.2 in
     (t.0, t.1, r.2 ++ t.2, joined w r.0 t.0 r.2 t.2 r.3 t.3, omega (arith, more, r.4, t.4)))
+
+pub returns-in_err-serve_next-clause-damaged : goal.returns-in_err-serve_next-clause-damaged
+returns-in_err-serve_next-clause-damaged g c = λ h.
+    let p = err_from_is_err_and c.from_residual.result c.from_residual.ensures.1 in
+    rw p.1 (λ told w st set.
+    let r = c.loop-round.invariant.served (c.serve_next.ensures.began h) w st set in
+    c.in_err-serve_next.ensures.damaged h (sym p.2 ∙ told) r.0 r.1 (settings_kept c.args.self.settings.now w r.0 r.2 r.3 set))
 
 pub returns-clause-ok : goal.returns-clause-ok
 returns-clause-ok g c = λ h w st set.

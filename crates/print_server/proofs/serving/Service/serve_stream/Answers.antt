@@ -1,5 +1,6 @@
 use Rattle.std.proofs.Common.{sym, subst}
 use Rattle.http_front.specs.Connections.{Worked}
+use Rattle.http_front.specs.Turns.{most_requests}
 use Rattle.print_server.proofs.ConnectionLemmas.{worked_none}
 use Rattle.print_server.proofs.serving.Service.serve_stream.Goals as goal
 
@@ -9,4 +10,4 @@ returns-then-is_err-clause-worked g c = λ h w st set. (w, st, worked_none c.arg
 pub returns-clause-worked : goal.returns-clause-worked
 returns-clause-worked g c = λ h w st set.
     let u = c.serve-served.ensures.worked h w st set in
-    (u.0, u.1, subst (λ n. Worked 32 c.args.now w u.0 n) (sym c.acted_of.ensures) u.2)
+    (u.0, u.1, subst (λ n. Worked most_requests c.args.now w u.0 n) (sym c.acted_of.ensures) u.2)
