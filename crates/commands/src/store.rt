@@ -6,7 +6,7 @@ ghost use Rattle.sqlite_wal.specs.Files.{image_at};
 ghost use Rattle.queue_types.specs.Settings.{AreSettings};
 ghost use Rattle.queue_core.specs.World.{World, empty_queue};
 ghost use Rattle.queue_store.specs.Kept.{IsHonest, StandsFor, shown_by};
-ghost use Rattle.queue_store.specs.Opened.{FitsFile, IsKeptIn};
+ghost use Rattle.queue_store.specs.Opened.{FitsFile, HasNoTables, IsKeptIn};
 ghost use Rattle.commands.specs.Store.{settings_of};
 ghost use Rattle.commands.specs.Found.{found_in};
 ghost use Rattle.command_ends.specs.declared.fault.Fault.TheVariants.{BadSetting};
@@ -143,7 +143,7 @@ fn ready_path(rt: &HostRuntime, path: &str) -> Result<(), Fault>
     }
 }
 
-/// Makes a store with these settings, whose epoch is the present second: it stands for the empty queue. A setting that is not within its limits
+/// Makes a store with these settings, whose epoch is the present second, in files that hold no tables: it stands for the empty queue. A setting that is not within its limits
 /// makes no file. Damaged is told where a store is there, or a file that is no database; Disk where another program's database is. One whose making was
 /// cut short is made anew.
 pub fn make_store<S: Start>(
@@ -151,6 +151,7 @@ pub fn make_store<S: Start>(
     words: Init<'_>,
     start: S,
 ) -> Result<FileBook<S>, Fault>
+    ensures blank { IfOk result (λ b. IsHonest over_files b → HasNoTables (image_at S.Start)) }
     ensures made { IfOk result (λ b. (epoch : ℤ) × StandsFor over_files b (empty_queue (settings_of words.entry epoch))) }
     ensures live { IfOk result (λ b. IsHonest over_files b → IsTrue (shown_by over_files b).is_open) }
     ensures bad { IfErr result (λ f. f ≡ BadSetting → (epoch : ℤ) → ¬ AreSettings (settings_of words.entry epoch)) }

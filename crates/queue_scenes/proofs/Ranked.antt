@@ -101,7 +101,5 @@ take_behind {X} (suc n) (x ∷ xs) ys =
     let left : n - length (take n xs) ≡ suc n - suc (length (take n xs)) = omega arith in
     ap (λ (zs : List X). x ∷ zs) (take_behind n xs ys) ∙ ap (λ m. x ∷ (take n xs ++ take m ys)) left
 
-pub first_of_three : (n : ℕ) (a b c x y z : List Job) → x ≡ take n a → y ≡ take (n - length x) b → z ≡ take (n - length (x ++ y)) c → (x ++ y) ++ z ≡ take n ((a ++ b) ++ c)
-first_of_three n a b c x y z first second third =
-    let two : x ++ y ≡ take n (a ++ b) = rw (second, first) (sym (take_behind n a b)) in
-    rw (third, two) (sym (take_behind n (a ++ b) c))
+pub first_of_two : (n : ℕ) (a b x y : List Job) → x ≡ take n a → y ≡ take (n - length x) b → x ++ y ≡ take n (a ++ b)
+first_of_two n a b x y first second = rw (second, first) (sym (take_behind n a b))

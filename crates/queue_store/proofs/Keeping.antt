@@ -16,7 +16,12 @@ module _ (old new : State) where
   pub still_keeps : (settings : SettingValues) (w : World) → LeavesTables old new → (HasCleanDisk old → Keeps old settings w) → HasCleanDisk new → Keeps new settings w
   still_keeps settings w leaves stood honest =
       let was = stood (leaves.clean honest) in
-      record { sound = was.sound; settings_are = was.settings_are; holds = λ is_open. holds_after leaves honest (content_of w) (was.holds (leaves.opened honest is_open)) is_open }
+      record {
+        sound = was.sound;
+        settings_are = was.settings_are;
+        holds = λ is_open. holds_after leaves honest (content_of w) (was.holds (leaves.opened honest is_open)) is_open;
+        settled = λ is_open. leaves.same honest is_open ∙ (was.settled (leaves.opened honest is_open) ∙ sym (leaves.committed honest is_open));
+      }
 
 -- a book that stands for an empty queue, as one on a shut connection does, has no document
 pub open_with_document : (s : State) (settings : SettingValues) (job n : ℕ) → HasCleanDisk s → IsSound (empty_queue settings)
@@ -24,7 +29,7 @@ pub open_with_document : (s : State) (settings : SettingValues) (job n : ℕ) �
 unfolding document_at
 open_with_document s settings job n honest sound there = elim (cases_Bool s.is_open) [
   | inl shown ↦ shown
-  | inr shut ↦ absurd (none (there (empty_queue settings) honest (λ h. record { sound = sound; settings_are = refl; holds = λ shown. absurd (let never = sym shut ∙ shown in cc) })))
+  | inr shut ↦ absurd (none (there (empty_queue settings) honest (λ h. record { sound = sound; settings_are = refl; holds = λ shown. absurd (let never = sym shut ∙ shown in cc); settled = λ shown. absurd (let never = sym shut ∙ shown in cc) })))
 ]
   where
     none : IsSome (document_at (empty_queue settings) job n) → ⊥

@@ -3,3 +3,4 @@ pub mod Made
 pub mod Empty
 pub mod Keeping
 pub mod Adopting
+pub mod Closing

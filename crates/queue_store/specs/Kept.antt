@@ -9,11 +9,12 @@ use Rattle.queue_core.specs.World.{World}
 use Rattle.queue_tables.specs.Content.{Holds, content_of}
 use Rattle.queue_store.specs.declared.book.TableBook.{TableBook}
 
--- a sound world of these settings, which the tables hold as long as the connection is open
+-- a sound world of these settings, which the tables hold as long as the connection is open, and what they hold is committed
 pub record Keeps (s : State) (settings : SettingValues) (w : World) : Type 0 where
   pub sound : IsSound w
   pub settings_are : settings ≡ w.settings
   pub holds : IsTrue s.is_open → Holds (content_of w) s
+  pub settled : IsTrue s.is_open → s.now ≡ s.committed
 
 -- the tables are open, and hold a sound world of these settings
 pub record HasWorld (s : State) (settings : SettingValues) : Type 0 where

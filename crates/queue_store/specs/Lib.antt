@@ -1,3 +1,4 @@
+pub mod Closed
 pub mod Kept
 pub mod Made
 pub mod New

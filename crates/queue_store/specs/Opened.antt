@@ -1,4 +1,5 @@
--- What the files held that a book is opened from, and how their refusal is told.
+-- What the files held that a book is opened from or made in, and how their refusal is told.
+use Rattle.std.specs.Prelude.{◌≡◌, ◌<◌, length}
 use Rattle.sqlite.specs.declared.error.Error.{Error}
 use Rattle.sqlite.specs.declared.error.Error.TheVariants.{SqliteFailure}
 use Rattle.sqlite.specs.declared.error.ErrorCode.TheVariants.{OutOfMemory, NotADatabase, DatabaseCorrupt}
@@ -12,14 +13,28 @@ use Rattle.queue_core.specs.declared.book.BookFault.{BookFault}
 use Rattle.queue_core.specs.declared.book.BookFault.TheVariants.{Memory, Disk, Damaged}
 use Rattle.queue_load.specs.Store.{FitsBook}
 use Rattle.queue_tables.specs.Content.{HasContent, content_of}
+use Rattle.queue_tables.specs.Tables.{book_schema, no_schema}
 
 -- the tables in the files are those that `create` makes, or one is missing
 abbrev pub FitsFile : Image → Type 0
 FitsFile image = (db : Trees) (schema : Schema) → AreFoundIn image db → IsSound schema db → FitsBook schema
 
--- the database in the files has the rows of this queue
-abbrev pub IsKeptIn : Image → World → Type 0
-IsKeptIn image w = (db : Trees) → HoldsDatabase image db → HasContent (content_of w) db
+-- the files hold this database and no other, and its tables are those of the schema; an empty file counts as one without tables
+pub record HoldsOnly (image : Image) (schema : Schema) (db : Trees) : Type 0 where
+  pub found : AreFoundIn image db
+  pub tables : IsSound schema db
+  pub only : (other : Trees) → HoldsDatabase image other → other ≡ db
+
+-- the file isn't empty, and the database that it holds with its log has the tables of a book and the rows of this queue
+pub record IsKeptIn (image : Image) (w : World) : Type 0 where
+  pub present : 0 < length image.db
+  pub db : Trees
+  pub held : HoldsOnly image book_schema db
+  pub rows : HasContent (content_of w) db
+
+-- the files hold no tables
+abbrev pub HasNoTables : Image → Type 0
+HasNoTables image = (db : Trees) × HoldsOnly image no_schema db
 
 -- files that are no database are damaged
 abbrev pub open_fault : Error → BookFault

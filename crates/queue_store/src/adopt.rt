@@ -50,6 +50,10 @@ fn settings_in_tables<S: Alter>(alloc: Global, conn: &mut Connection<S>) -> Resu
     ensures stands { FitsIn (state S.Store conn.old) → HasCleanDisk (state S.Store conn.new) → IfOk result (HasWorld (state S.Store conn.new)) }
     ensures damaged { FitsIn (state S.Store conn.old) → HasCleanDisk (state S.Store conn.new) → IfErr result (λ e. e ≡ Damaged → (w : World) → ¬ IsQueueIn w (state S.Store conn.old).now) }
 {
+    // its contract says that outside a transaction what the tables show is committed
+    if !conn.is_autocommit() {
+        return Err(Fault::Disk);
+    }
     let rows = load_queue(alloc, conn)?;
     settings_of(alloc, &rows)
 }

@@ -77,7 +77,9 @@ fn make_new<S: Alter>(
     settings: &Settings,
 ) -> Result<(), Fault>
     ensures clean { HasCleanDisk (state S.Store conn.new) → HasCleanDisk (state S.Store conn.old) }
+    ensures blank { IfOk result (λ u. (state S.Store conn.old).now.schema ≡ no_schema) }
     ensures made { HasCleanDisk (state S.Store conn.new) → IfOk result (λ u. Holds (content_of (empty_queue settings.now)) (state S.Store conn.new)) }
+    ensures settled { HasCleanDisk (state S.Store conn.new) → IfOk result (λ u. (state S.Store conn.new).now ≡ (state S.Store conn.new).committed) }
     ensures refused { HasCleanDisk (state S.Store conn.new) → IfErr result (λ e. IsTrue (state S.Store conn.new).is_open → (state S.Store conn.new).now ≡ (state S.Store conn.old).now) }
     ensures damaged { IfErr result (λ e. e ≡ Fault.Damaged → IsTrue (has_any (state S.Store conn.old).now.schema)) }
 {
@@ -103,6 +105,7 @@ impl<S: Alter> TableBook<S> {
         settings: Settings,
     ) -> Result<TableBook<S>, (BookFault, Connection<S>)>
         ensures clean { IfOk result (λ b. IsHonest S.Store b → HasCleanDisk (state S.Store conn)) }
+        ensures blank { IfOk result (λ b. (state S.Store conn).now.schema ≡ no_schema) }
         ensures began { IfErr result (λ e. HasCleanDisk (state S.Store e.1) → HasCleanDisk (state S.Store conn)) }
         ensures stands { IfOk result (λ b. StandsFor S.Store b (empty_queue settings)) }
         ensures live { IfOk result (λ b. IsHonest S.Store b → IsTrue (shown_by S.Store b).is_open) }
@@ -149,6 +152,8 @@ impl<S: Alter + Drop> TableBook<S> {
         conn: Connection<S>,
         settings: Settings,
     ) -> Result<TableBook<S>, BookFault>
+        ensures clean { IfOk result (λ b. IsHonest S.Store b → HasCleanDisk (state S.Store conn)) }
+        ensures blank { IfOk result (λ b. (state S.Store conn).now.schema ≡ no_schema) }
         ensures stands { IfOk result (λ b. StandsFor S.Store b (empty_queue settings)) }
         ensures live { IfOk result (λ b. IsHonest S.Store b → IsTrue (shown_by S.Store b).is_open) }
         ensures damaged { IfErr result (λ e. e ≡ Damaged → IsTrue (has_any (state S.Store conn).now.schema)) }

@@ -131,6 +131,7 @@ fn create_all<S: Alter>(tx: &mut Transaction<'_, S>, meta: &MetaRow) -> Result<(
 pub(crate) fn make_tables<S: Alter>(conn: &mut Connection<S>, meta: &MetaRow) -> Result<(), Fault>
     ensures clean { HasCleanDisk (state S.Store conn.new) → HasCleanDisk (state S.Store conn.old) }
     ensures made { HasCleanDisk (state S.Store conn.new) → OnOk result ((state S.Store conn.old).now.schema ≡ no_schema → Holds (new_content meta.now) (state S.Store conn.new)) }
+    ensures settled { HasCleanDisk (state S.Store conn.new) → OnOk result ((state S.Store conn.new).now ≡ (state S.Store conn.new).committed) }
     ensures refused { HasCleanDisk (state S.Store conn.new) → OnErr result (IsTrue (state S.Store conn.new).is_open → (state S.Store conn.new).now ≡ (state S.Store conn.old).now) }
     ensures never { IfErr result (λ e. e ≢ Damaged) }
 {

@@ -1,20 +1,24 @@
 //! A book from a file.
 ghost use Rattle.std.specs.Prelude.{◌≡◌, codes, Err, IfOk, IsTrue};
+ghost use Rattle.sqlite.specs.Closing.{IsCopied};
 ghost use Rattle.sqlite.specs.Files.{IsOpened, file_state, over_files};
 ghost use Rattle.sqlite.specs.Start.{FindsIn};
 ghost use Rattle.sqlite.specs.State.{HasCleanDisk};
 ghost use Rattle.sqlite_wal.specs.Files.{image_at};
+ghost use Rattle.sqlite_wal.specs.Reads.{AreClean};
 ghost use Rattle.queue_core.specs.World.{World, empty_queue};
 ghost use Rattle.queue_load.specs.Store.{FitsIn};
+ghost use Rattle.queue_store.specs.Closed.{KeepAlone};
 ghost use Rattle.queue_store.specs.Kept.{IsHonest, StandsFor, StandsForOne, shown_by};
-ghost use Rattle.queue_store.specs.Opened.{FitsFile, IsKeptIn, open_fault};
+ghost use Rattle.queue_store.specs.Opened.{FitsFile, HasNoTables, IsKeptIn, open_fault};
 ghost use Rattle.queue_tables.specs.Leaving.{LeavesTables};
+ghost use Rattle.queue_tables.specs.Tables.{no_schema};
 
 use crate::book::TableBook;
 use queue_core::book::BookFault;
 use queue_types::settings::Settings;
 use sqlite::{Connection, Error, ErrorCode};
-use sqlite_disk::{Disk, Start};
+use sqlite_disk::{Disk, Files, Start};
 use sqlite_std_file::FileFrom;
 use sqlite_store::FileStore;
 use std::alloc::Global;
@@ -35,9 +39,14 @@ fn fault_of_open(error: Error) -> BookFault
 /// Lets the files of a connection go as they are, without reading or writing.
 fn let_files_go<D: Disk + Drop>(_conn: Connection<FileStore<D>>) {}
 
-/// Copies the log of a connection's files into the database file, and closes both.
-fn close_files<D: Disk + Drop>(conn: Connection<FileStore<D>>) -> Result<(), BookFault> {
-    conn.close().map_err(fault_of_open)
+/// Copies the log of a connection's files into the database file, and gives both back.
+fn copy_log<D: Disk + Drop>(conn: Connection<FileStore<D>>) -> Result<Files<D>, BookFault>
+    ensures copied { IfOk result (λ files. AreClean D.Disk files.log files.db → IsCopied conn files) }
+{
+    match conn.close_files() {
+        Ok(files) => Ok(files),
+        Err((error, _store)) => Err(fault_of_open(error)),
+    }
 }
 
 /// A connection to the files at a path. Files that can't be connected to are let go.
@@ -73,6 +82,8 @@ fn create_in_files<D: Disk + Drop>(
     conn: Connection<FileStore<D>>,
     settings: Settings,
 ) -> Result<TableBook<FileStore<D>>, BookFault>
+    ensures clean { IfOk result (λ b. IsHonest over_files b → HasCleanDisk (file_state conn)) }
+    ensures blank { IfOk result (λ b. (file_state conn).now.schema ≡ no_schema) }
     ensures stands { IfOk result (λ b. StandsFor over_files b (empty_queue settings)) }
     ensures live { IfOk result (λ b. IsHonest over_files b → IsTrue (shown_by over_files b).is_open) }
 {
@@ -90,15 +101,19 @@ impl<D: Disk + Drop> TableBook<FileStore<D>> {
         let_files_go(conn);
     }
 
-    /// Copies the log into the database file, so that this file alone keeps the book, and closes both. An error leaves
-    /// them as a crash would: what was done is in the log, and is found as the book is opened again.
-    pub fn close_files(self) -> Result<(), BookFault> {
+    /// Copies the log into the database file, so that this file alone keeps the book, and gives both back, which are
+    /// closed as they are let go. An error leaves them as a crash would: what was done is in the log, and is found as the
+    /// book is opened again.
+    pub fn close_files(self) -> Result<Files<D>, BookFault>
+        ensures honest { IfOk result (λ files. AreClean D.Disk files.log files.db → IsHonest over_files self) }
+        ensures copied { IfOk result (λ files. AreClean D.Disk files.log files.db → (w : World) → StandsFor over_files self w → KeepAlone D.Disk files w) }
+    {
         let TableBook {
             alloc: _,
             conn,
             settings: _,
         } = self;
-        close_files(conn)
+        copy_log(conn)
     }
 }
 
@@ -112,6 +127,7 @@ impl<S: Start> TableBook<FileStore<FileFrom<S>>> {
         settings: Settings,
         start: S,
     ) -> Result<TableBook<FileStore<FileFrom<S>>>, BookFault>
+        ensures blank { IfOk result (λ b. IsHonest over_files b → HasNoTables (image_at S.Start)) }
         ensures stands { IfOk result (λ b. StandsFor over_files b (empty_queue settings)) }
         ensures live { IfOk result (λ b. IsHonest over_files b → IsTrue (shown_by over_files b).is_open) }
     {

@@ -17,7 +17,7 @@ use Rattle.queue_tables.specs.Leaving.{LeavesTables}
 
 -- nothing is done
 pub leaves_all : (s : State) → LeavesTables s s
-leaves_all s = record { clean = λ clean. clean; opened = λ clean live. live; same = λ clean live. refl }
+leaves_all s = record { clean = λ clean. clean; opened = λ clean live. live; same = λ clean live. refl; committed = λ clean live. refl }
 
 -- one after another
 pub leaves_then : (a b c : State) → LeavesTables a b → LeavesTables b c → LeavesTables a c
@@ -25,6 +25,7 @@ leaves_then a b c first last = record {
   clean = λ clean. first.clean (last.clean clean);
   opened = λ clean live. first.opened (last.clean clean) (last.opened clean live);
   same = λ clean live. last.same clean live ∙ first.same (last.clean clean) (last.opened clean live);
+  committed = λ clean live. last.committed clean live ∙ first.committed (last.clean clean) (last.opened clean live);
 }
 
 pub leaves_three : (a b c d : State) → LeavesTables a b → LeavesTables b c → LeavesTables c d → LeavesTables a d
@@ -60,6 +61,7 @@ left_leaves old new settled early left = record {
   clean = early;
   opened = λ clean live. opened (left clean) live;
   same = λ clean live. same (left clean) live;
+  committed = λ clean live. committed (left clean) live;
 }
   where
     opened : IsUnchanged old new ⊎ IsRolledBack old new → IsTrue new.is_open → IsTrue old.is_open
@@ -69,6 +71,10 @@ left_leaves old new settled early left = record {
     same : IsUnchanged old new ⊎ IsRolledBack old new → IsTrue new.is_open → new.now ≡ old.now
     same (inl unchanged) live = unchanged.0.now_is
     same (inr back) live = (back.undone live).0 ∙ sym (settled (back.was_open live))
+
+    committed : IsUnchanged old new ⊎ IsRolledBack old new → IsTrue new.is_open → new.committed ≡ old.committed
+    committed (inl unchanged) live = unchanged.0.committed_is
+    committed (inr back) live = (back.undone live).1
 
 module _ {R : Type 0} (shows : R → List Row) (sql : List ℕ) (params : Row) (old new : State) (query : IsQueryText sql) where
   left_by : (r : Result R Error) → IfOk r (λ rows. Shown sql params old new (shows rows)) → IfErr r (FailsToQuery sql params old new) → IsUnchanged old new ⊎ IsRolledBack old new

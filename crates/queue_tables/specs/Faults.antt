@@ -1,7 +1,7 @@
 -- How an error of the store is told.
 use Rattle.sqlite.specs.declared.error.Error.{Error}
 use Rattle.sqlite.specs.declared.error.Error.TheVariants.{SqliteFailure}
-use Rattle.sqlite.specs.declared.error.ErrorCode.TheVariants.{OutOfMemory, SystemIoFailure, DiskFull, TooBig, NoRowid, Closed}
+use Rattle.sqlite.specs.declared.error.ErrorCode.TheVariants.{OutOfMemory, ConstraintViolation}
 use Rattle.queue_core.specs.declared.book.BookFault.{BookFault}
 use Rattle.queue_core.specs.declared.book.BookFault.TheVariants.{Memory as BookMemory, Disk as BookDisk, Damaged as BookDamaged}
 use Rattle.queue_tables.specs.declared.fault.Fault.{Fault}
@@ -17,15 +17,10 @@ abbrev pub form_fault : Error → Fault
 form_fault (SqliteFailure OutOfMemory) = Memory
 form_fault _ = Damaged
 
--- a statement that writes was refused: for memory, for the disk or a size, or for a row
+-- a statement that writes was not run to its end: a constraint refused a row, or else it is told as of a query
 abbrev pub write_fault : Error → Fault
-write_fault (SqliteFailure OutOfMemory) = Memory
-write_fault (SqliteFailure SystemIoFailure) = Disk
-write_fault (SqliteFailure DiskFull) = Disk
-write_fault (SqliteFailure TooBig) = Disk
-write_fault (SqliteFailure NoRowid) = Disk
-write_fault (SqliteFailure Closed) = Disk
-write_fault _ = Damaged
+write_fault (SqliteFailure (ConstraintViolation which)) = Damaged
+write_fault e = read_fault e
 
 abbrev pub told_as : Fault → BookFault
 told_as Memory = BookMemory

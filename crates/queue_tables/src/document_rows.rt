@@ -1,20 +1,19 @@
 //! The statements on documents.
-ghost use Rattle.std.specs.Prelude.{◌≡◌, ◌≤◌, ◌+◌, IfOk, OnOk, IsTrue, Some, length, ◌∷◌, []};
+ghost use Rattle.std.specs.Prelude.{◌≡◌, ◌≤◌, ◌+◌, IfOk, OnOk, IsTrue, Some, length};
 ghost use Rattle.sqlite.specs.State.{HasCleanDisk, KeepsCommit};
 ghost use Rattle.sqlite.specs.Held.{state};
-ghost use Rattle.sqlite.specs.declared.types.Value.TheVariants.{Text as Words};
 ghost use Rattle.queue_types.specs.Event.{document_of};
 ghost use Rattle.queue_core.specs.World.{World, rows, job_at};
 ghost use Rattle.queue_types.specs.declared.job.Job.{Job as JobValue};
 ghost use Rattle.queue_tables.specs.Content.{Content, Holds, content_of};
 ghost use Rattle.queue_tables.specs.Steps.{AreDistinct, documents_at, with_added, with_document_row};
-ghost use Rattle.queue_types.specs.Formats.{format_name};
-ghost use Rattle.queue_tables.specs.Values.{number};
+ghost use Rattle.queue_tables.specs.Values.{document_values};
 
 use crate::fault::Fault;
 use crate::job_rows::find_job;
 use crate::piece_rows::insert_pieces;
 use crate::run::{run, select_inside};
+use queue_rows::rows::DocumentRow;
 use queue_types::document::Format;
 use queue_types::event::NewDocument;
 use queue_types::limits::{MOST_DOCUMENT_OCTETS, MOST_DOCUMENTS};
@@ -24,21 +23,23 @@ use std::alloc::Global;
 /// Adds the row of a document.
 fn insert_document<S: Alter>(
     tx: &mut Transaction<'_, S>,
-    job: u32,
-    doc: u32,
-    format: Format,
-    octets: u32,
+    document: &DocumentRow,
 ) -> Result<(), Fault>
     ensures same_reference { tx.new.conn.ghost_name ≡ tx.old.conn.ghost_name }
     ensures clean { HasCleanDisk (state S.Store tx.new.conn.now) → HasCleanDisk (state S.Store tx.old.conn.now) }
     ensures kept { HasCleanDisk (state S.Store tx.new.conn.now) → IsTrue (state S.Store tx.old.conn.now).in_transaction → KeepsCommit (state S.Store tx.old.conn.now) (state S.Store tx.new.conn.now) }
     ensures inside { HasCleanDisk (state S.Store tx.new.conn.now) → OnOk result (IsTrue (state S.Store tx.old.conn.now).in_transaction → IsTrue (state S.Store tx.new.conn.now).in_transaction) }
-    ensures done { HasCleanDisk (state S.Store tx.new.conn.now) → OnOk result ((c : Content) → Holds c (state S.Store tx.old.conn.now) → Holds (with_document_row (number job ∷ number doc ∷ Words (format_name format) ∷ number octets ∷ []) c) (state S.Store tx.new.conn.now)) }
+    ensures done { HasCleanDisk (state S.Store tx.new.conn.now) → OnOk result ((c : Content) → Holds c (state S.Store tx.old.conn.now) → Holds (with_document_row (document_values document.now) c) (state S.Store tx.new.conn.now)) }
 {
     run(
         tx,
         "INSERT INTO documents (job, doc, format, octets) VALUES (?1, ?2, ?3, ?4)",
-        params![job, doc, format.name(), octets],
+        params![
+            document.job,
+            document.doc,
+            document.format.name(),
+            document.octets
+        ],
     )?;
     Ok(())
 }
@@ -77,9 +78,15 @@ fn add_document<S: Alter>(
     ensures inside { HasCleanDisk (state S.Store tx.new.conn.now) → OnOk result (IsTrue (state S.Store tx.old.conn.now).in_transaction → IsTrue (state S.Store tx.new.conn.now).in_transaction) }
     ensures done { HasCleanDisk (state S.Store tx.new.conn.now) → OnOk result ((w : World) (was : JobValue) → AreDistinct w.jobs → job_at job (rows w) ≡ Some was → Holds (content_of w) (state S.Store tx.old.conn.now) → Holds (content_of (with_added (Some (record { job = job; format = format; bytes = bytes.now })) w)) (state S.Store tx.new.conn.now)) }
 {
-    let count = count_documents(tx, job)?;
-    insert_document(tx, job, count + 1, format, bytes.len() as u32)?;
-    insert_pieces(tx, job, count + 1, bytes)
+    let doc = count_documents(tx, job)? + 1;
+    let row = DocumentRow {
+        job,
+        doc,
+        format,
+        octets: bytes.len() as u32,
+    };
+    insert_document(tx, &row)?;
+    insert_pieces(tx, job, doc, bytes)
 }
 
 /// Adds the document of a change, where its job is there.

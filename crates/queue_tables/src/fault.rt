@@ -11,9 +11,11 @@ use std::alloc::{AllocError, AllocFailed};
 pub enum Fault {
     /// There was no memory.
     Memory,
-    /// The disk, or its size, refused; a transaction of the caller's is under way; or a statement doesn't fit the tables that are there.
+    /// Any other error of a statement: of the disk, of a size, of rowids that are used up, of a transaction of the caller's that is under way,
+    /// or of a statement that doesn't fit the tables that are there.
     Disk,
-    /// A row has not the form of its table, another row of its key is there, or one is missing that others need.
+    /// A value that was read has not the form of its column; a constraint refused a row that was written, as where another row of its key is
+    /// there, or one is missing that it refers to; or the rows that are there are no queue's.
     Damaged,
 }
 
@@ -79,17 +81,12 @@ pub(crate) fn fault_of_value(error: Error) -> Fault
     }
 }
 
-/// A statement that writes was refused: a refusal that is neither for memory nor for the disk is one of a row.
+/// A statement that writes was refused: Damaged where a constraint refused a row, and else as a query's error is told.
 pub(crate) fn fault_of_write(error: Error) -> Fault
     ensures { result ≡ write_fault error }
 {
     match error {
-        Error::SqliteFailure(ErrorCode::OutOfMemory) => Fault::Memory,
-        Error::SqliteFailure(ErrorCode::SystemIoFailure) => Fault::Disk,
-        Error::SqliteFailure(ErrorCode::DiskFull) => Fault::Disk,
-        Error::SqliteFailure(ErrorCode::TooBig) => Fault::Disk,
-        Error::SqliteFailure(ErrorCode::NoRowid) => Fault::Disk,
-        Error::SqliteFailure(ErrorCode::Closed) => Fault::Disk,
-        _ => Fault::Damaged,
+        Error::SqliteFailure(ErrorCode::ConstraintViolation(_)) => Fault::Damaged,
+        _ => Fault::from(error),
     }
 }

@@ -1,5 +1,5 @@
 //! A decision in one transaction.
-ghost use Rattle.std.specs.Prelude.{OnOk, OnErr, IsTrue};
+ghost use Rattle.std.specs.Prelude.{◌≡◌, OnOk, OnErr, IsTrue};
 ghost use Rattle.sqlite.specs.State.{HasCleanDisk};
 ghost use Rattle.sqlite.specs.Held.{state};
 ghost use Rattle.queue_core.specs.Book.{IsDecisionOn};
@@ -15,7 +15,8 @@ use sqlite::{Alter, Connection};
 use std::alloc::Global;
 
 /// Makes a decision of the machine on the world that the tables stand for: all of its change in one
-/// transaction. After a refusal they stand for the same world as before, where the connection is still open.
+/// transaction, which is committed where the answer is Ok. After a refusal they stand for the same world as
+/// before, where the connection is still open.
 pub fn make<S: Alter>(
     alloc: Global,
     conn: &mut Connection<S>,
@@ -26,6 +27,8 @@ pub fn make<S: Alter>(
     ensures live { HasCleanDisk (state S.Store conn.new) → OnOk result (IsTrue (state S.Store conn.new).is_open) }
     ensures made { HasCleanDisk (state S.Store conn.new) → OnOk result ((w : World) → IsSound w → IsDecisionOn w (decision_of decision.now) → Holds (content_of w) (state S.Store conn.old) → Holds (content_of (made_on (change_of decision.now.change) w)) (state S.Store conn.new)) }
     ensures refused { HasCleanDisk (state S.Store conn.new) → OnErr result ((w : World) → Holds (content_of w) (state S.Store conn.old) → IsTrue (state S.Store conn.new).is_open → Holds (content_of w) (state S.Store conn.new)) }
+    ensures settled { HasCleanDisk (state S.Store conn.new) → OnOk result ((state S.Store conn.new).now ≡ (state S.Store conn.new).committed) }
+    ensures still_settled { HasCleanDisk (state S.Store conn.new) → OnErr result ((state S.Store conn.old).now ≡ (state S.Store conn.old).committed → IsTrue (state S.Store conn.new).is_open → (state S.Store conn.new).now ≡ (state S.Store conn.new).committed) }
 {
     if !conn.is_autocommit() {
         return Err(Fault::Disk);

@@ -1,8 +1,6 @@
-use Rattle.std.proofs.Common.{ap, ◌∙◌}
-use Rattle.sqlite.specs.Effect.{Database}
 use Rattle.sqlite.specs.Files.{file_state, over_files}
 use Rattle.sqlite_wal.specs.Files.{image_at}
-use Rattle.queue_store.proofs.Adopting.{fits_in, holds_file, kept_in}
+use Rattle.queue_store.proofs.Adopting.{fits_in, kept_in}
 use Rattle.queue_store.proofs.Results.{both_ok}
 use Rattle.queue_store.proofs.open.TableBook+FileStore+FileFrom+S.open_from.Goals as goal
 
@@ -15,6 +13,5 @@ returns-clause-kept g c = λ fits.
     let before = file_state c.in_ok-conn.conn in
     let opened = c.in_ok-conn.ensures.opened in
     let found = c.in_ok-conn.ensures.found in
-    both_ok c.adopt_in_files.result _ _ _ (λ b stands kept honest. kept_in over_files b image (stands honest) (λ db holds.
-    ap (λ (d : Database). d.trees) (kept.same honest (stands honest).live) ∙ holds_file before image opened found (kept.clean honest) db holds))
+    both_ok c.adopt_in_files.result _ _ _ (λ b stands kept honest. kept_in before image opened found over_files b kept honest (stands honest))
     (c.adopt_in_files.ensures.stands (fits_in before image opened found fits)) c.adopt_in_files.ensures.kept

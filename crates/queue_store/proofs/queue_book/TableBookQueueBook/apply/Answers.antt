@@ -9,4 +9,5 @@ returns-in-Ok-clause-ok g c w stands honest =
       sound = c.decisions_are_sound.ensures.made w (decision_of c.args.decision) was.sound decided;
       settings_are = was.settings_are;
       holds = λ is_open. c.in-Ok.ensures.made honest w was.sound decided (was.holds (c.make.ensures.opened honest is_open));
+      settled = λ is_open. c.in-Ok.ensures.settled honest;
     }
