@@ -9,9 +9,11 @@ use Rattle.queue_core.specs.Sound.{IsSound}
 use Rattle.queue_core.specs.World.{World}
 use Rattle.queue_types.specs.declared.document.Format.{Format}
 use Rattle.queue_laws.specs.Alike.{IsAlikePlace, draws}
+use Rattle.queue_laws.specs.Calls.{draws_number}
 use Rattle.queue_laws.specs.Replies.{refuses}
 use Rattle.queue_laws.proofs.Base.{itself}
 use Rattle.queue_laws.proofs.Entered.{printed}
+use Rattle.queue_laws.proofs.Undrawn.{next_kept}
 
 abbrev asks : ℕ → List ℕ → Call → Place
 asks now caller call = record { now = now; event = Some (ask caller call) }
@@ -39,5 +41,14 @@ refused_alike stay u bob w v now call not_bob refused = record {
   event = inr (ap not not_bob, refl);
   draw = λ others.
       ap (λ (x : World). not (nat_eq x.next w.next)) (stay w now (ask bob call) refused)
+      ∙ ap not (itself w.next ∙ sym (itself v.next));
+}
+
+pub undrawn_alike : (u bob : List ℕ) (w v : World) (now : ℕ) (call : Call) → bytes_eq bob u ≡ false → draws_number call ≡ false → IsAlikePlace u w v (asks now bob call) (record { now = now; event = None })
+undrawn_alike u bob w v now call not_bob none = record {
+  now = refl;
+  event = inr (ap not not_bob, refl);
+  draw = λ others.
+      ap (λ n. not (nat_eq n w.next)) (next_kept w now bob call none)
       ∙ ap not (itself w.next ∙ sym (itself v.next));
 }

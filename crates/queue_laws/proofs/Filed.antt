@@ -22,7 +22,7 @@ use Rattle.queue_laws.proofs.Taking.{Comes, one_comes, both_come, IsThere, IsTak
 abbrev pub taken_of : World → List GrantRow → Taken
 taken_of w rows = take_rows rows (map (known_grant w) rows) 1 [] [] 0
 
-abbrev made : World → Taken → World
+abbrev pub made : World → Taken → World
 made w t = made_on (grant_row t).change w
 
 -- ---- what no file changes
@@ -77,7 +77,7 @@ grants_stay w now file b a pages there = row_stays w now file (record { batch = 
 
 -- ---- each row is granted
 
-no_added : (fault : GrantFault) (row added repeats : ℕ) (A : Type 0) → NotAdded fault row ≡ Added added repeats → A
+pub no_added : (fault : GrantFault) (row added repeats : ℕ) (A : Type 0) → NotAdded fault row ≡ Added added repeats → A
 no_added fault row added repeats A e = absurd (cc)
 
 accepted_as : (w : World) (t : Taken) (P : World → Type 0) (added repeats : ℕ) → (grant_row t).reply ≡ Added added repeats → Comes (λ new free n. P (made w (all_taken new free n))) t → P (made w t)
@@ -93,7 +93,7 @@ file_granted w now file added repeats e = accepted_as w (taken_of w file) (λ v.
 
 -- ---- each row counts once
 
-added_parts : (m n added repeats : ℕ) → Added m n ≡ Added added repeats → (m ≡ added) × (n ≡ repeats)
+pub added_parts : (m n added repeats : ℕ) → Added m n ≡ Added added repeats → (m ≡ added) × (n ≡ repeats)
 added_parts m n added repeats e = (cc, cc)
 
 count_as : (t : Taken) (k added repeats : ℕ) → (grant_row t).reply ≡ Added added repeats → Comes (λ new free n. length new + n ≡ k) t → added + repeats ≡ k
@@ -128,7 +128,7 @@ granted_along : (ps : List Place) (w : World) (file : List GrantRow) → Each (I
 granted_along [] w file each = each
 granted_along (p ∷ ps) w file each = granted_along ps (after w p.now p.event) file (each_map (IsGranted w.grants) (IsGranted (after w p.now p.event).grants) file (granted_after w p.now p.event) each)
 
-abbrev made_step : World → Taken → Step
+abbrev pub made_step : World → Taken → Step
 made_step w t = record { world = made w t; reply = (grant_row t).reply }
 
 pub all_repeats : (w : World) (later : ℕ) (file : List GrantRow) → Each (IsGranted w.grants) file → step w later (grant file) ≡ record { world = w; reply = Added 0 (length file) }

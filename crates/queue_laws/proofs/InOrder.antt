@@ -40,13 +40,13 @@ ended_is (Canceled why) hold incoming = refl
 ended_is Aborted hold incoming = refl
 ended_is Completed hold incoming = refl
 
-kind_is : (which : WhichJobs) (j : Job) → is_among which j ≡ is_of_kind which j
+pub kind_is : (which : WhichJobs) (j : Job) → is_among which j ≡ is_of_kind which j
 kind_is NotCompleted j = live_is j.phase j.hold j.incoming
 kind_is CompletedJobs j = ended_is j.phase j.hold j.incoming
 
 -- ---- counts
 
-count_filter : (p q : Job → Bool) (js : List Job) → count_by p (filter q js) ≡ count_by (λ j. q j && p j) js
+pub count_filter : (p q : Job → Bool) (js : List Job) → count_by p (filter q js) ≡ count_by (λ j. q j && p j) js
 count_filter p q [] = refl
 count_filter p q (j ∷ js) =
     let more : count_by p (filter q js) ≡ count_by (λ j. q j && p j) js = count_filter p q js in
@@ -58,11 +58,11 @@ count_filter p q (j ∷ js) =
 
 -- ---- orders
 
-rising : (first next : ℕ) (es : List Entry) → Rise first es next → AreRising (rows_of es)
+pub rising : (first next : ℕ) (es : List Entry) → Rise first es next → AreRising (rows_of es)
 rising first next [] rise = tt
 rising first next (e ∷ es) rise = (all_above e.row.number (e.row.number + 1) next es (omega arith) rise.1, rising (e.row.number + 1) next es rise.1)
 
-rising_filter : (q : Job → Bool) (js : List Job) → AreRising js → AreRising (filter q js)
+pub rising_filter : (q : Job → Bool) (js : List Job) → AreRising js → AreRising (filter q js)
 rising_filter q [] rise = tt
 rising_filter q (j ∷ js) rise = elim (q j) as (λ b. AreRising (cond b (j ∷ filter q js) (filter q js))) [
   | true ↦ (each_filter (λ k. j.number < k.number) q js rise.0, rising_filter q js rise.1)

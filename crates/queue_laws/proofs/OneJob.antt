@@ -75,7 +75,7 @@ module _ (caller : List ℕ) (js : List Job) (row : Job → Decision) where
   of_none : (n : ℕ) → job_at n js ≡ None → (of_own caller row (numbered n js)).reply ≡ Refused 0x0406
   of_none n none = ap (λ ks. (of_own caller row ks).reply) (none_named n js none)
 
-  of_job : (n : ℕ) (j : Job) → job_at n js ≡ Some j → (b : Bool) → bytes_eq j.owner caller ≡ b → of_own caller row (numbered n js) ≡ cond b (row j) (refused 0x0406)
+  pub of_job : (n : ℕ) (j : Job) → job_at n js ≡ Some j → (b : Bool) → bytes_eq j.owner caller ≡ b → of_own caller row (numbered n js) ≡ cond b (row j) (refused 0x0406)
   of_job n j there b is = let at = named n js j there in ap (of_own caller row) at.is ∙ ap (λ b. cond b (row j) (refused 0x0406)) is
 
   of_others : (n : ℕ) (j : Job) → job_at n js ≡ Some j → bytes_eq j.owner caller ≡ false → (of_own caller row (numbered n js)).reply ≡ Refused 0x0406
@@ -184,7 +184,7 @@ module _ (caller : List ℕ) (numbers : List ℕ) where
   all_there [] js each = refl
   all_there (n ∷ ns) js each = λ i. one_there n js each.0 i && all_there ns js each.1 i
 
-  are_own : (js : List Job) → list_all (λ n. has n js) numbers ≡ list_all (λ n. has_job caller n js) numbers
+  pub are_own : (js : List Job) → list_all (λ n. has n js) numbers ≡ list_all (λ n. has_job caller n js) numbers
   are_own js = all_there numbers js (each_in numbers)
 
 pub named_others : (w : World) (now : ℕ) (caller numbers : List ℕ) → list_all (λ n. has_job caller n (rows w)) numbers ≡ false → (step w now (ask caller (cancel_my_jobs (Some numbers)))).reply ≡ Refused 0x0406

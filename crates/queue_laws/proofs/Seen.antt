@@ -32,7 +32,7 @@ seen s o caller call = record {
 
 -- ---- tests that only jobs of the caller's pass
 
-filter_own : (u : List ℕ) (q : Job → Bool) (es : List Entry) → filter (λ j. bytes_eq j.owner u && q j) (rows_of es) ≡ filter (λ j. bytes_eq j.owner u && q j) (rows_of (own_jobs u es))
+pub filter_own : (u : List ℕ) (q : Job → Bool) (es : List Entry) → filter (λ j. bytes_eq j.owner u && q j) (rows_of es) ≡ filter (λ j. bytes_eq j.owner u && q j) (rows_of (own_jobs u es))
 filter_own u q [] = refl
 filter_own u q (e ∷ es) =
     let test : Job → Bool = λ j. bytes_eq j.owner u && q j in

@@ -70,6 +70,7 @@ pub record IsAccepted (w : World) (now : ℕ) (r : Report) (d : Decision) : Type
   pub rest : List Job
   pub jobs : numbered r.job (rows w) ≡ before ∷ rest
   pub after : Job
+  pub came : reported r now before ≡ Some after
   pub moved : IsMoved r.count before after
   pub first : get w.reports (r.job, r.seq) ≡ None
   pub is : d ≡ accepted (cut w (tell r)) r after
@@ -91,7 +92,7 @@ module _ (w : World) (now : ℕ) (r : Report) where
   ] refl
   rows_tell (j ∷ rest) e None kept = elim (reported r now j) as (λ o. reported r now j ≡ o → Telling w now r (accepted_where scene r o)) [
     | None ↦ λ is. declined State refl
-    | Some x ↦ λ is. taken (record { before = j; rest = rest; jobs = e; after = x; moved = moved_is r.count now j x r.kind j.phase is; first = kept; is = refl })
+    | Some x ↦ λ is. taken (record { before = j; rest = rest; jobs = e; after = x; came = is; moved = moved_is r.count now j x r.kind j.phase is; first = kept; is = refl })
   ] refl
 
   pub telling : Telling w now r (decision (cut w (tell r)) now (tell r))

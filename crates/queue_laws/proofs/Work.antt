@@ -1,13 +1,14 @@
 -- What a request leaves of the jobs that it changes.
 use Rattle.std.proofs.Common.{◌≡◌, ℕ, ◌+◌, List, [], ◌∷◌, map, refl, ap, sym, ◌∙◌, subst, arith, Bool, true, false, cond}
-use Rattle.std.specs.Prelude.{Option, Some, None, nat_eq, bytes_eq, filter, fold, ◌&&◌}
+use Rattle.std.specs.Prelude.{Option, Some, None, nat_eq, nat_le, bytes_eq, filter, fold, ◌&&◌}
 use Rattle.std.specs.List.{list_all, AllByRecursion as Each}
 use Rattle.std.proofs.lemmas.Bool.Decides.{nat_tests}
 use Rattle.queue_types.specs.Job.{is_live, estimate}
 use Rattle.queue_types.specs.Event.{Call, Decision, NewDocument, ask, print_job, validate_job, create_job, send_document, cancel_job, cancel_my_jobs, hold_job, release_job, get_job_attributes, get_jobs, get_printer_attributes}
 use Rattle.queue_core.specs.World.{World, Entry, rows, cut, made_on, job_at, numbered, with_row, add_document, with_document, is_one_of}
-use Rattle.queue_core.specs.Machine.{decision, step, answered, refused, becomes, changed, entered, new_job, new_document, new_refusal, unless_refused, validate_job_row, canceled, canceled_in, is_cancelable, cancel_row, all_canceled, are_there, cancel_my_jobs_row, is_sendable, sent, send_in, hold_in, has_pages, let_print, release_in, of_own}
-use Rattle.queue_core.specs.Sound.{IsSound, Rise}
+use Rattle.queue_core.specs.Machine.{decision, step, document_count, answered, refused, becomes, changed, entered, new_job, new_document, new_refusal, unless_refused, validate_job_row, canceled, canceled_in, is_cancelable, cancel_row, all_canceled, are_there, cancel_my_jobs_row, is_sendable, sent, send_in, hold_in, has_pages, let_print, release_in, of_own}
+use Rattle.queue_core.specs.Limits.{IsSoundJob}
+use Rattle.queue_core.specs.Sound.{IsSound, IsSoundEntry, Rise}
 use Rattle.queue_types.specs.declared.document.Format.{Format}
 use Rattle.queue_types.specs.declared.job.Job.{Job}
 use Rattle.queue_types.specs.declared.job.Phase.{Phase}
@@ -16,7 +17,7 @@ use Rattle.queue_types.specs.declared.event.Reply.TheVariants.{Done, Jobs}
 use Rattle.queue_types.specs.declared.event.Scene.{Scene}
 use Rattle.queue_laws.specs.Jobs.{IsSameWork}
 use Rattle.queue_laws.proofs.Asked.{each_at, same_canceled}
-use Rattle.queue_laws.proofs.Base.{at, rows_of, equal, below, first_below, first_named, each_filter}
+use Rattle.queue_laws.proofs.Base.{at, rows_of, equal, below, first_below, first_named, each_filter, first_of}
 use Rattle.queue_laws.proofs.Callers.{document_row}
 
 -- ---- what stands at a number once a row is put
@@ -35,7 +36,7 @@ swapped s t x y z =
 not_both : (a b n : ℕ) → nat_eq a b ≡ false → nat_eq a n ≡ true → nat_eq b n ≡ true → ⊥
 not_both a b n e s t = grind (arith, nat_tests)
 
-at_row : (n : ℕ) (x : Job) (es : List Entry) → at n (with_row es x) ≡ cond (nat_eq x.number n) (Some x) (at n es)
+pub at_row : (n : ℕ) (x : Job) (es : List Entry) → at n (with_row es x) ≡ cond (nat_eq x.number n) (Some x) (at n es)
 at_row n x [] = refl
 at_row n x (e ∷ es) =
     elim (nat_eq e.row.number x.number) as (λ t. nat_eq e.row.number x.number ≡ t → at n (cond t (record e { row = x } ∷ es) (e ∷ with_row es x)) ≡ cond (nat_eq x.number n) (Some x) (cond (nat_eq e.row.number n) (Some e.row) (at n es))) [
@@ -51,7 +52,7 @@ rows_documents : (o : Option NewDocument) (es : List Entry) → rows_of (with_do
 rows_documents None es = refl
 rows_documents (Some d) es = rows_document d es
 
-some_same : (a b : Job) → Some a ≡ Some b → a ≡ b
+pub some_same : (a b : Job) → Some a ≡ Some b → a ≡ b
 some_same a b e = cc
 
 no_some : (A : Type 0) (o : Option Job) (j : Job) → o ≡ None → o ≡ Some j → A
@@ -64,6 +65,26 @@ none_next k first (e ∷ es) rise =
     let low = first_below (e.row.number + 1) k es rise.1 in
     ap (λ t. cond t (Some e.row) (at k es)) (below e.row.number k (omega arith)) ∙ none_next k (e.row.number + 1) es rise.1
 
+-- the job of a number is within its limits
+pub sound_at : (n : ℕ) (j : Job) (es : List Entry) → Each IsSoundEntry es → at n es ≡ Some j → IsSoundJob j
+sound_at n j [] each there = no_some (IsSoundJob j) None j refl there
+sound_at n j (e ∷ es) each there =
+    elim (nat_eq e.row.number n) as (λ t. cond t (Some e.row) (at n es) ≡ Some j → IsSoundJob j) [
+      | true ↦ λ there. subst IsSoundJob (some_same e.row j there) each.0.row
+      | false ↦ λ there. sound_at n j es each.1 there
+    ] there
+
+-- ---- what holds between a job and what it was
+
+-- it holds of a job that stays, is sent a document, canceled or held, and of one of the caller's own that is released by
+-- its number
+pub record Holds (caller : List ℕ) (call : Call) (R : Job → Job → Type 0) : Type 0 where
+  pub same : (j : Job) → R j j
+  pub sent : (j : Job) (payload : List ℕ) (last : Bool) → IsSoundJob j → j.incoming ≡ true → R (sent j payload last) j
+  pub canceled : (now : ℕ) (j : Job) → R (canceled now j) j
+  pub held : (j : Job) → j.phase ≡ Waiting → R (record j { hold = true }) j
+  pub released : (j : Job) → call ≡ release_job j.number → bytes_eq j.owner caller ≡ true → j.phase ≡ Waiting → R (record j { hold = false }) j
+
 canceled_same : (now : ℕ) (j : Job) (p : Phase) → IsSameWork (canceled_in p now j) j
 canceled_same now j Waiting = refl
 canceled_same now j Running = refl
@@ -72,39 +93,48 @@ canceled_same now j (Canceled why) = refl
 canceled_same now j Aborted = refl
 canceled_same now j Completed = refl
 
+work_holds : (caller : List ℕ) (call : Call) → Holds caller call IsSameWork
+work_holds caller call = record {
+  same = λ j. refl;
+  sent = λ j payload last sound incoming. refl;
+  canceled = λ now j. canceled_same now j j.phase;
+  held = λ j is. refl;
+  released = λ j by own is. refl;
+}
+
 -- ---- changes
 
-module _ (w : World) (sound : IsSound w) where
-  -- the row is the same work as what stands at its number
+module _ (caller : List ℕ) (call : Call) (R : Job → Job → Type 0) (holds : Holds caller call R) (w : World) (sound : IsSound w) where
+  -- so the row is to what stands at its number
   abbrev IsWork : Job → Type 0
-  IsWork x = (j : Job) → at x.number w.jobs ≡ Some j → IsSameWork x j
+  IsWork x = (j : Job) → at x.number w.jobs ≡ Some j → R x j
 
   abbrev AreWork : Decision → Type 0
   AreWork d = Each IsWork d.change.jobs
 
-  one_work : (n : ℕ) (j x : Job) → at n w.jobs ≡ Some j → x.number ≡ n → IsSameWork x j → IsWork x
-  one_work n j x there number same k at_k = subst (IsSameWork x) (some_same j k (sym there ∙ ap (λ m. at m w.jobs) (sym number) ∙ at_k)) same
+  one_work : (n : ℕ) (j x : Job) → at n w.jobs ≡ Some j → x.number ≡ n → R x j → IsWork x
+  one_work n j x there number same k at_k = subst (R x) (some_same j k (sym there ∙ ap (λ m. at m w.jobs) (sym number) ∙ at_k)) same
 
   module _ (n : ℕ) where
-    stays_work : (xs : List Job) (es : List Entry) → Each IsWork xs → ((j k : Job) → at n w.jobs ≡ Some j → at n es ≡ Some k → IsSameWork k j) → (j k : Job) → at n w.jobs ≡ Some j → at n (fold with_row es xs) ≡ Some k → IsSameWork k j
+    stays_work : (xs : List Job) (es : List Entry) → Each IsWork xs → ((j k : Job) → at n w.jobs ≡ Some j → at n es ≡ Some k → R k j) → (j k : Job) → at n w.jobs ≡ Some j → at n (fold with_row es xs) ≡ Some k → R k j
     stays_work [] es each before = before
     stays_work (x ∷ xs) es each before = stays_work xs (with_row es x) each.1 (λ j k old then.
-        elim (nat_eq x.number n) as (λ t. nat_eq x.number n ≡ t → cond t (Some x) (at n es) ≡ Some k → IsSameWork k j) [
-          | true ↦ λ is e. subst (λ y. IsSameWork y j) (some_same x k e) (each.0 j (ap (λ m. at m w.jobs) (equal x.number n is) ∙ old))
+        elim (nat_eq x.number n) as (λ t. nat_eq x.number n ≡ t → cond t (Some x) (at n es) ≡ Some k → R k j) [
+          | true ↦ λ is e. subst (λ y. R y j) (some_same x k e) (each.0 j (ap (λ m. at m w.jobs) (equal x.number n is) ∙ old))
           | false ↦ λ is e. before j k old e
         ] refl (sym (at_row n x es) ∙ then))
 
-    first_work : (j k : Job) → at n w.jobs ≡ Some j → at n w.jobs ≡ Some k → IsSameWork k j
-    first_work j k old then = subst (λ y. IsSameWork y j) (some_same j k (sym old ∙ then)) refl
+    first_work : (j k : Job) → at n w.jobs ≡ Some j → at n w.jobs ≡ Some k → R k j
+    first_work j k old then = subst (λ y. R y j) (some_same j k (sym old ∙ then)) (holds.same j)
 
-    work_left : (d : Decision) → AreWork d → (j k : Job) → at n w.jobs ≡ Some j → at n (made_on d.change w).jobs ≡ Some k → IsSameWork k j
+    work_left : (d : Decision) → AreWork d → (j k : Job) → at n w.jobs ≡ Some j → at n (made_on d.change w).jobs ≡ Some k → R k j
     work_left d each j k old then = stays_work d.change.jobs w.jobs each first_work j k old (sym (ap (job_at n) (rows_documents d.change.document (fold with_row w.jobs d.change.jobs))) ∙ then)
 
   -- ---- a new job
 
   entered_work : (s : Scene) (x : Job) (document : Option NewDocument) → x.number ≡ w.next → AreWork (unless_refused (new_refusal s) (entered s x document))
   entered_work s x document number = elim (new_refusal s) as (λ o. AreWork (unless_refused o (entered s x document))) [
-    | None ↦ (λ j there. no_some (IsSameWork x j) (at x.number w.jobs) j (ap (λ m. at m w.jobs) number ∙ none_next w.next 1 w.jobs sound.numbers) there, tt)
+    | None ↦ (λ j there. no_some (R x j) (at x.number w.jobs) j (ap (λ m. at m w.jobs) number ∙ none_next w.next 1 w.jobs sound.numbers) there, tt)
     | Some code ↦ tt
   ]
 
@@ -113,54 +143,54 @@ module _ (w : World) (sound : IsSound w) where
 
   -- ---- a job of the caller's own
 
-  rows_work : (caller : List ℕ) (n : ℕ) (row : Job → Decision) → ((j : Job) → at n w.jobs ≡ Some j → j.number ≡ n → AreWork (row j)) → (js : List Job) → numbered n (rows w) ≡ js → AreWork (of_own caller row js)
-  rows_work caller n row each [] e = tt
-  rows_work caller n row each (j ∷ rest) e =
+  rows_work : (n : ℕ) (row : Job → Decision) → ((j : Job) → at n w.jobs ≡ Some j → j.number ≡ n → bytes_eq j.owner caller ≡ true → AreWork (row j)) → (js : List Job) → numbered n (rows w) ≡ js → AreWork (of_own caller row js)
+  rows_work n row each [] e = tt
+  rows_work n row each (j ∷ rest) e =
       let found = first_named n (rows w) j rest e in
-      elim (bytes_eq j.owner caller) as (λ b. AreWork (cond b (row j) (refused 0x0406))) [ true ↦ each j found.0 found.1 | false ↦ tt ]
+      elim (bytes_eq j.owner caller) as (λ b. bytes_eq j.owner caller ≡ b → AreWork (cond b (row j) (refused 0x0406))) [ true ↦ each j found.0 found.1 | false ↦ λ own. tt ] refl
 
-  own_work : (caller : List ℕ) (n : ℕ) (row : Job → Decision) → ((j : Job) → at n w.jobs ≡ Some j → j.number ≡ n → AreWork (row j)) → AreWork (of_own caller row (numbered n (rows w)))
-  own_work caller n row each = rows_work caller n row each (numbered n (rows w)) refl
+  own_work : (n : ℕ) (row : Job → Decision) → ((j : Job) → at n w.jobs ≡ Some j → j.number ≡ n → bytes_eq j.owner caller ≡ true → AreWork (row j)) → AreWork (of_own caller row (numbered n (rows w)))
+  own_work n row each = rows_work n row each (numbered n (rows w)) refl
 
   module _ (n : ℕ) (s : Scene) (j : Job) (there : at n w.jobs ≡ Some j) (number : j.number ≡ n) where
     sent_work : (format : Format) (payload : List ℕ) (last : Bool) → AreWork (send_in s j format payload last)
     sent_work format payload last =
-        elim (is_sendable j payload) as (λ b. AreWork (cond b (record { reply = Jobs (sent j payload last ∷ []); change = record (changed s (sent j payload last ∷ [])) { document = new_document j.number format payload } }) (refused 0x0404))) [
-          | true ↦ (one_work n j (sent j payload last) there number refl, tt)
-          | false ↦ tt
-        ]
+        elim (is_sendable j payload) as (λ b. is_sendable j payload ≡ b → AreWork (cond b (record { reply = Jobs (sent j payload last ∷ []); change = record (changed s (sent j payload last ∷ [])) { document = new_document j.number format payload } }) (refused 0x0404))) [
+          | true ↦ λ can. (one_work n j (sent j payload last) there number (holds.sent j payload last (sound_at n j w.jobs sound.entries there) (first_of j.incoming (nat_le (j.documents + document_count payload) 16) can)), tt)
+          | false ↦ λ can. tt
+        ] refl
 
     canceled_work : (now : ℕ) → AreWork (cancel_row s now j)
     canceled_work now = elim (is_cancelable j) as (λ b. AreWork (cond b (becomes s (canceled now j)) (refused 0x0404))) [
-      | true ↦ (one_work n j (canceled now j) there ((same_canceled now j j.phase).number ∙ number) (canceled_same now j j.phase), tt)
+      | true ↦ (one_work n j (canceled now j) there ((same_canceled now j j.phase).number ∙ number) (holds.canceled now j), tt)
       | false ↦ tt
     ]
 
     held_work : AreWork (hold_in j.phase s j)
-    held_work = elim j.phase as (λ p. AreWork (hold_in p s j)) [
-      | Waiting ↦ (one_work n j (record j { hold = true }) there number refl, tt)
-      | Running ↦ tt
-      | Stopped ↦ tt
-      | Canceled why ↦ tt
-      | Aborted ↦ tt
-      | Completed ↦ tt
-    ]
+    held_work = elim j.phase as (λ p. j.phase ≡ p → AreWork (hold_in p s j)) [
+      | Waiting ↦ λ is. (one_work n j (record j { hold = true }) there number (holds.held j is), tt)
+      | Running ↦ λ is. tt
+      | Stopped ↦ λ is. tt
+      | Canceled why ↦ λ is. tt
+      | Aborted ↦ λ is. tt
+      | Completed ↦ λ is. tt
+    ] refl
 
-    let_work : AreWork (let_print s j)
-    let_work = elim (has_pages s.free (estimate j)) as (λ b. AreWork (cond b (becomes s (record j { hold = false })) (refused 0x0404))) [
-      | true ↦ (one_work n j (record j { hold = false }) there number refl, tt)
+    let_work : call ≡ release_job n → bytes_eq j.owner caller ≡ true → j.phase ≡ Waiting → AreWork (let_print s j)
+    let_work by own is = elim (has_pages s.free (estimate j)) as (λ b. AreWork (cond b (becomes s (record j { hold = false })) (refused 0x0404))) [
+      | true ↦ (one_work n j (record j { hold = false }) there number (holds.released j (by ∙ ap release_job (sym number)) own is), tt)
       | false ↦ tt
     ]
 
-    released_work : AreWork (release_in j.phase s j)
-    released_work = elim j.phase as (λ p. AreWork (release_in p s j)) [
-      | Waiting ↦ elim j.hold as (λ b. AreWork (cond b (let_print s j) (answered Done))) [ true ↦ let_work | false ↦ tt ]
-      | Running ↦ tt
-      | Stopped ↦ tt
-      | Canceled why ↦ tt
-      | Aborted ↦ tt
-      | Completed ↦ tt
-    ]
+    released_work : call ≡ release_job n → bytes_eq j.owner caller ≡ true → AreWork (release_in j.phase s j)
+    released_work by own = elim j.phase as (λ p. j.phase ≡ p → AreWork (release_in p s j)) [
+      | Waiting ↦ λ is. elim j.hold as (λ b. AreWork (cond b (let_print s j) (answered Done))) [ true ↦ let_work by own is | false ↦ tt ]
+      | Running ↦ λ is. tt
+      | Stopped ↦ λ is. tt
+      | Canceled why ↦ λ is. tt
+      | Aborted ↦ λ is. tt
+      | Completed ↦ λ is. tt
+    ] refl
 
   -- ---- several of the caller's jobs
 
@@ -172,7 +202,7 @@ module _ (w : World) (sound : IsSound w) where
 
   each_work : (now : ℕ) (js : List Job) → Each stands js → Each IsWork (map (canceled now) js)
   each_work now [] each = tt
-  each_work now (j ∷ js) each = (one_work j.number j (canceled now j) each.0 (same_canceled now j j.phase).number (canceled_same now j j.phase), each_work now js each.1)
+  each_work now (j ∷ js) each = (one_work j.number j (canceled now j) each.0 (same_canceled now j j.phase).number (holds.canceled now j), each_work now js each.1)
 
   named_work : (s : Scene) (now : ℕ) (numbers : List ℕ) → Each stands s.jobs → AreWork (cancel_my_jobs_row s now (Some numbers))
   named_work s now numbers each =
@@ -183,32 +213,36 @@ module _ (w : World) (sound : IsSound w) where
 
   -- ---- each call
 
-  asked_work : (now : ℕ) (caller : List ℕ) (call : Call) → AreWork (decision (cut w (ask caller call)) now (ask caller call))
-  asked_work now caller (print_job new format payload) =
+  asked_work : (now : ℕ) (c : Call) → call ≡ c → AreWork (decision (cut w (ask caller c)) now (ask caller c))
+  asked_work now (print_job new format payload) is =
       let s : Scene = cut w (ask caller (print_job new format payload)) in
       entered_work s (new_job s now caller false new payload) (new_document s.next format payload) refl
-  asked_work now caller (validate_job new) = validated_work (cut w (ask caller (validate_job new)))
-  asked_work now caller (create_job new) =
+  asked_work now (validate_job new) is = validated_work (cut w (ask caller (validate_job new)))
+  asked_work now (create_job new) is =
       let s : Scene = cut w (ask caller (create_job new)) in
       entered_work s (new_job s now caller true new []) None refl
-  asked_work now caller (send_document n format payload last) =
+  asked_work now (send_document n format payload last) is =
       let s : Scene = cut w (ask caller (send_document n format payload last)) in
-      own_work caller n (λ j. send_in s j format payload last) (λ j there number. sent_work n s j there number format payload last)
-  asked_work now caller (cancel_job n) =
+      own_work n (λ j. send_in s j format payload last) (λ j there number own. sent_work n s j there number format payload last)
+  asked_work now (cancel_job n) is =
       let s : Scene = cut w (ask caller (cancel_job n)) in
-      own_work caller n (λ j. cancel_row s now j) (λ j there number. canceled_work n s j there number now)
-  asked_work now caller (cancel_my_jobs None) =
+      own_work n (λ j. cancel_row s now j) (λ j there number own. canceled_work n s j there number now)
+  asked_work now (cancel_my_jobs None) is =
       each_work now (filter is_cancelable (filter (λ j. bytes_eq j.owner caller && is_live j) (rows w))) (each_filter stands is_cancelable (filter (λ j. bytes_eq j.owner caller && is_live j) (rows w)) (all_stand (λ j. bytes_eq j.owner caller && is_live j)))
-  asked_work now caller (cancel_my_jobs (Some numbers)) = named_work (cut w (ask caller (cancel_my_jobs (Some numbers)))) now numbers (all_stand (λ j. bytes_eq j.owner caller && is_one_of numbers j))
-  asked_work now caller (hold_job n) =
+  asked_work now (cancel_my_jobs (Some numbers)) is = named_work (cut w (ask caller (cancel_my_jobs (Some numbers)))) now numbers (all_stand (λ j. bytes_eq j.owner caller && is_one_of numbers j))
+  asked_work now (hold_job n) is =
       let s : Scene = cut w (ask caller (hold_job n)) in
-      own_work caller n (λ j. hold_in j.phase s j) (λ j there number. held_work n s j there number)
-  asked_work now caller (release_job n) =
+      own_work n (λ j. hold_in j.phase s j) (λ j there number own. held_work n s j there number)
+  asked_work now (release_job n) is =
       let s : Scene = cut w (ask caller (release_job n)) in
-      own_work caller n (λ j. release_in j.phase s j) (λ j there number. released_work n s j there number)
-  asked_work now caller (get_job_attributes n) = own_work caller n (λ j. answered (Jobs (j ∷ []))) (λ j there number. tt)
-  asked_work now caller (get_jobs which limit) = tt
-  asked_work now caller get_printer_attributes = tt
+      own_work n (λ j. release_in j.phase s j) (λ j there number own. released_work n s j there number is own)
+  asked_work now (get_job_attributes n) is = own_work n (λ j. answered (Jobs (j ∷ []))) (λ j there number own. tt)
+  asked_work now (get_jobs which limit) is = tt
+  asked_work now get_printer_attributes is = tt
+
+-- what holds of each change to a job, a request keeps
+pub held_on : (R : Job → Job → Type 0) (caller : List ℕ) (call : Call) → Holds caller call R → (w : World) (now n : ℕ) (j k : Job) → IsSound w → at n w.jobs ≡ Some j → at n (step w now (ask caller call)).world.jobs ≡ Some k → R k j
+held_on R caller call holds w now n j k sound old then = work_left caller call R holds w sound n (decision (cut w (ask caller call)) now (ask caller call)) (asked_work caller call R holds w sound now call refl) j k old then
 
 pub work_kept : (w : World) (now n : ℕ) (caller : List ℕ) (call : Call) (j k : Job) → IsSound w → at n w.jobs ≡ Some j → at n (step w now (ask caller call)).world.jobs ≡ Some k → IsSameWork k j
-work_kept w now n caller call j k sound old then = work_left w sound n (decision (cut w (ask caller call)) now (ask caller call)) (asked_work w sound now caller call) j k old then
+work_kept w now n caller call = held_on IsSameWork caller call (work_holds caller call) w now n

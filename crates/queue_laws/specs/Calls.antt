@@ -15,3 +15,17 @@ asks_new_job (release_job n) = false
 asks_new_job (get_job_attributes n) = false
 asks_new_job (get_jobs which limit) = false
 asks_new_job get_printer_attributes = false
+
+-- a new job, under a number of its own
+abbrev pub draws_number : Call → Bool
+draws_number (print_job new format payload) = true
+draws_number (create_job new) = true
+draws_number (validate_job new) = false
+draws_number (send_document n format payload last) = false
+draws_number (cancel_job n) = false
+draws_number (cancel_my_jobs numbers) = false
+draws_number (hold_job n) = false
+draws_number (release_job n) = false
+draws_number (get_job_attributes n) = false
+draws_number (get_jobs which limit) = false
+draws_number get_printer_attributes = false

@@ -1,5 +1,5 @@
 -- Jobs as their owners speak of them (RFC 8011, section 5.3.7).
-use Rattle.std.specs.Prelude.{◌≡◌, ℕ, List, Bool, ◌==◌, ◌&&◌, bytes_eq, count_by, filter, nat_le, not, Option, Some, None, take}
+use Rattle.std.specs.Prelude.{◌≡◌, ℕ, List, Bool, ◌==◌, ◌&&◌, bytes_eq, count_by, filter, nat_le, not, Option, Some, None, take, if◌then◌else◌}
 use Rattle.std.specs.List.{list_any}
 use Rattle.queue_types.specs.Job.{state}
 use Rattle.queue_core.specs.World.{Entry}
@@ -39,6 +39,10 @@ abbrev pub up_to : Option ℕ → List Job → List Job
 up_to None js = js
 up_to (Some n) js = take n js
 
+-- 4 while a job is processing, in state 5; else 5 while one is stopped, in state 6; else 3 (RFC 8011, section 5.4.11)
+abbrev pub printer_state : List Job → ℕ
+printer_state js = if list_any (λ j. state j == 5) js then 4 else (if list_any (λ j. state j == 6) js then 5 else 3)
+
 -- the jobs of other numbers, with their documents
 abbrev pub jobs_but : ℕ → List Entry → List Entry
 jobs_but n es = filter (λ e. not (e.row.number == n)) es
@@ -47,3 +51,7 @@ jobs_but n es = filter (λ e. not (e.row.number == n)) es
 -- its documents
 abbrev pub IsSameWork : Job → Job → Type 0
 IsSameWork k j = record k { phase = j.phase; hold = j.hold; incoming = j.incoming; stopping = j.stopping; ended = j.ended; documents = j.documents; octets = j.octets } ≡ j
+
+-- the one is the other but for whether it is stopping
+abbrev pub IsSameButStopping : Job → Job → Type 0
+IsSameButStopping k j = record k { stopping = j.stopping } ≡ j

@@ -8,3 +8,4 @@ pub mod Reporting
 pub mod Granting
 pub mod Alike
 pub mod Thin
+pub mod Doing

@@ -1,12 +1,15 @@
 //! What a request leaves alone.
-ghost use Rattle.std.specs.Prelude.{ℕ, ◌≡◌, ◌+◌, ◌⊎◌, List, Some, bytes_eq, false};
+ghost use Rattle.std.specs.Prelude.{ℕ, ◌≡◌, ◌≤◌, ◌+◌, ◌⊎◌, List, Some, bytes_eq, true, false};
 ghost use Rattle.std.specs.FinMap.{get};
 ghost use Rattle.queue_types.specs.Event.{Call, ask};
+ghost use Rattle.queue_types.specs.Job.{state};
 ghost use Rattle.queue_core.specs.Machine.{step};
 ghost use Rattle.queue_core.specs.Sound.{IsSound};
 ghost use Rattle.queue_core.specs.World.{World, rows, job_at};
 ghost use Rattle.queue_types.specs.declared.job.Job.{Job};
-ghost use Rattle.queue_laws.specs.Jobs.{IsSameWork};
+ghost use Rattle.queue_types.specs.declared.job.Phase.TheVariants.{Canceled};
+ghost use Rattle.queue_types.specs.declared.job.Why.TheVariants.{ByUser};
+ghost use Rattle.queue_laws.specs.Jobs.{IsSameWork, IsSameButStopping};
 ghost use Rattle.queue_laws.specs.Own.{own_jobs};
 
 /// Whatever a caller asks: the jobs of another with their documents stay as they are, and so do the free pages of
@@ -29,4 +32,14 @@ pub fn books_are_left_alone()
 /// printed of it.
 pub fn work_is_left_alone()
     ensures { (w : World) (now n : ℕ) (caller : List ℕ) (call : Call) (j k : Job) → IsSound w → job_at n (rows w) ≡ Some j → job_at n (rows (step w now (ask caller call)).world) ≡ Some k → IsSameWork k j }
+{}
+
+/// No request starts a job, and none ends a job that the device has. A job in state 5 or above stays as it is, but for
+/// its mark that it is to stop, which no request takes away; a job that ended stays wholly as it is. A job in state 3
+/// or 4 stays in one of these, or is canceled by its user.
+pub fn begun_jobs_are_left_alone()
+    ensures begun { (w : World) (now n : ℕ) (caller : List ℕ) (call : Call) (j k : Job) → IsSound w → job_at n (rows w) ≡ Some j → 5 ≤ state j → job_at n (rows (step w now (ask caller call)).world) ≡ Some k → IsSameButStopping k j }
+    ensures waiting { (w : World) (now n : ℕ) (caller : List ℕ) (call : Call) (j k : Job) → IsSound w → job_at n (rows w) ≡ Some j → state j ≤ 4 → job_at n (rows (step w now (ask caller call)).world) ≡ Some k → (state k ≤ 4) ⊎ (k.phase ≡ Canceled ByUser) }
+    ensures ended { (w : World) (now n : ℕ) (caller : List ℕ) (call : Call) (j k : Job) → IsSound w → job_at n (rows w) ≡ Some j → 7 ≤ state j → job_at n (rows (step w now (ask caller call)).world) ≡ Some k → k ≡ j }
+    ensures marked { (w : World) (now n : ℕ) (caller : List ℕ) (call : Call) (j k : Job) → IsSound w → job_at n (rows w) ≡ Some j → j.stopping ≡ true → job_at n (rows (step w now (ask caller call)).world) ≡ Some k → k.stopping ≡ true }
 {}

@@ -1,13 +1,17 @@
 //! What others ask is nothing to a caller.
-ghost use Rattle.std.specs.Prelude.{ℕ, ◌≡◌, List, Some, None, bytes_eq, true, false};
+ghost use Rattle.std.specs.Prelude.{ℕ, ◌≡◌, List, Some, None, bytes_eq, filter, true, false};
 ghost use Rattle.std.specs.List.{AllByRecursion};
 ghost use Rattle.queue_types.specs.Event.{Call, NewJob, ask, print_job};
 ghost use Rattle.queue_core.specs.Machine.{step};
 ghost use Rattle.queue_core.specs.Runs.{Place, IsPlace};
+ghost use Rattle.queue_core.specs.Shown.{sheet_of, pending_jobs, document_at};
 ghost use Rattle.queue_core.specs.Sound.{IsSound};
-ghost use Rattle.queue_core.specs.World.{World};
+ghost use Rattle.queue_core.specs.World.{World, rows};
 ghost use Rattle.queue_types.specs.declared.document.Format.{Format};
 ghost use Rattle.queue_laws.specs.Alike.{IsAlikePlace, IsAlike, own_along, told_along};
+ghost use Rattle.queue_laws.specs.Calls.{draws_number};
+ghost use Rattle.queue_laws.specs.Jobs.{is_owned_by, has_job};
+ghost use Rattle.queue_laws.specs.Own.{own};
 ghost use Rattle.queue_laws.specs.Replies.{refuses};
 
 use crate::refusals::refusals_change_nothing;
@@ -25,10 +29,20 @@ pub fn run_two()
 }
 
 /// Places of two runs that are alike for u: a Print-Job of one and of another who are not u, where neither is refused,
-/// whatever their jobs; and a request of another that is refused, beside nothing.
+/// whatever their jobs; and, beside nothing, a request of another that is refused, and one that asks no new job:
+/// each but Print-Job and Create-Job.
 pub fn others_requests_are_alike()
     ensures printed { (u bob carol : List ℕ) (w v : World) (now : ℕ) (j k : NewJob) (f g : Format) (b c : List ℕ) → IsSound w → IsSound v → bytes_eq bob u ≡ false → bytes_eq carol u ≡ false → refuses (step w now (ask bob (print_job j f b))).reply ≡ false → refuses (step v now (ask carol (print_job k g c))).reply ≡ false → IsAlikePlace u w v (record { now = now; event = Some (ask bob (print_job j f b)) }) (record { now = now; event = Some (ask carol (print_job k g c)) }) }
     ensures refused { (u bob : List ℕ) (w v : World) (now : ℕ) (call : Call) → bytes_eq bob u ≡ false → refuses (step w now (ask bob call)).reply ≡ true → IsAlikePlace u w v (record { now = now; event = Some (ask bob call) }) (record { now = now; event = None }) }
+    ensures undrawn { (u bob : List ℕ) (w v : World) (now : ℕ) (call : Call) → bytes_eq bob u ≡ false → draws_number call ≡ false → IsAlikePlace u w v (record { now = now; event = Some (ask bob call) }) (record { now = now; event = None }) }
 {
     refusals_change_nothing();
 }
+
+/// What is u's own is all of u that is shown. Two queues in which it is the same give the office the same sheet of u's
+/// account, and the device the same jobs of u's to start, with the same documents.
+pub fn own_is_what_is_shown()
+    ensures account { (u : List ℕ) (w v : World) → own u w ≡ own u v → sheet_of w u ≡ sheet_of v u }
+    ensures pending { (u : List ℕ) (w v : World) → own u w ≡ own u v → filter (is_owned_by u) (pending_jobs w) ≡ filter (is_owned_by u) (pending_jobs v) }
+    ensures documents { (u : List ℕ) (w v : World) (n i : ℕ) → IsSound w → IsSound v → own u w ≡ own u v → has_job u n (rows w) ≡ true → document_at w n i ≡ document_at v n i }
+{}

@@ -1,16 +1,16 @@
 //! What Get-Jobs, Get-Job-Attributes and Get-Printer-Attributes show (RFC 8011, sections 4.2.5, 4.2.6 and 4.3.4).
-ghost use Rattle.std.specs.Prelude.{ℕ, ◌≡◌, ◌&&◌, [], ◌∷◌, Bool, true, List, Option, Some, None, count_by};
+ghost use Rattle.std.specs.Prelude.{ℕ, ◌≡◌, ◌&&◌, [], ◌∷◌, Bool, true, List, Option, Some, None, count_by, nat_le};
 ghost use Rattle.queue_types.specs.Event.{ask, get_jobs, get_job_attributes, get_printer_attributes};
 ghost use Rattle.queue_core.specs.Machine.{step};
 ghost use Rattle.queue_core.specs.Order.{AreByRank};
 ghost use Rattle.queue_core.specs.Sound.{IsSound};
 ghost use Rattle.queue_core.specs.Visible.{in_order};
 ghost use Rattle.queue_core.specs.World.{World, rows, job_at};
-ghost use Rattle.queue_types.specs.declared.event.Reply.TheVariants.{Jobs};
+ghost use Rattle.queue_types.specs.declared.event.Reply.TheVariants.{Jobs, Printer};
 ghost use Rattle.queue_types.specs.declared.event.WhichJobs.{WhichJobs};
 ghost use Rattle.queue_types.specs.declared.event.WhichJobs.TheVariants.{NotCompleted, Completed as CompletedJobs};
 ghost use Rattle.queue_types.specs.declared.job.Job.{Job};
-ghost use Rattle.queue_laws.specs.Jobs.{own_of_kind, up_to, is_owned_by, is_of_kind};
+ghost use Rattle.queue_laws.specs.Jobs.{own_of_kind, up_to, is_owned_by, is_of_kind, is_unfinished, printer_state};
 ghost use Rattle.queue_laws.specs.Turn.{EndInTurn};
 
 use queue_core::get_jobs_in_order;
@@ -38,4 +38,10 @@ pub fn own_job_is_shown()
     ensures shown { (w : World) (now n : ℕ) (caller : List ℕ) (j : Job) → job_at n (rows w) ≡ Some j → is_owned_by caller j ≡ true → (step w now (ask caller (get_job_attributes n))).reply ≡ Jobs (j ∷ []) }
     ensures kept { (w : World) (now n : ℕ) (caller : List ℕ) → (step w now (ask caller (get_job_attributes n))).world ≡ w }
     ensures printer { (w : World) (now : ℕ) (caller : List ℕ) → (step w now (ask caller get_printer_attributes)).world ≡ w }
+{}
+
+/// Get-Printer-Attributes shows everybody the printer's state (processing while a job is in state 5, else stopped while
+/// one is in state 6, else idle), how many jobs are in states 3 to 6, and whether there is a number for a new job.
+pub fn printer_is_shown()
+    ensures { (w : World) (now : ℕ) (caller : List ℕ) → (step w now (ask caller get_printer_attributes)).reply ≡ Printer (printer_state (rows w)) (count_by is_unfinished (rows w)) (nat_le w.next 2147483647) }
 {}

@@ -1,0 +1,166 @@
+-- What Cancel-My-Jobs with job numbers makes of each job.
+use Rattle.std.proofs.Common.{◌≡◌, ℕ, List, [], ◌∷◌, refl, ap, subst, sym, arith, ◌∙◌, Bool, true, false, cond}
+use Rattle.std.specs.Prelude.{Some, None, nat_eq, bytes_eq, ◌&&◌, ◌||◌}
+use Rattle.std.specs.List.{list_all, AllByRecursion as Each}
+use Rattle.queue_types.specs.Event.{Decision, ask, cancel_job, cancel_my_jobs}
+use Rattle.queue_core.specs.World.{World, Entry, rows, cut, is_one_of}
+use Rattle.queue_core.specs.Machine.{Step, step, refused, is_cancelable, all_canceled, are_there}
+use Rattle.queue_core.specs.Sound.{IsSound}
+use Rattle.queue_types.specs.declared.job.Job.{Job}
+use Rattle.queue_types.specs.declared.event.Reply.{Reply}
+use Rattle.queue_types.specs.declared.event.Reply.TheVariants.{Refused, Done}
+use Rattle.queue_types.specs.declared.event.Scene.{Scene}
+use Rattle.queue_laws.specs.Doing.{entry_at, is_among}
+use Rattle.queue_laws.specs.Jobs.{has_job, is_owned_by}
+use Rattle.queue_laws.proofs.Base.{rows_of, equal, each_map, each_both, passed, last_of, true_not_false}
+use Rattle.queue_laws.proofs.OneJob.{are_own}
+use Rattle.queue_laws.proofs.OneDone.{some_same, no_some, by, row_at, number_at}
+use Rattle.queue_laws.proofs.OfNumber.{stays_at, not_all}
+use Rattle.queue_laws.proofs.OnMine.{one, by_tests, one_step, none_step, stands, all_stand, as_one}
+
+job_same : (a b : Job) → Some a ≡ Some b → a ≡ b
+job_same a b e = cc
+
+not_done : (A : Type 0) (r : Reply) (code : ℕ) → r ≡ Refused code → r ≡ Done → A
+not_done A r code refuses done = absurd (cc)
+
+not_refused : (A : Type 0) (r : Reply) (code : ℕ) → r ≡ Done → r ≡ Refused code → A
+not_refused A r code done refuses = absurd (cc)
+
+abbrev code_in : Reply → ℕ
+code_in (Refused code) = code
+code_in _ = 0
+
+two_codes : (m n : ℕ) → m ≡ n → m ≡ 1030 → n ≡ 1028 → ⊥
+two_codes m n e f g = absurd (omega arith)
+
+other_code : (A : Type 0) (r : Reply) → r ≡ Refused 0x0406 → r ≡ Refused 0x0404 → A
+other_code A r there here = absurd (two_codes 0x0406 0x0404 (ap code_in (sym there ∙ here)) refl refl)
+
+-- ---- numbers
+
+one_of : (numbers : List ℕ) (j : Job) → is_one_of numbers j ≡ is_among numbers j.number
+unfolding is_one_of
+one_of numbers j = refl
+
+each_among : (P : ℕ → Type 0) (numbers : List ℕ) (n : ℕ) → Each P numbers → is_among numbers n ≡ true → P n
+each_among P [] n each among = absurd (cc)
+each_among P (m ∷ numbers) n each among =
+    elim (nat_eq m n) as (λ t. nat_eq m n ≡ t → (t || is_among numbers n) ≡ true → P n) [
+      | true ↦ λ is among. subst P (equal m n is) each.0
+      | false ↦ λ is among. each_among P numbers n each.1 among
+    ] refl among
+
+all_pass : {A : Type 0} (d : A → Bool) (xs : List A) → Each (λ x. d x ≡ true) xs → list_all d xs ≡ true
+all_pass d [] each = refl
+all_pass d (x ∷ xs) each = ap (λ b. b && list_all d xs) each.0 ∙ all_pass d xs each.1
+
+module _ (caller : List ℕ) where
+  has_mine : (m : ℕ) (es : List Entry) (e : Entry) → entry_at m es ≡ Some e → bytes_eq e.row.owner caller ≡ true → has_job caller m (rows_of es) ≡ true
+  has_mine m [] e there own = no_some _ e there
+  has_mine m (f ∷ es) e there own =
+      elim (nat_eq f.row.number m) as (λ t. cond t (Some f) (entry_at m es) ≡ Some e → ((t && is_owned_by caller f.row) || has_job caller m (rows_of es)) ≡ true) [
+        | true ↦ λ there. ap (λ b. b || has_job caller m (rows_of es)) (ap (λ (x : Entry). bytes_eq x.row.owner caller) (some_same f e there) ∙ own)
+        | false ↦ λ there. has_mine m es e there own
+      ] there
+
+module _ (w : World) (now : ℕ) (caller numbers : List ℕ) where
+  -- the caller's own job of that number, and whether it can be canceled
+  record IsMine (m : ℕ) (test : Bool) : Type 0 where
+    entry : Entry
+    there : entry_at m w.jobs ≡ Some entry
+    own : bytes_eq entry.row.owner caller ≡ true
+    can : is_cancelable entry.row ≡ test
+
+  module _ (m : ℕ) where
+    done_by : (e : Entry) → entry_at m w.jobs ≡ Some e → (own can : Bool) → bytes_eq e.row.owner caller ≡ own → is_cancelable e.row ≡ can → (by_tests w now caller m e.row own can).reply ≡ Done → IsMine m true
+    done_by e there true true own can done = record { entry = e; there = there; own = own; can = can }
+    done_by e there true false own can done = not_done _ _ 0x0404 refl done
+    done_by e there false can own is done = not_done _ _ 0x0406 refl done
+
+    is_mine : (one w now caller m).reply ≡ Done → IsMine m true
+    is_mine done =
+        elim (entry_at m w.jobs) as (λ o. entry_at m w.jobs ≡ o → IsMine m true) [
+          | None ↦ λ none. not_done _ (one w now caller m).reply 0x0406 (ap (λ (s : Step). s.reply) (none_step w now caller m none)) done
+          | Some e ↦ λ there. done_by e there (bytes_eq e.row.owner caller) (is_cancelable e.row) refl refl (sym (ap (λ (s : Step). s.reply) (one_step w now caller m e there)) ∙ done)
+        ] refl
+
+    refused_by : (e : Entry) → entry_at m w.jobs ≡ Some e → (own can : Bool) → bytes_eq e.row.owner caller ≡ own → is_cancelable e.row ≡ can → (by_tests w now caller m e.row own can).reply ≡ Refused 0x0404 → IsMine m false
+    refused_by e there true true own can refuses = not_refused _ _ 0x0404 refl refuses
+    refused_by e there true false own can refuses = record { entry = e; there = there; own = own; can = can }
+    refused_by e there false can own is refuses = other_code _ _ refl refuses
+
+    is_not_mine : (one w now caller m).reply ≡ Refused 0x0404 → IsMine m false
+    is_not_mine refuses =
+        elim (entry_at m w.jobs) as (λ o. entry_at m w.jobs ≡ o → IsMine m false) [
+          | None ↦ λ none. other_code _ (one w now caller m).reply (ap (λ (s : Step). s.reply) (none_step w now caller m none)) refuses
+          | Some e ↦ λ there. refused_by e there (bytes_eq e.row.owner caller) (is_cancelable e.row) refl refl (sym (ap (λ (s : Step). s.reply) (one_step w now caller m e there)) ∙ refuses)
+        ] refl
+
+  -- ---- all of them or none
+
+  abbrev scene : Scene
+  scene = cut w (ask caller (cancel_my_jobs (Some numbers)))
+
+  abbrev is_asked : Job → Bool
+  is_asked j = bytes_eq j.owner caller && is_one_of numbers j
+
+  abbrev by_all : Bool → Bool → Decision
+  by_all there can = cond there (cond can (all_canceled scene now scene.jobs) (refused 0x0404)) (refused 0x0406)
+
+  named_step : (there can : Bool) → are_there scene.jobs numbers ≡ there → list_all is_cancelable scene.jobs ≡ can → step w now (ask caller (cancel_my_jobs (Some numbers))) ≡ by w (by_all there can)
+  named_step there can are is = ap (λ b. by w (by_all b (list_all is_cancelable scene.jobs))) are ∙ ap (λ b. by w (by_all there b)) is
+
+  pub named_others_stay : (n : ℕ) → is_among numbers n ≡ false → entry_at n (step w now (ask caller (cancel_my_jobs (Some numbers)))).world.jobs ≡ entry_at n w.jobs
+  named_others_stay n isnt =
+      elim (are_there scene.jobs numbers) as (λ b. entry_at n (by w (by_all b (list_all is_cancelable scene.jobs))).world.jobs ≡ entry_at n w.jobs) [
+        | true ↦ elim (list_all is_cancelable scene.jobs) as (λ b. entry_at n (by w (by_all true b)).world.jobs ≡ entry_at n w.jobs) [
+          | true ↦ stays_at now n scene.jobs w.jobs (each_map (λ k. is_asked k ≡ true) (λ k. nat_eq k.number n ≡ false) scene.jobs other (passed is_asked (rows w)))
+          | false ↦ refl
+        ]
+        | false ↦ refl
+      ]
+    where
+      other : (k : Job) → is_asked k ≡ true → nat_eq k.number n ≡ false
+      other k asked = elim (nat_eq k.number n) as (λ t. nat_eq k.number n ≡ t → t ≡ false) [
+        | true ↦ λ is. absurd (true_not_false (is_among numbers n) (ap (is_among numbers) (sym (equal k.number n is)) ∙ sym (one_of numbers k) ∙ last_of (bytes_eq k.owner caller) (is_one_of numbers k) asked) isnt)
+        | false ↦ λ is. refl
+      ] refl
+
+  pub named_refused : (n : ℕ) → list_all (λ m. has_job caller m (rows w)) numbers ≡ true → is_among numbers n ≡ true → (one w now caller n).reply ≡ Refused 0x0404 → step w now (ask caller (cancel_my_jobs (Some numbers))) ≡ record { world = w; reply = Refused 0x0404 }
+  named_refused n mine among refuses =
+      let it = is_not_mine n refuses in
+      let asked : is_asked it.entry.row ≡ true = ap (λ b. b && is_one_of numbers it.entry.row) it.own ∙ one_of numbers it.entry.row ∙ ap (is_among numbers) (number_at n w.jobs it.entry it.there) ∙ among in
+      named_step true false (are_own caller numbers (rows w) ∙ mine) (not_all n w.next is_asked is_cancelable w.jobs it.entry it.there asked it.can)
+
+  module _ (sound : IsSound w) (done : Each (λ m. (step w now (ask caller (cancel_job m))).reply ≡ Done) numbers) where
+    cancels : (n : ℕ) → is_among numbers n ≡ true → IsMine n true
+    cancels n among = is_mine n (each_among (λ m. (step w now (ask caller (cancel_job m))).reply ≡ Done) numbers n done among)
+
+    all_mine : list_all (λ m. has_job caller m (rows w)) numbers ≡ true
+    all_mine = all_pass (λ m. has_job caller m (rows w)) numbers (each_map (λ m. (one w now caller m).reply ≡ Done) (λ m. has_job caller m (rows w) ≡ true) numbers (λ m is. let it = is_mine m is in has_mine caller m w.jobs it.entry it.there it.own) done)
+
+    can_each : (k : Job) → stands w now caller sound k × (is_asked k ≡ true) → is_cancelable k ≡ true
+    can_each k h =
+        let it = cancels k.number (sym (one_of numbers k) ∙ last_of (bytes_eq k.owner caller) (is_one_of numbers k) h.1) in
+        let same : k ≡ it.entry.row = job_same k it.entry.row (sym h.0 ∙ row_at k.number w.jobs it.entry it.there) in
+        ap is_cancelable same ∙ it.can
+
+    all_can : list_all is_cancelable scene.jobs ≡ true
+    all_can = all_pass is_cancelable scene.jobs (each_map (λ k. stands w now caller sound k × (is_asked k ≡ true)) (λ k. is_cancelable k ≡ true) scene.jobs can_each (each_both (stands w now caller sound) (λ k. is_asked k ≡ true) scene.jobs (all_stand w now caller sound is_asked) (passed is_asked (rows w))))
+
+    all_step : step w now (ask caller (cancel_my_jobs (Some numbers))) ≡ by w (all_canceled scene now scene.jobs)
+    all_step = named_step true true (are_own caller numbers (rows w) ∙ all_mine) all_can
+
+    pub named_done : (step w now (ask caller (cancel_my_jobs (Some numbers)))).reply ≡ Done
+    named_done = ap (λ (s : Step). s.reply) all_step
+
+    pub named_as_one : (n : ℕ) → is_among numbers n ≡ true → entry_at n (step w now (ask caller (cancel_my_jobs (Some numbers)))).world.jobs ≡ entry_at n (step w now (ask caller (cancel_job n))).world.jobs
+    named_as_one n among = ap (λ (s : Step). entry_at n s.world.jobs) all_step ∙ as_one w now caller sound n is_asked tests
+      where
+        tests : (e : Entry) → entry_at n w.jobs ≡ Some e → is_asked e.row ≡ (bytes_eq e.row.owner caller && is_cancelable e.row)
+        tests e there =
+            let it = cancels n among in
+            let same : it.entry ≡ e = some_same it.entry e (sym it.there ∙ there) in
+            ap (λ b. bytes_eq e.row.owner caller && b) (one_of numbers e.row ∙ ap (is_among numbers) (number_at n w.jobs e there) ∙ among)
+            ∙ ap (λ b. bytes_eq e.row.owner caller && b) (sym it.can ∙ ap (λ (x : Entry). is_cancelable x.row) same)

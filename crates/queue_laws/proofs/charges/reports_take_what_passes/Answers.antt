@@ -1,0 +1,5 @@
+use Rattle.queue_laws.proofs.Passing.{report_passes}
+use Rattle.queue_laws.proofs.charges.reports_take_what_passes.Goals as goal
+
+pub returns : goal.returns
+returns c = report_passes

@@ -1,0 +1,17 @@
+use Rattle.queue_laws.proofs.OfPages.{held_free, released_free, canceled_free, stopped_free, sent_free}
+use Rattle.queue_laws.proofs.doing.pages_are_set_aside.Goals as goal
+
+pub returns-clause-held : goal.returns-clause-held
+returns-clause-held c = held_free
+
+pub returns-clause-released : goal.returns-clause-released
+returns-clause-released c = released_free
+
+pub returns-clause-canceled : goal.returns-clause-canceled
+returns-clause-canceled c = canceled_free
+
+pub returns-clause-stopping : goal.returns-clause-stopping
+returns-clause-stopping c = stopped_free
+
+pub returns-clause-sent : goal.returns-clause-sent
+returns-clause-sent c = sent_free

@@ -1,0 +1,8 @@
+use Rattle.queue_laws.proofs.Freed.{held_until_released, held_until_startable}
+use Rattle.queue_laws.proofs.held.jobs_are_held_until_released.Goals as goal
+
+pub returns-clause-released : goal.returns-clause-released
+returns-clause-released c = held_until_released
+
+pub returns-clause-startable : goal.returns-clause-startable
+returns-clause-startable c = held_until_startable

@@ -1,0 +1,22 @@
+//! What requests and reports take of an account's free pages.
+ghost use Rattle.std.specs.Prelude.{ℕ, ℤ, pos, ◌≡◌, ◌⊎◌, ◌≤ℤ◌, ◌+ℤ◌, ◌+◌, ◌-◌, List, Some};
+ghost use Rattle.std.specs.FinMap.{get};
+ghost use Rattle.queue_types.specs.Event.{Call, ask, tell};
+ghost use Rattle.queue_types.specs.Job.{owed};
+ghost use Rattle.queue_core.specs.Machine.{step};
+ghost use Rattle.queue_core.specs.Sound.{IsSound};
+ghost use Rattle.queue_core.specs.World.{World, rows, job_at};
+ghost use Rattle.queue_types.specs.declared.event.Report.{Report};
+ghost use Rattle.queue_types.specs.declared.job.Job.{Job};
+
+/// No request takes an account's free pages below zero: whatever is asked, they are no fewer afterwards, or zero or
+/// more.
+pub fn requests_leave_no_debt()
+    ensures { (w : World) (now : ℕ) (caller a : List ℕ) (call : Call) (f g : ℤ) → IsSound w → get w.free a ≡ Some f → get (step w now (ask caller call)).world.free a ≡ Some g → (f ≤ℤ g) ⊎ (pos 0 ≤ℤ g) }
+{}
+
+/// A report takes from the owner's free pages no more than the pages by which the job's count afterwards passes those
+/// that were printed of it and set aside for it before.
+pub fn reports_take_what_passes()
+    ensures { (w : World) (now : ℕ) (r : Report) (j k : Job) (f g : ℤ) → job_at r.job (rows w) ≡ Some j → job_at r.job (rows (step w now (tell r)).world) ≡ Some k → get w.free j.owner ≡ Some f → get (step w now (tell r)).world.free j.owner ≡ Some g → f ≤ℤ (g +ℤ pos (k.count - (j.count + owed j))) }
+{}
