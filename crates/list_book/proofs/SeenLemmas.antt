@@ -13,10 +13,10 @@ use Rattle.queue_types.specs.declared.job.Job.{Job}
 use Rattle.queue_types.specs.declared.document.KeptDocument.{KeptDocument}
 use Rattle.queue_types.specs.declared.event.GrantRow.{GrantRow}
 use Rattle.list_book.specs.declared.lists.Lists.{Lists}
-use Rattle.list_book.specs.Lists.{AreTotals, entry_of, entries_of, nth_of, documents_of, sheet_in, world_of}
+use Rattle.list_book.specs.Lists.{AreTotals, entry_of, entries_of, jobs_shown, nth_of, documents_of, printed_of, reserved_of, sheet_in, world_of}
 use Rattle.list_book.specs.Tables.{free_map, grants_map, known_in, total_of}
 use Rattle.list_book.proofs.Put.{rows_of}
-use Rattle.std.specs.Prelude.{bytes_eq, filter, sum_by, ℤ}
+use Rattle.std.specs.Prelude.{bytes_eq, sum_by, ℤ}
 use Rattle.std.proofs.lemmas.List.Sums.{sum_by-cons}
 use Rattle.std.proofs.Math.Nat.{mul-le-mul_left}
 use Rattle.queue_types.specs.Job.{owed, estimate, is_live}
@@ -93,13 +93,13 @@ sum_fits : (f : Job → ℕ) (js : List Job) → Each IsSoundJob js → ((j : Jo
 sum_fits f [] each fits = omega arith
 sum_fits f (j ∷ js) each fits = let here = fits j each.0 in let more = sum_fits f js each.1 fits in let e = sum_by-cons f j js in omega (arith, here, more, e)
 
-pub reserved_fits : (l : Lists) (a : List ℕ) → IsSound (world_of l) → sum_by (λ j. cond (bytes_eq j.owner a) (owed j) 0) l.jobs.items < 2 ^ 64
+pub reserved_fits : (l : Lists) (a : List ℕ) → IsSound (world_of l) → reserved_of a l.jobs.items < 2 ^ 64
 reserved_fits l a sound =
     let few = few_jobs l sound in
     let sum = sum_fits (λ j. cond (bytes_eq j.owner a) (owed j) 0) l.jobs.items (each_job l.documents.items l.jobs.items sound.entries) (λ j s. either (bytes_eq j.owner a) (owed j) 0 100000000 (owed_fits j s) (omega arith)) in
     omega (arith, few, sum)
 
-pub printed_fits : (l : Lists) (a : List ℕ) → IsSound (world_of l) → sum_by (λ j. cond (bytes_eq j.owner a) j.count 0) l.jobs.items < 2 ^ 64
+pub printed_fits : (l : Lists) (a : List ℕ) → IsSound (world_of l) → printed_of a l.jobs.items < 2 ^ 64
 printed_fits l a sound =
     let few = few_jobs l sound in
     let sum = sum_fits (λ j. cond (bytes_eq j.owner a) j.count 0) l.jobs.items (each_job l.documents.items l.jobs.items sound.entries) (λ j s. either (bytes_eq j.owner a) j.count 0 100000000 s.count (omega arith)) in
@@ -137,14 +137,14 @@ sheet_is l a totals =
       account = a;
       granted = total i;
       free = free;
-      reserved = sum_by (λ j. cond (bytes_eq j.owner a) (owed j) 0) (sym same i);
-      printed = sum_by (λ j. cond (bytes_eq j.owner a) j.count 0) (sym same i);
-      jobs = filter (λ j. bytes_eq j.owner a && (nat_lt 0 (owed j) || nat_lt 0 j.count)) (sym same i);
+      reserved = reserved_of a (sym same i);
+      printed = printed_of a (sym same i);
+      jobs = jobs_shown a (sym same i);
     }) (get (free_map l.accounts.entries) a)
 
 -- a sheet by its parts
 pub same_sheet : (l : Lists) (a : List ℕ) (free : ℤ) (s : AccountSheet) → s.account ≡ a → s.granted ≡ total_of l.accounts.entries a → s.free ≡ free
-    → s.reserved ≡ sum_by (λ j. cond (bytes_eq j.owner a) (owed j) 0) l.jobs.items → s.printed ≡ sum_by (λ j. cond (bytes_eq j.owner a) j.count 0) l.jobs.items
-    → s.jobs ≡ filter (λ j. bytes_eq j.owner a && (nat_lt 0 (owed j) || nat_lt 0 j.count)) l.jobs.items → s ≡ sheet_in l a free
+    → s.reserved ≡ reserved_of a l.jobs.items → s.printed ≡ printed_of a l.jobs.items
+    → s.jobs ≡ jobs_shown a l.jobs.items → s ≡ sheet_in l a free
 same_sheet l a free s account granted pages reserved printed jobs =
     λ i. record { account = account i; granted = granted i; free = pages i; reserved = reserved i; printed = printed i; jobs = jobs i }

@@ -54,15 +54,27 @@ world_of l = record { settings = l.settings; jobs = entries_of l.documents.items
 abbrev pub AreTotals : Lists → Type 0
 AreTotals l = (a : List ℕ) → total_of l.accounts.entries a ≡ granted_in a (grants_map l.grants.entries)
 
+-- the pages that are reserved in the account for these jobs
+abbrev pub reserved_of : List ℕ → List Job → ℕ
+reserved_of a js = sum_by (λ j. if bytes_eq j.owner a then owed j else 0) js
+
+-- the pages of these jobs that are printed in the account
+abbrev pub printed_of : List ℕ → List Job → ℕ
+printed_of a js = sum_by (λ j. if bytes_eq j.owner a then j.count else 0) js
+
+-- those of the account's jobs that have pages reserved or printed
+abbrev pub jobs_shown : List ℕ → List Job → List Job
+jobs_shown a js = filter (λ j. bytes_eq j.owner a && (nat_lt 0 (owed j) || nat_lt 0 j.count)) js
+
 -- the sheet of an account with these free pages
 abbrev pub sheet_in : Lists → List ℕ → ℤ → AccountSheet
 sheet_in l a free = record {
   account = a;
   granted = total_of l.accounts.entries a;
   free = free;
-  reserved = sum_by (λ j. if bytes_eq j.owner a then owed j else 0) l.jobs.items;
-  printed = sum_by (λ j. if bytes_eq j.owner a then j.count else 0) l.jobs.items;
-  jobs = filter (λ j. bytes_eq j.owner a && (nat_lt 0 (owed j) || nat_lt 0 j.count)) l.jobs.items;
+  reserved = reserved_of a l.jobs.items;
+  printed = printed_of a l.jobs.items;
+  jobs = jobs_shown a l.jobs.items;
 }
 
 -- a number that no job has has no documents

@@ -79,7 +79,8 @@ impl ListBook {
     }
 }
 
-/// A `ListBook` stands for its content, and is always honest. Its one fault is want of memory.
+/// A `ListBook` stands for its content, and is always honest. Its faults are want of memory and, of `send_document`,
+/// the writer's alone.
 impl QueueBook for ListBook {
     ghost stands = { λ b w. IsContent b w };
 

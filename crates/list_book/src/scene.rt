@@ -188,6 +188,17 @@ fn queued_in(jobs: &[Job]) -> usize
     jobs.iter().filter(|j| j.is_live()).count()
 }
 
+/// Counts of a queue that nobody asks for.
+fn no_counts() -> QueueCounts
+    ensures { result ≡ queue_counts [] }
+{
+    QueueCounts {
+        running: 0,
+        stopped: 0,
+        queued: 0,
+    }
+}
+
 /// The counts of the queue, for a call that needs them.
 fn counts(jobs: &[Job], call: &Call<'_>) -> QueueCounts
     ensures { result ≡ counts_for (call_of call.now) jobs.now }
@@ -198,22 +209,7 @@ fn counts(jobs: &[Job], call: &Call<'_>) -> QueueCounts
             stopped: stopped_in(jobs),
             queued: queued_in(jobs),
         },
-        _ => QueueCounts {
-            running: 0,
-            stopped: 0,
-            queued: 0,
-        },
-    }
-}
-
-/// Counts of a queue that nobody asks for.
-fn no_counts() -> QueueCounts
-    ensures { result ≡ queue_counts [] }
-{
-    QueueCounts {
-        running: 0,
-        stopped: 0,
-        queued: 0,
+        _ => no_counts(),
     }
 }
 

@@ -1,8 +1,7 @@
 //! What the plain book tells an office of an account.
-ghost use Rattle.std.specs.Prelude.{◌≡◌, ◌<◌, ◌^◌, ◌&&◌, ◌||◌, IfOk, bytes_eq, filter, nat_lt, option_map, sum_by, if◌then◌else◌};
-ghost use Rattle.queue_types.specs.Job.{owed};
+ghost use Rattle.std.specs.Prelude.{◌≡◌, ◌<◌, ◌^◌, IfOk, option_map};
 ghost use Rattle.std.specs.FinMap.{get};
-ghost use Rattle.list_book.specs.Lists.{sheet_in};
+ghost use Rattle.list_book.specs.Lists.{jobs_shown, printed_of, reserved_of, sheet_in};
 ghost use Rattle.list_book.specs.Tables.{free_map};
 
 use crate::accounts::{free_pages, pages_granted};
@@ -14,7 +13,7 @@ use std::alloc::{AllocError, Global};
 
 /// The account's jobs that have pages reserved or printed.
 fn sheet_jobs(alloc: Global, jobs: &[Job], account: &str) -> Result<Vec<Job>, AllocError>
-    ensures { IfOk result (λ v. v.items ≡ filter (λ j. bytes_eq j.owner account.now && (nat_lt 0 (owed j) || nat_lt 0 j.count)) jobs.now) }
+    ensures { IfOk result (λ v. v.items ≡ jobs_shown account.now jobs.now) }
 {
     let mut shown = Vec::new(alloc);
     for job in jobs {
@@ -27,8 +26,8 @@ fn sheet_jobs(alloc: Global, jobs: &[Job], account: &str) -> Result<Vec<Job>, Al
 
 /// The pages that are reserved in the account.
 fn reserved_in(jobs: &[Job], account: &str) -> u64
-    requires { sum_by (λ j. if bytes_eq j.owner account.now then owed j else 0) jobs.now < 2 ^ 64 }
-    ensures { result ≡ sum_by (λ j. if bytes_eq j.owner account.now then owed j else 0) jobs.now }
+    requires { reserved_of account.now jobs.now < 2 ^ 64 }
+    ensures { result ≡ reserved_of account.now jobs.now }
 {
     let mut pages = 0;
     for job in jobs {
@@ -41,8 +40,8 @@ fn reserved_in(jobs: &[Job], account: &str) -> u64
 
 /// The pages that are printed in the account.
 fn printed_in(jobs: &[Job], account: &str) -> u64
-    requires { sum_by (λ j. if bytes_eq j.owner account.now then j.count else 0) jobs.now < 2 ^ 64 }
-    ensures { result ≡ sum_by (λ j. if bytes_eq j.owner account.now then j.count else 0) jobs.now }
+    requires { printed_of account.now jobs.now < 2 ^ 64 }
+    ensures { result ≡ printed_of account.now jobs.now }
 {
     let mut pages = 0;
     for job in jobs {
@@ -62,8 +61,8 @@ fn sheet_with(
     free: i64,
 ) -> Result<AccountSheet, AllocError>
     requires name { name ≡ account.now }
-    requires reserved { sum_by (λ j. if bytes_eq j.owner account.now then owed j else 0) lists.now.jobs.items < 2 ^ 64 }
-    requires printed { sum_by (λ j. if bytes_eq j.owner account.now then j.count else 0) lists.now.jobs.items < 2 ^ 64 }
+    requires reserved { reserved_of account.now lists.now.jobs.items < 2 ^ 64 }
+    requires printed { printed_of account.now lists.now.jobs.items < 2 ^ 64 }
     ensures { IfOk result (λ s. s ≡ sheet_in lists.now account.now free) }
 {
     let jobs = lists.jobs.as_slice();
@@ -85,8 +84,8 @@ pub(crate) fn sheet(
     lists: &Lists,
     account: &str,
 ) -> Result<Option<AccountSheet>, AllocError>
-    requires reserved { sum_by (λ j. if bytes_eq j.owner account.now then owed j else 0) lists.now.jobs.items < 2 ^ 64 }
-    requires printed { sum_by (λ j. if bytes_eq j.owner account.now then j.count else 0) lists.now.jobs.items < 2 ^ 64 }
+    requires reserved { reserved_of account.now lists.now.jobs.items < 2 ^ 64 }
+    requires printed { printed_of account.now lists.now.jobs.items < 2 ^ 64 }
     ensures { IfOk result (λ s. s ≡ option_map (sheet_in lists.now account.now) (get (free_map lists.now.accounts.entries) account.now)) }
 {
     let name = Name::copy_of(alloc, account)?;

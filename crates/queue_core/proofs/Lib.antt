@@ -10,7 +10,6 @@ pub mod Fair
 pub mod Ordered
 pub mod Numbers
 pub mod Many
-pub mod Calls
 pub mod Cancel
 pub mod Maps
 pub mod Reported

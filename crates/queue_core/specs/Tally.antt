@@ -1,5 +1,5 @@
 -- What the maps say of the new rows of an account file.
-use Rattle.std.specs.Prelude.{◌≡◌, ◌≤◌, ◌+◌, ℕ, ⊤, length, ◌&&◌, List, [], ◌∷◌, ◌++◌, Bool, bytes_eq, find, option_map, unwrap_or}
+use Rattle.std.specs.Prelude.{◌≡◌, ◌≤◌, ◌+◌, ℕ, ⊤, ◌&&◌, List, [], ◌∷◌, ◌++◌, Bool, bytes_eq, find, option_map, unwrap_or}
 use Rattle.std.specs.Borrow.{Bor}
 use Rattle.std.specs.HashMap.{HashMap, get, get_by}
 use Rattle.queue_core.specs.Grants.{Row, repeated, refused_row, new_row, Taken, all_taken, none_taken, pages_to, free_after}
@@ -12,8 +12,6 @@ use Rattle.queue_core.specs.declared.grants.RowState.{RowState}
 use Rattle.queue_core.specs.declared.grants.RowState.TheVariants.{Repeated, Refused, New}
 use Rattle.queue_core.specs.declared.grants.End.{End}
 use Rattle.queue_core.specs.declared.grants.End.TheVariants.{Whole, At}
-use Rattle.queue_core.specs.declared.grants.Taken.{Taken as TakenRef}
-use Rattle.queue_core.specs.declared.grants.Taken.TheVariants.{All, Not}
 
 -- the same batch and the same account
 abbrev pub is_same_key : Key → Key → Bool
@@ -72,13 +70,3 @@ taken_at (At fault row) rows free = none_taken fault row
 abbrev pub IsEndWithin : End → ℕ → ℕ → ℕ → Type 0
 IsEndWithin (Whole repeats) after before n = after + repeats ≤ before + n
 IsEndWithin (At fault row) after before n = (1 ≤ row) × (row ≤ n)
-
--- what the code's answer says
-abbrev pub taken_in : TakenRef → Taken
-taken_in (All rows free repeats) = all_taken rows.items free.items repeats
-taken_in (Not fault row) = none_taken fault row
-
--- so many rows at most
-abbrev pub IsWithin : TakenRef → ℕ → Type 0
-IsWithin (All rows free repeats) n = length rows.items + repeats ≤ n
-IsWithin (Not fault row) n = (1 ≤ row) × (row ≤ n)

@@ -5,7 +5,7 @@ ghost use Rattle.queue_types.specs.declared.event.GrantFault.TheVariants.{Confli
 ghost use Rattle.queue_core.specs.Grants.{is_too_many, new_row, refused_row, repeated, row_of, row_under, take_rows as rows_taken};
 ghost use Rattle.queue_core.specs.Limits.{IsFair, IsKnown};
 ghost use Rattle.queue_core.specs.Machine.{grant_row};
-ghost use Rattle.queue_core.specs.Tally.{total_of, row_in, rows_after, free_rows_after, taken_at, taken_in, ArePages, AreTotals, IsEndWithin, IsTallied, IsTalliedAfter, IsWithin};
+ghost use Rattle.queue_core.specs.Tally.{total_of, row_in, rows_after, free_rows_after, taken_at, ArePages, AreTotals, IsEndWithin, IsTallied, IsTalliedAfter};
 
 use crate::outcome::answer_only;
 use queue_types::event::{
@@ -96,7 +96,7 @@ fn state_beside(before: u32, pages: u32) -> RowState
     }
 }
 
-/// The account of a row, in which it has added to the total of the file.
+/// The account of a row, with the free pages that it has once the file has given it `total`.
 fn account_after(grant: &GrantRow, known: &KnownGrant, total: u32) -> Result<FreeRow, AllocError>
     requires known { IsKnown known.now }
     requires total { total ≤ 1000000000 }
@@ -157,23 +157,6 @@ fn take_row<'a>(
     }
 }
 
-/// What was taken of the rows of an account file.
-#[derive(Debug, Drop)]
-enum Taken {
-    /// All of them: those that are new, the free pages of the account of each after it, and how many equal one
-    /// accepted before.
-    All {
-        rows: Vec<GrantRow>,
-        free: Vec<FreeRow>,
-        repeats: u32,
-    },
-    /// None of them, for the first row, counted from 1, that can't be taken.
-    Not {
-        fault: GrantFault,
-        row: u32,
-    },
-}
-
 /// Where the rows of an account file ended to be taken.
 #[derive(Clone, Copy, Debug)]
 enum End {
@@ -213,30 +196,7 @@ fn take_rows<'a>(
     Ok(End::Whole { repeats })
 }
 
-/// Takes the rows of an account file: all of them, or none. The one error is want of memory.
-fn take_all(alloc: Global, rows: &[GrantRow], known: &[KnownGrant]) -> Result<Taken, AllocError>
-    requires few { length rows.now < 2 ^ 31 }
-    requires known { All IsKnown known.now }
-    ensures taken { IfOk result (λ t. taken_in t ≡ rows_taken rows.now known.now 1 [] [] 0) }
-    ensures within { IfOk result (λ t. IsWithin t (length rows.now)) }
-{
-    let mut tally = Tally {
-        rows: Vec::new(alloc),
-        free: Vec::new(alloc),
-        pages: HashMap::new(alloc),
-        totals: HashMap::new(alloc),
-    };
-    match take_rows(&mut tally, rows, known)? {
-        End::Whole { repeats } => Ok(Taken::All {
-            rows: tally.rows,
-            free: tally.free,
-            repeats,
-        }),
-        End::At { fault, row } => Ok(Taken::Not { fault, row }),
-    }
-}
-
-/// The rows of an account file are taken, all of them or none.
+/// The rows of an account file are taken, all of them or none. The one error is want of memory.
 pub(crate) fn grant<'a>(
     alloc: Global,
     scene: &Scene,
@@ -246,19 +206,21 @@ pub(crate) fn grant<'a>(
     requires few { length rows.now ≤ 16777216 }
     ensures { IfOk result (λ d. decision_of d ≡ grant_row (rows_taken rows.now scene.now.known 1 [] [] 0)) }
 {
-    match take_all(alloc, rows, scene.known.as_slice())? {
-        Taken::All {
-            rows,
-            free,
-            repeats,
-        } => {
-            let added = rows.len() as u32;
+    let mut tally = Tally {
+        rows: Vec::new(alloc),
+        free: Vec::new(alloc),
+        pages: HashMap::new(alloc),
+        totals: HashMap::new(alloc),
+    };
+    match take_rows(&mut tally, rows, scene.known.as_slice())? {
+        End::Whole { repeats } => {
+            let added = tally.rows.len() as u32;
             let reply = Reply::Added { added, repeats };
             let Decision { reply, mut change } = answer_only(alloc, reply);
-            change.free = FreeList::from_items(free);
-            change.grants = GrantList::from_items(rows);
+            change.free = FreeList::from_items(tally.free);
+            change.grants = GrantList::from_items(tally.rows);
             Ok(Decision { reply, change })
         }
-        Taken::Not { fault, row } => Ok(answer_only(alloc, Reply::NotAdded { fault, row })),
+        End::At { fault, row } => Ok(answer_only(alloc, Reply::NotAdded { fault, row })),
     }
 }

@@ -49,7 +49,7 @@ pub fn new_grants_add_up()
     ensures { (a : List ℕ) (rows : List GrantRow) (m : FinMap grant_cmp ℕ) → AreNew m rows → granted_in a (fold put_grant m rows) ≡ granted_in a m + pages_to a rows }
 {}
 
-/// Get-Jobs shows each job that it is about, and none twice: 'completed' from the one that ended last,
+/// Get-Jobs shows each job that it is about as often as the list has it: 'completed' from the one that ended last,
 /// and at one moment from the greatest number; 'not-completed' by the rank of its state (those that the
 /// device has, those that it may start, those that wait), and of one rank by number.
 pub fn get_jobs_in_order()

@@ -1,7 +1,7 @@
 //! What the machine decides on the rows that an event needs.
-ghost use Rattle.std.specs.Prelude.{◌≡◌, [], ◌<◌, ◌^◌, IfOk, IsNone, None, option_map};
+ghost use Rattle.std.specs.Prelude.{◌≡◌, [], ◌<◌, ◌^◌, IfOk, IsNone, IsSome, None, option_map};
 ghost use Rattle.queue_core.specs.Balance.{AreAmounts};
-ghost use Rattle.queue_types.specs.Event.{event_of, change_of, decision_of, document_of, new_job_of, call_of};
+ghost use Rattle.queue_types.specs.Event.{event_of, change_of, decision_of, document_of, new_job_of, on_job, call_of};
 ghost use Rattle.queue_core.specs.Limits.{IsMoment, IsEvent, IsCall, IsNewJob, IsFair, IsReplyTo, IsSoundChange};
 ghost use Rattle.queue_core.specs.Machine.{answered, decision, new_job, entered as entered_row, new_refusal, print_job_row, create_job_row, validate_job_row, printer_row, printer_state, call_row, step};
 ghost use Rattle.queue_core.specs.Runs.{MovesAlong};
@@ -169,6 +169,37 @@ fn show_printer<'a>(alloc: Global, scene: &Scene) -> Decision<'a>
     )
 }
 
+/// What the caller's call makes of the one job that it is about, where that is the caller's own.
+fn answer_on_job<'a>(
+    alloc: Global,
+    scene: &Scene,
+    now: u32,
+    caller: &str,
+    call: &Call<'a>,
+) -> Result<Decision<'a>, AllocError>
+    requires fair { IsFair scene.now }
+    requires one { IsSome (on_job (call_of call.now)) }
+    ensures { IfOk result (λ d. decision_of d ≡ call_row scene.now now caller.now (call_of call.now)) }
+{
+    let job = match own(scene, caller) {
+        Ok(job) => job,
+        Err(code) => return Ok(refuse(alloc, code)),
+    };
+    match call {
+        Call::SendDocument {
+            format,
+            payload,
+            last,
+            ..
+        } => send(alloc, scene, job, *format, payload, *last),
+        Call::CancelJob { .. } => cancel(alloc, scene, now, job),
+        Call::HoldJob { .. } => hold(alloc, scene, job),
+        Call::ReleaseJob { .. } => release(alloc, scene, job),
+        Call::GetJobAttributes { .. } => show(alloc, job),
+        _ => unreachable!(),
+    }
+}
+
 fn answer_call<'a>(
     alloc: Global,
     scene: &Scene,
@@ -180,7 +211,6 @@ fn answer_call<'a>(
     requires call { IsCall (call_of call.now) }
     ensures { IfOk result (λ d. decision_of d ≡ call_row scene.now now caller.now (call_of call.now)) }
 {
-    let found = own(scene, caller);
     match call {
         Call::PrintJob {
             job,
@@ -189,37 +219,17 @@ fn answer_call<'a>(
         } => print(alloc, scene, now, caller, job, *format, payload),
         Call::ValidateJob { .. } => Ok(validate(alloc, scene)),
         Call::CreateJob { job } => create(alloc, scene, now, caller, job),
-        Call::SendDocument {
-            format,
-            payload,
-            last,
-            ..
-        } => match found {
-            Err(code) => Ok(refuse(alloc, code)),
-            Ok(j) => send(alloc, scene, j, *format, payload, *last),
-        },
         Call::CancelMyJobs {
             jobs: Some(numbers),
         } => { cancel_named(alloc, scene, now, numbers.as_slice()) }
         Call::CancelMyJobs { jobs: None } => cancel_all(alloc, scene, now),
-        Call::HoldJob { .. } => match found {
-            Err(code) => Ok(refuse(alloc, code)),
-            Ok(j) => hold(alloc, scene, j),
-        },
-        Call::ReleaseJob { .. } => match found {
-            Err(code) => Ok(refuse(alloc, code)),
-            Ok(j) => release(alloc, scene, j),
-        },
         Call::GetJobs { .. } => show_jobs(alloc, scene),
         Call::GetPrinterAttributes => Ok(show_printer(alloc, scene)),
-        Call::CancelJob { .. } => match found {
-            Err(code) => Ok(refuse(alloc, code)),
-            Ok(j) => cancel(alloc, scene, now, j),
-        },
-        Call::GetJobAttributes { .. } => match found {
-            Err(code) => Ok(refuse(alloc, code)),
-            Ok(j) => show(alloc, j),
-        },
+        Call::SendDocument { .. }
+        | Call::CancelJob { .. }
+        | Call::HoldJob { .. }
+        | Call::ReleaseJob { .. }
+        | Call::GetJobAttributes { .. } => answer_on_job(alloc, scene, now, caller, call),
     }
 }
 

@@ -16,7 +16,7 @@ use queue_types::status::{CLIENT_ERROR_NOT_FOUND, CLIENT_ERROR_NOT_POSSIBLE};
 use std::alloc::{AllocError, Global};
 use std::collections::BTreeSet;
 
-/// A set of these numbers.
+/// A set of these numbers. The one error is want of memory.
 pub fn number_set(alloc: Global, numbers: &[u32]) -> Result<BTreeSet<u32>, AllocError>
     ensures { IfOk result (λ s. (q : ℕ) → contains nat_cmp s q ≡ list_any (λ n. n == q) numbers.now) }
 {

@@ -15,7 +15,7 @@ use std::alloc::{AllocError, Global};
 fn is_same(a: &Report, b: &Report) -> bool
     ensures { result ≡ is_same_report a.now b.now }
 {
-    a.kind.number() == b.kind.number() && a.count == b.count
+    a.kind == b.kind && a.count == b.count
 }
 
 /// The job with the greatest count that was reported.
@@ -114,7 +114,7 @@ fn accept<'a>(
     })
 }
 
-/// A report that was not accepted before.
+/// Takes a report that was not accepted before, where the job's phase takes its kind.
 fn take<'a>(
     alloc: Global,
     scene: &Scene,
