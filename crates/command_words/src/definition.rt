@@ -140,24 +140,23 @@ fn bare<'a>(alloc: Global) -> Definition<'a>
         .disable_help_subcommand(true)
 }
 
-/// A command with one more subcommand, once both are there.
+/// A command with one more subcommand, once that is there.
 fn with<'a>(
-    command: Result<Definition<'a>, AllocError>,
+    command: Definition<'a>,
     subcommand: Result<Definition<'a>, AllocError>,
 ) -> Result<Definition<'a>, AllocError>
-    ensures { (a : App) (s : Shape) → IfOk command.entry (IsApp a) → IfOk subcommand.entry (IsPart s) → IfOk result (IsApp (with_subcommand a s)) }
+    ensures { (a : App) (s : Shape) → IsApp a command.entry → IfOk subcommand.entry (IsPart s) → IfOk result (IsApp (with_subcommand a s)) }
 {
-    command?.subcommand(subcommand?)
+    command.subcommand(subcommand?)
 }
 
 /// The program and its subcommands.
 pub fn defined<'a>(alloc: Global) -> Result<Definition<'a>, AllocError>
     ensures { IfOk result (IsProgram subcommands) }
 {
-    let program = Ok(bare(alloc));
-    let program = with(program, init(alloc));
-    let program = with(program, import(alloc));
-    let program = with(program, statement(alloc));
-    let program = with(program, serve(alloc));
-    with(program, Ok(replay(alloc)))
+    let program = with(bare(alloc), init(alloc))?;
+    let program = with(program, import(alloc))?;
+    let program = with(program, statement(alloc))?;
+    let program = with(program, serve(alloc))?;
+    program.subcommand(replay(alloc))
 }

@@ -11,5 +11,5 @@ mod serving;
 mod store;
 mod work;
 
-pub use command_ends::{Fault, tell};
+pub use command_ends::{Fault, end};
 pub use program::run;

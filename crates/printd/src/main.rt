@@ -2,19 +2,14 @@
 //! device by HTTP, `printd statement` prints an account's statement, and `printd replay` answers requests that it reads as lines of text.
 #![tactic(auto)]
 
-use commands::{Fault, run, tell};
+use commands::{Fault, end, run};
 use std::env;
 use std::io::BufWriter;
 use std::process::ExitCode;
 
 fn main(rt: HostRuntime) -> ExitCode {
-    match do_words(&rt) {
-        Ok(status) => ExitCode::from(status),
-        Err(fault) => {
-            let _ = tell(&mut rt.stderr(), fault);
-            ExitCode::FAILURE
-        }
-    }
+    let outcome = do_words(&rt);
+    ExitCode::from(end(&mut rt.stderr(), outcome))
 }
 
 /// Does what the program's words ask, and gives the exit status.

@@ -1,4 +1,4 @@
--- The path of a URI (RFC 3986, section 3.3).
+-- The path of a URI (RFC 3986, section 3.3). A query or a fragment before the path, which ends an authority (section 3.2), is not looked for.
 use Rattle.std.specs.Prelude.{List, [], ◌∷◌, ℕ, ◌==◌, ◌||◌, if◌then◌else◌, codes, drop, nat_eq}
 use Rattle.std.specs.List.{starts_with, before_first, position_or_len}
 use Rattle.std.specs.Str.{byte}

@@ -97,6 +97,7 @@ impl Model for Bytes {
 }
 
 impl Bytes {
+    /// A copy of bytes. The one error is want of memory.
     pub fn copy_of(alloc: Global, bytes: &[u8]) -> Result<Self, AllocError>
         ensures { IfOk result (λ b. b ≡ bytes.now) }
     {

@@ -36,7 +36,7 @@ pub type NumberList = ListOf<u32>;
 /// An operation with its values (RFC 8011, section 4; PWG 5100.11).
 #[derive(Drop)]
 pub enum Call<'a> {
-    /// A new job, on hold. Its document is the payload, and there is none where that is empty.
+    /// A new job, on hold. Its document is the payload, of at most 16,777,216 bytes, and there is none where that is empty.
     PrintJob {
         job: NewJob<'a>,
         format: Format,
@@ -50,7 +50,7 @@ pub enum Call<'a> {
     CreateJob {
         job: NewJob<'a>,
     },
-    /// The open job of that number gets the payload as a document, where it is not empty. With the last
+    /// The open job of that number gets the payload, of at most 16,777,216 bytes, as a document, where it is not empty. With the last
     /// one it takes no more.
     SendDocument {
         job: u32,
@@ -113,7 +113,7 @@ impl Call<'_> {
 /// What happens to a queue.
 #[derive(Drop)]
 pub enum Event<'a> {
-    /// A caller, by the requesting user name, asks for an operation.
+    /// A caller, by the requesting user name (1 to 255 octets without control characters), asks for an operation.
     Ask { caller: &'a str, call: Call<'a> },
     /// The device reports of a job.
     Report(Report),
@@ -214,7 +214,7 @@ pub struct Report {
     pub count: u32,
 }
 
-/// A report that was accepted, with the state and the count that its answer told.
+/// A report that was accepted, with what its answer told: the state, 3 to 9, and the count, at most 100,000,000 pages.
 #[derive(Clone, Copy, Debug, PartialEq, Eq)]
 pub struct KeptReport {
     pub report: Report,
@@ -222,7 +222,7 @@ pub struct KeptReport {
     pub total: u32,
 }
 
-/// Pages granted to an account, 1 to 1,000,000, under a batch's name.
+/// Pages granted to an account (1 to 255 octets), 1 to 1,000,000 of them, under a batch's name: 1 to 40 ASCII letters, digits, `-`, `.` and `_`.
 #[derive(Debug, Drop)]
 pub struct GrantRow {
     pub batch: Text,
@@ -322,5 +322,6 @@ pub struct Scene {
     pub report: Option<KeptReport>,
     /// Row by row.
     pub known: KnownList,
+    /// The number of the next new job, 1 to 2,147,483,648.
     pub next: u32,
 }

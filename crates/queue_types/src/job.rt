@@ -1,13 +1,11 @@
 //! A job, its states and their reasons.
 //!
 //! ```text
-//!                    +-- hold, incoming --+
-//!                    v                    |
-//!   new --> 4 pending-held <--------> 3 pending --> 5 processing <--> 6 processing-stopped
-//!                    |                    |               |                  |
-//!                    +--------+-----------+-------+-------+--------+---------+
-//!                             v                   v                v
-//!                        7 canceled          8 aborted        9 completed
+//!   new --> 4 pending-held <--> 3 pending --> 5 processing <--> 6 processing-stopped
+//!                |                  |               |                   |
+//!   7 canceled <-+------------------+---------------+-------------------+
+//!   8 aborted <-------------------------------------+-------------------+
+//!   9 completed <-----------------------------------+
 //! ```
 //!
 //! (RFC 8011, section 5.3.7.) A running or stopped job ends by the device alone: a cancel only marks it

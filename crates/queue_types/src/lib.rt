@@ -1,5 +1,5 @@
 //! What a print queue is made of: jobs with their states and documents, a printer's settings, the events that may happen and what they
-//! are answered. No rule of the queue stands here.
+//! are answered, with their limits. What an event does to a queue is not said here.
 #![tactic(auto)]
 
 pub mod document;

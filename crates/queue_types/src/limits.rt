@@ -1,6 +1,6 @@
 //! The limits of a queue.
 
-/// The last number that a job may get: the greatest integer of an attribute (RFC 8011, section 5.1.5).
+/// The last number that a job may get: job-id is an integer from 1 to the greatest one (RFC 8011, section 5.3.2).
 pub const LAST_JOB_NUMBER: u32 = 2_147_483_647;
 
 /// The last moment that a printer knows, in seconds of its up time.
@@ -24,7 +24,7 @@ pub const MOST_COPIES: u32 = 999;
 /// The most pages of one copy.
 pub const MOST_IMPRESSIONS: u32 = 100_000;
 
-/// The most octets of a name, a user name and a URI.
+/// The most octets of a job's name, a user's name or an account's name.
 pub const MOST_NAME_OCTETS: usize = 255;
 
 /// The most jobs in states 3 to 6 that one caller may have.

@@ -4,11 +4,14 @@ ghost use Rattle.std.specs.List.{list_all};
 ghost use Rattle.queue_types.specs.Settings.{AreSettings, is_uri_byte};
 ghost use Rattle.queue_types.specs.Uri.{printer_path};
 
-use crate::limits::{MOST_IMPRESSIONS, MOST_NAME_OCTETS};
+use crate::limits::MOST_IMPRESSIONS;
 use crate::text::Text;
 use crate::uri::path;
 use std::alloc::{AllocError, Global};
 use std::marker::Model;
+
+/// The most octets of a printer's URI: fewer than the 1,023 of any URI (RFC 8011, section 5.1.6), since those of its jobs are longer.
+const MOST_PRINTER_URI_OCTETS: usize = 255;
 
 /// The most octets of a printer's name (RFC 8011, section 5.4.4).
 const MOST_PRINTER_NAME_OCTETS: usize = 127;
@@ -71,7 +74,7 @@ impl Settings {
         ensures bad { (result ≡ Err SettingFault.Bad) ↔ (¬ AreSettings (record { uri = uri.now; name = name.now; estimate = estimate; epoch = epoch })) }
     {
         let uri_fits = uri.len() >= 1
-            && uri.len() <= MOST_NAME_OCTETS
+            && uri.len() <= MOST_PRINTER_URI_OCTETS
             && has_uri_bytes(uri.as_bytes());
         let name_fits = name.len() >= 1 && name.len() <= MOST_PRINTER_NAME_OCTETS;
         if !uri_fits

@@ -62,6 +62,7 @@ impl Text {
         }
     }
 
+    /// A copy. The one error is want of memory.
     pub fn try_clone(&self) -> Result<Self, AllocError>
         ensures { IfOk result (λ t. t ≡ self.now) }
     {

@@ -1,4 +1,5 @@
-//! The path of a URI (RFC 3986, section 3.3), by which a request names the printer or a job.
+//! The path of a URI (RFC 3986, section 3.3), by which a request names the printer or a job: from the first slash behind `://` up to the
+//! query or the fragment. A `?` or `#` before that slash, which ends an authority (section 3.2), is not looked for.
 ghost use Rattle.std.specs.Prelude.{◌≡◌, ◌==◌, ◌||◌, drop};
 ghost use Rattle.std.specs.List.{position, position_or_len, before_first};
 ghost use Rattle.std.specs.Str.{byte};

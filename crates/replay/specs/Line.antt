@@ -9,8 +9,8 @@ abbrev pub IsOneLine : List ℕ → Type 0
 IsOneLine bytes = AllPass (λ byte. not (byte == 10)) bytes
 
 -- these bytes are taken with the line feed that ends them, or they are the last of the input
-abbrev pub TakesLine : Option (List ℕ) → Option (List ℕ) → List ℕ → Type 0
-TakesLine old new bytes =
+abbrev pub ConsumesLine : Option (List ℕ) → Option (List ℕ) → List ℕ → Type 0
+ConsumesLine old new bytes =
     Consumes old new (bytes ++ 10 ∷ []) ⊎ ((0 < length bytes) × Consumes old new bytes × IsAtEnd new)
 
 -- of these bytes the line has all that are kept
@@ -22,5 +22,5 @@ IsFrontOf bytes line =
 pub record GivesLine (old new : Option (List ℕ)) (line : Line) : Type 0 where
   pub bytes : List ℕ
   pub is_one : IsOneLine bytes
-  pub taken : TakesLine old new bytes
+  pub taken : ConsumesLine old new bytes
   pub front : IsFrontOf bytes line

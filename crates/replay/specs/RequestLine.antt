@@ -1,12 +1,9 @@
 -- What a line of a replay says.
-use Rattle.std.specs.Prelude.{◌≡◌, ℕ, ◌≤◌, List, ◌++◌, codes}
+use Rattle.std.specs.Prelude.{◌≡◌, List, ℕ, ◌++◌, codes}
 use Rattle.std.specs.Fmt.{decimal}
+use Rattle.queue_core.specs.Limits.{IsMoment}
 use Rattle.replay.specs.declared.request_line.RequestLine.{RequestLine}
 use Rattle.replay.specs.declared.request_line.RequestLine.TheVariants.{Now, Ipp, Dev, Grant}
-
--- a moment, in seconds of printer up time
-abbrev pub IsMoment : ℕ → Type 0
-IsMoment n = (1 ≤ n) × (n ≤ 2147483647)
 
 -- the bytes of the line are those of `now N`, `ipp HEX`, `dev LINE` or `grant B,A,P`
 abbrev pub Says : List ℕ → RequestLine → Type 0

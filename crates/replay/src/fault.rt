@@ -1,4 +1,4 @@
-//! Why the program can't go on.
+//! Why a replay can't go on.
 ghost use Rattle.std.specs.Prelude.{◌≡◌};
 ghost use Rattle.replay.specs.Faults.{fault_of_book, fault_of_setting};
 ghost use Rattle.replay.specs.declared.fault.Fault.TheVariants as faults;
@@ -9,7 +9,7 @@ use std::alloc::AllocError;
 use std::io;
 use thiserror::Error;
 
-/// A fault of the program, which its one word tells.
+/// A fault of a replay, which its one word tells.
 #[derive(Debug, Clone, Copy, PartialEq, Eq, Error)]
 pub enum Fault {
     /// There was no memory.

@@ -2,7 +2,8 @@
 
 ghost use Rattle.std.specs.Prelude.{◌≡◌, ◌≢◌, ◌++◌, ℕ, IfSome, IfNone, codes};
 ghost use Rattle.std.specs.Fmt.{decimal};
-ghost use Rattle.replay.specs.RequestLine.{IsMoment, Says};
+ghost use Rattle.queue_core.specs.Limits.{IsMoment};
+ghost use Rattle.replay.specs.RequestLine.{Says};
 ghost use Rattle.replay.specs.declared.request_line.RequestLine.{RequestLine};
 
 use queue_types::limits::LAST_MOMENT;

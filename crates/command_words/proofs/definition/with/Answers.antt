@@ -5,6 +5,5 @@ use Rattle.command_words.proofs.definition.with.Goals as goal
 
 pub returns : goal.returns
 returns c = λ a s command part.
-    let old : IsApp a c.in_ok-command.field-0 = subst (λ r. IfOk r (IsApp a)) c.in_ok-command.was command in
     let sub : IsPart s c.in_ok-subcommand.field-0 = subst (λ r. IfOk r (IsPart s)) c.in_ok-subcommand.was part in
-    if_ok _ (IsApp _) c.subcommand.result (λ x h. adds_subcommand a s _ _ x h old sub) c.subcommand.ensures
+    if_ok _ (IsApp _) c.subcommand.result (λ x h. adds_subcommand a s _ _ x h command sub) c.subcommand.ensures

@@ -1,6 +1,6 @@
 use Rattle.std.proofs.Common.{rules, ◌≡◌, ◌≢◌, ◌∙◌, ℕ, sym, arith, Ok}
 use Rattle.std.specs.Fmt.{decimal}
-use Rattle.replay.specs.RequestLine.{IsMoment}
+use Rattle.queue_core.specs.Limits.{IsMoment}
 use Rattle.std.proofs.lemmas.Bool.Decides.{nat_tests}
 use Rattle.replay.proofs.DecimalLemmas.{begins_above_zero, first_is, has_digits, has_first, is_text, kept, lost, number_read, parses}
 use Rattle.device_lines.proofs.Numbers.{not_read, read_as_ok, refused_text}
