@@ -15,6 +15,7 @@ use http_desk::streams::BrokenWriter;
 use http_front::{End, ServeCause, ServeFault, Served};
 use list_book::ListBook;
 use queue_types::limits::LAST_MOMENT;
+use queue_types::settings::Settings;
 use std::alloc::Global;
 use std::io::Write;
 
@@ -153,6 +154,26 @@ fn place_of<B: DeskBook>() -> Place {
     }
 }
 
+/// A book of an empty queue of these settings.
+fn new_book<B: DeskBook>(alloc: Global, settings: &Settings) -> Result<B, Mismatch> {
+    B::empty(alloc, settings.try_clone()?)
+}
+
+/// They come to this in a book of these settings.
+fn come_to<B: DeskBook, W: Write>(
+    alloc: Global,
+    book: &mut B,
+    settings: &Settings,
+    arrivals: &[Arrival<'_>],
+    wanted: &[Comes],
+    writer: &mut W,
+) -> Result<(), Mismatch>
+    requires { All (λ a. IsMoment a.moment) arrivals.now }
+{
+    let came = take_all(alloc, book, settings, arrivals, writer)?;
+    compare_each(&place_of::<B>(), wanted, came.as_slice())
+}
+
 /// They come to this in a new book, which is handed back.
 fn take_over<B: DeskBook, W: Write>(
     alloc: Global,
@@ -163,9 +184,8 @@ fn take_over<B: DeskBook, W: Write>(
     requires { All (λ a. IsMoment a.moment) arrivals.now }
 {
     let settings = settings(alloc)?;
-    let mut book = B::empty(alloc, settings.try_clone()?)?;
-    let came = take_all(alloc, &mut book, &settings, arrivals, writer)?;
-    compare_each(&place_of::<B>(), wanted, came.as_slice())?;
+    let mut book: B = new_book(alloc, &settings)?;
+    come_to(alloc, &mut book, &settings, arrivals, wanted, writer)?;
     Ok(book)
 }
 
