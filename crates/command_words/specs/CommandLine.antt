@@ -67,6 +67,10 @@ program = record (new_shape (codes "printd")) {
   disable_help_subcommand = true;
 }
 
+-- of a store: its making, its account files and their statements
+abbrev pub office_subcommands : List Shape
+office_subcommands = init_words ∷ import_words ∷ statement_words ∷ []
+
 abbrev pub subcommands : List Shape
 subcommands = init_words ∷ import_words ∷ statement_words ∷ serve_words ∷ replay_words ∷ []
 
