@@ -15,7 +15,7 @@ use Rattle.ipp_request.specs.declared.attribute.OperationAttribute.TheVariants a
 use Rattle.ipp_request.specs.declared.attribute.TemplateAttribute.TheVariants as template
 use Rattle.ipp_ops.specs.declared.check.Check.{Check}
 use Rattle.ipp_request.specs.Attributes.{row, table, template_name, between}
-use Rattle.ipp_request.specs.Values.{are_formed, are_long, is_within, number_of}
+use Rattle.ipp_request.specs.Values.{are_formed, any_long, is_within, number_of}
 use Rattle.ipp_request.specs.Request.{Request, request_for, known, named, has, text_in, caller}
 use Rattle.ipp_request.specs.Unsupported.{unsupported}
 use Rattle.ipp_ops.specs.Answer.{Asks, refuses, calls, IsAsk, IsVerdictOn, by_head, malformed, request}
@@ -32,7 +32,7 @@ use Rattle.ipp_request.proofs.Texts.{anonymous_owns, untitled_names, owns, names
 -- the checks of form and length find nothing
 pub record ArePassed (r : Request) : Type 0 where
   pub form : some_fails (λ row vs. not (are_formed row vs)) r ≡ false
-  pub length : some_fails are_long r ≡ false
+  pub length : some_fails any_long r ≡ false
 
 checks_passed : (r : Request) → refusal r ≡ None → ArePassed r
 checks_passed r h = let checked = find_none (λ c. applies c r) checks h in record { form = checked.1.0; length = checked.1.1.0 }
@@ -41,19 +41,19 @@ caller_owns : (r : Request) → ArePassed r → IsOwner (caller r)
 caller_owns r p =
     of_attribute (λ t. IsOwner t) (row key.RequestingUserName) (codes "anonymous") anonymous_owns owns (known r key.RequestingUserName)
     (list_any_false (fails (λ row vs. not (are_formed row vs)) r) table p.form).1.1.1.1.1.0
-    (list_any_false (fails are_long r) table p.length).1.1.1.1.1.0
+    (list_any_false (fails any_long r) table p.length).1.1.1.1.1.0
 
 document_names : (r : Request) → ArePassed r → IsJobName (unwrap_or (text_in r key.DocumentName) (codes "untitled"))
 document_names r p =
     of_attribute (λ t. IsJobName t) (row key.DocumentName) (codes "untitled") untitled_names names (known r key.DocumentName)
     (list_any_false (fails (λ row vs. not (are_formed row vs)) r) table p.form).1.1.1.1.1.1.1.0
-    (list_any_false (fails are_long r) table p.length).1.1.1.1.1.1.1.0
+    (list_any_false (fails any_long r) table p.length).1.1.1.1.1.1.1.0
 
 job_names : (r : Request) → ArePassed r → IsJobName (job_name r)
 job_names r p =
     of_attribute (λ t. IsJobName t) (row key.JobName) _ (document_names r p) names (known r key.JobName)
     (list_any_false (fails (λ row vs. not (are_formed row vs)) r) table p.form).1.1.1.1.1.1.0
-    (list_any_false (fails are_long r) table p.length).1.1.1.1.1.1.0
+    (list_any_false (fails any_long r) table p.length).1.1.1.1.1.1.0
 
 -- ---- numbers
 

@@ -10,7 +10,7 @@ use Rattle.ipp_request.specs.declared.attribute.OperationAttribute.TheVariants a
 use Rattle.ipp_ops.specs.declared.check.Check.{Check}
 use Rattle.ipp_ops.specs.declared.check.Check.TheVariants.{Charset, Form, Length, Needed, Target, Compression, Format}
 use Rattle.ipp_request.specs.Attributes.{Row, row, table, needs}
-use Rattle.ipp_request.specs.Values.{are_formed, are_long}
+use Rattle.ipp_request.specs.Values.{are_formed, any_long}
 use Rattle.ipp_request.specs.Formats.{format_of}
 use Rattle.ipp_request.specs.Request.{Request, known, bytes_of, has, is_target}
 
@@ -33,7 +33,7 @@ has_needed r = list_any (λ ks. list_all (has r) ks) (needs r.operation)
 abbrev pub applies : Check → Request → Bool
 applies Charset r = not (str_eq_ignore_ascii_case (bytes_of r key.AttributesCharset) (codes "utf-8"))
 applies Form r = some_fails (λ row vs. not (are_formed row vs)) r
-applies Length r = some_fails are_long r
+applies Length r = some_fails any_long r
 applies Needed r = not (has_needed r)
 applies Target r = not (is_target r)
 applies Compression r = has r key.Compression && not (bytes_eq (bytes_of r key.Compression) (codes "none"))

@@ -9,7 +9,7 @@ use ipp_request::attribute::{OperationAttribute, TABLE, needs};
 use ipp_request::format::format_of;
 use ipp_request::request::Request;
 use ipp_request::target::is_target;
-use ipp_request::value::{are_formed, are_long};
+use ipp_request::value::{any_long, are_formed};
 use queue_types::status;
 
 /// What may be wrong with a request, in the order in which it is looked for.
@@ -60,16 +60,16 @@ fn some_misformed(request: Request<'_, '_>) -> bool
 
 /// It is longer than its limit.
 fn is_overlong(request: Request<'_, '_>, attribute: OperationAttribute) -> bool
-    ensures { result ≡ fails values.are_long (request_of request.entry) attribute }
+    ensures { result ≡ fails values.any_long (request_of request.entry) attribute }
 {
     match request.known(attribute) {
-        Some(a) => are_long(&attribute.row(), a.values.as_slice()),
+        Some(a) => any_long(&attribute.row(), a.values.as_slice()),
         None => false,
     }
 }
 
 fn some_overlong(request: Request<'_, '_>) -> bool
-    ensures { result ≡ some_fails values.are_long (request_of request.entry) }
+    ensures { result ≡ some_fails values.any_long (request_of request.entry) }
 {
     TABLE.iter().any(|k| is_overlong(request, *k))
 }

@@ -16,6 +16,12 @@ use queue_types::document::FORMATS;
 use queue_types::job::{Reason, Reasons};
 use std::alloc::{AllocError, Global};
 
+/// The charset of each reply, the only one that is supported.
+pub(crate) const UTF_8: &str = "utf-8";
+
+/// The natural language of each reply, English.
+pub(crate) const ENGLISH: &str = "en";
+
 /// What an attribute of a reply says.
 #[derive(Drop)]
 pub enum Content<'a> {

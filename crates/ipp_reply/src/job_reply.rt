@@ -7,7 +7,7 @@ ghost use Rattle.ipp_reply.specs.Content.{values_in};
 ghost use Rattle.ipp_reply.specs.JobReply as spec;
 ghost use Rattle.ipp_reply.specs.Wanted.{of_job, rows_of, words_of};
 
-use crate::content::{Content, put};
+use crate::content::{Content, ENGLISH, UTF_8, put};
 use crate::wanted::Wanted;
 use ipp_wire::tags::{
     CHARSET, JOB_ATTRIBUTES, KEYWORD, NAME_WITHOUT_LANGUAGE, NATURAL_LANGUAGE, URI,
@@ -139,8 +139,8 @@ impl JobAttribute {
             JobAttribute::TimeAtProcessing => Content::Moment(job.begun),
             JobAttribute::TimeAtCompleted => Content::Moment(job.ended),
             JobAttribute::JobPrinterUpTime => Content::Integer(now),
-            JobAttribute::AttributesCharset => Content::Text(CHARSET, "utf-8"),
-            JobAttribute::AttributesNaturalLanguage => Content::Text(NATURAL_LANGUAGE, "en"),
+            JobAttribute::AttributesCharset => Content::Text(CHARSET, UTF_8),
+            JobAttribute::AttributesNaturalLanguage => Content::Text(NATURAL_LANGUAGE, ENGLISH),
             JobAttribute::JobKOctets => Content::Integer(kilo_octets(job.octets)),
             JobAttribute::JobImpressions => Content::Integer(job.impressions),
             JobAttribute::JobImpressionsCompleted => Content::Integer(job.count),

@@ -8,7 +8,7 @@ ghost use Rattle.ipp_reply.specs.PrinterReply as spec;
 ghost use Rattle.ipp_reply.specs.PrinterView.{printer_of};
 ghost use Rattle.ipp_reply.specs.Wanted.{of_printer, rows_of, words_of};
 
-use crate::content::{Content, put};
+use crate::content::{Content, ENGLISH, UTF_8, put};
 use crate::wanted::Wanted;
 use ipp_wire::tags::{
     CHARSET, KEYWORD, MIME_MEDIA_TYPE, NAME_WITHOUT_LANGUAGE, NATURAL_LANGUAGE, PRINTER_ATTRIBUTES,
@@ -134,12 +134,12 @@ impl PrinterAttribute {
             PrinterAttribute::IppVersionsSupported => Content::Texts(KEYWORD, &["1.1", "2.0"]),
             PrinterAttribute::OperationsSupported => Content::OperationIds,
             PrinterAttribute::CharsetConfigured | PrinterAttribute::CharsetSupported => {
-                Content::Text(CHARSET, "utf-8")
+                Content::Text(CHARSET, UTF_8)
             }
             PrinterAttribute::NaturalLanguageConfigured
             | PrinterAttribute::GeneratedNaturalLanguageSupported => Content::Text(
                 NATURAL_LANGUAGE,
-                "en",
+                ENGLISH,
             ),
             PrinterAttribute::DocumentFormatDefault => {
                 Content::Text(MIME_MEDIA_TYPE, Format::OctetStream.name())

@@ -10,6 +10,7 @@ ghost use Rattle.ipp_reply.specs.Reply.{reply_of, success, unsupported_groups, w
 ghost use Rattle.ipp_reply.specs.Unsupported.{CanList, unsupported_of};
 ghost use Rattle.ipp_reply.specs.Wanted.{rows_of};
 
+use crate::content::{ENGLISH, UTF_8};
 use crate::job_reply::put_jobs;
 use crate::printer_reply::{PrinterView, put_printer};
 use crate::unsupported::Unsupported;
@@ -34,14 +35,14 @@ fn bare_message(alloc: Global, head: Head, code: u16) -> Result<Message, AllocEr
         b"attributes-charset",
         &[ValueView {
             tag: CHARSET,
-            bytes: b"utf-8",
+            bytes: UTF_8.as_bytes(),
         }],
     )?;
     message.attribute(
         b"attributes-natural-language",
         &[ValueView {
             tag: NATURAL_LANGUAGE,
-            bytes: b"en",
+            bytes: ENGLISH.as_bytes(),
         }],
     )?;
     Ok(message)

@@ -11,7 +11,7 @@ use Rattle.ipp_wire.specs.Message.{Value, Attribute}
 use Rattle.queue_core.specs.Limits.{IsOwner, IsJobName, is_no_control}
 use Rattle.ipp_request.specs.declared.attribute.Syntax.TheVariants.{UserName, Title}
 use Rattle.ipp_request.specs.Attributes.{Row, limit_of, tags_of}
-use Rattle.ipp_request.specs.Values.{text_of, has_shape, is_control, are_formed, are_long, is_shaped, is_long, passes}
+use Rattle.ipp_request.specs.Values.{text_of, has_shape, is_control, are_formed, any_long, is_shaped, is_long, passes}
 use Rattle.ipp_request.specs.Request.{first_value, filled}
 use Rattle.ipp_request.proofs.Tests.{and_true, or_false, not_false, not_true}
 
@@ -75,7 +75,7 @@ of_value P r d p fits (Some t) shaped short = of_text P t d p (λ some utf8. fit
 
 of_values : (P : List ℕ → Type 0) (r : Row) (d : List ℕ) → P d
     → ((t : List ℕ) → 0 < length t → is_utf8 t ≡ true → has_shape r.syntax t ≡ true → passes (limit_of r.syntax) t ≡ false → P t)
-    → (vs : List Value) → not (are_formed r vs) ≡ false → are_long r vs ≡ false
+    → (vs : List Value) → not (are_formed r vs) ≡ false → any_long r vs ≡ false
     → P (unwrap_or (option_and_then (λ v. option_and_then filled (text_of v)) (first_value vs)) d)
 of_values P r d p fits [] formed short = p
 of_values P r d p fits (v ∷ vs) formed short =
@@ -87,7 +87,7 @@ of_values P r d p fits (v ∷ vs) formed short =
 
 pub of_attribute : (P : List ℕ → Type 0) (r : Row) (d : List ℕ) → P d
     → ((t : List ℕ) → 0 < length t → is_utf8 t ≡ true → has_shape r.syntax t ≡ true → passes (limit_of r.syntax) t ≡ false → P t)
-    → (a : Option Attribute) → option_map_or (λ a. not (are_formed r a.values)) a false ≡ false → option_map_or (λ a. are_long r a.values) a false ≡ false
+    → (a : Option Attribute) → option_map_or (λ a. not (are_formed r a.values)) a false ≡ false → option_map_or (λ a. any_long r a.values) a false ≡ false
     → P (unwrap_or (option_and_then (λ v. option_and_then filled (text_of v)) (option_and_then (λ a. first_value a.values) a)) d)
 of_attribute P r d p fits None formed short = p
 of_attribute P r d p fits (Some a) formed short = of_values P r d p fits a.values formed short

@@ -71,8 +71,8 @@ abbrev pub is_long : Syntax → Value → Bool
 is_long s v = option_map_or (passes (limit_of s)) (text_of v) false
 
 -- a value is longer than the limit of the row's syntax
-abbrev pub are_long : Row → List Value → Bool
-are_long r vs = list_any (is_long r.syntax) vs
+abbrev pub any_long : Row → List Value → Bool
+any_long r vs = list_any (is_long r.syntax) vs
 
 -- ---- the support
 

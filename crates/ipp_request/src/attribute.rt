@@ -105,7 +105,7 @@ pub const TABLE: [OperationAttribute; 19] = [
 ];
 
 /// The operations on one job.
-pub const OF_JOB: [Operation; 5] = [
+pub(crate) const OF_JOB: [Operation; 5] = [
     Operation::SendDocument,
     Operation::CancelJob,
     Operation::GetJobAttributes,
@@ -114,7 +114,7 @@ pub const OF_JOB: [Operation; 5] = [
 ];
 
 /// The operations that a new job's attributes come with: they look at the job group.
-pub const OF_NEW_JOB: [Operation; 3] = [
+pub(crate) const OF_NEW_JOB: [Operation; 3] = [
     Operation::PrintJob,
     Operation::ValidateJob,
     Operation::CreateJob,
@@ -258,14 +258,14 @@ impl OperationAttribute {
 }
 
 /// The operation is one of these.
-pub fn is_one_of(operations: &[Operation], operation: Operation) -> bool
+pub(crate) fn is_one_of(operations: &[Operation], operation: Operation) -> bool
     ensures { result ≡ is_one_of operations.now operation }
 {
     operations.iter().any(|p| operation.id() == p.id())
 }
 
 /// The operation knows the attribute.
-pub fn knows(operation: Operation, attribute: OperationAttribute) -> bool
+pub(crate) fn knows(operation: Operation, attribute: OperationAttribute) -> bool
     ensures { result ≡ knows operation attribute }
 {
     is_one_of(attribute.row().known_in, operation)
@@ -303,7 +303,7 @@ pub enum TemplateAttribute {
 }
 
 /// The attributes of the job group, in the table's order.
-pub const TEMPLATE_TABLE: [TemplateAttribute; 3] = [
+pub(crate) const TEMPLATE_TABLE: [TemplateAttribute; 3] = [
     TemplateAttribute::Copies,
     TemplateAttribute::JobHoldUntil,
     TemplateAttribute::JobImpressions,

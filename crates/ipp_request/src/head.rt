@@ -7,7 +7,7 @@ use ipp_wire::{Head, is_known_version};
 use queue_types::status;
 
 /// The operation that a head asks for, or the code that refuses it.
-pub fn operation_in(head: Head) -> Result<Operation, u16>
+pub(crate) fn operation_in(head: Head) -> Result<Operation, u16>
     ensures { result ≡ operation_in head }
 {
     if !is_known_version(head) {

@@ -129,14 +129,14 @@ impl<'v, 'a: 'v> Request<'v, 'a> {
     }
 
     /// It is about a job.
-    pub fn is_on_job(self) -> bool
+    pub(crate) fn is_on_job(self) -> bool
         ensures { result ≡ is_on_job (request_of self.entry).operation }
     {
         is_one_of(&OF_JOB, self.operation)
     }
 
     /// It makes a job, or asks whether one would be made: its job group is looked at.
-    pub fn makes_job(self) -> bool
+    pub(crate) fn makes_job(self) -> bool
         ensures { result ≡ makes_job (request_of self.entry).operation }
     {
         is_one_of(&OF_NEW_JOB, self.operation)

@@ -11,12 +11,12 @@ use crate::request::Request;
 use crate::value::{is_positive_number, job_of_id, number};
 use ipp_wire::ValueView;
 use queue_types::text::utf8_text;
-use queue_types::uri::path;
+use queue_types::uri::{PRINTER_PATH, path};
 
 fn is_printer(uri: &[u8]) -> bool
     ensures { result ≡ spec.is_printer uri.now }
 {
-    path(uri) == b"/ipp/print".as_slice()
+    path(uri) == PRINTER_PATH.as_bytes()
 }
 
 fn are_digits(text: &[u8]) -> bool

@@ -31,14 +31,14 @@ fn is_positive(n: u32) -> bool
 }
 
 /// The number, where a job may have it: 1 to 2,147,483,647.
-pub fn job_of_id(n: u32) -> Option<u32>
+pub(crate) fn job_of_id(n: u32) -> Option<u32>
     ensures { result ≡ job_of_id n }
 {
     is_positive(n).then_some(n)
 }
 
 /// A number of 4 bytes, at least 1 (at most 2,147,483,647).
-pub fn is_positive_number(bytes: &[u8]) -> bool
+pub(crate) fn is_positive_number(bytes: &[u8]) -> bool
     ensures { result ≡ option_map_or spec.is_positive (spec.number_of bytes.now) false }
 {
     match number(bytes) {
@@ -128,7 +128,7 @@ fn has_shape(syntax: Syntax, text: &[u8]) -> bool
 }
 
 /// The value has one of the tags of the syntax.
-pub fn is_tagged(syntax: Syntax, value: ValueView<'_>) -> bool
+pub(crate) fn is_tagged(syntax: Syntax, value: ValueView<'_>) -> bool
     ensures { result ≡ spec.is_tagged syntax (value_of value.entry) }
 {
     syntax.tags().iter().any(|t| *t == value.tag)
@@ -167,8 +167,8 @@ fn is_long(syntax: Syntax, value: ValueView<'_>) -> bool
 }
 
 /// A value is longer than the limit of the row's syntax.
-pub fn are_long(row: &Row, values: &[ValueView<'_>]) -> bool
-    ensures { result ≡ spec.are_long (row_of row.now) (values_of values.now) }
+pub fn any_long(row: &Row, values: &[ValueView<'_>]) -> bool
+    ensures { result ≡ spec.any_long (row_of row.now) (values_of values.now) }
 {
     values.iter().any(|v| is_long(row.syntax, *v))
 }

@@ -41,7 +41,7 @@ pub struct ValueView<'a> {
     pub bytes: &'a [u8],
 }
 
-/// Why bytes are not read: `Short` is 1, `Malformed` 2 and `Memory` 3.
+/// Why bytes are not read.
 #[derive(Debug, Drop)]
 pub enum WireFault {
     /// There are fewer than 8 bytes.

@@ -1,4 +1,4 @@
--- What the plain book's tables have under a key: reports, grants and accounts.
+-- What the book's tables have under a key: reports, grants and accounts.
 use Rattle.std.proofs.Common.{◌≡◌, ℕ, ◌+◌, List, [], ◌∷◌, refl, ap, sym, ◌∙◌, Bool, true, false, cond, ◌&&◌, rules}
 use Rattle.std.specs.Prelude.{Option, Some, None, IsSome, is_some, bytes_eq, nat_eq, option_map, ℤ}
 use Rattle.std.specs.Cmp.{IsTotalOrder, unsigned_tied}

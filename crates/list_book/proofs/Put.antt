@@ -1,4 +1,4 @@
--- Where an item is put, and what the plain book's lists stand for once it is there.
+-- Where an item is put, and what the book's lists stand for once it is there.
 use Rattle.std.proofs.Common.{◌≡◌, ℕ, ◌<◌, suc, zero, List, [], ◌∷◌, ◌++◌, length, get_or, map, refl, ap, sym, ◌∙◌, arith, subst, Bool, true, false, cond}
 use Rattle.std.specs.Prelude.{slice_set, fold, IsSome, is_some, Option, Some, None, nat_eq}
 use Rattle.std.proofs.lemmas.Bool.Decides.{nat_tests}

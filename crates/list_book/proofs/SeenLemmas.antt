@@ -1,4 +1,4 @@
--- What is read of the plain book's lists is what its world shows.
+-- What is read of the book's lists is what its world shows.
 use Rattle.std.proofs.Common.{◌≡◌, ℕ, suc, ◌<◌, ◌≤◌, ◌+◌, ◌*◌, ◌^◌, List, [], ◌∷◌, length, map, refl, ap, sym, ◌∙◌, arith, Bool, true, false, cond}
 use Rattle.std.specs.Prelude.{nat_eq, nat_lt, ◌&&◌, ◌||◌, Option, Some, None, find, option_map, slice_get, ◌-◌}
 use Rattle.std.specs.List.{AllByRecursion as Each}

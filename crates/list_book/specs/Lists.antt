@@ -1,4 +1,4 @@
--- What the lists and tables of the plain book stand for.
+-- What the lists and tables of the book stand for.
 use Rattle.std.specs.Prelude.{ℕ, ℤ, ◌-◌, nat_lt, slice_get, fold, ◌≡◌, ◌≤◌, ◌+◌, List, [], ◌∷◌, ◌++◌, Option, None, Some, map, ◌==◌, if◌then◌else◌, Bool, ◌&&◌, ◌||◌, bytes_eq, filter, sum_by, vec_len, vec_capacity}
 use Rattle.std.specs.FinMap.{FinMap, from_entries}
 use Rattle.std.specs.HashMap.{spare}

@@ -1,4 +1,4 @@
--- What the tables of the plain book stand for: accounts by name, and grants by batch and account.
+-- What the tables of the book in lists stand for: accounts by name, and grants by batch and account.
 use Rattle.std.specs.Prelude.{ℕ, ℤ, List, IsSome, map, option_map, unwrap_or, bytes_eq}
 use Rattle.std.specs.List.{AllByRecursion as Each}
 use Rattle.std.specs.FinMap.{FinMap, from_entries, get}

@@ -1,4 +1,4 @@
-//! The accounts of the plain book, by name.
+//! The accounts of the book in lists, by name.
 ghost use Rattle.std.specs.Prelude.{ℕ, List, ◌≡◌, ◌≤◌, ◌<◌, ◌+◌, ◌^◌, IfOk, IsSome, OnOk, bytes_eq, fold, if◌then◌else◌, length};
 ghost use Rattle.std.specs.FinMap.{get};
 ghost use Rattle.std.specs.HashMap.{spare};

@@ -1,4 +1,4 @@
-//! The plain book, which keeps a queue in lists and tables.
+//! The book in lists, which keeps a queue in memory.
 ghost use Rattle.std.specs.Prelude.{◌≡◌, ◌≤◌, ⊤, IfOk, IfErr, IsSome, OnOk, OnErr, Some, length, option_map, take};
 ghost use Rattle.std.specs.Io.KnownBytes.{Appends};
 ghost use Rattle.queue_core.specs.Book.{IsContent, IsDecisionOn};
@@ -28,7 +28,7 @@ use std::collections::HashMap;
 use std::io::Write;
 use std::marker::Model;
 
-/// A book in memory. Its content is a sound world.
+/// A book that keeps its queue in lists and hash tables, in memory. Its content is a sound world.
 #[derive(Drop)]
 pub struct ListBook {
     alloc: Global,
@@ -86,6 +86,8 @@ impl QueueBook for ListBook {
 
     ghost is_honest = { λ b. ⊤ };
 
+    ghost is_live = { λ b. ⊤ };
+
     fn decide<'a>(&mut self, now: u32, event: &Event<'a>) -> Result<Decision<'a>, BookFault>
         requires moment { IsMoment now }
         requires event { IsEvent (event_of event.now) }
@@ -95,6 +97,7 @@ impl QueueBook for ListBook {
             → decision_of d ≡ decision (cut w (event_of event.now)) now (event_of event.now)) }
         ensures limits { IfOk result (λ d. IsReplyTo (event_of event.now) d.reply) }
         ensures damaged { ⊤ → IfErr result (λ e. e ≡ BookFault.Damaged → (w : World) → ¬ IsContent self.old w) }
+        ensures live { ⊤ → OnOk result ⊤ }
         ensures fault { IfErr result (λ f. f ≡ BookFault.Memory) }
     {
         cut_is_fair();
@@ -108,6 +111,7 @@ impl QueueBook for ListBook {
         ensures began { ⊤ → ⊤ }
         ensures ok { OnOk result ((w : World) → IsContent self.old w → IsContent self.new (made_on (change_of decision.entry.change) w)) }
         ensures err { OnErr result ((w : World) → IsContent self.old w → IsContent self.new w) }
+        ensures live { ⊤ → OnOk result ⊤ }
         ensures fault { IfErr result (λ f. f ≡ BookFault.Memory) }
     {
         decisions_are_sound();
@@ -129,6 +133,7 @@ impl QueueBook for ListBook {
         ensures kept { (w : World) → IsContent self.old w → IsContent self.new w }
         ensures jobs { ⊤ → IfOk result (λ js. (w : World) → IsContent self.new w → js ≡ pending_jobs w) }
         ensures damaged { ⊤ → IfErr result (λ e. e ≡ BookFault.Damaged → (w : World) → ¬ IsContent self.old w) }
+        ensures live { ⊤ → OnOk result ⊤ }
         ensures fault { IfErr result (λ f. f ≡ BookFault.Memory) }
     {
         let jobs = seen::pending(self.alloc, self.lists.jobs.as_slice())?;
@@ -140,6 +145,7 @@ impl QueueBook for ListBook {
         ensures kept { (w : World) → IsContent self.old w → IsContent self.new w }
         ensures head { ⊤ → IfOk result (λ h. (w : World) → IsContent self.new w → h ≡ option_map head_of (document_at w job n)) }
         ensures damaged { ⊤ → IfErr result (λ e. e ≡ BookFault.Damaged → (w : World) → ¬ IsContent self.old w) }
+        ensures live { ⊤ → OnOk result ⊤ }
         ensures fault { IfErr result (λ f. f ≡ BookFault.Memory) }
     {
         Ok(seen::document_head(&self.lists, job, n))
@@ -154,6 +160,7 @@ impl QueueBook for ListBook {
         ensures err { ⊤ → IfErr result (λ f. (w : World) (d : Document) → IsContent self.old w → document_at w job n ≡ Some d
             → (f.written ≤ length d.bytes) × Appends (W.contents out.old) (W.contents out.new) (take f.written d.bytes)) }
         ensures damaged { ⊤ → IfErr result (λ f. f.cause ≡ ByBook BookFault.Damaged → (w : World) → ¬ IsContent self.old w) }
+        ensures live { ⊤ → OnOk result ⊤ }
         ensures fault { IfErr result (λ f. f.cause ≡ ByWriter) }
     {
         match seen::document(&self.lists, job, n) {
@@ -167,6 +174,7 @@ impl QueueBook for ListBook {
         ensures kept { (w : World) → IsContent self.old w → IsContent self.new w }
         ensures sheet { ⊤ → IfOk result (λ s. (w : World) → IsContent self.new w → s ≡ sheet_of w account.now) }
         ensures damaged { ⊤ → IfErr result (λ e. e ≡ BookFault.Damaged → (w : World) → ¬ IsContent self.old w) }
+        ensures live { ⊤ → OnOk result ⊤ }
         ensures fault { IfErr result (λ f. f ≡ BookFault.Memory) }
     {
         let sheet = sheet::sheet(self.alloc, &self.lists, account)?;

@@ -1,4 +1,4 @@
-//! The grants of the plain book, by batch and account.
+//! The grants of the book in lists, by batch and account.
 ghost use Rattle.std.specs.Prelude.{ℕ, List, ◌≡◌, ◌≤◌, ◌<◌, ◌+◌, ◌^◌, IfOk, IsSome, OnOk, bytes_eq, fold, if◌then◌else◌, length, map};
 ghost use Rattle.std.specs.FinMap.{get};
 ghost use Rattle.std.specs.HashMap.{spare};

@@ -1,4 +1,4 @@
-//! The plain book: a queue in lists and tables, in memory.
+//! The queue in memory: jobs and documents in lists, accounts, grants and reports in hash tables.
 #![tactic(auto)]
 
 mod accounts;

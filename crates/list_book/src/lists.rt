@@ -1,4 +1,4 @@
-//! The lists and tables of the plain book, and how a change is written to them.
+//! The lists and tables of the book, and how a change is written to them.
 ghost use Rattle.std.specs.Prelude.{ℕ, List, ◌≡◌, ◌≢◌, ◌≤◌, ◌<◌, ◌+◌, ◌^◌, ◌++◌, ◌∷◌, [], fold, IfOk, OnOk, ◌==◌, option_map, IfNone, IfSome, IsSome, slice_set, slice_index_or, length, vec_len, vec_capacity};
 ghost use Rattle.std.specs.Bool.{OnFalse, OnTrue};
 ghost use Rattle.queue_types.specs.Event.{change_of, document_of};
@@ -21,7 +21,7 @@ use std::collections::HashMap;
 /// The reports that were accepted, by job and sequence number.
 pub(crate) type Reports = HashMap<(u32, u32), KeptReport>;
 
-/// What a plain book holds: jobs in the order of their numbers, and their documents in the order in
+/// What the book holds: jobs in the order of their numbers, and their documents in the order in
 /// which they came; accounts, grants and reports in tables, which find a key in a few steps.
 #[derive(Drop)]
 pub(crate) struct Lists {

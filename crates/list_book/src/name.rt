@@ -1,4 +1,4 @@
-//! An account's or a batch's name as a key of the plain book's tables.
+//! An account's or a batch's name as a key of the book's hash tables.
 ghost use Rattle.std.specs.Prelude.{◌≡◌, IfOk, bytes_eq};
 ghost use Rattle.std.proofs.Common.{rules};
 ghost use Rattle.std.specs.Cmp.{partial_equiv_from_equiv};

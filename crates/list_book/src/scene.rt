@@ -1,4 +1,4 @@
-//! What an event needs of the plain book.
+//! What an event needs of the book in lists.
 ghost use Rattle.std.specs.Prelude.{ℕ, [], ◌≡◌, ◌==◌, IfOk, count_by, filter, bytes_eq, ◌&&◌};
 ghost use Rattle.std.specs.BTreeSet.{contains};
 ghost use Rattle.std.specs.FinMap.{get};

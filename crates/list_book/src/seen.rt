@@ -1,4 +1,4 @@
-//! What the plain book shows to the device.
+//! What the book in lists shows to the device.
 ghost use Rattle.std.specs.Prelude.{◌≡◌, ◌==◌, ◌||◌, IfOk, filter, option_map};
 ghost use Rattle.std.specs.Option.{option_copied};
 ghost use Rattle.queue_types.specs.Job.{state};
@@ -9,6 +9,7 @@ ghost use Rattle.list_book.specs.Lists.{nth_of, world_of};
 use crate::lists::Lists;
 use queue_types::document::{Document, DocumentHead, KeptDocument};
 use queue_types::job::Job;
+use queue_types::states::{JOB_PENDING, JOB_PROCESSING, JOB_PROCESSING_STOPPED};
 use std::alloc::{AllocError, Global};
 
 /// The jobs in state 3, by number.
@@ -17,7 +18,7 @@ pub(crate) fn pending(alloc: Global, jobs: &[Job]) -> Result<Vec<Job>, AllocErro
 {
     let mut pending = Vec::new(alloc);
     for job in jobs {
-        if job.state() == 3 {
+        if job.state() == JOB_PENDING {
             pending.push(job.try_clone()?)?;
         }
     }
@@ -35,7 +36,7 @@ fn is_fetched(job: &Job) -> bool
     ensures { result ≡ (state job.now == 3 || state job.now == 5 || state job.now == 6) }
 {
     let state = job.state();
-    state == 3 || state == 5 || state == 6
+    state == JOB_PENDING || state == JOB_PROCESSING || state == JOB_PROCESSING_STOPPED
 }
 
 /// Document n of the job, counted from 1.

@@ -1,4 +1,4 @@
-//! What the plain book tells an office of an account.
+//! What the book in lists tells an office of an account.
 ghost use Rattle.std.specs.Prelude.{◌≡◌, ◌<◌, ◌^◌, IfOk, option_map};
 ghost use Rattle.std.specs.FinMap.{get};
 ghost use Rattle.list_book.specs.Lists.{jobs_shown, printed_of, reserved_of, sheet_in};

@@ -2,7 +2,7 @@
 //!
 //! What a book may stand for is a relation to worlds. What is read of a book holds where it is honest as
 //! the call ends; a call that ends honest began so. A refused call leaves what the book stands for. What reads an
-//! honest book that stands for a queue is never told Damaged.
+//! honest book that stands for a queue is never told Damaged. A book that an error has shut answers nothing but faults.
 ghost use Rattle.std.specs.Prelude.{◌≡◌, ◌≤◌, Some, IfErr, IfOk, IsSome, OnOk, OnErr, length, option_map, take};
 ghost use Rattle.std.specs.Io.KnownBytes.{Appends};
 ghost use Rattle.queue_core.specs.Book.{IsDecisionOn};
@@ -24,6 +24,7 @@ use std::io::Write;
 /// Why a book can't do what it was asked, by its number.
 #[derive(Clone, Copy, Debug, PartialEq, Eq)]
 pub enum BookFault {
+    /// Want of memory.
     Memory = 1,
     /// The disk, or its size, refused.
     Disk = 2,
@@ -64,6 +65,9 @@ pub trait QueueBook {
     /// What is read from the book is what was written to it.
     ghost is_honest: { Self → Type 0 };
 
+    /// No error has shut the book: what it stands for is what it keeps.
+    ghost is_live: { Self → Type 0 };
+
     /// What the machine decides at this moment on this event, within its limits. It changes nothing.
     fn decide<'a>(&mut self, now: u32, event: &Event<'a>) -> Result<Decision<'a>, BookFault>
         requires moment { IsMoment now }
@@ -73,6 +77,7 @@ pub trait QueueBook {
         ensures decides { is_honest self.new → IfOk result (λ d. (w : World) → stands self.new w
             → decision_of d ≡ decision (cut w (event_of event.now)) now (event_of event.now)) }
         ensures damaged { is_honest self.new → IfErr result (λ e. e ≡ BookFault.Damaged → (w : World) → ¬ stands self.old w) }
+        ensures live { is_honest self.new → OnOk result (is_live self.new) }
         // on any book, also one that is not honest
         ensures limits { IfOk result (λ d. IsReplyTo (event_of event.now) d.reply) };
 
@@ -81,21 +86,24 @@ pub trait QueueBook {
         requires decided { (w : World) → is_honest self.old → stands self.old w → IsDecisionOn w (decision_of decision) }
         ensures began { is_honest self.new → is_honest self.old }
         ensures ok { OnOk result ((w : World) → stands self.old w → stands self.new (made_on (change_of decision.entry.change) w)) }
-        ensures err { OnErr result ((w : World) → stands self.old w → stands self.new w) };
+        ensures err { OnErr result ((w : World) → stands self.old w → stands self.new w) }
+        ensures live { is_honest self.new → OnOk result (is_live self.new) };
 
     /// The jobs that the device may start, those in state 3, by number.
     fn pending(&mut self) -> Result<JobList, BookFault>
         ensures began { is_honest self.new → is_honest self.old }
         ensures kept { (w : World) → stands self.old w → stands self.new w }
         ensures jobs { is_honest self.new → IfOk result (λ js. (w : World) → stands self.new w → js ≡ pending_jobs w) }
-        ensures damaged { is_honest self.new → IfErr result (λ e. e ≡ BookFault.Damaged → (w : World) → ¬ stands self.old w) };
+        ensures damaged { is_honest self.new → IfErr result (λ e. e ≡ BookFault.Damaged → (w : World) → ¬ stands self.old w) }
+        ensures live { is_honest self.new → OnOk result (is_live self.new) };
 
     /// The format and the length of document n, counted from 1, of a job in state 3, 5 or 6.
     fn document_head(&mut self, job: u32, n: u32) -> Result<Option<DocumentHead>, BookFault>
         ensures began { is_honest self.new → is_honest self.old }
         ensures kept { (w : World) → stands self.old w → stands self.new w }
         ensures head { is_honest self.new → IfOk result (λ h. (w : World) → stands self.new w → h ≡ option_map head_of (document_at w job n)) }
-        ensures damaged { is_honest self.new → IfErr result (λ e. e ≡ BookFault.Damaged → (w : World) → ¬ stands self.old w) };
+        ensures damaged { is_honest self.new → IfErr result (λ e. e ≡ BookFault.Damaged → (w : World) → ¬ stands self.old w) }
+        ensures live { is_honest self.new → OnOk result (is_live self.new) };
 
     /// Writes the bytes of such a document, and says how many they are. After a fault a front of them was
     /// written.
@@ -107,14 +115,16 @@ pub trait QueueBook {
             → (sent ≡ length d.bytes) × Appends (W.contents out.old) (W.contents out.new) d.bytes) }
         ensures err { is_honest self.new → IfErr result (λ f. (w : World) (d : Document) → stands self.old w → document_at w job n ≡ Some d
             → (f.written ≤ length d.bytes) × Appends (W.contents out.old) (W.contents out.new) (take f.written d.bytes)) }
-        ensures damaged { is_honest self.new → IfErr result (λ f. f.cause ≡ SendCause.Book BookFault.Damaged → (w : World) → ¬ stands self.old w) };
+        ensures damaged { is_honest self.new → IfErr result (λ f. f.cause ≡ SendCause.Book BookFault.Damaged → (w : World) → ¬ stands self.old w) }
+        ensures live { is_honest self.new → OnOk result (is_live self.new) };
 
     /// What is told of an account, where it is there.
     fn sheet(&mut self, account: &str) -> Result<Option<AccountSheet>, BookFault>
         ensures began { is_honest self.new → is_honest self.old }
         ensures kept { (w : World) → stands self.old w → stands self.new w }
         ensures sheet { is_honest self.new → IfOk result (λ s. (w : World) → stands self.new w → s ≡ sheet_of w account.now) }
-        ensures damaged { is_honest self.new → IfErr result (λ e. e ≡ BookFault.Damaged → (w : World) → ¬ stands self.old w) };
+        ensures damaged { is_honest self.new → IfErr result (λ e. e ≡ BookFault.Damaged → (w : World) → ¬ stands self.old w) }
+        ensures live { is_honest self.new → OnOk result (is_live self.new) };
 
     /// A world that an honest book stands for is sound.
     ghost sound: { (b : Self) (w : World) → is_honest b → stands b w → IsSound w };

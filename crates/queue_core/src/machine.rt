@@ -18,6 +18,7 @@ use queue_types::document::Format;
 use queue_types::event::{Call, Decision, Event, NewDocument, NewJob, QueueCounts, Reply, Scene};
 use queue_types::job::{Job, Phase};
 use queue_types::limits::{LAST_JOB_NUMBER, MOST_LIVE_JOBS};
+use queue_types::states::{PRINTER_IDLE, PRINTER_PROCESSING, PRINTER_STOPPED};
 use queue_types::status::{CLIENT_ERROR_NOT_POSSIBLE, SERVER_ERROR_NOT_ACCEPTING_JOBS};
 use queue_types::text::Text;
 use std::alloc::{AllocError, Global};
@@ -142,16 +143,16 @@ fn show_jobs<'a>(alloc: Global, scene: &Scene) -> Result<Decision<'a>, AllocErro
     Ok(answer_only(alloc, Reply::Jobs(shown)))
 }
 
-/// The printer's state: 4 processing, 5 stopped, 3 idle.
+/// The printer's state.
 fn state_of_printer(counts: QueueCounts) -> u8
     ensures { result ≡ printer_state counts }
 {
     if counts.running > 0 {
-        4
+        PRINTER_PROCESSING
     } else if counts.stopped > 0 {
-        5
+        PRINTER_STOPPED
     } else {
-        3
+        PRINTER_IDLE
     }
 }
 

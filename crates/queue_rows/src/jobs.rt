@@ -71,7 +71,7 @@ pub fn is_job_row(job: &Job) -> bool
 }
 
 /// Each is a job within its limits, whose phase fits its other columns.
-pub fn jobs_are_sound(jobs: &[Job]) -> bool
+pub(crate) fn jobs_are_sound(jobs: &[Job]) -> bool
     ensures { IsTrue result ↔ All IsJobRow jobs.now }
 {
     for job in jobs {
@@ -83,7 +83,7 @@ pub fn jobs_are_sound(jobs: &[Job]) -> bool
 }
 
 /// The numbers rise from 1 on, and stay below the next.
-pub fn numbers_rise(jobs: &[Job], next: u32) -> bool
+pub(crate) fn numbers_rise(jobs: &[Job], next: u32) -> bool
     ensures { IsTrue result ↔ NumbersRise 1 jobs.now next }
 {
     let mut least = 1u64;

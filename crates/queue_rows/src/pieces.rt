@@ -38,7 +38,7 @@ fn behind_pieces<'a>(pieces: &'a [PieceRow], document: &DocumentRow) -> Option<&
 }
 
 /// The pieces are those of the documents, each document's after another's.
-pub fn pieces_follow(documents: &[DocumentRow], pieces: &[PieceRow]) -> bool
+pub(crate) fn pieces_follow(documents: &[DocumentRow], pieces: &[PieceRow]) -> bool
     ensures { IsTrue result ↔ (pieces.now ≡ flat_map pieces_of documents.now) }
 {
     let mut rest = pieces;

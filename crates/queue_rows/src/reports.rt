@@ -8,6 +8,7 @@ ghost use Rattle.queue_rows.specs.Reports.{IsReportRow, report_before, greatest}
 use queue_types::event::KeptReport;
 use queue_types::job::Job;
 use queue_types::limits::{LAST_REPORT_NUMBER, MOST_PRINTED_PAGES};
+use queue_types::states::{JOB_COMPLETED, JOB_PENDING};
 use std::alloc::{AllocError, Global};
 use std::collections::HashMap;
 
@@ -16,8 +17,8 @@ fn is_report(kept: &KeptReport) -> bool
 {
     let seq = kept.report.seq >= 1 && kept.report.seq <= LAST_REPORT_NUMBER;
     seq && kept.report.count <= MOST_PRINTED_PAGES
-        && kept.state >= 3
-        && kept.state <= 9
+        && kept.state >= JOB_PENDING
+        && kept.state <= JOB_COMPLETED
         && kept.total <= MOST_PRINTED_PAGES
 }
 

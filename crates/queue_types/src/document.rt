@@ -105,6 +105,7 @@ impl Bytes {
         Ok(Bytes { bytes })
     }
 
+    /// The bytes, to be looked at. It takes no memory.
     pub fn as_slice(&self) -> &[u8]
         ensures { result.now ≡ self.now }
     {

@@ -126,7 +126,9 @@ pub enum Event<'a> {
 pub enum Reply {
     /// The status code of a refusal (RFC 8011, appendix B). Nothing changes.
     Refused(u16),
+    /// What was asked is done, and there is nothing to show.
     Done,
+    /// The jobs that are shown, in order: those that were asked for, or the one that was made.
     Jobs(JobList),
     /// The printer's state, 3 idle, 4 processing or 5 stopped (RFC 8011, section 5.4.11), how many jobs are
     /// in states 3 to 6, and whether there is a number for a new job.
@@ -158,6 +160,7 @@ pub enum Reply {
 /// Why a report is not accepted, by its number.
 #[derive(Clone, Copy, Debug, PartialEq, Eq)]
 pub enum ReportRefusal {
+    /// There is no job of that number.
     NoJob = 2,
     /// The job's phase takes no report of that kind.
     State = 3,
@@ -177,12 +180,19 @@ pub enum GrantFault {
 /// The kinds of a device's reports.
 #[derive(Clone, Copy, Debug, PartialEq, Eq)]
 pub enum Kind {
+    /// The job begins to print.
     Start,
+    /// The device stands still in the job.
     Stop,
+    /// It goes on with the job.
     Resume,
+    /// So many pages of the job are printed by now.
     Count,
+    /// The job is printed.
     Done,
+    /// The job can't be printed.
     Fail,
+    /// The job was ended before it was done.
     Halt,
 }
 

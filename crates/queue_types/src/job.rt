@@ -14,6 +14,10 @@ ghost use Rattle.std.specs.Prelude.{◌≡◌, IfOk, Some, None, if◌then◌els
 ghost use Rattle.queue_types.specs.Job.{estimate, is_live, owed, reasons, state};
 
 use crate::list::ListOf;
+use crate::states::{
+    JOB_ABORTED, JOB_CANCELED, JOB_COMPLETED, JOB_PENDING, JOB_PENDING_HELD, JOB_PROCESSING,
+    JOB_PROCESSING_STOPPED,
+};
 use crate::text::Text;
 use std::alloc::{AllocError, Global};
 
@@ -134,12 +138,13 @@ impl Job {
         ensures { result ≡ state self.now }
     {
         match self.phase {
-            Phase::Waiting => { if self.hold || self.incoming { 4 } else { 3 } }
-            Phase::Running => 5,
-            Phase::Stopped => 6,
-            Phase::Canceled(_) => 7,
-            Phase::Aborted => 8,
-            Phase::Completed => 9,
+            Phase::Waiting if self.hold || self.incoming => JOB_PENDING_HELD,
+            Phase::Waiting => JOB_PENDING,
+            Phase::Running => JOB_PROCESSING,
+            Phase::Stopped => JOB_PROCESSING_STOPPED,
+            Phase::Canceled(_) => JOB_CANCELED,
+            Phase::Aborted => JOB_ABORTED,
+            Phase::Completed => JOB_COMPLETED,
         }
     }
 

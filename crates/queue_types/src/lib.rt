@@ -9,8 +9,7 @@ pub mod limits;
 pub mod list;
 pub mod settings;
 pub mod sheet;
+pub mod states;
 pub mod status;
 pub mod text;
 pub mod uri;
-
-pub use settings::{SettingFault, Settings};

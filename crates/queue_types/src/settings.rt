@@ -6,7 +6,7 @@ ghost use Rattle.queue_types.specs.Uri.{printer_path};
 
 use crate::limits::MOST_IMPRESSIONS;
 use crate::text::Text;
-use crate::uri::path;
+use crate::uri::{PRINTER_PATH, path};
 use std::alloc::{AllocError, Global};
 use std::marker::Model;
 
@@ -21,6 +21,7 @@ const MOST_PRINTER_NAME_OCTETS: usize = 127;
 pub enum SettingFault {
     /// A value is not within its limits.
     Bad = 1,
+    /// Want of memory.
     Memory = 2,
 }
 
@@ -53,7 +54,7 @@ fn has_uri_bytes(uri: &[u8]) -> bool
 fn is_printer_path(path: &[u8]) -> bool
     ensures { result ≡ bytes_eq path.now printer_path }
 {
-    path == b"/ipp/print".as_slice()
+    path == PRINTER_PATH.as_bytes()
 }
 
 impl Settings {

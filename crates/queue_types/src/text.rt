@@ -53,6 +53,7 @@ impl Text {
         Ok(Text { stored })
     }
 
+    /// The text, to be looked at. It takes no memory.
     pub fn as_str(&self) -> &str
         ensures { result.now ≡ self.now }
     {

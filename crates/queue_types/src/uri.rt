@@ -5,6 +5,9 @@ ghost use Rattle.std.specs.List.{position, position_or_len, before_first};
 ghost use Rattle.std.specs.Str.{byte};
 ghost use Rattle.queue_types.specs.Uri.{behind_mark, path_of};
 
+/// The path under which the printer is found.
+pub const PRINTER_PATH: &str = "/ipp/print";
+
 /// What follows the first "://".
 fn after_scheme(uri: &[u8]) -> &[u8]
     ensures { result.now ≡ behind_mark uri.now }

@@ -5,7 +5,7 @@ use Rattle.ipp_wire.specs.Viewed.{value_of}
 use Rattle.ipp_request.specs.Values.{is_long}
 use Rattle.ipp_wire.specs.declared.view.ValueView.{ValueView}
 use Rattle.ipp_request.proofs.Lists.{list_any_map}
-use Rattle.ipp_request.proofs.value.are_long.Goals as goal
+use Rattle.ipp_request.proofs.value.any_long.Goals as goal
 
 pub returns : goal.returns
 returns c =
