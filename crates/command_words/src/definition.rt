@@ -82,7 +82,7 @@ fn init<'a>(alloc: Global) -> Result<Definition<'a>, AllocError>
 {
     let uri = "The printer's URI, with the path /ipp/print";
     let name = "The printer's name";
-    let estimate = "The pages of a copy of a job that does not say them";
+    let estimate = "Pages to take for one copy of a job that doesn't tell them";
     on_store(alloc, "init", "Make a new store")?
         .arg(text(alloc, "uri", "URI", uri))?
         .arg(text(alloc, "name", "NAME", name))?

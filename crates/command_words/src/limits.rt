@@ -3,11 +3,13 @@
 /// The least and the most that a number may be.
 #[derive(Clone, Copy)]
 pub(crate) struct Limits {
+    /// The least.
     pub(crate) least: u32,
+    /// The most.
     pub(crate) most: u32,
 }
 
-/// The pages of a copy of a job that does not say them.
+/// The pages that one copy takes of a job that doesn't tell them.
 pub(crate) const ESTIMATE: Limits = Limits {
     least: 0,
     most: 100_000,

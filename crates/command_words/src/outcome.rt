@@ -18,7 +18,7 @@ pub struct Init<'a> {
     pub uri: &'a str,
     /// The printer's name.
     pub name: &'a str,
-    /// The impressions of a job that does not say them, 0 to 100,000 pages.
+    /// The pages that one copy takes of a job that doesn't tell them, 0 to 100,000.
     pub estimate: u32,
 }
 

@@ -40,6 +40,7 @@ fn non_zero_of(matches: &ArgMatches<'_>, id: &str, limits: Limits) -> NonZeroU32
     NonZeroU32::new(number_of(matches, id, limits)).unwrap_or(NonZeroU32::MIN)
 }
 
+/// What `init` is asked for.
 pub fn init_of<'a>(matches: &ArgMatches<'a>) -> Init<'a>
     ensures { IsInit (rows_of (found_of matches.now)) result }
 {
@@ -51,6 +52,7 @@ pub fn init_of<'a>(matches: &ArgMatches<'a>) -> Init<'a>
     }
 }
 
+/// What `serve` is asked for.
 pub fn serve_of<'a>(matches: &ArgMatches<'a>) -> Serve<'a>
     ensures { IsServe (rows_of (found_of matches.now)) result }
 {
@@ -62,6 +64,7 @@ pub fn serve_of<'a>(matches: &ArgMatches<'a>) -> Serve<'a>
     }
 }
 
+/// What `import` is asked for.
 pub fn import_of<'a>(matches: &ArgMatches<'a>) -> Import<'a>
     ensures { IsImport (rows_of (found_of matches.now)) result }
 {
@@ -71,6 +74,7 @@ pub fn import_of<'a>(matches: &ArgMatches<'a>) -> Import<'a>
     }
 }
 
+/// What `statement` is asked for.
 pub fn statement_of<'a>(matches: &ArgMatches<'a>) -> Statement<'a>
     ensures { IsStatement (rows_of (found_of matches.now)) result }
 {

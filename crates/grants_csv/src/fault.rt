@@ -27,14 +27,7 @@ impl ImportCause {
     pub fn code(self) -> u8
         ensures { result ≡ code_of self }
     {
-        match self {
-            ImportCause::Header => 1,
-            ImportCause::Form => 2,
-            ImportCause::Range => 3,
-            ImportCause::Conflict => 4,
-            ImportCause::TooMany => 5,
-            ImportCause::Fault => 6,
-        }
+        self as u8
     }
 }
 
@@ -42,7 +35,9 @@ impl ImportCause {
 /// header, and 0 stands for the file.
 #[derive(Clone, Copy, Debug, PartialEq, Eq)]
 pub struct ImportFault {
+    /// Why.
     pub cause: ImportCause,
+    /// For which row, or 0.
     pub row: u32,
 }
 

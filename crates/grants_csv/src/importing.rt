@@ -16,10 +16,12 @@ use queue_core::book::{BookFault, QueueBook};
 use queue_types::event::{Event, GrantFault, GrantRow, Reply};
 use std::alloc::Global;
 
-/// What an account file added: rows that are new, and rows that equal one accepted before.
+/// What an account file added.
 #[derive(Clone, Copy, Debug, PartialEq, Eq)]
 pub struct Imported {
+    /// How many rows are new.
     pub added: u32,
+    /// How many rows equal one accepted before.
     pub repeats: u32,
 }
 

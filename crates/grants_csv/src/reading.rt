@@ -32,10 +32,7 @@ fn next_record(rdr: &mut Reader<&[u8]>, fields: &mut ByteRecord) -> Result<bool,
         → Gives rdr.new found (fields_of fields.new) (next_of default_config s [] [] left)) }
     ensures err { IfErr result (λ f. f ≡ fault) }
 {
-    match rdr.read_byte_record(fields) {
-        Ok(found) => Ok(found),
-        Err(_) => Err(ImportFault::FAULT),
-    }
+    rdr.read_byte_record(fields).map_err(|_| ImportFault::FAULT)
 }
 
 fn has_field(fields: &ByteRecord, i: usize, name: &[u8]) -> bool

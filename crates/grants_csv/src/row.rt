@@ -16,6 +16,9 @@ use queue_types::limits::{MOST_NAME_OCTETS, MOST_ROW_PAGES};
 use queue_types::text::{Text, utf8_text};
 use std::alloc::Global;
 
+/// The most octets of a batch's name.
+const MOST_BATCH_OCTETS: usize = 40;
+
 fn is_batch_byte(b: u8) -> bool
     ensures { result ≡ limits.is_batch_byte b }
 {
@@ -31,7 +34,7 @@ fn are_batch_bytes(bytes: &[u8]) -> bool
 fn is_batch(bytes: &[u8]) -> bool
     ensures { result ≡ file.is_batch bytes.now }
 {
-    1 <= bytes.len() && bytes.len() <= 40 && are_batch_bytes(bytes)
+    1 <= bytes.len() && bytes.len() <= MOST_BATCH_OCTETS && are_batch_bytes(bytes)
 }
 
 fn is_printable(bytes: &[u8]) -> bool

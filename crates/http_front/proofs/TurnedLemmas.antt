@@ -14,7 +14,7 @@ use Rattle.http_wire.specs.Responses.{interim_response, success_response, last_r
 use Rattle.http_head.specs.declared.end.Finish.{Finish}
 use Rattle.http_head.specs.declared.end.Finish.TheVariants.{Refused}
 use Rattle.http_head.specs.declared.end.Refusal.{Refusal}
-use Rattle.http_head.specs.declared.end.Refusal.TheVariants.{Unavailable}
+use Rattle.http_head.specs.declared.end.Refusal.TheVariants.{ServiceUnavailable}
 use Rattle.http_head.specs.declared.plan.Plan.{Plan}
 use Rattle.http_head.specs.declared.framing.Framing.{Framing}
 use Rattle.http_front.specs.Turns.{Turn, IsTurn, acts_on, answer_bytes, last_request}
@@ -65,7 +65,7 @@ pub end_in_body : (w : World) (plan : Plan) (r : Option (List ℕ)) (end : Finis
 end_in_body w plan None end h = tt
 end_in_body w plan (Some bytes) end h = plan_in_body end h
 
-pub end_unavailable : (w : World) (plan : Plan) (r : Option (List ℕ)) → IfSome r (λ bytes. IsPlanEnd w plan bytes (Refused Unavailable))
+pub end_unavailable : (w : World) (plan : Plan) (r : Option (List ℕ)) → IfSome r (λ bytes. IsPlanEnd w plan bytes (Refused ServiceUnavailable))
 end_unavailable w plan None = tt
 end_unavailable w plan (Some bytes) = plan_unavailable
 
@@ -204,7 +204,7 @@ pub end_checked : (w : World) (r : Option (List ℕ)) (z : Refusal) → IfSome r
 end_checked w None z h = tt
 end_checked w (Some b) z h = checked h.0 h.1 z h.2 h.3
 
-pub end_unserved : (w : World) (r : Option (List ℕ)) → IfSome r (λ bytes. IsEnd w bytes (Refused Unavailable) (last_response (Refused Unavailable)))
+pub end_unserved : (w : World) (r : Option (List ℕ)) → IfSome r (λ bytes. IsEnd w bytes (Refused ServiceUnavailable) (last_response (Refused ServiceUnavailable)))
 end_unserved w None = tt
 end_unserved w (Some b) = unavailable
 

@@ -10,7 +10,7 @@ use Rattle.http_wire.specs.Responses.{interim_response, refusal_response, last_r
 use Rattle.http_head.specs.declared.end.Finish.{Finish}
 use Rattle.http_head.specs.declared.end.Finish.TheVariants.{Refused}
 use Rattle.http_head.specs.declared.end.Refusal.{Refusal}
-use Rattle.http_head.specs.declared.end.Refusal.TheVariants.{BadRequest, NotFound, Unavailable}
+use Rattle.http_head.specs.declared.end.Refusal.TheVariants.{BadRequest, NotFound, ServiceUnavailable}
 use Rattle.http_head.specs.declared.target.Target.{Target}
 use Rattle.http_head.specs.declared.target.Target.TheVariants.{Ipp, Report, Queue, Document as DocumentTarget}
 use Rattle.http_front.specs.Turns.{Turn, IsTurn, document_named, acts, answer_bytes, request_bytes}
@@ -37,9 +37,9 @@ pub data IsEnd (w : World) (bytes : List ℕ) : Finish → List ℕ → Type 0 w
       → IsBody (plan_of (head_of h)).framing raw content → Declines w (plan_of (head_of h)).target content r
       → IsEnd w bytes (Refused r) (interim_response (plan_of (head_of h)) ++ refusal_response r)
   -- a fault of the server's own, before the head was taken or after it
-  unavailable : IsEnd w bytes (Refused Unavailable) (refusal_response Unavailable)
+  unavailable : IsEnd w bytes (Refused ServiceUnavailable) (refusal_response ServiceUnavailable)
   unavailable_later : (h : RequestHead) (rest : List ℕ) → BeginsHead bytes h rest → refusal_of (head_of h) ≡ None
-      → IsEnd w bytes (Refused Unavailable) (interim_response (plan_of (head_of h)) ++ refusal_response Unavailable)
+      → IsEnd w bytes (Refused ServiceUnavailable) (interim_response (plan_of (head_of h)) ++ refusal_response ServiceUnavailable)
 
 -- what may have been begun at these bytes, as request k, when a read, a write or the book failed: what was to be written, the world after it,
 -- and whether a request has acted and was answered by a fault

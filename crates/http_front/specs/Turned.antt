@@ -8,7 +8,7 @@ use Rattle.http_wire.specs.Responses.{interim_response, success_response, last_r
 use Rattle.http_head.specs.declared.end.Finish.{Finish}
 use Rattle.http_head.specs.declared.end.Finish.TheVariants.{Refused}
 use Rattle.http_head.specs.declared.end.Refusal.{Refusal}
-use Rattle.http_head.specs.declared.end.Refusal.TheVariants.{Unavailable}
+use Rattle.http_head.specs.declared.end.Refusal.TheVariants.{ServiceUnavailable}
 use Rattle.http_head.specs.declared.plan.Plan.{Plan}
 use Rattle.http_head.specs.declared.target.Target.{Target}
 use Rattle.http_front.specs.Turns.{Turn, IsTurn, IsAnswered, acts, acts_on, closes_at, last_request, answer_bytes, request_bytes}
@@ -30,7 +30,7 @@ pub record IsReply (now : ℕ) (w : World) (target : Target) (content : List ℕ
 
 -- it has no success, or can't be served
 abbrev pub IsDeclined : World → Target → List ℕ → Refusal → Type 0
-IsDeclined w target content r = Declines w target content r ⊎ (r ≡ Unavailable)
+IsDeclined w target content r = Declines w target content r ⊎ (r ≡ ServiceUnavailable)
 
 -- it was answered, or is to be declined, or writing its answer was broken off
 abbrev pub IsReplied : ℕ → World → World → Target → List ℕ → Bool → Option (List ℕ) → Option (List ℕ) → Result Replied Stopped → Type 0
@@ -54,7 +54,7 @@ pub data IsPlanEnd (w : World) (plan : Plan) (bytes : List ℕ) : Finish → Typ
   in_body : (end : Finish) → EndsInBody plan.framing bytes end → IsPlanEnd w plan bytes end
   declined : (raw content rest : List ℕ) (r : Refusal) → bytes ≡ raw ++ rest → IsBody plan.framing raw content → Declines w plan.target content r
       → IsPlanEnd w plan bytes (Refused r)
-  unavailable : IsPlanEnd w plan bytes (Refused Unavailable)
+  unavailable : IsPlanEnd w plan bytes (Refused ServiceUnavailable)
 
 -- a request behind its head was answered
 pub record IsPlanTurn (now k : ℕ) (w u : World) (plan : Plan) (acted fault closes : Bool) (raw bytes : List ℕ) : Type 0 where

@@ -6,6 +6,7 @@ use std::alloc::Global;
 /// What each request of a connection is answered with, beside its own bytes and the book.
 #[derive(Clone, Copy)]
 pub struct Context<'a> {
+    /// Where memory is taken.
     pub alloc: Global,
     /// The settings of the book's queue.
     pub settings: &'a Settings,

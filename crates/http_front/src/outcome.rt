@@ -23,11 +23,14 @@ pub enum ServeCause {
     Book,
 }
 
-/// A connection that was stopped. `acted` and `faults` are as in [`Served`], the request whose answer could not be written included.
+/// A connection that was stopped.
 #[derive(Clone, Copy, Debug, PartialEq, Eq)]
 pub struct ServeFault {
+    /// As in [`Served`], the request whose answer could not be written included.
     pub acted: u32,
+    /// As in [`Served`], the request whose answer could not be written included.
     pub faults: u32,
+    /// What stopped it.
     pub cause: ServeCause,
 }
 
@@ -38,6 +41,7 @@ pub struct Stopped {
     pub acted: bool,
     /// It was answered by a fault.
     pub is_fault: bool,
+    /// What stopped it.
     pub cause: ServeCause,
 }
 

@@ -93,10 +93,10 @@ fn reply_queue<W: Write, B: QueueBook>(
         → IsReplied now w w Queue content closes (W.contents writer.old) (W.contents writer.new) result }
 {
     let Ok(jobs) = book.pending() else {
-        return Ok(Replied::Declined(Refusal::Unavailable));
+        return Ok(Replied::Declined(Refusal::ServiceUnavailable));
     };
     let Ok(text) = queue_text(alloc, jobs.as_slice()) else {
-        return Ok(Replied::Declined(Refusal::Unavailable));
+        return Ok(Replied::Declined(Refusal::ServiceUnavailable));
     };
     match send_success(writer, "text/plain", text.as_bytes(), closes) {
         Ok(()) => Ok(Replied::Answered(false)),
@@ -142,7 +142,7 @@ fn reply_document<W: Write, B: QueueBook>(
     let head = match book.document_head(job, number) {
         Ok(Some(head)) => head,
         Ok(None) => return Ok(Replied::Declined(Refusal::NotFound)),
-        Err(_) => return Ok(Replied::Declined(Refusal::Unavailable)),
+        Err(_) => return Ok(Replied::Declined(Refusal::ServiceUnavailable)),
     };
     match send_head(writer, head.format.name(), head.octets, closes) {
         Ok(()) => {}

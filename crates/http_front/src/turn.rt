@@ -15,6 +15,7 @@ use crate::reply::{reply, stopped_by};
 use http_head::end::{Finish, Refusal, WriteFault};
 use http_head::fault::HeadFault;
 use http_head::input::Input;
+use http_head::limits::MOST_REQUESTS;
 use http_head::plan::Plan;
 use http_head::receive::take_head;
 use http_head::routes::Route;
@@ -26,10 +27,7 @@ use matchit::Router;
 use queue_core::book::QueueBook;
 use std::io::{Read, Write};
 
-/// The most requests that a connection may have.
-const MOST_REQUESTS: u32 = 32;
-
-/// The number, from 0, of the last of them.
+/// The number, from 0, of the last request that a connection may have.
 const LAST_REQUEST: u32 = MOST_REQUESTS - 1;
 
 /// Writes what an end has for a response.
@@ -91,7 +89,10 @@ fn take_planned<R: Read, W: Write, B: QueueBook>(
         Ok(content) => content,
         Err(BodyFault::Ended(end)) => return close_with(writer, end),
         Err(BodyFault::Read) => return Err(stopped_by(ServeCause::Read)),
-        Err(BodyFault::Memory) => return close_with(writer, Finish::Refused(Refusal::Unavailable)),
+        Err(BodyFault::Memory) => return close_with(
+            writer,
+            Finish::Refused(Refusal::ServiceUnavailable),
+        ),
     };
     let closes = closes_after(plan, k);
     match reply(
@@ -134,7 +135,7 @@ pub fn turn<R: Read, W: Write, B: QueueBook>(
     ensures last { ClosesLast k result }
 {
     let Some(router) = router else {
-        return close_with(writer, Finish::Refused(Refusal::Unavailable));
+        return close_with(writer, Finish::Refused(Refusal::ServiceUnavailable));
     };
     match take_head(router, input) {
         Ok(plan) => take_planned(context, input, writer, book, plan, k),

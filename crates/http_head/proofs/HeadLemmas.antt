@@ -15,7 +15,7 @@ use Rattle.http_head.specs.Head.{BeginsHead, HasNoHead, EndsWithoutHead}
 use Rattle.http_head.specs.Limits.{head_limit, field_limit}
 use Rattle.http_head.specs.declared.end.Finish.TheVariants.{Refused}
 use Rattle.http_head.specs.declared.end.Refusal.{Refusal}
-use Rattle.http_head.specs.declared.end.Refusal.TheVariants.{HeadTooLarge}
+use Rattle.http_head.specs.declared.end.Refusal.TheVariants.{HeaderFieldsTooLarge}
 
 -- a front that is no longer than another front begins it
 pub front_of : (a b c d : List ℕ) → a ++ b ≡ c ++ d → length c ≤ length a → a ≡ c ++ drop (length c) a
@@ -42,19 +42,19 @@ length_front : (come more : List ℕ) → head_limit ≤ length come → head_li
 length_front come more h = omega (arith, h, length-append come more)
 
 pub refused_full : (bytes r : Option (List ℕ)) (come : List ℕ) → Keeps bytes (left come r) → head_limit ≤ length come → HasNoRequest come
-    → IfSome bytes (λ xs. EndsWithoutHead xs (Refused HeadTooLarge))
+    → IfSome bytes (λ xs. EndsWithoutHead xs (Refused HeaderFieldsTooLarge))
 refused_full None r come p full none = tt
 refused_full (Some x) None come p full none = absurd p
 refused_full (Some x) (Some y) come p full none =
-    subst (λ xs. EndsWithoutHead xs (Refused HeadTooLarge)) p
+    subst (λ xs. EndsWithoutHead xs (Refused HeaderFieldsTooLarge)) p
     (inr (refl, no_head_in_full come y full none, inl (length_front come y full)))
 
 pub refused_many : (bytes r : Option (List ℕ)) (come : List ℕ) → Keeps bytes (left come r) → RequestOverflows field_limit come → RequestExceeds field_limit come
-    → IfSome bytes (λ xs. EndsWithoutHead xs (Refused HeadTooLarge))
+    → IfSome bytes (λ xs. EndsWithoutHead xs (Refused HeaderFieldsTooLarge))
 refused_many None r come p over many = tt
 refused_many (Some x) None come p over many = absurd p
 refused_many (Some x) (Some y) come p over many =
-    subst (λ xs. EndsWithoutHead xs (Refused HeadTooLarge)) p
+    subst (λ xs. EndsWithoutHead xs (Refused HeaderFieldsTooLarge)) p
     (inr (refl, no_head_in_many come y over, inr (exceeds_more come y many)))
 
 pub head_consumed : (bytes r : Option (List ℕ)) (come front rest : List ℕ) → Keeps bytes (left come r) → come ≡ front ++ rest → Consumes bytes (left rest r) front

@@ -12,7 +12,7 @@ use Rattle.http_head.specs.declared.target.Target.{Target}
 use Rattle.http_head.specs.declared.target.Target.TheVariants.{Queue}
 use Rattle.http_head.specs.declared.framing.Framing.{Framing}
 use Rattle.http_head.specs.declared.end.Refusal.{Refusal}
-use Rattle.http_head.specs.declared.end.Refusal.TheVariants.{BadRequest, NotFound, PostAllowed, GetAllowed, LengthRequired, TooLarge, UnsupportedType}
+use Rattle.http_head.specs.declared.end.Refusal.TheVariants.{BadRequest, NotFound, PostAllowed, GetAllowed, LengthRequired, ContentTooLarge, UnsupportedMediaType}
 
 -- what a head says: its request line (RFC 9112, section 3) and its field lines (section 5)
 pub record Head : Type 0 where
@@ -80,8 +80,8 @@ rows t misframed framing method typed =
     ∷ (not (bytes_eq method (method_of t)), (if is_posted t then PostAllowed else GetAllowed))
     ∷ (not (is_posted t) && (is_chunked framing || nat_lt 0 (size_of framing)), BadRequest)
     ∷ (is_posted t && is_untold framing, LengthRequired)
-    ∷ (nat_lt content_limit (size_of framing), TooLarge)
-    ∷ (is_posted t && not typed, UnsupportedType)
+    ∷ (nat_lt content_limit (size_of framing), ContentTooLarge)
+    ∷ (is_posted t && not typed, UnsupportedMediaType)
     ∷ []
 
 abbrev pub checked : Head → Option Target → Option Refusal

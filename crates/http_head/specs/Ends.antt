@@ -5,7 +5,7 @@ use Rattle.http_head.specs.declared.end.End.TheVariants.{Closed, Cut, Done, Refu
 use Rattle.http_head.specs.declared.end.Finish.{Finish}
 use Rattle.http_head.specs.declared.end.Finish.TheVariants.{Closed as FinishClosed, Cut as FinishCut, Done as FinishDone, Refused as FinishRefused}
 use Rattle.http_head.specs.declared.end.Refusal.{Refusal}
-use Rattle.http_head.specs.declared.end.Refusal.TheVariants.{BadRequest, NotFound, PostAllowed, GetAllowed, LengthRequired, TooLarge, UnsupportedType, HeadTooLarge, Unavailable}
+use Rattle.http_head.specs.declared.end.Refusal.TheVariants.{BadRequest, NotFound, PostAllowed, GetAllowed, LengthRequired, ContentTooLarge, UnsupportedMediaType, HeaderFieldsTooLarge, ServiceUnavailable}
 
 -- the status code
 abbrev pub code_of : Refusal → ℕ
@@ -14,10 +14,10 @@ code_of NotFound = 404
 code_of PostAllowed = 405
 code_of GetAllowed = 405
 code_of LengthRequired = 411
-code_of TooLarge = 413
-code_of UnsupportedType = 415
-code_of HeadTooLarge = 431
-code_of Unavailable = 503
+code_of ContentTooLarge = 413
+code_of UnsupportedMediaType = 415
+code_of HeaderFieldsTooLarge = 431
+code_of ServiceUnavailable = 503
 
 -- the end with the status code alone
 abbrev pub end_of : Finish → End
@@ -28,5 +28,5 @@ end_of (FinishRefused r) = Refused (code_of r)
 
 -- it is a fault of the server's own
 abbrev pub is_unavailable : Finish → Bool
-is_unavailable (FinishRefused Unavailable) = true
+is_unavailable (FinishRefused ServiceUnavailable) = true
 is_unavailable _ = false

@@ -5,7 +5,7 @@ use Rattle.httparse.specs.Spans.{RequestExceeds}
 use Rattle.http_head.specs.Limits.{head_limit, field_limit}
 use Rattle.http_head.specs.declared.end.Finish.{Finish}
 use Rattle.http_head.specs.declared.end.Finish.TheVariants.{Closed, Cut, Done, Refused}
-use Rattle.http_head.specs.declared.end.Refusal.TheVariants.{BadRequest, HeadTooLarge}
+use Rattle.http_head.specs.declared.end.Refusal.TheVariants.{BadRequest, HeaderFieldsTooLarge}
 
 -- the bytes are this head, which is within the limits, and then the rest
 pub record BeginsHead (bytes : List ℕ) (h : RequestHead) (rest : List ℕ) : Type 0 where
@@ -27,4 +27,4 @@ EndsWithoutHead bytes Closed = bytes ≡ []
 EndsWithoutHead bytes Cut = (0 < length bytes) × (length bytes < head_limit) × HasNoHead bytes
 EndsWithoutHead bytes Done = ⊥
 EndsWithoutHead bytes (Refused r) =
-    ((r ≡ BadRequest) × NeverHasRequest bytes) ⊎ ((r ≡ HeadTooLarge) × HasNoHead bytes × IsTooLarge bytes)
+    ((r ≡ BadRequest) × NeverHasRequest bytes) ⊎ ((r ≡ HeaderFieldsTooLarge) × HasNoHead bytes × IsTooLarge bytes)

@@ -4,11 +4,12 @@ ghost use Rattle.std.specs.Io.KnownBytes.{Consumes, Keeps, IsAtEnd};
 ghost use Rattle.http_head.specs.Left.{left};
 
 use crate::end::ReadFault;
+use crate::limits::HEAD_LIMIT;
 use std::io::Read;
 use std::marker::Model;
 
 /// How many bytes it holds at most: as many as a head may have.
-pub const CAPACITY: usize = 16384;
+const CAPACITY: usize = HEAD_LIMIT;
 
 /// Bytes that have come. A contract sees them as a list.
 #[derive(Drop)]
@@ -90,8 +91,5 @@ fn read_at<R: Read>(reader: &mut R, bytes: &mut [u8], at: usize) -> Result<usize
     ensures end { IfOk result (λ n. n ≡ 0 → at < length bytes.old → IsAtEnd (R.remaining reader.new)) }
     ensures err { OnErr result (Keeps (R.remaining reader.old) (R.remaining reader.new)) }
 {
-    match reader.read(&mut bytes[at..]) {
-        Ok(n) => Ok(n),
-        Err(_) => Err(ReadFault),
-    }
+    reader.read(&mut bytes[at..]).map_err(|_| ReadFault)
 }

@@ -9,11 +9,9 @@ ghost use Rattle.http_head.specs.Planned.{fields_at};
 use crate::end::Refusal;
 use crate::fields::{before, has_member, same_word, text_at, trimmed, values};
 use crate::framing::{Framing, is_there};
+use crate::limits::CONTENT_LIMIT;
 use crate::target::Target;
 use httparse::spans::{HeaderSpan, Span};
-
-/// The most bytes that the content of a request may have.
-pub const CONTENT_LIMIT: u32 = 16_777_216;
 
 fn is_type(asked: &[u8], value: &[u8]) -> bool
     ensures { result ≡ spec.is_type asked.now value.now }
@@ -36,13 +34,14 @@ fn are_identity(come: &[u8], codings: &[Span]) -> bool
 }
 
 /// The content has the media type that is asked, by each Content-Type, and no content coding, by each Content-Encoding.
-pub fn is_typed(asked: &[u8], come: &[u8], fields: &[HeaderSpan]) -> bool
+pub(crate) fn is_typed(asked: &[u8], come: &[u8], fields: &[HeaderSpan]) -> bool
     requires { length fields.now ≤ 64 }
     ensures { result ≡ spec.are_typed asked.now (words.values (codes "content-type") (fields_at come.now fields.now))
         (words.values (codes "content-encoding") (fields_at come.now fields.now)) }
 {
     let types = values(come, fields, b"content-type");
     let codings = values(come, fields, b"content-encoding");
+    // As in `is_misframed`, no branches.
     is_there(types.as_slice())
         & are_types(come, types.as_slice(), asked)
         & are_identity(come, codings.as_slice())
@@ -55,7 +54,7 @@ fn any_has(come: &[u8], values: &[Span], word: &[u8]) -> bool
 }
 
 /// A field line of that name has the word among the members of its value.
-pub fn asks_for(come: &[u8], fields: &[HeaderSpan], name: &[u8], word: &[u8]) -> bool
+pub(crate) fn asks_for(come: &[u8], fields: &[HeaderSpan], name: &[u8], word: &[u8]) -> bool
     requires { length fields.now ≤ 64 }
     ensures { result ≡ list_any (words.has_member word.now) (words.values name.now (fields_at come.now fields.now)) }
 {
@@ -76,7 +75,7 @@ fn first_that_applies(rows: &[(bool, Refusal)]) -> Option<Refusal>
 }
 
 /// The first check that applies to a request with a route.
-pub fn routed_refusal(
+pub(crate) fn routed_refusal(
     target: Target,
     misframed: bool,
     framing: Framing,
@@ -100,7 +99,7 @@ pub fn routed_refusal(
             Refusal::BadRequest,
         ),
         (posted && framing.is_untold(), Refusal::LengthRequired),
-        (size > CONTENT_LIMIT, Refusal::TooLarge),
-        (posted && !typed, Refusal::UnsupportedType),
+        (size > CONTENT_LIMIT, Refusal::ContentTooLarge),
+        (posted && !typed, Refusal::UnsupportedMediaType),
     ])
 }

@@ -9,7 +9,8 @@ pub enum End {
     Closed,
     /// The input ended inside a request, which is not answered.
     Cut,
-    /// The last request that a connection may have was answered.
+    /// The connection's last request was answered: the last that it may have, one by HTTP/1.0, or one with `Connection: close`
+    /// (RFC 9112, sections 9.3 and 9.6).
     Done,
     /// A request was refused with this status code.
     Refused(u16),
@@ -29,21 +30,25 @@ pub enum Refusal {
     /// 411
     LengthRequired,
     /// 413
-    TooLarge,
+    ContentTooLarge,
     /// 415
-    UnsupportedType,
+    UnsupportedMediaType,
     /// 431
-    HeadTooLarge,
+    HeaderFieldsTooLarge,
     /// 503: a fault of the server's own
-    Unavailable,
+    ServiceUnavailable,
 }
 
 /// How a connection ends, with the refusal itself.
 #[derive(Clone, Copy)]
 pub enum Finish {
+    /// As [`End::Closed`].
     Closed,
+    /// As [`End::Cut`].
     Cut,
+    /// As [`End::Done`].
     Done,
+    /// A request was refused so.
     Refused(Refusal),
 }
 
@@ -57,10 +62,10 @@ impl Refusal {
             Refusal::NotFound => 404,
             Refusal::PostAllowed | Refusal::GetAllowed => 405,
             Refusal::LengthRequired => 411,
-            Refusal::TooLarge => 413,
-            Refusal::UnsupportedType => 415,
-            Refusal::HeadTooLarge => 431,
-            Refusal::Unavailable => 503,
+            Refusal::ContentTooLarge => 413,
+            Refusal::UnsupportedMediaType => 415,
+            Refusal::HeaderFieldsTooLarge => 431,
+            Refusal::ServiceUnavailable => 503,
         }
     }
 }
@@ -82,7 +87,7 @@ impl Finish {
     pub fn is_unavailable(self) -> bool
         ensures { result ≡ spec.is_unavailable self }
     {
-        matches!(self, Finish::Refused(Refusal::Unavailable))
+        matches!(self, Finish::Refused(Refusal::ServiceUnavailable))
     }
 }
 

@@ -8,6 +8,7 @@ ghost use Rattle.std.specs.Str.Parse.{digits_value};
 ghost use Rattle.httparse.specs.Spans.{span_bytes, header_bytes};
 ghost use Rattle.http_head.specs.Fields as spec;
 
+use crate::limits::{CONTENT_LIMIT, MOST_FIELDS};
 use arrayvec::ArrayVec;
 use httparse::spans::{HeaderSpan, Span};
 use std::str;
@@ -35,7 +36,7 @@ fn is_named(come: &[u8], header: &HeaderSpan, name: &[u8]) -> bool
 }
 
 /// The values of all field lines of that name.
-pub fn values(come: &[u8], headers: &[HeaderSpan], name: &[u8]) -> ArrayVec<Span, 64>
+pub fn values(come: &[u8], headers: &[HeaderSpan], name: &[u8]) -> ArrayVec<Span, MOST_FIELDS>
     requires { length headers.now ≤ 64 }
     ensures { map (span_bytes come.now) result.items ≡ spec.values name.now (map (header_bytes come.now) headers.now) }
 {
@@ -147,7 +148,7 @@ pub fn capped_number(text: &[u8]) -> u32
 {
     let mut n: u32 = 0;
     for b in text {
-        n = (n * 10 + u32::from(b.saturating_sub(b'0'))).min(16_777_217);
+        n = (n * 10 + u32::from(b.saturating_sub(b'0'))).min(CONTENT_LIMIT + 1);
     }
     n
 }

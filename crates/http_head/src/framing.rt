@@ -46,7 +46,7 @@ impl Framing {
 }
 
 /// There is a value.
-pub fn is_there(values: &[Span]) -> bool
+pub(crate) fn is_there(values: &[Span]) -> bool
     ensures { result ≡ spec.is_there values.now }
 {
     !values.is_empty()
@@ -89,7 +89,7 @@ fn all_same(come: &[u8], lengths: &[Span]) -> bool
 }
 
 /// Both are there, or the transfer codings are not chunked alone, or the lengths are not one number.
-pub fn is_misframed(come: &[u8], codings: &[Span], lengths: &[Span]) -> bool
+pub(crate) fn is_misframed(come: &[u8], codings: &[Span], lengths: &[Span]) -> bool
     ensures { result ≡ spec.misframed (map (span_bytes come.now) codings.now) (map (span_bytes come.now) lengths.now) }
 {
     let coded = is_there(codings);
@@ -97,11 +97,12 @@ pub fn is_misframed(come: &[u8], codings: &[Span], lengths: &[Span]) -> bool
     let chunked = is_chunked_alone(come, codings);
     let digits = are_digits(come, lengths);
     let same = all_same(come, lengths);
+    // `&&` and `||` would branch: `&` and `|` leave one goal in place of one for each path.
     (coded & told) | (coded & !chunked) | (told & !(digits & same))
 }
 
 /// The framing, where it isn't misframed. A length over the limit is told as the limit and one more.
-pub fn framing_told(come: &[u8], codings: &[Span], lengths: &[Span]) -> Framing
+pub(crate) fn framing_told(come: &[u8], codings: &[Span], lengths: &[Span]) -> Framing
     ensures { spec.misframed (map (span_bytes come.now) codings.now) (map (span_bytes come.now) lengths.now) ≡ false
         → result ≡ spec.capped (spec.framing (map (span_bytes come.now) codings.now) (map (span_bytes come.now) lengths.now)) }
 {

@@ -6,10 +6,10 @@ ghost use Rattle.http_head.specs.Fault.{IsHeadFault};
 ghost use Rattle.http_head.specs.Found.{IsHeadAt};
 ghost use Rattle.httparse.specs.Grammar.{RequestHead};
 
-use crate::buffer::CAPACITY;
 use crate::end::{Finish, Refusal};
 use crate::fault::HeadFault;
 use crate::input::Input;
+use crate::limits::{HEAD_LIMIT, MOST_FIELDS};
 use httparse::spans::{HeaderSpan, RequestSpans, parse_request};
 use httparse::{Error, Status};
 use std::io::Read;
@@ -17,7 +17,7 @@ use std::io::Read;
 /// Reads until a whole head stands at the front of the buffer, where it is left.
 pub fn find_head<R: Read>(
     input: &mut Input<R>,
-    headers: &mut [HeaderSpan; 64],
+    headers: &mut [HeaderSpan; MOST_FIELDS],
 ) -> Result<RequestSpans, HeadFault>
     ensures kept { Keeps (left input.old.buffer (R.remaining input.old.reader)) (left input.new.buffer (R.remaining input.new.reader)) }
     ensures found { IfOk result (λ spans. (h : RequestHead) × IsHeadAt input.new.buffer headers.new spans h) }
@@ -28,12 +28,12 @@ pub fn find_head<R: Read>(
             Ok(Status::Complete(spans)) => return Ok(spans),
             Ok(Status::Partial) => {}
             Err(Error::TooManyHeaders) => {
-                return Err(HeadFault::Ended(Finish::Refused(Refusal::HeadTooLarge)));
+                return Err(HeadFault::Ended(Finish::Refused(Refusal::HeaderFieldsTooLarge)));
             }
             Err(_) => return Err(HeadFault::Ended(Finish::Refused(Refusal::BadRequest))),
         }
-        if input.bytes().len() == CAPACITY {
-            return Err(HeadFault::Ended(Finish::Refused(Refusal::HeadTooLarge)));
+        if input.bytes().len() == HEAD_LIMIT {
+            return Err(HeadFault::Ended(Finish::Refused(Refusal::HeaderFieldsTooLarge)));
         }
         if input.fill()? == 0 {
             let end = if input.bytes().is_empty() {

@@ -5,17 +5,20 @@ ghost use Rattle.http_head.specs.Left.{left};
 
 use crate::buffer::Buffer;
 use crate::end::ReadFault;
+use crate::limits::{HEAD_LIMIT, MOST_REQUESTS, RAW_LIMIT};
 use std::io::Read;
 
-/// The most reads of a connection: one more than 32 requests have bytes, each at most 16,384 of a head and 67,108,864 of a
-/// body. A read takes at least one byte or is the last, and none is made where a request has as many bytes as it may have,
-/// so the count never ends a connection.
-pub const MOST_READS: u32 = 2_148_007_937;
+/// The most reads of a connection, 2,148,007,937: one more than its requests have bytes, those of a head and of a body in each.
+/// A read takes at least one byte or is the last, and none is made where a request has as many bytes as it may have, so the
+/// count never ends a connection.
+pub const MOST_READS: u32 = MOST_REQUESTS * (HEAD_LIMIT + RAW_LIMIT) as u32 + 1;
 
 /// The input of a connection: the bytes that have come and are not taken yet, and the reader that more come from.
 #[derive(Drop)]
 pub struct Input<R> {
+    /// What has come and is not taken yet.
     pub buffer: Buffer,
+    /// What gives the bytes that come next.
     pub reader: R,
     /// How many reads may still be made.
     pub reads_left: u32,

@@ -8,13 +8,14 @@
 #![tactic(auto)]
 
 pub mod buffer;
-pub mod checks;
+mod checks;
 pub mod end;
 pub mod fault;
 mod fields;
 pub mod framing;
 mod head;
 pub mod input;
+pub mod limits;
 pub mod plan;
 pub mod receive;
 pub mod routes;

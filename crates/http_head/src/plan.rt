@@ -8,6 +8,7 @@ use crate::checks::{asks_for, is_typed, routed_refusal};
 use crate::end::Refusal;
 use crate::fields::{text_at, values};
 use crate::framing::{Framing, framing_told, is_misframed};
+use crate::limits::MOST_FIELDS;
 use crate::routes::Route;
 use crate::target::{Target, path_of, routed};
 use httparse::spans::{HeaderSpan, RequestSpans};
@@ -26,18 +27,18 @@ pub struct Plan {
     pub closes: bool,
 }
 
-fn first_of(headers: &[HeaderSpan; 64], n: usize) -> &[HeaderSpan]
+fn first_of(headers: &[HeaderSpan; MOST_FIELDS], n: usize) -> &[HeaderSpan]
     ensures value { result.now ≡ take n headers.now }
     ensures few { length result.now ≤ 64 }
 {
-    &headers[..n.min(64)]
+    &headers[..n.min(MOST_FIELDS)]
 }
 
 /// The plan of what the spans cover, or the first check that applies to it.
 fn plan_said(
     router: &Router<Route>,
     come: &[u8],
-    headers: &[HeaderSpan; 64],
+    headers: &[HeaderSpan; MOST_FIELDS],
     spans: RequestSpans,
 ) -> Result<Plan, Refusal>
     requires { router.now ≡ routes }
@@ -65,6 +66,7 @@ fn plan_said(
     ) {
         return Err(refusal);
     }
+    // As in `is_misframed`, no branches.
     let expects = (spans.version == 1) & asks_for(come, fields, b"expect", b"100-continue");
     let closes = (spans.version == 0) | asks_for(come, fields, b"connection", b"close");
     Ok(Plan {
@@ -76,10 +78,10 @@ fn plan_said(
 }
 
 /// The plan of the head at the front of what has come, or the first check that applies to it.
-pub fn plan_at(
+pub(crate) fn plan_at(
     router: &Router<Route>,
     come: &[u8],
-    headers: &[HeaderSpan; 64],
+    headers: &[HeaderSpan; MOST_FIELDS],
     spans: RequestSpans,
 ) -> Result<Plan, Refusal>
     requires { router.now ≡ routes }

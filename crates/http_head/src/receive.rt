@@ -9,6 +9,7 @@ ghost use Rattle.http_head.specs.Routes.{routes};
 use crate::fault::HeadFault;
 use crate::head::find_head;
 use crate::input::Input;
+use crate::limits::MOST_FIELDS;
 use crate::plan::{Plan, plan_at};
 use crate::routes::Route;
 use httparse::spans::EMPTY_HEADER_SPAN;
@@ -22,7 +23,7 @@ pub fn take_head<R: Read>(router: &Router<Route>, input: &mut Input<R>) -> Resul
     ensures fits { IfOk result (λ plan. size_of plan.framing ≤ 16777216) }
     ensures failed { IfErr result (IsHeadFault (left input.old.buffer (R.remaining input.old.reader))) }
 {
-    let mut headers = [EMPTY_HEADER_SPAN; 64];
+    let mut headers = [EMPTY_HEADER_SPAN; MOST_FIELDS];
     let spans = find_head(input, &mut headers)?;
     let plan = plan_at(router, input.bytes(), &headers, spans)?;
     input.take(spans.len);

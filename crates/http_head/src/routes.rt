@@ -8,9 +8,13 @@ use std::alloc::Global;
 /// What answers a route.
 #[derive(Clone, Copy)]
 pub enum Route {
+    /// An IPP message.
     Print,
+    /// A line of the device.
     Report,
+    /// The device's queue.
     Queue,
+    /// A document of a job.
     Document,
 }
 
@@ -43,7 +47,7 @@ pub fn router(alloc: Global) -> Result<Router<Route>, InsertError>
 }
 
 /// What answers a path.
-pub fn route_of(router: &Router<Route>, path: &str) -> Option<Route>
+pub(crate) fn route_of(router: &Router<Route>, path: &str) -> Option<Route>
     requires { router.now ≡ spec.routes }
     ensures { result ≡ spec.route_of path.now }
 {

@@ -8,6 +8,9 @@ use crate::fields::{after, before, number_in, utf8_text};
 use crate::routes::{Route, route_of};
 use matchit::Router;
 
+/// What stands before the numbers in the path of a document.
+const DOCUMENT_PREFIX: &[u8] = b"/device/document/";
+
 /// What a request is about.
 #[derive(Clone, Copy)]
 pub enum Target {
@@ -76,7 +79,7 @@ fn origin_form(target: &[u8]) -> &[u8]
 }
 
 /// The path of a request target: without a query, and without an absolute form's scheme and authority.
-pub fn path_of(target: &[u8]) -> &[u8]
+pub(crate) fn path_of(target: &[u8]) -> &[u8]
     ensures { result.now ≡ spec.path_of target.now }
 {
     origin_form(before(b'?', target))
@@ -85,7 +88,7 @@ pub fn path_of(target: &[u8]) -> &[u8]
 fn behind_document(path: &[u8]) -> &[u8]
     ensures { result.now ≡ drop 17 path.now }
 {
-    path.get(17..).unwrap_or(&[])
+    path.get(DOCUMENT_PREFIX.len()..).unwrap_or(&[])
 }
 
 fn numbers_in(text: &[u8]) -> Option<(u32, u32)>
@@ -108,7 +111,7 @@ fn target_of(path: &[u8], route: Route) -> Target
 }
 
 /// What a path names, where it has a route.
-pub fn routed(router: &Router<Route>, path: &[u8]) -> Option<Target>
+pub(crate) fn routed(router: &Router<Route>, path: &[u8]) -> Option<Target>
     requires { router.now ≡ routes }
     ensures { result ≡ spec.routed path.now }
 {

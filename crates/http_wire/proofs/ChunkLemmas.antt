@@ -14,7 +14,7 @@ use Rattle.http_wire.specs.ChunkParts.{TakesLine, TakesChunk, TakesChunks, Takes
 use Rattle.http_wire.specs.Bodies.{EndsInLength, TakesMore}
 use Rattle.http_head.specs.declared.end.Finish.{Finish}
 use Rattle.http_head.specs.declared.end.Finish.TheVariants.{Closed, Cut, Done, Refused}
-use Rattle.http_head.specs.declared.end.Refusal.TheVariants.{TooLarge}
+use Rattle.http_head.specs.declared.end.Refusal.TheVariants.{ContentTooLarge}
 
 -- ---- chunks that were taken
 
@@ -110,13 +110,13 @@ begins : (x z : List ℕ) (chunks : List Chunk) (l : ChunkLine) → AreChunks ch
 begins x z chunks l are short taken = record { are = are; line = short; bytes_are = taken }
 
 large_at : (a c : Option (List ℕ)) (chunks : List Chunk) (l : ChunkLine) → AreChunks chunks → IsShortLine l → 0 < chunk_size l → Consumes a c (chunks_bytes chunks ++ print_chunk_line l)
-    → IsPastLimits chunks l → IfSome a (λ xs. EndsInChunks xs (Refused TooLarge))
+    → IsPastLimits chunks l → IfSome a (λ xs. EndsInChunks xs (Refused ContentTooLarge))
 large_at None c chunks l are short some taken over = tt
 large_at (Some x) None chunks l are short some taken over = absurd taken
 large_at (Some x) (Some z) chunks l are short some taken over = too_large chunks l z (begins x z chunks l are short taken) some over
 
 pub ended_too_large : (a b c : Option (List ℕ)) (limit raw len size : ℕ) (body : List ℕ) → TakesChunks a b raw body → TakesLine limit b c len size → 0 < size
-    → (content_limit < length body + size) ⊎ (raw_limit < raw + len + size + 2) → IfSome a (λ xs. EndsInChunks xs (Refused TooLarge))
+    → (content_limit < length body + size) ⊎ (raw_limit < raw + len + size + 2) → IfSome a (λ xs. EndsInChunks xs (Refused ContentTooLarge))
 ended_too_large a b c limit raw len size body run line some over =
     large_at a c run.chunks line.line run.are line.is (omega (arith, line.size_is, some)) (past_line a b c limit raw len size body run line)
     (elim over [ inl h ↦ inl (omega (arith, h, ap length run.content_is, line.size_is)) | inr h ↦ inr (omega (arith, h, run.raw_is, line.size_is, line.len_is)) ])

@@ -6,7 +6,7 @@ use Rattle.std.proofs.KnownBytes.{Appends-trans}
 use Rattle.http_wire.specs.Responses.{WritesFront}
 use Rattle.http.specs.StatusCode.{reason_phrase}
 use Rattle.http_head.specs.declared.end.Refusal.{Refusal}
-use Rattle.http_head.specs.declared.end.Refusal.TheVariants.{BadRequest, NotFound, PostAllowed, GetAllowed, LengthRequired, TooLarge, UnsupportedType, HeadTooLarge, Unavailable}
+use Rattle.http_head.specs.declared.end.Refusal.TheVariants.{BadRequest, NotFound, PostAllowed, GetAllowed, LengthRequired, ContentTooLarge, UnsupportedMediaType, HeaderFieldsTooLarge, ServiceUnavailable}
 use Rattle.http_head.specs.Ends.{code_of}
 
 -- the first n bytes are a front
@@ -35,7 +35,7 @@ phrase_short NotFound = omega arith
 phrase_short PostAllowed = omega arith
 phrase_short GetAllowed = omega arith
 phrase_short LengthRequired = omega arith
-phrase_short TooLarge = omega arith
-phrase_short UnsupportedType = omega arith
-phrase_short HeadTooLarge = omega arith
-phrase_short Unavailable = omega arith
+phrase_short ContentTooLarge = omega arith
+phrase_short UnsupportedMediaType = omega arith
+phrase_short HeaderFieldsTooLarge = omega arith
+phrase_short ServiceUnavailable = omega arith

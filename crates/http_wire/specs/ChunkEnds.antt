@@ -7,14 +7,14 @@ use Rattle.http_wire.specs.Chunks.{Chunk, AreChunks, IsShortLine, chunks_bytes, 
 use Rattle.http_wire.specs.declared.chunk.Bound.{Bound}
 use Rattle.http_head.specs.declared.end.Finish.{Finish}
 use Rattle.http_head.specs.declared.end.Finish.TheVariants.{Closed, Cut, Done, Refused}
-use Rattle.http_head.specs.declared.end.Refusal.TheVariants.{BadRequest, TooLarge}
+use Rattle.http_head.specs.declared.end.Refusal.TheVariants.{BadRequest, ContentTooLarge}
 
 -- how many bytes a part with a limit of its own may have behind that many raw bytes of the body, and the refusal where it has no
 -- end within them: what the raw limit leaves, where that is less
 abbrev pub bound_behind : ℕ → ℕ → Bound
 bound_behind raw limit =
     if nat_lt (raw_limit - raw) limit
-    then record { limit = raw_limit - raw; refusal = TooLarge }
+    then record { limit = raw_limit - raw; refusal = ContentTooLarge }
     else record { limit = limit; refusal = BadRequest }
 
 -- ---- where a chunk line should stand
@@ -96,7 +96,7 @@ pub data EndsInChunks (bytes : List ℕ) : Finish → Type 0 where
       → EndsAtLine (bound_behind (length (chunks_bytes chunks)) line_limit) rest end → EndsInChunks bytes end
   -- the line of a chunk that is too large
   too_large : (chunks : List Chunk) (l : ChunkLine) (rest : List ℕ) → BeginsWithChunks bytes chunks l rest → 0 < chunk_size l
-      → IsPastLimits chunks l → EndsInChunks bytes (Refused TooLarge)
+      → IsPastLimits chunks l → EndsInChunks bytes (Refused ContentTooLarge)
   -- the line of one that is not, and no such chunk
   in_chunk : (chunks : List Chunk) (l : ChunkLine) (rest : List ℕ) (end : Finish) → BeginsWithChunks bytes chunks l rest → 0 < chunk_size l
       → ¬ IsPastLimits chunks l → EndsInChunk (chunk_size l) rest end → EndsInChunks bytes end

@@ -15,19 +15,16 @@ use crate::body::take_more;
 use crate::fault::BodyFault;
 use http_head::end::{Finish, Refusal};
 use http_head::input::Input;
+use http_head::limits::RAW_LIMIT;
 use httparse::{Status, parse_chunk_size};
 use std::io::Read;
-
-/// The most bytes of a chunk line, with its CR LF.
-pub const LINE_LIMIT: usize = 1024;
-
-/// The most bytes of a chunked body as it stands in the stream.
-pub const RAW_LIMIT: usize = 67_108_864;
 
 /// How many bytes a part of a body may have, and the refusal where it has no end within them.
 #[derive(Clone, Copy)]
 pub struct Bound {
+    /// How many bytes.
     pub limit: usize,
+    /// How it is refused where it has more.
     pub refusal: Refusal,
 }
 
@@ -41,7 +38,7 @@ pub fn bound_behind(raw: usize, limit: usize) -> Bound
     if room < limit {
         Bound {
             limit: room,
-            refusal: Refusal::TooLarge,
+            refusal: Refusal::ContentTooLarge,
         }
     } else {
         Bound {
@@ -104,9 +101,11 @@ pub fn take_line<R: Read>(input: &mut Input<R>, bound: Bound) -> Result<Line, Bo
 /// What bytes say of a CR LF at their front.
 #[derive(Clone, Copy)]
 pub enum LineEndState {
+    /// One stands there.
     Whole,
     /// Bytes behind them may make it one.
     Open,
+    /// None can.
     Wrong,
 }
 

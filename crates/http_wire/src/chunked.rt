@@ -7,17 +7,18 @@ ghost use Rattle.http_wire.specs.ChunkParts.{TakesChunked, TakesToLast};
 ghost use Rattle.http_head.specs.Left.{left};
 ghost use Rattle.http_wire.specs.Fault.{IfEnded};
 
-use crate::chunk::{LINE_LIMIT, Line, RAW_LIMIT, bound_behind, take_chunk, take_line};
+use crate::chunk::{Line, bound_behind, take_chunk, take_line};
 use crate::fault::BodyFault;
-use crate::trailers::{TRAILER_LIMIT, take_trailers};
-use http_head::checks;
+use crate::trailers::take_trailers;
 use http_head::end::{Finish, Refusal};
 use http_head::input::Input;
+use http_head::limits;
+use http_head::limits::{LINE_LIMIT, RAW_LIMIT, TRAILER_LIMIT};
 use std::alloc::Global;
 use std::io::Read;
 
 /// The most bytes of a body's content.
-pub const CONTENT_LIMIT: usize = checks::CONTENT_LIMIT as usize;
+const CONTENT_LIMIT: usize = limits::CONTENT_LIMIT as usize;
 
 /// Behind so much content and so many raw bytes, the chunk of this line brings the content or the raw bytes past their limit.
 fn is_too_large(content: usize, raw: usize, line: Line) -> bool
@@ -44,7 +45,7 @@ fn take_chunks<R: Read>(input: &mut Input<R>, content: &mut Vec<u8>) -> Result<u
             return Ok(raw + line.len);
         }
         if is_too_large(content.len(), raw, line) {
-            return Err(BodyFault::Ended(Finish::Refused(Refusal::TooLarge)));
+            return Err(BodyFault::Ended(Finish::Refused(Refusal::ContentTooLarge)));
         }
         take_chunk(input, content, line.size as usize)?;
         raw += line.len + line.size as usize + 2;

@@ -29,12 +29,6 @@ pub fn put_both<W: Write>(writer: &mut W, first: &[u8], second: &[u8]) -> Result
     ensures ok { OnOk result (Appends (W.contents writer.old) (W.contents writer.new) (first.now ++ second.now)) }
     ensures err { OnErr result (WritesFront (W.contents writer.old) (W.contents writer.new) (first.now ++ second.now)) }
 {
-    match put(writer, first) {
-        Ok(()) => {}
-        Err(fault) => return Err(fault),
-    }
-    match put(writer, second) {
-        Ok(()) => Ok(()),
-        Err(fault) => Err(fault),
-    }
+    put(writer, first)?;
+    put(writer, second)
 }

@@ -14,8 +14,11 @@ use http_head::end::{Finish, Refusal, WriteFault};
 use http_head::plan::Plan;
 use std::io::Write;
 
+/// The room for a head, in bytes.
+const HEAD_CAPACITY: usize = 256;
+
 /// Adds a text that fits.
-fn add(line: &mut ArrayVec<u8, 256>, text: &[u8])
+fn add(line: &mut ArrayVec<u8, HEAD_CAPACITY>, text: &[u8])
     requires { array_vec_len line.old + length text.now ≤ 256 }
     ensures { line.new.items ≡ line.old.items ++ text.now }
 {
@@ -31,7 +34,7 @@ fn close_line(closes: bool) -> &'static str
 }
 
 /// The head of a success: the media type of the content, its length in bytes, and whether the connection ends.
-fn success_head(media_type: &str, size: u64, closes: bool) -> ArrayVec<u8, 256>
+fn success_head(media_type: &str, size: u64, closes: bool) -> ArrayVec<u8, HEAD_CAPACITY>
     requires { length media_type.now ≤ 64 }
     ensures { result.items ≡ spec.success_head media_type.now size closes }
 {
@@ -58,10 +61,10 @@ fn allow_line(refusal: Refusal) -> &'static str
         Refusal::BadRequest
         | Refusal::NotFound
         | Refusal::LengthRequired
-        | Refusal::TooLarge
-        | Refusal::UnsupportedType
-        | Refusal::HeadTooLarge
-        | Refusal::Unavailable => "",
+        | Refusal::ContentTooLarge
+        | Refusal::UnsupportedMediaType
+        | Refusal::HeaderFieldsTooLarge
+        | Refusal::ServiceUnavailable => "",
     }
 }
 
@@ -83,7 +86,7 @@ fn phrase_text(refusal: Refusal) -> &'static str
 }
 
 /// The whole response of a refusal.
-fn refusal_response(refusal: Refusal) -> ArrayVec<u8, 256>
+fn refusal_response(refusal: Refusal) -> ArrayVec<u8, HEAD_CAPACITY>
     ensures { result.items ≡ spec.refusal_response refusal }
 {
     let mut line = ArrayVec::new();

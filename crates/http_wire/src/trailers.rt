@@ -10,12 +10,10 @@ use crate::chunk::{Bound, front};
 use crate::fault::BodyFault;
 use http_head::end::{Finish, Refusal};
 use http_head::input::Input;
+use http_head::limits::MOST_FIELDS;
 use httparse::Status;
 use httparse::spans::{EMPTY_HEADER_SPAN, parse_headers};
 use std::io::Read;
-
-/// The most bytes of a trailer section, with the empty line that ends it.
-pub const TRAILER_LIMIT: usize = 16384;
 
 /// Reads until a trailer section stands at the front of the buffer, where it is left, and answers how many bytes it has.
 fn find_trailers<R: Read>(input: &mut Input<R>, bound: Bound) -> Result<usize, BodyFault>
@@ -24,7 +22,7 @@ fn find_trailers<R: Read>(input: &mut Input<R>, bound: Bound) -> Result<usize, B
     ensures found { IfOk result (λ len. AreTrailersAt input.new.buffer len × (len ≤ bound.limit)) }
     ensures ended { IfErr result (λ f. IfEnded f (λ end. IfSome (left input.old.buffer (R.remaining input.old.reader)) (λ bytes. EndsAtTrailers bound bytes end))) }
 {
-    let mut headers = [EMPTY_HEADER_SPAN; 64];
+    let mut headers = [EMPTY_HEADER_SPAN; MOST_FIELDS];
     'fill: loop {
         match parse_headers(front(input.bytes(), bound.limit), &mut headers) {
             Ok(Status::Complete((len, _))) => return Ok(len),

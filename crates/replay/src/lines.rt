@@ -7,13 +7,14 @@ ghost use Rattle.replay.specs.Line.{GivesLine, IsFrontOf, IsOneLine};
 ghost use Rattle.replay.specs.Unread.{left};
 
 use crate::fault::Fault;
+use crate::hexadecimal::MOST_BYTES;
 use std::alloc::{AllocError, Global};
 use std::io;
 use std::io::{ErrorKind, Read, Write};
 use std::marker::Model;
 
-/// The most bytes of a line that are kept, which is what a line with the longest message has.
-pub const MOST_LINE: usize = 33_554_436;
+/// The most bytes of a line that are kept, 33,554,436: what a line with the longest message has, two digits a byte.
+pub const MOST_LINE: usize = b"ipp ".len() + 2 * MOST_BYTES;
 
 /// How many times an input is read at most. After that it ends as by a read that fails.
 pub const MOST_READS: u32 = 4_294_967_295;

@@ -4,7 +4,7 @@ use Rattle.std.proofs.KnownBytes.{Appends-trans}
 use Rattle.queue_types.specs.Formats.{format_name}
 use Rattle.queue_core.specs.Shown.{document_at}
 use Rattle.http_wire.specs.Responses.{success_head, WritesFront}
-use Rattle.http_head.specs.declared.end.Refusal.TheVariants.{NotFound, Unavailable}
+use Rattle.http_head.specs.declared.end.Refusal.TheVariants.{NotFound, ServiceUnavailable}
 use Rattle.http_head.specs.declared.target.Target.TheVariants.{Document}
 use Rattle.http_front.proofs.WriteLemmas.{front_taken, front_part, front_after}
 use Rattle.http_front.proofs.ReplyLemmas.{no_number, at_number, there_of, none_there, document_answer, line_is, replied_ok, replied_err, replied_declined}
@@ -20,7 +20,7 @@ returns-in-Ok-None-clause-replied g c = λ honest w st now content.
     replied_declined now w (Document c.args.n) content c.args.closes NotFound _ (inl (refl, at_number w c.args.n c.in-Some.job c.in-Some.number None (search rules) none))
 
 pub returns-in-Err-clause-replied : goal.returns-in-Err-clause-replied
-returns-in-Err-clause-replied g c = λ honest w st now content. replied_declined now w (Document c.args.n) content c.args.closes Unavailable _ (inr refl)
+returns-in-Err-clause-replied g c = λ honest w st now content. replied_declined now w (Document c.args.n) content c.args.closes ServiceUnavailable _ (inr refl)
 
 pub returns-in-Err-send_head-clause-replied : goal.returns-in-Err-send_head-clause-replied
 returns-in-Err-send_head-clause-replied g c = λ honest w st now content.

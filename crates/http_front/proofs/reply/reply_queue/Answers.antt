@@ -1,16 +1,16 @@
 use Rattle.std.proofs.Common.{◌∙◌, ap, refl, inr, false}
 use Rattle.std.specs.Prelude.{codes}
 use Rattle.device_lines.specs.Queue.{queue_lines}
-use Rattle.http_head.specs.declared.end.Refusal.TheVariants.{Unavailable}
+use Rattle.http_head.specs.declared.end.Refusal.TheVariants.{ServiceUnavailable}
 use Rattle.http_head.specs.declared.target.Target.TheVariants.{Queue}
 use Rattle.http_front.proofs.ReplyLemmas.{queue_answer, replied_ok, replied_err, replied_declined}
 use Rattle.http_front.proofs.reply.reply_queue.Goals as goal
 
 pub returns-in_default-clause-replied : goal.returns-in_default-clause-replied
-returns-in_default-clause-replied g c = λ honest w st now content. replied_declined now w Queue content c.args.closes Unavailable _ (inr refl)
+returns-in_default-clause-replied g c = λ honest w st now content. replied_declined now w Queue content c.args.closes ServiceUnavailable _ (inr refl)
 
 pub returns-in_default-queue_text-clause-replied : goal.returns-in_default-queue_text-clause-replied
-returns-in_default-queue_text-clause-replied g c = λ honest w st now content. replied_declined now w Queue content c.args.closes Unavailable _ (inr refl)
+returns-in_default-queue_text-clause-replied g c = λ honest w st now content. replied_declined now w Queue content c.args.closes ServiceUnavailable _ (inr refl)
 
 pub returns-in-Ok-send_success-clause-replied : goal.returns-in-Ok-send_success-clause-replied
 returns-in-Ok-send_success-clause-replied g c = λ honest w st now content.

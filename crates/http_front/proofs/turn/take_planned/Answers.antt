@@ -1,7 +1,7 @@
 use Rattle.std.proofs.Common.{refl}
 use Rattle.http_head.specs.Left.{left}
 use Rattle.http_head.specs.declared.end.Finish.TheVariants.{Refused}
-use Rattle.http_head.specs.declared.end.Refusal.TheVariants.{Unavailable}
+use Rattle.http_head.specs.declared.end.Refusal.TheVariants.{ServiceUnavailable}
 use Rattle.http_front.proofs.TurnedLemmas.{planned_unsaid, planned_unread, planned_closed, planned_answered, planned_broken, end_in_body, end_unavailable, end_declined, body_as, said_on, same_world, closed_idle, plan_idle, plan_works}
 use Rattle.http_front.proofs.turn.take_planned.Goals as goal
 
@@ -27,7 +27,7 @@ returns-in-Err-Memory-clause-planned g c = λ honest w st set.
     let s = left c.take_framed.new.input.buffer (g.R.Read.remaining c.take_framed.new.input.reader) in (
       w,
       st,
-      planned_closed c.args.context.moment c.args.k w c.args.plan r s (g.W.Write.contents c.args.writer.now) (g.W.Write.contents c.send_continue.new.writer) (g.W.Write.contents c.close_with-in-Err-Memory.new.writer) (Refused Unavailable) c.close_with-in-Err-Memory.result
+      planned_closed c.args.context.moment c.args.k w c.args.plan r s (g.W.Write.contents c.args.writer.now) (g.W.Write.contents c.send_continue.new.writer) (g.W.Write.contents c.close_with-in-Err-Memory.new.writer) (Refused ServiceUnavailable) c.close_with-in-Err-Memory.result
           (end_unavailable w c.args.plan r) c.in-Ok.ensures.ok c.close_with-in-Err-Memory.ensures,
     )
 

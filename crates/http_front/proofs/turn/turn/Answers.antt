@@ -1,13 +1,13 @@
 use Rattle.http_head.specs.Left.{left}
 use Rattle.http_head.specs.declared.end.Finish.TheVariants.{Refused}
-use Rattle.http_head.specs.declared.end.Refusal.TheVariants.{Unavailable}
+use Rattle.http_head.specs.declared.end.Refusal.TheVariants.{ServiceUnavailable}
 use Rattle.http_front.proofs.TurnedLemmas.{lifted, lifted_works, closed_idle, idle, turned_closed, turned_unread, end_no_head, end_checked, end_unserved}
 use Rattle.http_front.proofs.turn.turn.Goals as goal
 
 pub returns-in_default-clause-turned : goal.returns-in_default-clause-turned
 returns-in_default-clause-turned g c = λ honest w st set.
     let r = left c.args.input.now.buffer (g.R.Read.remaining c.args.input.now.reader) in
-    (w, st, turned_closed c.args.context.moment c.args.k w r r (g.W.Write.contents c.args.writer.now) (g.W.Write.contents c.close_with.new.writer) (Refused Unavailable) c.close_with.result (end_unserved w r) c.close_with.ensures)
+    (w, st, turned_closed c.args.context.moment c.args.k w r r (g.W.Write.contents c.args.writer.now) (g.W.Write.contents c.close_with.new.writer) (Refused ServiceUnavailable) c.close_with.result (end_unserved w r) c.close_with.ensures)
 
 pub returns-in-Ok-clause-turned : goal.returns-in-Ok-clause-turned
 returns-in-Ok-clause-turned g c = λ honest w st set.

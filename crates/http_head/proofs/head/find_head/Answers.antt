@@ -10,6 +10,6 @@ pub returns-in-Err-TooManyHeaders-clause-failed : goal.returns-in-Err-TooManyHea
 returns-in-Err-TooManyHeaders-clause-failed g c =
     grind (arith, refused_many, c.fill.invariant, c.bytes.ensures.value, c.in-Err-TooManyHeaders.ensures.no_room, c.in-Err-TooManyHeaders.ensures.too_many)
 
-pub returns-then-bytes-eq-CAPACITY-clause-failed : goal.returns-then-bytes-eq-CAPACITY-clause-failed
-returns-then-bytes-eq-CAPACITY-clause-failed g c =
+pub returns-then-bytes-eq-HEAD_LIMIT-clause-failed : goal.returns-then-bytes-eq-HEAD_LIMIT-clause-failed
+returns-then-bytes-eq-HEAD_LIMIT-clause-failed g c =
     grind (arith, refused_full, c.fill.invariant, c.bytes.ensures.value, c.bytes-in-fill.ensures.value, c.in-Ok-Partial.ensures.partial)
