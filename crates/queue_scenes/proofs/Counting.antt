@@ -17,8 +17,8 @@ use Rattle.queue_tables.specs.Values.{job_values, job_view}
 use Rattle.queue_tables.proofs.Showing.{shows_all}
 use Rattle.queue_scenes.specs.Counts.{ShowsMany}
 use Rattle.queue_scenes.proofs.Lookup.{rows_passing}
-use Rattle.queue_scenes.proofs.Statements.{select_live, select_live_is, select_running, select_running_is, select_stopped, select_stopped_is, select_queued, select_queued_is}
-use Rattle.queue_scenes.proofs.Tests.{is_own_live_row, own_live-row, is_running_row, running-row, is_stopped_row, stopped-row, is_live_row, live-row}
+use Rattle.queue_scenes.proofs.Statements.{select_live, select_live_is, select_own_numbers, select_own_numbers_is, select_running, select_running_is, select_stopped, select_stopped_is, select_queued, select_queued_is}
+use Rattle.queue_scenes.proofs.Tests.{is_own_live_row, own_live-row, is_own_row, own-row, is_running_row, running-row, is_stopped_row, stopped-row, is_live_row, live-row}
 
 longer : (n s t u : ℕ) → s ≡ t + u → t ≡ 1 → n ≡ u → suc n ≡ s
 longer n s t u a b c = omega (arith, a, b, c)
@@ -61,6 +61,13 @@ counts_live name old w has shown_rows h =
     counted (is_own_live_row name) (λ (j : Job). bytes_eq j.owner name && is_live j) (own_live-row name) (rows w) number_out shown_rows
     (shows_all select_live select_live_is
     old old (Words name ∷ []) job_view (is_own_live_row name) number_out (content_of w).jobs shown_rows has.schema (λ r. refl) (λ r. refl) has.rows.jobs h)
+
+pub counts_own : (name : List ℕ) (old : State) (w : World) → Holds (content_of w) old → ShowsMany select_own_numbers.text (Words name ∷ []) old (count_by (λ (j : Job). bytes_eq j.owner name) (rows w))
+unfolding is_own_row number_out
+counts_own name old w has shown_rows h =
+    counted (is_own_row name) (λ (j : Job). bytes_eq j.owner name) (own-row name) (rows w) number_out shown_rows
+    (shows_all select_own_numbers select_own_numbers_is
+    old old (Words name ∷ []) job_view (is_own_row name) number_out (content_of w).jobs shown_rows has.schema (λ r. refl) (λ r. refl) has.rows.jobs h)
 
 pub counts_running : (old : State) (w : World) → Holds (content_of w) old → ShowsMany select_running.text [] old (count_by is_running (rows w))
 unfolding is_running_row number_out

@@ -23,8 +23,8 @@ use Rattle.queue_scenes.specs.Jobs.{AreRowsOf, ShowsJobs, own_live}
 use Rattle.queue_scenes.proofs.Lookup.{rows_passing}
 use Rattle.queue_scenes.proofs.Numbers.{AreRising, rising, rising_filter, numbers_ascend, number_key}
 use Rattle.queue_scenes.proofs.Ordered.{shows_in_order}
-use Rattle.queue_scenes.proofs.Statements.{select_own_live, select_own_live_is, select_pending, select_pending_is}
-use Rattle.queue_scenes.proofs.Tests.{is_own_live_row, own_live-row, is_pending_row, pending-row}
+use Rattle.queue_scenes.proofs.Statements.{select_own, select_own_is, select_own_live, select_own_live_is, select_pending, select_pending_is}
+use Rattle.queue_scenes.proofs.Tests.{is_own_row, own-row, is_own_live_row, own_live-row, is_pending_row, pending-row}
 
 -- ---- each row of a world is its job of that number
 
@@ -90,6 +90,16 @@ shows_own_live name old w sound has shown_rows h =
     shows_in_order select_own_live (Words name ∷ []) job_view (is_own_live_row name) (λ (v : Row). v) number_key (λ r. refl) (λ r. refl) (λ r. refl)
     select_own_live_is old old (map job_values (rows w)) shown_rows (map job_values mine) has.schema has.rows.jobs
     (kept (is_own_live_row name) p (own_live-row name) (rows w)) (numbers_ascend mine (rising_filter p (rows w) (world_rising w sound))) h
+    ∙ same_rows (map job_values mine)
+
+pub shows_own : (name : List ℕ) (old : State) (w : World) → IsSound w → Holds (content_of w) old → ShowsJobs select_own.text (Words name ∷ []) old (filter (λ (j : Job). bytes_eq j.owner name) (rows w))
+unfolding is_own_row
+shows_own name old w sound has shown_rows h =
+    let p : Job → Bool = λ j. bytes_eq j.owner name in
+    let mine = filter p (rows w) in
+    shows_in_order select_own (Words name ∷ []) job_view (is_own_row name) (λ (v : Row). v) number_key (λ r. refl) (λ r. refl) (λ r. refl)
+    select_own_is old old (map job_values (rows w)) shown_rows (map job_values mine) has.schema has.rows.jobs
+    (kept (is_own_row name) p (own-row name) (rows w)) (numbers_ascend mine (rising_filter p (rows w) (world_rising w sound))) h
     ∙ same_rows (map job_values mine)
 
 pub shows_pending : (old : State) (w : World) → IsSound w → Holds (content_of w) old → ShowsJobs select_pending.text [] old (filter (λ (j : Job). state j == 3) (rows w))

@@ -144,6 +144,17 @@ picked_same p ms ns same (j ∷ js) =
       | inr fails ↦ rw (here ∙ fails, fails) (picked_same p ms ns same js)
     ]
 
+-- what is picked among those that pass
+pub picked_among : (p t : Job → Bool) (ns : List ℕ) → ((j : Job) → t j ≡ has j.number ns) → (js : List Job) → filter t (filter p js) ≡ filter (λ (j : Job). p j && has j.number ns) js
+picked_among p t ns same [] = refl
+picked_among p t ns same (j ∷ js) = elim (cases_Bool (p j)) [
+  | inl passes ↦ elim (cases_Bool (has j.number ns)) [
+    | inl there ↦ rw (passes, same j ∙ there, there, picked_among p t ns same js) refl
+    | inr gone ↦ rw (passes, same j ∙ gone, gone, picked_among p t ns same js) refl
+  ]
+  | inr fails ↦ rw (fails, picked_among p t ns same js) refl
+]
+
 pub taken_more : (ns : List ℕ) (i k : ℕ) → i < length ns → k ≡ get_or ns i k → take (i + 1) ns ≡ take i ns ++ k ∷ []
 taken_more ns i k low is = take_more ns i k low ∙ ap (λ (n : ℕ). take i ns ++ n ∷ []) (sym is)
 

@@ -24,7 +24,7 @@ use Rattle.queue_scenes.proofs.Lists.{filtered_rows, kept, same_rows, taken_rows
 use Rattle.queue_scenes.proofs.Numbers.{number_key, numbers_ascend, rising_filter}
 use Rattle.queue_scenes.proofs.Ordered.{shows_first}
 use Rattle.queue_scenes.proofs.Statements.{select_at_device, select_at_device_is, select_own_pending, select_own_pending_is, select_held, select_held_is}
-use Rattle.queue_scenes.proofs.Tests.{is_between, is_at_device_row, at_device-row, is_own_pending_row, is_pending_row, own_pending-row, is_held_row, held-row}
+use Rattle.queue_scenes.proofs.Tests.{is_between, is_at_device_row, at_device-row, is_own_pending_row, own_pending-row, is_held_row, held-row}
 
 -- ---- jobs up to state 6 are live
 
@@ -74,7 +74,7 @@ shows_at_device name n old w sound has shown_rows h =
     ∙ ranked_first 5 6 low name n (rows w)
 
 pub shows_own_pending : (name : List ℕ) (n : ℕ) (old : State) (w : World) → IsSound w → Holds (content_of w) old → ShowsJobs select_own_pending.text (Words name ∷ number n ∷ []) old (take n (in_states 3 3 (own_live name (rows w))))
-unfolding is_own_pending_row is_pending_row
+unfolding is_own_pending_row
 shows_own_pending name n old w sound has shown_rows h =
     let low : 3 ≤ 6 = omega arith in
     shows_first select_own_pending (Words name ∷ number n ∷ []) job_view (is_own_pending_row name) (λ (v : Row). v) number_key (λ r. refl) (λ r. refl) (λ r. refl)

@@ -80,6 +80,22 @@ pub select_live_is : IsSelection select_live
 unfolding understood first everything
 select_live_is = record { shows = record { command = refl; plain = (refl, refl); query = refl; unlisted = refl }; plainly = λ db. refl }
 
+-- ---- all jobs of an owner, to be counted
+
+abbrev pub select_own_numbers : Selection
+select_own_numbers = record {
+  text = codes "SELECT number FROM jobs WHERE owner = ?1";
+  names = codes "number" ∷ [];
+  tree = 1;
+  filter = op2 (Compare Eq Binary) (col 1 2) (col 0 0) ∷ [];
+  terms = col 1 0 ∷ [];
+  order = [];
+}
+
+pub select_own_numbers_is : IsSelection select_own_numbers
+unfolding understood first everything
+select_own_numbers_is = record { shows = record { command = refl; plain = (refl, refl); query = refl; unlisted = refl }; plainly = λ db. refl }
+
 -- ---- all running jobs, to be counted
 
 abbrev pub select_running : Selection
@@ -144,6 +160,22 @@ pub select_pending_is : IsSelection select_pending
 unfolding understood first everything
 select_pending_is = record { shows = record { command = refl; plain = (refl, refl); query = refl; unlisted = refl }; plainly = λ db. refl }
 
+-- ---- all jobs of an owner
+
+abbrev pub select_own : Selection
+select_own = record {
+  text = codes "SELECT number, owner, name, copies, impressions, hold, incoming, phase, why, stopping, count, created, begun, ended FROM jobs WHERE owner = ?1 ORDER BY number";
+  names = job_names;
+  tree = 1;
+  filter = op2 (Compare Eq Binary) (col 1 2) (col 0 0) ∷ [];
+  terms = job_terms;
+  order = (col 1 0, plain_key Binary) ∷ [];
+}
+
+pub select_own_is : IsSelection select_own
+unfolding understood first everything
+select_own_is = record { shows = record { command = refl; plain = (refl, refl); query = refl; unlisted = refl }; plainly = λ db. refl }
+
 -- ---- an owner's live jobs
 
 abbrev pub select_own_live : Selection
@@ -180,10 +212,10 @@ select_at_device_is = record { shows = record { command = refl; plain = (refl, r
 
 abbrev pub select_own_pending : Selection
 select_own_pending = record {
-  text = codes "SELECT number, owner, name, copies, impressions, hold, incoming, phase, why, stopping, count, created, begun, ended FROM jobs WHERE owner = ?1 AND phase = 0 AND hold = 0 AND incoming = 0 ORDER BY number LIMIT ?2";
+  text = codes "SELECT number, owner, name, copies, impressions, hold, incoming, phase, why, stopping, count, created, begun, ended FROM jobs WHERE owner = ?1 AND phase = 0 AND hold + incoming = 0 ORDER BY number LIMIT ?2";
   names = job_names;
   tree = 1;
-  filter = op2 (Compare Eq Binary) (col 1 2) (col 0 0) ∷ op2 (Compare Eq Binary) (col 1 8) (lit (Int (pos 0))) ∷ op2 (Compare Eq Binary) (col 1 6) (lit (Int (pos 0))) ∷ op2 (Compare Eq Binary) (col 1 7) (lit (Int (pos 0))) ∷ [];
+  filter = op2 (Compare Eq Binary) (col 1 2) (col 0 0) ∷ op2 (Compare Eq Binary) (col 1 8) (lit (Int (pos 0))) ∷ op2 (Compare Eq Binary) (op2 (Arith Add) (col 1 6) (col 1 7)) (lit (Int (pos 0))) ∷ [];
   terms = job_terms;
   order = (col 1 0, plain_key Binary) ∷ [];
 }

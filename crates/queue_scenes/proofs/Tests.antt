@@ -120,6 +120,15 @@ either_by_number false false = refl
 either_flag : (h i : Bool) → is_true (binary (Compare Gt Binary) (binary (Arith Add) (Int (pos (flag_number h))) (Int (pos (flag_number i)))) (Int (pos 0))) ≡ (h || i)
 either_flag h i = rw (flags_added h i, greater (flag_number h + flag_number i) 0) (either_by_number h i)
 
+neither_by_number : (h i : Bool) → ((flag_number h + flag_number i) == 0) ≡ ((flag_number h == 0) && (flag_number i == 0))
+neither_by_number true true = refl
+neither_by_number true false = refl
+neither_by_number false true = refl
+neither_by_number false false = refl
+
+neither_flag : (h i : Bool) → is_true (binary (Compare Eq Binary) (binary (Arith Add) (Int (pos (flag_number h))) (Int (pos (flag_number i)))) (Int (pos 0))) ≡ ((flag_number h == 0) && (flag_number i == 0))
+neither_flag h i = rw (flags_added h i, equals (flag_number h + flag_number i) 0) (neither_by_number h i)
+
 held_by_numbers : (p : Phase) (h i : Bool) → ((phase_number p == 0) && (h || i)) ≡ (nat_le 4 (state_in p h i) && nat_le (state_in p h i) 4)
 held_by_numbers Waiting true i = refl
 held_by_numbers Waiting false true = refl
@@ -156,6 +165,14 @@ pub live-row : (j : Job) → is_live_row (job_values j) ≡ is_live j
 unfolding is_live_row
 live-row j = rw (less (phase_number j.phase) 7, and_true _) (live_by_number j.phase)
 
+-- owner = ?1
+unfoldable pub is_own_row : List ℕ → Row → Bool
+is_own_row name v = is_true (binary (Compare Eq Binary) (column v 1) (Words name)) && true
+
+pub own-row : (name : List ℕ) (j : Job) → is_own_row name (job_values j) ≡ bytes_eq j.owner name
+unfolding is_own_row
+own-row name j = rw (names j.owner name, and_true _) refl
+
 -- owner = ?1 AND phase < 7
 unfoldable pub is_own_live_row : List ℕ → Row → Bool
 is_own_live_row name v = is_true (binary (Compare Eq Binary) (column v 1) (Words name)) && (is_true (binary (Compare Lt Binary) (column v 7) (Int (pos 7))) && true)
@@ -180,13 +197,14 @@ pub at_device-row : (name : List ℕ) (j : Job) → is_at_device_row name (job_v
 unfolding is_at_device_row
 at_device-row name j = rw (names j.owner name, greater (phase_number j.phase) 0, less (phase_number j.phase) 7, and_true _, at_device_by_number j.phase j.hold j.incoming) refl
 
--- owner = ?1 AND phase = 0 AND hold = 0 AND incoming = 0
+-- owner = ?1 AND phase = 0 AND hold + incoming = 0
 unfoldable pub is_own_pending_row : List ℕ → Row → Bool
-is_own_pending_row name v = is_true (binary (Compare Eq Binary) (column v 1) (Words name)) && is_pending_row v
+is_own_pending_row name v = is_true (binary (Compare Eq Binary) (column v 1) (Words name)) && (is_true (binary (Compare Eq Binary) (column v 7) (Int (pos 0))) && (is_true (binary (Compare Eq Binary) (binary (Arith Add) (column v 5) (column v 6)) (Int (pos 0))) && true))
 
 pub own_pending-row : (name : List ℕ) (j : Job) → is_own_pending_row name (job_values j) ≡ (bytes_eq j.owner name && is_between 3 3 j)
 unfolding is_own_pending_row
-own_pending-row name j = rw (names j.owner name, pending-row j, third_by_number j.phase j.hold j.incoming) refl
+own_pending-row name j =
+    rw (names j.owner name, equals (phase_number j.phase) 0, neither_flag j.hold j.incoming, and_true _, pending_by_numbers j.phase j.hold j.incoming, third_by_number j.phase j.hold j.incoming) refl
 
 -- owner = ?1 AND phase = 0 AND hold + incoming > 0
 unfoldable pub is_held_row : List ℕ → Row → Bool

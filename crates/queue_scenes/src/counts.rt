@@ -1,9 +1,10 @@
 //! How many jobs there are, by their phases.
-ghost use Rattle.std.specs.Prelude.{◌≡◌, ◌<◌, ◌^◌, ◌≢◌, ℕ, IfOk, OnOk, IsTrue, IfErr};
+ghost use Rattle.std.specs.Prelude.{◌≡◌, ◌<◌, ◌^◌, ◌≢◌, ℕ, IfOk, OnOk, IsTrue, IfErr, bytes_eq, count_by};
 ghost use Rattle.sqlite.specs.Held.{state};
 ghost use Rattle.sqlite.specs.State.{HasCleanDisk};
 ghost use Rattle.sqlite.specs.Values.{bound};
 ghost use Rattle.queue_core.specs.World.{World, live_jobs, queue_counts, rows};
+ghost use Rattle.queue_types.specs.declared.job.Job.{Job as JobValue};
 ghost use Rattle.queue_scenes.specs.Counts.{ShowsMany};
 ghost use Rattle.queue_tables.specs.Leaving.{LeavesTables};
 ghost use Rattle.queue_tables.specs.Content.{Content, HoldNoQueue, Holds, content_of};
@@ -43,6 +44,20 @@ pub(crate) fn live_count<S: Alter>(conn: &mut Connection<S>, caller: &str) -> Re
         conn,
         "SELECT number FROM jobs WHERE owner = ?1 AND phase < 7",
         params![caller],
+    )
+}
+
+/// How many jobs the owner has, in all states.
+pub(crate) fn own_count<S: Alter>(conn: &mut Connection<S>, owner: &str) -> Result<usize, Fault>
+    ensures leaves { LeavesTables (state S.Store conn.old) (state S.Store conn.new) }
+    ensures live { HasCleanDisk (state S.Store conn.new) → OnOk result (IsTrue (state S.Store conn.new).is_open) }
+    ensures found { HasCleanDisk (state S.Store conn.new) → IfOk result (λ n. (w : World) → Holds (content_of w) (state S.Store conn.old) → n ≡ count_by (λ (j : JobValue). bytes_eq j.owner owner.now) (rows w)) }
+    ensures never { IfErr result (λ e. e ≢ Fault.Damaged) }
+{
+    count(
+        conn,
+        "SELECT number FROM jobs WHERE owner = ?1",
+        params![owner],
     )
 }
 

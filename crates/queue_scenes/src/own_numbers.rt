@@ -1,5 +1,6 @@
 //! The jobs of one owner that have given numbers.
-ghost use Rattle.std.specs.Prelude.{◌≡◌, ◌++◌, ◌==◌, ◌&&◌, ℕ, All, bytes_eq, filter, IfOk, OnOk, IsTrue, IfErr};
+ghost use Rattle.std.specs.Prelude.{◌≡◌, ◌≢◌, ◌++◌, ◌==◌, ◌&&◌, ℕ, All, bytes_eq, filter, IfOk, OnOk, IsTrue, IfErr};
+ghost use Rattle.std.specs.BTreeSet.{contains};
 ghost use Rattle.std.specs.List.{list_any};
 ghost use Rattle.std.specs.List.Sorted.{IsStrictlySortedBy};
 ghost use Rattle.std.specs.Ordering.{nat_cmp};
@@ -12,10 +13,13 @@ ghost use Rattle.queue_types.specs.declared.job.Job.{Job as JobValue};
 ghost use Rattle.queue_tables.specs.Leaving.{LeavesTables};
 ghost use Rattle.queue_tables.specs.Content.{HoldNoQueue, Holds, content_of};
 
+use crate::counts::own_count;
 use crate::jobs::with_number;
+use crate::own_jobs::all_jobs;
 use queue_core::number_set;
 use queue_tables::fault::Fault;
 use queue_types::job::Job;
+use queue_types::limits::MOST_LIVE_JOBS;
 use sqlite::{Alter, Connection};
 use std::alloc::{AllocError, Global};
 use std::collections::BTreeSet;
@@ -71,6 +75,77 @@ fn owned_of<S: Alter>(
     Ok(own)
 }
 
+/// Adds those of the jobs that have a number of the set.
+fn push_numbered(
+    picked: &mut Vec<Job>,
+    jobs: Vec<Job>,
+    numbers: &BTreeSet<u32>,
+) -> Result<(), AllocError>
+    ensures { OnOk result (picked.new.items ≡ picked.old.items ++ filter (λ (j : JobValue). contains nat_cmp numbers.now j.number) jobs.items) }
+{
+    for job in jobs {
+        if numbers.contains(&job.number) {
+            picked.push(job)?;
+        }
+    }
+    Ok(())
+}
+
+/// The owner's jobs of the numbers, out of all that the owner has.
+fn picked_of<S: Alter>(
+    alloc: Global,
+    conn: &mut Connection<S>,
+    owner: &str,
+    numbers: &[u32],
+) -> Result<Vec<Job>, Fault>
+    ensures leaves { LeavesTables (state S.Store conn.old) (state S.Store conn.new) }
+    ensures live { HasCleanDisk (state S.Store conn.new) → OnOk result (IsTrue (state S.Store conn.new).is_open) }
+    ensures sound { IfOk result (λ v. All IsSoundJob v.items) }
+    ensures found { HasCleanDisk (state S.Store conn.new) → IfOk result (λ v. (w : World) → IsSound w → Holds (content_of w) (state S.Store conn.old) → v.items ≡ filter (λ (j : JobValue). bytes_eq j.owner owner.now && list_any (λ n. n == j.number) numbers.now) (rows w)) }
+    ensures damaged { HasCleanDisk (state S.Store conn.new) → IfErr result (λ e. e ≡ Fault.Damaged → HoldNoQueue (state S.Store conn.old)) }
+{
+    let set = number_set(alloc, numbers)?;
+    let own = all_jobs(alloc, conn, owner)?;
+    let mut picked = Vec::new(alloc);
+    push_numbered(&mut picked, own, &set)?;
+    Ok(picked)
+}
+
+/// There are many numbers, and more than the owner has jobs.
+fn are_many<S: Alter>(conn: &mut Connection<S>, owner: &str, numbers: &[u32]) -> Result<bool, Fault>
+    ensures leaves { LeavesTables (state S.Store conn.old) (state S.Store conn.new) }
+    ensures live { HasCleanDisk (state S.Store conn.new) → IsTrue (state S.Store conn.old).is_open → OnOk result (IsTrue (state S.Store conn.new).is_open) }
+    ensures never { IfErr result (λ e. e ≢ Fault.Damaged) }
+{
+    if numbers.len() <= MOST_LIVE_JOBS {
+        return Ok(false);
+    }
+    let count = own_count(conn, owner)?;
+    Ok(numbers.len() > count)
+}
+
+/// The owner's jobs of the numbers, which rise. They are looked up one by one; but where many are asked, and more than the
+/// owner has jobs, all of those are read in their place, so that they bound the work.
+fn found_of<S: Alter>(
+    alloc: Global,
+    conn: &mut Connection<S>,
+    owner: &str,
+    numbers: &[u32],
+) -> Result<Vec<Job>, Fault>
+    requires { IsStrictlySortedBy nat_cmp numbers.now }
+    ensures leaves { LeavesTables (state S.Store conn.old) (state S.Store conn.new) }
+    ensures live { HasCleanDisk (state S.Store conn.new) → IsTrue (state S.Store conn.old).is_open → OnOk result (IsTrue (state S.Store conn.new).is_open) }
+    ensures sound { IfOk result (λ v. All IsSoundJob v.items) }
+    ensures found { HasCleanDisk (state S.Store conn.new) → IfOk result (λ v. (w : World) → IsSound w → Holds (content_of w) (state S.Store conn.old) → v.items ≡ filter (λ (j : JobValue). bytes_eq j.owner owner.now && list_any (λ n. n == j.number) numbers.now) (rows w)) }
+    ensures damaged { HasCleanDisk (state S.Store conn.new) → IfErr result (λ e. e ≡ Fault.Damaged → HoldNoQueue (state S.Store conn.old)) }
+{
+    let many = are_many(conn, owner, numbers)?;
+    if many {
+        return picked_of(alloc, conn, owner, numbers);
+    }
+    owned_of(alloc, conn, owner, numbers)
+}
+
 /// The owner's jobs of the numbers, by number.
 pub(crate) fn numbered_jobs<S: Alter>(
     alloc: Global,
@@ -85,5 +160,5 @@ pub(crate) fn numbered_jobs<S: Alter>(
     ensures damaged { HasCleanDisk (state S.Store conn.new) → IfErr result (λ e. e ≡ Fault.Damaged → HoldNoQueue (state S.Store conn.old)) }
 {
     let wanted = in_order(alloc, numbers)?;
-    owned_of(alloc, conn, owner, wanted.as_slice())
+    found_of(alloc, conn, owner, wanted.as_slice())
 }

@@ -5,6 +5,10 @@ pub on_ok : {A E : Type 0} (r : Result A E) (P Q : Type 0) → (P → Q) → OnO
 on_ok (Ok x) P Q then_q p = then_q p
 on_ok (Err e) P Q then_q p = tt
 
+pub on_any : {A E : Type 0} (r : Result A E) (P : Type 0) → P → OnOk r P
+on_any (Ok x) P p = p
+on_any (Err e) P p = tt
+
 pub on_if : {A E : Type 0} (r : Result A E) (P Q : Type 0) → (P → Q) → OnOk r P → IfOk r (λ x. Q)
 on_if (Ok x) P Q then_q p = then_q p
 on_if (Err e) P Q then_q p = tt

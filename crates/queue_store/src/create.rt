@@ -92,7 +92,10 @@ fn create_indexes<S: Alter>(tx: &mut Transaction<'_, S>) -> Result<(), Fault>
 {
     define(tx, "CREATE INDEX jobs_by_owner ON jobs (owner, phase)")?;
     define(tx, "CREATE INDEX jobs_by_end ON jobs (owner, ended)")?;
-    define(tx, "CREATE INDEX jobs_by_phase ON jobs (phase)")?;
+    define(
+        tx,
+        "CREATE INDEX jobs_by_phase ON jobs (phase, hold, incoming)",
+    )?;
     Ok(())
 }
 

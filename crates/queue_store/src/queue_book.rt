@@ -1,8 +1,8 @@
 //! The book in tables as a book that keeps a queue.
-ghost use Rattle.std.specs.Prelude.{◌≡◌, IfErr, IfOk};
+ghost use Rattle.std.specs.Prelude.{◌≡◌, IfErr, IfOk, IsTrue};
 ghost use Rattle.queue_core.specs.Limits.{IsEvent, IsFair, IsMoment, IsReplyTo};
 ghost use Rattle.queue_core.specs.Machine.{decision};
-ghost use Rattle.queue_store.specs.Kept.{IsHonest, StandsFor};
+ghost use Rattle.queue_store.specs.Kept.{IsHonest, StandsFor, shown_by};
 ghost use Rattle.queue_types.specs.Event.{decision_of, event_of};
 
 use crate::book::TableBook;
@@ -40,6 +40,8 @@ impl<S: Alter> QueueBook for TableBook<S> {
     ghost stands = { λ b w. StandsFor S.Store b w };
 
     ghost is_honest = { λ b. IsHonest S.Store b };
+
+    ghost is_live = { λ b. IsTrue (shown_by S.Store b).is_open };
 
     fn decide<'a>(&mut self, now: u32, event: &Event<'a>) -> Result<Decision<'a>, BookFault> {
         let scene = queue_scenes::scene::scene(self.alloc, &mut self.conn, &self.settings, event)?;

@@ -1,5 +1,7 @@
 -- What the UPDATEs of an account do.
-use Rattle.std.proofs.Common.{◌≡◌, inl, inr, ℕ, ℤ, ◌+ℤ◌, List, [], ◌∷◌, filter, length, true, Ok, refl, ap}
+use Rattle.std.proofs.Common.{◌≡◌, inl, inr, ℕ, ℤ, pos, ◌+ℤ◌, List, [], ◌∷◌, filter, length, Bool, true, Ok, refl, sym, ap, subst, subst₂, arith}
+use Rattle.std.proofs.lemmas.Bool.{cases_Bool}
+use Rattle.std.proofs.lemmas.Int.{ints}
 use Rattle.sqlite.specs.declared.types.Value.TheVariants.{Int, Text as Words}
 use Rattle.sqlite.specs.Order.{Row, column}
 use Rattle.sqlite.specs.Ops.{binary, fits_i64}
@@ -17,6 +19,7 @@ use Rattle.queue_tables.specs.Steps.{CanAdd, HasAccount, is_named, with_sums, pl
 use Rattle.queue_tables.proofs.Casts.{cast_int}
 use Rattle.queue_tables.proofs.Statements.{update_sums_text, update_sums_terms, update_sums_where, update_sums_is, update_free_text, update_free_terms, update_free_where, update_free_is, accounts_still}
 use Rattle.queue_tables.proofs.Changing.{updates_row, updates_none, updates_count}
+use Rattle.queue_tables.proofs.Permuting.{replaced_none}
 use Rattle.queue_tables.proofs.Held.{holds_accounts}
 
 -- a sum that 64 bits hold
@@ -59,6 +62,36 @@ adds_sums old new name set_aside done count c has (inr can) h =
     old new (sums_params name set_aside done) (account_values it.named it.free it.set_aside it.done) (anew it.named it.free (it.set_aside +ℤ set_aside) (it.done +ℤ done)) count has.schema (λ r. refl)
     (λ r id keyed is. (sums_shown name it.named it.free it.set_aside it.done set_aside done r id keyed is can.1 can.2, cast_account it.named it.free (it.set_aside +ℤ set_aside) (it.done +ℤ done) id, refl, refl))
     has.rows.accounts it.once h.0) h.1.is_open
+
+-- ---- nothing is added
+
+more_zero : (m : ℤ) → m +ℤ pos 0 ≡ m
+more_zero m = omega (arith, ints)
+
+-- the one row that is put anew is as it was
+replaced_alike : (q : Row → Bool) (f : Row → Row) (t : Row) (vs : List Row) → f t ≡ t → filter q vs ≡ t ∷ [] → replaced q f vs ≡ vs
+replaced_alike q f t [] alike one = refl
+replaced_alike q f t (v ∷ vs) alike one = elim (cases_Bool (q v)) [
+  | inl passed ↦
+      let e : ◌≡◌ {A = List Row} (v ∷ filter q vs) (t ∷ []) = rw passed at one in
+      let same : v ≡ t = cc in
+      let none : filter q vs ≡ [] = cc in
+      rw (passed, subst (λ (x : Row). f x ≡ x) (sym same) alike, replaced_none q f vs none) refl
+  | inr failed ↦ rw failed (ap (λ (k : List Row). v ∷ k) (replaced_alike q f t vs alike (rw failed at one)))
+]
+
+zeros_added : (name : List ℕ) (c : Content) (s : State) → Holds c s → CanAdd name (pos 0) (pos 0) c → Holds (with_sums name (pos 0) (pos 0) c) s
+zeros_added name c s has (inl none) =
+    subst (λ (vs : List Row). Holds (record c { accounts = vs }) s) (sym (replaced_none (is_named name) (λ v. column v 0 ∷ column v 1 ∷ plus (pos 0) (column v 2) ∷ plus (pos 0) (column v 3) ∷ []) c.accounts none)) has
+zeros_added name c s has (inr can) =
+    let it = can.0 in
+    let same = replaced_alike (is_named name) (λ v. column v 0 ∷ column v 1 ∷ plus (pos 0) (column v 2) ∷ plus (pos 0) (column v 3) ∷ []) (account_values it.named it.free it.set_aside it.done) c.accounts
+    (rw (more_zero it.set_aside, more_zero it.done) refl) it.once in
+    subst (λ (vs : List Row). Holds (record c { accounts = vs }) s) (sym same) has
+
+pub adds_nothing : (name : List ℕ) (a b : ℤ) (c : Content) (s : State) → a ≡ pos 0 → b ≡ pos 0 → Holds c s → CanAdd name a b c → Holds (with_sums name a b c) s
+adds_nothing name a b c s first second has can =
+    subst₂ (λ (x y : ℤ). Holds (with_sums name x y c) s) (sym first) (sym second) (zeros_added name c s has (subst₂ (λ (x y : ℤ). CanAdd name x y c) first second can))
 
 -- ---- the free pages
 

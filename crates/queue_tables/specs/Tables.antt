@@ -57,9 +57,9 @@ by_owner_text = codes "CREATE INDEX jobs_by_owner ON jobs (owner, phase)"
 abbrev pub by_end_text : List ℕ
 by_end_text = codes "CREATE INDEX jobs_by_end ON jobs (owner, ended)"
 
--- all jobs by phase
+-- all jobs by phase, and those that wait by what they wait for
 abbrev pub by_phase_text : List ℕ
-by_phase_text = codes "CREATE INDEX jobs_by_phase ON jobs (phase)"
+by_phase_text = codes "CREATE INDEX jobs_by_phase ON jobs (phase, hold, incoming)"
 
 -- ---- the tables
 
@@ -159,7 +159,7 @@ abbrev pub by_end : Index
 by_end = record { name = codes "jobs_by_end"; tree = 13; table = 1; columns = 2 ∷ 14 ∷ []; order = plain; is_unique = false }
 
 abbrev pub by_phase : Index
-by_phase = record { name = codes "jobs_by_phase"; tree = 14; table = 1; columns = 8 ∷ []; order = plain; is_unique = false }
+by_phase = record { name = codes "jobs_by_phase"; tree = 14; table = 1; columns = 8 ∷ 6 ∷ 7 ∷ []; order = plain; is_unique = false }
 
 abbrev pub no_schema : Schema
 no_schema = record { tables = []; indexes = []; views = [] }

@@ -20,7 +20,7 @@ pub(crate) struct SumChange {
     pub printed: i64,
 }
 
-/// Adds to the sums of an account, where it is there.
+/// Adds to the sums of an account, where it is there. A job that is held takes nothing, and then nothing is written.
 pub(crate) fn add_to_sums<S: Alter>(
     tx: &mut Transaction<'_, S>,
     name: &str,
@@ -32,6 +32,9 @@ pub(crate) fn add_to_sums<S: Alter>(
     ensures inside { HasCleanDisk (state S.Store tx.new.conn.now) → OnOk result (IsTrue (state S.Store tx.old.conn.now).in_transaction → IsTrue (state S.Store tx.new.conn.now).in_transaction) }
     ensures done { HasCleanDisk (state S.Store tx.new.conn.now) → OnOk result ((c : Content) → Holds c (state S.Store tx.old.conn.now) → CanAdd name.now more.now.reserved more.now.printed c → Holds (with_sums name.now more.now.reserved more.now.printed c) (state S.Store tx.new.conn.now)) }
 {
+    if more.reserved == 0 && more.printed == 0 {
+        return Ok(());
+    }
     run(
         tx,
         "UPDATE accounts SET reserved = reserved + ?2, printed = printed + ?3 WHERE name = ?1",
@@ -48,19 +51,10 @@ fn insert_account<S: Alter>(tx: &mut Transaction<'_, S>, account: &FreeRow) -> R
     ensures inside { HasCleanDisk (state S.Store tx.new.conn.now) → OnOk result (IsTrue (state S.Store tx.old.conn.now).in_transaction → IsTrue (state S.Store tx.new.conn.now).in_transaction) }
     ensures done { HasCleanDisk (state S.Store tx.new.conn.now) → OnOk result ((c : Content) → Holds c (state S.Store tx.old.conn.now) → Holds (with_account_row (account_values account.now.account account.now.free (pos 0) (pos 0)) c) (state S.Store tx.new.conn.now)) }
 {
-    let none = SumChange {
-        reserved: 0,
-        printed: 0,
-    };
     run(
         tx,
         "INSERT INTO accounts (name, free, reserved, printed) VALUES (?1, ?2, ?3, ?4)",
-        params![
-            account.account.as_str(),
-            &account.free,
-            &none.reserved,
-            &none.printed
-        ],
+        params![account.account.as_str(), &account.free, 0i64, 0i64],
     )?;
     Ok(())
 }

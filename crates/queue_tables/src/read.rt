@@ -29,10 +29,7 @@ pub fn value<T: FromSql>(row: &Row, at: usize) -> Result<T, Fault>
     ensures err { IfErr result (λ e. e ≡ Fault.Damaged → at < length row.now → ¬ T.FromSql.is_readable (column row.now at)) }
     ensures never { IfErr result (λ e. e ≢ Fault.Disk) }
 {
-    match row.get(at) {
-        Ok(x) => Ok(x),
-        Err(e) => Err(fault_of_value(e)),
-    }
+    row.get(at).map_err(fault_of_value)
 }
 
 /// A text.
@@ -53,10 +50,7 @@ pub fn flag(row: &Row, at: usize) -> Result<bool, Fault>
     ensures never { IfErr result (λ e. e ≢ Fault.Disk) }
 {
     let code: i64 = value(row, at)?;
-    match flag_of(code) {
-        Some(b) => Ok(b),
-        None => Err(Fault::Damaged),
-    }
+    flag_of(code).ok_or(Fault::Damaged)
 }
 
 /// The phase of two columns.
@@ -67,10 +61,7 @@ pub fn phase(row: &Row, at: usize, why_at: usize) -> Result<Phase, Fault>
 {
     let code: i64 = value(row, at)?;
     let why: i64 = value(row, why_at)?;
-    match phase_of(code, why) {
-        Some(p) => Ok(p),
-        None => Err(Fault::Damaged),
-    }
+    phase_of(code, why).ok_or(Fault::Damaged)
 }
 
 /// The kind of a report, by its number.
@@ -80,10 +71,7 @@ pub fn kind(row: &Row, at: usize) -> Result<Kind, Fault>
     ensures never { IfErr result (λ e. e ≢ Fault.Disk) }
 {
     let code: i64 = value(row, at)?;
-    match kind_of(code) {
-        Some(kind) => Ok(kind),
-        None => Err(Fault::Damaged),
-    }
+    kind_of(code).ok_or(Fault::Damaged)
 }
 
 /// A document format, by its name.
@@ -92,15 +80,10 @@ pub fn format(row: &Row, at: usize) -> Result<Format, Fault>
     ensures err { IfErr result (λ e. e ≡ Fault.Damaged → at < length row.now → (f : FormatValue) → column row.now at ≢ Words (format_name f)) }
     ensures never { IfErr result (λ e. e ≢ Fault.Disk) }
 {
-    let text = match row.get_ref(at) {
-        Ok(ValueRef::Text(text)) => text,
-        Ok(_) => return Err(Fault::Damaged),
-        Err(_) => return Err(Fault::Damaged),
+    let Ok(ValueRef::Text(text)) = row.get_ref(at) else {
+        return Err(Fault::Damaged);
     };
-    match Format::of_name(text) {
-        Some(f) => Ok(f),
-        None => Err(Fault::Damaged),
-    }
+    Format::of_name(text).ok_or(Fault::Damaged)
 }
 
 /// A moment, or NULL where there is none.

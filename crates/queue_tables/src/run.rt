@@ -21,10 +21,7 @@ pub(crate) fn run<S: Alter>(
     ensures inside { HasCleanDisk (state S.Store tx.new.conn.now) → OnOk result (IsTrue (state S.Store tx.old.conn.now).in_transaction → IsTrue (state S.Store tx.new.conn.now).in_transaction) }
     ensures ran { HasCleanDisk (state S.Store tx.new.conn.now) → IfOk result (λ count. ExecutesInside 0 sql.now (bound params.now) (state S.Store tx.old.conn.now) (state S.Store tx.new.conn.now) (Ok count)) }
 {
-    match tx.execute(sql, params) {
-        Ok(count) => Ok(count),
-        Err(e) => Err(fault_of_write(e)),
-    }
+    tx.execute(sql, params).map_err(fault_of_write)
 }
 
 /// All rows that a query of a transaction shows.

@@ -4,7 +4,7 @@ use Rattle.queue_types.specs.Event.{event_of}
 use Rattle.queue_core.specs.Machine.{decision}
 use Rattle.queue_tables.specs.Content.{content_of}
 use Rattle.queue_store.proofs.Keeping.{still_keeps}
-use Rattle.queue_store.proofs.Results.{if_ok_then}
+use Rattle.queue_store.proofs.Results.{if_ok_then, on_any}
 use Rattle.queue_tables.proofs.Leaving.{held_by}
 use Rattle.queue_store.proofs.queue_book.TableBookQueueBook.decide.Goals as goal
 
@@ -19,3 +19,6 @@ returns-clause-decides g c honest = if_ok_then c.decide_on.result _ _ (λ d deci
     let now = stands honest in
     let held = held_by c.scene.ensures.leaves honest (content_of w) (now.holds (c.in_ok-scene.ensures.live honest)) in
     decided ∙ ap (λ s. decision s c.args.now (event_of c.args.event.now)) (c.in_ok-scene.ensures.shows honest w now.sound held now.settings_are)) c.decide_on.ensures.decides
+
+pub returns-clause-live : goal.returns-clause-live
+returns-clause-live g c honest = on_any c.decide_on.result _ (c.in_ok-scene.ensures.live honest)
