@@ -1,5 +1,5 @@
--- The exit status of a program whose words are read.
-use Rattle.std.proofs.Common.{◌≡◌, ◌≢◌, ◌≤◌, ℕ, Result, Ok, Err, IfOk, IfErr, IsOk, OnOk, subst, arith, true, false}
+-- How a call ended, and the exit status of a program whose words are read.
+use Rattle.std.proofs.Common.{◌≡◌, ◌≢◌, ◌≤◌, ◌⊎◌, ℕ, Result, Ok, Err, IfOk, IfErr, IsOk, OnOk, ap, refl, subst, sym, arith, true, false, inl, inr}
 use Rattle.clap.specs.Kinds.{IsAmong, Kinds}
 use Rattle.clap.specs.declared.error.kind.ErrorKind.{ErrorKind}
 use Rattle.clap.specs.declared.error.kind.ErrorKind.TheVariants.{DisplayHelp, DisplayVersion}
@@ -18,6 +18,18 @@ pub if_ok : {A E : Type 0} (r : Result A E) (P Q : A → Type 0) → IfOk r P �
 if_ok (Ok a) P Q p then_q = then_q a p
 if_ok (Err e) P Q p then_q = tt
 
+pub if_err : {A E : Type 0} (r : Result A E) (P Q : E → Type 0) → IfErr r P → ((e : E) → P e → Q e) → IfErr r Q
+if_err (Ok a) P Q p then_q = tt
+if_err (Err e) P Q p then_q = then_q e p
+
+pub both : {A E : Type 0} (r : Result A E) (P Q : E → Type 0) → IfErr r P → IfErr r Q → IfErr r (λ e. P e × Q e)
+both (Ok a) P Q p q = tt
+both (Err e) P Q p q = (p, q)
+
+-- a writer that stays as it was keeps what it holds
+pub or_same : {S W C : Type 0} (contents : W → C) (new old : W) → S ⊎ (new ≡ old) → S ⊎ (contents new ≡ contents old)
+or_same contents new old quiet = elim quiet [ inl s ↦ inl s | inr same ↦ inr (ap contents same) ]
+
 -- a fault of wrong words asks for no text
 pub asks_nothing : (faults : Kinds) (kind : ErrorKind) → IsAmong kind faults → AreWrong faults → (kind ≢ DisplayHelp) × (kind ≢ DisplayVersion)
 asks_nothing faults kind among wrong =
@@ -34,3 +46,15 @@ pub at_least_one : {A B E : Type 0} (X : Type 0) (outcome : Result ℕ E) (statu
     → IfOk outcome (λ own. A → B → own ≡ 2) → A → B → 1 ≤ status
 at_least_one X (Ok own) status done refused two a b = let same : status ≡ own = done.0 in let is : own ≡ 2 = two a b in omega arith
 at_least_one X (Err fault) status done refused two a b = let is : status ≡ 1 = refused in omega arith
+
+-- what else holds of a command that ended with a status but 1
+pub but_one : {E : Type 0} (X : Type 0) (outcome : Result ℕ E) (status : ℕ) → IfOk outcome (λ own. (status ≡ own) × X) → IfErr outcome (λ fault. status ≡ 1)
+    → status ≢ 1 → IsOk outcome × X
+but_one X (Ok own) status done refused other = (refl, done.1)
+but_one X (Err fault) status done refused other = absurd (other refused)
+
+-- what holds where wrong words have this status
+pub at_status : {E : Type 0} (X : Type 0) (P : ℕ → Type 0) (outcome : Result ℕ E) (status : ℕ) → IfOk outcome (λ own. (status ≡ own) × X)
+    → IsOk outcome → IfOk outcome P → P status
+at_status X P (Ok own) status done ok p = subst P (sym done.0) p
+at_status X P (Err fault) status done ok p = absurd (let no : false ≡ true = ok in cc)

@@ -1,2 +1,3 @@
 pub mod EndingLemmas
+pub mod FaultLemmas
 pub mod StoreLemmas

@@ -1,8 +1,12 @@
 -- What a command does on the book of a store.
-use Rattle.std.specs.Prelude.{◌≡◌, ◌++◌, ℕ, List, Option, Some, length}
+use Rattle.std.specs.Prelude.{◌≡◌, ◌≢◌, ◌≤◌, ◌⊎◌, ◌++◌, ℕ, List, Option, Some, None, length}
 use Rattle.std.specs.Io.KnownBytes.{Appends}
+use Rattle.command_ends.specs.Faults.{IsOfStream}
+use Rattle.command_ends.specs.declared.fault.Fault.{Fault}
+use Rattle.command_ends.specs.declared.fault.Fault.TheVariants.{Damaged, NoAccount, Import as ByFile}
+use Rattle.grants_csv.specs.declared.fault.ImportFault.{ImportFault}
 use Rattle.grants_csv.specs.declared.importing.Imported.{Imported}
-use Rattle.office.specs.Told.{IsTaken, import_line}
+use Rattle.office.specs.Told.{IsRefused, IsTaken, import_line}
 use Rattle.page_statements.specs.Statement.{sheet_text}
 use Rattle.print_server.specs.Connections.{AreConnections}
 use Rattle.print_server.specs.Lines.{listening_line, served_lines}
@@ -13,10 +17,26 @@ use Rattle.queue_types.specs.declared.sheet.AccountSheet.{AccountSheet}
 use Rattle.commands.specs.declared.work.Work.{Work}
 use Rattle.commands.specs.declared.work.Work.TheVariants.{Import, Statement, Serve}
 
+-- the rows of an account file are taken at some moment, so many of them new, and this is the queue after it
+abbrev pub IsImport : World → World → Imported → Type 0
+IsImport w u n = (now : ℕ) × IsMoment now × (bytes : List ℕ) × IsTaken now w u bytes n
+
+-- it is the fault of an account file that is refused at some moment
+abbrev pub IsOfFile : Fault → World → Type 0
+IsOfFile fault w = (told : ImportFault) × (fault ≡ ByFile told) × (now : ℕ) × IsMoment now × (bytes : List ℕ) × IsRefused now w bytes told
+
 -- it made the second queue of the first, and what was written is the output then, where that was the output before:
 -- the rows of an account file are taken, and what became of them is told; the statement of the account is printed, and the
 -- queue stays as it is; so many connections are served, one after the other
 abbrev pub IsDone : Work → World → World → Option (List ℕ) → Option (List ℕ) → Type 0
-IsDone (Import words) w u before after = (now : ℕ) × IsMoment now × (bytes : List ℕ) × (n : Imported) × IsTaken now w u bytes n × Appends before after (import_line n)
+IsDone (Import words) w u before after = (n : Imported) × IsImport w u n × Appends before after (import_line n)
 IsDone (Statement words) w u before after = (u ≡ w) × (s : AccountSheet) × (sheet_of w words.account.now ≡ Some s) × Appends before after (sheet_text s)
 IsDone (Serve words) w u before after = (counts : List ℕ) × AreConnections w counts u × (length counts ≡ words.connections) × Appends before after (listening_line words.port ++ served_lines counts)
+
+-- it is refused with this fault, and left the second queue of the first:
+-- a stream failed or the account file is refused, and nothing is done, or its rows are taken and a stream failed behind them;
+-- the queue stays as it is, and nothing is written but where a stream failed; no more than so many connections are served
+abbrev pub IsNotDone : Work → Fault → World → World → Option (List ℕ) → Option (List ℕ) → Type 0
+IsNotDone (Import words) fault w u before after = (IsOfStream fault ⊎ IsOfFile fault w) × ((u ≡ w) × (after ≡ before) ⊎ (IsOfStream fault × (n : Imported) × IsImport w u n))
+IsNotDone (Statement words) fault w u before after = (fault ≢ Damaged) × (fault ≡ NoAccount → sheet_of w words.account.now ≡ None) × (u ≡ w) × (IsOfStream fault ⊎ (after ≡ before))
+IsNotDone (Serve words) fault w u before after = (fault ≢ Damaged) × (counts : List ℕ) × AreConnections w counts u × (length counts ≤ words.connections)

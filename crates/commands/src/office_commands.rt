@@ -1,8 +1,12 @@
 //! What the office asks of a store.
-ghost use Rattle.std.specs.Prelude.{◌≡◌, ℕ, List, IfOk, OnOk, Some};
+ghost use Rattle.std.specs.Prelude.{◌≡◌, ◌⊎◌, IfErr, IfOk, OnOk, None, Some};
 ghost use Rattle.std.specs.Io.KnownBytes.{Appends};
+ghost use Rattle.command_ends.specs.Faults.{IsOfStream};
+ghost use Rattle.command_ends.specs.declared.fault.Fault.TheVariants.{Damaged, NoAccount, Import as ByFile};
+ghost use Rattle.commands.specs.Work.{IsImport, IsOfFile};
+ghost use Rattle.grants_csv.specs.declared.fault.ImportFault.{ImportFault};
 ghost use Rattle.grants_csv.specs.declared.importing.Imported.{Imported as ImportedRows};
-ghost use Rattle.office.specs.Told.{IsTaken, import_line};
+ghost use Rattle.office.specs.Told.{import_line};
 ghost use Rattle.page_statements.specs.Statement.{sheet_text};
 ghost use Rattle.queue_core.specs.Limits.{IsMoment};
 ghost use Rattle.queue_core.specs.Shown.{sheet_of};
@@ -21,14 +25,16 @@ use std::rt::{Clock, HostRuntime};
 
 /// The present moment of a book's printer.
 fn moment_of<C: Clock, S: Alter>(clock: &C, book: &TableBook<S>) -> Result<u32, Fault>
-    ensures { IfOk result IsMoment }
+    ensures moment { IfOk result IsMoment }
+    ensures failed { IfErr result IsOfStream }
 {
     let settings = book.settings()?;
     let now = present_moment(clock, settings.epoch())?;
     Ok(now)
 }
 
-/// Takes the account file at a path into a book, whole or not at all, and prints `new N repeats M`.
+/// Takes the account file at a path into a book, whole or not at all, and prints `new N repeats M`. A file that is refused leaves the book as it
+/// was, and nothing is printed.
 pub(crate) fn import_into<S: Alter, W: Write>(
     rt: &HostRuntime,
     path: &str,
@@ -37,8 +43,15 @@ pub(crate) fn import_into<S: Alter, W: Write>(
 ) -> Result<(), Fault>
     ensures began { IsHonest S.Store book.new → IsHonest S.Store book.old }
     ensures taken { IsHonest S.Store book.new → OnOk result ((w : World) → StandsFor S.Store book.old w
-        → (now : ℕ) × IsMoment now × (bytes : List ℕ) × (n : ImportedRows) × (u : World) × IsTaken now w u bytes n × StandsFor S.Store book.new u
+        → (n : ImportedRows) × (u : World) × IsImport w u n × StandsFor S.Store book.new u
         × Appends (W.contents output.old) (W.contents output.new) (import_line n)) }
+    ensures left { IsHonest S.Store book.new → IfErr result (λ f. (w : World) → StandsFor S.Store book.old w → StandsFor S.Store book.new w × (output.new ≡ output.old)
+        ⊎ (IsOfStream f × (n : ImportedRows) × (u : World) × IsImport w u n × StandsFor S.Store book.new u)) }
+    ensures refused { IfErr result (λ f. (told : ImportFault) → f ≡ ByFile told → (w : World) → StandsFor S.Store book.old w → StandsFor S.Store book.new w) }
+    // a stream failed, or nothing was written
+    ensures quiet { IfErr result (λ f. IsOfStream f ⊎ (output.new ≡ output.old)) }
+    // a stream failed, or the file is refused
+    ensures why { IsHonest S.Store book.new → IfErr result (λ f. (w : World) → StandsFor S.Store book.old w → IsOfStream f ⊎ IsOfFile f w) }
 {
     let now = moment_of(rt, book)?;
     let file = fs::open(rt, path)?;
@@ -57,6 +70,10 @@ pub(crate) fn print_from<S: Alter, W: Write>(
     ensures kept { (w : World) → StandsFor S.Store book.old w → StandsFor S.Store book.new w }
     ensures printed { IsHonest S.Store book.new → OnOk result ((w : World) → StandsFor S.Store book.old w
         → (s : Sheet) × (sheet_of w account.now ≡ Some s) × Appends (W.contents output.old) (W.contents output.new) (sheet_text s)) }
+    ensures unknown { IsHonest S.Store book.new → IfErr result (λ f. f ≡ NoAccount → (w : World) → StandsFor S.Store book.old w → sheet_of w account.now ≡ None) }
+    ensures damaged { IsHonest S.Store book.new → IfErr result (λ f. f ≡ Damaged → (w : World) → ¬ StandsFor S.Store book.old w) }
+    // a stream failed, or nothing was written
+    ensures quiet { IfErr result (λ f. IsOfStream f ⊎ (output.new ≡ output.old)) }
 {
     print_statement(rt.alloc(), output, book, account)?;
     Ok(())

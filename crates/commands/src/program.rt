@@ -1,5 +1,5 @@
 //! The program: its words, the command that they name and the exit status.
-ghost use Rattle.std.specs.Prelude.{◌≡◌, ◌≤◌, [], IfOk, map};
+ghost use Rattle.std.specs.Prelude.{◌≡◌, ◌≤◌, [], IfErr, IfOk, IsErrOf, IsOk, map};
 ghost use Rattle.clap.specs.Words.{fault_of};
 ghost use Rattle.command_words.specs.CommandLine.{definition};
 ghost use Rattle.commands.specs.Words.{AreWrong};
@@ -15,14 +15,18 @@ use std::rt::HostRuntime;
 
 /// Closes the store of a command that was done, so that its file alone keeps all of it. Where that fails nothing is lost and nothing is told: what was
 /// done is in the log.
-fn close(done: Result<FileBook<Unknown>, Fault>) -> Result<(), Fault> {
+fn close(done: Result<FileBook<Unknown>, Fault>) -> Result<(), Fault>
+    ensures done { IfOk done (λ book. IsOk result) }
+    ensures refused { IfErr done (λ fault. IsErrOf result fault) }
+{
     let _closed = done?.close_files();
     Ok(())
 }
 
 /// Does what a command asks, and gives the exit status.
 fn do_command<O: Write>(rt: &HostRuntime, command: Command<'_>, out: &mut O) -> Result<u8, Fault>
-    ensures { IfOk result (λ status. status ≤ 1) }
+    ensures status { IfOk result (λ status. status ≤ 1) }
+    ensures replayed { IfOk result (λ status. status ≡ 1 → command.entry ≡ Command.Replay) }
 {
     match command {
         Command::Init(words) => close(make_store(rt, words, Unknown))?,
@@ -44,6 +48,8 @@ pub fn run<O: Write, E: Write>(rt: &HostRuntime, words: &[&str], out: &mut O, er
     ensures named { fault_of definition (map (λ w. w.now) words.now) ≡ [] → result ≤ 1 }
     ensures wrong { AreWrong (fault_of definition (map (λ w. w.now) words.now)) → 1 ≤ result }
     ensures status { result ≤ 2 }
+    ensures silent { result ≡ 0 → err.new ≡ err.old }
+    ensures unprinted { result ≡ 2 → out.new ≡ out.old }
 {
     match command(rt.alloc(), words) {
         Ok(command) => {

@@ -1,10 +1,12 @@
 //! Connections over a store.
-ghost use Rattle.std.specs.Prelude.{◌≡◌, ◌++◌, ℕ, List, OnOk, length};
+ghost use Rattle.std.specs.Prelude.{◌≡◌, ◌≤◌, ◌++◌, ℕ, List, IfErr, OnErr, OnOk, length};
 ghost use Rattle.std.specs.Io.KnownBytes.{Appends};
-ghost use Rattle.command_ends.specs.Faults.{fault_of_book};
+ghost use Rattle.std.specs.declared.io.Error.{Error as StreamError};
+ghost use Rattle.command_ends.specs.Faults.{IsOfStream, fault_of_book};
+ghost use Rattle.command_ends.specs.declared.fault.Fault.TheVariants.{Damaged};
 ghost use Rattle.print_server.specs.Connections.{AreConnections};
 ghost use Rattle.print_server.specs.Lines.{listening_line, served_lines};
-ghost use Rattle.print_server.specs.declared.fault.ServerFault.TheVariants.{Book as ByBook};
+ghost use Rattle.print_server.specs.declared.fault.ServerFault.TheVariants.{Book as ByBook, Io as ByStream};
 ghost use Rattle.queue_core.specs.World.{World};
 ghost use Rattle.queue_core.specs.declared.book.BookFault.{BookFault};
 ghost use Rattle.queue_store.specs.Kept.{IsHonest, StandsFor};
@@ -21,7 +23,8 @@ use std::rt::HostRuntime;
 
 /// A server that stopped.
 fn fault_of_server(stopped: ServerFault) -> Fault
-    ensures { (fault : BookFault) → stopped ≡ ByBook fault → result ≡ fault_of_book fault }
+    ensures book { (fault : BookFault) → stopped ≡ ByBook fault → result ≡ fault_of_book fault }
+    ensures stream { (error : StreamError) → stopped ≡ ByStream error → IsOfStream result }
 {
     match stopped {
         ServerFault::Io(error) => Fault::from(error),
@@ -42,6 +45,9 @@ fn serve_at<S: Alter, W: Write>(
     ensures served { IsHonest S.Store book.new → OnOk result ((w : World) → StandsFor S.Store book.old w → settings.now ≡ w.settings
         → (u : World) × StandsFor S.Store book.new u × (counts : List ℕ) × AreConnections w counts u × (length counts ≡ words.entry.connections)
         × Appends (W.contents output.old) (W.contents output.new) (served_lines counts)) }
+    ensures err { IsHonest S.Store book.new → OnErr result ((w : World) → StandsFor S.Store book.old w → settings.now ≡ w.settings
+        → (u : World) × StandsFor S.Store book.new u × (counts : List ℕ) × AreConnections w counts u × (length counts ≤ words.entry.connections)) }
+    ensures damaged { IsHonest S.Store book.new → IfErr result (λ f. f ≡ Damaged → (w : World) → StandsFor S.Store book.old w → settings.now ≡ w.settings → ⊥) }
 {
     let service = Service {
         alloc: rt.alloc(),
@@ -66,6 +72,10 @@ pub(crate) fn serve_book<S: Alter, W: Write>(
     ensures served { IsHonest S.Store book.new → OnOk result ((w : World) → StandsFor S.Store book.old w
         → (u : World) × StandsFor S.Store book.new u × (counts : List ℕ) × AreConnections w counts u × (length counts ≡ words.entry.connections)
         × Appends (W.contents output.old) (W.contents output.new) (listening_line words.entry.port ++ served_lines counts)) }
+    // no more than so many connections were served
+    ensures err { IsHonest S.Store book.new → OnErr result ((w : World) → StandsFor S.Store book.old w
+        → (u : World) × StandsFor S.Store book.new u × (counts : List ℕ) × AreConnections w counts u × (length counts ≤ words.entry.connections)) }
+    ensures damaged { IsHonest S.Store book.new → IfErr result (λ f. f ≡ Damaged → (w : World) → ¬ StandsFor S.Store book.old w) }
 {
     let settings = book.settings()?;
     let listener = listen(rt, output, words.port)?;

@@ -1,11 +1,11 @@
 //! What a command does on the store that is at a path.
-ghost use Rattle.std.specs.Prelude.{IfOk, OnOk};
+ghost use Rattle.std.specs.Prelude.{IfErr, IfOk, OnOk};
 ghost use Rattle.sqlite.specs.Files.{over_files};
 ghost use Rattle.sqlite_wal.specs.Files.{image_at};
 ghost use Rattle.queue_core.specs.World.{World};
 ghost use Rattle.queue_store.specs.Kept.{IsHonest, StandsFor};
 ghost use Rattle.queue_store.specs.Opened.{FitsFile, IsKeptIn};
-ghost use Rattle.commands.specs.Work.{IsDone};
+ghost use Rattle.commands.specs.Work.{IsDone, IsNotDone};
 
 use crate::office_commands::{import_into, print_from};
 use crate::serving::serve_book;
@@ -52,6 +52,8 @@ fn work_on<S: Alter, W: Write>(
     ensures began { IsHonest S.Store book.new → IsHonest S.Store book.old }
     ensures done { IsHonest S.Store book.new → OnOk result ((w : World) → StandsFor S.Store book.old w
         → (u : World) × StandsFor S.Store book.new u × IsDone work.entry w u (W.contents output.old) (W.contents output.new)) }
+    ensures refused { IsHonest S.Store book.new → IfErr result (λ fault. (w : World) → StandsFor S.Store book.old w
+        → (u : World) × StandsFor S.Store book.new u × IsNotDone work.entry fault w u (W.contents output.old) (W.contents output.new)) }
 {
     match work {
         Work::Import(words) => import_into(rt, words.file, output, book),
@@ -70,6 +72,8 @@ fn work_in<D: Disk + Drop, W: Write>(
     ensures began { IsHonest over_files book.new → IsHonest over_files book.old }
     ensures done { IsHonest over_files book.new → OnOk result ((w : World) → StandsFor over_files book.old w
         → (u : World) × StandsFor over_files book.new u × IsDone work.entry w u (W.contents output.old) (W.contents output.new)) }
+    ensures refused { IsHonest over_files book.new → IfErr result (λ fault. (w : World) → StandsFor over_files book.old w
+        → (u : World) × StandsFor over_files book.new u × IsNotDone work.entry fault w u (W.contents output.old) (W.contents output.new)) }
 {
     work_on(rt, work, output, book)
 }

@@ -42,7 +42,7 @@ fn tell<W: Write>(writer: &mut W, imported: Imported) -> Result<(), OfficeFault>
 /// Takes the rows of an account file at this moment as one event, all of them or none, and writes `new N repeats M`: how many of them are
 /// new, and how many equal one accepted before. Of a file no more than 16,777,217 bytes are read.
 ///
-/// A file that is refused leaves the book as it was. Where only the writer fails, the file was taken.
+/// A file that is refused leaves the book as it was, and nothing is written. Where only the writer fails, the file was taken.
 pub fn import_file<R: Read + Drop, W: Write, B: QueueBook>(
     alloc: Global,
     reader: R,
@@ -55,9 +55,11 @@ pub fn import_file<R: Read + Drop, W: Write, B: QueueBook>(
     ensures taken { B.is_honest book.new → OnOk result ((w : World) → B.stands book.old w
         → (bytes : List ℕ) × AreReadOf (R.remaining reader) bytes × (n : ImportedRows) × (u : World) × IsTaken now w u bytes n × B.stands book.new u
         × Appends (W.contents writer.old) (W.contents writer.new) (import_line n)) }
-    ensures left { B.is_honest book.new → IfErr result (λ f. (w : World) → B.stands book.old w → B.stands book.new w
+    ensures left { B.is_honest book.new → IfErr result (λ f. (w : World) → B.stands book.old w → B.stands book.new w × (writer.new ≡ writer.old)
         ⊎ (IsOfStream f × (bytes : List ℕ) × AreReadOf (R.remaining reader) bytes × (n : ImportedRows) × (u : World) × IsTaken now w u bytes n × B.stands book.new u)) }
     ensures refused { IfErr result (λ f. (told : ImportFault) → f ≡ Import told → (w : World) → B.stands book.old w → B.stands book.new w) }
+    // a stream failed, or nothing was written
+    ensures quiet { IfErr result (λ f. IsOfStream f ⊎ (writer.new ≡ writer.old)) }
     // a stream failed, or the file is refused
     ensures why { B.is_honest book.new → IfErr result (λ f. (w : World) → B.stands book.old w
         → IsOfStream f ⊎ ((told : ImportFault) × (f ≡ Import told) × (bytes : List ℕ) × AreReadOf (R.remaining reader) bytes × IsRefused now w bytes told)) }

@@ -1,5 +1,5 @@
 //! The statement of an account is printed.
-ghost use Rattle.std.specs.Prelude.{◌≡◌, OnOk, IfErr, None, Some};
+ghost use Rattle.std.specs.Prelude.{◌≡◌, ◌⊎◌, OnOk, IfErr, None, Some};
 ghost use Rattle.std.specs.Io.KnownBytes.{Appends};
 ghost use Rattle.office.specs.declared.fault.OfficeFault.TheVariants.{Damaged, NoAccount};
 ghost use Rattle.office.specs.Faults.{IsOfStream};
@@ -42,6 +42,8 @@ pub fn print_statement<W: Write, B: QueueBook>(
         → (s : Sheet) × (sheet_of w account.now ≡ Some s) × Appends (W.contents writer.old) (W.contents writer.new) (sheet_text s)) }
     ensures unknown { B.is_honest book.new → IfErr result (λ f. f ≡ NoAccount → (w : World) → B.stands book.old w → sheet_of w account.now ≡ None) }
     ensures damaged { B.is_honest book.new → IfErr result (λ f. f ≡ Damaged → (w : World) → ¬ B.stands book.old w) }
+    // a stream failed, or nothing was written
+    ensures quiet { IfErr result (λ f. IsOfStream f ⊎ (writer.new ≡ writer.old)) }
 {
     match book.sheet(account)? {
         Some(sheet) => write_sheet(alloc, writer, &sheet),

@@ -1,16 +1,16 @@
-use Rattle.std.proofs.Common.{◌≤◌, lit≤, arith}
-use Rattle.commands.proofs.EndingLemmas.{asks_nothing, at_least_one, at_most}
+use Rattle.std.proofs.Common.{◌≤◌, ◌∙◌, lit≤, arith}
+use Rattle.commands.proofs.EndingLemmas.{asks_nothing, at_least_one, at_most, at_status, but_one}
 use Rattle.commands.proofs.program.run.Goals as goal
 
 pub returns-in-Ok-clause-named : goal.returns-in-Ok-clause-named
-returns-in-Ok-clause-named g c = λ none. at_most _ c.do_command-done.result c.end.result 1 c.end.ensures.done c.end.ensures.refused c.do_command-done.ensures (lit≤ tt)
+returns-in-Ok-clause-named g c = λ none. at_most _ c.do_command-done.result c.end.result 1 c.end.ensures.done c.end.ensures.refused c.do_command-done.ensures.status (lit≤ tt)
 
 pub returns-in-Ok-clause-wrong : goal.returns-in-Ok-clause-wrong
 returns-in-Ok-clause-wrong g c = λ wrong. absurd (wrong.0 c.in-Ok.ensures.taken)
 
 pub returns-in-Ok-clause-status : goal.returns-in-Ok-clause-status
 returns-in-Ok-clause-status g c =
-    let few : c.end.result ≤ 1 = at_most _ c.do_command-done.result c.end.result 1 c.end.ensures.done c.end.ensures.refused c.do_command-done.ensures (lit≤ tt) in omega arith
+    let few : c.end.result ≤ 1 = at_most _ c.do_command-done.result c.end.result 1 c.end.ensures.done c.end.ensures.refused c.do_command-done.ensures.status (lit≤ tt) in omega arith
 
 pub returns-in-Err-Words-clause-named : goal.returns-in-Err-Words-clause-named
 returns-in-Err-Words-clause-named g c = λ none.
@@ -26,3 +26,20 @@ returns-in-Err-Words-clause-wrong g c = λ wrong.
 pub returns-in-Err-Words-clause-status : goal.returns-in-Err-Words-clause-status
 returns-in-Err-Words-clause-status g c =
     at_most _ c.tell_words-told.result c.end-in-Err-Words.result 2 c.end-in-Err-Words.ensures.done c.end-in-Err-Words.ensures.refused c.tell_words-told.ensures.status (lit≤ tt)
+
+pub returns-in-Ok-clause-silent : goal.returns-in-Ok-clause-silent
+returns-in-Ok-clause-silent g c = λ zero. (but_one _ c.do_command-done.result c.end.result c.end.ensures.done c.end.ensures.refused (λ one. absurd (omega arith))).1
+
+pub returns-in-Ok-clause-unprinted : goal.returns-in-Ok-clause-unprinted
+returns-in-Ok-clause-unprinted g c = λ two.
+    let few : c.end.result ≤ 1 = at_most _ c.do_command-done.result c.end.result 1 c.end.ensures.done c.end.ensures.refused c.do_command-done.ensures.status (lit≤ tt) in absurd (omega arith)
+
+pub returns-in-Err-Words-clause-silent : goal.returns-in-Err-Words-clause-silent
+returns-in-Err-Words-clause-silent g c = λ zero.
+    let done = but_one _ c.tell_words-told.result c.end-in-Err-Words.result c.end-in-Err-Words.ensures.done c.end-in-Err-Words.ensures.refused (λ one. absurd (omega arith)) in
+    done.1 ∙ (at_status _ _ c.tell_words-told.result c.end-in-Err-Words.result c.end-in-Err-Words.ensures.done done.0 c.tell_words-told.ensures.apart).1 zero
+
+pub returns-in-Err-Words-clause-unprinted : goal.returns-in-Err-Words-clause-unprinted
+returns-in-Err-Words-clause-unprinted g c = λ two.
+    let done = but_one _ c.tell_words-told.result c.end-in-Err-Words.result c.end-in-Err-Words.ensures.done c.end-in-Err-Words.ensures.refused (λ one. absurd (omega arith)) in
+    (at_status _ _ c.tell_words-told.result c.end-in-Err-Words.result c.end-in-Err-Words.ensures.done done.0 c.tell_words-told.ensures.apart).0 two

@@ -1,6 +1,9 @@
+use Rattle.std.proofs.Common.{[], refl, arith}
 use Rattle.std.proofs.KnownBytes.{Appends-trans}
+use Rattle.std.proofs.lemmas.Result.{err_from_is_err_and}
 use Rattle.print_server.specs.Lines.{listening_line, served_lines}
-use Rattle.commands.proofs.EndingLemmas.{on_ok}
+use Rattle.commands.proofs.EndingLemmas.{if_err, on_ok}
+use Rattle.commands.proofs.FaultLemmas.{no_damage}
 use Rattle.commands.proofs.serving.serve_book.Goals as goal
 
 pub returns-clause-served : goal.returns-clause-served
@@ -15,3 +18,26 @@ returns-clause-served g c = λ honest. on_ok c.serve_at.result (c.serve_at.ensur
       Appends-trans (g.W.Write.contents c.args.output.now) (g.W.Write.contents c.listen.new.out) (g.W.Write.contents c.serve_at.new.output)
           (listening_line c.args.words.port) (served_lines end.2) c.in_ok-listener.ensures end.5,
     ))
+
+pub returns-clause-err : goal.returns-clause-err
+returns-clause-err g c = λ honest. if_err c.serve_at.result _ _ (c.serve_at.ensures.err honest) (λ fault left w stands.
+    left w stands (c.in_ok-settings.ensures w (c.serve_at.ensures.began honest) stands))
+
+pub returns-clause-damaged : goal.returns-clause-damaged
+returns-clause-damaged g c = λ honest. if_err c.serve_at.result _ _ (c.serve_at.ensures.damaged honest) (λ fault never is w stands.
+    never is w stands (c.in_ok-settings.ensures w (c.serve_at.ensures.began honest) stands))
+
+pub returns-in_err-settings-clause-err : goal.returns-in_err-settings-clause-err
+returns-in_err-settings-clause-err g c = λ honest.
+    let p = err_from_is_err_and c.from_residual.result c.from_residual.ensures.1 in
+    rw p.1 (λ w stands. (w, stands, [], refl, omega arith))
+
+pub returns-in_err-listener-clause-err : goal.returns-in_err-listener-clause-err
+returns-in_err-listener-clause-err g c = λ honest.
+    let p = err_from_is_err_and c.from_residual-in_err-listener.result c.from_residual-in_err-listener.ensures.1 in
+    rw p.1 (λ w stands. (w, stands, [], refl, omega arith))
+
+pub returns-in_err-listener-clause-damaged : goal.returns-in_err-listener-clause-damaged
+returns-in_err-listener-clause-damaged g c = λ honest.
+    let p = err_from_is_err_and c.from_residual-in_err-listener.result c.from_residual-in_err-listener.ensures.1 in
+    rw p.1 (λ is. absurd (no_damage _ p.2 is))

@@ -1,14 +1,16 @@
-use Rattle.std.proofs.Common.{refl, subst, sym}
-use Rattle.commands.specs.Work.{IsDone}
-use Rattle.commands.proofs.EndingLemmas.{on_ok}
+use Rattle.std.proofs.Common.{ap, refl, subst, sym, inl, inr}
+use Rattle.queue_core.specs.World.{World}
+use Rattle.commands.specs.Work.{IsDone, IsNotDone}
+use Rattle.commands.specs.declared.work.Work.TheVariants.{Import}
+use Rattle.commands.proofs.EndingLemmas.{both, if_err, on_ok, or_same}
 use Rattle.commands.proofs.work.work_on.Goals as goal
 
 pub returns-in-Import-clause-done : goal.returns-in-Import-clause-done
 returns-in-Import-clause-done g c = λ honest. on_ok c.import_into.result (c.import_into.ensures.taken honest) (λ told w stands.
     let it = told w stands in (
-      it.4,
-      it.6,
-      subst (λ work. IsDone work w it.4 (g.W.Write.contents c.args.output.now) (g.W.Write.contents c.import_into.new.output)) (sym c.in-Import.is) (it.0, it.1, it.2, it.3, it.5, it.7),
+      it.1,
+      it.3,
+      subst (λ work. IsDone work w it.1 (g.W.Write.contents c.args.output.now) (g.W.Write.contents c.import_into.new.output)) (sym c.in-Import.is) (it.0, it.2, it.4),
     ))
 
 pub returns-in-Statement-clause-done : goal.returns-in-Statement-clause-done
@@ -25,4 +27,42 @@ returns-in-Serve-clause-done g c = λ honest. on_ok c.serve_book.result (c.serve
       it.0,
       it.1,
       subst (λ work. IsDone work w it.0 (g.W.Write.contents c.args.output.now) (g.W.Write.contents c.serve_book.new.output)) (sym c.in-Serve.is) (it.2, it.3, it.4, it.5),
+    ))
+
+pub returns-in-Import-clause-refused : goal.returns-in-Import-clause-refused
+returns-in-Import-clause-refused g c = λ honest.
+    if_err c.import_into.result _ _ (both c.import_into.result _ _ (c.import_into.ensures.left honest) (c.import_into.ensures.why honest)) (λ fault told w stands.
+    let at = λ (u : World). λ (it : IsNotDone (Import c.in-Import.words) fault w u (g.W.Write.contents c.args.output.now) (g.W.Write.contents c.import_into.new.output)).
+    subst (λ work. IsNotDone work fault w u (g.W.Write.contents c.args.output.now) (g.W.Write.contents c.import_into.new.output)) (sym c.in-Import.is) it in
+    elim (told.0 w stands) [
+      | inl same ↦ (w, same.0, at w (told.1 w stands, inl (refl, ap g.W.Write.contents same.1)))
+      | inr taken ↦ (taken.2, taken.4, at taken.2 (told.1 w stands, inr (taken.0, taken.1, taken.3)))
+    ])
+
+pub returns-in-Statement-clause-refused : goal.returns-in-Statement-clause-refused
+returns-in-Statement-clause-refused g c = λ honest.
+    let told = both c.print_from.result _ _ (both c.print_from.result _ _ (c.print_from.ensures.damaged honest) (c.print_from.ensures.unknown honest)) c.print_from.ensures.quiet in
+    if_err c.print_from.result _ _ told (λ fault it w stands. (
+      w,
+      c.print_from.ensures.kept w stands,
+      subst (λ work. IsNotDone work fault w w (g.W.Write.contents c.args.output.now) (g.W.Write.contents c.print_from.new.output)) (sym c.in-Statement.is) (
+        (λ is. it.0.0 is w stands),
+        (λ is. it.0.1 is w stands),
+        refl,
+        or_same g.W.Write.contents _ _ it.1,
+      ),
+    ))
+
+pub returns-in-Serve-clause-refused : goal.returns-in-Serve-clause-refused
+returns-in-Serve-clause-refused g c = λ honest.
+    if_err c.serve_book.result _ _ (both c.serve_book.result _ _ (c.serve_book.ensures.err honest) (c.serve_book.ensures.damaged honest)) (λ fault it w stands.
+    let left = it.0 w stands in (
+      left.0,
+      left.1,
+      subst (λ work. IsNotDone work fault w left.0 (g.W.Write.contents c.args.output.now) (g.W.Write.contents c.serve_book.new.output)) (sym c.in-Serve.is) (
+        (λ is. it.1 is w stands),
+        left.2,
+        left.3,
+        left.4,
+      ),
     ))
