@@ -1,7 +1,7 @@
 //! Tables in two files of a disk that stops.
 
 use book_desk::{Desk, Place, Shelf, Step, StepFault};
-use queue_core::book::BookFault;
+use queue_core::book::{BookFault, QueueBook};
 use queue_store::TableBook;
 use queue_types::settings::Settings;
 use sqlite::{Alter, Connection, Error, ErrorCode, FileStore, Files, Options};
@@ -75,6 +75,11 @@ fn file_of(alloc: Global, bytes: &[u8], calls: u64) -> Result<StoppingFile, Step
 /// No further call of the file is well.
 fn is_spent(file: &mut StoppingFile) -> bool {
     !file.may_be_used() || file.len().is_err()
+}
+
+/// No further call of one of the files is well.
+fn is_one_spent(files: &mut Files<StoppingFile>) -> bool {
+    is_spent(&mut files.log) || is_spent(&mut files.db)
 }
 
 impl Left<'_> {
@@ -180,29 +185,6 @@ fn book_over<S: Alter + Drop>(
     }
 }
 
-/// `book_over` over files.
-fn book_over_files<D: Disk + Drop>(
-    alloc: Global,
-    conn: Connection<FileStore<D>>,
-    settings: Option<Settings>,
-) -> Result<TableBook<FileStore<D>>, (BookFault, FileStore<D>)> {
-    book_over(alloc, conn, settings)
-}
-
-/// A new book in two files, where settings of it are given, and else the book that they hold. A refusal gives them back.
-fn book_in<D: Disk + Drop>(
-    alloc: Global,
-    files: Files<D>,
-    options: Options,
-    settings: Option<Settings>,
-) -> Result<TableBook<FileStore<D>>, (BookFault, Files<D>)> {
-    let conn = connect(alloc, files, options)?;
-    match book_over_files(alloc, conn, settings) {
-        Ok(book) => Ok(book),
-        Err((fault, store)) => Err((fault, store.close())),
-    }
-}
-
 /// An earlier fault shut the store of a connection for good.
 fn is_shut<S: Alter>(conn: &mut Connection<S>) -> bool {
     match conn.prepare("SELECT 1") {
@@ -264,9 +246,9 @@ fn are_looked_at(steps: &[Step<'_>]) -> bool {
 }
 
 /// Looks once more at a book where a step has met the stop.
-fn look_again<S: Alter>(
+fn look_again<B: QueueBook>(
     desk: &mut Desk,
-    book: &mut TableBook<S>,
+    book: &mut B,
     look: Step<'_>,
 ) -> Result<End, StepFault> {
     let place = desk.place();
@@ -279,9 +261,9 @@ fn look_again<S: Alter>(
 }
 
 /// Takes steps and then others over a book until one meets the stop.
-fn take_to_stop<S: Alter>(
+fn take_to_stop<B: QueueBook>(
     desk: &mut Desk,
-    book: &mut TableBook<S>,
+    book: &mut B,
     steps: &[Step<'_>],
     last: &[Step<'_>],
 ) -> Result<End, StepFault> {
@@ -297,9 +279,9 @@ fn take_to_stop<S: Alter>(
 }
 
 /// Takes steps and then others.
-fn take_both<S: Alter>(
+fn take_both<B: QueueBook>(
     desk: &mut Desk,
-    book: &mut TableBook<S>,
+    book: &mut B,
     steps: &[Step<'_>],
     last: &[Step<'_>],
 ) -> Result<(), StepFault> {
@@ -322,19 +304,42 @@ fn take_and_close<S: Alter + Drop>(
     }
 }
 
-/// `take_and_close` over a book in files, which it gives back.
-fn take_in_book<D: Disk + Drop>(
+/// How steps end whose book can't be made or opened.
+fn unopened(fault: BookFault) -> Result<End, StepFault> {
+    match fault {
+        BookFault::Disk => Ok(End::Unopened),
+        BookFault::Memory | BookFault::Damaged => Err(StepFault::Book(fault)),
+    }
+}
+
+/// Makes or opens the book in a store, takes steps and then others over it until one meets the stop, and gives the
+/// store back.
+fn take_in_store<S: Alter + Drop>(
     desk: &mut Desk,
-    book: TableBook<FileStore<D>>,
+    conn: Connection<S>,
+    settings: Option<Settings>,
+    steps: &[Step<'_>],
+    last: &[Step<'_>],
+) -> (Result<End, StepFault>, S) {
+    match book_over(desk.alloc(), conn, settings) {
+        Ok(book) => take_and_close(desk, book, steps, last),
+        Err((fault, store)) => (unopened(fault), store),
+    }
+}
+
+/// `take_in_store` over files, which it gives back.
+fn take_in_file_store<D: Disk + Drop>(
+    desk: &mut Desk,
+    conn: Connection<FileStore<D>>,
+    settings: Option<Settings>,
     steps: &[Step<'_>],
     last: &[Step<'_>],
 ) -> (Result<End, StepFault>, Files<D>) {
-    let (ended, store) = take_and_close(desk, book, steps, last);
+    let (ended, store) = take_in_store(desk, conn, settings, steps, last);
     (ended, store.close())
 }
 
-/// Makes or opens the book of two files, takes steps and then others over it until one meets the stop, and gives the
-/// files back.
+/// `take_in_store` over two files that are opened with these options.
 fn take_in_files(
     desk: &mut Desk,
     files: Files<StoppingFile>,
@@ -343,10 +348,18 @@ fn take_in_files(
     steps: &[Step<'_>],
     last: &[Step<'_>],
 ) -> (Result<End, StepFault>, Files<StoppingFile>) {
-    match book_in(desk.alloc(), files, options, settings) {
-        Ok(book) => take_in_book(desk, book, steps, last),
-        Err((BookFault::Disk, files)) => (Ok(End::Unopened), files),
-        Err((fault, files)) => (Err(StepFault::Book(fault)), files),
+    match connect(desk.alloc(), files, options) {
+        Ok(conn) => take_in_file_store(desk, conn, settings, steps, last),
+        Err((fault, files)) => (unopened(fault), files),
+    }
+}
+
+/// Steps over files of which one is spent have met the stop; over others each was well.
+fn has_stopped(ended: End, is_spent: bool) -> Result<bool, StepFault> {
+    match (is_spent, ended) {
+        (true, _) => Ok(true),
+        (false, End::Well) => Ok(false),
+        (false, End::Unopened | End::Stopped | End::Answering) => Err(StepFault::NoStop),
     }
 }
 
@@ -423,6 +436,20 @@ impl Stopping<'_> {
         }
     }
 
+    /// What is left of files that stopped behind some of the steps is well.
+    fn compare_files(
+        self,
+        desk: &mut Desk,
+        files: Files<StoppingFile>,
+        begun: Place,
+        steps: &[Step<'_>],
+    ) -> Result<(), StepFault> {
+        let remains = Remains::of(desk.alloc(), files)?;
+        let place = desk.place();
+        let rest = steps.get(place.behind(begun)..).unwrap_or(&[]);
+        self.compare_remains(desk, &remains, place, rest)
+    }
+
     /// What a stop left is well, however much of it was synced.
     fn compare_remains(
         self,
@@ -467,21 +494,14 @@ impl Stopping<'_> {
     ) -> Result<bool, StepFault> {
         let begun = desk.place();
         let (ended, mut files) = self.take_stopping(desk, kept, stop, steps)?;
-        let spent = is_spent(&mut files.log) || is_spent(&mut files.db);
-        if !spent {
-            return match ended {
-                End::Well => Ok(false),
-                End::Unopened | End::Stopped | End::Answering => Err(StepFault::NoStop),
-            };
-        }
         // a book that was not made has nothing to tell
-        if kept.is_none() && ended == End::Unopened {
-            return Ok(true);
+        let is_none = kept.is_none() && ended == End::Unopened;
+        if !has_stopped(ended, is_one_spent(&mut files))? {
+            return Ok(false);
         }
-        let remains = Remains::of(desk.alloc(), files)?;
-        let place = desk.place();
-        let rest = steps.get(place.behind(begun)..).unwrap_or(&[]);
-        self.compare_remains(desk, &remains, place, rest)?;
+        if !is_none {
+            self.compare_files(desk, files, begun, steps)?;
+        }
         Ok(true)
     }
 
@@ -520,6 +540,19 @@ impl Stopping<'_> {
         Err(StepFault::NoEnd)
     }
 
+    /// Takes the steps once for each call of each file that may stop them.
+    fn stop_each_file(
+        self,
+        desk: &mut Desk,
+        kept: Option<&Contents>,
+        steps: &[Step<'_>],
+    ) -> Result<(), StepFault> {
+        let place = desk.place();
+        self.stop_at_each(desk, kept, Stop::Log { calls: 0 }, steps)?;
+        desk.go_to(place);
+        self.stop_at_each(desk, kept, Stop::Database { calls: 0 }, steps)
+    }
+
     /// The files as the steps begin, where their book is not a new one.
     fn kept(self, desk: &mut Desk, first: &[Step<'_>]) -> Result<Option<Contents>, StepFault> {
         if first.is_empty() {
@@ -544,9 +577,6 @@ impl Shelf for Stopping<'_> {
             return Err(StepFault::NoLook);
         }
         let kept = self.kept(desk, first)?;
-        let place = desk.place();
-        self.stop_at_each(desk, kept.as_ref(), Stop::Log { calls: 0 }, steps)?;
-        desk.go_to(place);
-        self.stop_at_each(desk, kept.as_ref(), Stop::Database { calls: 0 }, steps)
+        self.stop_each_file(desk, kept.as_ref(), steps)
     }
 }

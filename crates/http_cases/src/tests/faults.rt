@@ -30,6 +30,8 @@ impl<B: QueueBook> QueueBook for BrokenBook<B> {
 
     ghost is_honest = { λ b. ⊥ };
 
+    ghost is_live = { λ b. ⊥ };
+
     ghost sound = { λ b w h s. absurd h };
 
     fn decide<'a>(&mut self, now: u32, e: &Event<'a>) -> Result<Decision<'a>, BookFault> {

@@ -27,6 +27,8 @@ impl QueueBook for FaultyBook {
 
     ghost is_honest = { λ b. ⊥ };
 
+    ghost is_live = { λ b. ⊥ };
+
     ghost sound = { λ b w h s. absurd h };
 
     fn decide<'a>(&mut self, _now: u32, _e: &Event<'a>) -> Result<Decision<'a>, BookFault> {

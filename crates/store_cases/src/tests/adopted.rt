@@ -27,7 +27,7 @@ fn fill_and_show<B: QueueBook>(
     shown(&Desk::new(alloc, settings, 100), book)
 }
 
-/// What a plain book of the queue shows at moment 100.
+/// What a book in lists of the queue shows at moment 100.
 fn plain_queue(alloc: Global) -> Result<Vec<u8>, Fail> {
     let settings = settings(alloc)?;
     let mut book = ListBook::new(alloc, settings.try_clone()?);
@@ -40,7 +40,7 @@ fn queue_of<S: Alter>(alloc: Global, book: &mut TableBook<S>) -> Result<Vec<u8>,
     shown(&Desk::new(alloc, &settings, 100), book)
 }
 
-/// At moment 100 the book shows what a plain book of the queue shows.
+/// At moment 100 the book shows what a book in lists of the queue shows.
 pub(super) fn shows_the_queue<S: Alter>(
     alloc: Global,
     book: &mut TableBook<S>,
