@@ -98,6 +98,7 @@ impl QueueBook for ListBook {
         ensures limits { IfOk result (λ d. IsReplyTo (event_of event.now) d.reply) }
         ensures damaged { ⊤ → IfErr result (λ e. e ≡ BookFault.Damaged → (w : World) → ¬ IsContent self.old w) }
         ensures live { ⊤ → OnOk result ⊤ }
+        ensures opened { ⊤ → ⊤ → ⊤ }
         ensures fault { IfErr result (λ f. f ≡ BookFault.Memory) }
     {
         cut_is_fair();
@@ -112,6 +113,7 @@ impl QueueBook for ListBook {
         ensures ok { OnOk result ((w : World) → IsContent self.old w → IsContent self.new (made_on (change_of decision.entry.change) w)) }
         ensures err { OnErr result ((w : World) → IsContent self.old w → IsContent self.new w) }
         ensures live { ⊤ → OnOk result ⊤ }
+        ensures opened { ⊤ → ⊤ → ⊤ }
         ensures fault { IfErr result (λ f. f ≡ BookFault.Memory) }
     {
         decisions_are_sound();
@@ -134,6 +136,7 @@ impl QueueBook for ListBook {
         ensures jobs { ⊤ → IfOk result (λ js. (w : World) → IsContent self.new w → js ≡ pending_jobs w) }
         ensures damaged { ⊤ → IfErr result (λ e. e ≡ BookFault.Damaged → (w : World) → ¬ IsContent self.old w) }
         ensures live { ⊤ → OnOk result ⊤ }
+        ensures opened { ⊤ → ⊤ → ⊤ }
         ensures fault { IfErr result (λ f. f ≡ BookFault.Memory) }
     {
         let jobs = seen::pending(self.alloc, self.lists.jobs.as_slice())?;
@@ -146,6 +149,7 @@ impl QueueBook for ListBook {
         ensures head { ⊤ → IfOk result (λ h. (w : World) → IsContent self.new w → h ≡ option_map head_of (document_at w job n)) }
         ensures damaged { ⊤ → IfErr result (λ e. e ≡ BookFault.Damaged → (w : World) → ¬ IsContent self.old w) }
         ensures live { ⊤ → OnOk result ⊤ }
+        ensures opened { ⊤ → ⊤ → ⊤ }
         ensures fault { IfErr result (λ f. f ≡ BookFault.Memory) }
     {
         Ok(seen::document_head(&self.lists, job, n))
@@ -161,6 +165,8 @@ impl QueueBook for ListBook {
             → (f.written ≤ length d.bytes) × Appends (W.contents out.old) (W.contents out.new) (take f.written d.bytes)) }
         ensures damaged { ⊤ → IfErr result (λ f. f.cause ≡ ByBook BookFault.Damaged → (w : World) → ¬ IsContent self.old w) }
         ensures live { ⊤ → OnOk result ⊤ }
+        ensures opened { ⊤ → ⊤ → ⊤ }
+        ensures writer_failed { ⊤ → IfErr result (λ f. f.cause ≡ ByWriter → ⊤) }
         ensures fault { IfErr result (λ f. f.cause ≡ ByWriter) }
     {
         match seen::document(&self.lists, job, n) {
@@ -175,6 +181,7 @@ impl QueueBook for ListBook {
         ensures sheet { ⊤ → IfOk result (λ s. (w : World) → IsContent self.new w → s ≡ sheet_of w account.now) }
         ensures damaged { ⊤ → IfErr result (λ e. e ≡ BookFault.Damaged → (w : World) → ¬ IsContent self.old w) }
         ensures live { ⊤ → OnOk result ⊤ }
+        ensures opened { ⊤ → ⊤ → ⊤ }
         ensures fault { IfErr result (λ f. f ≡ BookFault.Memory) }
     {
         let sheet = sheet::sheet(self.alloc, &self.lists, account)?;

@@ -65,7 +65,7 @@ pub trait QueueBook {
     /// What is read from the book is what was written to it.
     ghost is_honest: { Self → Type 0 };
 
-    /// No error has shut the book: what it stands for is what it keeps.
+    /// No error has shut the book: what it stands for is what it keeps. Nothing opens a shut book again, so every call is refused by it.
     ghost is_live: { Self → Type 0 };
 
     /// What the machine decides at this moment on this event, within its limits. It changes nothing.
@@ -78,6 +78,7 @@ pub trait QueueBook {
             → decision_of d ≡ decision (cut w (event_of event.now)) now (event_of event.now)) }
         ensures damaged { is_honest self.new → IfErr result (λ e. e ≡ BookFault.Damaged → (w : World) → ¬ stands self.old w) }
         ensures live { is_honest self.new → OnOk result (is_live self.new) }
+        ensures opened { is_honest self.new → is_live self.new → is_live self.old }
         // on any book, also one that is not honest
         ensures limits { IfOk result (λ d. IsReplyTo (event_of event.now) d.reply) };
 
@@ -87,7 +88,8 @@ pub trait QueueBook {
         ensures began { is_honest self.new → is_honest self.old }
         ensures ok { OnOk result ((w : World) → stands self.old w → stands self.new (made_on (change_of decision.entry.change) w)) }
         ensures err { OnErr result ((w : World) → stands self.old w → stands self.new w) }
-        ensures live { is_honest self.new → OnOk result (is_live self.new) };
+        ensures live { is_honest self.new → OnOk result (is_live self.new) }
+        ensures opened { is_honest self.new → is_live self.new → is_live self.old };
 
     /// The jobs that the device may start, those in state 3, by number.
     fn pending(&mut self) -> Result<JobList, BookFault>
@@ -95,7 +97,8 @@ pub trait QueueBook {
         ensures kept { (w : World) → stands self.old w → stands self.new w }
         ensures jobs { is_honest self.new → IfOk result (λ js. (w : World) → stands self.new w → js ≡ pending_jobs w) }
         ensures damaged { is_honest self.new → IfErr result (λ e. e ≡ BookFault.Damaged → (w : World) → ¬ stands self.old w) }
-        ensures live { is_honest self.new → OnOk result (is_live self.new) };
+        ensures live { is_honest self.new → OnOk result (is_live self.new) }
+        ensures opened { is_honest self.new → is_live self.new → is_live self.old };
 
     /// The format and the length of document n, counted from 1, of a job in state 3, 5 or 6.
     fn document_head(&mut self, job: u32, n: u32) -> Result<Option<DocumentHead>, BookFault>
@@ -103,7 +106,8 @@ pub trait QueueBook {
         ensures kept { (w : World) → stands self.old w → stands self.new w }
         ensures head { is_honest self.new → IfOk result (λ h. (w : World) → stands self.new w → h ≡ option_map head_of (document_at w job n)) }
         ensures damaged { is_honest self.new → IfErr result (λ e. e ≡ BookFault.Damaged → (w : World) → ¬ stands self.old w) }
-        ensures live { is_honest self.new → OnOk result (is_live self.new) };
+        ensures live { is_honest self.new → OnOk result (is_live self.new) }
+        ensures opened { is_honest self.new → is_live self.new → is_live self.old };
 
     /// Writes the bytes of such a document, and says how many they are. After a fault a front of them was
     /// written.
@@ -116,7 +120,10 @@ pub trait QueueBook {
         ensures err { is_honest self.new → IfErr result (λ f. (w : World) (d : Document) → stands self.old w → document_at w job n ≡ Some d
             → (f.written ≤ length d.bytes) × Appends (W.contents out.old) (W.contents out.new) (take f.written d.bytes)) }
         ensures damaged { is_honest self.new → IfErr result (λ f. f.cause ≡ SendCause.Book BookFault.Damaged → (w : World) → ¬ stands self.old w) }
-        ensures live { is_honest self.new → OnOk result (is_live self.new) };
+        ensures live { is_honest self.new → OnOk result (is_live self.new) }
+        ensures opened { is_honest self.new → is_live self.new → is_live self.old }
+        // a writer that fails shuts no book
+        ensures writer_failed { is_honest self.new → IfErr result (λ f. f.cause ≡ SendCause.Write → is_live self.new) };
 
     /// What is told of an account, where it is there.
     fn sheet(&mut self, account: &str) -> Result<Option<AccountSheet>, BookFault>
@@ -124,7 +131,8 @@ pub trait QueueBook {
         ensures kept { (w : World) → stands self.old w → stands self.new w }
         ensures sheet { is_honest self.new → IfOk result (λ s. (w : World) → stands self.new w → s ≡ sheet_of w account.now) }
         ensures damaged { is_honest self.new → IfErr result (λ e. e ≡ BookFault.Damaged → (w : World) → ¬ stands self.old w) }
-        ensures live { is_honest self.new → OnOk result (is_live self.new) };
+        ensures live { is_honest self.new → OnOk result (is_live self.new) }
+        ensures opened { is_honest self.new → is_live self.new → is_live self.old };
 
     /// A world that an honest book stands for is sound.
     ghost sound: { (b : Self) (w : World) → is_honest b → stands b w → IsSound w };

@@ -1,7 +1,7 @@
--- When a document that is not sent tells of damage.
+-- What is told of a document that is not sent: when damage, and when the writer's fault.
 use Rattle.std.proofs.Common.{◌≡◌, Ok, Err, Result, IsErrAnd, IfErr, refl, sym, ◌∙◌}
 use Rattle.queue_core.specs.declared.book.BookFault.TheVariants.{Damaged as BookDamaged}
-use Rattle.queue_core.specs.declared.book.SendCause.TheVariants.{Book}
+use Rattle.queue_core.specs.declared.book.SendCause.TheVariants.{Book, Write as NotWritten}
 use Rattle.queue_shown.specs.Stops.{told_cause}
 use Rattle.queue_shown.specs.declared.send.Stop.{Stop}
 use Rattle.queue_shown.specs.declared.send.Stop.TheVariants.{Tables, Write}
@@ -18,3 +18,12 @@ damage_told (Tables Memory) told = absurd cc
 damage_told (Tables Disk) told = absurd cc
 damage_told (Tables Damaged) told = refl
 damage_told Write told = absurd cc
+
+-- the writer's fault is told of the writer alone
+pub write_after : {T : Type 0} (r : Result T Stop) (stop : Stop) (P : Type 0) → IsErrAnd r (λ s. s ≡ stop) → (stop ≡ Write → P) → IfErr r (λ s. s ≡ Write → P)
+write_after (Err s) stop P same then = λ unwritten. then (sym same ∙ unwritten)
+write_after (Ok x) stop P same then = tt
+
+pub write_told : (stop : Stop) → told_cause stop ≡ NotWritten → stop ≡ Write
+write_told (Tables fault) told = absurd cc
+write_told Write told = refl

@@ -1,5 +1,5 @@
 //! A document, written a piece at a time while its rows borrow the connection.
-ghost use Rattle.std.specs.Prelude.{◌≡◌, ◌≢◌, ◌+◌, ◌<◌, ◌≤◌, ◌^◌, ℕ, [], ◌∷◌, Some, length, take, IfOk, IfErr, OnOk, OnErr, IsTrue};
+ghost use Rattle.std.specs.Prelude.{◌≡◌, ◌+◌, ◌<◌, ◌≤◌, ◌^◌, ℕ, [], ◌∷◌, Some, length, take, IfOk, IfErr, OnOk, OnErr, IsTrue};
 ghost use Rattle.std.specs.Io.KnownBytes.{Appends};
 ghost use Rattle.sqlite.specs.Given.{HasGiven, IsPlain};
 ghost use Rattle.sqlite.specs.Held.{state};
@@ -51,12 +51,11 @@ fn cause_of(stop: Stop) -> SendCause
     }
 }
 
-/// Writes all the bytes, by as many writes as it takes. After a fault a front of them was written. Damaged is never
-/// told.
+/// Writes all the bytes, by as many writes as it takes. After a fault, which is the writer's, a front of them was written.
 fn put<W: Write>(out: &mut W, bytes: &[u8], written: &mut u64) -> Result<(), Stop>
     requires { written.old + length bytes.now < 2 ^ 64 }
     ensures ok { OnOk result (Appends (W.contents out.old) (W.contents out.new) bytes.now × (written.new ≡ written.old + length bytes.now)) }
-    ensures never { IfErr result (λ stop. stop ≢ Stop.Tables Fault.Damaged) }
+    ensures writer { IfErr result (λ stop. stop ≡ Stop.Write) }
     ensures err { OnErr result ((n : ℕ) × (n ≤ length bytes.now) × Appends (W.contents out.old) (W.contents out.new) (take n bytes.now) × (written.new ≡ written.old + n)) }
 {
     let mut at = 0;
@@ -104,6 +103,7 @@ fn send_rows<S: Alter, W: Write>(
     ensures front { HasCleanDisk (state S.Store rows.new.conn.now) → IsTrue (state S.Store rows.old.conn.now).is_open → (params : Columns) → HasGiven S.Store pieces_select params rows.old.conn.now [] → OnErr result (HasSentFront params (state S.Store rows.old.conn.now) (W.contents out.old) (W.contents out.new) written.new) }
     ensures damaged { HasCleanDisk (state S.Store rows.new.conn.now) → IsTrue (state S.Store rows.old.conn.now).is_open → (params : Columns) → HasGiven S.Store pieces_select params rows.old.conn.now [] → IfErr result (λ stop. stop ≡ Stop.Tables Fault.Damaged → FindsNoBlob params (state S.Store rows.old.conn.now)) }
     ensures same { HasCleanDisk (state S.Store rows.new.conn.now) → IsTrue (state S.Store rows.old.conn.now).is_open → OnOk result (IsUnchanged (state S.Store rows.old.conn.now) (state S.Store rows.new.conn.now)) }
+    ensures writer_failed { HasCleanDisk (state S.Store rows.new.conn.now) → IsTrue (state S.Store rows.old.conn.now).is_open → IfErr result (λ stop. stop ≡ Stop.Write → IsUnchanged (state S.Store rows.old.conn.now) (state S.Store rows.new.conn.now)) }
     ensures left { HasCleanDisk (state S.Store rows.new.conn.now) → IsTrue (state S.Store rows.old.conn.now).is_open → LeavesRows (state S.Store rows.old.conn.now) (state S.Store rows.new.conn.now) }
 {
     'rows: for _ in 0..u64::MAX {
@@ -127,6 +127,7 @@ fn send_pieces<S: Alter, W: Write>(
     ensures clean { HasCleanDisk (state S.Store conn.new) → HasCleanDisk (state S.Store conn.old) }
     ensures opened { HasCleanDisk (state S.Store conn.new) → IsTrue (state S.Store conn.new).is_open → IsTrue (state S.Store conn.old).is_open }
     ensures live { HasCleanDisk (state S.Store conn.new) → OnOk result (IsTrue (state S.Store conn.new).is_open) }
+    ensures writer_failed { HasCleanDisk (state S.Store conn.new) → IfErr result (λ stop. stop ≡ Stop.Write → IsTrue (state S.Store conn.new).is_open) }
     ensures sent { HasBook (state S.Store conn.old) → HasCleanDisk (state S.Store conn.new) → OnOk result (HasSent (number job ∷ number doc ∷ []) (state S.Store conn.old) (W.contents out.old) (W.contents out.new) written.new) }
     ensures front { HasBook (state S.Store conn.old) → HasCleanDisk (state S.Store conn.new) → OnErr result (HasSentFront (number job ∷ number doc ∷ []) (state S.Store conn.old) (W.contents out.old) (W.contents out.new) written.new) }
     ensures damaged { HasBook (state S.Store conn.old) → HasCleanDisk (state S.Store conn.new) → IfErr result (λ stop. stop ≡ Stop.Tables Fault.Damaged → FindsNoBlob (number job ∷ number doc ∷ []) (state S.Store conn.old)) }
@@ -152,6 +153,8 @@ pub fn send_document<S: Alter, W: Write>(
 ) -> Result<u64, SendFault>
     ensures leaves { LeavesTables (state S.Store conn.old) (state S.Store conn.new) }
     ensures live { HasCleanDisk (state S.Store conn.new) → OnOk result (IsTrue (state S.Store conn.new).is_open) }
+    // a writer that fails shuts nothing
+    ensures writer_failed { HasCleanDisk (state S.Store conn.new) → IfErr result (λ f. f.cause ≡ SendCause.Write → IsTrue (state S.Store conn.new).is_open) }
     ensures damaged { HasCleanDisk (state S.Store conn.new) → IfErr result (λ f. f.cause ≡ SendCause.Book BookFault.Damaged → HoldNoQueue (state S.Store conn.old)) }
     ensures ok { HasCleanDisk (state S.Store conn.new) → IfOk result (λ sent. (w : World) (d : Document) → IsSound w → Holds (content_of w) (state S.Store conn.old) → document_at w job n ≡ Some d → (sent ≡ length d.bytes) × Appends (W.contents out.old) (W.contents out.new) d.bytes) }
     ensures err { HasCleanDisk (state S.Store conn.new) → IfErr result (λ f. (w : World) (d : Document) → IsSound w → Holds (content_of w) (state S.Store conn.old) → document_at w job n ≡ Some d → (f.written ≤ length d.bytes) × Appends (W.contents out.old) (W.contents out.new) (take f.written d.bytes)) }

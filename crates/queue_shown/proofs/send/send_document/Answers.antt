@@ -2,7 +2,7 @@ use Rattle.std.proofs.Common.{IsTrue, rules, arith, sym, ◌∙◌}
 use Rattle.std.proofs.KnownBytes.{Appends-nil}
 use Rattle.sqlite.specs.Held.{state}
 use Rattle.queue_tables.proofs.Entries.{distinct_of}
-use Rattle.queue_shown.proofs.Damage.{damage_told}
+use Rattle.queue_shown.proofs.Damage.{damage_told, write_told}
 use Rattle.queue_shown.proofs.PieceRows.{none_without}
 use Rattle.queue_shown.proofs.PiecesSent.{whole_sent, front_sent, there_shown}
 use Rattle.queue_tables.proofs.Leaving.{leaves_all, left_leaves}
@@ -38,3 +38,6 @@ pub returns-in-Err-clause-damaged : goal.returns-in-Err-clause-damaged
 returns-in-Err-clause-damaged g c clean damaged w sound has =
     let found = c.in-Err.ensures.damaged (λ early. has.schema) clean (damage_told c.in-Err.stop (sym c.cause_of.ensures ∙ damaged)) in
     none_without (state g.S.Store c.args.conn.now) c.args.job c.args.n w has found
+
+pub returns-in-Err-clause-writer_failed : goal.returns-in-Err-clause-writer_failed
+returns-in-Err-clause-writer_failed g c clean unwritten = c.in-Err.ensures.writer_failed clean (write_told c.in-Err.stop (sym c.cause_of.ensures ∙ unwritten))

@@ -1,4 +1,4 @@
-use Rattle.std.proofs.Common.{[], ◌∷◌, arith, rules}
+use Rattle.std.proofs.Common.{◌≡◌, [], ◌∷◌, IsTrue, arith, rules}
 use Rattle.sqlite.specs.State.{HasCleanDisk}
 use Rattle.sqlite.specs.Held.{state}
 use Rattle.sqlite.proofs.Callers.{begun_plain}
@@ -6,6 +6,7 @@ use Rattle.queue_tables.specs.Values.{number}
 use Rattle.queue_tables.proofs.Columns.{map_err}
 use Rattle.queue_tables.proofs.Ending.{on_ok, query_fails}
 use Rattle.queue_shown.specs.Sent.{pieces_select}
+use Rattle.queue_shown.specs.declared.send.Stop.TheVariants.{Write}
 use Rattle.queue_shown.proofs.Frames.{failed_opens}
 use Rattle.queue_shown.proofs.Sending.{pieces_plain_in, err_then, same_found, same_sent, same_front}
 use Rattle.queue_tables.proofs.Leaving.{begun_unchanged}
@@ -98,3 +99,15 @@ returns-clause-damaged g c fits clean =
     let early : HasCleanDisk old = omega (arith, made.survives.clean) in
     let begun = begun_plain g.S.Store pieces_select params c.args.conn.now c.in_ok-rows.rows.conn.now (pieces_plain_in old.now.schema (fits early)) (rw (c.params-to_sql.ensures, c.params-to_sql-2.ensures) at (made.begun mid)) in
     map_err c.send_rows.result _ _ (λ stop told damaged. same_found params old first begun.1.0.now_is (told damaged)) (c.send_rows.ensures.damaged late begun.1.0.is_open params begun.0)
+
+pub returns-clause-writer_failed : goal.returns-clause-writer_failed
+returns-clause-writer_failed g c clean =
+    let params = number c.args.job ∷ number c.args.doc ∷ [] in
+    let made = c.in_ok-rows.ensures in
+    let first = state g.S.Store c.in_ok-rows.rows.conn.now in
+    let now = state g.S.Store c.send_rows.new.rows.conn.now in
+    let late : HasCleanDisk now = search rules in
+    let mid : HasCleanDisk first = c.send_rows.ensures.clean late in
+    let was = begun_unchanged g.S.Store pieces_select params c.args.conn.now c.in_ok-rows.rows.conn.now select_pieces_is.shows.query (rw (c.params-to_sql.ensures, c.params-to_sql-2.ensures) at (made.begun mid)) in
+    let live = map_err c.send_rows.result _ (λ stop. stop ≡ Write → IsTrue now.is_open) (λ stop told unwritten. still_open first now (told unwritten)) (c.send_rows.ensures.writer_failed late was.0.is_open) in
+    search (rules, live)

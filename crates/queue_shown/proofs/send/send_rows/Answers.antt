@@ -4,7 +4,7 @@ use Rattle.sqlite.specs.State.{HasCleanDisk}
 use Rattle.sqlite.specs.Held.{state}
 use Rattle.sqlite.proofs.Callers.{unchanged_then, given_begin}
 use Rattle.queue_shown.specs.Sent.{pieces_select, bytes_of, piece_bytes}
-use Rattle.queue_shown.proofs.Damage.{stop_after}
+use Rattle.queue_shown.proofs.Damage.{stop_after, write_after}
 use Rattle.queue_shown.proofs.Writes.{one_more, front_of}
 use Rattle.queue_shown.proofs.Sending.{on_err, front_whole}
 use Rattle.queue_tables.proofs.Reading.{answers_at, begins_at, plain_at, unchanged_open}
@@ -106,3 +106,15 @@ returns-in_err-put_piece-clause-damaged g c clean live params begun =
     let begins = begins_at pieces_select params first now (was.0 ++ c.in-Some.row.now ∷ []) kept.0.now_is (given_begin g.S.Store pieces_select params h (was.0 ++ c.in-Some.row.now ∷ []) given) in
     let told = c.in_err-put_piece.ensures.damaged in
     stop_after _ c.in_err-put_piece.field-0.0 _ c.from_residual-in_err-put_piece.ensures.1 (λ damaged. record { before = was.0; row = c.in-Some.row.now; there = begins; bare = told damaged })
+
+pub returns-in_err-put_piece-clause-writer_failed : goal.returns-in_err-put_piece-clause-writer_failed
+returns-in_err-put_piece-clause-writer_failed g c clean live =
+    let first = state g.S.Store c.args.rows.now.conn.now in
+    let moved = c.next.follows.holds-at-none in
+    let before = state g.S.Store c.rows.rows.conn.now in
+    let now = state g.S.Store c.next.follows.lender-at-none.conn.now in
+    let late : HasCleanDisk now = search rules in
+    let mid : HasCleanDisk before = omega (arith, moved.survives.clean) in
+    let same = rw c.in_ok-row.was at (moved.same late) in
+    let kept = unchanged_then first before now (c.rows.invariant.2 mid live) same in
+    write_after _ c.in_err-put_piece.field-0.0 _ c.from_residual-in_err-put_piece.ensures.1 (λ unwritten. search (rules, kept))
