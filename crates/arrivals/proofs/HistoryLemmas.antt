@@ -142,3 +142,11 @@ history_of sound moves balances held w xs ys os v x same s t = (
     balances = λ k. balances w (take k t.places) s (each_take k t.places t.are);
   },
 )
+
+-- ---- the last of a list
+
+pub each_before_last : {A : Type 0} (P : A → Type 0) (xs : List A) (x : A) → Each P (xs ++ x ∷ []) → Each P xs × P x
+each_before_last P [] x h = (tt, h.0)
+each_before_last P (y ∷ ys) x h =
+    let rest = each_before_last P ys x h.1 in
+    ((h.0, rest.0), rest.1)

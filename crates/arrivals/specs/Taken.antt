@@ -1,13 +1,14 @@
 -- What comes of one thing that reaches a queue: the answer to it, and the places of a run of the machine that it is.
-use Rattle.std.specs.Prelude.{◌≡◌, ℕ, List, [], ◌∷◌, Option, None, Ok, Err, MatchBool}
+use Rattle.std.specs.Prelude.{◌≡◌, ◌≢◌, ⊤, ℕ, List, [], ◌∷◌, Option, None, Ok, Err, MatchBool, false}
 use Rattle.std.specs.List.{AllByRecursion}
 use Rattle.std.specs.Io.KnownBytes.{Appends}
 use Rattle.queue_types.specs.Event.{Event}
 use Rattle.queue_core.specs.Runs.{Place, IsPlace, after, run}
 use Rattle.queue_core.specs.World.{World}
 use Rattle.device_lines.specs.Reports.{AnswersLine, Tells, is_fault_line}
+use Rattle.grants_csv.specs.Fault.{fault}
 use Rattle.grants_csv.specs.Import.{Asks, Imports}
-use Rattle.http_front.specs.Connections.{Answers, Breaks}
+use Rattle.http_front.specs.Connections.{Answers, Breaks, IsFaultless as IsServedFaultless}
 use Rattle.http_front.specs.Places.{ArePlacesOf, AreBrokenPlaces}
 use Rattle.arrivals.specs.declared.arrival.Arrived.{Arrived}
 use Rattle.arrivals.specs.declared.arrival.Arrived.TheVariants.{Connection, Line, AccountFile}
@@ -37,6 +38,14 @@ Takes now w (AccountFile file) (Imported n) written ps u =
     (written ≡ []) × Imports w now file.now u (Ok n) × ((e : Option Event) × Asks file.now e × IsOnePlace now w u e ps)
 Takes now w (AccountFile file) (Refused f) written ps u = (written ≡ []) × Imports w now file.now u (Err f) × IsOnePlace now w u None ps
 Takes now w _ _ written ps u = ⊥
+
+-- no fault of the server's own was told, and the book did not fail inside a document
+abbrev pub IsFaultless : Outcome → Type 0
+IsFaultless (Served s) = IsServedFaultless (Ok s)
+IsFaultless (Broken f) = IsServedFaultless (Err f)
+IsFaultless (Told out) = is_fault_line out ≡ false
+IsFaultless (Imported n) = ⊤
+IsFaultless (Refused f) = f ≢ fault
 
 -- ---- what taking it leaves
 

@@ -1,10 +1,11 @@
 //! What reaches a queue is taken, one after another.
 ghost use Rattle.std.specs.Prelude.{◌≡◌, ℕ, All, List, IfOk, OnErr};
+ghost use Rattle.std.specs.List.{AllByRecursion};
 ghost use Rattle.std.specs.Io.KnownBytes.{Appends, Keeps};
 ghost use Rattle.queue_core.specs.Limits.{IsMoment};
 ghost use Rattle.queue_core.specs.World.{World};
 ghost use Rattle.arrivals.specs.History.{History};
-ghost use Rattle.arrivals.specs.Taken.{Takes, IsTaken};
+ghost use Rattle.arrivals.specs.Taken.{IsFaultless, IsTaken, Takes};
 ghost use Rattle.arrivals.specs.declared.arrival.Arrived.TheVariants.{AccountFile, Connection, Line};
 
 use crate::arrival::{Arrival, Arrived, Outcome};
@@ -30,6 +31,7 @@ fn take_connection<W: Write, B: QueueBook>(
     ensures began { B.is_honest book.new → B.is_honest book.old }
     ensures taken { B.is_honest book.new → (w : World) → B.stands book.old w → settings.now ≡ w.settings
         → IsTaken (B.stands book.new) w (W.contents writer.old) (W.contents writer.new) (Takes now w (Connection stream.entry) result) }
+    ensures live { B.is_honest book.new → B.is_live book.old → IsFaultless result → B.is_live book.new }
 {
     connections_are_runs();
     let mut reader = stream;
@@ -45,6 +47,7 @@ fn take_line<B: QueueBook>(book: &mut B, now: u32, line: &[u8]) -> Outcome
     ensures began { B.is_honest book.new → B.is_honest book.old }
     ensures taken { B.is_honest book.new → (w : World) → B.stands book.old w → (v : _)
         → IsTaken (B.stands book.new) w v v (Takes now w (Line line.entry) result) }
+    ensures live { B.is_honest book.new → B.is_live book.old → IsFaultless result → B.is_live book.new }
 {
     Outcome::Told(report(book, now, line))
 }
@@ -55,6 +58,7 @@ fn take_file<B: QueueBook>(alloc: Global, book: &mut B, now: u32, file: &[u8]) -
     ensures began { B.is_honest book.new → B.is_honest book.old }
     ensures taken { B.is_honest book.new → (w : World) → B.stands book.old w → (v : _)
         → IsTaken (B.stands book.new) w v v (Takes now w (AccountFile file.entry) result) }
+    ensures live { B.is_honest book.new → B.is_live book.old → IsFaultless result → B.is_live book.new }
 {
     match import(alloc, book, now, file) {
         Ok(imported) => Outcome::Imported(imported),
@@ -74,6 +78,7 @@ fn take<W: Write, B: QueueBook>(
     ensures began { B.is_honest book.new → B.is_honest book.old }
     ensures taken { B.is_honest book.new → (w : World) → B.stands book.old w → settings.now ≡ w.settings
         → IsTaken (B.stands book.new) w (W.contents writer.old) (W.contents writer.new) (Takes arrival.entry.moment w arrival.entry.what result) }
+    ensures live { B.is_honest book.new → B.is_live book.old → IsFaultless result → B.is_live book.new }
 {
     match arrival.what {
         Arrived::Connection(stream) => {
@@ -100,7 +105,9 @@ pub fn take_all<W: Write, B: QueueBook>(
     ensures history { B.is_honest book.new → IfOk result (λ outcomes. (w : World) → B.stands book.old w → settings.now ≡ w.settings
         → (u : World) × B.stands book.new u × (written : List ℕ) × Appends (W.contents writer.old) (W.contents writer.new) written
         × History w arrivals.now outcomes.items written u) }
-    ensures err { OnErr result ((w : World) → B.stands book.old w → B.stands book.new w) }
+    // what shuts a book is told as a fault, or breaks a document off
+    ensures live { B.is_honest book.new → B.is_live book.old → IfOk result (λ outcomes. AllByRecursion IsFaultless outcomes.items → B.is_live book.new) }
+    ensures err { OnErr result (book.new ≡ book.old) }
     ensures unwritten { OnErr result (Keeps (W.contents writer.old) (W.contents writer.new)) }
 {
     run_keeps();

@@ -27,6 +27,8 @@ pub fn report<B: QueueBook>(book: &mut B, now: u32, line: &[u8]) -> ReportAnswer
         → (after : World) × IsReported w now line.now after result × B.stands book.new after) }
     ensures failed { B.is_honest book.new → OnTrue (is_fault_line result) ((w : World) → B.stands book.old w
         → IsUntaken line.now result × B.stands book.new w) }
+    // what shuts a book is answered as a fault
+    ensures live { B.is_honest book.new → B.is_live book.old → is_fault_line result ≡ false → B.is_live book.new }
 
     // on any book, also one that is not honest
     ensures unread { (f : LineFault) → Reads line.now (Err f) → (result ≡ unread_line f)
@@ -51,6 +53,7 @@ fn step<B: QueueBook>(book: &mut B, now: u32, report: Report) -> Result<ReportAn
     ensures world { B.is_honest book.new → OnOk result ((w : World) → B.stands book.old w
         → B.stands book.new (step_of w now (tell report)).world) }
     ensures quiet { IfOk result (λ a. is_fault_line a ≡ false) }
+    ensures live { B.is_honest book.new → OnOk result (B.is_live book.new) }
     ensures err { OnErr result ((w : World) → B.stands book.old w → B.stands book.new w) }
 {
     let decision = book.decide(now, &Event::Report(report))?;

@@ -1,11 +1,11 @@
 //! An account file enters a book.
-ghost use Rattle.std.specs.Prelude.{◌≡◌, ◌<◌, List, Err, Ok, IfErr, IfOk, OnErr, length};
+ghost use Rattle.std.specs.Prelude.{◌≡◌, ◌≢◌, ◌<◌, List, Err, Ok, IfErr, IfOk, OnErr, OnOk, length};
 ghost use Rattle.queue_types.specs.Event.{grant};
 ghost use Rattle.queue_core.specs.Limits.{IsEvent, IsMoment};
 ghost use Rattle.queue_core.specs.Machine.{step};
 ghost use Rattle.queue_core.specs.World.{World};
 ghost use Rattle.queue_types.specs.declared.event.GrantRow.{GrantRow};
-ghost use Rattle.grants_csv.specs.Fault.{IsUnlessFault, at_row};
+ghost use Rattle.grants_csv.specs.Fault.{IsUnlessFault, at_row, fault};
 ghost use Rattle.grants_csv.specs.File.{rows_of};
 ghost use Rattle.grants_csv.specs.declared.fault.ImportCause.TheVariants.{Range};
 ghost use Rattle.grants_csv.specs.Import.{Adds, Imports, Refuses};
@@ -61,6 +61,8 @@ fn take_rows<B: QueueBook>(
     ensures world { B.is_honest book.new → IfOk result (λ n. (w : World) → B.stands book.old w → B.stands book.new (step w now (grant rows.now)).world) }
     ensures refused { B.is_honest book.new → IfErr result (λ f. (w : World) → B.stands book.old w → Refuses (step w now (grant rows.now)).reply f) }
     ensures err { OnErr result ((w : World) → B.stands book.old w → B.stands book.new w) }
+    ensures live { B.is_honest book.new → OnOk result (B.is_live book.new) }
+    ensures still_live { B.is_honest book.new → IfErr result (λ f. f ≢ fault → B.is_live book.new) }
 {
     let decision = book.decide(now, &Event::Grants(rows))?;
     match decision.reply {
@@ -91,6 +93,9 @@ pub fn import<B: QueueBook>(
         → (after : World) × Imports w now bytes.now after result × B.stands book.new after }
     ensures added { B.is_honest book.new → IfOk result (λ n. (w : World) → B.stands book.old w
         → (rows : List GrantRow) × (rows_of bytes.now ≡ Ok rows) × Adds (step w now (grant rows)).reply n × B.stands book.new (step w now (grant rows)).world) }
+    ensures live { B.is_honest book.new → OnOk result (B.is_live book.new) }
+    // what shuts a book is told as a fault
+    ensures still_live { B.is_honest book.new → B.is_live book.old → IfErr result (λ f. f ≢ fault → B.is_live book.new) }
 
     // on any book, also one that is not honest
     ensures event { IfOk result (λ n. (rows : List GrantRow) → rows_of bytes.now ≡ Ok rows → IsEvent (grant rows)) }

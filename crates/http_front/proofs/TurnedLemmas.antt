@@ -20,7 +20,7 @@ use Rattle.http_head.specs.declared.framing.Framing.{Framing}
 use Rattle.http_front.specs.Turns.{Turn, IsTurn, acts_on, answer_bytes, last_request}
 use Rattle.http_front.specs.Ends.{IsEnd, IsBegun}
 use Rattle.http_front.specs.Ends.{no_head, checked, in_body, declined, unavailable, unavailable_later, nothing, interim, answered, ended}
-use Rattle.http_front.specs.Turned.{IsReply, IsDeclined, IsClosed, IsPlanEnd, IsPlanTurn, IsPlanBegun, IsPlanned, IsTurned, PlanWorks, Works, acted_in}
+use Rattle.http_front.specs.Turned.{IsReply, IsDeclined, IsClosed, IsPlanEnd, IsPlanTurn, IsPlanBegun, IsPlanned, IsTurnFaultless, IsTurned, PlanWorks, Works, acted_in}
 use Rattle.http_front.specs.Turned.{in_body as plan_in_body, declined as plan_declined, unavailable as plan_unavailable, interim as plan_interim, answered as plan_answered, ended as plan_ended}
 use Rattle.http_front.specs.declared.outcome.Stopped.{Stopped}
 use Rattle.http_front.specs.declared.outcome.Turned.{Turned}
@@ -227,6 +227,11 @@ same_world now k w u plan r s v x result e p = subst (λ (z : World). IsPlanned 
 pub closed_idle : (end : Finish) (v x : Option (List ℕ)) (result : Result Turned Stopped) → IsClosed end v x result → acted_in result ≡ false
 closed_idle end v x (Ok t) c = ap (λ (z : Turned). acted_in (Ok z)) c.0
 closed_idle end v x (Err f) c = c.0
+
+-- an end that met no fault tells of none
+pub closed_faultless : (end : Finish) (v x : Option (List ℕ)) (result : Result Turned Stopped) → IsClosed end v x result → IsTurnFaultless result → is_unavailable end ≡ false
+closed_faultless end v x (Ok t) c faultless = subst (λ (z : Turned). IsTurnFaultless (Ok z)) c.0 faultless
+closed_faultless end v x (Err f) c faultless = sym c.1 ∙ faultless.0
 
 pub plan_idle : (now k : ℕ) (w u : World) (plan : Plan) (acted : Bool) → u ≡ w → acted ≡ false → PlanWorks now k w u plan acted
 plan_idle now k w u plan acted e a = inl (e, a)

@@ -1,5 +1,5 @@
 -- A connection: one turn after another over the bytes that it reads, to an end.
-use Rattle.std.specs.Prelude.{◌≡◌, ◌+◌, ◌*◌, ◌<◌, ◌≤◌, ◌⊎◌, Bool, true, false, ℕ, List, [], ◌∷◌, ◌++◌, length, map, Option, IfSome, Result, Ok, Err, if◌then◌else◌}
+use Rattle.std.specs.Prelude.{◌≡◌, ◌≢◌, ◌+◌, ◌*◌, ◌<◌, ◌≤◌, ◌⊎◌, Bool, true, false, ℕ, List, [], ◌∷◌, ◌++◌, length, map, Option, IfSome, Result, Ok, Err, if◌then◌else◌}
 use Rattle.std.specs.List.{flat_map, count_by}
 use Rattle.std.specs.Io.KnownBytes.{Appends}
 use Rattle.queue_core.specs.World.{World}
@@ -10,6 +10,7 @@ use Rattle.http_head.specs.declared.end.Finish.TheVariants.{Done}
 use Rattle.http_front.specs.Turns.{Turn, IsTurn, request_bytes, answer_bytes, acts, closes_at, most_requests}
 use Rattle.http_front.specs.Ends.{IsEnd, IsBegun}
 use Rattle.http_front.specs.declared.outcome.Served.{Served}
+use Rattle.http_front.specs.declared.outcome.ServeCause.TheVariants.{Book}
 use Rattle.http_front.specs.declared.outcome.ServeFault.{ServeFault}
 
 -- each is answered in the world that the one before it leaves
@@ -113,3 +114,8 @@ pub record Worked (most now : ℕ) (w u : World) (acted : ℕ) : Type 0 where
   pub world : u ≡ world_after w turns
   pub settings : u.settings ≡ w.settings
   pub acted_is : acted ≡ count_by acts turns
+
+-- no request was answered by a fault, and the book did not fail inside a document
+abbrev pub IsFaultless : Result Served ServeFault → Type 0
+IsFaultless (Ok served) = served.faults ≡ 0
+IsFaultless (Err f) = (f.faults ≡ 0) × (f.cause ≢ Book)

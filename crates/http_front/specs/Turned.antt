@@ -1,5 +1,5 @@
 -- What the parts of one turn leave: of the bytes, of what is written, and of the world.
-use Rattle.std.specs.Prelude.{◌≡◌, ◌<◌, ◌⊎◌, ◌==◌, ◌||◌, Bool, false, ℕ, List, [], ◌++◌, Option, IfSome, Result, Ok, Err, ⊤}
+use Rattle.std.specs.Prelude.{◌≡◌, ◌≢◌, ◌<◌, ◌⊎◌, ◌==◌, ◌||◌, Bool, false, ℕ, List, [], ◌++◌, Option, IfSome, Result, Ok, Err, ⊤}
 use Rattle.std.specs.Io.KnownBytes.{Appends, Consumes}
 use Rattle.queue_core.specs.World.{World}
 use Rattle.http_wire.specs.Bodies.{IsBody, EndsInBody}
@@ -17,6 +17,7 @@ use Rattle.http_front.specs.declared.outcome.Replied.{Replied}
 use Rattle.http_front.specs.declared.outcome.Replied.TheVariants.{Answered as ReplyAnswered, Declined as ReplyDeclined}
 use Rattle.http_front.specs.declared.outcome.Turned.{Turned}
 use Rattle.http_front.specs.declared.outcome.Turned.TheVariants.{Answered, Ended}
+use Rattle.http_front.specs.declared.outcome.ServeCause.TheVariants.{Book}
 use Rattle.http_front.specs.declared.outcome.Stopped.{Stopped}
 
 -- ---- a whole request
@@ -118,3 +119,21 @@ PlanWorks now k w u plan acted =
 -- nothing was changed, or a request was answered
 abbrev pub Works : ℕ → World → World → Bool → Type 0
 Works now w u acted = ((u ≡ w) × (acted ≡ false)) ⊎ ((t : Turn) × IsTurn now w t × (u ≡ t.after) × (acted ≡ acts t))
+
+-- ---- faults
+
+-- what was broken off tells of no fault, and the book did not fail inside a document
+abbrev pub IsStopFaultless : Stopped → Type 0
+IsStopFaultless stopped = (stopped.is_fault ≡ false) × (stopped.cause ≢ Book)
+
+-- a whole request met no fault
+abbrev pub IsReplyFaultless : Result Replied Stopped → Type 0
+IsReplyFaultless (Ok (ReplyAnswered fault)) = fault ≡ false
+IsReplyFaultless (Ok (ReplyDeclined r)) = is_unavailable (Refused r) ≡ false
+IsReplyFaultless (Err f) = IsStopFaultless f
+
+-- a turn met no fault
+abbrev pub IsTurnFaultless : Result Turned Stopped → Type 0
+IsTurnFaultless (Ok (Answered acted fault closes)) = fault ≡ false
+IsTurnFaultless (Ok (Ended end)) = is_unavailable end ≡ false
+IsTurnFaultless (Err f) = IsStopFaultless f

@@ -1,11 +1,11 @@
 //! A whole connection: its requests one after another, to its end.
-ghost use Rattle.std.specs.Prelude.{◌≡◌, ◌+◌, ◌^◌, ◌<◌, ◌≤◌, IfErr, IfOk, if◌then◌else◌};
+ghost use Rattle.std.specs.Prelude.{◌≡◌, ◌+◌, ◌^◌, ◌<◌, ◌≤◌, IfErr, IfOk, false, if◌then◌else◌};
 ghost use Rattle.std.specs.Option.{ForSome};
 ghost use Rattle.queue_core.specs.Limits.{IsMoment};
 ghost use Rattle.queue_core.specs.World.{World};
 ghost use Rattle.http_head.specs.Left.{left};
 ghost use Rattle.http_head.specs.Routes.{routes};
-ghost use Rattle.http_front.specs.Connections.{IsServed, IsStopped, Worked, acted_of};
+ghost use Rattle.http_front.specs.Connections.{IsFaultless, IsServed, IsStopped, Worked, acted_of};
 ghost use Rattle.http_front.specs.Turns.{most_requests};
 
 use crate::context::Context;
@@ -26,6 +26,7 @@ fn mark(faults: u32, k: u32, is_fault: bool) -> u32
     requires place { k < most_requests }
     ensures exact { result ≡ faults + (if is_fault then 2 ^ k else 0) }
     ensures within { result < 2 ^ (k + 1) }
+    ensures none { result ≡ 0 → (faults ≡ 0) × (is_fault ≡ false) }
 {
     if is_fault { faults + (1 << k) } else { faults }
 }
@@ -51,6 +52,8 @@ fn run<R: Read, W: Write, B: QueueBook>(
         → (u : World) × B.stands book.new u × Worked most_requests context.entry.moment w u (acted_of result) }
     ensures few { IfOk result (λ served. served.acted ≤ most_requests) }
     ensures few_stopped { IfErr result (λ fault. fault.acted ≤ most_requests) }
+    // what shuts a book is answered as a fault, or breaks a document off
+    ensures live { B.is_honest book.new → B.is_live book.old → IsFaultless result → B.is_live book.new }
 {
     let mut acted = 0;
     let mut faults = 0;
@@ -121,6 +124,8 @@ pub fn serve<R: Read, W: Write, B: QueueBook>(
         → (u : World) × B.stands book.new u × Worked most_requests now w u (acted_of result) }
     ensures few { IfOk result (λ served. served.acted ≤ most_requests) }
     ensures few_stopped { IfErr result (λ fault. fault.acted ≤ most_requests) }
+    // what shuts a book is answered as a fault, or breaks a document off
+    ensures live { B.is_honest book.new → B.is_live book.old → IsFaultless result → B.is_live book.new }
 {
     let mut input = Input::new(reader);
     let table = router(alloc).ok();

@@ -1,8 +1,8 @@
 //! The answer to one whole request.
-ghost use Rattle.std.specs.Prelude.{◌≡◌, ◌≤◌, ℕ, List, false, length};
+ghost use Rattle.std.specs.Prelude.{◌≡◌, ◌≢◌, ◌≤◌, ℕ, List, false, length};
 ghost use Rattle.queue_core.specs.Limits.{IsMoment};
 ghost use Rattle.queue_core.specs.World.{World};
-ghost use Rattle.http_front.specs.Turned.{IsReplied};
+ghost use Rattle.http_front.specs.Turned.{IsReplied, IsReplyFaultless};
 ghost use Rattle.http_head.specs.declared.target.Target.TheVariants.{Ipp, Report, Queue, Document};
 
 use crate::context::Context;
@@ -30,6 +30,7 @@ fn reply_ipp<W: Write, B: QueueBook>(
     ensures replied { B.is_honest book.new → (w : World) → B.stands book.old w → context.entry.settings.now ≡ w.settings
         → (u : World) × B.stands book.new u
         × IsReplied context.entry.moment w u Ipp content.now closes (W.contents writer.old) (W.contents writer.new) result }
+    ensures live { B.is_honest book.new → B.is_live book.old → IsReplyFaultless result → B.is_live book.new }
 {
     match answer(
         context.alloc,
@@ -67,6 +68,7 @@ fn reply_report<W: Write, B: QueueBook>(
     ensures replied { B.is_honest book.new → (w : World) → B.stands book.old w
         → (u : World) × B.stands book.new u
         × IsReplied now w u Report content.now closes (W.contents writer.old) (W.contents writer.new) result }
+    ensures live { B.is_honest book.new → B.is_live book.old → IsReplyFaultless result → B.is_live book.new }
 {
     let answer = report(book, now, content);
     let is_fault = answer.is_fault();
@@ -91,6 +93,7 @@ fn reply_queue<W: Write, B: QueueBook>(
     ensures kept { (w : World) → B.stands book.old w → B.stands book.new w }
     ensures replied { B.is_honest book.new → (w : World) → B.stands book.old w → (now : ℕ) (content : List ℕ)
         → IsReplied now w w Queue content closes (W.contents writer.old) (W.contents writer.new) result }
+    ensures live { B.is_honest book.new → B.is_live book.old → IsReplyFaultless result → B.is_live book.new }
 {
     let Ok(jobs) = book.pending() else {
         return Ok(Replied::Declined(Refusal::ServiceUnavailable));
@@ -117,7 +120,10 @@ pub fn stopped_by(cause: ServeCause) -> Stopped
     }
 }
 
-fn cause_of(cause: SendCause) -> ServeCause {
+fn cause_of(cause: SendCause) -> ServeCause
+    ensures book { result ≢ ServeCause.Book → cause ≡ SendCause.Write }
+    ensures write { cause ≡ SendCause.Write → result ≡ ServeCause.Write }
+{
     match cause {
         SendCause::Book(_) => ServeCause::Book,
         SendCause::Write => ServeCause::Write,
@@ -135,6 +141,7 @@ fn reply_document<W: Write, B: QueueBook>(
     ensures kept { (w : World) → B.stands book.old w → B.stands book.new w }
     ensures replied { B.is_honest book.new → (w : World) → B.stands book.old w → (now : ℕ) (content : List ℕ)
         → IsReplied now w w (Document n) content closes (W.contents writer.old) (W.contents writer.new) result }
+    ensures live { B.is_honest book.new → B.is_live book.old → IsReplyFaultless result → B.is_live book.new }
 {
     let Some((job, number)) = n else {
         return Ok(Replied::Declined(Refusal::NotFound));
@@ -169,6 +176,7 @@ pub fn reply<W: Write, B: QueueBook>(
     ensures replied { B.is_honest book.new → (w : World) → B.stands book.old w → context.entry.settings.now ≡ w.settings
         → (u : World) × B.stands book.new u
         × IsReplied context.entry.moment w u target content.now closes (W.contents writer.old) (W.contents writer.new) result }
+    ensures live { B.is_honest book.new → B.is_live book.old → IsReplyFaultless result → B.is_live book.new }
 {
     match target {
         Target::Ipp => reply_ipp(context, writer, book, content, closes),

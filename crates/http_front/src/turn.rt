@@ -7,7 +7,7 @@ ghost use Rattle.http_head.specs.Framing.{size_of};
 ghost use Rattle.http_head.specs.Left.{left};
 ghost use Rattle.http_head.specs.Routes.{routes};
 ghost use Rattle.http_front.specs.Turns.{acts_on, last_request};
-ghost use Rattle.http_front.specs.Turned.{IsClosed, IsPlanned, IsTurned, ClosesLast, PlanWorks, Works, acted_in};
+ghost use Rattle.http_front.specs.Turned.{IsClosed, IsPlanned, IsTurnFaultless, IsTurned, ClosesLast, PlanWorks, Works, acted_in};
 
 use crate::context::Context;
 use crate::outcome::{Replied, ServeCause, Stopped, Turned};
@@ -80,6 +80,8 @@ fn take_planned<R: Read, W: Write, B: QueueBook>(
     ensures worked { B.is_honest book.new → (w : World) → B.stands book.old w → context.entry.settings.now ≡ w.settings
         → (u : World) × B.stands book.new u × PlanWorks context.entry.moment k w u plan (acted_in result) }
     ensures last { ClosesLast k result }
+    // what shuts a book is answered as a fault, or breaks a document off
+    ensures live { B.is_honest book.new → B.is_live book.old → IsTurnFaultless result → B.is_live book.new }
 {
     match send_continue(writer, plan) {
         Ok(()) => {}
@@ -133,6 +135,8 @@ pub fn turn<R: Read, W: Write, B: QueueBook>(
     ensures worked { B.is_honest book.new → (w : World) → B.stands book.old w → context.entry.settings.now ≡ w.settings
         → (u : World) × B.stands book.new u × Works context.entry.moment w u (acted_in result) }
     ensures last { ClosesLast k result }
+    // what shuts a book is answered as a fault, or breaks a document off
+    ensures live { B.is_honest book.new → B.is_live book.old → IsTurnFaultless result → B.is_live book.new }
 {
     let Some(router) = router else {
         return close_with(writer, Finish::Refused(Refusal::ServiceUnavailable));

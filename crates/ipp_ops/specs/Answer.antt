@@ -1,5 +1,5 @@
 -- What the bytes of a request bring about: a reply, and the world after it.
-use Rattle.std.specs.Prelude.{◌≡◌, ◌∷◌, ◌==◌, ◌&&◌, ⊤, ℕ, Bool, false, nat_le, List, Option, Some, None}
+use Rattle.std.specs.Prelude.{◌≡◌, ◌∷◌, ◌==◌, ◌&&◌, ⊤, ℕ, Bool, false, nat_le, List, Option, Some, None, Result, Ok, Err}
 use Rattle.ipp_wire.specs.declared.view.Head.{Head}
 use Rattle.ipp_wire.specs.Message.{Group, Message, Spells, head_of}
 use Rattle.ipp_wire.specs.Bare.{bare}
@@ -9,6 +9,7 @@ use Rattle.queue_core.specs.Machine.{step}
 use Rattle.queue_types.specs.declared.event.Reply.TheVariants.{Refused as RefusedReply}
 use Rattle.ipp_ops.specs.declared.outcome.Answer.{Answer}
 use Rattle.ipp_ops.specs.declared.outcome.Answer.TheVariants.{Whole, Bare}
+use Rattle.ipp_ops.specs.declared.outcome.TooShort.{TooShort}
 use Rattle.ipp_ops.specs.Verdict.{Verdict, passed, refused, verdict}
 use Rattle.ipp_reply.specs.Unsupported.{Unsupported, nothing}
 use Rattle.ipp_request.specs.Reading.{head_refusal}
@@ -80,3 +81,8 @@ is_refusal _ = false
 abbrev pub bytes_of : Answer → List ℕ
 bytes_of (Whole bytes) = bytes.items
 bytes_of (Bare bytes) = bytes
+
+-- the answer tells of no fault
+abbrev pub IsFaultless : Result Answer TooShort → Type 0
+IsFaultless (Ok answer) = is_fault (bytes_of answer) ≡ false
+IsFaultless (Err short) = ⊤

@@ -1,5 +1,5 @@
 //! One request, from its bytes to those of its answer.
-ghost use Rattle.std.specs.Prelude.{◌≡◌, ◌<◌, ◌≤◌, ◌↔◌, None, Some, ℕ, length, IfOk, IsErr, MatchBool, OnErr};
+ghost use Rattle.std.specs.Prelude.{◌≡◌, ◌<◌, ◌≤◌, ◌↔◌, None, Some, ℕ, length, IfOk, IsErr, MatchBool, OnErr, OnOk};
 ghost use Rattle.std.specs.Bool.{OnFalse, OnTrue};
 ghost use Rattle.ipp_wire.specs.Message.{IsMessage, Spells, head_of};
 ghost use Rattle.ipp_wire.specs.Viewed.{message_of};
@@ -12,7 +12,7 @@ ghost use Rattle.queue_core.specs.World.{World};
 ghost use Rattle.ipp_reply.specs.Reply.{reply_of};
 ghost use Rattle.ipp_reply.specs.Unsupported.{CanList, unsupported_of};
 ghost use Rattle.ipp_reply.specs.Wanted.{no_rows, rows_of};
-ghost use Rattle.ipp_ops.specs.Answer.{Answers, Fails, IsReplyTo, IsAsk, IsMalformed, bytes_of, is_fault, is_refusal, outcome};
+ghost use Rattle.ipp_ops.specs.Answer.{Answers, Fails, IsFaultless, IsReplyTo, IsAsk, IsMalformed, bytes_of, is_fault, is_refusal, outcome};
 ghost use Rattle.ipp_ops.specs.Verdict.{verdict};
 ghost use Rattle.ipp_request.specs.Reading.{head_refusal};
 
@@ -105,6 +105,7 @@ fn take_step<B: QueueBook>(
     ensures world { B.is_honest book.new → IfOk result (λ b. (w : World) → B.stands book.old w
         → B.stands book.new (machine_step w context.entry.now (event_of event.now)).world) }
     ensures err { OnErr result ((w : World) → B.stands book.old w → B.stands book.new w) }
+    ensures live { B.is_honest book.new → OnOk result (B.is_live book.new) }
 {
     let decision = book.decide(context.now, event)?;
     let bytes = reply_bytes(context, &decision.reply, wanted, unsupported)?;
@@ -130,6 +131,7 @@ fn answer_message<B: QueueBook>(
     ensures world { B.is_honest book.new → IfOk result (λ b. (w : World) → B.stands book.old w
         → B.stands book.new (outcome (verdict (message_of view.now)) view.now.head w now).world) }
     ensures err { OnErr result ((w : World) → B.stands book.old w → B.stands book.new w) }
+    ensures live { B.is_honest book.new → B.is_live book.old → OnOk result (B.is_live book.new) }
 {
     let context = ReplyContext {
         alloc,
@@ -178,6 +180,8 @@ pub fn answer<B: QueueBook>(
         ((w : World) → B.stands book.old w → settings.now ≡ w.settings → Fails body.now (bytes_of a) × B.stands book.new w)) }
     ensures refused { B.is_honest book.new → IfOk result (λ a. OnTrue (is_refusal (bytes_of a))
         ((w : World) → B.stands book.old w → settings.now ≡ w.settings → B.stands book.new w)) }
+    // What shuts a book is answered as a fault.
+    ensures live { B.is_honest book.new → B.is_live book.old → IsFaultless result → B.is_live book.new }
 
     // These hold on any book, also on one that is not honest.
     ensures replies { IfOk result (λ a. IsReplyTo (head_of body.now) (bytes_of a)) }

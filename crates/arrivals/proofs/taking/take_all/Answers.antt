@@ -1,6 +1,7 @@
 use Rattle.std.proofs.Common.{◌+◌, [], ◌∷◌, ◌++◌, arith, ap, get_or, length, length-append, take}
 use Rattle.std.proofs.lemmas.List.{take_all, take_more}
-use Rattle.arrivals.proofs.HistoryLemmas.{history_of, more_taken, none_taken, settings_after, taken_by}
+use Rattle.arrivals.proofs.HistoryLemmas.{each_before_last, history_of, more_taken, none_taken, settings_after, taken_by}
+use Rattle.arrivals.specs.Taken.{IsFaultless}
 use Rattle.arrivals.specs.declared.arrival.Arrival.{Arrival}
 use Rattle.arrivals.specs.declared.arrival.Arrived.TheVariants.{Connection}
 use Rattle.arrivals.proofs.taking.take_all.Goals as goal
@@ -10,6 +11,7 @@ loop-arrival-init g c = record {
   began = λ h. h;
   count = omega (arith, ap length c.in_ok-outcomes.ensures.items);
   room = c.in_ok-outcomes.ensures.capacity;
+  live = λ honest live all. live;
   taken = λ honest w s set. none_taken (g.B.QueueBook.stands c.args.book.now) w c.in_ok-outcomes.outcomes.items (g.W.Write.contents c.args.writer.now) c.in_ok-outcomes.ensures.items s;
 }
 
@@ -22,6 +24,9 @@ loop-arrival-preserved g c = record {
   began = λ honest. c.loop-arrival.invariant.began (c.take-outcome.ensures.began honest);
   count = omega (arith, ap length c.in-Ok.ensures.items, length-append c.loop-arrival.outcomes.items (c.take-outcome.result ∷ []), c.loop-arrival.invariant.count);
   room = omega (arith, c.in-Ok.ensures.capacity, c.loop-arrival.invariant.room);
+  live = λ honest live all.
+      let each = each_before_last IsFaultless c.loop-arrival.outcomes.items c.take-outcome.result (rw c.in-Ok.ensures.items at all) in
+      c.take-outcome.ensures.live honest (c.loop-arrival.invariant.live (c.take-outcome.ensures.began honest) live each.0) each.1;
   taken = λ honest w s set.
       let i = c.loop-arrival.arrival-index in
       let arrivals = c.args.arrivals.now in

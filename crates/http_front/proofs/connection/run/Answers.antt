@@ -11,7 +11,7 @@ counted n false is = is
 counted n true is = is
 
 pub turns-init : goal.turns-init
-turns-init g c = record { few = omega arith; acted_few = omega arith; below = omega arith; began = λ h. h; ran = λ h w st set. (w, st, ran_none _ _ _ _); worked = λ h w st set. (w, st, worked_none _ _) }
+turns-init g c = record { few = omega arith; acted_few = omega arith; below = omega arith; began = λ h. h; live = λ h live none. live; ran = λ h w st set. (w, st, ran_none _ _ _ _); worked = λ h w st set. (w, st, worked_none _ _) }
 
 pub turns-preserved : goal.turns-preserved
 turns-preserved g c = record {
@@ -19,6 +19,9 @@ turns-preserved g c = record {
   acted_few = search rules;
   below = c.mark-faults.ensures.within;
   began = λ h. c.turns.invariant.began (c.turn.ensures.began h);
+  live = λ h live none.
+      let clear = c.mark-faults.ensures.none none in
+      (rw c.in-Ok-Answered.field-0-is at (c.in-Ok-Answered.ensures.live h (c.turns.invariant.live (c.turn.ensures.began h) live clear.0))) clear.1;
   ran = λ h w st set.
       let r = c.turns.invariant.ran (c.turn.ensures.began h) w st set in
       let t = rw c.in-Ok-Answered.field-0-is at (c.in-Ok-Answered.ensures.turned h r.0 r.1 (run_settings c.args.context.settings.now c.turns.k c.args.context.moment w r.0 _ _ _ _ c.turns.acted c.turns.faults r.2 set)) in (
@@ -103,3 +106,18 @@ returns-in-Err-clause-worked g c = λ h w st set.
       worked_within (c.turns.k + 1) c.args.context.moment w t.0 _ (let f = c.turns.invariant.few in omega (arith, f))
           (worked_on c.turns.k c.args.context.moment w r.0 t.0 c.turns.acted _ c.in-Err.stopped.acted r.2 t.2 (ap (λ n. c.turns.acted + n) (counted _ _ c.from.ensures))),
     )
+
+pub returns-then-closes-clause-live : goal.returns-then-closes-clause-live
+returns-then-closes-clause-live g c = λ h live none.
+    let clear = c.mark-faults.ensures.none none in
+    (rw c.in-Ok-Answered.field-0-is at (c.in-Ok-Answered.ensures.live h (c.turns.invariant.live (c.turn.ensures.began h) live clear.0))) clear.1
+
+pub returns-in-Ok-Ended-clause-live : goal.returns-in-Ok-Ended-clause-live
+returns-in-Ok-Ended-clause-live g c = λ h live none.
+    let clear = c.mark.ensures.none none in
+    (rw c.in-Ok-Ended.field-0-is at (c.in-Ok-Ended.ensures.live h (c.turns.invariant.live (c.turn.ensures.began h) live clear.0))) (sym c.is_unavailable.ensures ∙ clear.1)
+
+pub returns-in-Err-clause-live : goal.returns-in-Err-clause-live
+returns-in-Err-clause-live g c = λ h live none.
+    let clear = c.mark-in-Err.ensures.none none.0 in
+    c.in-Err.ensures.live h (c.turns.invariant.live (c.turn.ensures.began h) live clear.0) (clear.1, none.1)

@@ -12,6 +12,7 @@ invariant-turns g l = record {
   acted_few : l.acted ≤ l.k;
   below : l.faults < 2 ^ l.k;
   began : g.B.QueueBook.is_honest l.book → g.B.QueueBook.is_honest l.initial.book;
+  live : g.B.QueueBook.is_honest l.book → g.B.QueueBook.is_live l.initial.book → l.faults ≡ 0 → g.B.QueueBook.is_live l.book;
   ran : g.B.QueueBook.is_honest l.book → (w : World) → g.B.QueueBook.stands l.initial.book w → l.context.settings.now ≡ w.settings → (u : World) × g.B.QueueBook.stands l.book u
       × RanOn l.k l.context.moment w u (left l.initial.input.buffer (g.R.Read.remaining l.initial.input.reader)) (left l.input.buffer (g.R.Read.remaining l.input.reader))
       (g.W.Write.contents l.initial.writer) (g.W.Write.contents l.writer) l.acted l.faults;

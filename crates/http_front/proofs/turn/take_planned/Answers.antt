@@ -2,7 +2,7 @@ use Rattle.std.proofs.Common.{refl}
 use Rattle.http_head.specs.Left.{left}
 use Rattle.http_head.specs.declared.end.Finish.TheVariants.{Refused}
 use Rattle.http_head.specs.declared.end.Refusal.TheVariants.{ServiceUnavailable}
-use Rattle.http_front.proofs.TurnedLemmas.{planned_unsaid, planned_unread, planned_closed, planned_answered, planned_broken, end_in_body, end_unavailable, end_declined, body_as, said_on, same_world, closed_idle, plan_idle, plan_works}
+use Rattle.http_front.proofs.TurnedLemmas.{planned_unsaid, planned_unread, planned_closed, planned_answered, planned_broken, end_in_body, end_unavailable, end_declined, body_as, said_on, same_world, closed_faultless, closed_idle, plan_idle, plan_works}
 use Rattle.http_front.proofs.turn.take_planned.Goals as goal
 
 pub returns-in-Err-clause-planned : goal.returns-in-Err-clause-planned
@@ -114,3 +114,14 @@ returns-clause-worked g c = λ honest w st set.
       plan_works c.args.context.moment c.args.k w t.0 c.args.plan f.0 c.as_slice.result.now t.2.0 c.in-Err-reply.stopped.acted c.in-Err-reply.stopped.is_fault c.closes_after-closes.result
           (body_as c.args.plan.framing f.0 c.in-Ok-take_framed.content.items c.as_slice.result.now f.1 c.as_slice.ensures.value) t.2.1 t.2.3 c.closes_after-closes.ensures,
     )
+
+pub returns-in-Ok-Answered-clause-live : goal.returns-in-Ok-Answered-clause-live
+returns-in-Ok-Answered-clause-live g c = λ honest live faultless. (rw c.in-Ok-Answered.field-0-is at (c.in-Ok-Answered.ensures.live honest live)) faultless
+
+pub returns-in-Ok-Declined-clause-live : goal.returns-in-Ok-Declined-clause-live
+returns-in-Ok-Declined-clause-live g c = λ honest live faultless.
+    (rw c.in-Ok-Declined.field-0-is at (c.in-Ok-Declined.ensures.live honest live))
+    (closed_faultless (Refused c.in-Ok-Declined.refusal) _ _ c.close_with-in-Ok-Declined.result c.close_with-in-Ok-Declined.ensures faultless)
+
+pub returns-clause-live : goal.returns-clause-live
+returns-clause-live g c = λ honest live faultless. c.in-Err-reply.ensures.live honest live faultless
