@@ -25,7 +25,7 @@ pub enum Fault {
     Import(ImportFault),
     /// A setting of the printer is not within its limits.
     BadSetting,
-    /// A port, a file or a standard stream can't be opened, read or written.
+    /// A port, a file or a standard stream can't be opened, read or written, no connection can be taken, the clock can't be read, or a word is not UTF-8.
     Io,
 }
 
@@ -116,9 +116,12 @@ impl From<replay::Fault> for Fault {
 }
 
 impl From<io::Error> for Fault {
+    ghost use Rattle.std.specs.IoError.{error_kind};
+    ghost use Rattle.std.specs.Prelude.{◌↔◌};
+    ghost use Rattle.std.specs.declared.io.ErrorKind.TheVariants.{OutOfMemory};
     ghost use Rattle.command_ends.specs.Faults.{IsOfStream};
 
-    ghost from_gives = { λ _ fault. IsOfStream fault };
+    ghost from_gives = { λ error fault. IsOfStream fault × ((fault ≡ faults.Memory) ↔ (error_kind error ≡ OutOfMemory)) };
 
     fn from(error: io::Error) -> Fault {
         match error.kind() {

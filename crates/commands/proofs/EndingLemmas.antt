@@ -1,5 +1,5 @@
 -- How a call ended, and the exit status of a program whose words are read.
-use Rattle.std.proofs.Common.{◌≡◌, ◌≢◌, ◌≤◌, ◌⊎◌, ℕ, Result, Ok, Err, IfOk, IfErr, IsOk, OnOk, ap, refl, subst, sym, arith, true, false, inl, inr}
+use Rattle.std.proofs.Common.{◌≡◌, ◌≢◌, ◌≤◌, ◌⊎◌, ℕ, Result, Ok, Err, IfOk, IfErr, IsErrOf, IsOk, OnOk, ap, refl, subst, sym, arith, true, false, inl, inr}
 use Rattle.clap.specs.Kinds.{IsAmong, Kinds}
 use Rattle.clap.specs.declared.error.kind.ErrorKind.{ErrorKind}
 use Rattle.clap.specs.declared.error.kind.ErrorKind.TheVariants.{DisplayHelp, DisplayVersion}
@@ -22,9 +22,19 @@ pub if_err : {A E : Type 0} (r : Result A E) (P Q : E → Type 0) → IfErr r P 
 if_err (Ok a) P Q p then_q = tt
 if_err (Err e) P Q p then_q = then_q e p
 
+pub any_err : {A E : Type 0} (r : Result A E) (Q : E → Type 0) → ((e : E) → Q e) → IfErr r Q
+any_err (Ok a) Q q = tt
+any_err (Err e) Q q = q e
+
 pub both : {A E : Type 0} (r : Result A E) (P Q : E → Type 0) → IfErr r P → IfErr r Q → IfErr r (λ e. P e × Q e)
 both (Ok a) P Q p q = tt
 both (Err e) P Q p q = (p, q)
+
+-- what a call is refused with is handed on
+pub handed_on : {A B E : Type 0} (r : Result A E) (s : Result B E) (Q : E → Type 0) → IfOk r (λ a. IsOk s) → IfErr r (λ e. IsErrOf s e) → IfErr r Q → IfErr s Q
+handed_on r (Ok b) Q done refused q = tt
+handed_on (Ok a) (Err f) Q done refused q = absurd (let no : false ≡ true = done in cc)
+handed_on (Err e) (Err f) Q done refused q = let same = refused in subst Q (sym cc) q
 
 -- a writer that stays as it was keeps what it holds
 pub or_same : {S W C : Type 0} (contents : W → C) (new old : W) → S ⊎ (new ≡ old) → S ⊎ (contents new ≡ contents old)

@@ -1,8 +1,14 @@
--- What a new store is to have.
-use Rattle.std.specs.Prelude.{ℤ}
+-- What a new store is to have, and why one is not opened.
+use Rattle.std.specs.Prelude.{◌≡◌, ◌⊎◌, ℤ}
+use Rattle.command_ends.specs.declared.fault.Fault.{Fault}
+use Rattle.command_ends.specs.declared.fault.Fault.TheVariants.{Memory, Disk, Damaged}
 use Rattle.command_words.specs.declared.outcome.Init.{Init}
 use Rattle.queue_types.specs.Settings.{SettingValues}
 
 -- the settings that a new store is to have, from this second of the clock on
 abbrev pub settings_of : Init → ℤ → SettingValues
 settings_of words epoch = record { uri = words.uri.now; name = words.name.now; estimate = words.estimate; epoch = epoch }
+
+-- a store that can't be opened is told so
+abbrev pub IsOfStore : Fault → Type 0
+IsOfStore fault = (fault ≡ Memory) ⊎ (fault ≡ Disk) ⊎ (fault ≡ Damaged)

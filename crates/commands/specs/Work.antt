@@ -1,5 +1,5 @@
 -- What a command does on the book of a store.
-use Rattle.std.specs.Prelude.{◌≡◌, ◌≢◌, ◌≤◌, ◌⊎◌, ◌++◌, ℕ, List, Option, Some, None, length}
+use Rattle.std.specs.Prelude.{◌≡◌, ◌≢◌, ◌≤◌, ◌⊎◌, ◌++◌, ⊤, ℕ, List, Option, Some, None, length}
 use Rattle.std.specs.Io.KnownBytes.{Appends}
 use Rattle.command_ends.specs.Faults.{IsOfStream}
 use Rattle.command_ends.specs.declared.fault.Fault.{Fault}
@@ -40,3 +40,21 @@ abbrev pub IsNotDone : Work → Fault → World → World → Option (List ℕ) 
 IsNotDone (Import words) fault w u before after = (IsOfStream fault ⊎ IsOfFile fault w) × ((u ≡ w) × (after ≡ before) ⊎ (IsOfStream fault × (n : Imported) × IsImport w u n))
 IsNotDone (Statement words) fault w u before after = (fault ≢ Damaged) × (fault ≡ NoAccount → sheet_of w words.account.now ≡ None) × (u ≡ w) × (IsOfStream fault ⊎ (after ≡ before))
 IsNotDone (Serve words) fault w u before after = (fault ≢ Damaged) × (counts : List ℕ) × AreConnections w counts u × (length counts ≤ words.connections)
+
+-- once it is done the store is open; of a server no contract says so, as a fault may have shut its store and the look at it behind that
+-- have had no memory
+abbrev pub LeavesOpen : Work → Type 0
+LeavesOpen (Import words) = ⊤
+LeavesOpen (Statement words) = ⊤
+LeavesOpen (Serve words) = ⊥
+
+-- it prints nothing before it is done; a server tells of each connection
+abbrev pub PrintsLast : Work → Type 0
+PrintsLast (Import words) = ⊤
+PrintsLast (Statement words) = ⊤
+PrintsLast (Serve words) = ⊥
+
+abbrev pub store_of : Work → List ℕ
+store_of (Import words) = words.store.now
+store_of (Statement words) = words.store.now
+store_of (Serve words) = words.store.now

@@ -1,26 +1,27 @@
 //! What the office asks of a store.
-ghost use Rattle.std.specs.Prelude.{◌≡◌, ◌⊎◌, IfErr, IfOk, OnOk, None, Some};
+ghost use Rattle.std.specs.Prelude.{◌≡◌, ◌⊎◌, ℕ, List, IfErr, IfOk, IsTrue, OnOk, None, Some};
 ghost use Rattle.std.specs.Io.KnownBytes.{Appends};
 ghost use Rattle.command_ends.specs.Faults.{IsOfStream};
 ghost use Rattle.command_ends.specs.declared.fault.Fault.TheVariants.{Damaged, NoAccount, Import as ByFile};
 ghost use Rattle.commands.specs.Work.{IsImport, IsOfFile};
 ghost use Rattle.grants_csv.specs.declared.fault.ImportFault.{ImportFault};
 ghost use Rattle.grants_csv.specs.declared.importing.Imported.{Imported as ImportedRows};
-ghost use Rattle.office.specs.Told.{import_line};
+ghost use Rattle.office.specs.Told.{AreReadOf, IsRefused, IsTaken, import_line};
 ghost use Rattle.page_statements.specs.Statement.{sheet_text};
 ghost use Rattle.queue_core.specs.Limits.{IsMoment};
 ghost use Rattle.queue_core.specs.Shown.{sheet_of};
 ghost use Rattle.queue_core.specs.World.{World};
 ghost use Rattle.queue_types.specs.declared.sheet.AccountSheet.{AccountSheet as Sheet};
-ghost use Rattle.queue_store.specs.Kept.{IsHonest, StandsFor};
+ghost use Rattle.queue_store.specs.Kept.{IsHonest, StandsFor, shown_by};
 
 use command_ends::Fault;
 use office::{import_file, print_statement};
 use print_server::present_moment;
 use queue_store::TableBook;
 use sqlite::Alter;
+use std::alloc::Global;
 use std::fs;
-use std::io::Write;
+use std::io::{Read, Write};
 use std::rt::{Clock, HostRuntime};
 
 /// The present moment of a book's printer.
@@ -33,8 +34,35 @@ fn moment_of<C: Clock, S: Alter>(clock: &C, book: &TableBook<S>) -> Result<u32, 
     Ok(now)
 }
 
-/// Takes the account file at a path into a book, whole or not at all, and prints `new N repeats M`. A file that is refused leaves the book as it
+/// Takes an account file into a book at this moment, whole or not at all, and prints `new N repeats M`. A file that is refused leaves the book as it
 /// was, and nothing is printed.
+fn import_at<R: Read + Drop, S: Alter, W: Write>(
+    alloc: Global,
+    file: R,
+    output: &mut W,
+    book: &mut TableBook<S>,
+    now: u32,
+) -> Result<(), Fault>
+    requires moment { IsMoment now }
+    ensures began { IsHonest S.Store book.new → IsHonest S.Store book.old }
+    ensures taken { IsHonest S.Store book.new → OnOk result ((w : World) → StandsFor S.Store book.old w
+        → (bytes : List ℕ) × AreReadOf (R.remaining file) bytes × (n : ImportedRows) × (u : World) × IsTaken now w u bytes n × StandsFor S.Store book.new u
+        × Appends (W.contents output.old) (W.contents output.new) (import_line n)) }
+    ensures left { IsHonest S.Store book.new → IfErr result (λ f. (w : World) → StandsFor S.Store book.old w → StandsFor S.Store book.new w × (output.new ≡ output.old)
+        ⊎ (IsOfStream f × (bytes : List ℕ) × AreReadOf (R.remaining file) bytes × (n : ImportedRows) × (u : World) × IsTaken now w u bytes n × StandsFor S.Store book.new u)) }
+    ensures refused { IfErr result (λ f. (told : ImportFault) → f ≡ ByFile told → (w : World) → StandsFor S.Store book.old w → StandsFor S.Store book.new w) }
+    ensures live { IsHonest S.Store book.new → OnOk result (IsTrue (shown_by S.Store book.new).is_open) }
+    // a stream failed, or nothing was written
+    ensures quiet { IfErr result (λ f. IsOfStream f ⊎ (output.new ≡ output.old)) }
+    // a stream failed, or the file is refused
+    ensures why { IsHonest S.Store book.new → IfErr result (λ f. (w : World) → StandsFor S.Store book.old w
+        → IsOfStream f ⊎ ((told : ImportFault) × (f ≡ ByFile told) × (bytes : List ℕ) × AreReadOf (R.remaining file) bytes × IsRefused now w bytes told)) }
+{
+    import_file(alloc, file, output, book, now)?;
+    Ok(())
+}
+
+/// Takes the account file at a path into a book at the present moment, and prints `new N repeats M`, as [`import_at`] does.
 pub(crate) fn import_into<S: Alter, W: Write>(
     rt: &HostRuntime,
     path: &str,
@@ -48,6 +76,7 @@ pub(crate) fn import_into<S: Alter, W: Write>(
     ensures left { IsHonest S.Store book.new → IfErr result (λ f. (w : World) → StandsFor S.Store book.old w → StandsFor S.Store book.new w × (output.new ≡ output.old)
         ⊎ (IsOfStream f × (n : ImportedRows) × (u : World) × IsImport w u n × StandsFor S.Store book.new u)) }
     ensures refused { IfErr result (λ f. (told : ImportFault) → f ≡ ByFile told → (w : World) → StandsFor S.Store book.old w → StandsFor S.Store book.new w) }
+    ensures live { IsHonest S.Store book.new → OnOk result (IsTrue (shown_by S.Store book.new).is_open) }
     // a stream failed, or nothing was written
     ensures quiet { IfErr result (λ f. IsOfStream f ⊎ (output.new ≡ output.old)) }
     // a stream failed, or the file is refused
@@ -55,8 +84,7 @@ pub(crate) fn import_into<S: Alter, W: Write>(
 {
     let now = moment_of(rt, book)?;
     let file = fs::open(rt, path)?;
-    import_file(rt.alloc(), file, output, book, now)?;
-    Ok(())
+    import_at(rt.alloc(), file, output, book, now)
 }
 
 /// Prints the statement of an account of a book, and leaves the book as it was.
@@ -72,6 +100,7 @@ pub(crate) fn print_from<S: Alter, W: Write>(
         → (s : Sheet) × (sheet_of w account.now ≡ Some s) × Appends (W.contents output.old) (W.contents output.new) (sheet_text s)) }
     ensures unknown { IsHonest S.Store book.new → IfErr result (λ f. f ≡ NoAccount → (w : World) → StandsFor S.Store book.old w → sheet_of w account.now ≡ None) }
     ensures damaged { IsHonest S.Store book.new → IfErr result (λ f. f ≡ Damaged → (w : World) → ¬ StandsFor S.Store book.old w) }
+    ensures live { IsHonest S.Store book.new → OnOk result (IsTrue (shown_by S.Store book.new).is_open) }
     // a stream failed, or nothing was written
     ensures quiet { IfErr result (λ f. IsOfStream f ⊎ (output.new ≡ output.old)) }
 {

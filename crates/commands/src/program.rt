@@ -40,7 +40,7 @@ fn do_command<O: Write>(rt: &HostRuntime, command: Command<'_>, out: &mut O) -> 
 }
 
 /// Does what the program's words ask, the first of which is its own name, and gives the exit status: 0 where it is done, 1 where it is
-/// refused, 2 where the words name no command.
+/// refused, or what is wrong with its words can't be told, 2 where the words name no command and ask for no help.
 ///
 /// What a command prints goes to `out`, and so does a help text that was asked for. A refusal is one line on `err`, `printd: FAULT`, and
 /// words that name no command have `clap`'s text there. A replay that ends at a bad line has status 1 and no line on `err`.

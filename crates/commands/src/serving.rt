@@ -17,6 +17,7 @@ use print_server::{ServerFault, Service, listen};
 use queue_store::TableBook;
 use queue_types::settings::Settings;
 use sqlite::Alter;
+use std::alloc::Global;
 use std::io::Write;
 use std::net::TcpListener;
 use std::rt::HostRuntime;
@@ -29,6 +30,24 @@ fn fault_of_server(stopped: ServerFault) -> Fault
     match stopped {
         ServerFault::Io(error) => Fault::from(error),
         ServerFault::Book(fault) => Fault::from(fault),
+    }
+}
+
+/// How the words want connections to be served.
+fn service<'a>(
+    alloc: Global,
+    words: Serve<'_>,
+    listener: &'a TcpListener,
+    settings: &'a Settings,
+) -> Service<'a>
+    ensures timeout { result.timeout ≡ words.entry.timeout }
+    ensures settings { result.settings.now ≡ settings.now }
+{
+    Service {
+        alloc,
+        listener,
+        settings,
+        timeout: words.timeout,
     }
 }
 
@@ -49,12 +68,7 @@ fn serve_at<S: Alter, W: Write>(
         → (u : World) × StandsFor S.Store book.new u × (counts : List ℕ) × AreConnections w counts u × (length counts ≤ words.entry.connections)) }
     ensures damaged { IsHonest S.Store book.new → IfErr result (λ f. f ≡ Damaged → (w : World) → StandsFor S.Store book.old w → settings.now ≡ w.settings → ⊥) }
 {
-    let service = Service {
-        alloc: rt.alloc(),
-        listener,
-        settings,
-        timeout: words.timeout,
-    };
+    let service = service(rt.alloc(), words, listener, settings);
     match service.serve_connections(rt, output, book, words.connections) {
         Ok(()) => Ok(()),
         Err(stopped) => Err(fault_of_server(stopped)),

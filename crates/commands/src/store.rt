@@ -1,5 +1,5 @@
 //! The store at a path: a new one, or one that is there.
-ghost use Rattle.std.specs.Prelude.{◌≡◌, ◌≢◌, ℤ, IfErr, IfOk, IsOk, IsTrue};
+ghost use Rattle.std.specs.Prelude.{◌≡◌, ◌≢◌, ℤ, IfErr, IfOk, IsErrOf, IsOk, IsTrue};
 ghost use Rattle.std.specs.Option.{IfSome};
 ghost use Rattle.sqlite.specs.Files.{over_files};
 ghost use Rattle.sqlite_wal.specs.Files.{image_at};
@@ -7,7 +7,7 @@ ghost use Rattle.queue_types.specs.Settings.{AreSettings};
 ghost use Rattle.queue_core.specs.World.{World, empty_queue};
 ghost use Rattle.queue_store.specs.Kept.{IsHonest, StandsFor, shown_by};
 ghost use Rattle.queue_store.specs.Opened.{FitsFile, HasNoTables, IsKeptIn};
-ghost use Rattle.commands.specs.Store.{settings_of};
+ghost use Rattle.commands.specs.Store.{IsOfStore, settings_of};
 ghost use Rattle.commands.specs.Found.{found_in};
 ghost use Rattle.command_ends.specs.declared.fault.Fault.TheVariants.{BadSetting};
 
@@ -33,7 +33,9 @@ pub(crate) fn left<D: Disk + Drop>(
     book: TableBook<FileStore<D>>,
     done: Result<(), Fault>,
 ) -> Result<TableBook<FileStore<D>>, Fault>
-    ensures { IfOk result (λ b. (b ≡ book) × IsOk done) }
+    ensures same { IfOk result (λ b. (b ≡ book) × IsOk done) }
+    ensures done { IfOk done (λ nothing. IsOk result) }
+    ensures refused { IfErr done (λ fault. IsErrOf result fault) }
 {
     match done {
         Ok(()) => Ok(book),
@@ -88,7 +90,8 @@ fn look_at_path(rt: &HostRuntime, path: &str) -> io::Result<Found> {
 
 /// The fault of a path that can't be looked at or made.
 fn fault_of_path(error: io::Error) -> Fault
-    ensures { result ≢ BadSetting }
+    ensures told { IsOfStore result }
+    ensures other { result ≢ BadSetting }
 {
     if error.kind() == ErrorKind::OutOfMemory {
         Fault::Memory
@@ -99,7 +102,8 @@ fn fault_of_path(error: io::Error) -> Fault
 
 /// What is at the path of a store, where an error is one of the disk.
 fn found_at(rt: &HostRuntime, path: &str) -> Result<Found, Fault>
-    ensures { IfErr result (λ f. f ≢ BadSetting) }
+    ensures told { IfErr result IsOfStore }
+    ensures other { IfErr result (λ f. f ≢ BadSetting) }
 {
     look_at_path(rt, path).map_err(fault_of_path)
 }
@@ -134,7 +138,8 @@ fn make_file(rt: &HostRuntime, path: &str) -> io::Result<()> {
 
 /// Readies the path of a new store: makes its file where there is none, and refuses one that is no store in the making.
 fn ready_path(rt: &HostRuntime, path: &str) -> Result<(), Fault>
-    ensures { IfErr result (λ f. f ≢ BadSetting) }
+    ensures told { IfErr result IsOfStore }
+    ensures other { IfErr result (λ f. f ≢ BadSetting) }
 {
     match found_at(rt, path)? {
         Found::Nothing => make_file(rt, path).map_err(fault_of_path),
@@ -167,8 +172,10 @@ pub fn make_store<S: Start>(
 /// Opens the store that is at a path, and makes none where there is none. Where its tables are those of a store, it stands for the queue that the
 /// files keep. Disk is told where there is no file, or it can't be opened or is in use; Damaged where it is no database, or keeps no queue.
 pub fn open_store<S: Start>(rt: &HostRuntime, path: &str, start: S) -> Result<FileBook<S>, Fault>
-    ensures { FitsFile (image_at S.Start) → IfOk result (λ b. IsHonest over_files b
+    ensures kept { FitsFile (image_at S.Start) → IfOk result (λ b. IsHonest over_files b
         → (w : World) × IsKeptIn (image_at S.Start) w × StandsFor over_files b w) }
+    ensures live { FitsFile (image_at S.Start) → IfOk result (λ b. IsHonest over_files b → IsTrue (shown_by over_files b).is_open) }
+    ensures told { IfErr result IsOfStore }
 {
     match found_at(rt, path)? {
         Found::Database => {}

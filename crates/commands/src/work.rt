@@ -1,11 +1,12 @@
 //! What a command does on the store that is at a path.
-ghost use Rattle.std.specs.Prelude.{IfErr, IfOk, OnOk};
+ghost use Rattle.std.specs.Prelude.{◌≡◌, ◌⊎◌, IfErr, IfOk, IsTrue, OnOk};
 ghost use Rattle.sqlite.specs.Files.{over_files};
 ghost use Rattle.sqlite_wal.specs.Files.{image_at};
 ghost use Rattle.queue_core.specs.World.{World};
-ghost use Rattle.queue_store.specs.Kept.{IsHonest, StandsFor};
+ghost use Rattle.queue_store.specs.Kept.{IsHonest, StandsFor, shown_by};
 ghost use Rattle.queue_store.specs.Opened.{FitsFile, IsKeptIn};
-ghost use Rattle.commands.specs.Work.{IsDone, IsNotDone};
+ghost use Rattle.command_ends.specs.Faults.{IsOfStream};
+ghost use Rattle.commands.specs.Work.{IsDone, IsNotDone, LeavesOpen, PrintsLast, store_of};
 
 use crate::office_commands::{import_into, print_from};
 use crate::serving::serve_book;
@@ -33,7 +34,9 @@ pub(crate) enum Work<'a> {
 
 impl<'a> Work<'a> {
     /// The path of its store.
-    fn store(self) -> &'a str {
+    fn store(self) -> &'a str
+        ensures { result.now ≡ store_of self.entry }
+    {
         match self {
             Work::Import(words) => words.store,
             Work::Statement(words) => words.store,
@@ -52,6 +55,8 @@ fn work_on<S: Alter, W: Write>(
     ensures began { IsHonest S.Store book.new → IsHonest S.Store book.old }
     ensures done { IsHonest S.Store book.new → OnOk result ((w : World) → StandsFor S.Store book.old w
         → (u : World) × StandsFor S.Store book.new u × IsDone work.entry w u (W.contents output.old) (W.contents output.new)) }
+    ensures live { IsHonest S.Store book.new → OnOk result (LeavesOpen work.entry → IsTrue (shown_by S.Store book.new).is_open) }
+    ensures quiet { IfErr result (λ f. PrintsLast work.entry → IsOfStream f ⊎ (W.contents output.new ≡ W.contents output.old)) }
     ensures refused { IsHonest S.Store book.new → IfErr result (λ fault. (w : World) → StandsFor S.Store book.old w
         → (u : World) × StandsFor S.Store book.new u × IsNotDone work.entry fault w u (W.contents output.old) (W.contents output.new)) }
 {
@@ -72,6 +77,8 @@ fn work_in<D: Disk + Drop, W: Write>(
     ensures began { IsHonest over_files book.new → IsHonest over_files book.old }
     ensures done { IsHonest over_files book.new → OnOk result ((w : World) → StandsFor over_files book.old w
         → (u : World) × StandsFor over_files book.new u × IsDone work.entry w u (W.contents output.old) (W.contents output.new)) }
+    ensures live { IsHonest over_files book.new → OnOk result (LeavesOpen work.entry → IsTrue (shown_by over_files book.new).is_open) }
+    ensures quiet { IfErr result (λ f. PrintsLast work.entry → IsOfStream f ⊎ (W.contents output.new ≡ W.contents output.old)) }
     ensures refused { IsHonest over_files book.new → IfErr result (λ fault. (w : World) → StandsFor over_files book.old w
         → (u : World) × StandsFor over_files book.new u × IsNotDone work.entry fault w u (W.contents output.old) (W.contents output.new)) }
 {
@@ -85,23 +92,27 @@ fn work_over<D: Disk + Drop, W: Write>(
     output: &mut W,
     mut book: TableBook<FileStore<D>>,
 ) -> Result<TableBook<FileStore<D>>, Fault>
-    ensures { IfOk result (λ b. IsHonest over_files b → IsHonest over_files book × ((w : World) → StandsFor over_files book w
+    ensures done { IfOk result (λ b. IsHonest over_files b → IsHonest over_files book × ((w : World) → StandsFor over_files book w
         → (u : World) × StandsFor over_files b u × IsDone work.entry w u (W.contents output.old) (W.contents output.new))) }
+    ensures live { IfOk result (λ b. IsHonest over_files b → LeavesOpen work.entry → IsTrue (shown_by over_files b).is_open) }
+    ensures quiet { IfErr result (λ f. PrintsLast work.entry → IsOfStream f ⊎ (W.contents output.new ≡ W.contents output.old)) }
 {
     let done = work_in(rt, work, output, &mut book);
     left(book, done)
 }
 
-/// Does the work on the store that is at its path, and gives the book, which is still open.
+/// Does the work on the store that is at its path, and gives the book, which is not closed yet.
 pub(crate) fn work_at<S: Start, W: Write>(
     rt: &HostRuntime,
     work: Work<'_>,
     output: &mut W,
     start: S,
 ) -> Result<FileBook<S>, Fault>
-    ensures { FitsFile (image_at S.Start) → IfOk result (λ b. IsHonest over_files b
+    ensures done { FitsFile (image_at S.Start) → IfOk result (λ b. IsHonest over_files b
         → (w : World) × IsKeptIn (image_at S.Start) w × (u : World) × StandsFor over_files b u
         × IsDone work.entry w u (W.contents output.old) (W.contents output.new)) }
+    ensures live { IfOk result (λ b. IsHonest over_files b → LeavesOpen work.entry → IsTrue (shown_by over_files b).is_open) }
+    ensures quiet { IfErr result (λ f. PrintsLast work.entry → IsOfStream f ⊎ (W.contents output.new ≡ W.contents output.old)) }
 {
     let book = open_store(rt, work.store(), start)?;
     work_over(rt, work, output, book)

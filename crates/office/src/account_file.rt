@@ -1,8 +1,9 @@
 //! An account file enters a book.
-ghost use Rattle.std.specs.Prelude.{◌≡◌, ◌⊎◌, ℕ, List, IfErr, IfOk, OnOk, take};
+ghost use Rattle.std.specs.Prelude.{◌≡◌, ◌≢◌, ◌⊎◌, ℕ, List, IfErr, IfOk, OnOk, take};
 ghost use Rattle.office.specs.declared.fault.OfficeFault.TheVariants.{Import};
 ghost use Rattle.std.specs.Io.KnownBytes.{Appends};
 ghost use Rattle.std.specs.Option.{IfSome};
+ghost use Rattle.grants_csv.specs.Fault.{fault};
 ghost use Rattle.grants_csv.specs.declared.fault.ImportFault.{ImportFault};
 ghost use Rattle.grants_csv.specs.declared.importing.Imported.{Imported as ImportedRows};
 ghost use Rattle.office.specs.Faults.{IsOfStream};
@@ -58,6 +59,8 @@ pub fn import_file<R: Read + Drop, W: Write, B: QueueBook>(
     ensures left { B.is_honest book.new → IfErr result (λ f. (w : World) → B.stands book.old w → B.stands book.new w × (writer.new ≡ writer.old)
         ⊎ (IsOfStream f × (bytes : List ℕ) × AreReadOf (R.remaining reader) bytes × (n : ImportedRows) × (u : World) × IsTaken now w u bytes n × B.stands book.new u)) }
     ensures refused { IfErr result (λ f. (told : ImportFault) → f ≡ Import told → (w : World) → B.stands book.old w → B.stands book.new w) }
+    ensures live { B.is_honest book.new → OnOk result (B.is_live book.new) }
+    ensures still_live { B.is_honest book.new → B.is_live book.old → IfErr result (λ f. f ≢ Import fault → B.is_live book.new) }
     // a stream failed, or nothing was written
     ensures quiet { IfErr result (λ f. IsOfStream f ⊎ (writer.new ≡ writer.old)) }
     // a stream failed, or the file is refused

@@ -61,9 +61,12 @@ impl From<ImportFault> for OfficeFault {
 }
 
 impl From<io::Error> for OfficeFault {
+    ghost use Rattle.std.specs.IoError.{error_kind};
+    ghost use Rattle.std.specs.Prelude.{◌↔◌};
+    ghost use Rattle.std.specs.declared.io.ErrorKind.TheVariants.{OutOfMemory};
     ghost use Rattle.office.specs.Faults.{IsOfStream};
 
-    ghost from_gives = { λ _ fault. IsOfStream fault };
+    ghost from_gives = { λ error fault. IsOfStream fault × ((fault ≡ faults.Memory) ↔ (error_kind error ≡ OutOfMemory)) };
 
     fn from(error: io::Error) -> OfficeFault {
         match error.kind() {

@@ -1,7 +1,7 @@
 //! The statement of an account is printed.
 ghost use Rattle.std.specs.Prelude.{◌≡◌, ◌⊎◌, OnOk, IfErr, None, Some};
 ghost use Rattle.std.specs.Io.KnownBytes.{Appends};
-ghost use Rattle.office.specs.declared.fault.OfficeFault.TheVariants.{Damaged, NoAccount};
+ghost use Rattle.office.specs.declared.fault.OfficeFault.TheVariants.{Damaged, Disk, Memory, NoAccount};
 ghost use Rattle.office.specs.Faults.{IsOfStream};
 ghost use Rattle.page_statements.specs.Statement.{sheet_text};
 ghost use Rattle.queue_core.specs.Shown.{sheet_of};
@@ -29,7 +29,8 @@ fn write_sheet<W: Write>(
     Ok(())
 }
 
-/// Writes the statement of an account. The account is unknown exactly where nothing was ever granted to it.
+/// Writes the statement of an account. The account is unknown where nothing was ever granted to it, and told so unless the book had no memory or its
+/// disk failed.
 pub fn print_statement<W: Write, B: QueueBook>(
     alloc: Global,
     writer: &mut W,
@@ -40,8 +41,12 @@ pub fn print_statement<W: Write, B: QueueBook>(
     ensures kept { (w : World) → B.stands book.old w → B.stands book.new w }
     ensures printed { B.is_honest book.new → OnOk result ((w : World) → B.stands book.old w
         → (s : Sheet) × (sheet_of w account.now ≡ Some s) × Appends (W.contents writer.old) (W.contents writer.new) (sheet_text s)) }
+    ensures known { B.is_honest book.new → IfErr result (λ f. (w : World) → B.stands book.old w → sheet_of w account.now ≡ None
+        → (f ≡ NoAccount) ⊎ (f ≡ Memory) ⊎ (f ≡ Disk)) }
     ensures unknown { B.is_honest book.new → IfErr result (λ f. f ≡ NoAccount → (w : World) → B.stands book.old w → sheet_of w account.now ≡ None) }
     ensures damaged { B.is_honest book.new → IfErr result (λ f. f ≡ Damaged → (w : World) → ¬ B.stands book.old w) }
+    ensures live { B.is_honest book.new → OnOk result (B.is_live book.new) }
+    ensures still_live { B.is_honest book.new → IfErr result (λ f. f ≡ NoAccount → B.is_live book.new) }
     // a stream failed, or nothing was written
     ensures quiet { IfErr result (λ f. IsOfStream f ⊎ (writer.new ≡ writer.old)) }
 {

@@ -1,14 +1,21 @@
 -- Connections one after another, and the lines that tell of them.
-use Rattle.std.proofs.Common.{◌≡◌, ◌∙◌, ℕ, List, [], ◌∷◌, ◌++◌, Option, Result, Ok, Err, OnErr, ap, sym, subst, refl, arith, append-nil}
+use Rattle.std.proofs.Common.{◌≡◌, ◌≢◌, ◌∙◌, ◌==◌, ◌||◌, ℕ, Bool, true, false, not, List, [], ◌∷◌, ◌++◌, Option, Result, Ok, Err, IfErr, IfOk, IsErrOf, IsOk, OnErr, ap, sym, subst, refl, arith, rules, append-nil}
 use Rattle.std.specs.Io.KnownBytes.{Appends}
 use Rattle.std.proofs.KnownBytes.{Appends-trans}
+use Rattle.std.proofs.lemmas.Bool.{not-false}
 use Rattle.std.proofs.lemmas.Grind.{flat_map-append}
 use Rattle.queue_core.specs.Limits.{IsMoment}
 use Rattle.queue_types.specs.Settings.{SettingValues}
 use Rattle.queue_core.specs.World.{World}
-use Rattle.http_front.specs.Connections.{Worked}
+use Rattle.queue_core.specs.declared.book.BookFault.{BookFault}
+use Rattle.queue_core.specs.declared.book.BookFault.TheVariants.{Memory, Disk, Damaged}
+use Rattle.http_front.specs.Connections.{IsFaultless, Worked}
 use Rattle.http_front.specs.Turns.{most_requests}
-use Rattle.print_server.specs.Connections.{AreConnections}
+use Rattle.http_front.specs.declared.outcome.Served.{Served}
+use Rattle.http_front.specs.declared.outcome.ServeCause.{ServeCause}
+use Rattle.http_front.specs.declared.outcome.ServeCause.TheVariants.{Book as ByBook, Read, Write}
+use Rattle.http_front.specs.declared.outcome.ServeFault.{ServeFault}
+use Rattle.print_server.specs.Connections.{AreConnections, has_fault, is_of_book}
 use Rattle.print_server.specs.Lines.{served_line, served_lines}
 
 -- a connection that was not served has changed nothing
@@ -39,3 +46,32 @@ told_on v x y front rest g h =
 pub on_err : {X E : Type 0} (r : Result X E) (B : Type 0) → B → OnErr r B
 on_err (Ok x) B h = tt
 on_err (Err e) B h = h
+
+-- ---- a connection that met no fault
+
+none_of : (n : ℕ) → not (n == 0) ≡ false → n ≡ 0
+none_of n is = let zero_is = not-false (n == 0) is in search (rules, zero_is)
+
+neither : (a b : Bool) → (a || b) ≡ false → (a ≡ false) × (b ≡ false)
+neither false b is = (refl, is)
+neither true b is = absurd cc
+
+not_of_book : (cause : ServeCause) → is_of_book cause ≡ false → cause ≢ ByBook
+not_of_book Read is = λ e. absurd cc
+not_of_book Write is = λ e. absurd cc
+not_of_book ByBook is = absurd cc
+
+pub faultless : (served : Result Served ServeFault) → has_fault served ≡ false → IsFaultless served
+faultless (Ok s) is = none_of s.faults is
+faultless (Err f) is =
+    let each = neither (not (f.faults == 0)) (is_of_book f.cause) is in
+    (none_of f.faults each.0, not_of_book f.cause each.1)
+
+-- a look at the book tells damage only where the book did
+pub seen_damaged : {A B : Type 0} (look : Result A BookFault) (result : Result B BookFault) (P : Type 0) → IfOk look (λ a. IsOk result) → (IsErrOf look Memory → IsOk result)
+    → IfErr look (λ e. e ≢ Memory → IsErrOf result e) → IfErr look (λ e. e ≡ Damaged → P) → IfErr result (λ e. e ≡ Damaged → P)
+seen_damaged look (Ok b) P whole wanting lost damaged = tt
+seen_damaged (Ok a) (Err e) P whole wanting lost damaged = absurd (let no : false ≡ true = whole in cc)
+seen_damaged (Err Memory) (Err e) P whole wanting lost damaged = absurd (let no : false ≡ true = wanting refl in cc)
+seen_damaged (Err Disk) (Err e) P whole wanting lost damaged = λ is. absurd (let same = lost (λ other. absurd cc) in cc)
+seen_damaged (Err Damaged) (Err e) P whole wanting lost damaged = λ is. damaged refl

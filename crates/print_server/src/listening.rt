@@ -1,5 +1,9 @@
 //! The port that connections are made to.
-ghost use Rattle.std.specs.Prelude.{OnOk};
+ghost use Rattle.std.specs.Prelude.{◌≡◌, ◌∷◌, [], OnOk};
+ghost use Rattle.std.specs.Net.Socket.{socket_ip, socket_port};
+ghost use Rattle.std.specs.Net.Addr.{ipv4_octets};
+ghost use Rattle.std.specs.declared.net.ip_addr.IpAddr.TheVariants.{V4};
+ghost use Rattle.std.specs.declared.net.ipv4_addr.Ipv4Addr.{Ipv4Addr as IpOfVersion4};
 ghost use Rattle.std.specs.Io.KnownBytes.{Appends};
 ghost use Rattle.print_server.specs.Lines.{listening_line};
 
@@ -11,14 +15,21 @@ use std::net::{Ipv4Addr, Net, SocketAddr, TcpListener, TcpStream};
 /// How often in a row taking a connection may fail before the server gives up.
 const ACCEPT_TRIES: u32 = 100;
 
+/// A port of the loopback interface.
+fn loopback(port: u16) -> SocketAddr
+    ensures ip { (ip : IpOfVersion4) × (socket_ip result ≡ V4 ip) × (ipv4_octets ip ≡ 127 ∷ 0 ∷ 0 ∷ 1 ∷ []) }
+    ensures port { socket_port result ≡ port }
+{
+    SocketAddr::from((Ipv4Addr::LOCALHOST, port))
+}
+
 /// Listens on a port of the loopback interface, and prints `listening 127.0.0.1:PORT`.
 ///
 /// It is an error where the port can't be listened on, or the line can't be written.
 pub fn listen<R: Net, O: Write>(net: &R, out: &mut O, port: u16) -> io::Result<R::Listener>
     ensures { OnOk result (Appends (O.contents out.old) (O.contents out.new) (listening_line port)) }
 {
-    let address = SocketAddr::from((Ipv4Addr::LOCALHOST, port));
-    let listener = TcpListener::bind(net, address)?;
+    let listener = TcpListener::bind(net, loopback(port))?;
     tell_listening(out, port)?;
     Ok(listener)
 }

@@ -1,5 +1,5 @@
 //! Connections one after another.
-ghost use Rattle.std.specs.Prelude.{◌≡◌, ◌≤◌, ◌*◌, List, ℕ, IfErr, OnOk, OnErr, length};
+ghost use Rattle.std.specs.Prelude.{◌≡◌, ◌≢◌, ◌≤◌, ◌*◌, List, ℕ, IfErr, IfOk, IsErrOf, IsOk, OnOk, OnErr, false, length};
 ghost use Rattle.std.specs.Duration.{as_nanos};
 ghost use Rattle.std.specs.Io.KnownBytes.{Appends};
 ghost use Rattle.queue_core.specs.Limits.{IsMoment};
@@ -16,6 +16,7 @@ use crate::listening::next_stream;
 use crate::moment::present_moment;
 use http_front::serve;
 use queue_core::book::{BookFault, QueueBook};
+use queue_types::job::JobList;
 use queue_types::settings::Settings;
 use std::alloc::Global;
 use std::io;
@@ -74,16 +75,25 @@ struct Outcome {
     has_fault: bool,
 }
 
-/// Whether the book can still be read. One that had no memory can.
+/// What a look at the book comes to: one that had no memory for it can still be read.
+fn after_look(look: Result<JobList, BookFault>) -> Result<(), BookFault>
+    ensures whole { IfOk look (λ jobs. IsOk result) }
+    ensures wanting { IsErrOf look BookFault.Memory → IsOk result }
+    ensures lost { IfErr look (λ e. e ≢ BookFault.Memory → IsErrOf result e) }
+{
+    match look {
+        Ok(_) | Err(BookFault::Memory) => Ok(()),
+        Err(fault) => Err(fault),
+    }
+}
+
+/// Whether the book can still be read.
 fn check_book<B: QueueBook>(book: &mut B) -> Result<(), BookFault>
     ensures began { B.is_honest book.new → B.is_honest book.old }
     ensures kept { (w : World) → B.stands book.old w → B.stands book.new w }
     ensures damaged { B.is_honest book.new → IfErr result (λ e. e ≡ BookFault.Damaged → (w : World) → ¬ B.stands book.old w) }
 {
-    match book.pending() {
-        Ok(_) | Err(BookFault::Memory) => Ok(()),
-        Err(fault) => Err(fault),
-    }
+    after_look(book.pending())
 }
 
 impl Service<'_> {
@@ -94,6 +104,7 @@ impl Service<'_> {
         ensures worked { B.is_honest book.new → (w : World) → B.stands book.old w → self.entry.settings.now ≡ w.settings
             → (u : World) × B.stands book.new u × Worked most_requests now w u result.acted }
         ensures few { result.acted ≤ most_requests }
+        ensures live { B.is_honest book.new → B.is_live book.old → result.has_fault ≡ false → B.is_live book.new }
     {
         if prepare(&stream, self.timeout).is_err() {
             return Outcome {

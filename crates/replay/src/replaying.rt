@@ -19,8 +19,8 @@ use std::io::{Read, Write};
 const FIRST_MOMENT: u32 = 1;
 
 /// Answers the lines of an input over a book, whose settings these are, until the input ends, and gives the program's exit
-/// status: 0, or 1 where a line is of no form. That line is answered by `bad line K`, where lines count from 1, and none
-/// behind it is read. Answers are flushed before the program waits for more of the input.
+/// status: 0, or 1 at a bad line: one that is of no form, too long, or whose message is. It is answered by `bad line K`, where lines count from 1, and none
+/// behind it is answered. Answers are flushed before the program waits for more of the input.
 pub fn replay_over<R: Read, W: Write, B: QueueBook>(
     alloc: Global,
     input: &mut R,

@@ -1,36 +1,20 @@
-use Rattle.std.proofs.Common.{◌∙◌, ap, sym, inl, inr}
-use Rattle.std.proofs.lemmas.Result.{err_from_is_err_and}
-use Rattle.command_ends.specs.Faults.{fault_of_office}
-use Rattle.commands.proofs.FaultLemmas.{of_file, of_stream}
+use Rattle.std.proofs.Common.{inl, inr}
+use Rattle.commands.proofs.EndingLemmas.{if_err, on_ok}
 use Rattle.commands.proofs.office_commands.import_into.Goals as goal
 
 pub returns-clause-taken : goal.returns-clause-taken
-returns-clause-taken g c = λ honest w stands.
-    let told = c.in_ok-import_file.ensures.taken honest w stands in
-    (told.2, told.3, (c.in_ok-now.now, c.in_ok-now.ensures.moment, told.0, told.4), told.5, told.6)
+returns-clause-taken g c = λ honest. on_ok c.import_at.result (c.import_at.ensures.taken honest) (λ told w stands.
+    let it = told w stands in
+    (it.2, it.3, (c.in_ok-now.now, c.in_ok-now.ensures.moment, it.0, it.4), it.5, it.6))
 
-pub returns-in_err-import_file-clause-left : goal.returns-in_err-import_file-clause-left
-returns-in_err-import_file-clause-left g c = λ honest.
-    let p = err_from_is_err_and c.from_residual-in_err-import_file.result c.from_residual-in_err-import_file.ensures.1 in
-    rw p.1 (λ w stands. elim (c.in_err-import_file.ensures.left honest w stands) [
-      | inl same ↦ inl same
-      | inr told ↦ inr (of_stream _ _ p.2 told.0, told.3, told.4, (c.in_ok-now.now, c.in_ok-now.ensures.moment, told.1, told.5), told.6)
-    ])
+pub returns-clause-left : goal.returns-clause-left
+returns-clause-left g c = λ honest. if_err c.import_at.result _ _ (c.import_at.ensures.left honest) (λ fault told w stands. elim (told w stands) [
+  | inl same ↦ inl same
+  | inr it ↦ inr (it.0, it.3, it.4, (c.in_ok-now.now, c.in_ok-now.ensures.moment, it.1, it.5), it.6)
+])
 
-pub returns-in_err-import_file-clause-refused : goal.returns-in_err-import_file-clause-refused
-returns-in_err-import_file-clause-refused g c =
-    let p = err_from_is_err_and c.from_residual-in_err-import_file.result c.from_residual-in_err-import_file.ensures.1 in
-    rw p.1 (λ told is. c.in_err-import_file.ensures.refused told (of_file _ told (sym p.2 ∙ is)))
-
-pub returns-in_err-import_file-clause-quiet : goal.returns-in_err-import_file-clause-quiet
-returns-in_err-import_file-clause-quiet g c =
-    let p = err_from_is_err_and c.from_residual-in_err-import_file.result c.from_residual-in_err-import_file.ensures.1 in
-    rw p.1 (elim c.in_err-import_file.ensures.quiet [ inl stream ↦ inl (of_stream _ _ p.2 stream) | inr same ↦ inr same ])
-
-pub returns-in_err-import_file-clause-why : goal.returns-in_err-import_file-clause-why
-returns-in_err-import_file-clause-why g c = λ honest.
-    let p = err_from_is_err_and c.from_residual-in_err-import_file.result c.from_residual-in_err-import_file.ensures.1 in
-    rw p.1 (λ w stands. elim (c.in_err-import_file.ensures.why honest w stands) [
-      | inl stream ↦ inl (of_stream _ _ p.2 stream)
-      | inr told ↦ inr (told.0, p.2 ∙ ap fault_of_office told.1, c.in_ok-now.now, c.in_ok-now.ensures.moment, told.2, told.4)
-    ])
+pub returns-clause-why : goal.returns-clause-why
+returns-clause-why g c = λ honest. if_err c.import_at.result _ _ (c.import_at.ensures.why honest) (λ fault told w stands. elim (told w stands) [
+  | inl stream ↦ inl stream
+  | inr it ↦ inr (it.0, it.1, c.in_ok-now.now, c.in_ok-now.ensures.moment, it.2, it.4)
+])

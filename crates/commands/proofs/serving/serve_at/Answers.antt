@@ -3,4 +3,10 @@ use Rattle.commands.proofs.serving.serve_at.Goals as goal
 
 pub returns-in-Err-clause-damaged : goal.returns-in-Err-clause-damaged
 returns-in-Err-clause-damaged g c = λ honest is.
-    c.in-Err.ensures.damaged honest (of_damaged_server _ _ c.fault_of_server.ensures.book c.fault_of_server.ensures.stream is)
+    rw c.service-service.ensures.settings at (c.in-Err.ensures.damaged honest (of_damaged_server _ _ c.fault_of_server.ensures.book c.fault_of_server.ensures.stream is))
+
+pub returns-in-Ok-clause-served : goal.returns-in-Ok-clause-served
+returns-in-Ok-clause-served g c = λ honest. rw c.service-service.ensures.settings at (c.in-Ok.ensures.ok honest)
+
+pub returns-in-Err-clause-err : goal.returns-in-Err-clause-err
+returns-in-Err-clause-err g c = λ honest. rw c.service-service.ensures.settings at (c.in-Err.ensures.err honest)

@@ -40,4 +40,4 @@ returns-in_err-listener-clause-err g c = λ honest.
 pub returns-in_err-listener-clause-damaged : goal.returns-in_err-listener-clause-damaged
 returns-in_err-listener-clause-damaged g c = λ honest.
     let p = err_from_is_err_and c.from_residual-in_err-listener.result c.from_residual-in_err-listener.ensures.1 in
-    rw p.1 (λ is. absurd (no_damage _ p.2 is))
+    rw p.1 (λ is. absurd (no_damage _ p.2.0 is))

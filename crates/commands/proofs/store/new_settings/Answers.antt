@@ -9,7 +9,7 @@ returns-clause-ok g c = (_, c.in_ok-settings.ensures.ok)
 pub returns-in_err-epoch-clause-bad : goal.returns-in_err-epoch-clause-bad
 returns-in_err-epoch-clause-bad g c =
     let p = err_from_is_err_and c.from_residual.result c.from_residual.ensures.1 in
-    rw p.1 (λ bad epoch s. is_stream p.0 p.2 bad)
+    rw p.1 (λ bad epoch s. is_stream p.0 p.2.0 bad)
 
 pub returns-in_err-settings-clause-bad : goal.returns-in_err-settings-clause-bad
 returns-in_err-settings-clause-bad g c =

@@ -1,8 +1,8 @@
 use Rattle.std.proofs.Common.{ap, refl, subst, sym, inl, inr}
 use Rattle.queue_core.specs.World.{World}
-use Rattle.commands.specs.Work.{IsDone, IsNotDone}
+use Rattle.commands.specs.Work.{IsDone, IsNotDone, LeavesOpen, PrintsLast}
 use Rattle.commands.specs.declared.work.Work.TheVariants.{Import}
-use Rattle.commands.proofs.EndingLemmas.{both, if_err, on_ok, or_same}
+use Rattle.commands.proofs.EndingLemmas.{any_err, both, if_err, on_ok, or_same}
 use Rattle.commands.proofs.work.work_on.Goals as goal
 
 pub returns-in-Import-clause-done : goal.returns-in-Import-clause-done
@@ -28,6 +28,15 @@ returns-in-Serve-clause-done g c = λ honest. on_ok c.serve_book.result (c.serve
       it.1,
       subst (λ work. IsDone work w it.0 (g.W.Write.contents c.args.output.now) (g.W.Write.contents c.serve_book.new.output)) (sym c.in-Serve.is) (it.2, it.3, it.4, it.5),
     ))
+
+pub returns-in-Import-clause-live : goal.returns-in-Import-clause-live
+returns-in-Import-clause-live g c = λ honest. on_ok c.import_into.result (c.import_into.ensures.live honest) (λ live leaves. live)
+
+pub returns-in-Statement-clause-live : goal.returns-in-Statement-clause-live
+returns-in-Statement-clause-live g c = λ honest. on_ok c.print_from.result (c.print_from.ensures.live honest) (λ live leaves. live)
+
+pub returns-in-Serve-clause-live : goal.returns-in-Serve-clause-live
+returns-in-Serve-clause-live g c = λ honest. on_ok c.serve_book.result (c.serve_book.ensures.served honest) (λ told leaves. absurd (subst LeavesOpen c.in-Serve.is leaves))
 
 pub returns-in-Import-clause-refused : goal.returns-in-Import-clause-refused
 returns-in-Import-clause-refused g c = λ honest.
@@ -66,3 +75,12 @@ returns-in-Serve-clause-refused g c = λ honest.
         left.4,
       ),
     ))
+
+pub returns-in-Import-clause-quiet : goal.returns-in-Import-clause-quiet
+returns-in-Import-clause-quiet g c = if_err c.import_into.result _ _ c.import_into.ensures.quiet (λ fault quiet prints. or_same g.W.Write.contents _ _ quiet)
+
+pub returns-in-Statement-clause-quiet : goal.returns-in-Statement-clause-quiet
+returns-in-Statement-clause-quiet g c = if_err c.print_from.result _ _ c.print_from.ensures.quiet (λ fault quiet prints. or_same g.W.Write.contents _ _ quiet)
+
+pub returns-in-Serve-clause-quiet : goal.returns-in-Serve-clause-quiet
+returns-in-Serve-clause-quiet g c = any_err c.serve_book.result _ (λ fault prints. absurd (subst PrintsLast c.in-Serve.is prints))

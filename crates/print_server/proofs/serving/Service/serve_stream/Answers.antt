@@ -1,7 +1,7 @@
-use Rattle.std.proofs.Common.{sym, subst}
+use Rattle.std.proofs.Common.{◌∙◌, sym, subst}
 use Rattle.http_front.specs.Connections.{Worked}
 use Rattle.http_front.specs.Turns.{most_requests}
-use Rattle.print_server.proofs.ConnectionLemmas.{worked_none}
+use Rattle.print_server.proofs.ConnectionLemmas.{faultless, worked_none}
 use Rattle.print_server.proofs.serving.Service.serve_stream.Goals as goal
 
 pub returns-then-is_err-clause-worked : goal.returns-then-is_err-clause-worked
@@ -11,3 +11,6 @@ pub returns-clause-worked : goal.returns-clause-worked
 returns-clause-worked g c = λ h w st set.
     let u = c.serve-served.ensures.worked h w st set in
     (u.0, u.1, subst (λ n. Worked most_requests c.args.now w u.0 n) (sym c.acted_of.ensures) u.2)
+
+pub returns-clause-live : goal.returns-clause-live
+returns-clause-live g c = λ h live none. c.serve-served.ensures.live h live (faultless c.serve-served.result (sym c.has_fault.ensures ∙ none))
