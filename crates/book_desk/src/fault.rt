@@ -74,11 +74,28 @@ impl From<TooShort> for StepFault {
     }
 }
 
+/// The books that rows are taken over.
+#[derive(Clone, Copy, Debug)]
+pub enum Books {
+    /// Lists.
+    Lists,
+    /// Tables.
+    Tables,
+    /// Tables that are adopted.
+    AdoptedTables,
+    /// Tables in a file.
+    TablesInAFile,
+    /// Tables on a disk that stops.
+    TablesOnAStoppingDisk,
+    /// Tables whose next job has the last number.
+    TablesAtTheLastNumber,
+}
+
 /// A step that is not well, by its book, its row and its number in the row, both from 0. The steps that a row begins
 /// with are counted, too.
 #[derive(Debug, Drop)]
 pub struct RowFault {
-    pub book: &'static str,
+    pub books: Books,
     pub row: usize,
     pub step: usize,
     pub fault: StepFault,

@@ -9,7 +9,7 @@ mod shelf;
 mod step;
 
 pub use desk::{Desk, Place};
-pub use fault::{RowFault, StepFault};
+pub use fault::{Books, RowFault, StepFault};
 pub use request::{JobsWanted, Request};
 pub use shelf::{Shelf, take_row};
 pub use step::{Outcome, Pages, Step};

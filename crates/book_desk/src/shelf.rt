@@ -1,14 +1,14 @@
 //! Steps that are taken in turn, over books of any kind.
 
 use crate::desk::Desk;
-use crate::fault::{RowFault, StepFault};
+use crate::fault::{Books, RowFault, StepFault};
 use crate::step::Step;
 use std::alloc::Global;
 
 /// A way to keep a queue.
 pub trait Shelf {
-    /// What its books are called where a step is not well.
-    fn name(&self) -> &'static str;
+    /// What its books are, where a step is not well.
+    fn books(&self) -> Books;
 
     /// Takes the first steps and then the others, in a new book of an empty queue.
     fn take_steps(
@@ -27,12 +27,12 @@ pub fn take_row<S: Shelf>(
     first: &[Step<'_>],
     steps: &[Step<'_>],
 ) -> Result<(), RowFault> {
-    let book = shelf.name();
+    let books = shelf.books();
     let mut desk = match Desk::new(alloc) {
         Ok(desk) => desk,
         Err(fault) => {
             return Err(RowFault {
-                book,
+                books,
                 row,
                 step: 0,
                 fault,
@@ -42,7 +42,7 @@ pub fn take_row<S: Shelf>(
     match shelf.take_steps(&mut desk, first, steps) {
         Ok(()) => Ok(()),
         Err(fault) => Err(RowFault {
-            book,
+            books,
             row,
             step: desk.step(),
             fault,

@@ -1,6 +1,6 @@
 //! Where books of each kind come from.
 
-use book_desk::{Desk, Shelf, Step, StepFault};
+use book_desk::{Books, Desk, Shelf, Step, StepFault};
 use list_book::ListBook;
 use queue_core::book::BookFault;
 use queue_store::TableBook;
@@ -16,8 +16,8 @@ use std::fs;
 pub struct InLists;
 
 impl Shelf for InLists {
-    fn name(&self) -> &'static str {
-        "lists"
+    fn books(&self) -> Books {
+        Books::Lists
     }
 
     fn take_steps(
@@ -47,8 +47,8 @@ pub fn adopt<S: Alter + Drop>(
 pub struct InTables;
 
 impl Shelf for InTables {
-    fn name(&self) -> &'static str {
-        "tables"
+    fn books(&self) -> Books {
+        Books::Tables
     }
 
     fn take_steps(
@@ -82,8 +82,8 @@ pub fn take_adopted(
 pub struct Adopted;
 
 impl Shelf for Adopted {
-    fn name(&self) -> &'static str {
-        "tables that are adopted"
+    fn books(&self) -> Books {
+        Books::AdoptedTables
     }
 
     fn take_steps(
@@ -184,8 +184,8 @@ fn take_in_files<D: Disk + Drop>(
 }
 
 impl<F: BookFiles> Shelf for InFile<F> {
-    fn name(&self) -> &'static str {
-        "tables in a file"
+    fn books(&self) -> Books {
+        Books::TablesInAFile
     }
 
     fn take_steps(

@@ -1,6 +1,6 @@
 //! Tables in two files of a disk that stops.
 
-use book_desk::{Desk, Place, Shelf, Step, StepFault};
+use book_desk::{Books, Desk, Place, Shelf, Step, StepFault};
 use queue_core::book::{BookFault, QueueBook};
 use queue_store::TableBook;
 use queue_types::settings::Settings;
@@ -563,8 +563,8 @@ impl Stopping<'_> {
 }
 
 impl Shelf for Stopping<'_> {
-    fn name(&self) -> &'static str {
-        "tables on a disk that stops"
+    fn books(&self) -> Books {
+        Books::TablesOnAStoppingDisk
     }
 
     fn take_steps(

@@ -1,6 +1,6 @@
 //! The books that a desk is run over: the plain one, and one in tables in memory.
 
-use crate::compare::{Mismatch, no_book};
+use crate::compare::{Mismatch, Subject, no_book};
 use list_book::ListBook;
 use queue_core::book::QueueBook;
 use queue_store::TableBook;
@@ -13,16 +13,16 @@ pub type MemoryBook = TableBook<MemStore>;
 
 /// A book that a desk can begin with.
 pub trait DeskBook: QueueBook + Drop + Sized {
-    /// What it is called where a comparison fails.
-    fn name() -> &'static str;
+    /// What it is where a comparison fails.
+    fn subject() -> Subject;
 
     /// The book of an empty queue with these settings.
     fn empty(alloc: Global, settings: Settings) -> Result<Self, Mismatch>;
 }
 
 impl DeskBook for ListBook {
-    fn name() -> &'static str {
-        "lists"
+    fn subject() -> Subject {
+        Subject::Lists
     }
 
     fn empty(alloc: Global, settings: Settings) -> Result<ListBook, Mismatch> {
@@ -31,11 +31,11 @@ impl DeskBook for ListBook {
 }
 
 impl DeskBook for MemoryBook {
-    fn name() -> &'static str {
-        "tables"
+    fn subject() -> Subject {
+        Subject::Tables
     }
 
     fn empty(alloc: Global, settings: Settings) -> Result<MemoryBook, Mismatch> {
-        TableBook::in_memory(alloc, settings).map_err(|fault| no_book("tables", fault))
+        TableBook::in_memory(alloc, settings).map_err(|fault| no_book(Subject::Tables, fault))
     }
 }

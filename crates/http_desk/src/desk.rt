@@ -1,7 +1,7 @@
 //! A queue in a book, and the connections that a test makes to it.
 
 use crate::books::{DeskBook, MemoryBook};
-use crate::compare::{Mismatch, Place};
+use crate::compare::{Mismatch, Place, Subject};
 use crate::connection::{Connection, Wanted, closed, joined, length_of, wanted_bytes};
 use crate::messages::{PRINT_JOB, job_reply};
 use crate::requests::{IPP, POST_JOB};
@@ -29,14 +29,14 @@ pub struct Desk<B: QueueBook> {
     alloc: Global,
     settings: Settings,
     book: B,
-    name: &'static str,
+    subject: Subject,
 }
 
 impl<B: DeskBook> Desk<B> {
     /// An empty queue.
     pub fn new(alloc: Global) -> Result<Desk<B>, Mismatch> {
         let book = B::empty(alloc, settings(alloc)?)?;
-        Desk::over(alloc, book, B::name())
+        Desk::over(alloc, book, B::subject())
     }
 
     /// A queue in which alice has 30 pages.
@@ -48,14 +48,14 @@ impl<B: DeskBook> Desk<B> {
 }
 
 impl<B: QueueBook + Drop> Desk<B> {
-    /// The queue of a book of such a printer, by its name.
-    pub fn over(alloc: Global, book: B, name: &'static str) -> Result<Desk<B>, Mismatch> {
+    /// The queue of a book of such a printer.
+    pub fn over(alloc: Global, book: B, subject: Subject) -> Result<Desk<B>, Mismatch> {
         let settings = settings(alloc)?;
         Ok(Desk {
             alloc,
             settings,
             book,
-            name,
+            subject,
         })
     }
 
@@ -65,7 +65,7 @@ impl<B: QueueBook + Drop> Desk<B> {
             alloc: _,
             settings: _,
             book,
-            name: _,
+            subject: _,
         } = self;
         book
     }
@@ -73,7 +73,7 @@ impl<B: QueueBook + Drop> Desk<B> {
     /// Where a comparison is made, with so many bytes a read at most.
     pub fn place(&self, most: usize) -> Place {
         Place {
-            book: self.name,
+            subject: self.subject,
             most,
         }
     }
@@ -88,7 +88,9 @@ impl<B: QueueBook + Drop> Desk<B> {
                     repeats: 0,
                 },
             ) => Ok(()),
-            _ => Err(Mismatch::Book { book: self.name }),
+            _ => Err(Mismatch::Book {
+                subject: self.subject,
+            }),
         }
     }
 

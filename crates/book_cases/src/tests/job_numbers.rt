@@ -5,7 +5,7 @@ ghost use Rattle.std.specs.Prelude.{◌≤◌};
 
 use book_desk::Request::{Create, Print};
 use book_desk::Step::{Ask, Jobs, Look};
-use book_desk::{Desk, JobsWanted, RowFault, Shelf, Step, StepFault, take_row};
+use book_desk::{Books, Desk, JobsWanted, RowFault, Shelf, Step, StepFault, take_row};
 use book_shelves::{adopt, take_adopted};
 use queue_core::book::BookFault;
 use queue_core::machine::decide;
@@ -101,8 +101,8 @@ fn skip_numbers<S: Alter>(conn: &mut Connection<S>) -> Result<(), StepFault> {
 struct AtLastNumber;
 
 impl Shelf for AtLastNumber {
-    fn name(&self) -> &'static str {
-        "tables at the last number"
+    fn books(&self) -> Books {
+        Books::TablesAtTheLastNumber
     }
 
     fn take_steps(

@@ -149,7 +149,7 @@ fn has_printed<B: DeskBook>(place: &Place, book: &mut B) -> Result<(), Mismatch>
 /// Where comparisons of a book are made.
 fn place_of<B: DeskBook>() -> Place {
     Place {
-        book: B::name(),
+        subject: B::subject(),
         most: usize::MAX,
     }
 }

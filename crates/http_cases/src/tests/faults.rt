@@ -92,7 +92,7 @@ fn serve_broken<B: DeskBook>(
     answers: &[u8],
 ) -> Result<(), Mismatch> {
     let inner = released::<B>(alloc)?;
-    let mut desk = Desk::over(alloc, BrokenBook { inner }, B::name())?;
+    let mut desk = Desk::over(alloc, BrokenBook { inner }, B::subject())?;
     let mut reader = stream;
     desk.take_reader(&mut reader, wanted, answers, stream.len())
 }

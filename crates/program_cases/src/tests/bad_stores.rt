@@ -80,7 +80,7 @@ const COPIED: &[Step<'static>] = &[Asks(Import(CUT, FILE), (0, "new 0 repeats 1\
 
 /// A store is whole in its one file once its command has ended: all of its bytes are a store, and no front of them is.
 fn is_whole_alone(folder: &Folder<'_>) -> Result<(), Fail> {
-    folder.take_each(&WITH_AN_ACCOUNT)?;
+    folder.take_each(WITH_AN_ACCOUNT)?;
     refuse_fronts(folder)?;
     folder.copy(STORE, CUT)?;
     folder.take_each(COPIED)?;

@@ -1,7 +1,7 @@
 //! A folder of a test, and what is done in it in turn: files are written, and commands are run on them.
 
 use commands::run;
-use http_desk::compare::{Mismatch, Place};
+use http_desk::compare::{Mismatch, Place, Subject};
 use std::alloc::Global;
 use std::io::Write;
 use std::os::unix::fs::PermissionsExt;
@@ -11,7 +11,7 @@ use std::{env, fs, process};
 
 /// Where comparisons are made.
 const AT: Place = Place {
-    book: "files",
+    subject: Subject::Files,
     most: usize::MAX,
 };
 
@@ -88,14 +88,39 @@ pub(super) struct StepFault {
 /// A store is made.
 pub(super) const MADE: Step<'static> = Step::Asks(Asked::Init(STORE, URI, "release"), DONE);
 
+/// Only that.
+pub(super) const ONLY_MADE: &[Step<'static>] = &[MADE];
+
 /// A store with an account is made, whose account file is the other file of the test.
-pub(super) const WITH_AN_ACCOUNT: [Step<'static>; 2] = [
+pub(super) const WITH_AN_ACCOUNT: &[Step<'static>] = &[
     MADE,
     Step::Imports(
         b"batch,account,pages\nf24,alice,30\n",
         (0, "new 1 repeats 0\n", ""),
     ),
 ];
+
+/// The program's words print to a writer, and leave this status and this on standard error.
+pub(super) fn tell_to<O: Write>(
+    rt: &HostRuntime,
+    words: &[&str],
+    out: &mut O,
+    wanted: (u8, &str),
+) -> Result<(), Mismatch> {
+    let (wanted_status, wanted_err) = wanted;
+    let mut err = Vec::new(rt.alloc());
+    let status = run(rt, words, out, &mut err);
+    AT.same_bytes(wanted_err.as_bytes(), err.as_slice())?;
+    AT.is_so(status == wanted_status, "the exit status")
+}
+
+/// The program's words leave this.
+pub(super) fn tell(rt: &HostRuntime, words: &[&str], wanted: Told<'_>) -> Result<(), Mismatch> {
+    let (wanted_status, wanted_out, wanted_err) = wanted;
+    let mut out = Vec::new(rt.alloc());
+    tell_to(rt, words, &mut out, (wanted_status, wanted_err))?;
+    AT.same_bytes(wanted_out.as_bytes(), out.as_slice())
+}
 
 /// A folder of a test.
 #[derive(Drop)]
@@ -123,6 +148,10 @@ impl<'a> Folder<'a> {
     pub(super) fn remove_empty(&self) -> Result<(), Mismatch> {
         fs::remove_dir(self.rt, self.path.as_path())?;
         Ok(())
+    }
+
+    pub(super) fn rt(&self) -> &HostRuntime {
+        self.rt
     }
 
     pub(super) fn alloc(&self) -> Global {
@@ -164,26 +193,9 @@ impl<'a> Folder<'a> {
         Ok(())
     }
 
-    /// The program's words print to a writer, and leave this status and this line on standard error.
-    pub(super) fn tell_to<O: Write>(
-        &self,
-        words: &[&str],
-        out: &mut O,
-        wanted: (u8, &str),
-    ) -> Result<(), Mismatch> {
-        let (wanted_status, wanted_err) = wanted;
-        let mut err = Vec::new(self.alloc());
-        let status = run(self.rt, words, out, &mut err);
-        AT.same_bytes(wanted_err.as_bytes(), err.as_slice())?;
-        AT.is_so(status == wanted_status, "the exit status")
-    }
-
     /// The program's words leave this.
     pub(super) fn tell(&self, words: &[&str], wanted: Told<'_>) -> Result<(), Mismatch> {
-        let (wanted_status, wanted_out, wanted_err) = wanted;
-        let mut out = Vec::new(self.alloc());
-        self.tell_to(words, &mut out, (wanted_status, wanted_err))?;
-        AT.same_bytes(wanted_out.as_bytes(), out.as_slice())
+        tell(self.rt, words, wanted)
     }
 
     fn init(&self, store: &str, uri: &str, name: &str, wanted: Told<'_>) -> Result<(), Mismatch> {

@@ -1,7 +1,7 @@
 //! A server on a port of the loopback interface with its clients, and what they do in turn.
 
 use http_desk::books::DeskBook;
-use http_desk::compare::{Mismatch, Place, no_book};
+use http_desk::compare::{Mismatch, Place, Subject, no_book};
 use http_desk::connection::{Wanted, wanted_bytes};
 use http_desk::desk::settings;
 use http_desk::streams::BrokenWriter;
@@ -24,7 +24,7 @@ const CLIENT_SECONDS: u64 = 10;
 
 /// Where comparisons are made.
 pub(super) const AT: Place = Place {
-    book: "server",
+    subject: Subject::Server,
     most: usize::MAX,
 };
 
@@ -53,7 +53,7 @@ pub(super) enum Step<'a> {
 fn mismatch_of(stopped: ServerFault) -> Mismatch {
     match stopped {
         ServerFault::Io(error) => error.into(),
-        ServerFault::Book(fault) => no_book(AT.book, fault),
+        ServerFault::Book(fault) => no_book(AT.subject, fault),
     }
 }
 

@@ -2,7 +2,9 @@
 
 use crate::tests::folder::Asked::{Import, Init, Statement};
 use crate::tests::folder::Step::{Asks, Keeps};
-use crate::tests::folder::{At, DISK, DONE, FILE, Folder, MADE, STORE, Step, URI, WITH_AN_ACCOUNT};
+use crate::tests::folder::{
+    At, DISK, DONE, FILE, Folder, ONLY_MADE, STORE, Step, URI, WITH_AN_ACCOUNT, tell_to,
+};
 use crate::tests::listening::free_port;
 use crate::tests::server::{AT, reads};
 use http_desk::compare::Mismatch;
@@ -10,6 +12,7 @@ use http_desk::connection::Wanted;
 use http_desk::connection::Wanted::Success;
 use http_desk::messages::{GET_UP_TIME, JOB_1, JOB_2, PRINT_JOB};
 use http_desk::requests::{IPP, POST_JOB, POST_UP_TIME};
+use std::alloc::Global;
 use std::io;
 use std::io::{Read, Write};
 use std::net::{Ipv4Addr, Shutdown, SocketAddr, TcpListener, TcpStream};
@@ -86,28 +89,51 @@ impl Greeter<'_> {
         AT.same_bytes(lines.as_bytes(), self.printed.as_slice())
     }
 
+    /// Its clients.
+    fn into_clients(self) -> Clients {
+        let Greeter {
+            rt,
+            folder: _,
+            steps: _,
+            sends: _,
+            port: _,
+            printed: _,
+            clients,
+        } = self;
+        Clients {
+            alloc: rt.alloc(),
+            streams: clients,
+        }
+    }
+}
+
+/// The clients of a server that has ended, in their order.
+#[derive(Drop)]
+struct Clients {
+    alloc: Global,
+    streams: Vec<TcpStream>,
+}
+
+impl Clients {
     /// The client of this number, from 0, has got this and then the end of its connection.
-    fn gets(&self, client: usize, wanted: &[Wanted<'_>]) -> Result<(), Mismatch> {
-        let Some(client) = self.clients.get(client) else {
+    fn get(&self, client: usize, wanted: &[Wanted<'_>]) -> Result<(), Mismatch> {
+        let Some(client) = self.streams.get(client) else {
             return AT.is_so(false, "a client of this number");
         };
         let mut reader = client;
-        reads(self.rt.alloc(), &mut reader, wanted)
+        reads(self.alloc, &mut reader, wanted)
     }
 
-    /// The integer that its first client has got, the last attribute of a reply, and then the end of its connection.
-    fn gets_integer(&self) -> Result<u32, Mismatch> {
-        let mut came = Vec::new(self.rt.alloc());
-        if let Some(client) = self.clients.first() {
+    /// The integer that the first client has got, the last attribute of a reply, and then the end of its connection.
+    fn get_integer(&self) -> Result<u32, Mismatch> {
+        let mut came = Vec::new(self.alloc);
+        if let Some(client) = self.streams.first() {
             let mut reader = client;
             reader.read_to_end(&mut came)?;
         }
         match came.as_slice() {
             [.., a, b, c, d, END_OF_ATTRIBUTES] => Ok(u32::from_be_bytes([*a, *b, *c, *d])),
-            _ => Err(Mismatch::Not {
-                book: AT.book,
-                said: "an integer",
-            }),
+            _ => Err(AT.not("an integer")),
         }
     }
 }
@@ -135,19 +161,19 @@ fn runs<O: Write>(
         "--timeout",
         "1",
     ];
-    folder.tell_to(&words, out, wanted)
+    tell_to(folder.rt(), &words, out, wanted)
 }
 
 /// Such a server ends well. As it listens these steps are taken, and then its clients come, one for each connection, each sends its own, and the server prints
 /// these lines of them.
-fn served<'a>(
-    rt: &'a HostRuntime,
-    folder: &'a Folder<'a>,
+fn served(
+    rt: &HostRuntime,
+    folder: &Folder<'_>,
     store: At<'_>,
-    steps: &'a [Step<'a>],
-    sends: &'a [&'a [&'a [u8]]],
+    steps: &[Step<'_>],
+    sends: &[&[&[u8]]],
     counts: &str,
-) -> Result<Greeter<'a>, Mismatch> {
+) -> Result<Clients, Mismatch> {
     let port = free_port(rt)?;
     let mut out = Greeter {
         rt,
@@ -161,7 +187,7 @@ fn served<'a>(
     runs(folder, store, (port, sends.len()), &mut out, (0, ""))?;
     let lines = format!(in rt.alloc(); "listening 127.0.0.1:{port}\n{counts}")?;
     out.has_lines(lines.as_str())?;
-    Ok(out)
+    Ok(out.into_clients())
 }
 
 /// A client prints.
@@ -173,19 +199,14 @@ fn serves(
     folder: &Folder<'_>,
     store: At<'_>,
     steps: &[Step<'_>],
-    reply: &'static [u8],
+    reply: &[u8],
 ) -> Result<(), Mismatch> {
-    let out = served(rt, folder, store, steps, PRINTS, "served 1\n")?;
-    out.gets(0, &[Success(IPP, reply)])
+    let clients = served(rt, folder, store, steps, PRINTS, "served 1\n")?;
+    clients.get(0, &[Success(IPP, reply)])
 }
 
 /// Such a server can't begin: it prints nothing, and leaves this line on standard error.
-fn refuses(
-    folder: &Folder<'_>,
-    store: At<'_>,
-    port: u16,
-    wanted: &'static str,
-) -> Result<(), Mismatch> {
+fn refuses(folder: &Folder<'_>, store: At<'_>, port: u16, wanted: &str) -> Result<(), Mismatch> {
     let mut out = Vec::new(folder.alloc());
     runs(folder, store, (port, 1), &mut out, (1, wanted))?;
     AT.same_bytes(b"", out.as_slice())
@@ -203,7 +224,7 @@ fn is_served_again(rt: &HostRuntime, folder: &Folder<'_>) -> Result<(), Mismatch
 #[test]
 fn a_store_that_is_served_again(rt: HostRuntime) -> Result<(), Fail> {
     let folder = Folder::new(&rt, "served")?;
-    folder.take_each(&[MADE])?;
+    folder.take_each(ONLY_MADE)?;
     is_served_again(&rt, &folder)?;
     folder.remove()?;
     Ok(())
@@ -220,7 +241,7 @@ const IN_USE: &[Step<'static>] = &[
 const AGAIN: &[Step<'static>] = &[Asks(Import(STORE, FILE), (0, "new 0 repeats 1\n", ""))];
 
 fn is_in_use(rt: &HostRuntime, folder: &Folder<'_>) -> Result<(), Fail> {
-    folder.take_each(&WITH_AN_ACCOUNT)?;
+    folder.take_each(WITH_AN_ACCOUNT)?;
     serves(rt, folder, STORE, IN_USE, JOB_1)?;
     folder.take_each(AGAIN)?;
     Ok(())
@@ -246,7 +267,7 @@ fn a_store_that_is_not_there(rt: HostRuntime) -> Result<(), Fail> {
 
 /// A store isn't served on a port that another listens on.
 fn is_taken(rt: &HostRuntime, folder: &Folder<'_>) -> Result<(), Fail> {
-    folder.take_each(&[MADE])?;
+    folder.take_each(ONLY_MADE)?;
     let other = TcpListener::bind(rt, SocketAddr::from((Ipv4Addr::LOCALHOST, 0)))?;
     let port = other.local_addr()?.port();
     refuses(folder, STORE, port, "printd: io\n")?;
@@ -266,9 +287,9 @@ const ASKS_UP_TIME: &[&[&[u8]]] = &[&[POST_UP_TIME, GET_UP_TIME]];
 
 /// A printer is up from the second at which its store is made, the first of its moments.
 fn is_just_up(rt: &HostRuntime, folder: &Folder<'_>) -> Result<(), Fail> {
-    folder.take_each(&[MADE])?;
-    let out = served(rt, folder, STORE, &[], ASKS_UP_TIME, "served 1\n")?;
-    let seconds = out.gets_integer()?;
+    folder.take_each(ONLY_MADE)?;
+    let clients = served(rt, folder, STORE, &[], ASKS_UP_TIME, "served 1\n")?;
+    let seconds = clients.get_integer()?;
     AT.is_so(seconds >= 1 && seconds <= 60, "the seconds since then")?;
     Ok(())
 }
@@ -283,14 +304,14 @@ fn a_store_that_was_just_made(rt: HostRuntime) -> Result<(), Fail> {
 
 /// A client that is silent is served, and gets nothing.
 fn serve_a_silent_client(rt: &HostRuntime, folder: &Folder<'_>) -> Result<(), Fail> {
-    let out = served(rt, folder, STORE, &[], &[&[]], "served 0\n")?;
-    out.gets(0, &[])?;
+    let clients = served(rt, folder, STORE, &[], &[&[]], "served 0\n")?;
+    clients.get(0, &[])?;
     Ok(())
 }
 
 /// A client that is silent is given up after the second that the words say.
 fn is_given_up(rt: &HostRuntime, folder: &Folder<'_>) -> Result<(), Fail> {
-    folder.take_each(&[MADE])?;
+    folder.take_each(ONLY_MADE)?;
     let began = rt.monotonic()?;
     serve_a_silent_client(rt, folder)?;
     let waited = rt.monotonic()?.saturating_sub(began);
@@ -349,9 +370,9 @@ fn init_other(folder: &Folder<'_>) -> Result<(), Mismatch> {
 /// Both clients of its server are told so.
 fn are_told(rt: &HostRuntime, folder: &Folder<'_>) -> Result<(), Mismatch> {
     let counts = "served 1\nserved 2\n";
-    let out = served(rt, folder, STORE, &[], ASK_THE_SETTINGS, counts)?;
-    out.gets(0, &[Success(IPP, NAMED_OTHER)])?;
-    out.gets(1, &[Success(IPP, JOB_1), Success(IPP, OF_7_PAGES)])
+    let clients = served(rt, folder, STORE, &[], ASK_THE_SETTINGS, counts)?;
+    clients.get(0, &[Success(IPP, NAMED_OTHER)])?;
+    clients.get(1, &[Success(IPP, JOB_1), Success(IPP, OF_7_PAGES)])
 }
 
 #[test]

@@ -1,11 +1,11 @@
 //! Words that name a command, and words that name none.
 
+use crate::tests::folder::tell;
 use command_words::{Command, CommandFault, Import, Init, Serve, Statement, command};
-use commands::run;
+use http_desk::compare::Mismatch;
 use std::alloc::Global;
 use std::num::NonZeroU32;
 use std::process::Abort;
-use std::str::from_utf8;
 
 /// Words, and the command that they name. A printer's estimate is 20 where they leave it out.
 const COMMANDS: [(&[&str], Command<'static>); 5] = [
@@ -153,58 +153,26 @@ error: invalid value '0' for '--port <P>': 0 is not in 1..=65535
 For more information, try '--help'.
 ";
 
-/// Words, the exit status that they end with, and what is printed of them on standard output and on standard error.
-#[derive(Clone, Copy)]
-struct Told<'a> {
-    words: &'a [&'a str],
-    status: u8,
-    out: &'a str,
-    err: &'a str,
-}
-
-/// This is told of the words.
-fn assert_told(rt: &impl Abort, told: &Told<'_>, status: u8, out: &[u8], err: &[u8]) {
-    let words = told.words;
-    assert_eq!(rt; status, told.status, "{words:?}");
-    assert_eq!(rt; from_utf8(out), Ok(told.out), "{words:?}");
-    assert_eq!(rt; from_utf8(err), Ok(told.err), "{words:?}");
-}
-
 /// A help text that was asked for is printed on standard output, and the exit status is 0.
 #[test]
-fn text_of_a_help(rt: HostRuntime) {
-    let told = Told {
-        words: &["printd", "serve", "--help"],
-        status: 0,
-        out: SERVE_HELP,
-        err: "",
-    };
-    let mut out = Vec::new(rt.alloc());
-    let mut err = Vec::new(rt.alloc());
-    let status = run(&rt, told.words, &mut out, &mut err);
-    assert_told(&rt, &told, status, out.as_slice(), err.as_slice());
+fn text_of_a_help(rt: HostRuntime) -> Result<(), Mismatch> {
+    tell(&rt, &["printd", "serve", "--help"], (0, SERVE_HELP, ""))
 }
+
+/// Words of a server on port 0.
+const PORT_0: &[&str] = &[
+    "printd",
+    "serve",
+    "--store",
+    "a",
+    "--port",
+    "0",
+    "--connections",
+    "1",
+];
 
 /// What is wrong with words is printed on standard error, and the exit status is 2.
 #[test]
-fn text_of_a_wrong_word(rt: HostRuntime) {
-    let told = Told {
-        words: &[
-            "printd",
-            "serve",
-            "--store",
-            "a",
-            "--port",
-            "0",
-            "--connections",
-            "1",
-        ],
-        status: 2,
-        out: "",
-        err: NO_PORT,
-    };
-    let mut out = Vec::new(rt.alloc());
-    let mut err = Vec::new(rt.alloc());
-    let status = run(&rt, told.words, &mut out, &mut err);
-    assert_told(&rt, &told, status, out.as_slice(), err.as_slice());
+fn text_of_a_wrong_word(rt: HostRuntime) -> Result<(), Mismatch> {
+    tell(&rt, PORT_0, (2, "", NO_PORT))
 }

@@ -18,20 +18,20 @@ use std::alloc::Global;
 use std::test::Fail;
 
 /// Makes the queue in a book without jobs, and tells what the book shows at moment 100.
-fn fill_and_show<B: QueueBook>(
+fn fill_and_show<B: QueueBook + Drop>(
     alloc: Global,
     settings: &Settings,
-    book: &mut B,
+    mut book: B,
 ) -> Result<Vec<u8>, Fail> {
-    fill(alloc, book)?;
-    shown(&Desk::new(alloc, settings, 100), book)
+    fill(alloc, &mut book)?;
+    shown(&Desk::new(alloc, settings, 100), &mut book)
 }
 
 /// What a book in lists of the queue shows at moment 100.
 fn plain_queue(alloc: Global) -> Result<Vec<u8>, Fail> {
     let settings = settings(alloc)?;
-    let mut book = ListBook::new(alloc, settings.try_clone()?);
-    fill_and_show(alloc, &settings, &mut book)
+    let kept = settings.try_clone()?;
+    fill_and_show(alloc, &settings, ListBook::new(alloc, kept))
 }
 
 /// What a book shows at moment 100.

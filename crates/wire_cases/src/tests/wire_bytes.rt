@@ -7,7 +7,6 @@ use ipp_wire::{
     put_fault, read, write,
 };
 use std::alloc::Global;
-use std::process::Abort;
 use std::test::Fail;
 
 /// The smallest Print-Job request: 145 bytes, with the document `hi`.
@@ -34,23 +33,23 @@ fn malformed_at(alloc: Global, bytes: &[u8]) -> Option<usize> {
 type Row = (u8, &'static [u8], &'static [u8]);
 
 /// The attribute has this one value.
-fn assert_attribute(rt: &impl Abort, attribute: &AttrView<'_>, row: Row) {
+fn is_attribute(attribute: &AttrView<'_>, row: Row) -> bool {
     let (tag, name, bytes) = row;
-    assert_eq!(rt; attribute.name, name);
-    assert_eq!(rt; attribute.values.len(), 1);
-    for value in &attribute.values {
-        assert_eq!(rt; value.tag, tag);
-        assert_eq!(rt; value.bytes, bytes);
+    match attribute.values.as_slice() {
+        [value] => attribute.name == name && value.tag == tag && value.bytes == bytes,
+        _ => false,
     }
 }
 
 /// The group has these attributes.
-fn assert_group(rt: &impl Abort, group: &GroupView<'_>, rows: &[Row]) {
-    assert_eq!(rt; group.tag, 1);
-    assert_eq!(rt; group.attrs.len(), rows.len());
-    for (attribute, row) in group.attrs.iter().zip(rows) {
-        assert_attribute(rt, attribute, *row);
-    }
+fn is_operation_group(group: &GroupView<'_>, rows: &[Row]) -> bool {
+    group.tag == 1
+        && group.attrs.len() == rows.len()
+        && group
+            .attrs
+            .iter()
+            .zip(rows)
+            .all(|(attribute, row)| is_attribute(attribute, *row))
 }
 
 /// The head of the smallest Print-Job.
@@ -70,12 +69,14 @@ const PRINT_JOB_ROWS: &[Row] = &[
 ];
 
 /// The view is that of the smallest Print-Job.
-fn assert_print_job(rt: &impl Abort, view: &View<'_>) {
-    assert_eq!(rt; view.head, PRINT_JOB_HEAD);
-    assert_eq!(rt; view.payload, b"hi".as_slice());
-    assert_eq!(rt; view.groups.len(), 1);
-    for group in &view.groups {
-        assert_group(rt, group, PRINT_JOB_ROWS);
+fn is_print_job(view: &View<'_>) -> bool {
+    match view.groups.as_slice() {
+        [group] => {
+            view.head == PRINT_JOB_HEAD
+                && view.payload == b"hi".as_slice()
+                && is_operation_group(group, PRINT_JOB_ROWS)
+        }
+        _ => false,
     }
 }
 
@@ -88,7 +89,7 @@ fn reads_the_head_of_the_smallest_print_job(rt: HostRuntime) {
 #[test]
 fn reads_the_smallest_print_job(rt: HostRuntime) {
     match read(rt.alloc(), PRINT_JOB) {
-        Ok(view) => assert_print_job(&rt, &view),
+        Ok(view) => assert!(rt; is_print_job(&view)),
         Err(_) => panic!(rt; "not read"),
     }
 }
@@ -160,12 +161,14 @@ fn with_values(alloc: Global, tags: &[u8]) -> Result<Vec<u8>, Fail> {
     Ok(bytes)
 }
 
-/// Behind its first group the view has one of attributes `a` with 16 values.
-fn assert_sixteen(rt: &impl Abort, view: &View<'_>) {
-    assert_eq!(rt; view.groups.len(), 2);
-    for attribute in &view.groups[1].attrs {
-        assert_eq!(rt; attribute.name, b"a".as_slice());
-        assert_eq!(rt; attribute.values.len(), 16);
+/// Behind its first group the view has one with an attribute `a` of 16 values, and no other.
+fn has_sixteen(view: &View<'_>) -> bool {
+    match view.groups.as_slice() {
+        [_, group] => match group.attrs.as_slice() {
+            [attribute] => attribute.name == b"a".as_slice() && attribute.values.len() == 16,
+            _ => false,
+        },
+        _ => false,
     }
 }
 
@@ -176,7 +179,7 @@ fn reads_collections_eight_deep(rt: HostRuntime) -> Result<(), Fail> {
         b"\x34\x34\x34\x34\x34\x34\x34\x34\x37\x37\x37\x37\x37\x37\x37\x37",
     )?;
     match read(rt.alloc(), &eight) {
-        Ok(view) => assert_sixteen(&rt, &view),
+        Ok(view) => assert!(rt; has_sixteen(&view)),
         Err(_) => panic!(rt; "not read"),
     }
     Ok(())
