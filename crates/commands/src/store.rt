@@ -1,5 +1,5 @@
 //! The store at a path: a new one, or one that is there.
-ghost use Rattle.std.specs.Prelude.{◌≡◌, ◌≢◌, ℤ, IfErr, IfOk, IsErrOf, IsOk, IsTrue};
+ghost use Rattle.std.specs.Prelude.{◌≡◌, ◌≢◌, ℤ, Err, IfErr, IfOk, IsErrOf, IsOk, IsTrue, codes, false};
 ghost use Rattle.std.specs.Option.{IfSome};
 ghost use Rattle.sqlite.specs.Files.{over_files};
 ghost use Rattle.sqlite_wal.specs.Files.{image_at};
@@ -9,7 +9,7 @@ ghost use Rattle.queue_store.specs.Kept.{IsHonest, StandsFor, shown_by};
 ghost use Rattle.queue_store.specs.Opened.{FitsFile, HasNoTables, IsKeptIn};
 ghost use Rattle.commands.specs.Store.{IsOfStore, settings_of};
 ghost use Rattle.commands.specs.Found.{found_in};
-ghost use Rattle.command_ends.specs.declared.fault.Fault.TheVariants.{BadSetting};
+ghost use Rattle.command_ends.specs.declared.fault.Fault.TheVariants.{BadSetting, Disk as OfDisk};
 
 use command_ends::Fault;
 use command_words::Init;
@@ -136,11 +136,22 @@ fn make_file(rt: &HostRuntime, path: &str) -> io::Result<()> {
     Ok(())
 }
 
+/// SQLite takes the path for a file's name, which `:memory:` and a URI are not to it.
+fn is_file_name(path: &str) -> bool
+    ensures memory { path.now ≡ codes ":memory:" → result ≡ false }
+{
+    path != ":memory:" && !path.starts_with("file:")
+}
+
 /// Readies the path of a new store: makes its file where there is none, and refuses one that is no store in the making.
 fn ready_path(rt: &HostRuntime, path: &str) -> Result<(), Fault>
     ensures told { IfErr result IsOfStore }
     ensures other { IfErr result (λ f. f ≢ BadSetting) }
+    ensures memory { path.now ≡ codes ":memory:" → result ≡ Err OfDisk }
 {
+    if !is_file_name(path) {
+        return Err(Fault::Disk);
+    }
     match found_at(rt, path)? {
         Found::Nothing => make_file(rt, path).map_err(fault_of_path),
         Found::EmptyFile | Found::Unfinished | Found::Database => Ok(()),

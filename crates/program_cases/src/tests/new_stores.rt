@@ -1,7 +1,7 @@
 //! Stores that are made, and settings that aren't taken.
 
 use crate::tests::folder::Asked::{Import, Init, Statement};
-use crate::tests::folder::Step::{Asks, Imports, IsPrivate, Keeps, Writes};
+use crate::tests::folder::Step::{Asks, Imports, IsPrivate, Keeps, Lacks, Writes};
 use crate::tests::folder::{
     At, DAMAGED, DISK, FILE, MADE, NO_ACCOUNT, STORE, Step, Told, URI, take_steps,
     take_steps_for_nothing,
@@ -35,6 +35,19 @@ const BAD_SETTINGS: &[Step<'static>] = &[
 #[test]
 fn settings_that_are_refused(rt: HostRuntime) -> Result<(), Fail> {
     take_steps_for_nothing(&rt, "settings", BAD_SETTINGS)
+}
+
+/// What SQLite takes for no file's name makes no file.
+const NO_NAMES: &[Step<'static>] = &[
+    Asks(Init(At::Path(":memory:"), URI, "release"), DISK),
+    Lacks(At::Path(":memory:")),
+    Asks(Init(At::Path("file:queue.db"), URI, "release"), DISK),
+    Lacks(At::Path("file:queue.db")),
+];
+
+#[test]
+fn paths_that_name_no_file(rt: HostRuntime) -> Result<(), Fail> {
+    take_steps_for_nothing(&rt, "names", NO_NAMES)
 }
 
 const TWICE: &[Step<'static>] = &[
