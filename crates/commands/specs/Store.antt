@@ -1,5 +1,6 @@
--- What a new store is to have, and why one is not opened.
-use Rattle.std.specs.Prelude.{◌≡◌, ◌⊎◌, ℤ}
+-- What a new store is to have, where it can be, and why one is not opened.
+use Rattle.std.specs.Prelude.{◌≡◌, ◌⊎◌, ◌||◌, ℕ, ℤ, Bool, List, bytes_eq, codes, nat_eq, not}
+use Rattle.std.specs.List.{starts_with}
 use Rattle.command_ends.specs.declared.fault.Fault.{Fault}
 use Rattle.command_ends.specs.declared.fault.Fault.TheVariants.{Memory, Disk, Damaged}
 use Rattle.command_words.specs.declared.outcome.Init.{Init}
@@ -8,6 +9,10 @@ use Rattle.queue_types.specs.Settings.{SettingValues}
 -- the settings that a new store is to have, from this second of the clock on
 abbrev pub settings_of : Init → ℤ → SettingValues
 settings_of words epoch = record { uri = words.uri.now; name = words.name.now; estimate = words.estimate; epoch = epoch }
+
+-- SQLite takes the path for a file's name: it is not that of a database in memory, and no URI
+abbrev pub is_file_name : List ℕ → Bool
+is_file_name path = not (bytes_eq path (codes ":memory:") || starts_with nat_eq path (codes "file:"))
 
 -- a store that can't be opened is told so
 abbrev pub IsOfStore : Fault → Type 0

@@ -1,5 +1,5 @@
 //! The store at a path: a new one, or one that is there.
-ghost use Rattle.std.specs.Prelude.{◌≡◌, ◌≢◌, ℤ, Err, IfErr, IfOk, IsErrOf, IsOk, IsTrue, codes, false};
+ghost use Rattle.std.specs.Prelude.{◌≡◌, ◌≢◌, ℤ, IfErr, IfOk, IsErrOf, IsOk, IsTrue};
 ghost use Rattle.std.specs.Option.{IfSome};
 ghost use Rattle.sqlite.specs.Files.{over_files};
 ghost use Rattle.sqlite_wal.specs.Files.{image_at};
@@ -7,9 +7,10 @@ ghost use Rattle.queue_types.specs.Settings.{AreSettings};
 ghost use Rattle.queue_core.specs.World.{World, empty_queue};
 ghost use Rattle.queue_store.specs.Kept.{IsHonest, StandsFor, shown_by};
 ghost use Rattle.queue_store.specs.Opened.{FitsFile, HasNoTables, IsKeptIn};
+ghost use Rattle.commands.specs.Store as spec;
 ghost use Rattle.commands.specs.Store.{IsOfStore, settings_of};
 ghost use Rattle.commands.specs.Found.{found_in};
-ghost use Rattle.command_ends.specs.declared.fault.Fault.TheVariants.{BadSetting, Disk as OfDisk};
+ghost use Rattle.command_ends.specs.declared.fault.Fault.TheVariants.{BadSetting};
 
 use command_ends::Fault;
 use command_words::Init;
@@ -136,18 +137,19 @@ fn make_file(rt: &HostRuntime, path: &str) -> io::Result<()> {
     Ok(())
 }
 
-/// SQLite takes the path for a file's name, which `:memory:` and a URI are not to it.
+/// SQLite takes the path for a file's name.
 fn is_file_name(path: &str) -> bool
-    ensures memory { path.now ≡ codes ":memory:" → result ≡ false }
+    ensures { result ≡ spec.is_file_name path.now }
 {
-    path != ":memory:" && !path.starts_with("file:")
+    path != ":memory:" && !path.as_bytes().starts_with(b"file:")
 }
 
-/// Readies the path of a new store: makes its file where there is none, and refuses one that is no store in the making.
+/// Readies the path of a new store: makes its file where there is none, and refuses one that is no store in the making. What is no file's name is
+/// refused before anything is looked at.
 fn ready_path(rt: &HostRuntime, path: &str) -> Result<(), Fault>
+    ensures named { IfOk result (λ nothing. IsTrue (spec.is_file_name path.now)) }
     ensures told { IfErr result IsOfStore }
     ensures other { IfErr result (λ f. f ≢ BadSetting) }
-    ensures memory { path.now ≡ codes ":memory:" → result ≡ Err OfDisk }
 {
     if !is_file_name(path) {
         return Err(Fault::Disk);
@@ -160,13 +162,14 @@ fn ready_path(rt: &HostRuntime, path: &str) -> Result<(), Fault>
 }
 
 /// Makes a store with these settings, whose epoch is the present second, in files that hold no tables: it stands for the empty queue. A setting that is not within its limits
-/// makes no file. Damaged is told where a store is there, or a file that is no database; Disk where another program's database is. One whose making was
-/// cut short is made anew.
+/// makes no file. Damaged is told where a store is there, or a file that is no database; Disk where another program's database is, or the path is no
+/// file's name to SQLite. One whose making was cut short is made anew.
 pub fn make_store<S: Start>(
     rt: &HostRuntime,
     words: Init<'_>,
     start: S,
 ) -> Result<FileBook<S>, Fault>
+    ensures named { IfOk result (λ b. IsTrue (spec.is_file_name words.entry.store.now)) }
     ensures blank { IfOk result (λ b. IsHonest over_files b → HasNoTables (image_at S.Start)) }
     ensures made { IfOk result (λ b. (epoch : ℤ) × StandsFor over_files b (empty_queue (settings_of words.entry epoch))) }
     ensures live { IfOk result (λ b. IsHonest over_files b → IsTrue (shown_by over_files b).is_open) }
