@@ -14,6 +14,10 @@ settings_of words epoch = record { uri = words.uri.now; name = words.name.now; e
 abbrev pub is_file_name : List ℕ → Bool
 is_file_name path = not (bytes_eq path (codes ":memory:") || starts_with nat_eq path (codes "file:"))
 
+-- a path that can't be looked at or made is told so
+abbrev pub IsOfPath : Fault → Type 0
+IsOfPath fault = (fault ≡ Memory) ⊎ (fault ≡ Disk)
+
 -- a store that can't be opened is told so
 abbrev pub IsOfStore : Fault → Type 0
 IsOfStore fault = (fault ≡ Memory) ⊎ (fault ≡ Disk) ⊎ (fault ≡ Damaged)

@@ -1,5 +1,6 @@
 //! The store at a path: a new one, or one that is there.
-ghost use Rattle.std.specs.Prelude.{◌≡◌, ◌≢◌, ℤ, IfErr, IfOk, IsErrOf, IsOk, IsTrue};
+ghost use Rattle.std.specs.IoError.{error_kind};
+ghost use Rattle.std.specs.Prelude.{◌≡◌, ◌≢◌, ◌↔◌, ℤ, IfErr, IfOk, IsErrOf, IsOk, IsTrue};
 ghost use Rattle.std.specs.Option.{IfSome};
 ghost use Rattle.sqlite.specs.Files.{over_files};
 ghost use Rattle.sqlite_wal.specs.Files.{image_at};
@@ -8,9 +9,10 @@ ghost use Rattle.queue_core.specs.World.{World, empty_queue};
 ghost use Rattle.queue_store.specs.Kept.{IsHonest, StandsFor, shown_by};
 ghost use Rattle.queue_store.specs.Opened.{FitsFile, HasNoTables, IsKeptIn};
 ghost use Rattle.commands.specs.Store as spec;
-ghost use Rattle.commands.specs.Store.{IsOfStore, settings_of};
+ghost use Rattle.commands.specs.Store.{IsOfPath, IsOfStore, settings_of};
 ghost use Rattle.commands.specs.Found.{found_in};
-ghost use Rattle.command_ends.specs.declared.fault.Fault.TheVariants.{BadSetting};
+ghost use Rattle.std.specs.declared.io.ErrorKind.TheVariants.{OutOfMemory};
+ghost use Rattle.command_ends.specs.declared.fault.Fault.TheVariants.{BadSetting, Memory as OfMemory};
 
 use command_ends::Fault;
 use command_words::Init;
@@ -91,19 +93,19 @@ fn look_at_path(rt: &HostRuntime, path: &str) -> io::Result<Found> {
 
 /// The fault of a path that can't be looked at or made.
 fn fault_of_path(error: io::Error) -> Fault
-    ensures told { IsOfStore result }
+    ensures told { IsOfPath result }
+    ensures memory { (result ≡ OfMemory) ↔ (error_kind error ≡ OutOfMemory) }
     ensures other { result ≢ BadSetting }
 {
-    if error.kind() == ErrorKind::OutOfMemory {
-        Fault::Memory
-    } else {
-        Fault::Disk
+    match error.kind() {
+        ErrorKind::OutOfMemory => Fault::Memory,
+        _ => Fault::Disk,
     }
 }
 
 /// What is at the path of a store, where an error is one of the disk.
 fn found_at(rt: &HostRuntime, path: &str) -> Result<Found, Fault>
-    ensures told { IfErr result IsOfStore }
+    ensures told { IfErr result IsOfPath }
     ensures other { IfErr result (λ f. f ≢ BadSetting) }
 {
     look_at_path(rt, path).map_err(fault_of_path)
