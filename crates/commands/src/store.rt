@@ -1,6 +1,6 @@
 //! The store at a path: a new one, or one that is there.
 ghost use Rattle.std.specs.IoError.{error_kind};
-ghost use Rattle.std.specs.Prelude.{◌≡◌, ◌≢◌, ◌↔◌, ℤ, IfErr, IfOk, IsErrOf, IsOk, IsTrue};
+ghost use Rattle.std.specs.Prelude.{◌≡◌, ◌≢◌, ◌↔◌, ℤ, Err, IfErr, IfOk, IsErrOf, IsOk, IsTrue, false};
 ghost use Rattle.std.specs.Option.{IfSome};
 ghost use Rattle.sqlite.specs.Files.{over_files};
 ghost use Rattle.sqlite_wal.specs.Files.{image_at};
@@ -12,7 +12,7 @@ ghost use Rattle.commands.specs.Store as spec;
 ghost use Rattle.commands.specs.Store.{IsOfPath, IsOfStore, settings_of};
 ghost use Rattle.commands.specs.Found.{found_in};
 ghost use Rattle.std.specs.declared.io.ErrorKind.TheVariants.{OutOfMemory};
-ghost use Rattle.command_ends.specs.declared.fault.Fault.TheVariants.{BadSetting, Memory as OfMemory};
+ghost use Rattle.command_ends.specs.declared.fault.Fault.TheVariants.{BadSetting, Disk as OfDisk, Memory as OfMemory};
 
 use command_ends::Fault;
 use command_words::Init;
@@ -150,6 +150,7 @@ fn is_file_name(path: &str) -> bool
 /// refused before anything is looked at.
 fn ready_path(rt: &HostRuntime, path: &str) -> Result<(), Fault>
     ensures named { IfOk result (λ nothing. IsTrue (spec.is_file_name path.now)) }
+    ensures nameless { spec.is_file_name path.now ≡ false → result ≡ Err OfDisk }
     ensures told { IfErr result IsOfStore }
     ensures other { IfErr result (λ f. f ≢ BadSetting) }
 {
