@@ -33,6 +33,7 @@ pub fn report<B: QueueBook>(book: &mut B, now: u32, line: &[u8]) -> ReportAnswer
     // on any book, also one that is not honest
     ensures unread { (f : LineFault) → Reads line.now (Err f) → (result ≡ unread_line f)
         × ((w : World) → B.stands book.old w → B.stands book.new w) }
+    ensures unseen { (f : LineFault) → Reads line.now (Err f) → book.new ≡ book.old }
 {
     match read_report(line) {
         Ok(r) => match step(book, now, r) {

@@ -11,6 +11,7 @@ pub mod Entered
 pub mod Telling
 pub mod Passing
 pub mod Again
+pub mod Bounds
 pub mod Taking
 pub mod Filed
 pub mod OneRow

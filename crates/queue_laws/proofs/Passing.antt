@@ -1,4 +1,4 @@
--- What a report takes of an account's free pages.
+-- What a report takes of an account's free pages, and what it moves.
 use Rattle.std.proofs.Common.{◌≡◌, ℕ, ℤ, pos, ◌+ℤ◌, ◌-ℤ◌, ◌+◌, ◌-◌, [], ◌∷◌, map, refl, ap, sym, ◌∙◌, subst, arith, Bool, true, false, cond}
 use Rattle.std.specs.Prelude.{Some, None, ◌≤ℤ◌, fold, option_map, is_some}
 use Rattle.std.specs.FinMap.{get}
@@ -6,10 +6,12 @@ use Rattle.std.proofs.lemmas.Int.{ints}
 use Rattle.queue_types.specs.Event.{Decision, tell}
 use Rattle.queue_types.specs.Job.{is_live, is_live_in, estimate, owed}
 use Rattle.queue_core.specs.World.{World, cut, made_on, put_free, owner_row}
-use Rattle.queue_core.specs.Machine.{decision, step, accepted, credited, returned, taken}
+use Rattle.queue_core.specs.Machine.{decision, step, accepted, answered, credited, returned, taken}
 use Rattle.queue_core.specs.Reports.{counted, moved_by}
 use Rattle.queue_types.specs.declared.event.Kind.{Kind}
 use Rattle.queue_types.specs.declared.event.Kind.TheVariants.{Count}
+use Rattle.queue_types.specs.declared.event.Reply.{Reply}
+use Rattle.queue_types.specs.declared.event.Reply.TheVariants.{Told, NotTold}
 use Rattle.queue_types.specs.declared.event.Report.{Report}
 use Rattle.queue_types.specs.declared.job.Job.{Job}
 use Rattle.queue_types.specs.declared.job.Phase.{Phase}
@@ -56,6 +58,9 @@ passes false true hold pages m n f ends = let no : true ≡ false = ends refl in
 
 same_passes : (f g : ℤ) (n : ℕ) → f ≡ g → f ≤ℤ (g +ℤ pos n)
 same_passes f g n e = omega (arith, ints)
+
+nothing_moves : (f : ℤ) (m n : ℕ) → m ≡ n → f ≡ f +ℤ (pos m -ℤ pos n)
+nothing_moves f m n e = omega (arith, ints)
 
 module _ (w : World) (now : ℕ) (r : Report) where
   abbrev by : Decision → World
@@ -112,4 +117,27 @@ module _ (w : World) (now : ℕ) (r : Report) where
         let is : a.after ≡ k = some_same a.after k (sym (after_at w now r d a) ∙ sym (ap (λ d. at r.job (by d).jobs) a.is) ∙ new) in
         subst (λ (k : Job). f ≤ℤ (g +ℤ pos (k.count - (j.count + owed j)))) is
         (subst (λ (j : Job). get w.free j.owner ≡ Some f → get (by d).free j.owner ≡ Some g → f ≤ℤ (g +ℤ pos (a.after.count - (j.count + owed j)))) was (job_passes a f g) before then)
+  ]
+
+  -- ---- what it moves
+
+  abbrev Moves : Job → Job → Type 0
+  Moves j k = (f : ℤ) → get w.free j.owner ≡ Some f → get (by d).free j.owner ≡ Some (f +ℤ (pos (taken j) -ℤ pos (taken k)))
+
+  none_moves : (j k : Job) (reply : Reply) → d ≡ answered reply → at r.job w.jobs ≡ Some j → at r.job (by d).jobs ≡ Some k → Moves j k
+  none_moves j k reply e old new f before =
+      let same : j ≡ k = some_same j k (sym old ∙ sym (ap (λ d. at r.job (by d).jobs) e) ∙ new) in
+      ap (λ d. get (by d).free j.owner) e ∙ before ∙ ap Some (nothing_moves f (taken j) (taken k) (ap taken same))
+
+  job_moves : (a : IsAccepted w now r d) → Moves a.before a.after
+  job_moves a f before = ap (λ d. get (by d).free a.before.owner) a.is ∙ free_then a f before
+
+  pub report_moves : (j k : Job) (f : ℤ) → at r.job w.jobs ≡ Some j → at r.job (step w now (tell r)).world.jobs ≡ Some k → get w.free j.owner ≡ Some f → get (step w now (tell r)).world.free j.owner ≡ Some (f +ℤ (pos (owed j + j.count) -ℤ pos (owed k + k.count)))
+  report_moves j k f old new before = elim (telling w now r) as (λ _. get (by d).free j.owner ≡ Some (f +ℤ (pos (taken j) -ℤ pos (taken k)))) [
+    | declined cause e ↦ none_moves j k (NotTold cause) e old new f before
+    | known kept is same e ↦ none_moves j k (Told kept.state kept.total) e old new f before
+    | told_of a ↦
+        let was : a.before ≡ j = some_same a.before j (sym (named_before w now r d a).0 ∙ old) in
+        let is : a.after ≡ k = some_same a.after k (sym (after_at w now r d a) ∙ sym (ap (λ d. at r.job (by d).jobs) a.is) ∙ new) in
+        subst (λ (k : Job). Moves j k) is (subst (λ (j : Job). Moves j a.after) was (job_moves a)) f before
   ]

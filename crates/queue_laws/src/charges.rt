@@ -1,5 +1,5 @@
-//! What requests and reports take of an account's free pages.
-ghost use Rattle.std.specs.Prelude.{ℕ, ℤ, pos, ◌≡◌, ◌⊎◌, ◌≤ℤ◌, ◌+ℤ◌, ◌+◌, ◌-◌, List, Some};
+//! What requests and reports take of an account's free pages, and what a report moves.
+ghost use Rattle.std.specs.Prelude.{ℕ, ℤ, pos, ◌≡◌, ◌⊎◌, ◌≤ℤ◌, ◌+ℤ◌, ◌-ℤ◌, ◌+◌, ◌-◌, List, Some};
 ghost use Rattle.std.specs.FinMap.{get};
 ghost use Rattle.queue_types.specs.Event.{Call, ask, tell};
 ghost use Rattle.queue_types.specs.Job.{owed};
@@ -19,4 +19,11 @@ pub fn requests_leave_no_debt()
 /// that were printed of it and set aside for it before.
 pub fn reports_take_what_passes()
     ensures { (w : World) (now : ℕ) (r : Report) (j k : Job) (f g : ℤ) → job_at r.job (rows w) ≡ Some j → job_at r.job (rows (step w now (tell r)).world) ≡ Some k → get w.free j.owner ≡ Some f → get (step w now (tell r)).world.free j.owner ≡ Some g → f ≤ℤ (g +ℤ pos (k.count - (j.count + owed j))) }
+{}
+
+/// What a report moves: the owner's free pages become fewer by exactly what was printed beyond what was set aside, and
+/// what is not needed any more goes back. What the job had printed and set aside before, less what it has afterwards,
+/// is added to them.
+pub fn reports_move_what_is_owed()
+    ensures { (w : World) (now : ℕ) (r : Report) (j k : Job) (f : ℤ) → job_at r.job (rows w) ≡ Some j → job_at r.job (rows (step w now (tell r)).world) ≡ Some k → get w.free j.owner ≡ Some f → get (step w now (tell r)).world.free j.owner ≡ Some (f +ℤ (pos (owed j + j.count) -ℤ pos (owed k + k.count))) }
 {}

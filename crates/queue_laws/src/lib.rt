@@ -1,22 +1,50 @@
 //! Laws of the print queue in the words of those who use it. Each is a contract on a function that no program calls:
 //! it speaks of `step`, the answer to an event and the queue after it, and of a queue's jobs, accounts, grants and
 //! reports, and of nothing by which the step is made, but for a job's state, its estimate and the pages set aside for
-//! it, the pages granted to an account, the number of a report's kind, and the order in [`showing::own_jobs_are_shown`],
-//! which is the machine's; [`showing::own_jobs_are_in_order`] says that order in words of its own.
+//! it, the pages granted to an account, set aside and printed in it, the number of a report's kind, and the order in
+//! [`own_jobs_are_shown`], which is the machine's; [`own_jobs_are_in_order`] says that order in words of its own.
 #![tactic(auto)]
 
-pub mod accounts;
-pub mod alone;
-pub mod charges;
-pub mod device;
-pub mod doing;
-pub mod entering;
-pub mod fetching;
-pub mod held;
-pub mod limits;
-pub mod others;
-pub mod refusals;
-pub mod repeats;
-pub mod reported;
-pub mod showing;
-pub mod single;
+mod accounts;
+mod alone;
+mod charges;
+mod device;
+mod doing;
+mod entering;
+mod fetching;
+mod held;
+mod limits;
+mod others;
+mod refusals;
+mod repeats;
+mod reported;
+mod showing;
+mod single;
+mod sums;
+
+pub use accounts::{
+    account_files_change_accounts, files_are_taken_in_order, grants_count_once, one_row_is_taken,
+    repeated_files_change_nothing,
+};
+pub use alone::{
+    begun_jobs_are_left_alone, books_are_left_alone, others_are_left_alone, work_is_left_alone,
+};
+pub use charges::{reports_move_what_is_owed, reports_take_what_passes, requests_leave_no_debt};
+pub use device::{
+    accepted_reports_are_kept, repeated_reports_are_answered_again, reports_change_their_job,
+};
+pub use doing::{
+    documents_are_added, held_jobs_are_released, jobs_are_canceled, named_jobs_are_canceled,
+    own_jobs_are_canceled, pages_are_set_aside, waiting_jobs_are_held,
+};
+pub use entering::{new_jobs_enter_held, validated_jobs_would_print};
+pub use fetching::{documents_are_fetched, startable_jobs_are_shown};
+pub use held::jobs_are_held_until_released;
+pub use limits::hundred_own_jobs_are_most;
+pub use others::{others_requests_are_alike, own_is_what_is_shown, run_two};
+pub use refusals::refusals_change_nothing;
+pub use repeats::run_thin;
+pub use reported::{jobs_are_reported, reports_are_compared, reports_are_out_of_state};
+pub use showing::{own_job_is_shown, own_jobs_are_in_order, own_jobs_are_shown, printer_is_shown};
+pub use single::{other_jobs_are_left_alone, others_jobs_are_none};
+pub use sums::sums_are_bounded;

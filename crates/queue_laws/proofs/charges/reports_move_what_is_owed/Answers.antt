@@ -1,0 +1,5 @@
+use Rattle.queue_laws.proofs.Passing.{report_moves}
+use Rattle.queue_laws.proofs.charges.reports_move_what_is_owed.Goals as goal
+
+pub returns : goal.returns
+returns c = report_moves
