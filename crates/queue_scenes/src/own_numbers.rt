@@ -1,5 +1,5 @@
 //! The jobs of one owner that have given numbers.
-ghost use Rattle.std.specs.Prelude.{◌≡◌, ◌≢◌, ◌++◌, ◌==◌, ◌&&◌, ℕ, All, bytes_eq, filter, IfOk, OnOk, IsTrue, IfErr};
+ghost use Rattle.std.specs.Prelude.{◌≡◌, ◌≢◌, ◌<◌, ◌↔◌, ◌++◌, ◌==◌, ◌&&◌, ℕ, All, bytes_eq, count_by, filter, length, IfOk, OnOk, IsTrue, IfErr};
 ghost use Rattle.std.specs.BTreeSet.{contains};
 ghost use Rattle.std.specs.List.{list_any};
 ghost use Rattle.std.specs.List.Sorted.{IsStrictlySortedBy};
@@ -111,10 +111,12 @@ fn picked_of<S: Alter>(
     Ok(picked)
 }
 
-/// There are many numbers, and more than the owner has jobs.
+/// There are more than 100 numbers, and more than the owner has jobs.
 fn are_many<S: Alter>(conn: &mut Connection<S>, owner: &str, numbers: &[u32]) -> Result<bool, Fault>
     ensures leaves { LeavesTables (state S.Store conn.old) (state S.Store conn.new) }
     ensures live { HasCleanDisk (state S.Store conn.new) → IsTrue (state S.Store conn.old).is_open → OnOk result (IsTrue (state S.Store conn.new).is_open) }
+    ensures many { HasCleanDisk (state S.Store conn.new) → IfOk result (λ b. (w : World) → Holds (content_of w) (state S.Store conn.old)
+        → IsTrue b ↔ (100 < length numbers.now) × (count_by (λ (j : JobValue). bytes_eq j.owner owner.now) (rows w) < length numbers.now)) }
     ensures never { IfErr result (λ e. e ≢ Fault.Damaged) }
 {
     if numbers.len() <= MOST_LIVE_JOBS {

@@ -141,7 +141,7 @@ fn send_pieces<S: Alter, W: Write>(
 }
 
 /// Writes the bytes of document n, counted from 1, of a job, which `document_head` has found, and says how many they are.
-/// After a fault a front of them was written. Never more than a piece of them is held. The tables stay as they
+/// After a fault a front of them was written. No more than a few pieces of them are held at once. The tables stay as they
 /// were, where the connection is still open. Within a transaction it answers Disk. It doesn't look at the job's state: of a
 /// document that `document_head` doesn't find, those pieces are written that are there. Damaged is told only where the
 /// tables hold no sound queue.
