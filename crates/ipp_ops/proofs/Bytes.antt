@@ -1,6 +1,6 @@
 -- Bytes and what they are answered.
 use Rattle.std.proofs.Common.{◌≡◌, ℕ, List, [], ◌==◌, Bool, true, false, refl, ap, subst, sym, ◌∙◌}
-use Rattle.std.specs.Prelude.{Some, None, if◌then◌else◌}
+use Rattle.std.specs.Prelude.{Some, None, MatchBool, ⊤, if◌then◌else◌}
 use Rattle.ipp_wire.specs.declared.view.Head.{Head}
 use Rattle.ipp_wire.specs.Message.{Group, Message, Spells, head_of}
 use Rattle.ipp_wire.specs.Bare.{bare}
@@ -11,8 +11,8 @@ use Rattle.queue_types.specs.declared.event.Reply.TheVariants.{Refused, Done, Jo
 use Rattle.ipp_reply.specs.Unsupported.{Unsupported, nothing}
 use Rattle.ipp_reply.specs.Wanted.{Rows, no_rows}
 use Rattle.ipp_reply.specs.Reply.{reply_of, with_groups}
-use Rattle.ipp_ops.specs.Answer.{IsReplyTo, Answers, IsVerdictOn, IsMalformed, by_head, malformed, request, outcome}
-use Rattle.ipp_ops.specs.Verdict.{refused, verdict}
+use Rattle.ipp_ops.specs.Answer.{IsReplyTo, Answers, Fails, IsVerdictOn, IsMalformed, by_head, malformed, request, is_fault, outcome}
+use Rattle.ipp_ops.specs.Verdict.{Verdict, passed, refused, verdict}
 use Rattle.ipp_request.specs.Reading.{head_refusal}
 
 same_twice : (b : Bool) (gs : List Group) → (if b then gs else gs) ≡ gs
@@ -42,6 +42,22 @@ bare_answers code h b out w now e given spelled = record {
   world = refl;
   spelled = subst (λ (x : Head). Spells (reply_of (Refused code) x no_rows nothing w.settings now) out) e (bare_spelled code h w.settings now out spelled);
 }
+
+pub not_fault : (fault : Bool) (P Q : Type 0) → fault ≡ false → Q → MatchBool fault P Q
+not_fault true P Q e q = absurd (cc)
+not_fault false P Q e q = q
+
+-- out tells what refuses the bytes, or a fault
+abbrev IsTold : List ℕ → List ℕ → SettingValues → ℕ → Verdict → Type 0
+IsTold b out s now (refused code u) = MatchBool (is_fault out) (Fails b out) (Spells (reply_of (Refused code) (head_of b) no_rows u s now) out)
+IsTold b out s now (passed caller call rows u) = ⊤
+
+-- a bare reply tells it
+pub bare_told : (code : ℕ) (h : Head) (b out : List ℕ) (s : SettingValues) (now : ℕ) (v : Verdict) → h ≡ head_of b → is_fault out ≡ false → Spells (bare h code) out → refused code nothing ≡ v → IsTold b out s now v
+bare_told code h b out s now v e quiet spelled same =
+    subst (λ (x : Verdict). IsTold b out s now x) same
+    (not_fault (is_fault out) (Fails b out) (Spells (reply_of (Refused code) (head_of b) no_rows nothing s now) out) quiet
+    (subst (λ (x : Head). Spells (reply_of (Refused code) x no_rows nothing s now) out) e (bare_spelled code h s now out spelled)))
 
 -- a message is answered by what comes of it
 pub message_answers : (m : Message) (b out : List ℕ) (w : World) (now : ℕ) → m.head ≡ head_of b → Spells m b → Spells (outcome (verdict m) m.head w now).reply out → Answers w now b (outcome (verdict m) m.head w now).world out

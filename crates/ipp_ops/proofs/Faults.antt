@@ -1,13 +1,13 @@
 -- What the code of a reply tells: 0x0505 stands for a fault alone, which no check and no answer of the machine has, and a
 -- reply of the machine that refuses leaves the world.
 use Rattle.std.proofs.Common.{◌≡◌, ℕ, List, [], ◌∷◌, ◌++◌, Bool, true, false, refl, ap, sym, ◌∙◌, subst, Ok, Err}
-use Rattle.std.specs.Prelude.{Option, Some, None, if◌then◌else◌, ⊤, ◌==◌, nat_le, nat_lt, map, bytes_eq}
+use Rattle.std.specs.Prelude.{Option, Some, None, MatchBool, if◌then◌else◌, ⊤, ◌==◌, nat_le, nat_lt, map, bytes_eq}
 use Rattle.std.specs.Bool.{OnFalse, OnTrue}
 use Rattle.std.specs.List.{list_all}
 use Rattle.std.specs.Option.{ok_or}
 use Rattle.std.specs.Result.{result_err}
 use Rattle.ipp_wire.specs.declared.view.Head.{Head}
-use Rattle.ipp_wire.specs.Message.{Group, Message, Spells, spelling}
+use Rattle.ipp_wire.specs.Message.{Group, Message, Spells, head_of, spelling}
 use Rattle.ipp_wire.specs.Bare.{bare, is_known_version}
 use Rattle.queue_types.specs.declared.document.Format.{Format}
 use Rattle.queue_types.specs.declared.job.Job.{Job}
@@ -23,7 +23,7 @@ use Rattle.queue_types.specs.Settings.{SettingValues}
 use Rattle.ipp_reply.specs.declared.operation.Operation.{Operation}
 use Rattle.ipp_ops.specs.declared.check.Check.{Check}
 use Rattle.ipp_ops.specs.declared.check.Check.TheVariants as check
-use Rattle.ipp_reply.specs.Wanted.{Rows, job_rows, printer_rows}
+use Rattle.ipp_reply.specs.Wanted.{Rows, job_rows, no_rows, printer_rows}
 use Rattle.ipp_reply.specs.Operations.{operation_of}
 use Rattle.ipp_reply.specs.Unsupported.{Unsupported, is_listed}
 use Rattle.ipp_request.specs.Unsupported.{unsupported}
@@ -35,7 +35,8 @@ use Rattle.ipp_ops.specs.Verdict.{Verdict, passed, refused, verdict, request_ver
 use Rattle.ipp_reply.specs.Reply.{with_groups, unsupported_groups, reply_of}
 use Rattle.ipp_reply.specs.JobReply.{job_group}
 use Rattle.ipp_reply.specs.PrinterReply.{printer_group}
-use Rattle.ipp_ops.specs.Answer.{is_fault, is_refusal, outcome}
+use Rattle.ipp_ops.specs.Answer.{Fails, is_fault, is_refusal, outcome}
+use Rattle.ipp_ops.proofs.Bytes.{not_fault}
 
 -- a reply with this code is no fault
 abbrev IsQuiet : ℕ → Type 0
@@ -184,6 +185,18 @@ outcome_tells (passed caller call rows u) h w now q = reply_quiet _ _ h rows u w
 -- bytes that a request is answered are no fault
 pub request_tells : (m : Message) (w : World) (now : ℕ) (out : List ℕ) → Spells (outcome (verdict m) m.head w now).reply out → is_fault out ≡ false
 request_tells m w now out spelled = ap is_fault spelled.bytes ∙ outcome_tells (verdict m) m.head w now (verdict_quiet m)
+
+-- nor those that what a check refuses is answered
+pub refused_tells : (m : Message) (code : ℕ) (u : Unsupported) (h : Head) (s : SettingValues) (now : ℕ) (out : List ℕ) → verdict m ≡ refused code u → Spells (reply_of (Refused code) h no_rows u s now) out → is_fault out ≡ false
+refused_tells m code u h s now out e spelled =
+    let quiet : IsQuiet code = subst QuietVerdict e (verdict_quiet m) in
+    ap is_fault spelled.bytes ∙ quiet h (if code == 0x040B then unsupported_groups u else [])
+
+-- so it is told as a refusal
+pub message_told : (m : Message) (code : ℕ) (u : Unsupported) (b out : List ℕ) (s : SettingValues) (now : ℕ) → m.head ≡ head_of b → verdict m ≡ refused code u → Spells (reply_of (Refused code) m.head no_rows u s now) out → MatchBool (is_fault out) (Fails b out) (Spells (reply_of (Refused code) (head_of b) no_rows u s now) out)
+message_told m code u b out s now h e spelled =
+    not_fault (is_fault out) (Fails b out) (Spells (reply_of (Refused code) (head_of b) no_rows u s now) out) (refused_tells m code u m.head s now out e spelled)
+    (subst (λ (x : Head). Spells (reply_of (Refused code) x no_rows u s now) out) h spelled)
 
 -- nor those that the head alone is answered
 pub head_tells : (h : Head) (code : ℕ) (out : List ℕ) → head_refusal h ≡ Some code → Spells (bare h code) out → is_fault out ≡ false

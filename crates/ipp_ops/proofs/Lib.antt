@@ -3,3 +3,5 @@ pub mod Within
 pub mod Listed
 pub mod Faults
 pub mod Laws
+pub mod Told
+pub mod Numbered

@@ -10,13 +10,14 @@ ghost use Rattle.queue_core.specs.Limits.{IsEvent, IsMoment, IsSoundReply};
 ghost use Rattle.queue_core.specs.Machine.{step as machine_step};
 ghost use Rattle.queue_core.specs.World.{World};
 ghost use Rattle.ipp_reply.specs.Reply.{reply_of};
-ghost use Rattle.ipp_reply.specs.Unsupported.{CanList, unsupported_of};
+ghost use Rattle.ipp_reply.specs.Unsupported.{CanList, Unsupported as Listed, unsupported_of};
 ghost use Rattle.ipp_reply.specs.Wanted.{no_rows, rows_of};
-ghost use Rattle.ipp_ops.specs.Answer.{Answers, Fails, IsFaultless, IsReplyTo, IsAsk, IsMalformed, bytes_of, is_fault, is_refusal, outcome};
-ghost use Rattle.ipp_ops.specs.Verdict.{verdict};
+ghost use Rattle.ipp_ops.specs.Answer.{Answers, Fails, IsFaultless, IsReplyTo, IsAsk, IsMalformed, IsVerdictOn, bytes_of, is_fault, is_refusal, outcome};
+ghost use Rattle.ipp_ops.specs.Verdict.{refused, verdict};
 ghost use Rattle.ipp_request.specs.Reading.{head_refusal};
 
 use crate::asking::ask;
+use crate::law::one_verdict;
 use crate::outcome::{Answer, TooShort};
 use crate::verdict::Ask;
 use ipp_reply::{Unsupported, Wanted, reply_message};
@@ -132,6 +133,9 @@ fn answer_message<B: QueueBook>(
         → B.stands book.new (outcome (verdict (message_of view.now)) view.now.head w now).world) }
     ensures err { OnErr result ((w : World) → B.stands book.old w → B.stands book.new w) }
     ensures live { B.is_honest book.new → B.is_live book.old → OnOk result (B.is_live book.new) }
+    // What the checks refuse, whatever the book is.
+    ensures checked { (code : ℕ) (u : Listed) → verdict (message_of view.now) ≡ refused code u → IfOk result (λ b. Spells (reply_of (Refused code) view.now.head no_rows u settings.now now) b.items) }
+    ensures checked_kept { (code : ℕ) (u : Listed) → verdict (message_of view.now) ≡ refused code u → (w : World) → B.stands book.old w → B.stands book.new w }
 {
     let context = ReplyContext {
         alloc,
@@ -158,8 +162,10 @@ fn answer_message<B: QueueBook>(
 
 /// Answers one request by its bytes, of which there are at most 16,777,216, at a moment from 1 to 2,147,483,647: it reads, asks, decides,
 /// encodes the reply, and changes the book last. A fault in any of these, as want of memory, is answered
-/// by the bare reply 0x0505 and changes nothing. What the head alone refuses is answered without memory.
-/// Under 8 bytes there is no head to reply to, and nothing happens.
+/// by the bare reply 0x0505 and changes nothing. What the head alone refuses is answered without memory. What any check refuses
+/// changes nothing, whatever the book is.
+/// Under 8 bytes there is no head to reply to, and nothing happens. The settings have to be those of the book's queue:
+/// with others, the clauses that speak of the book's world promise nothing.
 pub fn answer<B: QueueBook>(
     alloc: Global,
     book: &mut B,
@@ -189,8 +195,12 @@ pub fn answer<B: QueueBook>(
     ensures head_refused_kept { (code : ℕ) → head_refusal (head_of body.now) ≡ Some code → (w : World) → B.stands book.old w → B.stands book.new w }
     ensures malformed { head_refusal (head_of body.now) ≡ None → IsMalformed body.now → IfOk result (λ a. MatchBool (is_fault (bytes_of a)) (Fails body.now (bytes_of a)) (Spells (bare (head_of body.now) 0x0400) (bytes_of a))) }
     ensures malformed_kept { IsMalformed body.now → (w : World) → B.stands book.old w → B.stands book.new w }
+    // What the verdict on the bytes refuses, by whichever check, is answered by that refusal or by a fault, and nothing changes.
+    ensures checked { (code : ℕ) (u : Listed) → IsVerdictOn body.now (refused code u) → IfOk result (λ a. MatchBool (is_fault (bytes_of a)) (Fails body.now (bytes_of a)) (Spells (reply_of (Refused code) (head_of body.now) no_rows u settings.now now) (bytes_of a))) }
+    ensures checked_kept { (code : ℕ) (u : Listed) → IsVerdictOn body.now (refused code u) → (w : World) → B.stands book.old w → B.stands book.new w }
     ensures err { OnErr result ((w : World) → B.stands book.old w → B.stands book.new w) }
 {
+    one_verdict();
     let Some(h) = head(body) else {
         return Err(TooShort);
     };

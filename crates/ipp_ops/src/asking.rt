@@ -178,7 +178,9 @@ fn passed<'a>(
     })
 }
 
-/// What a request asks of which no known attribute is refused. What is unsupported is told.
+/// What a request asks that no check of the table refuses: it is refused by 0x040B, client-error-attributes-or-values-not-supported,
+/// where an attribute that its operation knows has values that are not supported, or where something of its job group is unsupported and
+/// its ipp-attribute-fidelity is true; else it asks its call. What is unsupported is told in both cases.
 fn listed_verdict<'a>(alloc: Global, request: Request<'_, 'a>) -> Result<Ask<'a>, AllocError>
     ensures { IfOk result (λ a. ask_content a ≡ listed_verdict (request_of request.entry) (unsupported (request_of request.entry)) (is_refused_for (request_of request.entry) (unsupported (request_of request.entry)))) }
 {
@@ -192,7 +194,8 @@ fn listed_verdict<'a>(alloc: Global, request: Request<'_, 'a>) -> Result<Ask<'a>
     passed(alloc, request, unsupported)
 }
 
-/// What a request asks.
+/// What a request asks whose head and groups are in order: it is refused by the code of the first check of the table that applies, and
+/// nothing is told of what is unsupported; where none applies, what is unsupported may still refuse it.
 fn checked_verdict<'a>(alloc: Global, request: Request<'_, 'a>) -> Result<Ask<'a>, AllocError>
     ensures { IfOk result (λ a. ask_content a ≡ checked_verdict (request_of request.entry) (refusal (request_of request.entry))) }
 {

@@ -12,7 +12,9 @@ use ipp_request::target::is_target;
 use ipp_request::value::{any_long, are_formed};
 use queue_types::status;
 
-/// What may be wrong with a request, in the order in which it is looked for.
+/// What may be wrong with the attributes of a request, in the order in which it is looked for. Looked for before these: the version and
+/// the operation of its head, the form of the message, and that its first group begins with the charset and the language. Behind them:
+/// the attributes and values that are not supported.
 #[derive(Clone, Copy, Debug)]
 pub enum Check {
     /// The charset isn't UTF-8.

@@ -1,19 +1,26 @@
 //! What the definitions of requests promise: laws over them, in functions that do nothing.
-ghost use Rattle.std.specs.Prelude.{◌≡◌, ◌≤◌, ℕ, List, Contains, IfSome, Option, length};
-ghost use Rattle.queue_types.specs.Formats.{formats};
+ghost use Rattle.std.specs.Prelude.{◌≡◌, ◌≤◌, ◌∷◌, [], ℕ, List, All, Contains, IfSome, Option, Some, true, length, find, bytes_eq};
+ghost use Rattle.std.specs.Option.{option_and_then};
+ghost use Rattle.queue_types.specs.declared.job.Job.{Job};
+ghost use Rattle.queue_types.specs.Settings.{SettingValues, AreSettings};
+ghost use Rattle.queue_types.specs.Uri.{path_of};
+ghost use Rattle.queue_types.specs.Formats.{format_name, formats};
 ghost use Rattle.queue_types.specs.declared.document.Format.{Format};
-ghost use Rattle.ipp_reply.specs.Operations.{operations};
+ghost use Rattle.ipp_reply.specs.Operations.{id, operation_of, operations};
 ghost use Rattle.ipp_reply.specs.declared.operation.Operation.{Operation};
-ghost use Rattle.ipp_reply.specs.JobReply.{table as job_reply_table};
-ghost use Rattle.ipp_reply.specs.PrinterReply.{table as printer_reply_table};
+ghost use Rattle.ipp_reply.specs.JobReply.{name_of as job_reply_name, selected as selected_of_job, table as job_reply_table, values_of};
+ghost use Rattle.ipp_reply.specs.PrinterReply.{name_of as printer_reply_name, selected as selected_of_printer, table as printer_reply_table};
 ghost use Rattle.ipp_reply.specs.declared.job_reply.JobAttribute.{JobAttribute};
+ghost use Rattle.ipp_reply.specs.declared.job_reply.JobAttribute.TheVariants.{JobUri};
 ghost use Rattle.ipp_reply.specs.declared.printer_reply.PrinterAttribute.{PrinterAttribute};
 ghost use Rattle.ipp_ops.specs.Answer.{Asks, IsVerdictOn};
-ghost use Rattle.queue_core.specs.Limits.{IsEvent};
-ghost use Rattle.queue_types.specs.Event.{Event};
-ghost use Rattle.ipp_request.specs.Attributes.{table, template_table};
+ghost use Rattle.queue_core.specs.Limits.{IsEvent, IsPositive};
+ghost use Rattle.queue_types.specs.Event.{Call, Event, ask, cancel_my_jobs, on_job};
+ghost use Rattle.ipp_request.specs.Attributes.{knows, row, table, template_name, template_table};
+ghost use Rattle.ipp_request.specs.Formats.{format_of};
+ghost use Rattle.ipp_request.specs.Unsupported.{attribute_named};
 ghost use Rattle.ipp_ops.specs.Checks.{checks};
-ghost use Rattle.ipp_request.specs.Request.{IsJobPath, job_in};
+ghost use Rattle.ipp_request.specs.Request.{IsJobPath, first_value, job_in};
 ghost use Rattle.ipp_ops.specs.Verdict.{Verdict};
 ghost use Rattle.ipp_request.specs.declared.attribute.OperationAttribute.{OperationAttribute};
 ghost use Rattle.ipp_request.specs.declared.attribute.TemplateAttribute.{TemplateAttribute};
@@ -33,20 +40,38 @@ pub fn calls_are_events()
     ensures { (b : List ℕ) (e : Option Event) → length b ≤ 16777216 → Asks b e → IfSome e IsEvent }
 {}
 
+/// What bytes ask of a job names it by a number that a job may have, from 1 to 2,147,483,647; and so does what they ask of several
+/// of the caller's jobs. Where `ask` puts 0 for a number that is not there, a check has refused the request.
+pub fn calls_name_jobs()
+    ensures one_job { (b caller : List ℕ) (c : Call) → Asks b (Some (ask caller c)) → IfSome (on_job c) IsPositive }
+    ensures own_jobs { (b caller numbers : List ℕ) → Asks b (Some (ask caller (cancel_my_jobs (Some numbers)))) → All IsPositive numbers }
+{}
+
 /// A path names a job exactly where it is the printer's, a slash and the job's number in decimal, which is
-/// from 1 to 2,147,483,647.
+/// from 1 to 2,147,483,647. The path of the job-uri that a reply tells of a job names that job, with any
+/// settings.
 pub fn job_paths()
     ensures named { (path : List ℕ) (n : ℕ) → job_in path ≡ Some n → IsJobPath path n }
     ensures found { (path : List ℕ) (n : ℕ) → IsJobPath path n → job_in path ≡ Some n }
+    ensures told { (s : SettingValues) (now : ℕ) (j : Job) → AreSettings s → IsPositive j.number
+        → option_and_then (λ v. job_in (path_of v.bytes)) (first_value (values_of s.uri now j JobUri)) ≡ Some j.number }
 {}
 
-/// Each operation, each attribute of requests and of replies, each check and each document format stands in its table.
+/// Each operation, each attribute of requests and of replies, each check and each document format stands in its table. What has an id or
+/// a name there shares it with none: an operation is found by its id, an attribute of a request by its name where the operation knows it,
+/// one of a job group and a document format by their names, and the name of an attribute of a reply selects that attribute alone.
 pub fn whole_tables()
     ensures operations { (o : Operation) → Contains operations o }
+    ensures operations_found { (o : Operation) → operation_of (id o) ≡ Some o }
     ensures attributes { (k : OperationAttribute) → Contains table k }
+    ensures attributes_found { (o : Operation) (k : OperationAttribute) → knows o k ≡ true → attribute_named o (row k).name ≡ Some k }
     ensures job_attributes { (k : TemplateAttribute) → Contains template_table k }
+    ensures job_attributes_found { (k : TemplateAttribute) → find (λ a. bytes_eq (template_name a) (template_name k)) template_table ≡ Some k }
     ensures job_replies { (a : JobAttribute) → Contains job_reply_table a }
+    ensures job_replies_selected { (a : JobAttribute) → selected_of_job (job_reply_name a ∷ []) ≡ a ∷ [] }
     ensures printer_replies { (a : PrinterAttribute) → Contains printer_reply_table a }
+    ensures printer_replies_selected { (a : PrinterAttribute) → selected_of_printer (printer_reply_name a ∷ []) ≡ a ∷ [] }
     ensures checks { (c : Check) → Contains checks c }
     ensures formats { (f : Format) → Contains formats f }
+    ensures formats_found { (f : Format) → format_of (format_name f) ≡ Some f }
 {}

@@ -1,10 +1,10 @@
-use Rattle.std.proofs.Common.{◌≡◌, false, sym, ◌∙◌, subst}
+use Rattle.std.proofs.Common.{◌≡◌, ap, false, sym, ◌∙◌, subst}
 use Rattle.ipp_wire.specs.Viewed.{message_of}
 use Rattle.queue_core.specs.World.{World}
-use Rattle.ipp_ops.specs.Verdict.{verdict}
-use Rattle.ipp_ops.specs.Answer.{outcome, is_fault, is_refusal, bytes_of}
-use Rattle.ipp_ops.proofs.Bytes.{refused_by_head, refused_malformed, bare_answers, message_answers}
-use Rattle.ipp_ops.proofs.Faults.{request_tells, request_keeps, head_tells, on_false, on_true}
+use Rattle.ipp_ops.specs.Verdict.{refused, verdict}
+use Rattle.ipp_ops.specs.Answer.{request, outcome, is_fault, is_refusal, bytes_of}
+use Rattle.ipp_ops.proofs.Bytes.{refused_by_head, refused_malformed, bare_answers, bare_told, message_answers}
+use Rattle.ipp_ops.proofs.Faults.{request_tells, request_keeps, message_told, head_tells, on_false, on_true}
 use Rattle.ipp_ops.proofs.answering.answer.Goals as goal
 
 pub returns-in-Some-head_check-clause-answered : goal.returns-in-Some-head_check-clause-answered
@@ -54,3 +54,31 @@ returns-in-Err-Malformed-clause-answered g c = λ honest. on_false _ (is_fault (
       c.bare_answer-in-Err-Malformed.ensures,
   stands,
 ))
+
+pub returns-in-Some-head_check-clause-checked : goal.returns-in-Some-head_check-clause-checked
+returns-in-Some-head_check-clause-checked g c = λ code u on.
+    let given = refused_by_head c.in-Some-head_check.code c.in-Some.h c.args.body.now c.in-Some.ensures.fields c.in-Some-head_check.ensures in
+    bare_told c.in-Some-head_check.code c.in-Some.h c.args.body.now (bytes_of c.bare_answer.result) c.args.settings.now c.args.now (refused code u) c.in-Some.ensures.fields
+    (head_tells c.in-Some.h c.in-Some-head_check.code (bytes_of c.bare_answer.result) (sym c.in-Some-head_check.ensures) c.bare_answer.ensures)
+    c.bare_answer.ensures
+    (c.one_verdict.ensures c.args.body.now _ (refused code u) given on)
+
+pub returns-in-Ok-answer_message-clause-checked : goal.returns-in-Ok-answer_message-clause-checked
+returns-in-Ok-answer_message-clause-checked g c = λ code u on.
+    let m = message_of c.in-Ok.view in
+    let same : verdict m ≡ refused code u = c.one_verdict.ensures c.args.body.now (verdict m) (refused code u) (request m c.in-Ok.ensures.found) on in
+    message_told m code u c.args.body.now c.in-Ok-answer_message.bytes.items c.args.settings.now c.args.now c.in-Ok.ensures.head same (c.in-Ok-answer_message.ensures.checked code u same)
+
+pub returns-in-Ok-answer_message-clause-checked_kept : goal.returns-in-Ok-answer_message-clause-checked_kept
+returns-in-Ok-answer_message-clause-checked_kept g c = λ code u on.
+    let m = message_of c.in-Ok.view in
+    c.answer_message.ensures.checked_kept code u (c.one_verdict.ensures c.args.body.now (verdict m) (refused code u) (request m c.in-Ok.ensures.found) on)
+
+pub returns-in-Err-Malformed-clause-checked : goal.returns-in-Err-Malformed-clause-checked
+returns-in-Err-Malformed-clause-checked g c = λ code u on.
+    let out = bytes_of c.bare_answer-in-Err-Malformed.result in
+    let quiet : is_fault out ≡ false = ap is_fault c.bare_answer-in-Err-Malformed.ensures.bytes in
+    let given =
+    refused_malformed c.in-Some.h c.args.body.now c.in-Some.ensures.fields (sym c.in_default-head_check.is ∙ c.head_check.ensures) (rw c.in-Err-Malformed.field-0-is at c.in-Err-Malformed.ensures.fault).1 in
+    bare_told 0x0400 c.in-Some.h c.args.body.now out c.args.settings.now c.args.now (refused code u) c.in-Some.ensures.fields quiet c.bare_answer-in-Err-Malformed.ensures
+    (c.one_verdict.ensures c.args.body.now _ (refused code u) given on)
