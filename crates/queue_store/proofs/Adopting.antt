@@ -63,7 +63,7 @@ module _ (s : State) (image : Image) (opened : HasCleanDisk s → Opens s × IsL
   same_trees : (clean : HasCleanDisk s) → s.committed.trees ≡ s.now.trees
   same_trees clean = sym (ap (λ (d : Database). d.trees) (opened clean).0.clean)
 
-  holds_only : HasCleanDisk s → HoldsOnly image s.now.schema s.now.trees
+  pub holds_only : HasCleanDisk s → HoldsOnly image s.now.schema s.now.trees
   holds_only clean = record {
     found = subst (AreFoundIn image) (same_trees clean) (found clean).reads;
     tables = ((opened clean).1 (opened clean).0.is_open).0;

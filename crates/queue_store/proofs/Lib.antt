@@ -4,3 +4,6 @@ pub mod Empty
 pub mod Keeping
 pub mod Adopting
 pub mod Closing
+pub mod OneQueue
+pub mod Again
+pub mod OneSchema

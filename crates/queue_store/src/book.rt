@@ -1,5 +1,5 @@
 //! The book in tables.
-ghost use Rattle.std.specs.Prelude.{◌≡◌, IfErr, IfOk, IsTrue};
+ghost use Rattle.std.specs.Prelude.{◌≡◌, ◌↔◌, IfErr, IfOk, IsTrue, OnErr};
 ghost use Rattle.sqlite.specs.Held.{state};
 ghost use Rattle.sqlite.specs.State.{HasCleanDisk};
 ghost use Rattle.sqlite.specs.Steps.{over_memory};
@@ -8,6 +8,7 @@ ghost use Rattle.queue_core.specs.declared.book.BookFault.TheVariants.{Damaged};
 ghost use Rattle.queue_store.specs.Kept.{IsHonest, StandsFor, connection_of, shown_by};
 ghost use Rattle.queue_store.specs.New.{has_any, new_meta};
 ghost use Rattle.queue_tables.specs.Content.{Holds, content_of};
+ghost use Rattle.queue_tables.specs.Leaving.{LeavesTables};
 ghost use Rattle.queue_tables.specs.Tables.{no_schema};
 
 use crate::create::make_tables;
@@ -31,7 +32,7 @@ pub struct TableBook<S: Alter> {
 
 /// The store has no tables, indexes or views.
 fn is_blank<S: Alter>(conn: &Connection<S>) -> bool
-    ensures { IsTrue result → (state S.Store conn.now).now.schema ≡ no_schema }
+    ensures { IsTrue result ↔ ((state S.Store conn.now).now.schema ≡ no_schema) }
 {
     let schema = conn.schema();
     schema.tables.as_slice().is_empty()
@@ -80,7 +81,7 @@ fn make_new<S: Alter>(
     ensures blank { IfOk result (λ u. (state S.Store conn.old).now.schema ≡ no_schema) }
     ensures made { HasCleanDisk (state S.Store conn.new) → IfOk result (λ u. Holds (content_of (empty_queue settings.now)) (state S.Store conn.new)) }
     ensures settled { HasCleanDisk (state S.Store conn.new) → IfOk result (λ u. (state S.Store conn.new).now ≡ (state S.Store conn.new).committed) }
-    ensures refused { HasCleanDisk (state S.Store conn.new) → IfErr result (λ e. IsTrue (state S.Store conn.new).is_open → (state S.Store conn.new).now ≡ (state S.Store conn.old).now) }
+    ensures refused { OnErr result (LeavesTables (state S.Store conn.old) (state S.Store conn.new)) }
     ensures damaged { IfErr result (λ e. e ≡ Fault.Damaged → IsTrue (has_any (state S.Store conn.old).now.schema)) }
 {
     // its contract says that outside a transaction the tables are those of the last commit
@@ -106,11 +107,10 @@ impl<S: Alter> TableBook<S> {
     ) -> Result<TableBook<S>, (BookFault, Connection<S>)>
         ensures clean { IfOk result (λ b. IsHonest S.Store b → HasCleanDisk (state S.Store conn)) }
         ensures blank { IfOk result (λ b. (state S.Store conn).now.schema ≡ no_schema) }
-        ensures began { IfErr result (λ e. HasCleanDisk (state S.Store e.1) → HasCleanDisk (state S.Store conn)) }
         ensures stands { IfOk result (λ b. StandsFor S.Store b (empty_queue settings)) }
         ensures live { IfOk result (λ b. IsHonest S.Store b → IsTrue (shown_by S.Store b).is_open) }
         ensures damaged { IfErr result (λ e. e.0 ≡ Damaged → IsTrue (has_any (state S.Store conn).now.schema)) }
-        ensures handed { IfErr result (λ e. HasCleanDisk (state S.Store e.1) → IsTrue (state S.Store e.1).is_open → (state S.Store e.1).now ≡ (state S.Store conn).now) }
+        ensures handed { IfErr result (λ e. LeavesTables (state S.Store conn) (state S.Store e.1)) }
     {
         empty_is_sound();
         // its contract says that the settings are within their limits

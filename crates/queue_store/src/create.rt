@@ -6,6 +6,7 @@ ghost use Rattle.sqlite.specs.Held.{state};
 ghost use Rattle.queue_store.specs.Made.{IsMade, schema4, schema7, schema10};
 ghost use Rattle.queue_store.specs.New.{new_content};
 ghost use Rattle.queue_tables.specs.Content.{Content, Holds};
+ghost use Rattle.queue_tables.specs.Leaving.{LeavesTables};
 ghost use Rattle.queue_tables.specs.Steps.{with_meta_row};
 ghost use Rattle.queue_tables.specs.Tables.{no_schema};
 ghost use Rattle.queue_tables.specs.Values.{meta_values};
@@ -135,7 +136,7 @@ pub(crate) fn make_tables<S: Alter>(conn: &mut Connection<S>, meta: &MetaRow) ->
     ensures clean { HasCleanDisk (state S.Store conn.new) → HasCleanDisk (state S.Store conn.old) }
     ensures made { HasCleanDisk (state S.Store conn.new) → OnOk result ((state S.Store conn.old).now.schema ≡ no_schema → Holds (new_content meta.now) (state S.Store conn.new)) }
     ensures settled { HasCleanDisk (state S.Store conn.new) → OnOk result ((state S.Store conn.new).now ≡ (state S.Store conn.new).committed) }
-    ensures refused { HasCleanDisk (state S.Store conn.new) → OnErr result (IsTrue (state S.Store conn.new).is_open → (state S.Store conn.new).now ≡ (state S.Store conn.old).now) }
+    ensures refused { OnErr result (LeavesTables (state S.Store conn.old) (state S.Store conn.new)) }
     ensures never { IfErr result (λ e. e ≢ Damaged) }
 {
     if !conn.is_autocommit() {

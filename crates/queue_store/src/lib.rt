@@ -4,6 +4,7 @@
 mod adopt;
 mod book;
 mod create;
+pub mod laws;
 mod open;
 mod queue_book;
 

@@ -3,18 +3,19 @@ ghost use Rattle.std.specs.Prelude.{◌≡◌, codes, Err, IfOk, IsTrue};
 ghost use Rattle.sqlite.specs.Closing.{IsCopied};
 ghost use Rattle.sqlite.specs.Files.{IsOpened, file_state, over_files};
 ghost use Rattle.sqlite.specs.Start.{FindsIn};
-ghost use Rattle.sqlite.specs.State.{HasCleanDisk};
+ghost use Rattle.sqlite.specs.State.{HasCleanDisk, IsLive};
 ghost use Rattle.sqlite_wal.specs.Files.{image_at};
 ghost use Rattle.sqlite_wal.specs.Reads.{AreClean};
 ghost use Rattle.queue_core.specs.World.{World, empty_queue};
 ghost use Rattle.queue_load.specs.Store.{FitsIn};
-ghost use Rattle.queue_store.specs.Closed.{KeepAlone};
+ghost use Rattle.queue_store.specs.Closed.{IsKeptAlone, KeepAlone};
 ghost use Rattle.queue_store.specs.Kept.{IsHonest, StandsFor, StandsForOne, shown_by};
 ghost use Rattle.queue_store.specs.Opened.{FitsFile, HasNoTables, IsKeptIn, open_fault};
 ghost use Rattle.queue_tables.specs.Leaving.{LeavesTables};
 ghost use Rattle.queue_tables.specs.Tables.{no_schema};
 
 use crate::book::TableBook;
+use crate::laws::{tables_hold_one_queue, trees_list_one_schema};
 use queue_core::book::BookFault;
 use queue_types::settings::Settings;
 use sqlite::{Connection, Error, ErrorCode};
@@ -42,7 +43,10 @@ fn let_files_go<D: Disk + Drop>(_conn: Connection<FileStore<D>>) {}
 /// Copies the log of a connection's files into the database file, and gives both back.
 fn copy_log<D: Disk + Drop>(conn: Connection<FileStore<D>>) -> Result<Files<D>, BookFault>
     ensures copied { IfOk result (λ files. AreClean D.Disk files.log files.db → IsCopied conn files) }
+    ensures live { IsLive (file_state conn) }
 {
+    // its contract says that the tables are those of the schema
+    let _schema = conn.schema();
     match conn.close_files() {
         Ok(files) => Ok(files),
         Err((error, _store)) => Err(fault_of_open(error)),
@@ -137,7 +141,7 @@ impl<S: Start> TableBook<FileStore<FileFrom<S>>> {
 
     /// The book that the files at a path hold, where `start` stands for what they hold as they are opened. Disk is
     /// told also where they can't be opened or are in use, Damaged also where they are no database. A path without a
-    /// file gets an empty one, which is Damaged.
+    /// file gets an empty one, which is Damaged. A book that was closed is found as the queue that it was.
     pub fn open_from(
         rt: &HostRuntime,
         path: &str,
@@ -145,8 +149,12 @@ impl<S: Start> TableBook<FileStore<FileFrom<S>>> {
     ) -> Result<TableBook<FileStore<FileFrom<S>>>, BookFault>
         ensures stands { FitsFile (image_at S.Start) → IfOk result (λ b. StandsForOne over_files b) }
         ensures kept { FitsFile (image_at S.Start) → IfOk result (λ b. IsHonest over_files b → (w : World) × IsKeptIn (image_at S.Start) w × StandsFor over_files b w) }
+        ensures again { (w : World) → IsKeptAlone (image_at S.Start) w → IfOk result (λ b. StandsFor over_files b w) }
+        ensures live { (w : World) → IsKeptAlone (image_at S.Start) w → IfOk result (λ b. IsHonest over_files b → IsTrue (shown_by over_files b).is_open) }
         ensures memory { path.now ≡ codes ":memory:" → result ≡ Err BookFault.Disk }
     {
+        tables_hold_one_queue();
+        trees_list_one_schema();
         let conn = connect(rt, path, start)?;
         adopt_in_files(rt.alloc(), conn)
     }

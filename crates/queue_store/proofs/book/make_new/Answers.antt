@@ -9,6 +9,6 @@ use Rattle.queue_store.proofs.book.make_new.Goals as goal
 pub returns-clause-made : goal.returns-clause-made
 returns-clause-made g c clean =
     let blank : IsTrue c.is_blank.result = search rules in
-    let here = c.is_blank.ensures blank in
+    let here = c.is_blank.ensures.0 blank in
     let same : new_content c.in_ok-meta.meta ≡ _ = ap new_content c.in_ok-meta.ensures ∙ new_is c.args.settings.now in
     on_if c.make_tables.result _ _ (λ made. subst (λ (content : Content). Holds content (state g.S.Store c.make_tables.new.conn)) same (made here)) (c.make_tables.ensures.made clean)

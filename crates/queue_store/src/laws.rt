@@ -1,0 +1,28 @@
+//! What the tables of a book tell, as laws: each is a contract on a body that does nothing.
+ghost use Rattle.std.specs.Prelude.{◌≡◌};
+ghost use Rattle.sqlite.specs.Effect.{Database};
+ghost use Rattle.sqlite_catalog.specs.Listing.{IsSound};
+ghost use Rattle.sqlite_schema.specs.declared.schema.Schema.{Schema};
+ghost use Rattle.sqlite_trees.specs.Tree.{Trees};
+ghost use Rattle.queue_core.specs.World.{World};
+ghost use Rattle.queue_load.specs.Queues.{IsQueueIn};
+ghost use Rattle.queue_tables.specs.Tables.{book_schema};
+
+use queue_load::laws::{queues_are_loadable, tables_give_their_queue, tables_have_rows};
+use queue_rows::laws::{rows_tell_the_queue, sound_queues_have_sound_rows};
+
+/// Two sound queues that the same tables hold are one: nothing of a queue stands beside its tables.
+pub fn tables_hold_one_queue()
+    ensures { (v w : World) (d : Database) → IsQueueIn v d → IsQueueIn w d → v ≡ w }
+{
+    tables_have_rows();
+    queues_are_loadable();
+    tables_give_their_queue();
+    rows_tell_the_queue();
+    sound_queues_have_sound_rows();
+}
+
+/// Trees that list the tables and indexes of a book list no other schema.
+pub fn trees_list_one_schema()
+    ensures { (schema : Schema) (db : Trees) → IsSound book_schema db → IsSound schema db → schema ≡ book_schema }
+{}
