@@ -3,7 +3,7 @@ use Rattle.std.proofs.Common.{◌≡◌, ◌≢◌, ◌≤◌, ◌⊎◌, ℕ, R
 use Rattle.clap.specs.Kinds.{IsAmong, Kinds}
 use Rattle.clap.specs.declared.error.kind.ErrorKind.{ErrorKind}
 use Rattle.clap.specs.declared.error.kind.ErrorKind.TheVariants.{DisplayHelp, DisplayVersion}
-use Rattle.commands.specs.Words.{AreWrong}
+use Rattle.commands.specs.Words.{AreWrong, AskForText}
 
 -- what holds where a call was done
 pub where_ok : {A E X : Type 0} (r : Result A E) → IsOk r → OnOk r X → X
@@ -45,6 +45,13 @@ pub asks_nothing : (faults : Kinds) (kind : ErrorKind) → IsAmong kind faults �
 asks_nothing faults kind among wrong =
     let P : ErrorKind → Type 0 = λ k. IsAmong k faults in
     ((λ e. wrong.1 (subst P e among)), λ e. wrong.2 (subst P e among))
+
+-- one that asks for a text alone does
+pub asks_text : (faults : Kinds) (kind : ErrorKind) → IsAmong kind faults → AskForText faults → (kind ≡ DisplayHelp) ⊎ (kind ≡ DisplayVersion)
+asks_text faults kind among text = elim text [
+  | inl help ↦ elim (subst (IsAmong kind) help among) [ inl is ↦ inl is | inr never ↦ absurd never ]
+  | inr version ↦ elim (subst (IsAmong kind) version among) [ inl is ↦ inr is | inr never ↦ absurd never ]
+]
 
 -- the status of a command is its own, or 1
 pub at_most : {E : Type 0} (X : Type 0) (outcome : Result ℕ E) (status most : ℕ) → IfOk outcome (λ own. (status ≡ own) × X) → IfErr outcome (λ fault. status ≡ 1)

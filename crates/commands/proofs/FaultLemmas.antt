@@ -1,21 +1,53 @@
 -- What a fault of a command tells of the fault that it was made of.
-use Rattle.std.proofs.Common.{◌≡◌, ◌∙◌, ap, refl, sym, inl, inr}
+use Rattle.std.proofs.Common.{◌≡◌, ◌∙◌, ◌⊎◌, Result, Err, ap, refl, sym, inl, inr}
 use Rattle.std.specs.declared.io.Error.{Error as StreamError}
 use Rattle.grants_csv.specs.declared.fault.ImportFault.{ImportFault}
 use Rattle.queue_core.specs.declared.book.BookFault.{BookFault}
 use Rattle.queue_core.specs.declared.book.BookFault.TheVariants as book
 use Rattle.office.specs.declared.fault.OfficeFault.{OfficeFault}
 use Rattle.office.specs.declared.fault.OfficeFault.TheVariants as office
-use Rattle.office.specs.Faults.{IsOfStream as IsOfOfficeStream}
+use Rattle.office.specs.Faults.{IsOfFile, IsOfStream as IsOfOfficeStream}
 use Rattle.command_ends.specs.Faults.{IsOfStream, fault_of_book, fault_of_office}
 use Rattle.command_ends.specs.declared.fault.Fault.{Fault}
 use Rattle.command_ends.specs.declared.fault.Fault.TheVariants.{Damaged, NoAccount, Import}
+use Rattle.commands.specs.Store.{IsOfStore}
+use Rattle.commands.specs.Refusals.{IsOfImport, IsOfNoAccount, IsOfServe, IsOfStatement}
 use Rattle.print_server.specs.declared.fault.ServerFault.{ServerFault}
 use Rattle.print_server.specs.declared.fault.ServerFault.TheVariants as server
 
 -- a stream failed there, so it did here
 pub of_stream : (told : OfficeFault) (fault : Fault) → fault ≡ fault_of_office told → IsOfOfficeStream told → IsOfStream fault
 of_stream told fault is stream = elim stream [ inl e ↦ inl (is ∙ ap fault_of_office e) | inr e ↦ inr (is ∙ ap fault_of_office e) ]
+
+-- a stream failed there or the account file was refused, so it is here
+pub of_import : (told : OfficeFault) (fault : Fault) → fault ≡ fault_of_office told → IsOfOfficeStream told ⊎ IsOfFile told → IsOfImport fault
+of_import told fault is why = elim why [ inl stream ↦ inl (of_stream told fault is stream) | inr file ↦ inr (file.0, is ∙ ap fault_of_office file.1) ]
+
+of_unread : {A : Type 0} (told : OfficeFault) (fault : Fault) (why : ImportFault) → fault ≡ fault_of_office told
+    → (let r : Result A OfficeFault = Err told in r ≡ Err (office.Import why)) → (let r : Result A Fault = Err fault in r ≡ Err (Import why))
+of_unread told fault why is e = let same : told ≡ office.Import why = cc in ap Err (is ∙ ap fault_of_office same)
+
+-- it is one of these refusals there, so it is here
+pub of_either : {A : Type 0} (told : OfficeFault) (fault : Fault) (why other : ImportFault) → fault ≡ fault_of_office told
+    → (let r : Result A OfficeFault = Err told in (r ≡ Err (office.Import why)) ⊎ (r ≡ Err (office.Import other)))
+    → (let r : Result A Fault = Err fault in (r ≡ Err (Import why)) ⊎ (r ≡ Err (Import other)))
+of_either told fault why other is either = elim either [ inl e ↦ inl (of_unread told fault why is e) | inr e ↦ inr (of_unread told fault other is e) ]
+
+-- no account file was refused there
+pub of_statement : (told : OfficeFault) (fault : Fault) → fault ≡ fault_of_office told → (IsOfFile told → ⊥) → IsOfStatement fault
+of_statement office.Memory fault is other = inl (inl is)
+of_statement office.Disk fault is other = inl (inr (inl is))
+of_statement office.Damaged fault is other = inl (inr (inr is))
+of_statement office.NoAccount fault is other = inr (inl is)
+of_statement (office.Import why) fault is other = absurd (other (why, refl))
+of_statement office.Io fault is other = inr (inr is)
+
+pub of_unknown : (told : OfficeFault) (fault : Fault) → fault ≡ fault_of_office told
+    → (told ≡ office.NoAccount) ⊎ (told ≡ office.Memory) ⊎ (told ≡ office.Disk) → IsOfNoAccount fault
+of_unknown told fault is known = elim known [
+  | inl e ↦ inl (is ∙ ap fault_of_office e)
+  | inr other ↦ elim other [ inl e ↦ inr (inl (is ∙ ap fault_of_office e)) | inr e ↦ inr (inr (is ∙ ap fault_of_office e)) ]
+]
 
 pub of_file : (told : OfficeFault) (why : ImportFault) → fault_of_office told ≡ Import why → told ≡ office.Import why
 of_file office.Memory why e = cc
@@ -54,3 +86,16 @@ pub of_damaged_server : (stopped : ServerFault) (fault : Fault) → ((told : Boo
     → ((error : StreamError) → stopped ≡ server.Io error → IsOfStream fault) → fault ≡ Damaged → stopped ≡ server.Book book.Damaged
 of_damaged_server (server.Io error) fault by_book by_stream is = absurd (no_damage fault (by_stream error refl) is)
 of_damaged_server (server.Book told) fault by_book by_stream is = ap (λ t. server.Book t) (of_damaged_book told (sym (by_book told refl) ∙ is))
+
+pub of_book : (told : BookFault) (fault : Fault) → fault ≡ fault_of_book told → IsOfStore fault
+of_book book.Memory fault is = inl is
+of_book book.Disk fault is = inr (inl is)
+of_book book.Damaged fault is = inr (inr is)
+
+pub of_serve_stream : (fault : Fault) → IsOfStream fault → IsOfServe fault
+of_serve_stream fault stream = elim stream [ inl e ↦ inl (inl e) | inr e ↦ inr e ]
+
+pub of_server : (stopped : ServerFault) (fault : Fault) → ((told : BookFault) → stopped ≡ server.Book told → fault ≡ fault_of_book told)
+    → ((error : StreamError) → stopped ≡ server.Io error → IsOfStream fault) → IsOfServe fault
+of_server (server.Io error) fault by_book by_stream = of_serve_stream fault (by_stream error refl)
+of_server (server.Book told) fault by_book by_stream = inl (of_book told fault (by_book told refl))

@@ -14,6 +14,7 @@ use Rattle.queue_core.specs.Limits.{IsMoment}
 use Rattle.queue_core.specs.Shown.{sheet_of}
 use Rattle.queue_core.specs.World.{World}
 use Rattle.queue_types.specs.declared.sheet.AccountSheet.{AccountSheet}
+use Rattle.commands.specs.Refusals.{IsOfNoAccount}
 use Rattle.commands.specs.declared.work.Work.{Work}
 use Rattle.commands.specs.declared.work.Work.TheVariants.{Import, Statement, Serve}
 
@@ -38,7 +39,7 @@ IsDone (Serve words) w u before after = (counts : List ℕ) × AreConnections w 
 -- the queue stays as it is, and nothing is written but where a stream failed; no more than so many connections are served
 abbrev pub IsNotDone : Work → Fault → World → World → Option (List ℕ) → Option (List ℕ) → Type 0
 IsNotDone (Import words) fault w u before after = (IsOfStream fault ⊎ IsOfFile fault w) × ((u ≡ w) × (after ≡ before) ⊎ (IsOfStream fault × (n : Imported) × IsImport w u n))
-IsNotDone (Statement words) fault w u before after = (fault ≢ Damaged) × (fault ≡ NoAccount → sheet_of w words.account.now ≡ None) × (u ≡ w) × (IsOfStream fault ⊎ (after ≡ before))
+IsNotDone (Statement words) fault w u before after = (fault ≢ Damaged) × (fault ≡ NoAccount → sheet_of w words.account.now ≡ None) × (sheet_of w words.account.now ≡ None → IsOfNoAccount fault) × (u ≡ w) × (IsOfStream fault ⊎ (after ≡ before))
 IsNotDone (Serve words) fault w u before after = (fault ≢ Damaged) × (counts : List ℕ) × AreConnections w counts u × (length counts ≤ words.connections)
 
 -- once it is done the store is open; of a server no contract says so, as a fault may have shut its store and the look at it behind that

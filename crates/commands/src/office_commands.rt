@@ -1,9 +1,12 @@
 //! What the office asks of a store.
-ghost use Rattle.std.specs.Prelude.{◌≡◌, ◌⊎◌, ℕ, List, IfErr, IfOk, IsTrue, OnOk, None, Some};
+ghost use Rattle.std.specs.Prelude.{◌≡◌, ◌≢◌, ◌⊎◌, ℕ, List, Err, IfErr, IfOk, IsTrue, OnOk, None, Some};
 ghost use Rattle.std.specs.Io.KnownBytes.{Appends};
 ghost use Rattle.command_ends.specs.Faults.{IsOfStream};
 ghost use Rattle.command_ends.specs.declared.fault.Fault.TheVariants.{Damaged, NoAccount, Import as ByFile};
+ghost use Rattle.commands.specs.Refusals.{IsOfImport, IsOfNoAccount, IsOfStatement};
 ghost use Rattle.commands.specs.Work.{IsImport, IsOfFile};
+ghost use Rattle.grants_csv.specs.Fault.{fault};
+ghost use Rattle.grants_csv.specs.File.{rows_of};
 ghost use Rattle.grants_csv.specs.declared.fault.ImportFault.{ImportFault};
 ghost use Rattle.grants_csv.specs.declared.importing.Imported.{Imported as ImportedRows};
 ghost use Rattle.office.specs.Told.{AreReadOf, IsRefused, IsTaken, import_line};
@@ -15,7 +18,7 @@ ghost use Rattle.queue_types.specs.declared.sheet.AccountSheet.{AccountSheet as 
 ghost use Rattle.queue_store.specs.Kept.{IsHonest, StandsFor, shown_by};
 
 use command_ends::Fault;
-use office::{import_file, print_statement};
+use office::{import_bytes, print_statement, read_account_file};
 use print_server::present_moment;
 use queue_store::TableBook;
 use sqlite::Alter;
@@ -32,6 +35,37 @@ fn moment_of<C: Clock, S: Alter>(clock: &C, book: &TableBook<S>) -> Result<u32, 
     let settings = book.settings()?;
     let now = present_moment(clock, settings.epoch())?;
     Ok(now)
+}
+
+/// Takes the bytes of an account file into a book at this moment, whole or not at all, and prints `new N repeats M`. A file that is refused is told so; a
+/// stream is told of only where the rows were taken and the line could not be written.
+fn import_bytes_at<S: Alter, W: Write>(
+    alloc: Global,
+    bytes: &[u8],
+    output: &mut W,
+    book: &mut TableBook<S>,
+    now: u32,
+) -> Result<(), Fault>
+    requires moment { IsMoment now }
+    ensures began { IsHonest S.Store book.new → IsHonest S.Store book.old }
+    ensures taken { IsHonest S.Store book.new → OnOk result ((w : World) → StandsFor S.Store book.old w
+        → (n : ImportedRows) × (u : World) × IsTaken now w u bytes.now n × StandsFor S.Store book.new u
+        × Appends (W.contents output.old) (W.contents output.new) (import_line n)) }
+    // the file is refused, or its rows were taken and the output failed
+    ensures why { IsHonest S.Store book.new → IfErr result (λ f. (w : World) → StandsFor S.Store book.old w
+        → ((told : ImportFault) × (f ≡ ByFile told) × IsRefused now w bytes.now told × StandsFor S.Store book.new w × (output.new ≡ output.old))
+        ⊎ (IsOfStream f × (n : ImportedRows) × (u : World) × IsTaken now w u bytes.now n × StandsFor S.Store book.new u)) }
+    ensures live { IsHonest S.Store book.new → OnOk result (IsTrue (shown_by S.Store book.new).is_open) }
+    ensures still_live { IsHonest S.Store book.new → IsTrue (shown_by S.Store book.old).is_open
+        → IfErr result (λ f. f ≢ ByFile fault → IsTrue (shown_by S.Store book.new).is_open) }
+    // over any book, also one that is not honest
+    ensures unread { (told : ImportFault) → rows_of bytes.now ≡ Err told → (result ≡ Err (ByFile told)) ⊎ (result ≡ Err (ByFile fault)) }
+    ensures refused { IfErr result (λ f. (told : ImportFault) → f ≡ ByFile told → (w : World) → StandsFor S.Store book.old w → StandsFor S.Store book.new w) }
+    ensures told { IfErr result IsOfImport }
+    ensures quiet { IfErr result (λ f. (told : ImportFault) → f ≡ ByFile told → output.new ≡ output.old) }
+{
+    import_bytes(alloc, bytes, output, book, now)?;
+    Ok(())
 }
 
 /// Takes an account file into a book at this moment, whole or not at all, and prints `new N repeats M`. A file that is refused leaves the book as it
@@ -52,14 +86,17 @@ fn import_at<R: Read + Drop, S: Alter, W: Write>(
         ⊎ (IsOfStream f × (bytes : List ℕ) × AreReadOf (R.remaining file) bytes × (n : ImportedRows) × (u : World) × IsTaken now w u bytes n × StandsFor S.Store book.new u)) }
     ensures refused { IfErr result (λ f. (told : ImportFault) → f ≡ ByFile told → (w : World) → StandsFor S.Store book.old w → StandsFor S.Store book.new w) }
     ensures live { IsHonest S.Store book.new → OnOk result (IsTrue (shown_by S.Store book.new).is_open) }
+    ensures still_live { IsHonest S.Store book.new → IsTrue (shown_by S.Store book.old).is_open
+        → IfErr result (λ f. f ≢ ByFile fault → IsTrue (shown_by S.Store book.new).is_open) }
     // a stream failed, or nothing was written
     ensures quiet { IfErr result (λ f. IsOfStream f ⊎ (output.new ≡ output.old)) }
     // a stream failed, or the file is refused
     ensures why { IsHonest S.Store book.new → IfErr result (λ f. (w : World) → StandsFor S.Store book.old w
         → IsOfStream f ⊎ ((told : ImportFault) × (f ≡ ByFile told) × (bytes : List ℕ) × AreReadOf (R.remaining file) bytes × IsRefused now w bytes told)) }
+    ensures told { IfErr result IsOfImport }
 {
-    import_file(alloc, file, output, book, now)?;
-    Ok(())
+    let bytes = read_account_file(alloc, file)?;
+    import_bytes_at(alloc, bytes.as_slice(), output, book, now)
 }
 
 /// Takes the account file at a path into a book at the present moment, and prints `new N repeats M`, as [`import_at`] does.
@@ -81,6 +118,7 @@ pub(crate) fn import_into<S: Alter, W: Write>(
     ensures quiet { IfErr result (λ f. IsOfStream f ⊎ (output.new ≡ output.old)) }
     // a stream failed, or the file is refused
     ensures why { IsHonest S.Store book.new → IfErr result (λ f. (w : World) → StandsFor S.Store book.old w → IsOfStream f ⊎ IsOfFile f w) }
+    ensures told { IfErr result IsOfImport }
 {
     let now = moment_of(rt, book)?;
     let file = fs::open(rt, path)?;
@@ -98,9 +136,11 @@ pub(crate) fn print_from<S: Alter, W: Write>(
     ensures kept { (w : World) → StandsFor S.Store book.old w → StandsFor S.Store book.new w }
     ensures printed { IsHonest S.Store book.new → OnOk result ((w : World) → StandsFor S.Store book.old w
         → (s : Sheet) × (sheet_of w account.now ≡ Some s) × Appends (W.contents output.old) (W.contents output.new) (sheet_text s)) }
+    ensures known { IsHonest S.Store book.new → IfErr result (λ f. (w : World) → StandsFor S.Store book.old w → sheet_of w account.now ≡ None → IsOfNoAccount f) }
     ensures unknown { IsHonest S.Store book.new → IfErr result (λ f. f ≡ NoAccount → (w : World) → StandsFor S.Store book.old w → sheet_of w account.now ≡ None) }
     ensures damaged { IsHonest S.Store book.new → IfErr result (λ f. f ≡ Damaged → (w : World) → ¬ StandsFor S.Store book.old w) }
     ensures live { IsHonest S.Store book.new → OnOk result (IsTrue (shown_by S.Store book.new).is_open) }
+    ensures told { IfErr result IsOfStatement }
     // a stream failed, or nothing was written
     ensures quiet { IfErr result (λ f. IsOfStream f ⊎ (output.new ≡ output.old)) }
 {

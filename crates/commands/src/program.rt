@@ -2,7 +2,8 @@
 ghost use Rattle.std.specs.Prelude.{◌≡◌, ◌≤◌, [], IfErr, IfOk, IsErrOf, IsOk, map};
 ghost use Rattle.clap.specs.Words.{fault_of};
 ghost use Rattle.command_words.specs.CommandLine.{definition};
-ghost use Rattle.commands.specs.Words.{AreWrong};
+ghost use Rattle.commands.specs.Refusals.{MayBeToldBy};
+ghost use Rattle.commands.specs.Words.{AreWrong, AskForText};
 
 use crate::store::{FileBook, make_store};
 use crate::work::{Work, work_at};
@@ -27,6 +28,7 @@ fn close(done: Result<FileBook<Unknown>, Fault>) -> Result<(), Fault>
 fn do_command<O: Write>(rt: &HostRuntime, command: Command<'_>, out: &mut O) -> Result<u8, Fault>
     ensures status { IfOk result (λ status. status ≤ 1) }
     ensures replayed { IfOk result (λ status. status ≡ 1 → command.entry ≡ Command.Replay) }
+    ensures told { IfErr result (MayBeToldBy command.entry) }
 {
     match command {
         Command::Init(words) => close(make_store(rt, words, Unknown))?,
@@ -47,6 +49,7 @@ fn do_command<O: Write>(rt: &HostRuntime, command: Command<'_>, out: &mut O) -> 
 pub fn run<O: Write, E: Write>(rt: &HostRuntime, words: &[&str], out: &mut O, err: &mut E) -> u8
     ensures named { fault_of definition (map (λ w. w.now) words.now) ≡ [] → result ≤ 1 }
     ensures wrong { AreWrong (fault_of definition (map (λ w. w.now) words.now)) → 1 ≤ result }
+    ensures helped { AskForText (fault_of definition (map (λ w. w.now) words.now)) → result ≤ 1 }
     ensures status { result ≤ 2 }
     ensures silent { result ≡ 0 → err.new ≡ err.old }
     ensures unprinted { result ≡ 2 → out.new ≡ out.old }

@@ -1,9 +1,12 @@
 //! Connections over a store.
-ghost use Rattle.std.specs.Prelude.{◌≡◌, ◌≤◌, ◌++◌, ℕ, List, IfErr, OnErr, OnOk, length};
+ghost use Rattle.std.specs.IoError.{error_kind};
+ghost use Rattle.std.specs.Prelude.{◌≡◌, ◌↔◌, ◌≤◌, ◌++◌, ℕ, List, IfErr, OnErr, OnOk, length};
 ghost use Rattle.std.specs.Io.KnownBytes.{Appends};
 ghost use Rattle.std.specs.declared.io.Error.{Error as StreamError};
+ghost use Rattle.std.specs.declared.io.ErrorKind.TheVariants.{OutOfMemory};
 ghost use Rattle.command_ends.specs.Faults.{IsOfStream, fault_of_book};
-ghost use Rattle.command_ends.specs.declared.fault.Fault.TheVariants.{Damaged};
+ghost use Rattle.command_ends.specs.declared.fault.Fault.TheVariants.{Damaged, Memory as OfMemory};
+ghost use Rattle.commands.specs.Refusals.{IsOfServe};
 ghost use Rattle.print_server.specs.Connections.{AreConnections};
 ghost use Rattle.print_server.specs.Lines.{listening_line, served_lines};
 ghost use Rattle.print_server.specs.declared.fault.ServerFault.TheVariants.{Book as ByBook, Io as ByStream};
@@ -25,7 +28,7 @@ use std::rt::HostRuntime;
 /// A server that stopped.
 fn fault_of_server(stopped: ServerFault) -> Fault
     ensures book { (fault : BookFault) → stopped ≡ ByBook fault → result ≡ fault_of_book fault }
-    ensures stream { (error : StreamError) → stopped ≡ ByStream error → IsOfStream result }
+    ensures stream { (error : StreamError) → stopped ≡ ByStream error → IsOfStream result × ((result ≡ OfMemory) ↔ (error_kind error ≡ OutOfMemory)) }
 {
     match stopped {
         ServerFault::Io(error) => Fault::from(error),
@@ -67,6 +70,7 @@ fn serve_at<S: Alter, W: Write>(
     ensures err { IsHonest S.Store book.new → OnErr result ((w : World) → StandsFor S.Store book.old w → settings.now ≡ w.settings
         → (u : World) × StandsFor S.Store book.new u × (counts : List ℕ) × AreConnections w counts u × (length counts ≤ words.entry.connections)) }
     ensures damaged { IsHonest S.Store book.new → IfErr result (λ f. f ≡ Damaged → (w : World) → StandsFor S.Store book.old w → settings.now ≡ w.settings → ⊥) }
+    ensures told { IfErr result IsOfServe }
 {
     let service = service(rt.alloc(), words, listener, settings);
     match service.serve_connections(rt, output, book, words.connections) {
@@ -90,6 +94,7 @@ pub(crate) fn serve_book<S: Alter, W: Write>(
     ensures err { IsHonest S.Store book.new → OnErr result ((w : World) → StandsFor S.Store book.old w
         → (u : World) × StandsFor S.Store book.new u × (counts : List ℕ) × AreConnections w counts u × (length counts ≤ words.entry.connections)) }
     ensures damaged { IsHonest S.Store book.new → IfErr result (λ f. f ≡ Damaged → (w : World) → ¬ StandsFor S.Store book.old w) }
+    ensures told { IfErr result IsOfServe }
 {
     let settings = book.settings()?;
     let listener = listen(rt, output, words.port)?;

@@ -1,6 +1,6 @@
 //! The store at a path: a new one, or one that is there.
 ghost use Rattle.std.specs.IoError.{error_kind};
-ghost use Rattle.std.specs.Prelude.{◌≡◌, ◌≢◌, ◌↔◌, ℤ, Err, IfErr, IfOk, IsErrOf, IsOk, IsTrue, false};
+ghost use Rattle.std.specs.Prelude.{◌≡◌, ◌≢◌, ◌⊎◌, ◌↔◌, ℤ, Err, IfErr, IfOk, IsErrOf, IsOk, IsTrue, false};
 ghost use Rattle.std.specs.Option.{IfSome};
 ghost use Rattle.sqlite.specs.Files.{over_files};
 ghost use Rattle.sqlite_wal.specs.Files.{image_at};
@@ -9,6 +9,8 @@ ghost use Rattle.queue_core.specs.World.{World, empty_queue};
 ghost use Rattle.queue_store.specs.Kept.{IsHonest, StandsFor, shown_by};
 ghost use Rattle.queue_store.specs.Opened.{FitsFile, HasNoTables, IsKeptIn};
 ghost use Rattle.commands.specs.Store as spec;
+ghost use Rattle.command_ends.specs.Faults.{IsOfStream};
+ghost use Rattle.commands.specs.Refusals.{IsOfInit};
 ghost use Rattle.commands.specs.Store.{IsOfPath, IsOfStore, settings_of};
 ghost use Rattle.commands.specs.Found.{found_in};
 ghost use Rattle.std.specs.declared.io.ErrorKind.TheVariants.{OutOfMemory};
@@ -29,7 +31,7 @@ use std::rt::{Clock, HostRuntime};
 use std::{fs, io};
 
 /// A book in the tables of a file. `S` stands for what the file and its log hold as they are opened.
-pub type FileBook<S> = TableBook<FileStore<FileFrom<S>>>;
+pub(crate) type FileBook<S> = TableBook<FileStore<FileFrom<S>>>;
 
 /// The book that a command was done over. It is let go where the command was not done.
 pub(crate) fn left<D: Disk + Drop>(
@@ -56,7 +58,7 @@ const DATABASE_MARK: &[u8] = b"SQLite format 3\0";
 
 /// What a path has, as far as the first bytes tell.
 #[derive(Debug, Clone, Copy, PartialEq, Eq)]
-pub enum Found {
+enum Found {
     Nothing,
     EmptyFile,
     /// A database whose making was cut short: its first byte is written last, and is 0 until then.
@@ -123,6 +125,8 @@ fn present_second<C: Clock>(clock: &C) -> io::Result<i64> {
 fn new_settings<C: Clock>(alloc: Global, clock: &C, words: Init<'_>) -> Result<Settings, Fault>
     ensures ok { IfOk result (λ s. (epoch : ℤ) × (s ≡ settings_of words.entry epoch)) }
     ensures bad { IfErr result (λ f. f ≡ BadSetting → (epoch : ℤ) → ¬ AreSettings (settings_of words.entry epoch)) }
+    ensures fits { IfOk result (λ s. (epoch : ℤ) → AreSettings (settings_of words.entry epoch)) }
+    ensures told { IfErr result (λ f. IsOfStream f ⊎ (f ≡ BadSetting)) }
 {
     let epoch = present_second(clock)?;
     let settings = Settings::new(alloc, words.uri, words.name, words.estimate, epoch)?;
@@ -167,7 +171,7 @@ fn ready_path(rt: &HostRuntime, path: &str) -> Result<(), Fault>
 /// Makes a store with these settings, whose epoch is the present second, in files that hold no tables: it stands for the empty queue. A setting that is not within its limits
 /// makes no file. Damaged is told where a store is there, or a file that is no database; Disk where another program's database is, or the path is no
 /// file's name to SQLite. One whose making was cut short is made anew.
-pub fn make_store<S: Start>(
+pub(crate) fn make_store<S: Start>(
     rt: &HostRuntime,
     words: Init<'_>,
     start: S,
@@ -177,6 +181,9 @@ pub fn make_store<S: Start>(
     ensures made { IfOk result (λ b. (epoch : ℤ) × StandsFor over_files b (empty_queue (settings_of words.entry epoch))) }
     ensures live { IfOk result (λ b. IsHonest over_files b → IsTrue (shown_by over_files b).is_open) }
     ensures bad { IfErr result (λ f. f ≡ BadSetting → (epoch : ℤ) → ¬ AreSettings (settings_of words.entry epoch)) }
+    ensures fits { IfOk result (λ b. (epoch : ℤ) → AreSettings (settings_of words.entry epoch)) }
+    ensures limits { IfErr result (λ f. (epoch : ℤ) → ¬ AreSettings (settings_of words.entry epoch) → (f ≡ BadSetting) ⊎ IsOfStream f) }
+    ensures told { IfErr result IsOfInit }
 {
     let settings = new_settings(rt.alloc(), rt, words)?;
     ready_path(rt, words.store)?;
@@ -188,7 +195,11 @@ pub fn make_store<S: Start>(
 
 /// Opens the store that is at a path, and makes none where there is none. Where its tables are those of a store, it stands for the queue that the
 /// files keep. Disk is told where there is no file, or it can't be opened or is in use; Damaged where it is no database, or keeps no queue.
-pub fn open_store<S: Start>(rt: &HostRuntime, path: &str, start: S) -> Result<FileBook<S>, Fault>
+pub(crate) fn open_store<S: Start>(
+    rt: &HostRuntime,
+    path: &str,
+    start: S,
+) -> Result<FileBook<S>, Fault>
     ensures kept { FitsFile (image_at S.Start) → IfOk result (λ b. IsHonest over_files b
         → (w : World) × IsKeptIn (image_at S.Start) w × StandsFor over_files b w) }
     ensures live { FitsFile (image_at S.Start) → IfOk result (λ b. IsHonest over_files b → IsTrue (shown_by over_files b).is_open) }

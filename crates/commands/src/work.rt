@@ -6,6 +6,8 @@ ghost use Rattle.queue_core.specs.World.{World};
 ghost use Rattle.queue_store.specs.Kept.{IsHonest, StandsFor, shown_by};
 ghost use Rattle.queue_store.specs.Opened.{FitsFile, IsKeptIn};
 ghost use Rattle.command_ends.specs.Faults.{IsOfStream};
+ghost use Rattle.commands.specs.Store.{IsOfStore};
+ghost use Rattle.commands.specs.Refusals.{MayBeToldOf};
 ghost use Rattle.commands.specs.Work.{IsDone, IsNotDone, LeavesOpen, PrintsLast, store_of};
 
 use crate::office_commands::{import_into, print_from};
@@ -57,6 +59,7 @@ fn work_on<S: Alter, W: Write>(
         → (u : World) × StandsFor S.Store book.new u × IsDone work.entry w u (W.contents output.old) (W.contents output.new)) }
     ensures live { IsHonest S.Store book.new → OnOk result (LeavesOpen work.entry → IsTrue (shown_by S.Store book.new).is_open) }
     ensures quiet { IfErr result (λ f. PrintsLast work.entry → IsOfStream f ⊎ (W.contents output.new ≡ W.contents output.old)) }
+    ensures told { IfErr result (MayBeToldOf work.entry) }
     ensures refused { IsHonest S.Store book.new → IfErr result (λ fault. (w : World) → StandsFor S.Store book.old w
         → (u : World) × StandsFor S.Store book.new u × IsNotDone work.entry fault w u (W.contents output.old) (W.contents output.new)) }
 {
@@ -79,6 +82,7 @@ fn work_in<D: Disk + Drop, W: Write>(
         → (u : World) × StandsFor over_files book.new u × IsDone work.entry w u (W.contents output.old) (W.contents output.new)) }
     ensures live { IsHonest over_files book.new → OnOk result (LeavesOpen work.entry → IsTrue (shown_by over_files book.new).is_open) }
     ensures quiet { IfErr result (λ f. PrintsLast work.entry → IsOfStream f ⊎ (W.contents output.new ≡ W.contents output.old)) }
+    ensures told { IfErr result (MayBeToldOf work.entry) }
     ensures refused { IsHonest over_files book.new → IfErr result (λ fault. (w : World) → StandsFor over_files book.old w
         → (u : World) × StandsFor over_files book.new u × IsNotDone work.entry fault w u (W.contents output.old) (W.contents output.new)) }
 {
@@ -96,6 +100,7 @@ fn work_over<D: Disk + Drop, W: Write>(
         → (u : World) × StandsFor over_files b u × IsDone work.entry w u (W.contents output.old) (W.contents output.new))) }
     ensures live { IfOk result (λ b. IsHonest over_files b → LeavesOpen work.entry → IsTrue (shown_by over_files b).is_open) }
     ensures quiet { IfErr result (λ f. PrintsLast work.entry → IsOfStream f ⊎ (W.contents output.new ≡ W.contents output.old)) }
+    ensures told { IfErr result (MayBeToldOf work.entry) }
 {
     let done = work_in(rt, work, output, &mut book);
     left(book, done)
@@ -113,6 +118,7 @@ pub(crate) fn work_at<S: Start, W: Write>(
         × IsDone work.entry w u (W.contents output.old) (W.contents output.new)) }
     ensures live { IfOk result (λ b. IsHonest over_files b → LeavesOpen work.entry → IsTrue (shown_by over_files b).is_open) }
     ensures quiet { IfErr result (λ f. PrintsLast work.entry → IsOfStream f ⊎ (W.contents output.new ≡ W.contents output.old)) }
+    ensures told { IfErr result (λ f. IsOfStore f ⊎ MayBeToldOf work.entry f) }
 {
     let book = open_store(rt, work.store(), start)?;
     work_over(rt, work, output, book)

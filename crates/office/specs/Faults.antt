@@ -1,9 +1,10 @@
 -- Why a book can't do what the office asks.
 use Rattle.std.specs.Prelude.{◌≡◌, ◌⊎◌}
+use Rattle.grants_csv.specs.declared.fault.ImportFault.{ImportFault}
 use Rattle.queue_core.specs.declared.book.BookFault.{BookFault}
 use Rattle.queue_core.specs.declared.book.BookFault.TheVariants as book
 use Rattle.office.specs.declared.fault.OfficeFault.{OfficeFault}
-use Rattle.office.specs.declared.fault.OfficeFault.TheVariants.{Memory, Disk, Damaged, Io}
+use Rattle.office.specs.declared.fault.OfficeFault.TheVariants.{Memory, Disk, Damaged, Import, Io}
 
 abbrev pub fault_of_book : BookFault → OfficeFault
 fault_of_book book.Memory = Memory
@@ -13,3 +14,7 @@ fault_of_book book.Damaged = Damaged
 -- a file or a stream failed
 abbrev pub IsOfStream : OfficeFault → Type 0
 IsOfStream f = (f ≡ Memory) ⊎ (f ≡ Io)
+
+-- an account file was refused
+abbrev pub IsOfFile : OfficeFault → Type 0
+IsOfFile f = (told : ImportFault) × (f ≡ Import told)

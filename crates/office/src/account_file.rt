@@ -1,12 +1,13 @@
 //! An account file enters a book.
-ghost use Rattle.std.specs.Prelude.{◌≡◌, ◌≢◌, ◌⊎◌, ℕ, List, IfErr, IfOk, OnOk, take};
+ghost use Rattle.std.specs.Prelude.{◌≡◌, ◌≢◌, ◌⊎◌, ℕ, List, Err, IfErr, IfOk, OnOk, take};
 ghost use Rattle.office.specs.declared.fault.OfficeFault.TheVariants.{Import};
 ghost use Rattle.std.specs.Io.KnownBytes.{Appends};
 ghost use Rattle.std.specs.Option.{IfSome};
 ghost use Rattle.grants_csv.specs.Fault.{fault};
+ghost use Rattle.grants_csv.specs.File.{rows_of};
 ghost use Rattle.grants_csv.specs.declared.fault.ImportFault.{ImportFault};
 ghost use Rattle.grants_csv.specs.declared.importing.Imported.{Imported as ImportedRows};
-ghost use Rattle.office.specs.Faults.{IsOfStream};
+ghost use Rattle.office.specs.Faults.{IsOfFile, IsOfStream};
 ghost use Rattle.office.specs.Told.{AreReadOf, IsRefused, IsTaken, import_line};
 ghost use Rattle.queue_core.specs.Limits.{IsMoment};
 ghost use Rattle.queue_core.specs.World.{World};
@@ -30,6 +31,14 @@ fn read_file<R: Read + Drop>(alloc: Global, reader: R, most: u64) -> Result<Vec<
     Ok(bytes)
 }
 
+/// The bytes of an account file, of which no more than 16,777,217 are read.
+pub fn read_account_file<R: Read + Drop>(alloc: Global, reader: R) -> Result<Vec<u8>, OfficeFault>
+    ensures bytes { IfOk result (λ bytes. AreReadOf (R.remaining reader) bytes.items) }
+    ensures failed { IfErr result IsOfStream }
+{
+    read_file(alloc, reader, MOST_READ)
+}
+
 /// Writes `new N repeats M`.
 fn tell<W: Write>(writer: &mut W, imported: Imported) -> Result<(), OfficeFault>
     ensures told { OnOk result (Appends (W.contents writer.old) (W.contents writer.new) (import_line imported)) }
@@ -40,13 +49,14 @@ fn tell<W: Write>(writer: &mut W, imported: Imported) -> Result<(), OfficeFault>
     Ok(())
 }
 
-/// Takes the rows of an account file at this moment as one event, all of them or none, and writes `new N repeats M`: how many of them are
-/// new, and how many equal one accepted before. Of a file no more than 16,777,217 bytes are read.
+/// Takes the rows of an account file's bytes at this moment as one event, all of them or none, and writes `new N repeats M`: how many of them are new, and
+/// how many equal one accepted before.
 ///
-/// A file that is refused leaves the book as it was, and nothing is written. Where only the writer fails, the file was taken.
-pub fn import_file<R: Read + Drop, W: Write, B: QueueBook>(
+/// A file that is refused is told so, and leaves the book as it was, and nothing is written. A stream is told of only where the file was taken and the
+/// line could not be written.
+pub fn import_bytes<W: Write, B: QueueBook>(
     alloc: Global,
-    reader: R,
+    bytes: &[u8],
     writer: &mut W,
     book: &mut B,
     now: u32,
@@ -54,20 +64,20 @@ pub fn import_file<R: Read + Drop, W: Write, B: QueueBook>(
     requires { IsMoment now }
     ensures began { B.is_honest book.new → B.is_honest book.old }
     ensures taken { B.is_honest book.new → OnOk result ((w : World) → B.stands book.old w
-        → (bytes : List ℕ) × AreReadOf (R.remaining reader) bytes × (n : ImportedRows) × (u : World) × IsTaken now w u bytes n × B.stands book.new u
+        → (n : ImportedRows) × (u : World) × IsTaken now w u bytes.now n × B.stands book.new u
         × Appends (W.contents writer.old) (W.contents writer.new) (import_line n)) }
-    ensures left { B.is_honest book.new → IfErr result (λ f. (w : World) → B.stands book.old w → B.stands book.new w × (writer.new ≡ writer.old)
-        ⊎ (IsOfStream f × (bytes : List ℕ) × AreReadOf (R.remaining reader) bytes × (n : ImportedRows) × (u : World) × IsTaken now w u bytes n × B.stands book.new u)) }
-    ensures refused { IfErr result (λ f. (told : ImportFault) → f ≡ Import told → (w : World) → B.stands book.old w → B.stands book.new w) }
+    // the file is refused, or its rows were taken and the writer failed
+    ensures why { B.is_honest book.new → IfErr result (λ f. (w : World) → B.stands book.old w
+        → ((told : ImportFault) × (f ≡ Import told) × IsRefused now w bytes.now told × B.stands book.new w × (writer.new ≡ writer.old))
+        ⊎ (IsOfStream f × (n : ImportedRows) × (u : World) × IsTaken now w u bytes.now n × B.stands book.new u)) }
     ensures live { B.is_honest book.new → OnOk result (B.is_live book.new) }
     ensures still_live { B.is_honest book.new → B.is_live book.old → IfErr result (λ f. f ≢ Import fault → B.is_live book.new) }
-    // a stream failed, or nothing was written
-    ensures quiet { IfErr result (λ f. IsOfStream f ⊎ (writer.new ≡ writer.old)) }
-    // a stream failed, or the file is refused
-    ensures why { B.is_honest book.new → IfErr result (λ f. (w : World) → B.stands book.old w
-        → IsOfStream f ⊎ ((told : ImportFault) × (f ≡ Import told) × (bytes : List ℕ) × AreReadOf (R.remaining reader) bytes × IsRefused now w bytes told)) }
+    // over any book, also one that is not honest
+    ensures unread { (told : ImportFault) → rows_of bytes.now ≡ Err told → (result ≡ Err (Import told)) ⊎ (result ≡ Err (Import fault)) }
+    ensures refused { IfErr result (λ f. (told : ImportFault) → f ≡ Import told → (w : World) → B.stands book.old w → B.stands book.new w) }
+    ensures told { IfErr result (λ f. IsOfStream f ⊎ IsOfFile f) }
+    ensures quiet { IfErr result (λ f. IsOfFile f → writer.new ≡ writer.old) }
 {
-    let bytes = read_file(alloc, reader, MOST_READ)?;
-    let imported = import(alloc, book, now, bytes.as_slice())?;
+    let imported = import(alloc, book, now, bytes)?;
     tell(writer, imported)
 }

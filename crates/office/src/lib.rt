@@ -5,6 +5,6 @@ mod account_file;
 mod fault;
 mod printing;
 
-pub use account_file::import_file;
+pub use account_file::{import_bytes, read_account_file};
 pub use fault::OfficeFault;
 pub use printing::print_statement;

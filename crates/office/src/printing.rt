@@ -2,7 +2,7 @@
 ghost use Rattle.std.specs.Prelude.{◌≡◌, ◌⊎◌, OnOk, IfErr, None, Some};
 ghost use Rattle.std.specs.Io.KnownBytes.{Appends};
 ghost use Rattle.office.specs.declared.fault.OfficeFault.TheVariants.{Damaged, Disk, Memory, NoAccount};
-ghost use Rattle.office.specs.Faults.{IsOfStream};
+ghost use Rattle.office.specs.Faults.{IsOfFile, IsOfStream};
 ghost use Rattle.page_statements.specs.Statement.{sheet_text};
 ghost use Rattle.queue_core.specs.Shown.{sheet_of};
 ghost use Rattle.queue_core.specs.World.{World};
@@ -47,6 +47,8 @@ pub fn print_statement<W: Write, B: QueueBook>(
     ensures damaged { B.is_honest book.new → IfErr result (λ f. f ≡ Damaged → (w : World) → ¬ B.stands book.old w) }
     ensures live { B.is_honest book.new → OnOk result (B.is_live book.new) }
     ensures still_live { B.is_honest book.new → IfErr result (λ f. f ≡ NoAccount → B.is_live book.new) }
+    // over any book, also one that is not honest
+    ensures told { IfErr result (λ f. ¬ IsOfFile f) }
     // a stream failed, or nothing was written
     ensures quiet { IfErr result (λ f. IsOfStream f ⊎ (writer.new ≡ writer.old)) }
 {

@@ -1,31 +1,60 @@
-use Rattle.std.proofs.Common.{◌∙◌, ap, sym, inl, inr}
+use Rattle.std.proofs.Common.{ℕ, List, subst, inl, inr}
 use Rattle.std.proofs.lemmas.Result.{err_from_is_err_and}
-use Rattle.command_ends.specs.Faults.{fault_of_office}
-use Rattle.commands.proofs.FaultLemmas.{of_file, of_stream}
+use Rattle.office.specs.Told.{IsRefused, IsTaken}
+use Rattle.commands.proofs.EndingLemmas.{both, if_err, on_ok}
+use Rattle.commands.proofs.FaultLemmas.{of_stream}
 use Rattle.commands.proofs.office_commands.import_at.Goals as goal
 
-pub returns-in_err-import_file-clause-left : goal.returns-in_err-import_file-clause-left
-returns-in_err-import_file-clause-left g c = λ honest.
-    let p = err_from_is_err_and c.from_residual.result c.from_residual.ensures.1 in
-    rw p.1 (λ w stands. elim (c.in_err-import_file.ensures.left honest w stands) [
-      | inl same ↦ inl same
-      | inr told ↦ inr (of_stream _ _ p.2 told.0, told.1, told.2, told.3, told.4, told.5, told.6)
-    ])
+pub returns-clause-taken : goal.returns-clause-taken
+returns-clause-taken g c = λ honest. on_ok c.import_bytes_at.result (c.import_bytes_at.ensures.taken honest) (λ told w stands.
+    let it = told w stands in (
+      c.in_ok-bytes.bytes.items,
+      c.in_ok-bytes.ensures.bytes,
+      it.0,
+      it.1,
+      subst (λ (bytes : List ℕ). IsTaken c.args.now w it.1 bytes it.0) c.as_slice.ensures.value it.2,
+      it.3,
+      it.4,
+    ))
 
-pub returns-in_err-import_file-clause-refused : goal.returns-in_err-import_file-clause-refused
-returns-in_err-import_file-clause-refused g c =
-    let p = err_from_is_err_and c.from_residual.result c.from_residual.ensures.1 in
-    rw p.1 (λ told is. c.in_err-import_file.ensures.refused told (of_file _ told (sym p.2 ∙ is)))
+pub returns-clause-left : goal.returns-clause-left
+returns-clause-left g c = λ honest. if_err c.import_bytes_at.result _ _ (c.import_bytes_at.ensures.why honest) (λ fault told w stands. elim (told w stands) [
+  | inl file ↦ inl (file.3, file.4)
+  | inr it ↦ inr (
+    it.0,
+    c.in_ok-bytes.bytes.items,
+    c.in_ok-bytes.ensures.bytes,
+    it.1,
+    it.2,
+    subst (λ (bytes : List ℕ). IsTaken c.args.now w it.2 bytes it.1) c.as_slice.ensures.value it.3,
+    it.4,
+  )
+])
 
-pub returns-in_err-import_file-clause-quiet : goal.returns-in_err-import_file-clause-quiet
-returns-in_err-import_file-clause-quiet g c =
-    let p = err_from_is_err_and c.from_residual.result c.from_residual.ensures.1 in
-    rw p.1 (elim c.in_err-import_file.ensures.quiet [ inl stream ↦ inl (of_stream _ _ p.2 stream) | inr same ↦ inr same ])
+pub returns-clause-why : goal.returns-clause-why
+returns-clause-why g c = λ honest. if_err c.import_bytes_at.result _ _ (c.import_bytes_at.ensures.why honest) (λ fault told w stands. elim (told w stands) [
+  | inl file ↦ inr (
+    file.0,
+    file.1,
+    c.in_ok-bytes.bytes.items,
+    c.in_ok-bytes.ensures.bytes,
+    subst (λ (bytes : List ℕ). IsRefused c.args.now w bytes file.0) c.as_slice.ensures.value file.2,
+  )
+  | inr it ↦ inl it.0
+])
 
-pub returns-in_err-import_file-clause-why : goal.returns-in_err-import_file-clause-why
-returns-in_err-import_file-clause-why g c = λ honest.
+pub returns-clause-quiet : goal.returns-clause-quiet
+returns-clause-quiet g c = if_err c.import_bytes_at.result _ _ (both c.import_bytes_at.result _ _ c.import_bytes_at.ensures.told c.import_bytes_at.ensures.quiet) (λ fault it. elim it.0 [
+  | inl stream ↦ inl stream
+  | inr file ↦ inr (it.1 file.0 file.1)
+])
+
+pub returns-in_err-bytes-clause-why : goal.returns-in_err-bytes-clause-why
+returns-in_err-bytes-clause-why g c = λ honest.
     let p = err_from_is_err_and c.from_residual.result c.from_residual.ensures.1 in
-    rw p.1 (λ w stands. elim (c.in_err-import_file.ensures.why honest w stands) [
-      | inl stream ↦ inl (of_stream _ _ p.2 stream)
-      | inr told ↦ inr (told.0, p.2 ∙ ap fault_of_office told.1, told.2, told.3, told.4)
-    ])
+    rw p.1 (λ w stands. inl (of_stream _ _ p.2 c.in_err-bytes.ensures.failed))
+
+pub returns-in_err-bytes-clause-told : goal.returns-in_err-bytes-clause-told
+returns-in_err-bytes-clause-told g c =
+    let p = err_from_is_err_and c.from_residual.result c.from_residual.ensures.1 in
+    rw p.1 (inl (of_stream _ _ p.2 c.in_err-bytes.ensures.failed))

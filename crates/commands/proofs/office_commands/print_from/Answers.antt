@@ -1,6 +1,6 @@
 use Rattle.std.proofs.Common.{◌∙◌, sym, inl, inr}
 use Rattle.std.proofs.lemmas.Result.{err_from_is_err_and}
-use Rattle.commands.proofs.FaultLemmas.{of_damaged_office, of_no_account, of_stream}
+use Rattle.commands.proofs.FaultLemmas.{of_damaged_office, of_no_account, of_statement, of_stream, of_unknown}
 use Rattle.commands.proofs.office_commands.print_from.Goals as goal
 
 pub returns-in_err-print_statement-clause-unknown : goal.returns-in_err-print_statement-clause-unknown
@@ -17,3 +17,13 @@ pub returns-in_err-print_statement-clause-quiet : goal.returns-in_err-print_stat
 returns-in_err-print_statement-clause-quiet g c =
     let p = err_from_is_err_and c.from_residual.result c.from_residual.ensures.1 in
     rw p.1 (elim c.in_err-print_statement.ensures.quiet [ inl stream ↦ inl (of_stream _ _ p.2 stream) | inr same ↦ inr same ])
+
+pub returns-in_err-print_statement-clause-known : goal.returns-in_err-print_statement-clause-known
+returns-in_err-print_statement-clause-known g c = λ honest.
+    let p = err_from_is_err_and c.from_residual.result c.from_residual.ensures.1 in
+    rw p.1 (λ w stands none. of_unknown _ _ p.2 (c.in_err-print_statement.ensures.known honest w stands none))
+
+pub returns-in_err-print_statement-clause-told : goal.returns-in_err-print_statement-clause-told
+returns-in_err-print_statement-clause-told g c =
+    let p = err_from_is_err_and c.from_residual.result c.from_residual.ensures.1 in
+    rw p.1 (of_statement _ _ p.2 c.in_err-print_statement.ensures.told)

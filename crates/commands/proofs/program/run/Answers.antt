@@ -1,5 +1,5 @@
-use Rattle.std.proofs.Common.{◌≤◌, ◌∙◌, lit≤, arith}
-use Rattle.commands.proofs.EndingLemmas.{asks_nothing, at_least_one, at_most, at_status, but_one}
+use Rattle.std.proofs.Common.{◌≡◌, ◌≤◌, ◌∙◌, ℕ, lit≤, arith}
+use Rattle.commands.proofs.EndingLemmas.{asks_nothing, asks_text, at_least_one, at_most, at_status, but_one, if_ok}
 use Rattle.commands.proofs.program.run.Goals as goal
 
 pub returns-in-Ok-clause-named : goal.returns-in-Ok-clause-named
@@ -43,3 +43,13 @@ pub returns-in-Err-Words-clause-unprinted : goal.returns-in-Err-Words-clause-unp
 returns-in-Err-Words-clause-unprinted g c = λ two.
     let done = but_one _ c.tell_words-told.result c.end-in-Err-Words.result c.end-in-Err-Words.ensures.done c.end-in-Err-Words.ensures.refused (λ one. absurd (omega arith)) in
     (at_status _ _ c.tell_words-told.result c.end-in-Err-Words.result c.end-in-Err-Words.ensures.done done.0 c.tell_words-told.ensures.apart).0 two
+
+pub returns-in-Ok-clause-helped : goal.returns-in-Ok-clause-helped
+returns-in-Ok-clause-helped g c = λ text. at_most _ c.do_command-done.result c.end.result 1 c.end.ensures.done c.end.ensures.refused c.do_command-done.ensures.status (lit≤ tt)
+
+pub returns-in-Err-Words-clause-helped : goal.returns-in-Err-Words-clause-helped
+returns-in-Err-Words-clause-helped g c = λ text.
+    let among = rw c.in-Err-Words.field-0-is at c.in-Err-Words.ensures.refused in
+    let asks = asks_text _ _ among text in
+    let none = if_ok c.tell_words-told.result _ (λ (own : ℕ). own ≤ 1) c.tell_words-told.ensures.asked (λ own zero. let is : own ≡ 0 = zero asks in omega arith) in
+    at_most _ c.tell_words-told.result c.end-in-Err-Words.result 1 c.end-in-Err-Words.ensures.done c.end-in-Err-Words.ensures.refused none (lit≤ tt)

@@ -1,9 +1,13 @@
-use Rattle.commands.proofs.FaultLemmas.{of_damaged_server}
+use Rattle.commands.proofs.FaultLemmas.{of_damaged_server, of_server}
 use Rattle.commands.proofs.serving.serve_at.Goals as goal
 
 pub returns-in-Err-clause-damaged : goal.returns-in-Err-clause-damaged
 returns-in-Err-clause-damaged g c = λ honest is.
-    rw c.service-service.ensures.settings at (c.in-Err.ensures.damaged honest (of_damaged_server _ _ c.fault_of_server.ensures.book c.fault_of_server.ensures.stream is))
+    let never = of_damaged_server _ _ c.fault_of_server.ensures.book (λ error at. (c.fault_of_server.ensures.stream error at).0) is in
+    rw c.service-service.ensures.settings at (c.in-Err.ensures.damaged honest never)
+
+pub returns-in-Err-clause-told : goal.returns-in-Err-clause-told
+returns-in-Err-clause-told g c = of_server _ _ c.fault_of_server.ensures.book (λ error at. (c.fault_of_server.ensures.stream error at).0)
 
 pub returns-in-Ok-clause-served : goal.returns-in-Ok-clause-served
 returns-in-Ok-clause-served g c = λ honest. rw c.service-service.ensures.settings at (c.in-Ok.ensures.ok honest)

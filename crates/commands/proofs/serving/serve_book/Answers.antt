@@ -3,7 +3,7 @@ use Rattle.std.proofs.KnownBytes.{Appends-trans}
 use Rattle.std.proofs.lemmas.Result.{err_from_is_err_and}
 use Rattle.print_server.specs.Lines.{listening_line, served_lines}
 use Rattle.commands.proofs.EndingLemmas.{if_err, on_ok}
-use Rattle.commands.proofs.FaultLemmas.{no_damage}
+use Rattle.commands.proofs.FaultLemmas.{no_damage, of_serve_stream}
 use Rattle.commands.proofs.serving.serve_book.Goals as goal
 
 pub returns-clause-served : goal.returns-clause-served
@@ -41,3 +41,8 @@ pub returns-in_err-listener-clause-damaged : goal.returns-in_err-listener-clause
 returns-in_err-listener-clause-damaged g c = λ honest.
     let p = err_from_is_err_and c.from_residual-in_err-listener.result c.from_residual-in_err-listener.ensures.1 in
     rw p.1 (λ is. absurd (no_damage _ p.2.0 is))
+
+pub returns-in_err-listener-clause-told : goal.returns-in_err-listener-clause-told
+returns-in_err-listener-clause-told g c =
+    let p = err_from_is_err_and c.from_residual-in_err-listener.result c.from_residual-in_err-listener.ensures.1 in
+    rw p.1 (of_serve_stream _ p.2.0)

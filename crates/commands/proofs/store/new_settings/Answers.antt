@@ -1,4 +1,4 @@
-use Rattle.std.proofs.Common.{Err, ap, sym, ◌∙◌}
+use Rattle.std.proofs.Common.{Err, ap, refl, sym, ◌∙◌}
 use Rattle.std.proofs.lemmas.Result.{err_from_is_err_and}
 use Rattle.commands.proofs.StoreLemmas.{at_any_second, is_bad, is_stream}
 use Rattle.commands.proofs.store.new_settings.Goals as goal
@@ -15,3 +15,6 @@ pub returns-in_err-settings-clause-bad : goal.returns-in_err-settings-clause-bad
 returns-in_err-settings-clause-bad g c =
     let p = err_from_is_err_and c.from_residual-in_err-settings.result c.from_residual-in_err-settings.ensures.1 in
     rw p.1 (λ bad epoch s. c.in_err-settings.ensures.bad.0 (ap Err (is_bad _ (sym p.2 ∙ bad))) (at_any_second c.args.words epoch _ s))
+
+pub returns-clause-fits : goal.returns-clause-fits
+returns-clause-fits g c = λ epoch. at_any_second c.args.words _ epoch (c.in_ok-settings.ensures.fits refl)

@@ -1,5 +1,6 @@
-use Rattle.std.proofs.Common.{ap, refl, subst, sym, inl, inr}
+use Rattle.std.proofs.Common.{IfErr, ap, refl, subst, sym, inl, inr}
 use Rattle.queue_core.specs.World.{World}
+use Rattle.commands.specs.Refusals.{MayBeToldOf}
 use Rattle.commands.specs.Work.{IsDone, IsNotDone, LeavesOpen, PrintsLast}
 use Rattle.commands.specs.declared.work.Work.TheVariants.{Import}
 use Rattle.commands.proofs.EndingLemmas.{any_err, both, if_err, on_ok, or_same}
@@ -50,13 +51,14 @@ returns-in-Import-clause-refused g c = λ honest.
 
 pub returns-in-Statement-clause-refused : goal.returns-in-Statement-clause-refused
 returns-in-Statement-clause-refused g c = λ honest.
-    let told = both c.print_from.result _ _ (both c.print_from.result _ _ (c.print_from.ensures.damaged honest) (c.print_from.ensures.unknown honest)) c.print_from.ensures.quiet in
+    let told = both c.print_from.result _ _ (both c.print_from.result _ _ (both c.print_from.result _ _ (c.print_from.ensures.damaged honest) (c.print_from.ensures.unknown honest)) (c.print_from.ensures.known honest)) c.print_from.ensures.quiet in
     if_err c.print_from.result _ _ told (λ fault it w stands. (
       w,
       c.print_from.ensures.kept w stands,
       subst (λ work. IsNotDone work fault w w (g.W.Write.contents c.args.output.now) (g.W.Write.contents c.print_from.new.output)) (sym c.in-Statement.is) (
-        (λ is. it.0.0 is w stands),
-        (λ is. it.0.1 is w stands),
+        (λ is. it.0.0.0 is w stands),
+        (λ is. it.0.0.1 is w stands),
+        (λ none. it.0.1 w stands none),
         refl,
         or_same g.W.Write.contents _ _ it.1,
       ),
@@ -84,3 +86,12 @@ returns-in-Statement-clause-quiet g c = if_err c.print_from.result _ _ c.print_f
 
 pub returns-in-Serve-clause-quiet : goal.returns-in-Serve-clause-quiet
 returns-in-Serve-clause-quiet g c = any_err c.serve_book.result _ (λ fault prints. absurd (subst PrintsLast c.in-Serve.is prints))
+
+pub returns-in-Import-clause-told : goal.returns-in-Import-clause-told
+returns-in-Import-clause-told g c = subst (λ work. IfErr c.import_into.result (MayBeToldOf work)) (sym c.in-Import.is) c.import_into.ensures.told
+
+pub returns-in-Statement-clause-told : goal.returns-in-Statement-clause-told
+returns-in-Statement-clause-told g c = subst (λ work. IfErr c.print_from.result (MayBeToldOf work)) (sym c.in-Statement.is) c.print_from.ensures.told
+
+pub returns-in-Serve-clause-told : goal.returns-in-Serve-clause-told
+returns-in-Serve-clause-told g c = subst (λ work. IfErr c.serve_book.result (MayBeToldOf work)) (sym c.in-Serve.is) c.serve_book.ensures.told

@@ -20,3 +20,6 @@ returns-clause-live g c = if_ok c.left.result _ _ c.left.ensures.same (λ b is h
 
 pub returns-clause-quiet : goal.returns-clause-quiet
 returns-clause-quiet g c = handed_on c.work_in-done.result c.left.result _ c.left.ensures.done c.left.ensures.refused c.work_in-done.ensures.quiet
+
+pub returns-clause-told : goal.returns-clause-told
+returns-clause-told g c = handed_on c.work_in-done.result c.left.result _ c.left.ensures.done c.left.ensures.refused c.work_in-done.ensures.told

@@ -1,0 +1,49 @@
+-- What a command that is refused may tell.
+use Rattle.std.specs.Prelude.{◌≡◌, ◌⊎◌}
+use Rattle.command_ends.specs.Faults.{IsOfStream}
+use Rattle.command_ends.specs.declared.fault.Fault.{Fault}
+use Rattle.command_ends.specs.declared.fault.Fault.TheVariants.{Memory, Disk, NoAccount, Import as ByFile, BadSetting, Io}
+use Rattle.command_words.specs.declared.outcome.Command.{Command}
+use Rattle.command_words.specs.declared.outcome.Command.TheVariants as command
+use Rattle.grants_csv.specs.declared.fault.ImportFault.{ImportFault}
+use Rattle.commands.specs.Store.{IsOfStore}
+use Rattle.commands.specs.declared.work.Work.{Work}
+use Rattle.commands.specs.declared.work.Work.TheVariants.{Import, Statement, Serve}
+
+-- a store that isn't made is told so: none can be made at its path, a setting is not within its limits, or the clock can't be read
+abbrev pub IsOfInit : Fault → Type 0
+IsOfInit fault = IsOfStore fault ⊎ (fault ≡ BadSetting) ⊎ (fault ≡ Io)
+
+-- an account file that isn't taken is told so: it is refused, or the clock, the file or the output failed
+abbrev pub IsOfImport : Fault → Type 0
+IsOfImport fault = IsOfStream fault ⊎ ((told : ImportFault) × (fault ≡ ByFile told))
+
+-- a statement that isn't printed is told so: the store can't be read or holds no queue, nothing was ever granted to the account, or the output failed
+abbrev pub IsOfStatement : Fault → Type 0
+IsOfStatement fault = IsOfStore fault ⊎ (fault ≡ NoAccount) ⊎ (fault ≡ Io)
+
+-- connections that aren't served are told so: the store can't be read any more or holds no queue, or the port, a connection, the clock or the output failed
+abbrev pub IsOfServe : Fault → Type 0
+IsOfServe fault = IsOfStore fault ⊎ (fault ≡ Io)
+
+-- what may be told of the work that isn't done on a book
+abbrev pub MayBeToldOf : Work → Fault → Type 0
+MayBeToldOf (Import words) = IsOfImport
+MayBeToldOf (Statement words) = IsOfStatement
+MayBeToldOf (Serve words) = IsOfServe
+
+-- an account to which nothing was ever granted is told so, unless there was no memory or the disk failed
+abbrev pub IsOfNoAccount : Fault → Type 0
+IsOfNoAccount fault = (fault ≡ NoAccount) ⊎ (fault ≡ Memory) ⊎ (fault ≡ Disk)
+
+-- a replay that can't go on is told so: its book, its settings, its input or its output failed
+abbrev pub IsOfReplay : Fault → Type 0
+IsOfReplay fault = IsOfStore fault ⊎ (fault ≡ BadSetting) ⊎ (fault ≡ Io)
+
+-- what may be told of a command
+abbrev pub MayBeToldBy : Command → Fault → Type 0
+MayBeToldBy (command.Init words) fault = IsOfInit fault
+MayBeToldBy (command.Import words) fault = IsOfStore fault ⊎ IsOfImport fault
+MayBeToldBy (command.Statement words) fault = IsOfStatement fault
+MayBeToldBy (command.Serve words) fault = IsOfServe fault
+MayBeToldBy command.Replay fault = IsOfReplay fault
