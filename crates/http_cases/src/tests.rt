@@ -8,5 +8,6 @@ mod days;
 mod documents;
 mod ends;
 mod faults;
+mod interrupted;
 mod limits;
 mod refusals;

@@ -5,7 +5,9 @@ use crate::compare::{Mismatch, Place, Subject};
 use crate::connection::{Connection, Wanted, closed, joined, length_of, wanted_bytes};
 use crate::messages::{PRINT_JOB, job_reply};
 use crate::requests::{IPP, POST_JOB};
-use crate::streams::{BrokenWriter, SPEEDS, SlowReader, speeds_for};
+use crate::streams::{
+    BrokenWriter, InterruptedReader, InterruptedWriter, SPEEDS, SlowReader, speeds_for,
+};
 use grants_csv::{Imported, import};
 use http_front::{ServeCause, ServeFault, Served, serve};
 use list_book::ListBook;
@@ -180,6 +182,47 @@ impl<B: QueueBook + Drop> Desk<B> {
         place.same_outcome(Err(fault), served)?;
         let front = answers.get(..room).unwrap_or(answers);
         place.same_bytes(front, writer.taken.as_slice())
+    }
+
+    /// A connection is served as it is to be, where each other read and each other write is interrupted, and the others give or take
+    /// at most so many bytes.
+    pub fn take_interrupted(
+        &mut self,
+        connection: &Connection<'_>,
+        most: usize,
+    ) -> Result<(), Mismatch> {
+        let stream = joined(self.alloc, connection.stream)?;
+        let wanted = wanted_bytes(self.alloc, connection.wanted)?;
+        let served = Served {
+            acted: connection.acted,
+            faults: 0,
+            end: connection.end,
+        };
+        self.interrupt(stream.as_slice(), served, wanted.as_slice(), most)
+    }
+
+    /// A stream is served so, with these bytes as its answers.
+    fn interrupt(
+        &mut self,
+        stream: &[u8],
+        wanted: Served,
+        answers: &[u8],
+        most: usize,
+    ) -> Result<(), Mismatch> {
+        let mut reader = InterruptedReader {
+            rest: stream,
+            most,
+            is_interrupted: false,
+        };
+        let mut writer = InterruptedWriter {
+            most,
+            is_interrupted: false,
+            taken: Vec::new(self.alloc),
+        };
+        let served = self.serve(&mut reader, &mut writer);
+        let place = self.place(most);
+        place.same_outcome(Ok(wanted), served)?;
+        place.same_bytes(answers, writer.taken.as_slice())
     }
 
     /// Connections, one after another.

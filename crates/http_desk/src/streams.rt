@@ -1,7 +1,7 @@
-//! Readers and writers that are slow, have no end, or fail.
+//! Readers and writers that are slow, have no end, are interrupted, or fail.
 
 use std::io;
-use std::io::{Read, Write};
+use std::io::{ErrorKind, Read, Write};
 
 /// How many bytes a read gives at most.
 pub const SPEEDS: [usize; 4] = [1, 2, 7, 4096];
@@ -51,6 +51,53 @@ impl Read for EndlessReader<'_> {
         };
         self.given = self.given.saturating_add(count);
         Ok(count)
+    }
+}
+
+/// Gives at most so many bytes at each read. The first and each other one behind it is interrupted.
+#[derive(Drop)]
+pub struct InterruptedReader<'a> {
+    pub rest: &'a [u8],
+    pub most: usize,
+    /// The last read was interrupted.
+    pub is_interrupted: bool,
+}
+
+impl Read for InterruptedReader<'_> {
+    fn read(&mut self, buf: &mut [u8]) -> io::Result<usize> {
+        self.is_interrupted = !self.is_interrupted;
+        if self.is_interrupted {
+            return Err(io::Error::from(ErrorKind::Interrupted));
+        }
+        let wanted = buf.len().min(self.most);
+        self.rest.read(&mut buf[..wanted])
+    }
+}
+
+/// Takes at most so many bytes at each write. The first and each other one behind it is interrupted.
+#[derive(Drop)]
+pub struct InterruptedWriter {
+    pub most: usize,
+    /// The last write was interrupted.
+    pub is_interrupted: bool,
+    pub taken: Vec<u8>,
+}
+
+impl Write for InterruptedWriter {
+    fn write(&mut self, buf: &[u8]) -> io::Result<usize> {
+        self.is_interrupted = !self.is_interrupted;
+        if self.is_interrupted {
+            return Err(io::Error::from(ErrorKind::Interrupted));
+        }
+        let wanted = buf.len().min(self.most);
+        if self.taken.extend_from_slice(&buf[..wanted]).is_err() {
+            return Err(io::Error::other("memory"));
+        }
+        Ok(wanted)
+    }
+
+    fn flush(&mut self) -> io::Result<()> {
+        Ok(())
     }
 }
 

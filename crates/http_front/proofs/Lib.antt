@@ -4,3 +4,4 @@ pub mod TurnedLemmas
 pub mod Runs
 pub mod RunLemmas
 pub mod PlaceLemmas
+pub mod GrantLemmas

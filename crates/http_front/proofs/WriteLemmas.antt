@@ -1,8 +1,12 @@
 -- What was written in several pieces, and what was written when a piece failed.
-use Rattle.std.proofs.Common.{Option, ℕ, List, [], ◌++◌, take, drop, sym, ap, ◌∙◌, append_assoc, append-nil, take-append-drop}
+use Rattle.std.proofs.Common.{◌≡◌, false, Ok, Err, Option, ℕ, List, [], ◌++◌, take, drop, sym, ap, ◌∙◌, append_assoc, append-nil, take-append-drop}
 use Rattle.std.specs.Io.KnownBytes.{Appends}
 use Rattle.std.proofs.KnownBytes.{Appends-trans}
+use Rattle.std.specs.Prelude.{Result}
+use Rattle.std.specs.Result.{IsErrAnd}
 use Rattle.http_wire.specs.Responses.{WritesFront}
+use Rattle.http_front.specs.declared.outcome.ServeCause.TheVariants.{Write}
+use Rattle.http_front.specs.declared.outcome.Stopped.{Stopped}
 
 -- the first n bytes are a front
 pub front_taken : (a b : Option (List ℕ)) (xs : List ℕ) (n : ℕ) → Appends a b (take n xs) → WritesFront a b xs
@@ -24,3 +28,9 @@ front_after a b c xs ys p f = record {
   written = Appends-trans a b c xs f.front p f.written;
   is = ap (λ l. xs ++ l) f.is ∙ sym (append_assoc xs f.front f.rest);
 }
+
+-- what holds of a turn that is stopped, where a write failed before it acted
+pub by_write : {A : Type 0} (P : Result A Stopped → Type 0) (r : Result A Stopped) → IsErrAnd r (λ f. (f.acted ≡ false) × (f.is_fault ≡ false) × (f.cause ≡ Write))
+    → ((f : Stopped) → f.acted ≡ false → f.is_fault ≡ false → P (Err f)) → P r
+by_write P (Ok a) h each = absurd h
+by_write P (Err f) h each = each f h.0 h.1

@@ -1,4 +1,4 @@
-//! What a connection is to the machine: a law over the definitions, in a function that does nothing.
+//! What a connection is to the machine, and what it leaves: laws over the definitions, in functions that do nothing.
 ghost use Rattle.std.specs.Prelude.{◌≡◌, ℕ, List};
 ghost use Rattle.std.specs.List.{AllByRecursion};
 ghost use Rattle.queue_core.specs.Limits.{IsMoment};
@@ -27,3 +27,13 @@ pub fn connections_are_runs()
     calls_are_events();
     run_keeps();
 }
+
+/// A connection grants no pages, whatever its requests ask for.
+pub fn connections_grant_nothing()
+    ensures served { (now : ℕ) (w u : World) (stream written : List ℕ) (acted faults : ℕ) (end : End)
+        → Answers now w stream written u acted faults end → u.grants ≡ w.grants }
+    ensures broken { (now : ℕ) (w u : World) (stream written : List ℕ) (acted faults : ℕ)
+        → Breaks now w stream written u acted faults → u.grants ≡ w.grants }
+    // whatever the bytes were
+    ensures worked { (most now : ℕ) (w u : World) (acted : ℕ) → Worked most now w u acted → u.grants ≡ w.grants }
+{}

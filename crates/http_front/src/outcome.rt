@@ -1,5 +1,8 @@
 //! What serving a connection comes to, and each turn of it.
-use http_head::end::{End, Finish, Refusal};
+ghost use Rattle.std.specs.Prelude.{◌≡◌, false};
+ghost use Rattle.http_front.specs.declared.outcome.ServeCause.TheVariants as causes;
+
+use http_head::end::{End, Finish, Refusal, WriteFault};
 
 /// What a connection came to.
 #[derive(Clone, Copy, Debug, PartialEq, Eq)]
@@ -43,6 +46,19 @@ pub struct Stopped {
     pub is_fault: bool,
     /// What stopped it.
     pub cause: ServeCause,
+}
+
+/// A write failed in a turn that had not acted and met no fault.
+impl From<WriteFault> for Stopped {
+    ghost from_gives = { λ _ stopped. (stopped.acted ≡ false) × (stopped.is_fault ≡ false) × (stopped.cause ≡ causes.Write) };
+
+    fn from(_fault: WriteFault) -> Stopped {
+        Stopped {
+            acted: false,
+            is_fault: false,
+            cause: ServeCause::Write,
+        }
+    }
 }
 
 /// What became of a whole request.

@@ -101,10 +101,8 @@ fn reply_queue<W: Write, B: QueueBook>(
     let Ok(text) = queue_text(alloc, jobs.as_slice()) else {
         return Ok(Replied::Declined(Refusal::ServiceUnavailable));
     };
-    match send_success(writer, "text/plain", text.as_bytes(), closes) {
-        Ok(()) => Ok(Replied::Answered(false)),
-        Err(WriteFault) => Err(stopped_by(ServeCause::Write)),
-    }
+    send_success(writer, "text/plain", text.as_bytes(), closes)?;
+    Ok(Replied::Answered(false))
 }
 
 /// A turn without an effect was stopped.
@@ -151,10 +149,7 @@ fn reply_document<W: Write, B: QueueBook>(
         Ok(None) => return Ok(Replied::Declined(Refusal::NotFound)),
         Err(_) => return Ok(Replied::Declined(Refusal::ServiceUnavailable)),
     };
-    match send_head(writer, head.format.name(), head.octets, closes) {
-        Ok(()) => {}
-        Err(WriteFault) => return Err(stopped_by(ServeCause::Write)),
-    }
+    send_head(writer, head.format.name(), head.octets, closes)?;
     match book.send_document(job, number, writer) {
         Ok(_) => Ok(Replied::Answered(false)),
         Err(fault) => Err(stopped_by(cause_of(fault.cause))),

@@ -83,11 +83,8 @@ fn take_planned<R: Read, W: Write, B: QueueBook>(
     // what shuts a book is answered as a fault, or breaks a document off
     ensures live { B.is_honest book.new → B.is_live book.old → IsTurnFaultless result → B.is_live book.new }
 {
-    match send_continue(writer, plan) {
-        Ok(()) => {}
-        Err(WriteFault) => return Err(stopped_by(ServeCause::Write)),
-    }
-    let content = match take_framed(context.alloc, input, plan.framing) {
+    let invited = send_continue(writer, plan)?;
+    let content = match take_framed(context.alloc, input, plan.framing, invited) {
         Ok(content) => content,
         Err(BodyFault::Ended(end)) => return close_with(writer, end),
         Err(BodyFault::Read) => return Err(stopped_by(ServeCause::Read)),

@@ -2,3 +2,4 @@ pub mod LeftLemmas
 pub mod HeadLemmas
 pub mod FieldLemmas
 pub mod PlanLemmas
+pub mod RouteLemmas

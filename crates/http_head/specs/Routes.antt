@@ -1,5 +1,6 @@
 -- The routes of the server, and which a path has.
-use Rattle.std.specs.Prelude.{ℕ, List, [], ◌∷◌, Option, option_map, Result, Ok, Err, codes}
+use Rattle.std.specs.Prelude.{◌≢◌, ◌<◌, ℕ, List, [], ◌∷◌, length, Option, option_map, Result, Ok, Err, codes}
+use Rattle.std.specs.List.{AllByRecursion}
 use Rattle.matchit.specs.Rows.{RowsOf}
 use Rattle.matchit.specs.Order.{placed}
 use Rattle.matchit.specs.Route.{parse_route, Scan}
@@ -45,3 +46,7 @@ value_of r = r.value
 -- what answers a path
 unfoldable pub route_of : List ℕ → Option Route
 route_of path = option_map value_of (route_at path)
+
+-- a segment of a path that is not empty (RFC 3986, section 3.3): no byte of it is a slash
+abbrev pub IsSegment : List ℕ → Type 0
+IsSegment s = (0 < length s) × AllByRecursion (λ b. (b < 256) × (b ≢ 47)) s

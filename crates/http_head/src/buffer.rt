@@ -4,8 +4,8 @@ ghost use Rattle.std.specs.Io.KnownBytes.{Consumes, Keeps, IsAtEnd};
 ghost use Rattle.http_head.specs.Left.{left};
 
 use crate::end::ReadFault;
-use crate::limits::HEAD_LIMIT;
-use std::io::Read;
+use crate::limits::{HEAD_LIMIT, MOST_TRIES};
+use std::io::{ErrorKind, Read};
 use std::marker::Model;
 
 /// How many bytes it holds at most: as many as a head may have.
@@ -55,7 +55,8 @@ impl Buffer {
         self.start += n;
     }
 
-    /// Reads once, and answers how many bytes came: none only at the end. There is room, as fewer than 16,384 are held.
+    /// Reads once, and answers how many bytes came: none only at the end. There is room, as fewer than 16,384 are held. A read that is
+    /// interrupted is tried again.
     pub fn fill<R: Read>(&mut self, reader: &mut R) -> Result<usize, ReadFault>
         requires { length self.old < 16384 }
         ensures kept { Keeps (left self.old (R.remaining reader.old)) (left self.new (R.remaining reader.new)) }
@@ -91,5 +92,25 @@ fn read_at<R: Read>(reader: &mut R, bytes: &mut [u8], at: usize) -> Result<usize
     ensures end { IfOk result (λ n. n ≡ 0 → at < length bytes.old → IsAtEnd (R.remaining reader.new)) }
     ensures err { OnErr result (Keeps (R.remaining reader.old) (R.remaining reader.new)) }
 {
-    reader.read(&mut bytes[at..]).map_err(|_| ReadFault)
+    read_once(reader, &mut bytes[at..])
+}
+
+/// Reads once. A read that is interrupted is tried again.
+fn read_once<R: Read>(reader: &mut R, bytes: &mut [u8]) -> Result<usize, ReadFault>
+    ensures within { IfOk result (λ n. n ≤ length bytes.new) }
+    ensures got { IfOk result (λ n. Consumes (R.remaining reader.old) (R.remaining reader.new) (take n bytes.new)) }
+    ensures end { IfOk result (λ n. n ≡ 0 → 0 < length bytes.old → IsAtEnd (R.remaining reader.new)) }
+    ensures err { OnErr result (Keeps (R.remaining reader.old) (R.remaining reader.new)) }
+{
+    'tries: for _ in 0..MOST_TRIES {
+        match reader.read(bytes) {
+            Ok(n) => return Ok(n),
+            Err(error) => {
+                if error.kind() != ErrorKind::Interrupted {
+                    return Err(ReadFault);
+                }
+            }
+        }
+    }
+    Err(ReadFault)
 }

@@ -1,7 +1,7 @@
 //! Request heads of HTTP/1.1 (RFC 9112, section 3) for the server of a print queue, without any queue.
 //!
 //! [`receive::take_head`] reads a request head from a connection, an [`input::Input`] (`head`, `buffer`), finds the request
-//! target's route (`target`, `routes`), the framing of the request's body (`framing`) and the first check that applies
+//! target's route (`target`, `routes`; [`routes_are_these`] names paths that have one), the framing of the request's body (`framing`) and the first check that applies
 //! (`checks`), and answers a [`plan::Plan`] or why there is none ([`fault::HeadFault`]). [`end::Finish`] is how a connection ends, with the refusal that ends it.
 //!
 //! No pass reads a byte once as many have come as a head may have.
@@ -15,8 +15,11 @@ mod fields;
 pub mod framing;
 mod head;
 pub mod input;
+mod law;
 pub mod limits;
 pub mod plan;
 pub mod receive;
 pub mod routes;
 pub mod target;
+
+pub use law::routes_are_these;

@@ -1,15 +1,15 @@
 -- What a window over the bytes that have come says of a chunk line or a trailer section in the bytes left.
-use Rattle.std.proofs.Common.{◌≡◌, Option, ℕ, ◌<◌, ◌≤◌, List, ◌++◌, None, Some, IfSome, length, take, drop, refl, sym, ap, ◌∙◌, subst, append_assoc, arith, take-append-drop, inl, inr, length-append, append-nil, zero-add}
+use Rattle.std.proofs.Common.{◌≡◌, Option, ℕ, zero, suc, [], ◌∷◌, ◌<◌, ◌≤◌, List, ◌++◌, None, Some, IfSome, length, take, drop, refl, sym, ap, ◌∙◌, subst, append_assoc, arith, take-append-drop, inl, inr, length-append, append-nil, zero-add}
 use Rattle.std.specs.Io.KnownBytes.{Keeps, Consumes, IsAtEnd}
 use Rattle.std.proofs.KnownBytes.{Keeps-trans}
-use Rattle.std.proofs.lemmas.List.{length-take-le, length-take, length-map, take_all}
+use Rattle.std.proofs.lemmas.List.{length-take-le, length-take, length-map, take_all, take-append-le}
 use Rattle.std.proofs.Math.Seq.{drop-append_seam}
-use Rattle.httparse.specs.Grammar.{ChunkLine, HasNoChunkLine, MayBecomeChunkLine, NeverHasChunkLine, print_chunk_line, Field, print_section, HasNoSection}
+use Rattle.httparse.specs.Grammar.{ChunkLine, HasNoChunkLine, MayBecomeChunkLine, NeverHasChunkLine, print_chunk_line, Field, print_section, HasNoSection, MayBecomeSection}
 use Rattle.httparse.specs.Spans.{IsChunkLineAt, SectionOverflows, IsSectionOf, AreFieldsAt, header_bytes, name_and_value}
 use Rattle.httparse.specs.declared.spans.HeaderSpan.{HeaderSpan}
 use Rattle.http_head.specs.Left.{left}
 use Rattle.http_head.specs.Limits.{line_limit, trailer_limit, field_limit}
-use Rattle.http_wire.specs.ChunkEnds.{HasNoLineWithin, HasNoTrailersWithin, EndsAtLine, EndsAtLineEnd, EndsAtTrailers, IsOpenLineEnd, NeverHasLineEnd}
+use Rattle.http_wire.specs.ChunkEnds.{HasNoLineWithin, HasNoTrailersWithin, NeverHasTrailers, EndsAtLine, EndsAtLineEnd, EndsAtTrailers, IsOpenLineEnd, NeverHasLineEnd}
 use Rattle.http_wire.specs.ChunkParts.{TakesLine, TakesTrailers, AreTrailersAt}
 use Rattle.http_wire.specs.declared.chunk.Bound.{Bound}
 use Rattle.http_head.specs.declared.end.Finish.TheVariants.{Cut, Refused}
@@ -21,10 +21,11 @@ use Rattle.http_head.proofs.HeadLemmas.{front_of, head_consumed}
 pub front_all : (come : List ℕ) (n : ℕ) → length come ≤ n → come ≡ take n come
 front_all come n h = sym (take_all n come h)
 
-whole_of : (come y more : List ℕ) (n : ℕ) → take n come ++ (drop n come ++ y ++ more) ≡ (come ++ y) ++ more
-whole_of come y more n =
-    ap (λ l. take n come ++ l) (append_assoc (drop n come) y more) ∙ sym (append_assoc (take n come) (drop n come) (y ++ more))
-    ∙ ap (λ l. l ++ (y ++ more)) (take-append-drop n come) ∙ sym (append_assoc come y more)
+-- the first bytes of what has come begin those of more
+front_on : (n : ℕ) (come more : List ℕ) → (rest : List ℕ) × (take n (come ++ more) ≡ take n come ++ rest)
+front_on zero come more = ([], refl)
+front_on (suc n) [] more = (take (suc n) more, refl)
+front_on (suc n) (b ∷ come) more = let r = front_on n come more in (r.0, ap (λ l. b ∷ l) r.1)
 
 window_of : (come more : List ℕ) (n : ℕ) → take n come ++ (drop n come ++ more) ≡ come ++ more
 window_of come more n = sym (append_assoc (take n come) (drop n come) more) ∙ ap (λ l. l ++ more) (take-append-drop n come)
@@ -56,14 +57,15 @@ no_line_within come more n full none l rest line short e =
     none l (drop (length (print_chunk_line l)) (take n come))
     (line, front_of (take n come) (drop n come ++ more) (print_chunk_line l) rest (window_of come more n ∙ e) fits)
 
--- as many bytes as a line may have hold none
+-- as many bytes as a line may have hold none, and one may begin with them
 pub line_endless : (bytes r : Option (List ℕ)) (come window : List ℕ) (bound : Bound) → Keeps bytes (left come r) → bound.limit ≤ length come → window ≡ take bound.limit come → HasNoChunkLine window
-    → IfSome bytes (λ xs. EndsAtLine bound xs (Refused bound.refusal))
-line_endless None r come window bound p full e none = tt
-line_endless (Some x) None come window bound p full e none = absurd p
-line_endless (Some x) (Some y) come window bound p full e none =
+    → MayBecomeChunkLine window → IfSome bytes (λ xs. EndsAtLine bound xs (Refused bound.refusal))
+line_endless None r come window bound p full e none may = tt
+line_endless (Some x) None come window bound p full e none may = absurd p
+line_endless (Some x) (Some y) come window bound p full e none may =
+    let same : window ≡ take bound.limit (come ++ y) = e ∙ sym (take-append-le bound.limit come y full) in
     subst (λ xs. EndsAtLine bound xs (Refused bound.refusal)) p
-    (inr (refl, omega (arith, full, length-append come y), no_line_within come y bound.limit full (subst HasNoChunkLine e none)))
+    (inr (refl, omega (arith, full, length-append come y), no_line_within come y bound.limit full (subst HasNoChunkLine e none), subst MayBecomeChunkLine same may))
 
 -- what can never begin a line can't where more stands behind it
 pub line_never : (bytes r : Option (List ℕ)) (come window : List ℕ) (bound : Bound) → Keeps bytes (left come r) → window ≡ take bound.limit come → NeverHasChunkLine window
@@ -72,9 +74,10 @@ line_never None r come window bound p e never = tt
 line_never (Some x) None come window bound p e never = absurd p
 line_never (Some x) (Some y) come window bound p e never =
     let n = bound.limit in
+    let on = front_on n come y in
     let cut : NeverHasChunkLine (take n come) = subst NeverHasChunkLine e never in
     subst (λ xs. EndsAtLine bound xs (Refused BadRequest)) p
-    (inl (refl, λ more. subst HasNoChunkLine (whole_of come y more n) (cut (drop n come ++ y ++ more))))
+    (inl (refl, subst NeverHasChunkLine (sym on.1) (λ more. subst HasNoChunkLine (sym (append_assoc (take n come) on.0 more)) (cut (on.0 ++ more)))))
 
 pub line_cut : (bytes r : Option (List ℕ)) (come window : List ℕ) (bound : Bound) → Keeps bytes (left come r) → length come < bound.limit → window ≡ take bound.limit come → HasNoChunkLine window → MayBecomeChunkLine window → IsAtEnd r
     → IfSome bytes (λ xs. EndsAtLine bound xs Cut)
@@ -160,17 +163,21 @@ trailers_taken bytes r come new limit len p found e = record {
       (head_consumed bytes r come (print_section found.0.fields found.0.end) (drop len come) p found.0.bytes);
 }
 
-overflown : (come more : List ℕ) (n : ℕ) → SectionOverflows 64 (take n come) → HasNoTrailersWithin trailer_limit (come ++ more)
-overflown come more n over fields end rest are short e =
-    omega (arith, over (drop n come ++ more) fields end rest (are.each, window_of come more n ∙ e), are.few)
+overflown : (window : List ℕ) → SectionOverflows 64 window → NeverHasTrailers window
+overflown window over more fields end rest are e = omega (arith, over more fields end rest (are.each, e), are.few)
+
+never_on : (window rest : List ℕ) → NeverHasTrailers window → NeverHasTrailers (window ++ rest)
+never_on window rest never more fields end behind are e = never (rest ++ more) fields end behind are (sym (append_assoc window rest more) ∙ e)
 
 pub trailers_refused : (bytes r : Option (List ℕ)) (come window : List ℕ) (bound : Bound) → Keeps bytes (left come r) → window ≡ take bound.limit come → SectionOverflows 64 window
     → IfSome bytes (λ xs. EndsAtTrailers bound xs (Refused BadRequest))
 trailers_refused None r come window bound p e over = tt
 trailers_refused (Some x) None come window bound p e over = absurd p
 trailers_refused (Some x) (Some y) come window bound p e over =
-    let cut : SectionOverflows 64 (take bound.limit come) = subst (SectionOverflows 64) e over in
-    subst (λ xs. EndsAtTrailers bound xs (Refused BadRequest)) p (inl (refl, overflown come y bound.limit cut))
+    let n = bound.limit in
+    let on = front_on n come y in
+    let cut : NeverHasTrailers (take n come) = subst NeverHasTrailers e (overflown window over) in
+    subst (λ xs. EndsAtTrailers bound xs (Refused BadRequest)) p (inl (refl, subst NeverHasTrailers (sym on.1) (never_on (take n come) on.0 cut)))
 
 no_trailers_within : (come more : List ℕ) (n : ℕ) → n ≤ length come → HasNoSection (take n come) → HasNoTrailersWithin n (come ++ more)
 no_trailers_within come more n full none fields end rest are short e =
@@ -179,22 +186,24 @@ no_trailers_within come more n full none fields end rest are short e =
     none fields end (drop (length (print_section fields end)) (take n come))
     (are.each, front_of (take n come) (drop n come ++ more) (print_section fields end) rest (window_of come more n ∙ e) fits)
 
--- as many bytes as a section may have hold none
+-- as many bytes as a section may have hold none, and one may begin with them
 pub trailers_endless : (bytes r : Option (List ℕ)) (come window : List ℕ) (bound : Bound) → Keeps bytes (left come r) → bound.limit ≤ length come → window ≡ take bound.limit come → HasNoSection window
-    → IfSome bytes (λ xs. EndsAtTrailers bound xs (Refused bound.refusal))
-trailers_endless None r come window bound p full e none = tt
-trailers_endless (Some x) None come window bound p full e none = absurd p
-trailers_endless (Some x) (Some y) come window bound p full e none =
+    → MayBecomeSection window → IfSome bytes (λ xs. EndsAtTrailers bound xs (Refused bound.refusal))
+trailers_endless None r come window bound p full e none may = tt
+trailers_endless (Some x) None come window bound p full e none may = absurd p
+trailers_endless (Some x) (Some y) come window bound p full e none may =
     let cut : HasNoSection (take bound.limit come) = subst HasNoSection e none in
+    let same : window ≡ take bound.limit (come ++ y) = e ∙ sym (take-append-le bound.limit come y full) in
     subst (λ xs. EndsAtTrailers bound xs (Refused bound.refusal)) p
-    (inr (refl, omega (arith, full, length-append come y), no_trailers_within come y bound.limit full cut))
+    (inr (refl, omega (arith, full, length-append come y), no_trailers_within come y bound.limit full cut, subst MayBecomeSection same may))
 
-pub trailers_cut : (bytes r : Option (List ℕ)) (come window : List ℕ) (bound : Bound) → Keeps bytes (left come r) → length come < bound.limit → window ≡ take bound.limit come → HasNoSection window → IsAtEnd r
+pub trailers_cut : (bytes r : Option (List ℕ)) (come window : List ℕ) (bound : Bound) → Keeps bytes (left come r) → length come < bound.limit → window ≡ take bound.limit come → HasNoSection window → MayBecomeSection window → IsAtEnd r
     → IfSome bytes (λ xs. EndsAtTrailers bound xs Cut)
-trailers_cut None r come window bound p few e none end = tt
-trailers_cut (Some x) None come window bound p few e none end = absurd p
-trailers_cut (Some x) (Some y) come window bound p few e none end =
+trailers_cut None r come window bound p few e none may end = tt
+trailers_cut (Some x) None come window bound p few e none may end = absurd p
+trailers_cut (Some x) (Some y) come window bound p few e none may end =
     let small : length come ≤ bound.limit = omega (arith, few) in
     let same : come ≡ x = sym (append-nil come) ∙ ap (λ l. come ++ l) (sym end) ∙ p in
-    let here : HasNoSection come = subst HasNoSection (e ∙ take_all bound.limit come small) none in
-    subst (λ xs. EndsAtTrailers bound xs Cut) same (few, λ fields last rest are short same. here fields last rest (are.each, same))
+    let whole : window ≡ come = e ∙ take_all bound.limit come small in
+    let here : HasNoSection come = subst HasNoSection whole none in
+    subst (λ xs. EndsAtTrailers bound xs Cut) same (few, λ fields last rest are short same. here fields last rest (are.each, same), subst MayBecomeSection whole may)

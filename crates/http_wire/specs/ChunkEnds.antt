@@ -1,7 +1,7 @@
 -- Where a connection may end in a chunked body (RFC 9112, sections 7.1 and 8).
-use Rattle.std.specs.Prelude.{◌≡◌, ◌≢◌, ◌+◌, ◌-◌, ◌<◌, ◌≤◌, ◌⊎◌, ℕ, List, [], ◌∷◌, ◌++◌, length, nat_lt, if◌then◌else◌}
+use Rattle.std.specs.Prelude.{◌≡◌, ◌≢◌, ◌+◌, ◌-◌, ◌<◌, ◌≤◌, ◌⊎◌, ℕ, List, [], ◌∷◌, ◌++◌, length, take, nat_lt, if◌then◌else◌}
 use Rattle.httparse.specs.Ascii.{crlf_bytes}
-use Rattle.httparse.specs.Grammar.{ChunkLine, IsChunkLine, print_chunk_line, chunk_size, HasNoChunkLine, MayBecomeChunkLine, NeverHasChunkLine, Field, LineEnd, print_section}
+use Rattle.httparse.specs.Grammar.{ChunkLine, IsChunkLine, print_chunk_line, chunk_size, HasNoChunkLine, MayBecomeChunkLine, NeverHasChunkLine, Field, LineEnd, print_section, MayBecomeSection}
 use Rattle.http_head.specs.Limits.{line_limit, content_limit, raw_limit, trailer_limit}
 use Rattle.http_wire.specs.Chunks.{Chunk, AreChunks, IsShortLine, chunks_bytes, chunks_content, AreTrailers}
 use Rattle.http_wire.specs.declared.chunk.Bound.{Bound}
@@ -23,13 +23,14 @@ bound_behind raw limit =
 abbrev pub HasNoLineWithin : ℕ → List ℕ → Type 0
 HasNoLineWithin limit bytes = (l : ChunkLine) (rest : List ℕ) → IsChunkLine l → length (print_chunk_line l) ≤ limit → bytes ≢ print_chunk_line l ++ rest
 
--- the input ends within what may become a line, or no bytes behind it can make one, or as many bytes as it may have hold none
+-- the input ends within what may become a line; or none can begin with as many bytes as it may have; or those hold none, though one may begin
+-- with them
 abbrev pub EndsAtLine : Bound → List ℕ → Finish → Type 0
 EndsAtLine bound bytes Closed = ⊥
 EndsAtLine bound bytes Cut = (length bytes < bound.limit) × HasNoChunkLine bytes × MayBecomeChunkLine bytes
 EndsAtLine bound bytes Done = ⊥
 EndsAtLine bound bytes (Refused r) =
-    ((r ≡ BadRequest) × NeverHasChunkLine bytes) ⊎ ((r ≡ bound.refusal) × (bound.limit ≤ length bytes) × HasNoLineWithin bound.limit bytes)
+    ((r ≡ BadRequest) × NeverHasChunkLine (take bound.limit bytes)) ⊎ ((r ≡ bound.refusal) × (bound.limit ≤ length bytes) × HasNoLineWithin bound.limit bytes × MayBecomeChunkLine (take bound.limit bytes))
 
 -- ---- where a trailer section should stand
 
@@ -38,13 +39,19 @@ abbrev pub HasNoTrailersWithin : ℕ → List ℕ → Type 0
 HasNoTrailersWithin limit bytes =
     (fields : List Field) (end : LineEnd) (rest : List ℕ) → AreTrailers fields end → length (print_section fields end) ≤ limit → bytes ≢ print_section fields end ++ rest
 
--- the input ends before a whole section, or the bytes can't be one, or as many bytes as it may have hold none
+-- no bytes behind these make a trailer section their prefix
+abbrev pub NeverHasTrailers : List ℕ → Type 0
+NeverHasTrailers bytes =
+    (more : List ℕ) (fields : List Field) (end : LineEnd) (rest : List ℕ) → AreTrailers fields end → bytes ++ more ≢ print_section fields end ++ rest
+
+-- the input ends within what may become a section, of whatever size; or none can begin with as many bytes as it may have; or those hold none,
+-- though a section, of whatever size, may begin with them
 abbrev pub EndsAtTrailers : Bound → List ℕ → Finish → Type 0
 EndsAtTrailers bound bytes Closed = ⊥
-EndsAtTrailers bound bytes Cut = (length bytes < bound.limit) × HasNoTrailersWithin trailer_limit bytes
+EndsAtTrailers bound bytes Cut = (length bytes < bound.limit) × HasNoTrailersWithin trailer_limit bytes × MayBecomeSection bytes
 EndsAtTrailers bound bytes Done = ⊥
 EndsAtTrailers bound bytes (Refused r) =
-    ((r ≡ BadRequest) × HasNoTrailersWithin trailer_limit bytes) ⊎ ((r ≡ bound.refusal) × (bound.limit ≤ length bytes) × HasNoTrailersWithin bound.limit bytes)
+    ((r ≡ BadRequest) × NeverHasTrailers (take bound.limit bytes)) ⊎ ((r ≡ bound.refusal) × (bound.limit ≤ length bytes) × HasNoTrailersWithin bound.limit bytes × MayBecomeSection (take bound.limit bytes))
 
 -- ---- in a chunk
 

@@ -9,16 +9,18 @@ ghost use Rattle.http_wire.specs.Fault.{IfEnded};
 use crate::body::take_body;
 use crate::chunked::take_chunked;
 use crate::fault::BodyFault;
+use crate::respond::Invited;
 use http_head::framing::Framing;
 use http_head::input::Input;
 use std::alloc::Global;
 use std::io::Read;
 
-/// Takes the body of a request, and answers its content, which has at most 16,777,216 bytes.
+/// Takes the body of a request whose client was told to send it, and answers its content, which has at most 16,777,216 bytes.
 pub fn take_framed<R: Read>(
     alloc: Global,
     input: &mut Input<R>,
     framing: Framing,
+    _invited: Invited,
 ) -> Result<Vec<u8>, BodyFault>
     requires { size_of framing ≤ 16777216 }
     ensures taken { IfOk result (λ content. (raw : List ℕ) × IsBody framing raw content.items

@@ -1,10 +1,30 @@
 //! Writing to the peer.
-ghost use Rattle.std.specs.Prelude.{◌++◌, OnOk, OnErr};
-ghost use Rattle.std.specs.Io.KnownBytes.{Appends};
+ghost use Rattle.std.specs.Prelude.{◌≤◌, ◌++◌, length, take, IfOk, OnOk, OnErr};
+ghost use Rattle.std.specs.Io.KnownBytes.{Appends, Keeps};
 ghost use Rattle.http_wire.specs.Responses.{WritesFront};
 
 use http_head::end::WriteFault;
-use std::io::Write;
+use http_head::limits::MOST_TRIES;
+use std::io::{ErrorKind, Write};
+
+/// Writes once, and answers how many bytes were taken. A write that is interrupted is tried again.
+fn put_once<W: Write>(writer: &mut W, bytes: &[u8]) -> Result<usize, WriteFault>
+    ensures within { IfOk result (λ n. n ≤ length bytes.now) }
+    ensures ok { IfOk result (λ n. Appends (W.contents writer.old) (W.contents writer.new) (take n bytes.now)) }
+    ensures err { OnErr result (Keeps (W.contents writer.old) (W.contents writer.new)) }
+{
+    'tries: for _ in 0..MOST_TRIES {
+        match writer.write(bytes) {
+            Ok(n) => return Ok(n),
+            Err(error) => {
+                if error.kind() != ErrorKind::Interrupted {
+                    return Err(WriteFault);
+                }
+            }
+        }
+    }
+    Err(WriteFault)
+}
 
 /// Writes all the bytes, by as many writes as it takes. After a fault a front of them was written.
 #[tactic(auto, using(crate::proofs::WriteLemmas::front_taken))]
@@ -14,11 +34,11 @@ pub fn put<W: Write>(writer: &mut W, bytes: &[u8]) -> Result<(), WriteFault>
 {
     let mut at = 0;
     'write: while at < bytes.len() {
-        match writer.write(&bytes[at..]) {
-            Ok(0) => return Err(WriteFault),
-            Ok(n) => at += n,
-            Err(_) => return Err(WriteFault),
+        let n = put_once(writer, &bytes[at..])?;
+        if n == 0 {
+            return Err(WriteFault);
         }
+        at += n;
     }
     Ok(())
 }

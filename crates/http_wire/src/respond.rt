@@ -112,12 +112,17 @@ fn interim_response(plan: Plan) -> &'static [u8]
     }
 }
 
-/// Writes `100 Continue` (RFC 9110, section 15.2.1) where the request expects it.
-pub fn send_continue<W: Write>(writer: &mut W, plan: Plan) -> Result<(), WriteFault>
+/// The client has been told to send its content, where it waits for that. Only [`send_continue`] makes one.
+#[derive(Drop)]
+pub struct Invited(());
+
+/// Writes `100 Continue` (RFC 9110, section 15.2.1) where the request expects it. What it answers is the leave to take the content.
+pub fn send_continue<W: Write>(writer: &mut W, plan: Plan) -> Result<Invited, WriteFault>
     ensures ok { OnOk result (Appends (W.contents writer.old) (W.contents writer.new) (spec.interim_response plan)) }
     ensures err { OnErr result (WritesFront (W.contents writer.old) (W.contents writer.new) (spec.interim_response plan)) }
 {
-    put(writer, interim_response(plan))
+    put(writer, interim_response(plan))?;
+    Ok(Invited(()))
 }
 
 /// Writes the head of a success, behind which its content of so many bytes is to follow. Its media type has at most 64 bytes.

@@ -22,9 +22,14 @@ use Rattle.print_server.specs.Lines.{served_line, served_lines}
 pub worked_none : (now : ℕ) (w : World) → Worked most_requests now w w 0
 worked_none now w = record { turns = []; few = omega arith; are = tt; world = refl; settings = refl; acted_is = refl }
 
-settings_after : (w u : World) (counts : List ℕ) → AreConnections w counts u → u.settings ≡ w.settings
+pub settings_after : (w u : World) (counts : List ℕ) → AreConnections w counts u → u.settings ≡ w.settings
 settings_after w u [] is = ap (λ (z : World). z.settings) is
 settings_after w u (n ∷ rest) h = settings_after h.0 u rest h.2 ∙ h.1.worked.settings
+
+pub grants_after : ((most now : ℕ) (w u : World) (acted : ℕ) → Worked most now w u acted → u.grants ≡ w.grants) → (w u : World) (counts : List ℕ) → AreConnections w counts u
+    → u.grants ≡ w.grants
+grants_after kept w u [] is = ap (λ (z : World). z.grants) is
+grants_after kept w u (n ∷ rest) h = grants_after kept h.0 u rest h.2 ∙ kept most_requests h.1.now w h.0 n h.1.worked
 
 pub settings_kept : (set : SettingValues) (w u : World) (counts : List ℕ) → AreConnections w counts u → set ≡ w.settings → set ≡ u.settings
 settings_kept set w u counts h is = is ∙ sym (settings_after w u counts h)

@@ -1,11 +1,11 @@
-//! What a server's connections are to the machine: a law over the definitions, in a function that does nothing.
+//! What a server's connections are to the machine, and what they leave: laws over the definitions, in functions that do nothing.
 ghost use Rattle.std.specs.Prelude.{◌≡◌, ℕ, List};
 ghost use Rattle.std.specs.List.{AllByRecursion};
 ghost use Rattle.queue_core.specs.Runs.{IsPlace, Place, run};
 ghost use Rattle.queue_core.specs.World.{World};
 ghost use Rattle.print_server.specs.Connections.{AreConnections};
 
-use http_front::connections_are_runs;
+use http_front::{connections_are_runs, connections_grant_nothing};
 use queue_core::run_keeps;
 
 /// Whatever clients send, what their connections make of a queue is a run of the machine.
@@ -15,4 +15,12 @@ pub fn served_queues_are_runs()
 {
     connections_are_runs();
     run_keeps();
+}
+
+/// Whatever clients send, their connections grant no pages and change no settings.
+pub fn servers_grant_nothing()
+    ensures grants { (w u : World) (counts : List ℕ) → AreConnections w counts u → u.grants ≡ w.grants }
+    ensures settings { (w u : World) (counts : List ℕ) → AreConnections w counts u → u.settings ≡ w.settings }
+{
+    connections_grant_nothing();
 }

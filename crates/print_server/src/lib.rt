@@ -17,7 +17,7 @@ mod moment;
 mod serving;
 
 pub use fault::ServerFault;
-pub use law::served_queues_are_runs;
+pub use law::{served_queues_are_runs, servers_grant_nothing};
 pub use listening::listen;
 pub use moment::present_moment;
 pub use serving::Service;

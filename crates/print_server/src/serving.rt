@@ -29,6 +29,7 @@ use std::time::Duration;
 /// How connections are served, one after another.
 #[derive(Clone, Copy)]
 pub struct Service<'a> {
+    /// What memory is taken from.
     pub alloc: Global,
     /// Where they come in.
     pub listener: &'a TcpListener,

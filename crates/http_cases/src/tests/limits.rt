@@ -264,6 +264,31 @@ fn a_chunk_line_past_the_raw_limit(rt: HostRuntime) -> Result<(), Mismatch> {
     refuse_long_chunks(rt.alloc(), (b"1;", 574, b""))
 }
 
+/// It has no end in 576 bytes; what no line may have stands behind them.
+#[test]
+fn a_chunk_line_that_cannot_be_read_past_the_raw_limit(rt: HostRuntime) -> Result<(), Mismatch> {
+    refuse_long_chunks(rt.alloc(), (b"1;", 574, b"\rx"))
+}
+
+/// It has no end in 576 bytes, and more than a line may have stand there.
+#[test]
+fn a_chunk_line_that_is_too_long_past_the_raw_limit(rt: HostRuntime) -> Result<(), Mismatch> {
+    refuse_long_chunks(rt.alloc(), (b"1;", 1100, b""))
+}
+
+/// What no line may have stands in the 576 bytes.
+#[test]
+fn a_bad_chunk_line_before_the_raw_limit(rt: HostRuntime) -> Result<(), Mismatch> {
+    let rest: Rest = (b"1;\rx", 1100, b"");
+    stop_long_chunks(rt.alloc(), rest, End::Refused(400), &[BAD])
+}
+
+/// The chunk line leaves them 573 bytes, in which they have no end; what no field may have stands behind those.
+#[test]
+fn trailers_that_cannot_be_read_past_the_raw_limit(rt: HostRuntime) -> Result<(), Mismatch> {
+    refuse_long_chunks(rt.alloc(), (b"0\r\na:", 571, b"\rx"))
+}
+
 /// The line announces 570 bytes, which are 577 with it and the CR LF behind them, and the input ends.
 #[test]
 fn a_chunk_past_the_raw_limit(rt: HostRuntime) -> Result<(), Mismatch> {

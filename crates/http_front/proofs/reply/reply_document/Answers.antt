@@ -6,7 +6,8 @@ use Rattle.queue_core.specs.Shown.{document_at}
 use Rattle.http_wire.specs.Responses.{success_head, WritesFront}
 use Rattle.http_head.specs.declared.end.Refusal.TheVariants.{NotFound, ServiceUnavailable}
 use Rattle.http_head.specs.declared.target.Target.TheVariants.{Document}
-use Rattle.http_front.proofs.WriteLemmas.{front_taken, front_part, front_after}
+use Rattle.http_front.proofs.WriteLemmas.{front_taken, front_part, front_after, by_write}
+use Rattle.http_front.specs.Turned.{IsReplied}
 use Rattle.http_front.proofs.ReplyLemmas.{no_number, at_number, there_of, none_there, document_answer, line_is, replied_ok, replied_err, replied_declined}
 use Rattle.http_front.proofs.reply.reply_document.Goals as goal
 
@@ -22,31 +23,32 @@ returns-in-Ok-None-clause-replied g c = λ honest w st now content.
 pub returns-in-Err-clause-replied : goal.returns-in-Err-clause-replied
 returns-in-Err-clause-replied g c = λ honest w st now content. replied_declined now w (Document c.args.n) content c.args.closes ServiceUnavailable _ (inr refl)
 
-pub returns-in-Err-send_head-clause-replied : goal.returns-in-Err-send_head-clause-replied
-returns-in-Err-send_head-clause-replied g c = λ honest w st now content.
+pub returns-in_err-send_head-clause-replied : goal.returns-in_err-send_head-clause-replied
+returns-in_err-send_head-clause-replied g c = λ honest w st now content.
     let t = there_of (document_at w c.in-Some.job c.in-Some.number) c.in-Ok-Some.head (rw c.in-Ok-Some.field-0-is at (c.in-Ok-Some.ensures.head honest w (c.document_head.ensures.kept w st))) in
     let d = t.0 in
     let there = at_number w c.args.n c.in-Some.job c.in-Some.number (Some d) (search rules) t.1 in
     let line = line_is c.name.result.now c.in-Ok-Some.head d c.args.closes c.name.ensures.name t.2 in
     let v = g.W.Write.contents c.args.writer.now in
     let m = g.W.Write.contents c.send_head.new.writer in
-    replied_err now w w (Document c.args.n) content c.args.closes false c.stopped_by.result v m (format_name d.format) d.bytes (document_answer now w c.args.n content d there)
-    (front_part v m (success_head (format_name d.format) (length d.bytes) c.args.closes) d.bytes (subst (λ (l : List ℕ). WritesFront v m l) line c.in-Err-send_head.ensures.err))
-    c.stopped_by.ensures.acted c.stopped_by.ensures.is_fault
+    let head : WritesFront v m (success_head (format_name d.format) (length d.bytes) c.args.closes) = subst (λ (l : List ℕ). WritesFront v m l) line c.in_err-send_head.ensures.err in
+    by_write (λ result. IsReplied now w w (Document c.args.n) content c.args.closes v m result) c.from_residual.result c.from_residual.ensures.1
+    (λ f acted fault. replied_err now w w (Document c.args.n) content c.args.closes false f v m (format_name d.format) d.bytes (document_answer now w c.args.n content d there)
+    (front_part v m (success_head (format_name d.format) (length d.bytes) c.args.closes) d.bytes head) acted fault)
 
-pub returns-in-Ok-send_document-clause-replied : goal.returns-in-Ok-send_document-clause-replied
-returns-in-Ok-send_document-clause-replied g c = λ honest w st now content.
+pub returns-in-Ok-clause-replied : goal.returns-in-Ok-clause-replied
+returns-in-Ok-clause-replied g c = λ honest w st now content.
     let kept = c.document_head.ensures.kept w st in
     let t = there_of (document_at w c.in-Some.job c.in-Some.number) c.in-Ok-Some.head (rw c.in-Ok-Some.field-0-is at (c.in-Ok-Some.ensures.head (c.send_document.ensures.began honest) w kept)) in
     let d = t.0 in
     let there = at_number w c.args.n c.in-Some.job c.in-Some.number (Some d) (search rules) t.1 in
     let line = line_is c.name.result.now c.in-Ok-Some.head d c.args.closes c.name.ensures.name t.2 in
-    let sent = c.in-Ok-send_document.ensures.ok honest w d (c.send_document.ensures.kept w kept) t.1 in
+    let sent = c.in-Ok.ensures.ok honest w d (c.send_document.ensures.kept w kept) t.1 in
     let v = g.W.Write.contents c.args.writer.now in
     let m = g.W.Write.contents c.send_head.new.writer in
     let x = g.W.Write.contents c.send_document.new.out in
     replied_ok now w w (Document c.args.n) content c.args.closes false v x (format_name d.format) d.bytes (document_answer now w c.args.n content d there)
-    (Appends-trans v m x (success_head (format_name d.format) (length d.bytes) c.args.closes) d.bytes (subst (λ (l : List ℕ). Appends v m l) line c.in-Ok.ensures.ok) sent.1)
+    (Appends-trans v m x (success_head (format_name d.format) (length d.bytes) c.args.closes) d.bytes (subst (λ (l : List ℕ). Appends v m l) line c.in_ok-send_head.ensures.ok) sent.1)
 
 pub returns-in-Err-send_document-clause-replied : goal.returns-in-Err-send_document-clause-replied
 returns-in-Err-send_document-clause-replied g c = λ honest w st now content.
@@ -59,7 +61,7 @@ returns-in-Err-send_document-clause-replied g c = λ honest w st now content.
     let v = g.W.Write.contents c.args.writer.now in
     let m = g.W.Write.contents c.send_head.new.writer in
     let x = g.W.Write.contents c.send_document.new.out in
-    replied_err now w w (Document c.args.n) content c.args.closes false c.stopped_by-in-Err-send_document.result v x (format_name d.format) d.bytes (document_answer now w c.args.n content d there)
-    (front_after v m x (success_head (format_name d.format) (length d.bytes) c.args.closes) d.bytes (subst (λ (l : List ℕ). Appends v m l) line c.in-Ok.ensures.ok)
+    replied_err now w w (Document c.args.n) content c.args.closes false c.stopped_by.result v x (format_name d.format) d.bytes (document_answer now w c.args.n content d there)
+    (front_after v m x (success_head (format_name d.format) (length d.bytes) c.args.closes) d.bytes (subst (λ (l : List ℕ). Appends v m l) line c.in_ok-send_head.ensures.ok)
     (front_taken m x d.bytes c.in-Err-send_document.fault.written sent.1))
-    c.stopped_by-in-Err-send_document.ensures.acted c.stopped_by-in-Err-send_document.ensures.is_fault
+    c.stopped_by.ensures.acted c.stopped_by.ensures.is_fault

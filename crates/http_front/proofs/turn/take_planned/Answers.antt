@@ -3,10 +3,20 @@ use Rattle.http_head.specs.Left.{left}
 use Rattle.http_head.specs.declared.end.Finish.TheVariants.{Refused}
 use Rattle.http_head.specs.declared.end.Refusal.TheVariants.{ServiceUnavailable}
 use Rattle.http_front.proofs.TurnedLemmas.{planned_unsaid, planned_unread, planned_closed, planned_answered, planned_broken, end_in_body, end_unavailable, end_declined, body_as, said_on, same_world, closed_faultless, closed_idle, plan_idle, plan_works}
+use Rattle.http_front.proofs.WriteLemmas.{by_write}
+use Rattle.http_front.specs.Turned.{IsPlanned, PlanWorks, acted_in}
 use Rattle.http_front.proofs.turn.take_planned.Goals as goal
 
-pub returns-in-Err-clause-planned : goal.returns-in-Err-clause-planned
-returns-in-Err-clause-planned g c = λ honest w st set. (w, st, planned_unsaid c.args.context.moment c.args.k w c.args.plan (left c.args.input.now.buffer (g.R.Read.remaining c.args.input.now.reader)) (left c.args.input.now.buffer (g.R.Read.remaining c.args.input.now.reader)) (g.W.Write.contents c.args.writer.now) (g.W.Write.contents c.send_continue.new.writer) c.stopped_by.result c.stopped_by.ensures.acted c.stopped_by.ensures.is_fault c.in-Err.ensures.err)
+pub returns-in_err-invited-clause-planned : goal.returns-in_err-invited-clause-planned
+returns-in_err-invited-clause-planned g c = λ honest w st set.
+    let r = left c.args.input.now.buffer (g.R.Read.remaining c.args.input.now.reader) in
+    let v = g.W.Write.contents c.args.writer.now in
+    let x = g.W.Write.contents c.send_continue.new.writer in (
+      w,
+      st,
+      by_write (λ result. IsPlanned c.args.context.moment c.args.k w w c.args.plan r r v x result) c.from_residual.result c.from_residual.ensures.1
+          (λ f acted fault. planned_unsaid c.args.context.moment c.args.k w c.args.plan r r v x f acted fault c.in_err-invited.ensures.err),
+    )
 
 pub returns-in-Err-Ended-clause-planned : goal.returns-in-Err-Ended-clause-planned
 returns-in-Err-Ended-clause-planned g c = λ honest w st set.
@@ -15,11 +25,11 @@ returns-in-Err-Ended-clause-planned g c = λ honest w st set.
       w,
       st,
       planned_closed c.args.context.moment c.args.k w c.args.plan r s (g.W.Write.contents c.args.writer.now) (g.W.Write.contents c.send_continue.new.writer) (g.W.Write.contents c.close_with.new.writer) c.in-Err-Ended.end c.close_with.result
-          (end_in_body w c.args.plan r c.in-Err-Ended.end (rw c.in-Err-Ended.field-0-is at c.in-Err-Ended.ensures.ended)) c.in-Ok.ensures.ok (rw c.in-Err-Ended.field-0-is at c.close_with.ensures),
+          (end_in_body w c.args.plan r c.in-Err-Ended.end (rw c.in-Err-Ended.field-0-is at c.in-Err-Ended.ensures.ended)) c.in_ok-invited.ensures.ok (rw c.in-Err-Ended.field-0-is at c.close_with.ensures),
     )
 
 pub returns-in-Err-Read-clause-planned : goal.returns-in-Err-Read-clause-planned
-returns-in-Err-Read-clause-planned g c = λ honest w st set. (w, st, planned_unread c.args.context.moment c.args.k w c.args.plan (left c.args.input.now.buffer (g.R.Read.remaining c.args.input.now.reader)) (left c.take_framed.new.input.buffer (g.R.Read.remaining c.take_framed.new.input.reader)) (g.W.Write.contents c.args.writer.now) (g.W.Write.contents c.send_continue.new.writer) c.stopped_by-in-Err-Read.result c.stopped_by-in-Err-Read.ensures.acted c.stopped_by-in-Err-Read.ensures.is_fault c.in-Ok.ensures.ok)
+returns-in-Err-Read-clause-planned g c = λ honest w st set. (w, st, planned_unread c.args.context.moment c.args.k w c.args.plan (left c.args.input.now.buffer (g.R.Read.remaining c.args.input.now.reader)) (left c.take_framed.new.input.buffer (g.R.Read.remaining c.take_framed.new.input.reader)) (g.W.Write.contents c.args.writer.now) (g.W.Write.contents c.send_continue.new.writer) c.stopped_by.result c.stopped_by.ensures.acted c.stopped_by.ensures.is_fault c.in_ok-invited.ensures.ok)
 
 pub returns-in-Err-Memory-clause-planned : goal.returns-in-Err-Memory-clause-planned
 returns-in-Err-Memory-clause-planned g c = λ honest w st set.
@@ -28,20 +38,20 @@ returns-in-Err-Memory-clause-planned g c = λ honest w st set.
       w,
       st,
       planned_closed c.args.context.moment c.args.k w c.args.plan r s (g.W.Write.contents c.args.writer.now) (g.W.Write.contents c.send_continue.new.writer) (g.W.Write.contents c.close_with-in-Err-Memory.new.writer) (Refused ServiceUnavailable) c.close_with-in-Err-Memory.result
-          (end_unavailable w c.args.plan r) c.in-Ok.ensures.ok c.close_with-in-Err-Memory.ensures,
+          (end_unavailable w c.args.plan r) c.in_ok-invited.ensures.ok c.close_with-in-Err-Memory.ensures,
     )
 
 pub returns-in-Ok-Answered-clause-planned : goal.returns-in-Ok-Answered-clause-planned
 returns-in-Ok-Answered-clause-planned g c = λ honest w st set.
     let r = left c.args.input.now.buffer (g.R.Read.remaining c.args.input.now.reader) in
     let s = left c.take_framed.new.input.buffer (g.R.Read.remaining c.take_framed.new.input.reader) in
-    let f = c.in-Ok-take_framed.ensures.taken in
+    let f = c.in-Ok.ensures.taken in
     let t = rw c.in-Ok-Answered.field-0-is at (c.in-Ok-Answered.ensures.replied honest w st set) in (
       t.0,
       t.1,
       planned_answered c.args.context.moment c.args.k w t.0 c.args.plan r s (g.W.Write.contents c.args.writer.now) (g.W.Write.contents c.send_continue.new.writer) (g.W.Write.contents c.reply.new.writer)
-          f.0 c.as_slice.result.now t.2.0 c.acts_on_target.result c.in-Ok-Answered.is_fault c.closes_after-closes.result c.in-Ok.ensures.ok
-          (body_as c.args.plan.framing f.0 c.in-Ok-take_framed.content.items c.as_slice.result.now f.1 c.as_slice.ensures.value) f.2 t.2.1 t.2.2 c.acts_on_target.ensures c.closes_after-closes.ensures,
+          f.0 c.as_slice.result.now t.2.0 c.acts_on_target.result c.in-Ok-Answered.is_fault c.closes_after-closes.result c.in_ok-invited.ensures.ok
+          (body_as c.args.plan.framing f.0 c.in-Ok.content.items c.as_slice.result.now f.1 c.as_slice.ensures.value) f.2 t.2.1 t.2.2 c.acts_on_target.ensures c.closes_after-closes.ensures,
     )
 
 pub returns-in-Ok-Declined-clause-planned : goal.returns-in-Ok-Declined-clause-planned
@@ -51,50 +61,55 @@ returns-in-Ok-Declined-clause-planned g c = λ honest w st set.
     let v = g.W.Write.contents c.args.writer.now in
     let m = g.W.Write.contents c.reply.new.writer in
     let x = g.W.Write.contents c.close_with-in-Ok-Declined.new.writer in
-    let f = c.in-Ok-take_framed.ensures.taken in
+    let f = c.in-Ok.ensures.taken in
     let t = rw c.in-Ok-Declined.field-0-is at (c.in-Ok-Declined.ensures.replied honest w st set) in
     let z = c.in-Ok-Declined.refusal in (
       t.0,
       t.1,
       same_world c.args.context.moment c.args.k w t.0 c.args.plan r s v x c.close_with-in-Ok-Declined.result t.2.2
           (planned_closed c.args.context.moment c.args.k w c.args.plan r s v m x (Refused z) c.close_with-in-Ok-Declined.result
-          (end_declined w c.args.plan r s f.0 c.as_slice.result.now z f.2 (body_as c.args.plan.framing f.0 c.in-Ok-take_framed.content.items c.as_slice.result.now f.1 c.as_slice.ensures.value) t.2.0)
-          (said_on v (g.W.Write.contents c.send_continue.new.writer) m c.args.plan c.in-Ok.ensures.ok t.2.1) c.close_with-in-Ok-Declined.ensures),
+          (end_declined w c.args.plan r s f.0 c.as_slice.result.now z f.2 (body_as c.args.plan.framing f.0 c.in-Ok.content.items c.as_slice.result.now f.1 c.as_slice.ensures.value) t.2.0)
+          (said_on v (g.W.Write.contents c.send_continue.new.writer) m c.args.plan c.in_ok-invited.ensures.ok t.2.1) c.close_with-in-Ok-Declined.ensures),
     )
 
 pub returns-clause-planned : goal.returns-clause-planned
 returns-clause-planned g c = λ honest w st set.
     let r = left c.args.input.now.buffer (g.R.Read.remaining c.args.input.now.reader) in
     let s = left c.take_framed.new.input.buffer (g.R.Read.remaining c.take_framed.new.input.reader) in
-    let f = c.in-Ok-take_framed.ensures.taken in
-    let t = c.in-Err-reply.ensures.replied honest w st set in (
+    let f = c.in-Ok.ensures.taken in
+    let t = c.in-Err.ensures.replied honest w st set in (
       t.0,
       t.1,
       planned_broken c.args.context.moment c.args.k w t.0 c.args.plan r s (g.W.Write.contents c.args.writer.now) (g.W.Write.contents c.send_continue.new.writer) (g.W.Write.contents c.reply.new.writer)
-          f.0 c.as_slice.result.now t.2.0 c.in-Err-reply.stopped c.closes_after-closes.result c.in-Ok.ensures.ok
-          (body_as c.args.plan.framing f.0 c.in-Ok-take_framed.content.items c.as_slice.result.now f.1 c.as_slice.ensures.value) f.2 t.2.1 t.2.2 t.2.3 c.closes_after-closes.ensures,
+          f.0 c.as_slice.result.now t.2.0 c.in-Err.stopped c.closes_after-closes.result c.in_ok-invited.ensures.ok
+          (body_as c.args.plan.framing f.0 c.in-Ok.content.items c.as_slice.result.now f.1 c.as_slice.ensures.value) f.2 t.2.1 t.2.2 t.2.3 c.closes_after-closes.ensures,
     )
 
-pub returns-in-Err-clause-worked : goal.returns-in-Err-clause-worked
-returns-in-Err-clause-worked g c = λ honest w st set. (w, st, plan_idle c.args.context.moment c.args.k w w c.args.plan _ refl c.stopped_by.ensures.acted)
+pub returns-in_err-invited-clause-worked : goal.returns-in_err-invited-clause-worked
+returns-in_err-invited-clause-worked g c = λ honest w st set. (
+  w,
+  st,
+  by_write (λ result. PlanWorks c.args.context.moment c.args.k w w c.args.plan (acted_in result)) c.from_residual.result c.from_residual.ensures.1
+      (λ f acted fault. plan_idle c.args.context.moment c.args.k w w c.args.plan f.acted refl acted),
+)
 
 pub returns-in-Err-Ended-clause-worked : goal.returns-in-Err-Ended-clause-worked
 returns-in-Err-Ended-clause-worked g c = λ honest w st set. (w, st, plan_idle c.args.context.moment c.args.k w w c.args.plan _ refl (closed_idle _ _ _ c.close_with.result c.close_with.ensures))
 
 pub returns-in-Err-Read-clause-worked : goal.returns-in-Err-Read-clause-worked
-returns-in-Err-Read-clause-worked g c = λ honest w st set. (w, st, plan_idle c.args.context.moment c.args.k w w c.args.plan _ refl c.stopped_by-in-Err-Read.ensures.acted)
+returns-in-Err-Read-clause-worked g c = λ honest w st set. (w, st, plan_idle c.args.context.moment c.args.k w w c.args.plan _ refl c.stopped_by.ensures.acted)
 
 pub returns-in-Err-Memory-clause-worked : goal.returns-in-Err-Memory-clause-worked
 returns-in-Err-Memory-clause-worked g c = λ honest w st set. (w, st, plan_idle c.args.context.moment c.args.k w w c.args.plan _ refl (closed_idle _ _ _ c.close_with-in-Err-Memory.result c.close_with-in-Err-Memory.ensures))
 
 pub returns-in-Ok-Answered-clause-worked : goal.returns-in-Ok-Answered-clause-worked
 returns-in-Ok-Answered-clause-worked g c = λ honest w st set.
-    let f = c.in-Ok-take_framed.ensures.taken in
+    let f = c.in-Ok.ensures.taken in
     let t = rw c.in-Ok-Answered.field-0-is at (c.in-Ok-Answered.ensures.replied honest w st set) in (
       t.0,
       t.1,
       plan_works c.args.context.moment c.args.k w t.0 c.args.plan f.0 c.as_slice.result.now t.2.0 c.acts_on_target.result c.in-Ok-Answered.is_fault c.closes_after-closes.result
-          (body_as c.args.plan.framing f.0 c.in-Ok-take_framed.content.items c.as_slice.result.now f.1 c.as_slice.ensures.value) t.2.1 c.acts_on_target.ensures c.closes_after-closes.ensures,
+          (body_as c.args.plan.framing f.0 c.in-Ok.content.items c.as_slice.result.now f.1 c.as_slice.ensures.value) t.2.1 c.acts_on_target.ensures c.closes_after-closes.ensures,
     )
 
 pub returns-in-Ok-Declined-clause-worked : goal.returns-in-Ok-Declined-clause-worked
@@ -107,12 +122,12 @@ returns-in-Ok-Declined-clause-worked g c = λ honest w st set.
 
 pub returns-clause-worked : goal.returns-clause-worked
 returns-clause-worked g c = λ honest w st set.
-    let f = c.in-Ok-take_framed.ensures.taken in
-    let t = c.in-Err-reply.ensures.replied honest w st set in (
+    let f = c.in-Ok.ensures.taken in
+    let t = c.in-Err.ensures.replied honest w st set in (
       t.0,
       t.1,
-      plan_works c.args.context.moment c.args.k w t.0 c.args.plan f.0 c.as_slice.result.now t.2.0 c.in-Err-reply.stopped.acted c.in-Err-reply.stopped.is_fault c.closes_after-closes.result
-          (body_as c.args.plan.framing f.0 c.in-Ok-take_framed.content.items c.as_slice.result.now f.1 c.as_slice.ensures.value) t.2.1 t.2.3 c.closes_after-closes.ensures,
+      plan_works c.args.context.moment c.args.k w t.0 c.args.plan f.0 c.as_slice.result.now t.2.0 c.in-Err.stopped.acted c.in-Err.stopped.is_fault c.closes_after-closes.result
+          (body_as c.args.plan.framing f.0 c.in-Ok.content.items c.as_slice.result.now f.1 c.as_slice.ensures.value) t.2.1 t.2.3 c.closes_after-closes.ensures,
     )
 
 pub returns-in-Ok-Answered-clause-live : goal.returns-in-Ok-Answered-clause-live
@@ -124,4 +139,4 @@ returns-in-Ok-Declined-clause-live g c = λ honest live faultless.
     (closed_faultless (Refused c.in-Ok-Declined.refusal) _ _ c.close_with-in-Ok-Declined.result c.close_with-in-Ok-Declined.ensures faultless)
 
 pub returns-clause-live : goal.returns-clause-live
-returns-clause-live g c = λ honest live faultless. c.in-Err-reply.ensures.live honest live faultless
+returns-clause-live g c = λ honest live faultless. c.in-Err.ensures.live honest live faultless

@@ -1,5 +1,5 @@
 use Rattle.std.proofs.Common.{◌≤◌, length, rules}
-use Rattle.httparse.specs.Grammar.{HasNoChunkLine}
+use Rattle.httparse.specs.Grammar.{HasNoChunkLine, MayBecomeChunkLine}
 use Rattle.http_wire.proofs.LineLemmas.{line_found, line_never, line_endless}
 use Rattle.http_wire.proofs.chunk.find_line.Goals as goal
 
@@ -12,5 +12,6 @@ returns-in-Err-clause-ended g c = line_never _ _ c.fill.input.buffer c.front.res
 pub returns-then-bytes-bound-clause-ended : goal.returns-then-bytes-bound-clause-ended
 returns-then-bytes-bound-clause-ended g c =
     let none : HasNoChunkLine c.front.result.now = search rules in
+    let may : MayBecomeChunkLine c.front.result.now = search rules in
     let full : c.args.bound.limit ≤ length c.fill.input.buffer = search rules in
-    line_endless _ _ c.fill.input.buffer c.front.result.now c.args.bound c.fill.invariant full (search rules) none
+    line_endless _ _ c.fill.input.buffer c.front.result.now c.args.bound c.fill.invariant full (search rules) none may

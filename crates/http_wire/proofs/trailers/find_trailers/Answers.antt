@@ -1,5 +1,5 @@
 use Rattle.std.proofs.Common.{◌≡◌, ◌≤◌, length, rules}
-use Rattle.httparse.specs.Grammar.{HasNoSection}
+use Rattle.httparse.specs.Grammar.{HasNoSection, MayBecomeSection}
 use Rattle.httparse.specs.Spans.{SectionOverflows, IsSectionOf}
 use Rattle.http_wire.proofs.LineLemmas.{trailers_found, trailers_refused, trailers_endless}
 use Rattle.http_wire.proofs.trailers.find_trailers.Goals as goal
@@ -18,5 +18,6 @@ returns-in-Err-clause-ended g c =
 pub returns-then-bytes-bound-clause-ended : goal.returns-then-bytes-bound-clause-ended
 returns-then-bytes-bound-clause-ended g c =
     let none : HasNoSection c.front.result.now = search rules in
+    let may : MayBecomeSection c.front.result.now = search rules in
     let full : c.args.bound.limit ≤ length c.fill.input.buffer = search rules in
-    trailers_endless _ _ c.fill.input.buffer c.front.result.now c.args.bound c.fill.invariant full (search rules) none
+    trailers_endless _ _ c.fill.input.buffer c.front.result.now c.args.bound c.fill.invariant full (search rules) none may
