@@ -8,22 +8,31 @@ use http_desk::desk::Desk;
 use http_desk::messages::{DONE, JOB_1, JOB_2, PRINT_JOB, RELEASE_JOB};
 use http_desk::refused::{BAD, POST_ALLOWED};
 use http_desk::requests::{
-    GET_QUEUE, IPP, POST_JOB, POST_RELEASE, POST_WAITING, REPORT_DONE, REPORT_START, TEXT,
+    GET_DOCUMENT, GET_QUEUE, IPP, OCTETS, POST_JOB, POST_RELEASE, POST_WAITING, REPORT_DONE,
+    REPORT_START, TEXT,
 };
 use http_front::End;
 use list_book::ListBook;
 use std::alloc::Global;
 
-/// Messages, lines of the device, its queue and refusals, one connection after another, to a queue in which alice has 30 pages.
+/// Messages, lines of the device, its queue, a document and refusals, one connection after another, to a queue in which alice has 30 pages.
 const CONNECTIONS: &[Connection<'static>] = &[
     Connection {
-        stream: &[POST_JOB, PRINT_JOB, POST_RELEASE, RELEASE_JOB, GET_QUEUE],
+        stream: &[
+            POST_JOB,
+            PRINT_JOB,
+            POST_RELEASE,
+            RELEASE_JOB,
+            GET_QUEUE,
+            GET_DOCUMENT,
+        ],
         acted: 2,
         end: End::Closed,
         wanted: &[
             Success(IPP, JOB_1),
             Success(IPP, DONE),
             Success(TEXT, b"1 1 1 2\n"),
+            Success(OCTETS, b"hi"),
         ],
     },
     Connection {
