@@ -88,11 +88,15 @@ impl QueueBook for ListBook {
 
     ghost is_live = { λ b. ⊤ };
 
+    // of lists a crash leaves nothing
+    ghost crash_leaves = { λ b v w. ⊤ };
+
     fn decide<'a>(&mut self, now: u32, event: &Event<'a>) -> Result<Decision<'a>, BookFault>
         requires moment { IsMoment now }
         requires event { IsEvent (event_of event.now) }
         ensures began { ⊤ → ⊤ }
         ensures kept { (w : World) → IsContent self.old w → IsContent self.new w }
+        ensures left { ⊤ → (v w : World) → ⊤ → ⊤ }
         ensures decides { ⊤ → IfOk result (λ d. (w : World) → IsContent self.new w
             → decision_of d ≡ decision (cut w (event_of event.now)) now (event_of event.now)) }
         ensures limits { IfOk result (λ d. IsReplyTo (event_of event.now) d.reply) }
@@ -112,6 +116,7 @@ impl QueueBook for ListBook {
         ensures began { ⊤ → ⊤ }
         ensures ok { OnOk result ((w : World) → IsContent self.old w → IsContent self.new (made_on (change_of decision.entry.change) w)) }
         ensures err { OnErr result ((w : World) → IsContent self.old w → IsContent self.new w) }
+        ensures crash { ⊤ → ⊤ → (w : World) → IsContent self.old w → ⊤ }
         ensures live { ⊤ → OnOk result ⊤ }
         ensures opened { ⊤ → ⊤ → ⊤ }
         ensures fault { IfErr result (λ f. f ≡ BookFault.Memory) }
@@ -133,6 +138,7 @@ impl QueueBook for ListBook {
     fn pending(&mut self) -> Result<JobList, BookFault>
         ensures began { ⊤ → ⊤ }
         ensures kept { (w : World) → IsContent self.old w → IsContent self.new w }
+        ensures left { ⊤ → (v w : World) → ⊤ → ⊤ }
         ensures jobs { ⊤ → IfOk result (λ js. (w : World) → IsContent self.new w → js ≡ pending_jobs w) }
         ensures damaged { ⊤ → IfErr result (λ e. e ≡ BookFault.Damaged → (w : World) → ¬ IsContent self.old w) }
         ensures live { ⊤ → OnOk result ⊤ }
@@ -146,6 +152,7 @@ impl QueueBook for ListBook {
     fn document_head(&mut self, job: u32, n: u32) -> Result<Option<DocumentHead>, BookFault>
         ensures began { ⊤ → ⊤ }
         ensures kept { (w : World) → IsContent self.old w → IsContent self.new w }
+        ensures left { ⊤ → (v w : World) → ⊤ → ⊤ }
         ensures head { ⊤ → IfOk result (λ h. (w : World) → IsContent self.new w → h ≡ option_map head_of (document_at w job n)) }
         ensures damaged { ⊤ → IfErr result (λ e. e ≡ BookFault.Damaged → (w : World) → ¬ IsContent self.old w) }
         ensures live { ⊤ → OnOk result ⊤ }
@@ -159,6 +166,7 @@ impl QueueBook for ListBook {
         requires there { (w : World) → ⊤ → IsContent self.old w → IsSome (document_at w job n) }
         ensures began { ⊤ → ⊤ }
         ensures kept { (w : World) → IsContent self.old w → IsContent self.new w }
+        ensures left { ⊤ → (v w : World) → ⊤ → ⊤ }
         ensures ok { ⊤ → IfOk result (λ sent. (w : World) (d : Document) → IsContent self.new w → document_at w job n ≡ Some d
             → (sent ≡ length d.bytes) × Appends (W.contents out.old) (W.contents out.new) d.bytes) }
         ensures err { ⊤ → IfErr result (λ f. (w : World) (d : Document) → IsContent self.old w → document_at w job n ≡ Some d
@@ -178,6 +186,7 @@ impl QueueBook for ListBook {
     fn sheet(&mut self, account: &str) -> Result<Option<AccountSheet>, BookFault>
         ensures began { ⊤ → ⊤ }
         ensures kept { (w : World) → IsContent self.old w → IsContent self.new w }
+        ensures left { ⊤ → (v w : World) → ⊤ → ⊤ }
         ensures sheet { ⊤ → IfOk result (λ s. (w : World) → IsContent self.new w → s ≡ sheet_of w account.now) }
         ensures damaged { ⊤ → IfErr result (λ e. e ≡ BookFault.Damaged → (w : World) → ¬ IsContent self.old w) }
         ensures live { ⊤ → OnOk result ⊤ }
@@ -189,4 +198,6 @@ impl QueueBook for ListBook {
     }
 
     ghost sound = { λ b w honest h. h.1 };
+
+    ghost lasts = { λ b w v honest live h. live };
 }

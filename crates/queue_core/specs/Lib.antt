@@ -1,3 +1,4 @@
+pub mod Crash
 pub mod Visible
 pub mod World
 pub mod Reports

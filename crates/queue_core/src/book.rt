@@ -3,6 +3,7 @@
 //! What a book may stand for is a relation to worlds. What is read of a book holds where it is honest as
 //! the call ends; a call that ends honest began so. A refused call leaves what the book stands for. What reads an
 //! honest book that stands for a queue is never told Damaged. A book that an error has shut answers nothing but faults.
+//! A crash, at whatever moment, leaves the queue from before a call or the one after it, and nothing between.
 ghost use Rattle.std.specs.Prelude.{◌≡◌, ◌≤◌, Some, IfErr, IfOk, IsSome, OnOk, OnErr, length, option_map, take};
 ghost use Rattle.std.specs.Io.KnownBytes.{Appends};
 ghost use Rattle.queue_core.specs.Book.{IsDecisionOn};
@@ -68,12 +69,16 @@ pub trait QueueBook {
     /// No error has shut the book: what it stands for is what it keeps. Nothing opens a shut book again, so every call is refused by it.
     ghost is_live: { Self → Type 0 };
 
+    /// Whatever a crash at this moment leaves of the book is found again as one of these two worlds.
+    ghost crash_leaves: { Self → World → World → Type 0 };
+
     /// What the machine decides at this moment on this event, within its limits. It changes nothing.
     fn decide<'a>(&mut self, now: u32, event: &Event<'a>) -> Result<Decision<'a>, BookFault>
         requires moment { IsMoment now }
         requires event { IsEvent (event_of event.now) }
         ensures began { is_honest self.new → is_honest self.old }
         ensures kept { (w : World) → stands self.old w → stands self.new w }
+        ensures left { is_honest self.new → (v w : World) → crash_leaves self.old v w → crash_leaves self.new v w }
         ensures decides { is_honest self.new → IfOk result (λ d. (w : World) → stands self.new w
             → decision_of d ≡ decision (cut w (event_of event.now)) now (event_of event.now)) }
         ensures damaged { is_honest self.new → IfErr result (λ e. e ≡ BookFault.Damaged → (w : World) → ¬ stands self.old w) }
@@ -88,6 +93,8 @@ pub trait QueueBook {
         ensures began { is_honest self.new → is_honest self.old }
         ensures ok { OnOk result ((w : World) → stands self.old w → stands self.new (made_on (change_of decision.entry.change) w)) }
         ensures err { OnErr result ((w : World) → stands self.old w → stands self.new w) }
+        // whatever it answers, and also where an error has shut the book
+        ensures crash { is_honest self.new → is_live self.old → (w : World) → stands self.old w → crash_leaves self.new w (made_on (change_of decision.entry.change) w) }
         ensures live { is_honest self.new → OnOk result (is_live self.new) }
         ensures opened { is_honest self.new → is_live self.new → is_live self.old };
 
@@ -95,6 +102,7 @@ pub trait QueueBook {
     fn pending(&mut self) -> Result<JobList, BookFault>
         ensures began { is_honest self.new → is_honest self.old }
         ensures kept { (w : World) → stands self.old w → stands self.new w }
+        ensures left { is_honest self.new → (v w : World) → crash_leaves self.old v w → crash_leaves self.new v w }
         ensures jobs { is_honest self.new → IfOk result (λ js. (w : World) → stands self.new w → js ≡ pending_jobs w) }
         ensures damaged { is_honest self.new → IfErr result (λ e. e ≡ BookFault.Damaged → (w : World) → ¬ stands self.old w) }
         ensures live { is_honest self.new → OnOk result (is_live self.new) }
@@ -104,6 +112,7 @@ pub trait QueueBook {
     fn document_head(&mut self, job: u32, n: u32) -> Result<Option<DocumentHead>, BookFault>
         ensures began { is_honest self.new → is_honest self.old }
         ensures kept { (w : World) → stands self.old w → stands self.new w }
+        ensures left { is_honest self.new → (v w : World) → crash_leaves self.old v w → crash_leaves self.new v w }
         ensures head { is_honest self.new → IfOk result (λ h. (w : World) → stands self.new w → h ≡ option_map head_of (document_at w job n)) }
         ensures damaged { is_honest self.new → IfErr result (λ e. e ≡ BookFault.Damaged → (w : World) → ¬ stands self.old w) }
         ensures live { is_honest self.new → OnOk result (is_live self.new) }
@@ -115,6 +124,7 @@ pub trait QueueBook {
         requires there { (w : World) → is_honest self.old → stands self.old w → IsSome (document_at w job n) }
         ensures began { is_honest self.new → is_honest self.old }
         ensures kept { (w : World) → stands self.old w → stands self.new w }
+        ensures left { is_honest self.new → (v w : World) → crash_leaves self.old v w → crash_leaves self.new v w }
         ensures ok { is_honest self.new → IfOk result (λ sent. (w : World) (d : Document) → stands self.new w → document_at w job n ≡ Some d
             → (sent ≡ length d.bytes) × Appends (W.contents out.old) (W.contents out.new) d.bytes) }
         ensures err { is_honest self.new → IfErr result (λ f. (w : World) (d : Document) → stands self.old w → document_at w job n ≡ Some d
@@ -129,6 +139,7 @@ pub trait QueueBook {
     fn sheet(&mut self, account: &str) -> Result<Option<AccountSheet>, BookFault>
         ensures began { is_honest self.new → is_honest self.old }
         ensures kept { (w : World) → stands self.old w → stands self.new w }
+        ensures left { is_honest self.new → (v w : World) → crash_leaves self.old v w → crash_leaves self.new v w }
         ensures sheet { is_honest self.new → IfOk result (λ s. (w : World) → stands self.new w → s ≡ sheet_of w account.now) }
         ensures damaged { is_honest self.new → IfErr result (λ e. e ≡ BookFault.Damaged → (w : World) → ¬ stands self.old w) }
         ensures live { is_honest self.new → OnOk result (is_live self.new) }
@@ -136,4 +147,7 @@ pub trait QueueBook {
 
     /// A world that an honest book stands for is sound.
     ghost sound: { (b : Self) (w : World) → is_honest b → stands b w → IsSound w };
+
+    /// Until an error shuts it, a crash leaves the world that an honest book stands for, and so one of this and any other.
+    ghost lasts: { (b : Self) (w v : World) → is_honest b → is_live b → stands b w → crash_leaves b w v };
 }

@@ -32,7 +32,11 @@ impl<B: QueueBook> QueueBook for BrokenBook<B> {
 
     ghost is_live = { λ b. ⊥ };
 
+    ghost crash_leaves = { λ b v w. ⊥ };
+
     ghost sound = { λ b w h s. absurd h };
+
+    ghost lasts = { λ b w v h live s. absurd h };
 
     fn decide<'a>(&mut self, now: u32, e: &Event<'a>) -> Result<Decision<'a>, BookFault> {
         self.inner.decide(now, e)

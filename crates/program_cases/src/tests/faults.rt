@@ -29,7 +29,11 @@ impl QueueBook for FaultyBook {
 
     ghost is_live = { λ b. ⊥ };
 
+    ghost crash_leaves = { λ b v w. ⊥ };
+
     ghost sound = { λ b w h s. absurd h };
+
+    ghost lasts = { λ b w v h live s. absurd h };
 
     fn decide<'a>(&mut self, _now: u32, _e: &Event<'a>) -> Result<Decision<'a>, BookFault> {
         Err(self.unread.unwrap_or(BookFault::Disk))
