@@ -36,18 +36,19 @@ use Rattle.queue_load.proofs.Unique.{Before, injected, one_order}
 
 -- ---- pieces with their bytes
 
-with_bytes : List PieceRow → List (List ℕ) → List Piece
+-- each row with the bytes at its place
+unfoldable pub with_bytes : List PieceRow → List (List ℕ) → List Piece
 with_bytes [] bs = []
 with_bytes (p ∷ ps) [] = []
 with_bytes (p ∷ ps) (b ∷ bs) = record { row = p; bytes = b } ∷ with_bytes ps bs
 
-whole_rows : (ps : List PieceRow) (bs : List (List ℕ)) → map whole_piece (with_bytes ps bs) ≡ piece_rows_in ps bs
+pub whole_rows : (ps : List PieceRow) (bs : List (List ℕ)) → map whole_piece (with_bytes ps bs) ≡ piece_rows_in ps bs
 unfolding with_bytes
 whole_rows [] bs = refl
 whole_rows (p ∷ ps) [] = refl
 whole_rows (p ∷ ps) (b ∷ bs) = ap (λ (rs : List Row). whole_piece (record { row = p; bytes = b }) ∷ rs) (whole_rows ps bs)
 
-their_rows : (ps : List PieceRow) (bs : List (List ℕ)) → map length bs ≡ map length_in ps → map row_of (with_bytes ps bs) ≡ ps
+pub their_rows : (ps : List PieceRow) (bs : List (List ℕ)) → map length bs ≡ map length_in ps → map row_of (with_bytes ps bs) ≡ ps
 unfolding with_bytes
 their_rows [] bs long = refl
 their_rows (p ∷ ps) [] long = absurd cc
@@ -55,7 +56,7 @@ their_rows (p ∷ ps) (b ∷ bs) long =
     let more : map length bs ≡ map length_in ps = cc in
     ap (λ (qs : List PieceRow). p ∷ qs) (their_rows ps bs more)
 
-each_long : (ps : List PieceRow) (bs : List (List ℕ)) → map length bs ≡ map length_in ps → Each IsLong (with_bytes ps bs)
+pub each_long : (ps : List PieceRow) (bs : List (List ℕ)) → map length bs ≡ map length_in ps → Each IsLong (with_bytes ps bs)
 unfolding with_bytes
 each_long [] bs long = tt
 each_long (p ∷ ps) [] long = tt

@@ -5,6 +5,7 @@ ghost use Rattle.sqlite.specs.Held.{state};
 ghost use Rattle.sqlite.specs.Listing.{understood};
 ghost use Rattle.sqlite.specs.Order.{Row as Columns};
 ghost use Rattle.sqlite.specs.State.{HasCleanDisk, IsUnchanged};
+ghost use Rattle.sqlite.specs.Tree.{Trees};
 ghost use Rattle.queue_load.specs.Reads.{FindsFormless, HasBook, HasRead, LeavesRows};
 ghost use Rattle.queue_tables.specs.Leaving.{LeavesTables};
 ghost use Rattle.queue_tables.specs.Queries.{IsQueryText};
@@ -34,6 +35,8 @@ pub trait TableRow: Drop {
 fn read_rows<S: Alter, T: TableRow>(alloc: Global, rows: &mut Rows<S>) -> Result<Vec<T>, Fault>
     ensures same_reference { rows.new.conn.ghost_name ≡ rows.old.conn.ghost_name }
     ensures clean { HasCleanDisk (state S.Store rows.new.conn.now) → HasCleanDisk (state S.Store rows.old.conn.now) }
+    // a crash leaves nothing but what it left before
+    ensures behind { HasCleanDisk (state S.Store rows.new.conn.now) → (db : Trees) → (state S.Store rows.new.conn.now).may_leave db → (state S.Store rows.old.conn.now).may_leave db }
     ensures read { HasCleanDisk (state S.Store rows.new.conn.now) → IsTrue (state S.Store rows.old.conn.now).is_open → (sql : List ℕ) → IsPlain (understood (state S.Store rows.old.conn.now).now.schema sql) → HasGiven S.Store sql [] rows.old.conn.now [] → IfOk result (λ v. HasRead T.tells sql (state S.Store rows.old.conn.now) v.items) }
     ensures formless { HasCleanDisk (state S.Store rows.new.conn.now) → IsTrue (state S.Store rows.old.conn.now).is_open → (sql : List ℕ) → HasGiven S.Store sql [] rows.old.conn.now [] → IfErr result (λ e. e ≡ Damaged → FindsFormless T.is_formless sql (state S.Store rows.old.conn.now)) }
     ensures same { HasCleanDisk (state S.Store rows.new.conn.now) → IsTrue (state S.Store rows.old.conn.now).is_open → OnOk result (IsUnchanged (state S.Store rows.old.conn.now) (state S.Store rows.new.conn.now)) }

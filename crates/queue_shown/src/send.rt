@@ -6,6 +6,7 @@ ghost use Rattle.sqlite.specs.Held.{state};
 ghost use Rattle.sqlite.specs.Listing.{understood};
 ghost use Rattle.sqlite.specs.Order.{Row as Columns};
 ghost use Rattle.sqlite.specs.State.{HasCleanDisk, IsUnchanged};
+ghost use Rattle.sqlite.specs.Tree.{Trees};
 ghost use Rattle.queue_core.specs.Shown.{document_at};
 ghost use Rattle.queue_core.specs.Sound.{IsSound};
 ghost use Rattle.queue_core.specs.World.{World};
@@ -120,6 +121,8 @@ fn send_rows<S: Alter, W: Write>(
     requires { written.old ≡ 0 }
     ensures same_reference { rows.new.conn.ghost_name ≡ rows.old.conn.ghost_name }
     ensures clean { HasCleanDisk (state S.Store rows.new.conn.now) → HasCleanDisk (state S.Store rows.old.conn.now) }
+    // a crash leaves nothing but what it left before
+    ensures behind { HasCleanDisk (state S.Store rows.new.conn.now) → (db : Trees) → (state S.Store rows.new.conn.now).may_leave db → (state S.Store rows.old.conn.now).may_leave db }
     ensures sent { HasCleanDisk (state S.Store rows.new.conn.now) → IsTrue (state S.Store rows.old.conn.now).is_open → (params : Columns) → IsPlain (understood (state S.Store rows.old.conn.now).now.schema pieces_select) → HasGiven S.Store pieces_select params rows.old.conn.now [] → OnOk result (HasSent params (state S.Store rows.old.conn.now) (W.contents out.old) (W.contents out.new) written.new) }
     ensures front { HasCleanDisk (state S.Store rows.new.conn.now) → IsTrue (state S.Store rows.old.conn.now).is_open → (params : Columns) → HasGiven S.Store pieces_select params rows.old.conn.now [] → OnErr result (HasSentFront params (state S.Store rows.old.conn.now) (W.contents out.old) (W.contents out.new) written.new) }
     ensures damaged { HasCleanDisk (state S.Store rows.new.conn.now) → IsTrue (state S.Store rows.old.conn.now).is_open → (params : Columns) → HasGiven S.Store pieces_select params rows.old.conn.now [] → IfErr result (λ stop. stop ≡ Stop.Tables Fault.Damaged → FindsNoBlob params (state S.Store rows.old.conn.now)) }
@@ -146,6 +149,8 @@ fn send_pieces<S: Alter, W: Write>(
 ) -> Result<(), Stop>
     requires { written.old ≡ 0 }
     ensures clean { HasCleanDisk (state S.Store conn.new) → HasCleanDisk (state S.Store conn.old) }
+    // a crash leaves nothing but what it left before
+    ensures behind { HasCleanDisk (state S.Store conn.new) → (db : Trees) → (state S.Store conn.new).may_leave db → (state S.Store conn.old).may_leave db }
     ensures opened { HasCleanDisk (state S.Store conn.new) → IsTrue (state S.Store conn.new).is_open → IsTrue (state S.Store conn.old).is_open }
     ensures live { HasCleanDisk (state S.Store conn.new) → OnOk result (IsTrue (state S.Store conn.new).is_open) }
     ensures writer_failed { HasCleanDisk (state S.Store conn.new) → IfErr result (λ stop. stop ≡ Stop.Write → IsTrue (state S.Store conn.new).is_open) }

@@ -19,7 +19,7 @@ use Rattle.sqlite.specs.Edit.{edit_of, edited, with_rowid, numbered, without_all
 use Rattle.sqlite.specs.Rowids.TheVariants.{Chosen, Given}
 use Rattle.sqlite.specs.Source.TheVariants.{Values}
 use Rattle.sqlite.specs.Command.TheVariants.{Insert, Update}
-use Rattle.sqlite.specs.Effect.{value_rows}
+use Rattle.sqlite.specs.Effect.{IsDatabase, value_rows}
 use Rattle.sqlite.specs.Listing.{understood}
 use Rattle.sqlite.specs.State.{State, Executes}
 use Rattle.sqlite.proofs.Callers.{IsPlain, command_of, one_permutation}
@@ -49,6 +49,7 @@ and_true false e = absurd cc
 -- the table has these rows, and each other one is as it was
 pub record Left (K : Type 0) (schema : Schema) (cells : Row → Row) (tree : ℕ) (values : List Row) (old new : State) : Type 0 where
   pub schema_is : new.now.schema ≡ schema
+  pub sound : IsDatabase new.now
   pub rows : HasRows K cells values (new.now.trees tree)
   pub others : AllByRecursion (λ (t : Table). t.tree ≢ tree → new.now.trees t.tree ≡ old.now.trees t.tree) schema.tables
 
@@ -71,6 +72,7 @@ module _ (schema : Schema) (sql : List ℕ) (at : ℕ) (p : Plain) (terms : List
       let got : HasRows K cells (cells n ∷ values) (put_row n (db p.tree)) = added cells values (db p.tree) rows n keyed fresh in
       record {
         schema_is = w.schema_is;
+        sound = w.sound;
         rows = subst (HasRows K cells (v ∷ values)) (sym after) (subst (λ (x : Row). HasRows K cells (x ∷ values) (put_row n (db p.tree))) shows got);
         others = w.applies.tables;
       }
@@ -106,6 +108,7 @@ module _ (schema : Schema) (sql : List ℕ) (at : ℕ) (p : Plain) (terms projec
       = u.2.applies.rows ∙ ap (λ (rs : List Row). edited db (edit_of db (table_of p) (ids_of rs) Given 1 rs)) given ∙ ap (λ (r : Row). put_row r rest) it.1 in
       record {
         schema_is = u.2.schema_is;
+        sound = u.2.sound;
         rows = subst (HasRows ⊤ cells (replaced q f values)) (sym after) (changed cells values (db p.tree) rows tt q f t was (put id) id one there like keyed it.2 fresh it.3);
         others = u.2.applies.tables;
       }
@@ -138,6 +141,7 @@ module _ (schema : Schema) (sql : List ℕ) (at : ℕ) (p : Plain) (terms projec
       let after : new.now.trees p.tree ≡ db p.tree = u.2.applies.rows ∙ ap (λ (rs : List Row). edited db (edit_of db (table_of p) (ids_of rs) Given 1 rs)) given in
       record {
         schema_is = u.2.schema_is;
+        sound = u.2.sound;
         rows = subst₂ (HasRows ⊤ cells) (sym (replaced_none q f values none)) (sym after) rows;
         others = u.2.applies.tables;
       }

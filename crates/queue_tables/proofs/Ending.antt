@@ -1,7 +1,7 @@
 -- How a transaction ends.
 use Rattle.std.proofs.Common.{◌≡◌, ◌⊎◌, inl, inr, sym, ap, subst, ◌∙◌, List, ℕ, Option, None, Some, IsTrue, true, Bool, Result, Ok, Err, OnOk, OnErr, IfOk, IfErr, IsErrAnd, ◌≤◌, arith}
 use Rattle.sqlite.specs.declared.error.Error.{Error}
-use Rattle.sqlite.specs.Effect.{Database}
+use Rattle.sqlite.specs.Effect.{Database, IsDatabase}
 use Rattle.sqlite.specs.State.{State, HasCleanDisk, IsRolledBack, Shows, IsUnchanged, FailsToQuery, FailsToShow, IsNotRun}
 use Rattle.sqlite.specs.Order.{Row}
 use Rattle.sqlite.specs.Clock.{timed}
@@ -24,6 +24,7 @@ fails_back old new e (inr late) open_still inside = absurd (let no = late.1 in c
 pub same_holds : (c : Content) (old new : State) → Holds c old → new.now ≡ old.now → IsTrue new.is_open → Holds c new
 same_holds c old new has same is_open = record {
   schema = ap (λ (d : Database). d.schema) same ∙ has.schema;
+  sound = subst IsDatabase (sym same) has.sound;
   rows = subst (λ (d : Database). HasContent c d.trees) (sym same) has.rows;
   live = is_open;
 }
@@ -38,7 +39,7 @@ on_ok (Err e) P Q then_q p = tt
 
 -- BEGIN changes no row
 pub begun_holds : {S : Type 0} (g : Ghosts S) (c : Content) (h : Held S) (new : Held S) → new ≡ record h { in_transaction = true } → Holds c (state g h) → Holds c (state g new)
-begun_holds g c h new e has = subst (λ (k : Held _). Holds c (state g k)) (sym e) (record { schema = has.schema; rows = has.rows; live = has.live })
+begun_holds g c h new e has = subst (λ (k : Held _). Holds c (state g k)) (sym e) (record { schema = has.schema; sound = has.sound; rows = has.rows; live = has.live })
 
 pub clean_before : (old new : State) → doubt old.is_clean ≤ doubt new.is_clean → HasCleanDisk new → HasCleanDisk old
 clean_before old new le clean = omega (arith, le, clean)

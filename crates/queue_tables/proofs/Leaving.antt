@@ -3,7 +3,8 @@ use Rattle.std.proofs.Common.{◌≡◌, ◌⊎◌, List, ℕ, Option, None, Som
 use Rattle.sqlite.specs.declared.error.Error.{Error}
 use Rattle.sqlite.specs.Given.{HasBegun}
 use Rattle.sqlite.specs.Held.{Held, state}
-use Rattle.sqlite.specs.State.{State, HasCleanDisk, IsUnchanged, IsRolledBack, FailsToQuery, Shown, ShowsRows}
+use Rattle.sqlite.specs.State.{State, HasCleanDisk, IsUnchanged, IsRolledBack, FailsToQuery, Shown, ShowsRows, Survives, CommitsShowing}
+use Rattle.sqlite.specs.Tree.{Trees}
 use Rattle.sqlite.specs.Order.{Row}
 use Rattle.sqlite.specs.Clock.{timed}
 use Rattle.sqlite_resolve.specs.declared.compiled.Compiled.{Compiled}
@@ -11,13 +12,13 @@ use Rattle.sqlite_schema.specs.declared.command.Returning.{Returning}
 use Rattle.sqlite_trees.specs.declared.store.Store.{Ghosts}
 use Rattle.queue_tables.specs.Content.{Content, HoldNoQueue, Holds, content_of}
 use Rattle.queue_tables.specs.Queries.{IsQueryText}
-use Rattle.queue_tables.proofs.Ending.{query_fails, same_holds}
-use Rattle.queue_tables.proofs.Queries.{query_changes_nothing, query_is_bare}
+use Rattle.queue_tables.proofs.Ending.{clean_before, query_fails, same_holds}
+use Rattle.queue_tables.proofs.Queries.{query_changes_nothing, query_is_bare, query_never_commits}
 use Rattle.queue_tables.specs.Leaving.{LeavesTables}
 
 -- nothing is done
 pub leaves_all : (s : State) → LeavesTables s s
-leaves_all s = record { clean = λ clean. clean; opened = λ clean live. live; same = λ clean live. refl; committed = λ clean live. refl }
+leaves_all s = record { clean = λ clean. clean; opened = λ clean live. live; same = λ clean live. refl; committed = λ clean live. refl; left = λ clean db may. may }
 
 -- one after another
 pub leaves_then : (a b c : State) → LeavesTables a b → LeavesTables b c → LeavesTables a c
@@ -26,6 +27,7 @@ leaves_then a b c first last = record {
   opened = λ clean live. first.opened (last.clean clean) (last.opened clean live);
   same = λ clean live. last.same clean live ∙ first.same (last.clean clean) (last.opened clean live);
   committed = λ clean live. last.committed clean live ∙ first.committed (last.clean clean) (last.opened clean live);
+  left = λ clean db may. first.left (last.clean clean) db (last.left clean db may);
 }
 
 pub leaves_three : (a b c d : State) → LeavesTables a b → LeavesTables b c → LeavesTables c d → LeavesTables a d
@@ -56,12 +58,14 @@ pub none_before : {old new : State} → LeavesTables old new → HasCleanDisk ne
 none_before leaves clean live none = λ w sound has. none w sound (holds_after leaves clean (content_of w) has live)
 
 -- outside a transaction: nothing is changed, or what was begun is undone
-pub left_leaves : (old new : State) → (IsTrue old.is_open → old.now ≡ old.committed) → (HasCleanDisk new → HasCleanDisk old) → (HasCleanDisk new → IsUnchanged old new ⊎ IsRolledBack old new) → LeavesTables old new
-left_leaves old new settled early left = record {
+pub left_leaves : (old new : State) → (IsTrue old.is_open → old.now ≡ old.committed) → (HasCleanDisk new → HasCleanDisk old) → (HasCleanDisk new → (db : Trees) → new.may_leave db → old.may_leave db)
+    → (HasCleanDisk new → IsUnchanged old new ⊎ IsRolledBack old new) → LeavesTables old new
+left_leaves old new settled early behind left = record {
   clean = early;
   opened = λ clean live. opened (left clean) live;
   same = λ clean live. same (left clean) live;
   committed = λ clean live. committed (left clean) live;
+  left = behind;
 }
   where
     opened : IsUnchanged old new ⊎ IsRolledBack old new → IsTrue new.is_open → IsTrue old.is_open
@@ -76,14 +80,22 @@ left_leaves old new settled early left = record {
     committed (inl unchanged) live = unchanged.0.committed_is
     committed (inr back) live = (back.undone live).1
 
+-- what a query may commit is nothing
+pub query_stays : (sql : List ℕ) (params : Row) (old new : State) → IsQueryText sql → Survives old new (CommitsShowing sql params old) → HasCleanDisk new → (db : Trees) → new.may_leave db → old.may_leave db
+query_stays sql params old new query survives clean db may = elim (survives.crash clean db may) [
+  | inl before ↦ before
+  | inr commits ↦ absurd (query_never_commits sql params old db query commits)
+]
+
 module _ {R : Type 0} (shows : R → List Row) (sql : List ℕ) (params : Row) (old new : State) (query : IsQueryText sql) where
   left_by : (r : Result R Error) → IfOk r (λ rows. Shown sql params old new (shows rows)) → IfErr r (FailsToQuery sql params old new) → IsUnchanged old new ⊎ IsRolledBack old new
   left_by (Ok rows) ok err = inl (query_changes_nothing sql params old new (shows rows) query ok)
   left_by (Err e) ok err = query_fails sql params old new e err
 
-  pub query_leaves_tables : (r : Result R Error) → (IsTrue old.is_open → old.now ≡ old.committed) → (HasCleanDisk new → HasCleanDisk old) → (HasCleanDisk new → IfOk r (λ rows. Shown sql params old new (shows rows)))
+  pub query_leaves_tables : (r : Result R Error) → (IsTrue old.is_open → old.now ≡ old.committed) → Survives old new (CommitsShowing sql params old) → (HasCleanDisk new → IfOk r (λ rows. Shown sql params old new (shows rows)))
       → (HasCleanDisk new → IfErr r (FailsToQuery sql params old new)) → LeavesTables old new
-  query_leaves_tables r settled early ok err = left_leaves old new settled early (λ clean. left_by r (ok clean) (err clean))
+  query_leaves_tables r settled survives ok err =
+      left_leaves old new settled (clean_before old new survives.clean) (query_stays sql params old new query survives) (λ clean. left_by r (ok clean) (err clean))
 
 -- a query that begins writes nothing
 pub begun_unchanged : {S : Type 0} (g : Ghosts S) (sql : List ℕ) (params : Row) (old new : Held S) → IsQueryText sql → HasBegun g sql params old new → IsUnchanged (state g old) (state g new)

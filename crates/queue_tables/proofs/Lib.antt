@@ -31,3 +31,4 @@ pub mod Firsts
 pub mod AccountRows
 pub mod Sizes
 pub mod Formed
+pub mod Crash

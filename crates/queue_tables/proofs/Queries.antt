@@ -11,7 +11,8 @@ use Rattle.sqlite_resolve.specs.declared.compiled.Compiled.{Compiled}
 use Rattle.sqlite_resolve.specs.Compile.{first, compiled, planned, meaning, returning, command, timed, small, with_command}
 use Rattle.queue_tables.specs.Queries.{is_query_statement, parses_query, IsQueryText}
 use Rattle.sqlite.specs.Listing.{understood, reads_listing, is_select, if_select, listing_schema}
-use Rattle.sqlite.specs.State.{State, Shown, ShowsRows, IsUnchanged}
+use Rattle.sqlite.specs.State.{State, Shown, ShowsRows, IsUnchanged, CommitsShowing}
+use Rattle.sqlite.specs.Tree.{Trees}
 use Rattle.sqlite.specs.Order.{Row}
 use Rattle.sqlite.specs.Clock.{timed as given}
 
@@ -60,3 +61,8 @@ query_changes_nothing sql params old new rows query h =
     let bare = query_is_bare old.now.schema sql h.0 query h.1.is in
     let shows : ShowsRows old new sql h.0 (given params h.0.formats h.1.now) rows None = rw bare at h.2 in
     shows.3
+
+-- a query commits nothing
+pub query_never_commits : (sql : List ℕ) (params : Row) (s : State) (db : Trees) → IsQueryText sql → ¬ CommitsShowing sql params s db
+unfolding CommitsShowing
+query_never_commits sql params s db query h = let bare = query_is_bare s.now.schema sql h.0 query h.1.is in let some = rw bare at h.2 in cc

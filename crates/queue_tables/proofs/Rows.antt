@@ -21,7 +21,7 @@ use Rattle.queue_tables.proofs.Statements.{insert_meta_text, insert_meta_terms, 
 
 -- the new row stands last
 last : {K : Type 0} {view : Row → Row} {tree : ℕ} (v : Row) (vs : List Row) (old new : State) → Left K book_schema view tree (v ∷ vs) old new → Left K book_schema view tree (vs ++ v ∷ []) old new
-last v vs old new l = record { schema_is = l.schema_is; rows = reordered (at_end v vs) l.rows; others = l.others }
+last v vs old new l = record { schema_is = l.schema_is; sound = l.sound; rows = reordered (at_end v vs) l.rows; others = l.others }
 
 -- ---- tables whose key is the rowid
 

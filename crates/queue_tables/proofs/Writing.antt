@@ -60,6 +60,7 @@ module _ (schema : Schema) (sql : List ℕ) (at : ℕ) (p : Plain) (terms : List
       let same : new.now.trees ≡ written.0 = ap (λ (d : Database). d.trees) now ∙ trees in
       record {
         schema_is = ap (λ (d : Database). d.schema) now;
+        sound = w.sound;
         applies = subst (λ (t : Trees). Applies schema Enforced db (edit_of db (table_of p) [] Chosen 0 (row ∷ [])) t) (sym same) (subst (λ (rs : List Row). Applies schema Enforced db (edit_of db (table_of p) [] Chosen 0 rs) written.0) rows applied);
         shows = w.shown;
       }
@@ -133,6 +134,7 @@ module _ (schema : Schema) (sql : List ℕ) (at : ℕ) (p : Plain) (terms projec
         listed,
         record {
           schema_is = ap (λ (d : Database). d.schema) now;
+          sound = w.sound;
           applies = subst (λ (t : Trees). Applies schema Enforced db (edit_of db (table_of p) (ids_of given.0) Given 1 given.0) t) (sym same) applied;
           shows = w.shown;
         },

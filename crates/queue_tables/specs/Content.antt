@@ -1,10 +1,12 @@
 -- What the tables hold, and which world they stand for.
-use Rattle.std.specs.Prelude.{◌≡◌, ⊤, ℕ, pos, ◌+◌, List, [], ◌∷◌, ◌++◌, Some, All, map, flat_map, length, IsTrue}
+use Rattle.std.specs.Prelude.{◌≡◌, ◌⊎◌, ⊤, ℕ, pos, ◌+◌, List, [], ◌∷◌, ◌++◌, Some, All, map, flat_map, length, IsTrue}
 use Rattle.std.specs.List.{range_with_len}
 use Rattle.std.specs.FinMap.{entries}
 use Rattle.sqlite.specs.Order.{Row}
 use Rattle.sqlite.specs.Tree.{Trees}
+use Rattle.sqlite.specs.Effect.{IsDatabase}
 use Rattle.sqlite.specs.State.{State}
+use Rattle.sqlite_catalog.specs.Listing.{IsSound as KeepsSchema}
 use Rattle.queue_types.specs.declared.document.Document.{Document}
 use Rattle.queue_types.specs.declared.job.Job.{Job}
 use Rattle.queue_core.specs.World.{World, job_at, rows}
@@ -62,9 +64,20 @@ pub record HasContent (c : Content) (db : Trees) : Type 0 where
   pub grants : HasRows ⊥ grant_view c.grants (db 8)
   pub reports : HasRows ⊥ report_view c.reports (db 10)
 
--- the connection is open, and its tables have these rows
+-- these trees list the tables and indexes of a book, and hold the rows of this sound queue
+pub record IsBookOf (w : World) (db : Trees) : Type 0 where
+  pub sound : IsSound w
+  pub tables : KeepsSchema book_schema db
+  pub rows : HasContent (content_of w) db
+
+-- each database that a crash may leave holds this queue or that one
+abbrev pub LeavesOneOf : World → World → State → Type 0
+LeavesOneOf v w s = (db : Trees) → s.may_leave db → IsBookOf v db ⊎ IsBookOf w db
+
+-- the connection is open, its trees list the tables and indexes of a book, and the tables have these rows
 pub record Holds (c : Content) (s : State) : Type 0 where
   pub schema : s.now.schema ≡ book_schema
+  pub sound : IsDatabase s.now
   pub rows : HasContent c s.now.trees
   pub live : IsTrue s.is_open
 

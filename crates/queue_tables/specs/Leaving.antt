@@ -1,10 +1,19 @@
--- What a query leaves as it was.
+-- What a query, or a statement of a transaction, leaves as it was.
 use Rattle.std.specs.Prelude.{◌≡◌, IsTrue}
 use Rattle.sqlite.specs.State.{State, HasCleanDisk}
+use Rattle.sqlite.specs.Tree.{Trees}
 
--- a connection that is open was open, shows what it showed, and has committed nothing. It says nothing once the disk has lied
+-- a connection that is open was open, shows what it showed, and has committed nothing; open or not, a crash leaves nothing but what
+-- it left before. It says nothing once the disk has lied
 pub record LeavesTables (old new : State) : Type 0 where
   pub clean : HasCleanDisk new → HasCleanDisk old
   pub opened : HasCleanDisk new → IsTrue new.is_open → IsTrue old.is_open
   pub same : HasCleanDisk new → IsTrue new.is_open → new.now ≡ old.now
   pub committed : HasCleanDisk new → IsTrue new.is_open → new.committed ≡ old.committed
+  pub left : HasCleanDisk new → (db : Trees) → new.may_leave db → old.may_leave db
+
+-- nothing was committed, and a crash leaves nothing but what it left before
+pub record KeepsBehind (old new : State) : Type 0 where
+  pub was_open : IsTrue new.is_open → IsTrue old.is_open
+  pub committed : IsTrue new.is_open → new.committed ≡ old.committed
+  pub left : (db : Trees) → new.may_leave db → old.may_leave db

@@ -14,6 +14,7 @@ use Rattle.sqlite_schema.specs.declared.schema.Column.{Column}
 use Rattle.sqlite_schema.specs.declared.schema.Reference.{Reference}
 use Rattle.sqlite_schema.specs.declared.schema.Keys.TheVariants.{Enforced}
 use Rattle.sqlite.specs.State.{State, Shows}
+use Rattle.sqlite.specs.Effect.{IsDatabase}
 
 pub record Plain : Type 0 where
   pub name : List ℕ
@@ -63,8 +64,9 @@ passes filter params r = list_all (holds (params ∷ r ∷ [])) filter
 abbrev pub shown_of : List Term → Row → Row → Row
 shown_of project params r = eval_all project (params ∷ r ∷ [])
 
--- one write of rows: the schema stays, and each tree but this table's is as it was
+-- one write of rows: the schema stays, which the trees list and obey, and each tree but this table's is as it was
 pub record Wrote (schema : Schema) (edit : Edit) (old new : State) : Type 0 where
   pub schema_is : new.now.schema ≡ schema
+  pub sound : IsDatabase new.now
   pub applies : Applies schema Enforced old.now.trees edit new.now.trees
   pub shows : Shows old new new.now (if old.in_transaction then old.committed else new.now) old.in_transaction

@@ -1,13 +1,14 @@
 //! The tables after a decision.
 ghost use Rattle.std.specs.Prelude.{◌≡◌, OnOk, IsTrue, IfSome, None, option_map, unwrap_or};
 ghost use Rattle.std.specs.FinMap.{get};
-ghost use Rattle.sqlite.specs.State.{HasCleanDisk, KeepsCommit};
+ghost use Rattle.sqlite.specs.State.{HasCleanDisk};
 ghost use Rattle.sqlite.specs.Held.{state};
 ghost use Rattle.queue_core.specs.Book.{IsDecisionOn};
 ghost use Rattle.queue_types.specs.Event.{change_of, decision_of, document_of};
 ghost use Rattle.queue_core.specs.Sound.{IsSound};
 ghost use Rattle.queue_core.specs.World.{World, made_on};
 ghost use Rattle.queue_tables.specs.Content.{Holds, content_of};
+ghost use Rattle.queue_tables.specs.Leaving.{KeepsBehind};
 ghost use Rattle.queue_tables.specs.Steps.{AreDistinct, with_added, with_kept, with_next};
 
 use crate::account_rows::put_frees;
@@ -30,7 +31,7 @@ fn put_any_document<S: Alter>(
 ) -> Result<(), Fault>
     ensures same_reference { tx.new.conn.ghost_name ≡ tx.old.conn.ghost_name }
     ensures clean { HasCleanDisk (state S.Store tx.new.conn.now) → HasCleanDisk (state S.Store tx.old.conn.now) }
-    ensures kept { HasCleanDisk (state S.Store tx.new.conn.now) → IsTrue (state S.Store tx.old.conn.now).in_transaction → KeepsCommit (state S.Store tx.old.conn.now) (state S.Store tx.new.conn.now) }
+    ensures kept { HasCleanDisk (state S.Store tx.new.conn.now) → IsTrue (state S.Store tx.old.conn.now).in_transaction → KeepsBehind (state S.Store tx.old.conn.now) (state S.Store tx.new.conn.now) }
     ensures inside { HasCleanDisk (state S.Store tx.new.conn.now) → OnOk result (IsTrue (state S.Store tx.old.conn.now).in_transaction → IsTrue (state S.Store tx.new.conn.now).in_transaction) }
     ensures done { HasCleanDisk (state S.Store tx.new.conn.now) → OnOk result ((w : World) → AreDistinct w.jobs → Holds (content_of w) (state S.Store tx.old.conn.now) → Holds (content_of (with_added (option_map document_of document.now) w)) (state S.Store tx.new.conn.now)) }
 {
@@ -47,7 +48,7 @@ fn put_any_report<S: Alter>(
 ) -> Result<(), Fault>
     ensures same_reference { tx.new.conn.ghost_name ≡ tx.old.conn.ghost_name }
     ensures clean { HasCleanDisk (state S.Store tx.new.conn.now) → HasCleanDisk (state S.Store tx.old.conn.now) }
-    ensures kept { HasCleanDisk (state S.Store tx.new.conn.now) → IsTrue (state S.Store tx.old.conn.now).in_transaction → KeepsCommit (state S.Store tx.old.conn.now) (state S.Store tx.new.conn.now) }
+    ensures kept { HasCleanDisk (state S.Store tx.new.conn.now) → IsTrue (state S.Store tx.old.conn.now).in_transaction → KeepsBehind (state S.Store tx.old.conn.now) (state S.Store tx.new.conn.now) }
     ensures inside { HasCleanDisk (state S.Store tx.new.conn.now) → OnOk result (IsTrue (state S.Store tx.old.conn.now).in_transaction → IsTrue (state S.Store tx.new.conn.now).in_transaction) }
     ensures done { HasCleanDisk (state S.Store tx.new.conn.now) → OnOk result ((w : World) → IfSome report.now (λ k. get w.reports (k.report.job, k.report.seq) ≡ None) → Holds (content_of w) (state S.Store tx.old.conn.now) → Holds (content_of (with_kept report.now w)) (state S.Store tx.new.conn.now)) }
 {
@@ -61,7 +62,7 @@ fn put_any_report<S: Alter>(
 fn put_any_next<S: Alter>(tx: &mut Transaction<'_, S>, next: Option<u32>) -> Result<(), Fault>
     ensures same_reference { tx.new.conn.ghost_name ≡ tx.old.conn.ghost_name }
     ensures clean { HasCleanDisk (state S.Store tx.new.conn.now) → HasCleanDisk (state S.Store tx.old.conn.now) }
-    ensures kept { HasCleanDisk (state S.Store tx.new.conn.now) → IsTrue (state S.Store tx.old.conn.now).in_transaction → KeepsCommit (state S.Store tx.old.conn.now) (state S.Store tx.new.conn.now) }
+    ensures kept { HasCleanDisk (state S.Store tx.new.conn.now) → IsTrue (state S.Store tx.old.conn.now).in_transaction → KeepsBehind (state S.Store tx.old.conn.now) (state S.Store tx.new.conn.now) }
     ensures inside { HasCleanDisk (state S.Store tx.new.conn.now) → OnOk result (IsTrue (state S.Store tx.old.conn.now).in_transaction → IsTrue (state S.Store tx.new.conn.now).in_transaction) }
     ensures done { HasCleanDisk (state S.Store tx.new.conn.now) → OnOk result ((w : World) → Holds (content_of w) (state S.Store tx.old.conn.now) → Holds (content_of (with_next (unwrap_or next w.next) w)) (state S.Store tx.new.conn.now)) }
 {
@@ -79,7 +80,7 @@ pub(crate) fn write_change<S: Alter>(
 ) -> Result<(), Fault>
     ensures same_reference { tx.new.conn.ghost_name ≡ tx.old.conn.ghost_name }
     ensures clean { HasCleanDisk (state S.Store tx.new.conn.now) → HasCleanDisk (state S.Store tx.old.conn.now) }
-    ensures kept { HasCleanDisk (state S.Store tx.new.conn.now) → IsTrue (state S.Store tx.old.conn.now).in_transaction → KeepsCommit (state S.Store tx.old.conn.now) (state S.Store tx.new.conn.now) }
+    ensures kept { HasCleanDisk (state S.Store tx.new.conn.now) → IsTrue (state S.Store tx.old.conn.now).in_transaction → KeepsBehind (state S.Store tx.old.conn.now) (state S.Store tx.new.conn.now) }
     ensures inside { HasCleanDisk (state S.Store tx.new.conn.now) → OnOk result (IsTrue (state S.Store tx.old.conn.now).in_transaction → IsTrue (state S.Store tx.new.conn.now).in_transaction) }
     ensures made { HasCleanDisk (state S.Store tx.new.conn.now) → OnOk result ((w : World) → IsSound w → IsDecisionOn w (decision_of decision.now) → Holds (content_of w) (state S.Store tx.old.conn.now) → Holds (content_of (made_on (change_of decision.now.change) w)) (state S.Store tx.new.conn.now)) }
 {

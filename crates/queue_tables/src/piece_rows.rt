@@ -1,9 +1,10 @@
 //! The statements on pieces of documents.
 ghost use Rattle.std.specs.Prelude.{◌≡◌, ◌≤◌, OnOk, IsTrue, length};
-ghost use Rattle.sqlite.specs.State.{HasCleanDisk, KeepsCommit};
+ghost use Rattle.sqlite.specs.State.{HasCleanDisk};
 ghost use Rattle.sqlite.specs.Held.{state};
 ghost use Rattle.queue_rows.specs.Pieces.{pieces_in};
 ghost use Rattle.queue_tables.specs.Content.{Content, Holds};
+ghost use Rattle.queue_tables.specs.Leaving.{KeepsBehind};
 ghost use Rattle.queue_tables.specs.Steps.{with_piece_row, with_pieces};
 ghost use Rattle.queue_tables.specs.Values.{piece_values};
 
@@ -24,7 +25,7 @@ fn insert_piece<S: Alter>(
 ) -> Result<(), Fault>
     ensures same_reference { tx.new.conn.ghost_name ≡ tx.old.conn.ghost_name }
     ensures clean { HasCleanDisk (state S.Store tx.new.conn.now) → HasCleanDisk (state S.Store tx.old.conn.now) }
-    ensures kept { HasCleanDisk (state S.Store tx.new.conn.now) → IsTrue (state S.Store tx.old.conn.now).in_transaction → KeepsCommit (state S.Store tx.old.conn.now) (state S.Store tx.new.conn.now) }
+    ensures kept { HasCleanDisk (state S.Store tx.new.conn.now) → IsTrue (state S.Store tx.old.conn.now).in_transaction → KeepsBehind (state S.Store tx.old.conn.now) (state S.Store tx.new.conn.now) }
     ensures inside { HasCleanDisk (state S.Store tx.new.conn.now) → OnOk result (IsTrue (state S.Store tx.old.conn.now).in_transaction → IsTrue (state S.Store tx.new.conn.now).in_transaction) }
     ensures done { HasCleanDisk (state S.Store tx.new.conn.now) → OnOk result ((c : Content) → Holds c (state S.Store tx.old.conn.now) → Holds (with_piece_row (piece_values job doc piece bytes.now) c) (state S.Store tx.new.conn.now)) }
 {
@@ -46,7 +47,7 @@ pub(crate) fn insert_pieces<S: Alter>(
     requires { length bytes.now ≤ 16777216 }
     ensures same_reference { tx.new.conn.ghost_name ≡ tx.old.conn.ghost_name }
     ensures clean { HasCleanDisk (state S.Store tx.new.conn.now) → HasCleanDisk (state S.Store tx.old.conn.now) }
-    ensures kept { HasCleanDisk (state S.Store tx.new.conn.now) → IsTrue (state S.Store tx.old.conn.now).in_transaction → KeepsCommit (state S.Store tx.old.conn.now) (state S.Store tx.new.conn.now) }
+    ensures kept { HasCleanDisk (state S.Store tx.new.conn.now) → IsTrue (state S.Store tx.old.conn.now).in_transaction → KeepsBehind (state S.Store tx.old.conn.now) (state S.Store tx.new.conn.now) }
     ensures inside { HasCleanDisk (state S.Store tx.new.conn.now) → OnOk result (IsTrue (state S.Store tx.old.conn.now).in_transaction → IsTrue (state S.Store tx.new.conn.now).in_transaction) }
     ensures done { HasCleanDisk (state S.Store tx.new.conn.now) → OnOk result ((c : Content) → Holds c (state S.Store tx.old.conn.now) → Holds (with_pieces job doc bytes.now (pieces_in (length bytes.now)) c) (state S.Store tx.new.conn.now)) }
 {

@@ -1,10 +1,11 @@
 //! The jobs of a change, with the sums of their accounts.
 ghost use Rattle.std.specs.Prelude.{◌≡◌, ◌≤◌, ◌^◌, OnOk, IsTrue, Some, None, length, fold};
-ghost use Rattle.sqlite.specs.State.{HasCleanDisk, KeepsCommit};
+ghost use Rattle.sqlite.specs.State.{HasCleanDisk};
 ghost use Rattle.sqlite.specs.Held.{state};
 ghost use Rattle.queue_core.specs.World.{World, rows, job_at, with_row};
 ghost use Rattle.queue_types.specs.declared.job.Job.{Job as JobValue};
 ghost use Rattle.queue_tables.specs.Content.{Holds, content_of};
+ghost use Rattle.queue_tables.specs.Leaving.{KeepsBehind};
 ghost use Rattle.queue_tables.specs.Steps.{IsSummable, bare, with_put, with_puts};
 
 use crate::account_rows::add_to_sums;
@@ -19,7 +20,7 @@ use std::alloc::Global;
 fn enter_job<S: Alter>(tx: &mut Transaction<'_, S>, job: &Job) -> Result<(), Fault>
     ensures same_reference { tx.new.conn.ghost_name ≡ tx.old.conn.ghost_name }
     ensures clean { HasCleanDisk (state S.Store tx.new.conn.now) → HasCleanDisk (state S.Store tx.old.conn.now) }
-    ensures kept { HasCleanDisk (state S.Store tx.new.conn.now) → IsTrue (state S.Store tx.old.conn.now).in_transaction → KeepsCommit (state S.Store tx.old.conn.now) (state S.Store tx.new.conn.now) }
+    ensures kept { HasCleanDisk (state S.Store tx.new.conn.now) → IsTrue (state S.Store tx.old.conn.now).in_transaction → KeepsBehind (state S.Store tx.old.conn.now) (state S.Store tx.new.conn.now) }
     ensures inside { HasCleanDisk (state S.Store tx.new.conn.now) → OnOk result (IsTrue (state S.Store tx.old.conn.now).in_transaction → IsTrue (state S.Store tx.new.conn.now).in_transaction) }
     ensures done { HasCleanDisk (state S.Store tx.new.conn.now) → OnOk result ((w : World) → IsSummable w.jobs → job_at job.now.number (rows w) ≡ None → length (with_row w.jobs job.now) ≤ 2 ^ 31 → Holds (content_of w) (state S.Store tx.old.conn.now) → IsSummable (with_row w.jobs job.now) × Holds (content_of (with_put job.now w)) (state S.Store tx.new.conn.now)) }
 {
@@ -32,7 +33,7 @@ fn enter_job<S: Alter>(tx: &mut Transaction<'_, S>, job: &Job) -> Result<(), Fau
 fn replace_job<S: Alter>(tx: &mut Transaction<'_, S>, job: &Job, before: &Job) -> Result<(), Fault>
     ensures same_reference { tx.new.conn.ghost_name ≡ tx.old.conn.ghost_name }
     ensures clean { HasCleanDisk (state S.Store tx.new.conn.now) → HasCleanDisk (state S.Store tx.old.conn.now) }
-    ensures kept { HasCleanDisk (state S.Store tx.new.conn.now) → IsTrue (state S.Store tx.old.conn.now).in_transaction → KeepsCommit (state S.Store tx.old.conn.now) (state S.Store tx.new.conn.now) }
+    ensures kept { HasCleanDisk (state S.Store tx.new.conn.now) → IsTrue (state S.Store tx.old.conn.now).in_transaction → KeepsBehind (state S.Store tx.old.conn.now) (state S.Store tx.new.conn.now) }
     ensures inside { HasCleanDisk (state S.Store tx.new.conn.now) → OnOk result (IsTrue (state S.Store tx.old.conn.now).in_transaction → IsTrue (state S.Store tx.new.conn.now).in_transaction) }
     ensures done { HasCleanDisk (state S.Store tx.new.conn.now) → OnOk result ((w : World) (was : JobValue) → IsSummable w.jobs → job_at job.now.number (rows w) ≡ Some was → before.now ≡ bare was → length (with_row w.jobs job.now) ≤ 2 ^ 31 → Holds (content_of w) (state S.Store tx.old.conn.now) → IsSummable (with_row w.jobs job.now) × Holds (content_of (with_put job.now w)) (state S.Store tx.new.conn.now)) }
 {
@@ -47,7 +48,7 @@ fn replace_job<S: Alter>(tx: &mut Transaction<'_, S>, job: &Job, before: &Job) -
 fn put_job<S: Alter>(alloc: Global, tx: &mut Transaction<'_, S>, job: &Job) -> Result<(), Fault>
     ensures same_reference { tx.new.conn.ghost_name ≡ tx.old.conn.ghost_name }
     ensures clean { HasCleanDisk (state S.Store tx.new.conn.now) → HasCleanDisk (state S.Store tx.old.conn.now) }
-    ensures kept { HasCleanDisk (state S.Store tx.new.conn.now) → IsTrue (state S.Store tx.old.conn.now).in_transaction → KeepsCommit (state S.Store tx.old.conn.now) (state S.Store tx.new.conn.now) }
+    ensures kept { HasCleanDisk (state S.Store tx.new.conn.now) → IsTrue (state S.Store tx.old.conn.now).in_transaction → KeepsBehind (state S.Store tx.old.conn.now) (state S.Store tx.new.conn.now) }
     ensures inside { HasCleanDisk (state S.Store tx.new.conn.now) → OnOk result (IsTrue (state S.Store tx.old.conn.now).in_transaction → IsTrue (state S.Store tx.new.conn.now).in_transaction) }
     ensures done { HasCleanDisk (state S.Store tx.new.conn.now) → OnOk result ((w : World) → IsSummable w.jobs → length (with_row w.jobs job.now) ≤ 2 ^ 31 → Holds (content_of w) (state S.Store tx.old.conn.now) → IsSummable (with_row w.jobs job.now) × Holds (content_of (with_put job.now w)) (state S.Store tx.new.conn.now)) }
 {
@@ -65,7 +66,7 @@ pub(crate) fn put_jobs<S: Alter>(
 ) -> Result<(), Fault>
     ensures same_reference { tx.new.conn.ghost_name ≡ tx.old.conn.ghost_name }
     ensures clean { HasCleanDisk (state S.Store tx.new.conn.now) → HasCleanDisk (state S.Store tx.old.conn.now) }
-    ensures kept { HasCleanDisk (state S.Store tx.new.conn.now) → IsTrue (state S.Store tx.old.conn.now).in_transaction → KeepsCommit (state S.Store tx.old.conn.now) (state S.Store tx.new.conn.now) }
+    ensures kept { HasCleanDisk (state S.Store tx.new.conn.now) → IsTrue (state S.Store tx.old.conn.now).in_transaction → KeepsBehind (state S.Store tx.old.conn.now) (state S.Store tx.new.conn.now) }
     ensures inside { HasCleanDisk (state S.Store tx.new.conn.now) → OnOk result (IsTrue (state S.Store tx.old.conn.now).in_transaction → IsTrue (state S.Store tx.new.conn.now).in_transaction) }
     ensures done { HasCleanDisk (state S.Store tx.new.conn.now) → OnOk result ((w : World) → IsSummable w.jobs → length (fold with_row w.jobs jobs.now) ≤ 2 ^ 31 → Holds (content_of w) (state S.Store tx.old.conn.now) → IsSummable (fold with_row w.jobs jobs.now) × Holds (content_of (with_puts jobs.now w)) (state S.Store tx.new.conn.now)) }
 {

@@ -14,6 +14,7 @@ rows-init g c =
       λ clean. clean,
       λ clean live. unchanged_open old live,
       λ clean sql given. ([], given, rw c.new-items.ensures.items tt),
+      λ clean db may. may,
     )
 
 pub returns-in_default-clause-read : goal.returns-in_default-clause-read
@@ -62,4 +63,5 @@ rows-preserved g c =
           let row = c.in-Some.row.now in
           let given = (rw (c.in_ok-row.was, c.in-Some.is) at (moved.ok clean)) sql [] was.0 was.1 in
           (was.0 ++ row ∷ [], given, rw c.in_ok-push.ensures.items (tell_more g.T.TableRow.tells c.rows.items.items was.0 c.in_ok-read.field-0 row was.2 c.in_ok-read.ensures.ok)),
+      search rules,
     )

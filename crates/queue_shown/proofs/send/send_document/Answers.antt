@@ -17,7 +17,7 @@ returns-then-not-is_autocommit-clause-leaves g c = leaves_all (state g.S.Store c
 pub returns-in-Ok-clause-leaves : goal.returns-in-Ok-clause-leaves
 returns-in-Ok-clause-leaves g c =
     let outside : IsTrue c.is_autocommit.result = search rules in
-    left_leaves (state g.S.Store c.args.conn.now) (state g.S.Store c.send_pieces.new.conn) (c.is_autocommit.ensures.settled outside) c.send_pieces.ensures.clean c.send_pieces.ensures.left
+    left_leaves (state g.S.Store c.args.conn.now) (state g.S.Store c.send_pieces.new.conn) (c.is_autocommit.ensures.settled outside) c.send_pieces.ensures.clean c.send_pieces.ensures.behind c.send_pieces.ensures.left
 
 pub returns-in-Ok-clause-ok : goal.returns-in-Ok-clause-ok
 returns-in-Ok-clause-ok g c clean w d sound has there =
@@ -27,7 +27,7 @@ returns-in-Ok-clause-ok g c clean w d sound has there =
 pub returns-in-Err-clause-leaves : goal.returns-in-Err-clause-leaves
 returns-in-Err-clause-leaves g c =
     let outside : IsTrue c.is_autocommit.result = search rules in
-    left_leaves (state g.S.Store c.args.conn.now) (state g.S.Store c.send_pieces.new.conn) (c.is_autocommit.ensures.settled outside) c.send_pieces.ensures.clean c.send_pieces.ensures.left
+    left_leaves (state g.S.Store c.args.conn.now) (state g.S.Store c.send_pieces.new.conn) (c.is_autocommit.ensures.settled outside) c.send_pieces.ensures.clean c.send_pieces.ensures.behind c.send_pieces.ensures.left
 
 pub returns-in-Err-clause-err : goal.returns-in-Err-clause-err
 returns-in-Err-clause-err g c clean w d sound has there =

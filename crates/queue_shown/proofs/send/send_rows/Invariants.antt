@@ -4,10 +4,11 @@ use Rattle.sqlite.specs.Given.{HasGiven}
 use Rattle.sqlite.specs.Held.{state}
 use Rattle.sqlite.specs.Order.{Row}
 use Rattle.sqlite.specs.State.{HasCleanDisk, IsUnchanged}
+use Rattle.sqlite.specs.Tree.{Trees}
 use Rattle.queue_shown.specs.Sent.{pieces_select, bytes_of}
 use Rattle.queue_shown.proofs.send.send_rows.Given as goal
 
--- the rows given so far were written, and the rows of the tables are as they were
+-- the rows given so far were written, the rows of the tables are as they were, and a crash leaves nothing but what it left before
 abbrev pub invariant-rows : goal.invariant-rows
 invariant-rows g l =
     let old = state g.S.Store l.initial.rows.conn.now in
@@ -17,3 +18,4 @@ invariant-rows g l =
     × (HasCleanDisk now → IsTrue old.is_open → IsUnchanged old now)
     × (HasCleanDisk now → (params : Row) → HasGiven g.S.Store pieces_select params l.initial.rows.conn.now [] → (given : List Row) × HasGiven g.S.Store pieces_select params l.rows.conn.now given
     × Appends (g.W.Write.contents l.initial.out) (g.W.Write.contents l.out) (bytes_of given) × (l.written ≡ length (bytes_of given)))
+    × (HasCleanDisk now → (db : Trees) → now.may_leave db → old.may_leave db)

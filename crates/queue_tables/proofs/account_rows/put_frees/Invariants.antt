@@ -1,8 +1,9 @@
 use Rattle.std.proofs.Common.{◌≡◌, IsTrue, take}
-use Rattle.sqlite.specs.State.{HasCleanDisk, KeepsCommit}
+use Rattle.sqlite.specs.State.{HasCleanDisk}
 use Rattle.sqlite.specs.Held.{state}
 use Rattle.queue_core.specs.World.{World}
 use Rattle.queue_tables.specs.Content.{Holds, content_of}
+use Rattle.queue_tables.specs.Leaving.{KeepsBehind}
 use Rattle.queue_tables.specs.Steps.{AreCovered, with_frees}
 use Rattle.queue_tables.proofs.account_rows.put_frees.Given as goal
 
@@ -12,6 +13,6 @@ invariant-loop-k g l =
     let now = state g.S.Store l.tx.conn.now in
     (l.tx.conn.ghost_name ≡ l.fn.tx.conn.ghost_name)
     × (HasCleanDisk now → HasCleanDisk first)
-    × (HasCleanDisk now → IsTrue first.in_transaction → KeepsCommit first now)
+    × (HasCleanDisk now → IsTrue first.in_transaction → KeepsBehind first now)
     × (HasCleanDisk now → IsTrue first.in_transaction → IsTrue now.in_transaction)
     × (HasCleanDisk now → (w : World) → AreCovered w → Holds (content_of w) first → AreCovered (with_frees (take l.k l.fn.accounts) w) × Holds (content_of (with_frees (take l.k l.fn.accounts) w)) now)

@@ -1,8 +1,9 @@
 use Rattle.std.proofs.Common.{◌≡◌, IsTrue, take, drop, fold}
-use Rattle.sqlite.specs.State.{HasCleanDisk, KeepsCommit}
+use Rattle.sqlite.specs.State.{HasCleanDisk}
 use Rattle.sqlite.specs.Held.{state}
 use Rattle.queue_core.specs.World.{World, AreNew, put_grant}
 use Rattle.queue_tables.specs.Content.{Holds, content_of}
+use Rattle.queue_tables.specs.Leaving.{KeepsBehind}
 use Rattle.queue_tables.specs.Steps.{with_grants}
 use Rattle.queue_tables.proofs.grant_rows.insert_grants.Given as goal
 
@@ -12,6 +13,6 @@ invariant-loop-k g l =
     let now = state g.S.Store l.tx.conn.now in
     (l.tx.conn.ghost_name ≡ l.fn.tx.conn.ghost_name)
     × (HasCleanDisk now → HasCleanDisk first)
-    × (HasCleanDisk now → IsTrue first.in_transaction → KeepsCommit first now)
+    × (HasCleanDisk now → IsTrue first.in_transaction → KeepsBehind first now)
     × (HasCleanDisk now → IsTrue first.in_transaction → IsTrue now.in_transaction)
     × (HasCleanDisk now → (w : World) → AreNew w.grants l.fn.grants → Holds (content_of w) first → AreNew (fold put_grant w.grants (take l.k l.fn.grants)) (drop l.k l.fn.grants) × Holds (content_of (with_grants (take l.k l.fn.grants) w)) now)

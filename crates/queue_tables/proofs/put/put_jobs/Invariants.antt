@@ -1,8 +1,9 @@
 use Rattle.std.proofs.Common.{◌≡◌, ◌≤◌, IsTrue, length, fold, take}
-use Rattle.sqlite.specs.State.{HasCleanDisk, KeepsCommit}
+use Rattle.sqlite.specs.State.{HasCleanDisk}
 use Rattle.sqlite.specs.Held.{state}
 use Rattle.queue_core.specs.World.{World, with_row}
 use Rattle.queue_tables.specs.Content.{Holds, content_of}
+use Rattle.queue_tables.specs.Leaving.{KeepsBehind}
 use Rattle.queue_tables.specs.Steps.{IsSummable, with_puts}
 use Rattle.queue_tables.proofs.put.put_jobs.Given as goal
 
@@ -12,7 +13,7 @@ invariant-loop-k g l =
     let now = state g.S.Store l.tx.conn.now in
     (l.tx.conn.ghost_name ≡ l.fn.tx.conn.ghost_name)
     × (HasCleanDisk now → HasCleanDisk first)
-    × (HasCleanDisk now → IsTrue first.in_transaction → KeepsCommit first now)
+    × (HasCleanDisk now → IsTrue first.in_transaction → KeepsBehind first now)
     × (HasCleanDisk now → IsTrue first.in_transaction → IsTrue now.in_transaction)
     × (HasCleanDisk now → (w : World) → IsSummable w.jobs → length (fold with_row w.jobs l.fn.jobs) ≤ 2147483648 → Holds (content_of w) first
     → IsSummable (fold with_row w.jobs (take l.k l.fn.jobs)) × Holds (content_of (with_puts (take l.k l.fn.jobs) w)) now)
