@@ -179,7 +179,7 @@ fn take_in_files<D: Disk + Drop>(
     step: Step<'_>,
 ) -> Result<(), StepFault> {
     let taken = take_stored(desk, &mut book, step);
-    book.let_go();
+    let _ = book.into_files();
     taken
 }
 
@@ -194,7 +194,11 @@ impl<F: BookFiles> Shelf for InFile<F> {
         first: &[Step<'_>],
         steps: &[Step<'_>],
     ) -> Result<(), StepFault> {
-        self.files.create(desk.alloc(), desk.settings()?)?.let_go();
+        // its files are let go at once
+        let _ = self
+            .files
+            .create(desk.alloc(), desk.settings()?)?
+            .into_files();
         for step in first.iter().chain(steps) {
             let book = self.files.open(desk.alloc())?;
             take_in_files(desk, book, *step)?;

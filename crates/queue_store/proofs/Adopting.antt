@@ -1,7 +1,7 @@
 -- Tables that were adopted, and files that were opened.
 use Rattle.std.proofs.Common.{◌≡◌, ◌<◌, List, [], ◌∷◌, IsTrue, inl, inr, map, length, sym, ap, subst, ◌∙◌, arith}
 use Rattle.std.proofs.lemmas.List.Sorted.{length_permutation}
-use Rattle.sqlite.specs.Effect.{Database}
+use Rattle.sqlite.specs.Effect.{Database, IsDatabase}
 use Rattle.sqlite.specs.Files.{AreFoundIn}
 use Rattle.sqlite.specs.Order.{Row}
 use Rattle.sqlite.specs.Schema.{Schema}
@@ -28,15 +28,16 @@ use Rattle.queue_store.specs.declared.book.TableBook.{TableBook}
 row_of : (t : Tables) (d : Database) (has : HasQueue t d) → t.meta ≡ meta_row has.world ∷ []
 row_of t d has = sym (ap (λ (u : Tables). u.meta) has.rows)
 
-pub adopted : (t : Tables) (old new : State) (settings : SettingValues) → HasQueue t old.now → IsUnchanged old new → (IsTrue old.is_open → old.now ≡ old.committed)
+pub adopted : (t : Tables) (old new : State) (settings : SettingValues) → HasQueue t old.now → IsLive old → IsUnchanged old new → (IsTrue old.is_open → old.now ≡ old.committed)
     → ((m : MetaRow) → t.meta ≡ m ∷ [] → settings ≡ settings_in m) → HasWorld new settings
-adopted t old new settings has same settled told = record {
+adopted t old new settings has live same settled told = record {
   world = has.world;
   keeps = record {
     sound = has.queue.sound;
     settings_are = told (meta_row has.world) (row_of t old.now has);
     holds = λ is_open. record {
       schema = ap (λ (d : Database). d.schema) same.0.now_is ∙ has.queue.schema;
+      sound = subst IsDatabase (sym same.0.now_is) (live same.0.was_open).0;
       rows = subst (λ (d : Database). HasContent (content_of has.world) d.trees) (sym same.0.now_is) has.queue.rows;
       live = is_open;
     };

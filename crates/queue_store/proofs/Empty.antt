@@ -3,6 +3,7 @@ use Rattle.std.proofs.Common.{◌≡◌, ℕ, ℤ, pos, List, [], ◌∷◌, map
 use Rattle.std.specs.declared.cmp.Ordering.{Ordering}
 use Rattle.std.specs.FinMap.{empty, entries, from_sorted, empty_of_len, len-entries, entries-from_sorted}
 use Rattle.std.proofs.lemmas.List.Sorted.{IsPermutation-refl}
+use Rattle.sqlite.specs.Effect.{IsDatabase}
 use Rattle.sqlite.specs.Order.{Row}
 use Rattle.sqlite.specs.State.{State}
 use Rattle.queue_types.specs.Settings.{SettingValues}
@@ -22,9 +23,10 @@ none_keyed = record { ints = λ k d low. absurd (omega (arith, low)); apart = λ
 no_rows : {K : Type 0} (view : Row → Row) (rows : List Row) → rows ≡ [] → HasRows K view [] rows
 no_rows {K} view rows none = subst (λ (rs : List Row). HasRows K view [] rs) (sym none) (record { same = IsPermutation-refl []; keyed = λ k. none_keyed })
 
-pub made_holds : (s : State) → IsMade schema10 s → IsTrue s.is_open → Holds no_content s
-made_holds s m is_open = record {
+pub made_holds : (s : State) → IsMade schema10 s → IsDatabase s.now → IsTrue s.is_open → Holds no_content s
+made_holds s m sound is_open = record {
   schema = m.schema_is ∙ all_made;
+  sound = sound;
   rows = record {
     meta = no_rows _ _ m.empty.0;
     jobs = no_rows _ _ m.empty.1.0;

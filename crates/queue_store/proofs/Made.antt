@@ -5,6 +5,7 @@ use Rattle.sqlite.specs.Change.{created, next_tree, KeepsRows}
 use Rattle.sqlite.specs.Command.TheVariants.{CreateTable, CreateIndex}
 use Rattle.sqlite.specs.Compile.{table_defined_by}
 use Rattle.sqlite.specs.Does.{lacks_sequence}
+use Rattle.sqlite.specs.Effect.{IsDatabase}
 use Rattle.sqlite.specs.Listing.{understood}
 use Rattle.sqlite.specs.State.{State, Executes}
 use Rattle.sqlite.specs.Schema.{Schema}
@@ -12,7 +13,7 @@ use Rattle.sqlite.specs.Table.{Table}
 use Rattle.sqlite.specs.Tree.{Trees}
 use Rattle.sqlite_catalog.specs.Change.{indexed}
 use Rattle.sqlite_schema.specs.declared.schema.Index.{Index}
-use Rattle.sqlite.proofs.Callers.{IsPlain, command_of, statement_of}
+use Rattle.sqlite.proofs.Callers.{IsPlain, command_of, statement_of, runs_as}
 use Rattle.sqlite_resolve.specs.Compile.{index_defined_by}
 use Rattle.sqlite_tied.specs.Compute.{everything}
 use Rattle.queue_tables.specs.Plain.{table_of}
@@ -58,6 +59,10 @@ indexes : (schema : Schema) (sql : List ℕ) (at : ℕ) (table : Table) (index :
 indexes schema sql at table index is old new count has h =
     let it = creates_index schema sql at table index is.command is.whole is.placed is.defined is.plain old new count has.schema_is h in
     record { schema_is = it.schema_is; empty = still_empty old.now.trees new.now.trees schema.tables it.rows has.empty }
+
+index_sound : (schema : Schema) (sql : List ℕ) (at : ℕ) (table : Table) (index : Index) → Indexes schema sql at table index
+    → (old new : State) (count : ℕ) → IsMade schema old → Executes sql [] old new (Ok count) → IsDatabase new.now
+index_sound schema sql at table index is old new count has h = (runs_as sql [] old new schema has.schema_is (CreateIndex at) is.command is.plain count h).sound
 
 -- ---- meta
 
@@ -148,6 +153,9 @@ by_phase_is = record { command = refl; whole = refl; placed = refl; defined = re
 
 pub makes_by_phase : (old new : State) (count : ℕ) → IsMade schema9 old → Executes by_phase_text [] old new (Ok count) → IsMade schema10 new
 makes_by_phase = indexes schema9 by_phase_text 1 (table_of jobs) (record by_phase { tree = 0 }) by_phase_is
+
+pub sound_by_phase : (old new : State) (count : ℕ) → IsMade schema9 old → Executes by_phase_text [] old new (Ok count) → IsDatabase new.now
+sound_by_phase = index_sound schema9 by_phase_text 1 (table_of jobs) (record by_phase { tree = 0 }) by_phase_is
 
 pub all_made : schema10 ≡ book_schema
 unfolding understood everything

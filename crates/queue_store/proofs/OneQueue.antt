@@ -17,12 +17,13 @@ use Rattle.queue_rows.specs.Sound.{AreSoundRows}
 use Rattle.queue_rows.specs.declared.rows.PieceRow.{PieceRow}
 use Rattle.queue_tables.specs.Content.{Content, HasContent}
 use Rattle.queue_tables.specs.Values.{account_view, document_values, document_view, grant_values, grant_view, job_values, job_view, meta_values, meta_view, piece_view, report_values, report_view}
-use Rattle.queue_load.specs.Content.{HaveRows, content_in, piece_rows_in}
+use Rattle.queue_load.specs.Content.{HaveRows, content_in}
 use Rattle.queue_load.specs.Loaded.{IsBare, IsLong, IsTable, Piece, key_cmp, row_of, whole_piece}
 use Rattle.queue_load.specs.Queues.{IsQueueIn}
 use Rattle.queue_load.specs.Store.{AreAccountTables, AreJobTables, AreTables, IsLoadable}
 use Rattle.queue_load.specs.Tells.{account_row_values}
 use Rattle.queue_load.proofs.Injects.{same_piece}
+use Rattle.queue_load.proofs.Queues.{with_bytes, whole_rows, their_rows, each_long}
 use Rattle.queue_load.proofs.Rising.{EntryBefore, PieceBefore, accounts_rise, documents_rise, entries_rise, grants_rise, jobs_rise, piece_less, pieces_rise, reports_rise}
 use Rattle.queue_load.proofs.Unique.{Before, injected, key_total, one_order}
 
@@ -58,27 +59,8 @@ pieces_up : (ps : List Piece) → IsAscending PieceBefore (map row_of ps) → Is
 pieces_up [] up = tt
 pieces_up (p ∷ ps) up = (each_later p ps up.0, pieces_up ps up.1)
 
-with_bytes : List PieceRow → List (List ℕ) → List Piece
-with_bytes [] bs = []
-with_bytes (p ∷ ps) [] = []
-with_bytes (p ∷ ps) (b ∷ bs) = record { row = p; bytes = b } ∷ with_bytes ps bs
-
 bytes_in : Piece → List ℕ
 bytes_in p = p.bytes
-
-whole_rows : (ps : List PieceRow) (bs : List (List ℕ)) → map whole_piece (with_bytes ps bs) ≡ piece_rows_in ps bs
-unfolding with_bytes
-whole_rows [] bs = refl
-whole_rows (p ∷ ps) [] = refl
-whole_rows (p ∷ ps) (b ∷ bs) = ap (λ (rs : List Row). whole_piece (record { row = p; bytes = b }) ∷ rs) (whole_rows ps bs)
-
-their_rows : (ps : List PieceRow) (bs : List (List ℕ)) → map length bs ≡ map length_in ps → map row_of (with_bytes ps bs) ≡ ps
-unfolding with_bytes
-their_rows [] bs long = refl
-their_rows (p ∷ ps) [] long = absurd cc
-their_rows (p ∷ ps) (b ∷ bs) long =
-    let more : map length bs ≡ map length_in ps = cc in
-    ap (λ (qs : List PieceRow). p ∷ qs) (their_rows ps bs more)
 
 their_bytes : (ps : List PieceRow) (bs : List (List ℕ)) → map length bs ≡ map length_in ps → map bytes_in (with_bytes ps bs) ≡ bs
 unfolding with_bytes bytes_in
@@ -88,15 +70,6 @@ their_bytes (p ∷ ps) [] long = refl
 their_bytes (p ∷ ps) (b ∷ bs) long =
     let more : map length bs ≡ map length_in ps = cc in
     ap (λ (cs : List (List ℕ)). b ∷ cs) (their_bytes ps bs more)
-
-each_long : (ps : List PieceRow) (bs : List (List ℕ)) → map length bs ≡ map length_in ps → Each IsLong (with_bytes ps bs)
-unfolding with_bytes
-each_long [] bs long = tt
-each_long (p ∷ ps) [] long = tt
-each_long (p ∷ ps) (b ∷ bs) long =
-    let here : length b ≡ p.length = cc in
-    let more : map length bs ≡ map length_in ps = cc in
-    (here, each_long ps bs more)
 
 -- ---- a queue in tables
 

@@ -1,24 +1,19 @@
 -- What a close leaves of the files of a book.
 use Rattle.sqlite.specs.Closing.{HoldsAlone}
 use Rattle.sqlite.specs.Files.{image_of}
-use Rattle.sqlite_catalog.specs.Listing.{IsSound as KeepsSchema}
 use Rattle.sqlite_disk.specs.declared.Disk.{Ghosts}
 use Rattle.sqlite_disk.specs.declared.Files.{Files}
 use Rattle.sqlite_trees.specs.Tree.{Trees}
 use Rattle.sqlite_wal.specs.Files.{outcomes}
 use Rattle.sqlite_wal.specs.Recovery.{Image}
-use Rattle.queue_core.specs.Sound.{IsSound}
 use Rattle.queue_core.specs.World.{World}
-use Rattle.queue_tables.specs.Content.{HasContent, content_of}
-use Rattle.queue_tables.specs.Tables.{book_schema}
+use Rattle.queue_tables.specs.Content.{IsBookOf}
 
--- the database in the files has the tables of a book and the rows of this sound queue, and the database file holds it without its log too
+-- the files hold this queue, and the database file holds it without its log too
 pub record IsKeptAlone (image : Image) (w : World) : Type 0 where
-  pub sound : IsSound w
   pub db : Trees
   pub alone : HoldsAlone image db
-  pub tables : KeepsSchema book_schema db
-  pub rows : HasContent (content_of w) db
+  pub book : IsBookOf w db
 
 -- so it is as the files read now, and after a crash
 pub record KeepAlone {D : Type 0} (g : Ghosts D) (files : Files D) (w : World) : Type 0 where

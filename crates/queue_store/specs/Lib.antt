@@ -1,5 +1,7 @@
 pub mod Closed
+pub mod Crash
 pub mod Kept
+pub mod Laws
 pub mod Made
 pub mod New
 pub mod Opened

@@ -1,6 +1,7 @@
 -- A new book.
-use Rattle.std.specs.Prelude.{[], ◌∷◌, ◌||◌, Bool, is_some, codes}
+use Rattle.std.specs.Prelude.{◌≡◌, [], ◌∷◌, ◌||◌, Bool, IsTrue, is_some, codes}
 use Rattle.sqlite.specs.Schema.{Schema}
+use Rattle.sqlite.specs.State.{State, HasCleanDisk}
 use Rattle.sqlite_schema.specs.Names.{table_named}
 use Rattle.queue_types.specs.Settings.{SettingValues}
 use Rattle.queue_core.specs.World.{empty_queue}
@@ -18,6 +19,13 @@ new_content m = record no_content { meta = meta_values m ∷ [] }
 -- the row of a new book
 abbrev pub new_meta : SettingValues → MetaRow
 new_meta s = meta_row (empty_queue s)
+
+-- a connection that is open was open, shows what it showed, and has committed nothing. It says nothing once the disk has lied
+pub record KeepsTables (old new : State) : Type 0 where
+  pub clean : HasCleanDisk new → HasCleanDisk old
+  pub opened : HasCleanDisk new → IsTrue new.is_open → IsTrue old.is_open
+  pub same : HasCleanDisk new → IsTrue new.is_open → new.now ≡ old.now
+  pub committed : HasCleanDisk new → IsTrue new.is_open → new.committed ≡ old.committed
 
 -- the name of a table is taken
 abbrev pub has_any : Schema → Bool

@@ -54,6 +54,8 @@ fn settings_in_tables<S: Alter>(alloc: Global, conn: &mut Connection<S>) -> Resu
     if !conn.is_autocommit() {
         return Err(Fault::Disk);
     }
+    // and of this one that they are those of the schema
+    let _schema = conn.schema();
     let rows = load_queue(alloc, conn)?;
     settings_of(alloc, &rows)
 }

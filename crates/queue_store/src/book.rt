@@ -6,9 +6,8 @@ ghost use Rattle.sqlite.specs.Steps.{over_memory};
 ghost use Rattle.queue_core.specs.World.{World, empty_queue};
 ghost use Rattle.queue_core.specs.declared.book.BookFault.TheVariants.{Damaged};
 ghost use Rattle.queue_store.specs.Kept.{IsHonest, StandsFor, connection_of, shown_by};
-ghost use Rattle.queue_store.specs.New.{has_any, new_meta};
+ghost use Rattle.queue_store.specs.New.{KeepsTables, has_any, new_meta};
 ghost use Rattle.queue_tables.specs.Content.{Holds, content_of};
-ghost use Rattle.queue_tables.specs.Leaving.{LeavesTables};
 ghost use Rattle.queue_tables.specs.Tables.{no_schema};
 
 use crate::create::make_tables;
@@ -81,7 +80,7 @@ fn make_new<S: Alter>(
     ensures blank { IfOk result (λ u. (state S.Store conn.old).now.schema ≡ no_schema) }
     ensures made { HasCleanDisk (state S.Store conn.new) → IfOk result (λ u. Holds (content_of (empty_queue settings.now)) (state S.Store conn.new)) }
     ensures settled { HasCleanDisk (state S.Store conn.new) → IfOk result (λ u. (state S.Store conn.new).now ≡ (state S.Store conn.new).committed) }
-    ensures refused { OnErr result (LeavesTables (state S.Store conn.old) (state S.Store conn.new)) }
+    ensures refused { OnErr result (KeepsTables (state S.Store conn.old) (state S.Store conn.new)) }
     ensures damaged { IfErr result (λ e. e ≡ Fault.Damaged → IsTrue (has_any (state S.Store conn.old).now.schema)) }
 {
     // its contract says that outside a transaction the tables are those of the last commit
@@ -110,7 +109,7 @@ impl<S: Alter> TableBook<S> {
         ensures stands { IfOk result (λ b. StandsFor S.Store b (empty_queue settings)) }
         ensures live { IfOk result (λ b. IsHonest S.Store b → IsTrue (shown_by S.Store b).is_open) }
         ensures damaged { IfErr result (λ e. e.0 ≡ Damaged → IsTrue (has_any (state S.Store conn).now.schema)) }
-        ensures handed { IfErr result (λ e. LeavesTables (state S.Store conn) (state S.Store e.1)) }
+        ensures handed { IfErr result (λ e. KeepsTables (state S.Store conn) (state S.Store e.1)) }
     {
         empty_is_sound();
         // its contract says that the settings are within their limits

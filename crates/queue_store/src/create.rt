@@ -1,12 +1,12 @@
 //! A new book: its tables, and the row of its settings.
 ghost use Rattle.std.specs.Prelude.{◌≡◌, ◌≢◌, [], IfErr, IfOk, Ok, OnErr, OnOk, IsTrue};
-ghost use Rattle.sqlite.specs.State.{ExecutesInside};
-ghost use Rattle.sqlite.specs.State.{HasCleanDisk, KeepsCommit};
+ghost use Rattle.sqlite.specs.Effect.{IsDatabase};
+ghost use Rattle.sqlite.specs.State.{ExecutesInside, HasCleanDisk};
 ghost use Rattle.sqlite.specs.Held.{state};
 ghost use Rattle.queue_store.specs.Made.{IsMade, schema4, schema7, schema10};
-ghost use Rattle.queue_store.specs.New.{new_content};
+ghost use Rattle.queue_store.specs.New.{KeepsTables, new_content};
 ghost use Rattle.queue_tables.specs.Content.{Content, Holds};
-ghost use Rattle.queue_tables.specs.Leaving.{LeavesTables};
+ghost use Rattle.queue_tables.specs.Leaving.{KeepsBehind};
 ghost use Rattle.queue_tables.specs.Steps.{with_meta_row};
 ghost use Rattle.queue_tables.specs.Tables.{no_schema};
 ghost use Rattle.queue_tables.specs.Values.{meta_values};
@@ -21,7 +21,7 @@ use sqlite::{Alter, Connection, Transaction};
 fn define<S: Alter>(tx: &mut Transaction<'_, S>, sql: &str) -> Result<usize, Fault>
     ensures same_reference { tx.new.conn.ghost_name ≡ tx.old.conn.ghost_name }
     ensures clean { HasCleanDisk (state S.Store tx.new.conn.now) → HasCleanDisk (state S.Store tx.old.conn.now) }
-    ensures kept { HasCleanDisk (state S.Store tx.new.conn.now) → IsTrue (state S.Store tx.old.conn.now).in_transaction → KeepsCommit (state S.Store tx.old.conn.now) (state S.Store tx.new.conn.now) }
+    ensures kept { HasCleanDisk (state S.Store tx.new.conn.now) → IsTrue (state S.Store tx.old.conn.now).in_transaction → KeepsBehind (state S.Store tx.old.conn.now) (state S.Store tx.new.conn.now) }
     ensures inside { HasCleanDisk (state S.Store tx.new.conn.now) → OnOk result (IsTrue (state S.Store tx.old.conn.now).in_transaction → IsTrue (state S.Store tx.new.conn.now).in_transaction) }
     ensures ran { HasCleanDisk (state S.Store tx.new.conn.now) → IfOk result (λ count. ExecutesInside 0 sql.now [] (state S.Store tx.old.conn.now) (state S.Store tx.new.conn.now) (Ok count)) }
     ensures never { IfErr result (λ e. e ≢ Damaged) }
@@ -34,7 +34,7 @@ fn define<S: Alter>(tx: &mut Transaction<'_, S>, sql: &str) -> Result<usize, Fau
 fn create_first<S: Alter>(tx: &mut Transaction<'_, S>) -> Result<(), Fault>
     ensures same_reference { tx.new.conn.ghost_name ≡ tx.old.conn.ghost_name }
     ensures clean { HasCleanDisk (state S.Store tx.new.conn.now) → HasCleanDisk (state S.Store tx.old.conn.now) }
-    ensures kept { HasCleanDisk (state S.Store tx.new.conn.now) → IsTrue (state S.Store tx.old.conn.now).in_transaction → KeepsCommit (state S.Store tx.old.conn.now) (state S.Store tx.new.conn.now) }
+    ensures kept { HasCleanDisk (state S.Store tx.new.conn.now) → IsTrue (state S.Store tx.old.conn.now).in_transaction → KeepsBehind (state S.Store tx.old.conn.now) (state S.Store tx.new.conn.now) }
     ensures inside { HasCleanDisk (state S.Store tx.new.conn.now) → OnOk result (IsTrue (state S.Store tx.old.conn.now).in_transaction → IsTrue (state S.Store tx.new.conn.now).in_transaction) }
     ensures done { HasCleanDisk (state S.Store tx.new.conn.now) → OnOk result ((state S.Store tx.old.conn.now).now.schema ≡ no_schema → IsMade schema4 (state S.Store tx.new.conn.now)) }
     ensures never { IfErr result (λ e. e ≢ Damaged) }
@@ -62,7 +62,7 @@ fn create_first<S: Alter>(tx: &mut Transaction<'_, S>) -> Result<(), Fault>
 fn create_second<S: Alter>(tx: &mut Transaction<'_, S>) -> Result<(), Fault>
     ensures same_reference { tx.new.conn.ghost_name ≡ tx.old.conn.ghost_name }
     ensures clean { HasCleanDisk (state S.Store tx.new.conn.now) → HasCleanDisk (state S.Store tx.old.conn.now) }
-    ensures kept { HasCleanDisk (state S.Store tx.new.conn.now) → IsTrue (state S.Store tx.old.conn.now).in_transaction → KeepsCommit (state S.Store tx.old.conn.now) (state S.Store tx.new.conn.now) }
+    ensures kept { HasCleanDisk (state S.Store tx.new.conn.now) → IsTrue (state S.Store tx.old.conn.now).in_transaction → KeepsBehind (state S.Store tx.old.conn.now) (state S.Store tx.new.conn.now) }
     ensures inside { HasCleanDisk (state S.Store tx.new.conn.now) → OnOk result (IsTrue (state S.Store tx.old.conn.now).in_transaction → IsTrue (state S.Store tx.new.conn.now).in_transaction) }
     ensures done { HasCleanDisk (state S.Store tx.new.conn.now) → OnOk result (IsMade schema4 (state S.Store tx.old.conn.now) → IsMade schema7 (state S.Store tx.new.conn.now)) }
     ensures never { IfErr result (λ e. e ≢ Damaged) }
@@ -86,9 +86,9 @@ fn create_second<S: Alter>(tx: &mut Transaction<'_, S>) -> Result<(), Fault>
 fn create_indexes<S: Alter>(tx: &mut Transaction<'_, S>) -> Result<(), Fault>
     ensures same_reference { tx.new.conn.ghost_name ≡ tx.old.conn.ghost_name }
     ensures clean { HasCleanDisk (state S.Store tx.new.conn.now) → HasCleanDisk (state S.Store tx.old.conn.now) }
-    ensures kept { HasCleanDisk (state S.Store tx.new.conn.now) → IsTrue (state S.Store tx.old.conn.now).in_transaction → KeepsCommit (state S.Store tx.old.conn.now) (state S.Store tx.new.conn.now) }
+    ensures kept { HasCleanDisk (state S.Store tx.new.conn.now) → IsTrue (state S.Store tx.old.conn.now).in_transaction → KeepsBehind (state S.Store tx.old.conn.now) (state S.Store tx.new.conn.now) }
     ensures inside { HasCleanDisk (state S.Store tx.new.conn.now) → OnOk result (IsTrue (state S.Store tx.old.conn.now).in_transaction → IsTrue (state S.Store tx.new.conn.now).in_transaction) }
-    ensures done { HasCleanDisk (state S.Store tx.new.conn.now) → OnOk result (IsMade schema7 (state S.Store tx.old.conn.now) → IsMade schema10 (state S.Store tx.new.conn.now) × IsTrue (state S.Store tx.new.conn.now).is_open) }
+    ensures done { HasCleanDisk (state S.Store tx.new.conn.now) → OnOk result (IsMade schema7 (state S.Store tx.old.conn.now) → IsMade schema10 (state S.Store tx.new.conn.now) × IsDatabase (state S.Store tx.new.conn.now).now × IsTrue (state S.Store tx.new.conn.now).is_open) }
     ensures never { IfErr result (λ e. e ≢ Damaged) }
 {
     define(tx, "CREATE INDEX jobs_by_owner ON jobs (owner, phase)")?;
@@ -104,7 +104,7 @@ fn create_indexes<S: Alter>(tx: &mut Transaction<'_, S>) -> Result<(), Fault>
 fn add_meta<S: Alter>(tx: &mut Transaction<'_, S>, meta: &MetaRow) -> Result<(), Fault>
     ensures same_reference { tx.new.conn.ghost_name ≡ tx.old.conn.ghost_name }
     ensures clean { HasCleanDisk (state S.Store tx.new.conn.now) → HasCleanDisk (state S.Store tx.old.conn.now) }
-    ensures kept { HasCleanDisk (state S.Store tx.new.conn.now) → IsTrue (state S.Store tx.old.conn.now).in_transaction → KeepsCommit (state S.Store tx.old.conn.now) (state S.Store tx.new.conn.now) }
+    ensures kept { HasCleanDisk (state S.Store tx.new.conn.now) → IsTrue (state S.Store tx.old.conn.now).in_transaction → KeepsBehind (state S.Store tx.old.conn.now) (state S.Store tx.new.conn.now) }
     ensures inside { HasCleanDisk (state S.Store tx.new.conn.now) → OnOk result (IsTrue (state S.Store tx.old.conn.now).in_transaction → IsTrue (state S.Store tx.new.conn.now).in_transaction) }
     ensures done { HasCleanDisk (state S.Store tx.new.conn.now) → OnOk result ((c : Content) → Holds c (state S.Store tx.old.conn.now) → Holds (with_meta_row (meta_values meta.now) c) (state S.Store tx.new.conn.now)) }
     ensures never { IfErr result (λ e. e ≢ Damaged) }
@@ -120,7 +120,7 @@ fn add_meta<S: Alter>(tx: &mut Transaction<'_, S>, meta: &MetaRow) -> Result<(),
 fn create_all<S: Alter>(tx: &mut Transaction<'_, S>, meta: &MetaRow) -> Result<(), Fault>
     ensures same_reference { tx.new.conn.ghost_name ≡ tx.old.conn.ghost_name }
     ensures clean { HasCleanDisk (state S.Store tx.new.conn.now) → HasCleanDisk (state S.Store tx.old.conn.now) }
-    ensures kept { HasCleanDisk (state S.Store tx.new.conn.now) → IsTrue (state S.Store tx.old.conn.now).in_transaction → KeepsCommit (state S.Store tx.old.conn.now) (state S.Store tx.new.conn.now) }
+    ensures kept { HasCleanDisk (state S.Store tx.new.conn.now) → IsTrue (state S.Store tx.old.conn.now).in_transaction → KeepsBehind (state S.Store tx.old.conn.now) (state S.Store tx.new.conn.now) }
     ensures inside { HasCleanDisk (state S.Store tx.new.conn.now) → OnOk result (IsTrue (state S.Store tx.old.conn.now).in_transaction → IsTrue (state S.Store tx.new.conn.now).in_transaction) }
     ensures done { HasCleanDisk (state S.Store tx.new.conn.now) → OnOk result ((state S.Store tx.old.conn.now).now.schema ≡ no_schema → Holds (new_content meta.now) (state S.Store tx.new.conn.now)) }
     ensures never { IfErr result (λ e. e ≢ Damaged) }
@@ -136,7 +136,7 @@ pub(crate) fn make_tables<S: Alter>(conn: &mut Connection<S>, meta: &MetaRow) ->
     ensures clean { HasCleanDisk (state S.Store conn.new) → HasCleanDisk (state S.Store conn.old) }
     ensures made { HasCleanDisk (state S.Store conn.new) → OnOk result ((state S.Store conn.old).now.schema ≡ no_schema → Holds (new_content meta.now) (state S.Store conn.new)) }
     ensures settled { HasCleanDisk (state S.Store conn.new) → OnOk result ((state S.Store conn.new).now ≡ (state S.Store conn.new).committed) }
-    ensures refused { OnErr result (LeavesTables (state S.Store conn.old) (state S.Store conn.new)) }
+    ensures refused { OnErr result (KeepsTables (state S.Store conn.old) (state S.Store conn.new)) }
     ensures never { IfErr result (λ e. e ≢ Damaged) }
 {
     if !conn.is_autocommit() {

@@ -5,7 +5,10 @@ ghost use Rattle.sqlite_catalog.specs.Listing.{IsSound};
 ghost use Rattle.sqlite_schema.specs.declared.schema.Schema.{Schema};
 ghost use Rattle.sqlite_trees.specs.Tree.{Trees};
 ghost use Rattle.queue_core.specs.World.{World};
+ghost use Rattle.sqlite_wal.specs.Recovery.{Image};
 ghost use Rattle.queue_load.specs.Queues.{IsQueueIn};
+ghost use Rattle.queue_store.specs.Closed.{IsKeptAlone};
+ghost use Rattle.queue_store.specs.Crash.{IsKept};
 ghost use Rattle.queue_tables.specs.Tables.{book_schema};
 
 use queue_load::laws::{queues_are_loadable, tables_give_their_queue, tables_have_rows};
@@ -25,4 +28,9 @@ pub fn tables_hold_one_queue()
 /// Trees that list the tables and indexes of a book list no other schema.
 pub fn trees_list_one_schema()
     ensures { (schema : Schema) (db : Trees) → IsSound book_schema db → IsSound schema db → schema ≡ book_schema }
+{}
+
+/// What the database file keeps without its log, it keeps with it.
+pub fn kept_alone_is_kept()
+    ensures { (image : Image) (w : World) → IsKeptAlone image w → IsKept image w }
 {}

@@ -1,16 +1,20 @@
 //! A book from a file.
 ghost use Rattle.std.specs.Prelude.{◌≡◌, codes, Err, IfOk, IsTrue};
 ghost use Rattle.sqlite.specs.Closing.{IsCopied};
-ghost use Rattle.sqlite.specs.Files.{IsOpened, file_state, over_files};
+ghost use Rattle.sqlite.specs.Files.{HoldsDatabase, IsOpened, file_state, over_files};
 ghost use Rattle.sqlite.specs.Start.{FindsIn};
-ghost use Rattle.sqlite.specs.State.{HasCleanDisk, IsLive};
-ghost use Rattle.sqlite_wal.specs.Files.{image_at};
+ghost use Rattle.sqlite.specs.State.{HasCleanDisk};
+ghost use Rattle.sqlite_trees.specs.Tree.{Trees};
+ghost use Rattle.sqlite_wal.specs.Files.{image_at, outcomes};
 ghost use Rattle.sqlite_wal.specs.Reads.{AreClean};
+ghost use Rattle.sqlite_wal.specs.Recovery.{Image};
 ghost use Rattle.queue_core.specs.World.{World, empty_queue};
 ghost use Rattle.queue_load.specs.Store.{FitsIn};
-ghost use Rattle.queue_store.specs.Closed.{IsKeptAlone, KeepAlone};
+ghost use Rattle.queue_store.specs.Closed.{KeepAlone};
+ghost use Rattle.queue_store.specs.Crash.{IsKept, KeepOneOf, KeepTogether};
 ghost use Rattle.queue_store.specs.Kept.{IsHonest, StandsFor, StandsForOne, shown_by};
 ghost use Rattle.queue_store.specs.Opened.{FitsFile, HasNoTables, IsKeptIn, open_fault};
+ghost use Rattle.queue_tables.specs.Content.{LeavesOneOf};
 ghost use Rattle.queue_tables.specs.Leaving.{LeavesTables};
 ghost use Rattle.queue_tables.specs.Tables.{no_schema};
 
@@ -37,16 +41,18 @@ fn fault_of_open(error: Error) -> BookFault
     }
 }
 
-/// Lets the files of a connection go as they are, without reading or writing.
-fn let_files_go<D: Disk + Drop>(_conn: Connection<FileStore<D>>) {}
+/// Gives the files of a connection back as they are, without reading or writing.
+fn take_files<D: Disk + Drop>(conn: Connection<FileStore<D>>) -> Files<D>
+    ensures clean { AreClean D.Disk result.log result.db → HasCleanDisk (file_state conn) }
+    ensures left { AreClean D.Disk result.log result.db → (image : Image) → outcomes D.Disk result.log result.db image → ∥ ((db : Trees) × (file_state conn).may_leave db × HoldsDatabase image db) ∥₁ }
+{
+    conn.into_store().close()
+}
 
 /// Copies the log of a connection's files into the database file, and gives both back.
 fn copy_log<D: Disk + Drop>(conn: Connection<FileStore<D>>) -> Result<Files<D>, BookFault>
     ensures copied { IfOk result (λ files. AreClean D.Disk files.log files.db → IsCopied conn files) }
-    ensures live { IsLive (file_state conn) }
 {
-    // its contract says that the tables are those of the schema
-    let _schema = conn.schema();
     match conn.close_files() {
         Ok(files) => Ok(files),
         Err((error, _store)) => Err(fault_of_open(error)),
@@ -95,14 +101,19 @@ fn create_in_files<D: Disk + Drop>(
 }
 
 impl<D: Disk + Drop> TableBook<FileStore<D>> {
-    /// Lets the files of the book go as they are, without reading or writing.
-    pub fn let_go(self) {
+    /// Gives the files of the book back as they are, without reading or writing: what a crash leaves of the book is what
+    /// it leaves of them. While the book is open, as after each Ok, that is the queue that it stands for.
+    pub fn into_files(self) -> Files<D>
+        ensures honest { AreClean D.Disk result.log result.db → IsHonest over_files self }
+        ensures left { AreClean D.Disk result.log result.db → (w : World) → StandsFor over_files self w → IsTrue (shown_by over_files self).is_open → KeepTogether D.Disk result w }
+        ensures crash { AreClean D.Disk result.log result.db → (v w : World) → LeavesOneOf v w (shown_by over_files self) → KeepOneOf D.Disk result v w }
+    {
         let TableBook {
             alloc: _,
             conn,
             settings: _,
         } = self;
-        let_files_go(conn);
+        take_files(conn)
     }
 
     /// Copies the log into the database file, so that this file alone keeps the book, and gives both back, which are
@@ -141,7 +152,7 @@ impl<S: Start> TableBook<FileStore<FileFrom<S>>> {
 
     /// The book that the files at a path hold, where `start` stands for what they hold as they are opened. Disk is
     /// told also where they can't be opened or are in use, Damaged also where they are no database. A path without a
-    /// file gets an empty one, which is Damaged. A book that was closed is found as the queue that it was.
+    /// file gets an empty one, which is Damaged. Files that keep a queue, with their log or without, are found as it.
     pub fn open_from(
         rt: &HostRuntime,
         path: &str,
@@ -149,8 +160,8 @@ impl<S: Start> TableBook<FileStore<FileFrom<S>>> {
     ) -> Result<TableBook<FileStore<FileFrom<S>>>, BookFault>
         ensures stands { FitsFile (image_at S.Start) → IfOk result (λ b. StandsForOne over_files b) }
         ensures kept { FitsFile (image_at S.Start) → IfOk result (λ b. IsHonest over_files b → (w : World) × IsKeptIn (image_at S.Start) w × StandsFor over_files b w) }
-        ensures again { (w : World) → IsKeptAlone (image_at S.Start) w → IfOk result (λ b. StandsFor over_files b w) }
-        ensures live { (w : World) → IsKeptAlone (image_at S.Start) w → IfOk result (λ b. IsHonest over_files b → IsTrue (shown_by over_files b).is_open) }
+        ensures again { (w : World) → IsKept (image_at S.Start) w → IfOk result (λ b. StandsFor over_files b w) }
+        ensures live { (w : World) → IsKept (image_at S.Start) w → IfOk result (λ b. IsHonest over_files b → IsTrue (shown_by over_files b).is_open) }
         ensures memory { path.now ≡ codes ":memory:" → result ≡ Err BookFault.Disk }
     {
         tables_hold_one_queue();

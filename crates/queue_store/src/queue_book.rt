@@ -2,7 +2,9 @@
 ghost use Rattle.std.specs.Prelude.{◌≡◌, IfErr, IfOk, IsTrue};
 ghost use Rattle.queue_core.specs.Limits.{IsEvent, IsFair, IsMoment, IsReplyTo};
 ghost use Rattle.queue_core.specs.Machine.{decision};
-ghost use Rattle.queue_store.specs.Kept.{IsHonest, StandsFor, shown_by};
+ghost use Rattle.queue_store.specs.Kept.{IsHonest, StandsFor, connection_of, shown_by};
+ghost use Rattle.queue_store.specs.Laws.{open_lasts};
+ghost use Rattle.queue_tables.specs.Content.{LeavesOneOf};
 ghost use Rattle.queue_types.specs.Event.{decision_of, event_of};
 
 use crate::book::TableBook;
@@ -35,13 +37,16 @@ fn decide_on<'a>(
 }
 
 /// A `TableBook` stands for a world that its tables hold, as long as the connection is open. It is honest where
-/// the disk has returned what was written to it.
+/// the disk has returned what was written to it. A crash leaves one of two worlds of it where each database that the
+/// next open may find holds one of them.
 impl<S: Alter> QueueBook for TableBook<S> {
     ghost stands = { λ b w. StandsFor S.Store b w };
 
     ghost is_honest = { λ b. IsHonest S.Store b };
 
     ghost is_live = { λ b. IsTrue (shown_by S.Store b).is_open };
+
+    ghost crash_leaves = { λ b v w. LeavesOneOf v w (shown_by S.Store b) };
 
     fn decide<'a>(&mut self, now: u32, event: &Event<'a>) -> Result<Decision<'a>, BookFault> {
         let scene = queue_scenes::scene::scene(self.alloc, &mut self.conn, &self.settings, event)?;
@@ -79,4 +84,6 @@ impl<S: Alter> QueueBook for TableBook<S> {
     }
 
     ghost sound = { λ b w honest h. (h honest).sound };
+
+    ghost lasts = { λ b w v honest live stands. open_lasts v stands (S.Store.settled (connection_of b).store) honest live };
 }

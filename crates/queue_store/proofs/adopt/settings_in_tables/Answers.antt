@@ -10,7 +10,7 @@ returns-clause-stands g c = λ fits clean.
     let old = state g.S.Store c.args.conn.now in
     let new = state g.S.Store c.load_queue.new.conn in
     let outside : IsTrue c.is_autocommit.result = search rules in
-    if_ok_then c.settings_of.result _ _ (λ s told. adopted (tables_in c.in_ok-rows.rows) old new s (c.in_ok-rows.ensures.queue fits clean) (c.in_ok-rows.ensures.same clean) (c.is_autocommit.ensures.settled outside) told) c.settings_of.ensures.ok
+    if_ok_then c.settings_of.result _ _ (λ s told. adopted (tables_in c.in_ok-rows.rows) old new s (c.in_ok-rows.ensures.queue fits clean) c.schema-schema.ensures.live (c.in_ok-rows.ensures.same clean) (c.is_autocommit.ensures.settled outside) told) c.settings_of.ensures.ok
 
 pub returns-clause-damaged : goal.returns-clause-damaged
 returns-clause-damaged g c = λ fits clean.

@@ -11,4 +11,4 @@ returns-clause-done g c clean =
     let second = c.create_indexes.ensures.clean third in
     let first = c.create_second.ensures.clean second in
     let made = c.in_ok-create_indexes.ensures.done third (c.in_ok-create_second.ensures.done second (c.in_ok-create_first.ensures.done first blank)) in
-    adds no_content (made_holds (state g.S.Store c.create_indexes.new.tx.conn.now) made.0 made.1)) (c.add_meta.ensures.done clean)
+    adds no_content (made_holds (state g.S.Store c.create_indexes.new.tx.conn.now) made.0 made.1 made.2)) (c.add_meta.ensures.done clean)

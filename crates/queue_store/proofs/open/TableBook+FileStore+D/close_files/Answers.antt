@@ -6,4 +6,4 @@ pub returns-clause-honest : goal.returns-clause-honest
 returns-clause-honest g c = if_ok_then c.copy_log.result _ _ (λ files copied clean. (copied clean).was_clean) c.copy_log.ensures.copied
 
 pub returns-clause-copied : goal.returns-clause-copied
-returns-clause-copied g c = if_ok_then c.copy_log.result _ _ (λ files copied clean w stands. copied_queue c.args.self files c.copy_log.ensures.live (copied clean) w stands) c.copy_log.ensures.copied
+returns-clause-copied g c = if_ok_then c.copy_log.result _ _ (λ files copied clean w stands. copied_queue c.args.self files (copied clean) w stands) c.copy_log.ensures.copied

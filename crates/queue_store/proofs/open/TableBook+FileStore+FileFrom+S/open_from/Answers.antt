@@ -18,17 +18,17 @@ returns-clause-kept g c = λ fits.
     (c.adopt_in_files.ensures.stands (fits_in before image opened found fits)) c.adopt_in_files.ensures.kept
 
 pub returns-clause-again : goal.returns-clause-again
-returns-clause-again g c = λ w closed.
+returns-clause-again g c = λ w left.
     let image = image_at g.S.Start in
     let before = file_state c.in_ok-conn.conn in
     let opened = c.in_ok-conn.ensures.opened in
     let found = c.in_ok-conn.ensures.found in
-    both_ok c.adopt_in_files.result _ _ _ (λ b stands kept. found_again over_files b image c.tables_hold_one_queue.ensures (λ honest. kept_in before image opened found over_files b kept honest (stands honest)) w closed)
-    (c.adopt_in_files.ensures.stands (fits_again before image opened found c.trees_list_one_schema.ensures w closed)) c.adopt_in_files.ensures.kept
+    both_ok c.adopt_in_files.result _ _ _ (λ b stands kept. found_again over_files b image c.tables_hold_one_queue.ensures (λ honest. kept_in before image opened found over_files b kept honest (stands honest)) w left)
+    (c.adopt_in_files.ensures.stands (fits_again before image opened found c.trees_list_one_schema.ensures w left)) c.adopt_in_files.ensures.kept
 
 pub returns-clause-live : goal.returns-clause-live
-returns-clause-live g c = λ w closed.
+returns-clause-live g c = λ w left.
     let image = image_at g.S.Start in
     let before = file_state c.in_ok-conn.conn in
     if_ok_then c.adopt_in_files.result _ _ (λ b stands honest. (stands honest).live)
-    (c.adopt_in_files.ensures.stands (fits_again before image c.in_ok-conn.ensures.opened c.in_ok-conn.ensures.found c.trees_list_one_schema.ensures w closed))
+    (c.adopt_in_files.ensures.stands (fits_again before image c.in_ok-conn.ensures.opened c.in_ok-conn.ensures.found c.trees_list_one_schema.ensures w left))

@@ -11,3 +11,13 @@ returns-in-Ok-clause-ok g c w stands honest =
       holds = λ is_open. c.in-Ok.ensures.made honest w was.sound decided (was.holds (c.make.ensures.opened honest is_open));
       settled = λ is_open. c.in-Ok.ensures.settled honest;
     }
+
+pub returns-in-Ok-clause-crash : goal.returns-in-Ok-clause-crash
+returns-in-Ok-clause-crash g c honest live w stands =
+    let was = stands (c.make.ensures.clean honest) in
+    c.make.ensures.crash honest w was.sound (c.requires.decided w (c.make.ensures.clean honest) stands) (was.holds live) (was.settled live)
+
+pub returns-clause-crash : goal.returns-clause-crash
+returns-clause-crash g c honest live w stands =
+    let was = stands (c.make.ensures.clean honest) in
+    c.make.ensures.crash honest w was.sound (c.requires.decided w (c.make.ensures.clean honest) stands) (was.holds live) (was.settled live)

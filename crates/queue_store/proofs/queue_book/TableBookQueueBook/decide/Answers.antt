@@ -22,3 +22,9 @@ returns-clause-decides g c honest = if_ok_then c.decide_on.result _ _ (λ d deci
 
 pub returns-clause-live : goal.returns-clause-live
 returns-clause-live g c honest = on_any c.decide_on.result _ (c.in_ok-scene.ensures.live honest)
+
+pub returns-in_err-scene-clause-left : goal.returns-in_err-scene-clause-left
+returns-in_err-scene-clause-left g c honest v w left db may = left db (c.scene.ensures.leaves.left honest db may)
+
+pub returns-clause-left : goal.returns-clause-left
+returns-clause-left g c honest v w left db may = left db (c.scene.ensures.leaves.left honest db may)

@@ -14,3 +14,9 @@ pub returns-clause-head : goal.returns-clause-head
 returns-clause-head g c honest w stands =
     let now = stands honest in
     c.in_ok-head.ensures.head honest w now.sound (held_by c.document_head.ensures.leaves honest (content_of w) (now.holds (c.in_ok-head.ensures.live honest)))
+
+pub returns-in_err-head-clause-left : goal.returns-in_err-head-clause-left
+returns-in_err-head-clause-left g c honest v w left db may = left db (c.document_head.ensures.leaves.left honest db may)
+
+pub returns-clause-left : goal.returns-clause-left
+returns-clause-left g c honest v w left db may = left db (c.document_head.ensures.leaves.left honest db may)

@@ -14,3 +14,9 @@ pub returns-clause-jobs : goal.returns-clause-jobs
 returns-clause-jobs g c honest w stands =
     let now = stands honest in
     c.in_ok-jobs.ensures.shows honest w now.sound (held_by c.pending.ensures.leaves honest (content_of w) (now.holds (c.in_ok-jobs.ensures.live honest)))
+
+pub returns-in_err-jobs-clause-left : goal.returns-in_err-jobs-clause-left
+returns-in_err-jobs-clause-left g c honest v w left db may = left db (c.pending.ensures.leaves.left honest db may)
+
+pub returns-clause-left : goal.returns-clause-left
+returns-clause-left g c honest v w left db may = left db (c.pending.ensures.leaves.left honest db may)

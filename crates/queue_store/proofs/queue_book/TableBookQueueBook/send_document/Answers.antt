@@ -28,3 +28,6 @@ returns-clause-damaged g c honest =
     let began = c.send_document.ensures.leaves.clean honest in
     let is_open = open_with_document old c.args.self.now.settings c.args.job c.args.n began (c.empty_is_sound.ensures c.args.self.now.settings c.estimate-estimate.ensures.limits) c.requires.there in
     if_err c.send_document.result _ _ (λ f none damaged w stood. let was = stood began in none damaged w was.sound (was.holds is_open)) (c.send_document.ensures.damaged honest)
+
+pub returns-clause-left : goal.returns-clause-left
+returns-clause-left g c honest v w left db may = left db (c.send_document.ensures.leaves.left honest db may)

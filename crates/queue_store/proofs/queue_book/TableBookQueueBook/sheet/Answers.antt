@@ -14,3 +14,9 @@ pub returns-clause-sheet : goal.returns-clause-sheet
 returns-clause-sheet g c honest w stands =
     let now = stands honest in
     c.in_ok-sheet.ensures.sheet honest w now.sound (held_by c.sheet.ensures.leaves honest (content_of w) (now.holds (c.in_ok-sheet.ensures.live honest)))
+
+pub returns-in_err-sheet-clause-left : goal.returns-in_err-sheet-clause-left
+returns-in_err-sheet-clause-left g c honest v w left db may = left db (c.sheet.ensures.leaves.left honest db may)
+
+pub returns-clause-left : goal.returns-clause-left
+returns-clause-left g c honest v w left db may = left db (c.sheet.ensures.leaves.left honest db may)
