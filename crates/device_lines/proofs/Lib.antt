@@ -2,3 +2,4 @@ pub mod Cuts
 pub mod Flags
 pub mod Numbers
 pub mod Readings
+pub mod Crashes

@@ -1,5 +1,5 @@
 -- What a line of the device brings about: an answer, and the world after it.
-use Rattle.std.specs.Prelude.{◌≡◌, ◌⊎◌, ◌++◌, ℕ, Bool, List, Option, Some, None, Result, Ok, Err, codes, decimal, bytes_eq}
+use Rattle.std.specs.Prelude.{◌≡◌, ◌⊎◌, ◌++◌, ℕ, Bool, List, Option, Some, None, Result, Ok, Err, codes, decimal, bytes_eq, MatchBool}
 use Rattle.queue_types.specs.Event.{Event, tell}
 use Rattle.queue_core.specs.Machine.{step}
 use Rattle.queue_core.specs.World.{World}
@@ -64,6 +64,10 @@ pub record IsUntaken (line : List ℕ) (out : List ℕ) : Type 0 where
 -- out answers the line at this moment, and new is the world after it; or out tells of a fault, and the world stays
 abbrev pub AnswersLine : World → ℕ → List ℕ → World → List ℕ → Type 0
 AnswersLine old now line new out = IsReported old now line new out ⊎ (IsUntaken line out × (new ≡ old))
+
+-- the line that tells of a fault is told apart: behind it the world stays, and any other is the answer to the line
+abbrev pub BringsLine : World → ℕ → List ℕ → World → List ℕ → Type 0
+BringsLine old now line new out = MatchBool (is_fault_line out) (IsUntaken line out × (new ≡ old)) (IsReported old now line new out)
 
 -- what a line asks of the machine: to take a report, or nothing where it is none
 pub data Tells (line : List ℕ) : Option Event → Type 0 where

@@ -1,12 +1,13 @@
 //! One line of the device, from its bytes to those of its answer.
-ghost use Rattle.std.specs.Prelude.{◌≡◌, Err, IfOk, OnOk, OnErr, false};
+ghost use Rattle.std.specs.Prelude.{◌≡◌, Err, Some, IfOk, OnOk, OnErr, false};
 ghost use Rattle.std.specs.Bool.{OnFalse, OnTrue};
 ghost use Rattle.queue_types.specs.Event.{tell};
+ghost use Rattle.queue_core.specs.Crash.{Leaves};
 ghost use Rattle.queue_core.specs.Limits.{IsMoment, IsReport, IsReportReply};
 ghost use Rattle.queue_core.specs.Machine.{step as step_of};
 ghost use Rattle.queue_core.specs.World.{World};
 ghost use Rattle.device_lines.specs.Lines.{Reads};
-ghost use Rattle.device_lines.specs.Reports.{AnswersLine, AnswersReport, IsReported, IsUntaken, is_fault_line, unread_line};
+ghost use Rattle.device_lines.specs.Reports.{AnswersLine, AnswersReport, BringsLine, IsReported, IsUntaken, Tells, is_fault_line, unread_line};
 ghost use Rattle.device_lines.specs.declared.line.LineFault.{LineFault};
 
 use crate::line::read_report;
@@ -29,6 +30,10 @@ pub fn report<B: QueueBook>(book: &mut B, now: u32, line: &[u8]) -> ReportAnswer
         → IsUntaken line.now result × B.stands book.new w) }
     // what shuts a book is answered as a fault
     ensures live { B.is_honest book.new → B.is_live book.old → is_fault_line result ≡ false → B.is_live book.new }
+    // a crash at any moment leaves the report, or leaves it out
+    ensures crash { B.is_honest book.new → (w : World) → B.stands book.old w
+        → (after : World) × BringsLine w now line.now after result × B.stands book.new after
+        × ((v : World) → B.crash_leaves book.old w v → (x : World) × B.crash_leaves book.new after x × Leaves (λ e. Tells line.now (Some e)) now w v after x) }
 
     // on any book, also one that is not honest
     ensures unread { (f : LineFault) → Reads line.now (Err f) → (result ≡ unread_line f)
@@ -56,6 +61,8 @@ fn step<B: QueueBook>(book: &mut B, now: u32, report: Report) -> Result<ReportAn
     ensures quiet { IfOk result (λ a. is_fault_line a ≡ false) }
     ensures live { B.is_honest book.new → OnOk result (B.is_live book.new) }
     ensures err { OnErr result ((w : World) → B.stands book.old w → B.stands book.new w) }
+    ensures crash { B.is_honest book.new → OnErr result ((w v : World) → B.stands book.old w → B.crash_leaves book.old w v
+        → (x : World) × B.crash_leaves book.new w x × Leaves (λ e. e ≡ tell report) now w v w x) }
 {
     let decision = book.decide(now, &Event::Report(report))?;
     let answer = answer_to(report.job, &decision.reply);

@@ -40,7 +40,7 @@ unread_imports held now file f (Ok n) read is same w s = cc
 unread_imports held now file f (Err e) read is same w s =
     (w, (unread_by w now e (rows_of file) (subst (λ (x : ImportFault). IsUnlessFault (Err x) (rows_of file)) (sym same) read), refl), s)
 
-read_by : (file : List ℕ) (rows : List GrantRow) → IsUnlessFault (Ok rows) (rows_of file) → rows_of file ≡ Ok rows
+pub read_by : (file : List ℕ) (rows : List GrantRow) → IsUnlessFault (Ok rows) (rows_of file) → rows_of file ≡ Ok rows
 read_by file rows (inl e) = sym e
 read_by file rows (inr e) = cc
 
@@ -49,12 +49,12 @@ refused_by : (w : World) (now : ℕ) (f : ImportFault) (read : Result (List Gran
 refused_by w now f read rows e r = subst (λ x. MatchResult x (λ rs. Refuses (step w now (grant rs)).reply f) (λ bad. (f ≡ bad) ⊎ (f ≡ fault))) (sym e) r
 
 -- a file with rows
-pub rows_import : (old new : World → Type 0) (now : ℕ) (file : List ℕ) (rows : List GrantRow) (r : Result Imported ImportFault) → IsUnlessFault (Ok rows) (rows_of file)
+pub rows_import : (old : World → Type 0) (new : World → World → Type 0) (now : ℕ) (file : List ℕ) (rows : List GrantRow) (r : Result Imported ImportFault) → IsUnlessFault (Ok rows) (rows_of file)
     → IfOk r (λ n. (w : World) → old w → Adds (step w now (grant rows)).reply n)
-    → IfOk r (λ n. (w : World) → old w → new (step w now (grant rows)).world)
+    → IfOk r (λ n. (w : World) → old w → new w (step w now (grant rows)).world)
     → IfErr r (λ f. (w : World) → old w → Refuses (step w now (grant rows)).reply f)
-    → OnErr r ((w : World) → old w → new w)
-    → (w : World) → old w → (u : World) × Imports w now file u r × new u
+    → OnErr r ((w : World) → old w → new w w)
+    → (w : World) → old w → (u : World) × Imports w now file u r × new w u
 rows_import old new now file rows (Ok n) read adds made refuses kept w s =
     ((step w now (grant rows)).world, (rows, read_by file rows read, adds w s, refl), made w s)
 rows_import old new now file rows (Err f) read adds made refuses kept w s =

@@ -5,3 +5,5 @@ pub mod Forms
 pub mod Marks
 pub mod Rows
 pub mod ImportLemmas
+pub mod Crashes
+pub mod Limits

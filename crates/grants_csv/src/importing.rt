@@ -1,6 +1,7 @@
 //! An account file enters a book.
-ghost use Rattle.std.specs.Prelude.{◌≡◌, ◌≢◌, ◌<◌, List, Err, Ok, IfErr, IfOk, OnErr, OnOk, length};
+ghost use Rattle.std.specs.Prelude.{◌≡◌, ◌≢◌, ◌<◌, List, Err, Ok, Some, IfErr, IfOk, OnErr, OnOk, length};
 ghost use Rattle.queue_types.specs.Event.{grant};
+ghost use Rattle.queue_core.specs.Crash.{Leaves};
 ghost use Rattle.queue_core.specs.Limits.{IsEvent, IsMoment};
 ghost use Rattle.queue_core.specs.Machine.{step};
 ghost use Rattle.queue_core.specs.World.{World};
@@ -8,7 +9,7 @@ ghost use Rattle.queue_types.specs.declared.event.GrantRow.{GrantRow};
 ghost use Rattle.grants_csv.specs.Fault.{IsUnlessFault, at_row, fault};
 ghost use Rattle.grants_csv.specs.File.{rows_of};
 ghost use Rattle.grants_csv.specs.declared.fault.ImportCause.TheVariants.{Range};
-ghost use Rattle.grants_csv.specs.Import.{Adds, Imports, Refuses};
+ghost use Rattle.grants_csv.specs.Import.{Adds, Asks, Imports, Refuses};
 
 use crate::fault::{ImportCause, ImportFault};
 use crate::reading::read_grants;
@@ -63,6 +64,8 @@ fn take_rows<B: QueueBook>(
     ensures err { OnErr result ((w : World) → B.stands book.old w → B.stands book.new w) }
     ensures live { B.is_honest book.new → OnOk result (B.is_live book.new) }
     ensures still_live { B.is_honest book.new → IfErr result (λ f. f ≢ fault → B.is_live book.new) }
+    ensures crash { B.is_honest book.new → OnErr result ((w v : World) → B.stands book.old w → B.crash_leaves book.old w v
+        → (x : World) × B.crash_leaves book.new w x × Leaves (λ e. e ≡ grant rows.now) now w v w x) }
 {
     let decision = book.decide(now, &Event::Grants(rows))?;
     match decision.reply {
@@ -96,6 +99,10 @@ pub fn import<B: QueueBook>(
     ensures live { B.is_honest book.new → OnOk result (B.is_live book.new) }
     // what shuts a book is told as a fault
     ensures still_live { B.is_honest book.new → B.is_live book.old → IfErr result (λ f. f ≢ fault → B.is_live book.new) }
+    // a crash at any moment leaves all of the rows, or none
+    ensures crash { B.is_honest book.new → (w : World) → B.stands book.old w
+        → (after : World) × Imports w now bytes.now after result × B.stands book.new after
+        × ((v : World) → B.crash_leaves book.old w v → (x : World) × B.crash_leaves book.new after x × Leaves (λ e. Asks bytes.now (Some e)) now w v after x) }
 
     // on any book, also one that is not honest
     ensures event { IfOk result (λ n. (rows : List GrantRow) → rows_of bytes.now ≡ Ok rows → IsEvent (grant rows)) }

@@ -4,9 +4,11 @@
 
 mod fault;
 mod importing;
+mod law;
 mod reading;
 mod row;
 
 pub use fault::{ImportCause, ImportFault};
 pub use importing::{Imported, import};
+pub use law::files_are_events;
 pub use reading::read_grants;

@@ -5,3 +5,4 @@ pub mod Faults
 pub mod Laws
 pub mod Told
 pub mod Numbered
+pub mod Crashes

@@ -1,5 +1,5 @@
 -- What the bytes of a request bring about: a reply, and the world after it.
-use Rattle.std.specs.Prelude.{◌≡◌, ◌∷◌, ◌==◌, ◌&&◌, ⊤, ℕ, Bool, false, nat_le, List, Option, Some, None, Result, Ok, Err}
+use Rattle.std.specs.Prelude.{◌≡◌, ◌∷◌, ◌==◌, ◌&&◌, ⊤, ℕ, Bool, false, nat_le, List, Option, Some, None, Result, Ok, Err, MatchBool}
 use Rattle.ipp_wire.specs.declared.view.Head.{Head}
 use Rattle.ipp_wire.specs.Message.{Group, Message, Spells, head_of}
 use Rattle.ipp_wire.specs.Bare.{bare}
@@ -86,3 +86,10 @@ bytes_of (Bare bytes) = bytes
 abbrev pub IsFaultless : Result Answer TooShort → Type 0
 IsFaultless (Ok answer) = is_fault (bytes_of answer) ≡ false
 IsFaultless (Err short) = ⊤
+
+-- ---- the world after an answer
+
+-- where there is no head to reply to, or a fault answers, the world stays; any other answer is the reply to the bytes
+abbrev pub BringsAnswer : World → ℕ → List ℕ → World → Result Answer TooShort → Type 0
+BringsAnswer old now b new (Ok a) = MatchBool (is_fault (bytes_of a)) (Fails b (bytes_of a) × (new ≡ old)) (Answers old now b new (bytes_of a))
+BringsAnswer old now b new (Err short) = new ≡ old

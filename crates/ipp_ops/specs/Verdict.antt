@@ -1,8 +1,8 @@
 -- What a request asks: the first check that refuses it, or else its call.
-use Rattle.std.specs.Prelude.{ℕ, List, [], ◌∷◌, Option, Some, None, Result, Ok, Err, ⊤, Bool, true, false, map, option_map, codes, unwrap_or, bytes_eq, if◌then◌else◌}
+use Rattle.std.specs.Prelude.{◌≡◌, ℕ, List, [], ◌∷◌, Option, Some, None, Result, Ok, Err, ⊤, Bool, true, false, map, option_map, codes, unwrap_or, bytes_eq, if◌then◌else◌}
 use Rattle.std.specs.Option.{option_map_or}
 use Rattle.ipp_wire.specs.Message.{Message}
-use Rattle.queue_types.specs.Event.{Call, ask, print_job, validate_job, create_job, send_document, cancel_job, cancel_my_jobs, hold_job, release_job, get_job_attributes, get_jobs, get_printer_attributes, call_of}
+use Rattle.queue_types.specs.Event.{Call, Event, ask, print_job, validate_job, create_job, send_document, cancel_job, cancel_my_jobs, hold_job, release_job, get_job_attributes, get_jobs, get_printer_attributes, call_of}
 use Rattle.queue_core.specs.Limits.{IsEvent}
 use Rattle.ipp_reply.specs.declared.operation.Operation.{Operation}
 use Rattle.ipp_reply.specs.declared.operation.Operation.TheVariants.{PrintJob, ValidateJob, CreateJob, SendDocument, CancelJob, GetJobAttributes, GetJobs, GetPrinterAttributes, HoldJob, ReleaseJob, CancelMyJobs}
@@ -122,6 +122,11 @@ ask_content (Refused code unsupported) = refused code (unsupported_of unsupporte
 abbrev pub IsWithinLimits : Verdict → Type 0
 IsWithinLimits (refused code u) = ⊤
 IsWithinLimits (passed caller call rows u) = IsEvent (ask caller call)
+
+-- the event is the call that passed
+abbrev pub IsPassed : Verdict → Event → Type 0
+IsPassed (refused code u) e = ⊥
+IsPassed (passed caller call rows u) e = e ≡ ask caller call
 
 -- each attribute that is listed may stand in a message
 abbrev pub ListsAttributes : Verdict → Type 0

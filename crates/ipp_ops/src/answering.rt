@@ -6,14 +6,15 @@ ghost use Rattle.ipp_wire.specs.Viewed.{message_of};
 ghost use Rattle.ipp_wire.specs.Bare.{bare};
 ghost use Rattle.queue_types.specs.Event.{event_of};
 ghost use Rattle.queue_types.specs.declared.event.Reply.TheVariants.{Refused};
+ghost use Rattle.queue_core.specs.Crash.{Leaves};
 ghost use Rattle.queue_core.specs.Limits.{IsEvent, IsMoment, IsSoundReply};
 ghost use Rattle.queue_core.specs.Machine.{step as machine_step};
 ghost use Rattle.queue_core.specs.World.{World};
 ghost use Rattle.ipp_reply.specs.Reply.{reply_of};
 ghost use Rattle.ipp_reply.specs.Unsupported.{CanList, Unsupported as Listed, unsupported_of};
 ghost use Rattle.ipp_reply.specs.Wanted.{no_rows, rows_of};
-ghost use Rattle.ipp_ops.specs.Answer.{Answers, Fails, IsFaultless, IsReplyTo, IsAsk, IsMalformed, IsVerdictOn, bytes_of, is_fault, is_refusal, outcome};
-ghost use Rattle.ipp_ops.specs.Verdict.{refused, verdict};
+ghost use Rattle.ipp_ops.specs.Answer.{Answers, Asks, BringsAnswer, Fails, IsFaultless, IsReplyTo, IsAsk, IsMalformed, IsVerdictOn, bytes_of, is_fault, is_refusal, outcome};
+ghost use Rattle.ipp_ops.specs.Verdict.{IsPassed, refused, verdict};
 ghost use Rattle.ipp_request.specs.Reading.{head_refusal};
 
 use crate::asking::ask;
@@ -107,6 +108,8 @@ fn take_step<B: QueueBook>(
         → B.stands book.new (machine_step w context.entry.now (event_of event.now)).world) }
     ensures err { OnErr result ((w : World) → B.stands book.old w → B.stands book.new w) }
     ensures live { B.is_honest book.new → OnOk result (B.is_live book.new) }
+    ensures crash { B.is_honest book.new → OnErr result ((w v : World) → B.stands book.old w → B.crash_leaves book.old w v
+        → (x : World) × B.crash_leaves book.new w x × Leaves (λ e. e ≡ event_of event.now) context.entry.now w v w x) }
 {
     let decision = book.decide(context.now, event)?;
     let bytes = reply_bytes(context, &decision.reply, wanted, unsupported)?;
@@ -133,6 +136,11 @@ fn answer_message<B: QueueBook>(
         → B.stands book.new (outcome (verdict (message_of view.now)) view.now.head w now).world) }
     ensures err { OnErr result ((w : World) → B.stands book.old w → B.stands book.new w) }
     ensures live { B.is_honest book.new → B.is_live book.old → OnOk result (B.is_live book.new) }
+    ensures crash_ok { B.is_honest book.new → OnOk result ((w v : World) → B.stands book.old w → B.crash_leaves book.old w v
+        → (x : World) × B.crash_leaves book.new (outcome (verdict (message_of view.now)) view.now.head w now).world x
+        × Leaves (IsPassed (verdict (message_of view.now))) now w v (outcome (verdict (message_of view.now)) view.now.head w now).world x) }
+    ensures crash_err { B.is_honest book.new → OnErr result ((w v : World) → B.stands book.old w → B.crash_leaves book.old w v
+        → (x : World) × B.crash_leaves book.new w x × Leaves (IsPassed (verdict (message_of view.now))) now w v w x) }
     // What the checks refuse, whatever the book is.
     ensures checked { (code : ℕ) (u : Listed) → verdict (message_of view.now) ≡ refused code u → IfOk result (λ b. Spells (reply_of (Refused code) view.now.head no_rows u settings.now now) b.items) }
     ensures checked_kept { (code : ℕ) (u : Listed) → verdict (message_of view.now) ≡ refused code u → (w : World) → B.stands book.old w → B.stands book.new w }
@@ -188,6 +196,10 @@ pub fn answer<B: QueueBook>(
         ((w : World) → B.stands book.old w → settings.now ≡ w.settings → B.stands book.new w)) }
     // What shuts a book is answered as a fault.
     ensures live { B.is_honest book.new → B.is_live book.old → IsFaultless result → B.is_live book.new }
+    // A crash at any moment leaves what the request asks done, or not done.
+    ensures crash { B.is_honest book.new → (w : World) → B.stands book.old w
+        → (after : World) × (settings.now ≡ w.settings → BringsAnswer w now body.now after result) × B.stands book.new after
+        × ((v : World) → B.crash_leaves book.old w v → (x : World) × B.crash_leaves book.new after x × Leaves (λ e. Asks body.now (Some e)) now w v after x) }
 
     // These hold on any book, also on one that is not honest.
     ensures replies { IfOk result (λ a. IsReplyTo (head_of body.now) (bytes_of a)) }
@@ -199,6 +211,7 @@ pub fn answer<B: QueueBook>(
     ensures checked { (code : ℕ) (u : Listed) → IsVerdictOn body.now (refused code u) → IfOk result (λ a. MatchBool (is_fault (bytes_of a)) (Fails body.now (bytes_of a)) (Spells (reply_of (Refused code) (head_of body.now) no_rows u settings.now now) (bytes_of a))) }
     ensures checked_kept { (code : ℕ) (u : Listed) → IsVerdictOn body.now (refused code u) → (w : World) → B.stands book.old w → B.stands book.new w }
     ensures err { OnErr result ((w : World) → B.stands book.old w → B.stands book.new w) }
+    ensures err_left { B.is_honest book.new → OnErr result ((v w : World) → B.crash_leaves book.old v w → B.crash_leaves book.new v w) }
 {
     one_verdict();
     let Some(h) = head(body) else {

@@ -1,14 +1,16 @@
 //! An account file enters a book.
-ghost use Rattle.std.specs.Prelude.{◌≡◌, ◌≢◌, ◌⊎◌, ℕ, List, Err, IfErr, IfOk, OnOk, take};
+ghost use Rattle.std.specs.Prelude.{◌≡◌, ◌≢◌, ◌⊎◌, ℕ, List, Err, Some, IfErr, IfOk, OnOk, take};
 ghost use Rattle.office.specs.declared.fault.OfficeFault.TheVariants.{Import};
 ghost use Rattle.std.specs.Io.KnownBytes.{Appends};
 ghost use Rattle.std.specs.Option.{IfSome};
 ghost use Rattle.grants_csv.specs.Fault.{fault};
 ghost use Rattle.grants_csv.specs.File.{rows_of};
+ghost use Rattle.grants_csv.specs.Import.{Asks};
 ghost use Rattle.grants_csv.specs.declared.fault.ImportFault.{ImportFault};
 ghost use Rattle.grants_csv.specs.declared.importing.Imported.{Imported as ImportedRows};
 ghost use Rattle.office.specs.Faults.{IsOfFile, IsOfStream};
 ghost use Rattle.office.specs.Told.{AreReadOf, IsRefused, IsTaken, import_line};
+ghost use Rattle.queue_core.specs.Crash.{Leaves};
 ghost use Rattle.queue_core.specs.Limits.{IsMoment};
 ghost use Rattle.queue_core.specs.World.{World};
 
@@ -72,6 +74,10 @@ pub fn import_bytes<W: Write, B: QueueBook>(
         ⊎ (IsOfStream f × (n : ImportedRows) × (u : World) × IsTaken now w u bytes.now n × B.stands book.new u)) }
     ensures live { B.is_honest book.new → OnOk result (B.is_live book.new) }
     ensures still_live { B.is_honest book.new → B.is_live book.old → IfErr result (λ f. f ≢ Import fault → B.is_live book.new) }
+    // a crash at any moment leaves all of the rows, or none
+    ensures crash { B.is_honest book.new → (w : World) → B.stands book.old w
+        → (u : World) × B.stands book.new u
+        × ((v : World) → B.crash_leaves book.old w v → (x : World) × B.crash_leaves book.new u x × Leaves (λ e. Asks bytes.now (Some e)) now w v u x) }
     // over any book, also one that is not honest
     ensures unread { (told : ImportFault) → rows_of bytes.now ≡ Err told → (result ≡ Err (Import told)) ⊎ (result ≡ Err (Import fault)) }
     ensures refused { IfErr result (λ f. (told : ImportFault) → f ≡ Import told → (w : World) → B.stands book.old w → B.stands book.new w) }

@@ -39,6 +39,7 @@ pub fn print_statement<W: Write, B: QueueBook>(
 ) -> Result<(), OfficeFault>
     ensures began { B.is_honest book.new → B.is_honest book.old }
     ensures kept { (w : World) → B.stands book.old w → B.stands book.new w }
+    ensures left { B.is_honest book.new → (v w : World) → B.crash_leaves book.old v w → B.crash_leaves book.new v w }
     ensures printed { B.is_honest book.new → OnOk result ((w : World) → B.stands book.old w
         → (s : Sheet) × (sheet_of w account.now ≡ Some s) × Appends (W.contents writer.old) (W.contents writer.new) (sheet_text s)) }
     ensures known { B.is_honest book.new → IfErr result (λ f. (w : World) → B.stands book.old w → sheet_of w account.now ≡ None

@@ -1,7 +1,9 @@
 use Rattle.std.proofs.Common.{refl, Ok, Err, inl, inr}
 use Rattle.queue_types.specs.Event.{tell}
+use Rattle.queue_core.specs.Crash.{taken, untaken}
 use Rattle.queue_core.specs.Machine.{step}
-use Rattle.device_lines.specs.Reports.{is_fault_line}
+use Rattle.device_lines.specs.Reports.{is_fault_line, reports}
+use Rattle.device_lines.proofs.Crashes.{as_told, fault_brings, match_false, unread_brings}
 use Rattle.device_lines.proofs.Flags.{on_false, on_true}
 use Rattle.device_lines.proofs.Readings.{refused_reads}
 use Rattle.device_lines.proofs.reporting.report.Goals as goal
@@ -73,3 +75,39 @@ returns-in-Err-clause-told g c = λ honest. on_false _ (is_fault_line c.unread.r
   },
   stands,
 ))
+
+pub returns-in-Ok-step-clause-crash : goal.returns-in-Ok-step-clause-crash
+returns-in-Ok-step-clause-crash g c = λ honest w stands.
+    let u = (step w c.args.now (tell c.in-Ok.r)).world in
+    let reads = (c.in-Ok.ensures.ok c.in-Ok.r).0 refl in
+    let after = c.in-Ok-step.ensures.world honest w stands in (
+      u,
+      match_false _ _ (is_fault_line c.in-Ok-step.answer) c.in-Ok-step.ensures.quiet record {
+        reading = Ok c.in-Ok.r;
+        reads = reads;
+        brings = (refl, c.in-Ok-step.ensures.answer honest w stands);
+      },
+      after,
+      λ v left. (u, g.met.B.QueueBook.lasts c.step.new.book u u honest (c.in-Ok-step.ensures.live honest) after, taken (tell c.in-Ok.r) (reports c.in-Ok.r reads) refl refl),
+    )
+
+pub returns-in-Err-step-clause-crash : goal.returns-in-Err-step-clause-crash
+returns-in-Err-step-clause-crash g c = λ honest w stands.
+    let reads = (c.in-Ok.ensures.ok c.in-Ok.r).0 refl in (
+      w,
+      fault_brings w c.args.now c.args.line.now c.fault.result (record { report = c.in-Ok.r; reads = reads; text = c.fault.ensures }) c.fault.ensures,
+      c.in-Err-step.ensures.err w stands,
+      λ v left. let l = c.in-Err-step.ensures.crash honest w v stands left in (l.0, l.1, as_told c.args.line.now c.in-Ok.r c.args.now w v w l.0 reads l.2),
+    )
+
+pub returns-in-Err-clause-crash : goal.returns-in-Err-clause-crash
+returns-in-Err-clause-crash g c = λ honest w stands. (
+  w,
+  unread_brings w c.args.now c.args.line.now c.unread.result c.in-Err.fault (record {
+    reading = Err c.in-Err.fault;
+    reads = refused_reads c.args.line.now c.in-Err.fault c.read_report.result c.in-Err.is c.read_report.ensures.syntax c.read_report.ensures.range;
+    brings = (refl, c.unread.ensures);
+  }) c.unread.ensures,
+  stands,
+  λ v left. (v, left, untaken refl refl),
+)

@@ -1,4 +1,8 @@
+use Rattle.std.proofs.Common.{Some, refl}
+use Rattle.queue_core.specs.Crash.{untaken}
+use Rattle.grants_csv.specs.Import.{Asks}
 use Rattle.grants_csv.proofs.ImportLemmas.{unread_imports, rows_import, rows_event}
+use Rattle.grants_csv.proofs.Crashes.{Carries, rows_taken, rows_left}
 use Rattle.grants_csv.proofs.importing.import.Goals as goal
 
 pub take_rows-requires-clause-limits : goal.take_rows-requires-clause-limits
@@ -9,8 +13,29 @@ returns-in_err-rows-clause-imports g c = λ honest. unread_imports (g.B.QueueBoo
     c.in_err-rows.ensures.read c.from_residual.ensures.0 c.from_residual.ensures.1
 
 pub returns-clause-imports : goal.returns-clause-imports
-returns-clause-imports g c = λ honest. rows_import (g.B.QueueBook.stands c.args.book.now) (g.B.QueueBook.stands c.take_rows.new.book) c.args.now c.args.bytes.now c.in_ok-rows.rows c.take_rows.result
+returns-clause-imports g c = λ honest. rows_import (g.B.QueueBook.stands c.args.book.now) (λ w u. g.B.QueueBook.stands c.take_rows.new.book u) c.args.now c.args.bytes.now c.in_ok-rows.rows c.take_rows.result
     c.in_ok-rows.ensures.read (rw (← c.as_slice.ensures) (c.take_rows.ensures.added honest)) (rw (← c.as_slice.ensures) (c.take_rows.ensures.world honest)) (rw (← c.as_slice.ensures) (c.take_rows.ensures.refused honest)) c.take_rows.ensures.err
+
+pub returns-in_err-rows-clause-crash : goal.returns-in_err-rows-clause-crash
+returns-in_err-rows-clause-crash g c = λ honest w stands.
+    let r = unread_imports
+    (λ u. g.B.QueueBook.stands c.args.book.now u × Carries (g.B.QueueBook.crash_leaves c.args.book.now) (g.B.QueueBook.crash_leaves c.args.book.now) (λ e. Asks c.args.bytes.now (Some e)) c.args.now w u)
+    c.args.now c.args.bytes.now c.in_err-rows.field-0.0 c.from_residual.result
+    c.in_err-rows.ensures.read c.from_residual.ensures.0 c.from_residual.ensures.1 w (stands, λ v left. (v, left, untaken refl refl)) in
+    (r.0, r.1, r.2.0, r.2.1)
+
+pub returns-clause-crash : goal.returns-clause-crash
+returns-clause-crash g c = λ honest w stands.
+    let r = rows_import (g.B.QueueBook.stands c.args.book.now)
+    (λ w u. g.B.QueueBook.stands c.take_rows.new.book u × Carries (g.B.QueueBook.crash_leaves c.args.book.now) (g.B.QueueBook.crash_leaves c.take_rows.new.book) (λ e. Asks c.args.bytes.now (Some e)) c.args.now w u)
+    c.args.now c.args.bytes.now c.in_ok-rows.rows c.take_rows.result
+    c.in_ok-rows.ensures.read (rw (← c.as_slice.ensures) (c.take_rows.ensures.added honest))
+    (rows_taken (g.B.QueueBook.stands c.args.book.now) (g.B.QueueBook.stands c.take_rows.new.book) (g.B.QueueBook.crash_leaves c.args.book.now) (g.B.QueueBook.crash_leaves c.take_rows.new.book)
+    c.args.now c.args.bytes.now c.in_ok-rows.rows c.take_rows.result _ c.in_ok-rows.ensures.read (rw (← c.as_slice.ensures) (c.take_rows.ensures.world honest)) (c.take_rows.ensures.live honest) (λ w u live stands. g.met.B.QueueBook.lasts c.take_rows.new.book w u honest live stands))
+    (rw (← c.as_slice.ensures) (c.take_rows.ensures.refused honest))
+    (rows_left (g.B.QueueBook.stands c.args.book.now) (g.B.QueueBook.stands c.take_rows.new.book) (g.B.QueueBook.crash_leaves c.args.book.now) (g.B.QueueBook.crash_leaves c.take_rows.new.book)
+    c.args.now c.args.bytes.now c.in_ok-rows.rows c.take_rows.result c.in_ok-rows.ensures.read c.take_rows.ensures.err (rw (← c.as_slice.ensures) (c.take_rows.ensures.crash honest))) w stands in
+    (r.0, r.1, r.2.0, r.2.1)
 
 pub returns-clause-event : goal.returns-clause-event
 returns-clause-event g c = rows_event c.args.bytes.now c.in_ok-rows.rows c.take_rows.result c.in_ok-rows.ensures.read c.in_ok-rows.ensures.few c.in_ok-rows.ensures.limits

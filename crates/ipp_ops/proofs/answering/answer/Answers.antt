@@ -1,9 +1,11 @@
-use Rattle.std.proofs.Common.{◌≡◌, ap, false, sym, ◌∙◌, subst}
+use Rattle.std.proofs.Common.{◌≡◌, ap, false, refl, sym, ◌∙◌, subst}
 use Rattle.ipp_wire.specs.Viewed.{message_of}
+use Rattle.queue_core.specs.Crash.{untaken}
 use Rattle.queue_core.specs.World.{World}
 use Rattle.ipp_ops.specs.Verdict.{refused, verdict}
 use Rattle.ipp_ops.specs.Answer.{request, outcome, is_fault, is_refusal, bytes_of}
-use Rattle.ipp_ops.proofs.Bytes.{refused_by_head, refused_malformed, bare_answers, bare_told, message_answers}
+use Rattle.ipp_ops.proofs.Crashes.{as_asked, bare_fails}
+use Rattle.ipp_ops.proofs.Bytes.{not_fault, refused_by_head, refused_malformed, bare_answers, bare_told, message_answers}
 use Rattle.ipp_ops.proofs.Faults.{request_tells, request_keeps, message_told, head_tells, on_false, on_true}
 use Rattle.ipp_ops.proofs.answering.answer.Goals as goal
 
@@ -82,3 +84,63 @@ returns-in-Err-Malformed-clause-checked g c = λ code u on.
     refused_malformed c.in-Some.h c.args.body.now c.in-Some.ensures.fields (sym c.in_default-head_check.is ∙ c.head_check.ensures) (rw c.in-Err-Malformed.field-0-is at c.in-Err-Malformed.ensures.fault).1 in
     bare_told 0x0400 c.in-Some.h c.args.body.now out c.args.settings.now c.args.now (refused code u) c.in-Some.ensures.fields quiet c.bare_answer-in-Err-Malformed.ensures
     (c.one_verdict.ensures c.args.body.now _ (refused code u) given on)
+
+pub returns-in_default-clause-crash : goal.returns-in_default-clause-crash
+returns-in_default-clause-crash g c = λ honest w stands. (w, λ set. refl, stands, λ v left. (v, left, untaken refl refl))
+
+pub returns-in-Some-head_check-clause-crash : goal.returns-in-Some-head_check-clause-crash
+returns-in-Some-head_check-clause-crash g c = λ honest w stands. (
+  w,
+  λ set. not_fault (is_fault (bytes_of c.bare_answer.result)) _ _
+      (head_tells c.in-Some.h c.in-Some-head_check.code (bytes_of c.bare_answer.result) (sym c.in-Some-head_check.ensures) c.bare_answer.ensures)
+      (bare_answers c.in-Some-head_check.code c.in-Some.h c.args.body.now _ w c.args.now c.in-Some.ensures.fields
+      (refused_by_head c.in-Some-head_check.code c.in-Some.h c.args.body.now c.in-Some.ensures.fields c.in-Some-head_check.ensures) c.bare_answer.ensures),
+  stands,
+  λ v left. (v, left, untaken refl refl),
+)
+
+pub returns-in-Ok-answer_message-clause-crash : goal.returns-in-Ok-answer_message-clause-crash
+returns-in-Ok-answer_message-clause-crash g c = λ honest w stands.
+    let m = message_of c.in-Ok.view in (
+      (outcome (verdict m) m.head w c.args.now).world,
+      λ set. not_fault (is_fault c.in-Ok-answer_message.bytes.items) _ _
+          (request_tells m w c.args.now c.in-Ok-answer_message.bytes.items (c.in-Ok-answer_message.ensures.reply honest w stands set))
+          (message_answers m c.args.body.now _ w c.args.now c.in-Ok.ensures.head c.in-Ok.ensures.found (c.in-Ok-answer_message.ensures.reply honest w stands set)),
+      c.in-Ok-answer_message.ensures.world honest w stands,
+      λ v left.
+          let l = c.in-Ok-answer_message.ensures.crash_ok honest w v stands left in
+          (l.0, l.1, as_asked c.args.body.now (verdict m) c.args.now w v (outcome (verdict m) m.head w c.args.now).world l.0 (request m c.in-Ok.ensures.found) l.2),
+    )
+
+pub returns-in-Ok-clause-crash : goal.returns-in-Ok-clause-crash
+returns-in-Ok-clause-crash g c = λ honest w stands.
+    let m = message_of c.in-Ok.view in (
+      w,
+      λ set. bare_fails c.in-Some.h c.args.body.now (bytes_of c.bare_answer-in-Err-answer_message.result) w c.args.now c.in-Some.ensures.fields (sym c.in_default-head_check.is ∙ c.head_check.ensures)
+          c.bare_answer-in-Err-answer_message.ensures,
+      c.in-Err-answer_message.ensures.err w stands,
+      λ v left.
+          let l = c.in-Err-answer_message.ensures.crash_err honest w v stands left in
+          (l.0, l.1, as_asked c.args.body.now (verdict m) c.args.now w v w l.0 (request m c.in-Ok.ensures.found) l.2),
+    )
+
+pub returns-in-Err-Malformed-clause-crash : goal.returns-in-Err-Malformed-clause-crash
+returns-in-Err-Malformed-clause-crash g c = λ honest w stands.
+    let out = bytes_of c.bare_answer-in-Err-Malformed.result in
+    let quiet : is_fault out ≡ false = ap is_fault c.bare_answer-in-Err-Malformed.ensures.bytes in (
+      w,
+      λ set. not_fault (is_fault out) _ _ quiet
+          (bare_answers 0x0400 c.in-Some.h c.args.body.now _ w c.args.now c.in-Some.ensures.fields
+          (refused_malformed c.in-Some.h c.args.body.now c.in-Some.ensures.fields (sym c.in_default-head_check.is ∙ c.head_check.ensures) (rw c.in-Err-Malformed.field-0-is at c.in-Err-Malformed.ensures.fault).1)
+          c.bare_answer-in-Err-Malformed.ensures),
+      stands,
+      λ v left. (v, left, untaken refl refl),
+    )
+
+pub returns-clause-crash : goal.returns-clause-crash
+returns-clause-crash g c = λ honest w stands. (
+  w,
+  λ set. bare_fails c.in-Some.h c.args.body.now (bytes_of c.bare_answer-in-Err.result) w c.args.now c.in-Some.ensures.fields (sym c.in_default-head_check.is ∙ c.head_check.ensures) c.bare_answer-in-Err.ensures,
+  stands,
+  λ v left. (v, left, untaken refl refl),
+)

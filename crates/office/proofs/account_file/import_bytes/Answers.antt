@@ -14,3 +14,9 @@ pub returns-clause-why : goal.returns-clause-why
 returns-clause-why g c = λ honest. failing c.tell.result IsOfStream _ c.tell.ensures.failed (λ f of_stream w stands.
     let a = c.in_ok-imported.ensures.added honest w stands in
     inr (of_stream, c.in_ok-imported.imported, (step w c.args.now (grant a.0)).world, (a.0, a.1, a.2, refl), a.3))
+
+pub returns-in_err-imported-clause-crash : goal.returns-in_err-imported-clause-crash
+returns-in_err-imported-clause-crash g c = λ honest w stands. let a = c.import.ensures.crash honest w stands in (a.0, a.2, a.3)
+
+pub returns-clause-crash : goal.returns-clause-crash
+returns-clause-crash g c = λ honest w stands. let a = c.import.ensures.crash honest w stands in (a.0, a.2, a.3)
