@@ -5,3 +5,4 @@ pub mod Runs
 pub mod RunLemmas
 pub mod PlaceLemmas
 pub mod GrantLemmas
+pub mod CrashLemmas

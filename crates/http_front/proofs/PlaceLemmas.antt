@@ -42,7 +42,7 @@ body_fits Nothing raw content h b = subst (λ (c : List ℕ). length c ≤ 16777
 body_fits (Sized n) raw content h b = omega (arith, b.1)
 body_fits Chunked raw content h b = subst (λ (c : List ℕ). length c ≤ 16777216) (sym b.3) (chunks_fit b.0 b.1)
 
-turn_fits : (now : ℕ) (w : World) (t : Turn) → IsTurn now w t → length t.content ≤ 16777216
+pub turn_fits : (now : ℕ) (w : World) (t : Turn) → IsTurn now w t → length t.content ≤ 16777216
 turn_fits now w t is = body_fits (plan t).framing t.raw t.content (fits_by (head_in t.head) (Ok (plan t)) (is.passes, refl)) is.body
 
 -- ---- one turn

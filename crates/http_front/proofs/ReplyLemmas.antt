@@ -2,12 +2,10 @@
 use Rattle.std.proofs.Common.{◌≡◌, Option, ℕ, ◌<◌, ◌≤◌, List, Bool, true, false, None, Some, Ok, Err, length, refl, rules, sym, ap, ◌∙◌, subst, arith}
 use Rattle.std.proofs.lemmas.Bool.{false≢true}
 use Rattle.std.proofs.Math.Nat.{lt_of_not-le}
-use Rattle.std.specs.Prelude.{codes, option_map, IsSome, Result}
-use Rattle.std.specs.Bool.{OnFalse, OnTrue}
+use Rattle.std.specs.Prelude.{codes, option_map, IsSome, MatchBool, Result}
 use Rattle.std.specs.Io.KnownBytes.{Appends}
 use Rattle.std.proofs.KnownBytes.{Appends-nil}
 use Rattle.queue_core.specs.World.{World}
-use Rattle.queue_types.specs.Settings.{SettingValues}
 use Rattle.queue_core.specs.Shown.{pending_jobs, document_at, head_of}
 use Rattle.queue_types.specs.declared.document.Document.{Document}
 use Rattle.queue_types.specs.declared.document.DocumentHead.{DocumentHead}
@@ -53,47 +51,23 @@ replied_declined now w target content closes r v d = (d, Appends-nil v, refl)
 pub headed_of : (n : ℕ) → (n < 8 → false ≡ true) → 8 ≤ n
 headed_of n h = let k : 7 < n = lt_of_not-le (λ (few : n ≤ 7). let lt : n < 8 = omega arith in false≢true (h lt)) in omega arith
 
-ipp_by : (old new : World → Type 0) (now : ℕ) (set : SettingValues) (content bytes : List ℕ) (b : Bool) → 8 ≤ length content → is_ipp_fault bytes ≡ b
-    → OnFalse b ((w : World) → old w → set ≡ w.settings → (after : World) × IsIppReply w now content after bytes × new after)
-    → OnTrue b ((w : World) → old w → set ≡ w.settings → Fails content bytes × new w)
-    → (w : World) → old w → set ≡ w.settings → (u : World) × new u × IsIppAnswer now w content b (codes "application/ipp") bytes u
-ipp_by old new now set content bytes true long e told failed w s t = let f = failed w s t in (w, f.1, record { headed = long; flag = sym e; type_is = refl; answers = (f.0, refl) })
-ipp_by old new now set content bytes false long e told failed w s t = let a = told w s t in (a.0, a.2, record { headed = long; flag = sym e; type_is = refl; answers = a.1 })
-
-pub ipp_answer : (old new : World → Type 0) (now : ℕ) (set : SettingValues) (content bytes body : List ℕ) (fault : Bool) → 8 ≤ length content
-    → OnFalse (is_ipp_fault bytes) ((w : World) → old w → set ≡ w.settings → (after : World) × IsIppReply w now content after bytes × new after)
-    → OnTrue (is_ipp_fault bytes) ((w : World) → old w → set ≡ w.settings → Fails content bytes × new w)
-    → fault ≡ is_ipp_fault bytes → body ≡ bytes
-    → (w : World) → old w → set ≡ w.settings → (u : World) × new u × IsAnswered now w Ipp content fault (codes "application/ipp") body u
-ipp_answer old new now set content bytes body fault long told failed e f w s t =
-    let a = ipp_by old new now set content bytes (is_ipp_fault bytes) long refl told failed w s t in (
-      a.0,
-      a.1,
-      subst (λ (b : Bool). IsIppAnswer now w content b (codes "application/ipp") body a.0) (sym e)
-          (subst (λ (l : List ℕ). IsIppAnswer now w content (is_ipp_fault bytes) (codes "application/ipp") l a.0) (sym f) a.2),
-    )
+-- what came of a message answers it
+pub ipp_answer : (now : ℕ) (w u : World) (content bytes body : List ℕ) (fault : Bool) → 8 ≤ length content
+    → MatchBool (is_ipp_fault bytes) (Fails content bytes × (u ≡ w)) (IsIppReply w now content u bytes) → fault ≡ is_ipp_fault bytes → body ≡ bytes
+    → IsAnswered now w Ipp content fault (codes "application/ipp") body u
+ipp_answer now w u content bytes body fault long brought e f =
+    subst (λ (b : Bool). IsIppAnswer now w content b (codes "application/ipp") body u) (sym e)
+    (subst (λ (l : List ℕ). IsIppAnswer now w content (is_ipp_fault bytes) (codes "application/ipp") l u) (sym f) (record { headed = long; flag = refl; type_is = refl; answers = brought }))
 
 -- ---- reports
 
-report_by : (old new : World → Type 0) (now : ℕ) (content bytes : List ℕ) (b : Bool) → is_fault_line bytes ≡ b
-    → OnFalse b ((w : World) → old w → (after : World) × IsReported w now content after bytes × new after)
-    → OnTrue b ((w : World) → old w → IsUntaken content bytes × new w)
-    → (w : World) → old w → (u : World) × new u × IsReportAnswer now w content b (codes "text/plain") bytes u
-report_by old new now content bytes true e told failed w s = let f = failed w s in (w, f.1, record { flag = sym e; type_is = refl; answers = (f.0, refl) })
-report_by old new now content bytes false e told failed w s = let a = told w s in (a.0, a.2, record { flag = sym e; type_is = refl; answers = a.1 })
-
-pub report_answer : (old new : World → Type 0) (now : ℕ) (content bytes body : List ℕ) (fault : Bool)
-    → OnFalse (is_fault_line bytes) ((w : World) → old w → (after : World) × IsReported w now content after bytes × new after)
-    → OnTrue (is_fault_line bytes) ((w : World) → old w → IsUntaken content bytes × new w)
-    → fault ≡ is_fault_line bytes → body ≡ bytes
-    → (w : World) → old w → (u : World) × new u × IsAnswered now w Report content fault (codes "text/plain") body u
-report_answer old new now content bytes body fault told failed e f w s =
-    let a = report_by old new now content bytes (is_fault_line bytes) refl told failed w s in (
-      a.0,
-      a.1,
-      subst (λ (b : Bool). IsReportAnswer now w content b (codes "text/plain") body a.0) (sym e)
-          (subst (λ (l : List ℕ). IsReportAnswer now w content (is_fault_line bytes) (codes "text/plain") l a.0) (sym f) a.2),
-    )
+-- what came of a line answers it
+pub report_answer : (now : ℕ) (w u : World) (content bytes body : List ℕ) (fault : Bool)
+    → MatchBool (is_fault_line bytes) (IsUntaken content bytes × (u ≡ w)) (IsReported w now content u bytes) → fault ≡ is_fault_line bytes → body ≡ bytes
+    → IsAnswered now w Report content fault (codes "text/plain") body u
+report_answer now w u content bytes body fault brought e f =
+    subst (λ (b : Bool). IsReportAnswer now w content b (codes "text/plain") body u) (sym e)
+    (subst (λ (l : List ℕ). IsReportAnswer now w content (is_fault_line bytes) (codes "text/plain") l u) (sym f) (record { flag = refl; type_is = refl; answers = brought }))
 
 -- ---- documents
 

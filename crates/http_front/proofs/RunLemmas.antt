@@ -27,7 +27,9 @@ use Rattle.http_head.specs.declared.target.Target.TheVariants.{Ipp, Report, Queu
 use Rattle.http_front.specs.Turns.{Turn, plan, IsTurn, IsAnswered, request_bytes, answer_bytes, acts, closes_at, last_request, most_requests}
 use Rattle.http_front.specs.Ends.{IsEnd, IsBegun, nothing, interim, answered, ended}
 use Rattle.http_front.specs.Connections.{AreTurns, GoesOn, EndsAt, Answers, Breaks, Worked, written_for, world_after, bits, flag_of}
+use Rattle.http_front.specs.Crash.{Carries, CarriesAll}
 use Rattle.http_front.specs.Turned.{IsTurned, Works}
+use Rattle.http_front.proofs.CrashLemmas.{carries_idle, carries_more}
 use Rattle.http_front.proofs.Runs.{Ran, RanOn}
 use Rattle.http_front.specs.declared.outcome.Turned.TheVariants.{Answered, Ended}
 
@@ -266,29 +268,37 @@ pub worked_settings : (k now : ℕ) (w u : World) (acted : ℕ) (set : SettingVa
 worked_settings k now w u acted set h e = e ∙ sym h.settings
 
 -- one turn more
-pub worked_on : (k now : ℕ) (w u p : World) (acted more : ℕ) (b : Bool) → Worked k now w u acted → Works now u p b → more ≡ acted + (if b then 1 else 0)
-    → Worked (k + 1) now w p more
-worked_on k now w u p acted more b h (inl e) more_is = record {
-  turns = h.turns;
-  few = (let f = h.few in omega (arith, f));
-  are = h.are;
-  world = e.0 ∙ h.world;
-  settings = ap (λ (z : World). z.settings) e.0 ∙ h.settings;
-  acted_is = more_is ∙ ap (λ z. acted + (if z then 1 else 0)) e.1 ∙ add-zero acted ∙ h.acted_is;
-}
-worked_on k now w u p acted more b h (inr t) more_is = record {
-  turns = h.turns ++ t.0 ∷ [];
-  few = (let e = length-append h.turns (t.0 ∷ []) in let f = h.few in omega (arith, e, f));
-  are = are_more now w h.turns t.0 h.are (subst (λ z. IsTurn now z t.0) h.world t.1);
-  world = t.2 ∙ sym (world_more w h.turns t.0);
-  settings = ap (λ (z : World). z.settings) t.2
-      ∙ answered_settings now u (plan t.0).target t.0.content t.0.is_fault t.0.media_type t.0.reply t.0.after t.1.answered ∙ h.settings;
-  acted_is = more_is ∙ ap (λ z. acted + (if z then 1 else 0)) t.3 ∙ ap (λ n. n + (if acts t.0 then 1 else 0)) h.acted_is ∙ sym (count_more h.turns t.0);
-}
+pub worked_on : (before between after : World → World → Type 0) (k now : ℕ) (w u p : World) (acted more : ℕ) (b : Bool) → (h : Worked k now w u acted) → CarriesAll before between now h.turns w u
+    → Works (λ asks. Carries between after asks now u p) now u p b → more ≡ acted + (if b then 1 else 0)
+    → (j : Worked (k + 1) now w p more) × CarriesAll before after now j.turns w p
+worked_on before between after k now w u p acted more b h left (inl e) more_is = (
+  record {
+    turns = h.turns;
+    few = (let f = h.few in omega (arith, f));
+    are = h.are;
+    world = e.0 ∙ h.world;
+    settings = ap (λ (z : World). z.settings) e.0 ∙ h.settings;
+    acted_is = more_is ∙ ap (λ z. acted + (if z then 1 else 0)) e.1 ∙ add-zero acted ∙ h.acted_is;
+  },
+  carries_idle before between after now h.turns w u p left e.2,
+)
+worked_on before between after k now w u p acted more b h left (inr t) more_is = (
+  record {
+    turns = h.turns ++ t.0 ∷ [];
+    few = (let e = length-append h.turns (t.0 ∷ []) in let f = h.few in omega (arith, e, f));
+    are = are_more now w h.turns t.0 h.are (subst (λ z. IsTurn now z t.0) h.world t.1);
+    world = t.2 ∙ sym (world_more w h.turns t.0);
+    settings = ap (λ (z : World). z.settings) t.2
+        ∙ answered_settings now u (plan t.0).target t.0.content t.0.is_fault t.0.media_type t.0.reply t.0.after t.1.answered ∙ h.settings;
+    acted_is = more_is ∙ ap (λ z. acted + (if z then 1 else 0)) t.3 ∙ ap (λ n. n + (if acts t.0 then 1 else 0)) h.acted_is ∙ sym (count_more h.turns t.0);
+  },
+  carries_more before between after now h.turns t.0 w u p left t.4,
+)
 
-pub worked_within : (k now : ℕ) (w u : World) (acted : ℕ) → k ≤ most_requests → Worked k now w u acted → Worked most_requests now w u acted
-worked_within k now w u acted few h =
-    record { turns = h.turns; few = (let f = h.few in omega (arith, f, few)); are = h.are; world = h.world; settings = h.settings; acted_is = h.acted_is }
+pub worked_within : (before after : World → World → Type 0) (k now : ℕ) (w u : World) (acted : ℕ) → k ≤ most_requests → (h : Worked k now w u acted) → CarriesAll before after now h.turns w u
+    → (j : Worked most_requests now w u acted) × CarriesAll before after now j.turns w u
+worked_within before after k now w u acted few h left =
+    (record { turns = h.turns; few = (let f = h.few in omega (arith, f, few)); are = h.are; world = h.world; settings = h.settings; acted_is = h.acted_is }, left)
 
 -- ---- the router
 

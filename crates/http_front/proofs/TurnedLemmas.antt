@@ -4,6 +4,7 @@ use Rattle.std.specs.Prelude.{Result}
 use Rattle.std.specs.Io.KnownBytes.{Appends, Consumes}
 use Rattle.std.proofs.KnownBytes.{Appends-nil, Appends-trans, Consumes-trans}
 use Rattle.httparse.specs.Grammar.{RequestHead, print_request}
+use Rattle.queue_types.specs.Event.{Event}
 use Rattle.queue_core.specs.World.{World}
 use Rattle.http_wire.specs.Bodies.{IsBody, EndsInBody}
 use Rattle.http_head.specs.Head.{BeginsHead, EndsWithoutHead}
@@ -17,6 +18,7 @@ use Rattle.http_head.specs.declared.end.Refusal.{Refusal}
 use Rattle.http_head.specs.declared.end.Refusal.TheVariants.{ServiceUnavailable}
 use Rattle.http_head.specs.declared.plan.Plan.{Plan}
 use Rattle.http_head.specs.declared.framing.Framing.{Framing}
+use Rattle.http_front.specs.Places.{AsksFor}
 use Rattle.http_front.specs.Turns.{Turn, IsTurn, acts_on, answer_bytes, last_request}
 use Rattle.http_front.specs.Ends.{IsEnd, IsBegun}
 use Rattle.http_front.specs.Ends.{no_head, checked, in_body, declined, unavailable, unavailable_later, nothing, interim, answered, ended}
@@ -233,24 +235,26 @@ pub closed_faultless : (end : Finish) (v x : Option (List ℕ)) (result : Result
 closed_faultless end v x (Ok t) c faultless = subst (λ (z : Turned). IsTurnFaultless (Ok z)) c.0 faultless
 closed_faultless end v x (Err f) c faultless = sym c.1 ∙ faultless.0
 
-pub plan_idle : (now k : ℕ) (w u : World) (plan : Plan) (acted : Bool) → u ≡ w → acted ≡ false → PlanWorks now k w u plan acted
-plan_idle now k w u plan acted e a = inl (e, a)
+pub plan_idle : (is_left : (Event → Type 0) → Type 0) (now k : ℕ) (w u : World) (plan : Plan) (acted : Bool) → u ≡ w → acted ≡ false → is_left (λ e. ⊥)
+    → PlanWorks is_left now k w u plan acted
+plan_idle is_left now k w u plan acted e a left = inl (e, a, left)
 
-pub idle : (now : ℕ) (w : World) (acted : Bool) → acted ≡ false → Works now w w acted
-idle now w acted a = inl (refl, a)
+pub idle : (is_left : (Event → Type 0) → Type 0) (now : ℕ) (w : World) (acted : Bool) → acted ≡ false → is_left (λ e. ⊥) → Works is_left now w w acted
+idle is_left now w acted a left = inl (refl, a, left)
 
-pub plan_works : (now k : ℕ) (w u : World) (plan : Plan) (raw content bytes : List ℕ) (acted fault closes : Bool) → IsBody plan.framing raw content
-    → IsReply now w plan.target content closes fault bytes u → acted ≡ acts_on plan.target → closes ≡ (plan.closes || (k == last_request)) → PlanWorks now k w u plan acted
-plan_works now k w u plan raw content bytes acted fault closes body reply acted_is closes_is =
-    inr (fault, closes, raw, bytes, record { content = content; body = body; reply = reply; acted_is = acted_is; closes_is = closes_is })
+pub plan_works : (is_left : (Event → Type 0) → Type 0) (now k : ℕ) (w u : World) (plan : Plan) (raw content bytes : List ℕ) (acted fault closes : Bool) → IsBody plan.framing raw content
+    → IsReply now w plan.target content closes fault bytes u → acted ≡ acts_on plan.target → closes ≡ (plan.closes || (k == last_request))
+    → is_left (λ e. AsksFor plan.target content (Some e)) → PlanWorks is_left now k w u plan acted
+plan_works is_left now k w u plan raw content bytes acted fault closes body reply acted_is closes_is left =
+    inr (fault, closes, raw, bytes, record { content = content; body = body; reply = reply; acted_is = acted_is; closes_is = closes_is }, left)
 
-lift_works : (now k : ℕ) (w u : World) (h : RequestHead) (r q : Option (List ℕ)) (acted : Bool) → TakesHead r q h → refusal_of (head_of h) ≡ None
-    → PlanWorks now k w u (plan_of (head_of h)) acted → Works now w u acted
-lift_works now k w u h r q acted t passes (inl e) = inl e
-lift_works now k w u h r q acted t passes (inr p) =
-    inr (made now k w u h acted p.0 p.1 p.2 p.3 p.4, made_is now k w u h acted p.0 p.1 p.2 p.3 r q t passes p.4, refl, p.4.acted_is)
+lift_works : (is_left : (Event → Type 0) → Type 0) (now k : ℕ) (w u : World) (h : RequestHead) (r q : Option (List ℕ)) (acted : Bool) → TakesHead r q h → refusal_of (head_of h) ≡ None
+    → PlanWorks is_left now k w u (plan_of (head_of h)) acted → Works is_left now w u acted
+lift_works is_left now k w u h r q acted t passes (inl e) = inl e
+lift_works is_left now k w u h r q acted t passes (inr p) =
+    inr (made now k w u h acted p.0 p.1 p.2 p.3 p.4, made_is now k w u h acted p.0 p.1 p.2 p.3 r q t passes p.4, refl, p.4.acted_is, p.5)
 
-pub lifted_works : (now k : ℕ) (w u : World) (plan : Plan) (r q : Option (List ℕ)) (acted : Bool)
-    → (h : RequestHead) × TakesHead r q h × (refusal_of (head_of h) ≡ None) × (plan ≡ plan_of (head_of h)) → PlanWorks now k w u plan acted → Works now w u acted
-lifted_works now k w u plan r q acted h p =
-    lift_works now k w u h.0 r q acted h.1 h.2 (subst (λ (z : Plan). PlanWorks now k w u z acted) h.3 p)
+pub lifted_works : (is_left : (Event → Type 0) → Type 0) (now k : ℕ) (w u : World) (plan : Plan) (r q : Option (List ℕ)) (acted : Bool)
+    → (h : RequestHead) × TakesHead r q h × (refusal_of (head_of h) ≡ None) × (plan ≡ plan_of (head_of h)) → PlanWorks is_left now k w u plan acted → Works is_left now w u acted
+lifted_works is_left now k w u plan r q acted h p =
+    lift_works is_left now k w u h.0 r q acted h.1 h.2 (subst (λ (z : Plan). PlanWorks is_left now k w u z acted) h.3 p)

@@ -3,3 +3,4 @@ pub mod Ends
 pub mod Connections
 pub mod Turned
 pub mod Places
+pub mod Crash

@@ -1,5 +1,5 @@
 -- What the parts of one turn leave: of the bytes, of what is written, and of the world.
-use Rattle.std.specs.Prelude.{◌≡◌, ◌≢◌, ◌<◌, ◌⊎◌, ◌==◌, ◌||◌, Bool, false, ℕ, List, [], ◌++◌, Option, IfSome, Result, Ok, Err, ⊤}
+use Rattle.std.specs.Prelude.{◌≡◌, ◌≢◌, ◌<◌, ◌⊎◌, ◌==◌, ◌||◌, Bool, false, ℕ, List, [], ◌++◌, Option, Some, IfSome, Result, Ok, Err, ⊤}
 use Rattle.std.specs.Io.KnownBytes.{Appends, Consumes}
 use Rattle.queue_core.specs.World.{World}
 use Rattle.http_wire.specs.Bodies.{IsBody, EndsInBody}
@@ -11,6 +11,9 @@ use Rattle.http_head.specs.declared.end.Refusal.{Refusal}
 use Rattle.http_head.specs.declared.end.Refusal.TheVariants.{ServiceUnavailable}
 use Rattle.http_head.specs.declared.plan.Plan.{Plan}
 use Rattle.http_head.specs.declared.target.Target.{Target}
+use Rattle.queue_types.specs.Event.{Event}
+use Rattle.http_front.specs.Crash.{AsksIn}
+use Rattle.http_front.specs.Places.{AsksFor}
 use Rattle.http_front.specs.Turns.{Turn, IsTurn, IsAnswered, acts, acts_on, closes_at, last_request, answer_bytes, request_bytes}
 use Rattle.http_front.specs.Ends.{Declines, IsEnd, IsBegun}
 use Rattle.http_front.specs.declared.outcome.Replied.{Replied}
@@ -110,15 +113,17 @@ acted_in (Ok (Answered acted fault closes)) = acted
 acted_in (Ok (Ended end)) = false
 acted_in (Err f) = f.acted
 
--- behind a head with that plan nothing was changed, or a request was answered
-abbrev pub PlanWorks : ℕ → ℕ → World → World → Plan → Bool → Type 0
-PlanWorks now k w u plan acted =
-    ((u ≡ w) × (acted ≡ false))
-    ⊎ ((fault : Bool) × (closes : Bool) × (raw : List ℕ) × (bytes : List ℕ) × IsPlanTurn now k w u plan acted fault closes raw bytes)
+-- behind a head with that plan nothing was changed, or a request was answered; and this is left for the events that were asked
+abbrev pub PlanWorks : ((Event → Type 0) → Type 0) → ℕ → ℕ → World → World → Plan → Bool → Type 0
+PlanWorks is_left now k w u plan acted =
+    ((u ≡ w) × (acted ≡ false) × is_left (λ e. ⊥))
+    ⊎ ((fault : Bool) × (closes : Bool) × (raw : List ℕ) × (bytes : List ℕ) × (t : IsPlanTurn now k w u plan acted fault closes raw bytes)
+    × is_left (λ e. AsksFor plan.target t.content (Some e)))
 
--- nothing was changed, or a request was answered
-abbrev pub Works : ℕ → World → World → Bool → Type 0
-Works now w u acted = ((u ≡ w) × (acted ≡ false)) ⊎ ((t : Turn) × IsTurn now w t × (u ≡ t.after) × (acted ≡ acts t))
+-- nothing was changed, or a request was answered; and this is left for the events that were asked
+abbrev pub Works : ((Event → Type 0) → Type 0) → ℕ → World → World → Bool → Type 0
+Works is_left now w u acted =
+    ((u ≡ w) × (acted ≡ false) × is_left (λ e. ⊥)) ⊎ ((t : Turn) × IsTurn now w t × (u ≡ t.after) × (acted ≡ acts t) × is_left (AsksIn t))
 
 -- ---- faults
 

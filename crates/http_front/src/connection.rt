@@ -6,6 +6,7 @@ ghost use Rattle.queue_core.specs.World.{World};
 ghost use Rattle.http_head.specs.Left.{left};
 ghost use Rattle.http_head.specs.Routes.{routes};
 ghost use Rattle.http_front.specs.Connections.{IsFaultless, IsServed, IsStopped, Worked, acted_of};
+ghost use Rattle.http_front.specs.Crash.{CarriesAll, IsAtMostOneMore};
 ghost use Rattle.http_front.specs.Turns.{most_requests};
 
 use crate::context::Context;
@@ -49,7 +50,8 @@ fn run<R: Read, W: Write, B: QueueBook>(
         → (u : World) × B.stands book.new u
         × IsStopped context.entry.moment w u (left input.old.buffer (R.remaining input.old.reader)) (W.contents writer.old) (W.contents writer.new) fault) }
     ensures worked { B.is_honest book.new → (w : World) → B.stands book.old w → context.entry.settings.now ≡ w.settings
-        → (u : World) × B.stands book.new u × Worked most_requests context.entry.moment w u (acted_of result) }
+        → (u : World) × B.stands book.new u × (k : Worked most_requests context.entry.moment w u (acted_of result))
+        × CarriesAll (B.crash_leaves book.old) (B.crash_leaves book.new) context.entry.moment k.turns w u }
     ensures few { IfOk result (λ served. served.acted ≤ most_requests) }
     ensures few_stopped { IfErr result (λ fault. fault.acted ≤ most_requests) }
     // what shuts a book is answered as a fault, or breaks a document off
@@ -122,6 +124,14 @@ pub fn serve<R: Read, W: Write, B: QueueBook>(
         × IsStopped now w u (R.remaining reader.old) (W.contents writer.old) (W.contents writer.new) fault) }
     ensures worked { B.is_honest book.new → (w : World) → B.stands book.old w → settings.now ≡ w.settings
         → (u : World) × B.stands book.new u × Worked most_requests now w u (acted_of result) }
+    // a crash at any moment leaves the queue that the book stands for, or what the event of one of the requests makes of it
+    ensures crash { B.is_honest book.new → B.is_live book.old → (w : World) → B.stands book.old w → settings.now ≡ w.settings
+        → (u x : World) × B.stands book.new u × (k : Worked most_requests now w u (acted_of result))
+        × B.crash_leaves book.new u x × IsAtMostOneMore now k.turns u x }
+    // also over a book that was shut before, where it is known what a crash left then
+    ensures left { B.is_honest book.new → (w : World) → B.stands book.old w → settings.now ≡ w.settings
+        → (u : World) × B.stands book.new u × (k : Worked most_requests now w u (acted_of result))
+        × CarriesAll (B.crash_leaves book.old) (B.crash_leaves book.new) now k.turns w u }
     ensures few { IfOk result (λ served. served.acted ≤ most_requests) }
     ensures few_stopped { IfErr result (λ fault. fault.acted ≤ most_requests) }
     // what shuts a book is answered as a fault, or breaks a document off

@@ -1,12 +1,14 @@
 //! What a connection is to the machine, and what it leaves: laws over the definitions, in functions that do nothing.
-ghost use Rattle.std.specs.Prelude.{◌≡◌, ℕ, List};
+ghost use Rattle.std.specs.Prelude.{◌≡◌, ◌≤◌, ℕ, List, length};
 ghost use Rattle.std.specs.List.{AllByRecursion};
 ghost use Rattle.queue_core.specs.Limits.{IsMoment};
 ghost use Rattle.queue_core.specs.Runs.{IsPlace, Place, run};
 ghost use Rattle.queue_core.specs.World.{World};
 ghost use Rattle.http_head.specs.declared.end.End.{End};
 ghost use Rattle.http_front.specs.Connections.{Answers, Breaks, Worked};
+ghost use Rattle.http_front.specs.Crash.{IsAtMostOneMore};
 ghost use Rattle.http_front.specs.Places.{AreBrokenPlaces, ArePlacesOf};
+ghost use Rattle.http_front.specs.Turns.{Turn};
 
 use ipp_ops::calls_are_events;
 use queue_core::run_keeps;
@@ -23,6 +25,9 @@ pub fn connections_are_runs()
     // whatever the bytes were
     ensures worked { (most now : ℕ) (w u : World) (acted : ℕ) → IsMoment now → (k : Worked most now w u acted)
         → (ps : List Place) × ArePlacesOf now w k.turns ps × AllByRecursion IsPlace ps × (u ≡ run w ps) }
+    // what a crash leaves beside the queue u: that queue, or what one place more makes of it
+    ensures crash { (most now : ℕ) (w u x : World) (acted : ℕ) → IsMoment now → (k : Worked most now w u acted) → IsAtMostOneMore now k.turns u x
+        → (ps : List Place) × AllByRecursion IsPlace ps × (length ps ≤ 1) × (x ≡ run u ps) }
 {
     calls_are_events();
     run_keeps();
@@ -36,4 +41,6 @@ pub fn connections_grant_nothing()
         → Breaks now w stream written u acted faults → u.grants ≡ w.grants }
     // whatever the bytes were
     ensures worked { (most now : ℕ) (w u : World) (acted : ℕ) → Worked most now w u acted → u.grants ≡ w.grants }
+    // and what a crash leaves
+    ensures crash { (now : ℕ) (turns : List Turn) (u x : World) → IsAtMostOneMore now turns u x → x.grants ≡ u.grants }
 {}

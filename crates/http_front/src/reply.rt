@@ -2,6 +2,7 @@
 ghost use Rattle.std.specs.Prelude.{◌≡◌, ◌≢◌, ◌≤◌, ℕ, List, false, length};
 ghost use Rattle.queue_core.specs.Limits.{IsMoment};
 ghost use Rattle.queue_core.specs.World.{World};
+ghost use Rattle.http_front.specs.Crash.{AsksUnlessDeclined, Carries};
 ghost use Rattle.http_front.specs.Turned.{IsReplied, IsReplyFaultless};
 ghost use Rattle.http_head.specs.declared.target.Target.TheVariants.{Ipp, Report, Queue, Document};
 
@@ -29,7 +30,8 @@ fn reply_ipp<W: Write, B: QueueBook>(
     ensures began { B.is_honest book.new → B.is_honest book.old }
     ensures replied { B.is_honest book.new → (w : World) → B.stands book.old w → context.entry.settings.now ≡ w.settings
         → (u : World) × B.stands book.new u
-        × IsReplied context.entry.moment w u Ipp content.now closes (W.contents writer.old) (W.contents writer.new) result }
+        × IsReplied context.entry.moment w u Ipp content.now closes (W.contents writer.old) (W.contents writer.new) result
+        × Carries (B.crash_leaves book.old) (B.crash_leaves book.new) (AsksUnlessDeclined Ipp content.now result) context.entry.moment w u }
     ensures live { B.is_honest book.new → B.is_live book.old → IsReplyFaultless result → B.is_live book.new }
 {
     match answer(
@@ -67,7 +69,8 @@ fn reply_report<W: Write, B: QueueBook>(
     ensures began { B.is_honest book.new → B.is_honest book.old }
     ensures replied { B.is_honest book.new → (w : World) → B.stands book.old w
         → (u : World) × B.stands book.new u
-        × IsReplied now w u Report content.now closes (W.contents writer.old) (W.contents writer.new) result }
+        × IsReplied now w u Report content.now closes (W.contents writer.old) (W.contents writer.new) result
+        × Carries (B.crash_leaves book.old) (B.crash_leaves book.new) (AsksUnlessDeclined Report content.now result) now w u }
     ensures live { B.is_honest book.new → B.is_live book.old → IsReplyFaultless result → B.is_live book.new }
 {
     let answer = report(book, now, content);
@@ -91,6 +94,7 @@ fn reply_queue<W: Write, B: QueueBook>(
 ) -> Result<Replied, Stopped>
     ensures began { B.is_honest book.new → B.is_honest book.old }
     ensures kept { (w : World) → B.stands book.old w → B.stands book.new w }
+    ensures left { B.is_honest book.new → (v w : World) → B.crash_leaves book.old v w → B.crash_leaves book.new v w }
     ensures replied { B.is_honest book.new → (w : World) → B.stands book.old w → (now : ℕ) (content : List ℕ)
         → IsReplied now w w Queue content closes (W.contents writer.old) (W.contents writer.new) result }
     ensures live { B.is_honest book.new → B.is_live book.old → IsReplyFaultless result → B.is_live book.new }
@@ -137,6 +141,7 @@ fn reply_document<W: Write, B: QueueBook>(
 ) -> Result<Replied, Stopped>
     ensures began { B.is_honest book.new → B.is_honest book.old }
     ensures kept { (w : World) → B.stands book.old w → B.stands book.new w }
+    ensures left { B.is_honest book.new → (v w : World) → B.crash_leaves book.old v w → B.crash_leaves book.new v w }
     ensures replied { B.is_honest book.new → (w : World) → B.stands book.old w → (now : ℕ) (content : List ℕ)
         → IsReplied now w w (Document n) content closes (W.contents writer.old) (W.contents writer.new) result }
     ensures live { B.is_honest book.new → B.is_live book.old → IsReplyFaultless result → B.is_live book.new }
@@ -170,7 +175,8 @@ pub fn reply<W: Write, B: QueueBook>(
     ensures began { B.is_honest book.new → B.is_honest book.old }
     ensures replied { B.is_honest book.new → (w : World) → B.stands book.old w → context.entry.settings.now ≡ w.settings
         → (u : World) × B.stands book.new u
-        × IsReplied context.entry.moment w u target content.now closes (W.contents writer.old) (W.contents writer.new) result }
+        × IsReplied context.entry.moment w u target content.now closes (W.contents writer.old) (W.contents writer.new) result
+        × Carries (B.crash_leaves book.old) (B.crash_leaves book.new) (AsksUnlessDeclined target content.now result) context.entry.moment w u }
     ensures live { B.is_honest book.new → B.is_live book.old → IsReplyFaultless result → B.is_live book.new }
 {
     match target {

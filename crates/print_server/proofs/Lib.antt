@@ -1,2 +1,3 @@
 pub mod ConnectionLemmas
 pub mod RunLemmas
+pub mod CrashLemmas

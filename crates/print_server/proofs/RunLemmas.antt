@@ -1,13 +1,14 @@
 -- Connections, one after another, as a run of the machine.
-use Rattle.std.proofs.Common.{◌≡◌, ◌∙◌, ℕ, List, [], ◌∷◌, ◌++◌, sym, ap}
+use Rattle.std.proofs.Common.{◌≡◌, ◌∙◌, ℕ, List, [], ◌∷◌, ◌++◌, sym, ap, inl, inr}
 use Rattle.std.specs.List.{AllByRecursion as Each}
 use Rattle.queue_core.specs.Limits.{IsMoment}
 use Rattle.queue_core.specs.Runs.{Place, IsPlace, run}
 use Rattle.queue_core.specs.World.{World}
 use Rattle.http_front.specs.Connections.{Worked}
+use Rattle.http_front.specs.Crash.{IsAtMostOneMore as IsOneMoreOf}
 use Rattle.http_front.specs.Turns.{most_requests}
 use Rattle.http_front.proofs.PlaceLemmas.{each_append}
-use Rattle.print_server.specs.Connections.{AreConnections}
+use Rattle.print_server.specs.Connections.{AreConnections, IsAtMostOneMore}
 
 pub connections_run : ((now : ℕ) (w u : World) (acted : ℕ) → IsMoment now → Worked most_requests now w u acted → (ps : List Place) × Each IsPlace ps × (u ≡ run w ps))
     → ((w : World) (ps qs : List Place) → run w (ps ++ qs) ≡ run (run w ps) qs)
@@ -19,4 +20,16 @@ connections_run one joined w u (acted ∷ rest) are =
       first.0 ++ others.0,
       each_append first.0 others.0 first.1 others.1,
       others.2 ∙ ap (λ (x : World). run x others.0) first.2 ∙ sym (joined w first.0 others.0),
+    )
+
+-- what a crash leaves behind a run is a run
+pub left_run : ((now : ℕ) (w u x : World) (acted : ℕ) → IsMoment now → (k : Worked most_requests now w u acted) → IsOneMoreOf now k.turns u x → (ps : List Place) × Each IsPlace ps × (x ≡ run u ps))
+    → ((w : World) (ps qs : List Place) → run w (ps ++ qs) ≡ run (run w ps) qs)
+    → (w u x : World) (ps : List Place) → Each IsPlace ps → u ≡ run w ps → IsAtMostOneMore u x → (qs : List Place) × Each IsPlace qs × (x ≡ run w qs)
+left_run one joined w u x ps places is (inl e) = (ps, places, e ∙ is)
+left_run one joined w u x ps places is (inr h) =
+    let last = one h.2.now h.0 u x h.1 h.2.moment h.2.worked h.3 in (
+      ps ++ last.0,
+      each_append ps last.0 places last.1,
+      last.2 ∙ ap (λ (z : World). run z last.0) is ∙ sym (joined w ps last.0),
     )

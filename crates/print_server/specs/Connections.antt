@@ -1,10 +1,11 @@
 -- What connections, one after another, make of the queue.
-use Rattle.std.specs.Prelude.{◌≡◌, ◌==◌, ◌||◌, ℕ, Bool, true, false, not, List, [], ◌∷◌, Result, Ok, Err}
+use Rattle.std.specs.Prelude.{◌≡◌, ◌⊎◌, ◌==◌, ◌||◌, ℕ, Bool, true, false, not, List, [], ◌∷◌, Result, Ok, Err}
 use Rattle.queue_core.specs.Limits.{IsMoment}
 use Rattle.queue_core.specs.World.{World}
 use Rattle.http_head.specs.declared.end.End.{End}
 use Rattle.http_head.specs.declared.end.End.TheVariants.{Done, Refused}
 use Rattle.http_front.specs.Connections.{Worked}
+use Rattle.http_front.specs.Crash.{IsAtMostOneMore as IsOneMoreOf}
 use Rattle.http_front.specs.Turns.{most_requests}
 use Rattle.http_front.specs.declared.outcome.Served.{Served}
 use Rattle.http_front.specs.declared.outcome.ServeCause.{ServeCause}
@@ -40,3 +41,18 @@ is_of_book cause = false
 abbrev pub has_fault : Result Served ServeFault → Bool
 has_fault (Ok served) = not (served.faults == 0)
 has_fault (Err fault) = not (fault.faults == 0) || is_of_book fault.cause
+
+-- ---- a crash at any moment
+
+-- x is the queue u, or what the event of a request makes of it, of the connection that made u and at its moment
+abbrev pub IsAtMostOneMore : World → World → Type 0
+IsAtMostOneMore u x = (x ≡ u) ⊎ ((w : World) × (acted : ℕ) × (k : IsConnection w acted u) × IsOneMoreOf k.now k.worked.turns u x)
+
+-- behind some connections, which made u of the queue w: nothing was done, and a crash leaves what it left before; or it leaves u, or what
+-- the event of one request makes of u
+abbrev pub IsLeft : World → World → World → World → Type 0
+IsLeft w v u x = ((u ≡ w) × (x ≡ v)) ⊎ IsAtMostOneMore u x
+
+-- what a crash leaves beside the queue w, before some connections, comes to what it leaves beside u, after them
+abbrev pub Carries : (World → World → Type 0) → (World → World → Type 0) → World → World → Type 0
+Carries before after w u = (v : World) → before w v → (x : World) × after u x × IsLeft w v u x

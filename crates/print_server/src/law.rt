@@ -3,24 +3,27 @@ ghost use Rattle.std.specs.Prelude.{◌≡◌, ℕ, List};
 ghost use Rattle.std.specs.List.{AllByRecursion};
 ghost use Rattle.queue_core.specs.Runs.{IsPlace, Place, run};
 ghost use Rattle.queue_core.specs.World.{World};
-ghost use Rattle.print_server.specs.Connections.{AreConnections};
+ghost use Rattle.print_server.specs.Connections.{AreConnections, IsAtMostOneMore};
 
 use http_front::{connections_are_runs, connections_grant_nothing};
 use queue_core::run_keeps;
 
-/// Whatever clients send, what their connections make of a queue is a run of the machine.
+/// Whatever clients send, what their connections make of a queue is a run of the machine; and so is what a crash leaves of it, at whatever moment.
 pub fn served_queues_are_runs()
-    ensures { (w u : World) (counts : List ℕ) → AreConnections w counts u
+    ensures served { (w u : World) (counts : List ℕ) → AreConnections w counts u
         → (ps : List Place) × AllByRecursion IsPlace ps × (u ≡ run w ps) }
+    ensures crash { (w u x : World) (counts : List ℕ) → AreConnections w counts u → IsAtMostOneMore u x
+        → (ps : List Place) × AllByRecursion IsPlace ps × (x ≡ run w ps) }
 {
     connections_are_runs();
     run_keeps();
 }
 
-/// Whatever clients send, their connections grant no pages and change no settings.
+/// Whatever clients send, their connections grant no pages and change no settings; nor does a crash, at whatever moment.
 pub fn servers_grant_nothing()
     ensures grants { (w u : World) (counts : List ℕ) → AreConnections w counts u → u.grants ≡ w.grants }
     ensures settings { (w u : World) (counts : List ℕ) → AreConnections w counts u → u.settings ≡ w.settings }
+    ensures crash { (w u x : World) (counts : List ℕ) → AreConnections w counts u → IsAtMostOneMore u x → (x.grants ≡ w.grants) × (x.settings ≡ w.settings) }
 {
     connections_grant_nothing();
 }

@@ -5,8 +5,9 @@ ghost use Rattle.std.specs.Io.KnownBytes.{Appends};
 ghost use Rattle.queue_core.specs.Limits.{IsMoment};
 ghost use Rattle.queue_core.specs.World.{World};
 ghost use Rattle.http_front.specs.Connections.{Worked};
+ghost use Rattle.http_front.specs.Crash.{CarriesAll};
 ghost use Rattle.http_front.specs.Turns.{most_requests};
-ghost use Rattle.print_server.specs.Connections.{AreConnections};
+ghost use Rattle.print_server.specs.Connections.{AreConnections, Carries, IsAtMostOneMore};
 ghost use Rattle.print_server.specs.Lines.{served_lines};
 
 use crate::connection::{acted_of, drain, has_fault, is_ended_here};
@@ -92,6 +93,7 @@ fn after_look(look: Result<JobList, BookFault>) -> Result<(), BookFault>
 fn check_book<B: QueueBook>(book: &mut B) -> Result<(), BookFault>
     ensures began { B.is_honest book.new → B.is_honest book.old }
     ensures kept { (w : World) → B.stands book.old w → B.stands book.new w }
+    ensures left { B.is_honest book.new → (v w : World) → B.crash_leaves book.old v w → B.crash_leaves book.new v w }
     ensures damaged { B.is_honest book.new → IfErr result (λ e. e ≡ BookFault.Damaged → (w : World) → ¬ B.stands book.old w) }
 {
     after_look(book.pending())
@@ -103,7 +105,8 @@ impl Service<'_> {
         requires { IsMoment now }
         ensures began { B.is_honest book.new → B.is_honest book.old }
         ensures worked { B.is_honest book.new → (w : World) → B.stands book.old w → self.entry.settings.now ≡ w.settings
-            → (u : World) × B.stands book.new u × Worked most_requests now w u result.acted }
+            → (u : World) × B.stands book.new u × (k : Worked most_requests now w u result.acted)
+            × CarriesAll (B.crash_leaves book.old) (B.crash_leaves book.new) now k.turns w u }
         ensures few { result.acted ≤ most_requests }
         ensures live { B.is_honest book.new → B.is_live book.old → result.has_fault ≡ false → B.is_live book.new }
     {
@@ -144,9 +147,11 @@ impl Service<'_> {
         ensures began { B.is_honest book.new → B.is_honest book.old }
         ensures ok { B.is_honest book.new → OnOk result ((w : World) → B.stands book.old w → self.entry.settings.now ≡ w.settings
             → (u : World) × B.stands book.new u × (counts : List ℕ) × AreConnections w counts u × (length counts ≡ 1)
-            × Appends (O.contents out.old) (O.contents out.new) (served_lines counts)) }
+            × Appends (O.contents out.old) (O.contents out.new) (served_lines counts)
+            × Carries (B.crash_leaves book.old) (B.crash_leaves book.new) w u) }
         ensures err { B.is_honest book.new → OnErr result ((w : World) → B.stands book.old w → self.entry.settings.now ≡ w.settings
-            → (u : World) × B.stands book.new u × (counts : List ℕ) × AreConnections w counts u × (length counts ≤ 1)) }
+            → (u : World) × B.stands book.new u × (counts : List ℕ) × AreConnections w counts u × (length counts ≤ 1)
+            × Carries (B.crash_leaves book.old) (B.crash_leaves book.new) w u) }
         ensures damaged { B.is_honest book.new → IfErr result (λ f. f ≡ ServerFault.Book BookFault.Damaged
             → (w : World) → B.stands book.old w → self.entry.settings.now ≡ w.settings → ⊥) }
     {
@@ -180,6 +185,10 @@ impl Service<'_> {
         // some were
         ensures err { B.is_honest book.new → OnErr result ((w : World) → B.stands book.old w → self.entry.settings.now ≡ w.settings
             → (u : World) × B.stands book.new u × (counts : List ℕ) × AreConnections w counts u × (length counts ≤ connections)) }
+        // whatever it answers: a crash at any moment leaves the queue that the book stands for, or what the event of one request makes of it
+        ensures crash { B.is_honest book.new → B.is_live book.old → (w : World) → B.stands book.old w → self.entry.settings.now ≡ w.settings
+            → (u x : World) × B.stands book.new u × (counts : List ℕ) × AreConnections w counts u × (length counts ≤ connections)
+            × B.crash_leaves book.new u x × IsAtMostOneMore u x }
         // an honest book that stands for a queue with the settings is never called damaged
         ensures damaged { B.is_honest book.new → IfErr result (λ f. f ≡ ServerFault.Book BookFault.Damaged
             → (w : World) → B.stands book.old w → self.entry.settings.now ≡ w.settings → ⊥) }

@@ -1,4 +1,4 @@
-use Rattle.std.proofs.Common.{◌≡◌, ℕ, Bool, true, false, ◌+◌, ◌∙◌, arith, rules, ap, sym, subst, if◌then◌else◌, ◌^◌}
+use Rattle.std.proofs.Common.{◌≡◌, inl, refl, ℕ, Bool, true, false, ◌+◌, ◌∙◌, arith, rules, ap, sym, subst, if◌then◌else◌, ◌^◌}
 use Rattle.http_head.specs.Left.{left}
 use Rattle.http_head.specs.declared.end.End.{End}
 use Rattle.http_front.specs.Connections.{IsServed}
@@ -11,7 +11,7 @@ counted n false is = is
 counted n true is = is
 
 pub turns-init : goal.turns-init
-turns-init g c = record { few = omega arith; acted_few = omega arith; below = omega arith; began = λ h. h; live = λ h live none. live; ran = λ h w st set. (w, st, ran_none _ _ _ _); worked = λ h w st set. (w, st, worked_none _ _) }
+turns-init g c = record { few = omega arith; acted_few = omega arith; below = omega arith; began = λ h. h; live = λ h live none. live; ran = λ h w st set. (w, st, ran_none _ _ _ _); worked = λ h w st set. (w, st, worked_none _ _, λ v left. (v, left, inl (refl, refl))) }
 
 pub turns-preserved : goal.turns-preserved
 turns-preserved g c = record {
@@ -33,7 +33,8 @@ turns-preserved g c = record {
   worked = λ h w st set.
       let r = c.turns.invariant.worked (c.turn.ensures.began h) w st set in
       let t = rw c.in-Ok-Answered.field-0-is at (c.in-Ok-Answered.ensures.worked h r.0 r.1 (worked_settings c.turns.k c.args.context.moment w r.0 c.turns.acted c.args.context.settings.now r.2 set)) in
-      (t.0, t.1, worked_on c.turns.k c.args.context.moment w r.0 t.0 c.turns.acted _ c.in-Ok-Answered.acts r.2 t.2 (ap (λ n. c.turns.acted + n) (counted _ _ c.from-acted.ensures)));
+      let on = worked_on (g.B.QueueBook.crash_leaves c.args.book.now) (g.B.QueueBook.crash_leaves c.turns.book) (g.B.QueueBook.crash_leaves c.turn.new.book) c.turns.k c.args.context.moment w r.0 t.0 c.turns.acted _ c.in-Ok-Answered.acts r.2 r.3 t.2 (ap (λ n. c.turns.acted + n) (counted _ _ c.from-acted.ensures)) in
+      (t.0, t.1, on.0, on.1);
 }
 
 pub returns-then-closes-clause-served : goal.returns-then-closes-clause-served
@@ -80,32 +81,26 @@ returns-in-Err-clause-broken g c = λ h w st set.
 pub returns-then-closes-clause-worked : goal.returns-then-closes-clause-worked
 returns-then-closes-clause-worked g c = λ h w st set.
     let r = c.turns.invariant.worked (c.turn.ensures.began h) w st set in
-    let t = rw c.in-Ok-Answered.field-0-is at (c.in-Ok-Answered.ensures.worked h r.0 r.1 (worked_settings c.turns.k c.args.context.moment w r.0 c.turns.acted c.args.context.settings.now r.2 set)) in (
-      t.0,
-      t.1,
-      worked_within (c.turns.k + 1) c.args.context.moment w t.0 _ (let f = c.turns.invariant.few in omega (arith, f))
-          (worked_on c.turns.k c.args.context.moment w r.0 t.0 c.turns.acted _ c.in-Ok-Answered.acts r.2 t.2 (ap (λ n. c.turns.acted + n) (counted _ _ c.from-acted.ensures))),
-    )
+    let t = rw c.in-Ok-Answered.field-0-is at (c.in-Ok-Answered.ensures.worked h r.0 r.1 (worked_settings c.turns.k c.args.context.moment w r.0 c.turns.acted c.args.context.settings.now r.2 set)) in
+    let on = worked_on (g.B.QueueBook.crash_leaves c.args.book.now) (g.B.QueueBook.crash_leaves c.turns.book) (g.B.QueueBook.crash_leaves c.turn.new.book) c.turns.k c.args.context.moment w r.0 t.0 c.turns.acted _ c.in-Ok-Answered.acts r.2 r.3 t.2 (ap (λ n. c.turns.acted + n) (counted _ _ c.from-acted.ensures)) in
+    let all = worked_within (g.B.QueueBook.crash_leaves c.args.book.now) (g.B.QueueBook.crash_leaves c.turn.new.book) (c.turns.k + 1) c.args.context.moment w t.0 _ (let f = c.turns.invariant.few in omega (arith, f)) on.0 on.1 in
+    (t.0, t.1, all.0, all.1)
 
 pub returns-in-Ok-Ended-clause-worked : goal.returns-in-Ok-Ended-clause-worked
 returns-in-Ok-Ended-clause-worked g c = λ h w st set.
     let r = c.turns.invariant.worked (c.turn.ensures.began h) w st set in
-    let t = rw c.in-Ok-Ended.field-0-is at (c.in-Ok-Ended.ensures.worked h r.0 r.1 (worked_settings c.turns.k c.args.context.moment w r.0 c.turns.acted c.args.context.settings.now r.2 set)) in (
-      t.0,
-      t.1,
-      worked_within (c.turns.k + 1) c.args.context.moment w t.0 c.turns.acted (let f = c.turns.invariant.few in omega (arith, f))
-          (worked_on c.turns.k c.args.context.moment w r.0 t.0 c.turns.acted c.turns.acted false r.2 t.2 (omega arith)),
-    )
+    let t = rw c.in-Ok-Ended.field-0-is at (c.in-Ok-Ended.ensures.worked h r.0 r.1 (worked_settings c.turns.k c.args.context.moment w r.0 c.turns.acted c.args.context.settings.now r.2 set)) in
+    let on = worked_on (g.B.QueueBook.crash_leaves c.args.book.now) (g.B.QueueBook.crash_leaves c.turns.book) (g.B.QueueBook.crash_leaves c.turn.new.book) c.turns.k c.args.context.moment w r.0 t.0 c.turns.acted c.turns.acted false r.2 r.3 t.2 (omega arith) in
+    let all = worked_within (g.B.QueueBook.crash_leaves c.args.book.now) (g.B.QueueBook.crash_leaves c.turn.new.book) (c.turns.k + 1) c.args.context.moment w t.0 c.turns.acted (let f = c.turns.invariant.few in omega (arith, f)) on.0 on.1 in
+    (t.0, t.1, all.0, all.1)
 
 pub returns-in-Err-clause-worked : goal.returns-in-Err-clause-worked
 returns-in-Err-clause-worked g c = λ h w st set.
     let r = c.turns.invariant.worked (c.turn.ensures.began h) w st set in
-    let t = c.in-Err.ensures.worked h r.0 r.1 (worked_settings c.turns.k c.args.context.moment w r.0 c.turns.acted c.args.context.settings.now r.2 set) in (
-      t.0,
-      t.1,
-      worked_within (c.turns.k + 1) c.args.context.moment w t.0 _ (let f = c.turns.invariant.few in omega (arith, f))
-          (worked_on c.turns.k c.args.context.moment w r.0 t.0 c.turns.acted _ c.in-Err.stopped.acted r.2 t.2 (ap (λ n. c.turns.acted + n) (counted _ _ c.from.ensures))),
-    )
+    let t = c.in-Err.ensures.worked h r.0 r.1 (worked_settings c.turns.k c.args.context.moment w r.0 c.turns.acted c.args.context.settings.now r.2 set) in
+    let on = worked_on (g.B.QueueBook.crash_leaves c.args.book.now) (g.B.QueueBook.crash_leaves c.turns.book) (g.B.QueueBook.crash_leaves c.turn.new.book) c.turns.k c.args.context.moment w r.0 t.0 c.turns.acted _ c.in-Err.stopped.acted r.2 r.3 t.2 (ap (λ n. c.turns.acted + n) (counted _ _ c.from.ensures)) in
+    let all = worked_within (g.B.QueueBook.crash_leaves c.args.book.now) (g.B.QueueBook.crash_leaves c.turn.new.book) (c.turns.k + 1) c.args.context.moment w t.0 _ (let f = c.turns.invariant.few in omega (arith, f)) on.0 on.1 in
+    (t.0, t.1, all.0, all.1)
 
 pub returns-then-closes-clause-live : goal.returns-then-closes-clause-live
 returns-then-closes-clause-live g c = λ h live none.

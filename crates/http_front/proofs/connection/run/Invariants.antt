@@ -2,6 +2,7 @@ use Rattle.std.proofs.Common.{◌-◌, ◌^◌, ◌<◌, ◌≤◌, ◌≡◌}
 use Rattle.queue_core.specs.World.{World}
 use Rattle.http_head.specs.Left.{left}
 use Rattle.http_front.specs.Connections.{Worked}
+use Rattle.http_front.specs.Crash.{CarriesAll}
 use Rattle.http_front.specs.Turns.{last_request, most_requests}
 use Rattle.http_front.proofs.Runs.{RanOn}
 use Rattle.http_front.proofs.connection.run.Given as goal
@@ -17,7 +18,7 @@ invariant-turns g l = record {
       × RanOn l.k l.context.moment w u (left l.initial.input.buffer (g.R.Read.remaining l.initial.input.reader)) (left l.input.buffer (g.R.Read.remaining l.input.reader))
       (g.W.Write.contents l.initial.writer) (g.W.Write.contents l.writer) l.acted l.faults;
   worked : g.B.QueueBook.is_honest l.book → (w : World) → g.B.QueueBook.stands l.initial.book w → l.context.settings.now ≡ w.settings → (u : World) × g.B.QueueBook.stands l.book u
-      × Worked l.k l.context.moment w u l.acted;
+      × (k : Worked l.k l.context.moment w u l.acted) × CarriesAll (g.B.QueueBook.crash_leaves l.initial.book) (g.B.QueueBook.crash_leaves l.book) l.context.moment k.turns w u;
 }
 
 abbrev pub decreases-turns : goal.decreases-turns

@@ -2,6 +2,7 @@ use Rattle.std.proofs.Common.{◌≡◌, Option, ℕ, List, ap, subst, IfErr, If
 use Rattle.queue_core.specs.World.{World}
 use Rattle.http_head.specs.Routes.{routes}
 use Rattle.http_front.specs.Connections.{IsServed, IsStopped}
+use Rattle.http_front.proofs.CrashLemmas.{left_one}
 use Rattle.http_front.proofs.RunLemmas.{left_at_first, router_of}
 use Rattle.http_front.proofs.connection.serve.Goals as goal
 
@@ -19,3 +20,12 @@ returns-clause-broken g c = λ h.
     subst (λ (r : Option (List ℕ)). IfErr c.run.result (λ z. (w : World) → g.B.QueueBook.stands c.args.book.now w → c.args.settings.now ≡ w.settings → (u : World) × g.B.QueueBook.stands c.run.new.book u
     × IsStopped c.args.now w u r (g.W.Write.contents c.args.writer.now) (g.W.Write.contents c.run.new.writer) z))
     (left_at_first c.new-input.result.buffer _ (g.R.Read.remaining c.args.reader.now) c.new-input.ensures.empty (ap (λ p. g.R.Read.remaining p.now) c.new-input.ensures.reader)) (c.run.ensures.broken h)
+
+pub returns-clause-worked : goal.returns-clause-worked
+returns-clause-worked g c = λ h w st set. let r = c.run.ensures.worked h w st set in (r.0, r.1, r.2)
+
+pub returns-clause-crash : goal.returns-clause-crash
+returns-clause-crash g c = λ h live w st set.
+    let r = c.run.ensures.worked h w st set in
+    let l = r.3 w (g.met.B.QueueBook.lasts c.args.book.now w w (c.run.ensures.began h) live st) in
+    (r.0, l.0, r.1, r.2, l.1, left_one c.args.now r.2.turns w r.0 l.0 l.2)

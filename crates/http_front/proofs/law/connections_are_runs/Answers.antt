@@ -1,3 +1,4 @@
+use Rattle.http_front.proofs.CrashLemmas.{left_places}
 use Rattle.http_front.proofs.PlaceLemmas.{broken_places, served_places}
 use Rattle.http_front.proofs.law.connections_are_runs.Goals as goal
 
@@ -9,3 +10,6 @@ returns-clause-broken c = broken_places c.calls_are_events.ensures c.run_keeps.e
 
 pub returns-clause-worked : goal.returns-clause-worked
 returns-clause-worked c = λ most now w u acted moment k. served_places c.calls_are_events.ensures now w u k.turns moment k.are k.world
+
+pub returns-clause-crash : goal.returns-clause-crash
+returns-clause-crash c = λ most now w u x acted moment k left. left_places c.calls_are_events.ensures now w u x k.turns moment k.are left

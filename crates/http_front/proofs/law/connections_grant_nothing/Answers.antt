@@ -1,3 +1,4 @@
+use Rattle.http_front.proofs.CrashLemmas.{left_grants}
 use Rattle.http_front.proofs.GrantLemmas.{grants_kept, grants_kept_broken}
 use Rattle.http_front.proofs.law.connections_grant_nothing.Goals as goal
 
@@ -9,3 +10,6 @@ returns-clause-broken c = grants_kept_broken
 
 pub returns-clause-worked : goal.returns-clause-worked
 returns-clause-worked c = λ most now w u acted k. grants_kept now w u k.turns k.are k.world
+
+pub returns-clause-crash : goal.returns-clause-crash
+returns-clause-crash c = left_grants

@@ -2,6 +2,8 @@ use Rattle.std.proofs.Common.{refl}
 use Rattle.http_head.specs.Left.{left}
 use Rattle.http_head.specs.declared.end.Finish.TheVariants.{Refused}
 use Rattle.http_head.specs.declared.end.Refusal.TheVariants.{ServiceUnavailable}
+use Rattle.http_front.specs.Crash.{Carries}
+use Rattle.http_front.proofs.CrashLemmas.{carries_none}
 use Rattle.http_front.proofs.TurnedLemmas.{planned_unsaid, planned_unread, planned_closed, planned_answered, planned_broken, end_in_body, end_unavailable, end_declined, body_as, said_on, same_world, closed_faultless, closed_idle, plan_idle, plan_works}
 use Rattle.http_front.proofs.WriteLemmas.{by_write}
 use Rattle.http_front.specs.Turned.{IsPlanned, PlanWorks, acted_in}
@@ -89,18 +91,18 @@ pub returns-in_err-invited-clause-worked : goal.returns-in_err-invited-clause-wo
 returns-in_err-invited-clause-worked g c = λ honest w st set. (
   w,
   st,
-  by_write (λ result. PlanWorks c.args.context.moment c.args.k w w c.args.plan (acted_in result)) c.from_residual.result c.from_residual.ensures.1
-      (λ f acted fault. plan_idle c.args.context.moment c.args.k w w c.args.plan f.acted refl acted),
+  by_write (λ result. PlanWorks (λ asks. Carries (g.B.QueueBook.crash_leaves c.args.book.now) (g.B.QueueBook.crash_leaves c.args.book.now) asks c.args.context.moment w w) c.args.context.moment c.args.k w w c.args.plan (acted_in result)) c.from_residual.result c.from_residual.ensures.1
+      (λ f acted fault. plan_idle (λ asks. Carries (g.B.QueueBook.crash_leaves c.args.book.now) (g.B.QueueBook.crash_leaves c.args.book.now) asks c.args.context.moment w w) c.args.context.moment c.args.k w w c.args.plan f.acted refl acted (carries_none (g.B.QueueBook.crash_leaves c.args.book.now) (λ e. ⊥) c.args.context.moment w)),
 )
 
 pub returns-in-Err-Ended-clause-worked : goal.returns-in-Err-Ended-clause-worked
-returns-in-Err-Ended-clause-worked g c = λ honest w st set. (w, st, plan_idle c.args.context.moment c.args.k w w c.args.plan _ refl (closed_idle _ _ _ c.close_with.result c.close_with.ensures))
+returns-in-Err-Ended-clause-worked g c = λ honest w st set. (w, st, plan_idle (λ asks. Carries (g.B.QueueBook.crash_leaves c.args.book.now) (g.B.QueueBook.crash_leaves c.args.book.now) asks c.args.context.moment w w) c.args.context.moment c.args.k w w c.args.plan _ refl (closed_idle _ _ _ c.close_with.result c.close_with.ensures) (carries_none (g.B.QueueBook.crash_leaves c.args.book.now) (λ e. ⊥) c.args.context.moment w))
 
 pub returns-in-Err-Read-clause-worked : goal.returns-in-Err-Read-clause-worked
-returns-in-Err-Read-clause-worked g c = λ honest w st set. (w, st, plan_idle c.args.context.moment c.args.k w w c.args.plan _ refl c.stopped_by.ensures.acted)
+returns-in-Err-Read-clause-worked g c = λ honest w st set. (w, st, plan_idle (λ asks. Carries (g.B.QueueBook.crash_leaves c.args.book.now) (g.B.QueueBook.crash_leaves c.args.book.now) asks c.args.context.moment w w) c.args.context.moment c.args.k w w c.args.plan _ refl c.stopped_by.ensures.acted (carries_none (g.B.QueueBook.crash_leaves c.args.book.now) (λ e. ⊥) c.args.context.moment w))
 
 pub returns-in-Err-Memory-clause-worked : goal.returns-in-Err-Memory-clause-worked
-returns-in-Err-Memory-clause-worked g c = λ honest w st set. (w, st, plan_idle c.args.context.moment c.args.k w w c.args.plan _ refl (closed_idle _ _ _ c.close_with-in-Err-Memory.result c.close_with-in-Err-Memory.ensures))
+returns-in-Err-Memory-clause-worked g c = λ honest w st set. (w, st, plan_idle (λ asks. Carries (g.B.QueueBook.crash_leaves c.args.book.now) (g.B.QueueBook.crash_leaves c.args.book.now) asks c.args.context.moment w w) c.args.context.moment c.args.k w w c.args.plan _ refl (closed_idle _ _ _ c.close_with-in-Err-Memory.result c.close_with-in-Err-Memory.ensures) (carries_none (g.B.QueueBook.crash_leaves c.args.book.now) (λ e. ⊥) c.args.context.moment w))
 
 pub returns-in-Ok-Answered-clause-worked : goal.returns-in-Ok-Answered-clause-worked
 returns-in-Ok-Answered-clause-worked g c = λ honest w st set.
@@ -108,8 +110,8 @@ returns-in-Ok-Answered-clause-worked g c = λ honest w st set.
     let t = rw c.in-Ok-Answered.field-0-is at (c.in-Ok-Answered.ensures.replied honest w st set) in (
       t.0,
       t.1,
-      plan_works c.args.context.moment c.args.k w t.0 c.args.plan f.0 c.as_slice.result.now t.2.0 c.acts_on_target.result c.in-Ok-Answered.is_fault c.closes_after-closes.result
-          (body_as c.args.plan.framing f.0 c.in-Ok.content.items c.as_slice.result.now f.1 c.as_slice.ensures.value) t.2.1 c.acts_on_target.ensures c.closes_after-closes.ensures,
+      plan_works (λ asks. Carries (g.B.QueueBook.crash_leaves c.args.book.now) (g.B.QueueBook.crash_leaves c.reply.new.book) asks c.args.context.moment w t.0) c.args.context.moment c.args.k w t.0 c.args.plan f.0 c.as_slice.result.now t.2.0 c.acts_on_target.result c.in-Ok-Answered.is_fault c.closes_after-closes.result
+          (body_as c.args.plan.framing f.0 c.in-Ok.content.items c.as_slice.result.now f.1 c.as_slice.ensures.value) t.2.1 c.acts_on_target.ensures c.closes_after-closes.ensures t.3,
     )
 
 pub returns-in-Ok-Declined-clause-worked : goal.returns-in-Ok-Declined-clause-worked
@@ -117,7 +119,7 @@ returns-in-Ok-Declined-clause-worked g c = λ honest w st set.
     let t = rw c.in-Ok-Declined.field-0-is at (c.in-Ok-Declined.ensures.replied honest w st set) in (
       t.0,
       t.1,
-      plan_idle c.args.context.moment c.args.k w t.0 c.args.plan _ t.2.2 (closed_idle _ _ _ c.close_with-in-Ok-Declined.result c.close_with-in-Ok-Declined.ensures),
+      plan_idle (λ asks. Carries (g.B.QueueBook.crash_leaves c.args.book.now) (g.B.QueueBook.crash_leaves c.reply.new.book) asks c.args.context.moment w t.0) c.args.context.moment c.args.k w t.0 c.args.plan _ t.2.2 (closed_idle _ _ _ c.close_with-in-Ok-Declined.result c.close_with-in-Ok-Declined.ensures) t.3,
     )
 
 pub returns-clause-worked : goal.returns-clause-worked
@@ -126,8 +128,8 @@ returns-clause-worked g c = λ honest w st set.
     let t = c.in-Err.ensures.replied honest w st set in (
       t.0,
       t.1,
-      plan_works c.args.context.moment c.args.k w t.0 c.args.plan f.0 c.as_slice.result.now t.2.0 c.in-Err.stopped.acted c.in-Err.stopped.is_fault c.closes_after-closes.result
-          (body_as c.args.plan.framing f.0 c.in-Ok.content.items c.as_slice.result.now f.1 c.as_slice.ensures.value) t.2.1 t.2.3 c.closes_after-closes.ensures,
+      plan_works (λ asks. Carries (g.B.QueueBook.crash_leaves c.args.book.now) (g.B.QueueBook.crash_leaves c.reply.new.book) asks c.args.context.moment w t.0) c.args.context.moment c.args.k w t.0 c.args.plan f.0 c.as_slice.result.now t.2.0 c.in-Err.stopped.acted c.in-Err.stopped.is_fault c.closes_after-closes.result
+          (body_as c.args.plan.framing f.0 c.in-Ok.content.items c.as_slice.result.now f.1 c.as_slice.ensures.value) t.2.1 t.2.3 c.closes_after-closes.ensures t.3,
     )
 
 pub returns-in-Ok-Answered-clause-live : goal.returns-in-Ok-Answered-clause-live

@@ -1,6 +1,8 @@
 use Rattle.http_head.specs.Left.{left}
 use Rattle.http_head.specs.declared.end.Finish.TheVariants.{Refused}
 use Rattle.http_head.specs.declared.end.Refusal.TheVariants.{ServiceUnavailable}
+use Rattle.http_front.specs.Crash.{Carries}
+use Rattle.http_front.proofs.CrashLemmas.{carries_none}
 use Rattle.http_front.proofs.TurnedLemmas.{lifted, lifted_works, closed_idle, idle, turned_closed, turned_unread, end_no_head, end_checked, end_unserved}
 use Rattle.http_front.proofs.turn.turn.Goals as goal
 
@@ -43,24 +45,24 @@ returns-in-Err-Read-clause-turned g c = λ honest w st set.
 
 pub returns-in_default-clause-worked : goal.returns-in_default-clause-worked
 returns-in_default-clause-worked g c = λ honest w st set.
-    (w, st, idle c.args.context.moment w _ (closed_idle _ _ _ c.close_with.result c.close_with.ensures))
+    (w, st, idle (λ asks. Carries (g.B.QueueBook.crash_leaves c.args.book.now) (g.B.QueueBook.crash_leaves c.args.book.now) asks c.args.context.moment w w) c.args.context.moment w _ (closed_idle _ _ _ c.close_with.result c.close_with.ensures) (carries_none (g.B.QueueBook.crash_leaves c.args.book.now) (λ e. ⊥) c.args.context.moment w))
 
 pub returns-in-Ok-clause-worked : goal.returns-in-Ok-clause-worked
 returns-in-Ok-clause-worked g c = λ honest w st set.
     let p = c.take_planned.ensures.worked honest w st set in (
       p.0,
       p.1,
-      lifted_works c.args.context.moment c.args.k w p.0 c.in-Ok.plan (left c.args.input.now.buffer (g.R.Read.remaining c.args.input.now.reader)) (left c.take_head.new.input.buffer (g.R.Read.remaining c.take_head.new.input.reader)) _
+      lifted_works (λ asks. Carries (g.B.QueueBook.crash_leaves c.args.book.now) (g.B.QueueBook.crash_leaves c.take_planned.new.book) asks c.args.context.moment w p.0) c.args.context.moment c.args.k w p.0 c.in-Ok.plan (left c.args.input.now.buffer (g.R.Read.remaining c.args.input.now.reader)) (left c.take_head.new.input.buffer (g.R.Read.remaining c.take_head.new.input.reader)) _
           c.in-Ok.ensures.taken p.2,
     )
 
 pub returns-in-Err-Ended-clause-worked : goal.returns-in-Err-Ended-clause-worked
 returns-in-Err-Ended-clause-worked g c = λ honest w st set.
-    (w, st, idle c.args.context.moment w _ (closed_idle _ _ _ c.close_with-in-Err-Ended.result c.close_with-in-Err-Ended.ensures))
+    (w, st, idle (λ asks. Carries (g.B.QueueBook.crash_leaves c.args.book.now) (g.B.QueueBook.crash_leaves c.args.book.now) asks c.args.context.moment w w) c.args.context.moment w _ (closed_idle _ _ _ c.close_with-in-Err-Ended.result c.close_with-in-Err-Ended.ensures) (carries_none (g.B.QueueBook.crash_leaves c.args.book.now) (λ e. ⊥) c.args.context.moment w))
 
 pub returns-in-Err-Failed-clause-worked : goal.returns-in-Err-Failed-clause-worked
 returns-in-Err-Failed-clause-worked g c = λ honest w st set.
-    (w, st, idle c.args.context.moment w _ (closed_idle _ _ _ c.close_with-in-Err-Failed.result c.close_with-in-Err-Failed.ensures))
+    (w, st, idle (λ asks. Carries (g.B.QueueBook.crash_leaves c.args.book.now) (g.B.QueueBook.crash_leaves c.args.book.now) asks c.args.context.moment w w) c.args.context.moment w _ (closed_idle _ _ _ c.close_with-in-Err-Failed.result c.close_with-in-Err-Failed.ensures) (carries_none (g.B.QueueBook.crash_leaves c.args.book.now) (λ e. ⊥) c.args.context.moment w))
 
 pub returns-in-Err-Read-clause-worked : goal.returns-in-Err-Read-clause-worked
-returns-in-Err-Read-clause-worked g c = λ honest w st set. (w, st, idle c.args.context.moment w _ c.stopped_by.ensures.acted)
+returns-in-Err-Read-clause-worked g c = λ honest w st set. (w, st, idle (λ asks. Carries (g.B.QueueBook.crash_leaves c.args.book.now) (g.B.QueueBook.crash_leaves c.args.book.now) asks c.args.context.moment w w) c.args.context.moment w _ c.stopped_by.ensures.acted (carries_none (g.B.QueueBook.crash_leaves c.args.book.now) (λ e. ⊥) c.args.context.moment w))

@@ -1,11 +1,12 @@
 use Rattle.std.proofs.Common.{[], ◌++◌, ◌∙◌, refl, sym, arith, length-append}
 use Rattle.std.proofs.KnownBytes.{Appends-nil}
 use Rattle.std.proofs.lemmas.Result.{err_from_is_err_and}
+use Rattle.print_server.proofs.CrashLemmas.{carries_none, carries_on, left_one}
 use Rattle.print_server.proofs.ConnectionLemmas.{joined, on_err, settings_kept, told_on}
 use Rattle.print_server.proofs.serving.Service.serve_connections.Goals as goal
 
 pub loop-round-init : goal.loop-round-init
-loop-round-init g c = record { began = λ h. h; served = λ h w st set. (w, st, [], refl, refl, Appends-nil _) }
+loop-round-init g c = record { began = λ h. h; served = λ h w st set. (w, st, [], refl, refl, Appends-nil _, carries_none (g.B.QueueBook.crash_leaves c.args.book.now) w) }
 
 pub loop-round-preserved : goal.loop-round-preserved
 loop-round-preserved g c = record {
@@ -14,7 +15,7 @@ loop-round-preserved g c = record {
       let r = c.loop-round.invariant.served (c.serve_next.ensures.began h) w st set in
       let t = c.in_ok-serve_next.ensures.ok h r.0 r.1 (settings_kept c.args.self.settings.now w r.0 r.2 r.3 set) in
       let more = length-append r.2 t.2 in
-      (t.0, t.1, r.2 ++ t.2, joined w r.0 t.0 r.2 t.2 r.3 t.3, omega (arith, more, r.4, t.4), told_on _ _ _ r.2 t.2 r.5 t.5);
+      (t.0, t.1, r.2 ++ t.2, joined w r.0 t.0 r.2 t.2 r.3 t.3, omega (arith, more, r.4, t.4), told_on _ _ _ r.2 t.2 r.5 t.5, carries_on (g.B.QueueBook.crash_leaves c.args.book.now) (g.B.QueueBook.crash_leaves c.loop-round.book) (g.B.QueueBook.crash_leaves c.serve_next.new.book) w r.0 t.0 r.6 t.6);
 }
 
 pub returns-in_err-serve_next-clause-err : goal.returns-in_err-serve_next-clause-err
@@ -36,3 +37,19 @@ returns-clause-ok g c = λ h w st set.
     let r = c.loop-round.invariant.served h w st set in
     let is = r.4 in
     (r.0, r.1, r.2, r.3, omega (arith, is), r.5)
+
+pub returns-in_err-serve_next-clause-crash : goal.returns-in_err-serve_next-clause-crash
+returns-in_err-serve_next-clause-crash g c = λ h live w st set.
+    let r = c.loop-round.invariant.served (c.serve_next.ensures.began h) w st set in
+    let t = c.in_err-serve_next.ensures.err h r.0 r.1 (settings_kept c.args.self.settings.now w r.0 r.2 r.3 set) in
+    let more = length-append r.2 t.2 in
+    let on = carries_on (g.B.QueueBook.crash_leaves c.args.book.now) (g.B.QueueBook.crash_leaves c.loop-round.book) (g.B.QueueBook.crash_leaves c.serve_next.new.book) w r.0 t.0 r.6 t.5 in
+    let l = on w (g.met.B.QueueBook.lasts c.args.book.now w w (c.loop-round.invariant.began (c.serve_next.ensures.began h)) live st) in
+    (t.0, l.0, t.1, r.2 ++ t.2, joined w r.0 t.0 r.2 t.2 r.3 t.3, omega (arith, more, r.4, t.4), l.1, left_one w t.0 l.0 l.2)
+
+pub returns-clause-crash : goal.returns-clause-crash
+returns-clause-crash g c = λ h live w st set.
+    let r = c.loop-round.invariant.served h w st set in
+    let is = r.4 in
+    let l = r.6 w (g.met.B.QueueBook.lasts c.args.book.now w w (c.loop-round.invariant.began h) live st) in
+    (r.0, l.0, r.1, r.2, r.3, omega (arith, is), l.1, left_one w r.0 l.0 l.2)

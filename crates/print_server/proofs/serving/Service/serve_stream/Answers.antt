@@ -1,16 +1,18 @@
-use Rattle.std.proofs.Common.{◌∙◌, sym, subst}
+use Rattle.std.proofs.Common.{◌∙◌, inl, refl, sym, subst}
 use Rattle.http_front.specs.Connections.{Worked}
+use Rattle.http_front.specs.Crash.{CarriesAll}
 use Rattle.http_front.specs.Turns.{most_requests}
 use Rattle.print_server.proofs.ConnectionLemmas.{faultless, worked_none}
 use Rattle.print_server.proofs.serving.Service.serve_stream.Goals as goal
 
 pub returns-then-is_err-clause-worked : goal.returns-then-is_err-clause-worked
-returns-then-is_err-clause-worked g c = λ h w st set. (w, st, worked_none c.args.now w)
+returns-then-is_err-clause-worked g c = λ h w st set. (w, st, worked_none c.args.now w, λ v left. (v, left, inl (refl, refl)))
 
 pub returns-clause-worked : goal.returns-clause-worked
 returns-clause-worked g c = λ h w st set.
-    let u = c.serve-served.ensures.worked h w st set in
-    (u.0, u.1, subst (λ n. Worked most_requests c.args.now w u.0 n) (sym c.acted_of.ensures) u.2)
+    let u = c.serve-served.ensures.left h w st set in
+    let k = subst (λ n. (k : Worked most_requests c.args.now w u.0 n) × CarriesAll (g.B.QueueBook.crash_leaves c.args.book.now) (g.B.QueueBook.crash_leaves c.serve-served.new.book) c.args.now k.turns w u.0) (sym c.acted_of.ensures) (u.2, u.3) in
+    (u.0, u.1, k.0, k.1)
 
 pub returns-clause-live : goal.returns-clause-live
 returns-clause-live g c = λ h live none. c.serve-served.ensures.live h live (faultless c.serve-served.result (sym c.has_fault.ensures ∙ none))
