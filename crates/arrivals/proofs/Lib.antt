@@ -1,2 +1,3 @@
 pub mod TakenLemmas
 pub mod HistoryLemmas
+pub mod CrashLemmas

@@ -4,13 +4,14 @@ ghost use Rattle.std.specs.List.{AllByRecursion};
 ghost use Rattle.std.specs.Io.KnownBytes.{Appends, Keeps};
 ghost use Rattle.queue_core.specs.Limits.{IsMoment};
 ghost use Rattle.queue_core.specs.World.{World};
+ghost use Rattle.arrivals.specs.Crash.{IsLeft, MayFollow};
 ghost use Rattle.arrivals.specs.History.{History};
 ghost use Rattle.arrivals.specs.Taken.{IsFaultless, IsTaken, Takes};
 ghost use Rattle.arrivals.specs.declared.arrival.Arrived.TheVariants.{AccountFile, Connection, Line};
 
 use crate::arrival::{Arrival, Arrived, Outcome};
 use device_lines::report;
-use grants_csv::import;
+use grants_csv::{files_are_events, import};
 use http_front::{connections_are_runs, serve};
 use queue_core::book::QueueBook;
 use queue_core::run_keeps;
@@ -32,6 +33,8 @@ fn take_connection<W: Write, B: QueueBook>(
     ensures taken { B.is_honest book.new → (w : World) → B.stands book.old w → settings.now ≡ w.settings
         → IsTaken (B.stands book.new) w (W.contents writer.old) (W.contents writer.new) (Takes now w (Connection stream.entry) result) }
     ensures live { B.is_honest book.new → B.is_live book.old → IsFaultless result → B.is_live book.new }
+    ensures crash { B.is_honest book.new → (w v : World) → B.stands book.old w → settings.now ≡ w.settings → B.crash_leaves book.old w v → MayFollow w v
+        → IsLeft (B.stands book.new) (B.crash_leaves book.new) w }
 {
     connections_are_runs();
     let mut reader = stream;
@@ -48,6 +51,8 @@ fn take_line<B: QueueBook>(book: &mut B, now: u32, line: &[u8]) -> Outcome
     ensures taken { B.is_honest book.new → (w : World) → B.stands book.old w → (v : _)
         → IsTaken (B.stands book.new) w v v (Takes now w (Line line.entry) result) }
     ensures live { B.is_honest book.new → B.is_live book.old → IsFaultless result → B.is_live book.new }
+    ensures crash { B.is_honest book.new → (w v : World) → B.stands book.old w → B.crash_leaves book.old w v → MayFollow w v
+        → IsLeft (B.stands book.new) (B.crash_leaves book.new) w }
 {
     Outcome::Told(report(book, now, line))
 }
@@ -59,7 +64,10 @@ fn take_file<B: QueueBook>(alloc: Global, book: &mut B, now: u32, file: &[u8]) -
     ensures taken { B.is_honest book.new → (w : World) → B.stands book.old w → (v : _)
         → IsTaken (B.stands book.new) w v v (Takes now w (AccountFile file.entry) result) }
     ensures live { B.is_honest book.new → B.is_live book.old → IsFaultless result → B.is_live book.new }
+    ensures crash { B.is_honest book.new → (w v : World) → B.stands book.old w → B.crash_leaves book.old w v → MayFollow w v
+        → IsLeft (B.stands book.new) (B.crash_leaves book.new) w }
 {
+    files_are_events();
     match import(alloc, book, now, file) {
         Ok(imported) => Outcome::Imported(imported),
         Err(fault) => Outcome::Refused(fault),
@@ -79,6 +87,8 @@ fn take<W: Write, B: QueueBook>(
     ensures taken { B.is_honest book.new → (w : World) → B.stands book.old w → settings.now ≡ w.settings
         → IsTaken (B.stands book.new) w (W.contents writer.old) (W.contents writer.new) (Takes arrival.entry.moment w arrival.entry.what result) }
     ensures live { B.is_honest book.new → B.is_live book.old → IsFaultless result → B.is_live book.new }
+    ensures crash { B.is_honest book.new → (w v : World) → B.stands book.old w → settings.now ≡ w.settings → B.crash_leaves book.old w v → MayFollow w v
+        → IsLeft (B.stands book.new) (B.crash_leaves book.new) w }
 {
     match arrival.what {
         Arrived::Connection(stream) => {
@@ -107,6 +117,9 @@ pub fn take_all<W: Write, B: QueueBook>(
         × History w arrivals.now outcomes.items written u) }
     // what shuts a book is told as a fault, or breaks a document off
     ensures live { B.is_honest book.new → B.is_live book.old → IfOk result (λ outcomes. AllByRecursion IsFaultless outcomes.items → B.is_live book.new) }
+    // whatever it answers, a crash at any moment leaves the queue that the machine came to, or the one after one event more
+    ensures crash { B.is_honest book.new → B.is_live book.old → (w : World) → B.stands book.old w → settings.now ≡ w.settings
+        → IsLeft (B.stands book.new) (B.crash_leaves book.new) w }
     ensures err { OnErr result (book.new ≡ book.old) }
     ensures unwritten { OnErr result (Keeps (W.contents writer.old) (W.contents writer.new)) }
 {
