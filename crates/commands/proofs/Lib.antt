@@ -1,3 +1,4 @@
+pub mod CrashLemmas
 pub mod EndingLemmas
 pub mod FaultLemmas
 pub mod StoreLemmas

@@ -8,7 +8,7 @@ use Rattle.grants_csv.specs.declared.fault.ImportFault.{ImportFault}
 use Rattle.grants_csv.specs.declared.importing.Imported.{Imported}
 use Rattle.office.specs.Told.{IsRefused, IsTaken, import_line}
 use Rattle.page_statements.specs.Statement.{sheet_text}
-use Rattle.print_server.specs.Connections.{AreConnections}
+use Rattle.print_server.specs.Connections.{AreConnections, IsAtMostOneMore}
 use Rattle.print_server.specs.Lines.{listening_line, served_lines}
 use Rattle.queue_core.specs.Limits.{IsMoment}
 use Rattle.queue_core.specs.Shown.{sheet_of}
@@ -41,6 +41,21 @@ abbrev pub IsNotDone : Work → Fault → World → World → Option (List ℕ) 
 IsNotDone (Import words) fault w u before after = (IsOfStream fault ⊎ IsOfFile fault w) × ((u ≡ w) × (after ≡ before) ⊎ (IsOfStream fault × (n : Imported) × IsImport w u n))
 IsNotDone (Statement words) fault w u before after = (fault ≢ Damaged) × (fault ≡ NoAccount → sheet_of w words.account.now ≡ None) × (sheet_of w words.account.now ≡ None → IsOfNoAccount fault) × (u ≡ w) × (IsOfStream fault ⊎ (after ≡ before))
 IsNotDone (Serve words) fault w u before after = (fault ≢ Damaged) × (counts : List ℕ) × AreConnections w counts u × (length counts ≤ words.connections)
+
+-- of the queue w all of something is taken, or nothing: nothing is, u is w, and a crash leaves u; all is taken in u, and a crash leaves u; or taking it was
+-- broken off, u is w, and a crash leaves u, or x, in which all is taken
+pub data IsAllOrNone (all : World → Type 0) (w u x : World) : Type 0 where
+  untaken : u ≡ w → x ≡ u → IsAllOrNone all w u x
+  taken : all u → x ≡ u → IsAllOrNone all w u x
+  broken_off : u ≡ w → all x → IsAllOrNone all w u x
+
+-- it made u of the queue w, and a crash at any moment leaves u or x:
+-- all rows of an account file are taken, or none; a statement leaves the queue as it is; no more than so many connections are served, and x is u or what
+-- one request more makes of it
+abbrev pub MayBeLeft : Work → World → World → World → Type 0
+MayBeLeft (Import words) w u x = IsAllOrNone (λ v. (n : Imported) × IsImport w v n) w u x
+MayBeLeft (Statement words) w u x = (u ≡ w) × (x ≡ u)
+MayBeLeft (Serve words) w u x = (counts : List ℕ) × AreConnections w counts u × (length counts ≤ words.connections) × IsAtMostOneMore u x
 
 -- once it is done the store is open; of a server no contract says so, as a fault may have shut its store and the look at it behind that
 -- have had no memory

@@ -4,7 +4,7 @@ ghost use Rattle.std.specs.Io.KnownBytes.{Appends};
 ghost use Rattle.command_ends.specs.Faults.{IsOfStream};
 ghost use Rattle.command_ends.specs.declared.fault.Fault.TheVariants.{Damaged, NoAccount, Import as ByFile};
 ghost use Rattle.commands.specs.Refusals.{IsOfImport, IsOfNoAccount, IsOfStatement};
-ghost use Rattle.commands.specs.Work.{IsImport, IsOfFile};
+ghost use Rattle.commands.specs.Work.{IsAllOrNone, IsImport, IsOfFile};
 ghost use Rattle.grants_csv.specs.Fault.{fault};
 ghost use Rattle.grants_csv.specs.File.{rows_of};
 ghost use Rattle.grants_csv.specs.declared.fault.ImportFault.{ImportFault};
@@ -16,6 +16,7 @@ ghost use Rattle.queue_core.specs.Shown.{sheet_of};
 ghost use Rattle.queue_core.specs.World.{World};
 ghost use Rattle.queue_types.specs.declared.sheet.AccountSheet.{AccountSheet as Sheet};
 ghost use Rattle.queue_store.specs.Kept.{IsHonest, StandsFor, shown_by};
+ghost use Rattle.queue_tables.specs.Content.{LeavesOneOf};
 
 use command_ends::Fault;
 use office::{import_bytes, print_statement, read_account_file};
@@ -58,6 +59,10 @@ fn import_bytes_at<S: Alter, W: Write>(
     ensures live { IsHonest S.Store book.new → OnOk result (IsTrue (shown_by S.Store book.new).is_open) }
     ensures still_live { IsHonest S.Store book.new → IsTrue (shown_by S.Store book.old).is_open
         → IfErr result (λ f. f ≢ ByFile fault → IsTrue (shown_by S.Store book.new).is_open) }
+    // whatever it answers: a crash at any moment leaves all of the rows, or none
+    ensures crash { IsHonest S.Store book.new → IsTrue (shown_by S.Store book.old).is_open → (w : World) → StandsFor S.Store book.old w
+        → (u x : World) × StandsFor S.Store book.new u × LeavesOneOf u x (shown_by S.Store book.new)
+        × IsAllOrNone (λ v. (n : ImportedRows) × IsTaken now w v bytes.now n) w u x }
     // over any book, also one that is not honest
     ensures unread { (told : ImportFault) → rows_of bytes.now ≡ Err told → (result ≡ Err (ByFile told)) ⊎ (result ≡ Err (ByFile fault)) }
     ensures refused { IfErr result (λ f. (told : ImportFault) → f ≡ ByFile told → (w : World) → StandsFor S.Store book.old w → StandsFor S.Store book.new w) }
@@ -88,6 +93,10 @@ fn import_at<R: Read + Drop, S: Alter, W: Write>(
     ensures live { IsHonest S.Store book.new → OnOk result (IsTrue (shown_by S.Store book.new).is_open) }
     ensures still_live { IsHonest S.Store book.new → IsTrue (shown_by S.Store book.old).is_open
         → IfErr result (λ f. f ≢ ByFile fault → IsTrue (shown_by S.Store book.new).is_open) }
+    // whatever it answers: a crash at any moment leaves all of the rows, or none
+    ensures crash { IsHonest S.Store book.new → IsTrue (shown_by S.Store book.old).is_open → (w : World) → StandsFor S.Store book.old w
+        → (u x : World) × StandsFor S.Store book.new u × LeavesOneOf u x (shown_by S.Store book.new)
+        × IsAllOrNone (λ v. (bytes : List ℕ) × AreReadOf (R.remaining file) bytes × (n : ImportedRows) × IsTaken now w v bytes n) w u x }
     // a stream failed, or nothing was written
     ensures quiet { IfErr result (λ f. IsOfStream f ⊎ (output.new ≡ output.old)) }
     // a stream failed, or the file is refused
@@ -114,6 +123,10 @@ pub(crate) fn import_into<S: Alter, W: Write>(
         ⊎ (IsOfStream f × (n : ImportedRows) × (u : World) × IsImport w u n × StandsFor S.Store book.new u)) }
     ensures refused { IfErr result (λ f. (told : ImportFault) → f ≡ ByFile told → (w : World) → StandsFor S.Store book.old w → StandsFor S.Store book.new w) }
     ensures live { IsHonest S.Store book.new → OnOk result (IsTrue (shown_by S.Store book.new).is_open) }
+    // whatever it answers: a crash at any moment leaves all of the rows, or none
+    ensures crash { IsHonest S.Store book.new → IsTrue (shown_by S.Store book.old).is_open → (w : World) → StandsFor S.Store book.old w
+        → (u x : World) × StandsFor S.Store book.new u × LeavesOneOf u x (shown_by S.Store book.new)
+        × IsAllOrNone (λ v. (n : ImportedRows) × IsImport w v n) w u x }
     // a stream failed, or nothing was written
     ensures quiet { IfErr result (λ f. IsOfStream f ⊎ (output.new ≡ output.old)) }
     // a stream failed, or the file is refused
@@ -134,6 +147,9 @@ pub(crate) fn print_from<S: Alter, W: Write>(
 ) -> Result<(), Fault>
     ensures began { IsHonest S.Store book.new → IsHonest S.Store book.old }
     ensures kept { (w : World) → StandsFor S.Store book.old w → StandsFor S.Store book.new w }
+    // whatever it answers: a crash at any moment leaves the queue as it was
+    ensures crash { IsHonest S.Store book.new → IsTrue (shown_by S.Store book.old).is_open → (w : World) → StandsFor S.Store book.old w
+        → LeavesOneOf w w (shown_by S.Store book.new) }
     ensures printed { IsHonest S.Store book.new → OnOk result ((w : World) → StandsFor S.Store book.old w
         → (s : Sheet) × (sheet_of w account.now ≡ Some s) × Appends (W.contents output.old) (W.contents output.new) (sheet_text s)) }
     ensures known { IsHonest S.Store book.new → IfErr result (λ f. (w : World) → StandsFor S.Store book.old w → sheet_of w account.now ≡ None → IsOfNoAccount f) }

@@ -1,18 +1,19 @@
 //! Connections over a store.
 ghost use Rattle.std.specs.IoError.{error_kind};
-ghost use Rattle.std.specs.Prelude.{◌≡◌, ◌↔◌, ◌≤◌, ◌++◌, ℕ, List, IfErr, OnErr, OnOk, length};
+ghost use Rattle.std.specs.Prelude.{◌≡◌, ◌↔◌, ◌≤◌, ◌++◌, ℕ, List, IfErr, IsTrue, OnErr, OnOk, length};
 ghost use Rattle.std.specs.Io.KnownBytes.{Appends};
 ghost use Rattle.std.specs.declared.io.Error.{Error as StreamError};
 ghost use Rattle.std.specs.declared.io.ErrorKind.TheVariants.{OutOfMemory};
 ghost use Rattle.command_ends.specs.Faults.{IsOfStream, fault_of_book};
 ghost use Rattle.command_ends.specs.declared.fault.Fault.TheVariants.{Damaged, Memory as OfMemory};
 ghost use Rattle.commands.specs.Refusals.{IsOfServe};
-ghost use Rattle.print_server.specs.Connections.{AreConnections};
+ghost use Rattle.print_server.specs.Connections.{AreConnections, IsAtMostOneMore};
 ghost use Rattle.print_server.specs.Lines.{listening_line, served_lines};
 ghost use Rattle.print_server.specs.declared.fault.ServerFault.TheVariants.{Book as ByBook, Io as ByStream};
 ghost use Rattle.queue_core.specs.World.{World};
 ghost use Rattle.queue_core.specs.declared.book.BookFault.{BookFault};
-ghost use Rattle.queue_store.specs.Kept.{IsHonest, StandsFor};
+ghost use Rattle.queue_store.specs.Kept.{IsHonest, StandsFor, shown_by};
+ghost use Rattle.queue_tables.specs.Content.{LeavesOneOf};
 
 use command_ends::Fault;
 use command_words::Serve;
@@ -69,6 +70,10 @@ fn serve_at<S: Alter, W: Write>(
         × Appends (W.contents output.old) (W.contents output.new) (served_lines counts)) }
     ensures err { IsHonest S.Store book.new → OnErr result ((w : World) → StandsFor S.Store book.old w → settings.now ≡ w.settings
         → (u : World) × StandsFor S.Store book.new u × (counts : List ℕ) × AreConnections w counts u × (length counts ≤ words.entry.connections)) }
+    // whatever it answers: a crash at any moment leaves the queue that the book stands for, or the one after one request more
+    ensures crash { IsHonest S.Store book.new → IsTrue (shown_by S.Store book.old).is_open → (w : World) → StandsFor S.Store book.old w → settings.now ≡ w.settings
+        → (u x : World) × StandsFor S.Store book.new u × (counts : List ℕ) × AreConnections w counts u × (length counts ≤ words.entry.connections)
+        × LeavesOneOf u x (shown_by S.Store book.new) × IsAtMostOneMore u x }
     ensures damaged { IsHonest S.Store book.new → IfErr result (λ f. f ≡ Damaged → (w : World) → StandsFor S.Store book.old w → settings.now ≡ w.settings → ⊥) }
     ensures told { IfErr result IsOfServe }
 {
@@ -93,6 +98,10 @@ pub(crate) fn serve_book<S: Alter, W: Write>(
     // no more than so many connections were served
     ensures err { IsHonest S.Store book.new → OnErr result ((w : World) → StandsFor S.Store book.old w
         → (u : World) × StandsFor S.Store book.new u × (counts : List ℕ) × AreConnections w counts u × (length counts ≤ words.entry.connections)) }
+    // whatever it answers: a crash at any moment leaves the queue that the book stands for, or the one after one request more
+    ensures crash { IsHonest S.Store book.new → IsTrue (shown_by S.Store book.old).is_open → (w : World) → StandsFor S.Store book.old w
+        → (u x : World) × StandsFor S.Store book.new u × (counts : List ℕ) × AreConnections w counts u × (length counts ≤ words.entry.connections)
+        × LeavesOneOf u x (shown_by S.Store book.new) × IsAtMostOneMore u x }
     ensures damaged { IsHonest S.Store book.new → IfErr result (λ f. f ≡ Damaged → (w : World) → ¬ StandsFor S.Store book.old w) }
     ensures told { IfErr result IsOfServe }
 {

@@ -45,7 +45,7 @@ pub(crate) fn left<D: Disk + Drop>(
     match done {
         Ok(()) => Ok(book),
         Err(fault) => {
-            book.let_go();
+            let _files = book.into_files();
             Err(fault)
         }
     }

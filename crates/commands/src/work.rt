@@ -5,10 +5,11 @@ ghost use Rattle.sqlite_wal.specs.Files.{image_at};
 ghost use Rattle.queue_core.specs.World.{World};
 ghost use Rattle.queue_store.specs.Kept.{IsHonest, StandsFor, shown_by};
 ghost use Rattle.queue_store.specs.Opened.{FitsFile, IsKeptIn};
+ghost use Rattle.queue_tables.specs.Content.{LeavesOneOf};
 ghost use Rattle.command_ends.specs.Faults.{IsOfStream};
 ghost use Rattle.commands.specs.Store.{IsOfStore};
 ghost use Rattle.commands.specs.Refusals.{MayBeToldOf};
-ghost use Rattle.commands.specs.Work.{IsDone, IsNotDone, LeavesOpen, PrintsLast, store_of};
+ghost use Rattle.commands.specs.Work.{IsDone, IsNotDone, LeavesOpen, MayBeLeft, PrintsLast, store_of};
 
 use crate::office_commands::{import_into, print_from};
 use crate::serving::serve_book;
@@ -62,6 +63,9 @@ fn work_on<S: Alter, W: Write>(
     ensures told { IfErr result (MayBeToldOf work.entry) }
     ensures refused { IsHonest S.Store book.new → IfErr result (λ fault. (w : World) → StandsFor S.Store book.old w
         → (u : World) × StandsFor S.Store book.new u × IsNotDone work.entry fault w u (W.contents output.old) (W.contents output.new)) }
+    // whatever it answers, and at any moment
+    ensures crash { IsHonest S.Store book.new → IsTrue (shown_by S.Store book.old).is_open → (w : World) → StandsFor S.Store book.old w
+        → (u x : World) × StandsFor S.Store book.new u × LeavesOneOf u x (shown_by S.Store book.new) × MayBeLeft work.entry w u x }
 {
     match work {
         Work::Import(words) => import_into(rt, words.file, output, book),
@@ -85,6 +89,9 @@ fn work_in<D: Disk + Drop, W: Write>(
     ensures told { IfErr result (MayBeToldOf work.entry) }
     ensures refused { IsHonest over_files book.new → IfErr result (λ fault. (w : World) → StandsFor over_files book.old w
         → (u : World) × StandsFor over_files book.new u × IsNotDone work.entry fault w u (W.contents output.old) (W.contents output.new)) }
+    // whatever it answers, and at any moment
+    ensures crash { IsHonest over_files book.new → IsTrue (shown_by over_files book.old).is_open → (w : World) → StandsFor over_files book.old w
+        → (u x : World) × StandsFor over_files book.new u × LeavesOneOf u x (shown_by over_files book.new) × MayBeLeft work.entry w u x }
 {
     work_on(rt, work, output, book)
 }

@@ -1,8 +1,10 @@
-use Rattle.std.proofs.Common.{ℕ, List, subst, inl, inr}
+use Rattle.std.proofs.Common.{ℕ, List, refl, subst, inl, inr}
 use Rattle.std.proofs.lemmas.Result.{err_from_is_err_and}
 use Rattle.office.specs.Told.{IsRefused, IsTaken}
 use Rattle.commands.proofs.EndingLemmas.{both, if_err, on_ok}
 use Rattle.commands.proofs.FaultLemmas.{of_stream}
+use Rattle.commands.specs.Work.{untaken}
+use Rattle.commands.proofs.CrashLemmas.{known_of_all, lasts}
 use Rattle.commands.proofs.office_commands.import_at.Goals as goal
 
 pub returns-clause-taken : goal.returns-clause-taken
@@ -58,3 +60,21 @@ pub returns-in_err-bytes-clause-told : goal.returns-in_err-bytes-clause-told
 returns-in_err-bytes-clause-told g c =
     let p = err_from_is_err_and c.from_residual.result c.from_residual.ensures.1 in
     rw p.1 (inl (of_stream _ _ p.2 c.in_err-bytes.ensures.failed))
+
+pub returns-in_err-bytes-clause-crash : goal.returns-in_err-bytes-clause-crash
+returns-in_err-bytes-clause-crash g c = λ honest live w stands. (w, w, stands, lasts g.S.Store g.met.S.Store.settled c.args.book.now w honest live stands, untaken refl refl)
+
+pub returns-clause-crash : goal.returns-clause-crash
+returns-clause-crash g c = λ honest live w stands.
+    let it = c.import_bytes_at.ensures.crash honest live w stands in (
+      it.0,
+      it.1,
+      it.2,
+      it.3,
+      known_of_all _ _ w it.0 it.1 (λ v told. (
+        c.in_ok-bytes.bytes.items,
+        c.in_ok-bytes.ensures.bytes,
+        told.0,
+        subst (λ (bytes : List ℕ). IsTaken c.args.now w v bytes told.0) c.as_slice.ensures.value told.1,
+      )) it.4,
+    )

@@ -2,6 +2,7 @@ use Rattle.std.proofs.Common.{◌∙◌, ap, sym, inl, inr}
 use Rattle.std.proofs.lemmas.Result.{err_from_is_err_and}
 use Rattle.command_ends.specs.Faults.{fault_of_office}
 use Rattle.commands.proofs.FaultLemmas.{of_either, of_file, of_import, of_stream}
+use Rattle.commands.proofs.CrashLemmas.{all_or_none, lasts}
 use Rattle.commands.proofs.office_commands.import_bytes_at.Goals as goal
 
 pub returns-in_err-import_bytes-clause-why : goal.returns-in_err-import_bytes-clause-why
@@ -36,3 +37,15 @@ pub returns-in_err-import_bytes-clause-quiet : goal.returns-in_err-import_bytes-
 returns-in_err-import_bytes-clause-quiet g c =
     let p = err_from_is_err_and c.from_residual.result c.from_residual.ensures.1 in
     rw p.1 (λ told is. c.in_err-import_bytes.ensures.quiet (told, of_file _ told (sym p.2 ∙ is)))
+
+pub returns-in_err-import_bytes-clause-crash : goal.returns-in_err-import_bytes-clause-crash
+returns-in_err-import_bytes-clause-crash g c = λ honest live w stands.
+    let it = c.import_bytes.ensures.crash honest w stands in
+    let left = it.2 w (lasts g.S.Store g.met.S.Store.settled c.args.book.now w (c.import_bytes.ensures.began honest) live stands) in
+    (it.0, left.0, it.1, left.1, all_or_none left.2)
+
+pub returns-clause-crash : goal.returns-clause-crash
+returns-clause-crash g c = λ honest live w stands.
+    let it = c.import_bytes.ensures.crash honest w stands in
+    let left = it.2 w (lasts g.S.Store g.met.S.Store.settled c.args.book.now w (c.import_bytes.ensures.began honest) live stands) in
+    (it.0, left.0, it.1, left.1, all_or_none left.2)

@@ -14,3 +14,9 @@ returns-in-Ok-clause-served g c = λ honest. rw c.service-service.ensures.settin
 
 pub returns-in-Err-clause-err : goal.returns-in-Err-clause-err
 returns-in-Err-clause-err g c = λ honest. rw c.service-service.ensures.settings at (c.in-Err.ensures.err honest)
+
+pub returns-in-Ok-clause-crash : goal.returns-in-Ok-clause-crash
+returns-in-Ok-clause-crash g c = λ honest. rw c.service-service.ensures.settings at (c.serve_connections.ensures.crash honest)
+
+pub returns-in-Err-clause-crash : goal.returns-in-Err-clause-crash
+returns-in-Err-clause-crash g c = λ honest. rw c.service-service.ensures.settings at (c.serve_connections.ensures.crash honest)

@@ -1,9 +1,10 @@
-use Rattle.std.proofs.Common.{[], refl, arith}
+use Rattle.std.proofs.Common.{[], refl, arith, inl}
 use Rattle.std.proofs.KnownBytes.{Appends-trans}
 use Rattle.std.proofs.lemmas.Result.{err_from_is_err_and}
 use Rattle.print_server.specs.Lines.{listening_line, served_lines}
 use Rattle.commands.proofs.EndingLemmas.{if_err, on_ok}
 use Rattle.commands.proofs.FaultLemmas.{no_damage, of_serve_stream}
+use Rattle.commands.proofs.CrashLemmas.{lasts}
 use Rattle.commands.proofs.serving.serve_book.Goals as goal
 
 pub returns-clause-served : goal.returns-clause-served
@@ -46,3 +47,13 @@ pub returns-in_err-listener-clause-told : goal.returns-in_err-listener-clause-to
 returns-in_err-listener-clause-told g c =
     let p = err_from_is_err_and c.from_residual-in_err-listener.result c.from_residual-in_err-listener.ensures.1 in
     rw p.1 (of_serve_stream _ p.2.0)
+
+pub returns-in_err-settings-clause-crash : goal.returns-in_err-settings-clause-crash
+returns-in_err-settings-clause-crash g c = λ honest live w stands. (w, w, stands, [], refl, omega arith, lasts g.S.Store g.met.S.Store.settled c.args.book.now w honest live stands, inl refl)
+
+pub returns-in_err-listener-clause-crash : goal.returns-in_err-listener-clause-crash
+returns-in_err-listener-clause-crash g c = λ honest live w stands. (w, w, stands, [], refl, omega arith, lasts g.S.Store g.met.S.Store.settled c.args.book.now w honest live stands, inl refl)
+
+pub returns-clause-crash : goal.returns-clause-crash
+returns-clause-crash g c = λ honest live w stands.
+    c.serve_at.ensures.crash honest live w stands (c.in_ok-settings.ensures w (c.serve_at.ensures.began honest) stands)

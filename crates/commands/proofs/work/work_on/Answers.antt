@@ -1,7 +1,7 @@
 use Rattle.std.proofs.Common.{IfErr, ap, refl, subst, sym, inl, inr}
 use Rattle.queue_core.specs.World.{World}
 use Rattle.commands.specs.Refusals.{MayBeToldOf}
-use Rattle.commands.specs.Work.{IsDone, IsNotDone, LeavesOpen, PrintsLast}
+use Rattle.commands.specs.Work.{IsDone, IsNotDone, LeavesOpen, MayBeLeft, PrintsLast}
 use Rattle.commands.specs.declared.work.Work.TheVariants.{Import}
 use Rattle.commands.proofs.EndingLemmas.{any_err, both, if_err, on_ok, or_same}
 use Rattle.commands.proofs.work.work_on.Goals as goal
@@ -95,3 +95,22 @@ returns-in-Statement-clause-told g c = subst (λ work. IfErr c.print_from.result
 
 pub returns-in-Serve-clause-told : goal.returns-in-Serve-clause-told
 returns-in-Serve-clause-told g c = subst (λ work. IfErr c.serve_book.result (MayBeToldOf work)) (sym c.in-Serve.is) c.serve_book.ensures.told
+
+pub returns-in-Import-clause-crash : goal.returns-in-Import-clause-crash
+returns-in-Import-clause-crash g c = λ honest live w stands.
+    let it = c.import_into.ensures.crash honest live w stands in
+    (it.0, it.1, it.2, it.3, subst (λ work. MayBeLeft work w it.0 it.1) (sym c.in-Import.is) it.4)
+
+pub returns-in-Statement-clause-crash : goal.returns-in-Statement-clause-crash
+returns-in-Statement-clause-crash g c = λ honest live w stands. (
+  w,
+  w,
+  c.print_from.ensures.kept w stands,
+  c.print_from.ensures.crash honest live w stands,
+  subst (λ work. MayBeLeft work w w w) (sym c.in-Statement.is) (refl, refl),
+)
+
+pub returns-in-Serve-clause-crash : goal.returns-in-Serve-clause-crash
+returns-in-Serve-clause-crash g c = λ honest live w stands.
+    let it = c.serve_book.ensures.crash honest live w stands in
+    (it.0, it.1, it.2, it.6, subst (λ work. MayBeLeft work w it.0 it.1) (sym c.in-Serve.is) (it.3, it.4, it.5, it.7))

@@ -1,0 +1,53 @@
+-- What a crash leaves of a book where an account file was to be taken, or where nothing was done.
+use Rattle.std.proofs.Common.{◌≡◌, ◌∙◌, ◌⊎◌, ℕ, List, [], IsTrue, Some, refl, subst, sym, inl, inr}
+use Rattle.sqlite_trees.specs.Tree.{Trees}
+use Rattle.sqlite_trees.specs.declared.store.Store.{Ghosts}
+use Rattle.queue_types.specs.Event.{Event, grant}
+use Rattle.queue_core.specs.Crash.{Leaves, broken_off as left_off, taken as left_taken, untaken as left_untaken}
+use Rattle.queue_core.specs.Grants.{Taken, all_taken, none_taken, take_rows}
+use Rattle.queue_core.specs.Machine.{grant_row, step}
+use Rattle.queue_core.specs.World.{World, cut, made_on}
+use Rattle.queue_store.specs.Kept.{IsHonest, StandsFor, connection_of, shown_by}
+use Rattle.queue_store.specs.Laws.{open_lasts}
+use Rattle.queue_store.specs.declared.book.TableBook.{TableBook}
+use Rattle.queue_tables.specs.Content.{LeavesOneOf}
+use Rattle.grants_csv.specs.Import.{Adds, Asks, grants}
+use Rattle.grants_csv.specs.declared.importing.Imported.{Imported}
+use Rattle.office.specs.Told.{IsTaken}
+use Rattle.commands.specs.Work.{IsAllOrNone, broken_off, taken, untaken}
+
+-- of an open book a crash leaves the queue that it stands for
+pub lasts : {S : Type 0} (store : Ghosts S) → ((s : S) (db : Trees) → IsTrue (store.view s).is_open → store.recovers s db → db ≡ (store.view s).committed)
+    → (b : TableBook S) (w : World) → IsHonest store b → IsTrue (shown_by store b).is_open → StandsFor store b w → LeavesOneOf w w (shown_by store b)
+lasts store settled b w honest live stands = open_lasts w stands (settled (connection_of b).store) honest live
+
+-- rows that are refused change nothing
+added_or_same : (t : Taken) (w : World) → ((n : Imported) × Adds (grant_row t).reply n) ⊎ (made_on (grant_row t).change w ≡ w)
+added_or_same (all_taken new free repeats) w = inl (record { added = _; repeats = repeats }, refl)
+added_or_same (none_taken fault row) w = inr refl
+
+taken_or_same : (now : ℕ) (w : World) (bytes : List ℕ) (e : Event) → Asks bytes (Some e)
+    → ((n : Imported) × IsTaken now w (step w now e).world bytes n) ⊎ ((step w now e).world ≡ w)
+taken_or_same now w bytes e (grants rows read) = elim (added_or_same (take_rows rows (cut w (grant rows)).known 1 [] [] 0) w) [
+  | inl added ↦ inl (added.0, (rows, read, added.1, refl))
+  | inr same ↦ inr same
+]
+
+module _ {now : ℕ} {w u x : World} {bytes : List ℕ} where
+  -- all of the rows, or none
+  pub all_or_none : Leaves (λ e. Asks bytes (Some e)) now w w u x → IsAllOrNone (λ v. (n : Imported) × IsTaken now w v bytes n) w u x
+  all_or_none (left_untaken stays left) = untaken stays (left ∙ sym stays)
+  all_or_none (left_taken e asks made left) = elim (taken_or_same now w bytes e asks) [
+    | inl all ↦ taken (all.0, subst (λ (v : World). IsTaken now w v bytes all.0) (sym made) all.1) left
+    | inr same ↦ untaken (made ∙ same) left
+  ]
+  all_or_none (left_off e asks stays left) = elim (taken_or_same now w bytes e asks) [
+    | inl all ↦ broken_off stays (all.0, subst (λ (v : World). IsTaken now w v bytes all.0) (sym left) all.1)
+    | inr same ↦ untaken stays (left ∙ same ∙ sym stays)
+  ]
+
+-- so it is where something else is known of all
+pub known_of_all : (P Q : World → Type 0) (w u x : World) → ((v : World) → P v → Q v) → IsAllOrNone P w u x → IsAllOrNone Q w u x
+known_of_all P Q w u x known (untaken stays left) = untaken stays left
+known_of_all P Q w u x known (taken all left) = taken (known u all) left
+known_of_all P Q w u x known (broken_off stays all) = broken_off stays (known x all)
