@@ -69,11 +69,13 @@ pub enum Command<'a> {
 }
 
 /// Why the words name no command.
-#[derive(Debug, Drop)]
+#[derive(Debug, Drop, thiserror::Error)]
 pub enum CommandFault {
     /// They are wrong, or ask for help: the error has the text, where it goes and the exit status.
+    #[error(transparent)]
     Words(Error),
     /// There was no memory to read them.
+    #[error("there is no memory")]
     Memory,
 }
 

@@ -2,6 +2,8 @@
 ghost use Rattle.std.specs.Prelude.{◌≡◌};
 ghost use Rattle.http_head.specs.Ends as spec;
 
+use thiserror::Error;
+
 /// How serving a connection ended.
 #[derive(Clone, Copy, Debug, PartialEq, Eq)]
 pub enum End {
@@ -17,7 +19,7 @@ pub enum End {
 }
 
 /// A refusal (RFC 9110, section 15; RFC 6585, section 5). It ends the connection.
-#[derive(Clone, Copy)]
+#[derive(Clone, Copy, Debug)]
 pub enum Refusal {
     /// 400
     BadRequest,
@@ -40,7 +42,7 @@ pub enum Refusal {
 }
 
 /// How a connection ends, with the refusal itself.
-#[derive(Clone, Copy)]
+#[derive(Clone, Copy, Debug)]
 pub enum Finish {
     /// As [`End::Closed`].
     Closed,
@@ -92,9 +94,11 @@ impl Finish {
 }
 
 /// A read failed.
-#[derive(Clone, Copy)]
+#[derive(Clone, Copy, Debug, Error)]
+#[error("a read failed")]
 pub struct ReadFault;
 
 /// A write failed.
-#[derive(Clone, Copy)]
+#[derive(Clone, Copy, Debug, Error)]
+#[error("a write failed")]
 pub struct WriteFault;

@@ -3,15 +3,19 @@ ghost use Rattle.std.specs.Prelude.{◌≡◌};
 ghost use Rattle.http_head.specs.declared.fault.HeadFault.TheVariants as faults;
 
 use crate::end::{Finish, ReadFault, Refusal};
+use thiserror::Error;
 
 /// Why there is no request head to answer.
-#[derive(Clone, Copy)]
+#[derive(Clone, Copy, Debug, Error)]
 pub enum HeadFault {
     /// No head stands there, and the connection ends so.
+    #[error("the connection ends")]
     Ended(Finish),
     /// A head stands there, and a check refuses it.
+    #[error("a check refuses the request")]
     Failed(Refusal),
     /// A read failed.
+    #[error("a read failed")]
     Read,
 }
 

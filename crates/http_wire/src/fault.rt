@@ -4,15 +4,19 @@ ghost use Rattle.http_wire.specs.declared.fault.BodyFault.TheVariants as faults;
 
 use http_head::end::{Finish, ReadFault};
 use std::alloc::AllocError;
+use thiserror::Error;
 
 /// Why a body, or a part of it, is not there.
-#[derive(Clone, Copy)]
+#[derive(Clone, Copy, Debug, Error)]
 pub enum BodyFault {
     /// The connection ends so: the input was cut inside of it, or it is refused.
+    #[error("the connection ends")]
     Ended(Finish),
     /// A read failed.
+    #[error("a read failed")]
     Read,
     /// Want of memory.
+    #[error("there is no memory")]
     Memory,
 }
 

@@ -1,5 +1,7 @@
 //! What a message's bytes show, and why they may show nothing.
 
+use thiserror::Error;
+
 /// The first eight bytes of a message (RFC 8010, section 3.1.1): the version, the operation of a
 /// request or the status code of a reply, and the request-id. Any values may stand there.
 #[derive(Clone, Copy, Debug, PartialEq, Eq)]
@@ -42,13 +44,16 @@ pub struct ValueView<'a> {
 }
 
 /// Why bytes are not read.
-#[derive(Debug, Drop)]
+#[derive(Debug, Drop, Error)]
 pub enum WireFault {
     /// There are fewer than 8 bytes.
+    #[error("there are fewer than 8 octets")]
     Short,
     /// The bytes spell no message. The record or delimiter that can't be read begins at this offset,
     /// in bytes; where the input ends in place of one, it is the input's length.
+    #[error("nothing can be read at octet {at}")]
     Malformed { at: usize },
     /// A list could not be allocated.
+    #[error("there is no memory")]
     Memory,
 }

@@ -21,15 +21,19 @@ use queue_types::job::JobList;
 use queue_types::sheet::AccountSheet;
 use std::alloc::AllocError;
 use std::io::Write;
+use thiserror::Error;
 
 /// Why a book can't do what it was asked, by its number.
-#[derive(Clone, Copy, Debug, PartialEq, Eq)]
+#[derive(Clone, Copy, Debug, PartialEq, Eq, Error)]
 pub enum BookFault {
     /// Want of memory.
+    #[error("there is no memory")]
     Memory = 1,
     /// The disk, or its size, refused.
+    #[error("the disk refused")]
     Disk = 2,
     /// The rows that were read don't stand for a world.
+    #[error("the rows stand for no queue")]
     Damaged = 3,
 }
 
@@ -44,15 +48,19 @@ impl From<AllocError> for BookFault {
 }
 
 /// Why a document was not sent whole.
-#[derive(Clone, Copy, Debug, PartialEq, Eq)]
+#[derive(Clone, Copy, Debug, PartialEq, Eq, Error)]
 pub enum SendCause {
+    /// The book failed.
+    #[error(transparent)]
     Book(BookFault),
     /// The writer failed.
+    #[error("a write failed")]
     Write,
 }
 
 /// A document that was not sent whole, and how many of its bytes were written.
-#[derive(Clone, Copy, Debug, PartialEq, Eq)]
+#[derive(Clone, Copy, Debug, PartialEq, Eq, Error)]
+#[error("{cause}, after {written} octets")]
 pub struct SendFault {
     pub written: u64,
     pub cause: SendCause,

@@ -7,15 +7,18 @@ use sqlite::{Error, ErrorCode};
 use std::alloc::{AllocError, AllocFailed};
 
 /// Why the tables can't be read or written.
-#[derive(Clone, Copy, Debug, PartialEq, Eq)]
+#[derive(Clone, Copy, Debug, PartialEq, Eq, thiserror::Error)]
 pub enum Fault {
     /// There was no memory.
+    #[error("there is no memory")]
     Memory,
     /// Any other error of a statement: of the disk, of a size, of rowids that are used up, of a transaction of the caller's that is under way,
     /// or of a statement that doesn't fit the tables that are there.
+    #[error("the disk refused")]
     Disk,
     /// A value that was read has not the form of its column; a constraint refused a row that was written, as where another row of its key is
     /// there, or one is missing that it refers to; or the rows that are there are no queue's.
+    #[error("the rows stand for no queue")]
     Damaged,
 }
 

@@ -9,6 +9,7 @@ use crate::text::Text;
 use crate::uri::{PRINTER_PATH, path};
 use std::alloc::{AllocError, Global};
 use std::marker::Model;
+use thiserror::Error;
 
 /// The most octets of a printer's URI: fewer than the 1,023 of any URI (RFC 8011, section 5.1.6), since those of its jobs are longer.
 const MOST_PRINTER_URI_OCTETS: usize = 255;
@@ -17,11 +18,13 @@ const MOST_PRINTER_URI_OCTETS: usize = 255;
 const MOST_PRINTER_NAME_OCTETS: usize = 127;
 
 /// Why settings were refused, by its number.
-#[derive(Clone, Copy, Debug, PartialEq, Eq)]
+#[derive(Clone, Copy, Debug, PartialEq, Eq, Error)]
 pub enum SettingFault {
     /// A value is not within its limits.
+    #[error("a value is not within its limits")]
     Bad = 1,
     /// Want of memory.
+    #[error("there is no memory")]
     Memory = 2,
 }
 
