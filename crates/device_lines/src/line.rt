@@ -1,7 +1,7 @@
 //! A line in which the device reports of a job.
-ghost use Rattle.std.specs.Prelude.{◌≡◌, ◌≢◌, ◌<◌, ◌^◌, ◌==◌, ◌↔◌, IsTrue, ◌++◌, ◌∷◌, ℕ, List, IfSome, IfNone, Ok, Err, decimal, not};
+ghost use Rattle.std.specs.Prelude.{◌≡◌, ◌≢◌, ◌<◌, ◌≤◌, ◌^◌, ◌==◌, ◌↔◌, IsTrue, ◌++◌, ◌∷◌, ℕ, List, IfSome, IfNone, Ok, Err, decimal, not};
 ghost use Rattle.std.specs.List.{AllPass};
-ghost use Rattle.queue_core.specs.Limits.{IsPositive, IsReport};
+ghost use Rattle.queue_core.specs.Limits.{IsReport};
 ghost use Rattle.queue_types.specs.declared.event.Kind.{Kind};
 ghost use Rattle.queue_types.specs.declared.event.Report.{Report};
 ghost use Rattle.device_lines.specs.Forms.{report_of};
@@ -9,20 +9,23 @@ ghost use Rattle.device_lines.specs.Lines.{Reads, Spells, kind_word};
 
 use itoa::Buffer;
 use queue_types::event::{Kind, Report};
-use queue_types::limits::{LAST_REPORT_NUMBER, MOST_PRINTED_PAGES};
+use queue_types::limits::{LAST_JOB_NUMBER, LAST_REPORT_NUMBER, MOST_PRINTED_PAGES};
 use std::str;
+use thiserror::Error;
 
 /// The greatest number of ten digits.
 const MOST_IN_TEN_DIGITS: u64 = 9_999_999_999;
 
-/// Why a line is no report, by its number.
-#[derive(Clone, Copy, Debug, PartialEq, Eq)]
+/// Why a line is no report.
+#[derive(Clone, Copy, Debug, PartialEq, Eq, Error)]
 pub enum LineFault {
     /// It isn't of the form.
-    Syntax = 1,
+    #[error("the line is not of the form")]
+    Syntax,
     /// It is of the form, but the job or the sequence number isn't 1 to 2,147,483,647, or the count is over
     /// 100,000,000.
-    Range = 4,
+    #[error("a number is not within its limits")]
+    Range,
 }
 
 /// What a line of the form says, in numbers of up to ten digits.
@@ -51,8 +54,8 @@ fn within(form: Form) -> Option<Report>
     ensures some { IfSome result (λ r. (r ≡ report_of form) × IsReport r) }
     ensures none { IfNone result (IsReport (report_of form) → ⊥) }
 {
-    if !is_positive(form.job)
-        || !is_positive(form.seq)
+    if !is_within(form.job, LAST_JOB_NUMBER)
+        || !is_within(form.seq, LAST_REPORT_NUMBER)
         || form.count > u64::from(MOST_PRINTED_PAGES)
     {
         return None;
@@ -65,11 +68,11 @@ fn within(form: Form) -> Option<Report>
     })
 }
 
-/// The number is 1 to 2,147,483,647, as that of a job is and that of a report.
-fn is_positive(n: u64) -> bool
-    ensures { IsTrue result ↔ IsPositive n }
+/// The number is from 1 to the last one.
+fn is_within(n: u64, last: u32) -> bool
+    ensures { IsTrue result ↔ (1 ≤ n) × (n ≤ last) }
 {
-    1 <= n && n <= u64::from(LAST_REPORT_NUMBER)
+    1 <= n && n <= u64::from(last)
 }
 
 /// What the line says, where it is of the form.

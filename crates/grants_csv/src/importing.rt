@@ -73,10 +73,7 @@ fn take_rows<B: QueueBook>(
             book.apply(decision)?;
             Ok(Imported { added, repeats })
         }
-        Reply::NotAdded { fault, row } => {
-            let cause = ImportCause::from(fault);
-            Err(ImportFault { cause, row })
-        }
+        Reply::NotAdded { fault, row } => Err(ImportCause::from(fault).at(row)),
         _ => unreachable!(),
     }
 }

@@ -11,4 +11,4 @@ mod row;
 pub use fault::{ImportCause, ImportFault};
 pub use importing::{Imported, import};
 pub use law::files_are_events;
-pub use reading::read_grants;
+pub use reading::{MOST_FILE_BYTES, read_grants};

@@ -1,5 +1,5 @@
 //! The grants of an account file.
-ghost use Rattle.std.specs.Prelude.{◌≡◌, ◌≤◌, ◌<◌, ◌+◌, ◌++◌, ◌∷◌, ℕ, List, [], All, Ok, Err, IfOk, IfErr, OnErr, OnOk, length};
+ghost use Rattle.std.specs.Prelude.{◌≡◌, ◌≤◌, ◌<◌, ◌+◌, ℕ, List, [], All, Ok, Err, IfOk, IfErr, OnOk, length};
 ghost use Rattle.csv.specs.Machine.{next_record as next_of};
 ghost use Rattle.csv.specs.Reading.{default_config, records_from, strip_bom};
 ghost use Rattle.csv.specs.Records.{fields_of};
@@ -15,10 +15,10 @@ use crate::fault::{ImportCause, ImportFault};
 use crate::row::read_row;
 use csv::{ByteRecord, Reader, ReaderBuilder};
 use queue_types::event::{GrantList, GrantRow};
-use std::alloc::{AllocError, Global};
+use std::alloc::Global;
 
-/// The bytes of the longest file.
-const MOST_BYTES: usize = 16_777_216;
+/// The most bytes of an account file.
+pub const MOST_FILE_BYTES: usize = 16_777_216;
 
 /// The first record is not the header.
 const NO_HEADER: ImportFault = ImportFault {
@@ -38,10 +38,7 @@ fn next_record(rdr: &mut Reader<&[u8]>, fields: &mut ByteRecord) -> Result<bool,
 fn has_field(fields: &ByteRecord, i: usize, name: &[u8]) -> bool
     ensures { result ≡ has_field (fields_of fields.now) i name.now }
 {
-    match fields.get(i) {
-        Some(field) => field == name,
-        None => false,
-    }
+    fields.get(i) == Some(name)
 }
 
 fn is_header(fields: &ByteRecord) -> bool
@@ -51,14 +48,6 @@ fn is_header(fields: &ByteRecord) -> bool
         && has_field(fields, 0, b"batch")
         && has_field(fields, 1, b"account")
         && has_field(fields, 2, b"pages")
-}
-
-fn push_row(rows: &mut Vec<GrantRow>, row: GrantRow) -> Result<(), AllocError>
-    ensures ok { OnOk result (rows.new.items ≡ rows.old.items ++ row ∷ []) }
-    ensures err { OnErr result (rows.new.items ≡ rows.old.items) }
-{
-    rows.push(row)?;
-    Ok(())
 }
 
 /// Reads the rows under the header, at most so many.
@@ -78,14 +67,10 @@ fn read_rows(
     ensures few { length rows.new.items ≤ most }
 {
     for n in 0..most {
-        let found = next_record(rdr, fields)?;
-        if !found {
+        if !next_record(rdr, fields)? {
             return Ok(());
         }
-        match read_row(alloc, fields, n + 1) {
-            Ok(row) => push_row(rows, row)?,
-            Err(fault) => return Err(fault),
-        }
+        rows.push(read_row(alloc, fields, n + 1)?)?;
     }
     Ok(())
 }
@@ -106,11 +91,7 @@ fn read_file(
     ensures limits { OnOk result (All IsGrantRow rows.new.items) }
     ensures few { OnOk result (length rows.new.items ≤ most) }
 {
-    let found = next_record(rdr, fields)?;
-    if !found {
-        return Err(NO_HEADER);
-    }
-    if !is_header(fields) {
+    if !next_record(rdr, fields)? || !is_header(fields) {
         return Err(NO_HEADER);
     }
     read_rows(alloc, rdr, fields, rows, most)
@@ -145,9 +126,8 @@ pub fn read_grants(alloc: Global, bytes: &[u8]) -> Result<GrantList, ImportFault
     ensures limits { IfOk result (All IsGrantRow) }
     ensures few { IfOk result (λ rows. length rows ≤ 16777216) }
 {
-    if bytes.len() > MOST_BYTES {
-        let cause = ImportCause::Range;
-        return Err(ImportFault { cause, row: 0 });
+    if bytes.len() > MOST_FILE_BYTES {
+        return Err(ImportCause::Range.at(0));
     }
     let mut rdr = ReaderBuilder::new()
         .has_headers(false)

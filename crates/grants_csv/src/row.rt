@@ -121,14 +121,8 @@ fn pages_in(digits: &str) -> Option<u32>
     ensures { result ≡ file.pages_in digits.now }
 {
     match digits.parse::<u32>() {
-        Ok(n) => {
-            if 1 <= n && n <= MOST_ROW_PAGES {
-                Some(n)
-            } else {
-                None
-            }
-        }
-        Err(_) => None,
+        Ok(n) if 1 <= n && n <= MOST_ROW_PAGES => Some(n),
+        _ => None,
     }
 }
 
@@ -142,12 +136,10 @@ pub(crate) fn read_row(
     ensures limits { IfOk result limits.IsGrantRow }
 {
     let Some(texts) = texts_of(fields) else {
-        let cause = ImportCause::Form;
-        return Err(ImportFault { cause, row });
+        return Err(ImportCause::Form.at(row));
     };
     let Some(pages) = pages_in(texts.pages) else {
-        let cause = ImportCause::Range;
-        return Err(ImportFault { cause, row });
+        return Err(ImportCause::Range.at(row));
     };
     let batch = Text::copy_of(alloc, texts.batch)?;
     let account = Text::copy_of(alloc, texts.account)?;

@@ -4,29 +4,16 @@ use Rattle.std.specs.Prelude.{IfOk, MatchBool, OnErr, OnOk}
 use Rattle.ipp_wire.specs.declared.view.Head.{Head}
 use Rattle.ipp_wire.specs.Message.{Spells, head_of}
 use Rattle.ipp_wire.specs.Bare.{bare}
-use Rattle.queue_types.specs.Event.{Call, Decision, Event, ask}
-use Rattle.queue_core.specs.Crash.{Leaves, broken_off, taken, untaken}
-use Rattle.queue_core.specs.Machine.{decision, step}
-use Rattle.queue_core.specs.World.{World, cut, made_on}
+use Rattle.queue_types.specs.Event.{Call, Event, ask}
+use Rattle.queue_core.specs.Crash.{Leaves, taken, untaken}
+use Rattle.queue_core.specs.Machine.{step}
+use Rattle.queue_core.specs.World.{World}
+use Rattle.queue_core.proofs.Crashes.{Stays, leaves_by}
 use Rattle.ipp_reply.specs.Unsupported.{Unsupported}
 use Rattle.ipp_reply.specs.Wanted.{Rows}
 use Rattle.ipp_request.specs.Reading.{head_refusal}
 use Rattle.ipp_ops.specs.Answer.{Answers, Asks, Fails, IsVerdictOn, calls, is_fault, outcome}
 use Rattle.ipp_ops.specs.Verdict.{IsPassed, Verdict, passed, refused}
-
--- what a crash leaves beside a queue is left beside it behind an error
-abbrev pub Stays : (World → Type 0) → (World → World → Type 0) → (World → World → Type 0) → (Event → Type 0) → ℕ → Type 0
-Stays stands old new asks now = (w v : World) → stands w → old w v → (x : World) × new w x × Leaves asks now w v w x
-
-pub on_err : {A E : Type 0} (r : Result A E) (stands : World → Type 0) (old new : World → World → Type 0) (asks : Event → Type 0) (now : ℕ)
-    → Stays stands old new asks now → OnErr r (Stays stands old new asks now)
-on_err (Ok n) stands old new asks now h = tt
-on_err (Err f) stands old new asks now h = h
-
--- the change of the decision on the event may be left
-pub broken : (new : World → Type 0) (now : ℕ) (w v : World) (e : Event) (d : Decision) → d ≡ decision (cut w e) now e → new (made_on d.change w)
-    → (x : World) × new x × Leaves (λ z. z ≡ e) now w v w x
-broken new now w v e d is left = ((step w now e).world, subst (λ (z : Decision). new (made_on z.change w)) is left, broken_off e refl refl refl)
 
 -- ---- a message
 
@@ -66,9 +53,7 @@ passed_asks b (passed caller call rows u) e on is = subst (λ (z : Event). Asks 
 
 -- what was asked by a message was asked by its bytes
 pub as_asked : (b : List ℕ) (verdict : Verdict) (now : ℕ) (w v u x : World) → IsVerdictOn b verdict → Leaves (IsPassed verdict) now w v u x → Leaves (λ e. Asks b (Some e)) now w v u x
-as_asked b verdict now w v u x on (untaken p q) = untaken p q
-as_asked b verdict now w v u x on (taken e is p q) = taken e (passed_asks b verdict e on is) p q
-as_asked b verdict now w v u x on (broken_off e is p q) = broken_off e (passed_asks b verdict e on is) p q
+as_asked b verdict now w v u x on left = leaves_by _ _ now w v u x (λ e is. passed_asks b verdict e on is) left
 
 match_true : (P Q : Type 0) (b : Bool) → b ≡ true → P → MatchBool b P Q
 match_true P Q true e p = p

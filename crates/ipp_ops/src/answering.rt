@@ -226,6 +226,7 @@ pub fn answer<B: QueueBook>(
             Err(_) => Ok(bare_answer(h, SERVER_ERROR_TEMPORARY_ERROR)),
         },
         Err(WireFault::Malformed { .. }) => Ok(bare_answer(h, CLIENT_ERROR_BAD_REQUEST)),
-        Err(_) => Ok(bare_answer(h, SERVER_ERROR_TEMPORARY_ERROR)),
+        Err(WireFault::Memory) => Ok(bare_answer(h, SERVER_ERROR_TEMPORARY_ERROR)),
+        Err(WireFault::Short) => unreachable!(),
     }
 }

@@ -1,6 +1,8 @@
 //! The bytes of an answer.
 ghost use Rattle.std.specs.Prelude.{◌≡◌};
 
+use thiserror::Error;
+
 /// The bytes of an answer: a whole reply, or a bare one that took no memory.
 #[derive(Debug, Drop)]
 pub enum Answer {
@@ -33,5 +35,6 @@ impl Answer {
 }
 
 /// There are fewer than 8 bytes, too few for the head of a reply.
-#[derive(Clone, Copy, Debug, PartialEq, Eq)]
+#[derive(Clone, Copy, Debug, PartialEq, Eq, Error)]
+#[error("there are fewer than 8 octets")]
 pub struct TooShort;

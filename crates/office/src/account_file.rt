@@ -15,13 +15,13 @@ ghost use Rattle.queue_core.specs.Limits.{IsMoment};
 ghost use Rattle.queue_core.specs.World.{World};
 
 use crate::fault::OfficeFault;
-use grants_csv::{Imported, import};
+use grants_csv::{Imported, MOST_FILE_BYTES, import};
 use queue_core::book::QueueBook;
 use std::alloc::Global;
 use std::io::{Read, Write};
 
 /// One byte more than an account file may have, so that a file that is too long is seen to be so.
-const MOST_READ: u64 = 16_777_217;
+const MOST_READ: u64 = MOST_FILE_BYTES as u64 + 1;
 
 /// The bytes of a file, at most so many.
 fn read_file<R: Read + Drop>(alloc: Global, reader: R, most: u64) -> Result<Vec<u8>, OfficeFault>

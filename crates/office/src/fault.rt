@@ -13,22 +13,22 @@ use thiserror::Error;
 #[derive(Debug, Clone, Copy, PartialEq, Eq, Error)]
 pub enum OfficeFault {
     /// There was no memory.
-    #[error("memory")]
+    #[error("there is no memory")]
     Memory,
     /// The disk, or its size, refused.
-    #[error("disk")]
+    #[error("the disk refused")]
     Disk,
     /// The tables don't stand for a queue.
-    #[error("damaged")]
+    #[error("the rows stand for no queue")]
     Damaged,
     /// Nothing was ever granted to the account.
-    #[error("no account")]
+    #[error("nothing was ever granted to the account")]
     NoAccount,
     /// The account file was refused.
-    #[error("import fault {code} at row {row}", code = .0.cause.code(), row = .0.row)]
+    #[error(transparent)]
     Import(ImportFault),
     /// A file or a stream couldn't be read or written.
-    #[error("io")]
+    #[error("a file or a stream failed")]
     Io,
 }
 

@@ -10,3 +10,7 @@ pub data Leaves (asks : Event → Type 0) (now : ℕ) (w v u x : World) : Type 0
   untaken : u ≡ w → x ≡ v → Leaves asks now w v u x
   taken : (e : Event) → asks e → u ≡ (step w now e).world → x ≡ u → Leaves asks now w v u x
   broken_off : (e : Event) → asks e → u ≡ w → x ≡ (step w now e).world → Leaves asks now w v u x
+
+-- what a crash leaves beside the queue w, before a request, comes to what it leaves beside u, after it
+abbrev pub Carries : (World → World → Type 0) → (World → World → Type 0) → (Event → Type 0) → ℕ → World → World → Type 0
+Carries before after asks now w u = (v : World) → before w v → (x : World) × after u x × Leaves asks now w v u x

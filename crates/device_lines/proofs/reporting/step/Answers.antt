@@ -1,7 +1,7 @@
 use Rattle.std.proofs.Common.{◌≡◌, refl}
 use Rattle.queue_types.specs.Event.{tell}
 use Rattle.queue_core.specs.Crash.{untaken}
-use Rattle.device_lines.proofs.Crashes.{broken, on_err}
+use Rattle.queue_core.proofs.Crashes.{broken, on_err}
 use Rattle.device_lines.proofs.reporting.step.Goals as goal
 
 pub apply-requires : goal.apply-requires

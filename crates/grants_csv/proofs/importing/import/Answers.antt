@@ -2,7 +2,8 @@ use Rattle.std.proofs.Common.{Some, refl}
 use Rattle.queue_core.specs.Crash.{untaken}
 use Rattle.grants_csv.specs.Import.{Asks}
 use Rattle.grants_csv.proofs.ImportLemmas.{unread_imports, rows_import, rows_event}
-use Rattle.grants_csv.proofs.Crashes.{Carries, rows_taken, rows_left}
+use Rattle.queue_core.specs.Crash.{Carries}
+use Rattle.grants_csv.proofs.Crashes.{rows_taken, rows_left}
 use Rattle.grants_csv.proofs.importing.import.Goals as goal
 
 pub take_rows-requires-clause-limits : goal.take_rows-requires-clause-limits

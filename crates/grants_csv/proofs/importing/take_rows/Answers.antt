@@ -1,7 +1,7 @@
 use Rattle.std.proofs.Common.{◌≡◌, refl}
 use Rattle.queue_types.specs.Event.{grant}
 use Rattle.queue_core.specs.Crash.{untaken}
-use Rattle.grants_csv.proofs.Crashes.{broken, on_err}
+use Rattle.queue_core.proofs.Crashes.{broken, on_err}
 use Rattle.grants_csv.proofs.importing.take_rows.Goals as goal
 
 pub apply-requires : goal.apply-requires

@@ -116,11 +116,11 @@ pub returns-in-Ok-clause-crash : goal.returns-in-Ok-clause-crash
 returns-in-Ok-clause-crash g c = λ honest w stands.
     let m = message_of c.in-Ok.view in (
       w,
-      λ set. bare_fails c.in-Some.h c.args.body.now (bytes_of c.bare_answer-in-Err-answer_message.result) w c.args.now c.in-Some.ensures.fields (sym c.in_default-head_check.is ∙ c.head_check.ensures)
-          c.bare_answer-in-Err-answer_message.ensures,
-      c.in-Err-answer_message.ensures.err w stands,
+      λ set. bare_fails c.in-Some.h c.args.body.now (bytes_of c.bare_answer-in-Err.result) w c.args.now c.in-Some.ensures.fields (sym c.in_default-head_check.is ∙ c.head_check.ensures)
+          c.bare_answer-in-Err.ensures,
+      c.in-Err.ensures.err w stands,
       λ v left.
-          let l = c.in-Err-answer_message.ensures.crash_err honest w v stands left in
+          let l = c.in-Err.ensures.crash_err honest w v stands left in
           (l.0, l.1, as_asked c.args.body.now (verdict m) c.args.now w v w l.0 (request m c.in-Ok.ensures.found) l.2),
     )
 
@@ -137,10 +137,10 @@ returns-in-Err-Malformed-clause-crash g c = λ honest w stands.
       λ v left. (v, left, untaken refl refl),
     )
 
-pub returns-clause-crash : goal.returns-clause-crash
-returns-clause-crash g c = λ honest w stands. (
+pub returns-in-Err-Memory-clause-crash : goal.returns-in-Err-Memory-clause-crash
+returns-in-Err-Memory-clause-crash g c = λ honest w stands. (
   w,
-  λ set. bare_fails c.in-Some.h c.args.body.now (bytes_of c.bare_answer-in-Err.result) w c.args.now c.in-Some.ensures.fields (sym c.in_default-head_check.is ∙ c.head_check.ensures) c.bare_answer-in-Err.ensures,
+  λ set. bare_fails c.in-Some.h c.args.body.now (bytes_of c.bare_answer-in-Err-Memory.result) w c.args.now c.in-Some.ensures.fields (sym c.in_default-head_check.is ∙ c.head_check.ensures) c.bare_answer-in-Err-Memory.ensures,
   stands,
   λ v left. (v, left, untaken refl refl),
 )

@@ -5,7 +5,8 @@ use Rattle.queue_core.specs.Crash.{untaken}
 use Rattle.ipp_reply.specs.Unsupported.{unsupported_of}
 use Rattle.ipp_reply.specs.Wanted.{rows_of}
 use Rattle.ipp_ops.specs.Verdict.{IsPassed, verdict}
-use Rattle.ipp_ops.proofs.Crashes.{on_err, refused_comes, taken_comes, untaken_stays}
+use Rattle.queue_core.proofs.Crashes.{on_err}
+use Rattle.ipp_ops.proofs.Crashes.{refused_comes, taken_comes, untaken_stays}
 use Rattle.ipp_ops.proofs.answering.answer_message.Goals as goal
 
 pub returns-in_err-code-clause-crash_err : goal.returns-in_err-code-clause-crash_err

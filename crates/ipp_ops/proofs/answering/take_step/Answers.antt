@@ -1,7 +1,7 @@
 use Rattle.std.proofs.Common.{◌≡◌, refl}
 use Rattle.queue_types.specs.Event.{event_of}
 use Rattle.queue_core.specs.Crash.{untaken}
-use Rattle.ipp_ops.proofs.Crashes.{broken, on_err}
+use Rattle.queue_core.proofs.Crashes.{broken, on_err}
 use Rattle.ipp_ops.proofs.Within.{asked_reply}
 use Rattle.ipp_ops.proofs.answering.take_step.Goals as goal
 
