@@ -3,3 +3,5 @@ pub mod WriteLemmas
 pub mod ChunkLemmas
 pub mod LineLemmas
 pub mod FaultLemmas
+pub mod ReadingLemmas
+pub mod WholeLemmas

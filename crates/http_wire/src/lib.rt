@@ -12,6 +12,9 @@ mod chunk;
 mod chunked;
 pub mod fault;
 pub mod framed;
+mod law;
 mod put;
 pub mod respond;
 mod trailers;
+
+pub use law::one_reading;
