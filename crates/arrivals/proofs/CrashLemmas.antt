@@ -1,57 +1,86 @@
 -- What a crash leaves, from one thing to the next.
-use Rattle.std.proofs.Common.{◌≡◌, ◌≤◌, ◌∙◌, ℕ, length, List, [], ◌∷◌, ◌++◌, Option, None, Some, inl, inr, refl, sym, ap, arith}
+use Rattle.std.proofs.Common.{◌≡◌, ◌∙◌, ℕ, Bool, Bor, List, [], ◌∷◌, ◌++◌, Option, inl, inr, length, refl, sym, ap, subst, append_assoc, append-nil}
 use Rattle.std.specs.Prelude.{IfSome}
-use Rattle.std.specs.List.{AllByRecursion as Each}
+use Rattle.std.specs.List.{flat_map}
+use Rattle.std.proofs.lemmas.Grind.{flat_map-append}
 use Rattle.queue_types.specs.Event.{Event}
-use Rattle.queue_core.specs.Crash.{Leaves, broken_off, taken, untaken}
+use Rattle.queue_core.specs.Crash.{Carries as CarriesOne, Leaves, broken_off, taken, untaken}
 use Rattle.queue_core.specs.Limits.{IsEvent, IsMoment}
 use Rattle.queue_core.specs.Machine.{step}
-use Rattle.queue_core.specs.Runs.{Place, IsPlace, after, run}
+use Rattle.queue_core.specs.Runs.{Place}
 use Rattle.queue_core.specs.World.{World}
-use Rattle.queue_core.proofs.Runs.{run-append}
 use Rattle.device_lines.specs.Reports.{Tells, reports, unread}
-use Rattle.http_front.specs.Crash.{IsAtMostOneMore, IsLeft as IsLeftOn}
-use Rattle.http_front.specs.Turns.{Turn}
-use Rattle.http_front.proofs.PlaceLemmas.{each_append}
-use Rattle.arrivals.specs.Crash.{IsLeft, MayFollow}
+use Rattle.http_head.specs.declared.end.End.{End}
+use Rattle.http_front.specs.Connections.{Answers, AreTurns, Breaks, world_after}
+use Rattle.http_front.specs.Crash.{CarriesAll, IsAskedIn, IsLeft as IsLeftOn}
+use Rattle.http_front.specs.Ends.{IsBegun, nothing, interim, answered, ended}
+use Rattle.http_front.specs.Turns.{Turn, request_bytes}
+use Rattle.arrivals.specs.Crash.{IsAskedBy, AsksAt, AsksFor, Carries, IsAtMostOneMore, IsLeft}
+use Rattle.arrivals.specs.History.{AreTaken}
+use Rattle.arrivals.specs.declared.arrival.Arrival.{Arrival}
+use Rattle.arrivals.specs.declared.arrival.Arrived.TheVariants.{Connection}
+use Rattle.arrivals.specs.declared.arrival.Outcome.{Outcome}
 
--- a place after a queue by another name
-may_follow : (w v u x : World) → MayFollow w v → u ≡ w → x ≡ v → MayFollow u x
-may_follow w v u x f p q = (f.0, f.1, q ∙ f.2 ∙ ap (λ (z : World). after z f.0.now f.0.event) (sym p))
-
--- nothing follows
-pub follows_none : (now : ℕ) (u x : World) → IsMoment now → x ≡ u → MayFollow u x
-follows_none now u x moment e = (record { now = now; event = None }, (moment, tt), e)
-
-follows_event : (now : ℕ) (w u x : World) (e : Event) → IsMoment now → IsEvent e → u ≡ w → x ≡ (step w now e).world → MayFollow u x
-follows_event now w u x e moment within p q = (record { now = now; event = Some e }, (moment, within), q ∙ ap (λ (z : World). (step z now e).world) (sym p))
-
--- one thing asks for one event
-pub one_left : (asks : Event → Type 0) (stands : World → Type 0) (leaves : World → World → Type 0) (now : ℕ) (w v u x : World) → ((e : Event) → asks e → IsEvent e)
-    → IsMoment now → stands u → leaves u x → MayFollow w v → Leaves asks now w v u x → IsLeft stands leaves w
-one_left asks stands leaves now w v u x within moment s l f (untaken p q) =
-    record { places = []; are = tt; after = u; run_is = p; stands_after = s; left = x; is_left = l; follows = may_follow w v u x f p q }
-one_left asks stands leaves now w v u x within moment s l f (taken e is p q) =
-    record { places = record { now = now; event = Some e } ∷ []; are = ((moment, within e is), tt); after = u; run_is = p; stands_after = s; left = x; is_left = l; follows = follows_none now u x moment q }
-one_left asks stands leaves now w v u x within moment s l f (broken_off e is p q) =
-    record { places = []; are = tt; after = u; run_is = p; stands_after = s; left = x; is_left = l; follows = follows_event now w u x e moment (within e is) p q }
-
--- one thing more
-pub more_left : (held new : World → Type 0) (before leaves : World → World → Type 0) (w : World) → (t : IsLeft held before w) → IsLeft new leaves t.after → IsLeft new leaves w
-more_left held new before leaves w t k = record {
-  places = t.places ++ k.places;
-  are = each_append t.places k.places t.are k.are;
-  after = k.after;
-  run_is = k.run_is ∙ ap (λ (z : World). run z k.places) t.run_is ∙ sym (run-append t.places k.places w);
-  stands_after = k.stands_after;
-  left = k.left;
-  is_left = k.is_left;
-  follows = k.follows;
-}
+-- ---- from one thing to the next
 
 -- where nothing was taken
-pub none_left : (held : World → Type 0) (leaves : World → World → Type 0) (w v : World) → held w → leaves w v → MayFollow w v → IsLeft held leaves w
-none_left held leaves w v s l f = record { places = []; are = tt; after = w; run_is = refl; stands_after = s; left = v; is_left = l; follows = f }
+pub carries_none : (before : World → World → Type 0) (os : List Outcome) (w : World) → Carries before before (IsAskedBy [] os) w w
+carries_none before os w = λ v left. (v, left, inl (refl, refl))
+
+-- where a crash left just the queue
+pub left_one : (is_asked : ℕ → Event → Type 0) (w u x : World) → IsLeft is_asked w w u x → IsAtMostOneMore is_asked u x
+left_one is_asked w u x (inl e) = inl (e.1 ∙ sym e.0)
+left_one is_asked w u x (inr h) = h
+
+asked_first : (xs : List Arrival) (os : List Outcome) (a : Arrival) (o : Outcome) (w u : World) (now : ℕ) (e : Event) → IsAskedBy xs os w u now e
+    → IsAskedBy (xs ++ a ∷ []) (os ++ o ∷ []) w u now e
+asked_first [] os a o w u now e h = absurd h
+asked_first (x ∷ xs) [] a o w u now e h = absurd h
+asked_first (x ∷ xs) (p ∷ os) a o w u now e (inl h) = inl h
+asked_first (x ∷ xs) (p ∷ os) a o w u now e (inr h) = inr (h.0, h.1, h.2, h.3, asked_first xs os a o h.0 u now e h.4)
+
+asked_last : (xs : List Arrival) (os : List Outcome) (a : Arrival) (o : Outcome) (written : List ℕ) (places : List Place) (w u p : World) (now : ℕ) (e : Event)
+    → AreTaken w xs os written places u → AsksAt a.moment a.what u p now e → IsAskedBy (xs ++ a ∷ []) (os ++ o ∷ []) w p now e
+asked_last [] [] a o written places w u p now e t h = inl (subst (λ (z : World). AsksAt a.moment a.what z p now e) t.2 h)
+asked_last [] (q ∷ os) a o written places w u p now e t h = absurd t
+asked_last (x ∷ xs) [] a o written places w u p now e t h = absurd t
+asked_last (x ∷ xs) (q ∷ os) a o written places w u p now e t h = inr (t.4, t.0, t.2, t.7, asked_last xs os a o t.1 t.3 t.4 u p now e t.8 h)
+
+left_longer : (xs : List Arrival) (os : List Outcome) (a : Arrival) (o : Outcome) (w v u x : World) → IsLeft (IsAskedBy xs os w u) w v u x
+    → IsLeft (IsAskedBy (xs ++ a ∷ []) (os ++ o ∷ []) w u) w v u x
+left_longer xs os a o w v u x (inl e) = inl e
+left_longer xs os a o w v u x (inr (inl e)) = inr (inl e)
+left_longer xs os a o w v u x (inr (inr h)) = inr (inr (h.0, h.1, asked_first xs os a o w u h.0 h.1 h.2, h.3, h.4))
+
+left_more : (xs : List Arrival) (os : List Outcome) (a : Arrival) (o : Outcome) (written : List ℕ) (places : List Place) (w v u x p y : World) → AreTaken w xs os written places u
+    → IsLeft (IsAskedBy xs os w u) w v u x → IsLeft (AsksAt a.moment a.what u p) u x p y → IsLeft (IsAskedBy (xs ++ a ∷ []) (os ++ o ∷ []) w p) w v p y
+left_more xs os a o written places w v u x p y t h (inl e) =
+    left_longer xs os a o w v p y (subst (λ (z : World). IsLeft (IsAskedBy xs os w z) w v z y) (sym e.0) (subst (λ (z : World). IsLeft (IsAskedBy xs os w u) w v u z) (sym e.1) h))
+left_more xs os a o written places w v u x p y t h (inr (inl e)) = inr (inl e)
+left_more xs os a o written places w v u x p y t h (inr (inr m)) = inr (inr (m.0, m.1, asked_last xs os a o written places w u p m.0 m.1 t m.2, m.3, m.4))
+
+-- one thing more
+pub carries_more : (before between after : World → World → Type 0) (xs : List Arrival) (os : List Outcome) (a : Arrival) (o : Outcome) (written : List ℕ) (places : List Place) (w u p : World)
+    → AreTaken w xs os written places u → Carries before between (IsAskedBy xs os) w u → Carries between after (AsksAt a.moment a.what) u p
+    → Carries before after (IsAskedBy (xs ++ a ∷ []) (os ++ o ∷ [])) w p
+carries_more before between after xs os a o written places w u p t h c = λ v left.
+    let r = h v left in
+    let l = c r.0 r.1 in
+    (l.0, l.1, left_more xs os a o written places w v u r.0 p l.0 t r.2 l.2)
+
+-- ---- one event
+
+left_by : (asks : Event → Type 0) (now : ℕ) (w v u x : World) → ((e : Event) → asks e → IsEvent e) → IsMoment now → Leaves asks now w v u x
+    → IsLeft (λ at e. (at ≡ now) × (asks e × (u ≡ w))) w v u x
+left_by asks now w v u x within moment (untaken p q) = inl (p, q)
+left_by asks now w v u x within moment (taken e is p q) = inr (inl q)
+left_by asks now w v u x within moment (broken_off e is p q) =
+    inr (inr (now, e, (refl, (is, p)), (moment, within e is), q ∙ ap (λ (z : World). (step z now e).world) (sym p)))
+
+-- what asks for one event
+pub carries_one : (before after : World → World → Type 0) (asks : Event → Type 0) (now : ℕ) (w u : World) → ((e : Event) → asks e → IsEvent e) → IsMoment now
+    → CarriesOne before after asks now w u → Carries before after (λ z y at e. (at ≡ now) × (asks e × (y ≡ z))) w u
+carries_one before after asks now w u within moment c = λ v left. let l = c v left in (l.0, l.1, left_by asks now w v u l.0 within moment l.2)
 
 -- what a line tells is within the limits
 pub told_fits : (line : List ℕ) (e : Option Event) → Tells line e → IfSome e IsEvent
@@ -60,21 +89,40 @@ told_fits line _ (unread f reads) = tt
 
 -- ---- a connection
 
--- what a crash leaves beside a queue, as a run: the law of connections
-abbrev pub AreRuns : ℕ → List Turn → World → World → Type 0
-AreRuns now turns u x = IsAtMostOneMore now turns u x → (ps : List Place) × Each IsPlace ps × (length ps ≤ 1) × (x ≡ run u ps)
+-- the request whose answer was begun stands in the bytes behind the others
+begun_behind : (k : ℕ) (w : World) (bytes begun : List ℕ) (broken : List Turn) (fault : Bool) → IsBegun k w bytes begun broken fault → (rest : List ℕ) × (bytes ≡ flat_map request_bytes broken ++ rest)
+begun_behind k w bytes _ _ _ nothing = (bytes, refl)
+begun_behind k w bytes _ _ _ (interim h rest b p) = (bytes, refl)
+begun_behind k w bytes _ _ _ (answered t rest e) = (rest, e ∙ ap (λ (l : List ℕ). l ++ rest) (sym (append-nil (request_bytes t))))
+begun_behind k w bytes _ _ _ (ended end last e) = (bytes, refl)
 
-follows_run : (now : ℕ) (u x : World) (ps : List Place) → IsMoment now → Each IsPlace ps → length ps ≤ 1 → x ≡ run u ps → MayFollow u x
-follows_run now u x [] moment each few e = follows_none now u x moment e
-follows_run now u x (p ∷ []) moment each few e = (p, each.0, e)
-follows_run now u x (p ∷ q ∷ ps) moment each few e = absurd (omega (arith, few))
+-- what requests ask for is within the limits: the law of connections
+abbrev pub AreEvents : Type 0
+AreEvents = (now : ℕ) (w u : World) (turns : List Turn) (e : Event) → AreTurns now w turns → IsAskedIn w turns u e → IsEvent e
 
-follows_left : (now : ℕ) (turns : List Turn) (w v u x : World) → AreRuns now turns u x → IsMoment now → MayFollow w v → IsLeftOn now turns w v u x → MayFollow u x
-follows_left now turns w v u x are moment f (inl e) = may_follow w v u x f e.0 e.1
-follows_left now turns w v u x are moment f (inr more) = let r = are more in follows_run now u x r.0 moment r.1 r.2 r.3
+left_at : (asks : Event → Type 0) (now : ℕ) (turns : List Turn) (w v u x : World) → ((e : Event) → IsAskedIn w turns u e → asks e × IsEvent e) → IsMoment now → IsLeftOn now turns w v u x
+    → IsLeft (λ at e. (at ≡ now) × asks e) w v u x
+left_at asks now turns w v u x asked moment (inl e) = inl e
+left_at asks now turns w v u x asked moment (inr (inl e)) = inr (inl e)
+left_at asks now turns w v u x asked moment (inr (inr h)) = let a = asked h.0 h.1 in inr (inr (now, h.0, (refl, a.0), (moment, a.1), h.2))
 
--- the requests of a connection, which are these places
-pub connection_left : (stands : World → Type 0) (leaves : World → World → Type 0) (ps : List Place) (now : ℕ) (turns : List Turn) (w v u x : World) → AreRuns now turns u x → IsMoment now
-    → Each IsPlace ps → u ≡ run w ps → stands u → leaves u x → MayFollow w v → IsLeftOn now turns w v u x → IsLeft stands leaves w
-connection_left stands leaves ps now turns w v u x are moment each e s l f left =
-    record { places = ps; are = each; after = u; run_is = e; stands_after = s; left = x; is_left = l; follows = follows_left now turns w v u x are moment f left }
+-- the requests with which the stream begins
+carries_at : AreEvents → (before after : World → World → Type 0) (now : ℕ) (turns : List Turn) (stream : Bor (List ℕ)) (rest : List ℕ) (w u : World) → IsMoment now → AreTurns now w turns
+    → stream.now ≡ flat_map request_bytes turns ++ rest → CarriesAll before after now turns w u → Carries before after (AsksAt now (Connection stream)) w u
+carries_at events before after now turns stream rest w u moment are is c = λ v left.
+    let l = c v left in
+    (l.0, l.1, left_at (AsksFor now (Connection stream) w u) now turns w v u l.0 (λ e asked. ((turns, rest, is, are, asked), events now w u turns e are asked)) moment l.2)
+
+-- a connection that was served
+pub carries_served : AreEvents → (before after : World → World → Type 0) (now : ℕ) (stream : Bor (List ℕ)) (written : List ℕ) (w u : World) (acted faults : ℕ) (end : End) → IsMoment now
+    → (a : Answers now w stream.now written u acted faults end) → CarriesAll before after now a.turns w u → Carries before after (AsksAt now (Connection stream)) w u
+carries_served events before after now stream written w u acted faults end moment a c = carries_at events before after now a.turns stream a.rest w u moment a.are a.stream_is c
+
+-- one that was broken off
+pub carries_broken : AreEvents → (before after : World → World → Type 0) (now : ℕ) (stream : Bor (List ℕ)) (written : List ℕ) (w u : World) (acted faults : ℕ) → IsMoment now
+    → (b : Breaks now w stream.now written u acted faults) → CarriesAll before after now (b.turns ++ b.broken) w u → Carries before after (AsksAt now (Connection stream)) w u
+carries_broken events before after now stream written w u acted faults moment b c =
+    let r = begun_behind (length b.turns) (world_after w b.turns) b.rest b.begun b.broken b.fault_last b.begins in
+    carries_at events before after now (b.turns ++ b.broken) stream r.0 w u moment b.are
+    (b.stream_is ∙ ap (λ (l : List ℕ). flat_map request_bytes b.turns ++ l) r.1 ∙ sym (append_assoc (flat_map request_bytes b.turns) (flat_map request_bytes b.broken) r.0)
+    ∙ ap (λ (l : List ℕ). l ++ r.0) (sym (flat_map-append request_bytes b.turns b.broken))) c

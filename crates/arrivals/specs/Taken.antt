@@ -1,5 +1,5 @@
 -- What comes of one thing that reaches a queue: the answer to it, and the places of a run of the machine that it is.
-use Rattle.std.specs.Prelude.{◌≡◌, ◌≢◌, ⊤, ℕ, List, [], ◌∷◌, Option, None, Ok, Err, MatchBool, false}
+use Rattle.std.specs.Prelude.{◌≡◌, ◌≢◌, ⊤, ℕ, List, [], ◌∷◌, ◌++◌, Option, None, Ok, Err, MatchBool, false}
 use Rattle.std.specs.List.{AllByRecursion}
 use Rattle.std.specs.Io.KnownBytes.{Appends}
 use Rattle.queue_types.specs.Event.{Event}
@@ -9,7 +9,7 @@ use Rattle.device_lines.specs.Reports.{AnswersLine, Tells, is_fault_line}
 use Rattle.grants_csv.specs.Fault.{fault}
 use Rattle.grants_csv.specs.Import.{Asks, Imports}
 use Rattle.http_front.specs.Connections.{Answers, Breaks, IsFaultless as IsServedFaultless}
-use Rattle.http_front.specs.Places.{ArePlacesOf, AreBrokenPlaces}
+use Rattle.http_front.specs.Places.{ArePlacesOf}
 use Rattle.arrivals.specs.declared.arrival.Arrived.{Arrived}
 use Rattle.arrivals.specs.declared.arrival.Arrived.TheVariants.{Connection, Line, AccountFile}
 use Rattle.arrivals.specs.declared.arrival.Outcome.{Outcome}
@@ -32,7 +32,7 @@ abbrev pub Takes : ℕ → World → Arrived → Outcome → List ℕ → List P
 Takes now w (Connection stream) (Served s) written ps u =
     (a : Answers now w stream.now written u s.acted s.faults s.end) × ArePlacesOf now w a.turns ps
 Takes now w (Connection stream) (Broken f) written ps u =
-    (b : Breaks now w stream.now written u f.acted f.faults) × AreBrokenPlaces now w u b.turns ps
+    (b : Breaks now w stream.now written u f.acted f.faults) × ArePlacesOf now w (b.turns ++ b.broken) ps
 Takes now w (Line line) (Told out) written ps u = (written ≡ []) × TakesLine now w line.now out ps u
 Takes now w (AccountFile file) (Imported n) written ps u =
     (written ≡ []) × Imports w now file.now u (Ok n) × ((e : Option Event) × Asks file.now e × IsOnePlace now w u e ps)
@@ -49,8 +49,8 @@ IsFaultless (Refused f) = f ≢ fault
 
 -- ---- what taking it leaves
 
--- so it came to a world that the book stands for, by a run of the machine, and the writer's bytes went from v to x
-pub record IsTaken (stands : World → Type 0) (w : World) (v x : Option (List ℕ)) (Comes : List ℕ → List Place → World → Type 0) : Type 0 where
+-- so it came to a world that the book stands for, by a run of the machine, and the writer's bytes went from v to x; and this is left beside it
+pub record IsTaken (stands left : World → Type 0) (w : World) (v x : Option (List ℕ)) (Comes : List ℕ → List Place → World → Type 0) : Type 0 where
   pub after : World
   pub stands_after : stands after
   pub written : List ℕ
@@ -59,3 +59,4 @@ pub record IsTaken (stands : World → Type 0) (w : World) (v x : Option (List �
   pub are : AllByRecursion IsPlace places
   pub run_is : after ≡ run w places
   pub comes : Comes written places after
+  pub is_left : left after

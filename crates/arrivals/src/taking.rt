@@ -3,8 +3,9 @@ ghost use Rattle.std.specs.Prelude.{◌≡◌, ℕ, All, List, IfOk, OnErr};
 ghost use Rattle.std.specs.List.{AllByRecursion};
 ghost use Rattle.std.specs.Io.KnownBytes.{Appends, Keeps};
 ghost use Rattle.queue_core.specs.Limits.{IsMoment};
+ghost use Rattle.queue_core.specs.Runs.{IsPlace, Place, run};
 ghost use Rattle.queue_core.specs.World.{World};
-ghost use Rattle.arrivals.specs.Crash.{IsLeft, MayFollow};
+ghost use Rattle.arrivals.specs.Crash.{IsAskedBy, AsksAt, Carries, IsAtMostOneMore, outcomes_of};
 ghost use Rattle.arrivals.specs.History.{History};
 ghost use Rattle.arrivals.specs.Taken.{IsFaultless, IsTaken, Takes};
 ghost use Rattle.arrivals.specs.declared.arrival.Arrived.TheVariants.{AccountFile, Connection, Line};
@@ -31,10 +32,9 @@ fn take_connection<W: Write, B: QueueBook>(
     requires { IsMoment now }
     ensures began { B.is_honest book.new → B.is_honest book.old }
     ensures taken { B.is_honest book.new → (w : World) → B.stands book.old w → settings.now ≡ w.settings
-        → IsTaken (B.stands book.new) w (W.contents writer.old) (W.contents writer.new) (Takes now w (Connection stream.entry) result) }
+        → IsTaken (B.stands book.new) (Carries (B.crash_leaves book.old) (B.crash_leaves book.new) (AsksAt now (Connection stream.entry)) w)
+        w (W.contents writer.old) (W.contents writer.new) (Takes now w (Connection stream.entry) result) }
     ensures live { B.is_honest book.new → B.is_live book.old → IsFaultless result → B.is_live book.new }
-    ensures crash { B.is_honest book.new → (w v : World) → B.stands book.old w → settings.now ≡ w.settings → B.crash_leaves book.old w v → MayFollow w v
-        → IsLeft (B.stands book.new) (B.crash_leaves book.new) w }
 {
     connections_are_runs();
     let mut reader = stream;
@@ -49,10 +49,9 @@ fn take_line<B: QueueBook>(book: &mut B, now: u32, line: &[u8]) -> Outcome
     requires { IsMoment now }
     ensures began { B.is_honest book.new → B.is_honest book.old }
     ensures taken { B.is_honest book.new → (w : World) → B.stands book.old w → (v : _)
-        → IsTaken (B.stands book.new) w v v (Takes now w (Line line.entry) result) }
+        → IsTaken (B.stands book.new) (Carries (B.crash_leaves book.old) (B.crash_leaves book.new) (AsksAt now (Line line.entry)) w)
+        w v v (Takes now w (Line line.entry) result) }
     ensures live { B.is_honest book.new → B.is_live book.old → IsFaultless result → B.is_live book.new }
-    ensures crash { B.is_honest book.new → (w v : World) → B.stands book.old w → B.crash_leaves book.old w v → MayFollow w v
-        → IsLeft (B.stands book.new) (B.crash_leaves book.new) w }
 {
     Outcome::Told(report(book, now, line))
 }
@@ -62,10 +61,9 @@ fn take_file<B: QueueBook>(alloc: Global, book: &mut B, now: u32, file: &[u8]) -
     requires { IsMoment now }
     ensures began { B.is_honest book.new → B.is_honest book.old }
     ensures taken { B.is_honest book.new → (w : World) → B.stands book.old w → (v : _)
-        → IsTaken (B.stands book.new) w v v (Takes now w (AccountFile file.entry) result) }
+        → IsTaken (B.stands book.new) (Carries (B.crash_leaves book.old) (B.crash_leaves book.new) (AsksAt now (AccountFile file.entry)) w)
+        w v v (Takes now w (AccountFile file.entry) result) }
     ensures live { B.is_honest book.new → B.is_live book.old → IsFaultless result → B.is_live book.new }
-    ensures crash { B.is_honest book.new → (w v : World) → B.stands book.old w → B.crash_leaves book.old w v → MayFollow w v
-        → IsLeft (B.stands book.new) (B.crash_leaves book.new) w }
 {
     files_are_events();
     match import(alloc, book, now, file) {
@@ -85,10 +83,9 @@ fn take<W: Write, B: QueueBook>(
     requires { IsMoment arrival.moment }
     ensures began { B.is_honest book.new → B.is_honest book.old }
     ensures taken { B.is_honest book.new → (w : World) → B.stands book.old w → settings.now ≡ w.settings
-        → IsTaken (B.stands book.new) w (W.contents writer.old) (W.contents writer.new) (Takes arrival.entry.moment w arrival.entry.what result) }
+        → IsTaken (B.stands book.new) (Carries (B.crash_leaves book.old) (B.crash_leaves book.new) (AsksAt arrival.entry.moment arrival.entry.what) w)
+        w (W.contents writer.old) (W.contents writer.new) (Takes arrival.entry.moment w arrival.entry.what result) }
     ensures live { B.is_honest book.new → B.is_live book.old → IsFaultless result → B.is_live book.new }
-    ensures crash { B.is_honest book.new → (w v : World) → B.stands book.old w → settings.now ≡ w.settings → B.crash_leaves book.old w v → MayFollow w v
-        → IsLeft (B.stands book.new) (B.crash_leaves book.new) w }
 {
     match arrival.what {
         Arrived::Connection(stream) => {
@@ -112,14 +109,18 @@ pub fn take_all<W: Write, B: QueueBook>(
 ) -> Result<Vec<Outcome>, AllocError>
     requires { All (λ a. IsMoment a.moment) arrivals.now }
     ensures began { B.is_honest book.new → B.is_honest book.old }
+    // the promise of the whole; and what a crash leaves beside the queue u, also where the book was shut before
     ensures history { B.is_honest book.new → IfOk result (λ outcomes. (w : World) → B.stands book.old w → settings.now ≡ w.settings
         → (u : World) × B.stands book.new u × (written : List ℕ) × Appends (W.contents writer.old) (W.contents writer.new) written
-        × History w arrivals.now outcomes.items written u) }
+        × History w arrivals.now outcomes.items written u
+        × Carries (B.crash_leaves book.old) (B.crash_leaves book.new) (IsAskedBy arrivals.now outcomes.items) w u) }
     // what shuts a book is told as a fault, or breaks a document off
     ensures live { B.is_honest book.new → B.is_live book.old → IfOk result (λ outcomes. AllByRecursion IsFaultless outcomes.items → B.is_live book.new) }
-    // whatever it answers, a crash at any moment leaves the queue that the machine came to, or the one after one event more
+    // whatever it answers, a crash at any moment leaves the queue that the machine came to, or the one after one event more, which one of the arrivals
+    // asked for at its moment, and before which the queue was that already
     ensures crash { B.is_honest book.new → B.is_live book.old → (w : World) → B.stands book.old w → settings.now ≡ w.settings
-        → IsLeft (B.stands book.new) (B.crash_leaves book.new) w }
+        → (u x : World) × B.stands book.new u × (places : List Place) × AllByRecursion IsPlace places × (u ≡ run w places)
+        × B.crash_leaves book.new u x × IsAtMostOneMore (IsAskedBy arrivals.now (outcomes_of result) w u) u x }
     ensures err { OnErr result (book.new ≡ book.old) }
     ensures unwritten { OnErr result (Keeps (W.contents writer.old) (W.contents writer.new)) }
 {

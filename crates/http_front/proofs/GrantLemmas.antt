@@ -1,5 +1,5 @@
 -- What a connection leaves of the grants: neither a request nor a report grants pages.
-use Rattle.std.proofs.Common.{◌≡◌, ◌∙◌, ℕ, List, [], ◌∷◌, length, Ok, Err, Bool, refl, ap, true, false, cond}
+use Rattle.std.proofs.Common.{◌≡◌, ◌∙◌, ℕ, List, [], ◌∷◌, Ok, Err, Bool, refl, ap, true, false, cond}
 use Rattle.std.specs.Prelude.{Option, Some, None, Result, bytes_eq, fold}
 use Rattle.std.specs.List.{list_all}
 use Rattle.queue_types.specs.Job.{estimate}
@@ -23,8 +23,7 @@ use Rattle.device_lines.specs.declared.line.LineFault.{LineFault}
 use Rattle.http_head.specs.declared.target.Target.{Target}
 use Rattle.http_head.specs.declared.target.Target.TheVariants.{Ipp, Report as ReportTarget, Queue, Document as DocumentTarget}
 use Rattle.http_front.specs.Turns.{Turn, IsTurn, IsAnswered, plan}
-use Rattle.http_front.specs.Connections.{AreTurns, Breaks, world_after}
-use Rattle.http_front.specs.Ends.{IsBegun, nothing, interim, answered as answered_at, ended}
+use Rattle.http_front.specs.Connections.{AreTurns, world_after}
 
 -- it grants nothing
 abbrev IsGrantless : Decision → Type 0
@@ -140,13 +139,3 @@ by_turns now w (t ∷ ts) are =
 
 pub grants_kept : (now : ℕ) (w u : World) (ts : List Turn) → AreTurns now w ts → u ≡ world_after w ts → u.grants ≡ w.grants
 grants_kept now w u ts are is = ap (λ (z : World). z.grants) is ∙ by_turns now w ts are
-
-by_begun : (now k : ℕ) (w : World) (bytes begun : List ℕ) (u : World) (acted fault : Bool) → IsBegun now k w bytes begun u acted fault → u.grants ≡ w.grants
-by_begun now k w bytes _ _ _ _ nothing = refl
-by_begun now k w bytes _ _ _ _ (interim h rest b p) = refl
-by_begun now k w bytes _ _ _ _ (answered_at t rest e is) = by_turn now w t is
-by_begun now k w bytes _ _ _ _ (ended end last e) = refl
-
-pub grants_kept_broken : (now : ℕ) (w u : World) (stream written : List ℕ) (acted faults : ℕ) → Breaks now w stream written u acted faults → u.grants ≡ w.grants
-grants_kept_broken now w u stream written acted faults b =
-    by_begun now (length b.turns) (world_after w b.turns) b.rest b.begun u b.acted_last b.fault_last b.begins ∙ by_turns now w b.turns b.are

@@ -2,6 +2,7 @@ pub mod WriteLemmas
 pub mod ReplyLemmas
 pub mod TurnedLemmas
 pub mod Runs
+pub mod WorkedLemmas
 pub mod RunLemmas
 pub mod PlaceLemmas
 pub mod GrantLemmas

@@ -1,5 +1,5 @@
 -- The turns of a connection as places of a run.
-use Rattle.std.proofs.Common.{◌≡◌, ◌∙◌, Bool, true, false, ℕ, ◌≤◌, List, [], ◌∷◌, ◌++◌, Option, None, Some, Ok, Err, Result, IfSome, inl, inr, length, refl, sym, ap, subst, arith, lit≤}
+use Rattle.std.proofs.Common.{◌≡◌, ◌∙◌, Bool, true, false, ℕ, ◌≤◌, List, [], ◌∷◌, ◌++◌, Option, None, Some, Ok, Err, Result, IfSome, length, refl, sym, ap, subst, arith, lit≤}
 use Rattle.std.specs.Prelude.{MatchBool}
 use Rattle.std.specs.List.{AllByRecursion as Each}
 use Rattle.queue_types.specs.Event.{Event, ask, tell}
@@ -23,9 +23,8 @@ use Rattle.http_head.proofs.PlanLemmas.{fits_by}
 use Rattle.http_wire.specs.Bodies.{IsBody}
 use Rattle.http_wire.specs.Chunks.{ChunkedBody, IsChunkedBody, chunked_content}
 use Rattle.http_front.specs.Turns.{Turn, plan, IsTurn, IsAnswered}
-use Rattle.http_front.specs.Ends.{IsBegun, nothing, interim, answered, ended}
-use Rattle.http_front.specs.Connections.{AreTurns, Breaks, world_after}
-use Rattle.http_front.specs.Places.{AsksFor, IsPlaceOf, ArePlacesOf, IsLast, AreBrokenPlaces}
+use Rattle.http_front.specs.Connections.{AreTurns, world_after}
+use Rattle.http_front.specs.Places.{AsksFor, IsPlaceOf, ArePlacesOf}
 
 -- what calls are: the law of requests
 abbrev pub AreCalls : Type 0
@@ -97,28 +96,8 @@ pub served_places : AreCalls → (now : ℕ) (w u : World) (ts : List Turn) → 
     → (ps : List Place) × ArePlacesOf now w ts ps × Each IsPlace ps × (u ≡ run w ps)
 served_places are now w u ts moment a e = let ps = turns_places are now w ts moment a in (ps.0, ps.1, ps.2, e ∙ ps.3)
 
--- ---- one that was broken off
-
-last_places : AreCalls → (now k : ℕ) (w : World) (bytes begun : List ℕ) (u : World) (acted fault : Bool) → IsMoment now → IsBegun now k w bytes begun u acted fault
-    → (ps : List Place) × IsLast now w u ps × Each IsPlace ps × (u ≡ run w ps)
-last_places are now k w bytes _ _ _ _ moment nothing = ([], inl (refl, refl), tt, refl)
-last_places are now k w bytes _ _ _ _ moment (interim h rest b p) = ([], inl (refl, refl), tt, refl)
-last_places are now k w bytes _ _ _ _ moment (answered t rest e is) =
-    let p = turn_place are now w t moment is in (p.0 ∷ [], inr (t, p.0, refl, is, p.1, refl), (p.2, tt), p.3)
-last_places are now k w bytes _ _ _ _ moment (ended end last e) = ([], inl (refl, refl), tt, refl)
+-- ---- lists of places
 
 pub each_append : (xs ys : List Place) → Each IsPlace xs → Each IsPlace ys → Each IsPlace (xs ++ ys)
 each_append [] ys h k = k
 each_append (x ∷ xs) ys h k = (h.0, each_append xs ys h.1 k)
-
-pub broken_places : AreCalls → ((w : World) (ps qs : List Place) → run w (ps ++ qs) ≡ run (run w ps) qs)
-    → (now : ℕ) (w u : World) (stream written : List ℕ) (acted faults : ℕ) → IsMoment now → (b : Breaks now w stream written u acted faults)
-    → (ps : List Place) × AreBrokenPlaces now w u b.turns ps × Each IsPlace ps × (u ≡ run w ps)
-broken_places are joined now w u stream written acted faults moment b =
-    let front = turns_places are now w b.turns moment b.are in
-    let last = last_places are now (length b.turns) (world_after w b.turns) b.rest b.begun u b.acted_last b.fault_last moment b.begins in (
-      front.0 ++ last.0,
-      (front.0, last.0, refl, front.1, last.1),
-      each_append front.0 last.0 front.2 last.2,
-      last.3 ∙ ap (λ (x : World). run x last.0) front.3 ∙ sym (joined w front.0 last.0),
-    )

@@ -1,10 +1,11 @@
 -- The parts of one turn, put together.
-use Rattle.std.proofs.Common.{◌≡◌, Option, ℕ, ◌==◌, ◌||◌, List, [], ◌++◌, Bool, false, None, Some, IfSome, Ok, Err, refl, sym, ap, ◌∙◌, subst, inl, inr, append_assoc, append-nil}
+use Rattle.std.proofs.Common.{◌≡◌, Option, ℕ, ◌==◌, ◌||◌, List, [], ◌∷◌, ◌++◌, Bool, false, None, Some, IfSome, Ok, Err, refl, sym, ap, ◌∙◌, subst, inl, inr, append_assoc, append-nil, if◌then◌else◌}
 use Rattle.std.specs.Prelude.{Result}
 use Rattle.std.specs.Io.KnownBytes.{Appends, Consumes}
 use Rattle.std.proofs.KnownBytes.{Appends-nil, Appends-trans, Consumes-trans}
 use Rattle.httparse.specs.Grammar.{RequestHead, print_request}
 use Rattle.queue_types.specs.Event.{Event}
+use Rattle.queue_core.specs.Crash.{Carries}
 use Rattle.queue_core.specs.World.{World}
 use Rattle.http_wire.specs.Bodies.{IsBody, EndsInBody}
 use Rattle.http_head.specs.Head.{BeginsHead, EndsWithoutHead}
@@ -18,15 +19,19 @@ use Rattle.http_head.specs.declared.end.Refusal.{Refusal}
 use Rattle.http_head.specs.declared.end.Refusal.TheVariants.{ServiceUnavailable}
 use Rattle.http_head.specs.declared.plan.Plan.{Plan}
 use Rattle.http_head.specs.declared.framing.Framing.{Framing}
+use Rattle.http_front.specs.Connections.{Worked}
+use Rattle.http_front.specs.Crash.{CarriesAll}
 use Rattle.http_front.specs.Places.{AsksFor}
 use Rattle.http_front.specs.Turns.{Turn, IsTurn, acts_on, answer_bytes, last_request}
 use Rattle.http_front.specs.Ends.{IsEnd, IsBegun}
 use Rattle.http_front.specs.Ends.{no_head, checked, in_body, declined, unavailable, unavailable_later, nothing, interim, answered, ended}
-use Rattle.http_front.specs.Turned.{IsReply, IsDeclined, IsClosed, IsPlanEnd, IsPlanTurn, IsPlanBegun, IsPlanned, IsTurnFaultless, IsTurned, PlanWorks, Works, acted_in}
+use Rattle.http_front.specs.Turned.{IsReply, IsDeclined, IsClosed, IsPlanEnd, IsPlanTurn, IsPlanBegun, IsPlanned, IsTurnFaultless, IsTurned}
 use Rattle.http_front.specs.Turned.{in_body as plan_in_body, declined as plan_declined, unavailable as plan_unavailable, interim as plan_interim, answered as plan_answered, ended as plan_ended}
 use Rattle.http_front.specs.declared.outcome.Stopped.{Stopped}
 use Rattle.http_front.specs.declared.outcome.Turned.{Turned}
 use Rattle.http_front.specs.declared.outcome.Turned.TheVariants.{Answered, Ended}
+use Rattle.http_front.proofs.CrashLemmas.{carries_idle, carries_one}
+use Rattle.http_front.proofs.WorkedLemmas.{worked_none, worked_one}
 use Rattle.http_front.proofs.WriteLemmas.{front_after, front_all}
 
 -- ---- behind a head
@@ -35,33 +40,25 @@ use Rattle.http_front.proofs.WriteLemmas.{front_after, front_all}
 unacted : (P : Bool → Bool → Type 0) (f : Stopped) → f.acted ≡ false → f.is_fault ≡ false → P false false → P f.acted f.is_fault
 unacted P f a b p = subst (λ (z : Bool). P z f.is_fault) (sym a) (subst (λ (z : Bool). P false z) (sym b) p)
 
-pub planned_unsaid : (now k : ℕ) (w : World) (plan : Plan) (r s v x : Option (List ℕ)) (f : Stopped) → f.acted ≡ false → f.is_fault ≡ false → WritesFront v x (interim_response plan)
-    → IsPlanned now k w w plan r s v x (Err f)
-planned_unsaid now k w plan None s v x f a b h = tt
-planned_unsaid now k w plan (Some bytes) s v x f a b h =
-    (interim_response plan, unacted (λ p q. IsPlanBegun now k w w plan bytes (interim_response plan) p q) f a b (plan_interim refl), h)
+pub planned_unsaid : (is_left : (Event → Type 0) → Type 0) (now k : ℕ) (w : World) (plan : Plan) (r s v x : Option (List ℕ)) (f : Stopped) → f.acted ≡ false → f.is_fault ≡ false
+    → WritesFront v x (interim_response plan) → is_left (λ e. ⊥) → IsPlanned is_left now k w w plan r s v x (Err f)
+planned_unsaid is_left now k w plan r s v x f a b h left =
+    (interim_response plan, unacted (λ p q. IsPlanBegun is_left now k w w plan r s (interim_response plan) p q) f a b (plan_interim refl left), h)
 
-pub planned_unread : (now k : ℕ) (w : World) (plan : Plan) (r s v x : Option (List ℕ)) (f : Stopped) → f.acted ≡ false → f.is_fault ≡ false → Appends v x (interim_response plan)
-    → IsPlanned now k w w plan r s v x (Err f)
-planned_unread now k w plan r s v x f a b h = planned_unsaid now k w plan r s v x f a b (front_all v x (interim_response plan) h)
+pub planned_unread : (is_left : (Event → Type 0) → Type 0) (now k : ℕ) (w : World) (plan : Plan) (r s v x : Option (List ℕ)) (f : Stopped) → f.acted ≡ false → f.is_fault ≡ false
+    → Appends v x (interim_response plan) → is_left (λ e. ⊥) → IsPlanned is_left now k w w plan r s v x (Err f)
+planned_unread is_left now k w plan r s v x f a b h left = planned_unsaid is_left now k w plan r s v x f a b (front_all v x (interim_response plan) h) left
 
-broken_at : (now k : ℕ) (w : World) (plan : Plan) (r v x : Option (List ℕ)) (end : Finish) (f : Stopped) → IfSome r (λ bytes. IsPlanEnd w plan bytes end)
-    → f.acted ≡ false → f.is_fault ≡ is_unavailable end → WritesFront v x (interim_response plan ++ last_response end)
-    → IfSome r (λ bytes. (begun : List ℕ) × IsPlanBegun now k w w plan bytes begun f.acted f.is_fault × WritesFront v x begun)
-broken_at now k w plan None v x end f h a b front = tt
-broken_at now k w plan (Some bytes) v x end f h a b front = (
+pub planned_closed : (is_left : (Event → Type 0) → Type 0) (now k : ℕ) (w u : World) (plan : Plan) (r s v m x : Option (List ℕ)) (end : Finish) (result : Result Turned Stopped) → u ≡ w
+    → is_left (λ e. ⊥) → IfSome r (λ bytes. IsPlanEnd w plan bytes end) → Appends v m (interim_response plan) → IsClosed end m x result → IsPlanned is_left now k w u plan r s v x result
+planned_closed is_left now k w u plan r s v m x end (Ok t) same left h a c =
+    subst (λ (z : Turned). IsPlanned is_left now k w u plan r s v x (Ok z)) (sym c.0) (h, Appends-trans v m x (interim_response plan) (last_response end) a c.1, same, left)
+planned_closed is_left now k w u plan r s v m x end (Err f) same left h a c = (
   interim_response plan ++ last_response end,
-  subst (λ (p : Bool). IsPlanBegun now k w w plan bytes (interim_response plan ++ last_response end) p f.is_fault) (sym a)
-      (subst (λ (p : Bool). IsPlanBegun now k w w plan bytes (interim_response plan ++ last_response end) false p) (sym b) (plan_ended end h refl)),
-  front,
+  subst (λ (p : Bool). IsPlanBegun is_left now k w u plan r s (interim_response plan ++ last_response end) p f.is_fault) (sym c.0)
+      (subst (λ (p : Bool). IsPlanBegun is_left now k w u plan r s (interim_response plan ++ last_response end) false p) (sym c.1) (plan_ended end h same left)),
+  front_after v m x (interim_response plan) (last_response end) a c.2,
 )
-
-pub planned_closed : (now k : ℕ) (w : World) (plan : Plan) (r s v m x : Option (List ℕ)) (end : Finish) (result : Result Turned Stopped) → IfSome r (λ bytes. IsPlanEnd w plan bytes end)
-    → Appends v m (interim_response plan) → IsClosed end m x result → IsPlanned now k w w plan r s v x result
-planned_closed now k w plan r s v m x end (Ok t) h a c =
-    subst (λ (z : Turned). IsPlanned now k w w plan r s v x (Ok z)) (sym c.0) (h, Appends-trans v m x (interim_response plan) (last_response end) a c.1, refl)
-planned_closed now k w plan r s v m x end (Err f) h a c =
-    broken_at now k w plan r v x end f h c.0 c.1 (front_after v m x (interim_response plan) (last_response end) a c.2)
 
 pub end_in_body : (w : World) (plan : Plan) (r : Option (List ℕ)) (end : Finish) → IfSome r (λ bytes. EndsInBody plan.framing bytes end) → IfSome r (λ bytes. IsPlanEnd w plan bytes end)
 end_in_body w plan None end h = tt
@@ -81,20 +78,24 @@ end_declined w plan None s raw content z taken body d = tt
 end_declined w plan (Some x) None raw content z taken body d = absurd taken
 end_declined w plan (Some x) (Some y) raw content z taken body d = declined_at w plan x y raw content z taken body d
 
-pub planned_answered : (now k : ℕ) (w u : World) (plan : Plan) (r s v m x : Option (List ℕ)) (raw content bytes : List ℕ) (acted fault closes : Bool) → Appends v m (interim_response plan)
+pub planned_answered : (is_left : (Event → Type 0) → Type 0) (now k : ℕ) (w u : World) (plan : Plan) (r s v m x : Option (List ℕ)) (raw content bytes : List ℕ) (acted fault closes : Bool) → Appends v m (interim_response plan)
     → IsBody plan.framing raw content → Consumes r s raw → IsReply now w plan.target content closes fault bytes u → Appends m x bytes → acted ≡ acts_on plan.target → closes ≡ (plan.closes || (k == last_request))
-    → IsPlanned now k w u plan r s v x (Ok (Answered acted fault closes))
-planned_answered now k w u plan r s v m x raw content bytes acted fault closes a body taken reply written acted_is closes_is =
-    (raw, bytes, record { content = content; body = body; reply = reply; acted_is = acted_is; closes_is = closes_is }, taken, Appends-trans v m x (interim_response plan) bytes a written)
+    → is_left (λ e. AsksFor plan.target content (Some e)) → IsPlanned is_left now k w u plan r s v x (Ok (Answered acted fault closes))
+planned_answered is_left now k w u plan r s v m x raw content bytes acted fault closes a body taken reply written acted_is closes_is left = (
+  raw,
+  bytes,
+  record { content = content; body = body; reply = reply; acted_is = acted_is; closes_is = closes_is },
+  taken,
+  Appends-trans v m x (interim_response plan) bytes a written,
+  left,
+)
 
-pub planned_broken : (now k : ℕ) (w u : World) (plan : Plan) (r s v m x : Option (List ℕ)) (raw content bytes : List ℕ) (f : Stopped) (closes : Bool) → Appends v m (interim_response plan)
+pub planned_broken : (is_left : (Event → Type 0) → Type 0) (now k : ℕ) (w u : World) (plan : Plan) (r s v m x : Option (List ℕ)) (raw content bytes : List ℕ) (f : Stopped) (closes : Bool) → Appends v m (interim_response plan)
     → IsBody plan.framing raw content → Consumes r s raw → IsReply now w plan.target content closes f.is_fault bytes u → WritesFront m x bytes → f.acted ≡ acts_on plan.target → closes ≡ (plan.closes || (k == last_request))
-    → IsPlanned now k w u plan r s v x (Err f)
-planned_broken now k w u plan None s v m x raw content bytes f closes a body taken reply front acted_is closes_is = tt
-planned_broken now k w u plan (Some y) None v m x raw content bytes f closes a body taken reply front acted_is closes_is = absurd taken
-planned_broken now k w u plan (Some y) (Some z) v m x raw content bytes f closes a body taken reply front acted_is closes_is = (
+    → is_left (λ e. AsksFor plan.target content (Some e)) → IsPlanned is_left now k w u plan r s v x (Err f)
+planned_broken is_left now k w u plan r s v m x raw content bytes f closes a body taken reply front acted_is closes_is left = (
   interim_response plan ++ bytes,
-  plan_answered f.acted f.is_fault closes raw z bytes taken (record { content = content; body = body; reply = reply; acted_is = acted_is; closes_is = closes_is }),
+  plan_answered f.acted f.is_fault closes raw bytes taken (record { content = content; body = body; reply = reply; acted_is = acted_is; closes_is = closes_is }) left,
   front_after v m x (interim_response plan) bytes a front,
 )
 
@@ -128,18 +129,6 @@ ended_with w h x y _ b passes (plan_in_body end e) = in_body h y end b passes e
 ended_with w h x y _ b passes (plan_declined raw content rest r e body d) = declined h raw content rest r (subst (λ (l : List ℕ). BeginsHead x h l) e b) passes body d
 ended_with w h x y _ b passes plan_unavailable = unavailable_later h y b passes
 
-begun_with : (now k : ℕ) (w u : World) (h : RequestHead) (x y begun : List ℕ) (acted fault : Bool) → TakesHead (Some x) (Some y) h → refusal_of (head_of h) ≡ None
-    → IsPlanBegun now k w u (plan_of (head_of h)) y begun acted fault → IsBegun now k w x begun u acted fault
-begun_with now k w u h x y _ _ _ t passes (plan_interim e) =
-    subst (λ (z : World). IsBegun now k w x (interim_response (plan_of (head_of h))) z false false) (sym e) (interim h y (begins h x y t) passes)
-begun_with now k w u h x y _ _ _ t passes (plan_answered a f c raw rest out e p) =
-    subst (λ (l : List ℕ). IsBegun now k w x l u a f) (sym (made_bytes now k w u h a f c raw out p))
-    (subst (λ (b : Bool). IsBegun now k w x (answer_bytes k (made now k w u h a f c raw out p)) u b f) (sym p.acted_is)
-    (answered (made now k w u h a f c raw out p) rest (t.taken ∙ ap (λ l. print_request h ++ l) e ∙ sym (append_assoc (print_request h) raw rest)) (made_is now k w u h a f c raw out (Some x) (Some y) t passes p)))
-begun_with now k w u h x y _ _ _ t passes (plan_ended end e same) =
-    subst (λ (z : World). IsBegun now k w x (interim_response (plan_of (head_of h)) ++ last_response end) z false (is_unavailable end)) (sym same)
-    (ended end (interim_response (plan_of (head_of h)) ++ last_response end) (ended_with w h x y end (begins h x y t) passes e))
-
 lift_ended : (now k : ℕ) (w u : World) (h : RequestHead) (r q v x : Option (List ℕ)) (end : Finish) → TakesHead r q h → refusal_of (head_of h) ≡ None
     → IfSome q (λ bytes. IsPlanEnd w (plan_of (head_of h)) bytes end) → Appends v x (interim_response (plan_of (head_of h)) ++ last_response end)
     → IfSome r (λ bytes. (last : List ℕ) × IsEnd w bytes end last × Appends v x last)
@@ -147,16 +136,53 @@ lift_ended now k w u h None q v x end t passes e a = tt
 lift_ended now k w u h (Some b) None v x end t passes e a = absurd t.taken
 lift_ended now k w u h (Some b) (Some c) v x end t passes e a = (interim_response (plan_of (head_of h)) ++ last_response end, ended_with w h b c end (begins h b c t) passes e, a)
 
-lift_begun : (now k : ℕ) (w u : World) (h : RequestHead) (r q v x : Option (List ℕ)) (f : Stopped) → TakesHead r q h → refusal_of (head_of h) ≡ None
-    → IfSome q (λ bytes. (begun : List ℕ) × IsPlanBegun now k w u (plan_of (head_of h)) bytes begun f.acted f.is_fault × WritesFront v x begun)
-    → IfSome r (λ bytes. (begun : List ℕ) × IsBegun now k w bytes begun u f.acted f.is_fault × WritesFront v x begun)
-lift_begun now k w u h None q v x f t passes e = tt
-lift_begun now k w u h (Some b) None v x f t passes e = absurd t.taken
-lift_begun now k w u h (Some b) (Some c) v x f t passes e = (e.0, begun_with now k w u h b c e.0 f.acted f.is_fault t passes e.1, e.2)
+-- what was begun behind the head, with it
+begun_interim : (k : ℕ) (w : World) (h : RequestHead) (r q v x : Option (List ℕ)) → TakesHead r q h → refusal_of (head_of h) ≡ None → WritesFront v x (interim_response (plan_of (head_of h)))
+    → IfSome r (λ bytes. (begun : List ℕ) × IsBegun k w bytes begun [] false × WritesFront v x begun)
+begun_interim k w h None q v x t passes front = tt
+begun_interim k w h (Some b) None v x t passes front = absurd t.taken
+begun_interim k w h (Some b) (Some c) v x t passes front = (interim_response (plan_of (head_of h)), interim h c (begins h b c t) passes, front)
 
-lift : (now k : ℕ) (w u : World) (h : RequestHead) (r q s v x : Option (List ℕ)) (result : Result Turned Stopped) → TakesHead r q h → refusal_of (head_of h) ≡ None
-    → IsPlanned now k w u (plan_of (head_of h)) q s v x result → IsTurned now k w u r s v x result
-lift now k w u h r q s v x (Ok (Answered acted fault closes)) t passes p =
+begun_answered : (now k : ℕ) (w u : World) (h : RequestHead) (r q s v x : Option (List ℕ)) (acted fault closes : Bool) (raw out : List ℕ) → TakesHead r q h → Consumes q s raw
+    → (p : IsPlanTurn now k w u (plan_of (head_of h)) acted fault closes raw out) → WritesFront v x (interim_response (plan_of (head_of h)) ++ out)
+    → IfSome r (λ bytes. (begun : List ℕ) × IsBegun k w bytes begun (made now k w u h acted fault closes raw out p ∷ []) fault × WritesFront v x begun)
+begun_answered now k w u h None q s v x acted fault closes raw out t taken p front = tt
+begun_answered now k w u h (Some b) None s v x acted fault closes raw out t taken p front = absurd t.taken
+begun_answered now k w u h (Some b) (Some c) None v x acted fault closes raw out t taken p front = absurd taken
+begun_answered now k w u h (Some b) (Some c) (Some rest) v x acted fault closes raw out t taken p front = (
+  answer_bytes k (made now k w u h acted fault closes raw out p),
+  answered (made now k w u h acted fault closes raw out p) rest (t.taken ∙ ap (λ l. print_request h ++ l) taken ∙ sym (append_assoc (print_request h) raw rest)),
+  subst (λ (l : List ℕ). WritesFront v x l) (made_bytes now k w u h acted fault closes raw out p) front,
+)
+
+begun_ended : (k : ℕ) (w : World) (h : RequestHead) (r q v x : Option (List ℕ)) (end : Finish) → TakesHead r q h → refusal_of (head_of h) ≡ None
+    → IfSome q (λ bytes. IsPlanEnd w (plan_of (head_of h)) bytes end) → WritesFront v x (interim_response (plan_of (head_of h)) ++ last_response end)
+    → IfSome r (λ bytes. (begun : List ℕ) × IsBegun k w bytes begun [] (is_unavailable end) × WritesFront v x begun)
+begun_ended k w h None q v x end t passes e front = tt
+begun_ended k w h (Some b) None v x end t passes e front = absurd t.taken
+begun_ended k w h (Some b) (Some c) v x end t passes e front = (
+  interim_response (plan_of (head_of h)) ++ last_response end,
+  ended end (interim_response (plan_of (head_of h)) ++ last_response end) (ended_with w h b c end (begins h b c t) passes e),
+  front,
+)
+
+lift_begun : (before after : World → World → Type 0) (now k : ℕ) (w u : World) (h : RequestHead) (r q s v x : Option (List ℕ)) (begun : List ℕ) (acted fault : Bool) → TakesHead r q h
+    → refusal_of (head_of h) ≡ None → IsPlanBegun (λ asks. Carries before after asks now w u) now k w u (plan_of (head_of h)) q s begun acted fault → WritesFront v x begun
+    → (one : Worked 1 now w u (if acted then 1 else 0)) × CarriesAll before after now one.turns w u × IfSome r (λ bytes. (out : List ℕ) × IsBegun k w bytes out one.turns fault × WritesFront v x out)
+lift_begun before after now k w u h r q s v x _ _ _ t passes (plan_interim same left) front =
+    (worked_none now w u 0 same refl, carries_idle before after now w u left, begun_interim k w h r q v x t passes front)
+lift_begun before after now k w u h r q s v x _ _ _ t passes (plan_answered acted fault closes raw out taken p left) front =
+    let m = made now k w u h acted fault closes raw out p in (
+      worked_one now w u (if acted then 1 else 0) m (made_is now k w u h acted fault closes raw out r q t passes p) refl (ap (λ b. if b then 1 else 0) p.acted_is),
+      carries_one before after now m w u left,
+      begun_answered now k w u h r q s v x acted fault closes raw out t taken p front,
+    )
+lift_begun before after now k w u h r q s v x _ _ _ t passes (plan_ended end e same left) front =
+    (worked_none now w u 0 same refl, carries_idle before after now w u left, begun_ended k w h r q v x end t passes e front)
+
+lift : (before after : World → World → Type 0) (now k : ℕ) (w u : World) (h : RequestHead) (r q s v x : Option (List ℕ)) (result : Result Turned Stopped) → TakesHead r q h → refusal_of (head_of h) ≡ None
+    → IsPlanned (λ asks. Carries before after asks now w u) now k w u (plan_of (head_of h)) q s v x result → IsTurned (λ turns. CarriesAll before after now turns w u) now k w u r s v x result
+lift before after now k w u h r q s v x (Ok (Answered acted fault closes)) t passes p =
     let pt = p.2 in (
       made now k w u h acted fault closes p.0 p.1 pt,
       made_is now k w u h acted fault closes p.0 p.1 r q t passes pt,
@@ -166,13 +192,16 @@ lift now k w u h r q s v x (Ok (Answered acted fault closes)) t passes p =
       Consumes-trans r q s (print_request h) p.0 t.taken p.3,
       subst (λ (l : List ℕ). Appends v x l) (made_bytes now k w u h acted fault closes p.0 p.1 pt) p.4,
       refl,
+      carries_one before after now (made now k w u h acted fault closes p.0 p.1 pt) w u p.5,
     )
-lift now k w u h r q s v x (Ok (Ended end)) t passes p = (lift_ended now k w u h r q v x end t passes p.0 p.1, p.2)
-lift now k w u h r q s v x (Err f) t passes p = lift_begun now k w u h r q v x f t passes p
+lift before after now k w u h r q s v x (Ok (Ended end)) t passes p = (lift_ended now k w u h r q v x end t passes p.0 p.1, p.2, carries_idle before after now w u p.3)
+lift before after now k w u h r q s v x (Err f) t passes p = lift_begun before after now k w u h r q s v x p.0 f.acted f.is_fault t passes p.1 p.2
 
-pub lifted : (now k : ℕ) (w u : World) (plan : Plan) (r q s v x : Option (List ℕ)) (result : Result Turned Stopped)
-    → (h : RequestHead) × TakesHead r q h × (refusal_of (head_of h) ≡ None) × (plan ≡ plan_of (head_of h)) → IsPlanned now k w u plan q s v x result → IsTurned now k w u r s v x result
-lifted now k w u plan r q s v x result h p = lift now k w u h.0 r q s v x result h.1 h.2 (subst (λ (z : Plan). IsPlanned now k w u z q s v x result) h.3 p)
+pub lifted : (before after : World → World → Type 0) (now k : ℕ) (w u : World) (plan : Plan) (r q s v x : Option (List ℕ)) (result : Result Turned Stopped)
+    → (h : RequestHead) × TakesHead r q h × (refusal_of (head_of h) ≡ None) × (plan ≡ plan_of (head_of h)) → IsPlanned (λ asks. Carries before after asks now w u) now k w u plan q s v x result
+    → IsTurned (λ turns. CarriesAll before after now turns w u) now k w u r s v x result
+lifted before after now k w u plan r q s v x result h p =
+    lift before after now k w u h.0 r q s v x result h.1 h.2 (subst (λ (z : Plan). IsPlanned (λ asks. Carries before after asks now w u) now k w u z q s v x result) h.3 p)
 
 -- ---- without a head
 
@@ -181,21 +210,20 @@ closed_at : (now k : ℕ) (w : World) (r v x : Option (List ℕ)) (end : Finish)
 closed_at now k w None v x end h a = tt
 closed_at now k w (Some b) v x end h a = (last_response end, h, a)
 
-stopped_at : (now k : ℕ) (w : World) (r v x : Option (List ℕ)) (end : Finish) (f : Stopped) → IfSome r (λ bytes. IsEnd w bytes end (last_response end))
-    → f.acted ≡ false → f.is_fault ≡ is_unavailable end → WritesFront v x (last_response end)
-    → IfSome r (λ bytes. (begun : List ℕ) × IsBegun now k w bytes begun w f.acted f.is_fault × WritesFront v x begun)
-stopped_at now k w None v x end f h a b front = tt
-stopped_at now k w (Some c) v x end f h a b front = (
-  last_response end,
-  subst (λ (p : Bool). IsBegun now k w c (last_response end) w p f.is_fault) (sym a)
-      (subst (λ (p : Bool). IsBegun now k w c (last_response end) w false p) (sym b) (ended end (last_response end) h)),
-  front,
-)
+stopped_at : (k : ℕ) (w : World) (r v x : Option (List ℕ)) (end : Finish) (fault : Bool) → IfSome r (λ bytes. IsEnd w bytes end (last_response end)) → fault ≡ is_unavailable end
+    → WritesFront v x (last_response end) → IfSome r (λ bytes. (begun : List ℕ) × IsBegun k w bytes begun [] fault × WritesFront v x begun)
+stopped_at k w None v x end fault h b front = tt
+stopped_at k w (Some c) v x end fault h b front =
+    (last_response end, subst (λ (p : Bool). IsBegun k w c (last_response end) [] p) (sym b) (ended end (last_response end) h), front)
 
-pub turned_closed : (now k : ℕ) (w : World) (r s v x : Option (List ℕ)) (end : Finish) (result : Result Turned Stopped) → IfSome r (λ bytes. IsEnd w bytes end (last_response end))
-    → IsClosed end v x result → IsTurned now k w w r s v x result
-turned_closed now k w r s v x end (Ok t) h c = subst (λ (z : Turned). IsTurned now k w w r s v x (Ok z)) (sym c.0) (closed_at now k w r v x end h c.1, refl)
-turned_closed now k w r s v x end (Err f) h c = stopped_at now k w r v x end f h c.0 c.1 c.2
+-- nothing was done
+none_of : (f : Stopped) → f.acted ≡ false → ◌≡◌ {A = ℕ} (if f.acted then 1 else 0) 0
+none_of f a = ap (λ (b : Bool). if b then 1 else 0) a
+
+pub turned_closed : (left : List Turn → Type 0) (now k : ℕ) (w : World) (r s v x : Option (List ℕ)) (end : Finish) (result : Result Turned Stopped) → left []
+    → IfSome r (λ bytes. IsEnd w bytes end (last_response end)) → IsClosed end v x result → IsTurned left now k w w r s v x result
+turned_closed left now k w r s v x end (Ok t) l h c = subst (λ (z : Turned). IsTurned left now k w w r s v x (Ok z)) (sym c.0) (closed_at now k w r v x end h c.1, refl, l)
+turned_closed left now k w r s v x end (Err f) l h c = (worked_none now w w _ refl (none_of f c.0), l, stopped_at k w r v x end f.is_fault h c.1 c.2)
 
 pub end_no_head : (w : World) (r : Option (List ℕ)) (end : Finish) → IfSome r (λ bytes. EndsWithoutHead bytes end) → IfSome r (λ bytes. IsEnd w bytes end (last_response end))
 end_no_head w None end h = tt
@@ -210,9 +238,13 @@ pub end_unserved : (w : World) (r : Option (List ℕ)) → IfSome r (λ bytes. I
 end_unserved w None = tt
 end_unserved w (Some b) = unavailable
 
-pub turned_unread : (now k : ℕ) (w : World) (r s v : Option (List ℕ)) (f : Stopped) → f.acted ≡ false → f.is_fault ≡ false → IsTurned now k w w r s v v (Err f)
-turned_unread now k w None s v f a b = tt
-turned_unread now k w (Some bytes) s v f a b = ([], unacted (λ p q. IsBegun now k w bytes [] w p q) f a b nothing, front_all v v [] (Appends-nil v))
+unread_at : (k : ℕ) (w : World) (r v : Option (List ℕ)) (fault : Bool) → fault ≡ false → IfSome r (λ bytes. (begun : List ℕ) × IsBegun k w bytes begun [] fault × WritesFront v v begun)
+unread_at k w None v fault b = tt
+unread_at k w (Some bytes) v fault b = ([], subst (λ (p : Bool). IsBegun k w bytes [] [] p) (sym b) nothing, front_all v v [] (Appends-nil v))
+
+pub turned_unread : (left : List Turn → Type 0) (now k : ℕ) (w : World) (r s v : Option (List ℕ)) (f : Stopped) → left [] → f.acted ≡ false → f.is_fault ≡ false
+    → IsTurned left now k w w r s v v (Err f)
+turned_unread left now k w r s v f l a b = (worked_none now w w _ refl (none_of f a), l, unread_at k w r v f.is_fault b)
 
 pub body_as : (f : Framing) (raw a b : List ℕ) → IsBody f raw a → b ≡ a → IsBody f raw b
 body_as f raw a b h e = subst (λ (l : List ℕ). IsBody f raw l) (sym e) h
@@ -220,41 +252,9 @@ body_as f raw a b h e = subst (λ (l : List ℕ). IsBody f raw l) (sym e) h
 pub said_on : (v m x : Option (List ℕ)) (plan : Plan) → Appends v m (interim_response plan) → Appends m x [] → Appends v x (interim_response plan)
 said_on v m x plan a b = subst (λ (l : List ℕ). Appends v x l) (append-nil (interim_response plan)) (Appends-trans v m x (interim_response plan) [] a b)
 
-pub same_world : (now k : ℕ) (w u : World) (plan : Plan) (r s v x : Option (List ℕ)) (result : Result Turned Stopped) → u ≡ w → IsPlanned now k w w plan r s v x result → IsPlanned now k w u plan r s v x result
-same_world now k w u plan r s v x result e p = subst (λ (z : World). IsPlanned now k w z plan r s v x result) (sym e) p
-
--- ---- the world alone
-
--- an end acts on nothing
-pub closed_idle : (end : Finish) (v x : Option (List ℕ)) (result : Result Turned Stopped) → IsClosed end v x result → acted_in result ≡ false
-closed_idle end v x (Ok t) c = ap (λ (z : Turned). acted_in (Ok z)) c.0
-closed_idle end v x (Err f) c = c.0
+-- ---- faults
 
 -- an end that met no fault tells of none
 pub closed_faultless : (end : Finish) (v x : Option (List ℕ)) (result : Result Turned Stopped) → IsClosed end v x result → IsTurnFaultless result → is_unavailable end ≡ false
 closed_faultless end v x (Ok t) c faultless = subst (λ (z : Turned). IsTurnFaultless (Ok z)) c.0 faultless
 closed_faultless end v x (Err f) c faultless = sym c.1 ∙ faultless.0
-
-pub plan_idle : (is_left : (Event → Type 0) → Type 0) (now k : ℕ) (w u : World) (plan : Plan) (acted : Bool) → u ≡ w → acted ≡ false → is_left (λ e. ⊥)
-    → PlanWorks is_left now k w u plan acted
-plan_idle is_left now k w u plan acted e a left = inl (e, a, left)
-
-pub idle : (is_left : (Event → Type 0) → Type 0) (now : ℕ) (w : World) (acted : Bool) → acted ≡ false → is_left (λ e. ⊥) → Works is_left now w w acted
-idle is_left now w acted a left = inl (refl, a, left)
-
-pub plan_works : (is_left : (Event → Type 0) → Type 0) (now k : ℕ) (w u : World) (plan : Plan) (raw content bytes : List ℕ) (acted fault closes : Bool) → IsBody plan.framing raw content
-    → IsReply now w plan.target content closes fault bytes u → acted ≡ acts_on plan.target → closes ≡ (plan.closes || (k == last_request))
-    → is_left (λ e. AsksFor plan.target content (Some e)) → PlanWorks is_left now k w u plan acted
-plan_works is_left now k w u plan raw content bytes acted fault closes body reply acted_is closes_is left =
-    inr (fault, closes, raw, bytes, record { content = content; body = body; reply = reply; acted_is = acted_is; closes_is = closes_is }, left)
-
-lift_works : (is_left : (Event → Type 0) → Type 0) (now k : ℕ) (w u : World) (h : RequestHead) (r q : Option (List ℕ)) (acted : Bool) → TakesHead r q h → refusal_of (head_of h) ≡ None
-    → PlanWorks is_left now k w u (plan_of (head_of h)) acted → Works is_left now w u acted
-lift_works is_left now k w u h r q acted t passes (inl e) = inl e
-lift_works is_left now k w u h r q acted t passes (inr p) =
-    inr (made now k w u h acted p.0 p.1 p.2 p.3 p.4, made_is now k w u h acted p.0 p.1 p.2 p.3 r q t passes p.4, refl, p.4.acted_is, p.5)
-
-pub lifted_works : (is_left : (Event → Type 0) → Type 0) (now k : ℕ) (w u : World) (plan : Plan) (r q : Option (List ℕ)) (acted : Bool)
-    → (h : RequestHead) × TakesHead r q h × (refusal_of (head_of h) ≡ None) × (plan ≡ plan_of (head_of h)) → PlanWorks is_left now k w u plan acted → Works is_left now w u acted
-lifted_works is_left now k w u plan r q acted h p =
-    lift_works is_left now k w u h.0 r q acted h.1 h.2 (subst (λ (z : Plan). PlanWorks is_left now k w u z acted) h.3 p)

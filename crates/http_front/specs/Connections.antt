@@ -68,35 +68,37 @@ pub record Answers (now : ℕ) (w : World) (stream written : List ℕ) (u : Worl
   pub faults_are : faults ≡ bits (map flag_of turns ++ is_unavailable finish ∷ [])
 
 -- the answers to a stream, when they were broken off: the requests that were answered, whose answers were written whole, and what was
--- begun at the bytes behind them, of which a front was written
+-- begun at the bytes behind them, of which a front was written: perhaps the answer to one request more
 pub record Breaks (now : ℕ) (w : World) (stream written : List ℕ) (u : World) (acted faults : ℕ) : Type 0 where
   pub turns : List Turn
   pub rest : List ℕ
   pub begun : List ℕ
-  pub acted_last : Bool
+  pub broken : List Turn
   pub fault_last : Bool
   pub front : List ℕ
   pub unwritten : List ℕ
   pub stream_is : stream ≡ flat_map request_bytes turns ++ rest
   pub few : length turns < most_requests
-  pub are : AreTurns now w turns
+  pub are : AreTurns now w (turns ++ broken)
   pub goes_on : GoesOn 0 turns
-  pub begins : IsBegun now (length turns) (world_after w turns) rest begun u acted_last fault_last
+  pub begins : IsBegun (length turns) (world_after w turns) rest begun broken fault_last
+  pub world : u ≡ world_after w (turns ++ broken)
   pub settings : u.settings ≡ w.settings
   pub begun_is : begun ≡ front ++ unwritten
   pub written_is : written ≡ written_for 0 turns ++ front
-  pub acted_is : acted ≡ count_by acts turns + (if acted_last then 1 else 0)
+  pub acted_is : acted ≡ count_by acts (turns ++ broken)
   pub faults_are : faults ≡ bits (map flag_of turns ++ fault_last ∷ [])
 
--- where the reader tells its bytes, a connection was served: from the world w to u, and the writer's bytes from v to x
-abbrev pub IsServed : ℕ → World → World → Option (List ℕ) → Option (List ℕ) → Option (List ℕ) → Served → Type 0
-IsServed now w u r v x served =
-    IfSome r (λ stream. (written : List ℕ) × Appends v x written × Answers now w stream written u served.acted served.faults served.end)
+-- where the reader tells its bytes, a connection was served: from the world w to u, and the writer's bytes from v to x; and this is left by the
+-- requests that were answered
+abbrev pub IsServed : (List Turn → Type 0) → ℕ → World → World → Option (List ℕ) → Option (List ℕ) → Option (List ℕ) → Served → Type 0
+IsServed left now w u r v x served =
+    IfSome r (λ stream. (written : List ℕ) × Appends v x written × (a : Answers now w stream written u served.acted served.faults served.end) × left a.turns)
 
--- it was broken off
-abbrev pub IsStopped : ℕ → World → World → Option (List ℕ) → Option (List ℕ) → Option (List ℕ) → ServeFault → Type 0
-IsStopped now w u r v x fault =
-    IfSome r (λ stream. (written : List ℕ) × Appends v x written × Breaks now w stream written u fault.acted fault.faults)
+-- it was broken off; and this is left by the requests that were answered, and the one whose answer was begun, if one was
+abbrev pub IsStopped : (List Turn → Type 0) → ℕ → World → World → Option (List ℕ) → Option (List ℕ) → Option (List ℕ) → ServeFault → Type 0
+IsStopped left now w u r v x fault =
+    IfSome r (λ stream. (written : List ℕ) × Appends v x written × (b : Breaks now w stream written u fault.acted fault.faults) × left (b.turns ++ b.broken))
 
 -- ---- whatever the bytes were
 

@@ -1,7 +1,6 @@
 -- What requests leave, where a crash may come at any moment.
 use Rattle.std.specs.Prelude.{◌≡◌, ◌⊎◌, ℕ, List, [], ◌∷◌, Some, Result, Ok, Err}
 use Rattle.queue_types.specs.Event.{Event}
-use Rattle.queue_core.specs.Crash.{Leaves}
 use Rattle.queue_core.specs.Machine.{step}
 use Rattle.queue_core.specs.World.{World}
 use Rattle.http_head.specs.declared.target.Target.{Target}
@@ -10,10 +9,6 @@ use Rattle.http_front.specs.Turns.{Turn, plan}
 use Rattle.http_front.specs.declared.outcome.Replied.{Replied}
 use Rattle.http_front.specs.declared.outcome.Replied.TheVariants.{Answered, Declined}
 use Rattle.http_front.specs.declared.outcome.Stopped.{Stopped}
-
--- what a crash leaves beside the queue w, before a request, comes to what it leaves beside u, after it
-abbrev pub Carries : (World → World → Type 0) → (World → World → Type 0) → (Event → Type 0) → ℕ → World → World → Type 0
-Carries before after asks now w u = (v : World) → before w v → (x : World) × after u x × Leaves asks now w v u x
 
 -- the event that a whole request asks for; one that is declined asks for none
 abbrev pub AsksUnlessDeclined : Target → List ℕ → Result Replied Stopped → Event → Type 0
@@ -27,19 +22,19 @@ AsksUnlessDeclined target content (Err stopped) e = AsksFor target content (Some
 abbrev pub AsksIn : Turn → Event → Type 0
 AsksIn t e = AsksFor (plan t).target t.content (Some e)
 
--- one of the requests does
-abbrev pub IsAskedIn : List Turn → Event → Type 0
-IsAskedIn [] e = ⊥
-IsAskedIn (t ∷ ts) e = AsksIn t e ⊎ IsAskedIn ts e
+-- one of these requests, which made u of the queue w, does; and the queue was u before it already
+abbrev pub IsAskedIn : World → List Turn → World → Event → Type 0
+IsAskedIn w [] u e = ⊥
+IsAskedIn w (t ∷ ts) u e = (AsksIn t e × (u ≡ w)) ⊎ IsAskedIn t.after ts u e
 
--- x is the queue u, or what the event of one of these requests makes of it
-abbrev pub IsAtMostOneMore : ℕ → List Turn → World → World → Type 0
-IsAtMostOneMore now turns u x = (x ≡ u) ⊎ ((e : Event) × IsAskedIn turns e × (x ≡ (step u now e).world))
+-- x is the queue u, or what the event makes of it that one of these requests asked for
+abbrev pub IsAtMostOneMore : ℕ → World → List Turn → World → World → Type 0
+IsAtMostOneMore now w turns u x = (x ≡ u) ⊎ ((e : Event) × IsAskedIn w turns u e × (x ≡ (step u now e).world))
 
 -- behind these requests, which made u of the queue w: nothing was done, and a crash leaves what it left before; or it leaves u, or what the event of
 -- one of them makes of u
 abbrev pub IsLeft : ℕ → List Turn → World → World → World → World → Type 0
-IsLeft now turns w v u x = ((u ≡ w) × (x ≡ v)) ⊎ IsAtMostOneMore now turns u x
+IsLeft now turns w v u x = ((u ≡ w) × (x ≡ v)) ⊎ IsAtMostOneMore now w turns u x
 
 -- what a crash leaves beside w, before these requests, comes to what it leaves beside u, after them
 abbrev pub CarriesAll : (World → World → Type 0) → (World → World → Type 0) → ℕ → List Turn → World → World → Type 0

@@ -1,5 +1,5 @@
 -- Where a connection may end, and what is written then.
-use Rattle.std.specs.Prelude.{◌≡◌, ◌<◌, Bool, false, ℕ, List, [], ◌++◌, length, None, Some}
+use Rattle.std.specs.Prelude.{◌≡◌, ◌<◌, Bool, false, ℕ, List, [], ◌∷◌, ◌++◌, length, None, Some}
 use Rattle.httparse.specs.Grammar.{RequestHead}
 use Rattle.queue_core.specs.World.{World}
 use Rattle.http_head.specs.Head.{BeginsHead, EndsWithoutHead}
@@ -13,7 +13,7 @@ use Rattle.http_head.specs.declared.end.Refusal.{Refusal}
 use Rattle.http_head.specs.declared.end.Refusal.TheVariants.{BadRequest, NotFound, ServiceUnavailable}
 use Rattle.http_head.specs.declared.target.Target.{Target}
 use Rattle.http_head.specs.declared.target.Target.TheVariants.{Ipp, Report, Queue, Document as DocumentTarget}
-use Rattle.http_front.specs.Turns.{Turn, IsTurn, document_named, acts, answer_bytes, request_bytes}
+use Rattle.http_front.specs.Turns.{Turn, document_named, answer_bytes, request_bytes}
 
 -- a whole request that has no success: a message without room for its head, or a document that isn't there
 abbrev pub Declines : World → Target → List ℕ → Refusal → Type 0
@@ -41,15 +41,14 @@ pub data IsEnd (w : World) (bytes : List ℕ) : Finish → List ℕ → Type 0 w
   unavailable_later : (h : RequestHead) (rest : List ℕ) → BeginsHead bytes h rest → refusal_of (head_of h) ≡ None
       → IsEnd w bytes (Refused ServiceUnavailable) (interim_response (plan_of (head_of h)) ++ refusal_response ServiceUnavailable)
 
--- what may have been begun at these bytes, as request k, when a read, a write or the book failed: what was to be written, the world after it,
--- and whether a request has acted and was answered by a fault
-pub data IsBegun (now k : ℕ) (w : World) (bytes : List ℕ) : List ℕ → World → Bool → Bool → Type 0 where
-  nothing : IsBegun now k w bytes [] w false false
+-- what may have been begun at these bytes, as request k, when a read, a write or the book failed: what was to be written, the request that it
+-- answers, if one, and whether it tells of a fault
+pub data IsBegun (k : ℕ) (w : World) (bytes : List ℕ) : List ℕ → List Turn → Bool → Type 0 where
+  nothing : IsBegun k w bytes [] [] false
   -- the response before the body
   interim : (h : RequestHead) (rest : List ℕ) → BeginsHead bytes h rest → refusal_of (head_of h) ≡ None
-      → IsBegun now k w bytes (interim_response (plan_of (head_of h))) w false false
+      → IsBegun k w bytes (interim_response (plan_of (head_of h))) [] false
   -- an answer
-  answered : (t : Turn) (rest : List ℕ) → bytes ≡ request_bytes t ++ rest → IsTurn now w t
-      → IsBegun now k w bytes (answer_bytes k t) t.after (acts t) t.is_fault
+  answered : (t : Turn) (rest : List ℕ) → bytes ≡ request_bytes t ++ rest → IsBegun k w bytes (answer_bytes k t) (t ∷ []) t.is_fault
   -- an end
-  ended : (end : Finish) (last : List ℕ) → IsEnd w bytes end last → IsBegun now k w bytes last w false (is_unavailable end)
+  ended : (end : Finish) (last : List ℕ) → IsEnd w bytes end last → IsBegun k w bytes last [] (is_unavailable end)

@@ -1,5 +1,5 @@
 -- What the turns of a connection are to the machine: places of a run.
-use Rattle.std.specs.Prelude.{◌≡◌, ◌⊎◌, ℕ, List, [], ◌∷◌, ◌++◌, Option, None, MatchBool}
+use Rattle.std.specs.Prelude.{◌≡◌, ℕ, List, [], ◌∷◌, Option, None, MatchBool}
 use Rattle.queue_types.specs.Event.{Event}
 use Rattle.queue_core.specs.Runs.{Place, IsPlace, after}
 use Rattle.queue_core.specs.World.{World}
@@ -7,8 +7,7 @@ use Rattle.ipp_ops.specs.Answer.{Asks}
 use Rattle.device_lines.specs.Reports.{Tells}
 use Rattle.http_head.specs.declared.target.Target.{Target}
 use Rattle.http_head.specs.declared.target.Target.TheVariants.{Ipp, Report, Queue, Document as DocumentTarget}
-use Rattle.http_front.specs.Turns.{Turn, IsTurn, plan}
-use Rattle.http_front.specs.Connections.{world_after}
+use Rattle.http_front.specs.Turns.{Turn, plan}
 
 -- what a request asks of the machine: its event, or nothing where it is refused or only reads
 abbrev pub AsksFor : Target → List ℕ → Option Event → Type 0
@@ -28,12 +27,3 @@ pub record IsPlaceOf (now : ℕ) (w : World) (t : Turn) (p : Place) : Type 0 whe
 abbrev pub ArePlacesOf : ℕ → World → List Turn → List Place → Type 0
 ArePlacesOf now w [] ps = ps ≡ []
 ArePlacesOf now w (t ∷ ts) ps = (p : Place) × (rest : List Place) × (ps ≡ p ∷ rest) × IsPlaceOf now w t p × ArePlacesOf now t.after ts rest
-
--- behind the turns that were answered whole, u is the world still; or one more was taken, and u is the world after it
-abbrev pub IsLast : ℕ → World → World → List Place → Type 0
-IsLast now w u ps = ((ps ≡ []) × (u ≡ w)) ⊎ ((t : Turn) × (p : Place) × (ps ≡ p ∷ []) × IsTurn now w t × IsPlaceOf now w t p × (u ≡ t.after))
-
--- the places of a connection that was broken off: those of its turns, and of the one whose answer was broken off
-abbrev pub AreBrokenPlaces : ℕ → World → World → List Turn → List Place → Type 0
-AreBrokenPlaces now w u ts ps = (front : List Place) × (last : List Place) × (ps ≡ front ++ last)
-    × ArePlacesOf now w ts front × IsLast now (world_after w ts) u last

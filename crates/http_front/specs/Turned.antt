@@ -1,5 +1,5 @@
 -- What the parts of one turn leave: of the bytes, of what is written, and of the world.
-use Rattle.std.specs.Prelude.{◌≡◌, ◌≢◌, ◌<◌, ◌⊎◌, ◌==◌, ◌||◌, Bool, false, ℕ, List, [], ◌++◌, Option, Some, IfSome, Result, Ok, Err, ⊤}
+use Rattle.std.specs.Prelude.{◌≡◌, ◌≢◌, ◌<◌, ◌⊎◌, ◌==◌, ◌||◌, Bool, false, ℕ, List, [], ◌∷◌, ◌++◌, Option, Some, IfSome, Result, Ok, Err, if◌then◌else◌, ⊤}
 use Rattle.std.specs.Io.KnownBytes.{Appends, Consumes}
 use Rattle.queue_core.specs.World.{World}
 use Rattle.http_wire.specs.Bodies.{IsBody, EndsInBody}
@@ -12,10 +12,10 @@ use Rattle.http_head.specs.declared.end.Refusal.TheVariants.{ServiceUnavailable}
 use Rattle.http_head.specs.declared.plan.Plan.{Plan}
 use Rattle.http_head.specs.declared.target.Target.{Target}
 use Rattle.queue_types.specs.Event.{Event}
-use Rattle.http_front.specs.Crash.{AsksIn}
 use Rattle.http_front.specs.Places.{AsksFor}
 use Rattle.http_front.specs.Turns.{Turn, IsTurn, IsAnswered, acts, acts_on, closes_at, last_request, answer_bytes, request_bytes}
 use Rattle.http_front.specs.Ends.{Declines, IsEnd, IsBegun}
+use Rattle.http_front.specs.Connections.{Worked}
 use Rattle.http_front.specs.declared.outcome.Replied.{Replied}
 use Rattle.http_front.specs.declared.outcome.Replied.TheVariants.{Answered as ReplyAnswered, Declined as ReplyDeclined}
 use Rattle.http_front.specs.declared.outcome.Turned.{Turned}
@@ -68,62 +68,45 @@ pub record IsPlanTurn (now k : ℕ) (w u : World) (plan : Plan) (acted fault clo
   pub acted_is : acted ≡ acts_on plan.target
   pub closes_is : closes ≡ (plan.closes || (k == last_request))
 
--- what may have been begun behind a head with that plan
-pub data IsPlanBegun (now k : ℕ) (w u : World) (plan : Plan) (bytes : List ℕ) : List ℕ → Bool → Bool → Type 0 where
-  interim : u ≡ w → IsPlanBegun now k w u plan bytes (interim_response plan) false false
-  answered : (acted fault closes : Bool) (raw rest out : List ℕ) → bytes ≡ raw ++ rest → IsPlanTurn now k w u plan acted fault closes raw out
-      → IsPlanBegun now k w u plan bytes (interim_response plan ++ out) acted fault
-  ended : (end : Finish) → IsPlanEnd w plan bytes end → u ≡ w
-      → IsPlanBegun now k w u plan bytes (interim_response plan ++ last_response end) false (is_unavailable end)
+-- what may have been begun behind a head with that plan, whose bytes went from r to s; and this is left for the events that were asked
+pub data IsPlanBegun (is_left : (Event → Type 0) → Type 0) (now k : ℕ) (w u : World) (plan : Plan) (r s : Option (List ℕ)) : List ℕ → Bool → Bool → Type 0 where
+  interim : u ≡ w → is_left (λ e. ⊥) → IsPlanBegun is_left now k w u plan r s (interim_response plan) false false
+  answered : (acted fault closes : Bool) (raw out : List ℕ) → Consumes r s raw → (t : IsPlanTurn now k w u plan acted fault closes raw out)
+      → is_left (λ e. AsksFor plan.target t.content (Some e)) → IsPlanBegun is_left now k w u plan r s (interim_response plan ++ out) acted fault
+  ended : (end : Finish) → IfSome r (λ bytes. IsPlanEnd w plan bytes end) → u ≡ w → is_left (λ e. ⊥)
+      → IsPlanBegun is_left now k w u plan r s (interim_response plan ++ last_response end) false (is_unavailable end)
 
--- what a turn leaves behind its head
-abbrev pub IsPlanned : ℕ → ℕ → World → World → Plan → Option (List ℕ) → Option (List ℕ) → Option (List ℕ) → Option (List ℕ)
+-- what a turn leaves behind its head; and this is left for the events that were asked
+abbrev pub IsPlanned : ((Event → Type 0) → Type 0) → ℕ → ℕ → World → World → Plan → Option (List ℕ) → Option (List ℕ) → Option (List ℕ) → Option (List ℕ)
     → Result Turned Stopped → Type 0
-IsPlanned now k w u plan r s v x (Ok (Answered acted fault closes)) =
-    (raw : List ℕ) × (bytes : List ℕ) × IsPlanTurn now k w u plan acted fault closes raw bytes × Consumes r s raw × Appends v x (interim_response plan ++ bytes)
-IsPlanned now k w u plan r s v x (Ok (Ended end)) =
-    IfSome r (λ bytes. IsPlanEnd w plan bytes end) × Appends v x (interim_response plan ++ last_response end) × (u ≡ w)
-IsPlanned now k w u plan r s v x (Err f) =
-    IfSome r (λ bytes. (begun : List ℕ) × IsPlanBegun now k w u plan bytes begun f.acted f.is_fault × WritesFront v x begun)
+IsPlanned is_left now k w u plan r s v x (Ok (Answered acted fault closes)) =
+    (raw : List ℕ) × (bytes : List ℕ) × (t : IsPlanTurn now k w u plan acted fault closes raw bytes) × Consumes r s raw × Appends v x (interim_response plan ++ bytes)
+    × is_left (λ e. AsksFor plan.target t.content (Some e))
+IsPlanned is_left now k w u plan r s v x (Ok (Ended end)) =
+    IfSome r (λ bytes. IsPlanEnd w plan bytes end) × Appends v x (interim_response plan ++ last_response end) × (u ≡ w) × is_left (λ e. ⊥)
+IsPlanned is_left now k w u plan r s v x (Err f) =
+    (begun : List ℕ) × IsPlanBegun is_left now k w u plan r s begun f.acted f.is_fault × WritesFront v x begun
 
 -- ---- one turn
 
--- what one turn leaves: from the bytes r, the writer's bytes v and the world w to s, x and u
-abbrev pub IsTurned : ℕ → ℕ → World → World → Option (List ℕ) → Option (List ℕ) → Option (List ℕ) → Option (List ℕ)
+-- what one turn leaves: from the bytes r, the writer's bytes v and the world w to s, x and u; and this is left by the request that was
+-- answered, if one was
+abbrev pub IsTurned : (List Turn → Type 0) → ℕ → ℕ → World → World → Option (List ℕ) → Option (List ℕ) → Option (List ℕ) → Option (List ℕ)
     → Result Turned Stopped → Type 0
-IsTurned now k w u r s v x (Ok (Answered acted fault closes)) =
+IsTurned left now k w u r s v x (Ok (Answered acted fault closes)) =
     (t : Turn) × IsTurn now w t × (acted ≡ acts t) × (fault ≡ t.is_fault) × (closes ≡ closes_at k t)
-    × Consumes r s (request_bytes t) × Appends v x (answer_bytes k t) × (u ≡ t.after)
-IsTurned now k w u r s v x (Ok (Ended end)) =
-    IfSome r (λ bytes. (last : List ℕ) × IsEnd w bytes end last × Appends v x last) × (u ≡ w)
-IsTurned now k w u r s v x (Err f) =
-    IfSome r (λ bytes. (begun : List ℕ) × IsBegun now k w bytes begun u f.acted f.is_fault × WritesFront v x begun)
+    × Consumes r s (request_bytes t) × Appends v x (answer_bytes k t) × (u ≡ t.after) × left (t ∷ [])
+IsTurned left now k w u r s v x (Ok (Ended end)) =
+    IfSome r (λ bytes. (last : List ℕ) × IsEnd w bytes end last × Appends v x last) × (u ≡ w) × left []
+IsTurned left now k w u r s v x (Err f) =
+    (one : Worked 1 now w u (if f.acted then 1 else 0)) × left one.turns
+    × IfSome r (λ bytes. (begun : List ℕ) × IsBegun k w bytes begun one.turns f.is_fault × WritesFront v x begun)
 
 -- the last request that a connection may have ends it
 abbrev pub ClosesLast : ℕ → Result Turned Stopped → Type 0
 ClosesLast k (Ok (Answered acted fault closes)) = closes ≡ false → k < last_request
 ClosesLast k (Ok (Ended end)) = ⊤
 ClosesLast k (Err f) = ⊤
-
--- ---- the world alone, whatever the bytes were
-
--- how many requests of a turn have acted, if one
-abbrev pub acted_in : Result Turned Stopped → Bool
-acted_in (Ok (Answered acted fault closes)) = acted
-acted_in (Ok (Ended end)) = false
-acted_in (Err f) = f.acted
-
--- behind a head with that plan nothing was changed, or a request was answered; and this is left for the events that were asked
-abbrev pub PlanWorks : ((Event → Type 0) → Type 0) → ℕ → ℕ → World → World → Plan → Bool → Type 0
-PlanWorks is_left now k w u plan acted =
-    ((u ≡ w) × (acted ≡ false) × is_left (λ e. ⊥))
-    ⊎ ((fault : Bool) × (closes : Bool) × (raw : List ℕ) × (bytes : List ℕ) × (t : IsPlanTurn now k w u plan acted fault closes raw bytes)
-    × is_left (λ e. AsksFor plan.target t.content (Some e)))
-
--- nothing was changed, or a request was answered; and this is left for the events that were asked
-abbrev pub Works : ((Event → Type 0) → Type 0) → ℕ → World → World → Bool → Type 0
-Works is_left now w u acted =
-    ((u ≡ w) × (acted ≡ false) × is_left (λ e. ⊥)) ⊎ ((t : Turn) × IsTurn now w t × (u ≡ t.after) × (acted ≡ acts t) × is_left (AsksIn t))
 
 -- ---- faults
 

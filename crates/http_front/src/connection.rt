@@ -45,10 +45,12 @@ fn run<R: Read, W: Write, B: QueueBook>(
     ensures began { B.is_honest book.new → B.is_honest book.old }
     ensures served { B.is_honest book.new → IfOk result (λ served. (w : World) → B.stands book.old w → context.entry.settings.now ≡ w.settings
         → (u : World) × B.stands book.new u
-        × IsServed context.entry.moment w u (left input.old.buffer (R.remaining input.old.reader)) (W.contents writer.old) (W.contents writer.new) served) }
+        × IsServed (λ turns. CarriesAll (B.crash_leaves book.old) (B.crash_leaves book.new) context.entry.moment turns w u)
+        context.entry.moment w u (left input.old.buffer (R.remaining input.old.reader)) (W.contents writer.old) (W.contents writer.new) served) }
     ensures broken { B.is_honest book.new → IfErr result (λ fault. (w : World) → B.stands book.old w → context.entry.settings.now ≡ w.settings
         → (u : World) × B.stands book.new u
-        × IsStopped context.entry.moment w u (left input.old.buffer (R.remaining input.old.reader)) (W.contents writer.old) (W.contents writer.new) fault) }
+        × IsStopped (λ turns. CarriesAll (B.crash_leaves book.old) (B.crash_leaves book.new) context.entry.moment turns w u)
+        context.entry.moment w u (left input.old.buffer (R.remaining input.old.reader)) (W.contents writer.old) (W.contents writer.new) fault) }
     ensures worked { B.is_honest book.new → (w : World) → B.stands book.old w → context.entry.settings.now ≡ w.settings
         → (u : World) × B.stands book.new u × (k : Worked most_requests context.entry.moment w u (acted_of result))
         × CarriesAll (B.crash_leaves book.old) (B.crash_leaves book.new) context.entry.moment k.turns w u }
@@ -104,6 +106,8 @@ fn run<R: Read, W: Write, B: QueueBook>(
 /// It is an error where a read or a write fails, or the book fails inside a document whose head was written. The answers before it were
 /// written whole, and of what was begun then a front; a request that acted before its answer's writing failed has acted.
 ///
+/// It flushes nothing: what is written has to reach the client by itself, as through a socket.
+///
 /// Of a reader that does not tell its bytes, as a socket, this is known: the queue is what at most 32 requests, answered one after
 /// another, made of it.
 pub fn serve<R: Read, W: Write, B: QueueBook>(
@@ -116,18 +120,22 @@ pub fn serve<R: Read, W: Write, B: QueueBook>(
 ) -> Result<Served, ServeFault>
     requires { IsMoment now }
     ensures began { B.is_honest book.new → B.is_honest book.old }
+    // what was answered, what was written, and what a crash leaves for the requests in those bytes
     ensures served { B.is_honest book.new → IfOk result (λ served. (w : World) → B.stands book.old w → settings.now ≡ w.settings
         → (u : World) × B.stands book.new u
-        × IsServed now w u (R.remaining reader.old) (W.contents writer.old) (W.contents writer.new) served) }
+        × IsServed (λ turns. CarriesAll (B.crash_leaves book.old) (B.crash_leaves book.new) now turns w u)
+        now w u (R.remaining reader.old) (W.contents writer.old) (W.contents writer.new) served) }
     ensures broken { B.is_honest book.new → IfErr result (λ fault. (w : World) → B.stands book.old w → settings.now ≡ w.settings
         → (u : World) × B.stands book.new u
-        × IsStopped now w u (R.remaining reader.old) (W.contents writer.old) (W.contents writer.new) fault) }
+        × IsStopped (λ turns. CarriesAll (B.crash_leaves book.old) (B.crash_leaves book.new) now turns w u)
+        now w u (R.remaining reader.old) (W.contents writer.old) (W.contents writer.new) fault) }
     ensures worked { B.is_honest book.new → (w : World) → B.stands book.old w → settings.now ≡ w.settings
         → (u : World) × B.stands book.new u × Worked most_requests now w u (acted_of result) }
-    // a crash at any moment leaves the queue that the book stands for, or what the event of one of the requests makes of it
+    // a crash at any moment leaves the queue that the book stands for, or what the event of one of the requests makes of it, before which the queue was
+    // that already
     ensures crash { B.is_honest book.new → B.is_live book.old → (w : World) → B.stands book.old w → settings.now ≡ w.settings
         → (u x : World) × B.stands book.new u × (k : Worked most_requests now w u (acted_of result))
-        × B.crash_leaves book.new u x × IsAtMostOneMore now k.turns u x }
+        × B.crash_leaves book.new u x × IsAtMostOneMore now w k.turns u x }
     // also over a book that was shut before, where it is known what a crash left then
     ensures left { B.is_honest book.new → (w : World) → B.stands book.old w → settings.now ≡ w.settings
         → (u : World) × B.stands book.new u × (k : Worked most_requests now w u (acted_of result))

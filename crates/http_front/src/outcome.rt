@@ -3,6 +3,7 @@ ghost use Rattle.std.specs.Prelude.{◌≡◌, false};
 ghost use Rattle.http_front.specs.declared.outcome.ServeCause.TheVariants as causes;
 
 use http_head::end::{End, Finish, Refusal, WriteFault};
+use thiserror::Error;
 
 /// What a connection came to.
 #[derive(Clone, Copy, Debug, PartialEq, Eq)]
@@ -16,18 +17,22 @@ pub struct Served {
 }
 
 /// What stopped a connection.
-#[derive(Clone, Copy, Debug, PartialEq, Eq)]
+#[derive(Clone, Copy, Debug, PartialEq, Eq, Error)]
 pub enum ServeCause {
     /// A read failed.
+    #[error("a read failed")]
     Read,
     /// A write failed.
+    #[error("a write failed")]
     Write,
     /// The book failed inside a document whose head was written.
+    #[error("the book failed inside a document")]
     Book,
 }
 
 /// A connection that was stopped.
-#[derive(Clone, Copy, Debug, PartialEq, Eq)]
+#[derive(Clone, Copy, Debug, PartialEq, Eq, Error)]
+#[error("{cause}")]
 pub struct ServeFault {
     /// As in [`Served`], the request whose answer could not be written included.
     pub acted: u32,

@@ -1,8 +1,9 @@
 //! The answer to one whole request.
 ghost use Rattle.std.specs.Prelude.{◌≡◌, ◌≢◌, ◌≤◌, ℕ, List, false, length};
+ghost use Rattle.queue_core.specs.Crash.{Carries};
 ghost use Rattle.queue_core.specs.Limits.{IsMoment};
 ghost use Rattle.queue_core.specs.World.{World};
-ghost use Rattle.http_front.specs.Crash.{AsksUnlessDeclined, Carries};
+ghost use Rattle.http_front.specs.Crash.{AsksUnlessDeclined};
 ghost use Rattle.http_front.specs.Turned.{IsReplied, IsReplyFaultless};
 ghost use Rattle.http_head.specs.declared.target.Target.TheVariants.{Ipp, Report, Queue, Document};
 
@@ -156,7 +157,9 @@ fn reply_document<W: Write, B: QueueBook>(
     };
     send_head(writer, head.format.name(), head.octets, closes)?;
     match book.send_document(job, number, writer) {
-        Ok(_) => Ok(Replied::Answered(false)),
+        Ok(sent) if sent == head.octets => Ok(Replied::Answered(false)),
+        // the length that the head tells isn't kept, as of a book that isn't honest
+        Ok(_) => Err(stopped_by(ServeCause::Book)),
         Err(fault) => Err(stopped_by(cause_of(fault.cause))),
     }
 }

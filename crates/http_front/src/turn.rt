@@ -1,14 +1,15 @@
 //! One request and its answer.
 ghost use Rattle.std.specs.Prelude.{◌≡◌, ◌≤◌, ◌==◌, ◌||◌};
 ghost use Rattle.std.specs.Option.{ForSome};
+ghost use Rattle.queue_core.specs.Crash.{Carries};
 ghost use Rattle.queue_core.specs.Limits.{IsMoment};
 ghost use Rattle.queue_core.specs.World.{World};
 ghost use Rattle.http_head.specs.Framing.{size_of};
 ghost use Rattle.http_head.specs.Left.{left};
 ghost use Rattle.http_head.specs.Routes.{routes};
-ghost use Rattle.http_front.specs.Crash.{Carries};
+ghost use Rattle.http_front.specs.Crash.{CarriesAll};
 ghost use Rattle.http_front.specs.Turns.{acts_on, last_request};
-ghost use Rattle.http_front.specs.Turned.{IsClosed, IsPlanned, IsTurnFaultless, IsTurned, ClosesLast, PlanWorks, Works, acted_in};
+ghost use Rattle.http_front.specs.Turned.{IsClosed, IsPlanned, IsTurnFaultless, IsTurned, ClosesLast};
 
 use crate::context::Context;
 use crate::outcome::{Replied, ServeCause, Stopped, Turned};
@@ -76,11 +77,9 @@ fn take_planned<R: Read, W: Write, B: QueueBook>(
     ensures began { B.is_honest book.new → B.is_honest book.old }
     ensures planned { B.is_honest book.new → (w : World) → B.stands book.old w → context.entry.settings.now ≡ w.settings
         → (u : World) × B.stands book.new u
-        × IsPlanned context.entry.moment k w u plan (left input.old.buffer (R.remaining input.old.reader)) (left input.new.buffer (R.remaining input.new.reader))
+        × IsPlanned (λ asks. Carries (B.crash_leaves book.old) (B.crash_leaves book.new) asks context.entry.moment w u)
+        context.entry.moment k w u plan (left input.old.buffer (R.remaining input.old.reader)) (left input.new.buffer (R.remaining input.new.reader))
         (W.contents writer.old) (W.contents writer.new) result }
-    ensures worked { B.is_honest book.new → (w : World) → B.stands book.old w → context.entry.settings.now ≡ w.settings
-        → (u : World) × B.stands book.new u × PlanWorks (λ asks. Carries (B.crash_leaves book.old) (B.crash_leaves book.new) asks context.entry.moment w u)
-        context.entry.moment k w u plan (acted_in result) }
     ensures last { ClosesLast k result }
     // what shuts a book is answered as a fault, or breaks a document off
     ensures live { B.is_honest book.new → B.is_live book.old → IsTurnFaultless result → B.is_live book.new }
@@ -129,11 +128,9 @@ pub fn turn<R: Read, W: Write, B: QueueBook>(
     ensures began { B.is_honest book.new → B.is_honest book.old }
     ensures turned { B.is_honest book.new → (w : World) → B.stands book.old w → context.entry.settings.now ≡ w.settings
         → (u : World) × B.stands book.new u
-        × IsTurned context.entry.moment k w u (left input.old.buffer (R.remaining input.old.reader)) (left input.new.buffer (R.remaining input.new.reader))
+        × IsTurned (λ turns. CarriesAll (B.crash_leaves book.old) (B.crash_leaves book.new) context.entry.moment turns w u)
+        context.entry.moment k w u (left input.old.buffer (R.remaining input.old.reader)) (left input.new.buffer (R.remaining input.new.reader))
         (W.contents writer.old) (W.contents writer.new) result }
-    ensures worked { B.is_honest book.new → (w : World) → B.stands book.old w → context.entry.settings.now ≡ w.settings
-        → (u : World) × B.stands book.new u × Works (λ asks. Carries (B.crash_leaves book.old) (B.crash_leaves book.new) asks context.entry.moment w u)
-        context.entry.moment w u (acted_in result) }
     ensures last { ClosesLast k result }
     // what shuts a book is answered as a fault, or breaks a document off
     ensures live { B.is_honest book.new → B.is_live book.old → IsTurnFaultless result → B.is_live book.new }

@@ -41,14 +41,14 @@ left_one w u x (inl e) = inl (e.1 ∙ sym e.0)
 left_one w u x (inr h) = h
 
 -- it grants nothing and changes no settings
-pub left_grants : ((now : ℕ) (turns : List Turn) (u x : World) → IsOneMoreOf now turns u x → x.grants ≡ u.grants) → (u x : World) → IsAtMostOneMore u x → x.grants ≡ u.grants
+pub left_grants : ((now : ℕ) (w : World) (turns : List Turn) (u x : World) → IsOneMoreOf now w turns u x → x.grants ≡ u.grants) → (u x : World) → IsAtMostOneMore u x → x.grants ≡ u.grants
 left_grants one u x (inl e) = ap (λ (z : World). z.grants) e
-left_grants one u x (inr h) = one h.2.now h.2.worked.turns u x h.3
+left_grants one u x (inr h) = one h.2.now h.0 h.2.worked.turns u x h.3
 
-more_settings : (now : ℕ) (turns : List Turn) (u x : World) → IsOneMoreOf now turns u x → x.settings ≡ u.settings
-more_settings now turns u x (inl e) = ap (λ (z : World). z.settings) e
-more_settings now turns u x (inr h) = ap (λ (z : World). z.settings) h.2
+more_settings : (now : ℕ) (w : World) (turns : List Turn) (u x : World) → IsOneMoreOf now w turns u x → x.settings ≡ u.settings
+more_settings now w turns u x (inl e) = ap (λ (z : World). z.settings) e
+more_settings now w turns u x (inr h) = ap (λ (z : World). z.settings) h.2
 
 pub left_settings : (u x : World) → IsAtMostOneMore u x → x.settings ≡ u.settings
 left_settings u x (inl e) = ap (λ (z : World). z.settings) e
-left_settings u x (inr h) = more_settings h.2.now h.2.worked.turns u x h.3
+left_settings u x (inr h) = more_settings h.2.now h.0 h.2.worked.turns u x h.3

@@ -23,7 +23,7 @@ connections_run one joined w u (acted ∷ rest) are =
     )
 
 -- what a crash leaves behind a run is a run
-pub left_run : ((now : ℕ) (w u x : World) (acted : ℕ) → IsMoment now → (k : Worked most_requests now w u acted) → IsOneMoreOf now k.turns u x → (ps : List Place) × Each IsPlace ps × (x ≡ run u ps))
+pub left_run : ((now : ℕ) (w u x : World) (acted : ℕ) → IsMoment now → (k : Worked most_requests now w u acted) → IsOneMoreOf now w k.turns u x → (ps : List Place) × Each IsPlace ps × (x ≡ run u ps))
     → ((w : World) (ps qs : List Place) → run w (ps ++ qs) ≡ run (run w ps) qs)
     → (w u x : World) (ps : List Place) → Each IsPlace ps → u ≡ run w ps → IsAtMostOneMore u x → (qs : List Place) × Each IsPlace qs × (x ≡ run w qs)
 left_run one joined w u x ps places is (inl e) = (ps, places, e ∙ is)

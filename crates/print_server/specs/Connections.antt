@@ -46,7 +46,7 @@ has_fault (Err fault) = not (fault.faults == 0) || is_of_book fault.cause
 
 -- x is the queue u, or what the event of a request makes of it, of the connection that made u and at its moment
 abbrev pub IsAtMostOneMore : World → World → Type 0
-IsAtMostOneMore u x = (x ≡ u) ⊎ ((w : World) × (acted : ℕ) × (k : IsConnection w acted u) × IsOneMoreOf k.now k.worked.turns u x)
+IsAtMostOneMore u x = (x ≡ u) ⊎ ((w : World) × (acted : ℕ) × (k : IsConnection w acted u) × IsOneMoreOf k.now w k.worked.turns u x)
 
 -- behind some connections, which made u of the queue w: nothing was done, and a crash leaves what it left before; or it leaves u, or what
 -- the event of one request makes of u

@@ -4,7 +4,7 @@ ghost use Rattle.http_front.specs.Connections.{acted_of};
 ghost use Rattle.print_server.specs.Connections.{has_fault, is_ended_here};
 
 use http_front::{End, ServeCause, ServeFault, Served};
-use std::io::Read;
+use std::io::{ErrorKind, Read};
 
 /// The most reads of what a client sends behind its last request.
 const DRAIN_READS: u32 = 256;
@@ -45,13 +45,19 @@ pub fn has_fault(served: Result<Served, ServeFault>) -> bool
     }
 }
 
-/// Reads past what a client still sends: to its end, to a read that fails, or through 256 reads of at most 65,536 bytes.
+/// Reads past what a client still sends: to its end, to a read that fails, or through 256 reads of at most 65,536 bytes. A read that is
+/// interrupted counts as one of them.
 pub fn drain<R: Read>(reader: &mut R) {
     let mut bytes = [0; DRAIN_BYTES];
     for _ in 0..DRAIN_READS {
         match reader.read(bytes.as_mut_slice()) {
-            Ok(0) | Err(_) => return,
+            Ok(0) => return,
             Ok(_) => {}
+            Err(error) => {
+                if error.kind() != ErrorKind::Interrupted {
+                    return;
+                }
+            }
         }
     }
 }

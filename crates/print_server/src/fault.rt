@@ -4,13 +4,16 @@ ghost use Rattle.print_server.specs.declared.fault.ServerFault.TheVariants as fa
 
 use queue_core::book::BookFault;
 use std::io;
+use thiserror::Error;
 
 /// Why a server stopped before it had served all its connections.
-#[derive(Debug, Drop)]
+#[derive(Debug, Drop, Error)]
 pub enum ServerFault {
     /// No connection could be taken, the clock could not be read, or a line could not be written.
+    #[error(transparent)]
     Io(io::Error),
     /// The book can't be read any more.
+    #[error(transparent)]
     Book(BookFault),
 }
 

@@ -1,16 +1,12 @@
-use Rattle.std.proofs.Common.{◌+◌, [], ◌∷◌, ◌++◌, arith, ap, get_or, length, length-append, lit<, refl, take}
+use Rattle.std.proofs.Common.{◌+◌, List, [], ◌∷◌, ◌++◌, arith, ap, get_or, inl, length, length-append, refl, subst, take}
 use Rattle.std.proofs.lemmas.List.{take_all, take_more}
-use Rattle.arrivals.proofs.CrashLemmas.{follows_none, more_left, none_left}
+use Rattle.arrivals.specs.Crash.{IsAskedBy, IsAtMostOneMore}
+use Rattle.arrivals.proofs.CrashLemmas.{left_one}
 use Rattle.arrivals.proofs.HistoryLemmas.{each_before_last, history_of, more_taken, none_taken, settings_after, taken_by}
-use Rattle.queue_core.specs.Limits.{IsMoment}
 use Rattle.arrivals.specs.Taken.{IsFaultless}
 use Rattle.arrivals.specs.declared.arrival.Arrival.{Arrival}
 use Rattle.arrivals.specs.declared.arrival.Arrived.TheVariants.{Connection}
 use Rattle.arrivals.proofs.taking.take_all.Goals as goal
-
--- the first moment
-first : IsMoment 1
-first = (omega arith, lit< tt)
 
 pub loop-arrival-init : goal.loop-arrival-init
 loop-arrival-init g c = record {
@@ -18,8 +14,7 @@ loop-arrival-init g c = record {
   count = omega (arith, ap length c.in_ok-outcomes.ensures.items);
   room = c.in_ok-outcomes.ensures.capacity;
   live = λ honest live all. live;
-  taken = λ honest w s set. none_taken (g.B.QueueBook.stands c.args.book.now) w c.in_ok-outcomes.outcomes.items (g.W.Write.contents c.args.writer.now) c.in_ok-outcomes.ensures.items s;
-  crash = λ honest w v s set left f. none_left (g.B.QueueBook.stands c.args.book.now) (g.B.QueueBook.crash_leaves c.args.book.now) w v s left f;
+  taken = λ honest w s set. none_taken (g.B.QueueBook.stands c.args.book.now) (g.B.QueueBook.crash_leaves c.args.book.now) w c.in_ok-outcomes.outcomes.items (g.W.Write.contents c.args.writer.now) c.in_ok-outcomes.ensures.items s;
 }
 
 -- past the end of a list
@@ -41,19 +36,14 @@ loop-arrival-preserved g c = record {
       let k = c.take-outcome.ensures.taken honest t.after t.stands_after (settings_after c.args.settings.now w t.after t.places t.run_is set) in
       let x = g.W.Write.contents c.args.writer.now in
       let z = g.W.Write.contents c.take-outcome.new.writer in
-      taken_by (g.B.QueueBook.stands c.take-outcome.new.book) w x z (take i arrivals ++ get_or arrivals i blank ∷ []) (take (i + 1) arrivals)
+      taken_by (g.B.QueueBook.stands c.take-outcome.new.book) (g.B.QueueBook.crash_leaves c.args.book.now) (g.B.QueueBook.crash_leaves c.take-outcome.new.book) w x z (take i arrivals ++ get_or arrivals i blank ∷ []) (take (i + 1) arrivals)
       (c.loop-arrival.outcomes.items ++ c.take-outcome.result ∷ []) c.push.new.self.items (take_more arrivals i blank c.loop-arrival-test.true) c.in-Ok.ensures.items
-      (more_taken (g.B.QueueBook.stands c.loop-arrival.book) (g.B.QueueBook.stands c.take-outcome.new.book) w (take i arrivals) c.loop-arrival.outcomes.items (get_or arrivals i blank)
+      (more_taken (g.B.QueueBook.stands c.loop-arrival.book) (g.B.QueueBook.stands c.take-outcome.new.book) (g.B.QueueBook.crash_leaves c.args.book.now) (g.B.QueueBook.crash_leaves c.loop-arrival.book) (g.B.QueueBook.crash_leaves c.take-outcome.new.book) w (take i arrivals) c.loop-arrival.outcomes.items (get_or arrivals i blank)
       c.take-outcome.result x (g.W.Write.contents c.loop-arrival.writer) z t k);
-  crash = λ honest w v s set left f.
-      let t = c.loop-arrival.invariant.crash (c.take-outcome.ensures.began honest) w v s set left f in
-      more_left (g.B.QueueBook.stands c.loop-arrival.book) (g.B.QueueBook.stands c.take-outcome.new.book) (g.B.QueueBook.crash_leaves c.loop-arrival.book)
-      (g.B.QueueBook.crash_leaves c.take-outcome.new.book) w t
-      (c.take-outcome.ensures.crash honest t.after t.left t.stands_after (settings_after c.args.settings.now w t.after t.places t.run_is set) t.is_left t.follows);
 }
 
 pub returns-clause-history : goal.returns-clause-history
-returns-clause-history g c = λ honest w s set. history_of c.run_keeps.ensures.sound c.run_keeps.ensures.moves c.run_keeps.ensures.balances (g.B.QueueBook.stands c.loop-arrival.book) w
+returns-clause-history g c = λ honest w s set. history_of c.run_keeps.ensures.sound c.run_keeps.ensures.moves c.run_keeps.ensures.balances (g.B.QueueBook.stands c.loop-arrival.book) (g.B.QueueBook.crash_leaves c.args.book.now) (g.B.QueueBook.crash_leaves c.loop-arrival.book) w
     (take c.loop-arrival.arrival-index c.args.arrivals.now) c.args.arrivals.now c.loop-arrival.outcomes.items (g.W.Write.contents c.args.writer.now) (g.W.Write.contents c.loop-arrival.writer)
     (take_all c.loop-arrival.arrival-index c.args.arrivals.now c.loop-arrival-test.false)
     (g.met.B.QueueBook.sound c.args.book.now w (c.loop-arrival.invariant.began honest) s)
@@ -62,8 +52,18 @@ returns-clause-history g c = λ honest w s set. history_of c.run_keeps.ensures.s
 pub returns-clause-crash : goal.returns-clause-crash
 returns-clause-crash g c = λ honest live w s set.
     let was = c.loop-arrival.invariant.began honest in
-    c.loop-arrival.invariant.crash honest w w s set (g.met.B.QueueBook.lasts c.args.book.now w w was live s) (follows_none 1 w w first refl)
+    let t = c.loop-arrival.invariant.taken honest w s set in
+    let l = t.is_left w (g.met.B.QueueBook.lasts c.args.book.now w w was live s) in (
+      t.after,
+      l.0,
+      t.stands_after,
+      t.places,
+      t.are,
+      t.run_is,
+      l.1,
+      subst (λ (xs : List Arrival). IsAtMostOneMore (IsAskedBy xs c.loop-arrival.outcomes.items w t.after) t.after l.0) (take_all c.loop-arrival.arrival-index c.args.arrivals.now c.loop-arrival-test.false)
+          (left_one (IsAskedBy (take c.loop-arrival.arrival-index c.args.arrivals.now) c.loop-arrival.outcomes.items w t.after) w t.after l.0 l.2),
+    )
 
 pub returns-in_err-outcomes-clause-crash : goal.returns-in_err-outcomes-clause-crash
-returns-in_err-outcomes-clause-crash g c = λ honest live w s set.
-    none_left (g.B.QueueBook.stands c.args.book.now) (g.B.QueueBook.crash_leaves c.args.book.now) w w s (g.met.B.QueueBook.lasts c.args.book.now w w honest live s) (follows_none 1 w w first refl)
+returns-in_err-outcomes-clause-crash g c = λ honest live w s set. (w, w, s, [], tt, refl, g.met.B.QueueBook.lasts c.args.book.now w w honest live s, inl refl)

@@ -1,8 +1,10 @@
-use Rattle.std.proofs.Common.{◌≡◌, inl, refl, ℕ, Bool, true, false, ◌+◌, ◌∙◌, arith, rules, ap, sym, subst, if◌then◌else◌, ◌^◌}
+use Rattle.std.proofs.Common.{◌≡◌, ℕ, Bool, true, false, ◌∙◌, arith, rules, ap, sym, subst, if◌then◌else◌, ◌+◌, ◌^◌}
 use Rattle.http_head.specs.Left.{left}
 use Rattle.http_head.specs.declared.end.End.{End}
 use Rattle.http_front.specs.Connections.{IsServed}
-use Rattle.http_front.proofs.RunLemmas.{worked_none, worked_on, worked_settings, worked_within, ran_none, ran_on, run_settings, served_done, served_ended, stopped_at}
+use Rattle.http_front.specs.Crash.{CarriesAll}
+use Rattle.http_front.proofs.CrashLemmas.{carries_no_turn}
+use Rattle.http_front.proofs.RunLemmas.{ran_none, ran_on, run_settings, served_done, served_ended, stopped_at, worked_done, worked_ended, worked_stopped}
 use Rattle.http_front.proofs.connection.run.Goals as goal
 use mir.Val.{bool_byte}
 
@@ -11,7 +13,14 @@ counted n false is = is
 counted n true is = is
 
 pub turns-init : goal.turns-init
-turns-init g c = record { few = omega arith; acted_few = omega arith; below = omega arith; began = λ h. h; live = λ h live none. live; ran = λ h w st set. (w, st, ran_none _ _ _ _); worked = λ h w st set. (w, st, worked_none _ _, λ v left. (v, left, inl (refl, refl))) }
+turns-init g c = record {
+  few = omega arith;
+  acted_few = omega arith;
+  below = omega arith;
+  began = λ h. h;
+  live = λ h live none. live;
+  ran = λ h w st set. (w, st, ran_none _ _ _ _, carries_no_turn (g.B.QueueBook.crash_leaves c.args.book.now) c.args.context.moment w);
+}
 
 pub turns-preserved : goal.turns-preserved
 turns-preserved g c = record {
@@ -24,16 +33,12 @@ turns-preserved g c = record {
       (rw c.in-Ok-Answered.field-0-is at (c.in-Ok-Answered.ensures.live h (c.turns.invariant.live (c.turn.ensures.began h) live clear.0))) clear.1;
   ran = λ h w st set.
       let r = c.turns.invariant.ran (c.turn.ensures.began h) w st set in
-      let t = rw c.in-Ok-Answered.field-0-is at (c.in-Ok-Answered.ensures.turned h r.0 r.1 (run_settings c.args.context.settings.now c.turns.k c.args.context.moment w r.0 _ _ _ _ c.turns.acted c.turns.faults r.2 set)) in (
-        t.0,
-        t.1,
-        ran_on c.turns.k c.args.context.moment w r.0 t.0 _ _ _ _ _ _ c.turns.acted c.turns.faults c.from-acted.result c.mark-faults.result c.in-Ok-Answered.acts c.in-Ok-Answered.is_fault c.in-Ok-Answered.closes
-            r.2 t.2 (counted _ _ c.from-acted.ensures) c.mark-faults.ensures.exact c.if-closes.false,
-      );
-  worked = λ h w st set.
-      let r = c.turns.invariant.worked (c.turn.ensures.began h) w st set in
-      let t = rw c.in-Ok-Answered.field-0-is at (c.in-Ok-Answered.ensures.worked h r.0 r.1 (worked_settings c.turns.k c.args.context.moment w r.0 c.turns.acted c.args.context.settings.now r.2 set)) in
-      let on = worked_on (g.B.QueueBook.crash_leaves c.args.book.now) (g.B.QueueBook.crash_leaves c.turns.book) (g.B.QueueBook.crash_leaves c.turn.new.book) c.turns.k c.args.context.moment w r.0 t.0 c.turns.acted _ c.in-Ok-Answered.acts r.2 r.3 t.2 (ap (λ n. c.turns.acted + n) (counted _ _ c.from-acted.ensures)) in
+      let t = rw c.in-Ok-Answered.field-0-is at (c.in-Ok-Answered.ensures.turned h r.0 r.1 (run_settings c.args.context.settings.now c.turns.k c.args.context.moment w r.0 _ _ _ _ c.turns.acted c.turns.faults r.2 set)) in
+      let on = ran_on (g.B.QueueBook.crash_leaves c.args.book.now) (g.B.QueueBook.crash_leaves c.turns.book) (g.B.QueueBook.crash_leaves c.turn.new.book) c.turns.k c.args.context.moment w r.0 t.0
+      (left c.args.input.now.buffer (g.R.Read.remaining c.args.input.now.reader)) (left c.turns.input.buffer (g.R.Read.remaining c.turns.input.reader)) (left c.turn.new.input.buffer (g.R.Read.remaining c.turn.new.input.reader))
+      (g.W.Write.contents c.args.writer.now) (g.W.Write.contents c.turns.writer) (g.W.Write.contents c.turn.new.writer)
+      c.turns.acted c.turns.faults c.from-acted.result c.mark-faults.result c.in-Ok-Answered.acts c.in-Ok-Answered.is_fault c.in-Ok-Answered.closes
+      r.2 r.3 t.2 (counted _ _ c.from-acted.ensures) c.mark-faults.ensures.exact c.if-closes.false in
       (t.0, t.1, on.0, on.1);
 }
 
@@ -43,11 +48,11 @@ returns-then-closes-clause-served g c = λ h w st set.
     let t = rw c.in-Ok-Answered.field-0-is at (c.in-Ok-Answered.ensures.turned h r.0 r.1 (run_settings c.args.context.settings.now c.turns.k c.args.context.moment w r.0 _ _ _ _ c.turns.acted c.turns.faults r.2 set)) in (
       t.0,
       t.1,
-      served_done c.turns.k c.args.context.moment w r.0 t.0
+      served_done (g.B.QueueBook.crash_leaves c.args.book.now) (g.B.QueueBook.crash_leaves c.turns.book) (g.B.QueueBook.crash_leaves c.turn.new.book) c.turns.k c.args.context.moment w r.0 t.0
           (left c.args.input.now.buffer (g.R.Read.remaining c.args.input.now.reader)) (left c.turns.input.buffer (g.R.Read.remaining c.turns.input.reader)) (left c.turn.new.input.buffer (g.R.Read.remaining c.turn.new.input.reader))
           (g.W.Write.contents c.args.writer.now) (g.W.Write.contents c.turns.writer) (g.W.Write.contents c.turn.new.writer)
           c.turns.acted c.turns.faults c.from-acted.result c.mark-faults.result c.in-Ok-Answered.acts c.in-Ok-Answered.is_fault c.in-Ok-Answered.closes
-          c.turns.invariant.few r.2 t.2 (counted _ _ c.from-acted.ensures) c.mark-faults.ensures.exact c.if-closes.true,
+          c.turns.invariant.few r.2 r.3 t.2 (counted _ _ c.from-acted.ensures) c.mark-faults.ensures.exact c.if-closes.true,
     )
 
 pub returns-in-Ok-Ended-clause-served : goal.returns-in-Ok-Ended-clause-served
@@ -56,12 +61,12 @@ returns-in-Ok-Ended-clause-served g c = λ h w st set.
     let t = rw c.in-Ok-Ended.field-0-is at (c.in-Ok-Ended.ensures.turned h r.0 r.1 (run_settings c.args.context.settings.now c.turns.k c.args.context.moment w r.0 _ _ _ _ c.turns.acted c.turns.faults r.2 set)) in (
       t.0,
       t.1,
-      subst (λ (z : End). IsServed c.args.context.moment w t.0 (left c.args.input.now.buffer (g.R.Read.remaining c.args.input.now.reader)) (g.W.Write.contents c.args.writer.now) (g.W.Write.contents c.turn.new.writer)
+      subst (λ (z : End). IsServed (λ turns. CarriesAll (g.B.QueueBook.crash_leaves c.args.book.now) (g.B.QueueBook.crash_leaves c.turn.new.book) c.args.context.moment turns w t.0) c.args.context.moment w t.0 (left c.args.input.now.buffer (g.R.Read.remaining c.args.input.now.reader)) (g.W.Write.contents c.args.writer.now) (g.W.Write.contents c.turn.new.writer)
           (record { acted = c.turns.acted; faults = c.mark.result; end = z })) (sym c.end.ensures)
-          (served_ended c.turns.k c.args.context.moment w r.0 t.0
+          (served_ended (g.B.QueueBook.crash_leaves c.args.book.now) (g.B.QueueBook.crash_leaves c.turns.book) (g.B.QueueBook.crash_leaves c.turn.new.book) c.turns.k c.args.context.moment w r.0 t.0
           (left c.args.input.now.buffer (g.R.Read.remaining c.args.input.now.reader)) (left c.turns.input.buffer (g.R.Read.remaining c.turns.input.reader)) (left c.turn.new.input.buffer (g.R.Read.remaining c.turn.new.input.reader))
           (g.W.Write.contents c.args.writer.now) (g.W.Write.contents c.turns.writer) (g.W.Write.contents c.turn.new.writer)
-          c.turns.acted c.turns.faults c.mark.result c.in-Ok-Ended.finish c.turns.invariant.few r.2 t.2
+          c.turns.acted c.turns.faults c.mark.result c.in-Ok-Ended.finish c.turns.invariant.few r.2 r.3 t.2
           (c.mark.ensures.exact ∙ ap (λ b. c.turns.faults + (if b then 2 ^ c.turns.k else 0)) c.is_unavailable.ensures)),
     )
 
@@ -71,35 +76,42 @@ returns-in-Err-clause-broken g c = λ h w st set.
     let t = c.in-Err.ensures.turned h r.0 r.1 (run_settings c.args.context.settings.now c.turns.k c.args.context.moment w r.0 _ _ _ _ c.turns.acted c.turns.faults r.2 set) in (
       t.0,
       t.1,
-      stopped_at c.turns.k c.args.context.moment w r.0 t.0
-          (left c.args.input.now.buffer (g.R.Read.remaining c.args.input.now.reader)) (left c.turns.input.buffer (g.R.Read.remaining c.turns.input.reader))
+      stopped_at (g.B.QueueBook.crash_leaves c.args.book.now) (g.B.QueueBook.crash_leaves c.turns.book) (g.B.QueueBook.crash_leaves c.turn.new.book) c.turns.k c.args.context.moment w r.0 t.0
+          (left c.args.input.now.buffer (g.R.Read.remaining c.args.input.now.reader)) (left c.turns.input.buffer (g.R.Read.remaining c.turns.input.reader)) (left c.turn.new.input.buffer (g.R.Read.remaining c.turn.new.input.reader))
           (g.W.Write.contents c.args.writer.now) (g.W.Write.contents c.turns.writer) (g.W.Write.contents c.turn.new.writer)
-          c.turns.acted c.turns.faults c.from.result c.mark-in-Err.result c.in-Err.stopped.acted c.in-Err.stopped.is_fault
-          c.turns.invariant.few r.2 t.2 (counted _ _ c.from.ensures) c.mark-in-Err.ensures.exact,
+          c.turns.acted c.turns.faults c.from.result c.mark-in-Err.result c.in-Err.stopped
+          c.turns.invariant.few r.2 r.3 t.2 (counted _ _ c.from.ensures) c.mark-in-Err.ensures.exact,
     )
 
 pub returns-then-closes-clause-worked : goal.returns-then-closes-clause-worked
 returns-then-closes-clause-worked g c = λ h w st set.
-    let r = c.turns.invariant.worked (c.turn.ensures.began h) w st set in
-    let t = rw c.in-Ok-Answered.field-0-is at (c.in-Ok-Answered.ensures.worked h r.0 r.1 (worked_settings c.turns.k c.args.context.moment w r.0 c.turns.acted c.args.context.settings.now r.2 set)) in
-    let on = worked_on (g.B.QueueBook.crash_leaves c.args.book.now) (g.B.QueueBook.crash_leaves c.turns.book) (g.B.QueueBook.crash_leaves c.turn.new.book) c.turns.k c.args.context.moment w r.0 t.0 c.turns.acted _ c.in-Ok-Answered.acts r.2 r.3 t.2 (ap (λ n. c.turns.acted + n) (counted _ _ c.from-acted.ensures)) in
-    let all = worked_within (g.B.QueueBook.crash_leaves c.args.book.now) (g.B.QueueBook.crash_leaves c.turn.new.book) (c.turns.k + 1) c.args.context.moment w t.0 _ (let f = c.turns.invariant.few in omega (arith, f)) on.0 on.1 in
+    let r = c.turns.invariant.ran (c.turn.ensures.began h) w st set in
+    let t = rw c.in-Ok-Answered.field-0-is at (c.in-Ok-Answered.ensures.turned h r.0 r.1 (run_settings c.args.context.settings.now c.turns.k c.args.context.moment w r.0 _ _ _ _ c.turns.acted c.turns.faults r.2 set)) in
+    let all = worked_done (g.B.QueueBook.crash_leaves c.args.book.now) (g.B.QueueBook.crash_leaves c.turns.book) (g.B.QueueBook.crash_leaves c.turn.new.book) c.turns.k c.args.context.moment w r.0 t.0
+    (left c.args.input.now.buffer (g.R.Read.remaining c.args.input.now.reader)) (left c.turns.input.buffer (g.R.Read.remaining c.turns.input.reader)) (left c.turn.new.input.buffer (g.R.Read.remaining c.turn.new.input.reader))
+    (g.W.Write.contents c.args.writer.now) (g.W.Write.contents c.turns.writer) (g.W.Write.contents c.turn.new.writer)
+    c.turns.acted c.turns.faults c.from-acted.result c.mark-faults.result c.in-Ok-Answered.acts c.in-Ok-Answered.is_fault c.in-Ok-Answered.closes
+    c.turns.invariant.few r.2 r.3 t.2 (counted _ _ c.from-acted.ensures) c.mark-faults.ensures.exact in
     (t.0, t.1, all.0, all.1)
 
 pub returns-in-Ok-Ended-clause-worked : goal.returns-in-Ok-Ended-clause-worked
 returns-in-Ok-Ended-clause-worked g c = λ h w st set.
-    let r = c.turns.invariant.worked (c.turn.ensures.began h) w st set in
-    let t = rw c.in-Ok-Ended.field-0-is at (c.in-Ok-Ended.ensures.worked h r.0 r.1 (worked_settings c.turns.k c.args.context.moment w r.0 c.turns.acted c.args.context.settings.now r.2 set)) in
-    let on = worked_on (g.B.QueueBook.crash_leaves c.args.book.now) (g.B.QueueBook.crash_leaves c.turns.book) (g.B.QueueBook.crash_leaves c.turn.new.book) c.turns.k c.args.context.moment w r.0 t.0 c.turns.acted c.turns.acted false r.2 r.3 t.2 (omega arith) in
-    let all = worked_within (g.B.QueueBook.crash_leaves c.args.book.now) (g.B.QueueBook.crash_leaves c.turn.new.book) (c.turns.k + 1) c.args.context.moment w t.0 c.turns.acted (let f = c.turns.invariant.few in omega (arith, f)) on.0 on.1 in
+    let r = c.turns.invariant.ran (c.turn.ensures.began h) w st set in
+    let t = rw c.in-Ok-Ended.field-0-is at (c.in-Ok-Ended.ensures.turned h r.0 r.1 (run_settings c.args.context.settings.now c.turns.k c.args.context.moment w r.0 _ _ _ _ c.turns.acted c.turns.faults r.2 set)) in
+    let all = worked_ended (g.B.QueueBook.crash_leaves c.args.book.now) (g.B.QueueBook.crash_leaves c.turns.book) (g.B.QueueBook.crash_leaves c.turn.new.book) c.turns.k c.args.context.moment w r.0 t.0
+    (left c.args.input.now.buffer (g.R.Read.remaining c.args.input.now.reader)) (left c.turns.input.buffer (g.R.Read.remaining c.turns.input.reader)) (left c.turn.new.input.buffer (g.R.Read.remaining c.turn.new.input.reader))
+    (g.W.Write.contents c.args.writer.now) (g.W.Write.contents c.turns.writer) (g.W.Write.contents c.turn.new.writer)
+    c.turns.acted c.turns.faults c.in-Ok-Ended.finish c.turns.invariant.few r.2 r.3 t.2 in
     (t.0, t.1, all.0, all.1)
 
 pub returns-in-Err-clause-worked : goal.returns-in-Err-clause-worked
 returns-in-Err-clause-worked g c = λ h w st set.
-    let r = c.turns.invariant.worked (c.turn.ensures.began h) w st set in
-    let t = c.in-Err.ensures.worked h r.0 r.1 (worked_settings c.turns.k c.args.context.moment w r.0 c.turns.acted c.args.context.settings.now r.2 set) in
-    let on = worked_on (g.B.QueueBook.crash_leaves c.args.book.now) (g.B.QueueBook.crash_leaves c.turns.book) (g.B.QueueBook.crash_leaves c.turn.new.book) c.turns.k c.args.context.moment w r.0 t.0 c.turns.acted _ c.in-Err.stopped.acted r.2 r.3 t.2 (ap (λ n. c.turns.acted + n) (counted _ _ c.from.ensures)) in
-    let all = worked_within (g.B.QueueBook.crash_leaves c.args.book.now) (g.B.QueueBook.crash_leaves c.turn.new.book) (c.turns.k + 1) c.args.context.moment w t.0 _ (let f = c.turns.invariant.few in omega (arith, f)) on.0 on.1 in
+    let r = c.turns.invariant.ran (c.turn.ensures.began h) w st set in
+    let t = c.in-Err.ensures.turned h r.0 r.1 (run_settings c.args.context.settings.now c.turns.k c.args.context.moment w r.0 _ _ _ _ c.turns.acted c.turns.faults r.2 set) in
+    let all = worked_stopped (g.B.QueueBook.crash_leaves c.args.book.now) (g.B.QueueBook.crash_leaves c.turns.book) (g.B.QueueBook.crash_leaves c.turn.new.book) c.turns.k c.args.context.moment w r.0 t.0
+    (left c.args.input.now.buffer (g.R.Read.remaining c.args.input.now.reader)) (left c.turns.input.buffer (g.R.Read.remaining c.turns.input.reader)) (left c.turn.new.input.buffer (g.R.Read.remaining c.turn.new.input.reader))
+    (g.W.Write.contents c.args.writer.now) (g.W.Write.contents c.turns.writer) (g.W.Write.contents c.turn.new.writer)
+    c.turns.acted c.turns.faults c.from.result c.in-Err.stopped c.turns.invariant.few r.2 r.3 t.2 (counted _ _ c.from.ensures) in
     (t.0, t.1, all.0, all.1)
 
 pub returns-then-closes-clause-live : goal.returns-then-closes-clause-live

@@ -1,7 +1,6 @@
 use Rattle.std.proofs.Common.{◌-◌, ◌^◌, ◌<◌, ◌≤◌, ◌≡◌}
 use Rattle.queue_core.specs.World.{World}
 use Rattle.http_head.specs.Left.{left}
-use Rattle.http_front.specs.Connections.{Worked}
 use Rattle.http_front.specs.Crash.{CarriesAll}
 use Rattle.http_front.specs.Turns.{last_request, most_requests}
 use Rattle.http_front.proofs.Runs.{RanOn}
@@ -15,10 +14,9 @@ invariant-turns g l = record {
   began : g.B.QueueBook.is_honest l.book → g.B.QueueBook.is_honest l.initial.book;
   live : g.B.QueueBook.is_honest l.book → g.B.QueueBook.is_live l.initial.book → l.faults ≡ 0 → g.B.QueueBook.is_live l.book;
   ran : g.B.QueueBook.is_honest l.book → (w : World) → g.B.QueueBook.stands l.initial.book w → l.context.settings.now ≡ w.settings → (u : World) × g.B.QueueBook.stands l.book u
-      × RanOn l.k l.context.moment w u (left l.initial.input.buffer (g.R.Read.remaining l.initial.input.reader)) (left l.input.buffer (g.R.Read.remaining l.input.reader))
-      (g.W.Write.contents l.initial.writer) (g.W.Write.contents l.writer) l.acted l.faults;
-  worked : g.B.QueueBook.is_honest l.book → (w : World) → g.B.QueueBook.stands l.initial.book w → l.context.settings.now ≡ w.settings → (u : World) × g.B.QueueBook.stands l.book u
-      × (k : Worked l.k l.context.moment w u l.acted) × CarriesAll (g.B.QueueBook.crash_leaves l.initial.book) (g.B.QueueBook.crash_leaves l.book) l.context.moment k.turns w u;
+      × (so_far : RanOn l.k l.context.moment w u (left l.initial.input.buffer (g.R.Read.remaining l.initial.input.reader)) (left l.input.buffer (g.R.Read.remaining l.input.reader))
+      (g.W.Write.contents l.initial.writer) (g.W.Write.contents l.writer) l.acted l.faults)
+      × CarriesAll (g.B.QueueBook.crash_leaves l.initial.book) (g.B.QueueBook.crash_leaves l.book) l.context.moment so_far.run.turns w u;
 }
 
 abbrev pub decreases-turns : goal.decreases-turns

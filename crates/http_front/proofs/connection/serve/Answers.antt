@@ -2,6 +2,7 @@ use Rattle.std.proofs.Common.{◌≡◌, Option, ℕ, List, ap, subst, IfErr, If
 use Rattle.queue_core.specs.World.{World}
 use Rattle.http_head.specs.Routes.{routes}
 use Rattle.http_front.specs.Connections.{IsServed, IsStopped}
+use Rattle.http_front.specs.Crash.{CarriesAll}
 use Rattle.http_front.proofs.CrashLemmas.{left_one}
 use Rattle.http_front.proofs.RunLemmas.{left_at_first, router_of}
 use Rattle.http_front.proofs.connection.serve.Goals as goal
@@ -12,13 +13,13 @@ run-requires-clause-router g c = λ x e. router_of c.router.result c.ok-table.re
 pub returns-clause-served : goal.returns-clause-served
 returns-clause-served g c = λ h.
     subst (λ (r : Option (List ℕ)). IfOk c.run.result (λ z. (w : World) → g.B.QueueBook.stands c.args.book.now w → c.args.settings.now ≡ w.settings → (u : World) × g.B.QueueBook.stands c.run.new.book u
-    × IsServed c.args.now w u r (g.W.Write.contents c.args.writer.now) (g.W.Write.contents c.run.new.writer) z))
+    × IsServed (λ turns. CarriesAll (g.B.QueueBook.crash_leaves c.args.book.now) (g.B.QueueBook.crash_leaves c.run.new.book) c.args.now turns w u) c.args.now w u r (g.W.Write.contents c.args.writer.now) (g.W.Write.contents c.run.new.writer) z))
     (left_at_first c.new-input.result.buffer _ (g.R.Read.remaining c.args.reader.now) c.new-input.ensures.empty (ap (λ p. g.R.Read.remaining p.now) c.new-input.ensures.reader)) (c.run.ensures.served h)
 
 pub returns-clause-broken : goal.returns-clause-broken
 returns-clause-broken g c = λ h.
     subst (λ (r : Option (List ℕ)). IfErr c.run.result (λ z. (w : World) → g.B.QueueBook.stands c.args.book.now w → c.args.settings.now ≡ w.settings → (u : World) × g.B.QueueBook.stands c.run.new.book u
-    × IsStopped c.args.now w u r (g.W.Write.contents c.args.writer.now) (g.W.Write.contents c.run.new.writer) z))
+    × IsStopped (λ turns. CarriesAll (g.B.QueueBook.crash_leaves c.args.book.now) (g.B.QueueBook.crash_leaves c.run.new.book) c.args.now turns w u) c.args.now w u r (g.W.Write.contents c.args.writer.now) (g.W.Write.contents c.run.new.writer) z))
     (left_at_first c.new-input.result.buffer _ (g.R.Read.remaining c.args.reader.now) c.new-input.ensures.empty (ap (λ p. g.R.Read.remaining p.now) c.new-input.ensures.reader)) (c.run.ensures.broken h)
 
 pub returns-clause-worked : goal.returns-clause-worked

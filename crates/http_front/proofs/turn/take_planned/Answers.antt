@@ -2,11 +2,11 @@ use Rattle.std.proofs.Common.{refl}
 use Rattle.http_head.specs.Left.{left}
 use Rattle.http_head.specs.declared.end.Finish.TheVariants.{Refused}
 use Rattle.http_head.specs.declared.end.Refusal.TheVariants.{ServiceUnavailable}
-use Rattle.http_front.specs.Crash.{Carries}
+use Rattle.queue_core.specs.Crash.{Carries}
 use Rattle.http_front.proofs.CrashLemmas.{carries_none}
-use Rattle.http_front.proofs.TurnedLemmas.{planned_unsaid, planned_unread, planned_closed, planned_answered, planned_broken, end_in_body, end_unavailable, end_declined, body_as, said_on, same_world, closed_faultless, closed_idle, plan_idle, plan_works}
+use Rattle.http_front.proofs.TurnedLemmas.{planned_unsaid, planned_unread, planned_closed, planned_answered, planned_broken, end_in_body, end_unavailable, end_declined, body_as, said_on, closed_faultless}
 use Rattle.http_front.proofs.WriteLemmas.{by_write}
-use Rattle.http_front.specs.Turned.{IsPlanned, PlanWorks, acted_in}
+use Rattle.http_front.specs.Turned.{IsPlanned}
 use Rattle.http_front.proofs.turn.take_planned.Goals as goal
 
 pub returns-in_err-invited-clause-planned : goal.returns-in_err-invited-clause-planned
@@ -16,8 +16,9 @@ returns-in_err-invited-clause-planned g c = λ honest w st set.
     let x = g.W.Write.contents c.send_continue.new.writer in (
       w,
       st,
-      by_write (λ result. IsPlanned c.args.context.moment c.args.k w w c.args.plan r r v x result) c.from_residual.result c.from_residual.ensures.1
-          (λ f acted fault. planned_unsaid c.args.context.moment c.args.k w c.args.plan r r v x f acted fault c.in_err-invited.ensures.err),
+      by_write (λ result. IsPlanned (λ asks. Carries (g.B.QueueBook.crash_leaves c.args.book.now) (g.B.QueueBook.crash_leaves c.args.book.now) asks c.args.context.moment w w) c.args.context.moment c.args.k w w c.args.plan r r v x result) c.from_residual.result c.from_residual.ensures.1
+          (λ f acted fault. planned_unsaid (λ asks. Carries (g.B.QueueBook.crash_leaves c.args.book.now) (g.B.QueueBook.crash_leaves c.args.book.now) asks c.args.context.moment w w) c.args.context.moment c.args.k w c.args.plan r r v x f acted fault c.in_err-invited.ensures.err
+          (carries_none (g.B.QueueBook.crash_leaves c.args.book.now) (λ e. ⊥) c.args.context.moment w)),
     )
 
 pub returns-in-Err-Ended-clause-planned : goal.returns-in-Err-Ended-clause-planned
@@ -26,12 +27,20 @@ returns-in-Err-Ended-clause-planned g c = λ honest w st set.
     let s = left c.take_framed.new.input.buffer (g.R.Read.remaining c.take_framed.new.input.reader) in (
       w,
       st,
-      planned_closed c.args.context.moment c.args.k w c.args.plan r s (g.W.Write.contents c.args.writer.now) (g.W.Write.contents c.send_continue.new.writer) (g.W.Write.contents c.close_with.new.writer) c.in-Err-Ended.end c.close_with.result
+      planned_closed (λ asks. Carries (g.B.QueueBook.crash_leaves c.args.book.now) (g.B.QueueBook.crash_leaves c.args.book.now) asks c.args.context.moment w w) c.args.context.moment c.args.k w w c.args.plan r s (g.W.Write.contents c.args.writer.now) (g.W.Write.contents c.send_continue.new.writer) (g.W.Write.contents c.close_with.new.writer) c.in-Err-Ended.end c.close_with.result refl
+          (carries_none (g.B.QueueBook.crash_leaves c.args.book.now) (λ e. ⊥) c.args.context.moment w)
           (end_in_body w c.args.plan r c.in-Err-Ended.end (rw c.in-Err-Ended.field-0-is at c.in-Err-Ended.ensures.ended)) c.in_ok-invited.ensures.ok (rw c.in-Err-Ended.field-0-is at c.close_with.ensures),
     )
 
 pub returns-in-Err-Read-clause-planned : goal.returns-in-Err-Read-clause-planned
-returns-in-Err-Read-clause-planned g c = λ honest w st set. (w, st, planned_unread c.args.context.moment c.args.k w c.args.plan (left c.args.input.now.buffer (g.R.Read.remaining c.args.input.now.reader)) (left c.take_framed.new.input.buffer (g.R.Read.remaining c.take_framed.new.input.reader)) (g.W.Write.contents c.args.writer.now) (g.W.Write.contents c.send_continue.new.writer) c.stopped_by.result c.stopped_by.ensures.acted c.stopped_by.ensures.is_fault c.in_ok-invited.ensures.ok)
+returns-in-Err-Read-clause-planned g c = λ honest w st set.
+    let r = left c.args.input.now.buffer (g.R.Read.remaining c.args.input.now.reader) in
+    let s = left c.take_framed.new.input.buffer (g.R.Read.remaining c.take_framed.new.input.reader) in (
+      w,
+      st,
+      planned_unread (λ asks. Carries (g.B.QueueBook.crash_leaves c.args.book.now) (g.B.QueueBook.crash_leaves c.args.book.now) asks c.args.context.moment w w) c.args.context.moment c.args.k w c.args.plan r s (g.W.Write.contents c.args.writer.now) (g.W.Write.contents c.send_continue.new.writer) c.stopped_by.result c.stopped_by.ensures.acted c.stopped_by.ensures.is_fault c.in_ok-invited.ensures.ok
+          (carries_none (g.B.QueueBook.crash_leaves c.args.book.now) (λ e. ⊥) c.args.context.moment w),
+    )
 
 pub returns-in-Err-Memory-clause-planned : goal.returns-in-Err-Memory-clause-planned
 returns-in-Err-Memory-clause-planned g c = λ honest w st set.
@@ -39,7 +48,8 @@ returns-in-Err-Memory-clause-planned g c = λ honest w st set.
     let s = left c.take_framed.new.input.buffer (g.R.Read.remaining c.take_framed.new.input.reader) in (
       w,
       st,
-      planned_closed c.args.context.moment c.args.k w c.args.plan r s (g.W.Write.contents c.args.writer.now) (g.W.Write.contents c.send_continue.new.writer) (g.W.Write.contents c.close_with-in-Err-Memory.new.writer) (Refused ServiceUnavailable) c.close_with-in-Err-Memory.result
+      planned_closed (λ asks. Carries (g.B.QueueBook.crash_leaves c.args.book.now) (g.B.QueueBook.crash_leaves c.args.book.now) asks c.args.context.moment w w) c.args.context.moment c.args.k w w c.args.plan r s (g.W.Write.contents c.args.writer.now) (g.W.Write.contents c.send_continue.new.writer) (g.W.Write.contents c.close_with-in-Err-Memory.new.writer) (Refused ServiceUnavailable) c.close_with-in-Err-Memory.result refl
+          (carries_none (g.B.QueueBook.crash_leaves c.args.book.now) (λ e. ⊥) c.args.context.moment w)
           (end_unavailable w c.args.plan r) c.in_ok-invited.ensures.ok c.close_with-in-Err-Memory.ensures,
     )
 
@@ -51,9 +61,9 @@ returns-in-Ok-Answered-clause-planned g c = λ honest w st set.
     let t = rw c.in-Ok-Answered.field-0-is at (c.in-Ok-Answered.ensures.replied honest w st set) in (
       t.0,
       t.1,
-      planned_answered c.args.context.moment c.args.k w t.0 c.args.plan r s (g.W.Write.contents c.args.writer.now) (g.W.Write.contents c.send_continue.new.writer) (g.W.Write.contents c.reply.new.writer)
+      planned_answered (λ asks. Carries (g.B.QueueBook.crash_leaves c.args.book.now) (g.B.QueueBook.crash_leaves c.reply.new.book) asks c.args.context.moment w t.0) c.args.context.moment c.args.k w t.0 c.args.plan r s (g.W.Write.contents c.args.writer.now) (g.W.Write.contents c.send_continue.new.writer) (g.W.Write.contents c.reply.new.writer)
           f.0 c.as_slice.result.now t.2.0 c.acts_on_target.result c.in-Ok-Answered.is_fault c.closes_after-closes.result c.in_ok-invited.ensures.ok
-          (body_as c.args.plan.framing f.0 c.in-Ok.content.items c.as_slice.result.now f.1 c.as_slice.ensures.value) f.2 t.2.1 t.2.2 c.acts_on_target.ensures c.closes_after-closes.ensures,
+          (body_as c.args.plan.framing f.0 c.in-Ok.content.items c.as_slice.result.now f.1 c.as_slice.ensures.value) f.2 t.2.1 t.2.2 c.acts_on_target.ensures c.closes_after-closes.ensures t.3,
     )
 
 pub returns-in-Ok-Declined-clause-planned : goal.returns-in-Ok-Declined-clause-planned
@@ -62,16 +72,14 @@ returns-in-Ok-Declined-clause-planned g c = λ honest w st set.
     let s = left c.take_framed.new.input.buffer (g.R.Read.remaining c.take_framed.new.input.reader) in
     let v = g.W.Write.contents c.args.writer.now in
     let m = g.W.Write.contents c.reply.new.writer in
-    let x = g.W.Write.contents c.close_with-in-Ok-Declined.new.writer in
     let f = c.in-Ok.ensures.taken in
     let t = rw c.in-Ok-Declined.field-0-is at (c.in-Ok-Declined.ensures.replied honest w st set) in
     let z = c.in-Ok-Declined.refusal in (
       t.0,
       t.1,
-      same_world c.args.context.moment c.args.k w t.0 c.args.plan r s v x c.close_with-in-Ok-Declined.result t.2.2
-          (planned_closed c.args.context.moment c.args.k w c.args.plan r s v m x (Refused z) c.close_with-in-Ok-Declined.result
+      planned_closed (λ asks. Carries (g.B.QueueBook.crash_leaves c.args.book.now) (g.B.QueueBook.crash_leaves c.reply.new.book) asks c.args.context.moment w t.0) c.args.context.moment c.args.k w t.0 c.args.plan r s v m (g.W.Write.contents c.close_with-in-Ok-Declined.new.writer) (Refused z) c.close_with-in-Ok-Declined.result t.2.2 t.3
           (end_declined w c.args.plan r s f.0 c.as_slice.result.now z f.2 (body_as c.args.plan.framing f.0 c.in-Ok.content.items c.as_slice.result.now f.1 c.as_slice.ensures.value) t.2.0)
-          (said_on v (g.W.Write.contents c.send_continue.new.writer) m c.args.plan c.in_ok-invited.ensures.ok t.2.1) c.close_with-in-Ok-Declined.ensures),
+          (said_on v (g.W.Write.contents c.send_continue.new.writer) m c.args.plan c.in_ok-invited.ensures.ok t.2.1) c.close_with-in-Ok-Declined.ensures,
     )
 
 pub returns-clause-planned : goal.returns-clause-planned
@@ -82,54 +90,9 @@ returns-clause-planned g c = λ honest w st set.
     let t = c.in-Err.ensures.replied honest w st set in (
       t.0,
       t.1,
-      planned_broken c.args.context.moment c.args.k w t.0 c.args.plan r s (g.W.Write.contents c.args.writer.now) (g.W.Write.contents c.send_continue.new.writer) (g.W.Write.contents c.reply.new.writer)
+      planned_broken (λ asks. Carries (g.B.QueueBook.crash_leaves c.args.book.now) (g.B.QueueBook.crash_leaves c.reply.new.book) asks c.args.context.moment w t.0) c.args.context.moment c.args.k w t.0 c.args.plan r s (g.W.Write.contents c.args.writer.now) (g.W.Write.contents c.send_continue.new.writer) (g.W.Write.contents c.reply.new.writer)
           f.0 c.as_slice.result.now t.2.0 c.in-Err.stopped c.closes_after-closes.result c.in_ok-invited.ensures.ok
-          (body_as c.args.plan.framing f.0 c.in-Ok.content.items c.as_slice.result.now f.1 c.as_slice.ensures.value) f.2 t.2.1 t.2.2 t.2.3 c.closes_after-closes.ensures,
-    )
-
-pub returns-in_err-invited-clause-worked : goal.returns-in_err-invited-clause-worked
-returns-in_err-invited-clause-worked g c = λ honest w st set. (
-  w,
-  st,
-  by_write (λ result. PlanWorks (λ asks. Carries (g.B.QueueBook.crash_leaves c.args.book.now) (g.B.QueueBook.crash_leaves c.args.book.now) asks c.args.context.moment w w) c.args.context.moment c.args.k w w c.args.plan (acted_in result)) c.from_residual.result c.from_residual.ensures.1
-      (λ f acted fault. plan_idle (λ asks. Carries (g.B.QueueBook.crash_leaves c.args.book.now) (g.B.QueueBook.crash_leaves c.args.book.now) asks c.args.context.moment w w) c.args.context.moment c.args.k w w c.args.plan f.acted refl acted (carries_none (g.B.QueueBook.crash_leaves c.args.book.now) (λ e. ⊥) c.args.context.moment w)),
-)
-
-pub returns-in-Err-Ended-clause-worked : goal.returns-in-Err-Ended-clause-worked
-returns-in-Err-Ended-clause-worked g c = λ honest w st set. (w, st, plan_idle (λ asks. Carries (g.B.QueueBook.crash_leaves c.args.book.now) (g.B.QueueBook.crash_leaves c.args.book.now) asks c.args.context.moment w w) c.args.context.moment c.args.k w w c.args.plan _ refl (closed_idle _ _ _ c.close_with.result c.close_with.ensures) (carries_none (g.B.QueueBook.crash_leaves c.args.book.now) (λ e. ⊥) c.args.context.moment w))
-
-pub returns-in-Err-Read-clause-worked : goal.returns-in-Err-Read-clause-worked
-returns-in-Err-Read-clause-worked g c = λ honest w st set. (w, st, plan_idle (λ asks. Carries (g.B.QueueBook.crash_leaves c.args.book.now) (g.B.QueueBook.crash_leaves c.args.book.now) asks c.args.context.moment w w) c.args.context.moment c.args.k w w c.args.plan _ refl c.stopped_by.ensures.acted (carries_none (g.B.QueueBook.crash_leaves c.args.book.now) (λ e. ⊥) c.args.context.moment w))
-
-pub returns-in-Err-Memory-clause-worked : goal.returns-in-Err-Memory-clause-worked
-returns-in-Err-Memory-clause-worked g c = λ honest w st set. (w, st, plan_idle (λ asks. Carries (g.B.QueueBook.crash_leaves c.args.book.now) (g.B.QueueBook.crash_leaves c.args.book.now) asks c.args.context.moment w w) c.args.context.moment c.args.k w w c.args.plan _ refl (closed_idle _ _ _ c.close_with-in-Err-Memory.result c.close_with-in-Err-Memory.ensures) (carries_none (g.B.QueueBook.crash_leaves c.args.book.now) (λ e. ⊥) c.args.context.moment w))
-
-pub returns-in-Ok-Answered-clause-worked : goal.returns-in-Ok-Answered-clause-worked
-returns-in-Ok-Answered-clause-worked g c = λ honest w st set.
-    let f = c.in-Ok.ensures.taken in
-    let t = rw c.in-Ok-Answered.field-0-is at (c.in-Ok-Answered.ensures.replied honest w st set) in (
-      t.0,
-      t.1,
-      plan_works (λ asks. Carries (g.B.QueueBook.crash_leaves c.args.book.now) (g.B.QueueBook.crash_leaves c.reply.new.book) asks c.args.context.moment w t.0) c.args.context.moment c.args.k w t.0 c.args.plan f.0 c.as_slice.result.now t.2.0 c.acts_on_target.result c.in-Ok-Answered.is_fault c.closes_after-closes.result
-          (body_as c.args.plan.framing f.0 c.in-Ok.content.items c.as_slice.result.now f.1 c.as_slice.ensures.value) t.2.1 c.acts_on_target.ensures c.closes_after-closes.ensures t.3,
-    )
-
-pub returns-in-Ok-Declined-clause-worked : goal.returns-in-Ok-Declined-clause-worked
-returns-in-Ok-Declined-clause-worked g c = λ honest w st set.
-    let t = rw c.in-Ok-Declined.field-0-is at (c.in-Ok-Declined.ensures.replied honest w st set) in (
-      t.0,
-      t.1,
-      plan_idle (λ asks. Carries (g.B.QueueBook.crash_leaves c.args.book.now) (g.B.QueueBook.crash_leaves c.reply.new.book) asks c.args.context.moment w t.0) c.args.context.moment c.args.k w t.0 c.args.plan _ t.2.2 (closed_idle _ _ _ c.close_with-in-Ok-Declined.result c.close_with-in-Ok-Declined.ensures) t.3,
-    )
-
-pub returns-clause-worked : goal.returns-clause-worked
-returns-clause-worked g c = λ honest w st set.
-    let f = c.in-Ok.ensures.taken in
-    let t = c.in-Err.ensures.replied honest w st set in (
-      t.0,
-      t.1,
-      plan_works (λ asks. Carries (g.B.QueueBook.crash_leaves c.args.book.now) (g.B.QueueBook.crash_leaves c.reply.new.book) asks c.args.context.moment w t.0) c.args.context.moment c.args.k w t.0 c.args.plan f.0 c.as_slice.result.now t.2.0 c.in-Err.stopped.acted c.in-Err.stopped.is_fault c.closes_after-closes.result
-          (body_as c.args.plan.framing f.0 c.in-Ok.content.items c.as_slice.result.now f.1 c.as_slice.ensures.value) t.2.1 t.2.3 c.closes_after-closes.ensures t.3,
+          (body_as c.args.plan.framing f.0 c.in-Ok.content.items c.as_slice.result.now f.1 c.as_slice.ensures.value) f.2 t.2.1 t.2.2 t.2.3 c.closes_after-closes.ensures t.3,
     )
 
 pub returns-in-Ok-Answered-clause-live : goal.returns-in-Ok-Answered-clause-live
