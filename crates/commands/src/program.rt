@@ -20,7 +20,9 @@ fn close(done: Result<FileBook<Unknown>, Fault>) -> Result<(), Fault>
     ensures done { IfOk done (λ book. IsOk result) }
     ensures refused { IfErr done (λ fault. IsErrOf result fault) }
 {
-    let _closed = done?.close_files();
+    if let Err((_fault, store)) = done?.close_files() {
+        let _files = store.close();
+    }
     Ok(())
 }
 

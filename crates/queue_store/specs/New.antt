@@ -1,13 +1,14 @@
 -- A new book.
-use Rattle.std.specs.Prelude.{◌≡◌, [], ◌∷◌, ◌||◌, Bool, IsTrue, is_some, codes}
+use Rattle.std.specs.Prelude.{◌≡◌, ◌⊎◌, [], ◌∷◌, ◌||◌, Bool, IsTrue, is_some, codes}
 use Rattle.sqlite.specs.Schema.{Schema}
 use Rattle.sqlite.specs.State.{State, HasCleanDisk}
 use Rattle.sqlite_schema.specs.Names.{table_named}
+use Rattle.sqlite_trees.specs.Tree.{Trees}
 use Rattle.queue_types.specs.Settings.{SettingValues}
-use Rattle.queue_core.specs.World.{empty_queue}
+use Rattle.queue_core.specs.World.{World, empty_queue}
 use Rattle.queue_rows.specs.Rows.{meta_row}
 use Rattle.queue_rows.specs.declared.rows.MetaRow.{MetaRow}
-use Rattle.queue_tables.specs.Content.{Content}
+use Rattle.queue_tables.specs.Content.{Content, IsBookOf}
 use Rattle.queue_tables.specs.Values.{meta_values}
 
 abbrev pub no_content : Content
@@ -26,6 +27,14 @@ pub record KeepsTables (old new : State) : Type 0 where
   pub opened : HasCleanDisk new → IsTrue new.is_open → IsTrue old.is_open
   pub same : HasCleanDisk new → IsTrue new.is_open → new.now ≡ old.now
   pub committed : HasCleanDisk new → IsTrue new.is_open → new.committed ≡ old.committed
+
+-- each database that a crash may leave is one that it might have left before, or holds this queue. It says nothing once the disk has lied
+abbrev pub LeavesOldOrNew : World → State → State → Type 0
+LeavesOldOrNew w old new = HasCleanDisk new → (db : Trees) → new.may_leave db → old.may_leave db ⊎ IsBookOf w db
+
+-- each holds this queue
+abbrev pub LeavesOnly : World → State → Type 0
+LeavesOnly w s = HasCleanDisk s → (db : Trees) → s.may_leave db → IsBookOf w db
 
 -- the name of a table is taken
 abbrev pub has_any : Schema → Bool

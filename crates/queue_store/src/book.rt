@@ -1,12 +1,13 @@
 //! The book in tables.
-ghost use Rattle.std.specs.Prelude.{◌≡◌, ◌↔◌, IfErr, IfOk, IsTrue, OnErr};
+ghost use Rattle.std.specs.Prelude.{◌≡◌, ◌≢◌, ◌↔◌, IfErr, IfOk, IsTrue, OnErr};
 ghost use Rattle.sqlite.specs.Held.{state};
 ghost use Rattle.sqlite.specs.State.{HasCleanDisk};
 ghost use Rattle.sqlite.specs.Steps.{over_memory};
+ghost use Rattle.queue_core.specs.Sound.{IsSound};
 ghost use Rattle.queue_core.specs.World.{World, empty_queue};
 ghost use Rattle.queue_core.specs.declared.book.BookFault.TheVariants.{Damaged};
 ghost use Rattle.queue_store.specs.Kept.{IsHonest, StandsFor, connection_of, shown_by};
-ghost use Rattle.queue_store.specs.New.{KeepsTables, has_any, new_meta};
+ghost use Rattle.queue_store.specs.New.{KeepsTables, LeavesOldOrNew, LeavesOnly, has_any, new_meta};
 ghost use Rattle.queue_tables.specs.Content.{Holds, content_of};
 ghost use Rattle.queue_tables.specs.Tables.{no_schema};
 
@@ -70,7 +71,7 @@ fn first_row(alloc: Global, settings: &Settings) -> Result<MetaRow, AllocError>
     })
 }
 
-/// Makes the tables of a book with these settings in a blank store.
+/// Makes the tables of a book with these settings in a blank store. In another nothing is done.
 fn make_new<S: Alter>(
     alloc: Global,
     conn: &mut Connection<S>,
@@ -81,6 +82,8 @@ fn make_new<S: Alter>(
     ensures made { HasCleanDisk (state S.Store conn.new) → IfOk result (λ u. Holds (content_of (empty_queue settings.now)) (state S.Store conn.new)) }
     ensures settled { HasCleanDisk (state S.Store conn.new) → IfOk result (λ u. (state S.Store conn.new).now ≡ (state S.Store conn.new).committed) }
     ensures refused { OnErr result (KeepsTables (state S.Store conn.old) (state S.Store conn.new)) }
+    ensures crash { IsSound (empty_queue settings.now) → LeavesOldOrNew (empty_queue settings.now) (state S.Store conn.old) (state S.Store conn.new) }
+    ensures untouched { (state S.Store conn.old).now.schema ≢ no_schema → conn.new ≡ conn.old }
     ensures damaged { IfErr result (λ e. e ≡ Fault.Damaged → IsTrue (has_any (state S.Store conn.old).now.schema)) }
 {
     // its contract says that outside a transaction the tables are those of the last commit
@@ -98,7 +101,8 @@ fn make_new<S: Alter>(
 impl<S: Alter> TableBook<S> {
     /// A new book with these settings, without jobs, accounts and reports, in a store without tables. Damaged is
     /// told only where the name of one of its tables is taken. A refusal hands the connection back, with its
-    /// tables as they were.
+    /// tables as they were, and as it came where there were any. Whatever the answer, a crash then leaves what it might have
+    /// left before, or the new book; after an Ok the new book alone.
     pub fn create(
         alloc: Global,
         mut conn: Connection<S>,
@@ -109,7 +113,10 @@ impl<S: Alter> TableBook<S> {
         ensures stands { IfOk result (λ b. StandsFor S.Store b (empty_queue settings)) }
         ensures live { IfOk result (λ b. IsHonest S.Store b → IsTrue (shown_by S.Store b).is_open) }
         ensures damaged { IfErr result (λ e. e.0 ≡ Damaged → IsTrue (has_any (state S.Store conn).now.schema)) }
+        ensures lasts { IfOk result (λ b. LeavesOnly (empty_queue settings) (shown_by S.Store b)) }
         ensures handed { IfErr result (λ e. KeepsTables (state S.Store conn) (state S.Store e.1)) }
+        ensures crash { IfErr result (λ e. LeavesOldOrNew (empty_queue settings) (state S.Store conn) (state S.Store e.1)) }
+        ensures untouched { IfErr result (λ e. (state S.Store conn).now.schema ≢ no_schema → e.1 ≡ conn) }
     {
         empty_is_sound();
         // its contract says that the settings are within their limits
@@ -145,7 +152,7 @@ impl<S: Alter> TableBook<S> {
 }
 
 impl<S: Alter + Drop> TableBook<S> {
-    /// As `create`, but a refusal lets the connection go.
+    /// As `create`, but a refusal lets the connection go, so no clause says what a crash then leaves.
     pub fn create_or_drop(
         alloc: Global,
         conn: Connection<S>,

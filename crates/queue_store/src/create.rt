@@ -3,9 +3,11 @@ ghost use Rattle.std.specs.Prelude.{◌≡◌, ◌≢◌, [], IfErr, IfOk, Ok, O
 ghost use Rattle.sqlite.specs.Effect.{IsDatabase};
 ghost use Rattle.sqlite.specs.State.{ExecutesInside, HasCleanDisk};
 ghost use Rattle.sqlite.specs.Held.{state};
+ghost use Rattle.queue_core.specs.Sound.{IsSound};
+ghost use Rattle.queue_core.specs.World.{World};
 ghost use Rattle.queue_store.specs.Made.{IsMade, schema4, schema7, schema10};
-ghost use Rattle.queue_store.specs.New.{KeepsTables, new_content};
-ghost use Rattle.queue_tables.specs.Content.{Content, Holds};
+ghost use Rattle.queue_store.specs.New.{KeepsTables, LeavesOldOrNew, new_content};
+ghost use Rattle.queue_tables.specs.Content.{Content, Holds, content_of};
 ghost use Rattle.queue_tables.specs.Leaving.{KeepsBehind};
 ghost use Rattle.queue_tables.specs.Steps.{with_meta_row};
 ghost use Rattle.queue_tables.specs.Tables.{no_schema};
@@ -131,12 +133,14 @@ fn create_all<S: Alter>(tx: &mut Transaction<'_, S>, meta: &MetaRow) -> Result<(
     add_meta(tx, meta)
 }
 
-/// Makes the tables of a book without jobs in a store without any, in one transaction.
+/// Makes the tables of a book without jobs in a store without any, in one transaction. Whatever the answer, a crash then leaves
+/// what it might have left before, or the new book.
 pub(crate) fn make_tables<S: Alter>(conn: &mut Connection<S>, meta: &MetaRow) -> Result<(), Fault>
     ensures clean { HasCleanDisk (state S.Store conn.new) → HasCleanDisk (state S.Store conn.old) }
     ensures made { HasCleanDisk (state S.Store conn.new) → OnOk result ((state S.Store conn.old).now.schema ≡ no_schema → Holds (new_content meta.now) (state S.Store conn.new)) }
     ensures settled { HasCleanDisk (state S.Store conn.new) → OnOk result ((state S.Store conn.new).now ≡ (state S.Store conn.new).committed) }
     ensures refused { OnErr result (KeepsTables (state S.Store conn.old) (state S.Store conn.new)) }
+    ensures crash { (state S.Store conn.old).now.schema ≡ no_schema → (w : World) → IsSound w → new_content meta.now ≡ content_of w → LeavesOldOrNew w (state S.Store conn.old) (state S.Store conn.new) }
     ensures never { IfErr result (λ e. e ≢ Damaged) }
 {
     if !conn.is_autocommit() {

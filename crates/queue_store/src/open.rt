@@ -1,5 +1,5 @@
 //! A book from a file.
-ghost use Rattle.std.specs.Prelude.{◌≡◌, codes, Err, IfOk, IsTrue};
+ghost use Rattle.std.specs.Prelude.{◌≡◌, codes, Err, IfErr, IfOk, IsTrue};
 ghost use Rattle.sqlite.specs.Closing.{IsCopied};
 ghost use Rattle.sqlite.specs.Files.{HoldsDatabase, IsOpened, file_state, over_files};
 ghost use Rattle.sqlite.specs.Start.{FindsIn};
@@ -10,7 +10,7 @@ ghost use Rattle.sqlite_wal.specs.Reads.{AreClean};
 ghost use Rattle.sqlite_wal.specs.Recovery.{Image};
 ghost use Rattle.queue_core.specs.World.{World, empty_queue};
 ghost use Rattle.queue_load.specs.Store.{FitsIn};
-ghost use Rattle.queue_store.specs.Closed.{KeepAlone};
+ghost use Rattle.queue_store.specs.Closed.{KeepAlone, LeavesNoMore};
 ghost use Rattle.queue_store.specs.Crash.{IsKept, KeepOneOf, KeepTogether};
 ghost use Rattle.queue_store.specs.Kept.{IsHonest, StandsFor, StandsForOne, shown_by};
 ghost use Rattle.queue_store.specs.Opened.{FitsFile, HasNoTables, IsKeptIn, open_fault};
@@ -49,13 +49,16 @@ fn take_files<D: Disk + Drop>(conn: Connection<FileStore<D>>) -> Files<D>
     conn.into_store().close()
 }
 
-/// Copies the log of a connection's files into the database file, and gives both back.
-fn copy_log<D: Disk + Drop>(conn: Connection<FileStore<D>>) -> Result<Files<D>, BookFault>
+/// Copies the log of a connection's files into the database file, and gives both back. An error hands the store back.
+fn copy_log<D: Disk + Drop>(
+    conn: Connection<FileStore<D>>,
+) -> Result<Files<D>, (BookFault, FileStore<D>)>
     ensures copied { IfOk result (λ files. AreClean D.Disk files.log files.db → IsCopied conn files) }
+    ensures crash { IfErr result (λ e. LeavesNoMore (file_state conn) e.1) }
 {
     match conn.close_files() {
         Ok(files) => Ok(files),
-        Err((error, _store)) => Err(fault_of_open(error)),
+        Err((error, store)) => Err((fault_of_open(error), store)),
     }
 }
 
@@ -117,11 +120,12 @@ impl<D: Disk + Drop> TableBook<FileStore<D>> {
     }
 
     /// Copies the log into the database file, so that this file alone keeps the book, and gives both back, which are
-    /// closed as they are let go. An error leaves them as a crash would: what was done is in the log, and is found as the
-    /// book is opened again.
-    pub fn close_files(self) -> Result<Files<D>, BookFault>
+    /// closed as they are let go. An error hands the store back, as a crash would leave it: what was done is in the log, and
+    /// is found as the book is opened again.
+    pub fn close_files(self) -> Result<Files<D>, (BookFault, FileStore<D>)>
         ensures honest { IfOk result (λ files. AreClean D.Disk files.log files.db → IsHonest over_files self) }
         ensures copied { IfOk result (λ files. AreClean D.Disk files.log files.db → (w : World) → StandsFor over_files self w → KeepAlone D.Disk files w) }
+        ensures crash { IfErr result (λ e. LeavesNoMore (shown_by over_files self) e.1) }
     {
         let TableBook {
             alloc: _,
@@ -135,7 +139,8 @@ impl<D: Disk + Drop> TableBook<FileStore<D>> {
 impl<S: Start> TableBook<FileStore<FileFrom<S>>> {
     /// A new book with these settings, without jobs, accounts and reports, in the files at a path, which are made
     /// where they are missing. Damaged is told where they have a table of a book already, or are no database; Disk
-    /// where they have other tables, can't be opened or are in use. A refusal lets them go.
+    /// where they have other tables, can't be opened or are in use. A refusal lets them go, so what a crash then leaves
+    /// is said by `create` alone, of the connection to them.
     pub fn create_from(
         rt: &HostRuntime,
         path: &str,

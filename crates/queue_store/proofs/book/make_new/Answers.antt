@@ -12,3 +12,8 @@ returns-clause-made g c clean =
     let here = c.is_blank.ensures.0 blank in
     let same : new_content c.in_ok-meta.meta ≡ _ = ap new_content c.in_ok-meta.ensures ∙ new_is c.args.settings.now in
     on_if c.make_tables.result _ _ (λ made. subst (λ (content : Content). Holds content (state g.S.Store c.make_tables.new.conn)) same (made here)) (c.make_tables.ensures.made clean)
+
+pub returns-clause-crash : goal.returns-clause-crash
+returns-clause-crash g c sound =
+    let blank : IsTrue c.is_blank.result = search rules in
+    c.make_tables.ensures.crash (c.is_blank.ensures.0 blank) _ sound (ap new_content c.in_ok-meta.ensures ∙ new_is c.args.settings.now)
