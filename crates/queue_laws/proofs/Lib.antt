@@ -42,3 +42,6 @@ pub mod OfKind
 pub mod Moving
 pub mod Fetched
 pub mod OfPrinter
+pub mod Staying
+pub mod OfMine
+pub mod Coming

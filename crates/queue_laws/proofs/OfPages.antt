@@ -28,7 +28,7 @@ use Rattle.queue_laws.proofs.OnSend.{taken_step}
 
 -- ---- amounts
 
-nothing_owed : (b : Bool) → cond {A = ℕ} b 0 0 ≡ 0
+pub nothing_owed : (b : Bool) → cond {A = ℕ} b 0 0 ≡ 0
 nothing_owed true = refl
 nothing_owed false = refl
 

@@ -39,7 +39,7 @@ other_code A r there here = absurd (two_codes 0x0406 0x0404 (ap code_in (sym the
 
 -- ---- numbers
 
-one_of : (numbers : List ℕ) (j : Job) → is_one_of numbers j ≡ is_among numbers j.number
+pub one_of : (numbers : List ℕ) (j : Job) → is_one_of numbers j ≡ is_among numbers j.number
 unfolding is_one_of
 one_of numbers j = refl
 

@@ -34,7 +34,7 @@ never : (b : Bool) → (b && false) ≡ false
 never true = refl
 never false = refl
 
-added : (n : ℕ) (es : List Entry) (e : Entry) (x : Job) (format : Format) (payload : List ℕ) → x.number ≡ n → entry_at n es ≡ Some e → entry_at n (with_document (with_row es x) (new_document x.number format payload)) ≡ Some (record { row = x; documents = e.documents ++ documents_of format payload })
+pub added : (n : ℕ) (es : List Entry) (e : Entry) (x : Job) (format : Format) (payload : List ℕ) → x.number ≡ n → entry_at n es ≡ Some e → entry_at n (with_document (with_row es x) (new_document x.number format payload)) ≡ Some (record { row = x; documents = e.documents ++ documents_of format payload })
 added n es e x format [] number there = with_row_at n x es e number there ∙ ap (λ ds. Some (record { row = x; documents = ds })) (sym (append-nil e.documents))
 added n es e x format (b ∷ bytes) number there =
     let d : NewDocument = record { job = x.number; format = format; bytes = b ∷ bytes } in

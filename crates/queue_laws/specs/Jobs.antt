@@ -26,6 +26,10 @@ is_of_kind Completed j = is_finished j
 abbrev pub own_of_kind : List ℕ → WhichJobs → List Job → List Job
 own_of_kind caller which js = filter (λ j. is_owned_by caller j && is_of_kind which j) js
 
+-- the caller's own that wait, in states 3 and 4
+abbrev pub waiting_of : List ℕ → List Job → List Job
+waiting_of caller js = filter (λ j. is_owned_by caller j && nat_le (state j) 4) js
+
 -- how many jobs of the caller's own are not finished
 abbrev pub unfinished_of : List ℕ → List Job → ℕ
 unfinished_of caller js = count_by (λ j. is_owned_by caller j && is_unfinished j) js

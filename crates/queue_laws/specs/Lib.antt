@@ -9,3 +9,4 @@ pub mod Granting
 pub mod Alike
 pub mod Thin
 pub mod Doing
+pub mod Documents

@@ -1,5 +1,5 @@
 //! What an operation on jobs of the caller's own does (RFC 8011, section 4.3; PWG 5100.11).
-ghost use Rattle.std.specs.Prelude.{ℕ, ℤ, pos, ◌≡◌, ◌≢◌, ◌<◌, ◌≤◌, ◌≤ℤ◌, ◌<ℤ◌, ◌+ℤ◌, ◌-ℤ◌, List, [], ◌∷◌, ◌++◌, length, Some, None, Bool, true, false};
+ghost use Rattle.std.specs.Prelude.{ℕ, ℤ, pos, ◌≡◌, ◌≢◌, ◌<◌, ◌≤◌, ◌≤ℤ◌, ◌<ℤ◌, ◌+ℤ◌, ◌-ℤ◌, List, [], ◌∷◌, ◌++◌, length, Some, None, Bool, true, false, filter, sum_by};
 ghost use Rattle.std.specs.FinMap.{get};
 ghost use Rattle.std.specs.List.{list_all, AllByRecursion};
 ghost use Rattle.queue_types.specs.Event.{ask, hold_job, release_job, cancel_job, cancel_my_jobs, send_document};
@@ -13,7 +13,8 @@ ghost use Rattle.queue_types.specs.declared.job.Phase.TheVariants.{Canceled};
 ghost use Rattle.queue_types.specs.declared.job.Why.TheVariants.{ByUser};
 ghost use Rattle.queue_laws.specs.Doing.{entry_at, is_among, sent_to};
 ghost use Rattle.queue_laws.specs.Entering.{documents_of};
-ghost use Rattle.queue_laws.specs.Jobs.{is_owned_by, has_job};
+ghost use Rattle.queue_laws.specs.Jobs.{is_owned_by, has_job, waiting_of};
+ghost use Rattle.queue_laws.specs.Replies.{refuses};
 
 /// Hold-Job, where the job waits: it is held, and nothing else of it or of its documents changes. Where the device has
 /// it, or it ended, client-error-not-possible.
@@ -79,11 +80,14 @@ pub fn named_jobs_are_canceled()
 
 /// The free pages of the caller's account move with the job. Hold-Job and Cancel-Job of a job that waits give back what
 /// is set aside for it; Release-Job of a held one takes its estimate; Cancel-Job of a job that the device has, and
-/// Send-Document, move none.
+/// Send-Document, move none. Cancel-My-Jobs gives back what is set aside for those of the caller's jobs that wait; with
+/// job numbers, for those of them that are named.
 pub fn pages_are_set_aside()
     ensures held { (w : World) (now n : ℕ) (caller : List ℕ) (e : Entry) → entry_at n w.jobs ≡ Some e → is_owned_by caller e.row ≡ true → (free : ℤ) → get w.free caller ≡ Some free → state e.row ≤ 4 → get (step w now (ask caller (hold_job n))).world.free caller ≡ Some (free +ℤ pos (owed e.row)) }
     ensures released { (w : World) (now n : ℕ) (caller : List ℕ) (e : Entry) → entry_at n w.jobs ≡ Some e → is_owned_by caller e.row ≡ true → (free : ℤ) → get w.free caller ≡ Some free → IsSound w → state e.row ≤ 4 → e.row.hold ≡ true → pos (estimate e.row) ≤ℤ free → get (step w now (ask caller (release_job n))).world.free caller ≡ Some (free -ℤ pos (estimate e.row)) }
     ensures canceled { (w : World) (now n : ℕ) (caller : List ℕ) (e : Entry) → entry_at n w.jobs ≡ Some e → is_owned_by caller e.row ≡ true → (free : ℤ) → get w.free caller ≡ Some free → state e.row ≤ 4 → get (step w now (ask caller (cancel_job n))).world.free caller ≡ Some (free +ℤ pos (owed e.row)) }
     ensures stopping { (w : World) (now n : ℕ) (caller : List ℕ) (e : Entry) → entry_at n w.jobs ≡ Some e → is_owned_by caller e.row ≡ true → (free : ℤ) → get w.free caller ≡ Some free → 5 ≤ state e.row → state e.row ≤ 6 → e.row.stopping ≡ false → get (step w now (ask caller (cancel_job n))).world.free caller ≡ Some free }
     ensures sent { (w : World) (now n : ℕ) (caller : List ℕ) (e : Entry) → entry_at n w.jobs ≡ Some e → is_owned_by caller e.row ≡ true → (free : ℤ) → get w.free caller ≡ Some free → (format : Format) (payload : List ℕ) (last : Bool) → IsSound w → e.row.incoming ≡ true → length (e.documents ++ documents_of format payload) ≤ 16 → get (step w now (ask caller (send_document n format payload last))).world.free caller ≡ Some free }
+    ensures all { (w : World) (now : ℕ) (caller : List ℕ) (free : ℤ) → get w.free caller ≡ Some free → IsSound w → get (step w now (ask caller (cancel_my_jobs None))).world.free caller ≡ Some (free +ℤ pos (sum_by owed (waiting_of caller (rows w)))) }
+    ensures named { (w : World) (now : ℕ) (caller numbers : List ℕ) (free : ℤ) → get w.free caller ≡ Some free → IsSound w → refuses (step w now (ask caller (cancel_my_jobs (Some numbers)))).reply ≡ false → get (step w now (ask caller (cancel_my_jobs (Some numbers)))).world.free caller ≡ Some (free +ℤ pos (sum_by owed (filter (λ j. is_among numbers j.number) (waiting_of caller (rows w))))) }
 {}

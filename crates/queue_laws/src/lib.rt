@@ -9,6 +9,7 @@ mod accounts;
 mod alone;
 mod charges;
 mod device;
+mod documents;
 mod doing;
 mod entering;
 mod fetching;
@@ -33,6 +34,7 @@ pub use charges::{reports_move_what_is_owed, reports_take_what_passes, requests_
 pub use device::{
     accepted_reports_are_kept, repeated_reports_are_answered_again, reports_change_their_job,
 };
+pub use documents::{documents_stay, only_sent_documents_come, sent_documents_are_fetched};
 pub use doing::{
     documents_are_added, held_jobs_are_released, jobs_are_canceled, named_jobs_are_canceled,
     own_jobs_are_canceled, pages_are_set_aside, waiting_jobs_are_held,

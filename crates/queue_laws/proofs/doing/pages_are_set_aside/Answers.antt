@@ -1,3 +1,4 @@
+use Rattle.queue_laws.proofs.OfMine.{mine_free, named_free}
 use Rattle.queue_laws.proofs.OfPages.{held_free, released_free, canceled_free, stopped_free, sent_free}
 use Rattle.queue_laws.proofs.doing.pages_are_set_aside.Goals as goal
 
@@ -15,3 +16,9 @@ returns-clause-stopping c = stopped_free
 
 pub returns-clause-sent : goal.returns-clause-sent
 returns-clause-sent c = sent_free
+
+pub returns-clause-all : goal.returns-clause-all
+returns-clause-all c w now caller free account sound = mine_free w now caller free account sound
+
+pub returns-clause-named : goal.returns-clause-named
+returns-clause-named c w now caller numbers free account sound = named_free w now caller free account sound numbers
