@@ -109,7 +109,6 @@ impl From<replay::Fault> for Fault {
             replay::Fault::Memory => Fault::Memory,
             replay::Fault::Disk => Fault::Disk,
             replay::Fault::Damaged => Fault::Damaged,
-            replay::Fault::BadSetting => Fault::BadSetting,
             replay::Fault::Io => Fault::Io,
         }
     }

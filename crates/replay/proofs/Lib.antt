@@ -2,3 +2,4 @@ pub mod DecimalLemmas
 pub mod HexadecimalLemmas
 pub mod LineLemmas
 pub mod SessionLemmas
+pub mod SettingsLemmas

@@ -2,19 +2,13 @@
 use Rattle.std.specs.Prelude.{◌≡◌, ◌⊎◌}
 use Rattle.queue_core.specs.declared.book.BookFault.{BookFault}
 use Rattle.queue_core.specs.declared.book.BookFault.TheVariants as book
-use Rattle.queue_types.specs.declared.settings.SettingFault.{SettingFault}
-use Rattle.queue_types.specs.declared.settings.SettingFault.TheVariants as setting
 use Rattle.replay.specs.declared.fault.Fault.{Fault}
-use Rattle.replay.specs.declared.fault.Fault.TheVariants.{Memory, Disk, Damaged, BadSetting, Io}
+use Rattle.replay.specs.declared.fault.Fault.TheVariants.{Memory, Disk, Damaged, Io}
 
 abbrev pub fault_of_book : BookFault → Fault
 fault_of_book book.Memory = Memory
 fault_of_book book.Disk = Disk
 fault_of_book book.Damaged = Damaged
-
-abbrev pub fault_of_setting : SettingFault → Fault
-fault_of_setting setting.Bad = BadSetting
-fault_of_setting setting.Memory = Memory
 
 -- a stream failed
 abbrev pub IsOfStream : Fault → Type 0

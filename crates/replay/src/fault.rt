@@ -1,10 +1,9 @@
 //! Why a replay can't go on.
 ghost use Rattle.std.specs.Prelude.{◌≡◌};
-ghost use Rattle.replay.specs.Faults.{fault_of_book, fault_of_setting};
+ghost use Rattle.replay.specs.Faults.{fault_of_book};
 ghost use Rattle.replay.specs.declared.fault.Fault.TheVariants as faults;
 
 use queue_core::book::BookFault;
-use queue_types::settings::SettingFault;
 use std::alloc::AllocError;
 use std::io;
 use thiserror::Error;
@@ -21,9 +20,6 @@ pub enum Fault {
     /// The tables don't stand for a queue.
     #[error("damaged")]
     Damaged,
-    /// A setting of the printer is not within its limits.
-    #[error("bad setting")]
-    BadSetting,
     /// A standard stream couldn't be read or written.
     #[error("io")]
     Io,
@@ -49,17 +45,6 @@ impl From<io::Error> for Fault {
         match error.kind() {
             io::ErrorKind::OutOfMemory => Fault::Memory,
             _ => Fault::Io,
-        }
-    }
-}
-
-impl From<SettingFault> for Fault {
-    ghost from_gives = { λ told fault. fault ≡ fault_of_setting told };
-
-    fn from(told: SettingFault) -> Fault {
-        match told {
-            SettingFault::Bad => Fault::BadSetting,
-            SettingFault::Memory => Fault::Memory,
         }
     }
 }

@@ -9,6 +9,7 @@ ghost use Rattle.hex.specs.Hex.{decode_of, encode_lower};
 use std::alloc::Global;
 use std::io;
 use std::io::Write;
+use thiserror::Error;
 
 /// The most bytes that a message may have.
 pub const MOST_BYTES: usize = 16_777_216;
@@ -17,13 +18,16 @@ pub const MOST_BYTES: usize = 16_777_216;
 const PIECE: usize = 512;
 
 /// Why a text stands for no message, by its number.
-#[derive(Debug, Clone, Copy, PartialEq, Eq)]
+#[derive(Debug, Clone, Copy, PartialEq, Eq, Error)]
 pub enum HexFault {
     /// It isn't an even number of hexadecimal digits.
+    #[error("the text is not an even number of hexadecimal digits")]
     NotOfTheForm = 1,
     /// It stands for more bytes than [`MOST_BYTES`].
+    #[error("the message is too long")]
     TooLong = 2,
     /// There was no memory for its bytes.
+    #[error("there is no memory")]
     Memory = 3,
 }
 

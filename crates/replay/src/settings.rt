@@ -3,9 +3,8 @@
 ghost use Rattle.std.specs.Prelude.{◌≡◌, IfOk};
 ghost use Rattle.replay.specs.Replay.{settings};
 
-use crate::fault::Fault;
-use queue_types::settings::Settings;
-use std::alloc::Global;
+use queue_types::settings::{SettingFault, Settings};
+use std::alloc::{AllocError, Global};
 
 const URI: &str = "ipp://localhost/ipp/print";
 
@@ -16,9 +15,13 @@ const ESTIMATE: u32 = 20;
 const EPOCH: i64 = 0;
 
 /// The settings of a replay: the printer `release` at `ipp://localhost/ipp/print`, an estimate of 20 pages, and the epoch 0.
-pub fn replay_settings(alloc: Global) -> Result<Settings, Fault>
+/// They are within their limits: the one error is want of memory.
+pub fn replay_settings(alloc: Global) -> Result<Settings, AllocError>
     ensures { IfOk result (λ s. s ≡ settings) }
 {
-    let settings = Settings::new(alloc, URI, NAME, ESTIMATE, EPOCH)?;
-    Ok(settings)
+    match Settings::new(alloc, URI, NAME, ESTIMATE, EPOCH) {
+        Ok(settings) => Ok(settings),
+        Err(SettingFault::Memory) => Err(AllocError),
+        Err(SettingFault::Bad) => unreachable!("the settings are within their limits"),
+    }
 }
