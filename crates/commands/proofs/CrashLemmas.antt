@@ -1,5 +1,6 @@
--- What a crash leaves of a book where an account file was to be taken, or where nothing was done.
+-- What a crash leaves of a book where an account file was to be taken or connections were served, or where nothing was done.
 use Rattle.std.proofs.Common.{◌≡◌, ◌∙◌, ◌⊎◌, ℕ, List, [], IsTrue, Some, refl, subst, sym, inl, inr}
+use Rattle.sqlite.specs.State.{State}
 use Rattle.sqlite_trees.specs.Tree.{Trees}
 use Rattle.sqlite_trees.specs.declared.store.Store.{Ghosts}
 use Rattle.queue_types.specs.Event.{Event, grant}
@@ -10,16 +11,23 @@ use Rattle.queue_core.specs.World.{World, cut, made_on}
 use Rattle.queue_store.specs.Kept.{IsHonest, StandsFor, connection_of, shown_by}
 use Rattle.queue_store.specs.Laws.{open_lasts}
 use Rattle.queue_store.specs.declared.book.TableBook.{TableBook}
-use Rattle.queue_tables.specs.Content.{LeavesOneOf}
+use Rattle.queue_tables.specs.Content.{IsBookOf, LeavesOneOf}
 use Rattle.grants_csv.specs.Import.{Adds, Asks, grants}
 use Rattle.grants_csv.specs.declared.importing.Imported.{Imported}
 use Rattle.office.specs.Told.{IsTaken}
-use Rattle.commands.specs.Work.{IsAllOrNone, broken_off, taken, untaken}
+use Rattle.print_server.specs.Connections.{Carries, IsAtMostOneMore}
+use Rattle.print_server.proofs.CrashLemmas.{left_one}
+use Rattle.commands.specs.Work.{CrashLeaves, IsAllOrNone, broken_off, taken, untaken}
 
 -- of an open book a crash leaves the queue that it stands for
 pub lasts : {S : Type 0} (store : Ghosts S) → ((s : S) (db : Trees) → IsTrue (store.view s).is_open → store.recovers s db → db ≡ (store.view s).committed)
     → (b : TableBook S) (w : World) → IsHonest store b → IsTrue (shown_by store b).is_open → StandsFor store b w → LeavesOneOf w w (shown_by store b)
 lasts store settled b w honest live stands = open_lasts w stands (settled (connection_of b).store) honest live
+
+-- what connections carry from an open store
+pub one_more : (before after : State) (w u : World) → (IsTrue before.is_open → LeavesOneOf w w before)
+    → Carries (λ (v x : World). LeavesOneOf v x before) (λ (v x : World). LeavesOneOf v x after) w u → CrashLeaves before after u (IsAtMostOneMore u)
+one_more before after w u last carried = λ live. let left = carried w (last live) in (left.0, left.1, left_one w u left.0 left.2)
 
 -- rows that are refused change nothing
 added_or_same : (t : Taken) (w : World) → ((n : Imported) × Adds (grant_row t).reply n) ⊎ (made_on (grant_row t).change w ≡ w)
@@ -45,6 +53,24 @@ module _ {now : ℕ} {w u x : World} {bytes : List ℕ} where
     | inl all ↦ broken_off stays (all.0, subst (λ (v : World). IsTaken now w v bytes all.0) (sym left) all.1)
     | inr same ↦ untaken stays (left ∙ same ∙ sym stays)
   ]
+
+-- of a store that stands for w too, a crash leaves w, or another
+pub beside : (all : World → Type 0) (w u x : World) (s : State) → LeavesOneOf u x s → IsAllOrNone all w u x → (y : World) × LeavesOneOf w y s × IsAllOrNone all w w y
+beside all w u x s leaves (untaken stays left) = (
+  w,
+  λ db may. elim (leaves db may) [ inl b ↦ inl (subst (λ (z : World). IsBookOf z db) stays b) | inr b ↦ inl (subst (λ (z : World). IsBookOf z db) (left ∙ stays) b) ],
+  untaken refl refl,
+)
+beside all w u x s leaves (taken is left) = (
+  u,
+  λ db may. elim (leaves db may) [ inl b ↦ inr b | inr b ↦ inr (subst (λ (z : World). IsBookOf z db) left b) ],
+  broken_off refl is,
+)
+beside all w u x s leaves (broken_off stays is) = (
+  x,
+  λ db may. elim (leaves db may) [ inl b ↦ inl (subst (λ (z : World). IsBookOf z db) stays b) | inr b ↦ inr b ],
+  broken_off refl is,
+)
 
 -- so it is where something else is known of all
 pub known_of_all : (P Q : World → Type 0) (w u x : World) → ((v : World) → P v → Q v) → IsAllOrNone P w u x → IsAllOrNone Q w u x

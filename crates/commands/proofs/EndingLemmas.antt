@@ -30,6 +30,18 @@ pub both : {A E : Type 0} (r : Result A E) (P Q : E → Type 0) → IfErr r P �
 both (Ok a) P Q p q = tt
 both (Err e) P Q p q = (p, q)
 
+pub both_ok : {A E : Type 0} (r : Result A E) (X Y : Type 0) → OnOk r X → OnOk r Y → OnOk r (X × Y)
+both_ok (Ok a) X Y x y = (x, y)
+both_ok (Err e) X Y x y = tt
+
+pub under : {A E : Type 0} (r : Result A E) (X : Type 0) (P : E → Type 0) → (X → IfErr r P) → IfErr r (λ e. X → P e)
+under (Ok a) X P p = tt
+under (Err e) X P p = p
+
+pub by_four : {A E : Type 0} (r : Result A E) (P Q R S T : E → Type 0) → IfErr r P → IfErr r Q → IfErr r R → IfErr r S → ((e : E) → P e → Q e → R e → S e → T e) → IfErr r T
+by_four (Ok a) P Q R S T p q r s then_t = tt
+by_four (Err e) P Q R S T p q r s then_t = then_t e p q r s
+
 -- what a call is refused with is handed on
 pub handed_on : {A B E : Type 0} (r : Result A E) (s : Result B E) (Q : E → Type 0) → IfOk r (λ a. IsOk s) → IfErr r (λ e. IsErrOf s e) → IfErr r Q → IfErr s Q
 handed_on r (Ok b) Q done refused q = tt

@@ -82,6 +82,10 @@ of_damaged_book book.Damaged e = refl
 pub no_damage : (fault : Fault) → IsOfStream fault → fault ≡ Damaged → ⊥
 no_damage fault stream is = elim stream [ inl e ↦ cc | inr e ↦ cc ]
 
+-- nor refuses a file
+pub no_file : (fault : Fault) (why : ImportFault) → IsOfStream fault → fault ≡ Import why → ⊥
+no_file fault why stream is = elim stream [ inl e ↦ cc | inr e ↦ cc ]
+
 pub of_damaged_server : (stopped : ServerFault) (fault : Fault) → ((told : BookFault) → stopped ≡ server.Book told → fault ≡ fault_of_book told)
     → ((error : StreamError) → stopped ≡ server.Io error → IsOfStream fault) → fault ≡ Damaged → stopped ≡ server.Book book.Damaged
 of_damaged_server (server.Io error) fault by_book by_stream is = absurd (no_damage fault (by_stream error refl) is)

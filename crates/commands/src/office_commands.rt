@@ -4,7 +4,7 @@ ghost use Rattle.std.specs.Io.KnownBytes.{Appends};
 ghost use Rattle.command_ends.specs.Faults.{IsOfStream};
 ghost use Rattle.command_ends.specs.declared.fault.Fault.TheVariants.{Damaged, NoAccount, Import as ByFile};
 ghost use Rattle.commands.specs.Refusals.{IsOfImport, IsOfNoAccount, IsOfStatement};
-ghost use Rattle.commands.specs.Work.{IsAllOrNone, IsImport, IsOfFile};
+ghost use Rattle.commands.specs.Work.{AreReadIn, CrashLeaves, IsAllOrNone, IsImport, IsOfFile};
 ghost use Rattle.grants_csv.specs.Fault.{fault};
 ghost use Rattle.grants_csv.specs.File.{rows_of};
 ghost use Rattle.grants_csv.specs.declared.fault.ImportFault.{ImportFault};
@@ -24,9 +24,9 @@ use print_server::present_moment;
 use queue_store::TableBook;
 use sqlite::Alter;
 use std::alloc::Global;
-use std::fs;
+use std::io;
 use std::io::{Read, Write};
-use std::rt::{Clock, HostRuntime};
+use std::rt::Clock;
 
 /// The present moment of a book's printer.
 fn moment_of<C: Clock, S: Alter>(clock: &C, book: &TableBook<S>) -> Result<u32, Fault>
@@ -108,39 +108,43 @@ fn import_at<R: Read + Drop, S: Alter, W: Write>(
     import_bytes_at(alloc, bytes.as_slice(), output, book, now)
 }
 
-/// Takes the account file at a path into a book at the present moment, and prints `new N repeats M`, as [`import_at`] does.
-pub(crate) fn import_into<S: Alter, W: Write>(
-    rt: &HostRuntime,
-    path: &str,
+/// Takes an account file that was opened into a book at the present moment, and prints `new N repeats M`, as [`import_at`] does. One that could not be
+/// opened is told of once the moment is known.
+pub(crate) fn import_into<C: Clock, R: Read + Drop, S: Alter, W: Write>(
+    alloc: Global,
+    clock: &C,
+    file: io::Result<R>,
     output: &mut W,
     book: &mut TableBook<S>,
 ) -> Result<(), Fault>
     ensures began { IsHonest S.Store book.new → IsHonest S.Store book.old }
     ensures taken { IsHonest S.Store book.new → OnOk result ((w : World) → StandsFor S.Store book.old w
-        → (n : ImportedRows) × (u : World) × IsImport w u n × StandsFor S.Store book.new u
-        × Appends (W.contents output.old) (W.contents output.new) (import_line n)) }
-    ensures left { IsHonest S.Store book.new → IfErr result (λ f. (w : World) → StandsFor S.Store book.old w → StandsFor S.Store book.new w × (output.new ≡ output.old)
-        ⊎ (IsOfStream f × (n : ImportedRows) × (u : World) × IsImport w u n × StandsFor S.Store book.new u)) }
+        → (n : ImportedRows) × (u : World) × IsImport (AreReadIn R.remaining file) w u n × StandsFor S.Store book.new u
+        × Appends (W.contents output.old) (W.contents output.new) (import_line n)
+        × CrashLeaves (shown_by S.Store book.old) (shown_by S.Store book.new) u (IsAllOrNone (λ v. (n : ImportedRows) × IsImport (AreReadIn R.remaining file) w v n) w u)) }
+    ensures left { IsHonest S.Store book.new → IfErr result (λ f. (w : World) → StandsFor S.Store book.old w
+        → (u : World) × StandsFor S.Store book.new u × ((u ≡ w) × (output.new ≡ output.old) ⊎ (IsOfStream f × (n : ImportedRows) × IsImport (AreReadIn R.remaining file) w u n))
+        × CrashLeaves (shown_by S.Store book.old) (shown_by S.Store book.new) u (IsAllOrNone (λ v. (n : ImportedRows) × IsImport (AreReadIn R.remaining file) w v n) w u)) }
     ensures refused { IfErr result (λ f. (told : ImportFault) → f ≡ ByFile told → (w : World) → StandsFor S.Store book.old w → StandsFor S.Store book.new w) }
     ensures live { IsHonest S.Store book.new → OnOk result (IsTrue (shown_by S.Store book.new).is_open) }
     // whatever it answers: a crash at any moment leaves all of the rows, or none
     ensures crash { IsHonest S.Store book.new → IsTrue (shown_by S.Store book.old).is_open → (w : World) → StandsFor S.Store book.old w
         → (u x : World) × StandsFor S.Store book.new u × LeavesOneOf u x (shown_by S.Store book.new)
-        × IsAllOrNone (λ v. (n : ImportedRows) × IsImport w v n) w u x }
+        × IsAllOrNone (λ v. (n : ImportedRows) × IsImport (AreReadIn R.remaining file) w v n) w u x }
     // a stream failed, or nothing was written
     ensures quiet { IfErr result (λ f. IsOfStream f ⊎ (output.new ≡ output.old)) }
     // a stream failed, or the file is refused
-    ensures why { IsHonest S.Store book.new → IfErr result (λ f. (w : World) → StandsFor S.Store book.old w → IsOfStream f ⊎ IsOfFile f w) }
+    ensures why { IsHonest S.Store book.new → IfErr result (λ f. (w : World) → StandsFor S.Store book.old w → IsOfStream f ⊎ IsOfFile (AreReadIn R.remaining file) f w) }
     ensures told { IfErr result IsOfImport }
 {
-    let now = moment_of(rt, book)?;
-    let file = fs::open(rt, path)?;
-    import_at(rt.alloc(), file, output, book, now)
+    let now = moment_of(clock, book)?;
+    let opened = file?;
+    import_at(alloc, opened, output, book, now)
 }
 
 /// Prints the statement of an account of a book, and leaves the book as it was.
 pub(crate) fn print_from<S: Alter, W: Write>(
-    rt: &HostRuntime,
+    alloc: Global,
     account: &str,
     output: &mut W,
     book: &mut TableBook<S>,
@@ -160,6 +164,6 @@ pub(crate) fn print_from<S: Alter, W: Write>(
     // a stream failed, or nothing was written
     ensures quiet { IfErr result (λ f. IsOfStream f ⊎ (output.new ≡ output.old)) }
 {
-    print_statement(rt.alloc(), output, book, account)?;
+    print_statement(alloc, output, book, account)?;
     Ok(())
 }

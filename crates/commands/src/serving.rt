@@ -7,6 +7,7 @@ ghost use Rattle.std.specs.declared.io.ErrorKind.TheVariants.{OutOfMemory};
 ghost use Rattle.command_ends.specs.Faults.{IsOfStream, fault_of_book};
 ghost use Rattle.command_ends.specs.declared.fault.Fault.TheVariants.{Damaged, Memory as OfMemory};
 ghost use Rattle.commands.specs.Refusals.{IsOfServe};
+ghost use Rattle.commands.specs.Work.{CrashLeaves};
 ghost use Rattle.print_server.specs.Connections.{AreConnections, IsAtMostOneMore};
 ghost use Rattle.print_server.specs.Lines.{listening_line, served_lines};
 ghost use Rattle.print_server.specs.declared.fault.ServerFault.TheVariants.{Book as ByBook, Io as ByStream};
@@ -23,8 +24,8 @@ use queue_types::settings::Settings;
 use sqlite::Alter;
 use std::alloc::Global;
 use std::io::Write;
-use std::net::TcpListener;
-use std::rt::HostRuntime;
+use std::net::{Net, TcpListener, TcpStream};
+use std::rt::Clock;
 
 /// A server that stopped.
 fn fault_of_server(stopped: ServerFault) -> Fault
@@ -56,8 +57,9 @@ fn service<'a>(
 }
 
 /// Serves connections that come in at a listener over a book with these settings.
-fn serve_at<S: Alter, W: Write>(
-    rt: &HostRuntime,
+fn serve_at<C: Clock, S: Alter, W: Write>(
+    alloc: Global,
+    clock: &C,
     words: Serve<'_>,
     listener: &TcpListener,
     settings: &Settings,
@@ -67,9 +69,11 @@ fn serve_at<S: Alter, W: Write>(
     ensures began { IsHonest S.Store book.new → IsHonest S.Store book.old }
     ensures served { IsHonest S.Store book.new → OnOk result ((w : World) → StandsFor S.Store book.old w → settings.now ≡ w.settings
         → (u : World) × StandsFor S.Store book.new u × (counts : List ℕ) × AreConnections w counts u × (length counts ≡ words.entry.connections)
-        × Appends (W.contents output.old) (W.contents output.new) (served_lines counts)) }
+        × Appends (W.contents output.old) (W.contents output.new) (served_lines counts)
+        × CrashLeaves (shown_by S.Store book.old) (shown_by S.Store book.new) u (IsAtMostOneMore u)) }
     ensures err { IsHonest S.Store book.new → OnErr result ((w : World) → StandsFor S.Store book.old w → settings.now ≡ w.settings
-        → (u : World) × StandsFor S.Store book.new u × (counts : List ℕ) × AreConnections w counts u × (length counts ≤ words.entry.connections)) }
+        → (u : World) × StandsFor S.Store book.new u × (counts : List ℕ) × AreConnections w counts u × (length counts ≤ words.entry.connections)
+        × CrashLeaves (shown_by S.Store book.old) (shown_by S.Store book.new) u (IsAtMostOneMore u)) }
     // whatever it answers: a crash at any moment leaves the queue that the book stands for, or the one after one request more
     ensures crash { IsHonest S.Store book.new → IsTrue (shown_by S.Store book.old).is_open → (w : World) → StandsFor S.Store book.old w → settings.now ≡ w.settings
         → (u x : World) × StandsFor S.Store book.new u × (counts : List ℕ) × AreConnections w counts u × (length counts ≤ words.entry.connections)
@@ -77,16 +81,21 @@ fn serve_at<S: Alter, W: Write>(
     ensures damaged { IsHonest S.Store book.new → IfErr result (λ f. f ≡ Damaged → (w : World) → StandsFor S.Store book.old w → settings.now ≡ w.settings → ⊥) }
     ensures told { IfErr result IsOfServe }
 {
-    let service = service(rt.alloc(), words, listener, settings);
-    match service.serve_connections(rt, output, book, words.connections) {
+    let service = service(alloc, words, listener, settings);
+    match service.serve_connections(clock, output, book, words.connections) {
         Ok(()) => Ok(()),
         Err(stopped) => Err(fault_of_server(stopped)),
     }
 }
 
 /// Listens on the port, and serves connections over a book.
-pub(crate) fn serve_book<S: Alter, W: Write>(
-    rt: &HostRuntime,
+pub(crate) fn serve_book<
+    R: Clock + Net<Listener = TcpListener, Stream = TcpStream>,
+    S: Alter,
+    W: Write,
+>(
+    alloc: Global,
+    rt: &R,
     words: Serve<'_>,
     output: &mut W,
     book: &mut TableBook<S>,
@@ -94,10 +103,12 @@ pub(crate) fn serve_book<S: Alter, W: Write>(
     ensures began { IsHonest S.Store book.new → IsHonest S.Store book.old }
     ensures served { IsHonest S.Store book.new → OnOk result ((w : World) → StandsFor S.Store book.old w
         → (u : World) × StandsFor S.Store book.new u × (counts : List ℕ) × AreConnections w counts u × (length counts ≡ words.entry.connections)
-        × Appends (W.contents output.old) (W.contents output.new) (listening_line words.entry.port ++ served_lines counts)) }
+        × Appends (W.contents output.old) (W.contents output.new) (listening_line words.entry.port ++ served_lines counts)
+        × CrashLeaves (shown_by S.Store book.old) (shown_by S.Store book.new) u (IsAtMostOneMore u)) }
     // no more than so many connections were served
     ensures err { IsHonest S.Store book.new → OnErr result ((w : World) → StandsFor S.Store book.old w
-        → (u : World) × StandsFor S.Store book.new u × (counts : List ℕ) × AreConnections w counts u × (length counts ≤ words.entry.connections)) }
+        → (u : World) × StandsFor S.Store book.new u × (counts : List ℕ) × AreConnections w counts u × (length counts ≤ words.entry.connections)
+        × CrashLeaves (shown_by S.Store book.old) (shown_by S.Store book.new) u (IsAtMostOneMore u)) }
     // whatever it answers: a crash at any moment leaves the queue that the book stands for, or the one after one request more
     ensures crash { IsHonest S.Store book.new → IsTrue (shown_by S.Store book.old).is_open → (w : World) → StandsFor S.Store book.old w
         → (u x : World) × StandsFor S.Store book.new u × (counts : List ℕ) × AreConnections w counts u × (length counts ≤ words.entry.connections)
@@ -107,5 +118,5 @@ pub(crate) fn serve_book<S: Alter, W: Write>(
 {
     let settings = book.settings()?;
     let listener = listen(rt, output, words.port)?;
-    serve_at(rt, words, &listener, &settings, output, book)
+    serve_at(alloc, rt, words, &listener, &settings, output, book)
 }

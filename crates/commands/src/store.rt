@@ -6,6 +6,7 @@ ghost use Rattle.sqlite.specs.Files.{over_files};
 ghost use Rattle.sqlite_wal.specs.Files.{image_at};
 ghost use Rattle.queue_types.specs.Settings.{AreSettings};
 ghost use Rattle.queue_core.specs.World.{World, empty_queue};
+ghost use Rattle.queue_store.specs.Crash.{IsKept};
 ghost use Rattle.queue_store.specs.Kept.{IsHonest, StandsFor, shown_by};
 ghost use Rattle.queue_store.specs.Opened.{FitsFile, HasNoTables, IsKeptIn};
 ghost use Rattle.commands.specs.Store as spec;
@@ -203,6 +204,9 @@ pub(crate) fn open_store<S: Start>(
     ensures kept { FitsFile (image_at S.Start) → IfOk result (λ b. IsHonest over_files b
         → (w : World) × IsKeptIn (image_at S.Start) w × StandsFor over_files b w) }
     ensures live { FitsFile (image_at S.Start) → IfOk result (λ b. IsHonest over_files b → IsTrue (shown_by over_files b).is_open) }
+    // files that keep a queue, as a store leaves them, are opened again as that queue
+    ensures again { (w : World) → IsKept (image_at S.Start) w → IfOk result (λ b. StandsFor over_files b w) }
+    ensures again_live { (w : World) → IsKept (image_at S.Start) w → IfOk result (λ b. IsHonest over_files b → IsTrue (shown_by over_files b).is_open) }
     ensures told { IfErr result IsOfStore }
 {
     match found_at(rt, path)? {

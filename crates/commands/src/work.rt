@@ -3,13 +3,14 @@ ghost use Rattle.std.specs.Prelude.{◌≡◌, ◌⊎◌, IfErr, IfOk, IsTrue, O
 ghost use Rattle.sqlite.specs.Files.{over_files};
 ghost use Rattle.sqlite_wal.specs.Files.{image_at};
 ghost use Rattle.queue_core.specs.World.{World};
+ghost use Rattle.queue_store.specs.Crash.{IsKept};
 ghost use Rattle.queue_store.specs.Kept.{IsHonest, StandsFor, shown_by};
 ghost use Rattle.queue_store.specs.Opened.{FitsFile, IsKeptIn};
 ghost use Rattle.queue_tables.specs.Content.{LeavesOneOf};
 ghost use Rattle.command_ends.specs.Faults.{IsOfStream};
 ghost use Rattle.commands.specs.Store.{IsOfStore};
 ghost use Rattle.commands.specs.Refusals.{MayBeToldOf};
-ghost use Rattle.commands.specs.Work.{IsDone, IsNotDone, LeavesOpen, MayBeLeft, PrintsLast, store_of};
+ghost use Rattle.commands.specs.Work.{AreAny, AreReadIn, CrashLeaves, IsDone, IsNotDone, LeavesOpen, MayBeLeft, PrintsLast, store_of};
 
 use crate::office_commands::{import_into, print_from};
 use crate::serving::serve_book;
@@ -21,8 +22,12 @@ use sqlite::Alter;
 use sqlite_disk::Disk;
 use sqlite_std_file::Start;
 use sqlite_store::FileStore;
-use std::io::Write;
-use std::rt::HostRuntime;
+use std::alloc::Global;
+use std::fs::Files;
+use std::io::{ErrorKind, Read, Write};
+use std::net::{Net, TcpListener, TcpStream};
+use std::rt::{Clock, HostRuntime};
+use std::{fs, io};
 
 /// What a command does on a store that is there.
 #[derive(Debug, Clone, Copy, PartialEq, Eq)]
@@ -46,74 +51,109 @@ impl<'a> Work<'a> {
             Work::Serve(words) => words.store,
         }
     }
+
+    /// Opens its account file. Work that has none finds none. That it is the file at the path no contract says.
+    fn account_file<R: Files>(self, files: &R) -> io::Result<R::File> {
+        match self {
+            Work::Import(words) => fs::open(files, words.file),
+            Work::Statement(_) | Work::Serve(_) => Err(ErrorKind::NotFound.into()),
+        }
+    }
 }
 
-/// Does the work on a book.
-fn work_on<S: Alter, W: Write>(
-    rt: &HostRuntime,
+/// Does the work on a book, with its account file opened.
+fn work_on<
+    R: Clock + Net<Listener = TcpListener, Stream = TcpStream>,
+    F: Read + Drop,
+    S: Alter,
+    W: Write,
+>(
+    alloc: Global,
+    rt: &R,
     work: Work<'_>,
+    file: io::Result<F>,
     output: &mut W,
     book: &mut TableBook<S>,
 ) -> Result<(), Fault>
     ensures began { IsHonest S.Store book.new → IsHonest S.Store book.old }
     ensures done { IsHonest S.Store book.new → OnOk result ((w : World) → StandsFor S.Store book.old w
-        → (u : World) × StandsFor S.Store book.new u × IsDone work.entry w u (W.contents output.old) (W.contents output.new)) }
+        → (u : World) × StandsFor S.Store book.new u × IsDone (AreReadIn F.remaining file) work.entry w u (W.contents output.old) (W.contents output.new)
+        × CrashLeaves (shown_by S.Store book.old) (shown_by S.Store book.new) u (MayBeLeft (AreReadIn F.remaining file) work.entry w u)) }
     ensures live { IsHonest S.Store book.new → OnOk result (LeavesOpen work.entry → IsTrue (shown_by S.Store book.new).is_open) }
     ensures quiet { IfErr result (λ f. PrintsLast work.entry → IsOfStream f ⊎ (W.contents output.new ≡ W.contents output.old)) }
     ensures told { IfErr result (MayBeToldOf work.entry) }
     ensures refused { IsHonest S.Store book.new → IfErr result (λ fault. (w : World) → StandsFor S.Store book.old w
-        → (u : World) × StandsFor S.Store book.new u × IsNotDone work.entry fault w u (W.contents output.old) (W.contents output.new)) }
+        → (u : World) × StandsFor S.Store book.new u × IsNotDone (AreReadIn F.remaining file) work.entry fault w u (W.contents output.old) (W.contents output.new)
+        × CrashLeaves (shown_by S.Store book.old) (shown_by S.Store book.new) u (MayBeLeft (AreReadIn F.remaining file) work.entry w u)) }
     // whatever it answers, and at any moment
     ensures crash { IsHonest S.Store book.new → IsTrue (shown_by S.Store book.old).is_open → (w : World) → StandsFor S.Store book.old w
-        → (u x : World) × StandsFor S.Store book.new u × LeavesOneOf u x (shown_by S.Store book.new) × MayBeLeft work.entry w u x }
+        → (u x : World) × StandsFor S.Store book.new u × LeavesOneOf u x (shown_by S.Store book.new) × MayBeLeft (AreReadIn F.remaining file) work.entry w u x }
 {
     match work {
-        Work::Import(words) => import_into(rt, words.file, output, book),
-        Work::Statement(words) => print_from(rt, words.account, output, book),
-        Work::Serve(words) => serve_book(rt, words, output, book),
+        Work::Import(_) => import_into(alloc, rt, file, output, book),
+        Work::Statement(words) => print_from(alloc, words.account, output, book),
+        Work::Serve(words) => serve_book(alloc, rt, words, output, book),
     }
 }
 
 /// Does the work on a book in files.
-fn work_in<D: Disk + Drop, W: Write>(
-    rt: &HostRuntime,
+fn work_in<
+    R: Clock + Net<Listener = TcpListener, Stream = TcpStream>,
+    F: Read + Drop,
+    D: Disk + Drop,
+    W: Write,
+>(
+    alloc: Global,
+    rt: &R,
     work: Work<'_>,
+    file: io::Result<F>,
     output: &mut W,
     book: &mut TableBook<FileStore<D>>,
 ) -> Result<(), Fault>
     ensures began { IsHonest over_files book.new → IsHonest over_files book.old }
     ensures done { IsHonest over_files book.new → OnOk result ((w : World) → StandsFor over_files book.old w
-        → (u : World) × StandsFor over_files book.new u × IsDone work.entry w u (W.contents output.old) (W.contents output.new)) }
+        → (u : World) × StandsFor over_files book.new u × IsDone (AreReadIn F.remaining file) work.entry w u (W.contents output.old) (W.contents output.new)
+        × CrashLeaves (shown_by over_files book.old) (shown_by over_files book.new) u (MayBeLeft (AreReadIn F.remaining file) work.entry w u)) }
     ensures live { IsHonest over_files book.new → OnOk result (LeavesOpen work.entry → IsTrue (shown_by over_files book.new).is_open) }
     ensures quiet { IfErr result (λ f. PrintsLast work.entry → IsOfStream f ⊎ (W.contents output.new ≡ W.contents output.old)) }
     ensures told { IfErr result (MayBeToldOf work.entry) }
     ensures refused { IsHonest over_files book.new → IfErr result (λ fault. (w : World) → StandsFor over_files book.old w
-        → (u : World) × StandsFor over_files book.new u × IsNotDone work.entry fault w u (W.contents output.old) (W.contents output.new)) }
+        → (u : World) × StandsFor over_files book.new u × IsNotDone (AreReadIn F.remaining file) work.entry fault w u (W.contents output.old) (W.contents output.new)
+        × CrashLeaves (shown_by over_files book.old) (shown_by over_files book.new) u (MayBeLeft (AreReadIn F.remaining file) work.entry w u)) }
     // whatever it answers, and at any moment
     ensures crash { IsHonest over_files book.new → IsTrue (shown_by over_files book.old).is_open → (w : World) → StandsFor over_files book.old w
-        → (u x : World) × StandsFor over_files book.new u × LeavesOneOf u x (shown_by over_files book.new) × MayBeLeft work.entry w u x }
+        → (u x : World) × StandsFor over_files book.new u × LeavesOneOf u x (shown_by over_files book.new) × MayBeLeft (AreReadIn F.remaining file) work.entry w u x }
 {
-    work_on(rt, work, output, book)
+    work_on(alloc, rt, work, file, output, book)
 }
 
 /// Does the work on a book in files, and gives the book back; one on which it was not done is let go.
-fn work_over<D: Disk + Drop, W: Write>(
-    rt: &HostRuntime,
+fn work_over<
+    R: Clock + Net<Listener = TcpListener, Stream = TcpStream>,
+    F: Read + Drop,
+    D: Disk + Drop,
+    W: Write,
+>(
+    alloc: Global,
+    rt: &R,
     work: Work<'_>,
+    file: io::Result<F>,
     output: &mut W,
     mut book: TableBook<FileStore<D>>,
 ) -> Result<TableBook<FileStore<D>>, Fault>
     ensures done { IfOk result (λ b. IsHonest over_files b → IsHonest over_files book × ((w : World) → StandsFor over_files book w
-        → (u : World) × StandsFor over_files b u × IsDone work.entry w u (W.contents output.old) (W.contents output.new))) }
+        → (u : World) × StandsFor over_files b u × IsDone (AreReadIn F.remaining file) work.entry w u (W.contents output.old) (W.contents output.new)
+        × CrashLeaves (shown_by over_files book) (shown_by over_files b) u (MayBeLeft (AreReadIn F.remaining file) work.entry w u))) }
     ensures live { IfOk result (λ b. IsHonest over_files b → LeavesOpen work.entry → IsTrue (shown_by over_files b).is_open) }
     ensures quiet { IfErr result (λ f. PrintsLast work.entry → IsOfStream f ⊎ (W.contents output.new ≡ W.contents output.old)) }
     ensures told { IfErr result (MayBeToldOf work.entry) }
 {
-    let done = work_in(rt, work, output, &mut book);
+    let done = work_in(alloc, rt, work, file, output, &mut book);
     left(book, done)
 }
 
-/// Does the work on the store that is at its path, and gives the book, which is not closed yet.
+/// Does the work on the store that is at its path, and gives the book, which is not closed yet. What is done on the open store is done behind
+/// [`work_over`], which has memory, a clock and a port, and no way to a file but the store and the account file that is opened here.
 pub(crate) fn work_at<S: Start, W: Write>(
     rt: &HostRuntime,
     work: Work<'_>,
@@ -122,11 +162,17 @@ pub(crate) fn work_at<S: Start, W: Write>(
 ) -> Result<FileBook<S>, Fault>
     ensures done { FitsFile (image_at S.Start) → IfOk result (λ b. IsHonest over_files b
         → (w : World) × IsKeptIn (image_at S.Start) w × (u : World) × StandsFor over_files b u
-        × IsDone work.entry w u (W.contents output.old) (W.contents output.new)) }
+        × IsDone AreAny work.entry w u (W.contents output.old) (W.contents output.new)
+        × (x : World) × LeavesOneOf u x (shown_by over_files b) × MayBeLeft AreAny work.entry w u x) }
+    // files that keep a queue, as a store leaves them: the work is done on that queue
+    ensures again { (w : World) → IsKept (image_at S.Start) w → IfOk result (λ b. IsHonest over_files b
+        → (u : World) × StandsFor over_files b u × IsDone AreAny work.entry w u (W.contents output.old) (W.contents output.new)
+        × (x : World) × LeavesOneOf u x (shown_by over_files b) × MayBeLeft AreAny work.entry w u x) }
     ensures live { IfOk result (λ b. IsHonest over_files b → LeavesOpen work.entry → IsTrue (shown_by over_files b).is_open) }
     ensures quiet { IfErr result (λ f. PrintsLast work.entry → IsOfStream f ⊎ (W.contents output.new ≡ W.contents output.old)) }
     ensures told { IfErr result (λ f. IsOfStore f ⊎ MayBeToldOf work.entry f) }
 {
     let book = open_store(rt, work.store(), start)?;
-    work_over(rt, work, output, book)
+    let file = work.account_file(rt);
+    work_over(rt.alloc(), rt, work, file, output, book)
 }

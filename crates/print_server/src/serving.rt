@@ -178,13 +178,15 @@ impl Service<'_> {
         connections: u32,
     ) -> Result<(), ServerFault>
         ensures began { B.is_honest book.new → B.is_honest book.old }
-        // every connection was served, and its count printed
+        // every connection was served, and its count printed; a crash leaves what goes with just these connections
         ensures ok { B.is_honest book.new → OnOk result ((w : World) → B.stands book.old w → self.entry.settings.now ≡ w.settings
             → (u : World) × B.stands book.new u × (counts : List ℕ) × AreConnections w counts u × (length counts ≡ connections)
-            × Appends (O.contents out.old) (O.contents out.new) (served_lines counts)) }
-        // some were
+            × Appends (O.contents out.old) (O.contents out.new) (served_lines counts)
+            × Carries (B.crash_leaves book.old) (B.crash_leaves book.new) w u) }
+        // some were, and so it does
         ensures err { B.is_honest book.new → OnErr result ((w : World) → B.stands book.old w → self.entry.settings.now ≡ w.settings
-            → (u : World) × B.stands book.new u × (counts : List ℕ) × AreConnections w counts u × (length counts ≤ connections)) }
+            → (u : World) × B.stands book.new u × (counts : List ℕ) × AreConnections w counts u × (length counts ≤ connections)
+            × Carries (B.crash_leaves book.old) (B.crash_leaves book.new) w u) }
         // whatever it answers: a crash at any moment leaves the queue that the book stands for, or what the event of one request makes of it
         ensures crash { B.is_honest book.new → B.is_live book.old → (w : World) → B.stands book.old w → self.entry.settings.now ≡ w.settings
             → (u x : World) × B.stands book.new u × (counts : List ℕ) × AreConnections w counts u × (length counts ≤ connections)

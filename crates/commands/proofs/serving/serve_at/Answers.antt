@@ -1,3 +1,6 @@
+use Rattle.std.proofs.Common.{◌∙◌}
+use Rattle.queue_store.specs.Kept.{shown_by}
+use Rattle.commands.proofs.CrashLemmas.{lasts, one_more}
 use Rattle.commands.proofs.FaultLemmas.{of_damaged_server, of_server}
 use Rattle.commands.proofs.serving.serve_at.Goals as goal
 
@@ -10,10 +13,29 @@ pub returns-in-Err-clause-told : goal.returns-in-Err-clause-told
 returns-in-Err-clause-told g c = of_server _ _ c.fault_of_server.ensures.book (λ error at. (c.fault_of_server.ensures.stream error at).0)
 
 pub returns-in-Ok-clause-served : goal.returns-in-Ok-clause-served
-returns-in-Ok-clause-served g c = λ honest. rw c.service-service.ensures.settings at (c.in-Ok.ensures.ok honest)
+returns-in-Ok-clause-served g c = λ honest w stands same.
+    let it = c.in-Ok.ensures.ok honest w stands (c.service-service.ensures.settings ∙ same) in (
+      it.0,
+      it.1,
+      it.2,
+      it.3,
+      it.4,
+      it.5,
+      one_more (shown_by g.S.Store c.args.book.now) (shown_by g.S.Store c.serve_connections.new.book) w it.0
+          (λ live. lasts g.S.Store g.met.S.Store.settled c.args.book.now w (c.serve_connections.ensures.began honest) live stands) it.6,
+    )
 
 pub returns-in-Err-clause-err : goal.returns-in-Err-clause-err
-returns-in-Err-clause-err g c = λ honest. rw c.service-service.ensures.settings at (c.in-Err.ensures.err honest)
+returns-in-Err-clause-err g c = λ honest w stands same.
+    let it = c.in-Err.ensures.err honest w stands (c.service-service.ensures.settings ∙ same) in (
+      it.0,
+      it.1,
+      it.2,
+      it.3,
+      it.4,
+      one_more (shown_by g.S.Store c.args.book.now) (shown_by g.S.Store c.serve_connections.new.book) w it.0
+          (λ live. lasts g.S.Store g.met.S.Store.settled c.args.book.now w (c.serve_connections.ensures.began honest) live stands) it.5,
+    )
 
 pub returns-in-Ok-clause-crash : goal.returns-in-Ok-clause-crash
 returns-in-Ok-clause-crash g c = λ honest. rw c.service-service.ensures.settings at (c.serve_connections.ensures.crash honest)

@@ -18,6 +18,7 @@ returns-clause-served g c = λ honest. on_ok c.serve_at.result (c.serve_at.ensur
       end.4,
       Appends-trans (g.W.Write.contents c.args.output.now) (g.W.Write.contents c.listen.new.out) (g.W.Write.contents c.serve_at.new.output)
           (listening_line c.args.words.port) (served_lines end.2) c.in_ok-listener.ensures end.5,
+      end.6,
     ))
 
 pub returns-clause-err : goal.returns-clause-err
@@ -31,12 +32,12 @@ returns-clause-damaged g c = λ honest. if_err c.serve_at.result _ _ (c.serve_at
 pub returns-in_err-settings-clause-err : goal.returns-in_err-settings-clause-err
 returns-in_err-settings-clause-err g c = λ honest.
     let p = err_from_is_err_and c.from_residual.result c.from_residual.ensures.1 in
-    rw p.1 (λ w stands. (w, stands, [], refl, omega arith))
+    rw p.1 (λ w stands. (w, stands, [], refl, omega arith, λ live. (w, lasts g.S.Store g.met.S.Store.settled c.args.book.now w honest live stands, inl refl)))
 
 pub returns-in_err-listener-clause-err : goal.returns-in_err-listener-clause-err
 returns-in_err-listener-clause-err g c = λ honest.
     let p = err_from_is_err_and c.from_residual-in_err-listener.result c.from_residual-in_err-listener.ensures.1 in
-    rw p.1 (λ w stands. (w, stands, [], refl, omega arith))
+    rw p.1 (λ w stands. (w, stands, [], refl, omega arith, λ live. (w, lasts g.S.Store g.met.S.Store.settled c.args.book.now w honest live stands, inl refl)))
 
 pub returns-in_err-listener-clause-damaged : goal.returns-in_err-listener-clause-damaged
 returns-in_err-listener-clause-damaged g c = λ honest.

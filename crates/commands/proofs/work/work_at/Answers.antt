@@ -1,13 +1,21 @@
 use Rattle.std.proofs.Common.{inr}
+use Rattle.sqlite.specs.Files.{over_files}
+use Rattle.queue_store.specs.Kept.{StandsFor, shown_by}
 use Rattle.commands.proofs.EndingLemmas.{if_err, if_ok}
+use Rattle.commands.proofs.WorkLemmas.{handed_on_kept, handed_on_of}
 use Rattle.commands.proofs.work.work_at.Goals as goal
 
 pub returns-clause-done : goal.returns-clause-done
 returns-clause-done g c = λ fits. if_ok c.work_over.result _ _ c.work_over.ensures.done (λ b is honest.
     let done = is honest in
-    let at = c.in_ok-book.ensures.kept fits done.0 in
-    let end = done.1 at.0 at.2 in
-    (at.0, at.1, end.0, end.1, end.2))
+    handed_on_kept _ c.args.work (shown_by over_files c.in_ok-book.book) (shown_by over_files b) (StandsFor over_files b) _ _ _ (StandsFor over_files c.in_ok-book.book)
+    (c.in_ok-book.ensures.kept fits done.0) (c.in_ok-book.ensures.live fits done.0) done.1)
+
+pub returns-clause-again : goal.returns-clause-again
+returns-clause-again g c = λ w kept. if_ok c.work_over.result _ _ c.work_over.ensures.done (λ b is honest.
+    let done = is honest in
+    handed_on_of _ c.args.work (shown_by over_files c.in_ok-book.book) (shown_by over_files b) (StandsFor over_files b) _ _ w
+    (c.in_ok-book.ensures.again_live w kept done.0) (done.1 w (c.in_ok-book.ensures.again w kept)))
 
 pub returns-clause-told : goal.returns-clause-told
 returns-clause-told g c = if_err c.work_over.result _ _ c.work_over.ensures.told (λ fault told. inr told)

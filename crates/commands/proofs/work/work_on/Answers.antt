@@ -1,9 +1,7 @@
-use Rattle.std.proofs.Common.{IfErr, ap, refl, subst, sym, inl, inr}
-use Rattle.queue_core.specs.World.{World}
+use Rattle.std.proofs.Common.{IfErr, ap, arith, refl, subst, sym, inl, inr}
 use Rattle.commands.specs.Refusals.{MayBeToldOf}
-use Rattle.commands.specs.Work.{IsDone, IsNotDone, LeavesOpen, MayBeLeft, PrintsLast}
-use Rattle.commands.specs.declared.work.Work.TheVariants.{Import}
-use Rattle.commands.proofs.EndingLemmas.{any_err, both, if_err, on_ok, or_same}
+use Rattle.commands.specs.Work.{AreReadIn, IsDone, IsNotDone, LeavesOpen, MayBeLeft, PrintsLast}
+use Rattle.commands.proofs.EndingLemmas.{any_err, both, by_four, if_err, on_ok, or_same}
 use Rattle.commands.proofs.work.work_on.Goals as goal
 
 pub returns-in-Import-clause-done : goal.returns-in-Import-clause-done
@@ -11,7 +9,10 @@ returns-in-Import-clause-done g c = λ honest. on_ok c.import_into.result (c.imp
     let it = told w stands in (
       it.1,
       it.3,
-      subst (λ work. IsDone work w it.1 (g.W.Write.contents c.args.output.now) (g.W.Write.contents c.import_into.new.output)) (sym c.in-Import.is) (it.0, it.2, it.4),
+      subst (λ work. IsDone (AreReadIn g.F.Read.remaining c.args.file) work w it.1 (g.W.Write.contents c.args.output.now) (g.W.Write.contents c.import_into.new.output)) (sym c.in-Import.is) (it.0, it.2, it.4),
+      λ live.
+          let left = it.5 live in
+          (left.0, left.1, subst (λ work. MayBeLeft (AreReadIn g.F.Read.remaining c.args.file) work w it.1 left.0) (sym c.in-Import.is) left.2),
     ))
 
 pub returns-in-Statement-clause-done : goal.returns-in-Statement-clause-done
@@ -19,7 +20,8 @@ returns-in-Statement-clause-done g c = λ honest. on_ok c.print_from.result (c.p
     let it = told w stands in (
       w,
       c.print_from.ensures.kept w stands,
-      subst (λ work. IsDone work w w (g.W.Write.contents c.args.output.now) (g.W.Write.contents c.print_from.new.output)) (sym c.in-Statement.is) (refl, it.0, it.1, it.2),
+      subst (λ work. IsDone (AreReadIn g.F.Read.remaining c.args.file) work w w (g.W.Write.contents c.args.output.now) (g.W.Write.contents c.print_from.new.output)) (sym c.in-Statement.is) (refl, it.0, it.1, it.2),
+      λ live. (w, c.print_from.ensures.crash honest live w stands, subst (λ work. MayBeLeft (AreReadIn g.F.Read.remaining c.args.file) work w w w) (sym c.in-Statement.is) (refl, refl)),
     ))
 
 pub returns-in-Serve-clause-done : goal.returns-in-Serve-clause-done
@@ -27,7 +29,11 @@ returns-in-Serve-clause-done g c = λ honest. on_ok c.serve_book.result (c.serve
     let it = told w stands in (
       it.0,
       it.1,
-      subst (λ work. IsDone work w it.0 (g.W.Write.contents c.args.output.now) (g.W.Write.contents c.serve_book.new.output)) (sym c.in-Serve.is) (it.2, it.3, it.4, it.5),
+      subst (λ work. IsDone (AreReadIn g.F.Read.remaining c.args.file) work w it.0 (g.W.Write.contents c.args.output.now) (g.W.Write.contents c.serve_book.new.output)) (sym c.in-Serve.is) (it.2, it.3, it.4, it.5),
+      λ live.
+          let left = it.6 live in
+          let is = it.4 in
+          (left.0, left.1, subst (λ work. MayBeLeft (AreReadIn g.F.Read.remaining c.args.file) work w it.0 left.0) (sym c.in-Serve.is) (it.2, it.3, omega (arith, is), left.2)),
     ))
 
 pub returns-in-Import-clause-live : goal.returns-in-Import-clause-live
@@ -42,26 +48,31 @@ returns-in-Serve-clause-live g c = λ honest. on_ok c.serve_book.result (c.serve
 pub returns-in-Import-clause-refused : goal.returns-in-Import-clause-refused
 returns-in-Import-clause-refused g c = λ honest.
     if_err c.import_into.result _ _ (both c.import_into.result _ _ (c.import_into.ensures.left honest) (c.import_into.ensures.why honest)) (λ fault told w stands.
-    let at = λ (u : World). λ (it : IsNotDone (Import c.in-Import.words) fault w u (g.W.Write.contents c.args.output.now) (g.W.Write.contents c.import_into.new.output)).
-    subst (λ work. IsNotDone work fault w u (g.W.Write.contents c.args.output.now) (g.W.Write.contents c.import_into.new.output)) (sym c.in-Import.is) it in
-    elim (told.0 w stands) [
-      | inl same ↦ (w, same.0, at w (told.1 w stands, inl (refl, ap g.W.Write.contents same.1)))
-      | inr taken ↦ (taken.2, taken.4, at taken.2 (told.1 w stands, inr (taken.0, taken.1, taken.3)))
-    ])
+    let it = told.0 w stands in (
+      it.0,
+      it.1,
+      subst (λ work. IsNotDone (AreReadIn g.F.Read.remaining c.args.file) work fault w it.0 (g.W.Write.contents c.args.output.now) (g.W.Write.contents c.import_into.new.output)) (sym c.in-Import.is) (
+        told.1 w stands,
+        elim it.2 [ inl same ↦ inl (same.0, ap g.W.Write.contents same.1) | inr taken ↦ inr taken ],
+      ),
+      λ live.
+          let left = it.3 live in
+          (left.0, left.1, subst (λ work. MayBeLeft (AreReadIn g.F.Read.remaining c.args.file) work w it.0 left.0) (sym c.in-Import.is) left.2),
+    ))
 
 pub returns-in-Statement-clause-refused : goal.returns-in-Statement-clause-refused
 returns-in-Statement-clause-refused g c = λ honest.
-    let told = both c.print_from.result _ _ (both c.print_from.result _ _ (both c.print_from.result _ _ (c.print_from.ensures.damaged honest) (c.print_from.ensures.unknown honest)) (c.print_from.ensures.known honest)) c.print_from.ensures.quiet in
-    if_err c.print_from.result _ _ told (λ fault it w stands. (
+    by_four c.print_from.result _ _ _ _ _ (c.print_from.ensures.damaged honest) (c.print_from.ensures.unknown honest) (c.print_from.ensures.known honest) c.print_from.ensures.quiet (λ fault damaged unknown known quiet w stands. (
       w,
       c.print_from.ensures.kept w stands,
-      subst (λ work. IsNotDone work fault w w (g.W.Write.contents c.args.output.now) (g.W.Write.contents c.print_from.new.output)) (sym c.in-Statement.is) (
-        (λ is. it.0.0.0 is w stands),
-        (λ is. it.0.0.1 is w stands),
-        (λ none. it.0.1 w stands none),
+      subst (λ work. IsNotDone (AreReadIn g.F.Read.remaining c.args.file) work fault w w (g.W.Write.contents c.args.output.now) (g.W.Write.contents c.print_from.new.output)) (sym c.in-Statement.is) (
+        (λ is. damaged is w stands),
+        (λ is. unknown is w stands),
+        (λ none. known w stands none),
         refl,
-        or_same g.W.Write.contents _ _ it.1,
+        or_same g.W.Write.contents _ _ quiet,
       ),
+      λ live. (w, c.print_from.ensures.crash honest live w stands, subst (λ work. MayBeLeft (AreReadIn g.F.Read.remaining c.args.file) work w w w) (sym c.in-Statement.is) (refl, refl)),
     ))
 
 pub returns-in-Serve-clause-refused : goal.returns-in-Serve-clause-refused
@@ -70,12 +81,15 @@ returns-in-Serve-clause-refused g c = λ honest.
     let left = it.0 w stands in (
       left.0,
       left.1,
-      subst (λ work. IsNotDone work fault w left.0 (g.W.Write.contents c.args.output.now) (g.W.Write.contents c.serve_book.new.output)) (sym c.in-Serve.is) (
+      subst (λ work. IsNotDone (AreReadIn g.F.Read.remaining c.args.file) work fault w left.0 (g.W.Write.contents c.args.output.now) (g.W.Write.contents c.serve_book.new.output)) (sym c.in-Serve.is) (
         (λ is. it.1 is w stands),
         left.2,
         left.3,
         left.4,
       ),
+      λ live.
+          let crashed = left.5 live in
+          (crashed.0, crashed.1, subst (λ work. MayBeLeft (AreReadIn g.F.Read.remaining c.args.file) work w left.0 crashed.0) (sym c.in-Serve.is) (left.2, left.3, left.4, crashed.2)),
     ))
 
 pub returns-in-Import-clause-quiet : goal.returns-in-Import-clause-quiet
@@ -99,7 +113,7 @@ returns-in-Serve-clause-told g c = subst (λ work. IfErr c.serve_book.result (Ma
 pub returns-in-Import-clause-crash : goal.returns-in-Import-clause-crash
 returns-in-Import-clause-crash g c = λ honest live w stands.
     let it = c.import_into.ensures.crash honest live w stands in
-    (it.0, it.1, it.2, it.3, subst (λ work. MayBeLeft work w it.0 it.1) (sym c.in-Import.is) it.4)
+    (it.0, it.1, it.2, it.3, subst (λ work. MayBeLeft (AreReadIn g.F.Read.remaining c.args.file) work w it.0 it.1) (sym c.in-Import.is) it.4)
 
 pub returns-in-Statement-clause-crash : goal.returns-in-Statement-clause-crash
 returns-in-Statement-clause-crash g c = λ honest live w stands. (
@@ -107,10 +121,10 @@ returns-in-Statement-clause-crash g c = λ honest live w stands. (
   w,
   c.print_from.ensures.kept w stands,
   c.print_from.ensures.crash honest live w stands,
-  subst (λ work. MayBeLeft work w w w) (sym c.in-Statement.is) (refl, refl),
+  subst (λ work. MayBeLeft (AreReadIn g.F.Read.remaining c.args.file) work w w w) (sym c.in-Statement.is) (refl, refl),
 )
 
 pub returns-in-Serve-clause-crash : goal.returns-in-Serve-clause-crash
 returns-in-Serve-clause-crash g c = λ honest live w stands.
     let it = c.serve_book.ensures.crash honest live w stands in
-    (it.0, it.1, it.2, it.6, subst (λ work. MayBeLeft work w it.0 it.1) (sym c.in-Serve.is) (it.3, it.4, it.5, it.7))
+    (it.0, it.1, it.2, it.6, subst (λ work. MayBeLeft (AreReadIn g.F.Read.remaining c.args.file) work w it.0 it.1) (sym c.in-Serve.is) (it.3, it.4, it.5, it.7))

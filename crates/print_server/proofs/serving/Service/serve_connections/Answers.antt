@@ -23,7 +23,7 @@ returns-in_err-serve_next-clause-err g c = λ h. on_err c.from_residual.result _
     let r = c.loop-round.invariant.served (c.serve_next.ensures.began h) w st set in
     let t = c.in_err-serve_next.ensures.err h r.0 r.1 (settings_kept c.args.self.settings.now w r.0 r.2 r.3 set) in
     let more = length-append r.2 t.2 in
-    (t.0, t.1, r.2 ++ t.2, joined w r.0 t.0 r.2 t.2 r.3 t.3, omega (arith, more, r.4, t.4)))
+    (t.0, t.1, r.2 ++ t.2, joined w r.0 t.0 r.2 t.2 r.3 t.3, omega (arith, more, r.4, t.4), carries_on (g.B.QueueBook.crash_leaves c.args.book.now) (g.B.QueueBook.crash_leaves c.loop-round.book) (g.B.QueueBook.crash_leaves c.serve_next.new.book) w r.0 t.0 r.6 t.5))
 
 pub returns-in_err-serve_next-clause-damaged : goal.returns-in_err-serve_next-clause-damaged
 returns-in_err-serve_next-clause-damaged g c = λ h.
@@ -36,7 +36,7 @@ pub returns-clause-ok : goal.returns-clause-ok
 returns-clause-ok g c = λ h w st set.
     let r = c.loop-round.invariant.served h w st set in
     let is = r.4 in
-    (r.0, r.1, r.2, r.3, omega (arith, is), r.5)
+    (r.0, r.1, r.2, r.3, omega (arith, is), r.5, r.6)
 
 pub returns-in_err-serve_next-clause-crash : goal.returns-in_err-serve_next-clause-crash
 returns-in_err-serve_next-clause-crash g c = λ h live w st set.
