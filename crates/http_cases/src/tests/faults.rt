@@ -23,6 +23,8 @@ use std::io::Write;
 #[derive(Drop)]
 struct BrokenBook<B> {
     inner: B,
+    /// What it tells of a document behind that byte.
+    sent: Result<u64, SendFault>,
 }
 
 impl<B: QueueBook> QueueBook for BrokenBook<B> {
@@ -61,10 +63,7 @@ impl<B: QueueBook> QueueBook for BrokenBook<B> {
         out: &mut W,
     ) -> Result<u64, SendFault> {
         let _taken = out.write(b"h");
-        Err(SendFault {
-            written: 1,
-            cause: SendCause::Book(BookFault::Disk),
-        })
+        self.sent
     }
 
     fn sheet(&mut self, account: &str) -> Result<Option<AccountSheet>, BookFault> {
@@ -88,15 +87,23 @@ fn released<B: DeskBook>(alloc: Global) -> Result<B, Mismatch> {
     Ok(desk.into_book())
 }
 
-/// A stream to such a book, which is broken from then on, is served so, with these bytes as its answers.
+/// A fault is told of a document behind its first byte.
+const FAULTY: Result<u64, SendFault> = Err(SendFault {
+    written: 1,
+    cause: SendCause::Book(BookFault::Disk),
+});
+
+/// A stream to such a book, which is broken from then on and tells this of a document, is served so, with these bytes as its
+/// answers.
 fn serve_broken<B: DeskBook>(
     alloc: Global,
+    sent: Result<u64, SendFault>,
     stream: &[u8],
     wanted: Result<Served, ServeFault>,
     answers: &[u8],
 ) -> Result<(), Mismatch> {
     let inner = released::<B>(alloc)?;
-    let mut desk = Desk::over(alloc, BrokenBook { inner }, B::subject())?;
+    let mut desk = Desk::over(alloc, BrokenBook { inner, sent }, B::subject())?;
     let mut reader = stream;
     desk.take_reader(&mut reader, wanted, answers, stream.len())
 }
@@ -131,8 +138,8 @@ fn changes_and_a_queue_that_fail(rt: HostRuntime) -> Result<(), Mismatch> {
     let alloc = rt.alloc();
     let stream = joined(alloc, STREAM)?;
     let answers = wanted_bytes(alloc, ANSWERS)?;
-    serve_broken::<ListBook>(alloc, stream.as_slice(), SERVED, answers.as_slice())?;
-    serve_broken::<MemoryBook>(alloc, stream.as_slice(), SERVED, answers.as_slice())
+    serve_broken::<ListBook>(alloc, FAULTY, stream.as_slice(), SERVED, answers.as_slice())?;
+    serve_broken::<MemoryBook>(alloc, FAULTY, stream.as_slice(), SERVED, answers.as_slice())
 }
 
 /// A document broken off behind its first byte.
@@ -142,11 +149,23 @@ const BROKEN_OFF: Result<Served, ServeFault> = Err(ServeFault {
     cause: ServeCause::Book,
 });
 
-#[test]
-fn a_document_that_fails(rt: HostRuntime) -> Result<(), Mismatch> {
-    let alloc = rt.alloc();
+/// A document that is broken off behind its first byte, of which the book tells this, ends the connection: the request behind it is
+/// not answered.
+fn break_off(alloc: Global, sent: Result<u64, SendFault>) -> Result<(), Mismatch> {
+    let stream = joined(alloc, &[GET_DOCUMENT, GET_DOCUMENT])?;
     let answer = wanted_bytes(alloc, &[Success(OCTETS, b"hi")])?;
     let front = answer.as_slice().strip_suffix(b"i").unwrap_or(b"");
-    serve_broken::<ListBook>(alloc, GET_DOCUMENT, BROKEN_OFF, front)?;
-    serve_broken::<MemoryBook>(alloc, GET_DOCUMENT, BROKEN_OFF, front)
+    serve_broken::<ListBook>(alloc, sent, stream.as_slice(), BROKEN_OFF, front)?;
+    serve_broken::<MemoryBook>(alloc, sent, stream.as_slice(), BROKEN_OFF, front)
+}
+
+#[test]
+fn a_document_that_fails(rt: HostRuntime) -> Result<(), Mismatch> {
+    break_off(rt.alloc(), FAULTY)
+}
+
+/// The head of the answer has told 2 octets, and the book is content with 1.
+#[test]
+fn a_document_that_is_too_short(rt: HostRuntime) -> Result<(), Mismatch> {
+    break_off(rt.alloc(), Ok(1))
 }

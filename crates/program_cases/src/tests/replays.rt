@@ -1,42 +1,12 @@
 //! Replays over streams that fail, text of bytes, and examples that are not answered as they are to be.
 
+use http_desk::streams::{BrokenReader, BrokenWriter};
 use replay::{Fault, HexFault, put_hex, read_hex};
 use replay_examples::run_cases;
 use replay_in_memory::replay;
 use std::alloc::Global;
-use std::io;
-use std::io::{Read, Write};
 use std::process::Abort;
 use std::test::Fail;
-
-/// Gives some bytes, and then fails.
-#[derive(Drop)]
-struct BrokenReader<'a> {
-    rest: &'a [u8],
-}
-
-impl Read for BrokenReader<'_> {
-    fn read(&mut self, buf: &mut [u8]) -> io::Result<usize> {
-        if self.rest.is_empty() {
-            return Err(io::Error::other("broken"));
-        }
-        self.rest.read(buf)
-    }
-}
-
-/// Takes nothing.
-#[derive(Drop)]
-struct BrokenWriter;
-
-impl Write for BrokenWriter {
-    fn write(&mut self, _buf: &[u8]) -> io::Result<usize> {
-        Err(io::Error::other("broken"))
-    }
-
-    fn flush(&mut self) -> io::Result<()> {
-        Ok(())
-    }
-}
 
 #[test]
 fn streams_that_fail(rt: HostRuntime) {
@@ -47,10 +17,12 @@ fn streams_that_fail(rt: HostRuntime) {
     assert_eq!(rt; replay(rt.alloc(), &mut input, &mut output), Err(Fault::Io));
     assert_eq!(rt; output.as_slice(), b"ipp short\n".as_slice());
     let mut input: &[u8] = b"ipp 00\n";
-    assert_eq!(rt;
-        replay(rt.alloc(), &mut input, &mut BrokenWriter),
-        Err(Fault::Io)
-    );
+    let mut output = BrokenWriter {
+        room: 0,
+        most: 0,
+        taken: Vec::new(rt.alloc()),
+    };
+    assert_eq!(rt; replay(rt.alloc(), &mut input, &mut output), Err(Fault::Io));
 }
 
 /// The digits stand for these bytes.

@@ -1,5 +1,6 @@
 //! All that a book shows of its queue, as bytes that can be compared.
 
+use crate::tests::compare::same;
 use crate::tests::desk::Desk;
 use crate::tests::request::Request;
 use device_lines::queue_text;
@@ -8,48 +9,60 @@ use std::alloc::Global;
 use std::io::Write;
 use std::test::Fail;
 
-/// What the users ask of their jobs and of the printer.
-const REQUESTS: &[(&str, Request<'static>)] = &[
-    ("alice", Request::Look(1)),
-    ("alice", Request::Look(2)),
-    ("alice", Request::Look(3)),
-    ("alice", Request::Look(4)),
-    ("alice", Request::Look(5)),
-    ("alice", Request::Look(6)),
-    ("alice", Request::Look(7)),
-    ("bob", Request::Look(8)),
-    ("alice", Request::Look(9)),
-    ("carol", Request::Look(10)),
-    ("carol", Request::Look(11)),
-    ("alice", Request::LiveJobs),
-    ("alice", Request::EndedJobs),
-    ("bob", Request::LiveJobs),
-    ("carol", Request::LiveJobs),
-    ("carol", Request::Printer),
+/// A reply's status code (RFC 8011, appendix B).
+type Code = [u8; 2];
+
+const OK: Code = [0x00, 0x00];
+
+const NOT_FOUND: Code = [0x04, 0x06];
+
+/// What the users ask of their jobs and of the printer, and the codes of the replies. Jobs 1 to 7 and 9 are alice's, 8 is bob's and
+/// 10 is carol's. There is no job 11.
+const REQUESTS: &[(&str, Request<'static>, Code)] = &[
+    ("alice", Request::Look(1), OK),
+    ("alice", Request::Look(2), OK),
+    ("alice", Request::Look(3), OK),
+    ("alice", Request::Look(4), OK),
+    ("alice", Request::Look(5), OK),
+    ("alice", Request::Look(6), OK),
+    ("alice", Request::Look(7), OK),
+    ("bob", Request::Look(8), OK),
+    ("alice", Request::Look(9), OK),
+    ("carol", Request::Look(10), OK),
+    ("alice", Request::Look(10), NOT_FOUND),
+    ("carol", Request::Look(11), NOT_FOUND),
+    ("alice", Request::LiveJobs, OK),
+    ("alice", Request::EndedJobs, OK),
+    ("bob", Request::LiveJobs, OK),
+    ("carol", Request::LiveJobs, OK),
+    ("carol", Request::Printer, OK),
 ];
 
-/// Documents by job and number: those that the device may fetch, one of an ended and one of a held job, and some that aren't there.
-const DOCUMENTS: &[(u32, u32)] = &[
-    (1, 1),
-    (5, 1),
-    (6, 1),
-    (7, 1),
-    (7, 2),
-    (7, 3),
-    (8, 1),
-    (9, 1),
-    (99, 1),
+/// Documents by job and number, with the octets of those that the device may fetch: one of an ended and one of a held job, and
+/// some that aren't there, have none.
+const DOCUMENTS: &[(u32, u32, Option<u64>)] = &[
+    (1, 1, None),
+    (5, 1, Some(4)),
+    (6, 1, Some(3)),
+    (7, 1, Some(2)),
+    (7, 2, Some(131_073)),
+    (7, 3, None),
+    (8, 1, None),
+    (9, 1, None),
+    (99, 1, None),
 ];
 
-/// Adds the answer to a request.
+/// Adds the answer to a request, which has this code.
 fn put_answer<B: QueueBook>(
     desk: &Desk<'_>,
     book: &mut B,
     caller: &str,
     request: Request<'_>,
+    code: Code,
     out: &mut Vec<u8>,
 ) -> Result<(), Fail> {
     let answer = desk.ask(book, caller, request)?;
+    same(&answer.bytes().get(2..4), &Some(code.as_slice()), caller)?;
     out.extend_from_slice(answer.bytes())?;
     out.extend_from_slice(b"\n")?;
     Ok(())
@@ -57,8 +70,8 @@ fn put_answer<B: QueueBook>(
 
 /// Adds the answers to the requests.
 fn put_answers<B: QueueBook>(desk: &Desk<'_>, book: &mut B, out: &mut Vec<u8>) -> Result<(), Fail> {
-    for (caller, request) in REQUESTS {
-        put_answer(desk, book, caller, *request, out)?;
+    for (caller, request, code) in REQUESTS {
+        put_answer(desk, book, caller, *request, *code, out)?;
     }
     Ok(())
 }
@@ -71,26 +84,28 @@ fn put_queue<B: QueueBook>(alloc: Global, book: &mut B, out: &mut Vec<u8>) -> Re
     Ok(())
 }
 
-/// Adds a document that the device may fetch.
+/// Adds a document, which has so many octets if the device may fetch it.
 fn put_document<B: QueueBook>(
     book: &mut B,
     job: u32,
     number: u32,
+    octets: Option<u64>,
     out: &mut Vec<u8>,
 ) -> Result<(), Fail> {
     let head = book.document_head(job, number)?;
     writeln!(out, "{job} {number}: {head:?}")?;
+    same(&head.map(|head| head.octets), &octets, "octets")?;
     if head.is_some() {
         let sent = book.send_document(job, number, out);
-        writeln!(out, "\n{sent:?}")?;
+        same(&sent.ok(), &octets, "octets sent")?;
     }
     Ok(())
 }
 
 /// Adds the documents.
 fn put_documents<B: QueueBook>(book: &mut B, out: &mut Vec<u8>) -> Result<(), Fail> {
-    for (job, number) in DOCUMENTS {
-        put_document(book, *job, *number, out)?;
+    for (job, number, octets) in DOCUMENTS {
+        put_document(book, *job, *number, *octets, out)?;
     }
     Ok(())
 }
