@@ -7,7 +7,6 @@ from ipp import (
     INTEGER,
     KEYWORD,
     MEMBER_NAME,
-    NAME,
     PRINT_JOB,
     Job,
     Message,

@@ -24,7 +24,7 @@ from ipp import (
     unknown,
     unsupported,
 )
-from worked.case import case, print_job, refused, refuses, sized, taken, takes
+from worked.case import case, print_job, refused, refuses, taken, takes
 
 
 @dataclass(frozen=True)

@@ -1,7 +1,7 @@
 """Lines of the device: which are refused, and what becomes of a job and of its owner's pages by the others."""
 from dataclasses import replace
 
-from ipp import CREATE_JOB, ENUM, INTEGER, PRINTER_GROUP, Job, record, reply, request, unsupported
+from ipp import CREATE_JOB, ENUM, INTEGER, PRINTER_GROUP, record, reply, request, unsupported
 from worked.accounts import (
     CANCELED,
     HELD,

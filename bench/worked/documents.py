@@ -3,10 +3,8 @@ from ipp import (
     BOOLEAN,
     CREATE_JOB,
     GET_JOBS,
-    GET_JOB_ATTRIBUTES,
     KEYWORD,
     MEDIA_TYPE,
-    PRINT_JOB,
     SEND_DOCUMENT,
     VALIDATE_JOB,
     Job,
@@ -17,7 +15,7 @@ from ipp import (
     unknown,
     unsupported,
 )
-from worked.case import MEDIA_COL, case, done, print_job, refused, sized, taken, wants
+from worked.case import MEDIA_COL, case, done, print_job, refused, sized, taken
 from worked.jobs import HUNDRED, look, seen
 
 OPEN = Job(reasons=("job-incoming", "job-hold-until-specified"))
