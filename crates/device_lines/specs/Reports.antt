@@ -1,6 +1,7 @@
 -- What a line of the device brings about: an answer, and the world after it.
 use Rattle.std.specs.Prelude.{◌≡◌, ◌⊎◌, ◌++◌, ℕ, Bool, List, Option, Some, None, Result, Ok, Err, codes, decimal, bytes_eq, MatchBool}
 use Rattle.queue_types.specs.Event.{Event, tell}
+use Rattle.queue_types.specs.States.{job_state_number}
 use Rattle.queue_core.specs.Machine.{step}
 use Rattle.queue_core.specs.World.{World}
 use Rattle.queue_types.specs.declared.event.Reply.{Reply}
@@ -8,15 +9,16 @@ use Rattle.queue_types.specs.declared.event.Reply.TheVariants.{Told, NotTold}
 use Rattle.queue_types.specs.declared.event.Report.{Report}
 use Rattle.queue_types.specs.declared.event.ReportRefusal.{ReportRefusal}
 use Rattle.queue_types.specs.declared.event.ReportRefusal.TheVariants.{NoJob, State, Conflict}
+use Rattle.queue_types.specs.declared.states.JobState.{JobState}
 use Rattle.device_lines.specs.Lines.{Reads}
 use Rattle.device_lines.specs.declared.line.LineFault.{LineFault}
 use Rattle.device_lines.specs.declared.line.LineFault.TheVariants.{Syntax, Range}
 
 -- ---- the answers
 
--- an accepted report: the job's state and count, as they are after it
-abbrev pub told_line : ℕ → ℕ → ℕ → List ℕ
-told_line job state count = codes "ok " ++ decimal job ++ codes " " ++ decimal state ++ codes " " ++ decimal count ++ codes "\n"
+-- an accepted report: the job's state by its number, and its count, as they are after it
+abbrev pub told_line : ℕ → JobState → ℕ → List ℕ
+told_line job state count = codes "ok " ++ decimal job ++ codes " " ++ decimal (job_state_number state) ++ codes " " ++ decimal count ++ codes "\n"
 
 -- a line that is no report
 abbrev pub unread_line : LineFault → List ℕ

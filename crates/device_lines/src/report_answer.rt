@@ -6,6 +6,7 @@ use crate::line::LineFault;
 use arrayvec::ArrayString;
 use itoa::Buffer;
 use queue_types::event::ReportRefusal;
+use queue_types::states::JobState;
 use std::marker::Model;
 
 /// More bytes than the longest answer has.
@@ -44,14 +45,14 @@ impl ReportAnswer {
     }
 
     /// The report is accepted, now or before; the job's state and count.
-    pub(crate) fn told(job: u32, state: u8, count: u32) -> ReportAnswer
+    pub(crate) fn told(job: u32, state: JobState, count: u32) -> ReportAnswer
         ensures { result ≡ told_line job state count }
     {
         let mut text = ArrayString::new();
         text.push_str("ok ");
         text.push_str(Buffer::new().format(job));
         text.push_str(" ");
-        text.push_str(Buffer::new().format(state));
+        text.push_str(Buffer::new().format(state.number()));
         text.push_str(" ");
         text.push_str(Buffer::new().format(count));
         text.push_str("\n");

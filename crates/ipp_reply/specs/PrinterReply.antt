@@ -3,6 +3,8 @@ use Rattle.std.specs.Prelude.{ℕ, List, [], ◌∷◌, Bool, ◌||◌, map, fil
 use Rattle.std.specs.List.{list_any}
 use Rattle.ipp_wire.specs.Message.{Value, Attribute, Group}
 use Rattle.queue_types.specs.Settings.{SettingValues}
+use Rattle.queue_types.specs.States.{printer_state_number}
+use Rattle.queue_types.specs.declared.states.PrinterState.{PrinterState as StateOfPrinter}
 use Rattle.ipp_reply.specs.declared.printer_reply.PrinterAttribute.{PrinterAttribute}
 use Rattle.ipp_reply.specs.declared.printer_reply.PrinterAttribute.TheVariants.{PrinterUriSupported, UriAuthenticationSupported, UriSecuritySupported, PrinterName, PrinterState, PrinterStateReasons, IppVersionsSupported, OperationsSupported, CharsetConfigured, CharsetSupported, NaturalLanguageConfigured, GeneratedNaturalLanguageSupported, DocumentFormatDefault, DocumentFormatSupported, PrinterIsAcceptingJobs, QueuedJobCount, PdlOverrideSupported, PrinterUpTime, CompressionSupported}
 use Rattle.ipp_reply.specs.Operations.{id, operations}
@@ -13,7 +15,7 @@ use Rattle.ipp_reply.specs.JobReply.{text, integer, enumerated}
 pub record Printer : Type 0 where
   pub settings : SettingValues
   pub now : ℕ
-  pub state : ℕ
+  pub state : StateOfPrinter
   pub queued : ℕ
   pub accepting : Bool
 
@@ -58,7 +60,7 @@ values_of p PrinterUriSupported = text 0x45 p.settings.uri
 values_of p UriAuthenticationSupported = text 0x44 (codes "requesting-user-name")
 values_of p UriSecuritySupported = text 0x44 (codes "none")
 values_of p PrinterName = text 0x42 p.settings.name
-values_of p PrinterState = enumerated p.state
+values_of p PrinterState = enumerated (printer_state_number p.state)
 values_of p PrinterStateReasons = text 0x44 (codes "none")
 values_of p IppVersionsSupported = texts 0x44 (codes "1.1" ∷ codes "2.0" ∷ [])
 values_of p OperationsSupported = operation_ids

@@ -133,7 +133,7 @@ impl JobAttribute {
                 NAME_WITHOUT_LANGUAGE,
                 job.owner.as_str(),
             ),
-            JobAttribute::JobState => Content::Enum(u32::from(job.state())),
+            JobAttribute::JobState => Content::Enum(u32::from(job.state().number())),
             JobAttribute::JobStateReasons => Content::Reasons(job.reasons()),
             JobAttribute::TimeAtCreation => Content::Integer(job.created),
             JobAttribute::TimeAtProcessing => Content::Moment(job.begun),

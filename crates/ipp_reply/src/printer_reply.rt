@@ -17,6 +17,7 @@ use ipp_wire::tags::{
 use ipp_wire::{Message, ValueView};
 use queue_types::document::Format;
 use queue_types::settings::Settings;
+use queue_types::states::PrinterState;
 use std::alloc::{AllocError, Global};
 
 /// A printer attribute of a reply.
@@ -71,7 +72,7 @@ const TABLE: [PrinterAttribute; 19] = [
 pub struct PrinterView<'a> {
     pub settings: &'a Settings,
     pub now: u32,
-    pub state: u8,
+    pub state: PrinterState,
     pub queued: u32,
     pub accepting: bool,
 }
@@ -129,7 +130,7 @@ impl PrinterAttribute {
                 NAME_WITHOUT_LANGUAGE,
                 printer.settings.name(),
             ),
-            PrinterAttribute::PrinterState => Content::Enum(u32::from(printer.state)),
+            PrinterAttribute::PrinterState => Content::Enum(u32::from(printer.state.number())),
             PrinterAttribute::PrinterStateReasons => Content::Text(KEYWORD, "none"),
             PrinterAttribute::IppVersionsSupported => Content::Texts(KEYWORD, &["1.1", "2.0"]),
             PrinterAttribute::OperationsSupported => Content::OperationIds,

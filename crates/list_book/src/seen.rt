@@ -9,7 +9,7 @@ ghost use Rattle.list_book.specs.Lists.{nth_of, world_of};
 use crate::lists::Lists;
 use queue_types::document::{Document, DocumentHead, KeptDocument};
 use queue_types::job::Job;
-use queue_types::states::{JOB_PENDING, JOB_PROCESSING, JOB_PROCESSING_STOPPED};
+use queue_types::states::JobState;
 use std::alloc::{AllocError, Global};
 
 /// The jobs in state 3, by number.
@@ -18,7 +18,7 @@ pub(crate) fn pending(alloc: Global, jobs: &[Job]) -> Result<Vec<Job>, AllocErro
 {
     let mut pending = Vec::new(alloc);
     for job in jobs {
-        if job.state() == JOB_PENDING {
+        if job.state() == JobState::Pending {
             pending.push(job.try_clone()?)?;
         }
     }
@@ -35,8 +35,10 @@ fn numbered_job(jobs: &[Job], number: u32) -> Option<&Job>
 fn is_fetched(job: &Job) -> bool
     ensures { result ≡ (state job.now == 3 || state job.now == 5 || state job.now == 6) }
 {
-    let state = job.state();
-    state == JOB_PENDING || state == JOB_PROCESSING || state == JOB_PROCESSING_STOPPED
+    matches!(
+        job.state(),
+        JobState::Pending | JobState::Processing | JobState::ProcessingStopped
+    )
 }
 
 /// Document n of the job, counted from 1.

@@ -21,7 +21,7 @@ fn put_job(out: &mut String, job: &Job) -> Result<(), AllocError>
     ensures { OnOk result (string_bytes out.new ≡ string_bytes out.old ++ job_row job.now) }
 {
     let number = job.number;
-    let state = job.state();
+    let state = job.state().number();
     let reserved = job.owed();
     let printed = job.count;
     writeln!(out, "{number:>10} {state:>5} {reserved:>9} {printed:>9}")

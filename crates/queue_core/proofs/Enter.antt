@@ -112,7 +112,7 @@ new_row_keeps w m n sound number room entry count owing idle few free =
       grants = sound.grants;
       most = sound.most;
       accounts = λ a. (λ h. (sound.accounts a).0 (ap is_some (sym (free a)) ∙ h), λ h. ap is_some (free a) ∙ (sound.accounts a).1 h);
-      reports = λ k s. if_kept (IsKept w k s) (IsKept (with_new w m n) k s) (get w.reports (k, s)) (λ r p. record { job = p.job; seq = p.seq; there = some-push k n w.jobs p.there; positive = p.positive; count = p.count; state = p.state; total = p.total }) (sound.reports k s);
+      reports = λ k s. if_kept (IsKept w k s) (IsKept (with_new w m n) k s) (get w.reports (k, s)) (λ r p. record { job = p.job; seq = p.seq; there = some-push k n w.jobs p.there; positive = p.positive; count = p.count; total = p.total }) (sound.reports k s);
       counts = each-push (λ e. IsGreatestCount w e.row) n w.jobs sound.counts (λ seq. not_kept w n.row.number seq _ (get w.reports (n.row.number, seq)) (none_new n.row.number 1 w.jobs rise) (sound.reports n.row.number seq), inl count);
       idle = each-push (λ e. get m e.row.owner ≡ None → IsIdle e.row) n w.jobs (each-map (λ e. get w.free e.row.owner ≡ None → IsIdle e.row) (λ e. get m e.row.owner ≡ None → IsIdle e.row) w.jobs (λ e p none. p (sym (free e.row.owner) ∙ none)) sound.idle) (λ none. idle);
       balances = λ a.

@@ -143,9 +143,9 @@ owner_amounts : (w : World) → IsSound w → (js : List Job) → Each (λ (r : 
 owner_amounts w sound [] = tt
 owner_amounts w sound (j ∷ js) = found j.owner (get w.free j.owner) (amounts_of w sound j.owner)
 
-kept_within : (w : World) (n s : ℕ) (o : Option KeptReport) → IfSome o (IsKept w n s) → IfSome o (λ k. (3 ≤ k.state) × (k.state ≤ 9) × (k.total ≤ 100000000))
+kept_within : (w : World) (n s : ℕ) (o : Option KeptReport) → IfSome o (IsKept w n s) → IfSome o (λ k. k.total ≤ 100000000)
 kept_within w n s None kept = tt
-kept_within w n s (Some k) kept = (kept.state.0, kept.state.1, kept.total)
+kept_within w n s (Some k) kept = kept.total
 
 each_known : (w : World) → IsSound w → (rows : List GrantRow) → Each IsKnown (map (known_grant w) rows)
 each_known w sound [] = tt

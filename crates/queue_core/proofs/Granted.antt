@@ -222,7 +222,7 @@ module _ (w : World) (g : GrantRow) (sound : IsSound w) (row : IsGrantRow g) (ne
     where
       kept : (o : Option KeptReport) (n s : ℕ) → IfSome o (IsKept w n s) → IfSome o (IsKept after n s)
       kept None n s p = tt
-      kept (Some k) n s p = record { job = p.job; seq = p.seq; there = p.there; positive = p.positive; count = p.count; state = p.state; total = p.total }
+      kept (Some k) n s p = record { job = p.job; seq = p.seq; there = p.there; positive = p.positive; count = p.count; total = p.total }
 
 -- ---- the rows of an account file
 

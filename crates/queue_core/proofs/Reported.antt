@@ -4,7 +4,7 @@ use Rattle.std.specs.Prelude.{Option, Some, None, IfSome, IsSome, IsSomeAnd, IsT
 use Rattle.std.specs.List.{AllByRecursion as Each}
 use Rattle.std.specs.FinMap.{FinMap, get, insert, get-insert}
 use Rattle.std.proofs.lemmas.Bool.Decides.{nat_tests}
-use Rattle.queue_types.specs.Job.{is_live, is_live_in, state, state_in}
+use Rattle.queue_types.specs.Job.{is_live, is_live_in, job_state, state, state_in}
 use Rattle.queue_types.specs.Event.{tell}
 use Rattle.queue_core.specs.World.{World, Entry, rows, cut, made_on, with_row, owner_row, put_free, job_at, report_cmp, text_cmp}
 use Rattle.queue_core.specs.Reports.{counted, ended_as, why_halted, moved_by, reported, is_same_report}
@@ -193,23 +193,13 @@ module _ (w : World) (now : ℕ) (r : Report) (sound : IsSound w) (moment : IsMo
   scene = cut w (tell r)
 
   abbrev kept_report : Job → KeptReport
-  kept_report x = record { report = r; state = state x; total = x.count }
+  kept_report x = record { report = r; state = job_state x; total = x.count }
 
   abbrev reports_after : Job → FinMap report_cmp KeptReport
   reports_after x = insert w.reports (r.job, r.seq) (kept_report x)
 
   abbrev world_after : FinMap text_cmp ℤ → Job → World
   world_after m x = record w { jobs = with_row w.jobs x; free = m; reports = reports_after x }
-
-  states : (p : Phase) (hold incoming : Bool) → (3 ≤ state_in p hold incoming) × (state_in p hold incoming ≤ 9)
-  states Waiting true incoming = (omega arith, omega arith)
-  states Waiting false true = (omega arith, omega arith)
-  states Waiting false false = (omega arith, omega arith)
-  states Running hold incoming = (omega arith, omega arith)
-  states Stopped hold incoming = (omega arith, omega arith)
-  states (Canceled why) hold incoming = (omega arith, omega arith)
-  states Aborted hold incoming = (omega arith, omega arith)
-  states Completed hold incoming = (omega arith, omega arith)
 
   got : (x : Job) (n s : ℕ) → get (reports_after x) (n, s) ≡ cond (is_report_key (n, s) (r.job, r.seq)) (Some (kept_report x)) (get w.reports (n, s))
   got x n s = get-insert report_total w.reports (r.job, r.seq) (kept_report x) (n, s)
@@ -222,17 +212,15 @@ module _ (w : World) (now : ℕ) (r : Report) (sound : IsSound w) (moment : IsMo
           | true ↦ λ same.
               let key = report_key n s r.job r.seq same in
               let number = named ∙ sym key.0 in
-              let bounds = states x.phase x.hold x.incoming in
               record {
                 job = sym key.0;
                 seq = sym key.1;
                 there = some-with_row n x j w.jobs there (ap (λ i. is_some (at i w.jobs)) (sym number) ∙ ap is_some there);
                 positive = subst (λ i. (1 ≤ i) × (i < 2147483648)) (sym key.1) limits.seq;
                 count = limits.count;
-                state = bounds;
                 total = is.sound.count;
               }
-          | false ↦ λ same. if_map (IsKept w n s) (IsKept (world_after m x) n s) (get w.reports (n, s)) (λ k p. record { job = p.job; seq = p.seq; there = some-with_row n x j w.jobs there p.there; positive = p.positive; count = p.count; state = p.state; total = p.total }) (sound.reports n s)
+          | false ↦ λ same. if_map (IsKept w n s) (IsKept (world_after m x) n s) (get w.reports (n, s)) (λ k p. record { job = p.job; seq = p.seq; there = some-with_row n x j w.jobs there p.there; positive = p.positive; count = p.count; total = p.total }) (sound.reports n s)
         ] refl)
 
     other_key : (n s : ℕ) → nat_eq n r.job ≡ false → is_report_key (n, s) (r.job, r.seq) ≡ false

@@ -149,7 +149,7 @@ module _ (w : World) (m : FinMap text_cmp ℤ) (es : List Entry) (x j : Job) (so
 
   pub row_keeps : IsSound (with_jobs w m es)
   row_keeps = job_keeps w m w.reports es x j sound there (record { number = fits.number; owner = fits.owner; live = fits.live }) same entries stays_idle free
-      (λ n s. if_map (IsKept w n s) (IsKept (with_jobs w m es) n s) (get w.reports (n, s)) (λ k p. record { job = p.job; seq = p.seq; there = ap (λ js. is_some (job_at n js)) same ∙ some-with_row n x j w.jobs there p.there; positive = p.positive; count = p.count; state = p.state; total = p.total }) (sound.reports n s))
+      (λ n s. if_map (IsKept w n s) (IsKept (with_jobs w m es) n s) (get w.reports (n, s)) (λ k p. record { job = p.job; seq = p.seq; there = ap (λ js. is_some (job_at n js)) same ∙ some-with_row n x j w.jobs there p.there; positive = p.positive; count = p.count; total = p.total }) (sound.reports n s))
       (each-with_row (λ e. IsGreatestCount w e.row) (λ e. IsGreatestCount w e.row) x j w.jobs there (λ e p. p) count_keeps sound.counts)
 
 -- the entries with x in the place of j are sound, where x keeps its documents

@@ -1,17 +1,16 @@
 -- What the machine decides on a fair scene is within the limits.
 use Rattle.std.proofs.Common.{◌≡◌, ℕ, zero, suc, ◌+◌, ◌≤◌, List, [], ◌∷◌, ◌++◌, length, length-append, map, refl, ap, arith, subst, eq-eqb, Bool, true, false, cond}
 use Rattle.std.specs.List.{list_all, AllByRecursion as Each}
-use Rattle.std.specs.Prelude.{All, IsSome, IfSome, is_some, nat_lt, bytes_eq, filter, Option, Some, None}
-use Rattle.queue_types.specs.Job.{estimate, state_in}
+use Rattle.std.specs.Prelude.{All, IsSome, IfSome, is_some, bytes_eq, filter, Option, Some, None}
+use Rattle.queue_types.specs.Job.{estimate}
 use Rattle.queue_types.specs.Event.{Event, Call, NewJob, NewDocument, Decision, ask, tell, grant, print_job, validate_job, create_job, send_document, cancel_job, cancel_my_jobs, hold_job, release_job, get_job_attributes, get_jobs, get_printer_attributes}
 use Rattle.queue_core.specs.World.{job_at}
 use Rattle.queue_core.specs.Reports.{reported, is_same_report}
 use Rattle.queue_core.specs.Grants.{repeated, refused_row, new_row, row_of, Taken, all_taken, none_taken, free_after, add_row, take_rows}
-use Rattle.queue_core.specs.Machine.{decision, call_row, refused, becomes, answered, canceled, is_cancelable, cancel_row, are_there, all_canceled, cancel_my_jobs_row, of_own, entered, new_job, new_document, new_refusal, unless_refused, validate_job_row, changed, is_sendable, sent, send_in, hold_in, let_print, has_pages, release_in, printer_state, accepted, accepted_where, report_row, grant_row}
+use Rattle.queue_core.specs.Machine.{decision, call_row, refused, becomes, answered, canceled, is_cancelable, cancel_row, are_there, all_canceled, cancel_my_jobs_row, of_own, entered, new_job, new_document, new_refusal, unless_refused, validate_job_row, changed, is_sendable, sent, send_in, hold_in, let_print, has_pages, release_in, accepted, accepted_where, report_row, grant_row}
 use Rattle.queue_core.specs.Limits.{IsMoment, IsEvent, IsCall, IsOwner, IsNewJob, IsSoundJob, IsFair, IsReport, IsReplyTo, IsSoundReply, IsSoundChange, IsSoundDecision}
 use Rattle.queue_types.specs.declared.document.Format.{Format}
 use Rattle.queue_types.specs.declared.job.Job.{Job}
-use Rattle.queue_types.specs.declared.job.Phase.{Phase}
 use Rattle.queue_types.specs.declared.job.Phase.TheVariants.{Waiting, Running, Stopped, Canceled, Aborted, Completed}
 use Rattle.queue_types.specs.declared.event.FreeRow.{FreeRow}
 use Rattle.queue_types.specs.declared.event.GrantRow.{GrantRow}
@@ -21,7 +20,6 @@ use Rattle.queue_types.specs.declared.event.Reply.{Reply}
 use Rattle.queue_types.specs.declared.event.Reply.TheVariants.{Refused, Jobs, Done, Told, NotTold, NotAdded}
 use Rattle.queue_types.specs.declared.event.Report.{Report}
 use Rattle.queue_types.specs.declared.event.ReportRefusal.TheVariants.{NoJob, State, Conflict}
-use Rattle.queue_types.specs.declared.event.QueueCounts.{QueueCounts}
 use Rattle.queue_types.specs.declared.event.Scene.{Scene}
 use Rattle.queue_core.proofs.Cancel.{held, held_documents}
 use Rattle.queue_core.proofs.Many.{keeps_documents, passed, each_both}
@@ -109,18 +107,6 @@ owned caller row each (j ∷ js) all = elim (bytes_eq j.owner caller) as (λ b. 
 validating : (s : Scene) → IsAskDecision (validate_job_row s)
 validating s = elim (new_refusal s) as (λ o. IsAskDecision (unless_refused o (answered Done))) [ None ↦ answering Done tt | Some code ↦ refusing code ]
 
-state_least : (c : QueueCounts) → 3 ≤ printer_state c
-state_least c = elim (nat_lt 0 c.running) as (λ b. 3 ≤ cond b 4 (cond (nat_lt 0 c.stopped) 5 3)) [
-  | true ↦ omega arith
-  | false ↦ elim (nat_lt 0 c.stopped) as (λ b. 3 ≤ cond b 5 3) [ true ↦ omega arith | false ↦ omega arith ]
-]
-
-state_most : (c : QueueCounts) → printer_state c ≤ 5
-state_most c = elim (nat_lt 0 c.running) as (λ b. cond b 4 (cond (nat_lt 0 c.stopped) 5 3) ≤ 5) [
-  | true ↦ omega arith
-  | false ↦ elim (nat_lt 0 c.stopped) as (λ b. cond b 5 3 ≤ 5) [ true ↦ omega arith | false ↦ omega arith ]
-]
-
 sending : (s : Scene) (format : Format) (payload : List ℕ) (last : Bool) → length payload ≤ 16777216 → (j : Job) → IsSoundJob j → IsAskDecision (send_in s j format payload last)
 sending s format payload last fits j sound =
     elim (is_sendable j payload) as (λ b. is_sendable j payload ≡ b → IsAskDecision (cond b (record { reply = Jobs (sent j payload last ∷ []); change = record (changed s (sent j payload last ∷ [])) { document = new_document j.number format payload } }) (refused 0x0404))) [
@@ -164,7 +150,7 @@ ask_within s now caller (hold_job n) fair moment event = owned caller (λ j. hol
 ask_within s now caller (release_job n) fair moment event = owned caller (λ j. release_in j.phase s j) (releasing s) s.jobs fair.jobs
 ask_within s now caller (validate_job j) fair moment event = validating s
 ask_within s now caller (get_jobs which limit) fair moment event = answering (Jobs s.jobs) fair.jobs
-ask_within s now caller get_printer_attributes fair moment event = answering _ (state_least s.counts, state_most s.counts, fair.queued)
+ask_within s now caller get_printer_attributes fair moment event = answering _ fair.queued
 ask_within s now caller (cancel_job n) fair moment event = owned caller (λ j. cancel_row s now j) (canceling s now moment) s.jobs fair.jobs
 ask_within s now caller (cancel_my_jobs numbers) fair moment event = canceling_mine s now numbers fair moment
 ask_within s now caller (get_job_attributes n) fair moment event = owned caller (λ j. answered (Jobs (j ∷ []))) showing s.jobs fair.jobs
@@ -174,18 +160,8 @@ ask_within s now caller (get_job_attributes n) fair moment event = owned caller 
 told : (e : Event) (r : Reply) → IsReplyTo e r → IsSoundDecision e (answered r)
 told e r sound = record { reply = sound; change = record { jobs = all_of IsSoundJob [] tt; document = tt } }
 
-states : (p : Phase) (hold incoming : Bool) → (3 ≤ state_in p hold incoming) × (state_in p hold incoming ≤ 9)
-states Waiting true incoming = (omega arith, omega arith)
-states Waiting false true = (omega arith, omega arith)
-states Waiting false false = (omega arith, omega arith)
-states Running hold incoming = (omega arith, omega arith)
-states Stopped hold incoming = (omega arith, omega arith)
-states (Canceled why) hold incoming = (omega arith, omega arith)
-states Aborted hold incoming = (omega arith, omega arith)
-states Completed hold incoming = (omega arith, omega arith)
-
 accepting : (s : Scene) (r : Report) (x : Job) → IsSoundJob x → IsSoundDecision (tell r) (accepted s r x)
-accepting s r x sound = let n = states x.phase x.hold x.incoming in record { reply = (n.0, n.1, sound.count); change = record { jobs = one x sound; document = tt } }
+accepting s r x sound = record { reply = sound.count; change = record { jobs = one x sound; document = tt } }
 
 accepting_where : (s : Scene) (r : Report) (o : Option Job) → IfSome o IsSoundJob → IsSoundDecision (tell r) (accepted_where s r o)
 accepting_where s r None sound = told (tell r) (NotTold State) tt
@@ -198,7 +174,7 @@ if_taken (Some x) each = each x refl
 taken_sound : (j : Job) (r : Report) (now : ℕ) → IsSoundJob j → IsMoment now → IsReport r → IfSome (reported r now j) IsSoundJob
 taken_sound j r now sound moment report = if_taken (reported r now j) (λ x e. (reported_is r now j x sound moment report e).sound)
 
-telling : (s : Scene) (now : ℕ) (r : Report) → IsMoment now → IsReport r → (js : List Job) → All IsSoundJob js → (o : Option KeptReport) → IfSome o (λ k. (3 ≤ k.state) × (k.state ≤ 9) × (k.total ≤ 100000000)) → IsSoundDecision (tell r) (report_row s now r js o)
+telling : (s : Scene) (now : ℕ) (r : Report) → IsMoment now → IsReport r → (js : List Job) → All IsSoundJob js → (o : Option KeptReport) → IfSome o (λ k. k.total ≤ 100000000) → IsSoundDecision (tell r) (report_row s now r js o)
 telling s now r moment report [] all o kept = told (tell r) (NotTold NoJob) tt
 telling s now r moment report (j ∷ js) all None kept = accepting_where s r (reported r now j) (taken_sound j r now (all 0 j (omega arith)) moment report)
 telling s now r moment report (j ∷ js) all (Some k) kept = elim (is_same_report r k.report) as (λ b. IsSoundDecision (tell r) (cond b (answered (Told k.state k.total)) (answered (NotTold Conflict)))) [

@@ -129,7 +129,7 @@ pub record IsFair (s : Scene) : Type 0 where
   pub free : All (λ a. IsAmount a.free) s.free
   pub next : 1 ≤ s.next
   pub queued : s.counts.queued < 2 ^ 31
-  pub report : IfSome s.report (λ k. (3 ≤ k.state) × (k.state ≤ 9) × (k.total ≤ 100000000))
+  pub report : IfSome s.report (λ k. k.total ≤ 100000000)
   pub known : All IsKnown s.known
 
 -- the reply to a request, whose jobs and numbers are within their limits
@@ -137,7 +137,7 @@ abbrev pub IsSoundReply : Reply → Type 0
 IsSoundReply (Refused code) = ⊤
 IsSoundReply Done = ⊤
 IsSoundReply (Jobs js) = All IsSoundJob js
-IsSoundReply (Printer state queued accepting) = (3 ≤ state) × (state ≤ 5) × (queued < 2 ^ 31)
+IsSoundReply (Printer state queued accepting) = queued < 2 ^ 31
 IsSoundReply (Told state count) = ⊥
 IsSoundReply (NotTold refusal) = ⊥
 IsSoundReply (Added new repeats) = ⊥
@@ -145,7 +145,7 @@ IsSoundReply (NotAdded fault row) = ⊥
 
 -- the answer to a report
 abbrev pub IsReportReply : Reply → Type 0
-IsReportReply (Told state count) = (3 ≤ state) × (state ≤ 9) × (count ≤ 100000000)
+IsReportReply (Told state count) = count ≤ 100000000
 IsReportReply (NotTold refusal) = ⊤
 IsReportReply _ = ⊥
 

@@ -2,7 +2,7 @@
 use Rattle.std.specs.Prelude.{ℕ, ℤ, pos, ◌+ℤ◌, ◌-ℤ◌, ◌+◌, fold, List, [], ◌∷◌, Option, Some, None, map, filter, ◌==◌, ◌&&◌, not, bytes_eq, Bool, true, false, if◌then◌else◌, nat_le, nat_lt, int_le, unwrap_or, length}
 use Rattle.std.specs.List.{list_all, list_any}
 use Rattle.std.specs.Option.{option_map_or}
-use Rattle.queue_types.specs.Job.{estimate, owed, state}
+use Rattle.queue_types.specs.Job.{estimate, owed, job_state}
 use Rattle.queue_types.specs.Event.{NewJob, NewDocument, Change, Decision, Event, Call, ask, tell, grant, print_job, validate_job, create_job, send_document, cancel_job, cancel_my_jobs, hold_job, release_job, get_job_attributes, get_jobs, get_printer_attributes}
 use Rattle.queue_core.specs.World.{World, cut, made_on, job_at}
 use Rattle.queue_core.specs.Reports.{reported, is_same_report}
@@ -20,6 +20,8 @@ use Rattle.queue_types.specs.declared.event.Reply.{Reply}
 use Rattle.queue_types.specs.declared.event.Reply.TheVariants.{Refused, Done, Jobs, Printer, Told, NotTold, Added, NotAdded}
 use Rattle.queue_types.specs.declared.event.Scene.{Scene}
 use Rattle.queue_types.specs.declared.event.QueueCounts.{QueueCounts}
+use Rattle.queue_types.specs.declared.states.PrinterState.{PrinterState}
+use Rattle.queue_types.specs.declared.states.PrinterState.TheVariants.{Idle, Processing as PrinterProcessing, Stopped as PrinterStopped}
 
 abbrev pub no_change : Change
 no_change = record { jobs = []; document = None; free = []; grants = []; report = None; next = None }
@@ -116,9 +118,8 @@ validate_job_row s = unless_refused (new_refusal s) (answered Done)
 
 -- ---- Get-Printer-Attributes (RFC 8011, sections 4.2.5 and 5.4.11)
 
--- 4 processing, 5 stopped, 3 idle
-abbrev pub printer_state : QueueCounts → ℕ
-printer_state c = if nat_lt 0 c.running then 4 else (if nat_lt 0 c.stopped then 5 else 3)
+abbrev pub printer_state : QueueCounts → PrinterState
+printer_state c = if nat_lt 0 c.running then PrinterProcessing else (if nat_lt 0 c.stopped then PrinterStopped else Idle)
 
 abbrev pub printer_row : Scene → Decision
 printer_row s = answered (Printer (printer_state s.counts) s.counts.queued (nat_le s.next 2147483647))
@@ -214,8 +215,8 @@ release_in Completed s j = refused 0x0404
 -- what is accepted is kept, with what its answer told
 abbrev pub accepted : Scene → Report → Job → Decision
 accepted s r j = record {
-  reply = Told (state j) j.count;
-  change = record (changed s (j ∷ [])) { report = Some (record { report = r; state = state j; total = j.count }) };
+  reply = Told (job_state j) j.count;
+  change = record (changed s (j ∷ [])) { report = Some (record { report = r; state = job_state j; total = j.count }) };
 }
 
 abbrev pub accepted_where : Scene → Report → Option Job → Decision

@@ -48,7 +48,6 @@ pub record IsKept (w : World) (n m : ℕ) (k : KeptReport) : Type 0 where
   pub there : IsSome (job_at n (rows w))
   pub positive : IsPositive m
   pub count : k.report.count ≤ 100000000
-  pub state : (3 ≤ k.state) × (k.state ≤ 9)
   pub total : k.total ≤ 100000000
 
 -- the greatest count that was reported of a job, 0 without a report

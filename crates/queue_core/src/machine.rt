@@ -18,7 +18,7 @@ use queue_types::document::Format;
 use queue_types::event::{Call, Decision, Event, NewDocument, NewJob, QueueCounts, Reply, Scene};
 use queue_types::job::{Job, Phase};
 use queue_types::limits::{LAST_JOB_NUMBER, MOST_LIVE_JOBS};
-use queue_types::states::{PRINTER_IDLE, PRINTER_PROCESSING, PRINTER_STOPPED};
+use queue_types::states::PrinterState;
 use queue_types::status::{CLIENT_ERROR_NOT_POSSIBLE, SERVER_ERROR_NOT_ACCEPTING_JOBS};
 use queue_types::text::Text;
 use std::alloc::{AllocError, Global};
@@ -144,15 +144,15 @@ fn show_jobs<'a>(alloc: Global, scene: &Scene) -> Result<Decision<'a>, AllocErro
 }
 
 /// The printer's state.
-fn state_of_printer(counts: QueueCounts) -> u8
+fn state_of_printer(counts: QueueCounts) -> PrinterState
     ensures { result ≡ printer_state counts }
 {
     if counts.running > 0 {
-        PRINTER_PROCESSING
+        PrinterState::Processing
     } else if counts.stopped > 0 {
-        PRINTER_STOPPED
+        PrinterState::Stopped
     } else {
-        PRINTER_IDLE
+        PrinterState::Idle
     }
 }
 

@@ -5,7 +5,7 @@ use Rattle.std.specs.List.{AllByRecursion as Each}
 use Rattle.std.specs.FinMap.{FinMap, get, get-insert}
 use Rattle.queue_types.specs.Event.{Decision, Event, ask, tell, grant}
 use Rattle.queue_core.specs.Grants.{Taken, all_taken, none_taken, take_rows}
-use Rattle.queue_types.specs.Job.{state}
+use Rattle.queue_types.specs.Job.{job_state}
 use Rattle.queue_core.specs.Limits.{IsMoment, IsReport}
 use Rattle.queue_core.specs.World.{World, rows, cut, made_on, job_at, numbered, report_cmp}
 use Rattle.queue_core.specs.Reports.{is_same_report}
@@ -18,6 +18,7 @@ use Rattle.queue_types.specs.declared.event.KeptReport.{KeptReport}
 use Rattle.queue_types.specs.declared.event.Report.{Report}
 use Rattle.queue_types.specs.declared.event.ReportRefusal.TheVariants.{Conflict}
 use Rattle.queue_types.specs.declared.event.Reply.{Reply}
+use Rattle.queue_types.specs.declared.states.JobState.{JobState}
 use Rattle.queue_types.specs.declared.event.Reply.TheVariants.{Told, NotTold}
 use Rattle.queue_types.specs.declared.job.Job.{Job}
 use Rattle.queue_laws.proofs.Base.{itself}
@@ -27,7 +28,7 @@ use Rattle.queue_laws.proofs.Keys.{own_report_key, report_key}
 use Rattle.queue_laws.proofs.Telling.{declined, known, taken, telling}
 
 -- under the report's job and sequence number an equal one is kept, with that state and count
-pub record IsKeptAs (kept : FinMap report_cmp KeptReport) (r : Report) (s c : ℕ) : Type 0 where
+pub record IsKeptAs (kept : FinMap report_cmp KeptReport) (r : Report) (s : JobState) (c : ℕ) : Type 0 where
   pub report : KeptReport
   pub there : get kept (r.job, r.seq) ≡ Some report
   pub same : is_same_report r report.report ≡ true
@@ -40,11 +41,11 @@ same_itself r = ap (λ b. b && nat_eq r.count r.count) (itself (kind_number r.ki
 no_reply : (t u : Reply) (A : Type 0) → t ≡ u → (t ≡ u → ⊥) → A
 no_reply t u A e never = absurd (never e)
 
-told_parts : (s c m n : ℕ) → Told m n ≡ Told s c → (m ≡ s) × (n ≡ c)
+told_parts : (s : JobState) (c : ℕ) (m : JobState) (n : ℕ) → Told m n ≡ Told s c → (m ≡ s) × (n ≡ c)
 told_parts s c m n e = (cc, cc)
 
 -- a report that is accepted, now or again, is kept afterwards with what it was told
-pub told_kept : (w : World) (now : ℕ) (r : Report) (s c : ℕ) → (step w now (tell r)).reply ≡ Told s c → IsKeptAs (step w now (tell r)).world.reports r s c
+pub told_kept : (w : World) (now : ℕ) (r : Report) (s : JobState) (c : ℕ) → (step w now (tell r)).reply ≡ Told s c → IsKeptAs (step w now (tell r)).world.reports r s c
 told_kept w now r s c told = elim (telling w now r) as (λ _. IsKeptAs (step w now (tell r)).world.reports r s c) [
   | declined cause e ↦ no_reply (NotTold cause) (Told s c) _ (sym (ap (λ (d : Decision). d.reply) e) ∙ told) (λ e. cc)
   | known k kept same e ↦ (
@@ -52,8 +53,8 @@ told_kept w now r s c told = elim (telling w now r) as (λ _. IsKeptAs (step w n
       record { report = k; there = ap (λ (d : Decision). get (made_on d.change w).reports (r.job, r.seq)) e ∙ kept; same = same; state = parts.0; total = parts.1 })
   | taken a ↦ (
       let x : Job = a.after in
-      let new : KeptReport = record { report = r; state = state x; total = x.count } in
-      let parts = told_parts s c (state x) x.count (sym (ap (λ (d : Decision). d.reply) a.is) ∙ told) in
+      let new : KeptReport = record { report = r; state = job_state x; total = x.count } in
+      let parts = told_parts s c (job_state x) x.count (sym (ap (λ (d : Decision). d.reply) a.is) ∙ told) in
       record {
         report = new;
         there =
@@ -79,7 +80,7 @@ stays_told w now r n m k kept = elim (telling w now r) as (λ _. get (step w now
   | declined cause e ↦ ap (λ (d : Decision). get (made_on d.change w).reports (n, m)) e ∙ kept
   | known l there same e ↦ ap (λ (d : Decision). get (made_on d.change w).reports (n, m)) e ∙ kept
   | taken a ↦ (
-      let new : KeptReport = record { report = r; state = state a.after; total = a.after.count } in
+      let new : KeptReport = record { report = r; state = job_state a.after; total = a.after.count } in
       ap (λ (d : Decision). get (made_on d.change w).reports (n, m)) a.is
       ∙ get-insert report_total w.reports (r.job, r.seq) new (n, m)
       ∙ elim (is_report_key (n, m) (r.job, r.seq)) as (λ b. is_report_key (n, m) (r.job, r.seq) ≡ b → cond b (Some new) (get w.reports (n, m)) ≡ Some k) [
@@ -101,10 +102,10 @@ stays w now (Some (ask caller call)) n m k kept = ap (λ reports. get reports (n
 stays w now (Some (tell r)) n m k kept = stays_told w now r n m k kept
 stays w now (Some (grant rows)) n m k kept = ap (λ reports. get reports (n, m)) (grant_reports w now rows) ∙ kept
 
-pub kept_stays : (w : World) (now : ℕ) (e : Option Event) (r : Report) (s c : ℕ) → IsKeptAs w.reports r s c → IsKeptAs (after w now e).reports r s c
+pub kept_stays : (w : World) (now : ℕ) (e : Option Event) (r : Report) (s : JobState) (c : ℕ) → IsKeptAs w.reports r s c → IsKeptAs (after w now e).reports r s c
 kept_stays w now e r s c kept = record { report = kept.report; there = stays w now e r.job r.seq kept.report kept.there; same = kept.same; state = kept.state; total = kept.total }
 
-kept_along : (ps : List Place) (w : World) (r : Report) (s c : ℕ) → IsKeptAs w.reports r s c → IsKeptAs (run w ps).reports r s c
+kept_along : (ps : List Place) (w : World) (r : Report) (s : JobState) (c : ℕ) → IsKeptAs w.reports r s c → IsKeptAs (run w ps).reports r s c
 kept_along [] w r s c kept = kept
 kept_along (p ∷ ps) w r s c kept = kept_along ps (after w p.now p.event) r s c (kept_stays w p.now p.event r s c kept)
 
@@ -122,7 +123,7 @@ some_there n (j ∷ js) there none =
       | false ↦ λ there none. some_there n js there none
     ] there none
 
-module _ (w : World) (later : ℕ) (r : Report) (s c : ℕ) (sound : IsSound w) (kept : IsKeptAs w.reports r s c) where
+module _ (w : World) (later : ℕ) (r : Report) (s : JobState) (c : ℕ) (sound : IsSound w) (kept : IsKeptAs w.reports r s c) where
   again_row : (js : List Job) → numbered r.job (rows w) ≡ js → report_row (cut w (tell r)) later r js (Some kept.report) ≡ answered (Told kept.report.state kept.report.total)
   again_row [] e = absurd (some_there r.job (rows w) (there_of w r.job r.seq (get w.reports (r.job, r.seq)) kept.report kept.there (sound.reports r.job r.seq)) e)
   again_row (j ∷ rest) e = ap (λ b. cond b (answered (Told kept.report.state kept.report.total)) (answered (NotTold Conflict))) kept.same
@@ -140,7 +141,7 @@ module _ (w : World) (later : ℕ) (r : Report) (s c : ℕ) (sound : IsSound w) 
 abbrev pub KeepsSound : Type 0
 KeepsSound = (w : World) (ps : List Place) → IsSound w → Each IsPlace ps → IsSound (run w ps)
 
-pub answered_again : KeepsSound → (w : World) (now later : ℕ) (r : Report) (ps : List Place) (s c : ℕ) → IsSound w → IsMoment now → IsReport r → Each IsPlace ps → (step w now (tell r)).reply ≡ Told s c → step (run (step w now (tell r)).world ps) later (tell r) ≡ record { world = run (step w now (tell r)).world ps; reply = Told s c }
+pub answered_again : KeepsSound → (w : World) (now later : ℕ) (r : Report) (ps : List Place) (s : JobState) (c : ℕ) → IsSound w → IsMoment now → IsReport r → Each IsPlace ps → (step w now (tell r)).reply ≡ Told s c → step (run (step w now (tell r)).world ps) later (tell r) ≡ record { world = run (step w now (tell r)).world ps; reply = Told s c }
 answered_again keeps w now later r ps s c sound moment limits places told =
     let v : World = (step w now (tell r)).world in
     let first : Place = record { now = now; event = Some (tell r) } in

@@ -25,7 +25,9 @@ use Rattle.queue_laws.proofs.Base.{rows_of, each_map, each_filter, passed, last_
 -- ---- kinds are states
 
 live_is : (p : Phase) (hold incoming : Bool) → is_live_in p ≡ (nat_le 3 (state_in p hold incoming) && nat_le (state_in p hold incoming) 6)
-live_is Waiting hold incoming = elim (hold || incoming) as (λ b. true ≡ (nat_le 3 (cond b 4 3) && nat_le (cond b 4 3) 6)) [ true ↦ refl | false ↦ refl ]
+live_is Waiting true incoming = refl
+live_is Waiting false true = refl
+live_is Waiting false false = refl
 live_is Running hold incoming = refl
 live_is Stopped hold incoming = refl
 live_is (Canceled why) hold incoming = refl
@@ -33,7 +35,9 @@ live_is Aborted hold incoming = refl
 live_is Completed hold incoming = refl
 
 ended_is : (p : Phase) (hold incoming : Bool) → not (is_live_in p) ≡ (nat_le 7 (state_in p hold incoming) && nat_le (state_in p hold incoming) 9)
-ended_is Waiting hold incoming = elim (hold || incoming) as (λ b. false ≡ (nat_le 7 (cond b 4 3) && nat_le (cond b 4 3) 9)) [ true ↦ refl | false ↦ refl ]
+ended_is Waiting true incoming = refl
+ended_is Waiting false true = refl
+ended_is Waiting false false = refl
 ended_is Running hold incoming = refl
 ended_is Stopped hold incoming = refl
 ended_is (Canceled why) hold incoming = refl

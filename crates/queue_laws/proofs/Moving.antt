@@ -3,7 +3,7 @@ use Rattle.std.proofs.Common.{◌≡◌, ℕ, ◌≤◌, ◌⊎◌, List, ◌∷
 use Rattle.std.specs.Prelude.{Option, Some, None, nat_eq, is_some, max, ◌&&◌}
 use Rattle.std.specs.FinMap.{get}
 use Rattle.queue_types.specs.Event.{tell, kind_number}
-use Rattle.queue_types.specs.Job.{state, state_in}
+use Rattle.queue_types.specs.Job.{job_state, state, state_in}
 use Rattle.queue_core.specs.World.{World, rows, cut}
 use Rattle.queue_core.specs.Limits.{FitsPhase}
 use Rattle.queue_core.specs.Machine.{Step, step, answered, accepted_where, report_row}
@@ -20,6 +20,8 @@ use Rattle.queue_types.specs.declared.job.Job.{Job}
 use Rattle.queue_types.specs.declared.job.Phase.{Phase}
 use Rattle.queue_types.specs.declared.job.Phase.TheVariants.{Waiting, Running, Stopped, Canceled, Aborted, Completed}
 use Rattle.queue_types.specs.declared.job.Why.TheVariants.{ByUser, AtDevice}
+use Rattle.queue_types.specs.declared.states.JobState.{JobState}
+use Rattle.queue_types.specs.declared.states.JobState.TheVariants.{Processing, ProcessingStopped, Canceled as CanceledState, Aborted as AbortedState, Completed as CompletedState}
 use Rattle.queue_laws.specs.Reporting.{Becomes}
 use Rattle.queue_laws.proofs.Base.{at, equal, itself, first_named, named, none_named}
 use Rattle.queue_laws.proofs.OfKind.{starts, stops, resumes, counts, completes, fails, halts, starts_not, stops_not, resumes_not, completes_not, fails_not, halts_not, some_begun, begun_some}
@@ -96,7 +98,7 @@ module _ (w : World) (now : ℕ) (r : Report) where
     number : j.number ≡ r.job
     number = (first_named r.job (rows w) j rest (named r.job (rows w) j there).is).1
 
-    becomes : get w.reports (r.job, r.seq) ≡ None → (n : ℕ) (x : Job) → reported r now j ≡ Some x → x.number ≡ j.number → state x ≡ n → Becomes r n x (step w now (tell r))
+    becomes : get w.reports (r.job, r.seq) ≡ None → (n : JobState) (x : Job) → reported r now j ≡ Some x → x.number ≡ j.number → job_state x ≡ n → Becomes r n x (step w now (tell r))
     becomes none n x is same in_state =
         let comes = first_step none (Some x) is in
         record {
@@ -117,31 +119,31 @@ module _ (w : World) (now : ℕ) (r : Report) where
     of_kind k o kind is = ap (λ k. moved_by k j.phase now y) kind ∙ is
 
     module _ (none : get w.reports (r.job, r.seq) ≡ None) where
-      pub started : r.kind ≡ Start → state j ≡ 3 → Becomes r 5 (record j { phase = Running; begun = Some now; count = max j.count r.count }) (step w now (tell r))
-      started kind is = becomes none 5 (record y { phase = Running; begun = Some now }) (of_kind Start _ kind (starts now y j.phase is)) refl refl
+      pub started : r.kind ≡ Start → state j ≡ 3 → Becomes r Processing (record j { phase = Running; begun = Some now; count = max j.count r.count }) (step w now (tell r))
+      started kind is = becomes none Processing (record y { phase = Running; begun = Some now }) (of_kind Start _ kind (starts now y j.phase is)) refl refl
 
-      pub stopped : r.kind ≡ Stop → state j ≡ 5 → Becomes r 6 (record j { phase = Stopped; count = max j.count r.count }) (step w now (tell r))
-      stopped kind is = becomes none 6 (record y { phase = Stopped }) (of_kind Stop _ kind (stops now y j.phase is)) refl refl
+      pub stopped : r.kind ≡ Stop → state j ≡ 5 → Becomes r ProcessingStopped (record j { phase = Stopped; count = max j.count r.count }) (step w now (tell r))
+      stopped kind is = becomes none ProcessingStopped (record y { phase = Stopped }) (of_kind Stop _ kind (stops now y j.phase is)) refl refl
 
-      pub resumed : r.kind ≡ Resume → state j ≡ 6 → Becomes r 5 (record j { phase = Running; count = max j.count r.count }) (step w now (tell r))
-      resumed kind is = becomes none 5 (record y { phase = Running }) (of_kind Resume _ kind (resumes now y j.phase is)) refl refl
+      pub resumed : r.kind ≡ Resume → state j ≡ 6 → Becomes r Processing (record j { phase = Running; count = max j.count r.count }) (step w now (tell r))
+      resumed kind is = becomes none Processing (record y { phase = Running }) (of_kind Resume _ kind (resumes now y j.phase is)) refl refl
 
-      pub counts_job : r.kind ≡ Count → (j.begun ≡ None → ⊥) → Becomes r (state j) (record j { count = max j.count r.count }) (step w now (tell r))
-      counts_job kind began = becomes none (state j) y (of_kind Count _ kind (counts now y j.phase true (some_begun j.begun began))) refl refl
+      pub counts_job : r.kind ≡ Count → (j.begun ≡ None → ⊥) → Becomes r (job_state j) (record j { count = max j.count r.count }) (step w now (tell r))
+      counts_job kind began = becomes none (job_state j) y (of_kind Count _ kind (counts now y j.phase true (some_begun j.begun began))) refl refl
 
-      pub done : r.kind ≡ Done → state j ≡ 5 → Becomes r 9 (record j { phase = Completed; stopping = false; ended = Some now; count = max j.count r.count }) (step w now (tell r))
-      done kind is = becomes none 9 (ended_as Completed now y) (of_kind Done _ kind (completes now y j.phase is)) refl refl
+      pub done : r.kind ≡ Done → state j ≡ 5 → Becomes r CompletedState (record j { phase = Completed; stopping = false; ended = Some now; count = max j.count r.count }) (step w now (tell r))
+      done kind is = becomes none CompletedState (ended_as Completed now y) (of_kind Done _ kind (completes now y j.phase is)) refl refl
 
-      pub failed : r.kind ≡ Fail → 5 ≤ state j → state j ≤ 6 → Becomes r 8 (record j { phase = Aborted; stopping = false; ended = Some now; count = max j.count r.count }) (step w now (tell r))
-      failed kind high low = becomes none 8 (ended_as Aborted now y) (of_kind Fail _ kind (fails now y j.phase high low)) refl refl
+      pub failed : r.kind ≡ Fail → 5 ≤ state j → state j ≤ 6 → Becomes r AbortedState (record j { phase = Aborted; stopping = false; ended = Some now; count = max j.count r.count }) (step w now (tell r))
+      failed kind high low = becomes none AbortedState (ended_as Aborted now y) (of_kind Fail _ kind (fails now y j.phase high low)) refl refl
 
-      halted : (b : Bool) → r.kind ≡ Halt → 5 ≤ state j → state j ≤ 6 → j.stopping ≡ b → Becomes r 7 (ended_as (Canceled (why_halted b)) now y) (step w now (tell r))
-      halted b kind high low asked = becomes none 7 (ended_as (Canceled (why_halted b)) now y) (of_kind Halt _ kind (halts now y j.phase high low) ∙ ap (λ b. Some (ended_as (Canceled (why_halted b)) now y)) asked) refl refl
+      halted : (b : Bool) → r.kind ≡ Halt → 5 ≤ state j → state j ≤ 6 → j.stopping ≡ b → Becomes r CanceledState (ended_as (Canceled (why_halted b)) now y) (step w now (tell r))
+      halted b kind high low asked = becomes none CanceledState (ended_as (Canceled (why_halted b)) now y) (of_kind Halt _ kind (halts now y j.phase high low) ∙ ap (λ b. Some (ended_as (Canceled (why_halted b)) now y)) asked) refl refl
 
-      pub halted_for_user : r.kind ≡ Halt → 5 ≤ state j → state j ≤ 6 → j.stopping ≡ true → Becomes r 7 (record j { phase = Canceled ByUser; stopping = false; ended = Some now; count = max j.count r.count }) (step w now (tell r))
+      pub halted_for_user : r.kind ≡ Halt → 5 ≤ state j → state j ≤ 6 → j.stopping ≡ true → Becomes r CanceledState (record j { phase = Canceled ByUser; stopping = false; ended = Some now; count = max j.count r.count }) (step w now (tell r))
       halted_for_user = halted true
 
-      pub halted_at_device : r.kind ≡ Halt → 5 ≤ state j → state j ≤ 6 → j.stopping ≡ false → Becomes r 7 (record j { phase = Canceled AtDevice; stopping = false; ended = Some now; count = max j.count r.count }) (step w now (tell r))
+      pub halted_at_device : r.kind ≡ Halt → 5 ≤ state j → state j ≤ 6 → j.stopping ≡ false → Becomes r CanceledState (record j { phase = Canceled AtDevice; stopping = false; ended = Some now; count = max j.count r.count }) (step w now (tell r))
       halted_at_device = halted false
 
       -- ---- not taken

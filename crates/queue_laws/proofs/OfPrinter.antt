@@ -13,6 +13,7 @@ use Rattle.queue_types.specs.declared.event.WhichJobs.TheVariants.{NotCompleted}
 use Rattle.queue_types.specs.declared.job.Job.{Job}
 use Rattle.queue_types.specs.declared.job.Phase.{Phase}
 use Rattle.queue_types.specs.declared.job.Phase.TheVariants.{Waiting, Running, Stopped, Canceled, Aborted, Completed}
+use Rattle.queue_types.specs.declared.states.PrinterState.TheVariants.{Idle, Processing as PrinterProcessing, Stopped as PrinterStopped}
 use Rattle.queue_laws.specs.Jobs.{is_unfinished, printer_state}
 use Rattle.queue_laws.proofs.InOrder.{kind_is}
 
@@ -54,7 +55,7 @@ some_is p (j ∷ js) =
 
 pub printer_shown : (w : World) (now : ℕ) (caller : List ℕ) → (step w now (ask caller get_printer_attributes)).reply ≡ Printer (printer_state (rows w)) (count_by is_unfinished (rows w)) (nat_le w.next 2147483647)
 printer_shown w now caller = λ i. Printer
-    (cond (some_running i) 4 (cond (some_stopped i) 5 3))
+    (cond (some_running i) PrinterProcessing (cond (some_stopped i) PrinterStopped Idle))
     (count_by (λ j. kind_is NotCompleted j i) (rows w))
     (nat_le w.next 2147483647)
   where

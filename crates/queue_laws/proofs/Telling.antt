@@ -4,7 +4,7 @@ use Rattle.std.specs.Prelude.{Option, Some, None, nat_eq, bytes_eq, not, fold, i
 use Rattle.std.specs.FinMap.{get, get-insert}
 use Rattle.std.proofs.lemmas.Cmp.{nat_list_eq_equiv}
 use Rattle.queue_types.specs.Event.{Decision, tell}
-use Rattle.queue_types.specs.Job.{state}
+use Rattle.queue_types.specs.Job.{job_state}
 use Rattle.queue_core.specs.World.{World, Entry, rows, cut, made_on, with_row, put_free, job_at, numbered, owner_row}
 use Rattle.queue_core.specs.Reports.{counted, ended_as, why_halted, moved_by, reported, is_same_report}
 use Rattle.queue_core.specs.Machine.{decision, step, answered, accepted, accepted_where, report_row, credited}
@@ -19,6 +19,7 @@ use Rattle.queue_types.specs.declared.event.Scene.{Scene}
 use Rattle.queue_types.specs.declared.job.Job.{Job}
 use Rattle.queue_types.specs.declared.job.Phase.{Phase}
 use Rattle.queue_types.specs.declared.job.Phase.TheVariants.{Waiting, Running, Stopped, Canceled, Aborted, Completed}
+use Rattle.queue_types.specs.declared.states.JobState.{JobState}
 use Rattle.queue_laws.specs.Jobs.{jobs_but}
 use Rattle.queue_laws.specs.Reporting.{IsSameJob, documents_in}
 use Rattle.queue_laws.proofs.Base.{at, fresh, equal, itself, first_named}
@@ -197,7 +198,7 @@ module _ (w : World) (now : ℕ) (r : Report) where
       ∙ others_free w.free a.before.owner q (a.before ∷ a.rest) (a.after ∷ []) apart)
 
   abbrev kept_of : Job → KeptReport
-  kept_of x = record { report = r; state = state x; total = x.count }
+  kept_of x = record { report = r; state = job_state x; total = x.count }
 
   pub other_reports_left : (n m : ℕ) → (nat_eq n r.job && nat_eq m r.seq) ≡ false → get new.reports (n, m) ≡ get w.reports (n, m)
   other_reports_left n m other = leaves (λ v. get v.reports (n, m)) (λ d a.
@@ -206,38 +207,38 @@ module _ (w : World) (now : ℕ) (r : Report) where
 
   -- ---- what is accepted for the first time
 
-  no_reply : (cause : ReportRefusal) (s c : ℕ) (A : Type 0) → NotTold cause ≡ Told s c → A
+  no_reply : (cause : ReportRefusal) (s : JobState) (c : ℕ) (A : Type 0) → NotTold cause ≡ Told s c → A
   no_reply cause s c A e = absurd (cc)
 
   not_first : (o : Option KeptReport) (k : KeptReport) (A : Type 0) → o ≡ None → o ≡ Some k → A
   not_first o k A none some = absurd (cc)
 
-  told_parts : (s c m n : ℕ) → Told m n ≡ Told s c → (m ≡ s) × (n ≡ c)
+  told_parts : (s : JobState) (c : ℕ) (m : JobState) (n : ℕ) → Told m n ≡ Told s c → (m ≡ s) × (n ≡ c)
   told_parts s c m n e = (cc, cc)
 
   -- of a first report that is accepted, with the state and count that are told
-  first_told : (s c : ℕ) (P : Type 0) → get w.reports (r.job, r.seq) ≡ None → (step w now (tell r)).reply ≡ Told s c
-      → ((a : IsAccepted w now r (decision (cut w (tell r)) now (tell r))) → state a.after ≡ s → a.after.count ≡ c → P) → P
+  first_told : (s : JobState) (c : ℕ) (P : Type 0) → get w.reports (r.job, r.seq) ≡ None → (step w now (tell r)).reply ≡ Told s c
+      → ((a : IsAccepted w now r (decision (cut w (tell r)) now (tell r))) → job_state a.after ≡ s → a.after.count ≡ c → P) → P
   first_told s c P none told each = elim (telling w now r) as (λ _. P) [
     | declined cause e ↦ no_reply cause s c P (sym (ap (λ (d : Decision). d.reply) e) ∙ told)
     | known k kept same e ↦ not_first (get w.reports (r.job, r.seq)) k P none kept
-    | taken a ↦ (let parts = told_parts s c (state a.after) a.after.count (sym (ap (λ (d : Decision). d.reply) a.is) ∙ told) in each a parts.0 parts.1)
+    | taken a ↦ (let parts = told_parts s c (job_state a.after) a.after.count (sym (ap (λ (d : Decision). d.reply) a.is) ∙ told) in each a parts.0 parts.1)
   ]
 
-  pub first_kept : (s c : ℕ) → get w.reports (r.job, r.seq) ≡ None → (step w now (tell r)).reply ≡ Told s c → get new.reports (r.job, r.seq) ≡ Some (record { report = r; state = s; total = c })
+  pub first_kept : (s : JobState) (c : ℕ) → get w.reports (r.job, r.seq) ≡ None → (step w now (tell r)).reply ≡ Told s c → get new.reports (r.job, r.seq) ≡ Some (record { report = r; state = s; total = c })
   first_kept s c none told = first_told s c (get new.reports (r.job, r.seq) ≡ Some (record { report = r; state = s; total = c })) none told (λ a is_state is_count.
       ap (λ d. get (by d).reports (r.job, r.seq)) a.is
       ∙ get-insert report_total w.reports (r.job, r.seq) (kept_of a.after) (r.job, r.seq)
       ∙ ap (λ t. cond t (Some (kept_of a.after)) (get w.reports (r.job, r.seq))) (own_report_key r.job r.seq)
       ∙ (λ i. Some (record { report = r; state = is_state i; total = is_count i })))
 
-  pub first_state : (s c : ℕ) (k : Job) → get w.reports (r.job, r.seq) ≡ None → (step w now (tell r)).reply ≡ Told s c → at r.job new.jobs ≡ Some k → (s ≡ state k) × (c ≡ k.count)
-  first_state s c k none told there = first_told s c ((s ≡ state k) × (c ≡ k.count)) none told (λ a is_state is_count.
+  pub first_state : (s : JobState) (c : ℕ) (k : Job) → get w.reports (r.job, r.seq) ≡ None → (step w now (tell r)).reply ≡ Told s c → at r.job new.jobs ≡ Some k → (s ≡ job_state k) × (c ≡ k.count)
+  first_state s c k none told there = first_told s c ((s ≡ job_state k) × (c ≡ k.count)) none told (λ a is_state is_count.
       let d : Decision = decision (cut w (tell r)) now (tell r) in
       let is : a.after ≡ k = some_same a.after k (sym (after_at d a) ∙ sym (ap (λ d. at r.job (by d).jobs) a.is) ∙ there) in
-      (sym is_state ∙ ap state is, sym is_count ∙ ap (λ (t : Job). t.count) is))
+      (sym is_state ∙ ap job_state is, sym is_count ∙ ap (λ (t : Job). t.count) is))
 
-  pub first_counted : (s c : ℕ) (j : Job) → get w.reports (r.job, r.seq) ≡ None → (step w now (tell r)).reply ≡ Told s c → at r.job w.jobs ≡ Some j → c ≡ max j.count r.count
+  pub first_counted : (s : JobState) (c : ℕ) (j : Job) → get w.reports (r.job, r.seq) ≡ None → (step w now (tell r)).reply ≡ Told s c → at r.job w.jobs ≡ Some j → c ≡ max j.count r.count
   first_counted s c j none told there = first_told s c (c ≡ max j.count r.count) none told (λ a is_state is_count.
       let d : Decision = decision (cut w (tell r)) now (tell r) in
       let was : a.before ≡ j = some_same a.before j (sym (named_before d a).0 ∙ there) in

@@ -6,7 +6,7 @@ use Rattle.std.specs.FinMap.{FinMap, get}
 use Rattle.queue_types.specs.Event.{Decision, Event, ask, tell, grant}
 use Rattle.queue_core.specs.Grants.{Taken, all_taken, none_taken, take_rows, add_row, row_of, repeated, refused_row, new_row, free_after}
 use Rattle.queue_core.specs.Machine.{Step, step, grant_row}
-use Rattle.queue_types.specs.Job.{state}
+use Rattle.queue_types.specs.Job.{job_state}
 use Rattle.queue_types.specs.Event.{kind_number}
 use Rattle.queue_core.specs.Runs.{Place, IsPlace, after, run}
 use Rattle.queue_core.specs.Sound.{IsSound}
@@ -16,6 +16,7 @@ use Rattle.queue_types.specs.declared.event.GrantRow.{GrantRow}
 use Rattle.queue_types.specs.declared.event.KeptReport.{KeptReport}
 use Rattle.queue_types.specs.declared.event.Report.{Report}
 use Rattle.queue_types.specs.declared.event.Reply.{Reply}
+use Rattle.queue_types.specs.declared.states.JobState.{JobState}
 use Rattle.queue_types.specs.declared.event.Reply.TheVariants.{Told, Added}
 use Rattle.queue_laws.specs.Granting.{IsGranted}
 use Rattle.queue_laws.specs.Replies.{refuses}
@@ -47,7 +48,7 @@ are_equal a b e =
       count = equal a.count b.count count;
     }
 
-kept_equal : (kept : FinMap report_cmp KeptReport) (a b : Report) (s c : ℕ) → are_equal_reports a b ≡ true → IsKeptAs kept a s c → IsKeptAs kept b s c
+kept_equal : (kept : FinMap report_cmp KeptReport) (a b : Report) (s : JobState) (c : ℕ) → are_equal_reports a b ≡ true → IsKeptAs kept a s c → IsKeptAs kept b s c
 kept_equal kept a b s c e was =
     let same = are_equal a b e in
     record {
@@ -61,7 +62,7 @@ kept_equal kept a b s c e was =
 -- ---- what is accepted
 
 record IsTold (r : Reply) : Type 0 where
-  state : ℕ
+  state : JobState
   count : ℕ
   is : r ≡ Told state count
 
@@ -72,7 +73,7 @@ told_of : (w : World) (now : ℕ) (r : Report) → is_accepted w now (tell r) �
 told_of w now r accepts = elim (telling w now r) as (λ _. IsTold (step w now (tell r)).reply) [
   | declined cause e ↦ not_accepted _ (step w now (tell r)).reply (ap (λ (d : Decision). refuses d.reply) e) accepts
   | known_before k kept same e ↦ record { state = k.state; count = k.total; is = ap (λ (d : Decision). d.reply) e }
-  | taken a ↦ record { state = state a.after; count = a.after.count; is = ap (λ (d : Decision). d.reply) a.is }
+  | taken a ↦ record { state = job_state a.after; count = a.after.count; is = ap (λ (d : Decision). d.reply) a.is }
 ]
 
 record IsAdded (r : Reply) : Type 0 where
@@ -85,7 +86,7 @@ added_by (all_taken new free n) e = record { added = length new; repeats = n; is
 added_by (none_taken fault row) e = absurd (cc)
 
 record IsKeptNow (w : World) (r : Report) : Type 0 where
-  state : ℕ
+  state : JobState
   count : ℕ
   kept : IsKeptAs w.reports r state count
 
@@ -229,7 +230,7 @@ thin_run keeps w ps sound places = thin_all keeps ps [] [] w sound places (recor
 -- ---- answers
 
 record IsAnswered (w : World) (x : Answered) : Type 0 where
-  state : ℕ
+  state : JobState
   count : ℕ
   reply : x.1 ≡ Told state count
   kept : IsKeptAs w.reports x.0 state count

@@ -6,6 +6,8 @@ use Rattle.queue_core.specs.World.{Entry}
 use Rattle.queue_types.specs.declared.event.WhichJobs.{WhichJobs}
 use Rattle.queue_types.specs.declared.event.WhichJobs.TheVariants.{NotCompleted, Completed}
 use Rattle.queue_types.specs.declared.job.Job.{Job}
+use Rattle.queue_types.specs.declared.states.PrinterState.{PrinterState}
+use Rattle.queue_types.specs.declared.states.PrinterState.TheVariants.{Idle, Processing as PrinterProcessing, Stopped as PrinterStopped}
 
 abbrev pub is_owned_by : List ℕ → Job → Bool
 is_owned_by caller j = bytes_eq j.owner caller
@@ -43,9 +45,9 @@ abbrev pub up_to : Option ℕ → List Job → List Job
 up_to None js = js
 up_to (Some n) js = take n js
 
--- 4 while a job is processing, in state 5; else 5 while one is stopped, in state 6; else 3 (RFC 8011, section 5.4.11)
-abbrev pub printer_state : List Job → ℕ
-printer_state js = if list_any (λ j. state j == 5) js then 4 else (if list_any (λ j. state j == 6) js then 5 else 3)
+-- processing while a job is in state 5; else stopped while one is in state 6; else idle (RFC 8011, section 5.4.11)
+abbrev pub printer_state : List Job → PrinterState
+printer_state js = if list_any (λ j. state j == 5) js then PrinterProcessing else (if list_any (λ j. state j == 6) js then PrinterStopped else Idle)
 
 -- the jobs of other numbers, with their documents
 abbrev pub jobs_but : ℕ → List Entry → List Entry

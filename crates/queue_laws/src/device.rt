@@ -3,7 +3,7 @@ ghost use Rattle.std.specs.Prelude.{ℕ, ◌≡◌, ◌==◌, ◌&&◌, List, So
 ghost use Rattle.std.specs.FinMap.{get};
 ghost use Rattle.std.specs.List.{AllByRecursion};
 ghost use Rattle.queue_types.specs.Event.{tell};
-ghost use Rattle.queue_types.specs.Job.{state};
+ghost use Rattle.queue_types.specs.Job.{job_state};
 ghost use Rattle.queue_core.specs.Limits.{IsMoment, IsReport};
 ghost use Rattle.queue_core.specs.Machine.{step};
 ghost use Rattle.queue_core.specs.Runs.{Place, IsPlace, run};
@@ -12,6 +12,7 @@ ghost use Rattle.queue_core.specs.World.{World, rows, job_at};
 ghost use Rattle.queue_types.specs.declared.event.Report.{Report};
 ghost use Rattle.queue_types.specs.declared.event.Reply.TheVariants.{Told};
 ghost use Rattle.queue_types.specs.declared.job.Job.{Job};
+ghost use Rattle.queue_types.specs.declared.states.JobState.{JobState};
 ghost use Rattle.queue_laws.specs.Jobs.{jobs_but};
 ghost use Rattle.queue_laws.specs.Reporting.{IsSameJob, documents_in};
 
@@ -33,15 +34,15 @@ pub fn reports_change_their_job()
 /// A report that is accepted for the first time sets its job's count to the greater of the two, tells the job's state
 /// and count as they are then, and is kept with what it told.
 pub fn accepted_reports_are_kept()
-    ensures kept { (w : World) (now : ℕ) (r : Report) (s c : ℕ) → get w.reports (r.job, r.seq) ≡ None → (step w now (tell r)).reply ≡ Told s c → get (step w now (tell r)).world.reports (r.job, r.seq) ≡ Some (record { report = r; state = s; total = c }) }
-    ensures told { (w : World) (now : ℕ) (r : Report) (s c : ℕ) (k : Job) → get w.reports (r.job, r.seq) ≡ None → (step w now (tell r)).reply ≡ Told s c → job_at r.job (rows (step w now (tell r)).world) ≡ Some k → (s ≡ state k) × (c ≡ k.count) }
-    ensures counted { (w : World) (now : ℕ) (r : Report) (s c : ℕ) (j : Job) → get w.reports (r.job, r.seq) ≡ None → (step w now (tell r)).reply ≡ Told s c → job_at r.job (rows w) ≡ Some j → c ≡ max j.count r.count }
+    ensures kept { (w : World) (now : ℕ) (r : Report) (s : JobState) (c : ℕ) → get w.reports (r.job, r.seq) ≡ None → (step w now (tell r)).reply ≡ Told s c → get (step w now (tell r)).world.reports (r.job, r.seq) ≡ Some (record { report = r; state = s; total = c }) }
+    ensures told { (w : World) (now : ℕ) (r : Report) (s : JobState) (c : ℕ) (k : Job) → get w.reports (r.job, r.seq) ≡ None → (step w now (tell r)).reply ≡ Told s c → job_at r.job (rows (step w now (tell r)).world) ≡ Some k → (s ≡ job_state k) × (c ≡ k.count) }
+    ensures counted { (w : World) (now : ℕ) (r : Report) (s : JobState) (c : ℕ) (j : Job) → get w.reports (r.job, r.seq) ≡ None → (step w now (tell r)).reply ≡ Told s c → job_at r.job (rows w) ≡ Some j → c ≡ max j.count r.count }
 {}
 
 /// A report that was accepted has the same answer whenever it comes again, whatever happened in between, and changes
 /// nothing then.
 pub fn repeated_reports_are_answered_again()
-    ensures { (w : World) (now later : ℕ) (r : Report) (ps : List Place) (s c : ℕ) → IsSound w → IsMoment now → IsReport r → AllByRecursion IsPlace ps → (step w now (tell r)).reply ≡ Told s c → step (run (step w now (tell r)).world ps) later (tell r) ≡ record { world = run (step w now (tell r)).world ps; reply = Told s c } }
+    ensures { (w : World) (now later : ℕ) (r : Report) (ps : List Place) (s : JobState) (c : ℕ) → IsSound w → IsMoment now → IsReport r → AllByRecursion IsPlace ps → (step w now (tell r)).reply ≡ Told s c → step (run (step w now (tell r)).world ps) later (tell r) ≡ record { world = run (step w now (tell r)).world ps; reply = Told s c } }
 {
     run_keeps();
 }

@@ -2,7 +2,7 @@
 ghost use Rattle.std.specs.Prelude.{ℕ, ◌≡◌, ◌≢◌, ◌≤◌, ◌⊎◌, Some, None, true, false, max};
 ghost use Rattle.std.specs.FinMap.{get};
 ghost use Rattle.queue_types.specs.Event.{tell};
-ghost use Rattle.queue_types.specs.Job.{state};
+ghost use Rattle.queue_types.specs.Job.{job_state, state};
 ghost use Rattle.queue_core.specs.Machine.{step};
 ghost use Rattle.queue_core.specs.Sound.{IsSound};
 ghost use Rattle.queue_core.specs.World.{World, rows, job_at};
@@ -14,6 +14,7 @@ ghost use Rattle.queue_types.specs.declared.event.Reply.TheVariants.{Told, NotTo
 ghost use Rattle.queue_types.specs.declared.job.Job.{Job};
 ghost use Rattle.queue_types.specs.declared.job.Phase.TheVariants.{Running, Stopped, Canceled, Aborted, Completed};
 ghost use Rattle.queue_types.specs.declared.job.Why.TheVariants.{ByUser, AtDevice};
+ghost use Rattle.queue_types.specs.declared.states.JobState.TheVariants.{Processing, ProcessingStopped, Canceled as CanceledState, Aborted as AbortedState, Completed as CompletedState};
 ghost use Rattle.queue_laws.specs.Reporting.{Becomes};
 
 /// What a report makes of its job, where no report of the job and its sequence number was accepted before. Start, in
@@ -24,14 +25,14 @@ ghost use Rattle.queue_laws.specs.Reporting.{Becomes};
 /// device. In each case its count is the greater of the two, nothing else of it changes, and the device is told its state
 /// and count. In states 5 and 6 a job has begun.
 pub fn jobs_are_reported()
-    ensures started { (w : World) (now : ℕ) (r : Report) (j : Job) → get w.reports (r.job, r.seq) ≡ None → job_at r.job (rows w) ≡ Some j → r.kind ≡ Start → state j ≡ 3 → Becomes r 5 (record j { phase = Running; begun = Some now; count = max j.count r.count }) (step w now (tell r)) }
-    ensures stopped { (w : World) (now : ℕ) (r : Report) (j : Job) → get w.reports (r.job, r.seq) ≡ None → job_at r.job (rows w) ≡ Some j → r.kind ≡ Stop → state j ≡ 5 → Becomes r 6 (record j { phase = Stopped; count = max j.count r.count }) (step w now (tell r)) }
-    ensures resumed { (w : World) (now : ℕ) (r : Report) (j : Job) → get w.reports (r.job, r.seq) ≡ None → job_at r.job (rows w) ≡ Some j → r.kind ≡ Resume → state j ≡ 6 → Becomes r 5 (record j { phase = Running; count = max j.count r.count }) (step w now (tell r)) }
-    ensures counted { (w : World) (now : ℕ) (r : Report) (j : Job) → get w.reports (r.job, r.seq) ≡ None → job_at r.job (rows w) ≡ Some j → r.kind ≡ Count → j.begun ≢ None → Becomes r (state j) (record j { count = max j.count r.count }) (step w now (tell r)) }
-    ensures done { (w : World) (now : ℕ) (r : Report) (j : Job) → get w.reports (r.job, r.seq) ≡ None → job_at r.job (rows w) ≡ Some j → r.kind ≡ DoneReport → state j ≡ 5 → Becomes r 9 (record j { phase = Completed; stopping = false; ended = Some now; count = max j.count r.count }) (step w now (tell r)) }
-    ensures failed { (w : World) (now : ℕ) (r : Report) (j : Job) → get w.reports (r.job, r.seq) ≡ None → job_at r.job (rows w) ≡ Some j → r.kind ≡ Fail → 5 ≤ state j → state j ≤ 6 → Becomes r 8 (record j { phase = Aborted; stopping = false; ended = Some now; count = max j.count r.count }) (step w now (tell r)) }
-    ensures halted_for_user { (w : World) (now : ℕ) (r : Report) (j : Job) → get w.reports (r.job, r.seq) ≡ None → job_at r.job (rows w) ≡ Some j → r.kind ≡ Halt → 5 ≤ state j → state j ≤ 6 → j.stopping ≡ true → Becomes r 7 (record j { phase = Canceled ByUser; stopping = false; ended = Some now; count = max j.count r.count }) (step w now (tell r)) }
-    ensures halted_at_device { (w : World) (now : ℕ) (r : Report) (j : Job) → get w.reports (r.job, r.seq) ≡ None → job_at r.job (rows w) ≡ Some j → r.kind ≡ Halt → 5 ≤ state j → state j ≤ 6 → j.stopping ≡ false → Becomes r 7 (record j { phase = Canceled AtDevice; stopping = false; ended = Some now; count = max j.count r.count }) (step w now (tell r)) }
+    ensures started { (w : World) (now : ℕ) (r : Report) (j : Job) → get w.reports (r.job, r.seq) ≡ None → job_at r.job (rows w) ≡ Some j → r.kind ≡ Start → state j ≡ 3 → Becomes r Processing (record j { phase = Running; begun = Some now; count = max j.count r.count }) (step w now (tell r)) }
+    ensures stopped { (w : World) (now : ℕ) (r : Report) (j : Job) → get w.reports (r.job, r.seq) ≡ None → job_at r.job (rows w) ≡ Some j → r.kind ≡ Stop → state j ≡ 5 → Becomes r ProcessingStopped (record j { phase = Stopped; count = max j.count r.count }) (step w now (tell r)) }
+    ensures resumed { (w : World) (now : ℕ) (r : Report) (j : Job) → get w.reports (r.job, r.seq) ≡ None → job_at r.job (rows w) ≡ Some j → r.kind ≡ Resume → state j ≡ 6 → Becomes r Processing (record j { phase = Running; count = max j.count r.count }) (step w now (tell r)) }
+    ensures counted { (w : World) (now : ℕ) (r : Report) (j : Job) → get w.reports (r.job, r.seq) ≡ None → job_at r.job (rows w) ≡ Some j → r.kind ≡ Count → j.begun ≢ None → Becomes r (job_state j) (record j { count = max j.count r.count }) (step w now (tell r)) }
+    ensures done { (w : World) (now : ℕ) (r : Report) (j : Job) → get w.reports (r.job, r.seq) ≡ None → job_at r.job (rows w) ≡ Some j → r.kind ≡ DoneReport → state j ≡ 5 → Becomes r CompletedState (record j { phase = Completed; stopping = false; ended = Some now; count = max j.count r.count }) (step w now (tell r)) }
+    ensures failed { (w : World) (now : ℕ) (r : Report) (j : Job) → get w.reports (r.job, r.seq) ≡ None → job_at r.job (rows w) ≡ Some j → r.kind ≡ Fail → 5 ≤ state j → state j ≤ 6 → Becomes r AbortedState (record j { phase = Aborted; stopping = false; ended = Some now; count = max j.count r.count }) (step w now (tell r)) }
+    ensures halted_for_user { (w : World) (now : ℕ) (r : Report) (j : Job) → get w.reports (r.job, r.seq) ≡ None → job_at r.job (rows w) ≡ Some j → r.kind ≡ Halt → 5 ≤ state j → state j ≤ 6 → j.stopping ≡ true → Becomes r CanceledState (record j { phase = Canceled ByUser; stopping = false; ended = Some now; count = max j.count r.count }) (step w now (tell r)) }
+    ensures halted_at_device { (w : World) (now : ℕ) (r : Report) (j : Job) → get w.reports (r.job, r.seq) ≡ None → job_at r.job (rows w) ≡ Some j → r.kind ≡ Halt → 5 ≤ state j → state j ≤ 6 → j.stopping ≡ false → Becomes r CanceledState (record j { phase = Canceled AtDevice; stopping = false; ended = Some now; count = max j.count r.count }) (step w now (tell r)) }
     ensures begun { (w : World) (n : ℕ) (j : Job) → IsSound w → job_at n (rows w) ≡ Some j → 5 ≤ state j → state j ≤ 6 → j.begun ≢ None }
 {}
 

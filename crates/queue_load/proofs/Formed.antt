@@ -111,6 +111,5 @@ formed_report js all k h there = record {
   job = let low : k.report.job < 2 ^ 31 = numbered k.report.job 0 js all there refl in omega (arith, low);
   seq = omega (arith, h.seq.1);
   count = omega (arith, h.count);
-  state = omega (arith, h.state.1);
   total = omega (arith, h.total);
 }

@@ -9,7 +9,8 @@ use Rattle.queue_types.specs.declared.event.KeptReport.{KeptReport}
 use Rattle.queue_types.specs.declared.event.Kind.{Kind}
 use Rattle.queue_types.specs.declared.job.Job.{Job}
 use Rattle.queue_types.specs.declared.job.Phase.{Phase}
-use Rattle.queue_rows.specs.Codes.{flag_number, kind_number, phase_number, why_number}
+use Rattle.queue_types.specs.declared.states.JobState.{JobState}
+use Rattle.queue_rows.specs.Codes.{flag_number, job_state_number, kind_number, phase_number, why_number}
 use Rattle.queue_rows.specs.declared.rows.AccountRow.{AccountRow}
 use Rattle.queue_rows.specs.declared.rows.DocumentRow.{DocumentRow}
 use Rattle.queue_rows.specs.declared.rows.MetaRow.{MetaRow}
@@ -109,13 +110,13 @@ same_grant a b e =
     let p = same_number a.pages b.pages (c 2) in
     λ x. record { batch = t x; account = n x; pages = p x }
 
-pub same_report : ((k l : Kind) → kind_number k ≡ kind_number l → k ≡ l) → (a b : KeptReport) → report_values a ≡ report_values b → a ≡ b
-same_report kinds a b e =
+pub same_report : ((k l : Kind) → kind_number k ≡ kind_number l → k ≡ l) → ((s t : JobState) → job_state_number s ≡ job_state_number t → s ≡ t) → (a b : KeptReport) → report_values a ≡ report_values b → a ≡ b
+same_report kinds states a b e =
     let c = at _ _ e in
     let j = same_number a.report.job b.report.job (c 0) in
     let s = same_number a.report.seq b.report.seq (c 1) in
     let k = kinds a.report.kind b.report.kind (same_number _ _ (c 2)) in
     let n = same_number a.report.count b.report.count (c 3) in
-    let p = same_number a.state b.state (c 4) in
+    let p = states a.state b.state (same_number _ _ (c 4)) in
     let t = same_number a.total b.total (c 5) in
     λ x. record { report = record { job = j x; seq = s x; kind = k x; count = n x }; state = p x; total = t x }

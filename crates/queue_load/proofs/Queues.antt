@@ -14,7 +14,8 @@ use Rattle.queue_core.specs.Sound.{IsSound}
 use Rattle.queue_core.specs.World.{World}
 use Rattle.queue_types.specs.declared.event.Kind.{Kind}
 use Rattle.queue_types.specs.declared.job.Phase.{Phase}
-use Rattle.queue_rows.specs.Codes.{flag_number, kind_number, phase_number, why_number}
+use Rattle.queue_types.specs.declared.states.JobState.{JobState}
+use Rattle.queue_rows.specs.Codes.{flag_number, job_state_number, kind_number, phase_number, why_number}
 use Rattle.queue_rows.specs.Pieces.{length_in}
 use Rattle.queue_rows.specs.Rows.{Tables, bytes_of, job_row, meta_row, rows_of}
 use Rattle.queue_rows.specs.Sound.{AreSoundRows}
@@ -134,7 +135,7 @@ module _ (w : World) (db : Trees) (sound : IsSound w) (are : AreSoundRows (rows_
       let rows : IsAscending PieceBefore (map row_of wholes) = subst (IsAscending PieceBefore) (sym (their_rows ps (bytes_of w) lengths)) (pieces_rise w.jobs up) in
       ascending_weaker (λ a b. PieceBefore a.row b.row) (Before whole_piece 3) piece_less wholes (ascending_from_map PieceBefore row_of wholes rows)
 
-  module _ (phases : (p q : Phase) → phase_number p ≡ phase_number q → why_number p ≡ why_number q → p ≡ q) (kinds : (k l : Kind) → kind_number k ≡ kind_number l → k ≡ l) (flags : (x y : Bool) → flag_number x ≡ flag_number y → x ≡ y)
+  module _ (phases : (p q : Phase) → phase_number p ≡ phase_number q → why_number p ≡ why_number q → p ≡ q) (kinds : (k l : Kind) → kind_number k ≡ kind_number l → k ≡ l) (states : (s t : JobState) → job_state_number s ≡ job_state_number t → s ≡ t) (flags : (x y : Bool) → flag_number x ≡ flag_number y → x ≡ y)
       (t : Tables) (first : AreJobTables t db) (second : AreAccountTables t db) where
     meta_read : t.meta ≡ meta_row w ∷ []
     unfolding any_row
@@ -168,7 +169,7 @@ module _ (w : World) (db : Trees) (sound : IsSound w) (are : AreSoundRows (rows_
 
     reports_read : t.reports ≡ (rows_of w).reports
     unfolding any_row
-    reports_read = injected report_values any_row (λ a b p q. same_report kinds a b) t.reports (rows_of w).reports (λ k d low. tt) (λ k d low. tt)
+    reports_read = injected report_values any_row (λ a b p q. same_report kinds states a b) t.reports (rows_of w).reports (λ k d low. tt) (λ k d low. tt)
         (one_order report_values 2 report_view (db 10) (rows_of w).reports t.reports (reports_rise (rows_of w).reports are.tables.reports.order) held.reports.same second.reports)
 
     pub all_read : t ≡ rows_of w
@@ -185,6 +186,6 @@ loadable w d are lengths h = record {
   second = second_formed w d.trees h.sound are lengths h.rows;
 }
 
-pub read_back : (phases : (p q : Phase) → phase_number p ≡ phase_number q → why_number p ≡ why_number q → p ≡ q) (kinds : (k l : Kind) → kind_number k ≡ kind_number l → k ≡ l) (flags : (x y : Bool) → flag_number x ≡ flag_number y → x ≡ y)
+pub read_back : (phases : (p q : Phase) → phase_number p ≡ phase_number q → why_number p ≡ why_number q → p ≡ q) (kinds : (k l : Kind) → kind_number k ≡ kind_number l → k ≡ l) (states : (s t : JobState) → job_state_number s ≡ job_state_number t → s ≡ t) (flags : (x y : Bool) → flag_number x ≡ flag_number y → x ≡ y)
     → (w : World) (d : Database) (t : Tables) → AreSoundRows (rows_of w) → map length (bytes_of w) ≡ map length_in (rows_of w).pieces → IsQueueIn w d → AreTables t d → t ≡ rows_of w
-read_back phases kinds flags w d t are lengths h read = all_read w d.trees h.sound are lengths h.rows phases kinds flags t read.first read.second
+read_back phases kinds states flags w d t are lengths h read = all_read w d.trees h.sound are lengths h.rows phases kinds states flags t read.first read.second

@@ -105,7 +105,6 @@ pub record IsFormedReport (k : KeptReport) : Type 0 where
   pub job : k.report.job < 2 ^ 32
   pub seq : k.report.seq < 2 ^ 32
   pub count : k.report.count < 2 ^ 32
-  pub state : k.state < 256
   pub total : k.total < 2 ^ 32
 
 abbrev pub IsNoReport : Row → Type 0

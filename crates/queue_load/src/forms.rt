@@ -2,11 +2,9 @@
 ghost use Rattle.std.specs.Prelude.{◌≡◌, ◌≢◌, ◌<◌, ℕ, List, length, IfOk, IfErr};
 ghost use Rattle.sqlite.specs.Order.{column};
 ghost use Rattle.sqlite.specs.declared.types.Value.TheVariants.{Blob};
-ghost use Rattle.queue_tables.specs.Values.{number};
 ghost use Rattle.queue_tables.specs.declared.fault.Fault.TheVariants.{Damaged, Disk};
 
 use queue_tables::fault::Fault;
-use queue_tables::read::value;
 use sqlite::Row;
 use sqlite::types::ValueRef;
 
@@ -26,17 +24,4 @@ pub(crate) fn blob_length(row: &Row, at: usize) -> Result<u32, Fault>
         Ok(_) => Err(Fault::Damaged),
         Err(_) => Err(Fault::Damaged),
     }
-}
-
-/// A number of one byte, of a column.
-pub(crate) fn small(row: &Row, at: usize) -> Result<u8, Fault>
-    ensures ok { IfOk result (λ n. column row.now at ≡ number n) }
-    ensures err { IfErr result (λ e. e ≡ Damaged → at < length row.now → (n : ℕ) → n < 256 → column row.now at ≢ number n) }
-    ensures never { IfErr result (λ e. e ≢ Disk) }
-{
-    let n: u32 = value(row, at)?;
-    if n > u32::from(u8::MAX) {
-        return Err(Fault::Damaged);
-    }
-    Ok(n as u8)
 }

@@ -1,9 +1,9 @@
 //! The rows of each table as typed rows.
-use crate::forms::{blob_length, small};
+use crate::forms::blob_length;
 use crate::table::TableRow;
 use queue_rows::rows::{AccountRow, DocumentRow, MetaRow, PieceRow};
 use queue_tables::fault::Fault;
-use queue_tables::read::{format, kind, read_job, text, value};
+use queue_tables::read::{format, job_state, kind, read_job, text, value};
 use queue_types::event::{GrantRow, KeptReport, Report};
 use queue_types::job::Job;
 use sqlite::Row;
@@ -142,7 +142,7 @@ impl TableRow for KeptReport {
         };
         Ok(KeptReport {
             report,
-            state: small(row, 4)?,
+            state: job_state(row, 4)?,
             total: value(row, 5)?,
         })
     }

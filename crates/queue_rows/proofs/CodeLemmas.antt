@@ -6,7 +6,9 @@ use Rattle.queue_types.specs.declared.job.Phase.{Phase}
 use Rattle.queue_types.specs.declared.job.Phase.TheVariants.{Waiting, Running, Stopped, Canceled, Aborted, Completed}
 use Rattle.queue_types.specs.declared.job.Why.{Why}
 use Rattle.queue_types.specs.declared.job.Why.TheVariants.{ByUser, AtDevice}
-use Rattle.queue_rows.specs.Codes.{phase_number, why_number, kind_number, flag_number}
+use Rattle.queue_types.specs.declared.states.JobState.{JobState}
+use Rattle.queue_types.specs.declared.states.JobState.TheVariants.{Pending, PendingHeld, Processing, ProcessingStopped, Canceled as CanceledState, Aborted as AbortedState, Completed as CompletedState}
+use Rattle.queue_rows.specs.Codes.{phase_number, why_number, kind_number, flag_number, job_state_number}
 
 abbrev why_at : ℕ → Why
 why_at m = cond (m == 1) ByUser AtDevice
@@ -40,6 +42,21 @@ kind_found Halt = refl
 
 pub same_kind : (k l : Kind) → kind_number k ≡ kind_number l → k ≡ l
 same_kind k l n = sym (kind_found k) ∙ ap kind_at n ∙ kind_found l
+
+abbrev job_state_at : ℕ → JobState
+job_state_at n = cond (n == 3) Pending (cond (n == 4) PendingHeld (cond (n == 5) Processing (cond (n == 6) ProcessingStopped (cond (n == 7) CanceledState (cond (n == 8) AbortedState CompletedState)))))
+
+job_state_found : (s : JobState) → job_state_at (job_state_number s) ≡ s
+job_state_found Pending = refl
+job_state_found PendingHeld = refl
+job_state_found Processing = refl
+job_state_found ProcessingStopped = refl
+job_state_found CanceledState = refl
+job_state_found AbortedState = refl
+job_state_found CompletedState = refl
+
+pub same_job_state : (s t : JobState) → job_state_number s ≡ job_state_number t → s ≡ t
+same_job_state s t n = sym (job_state_found s) ∙ ap job_state_at n ∙ job_state_found t
 
 flag_found : (b : Bool) → flag_number b == 1 ≡ b
 flag_found true = refl

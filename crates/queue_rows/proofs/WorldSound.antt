@@ -67,7 +67,6 @@ is_kept w rs js all h same is n m = if_some (get (reports_of rs) (n, m)) (IsKept
       there = subst (λ (l : List Job). IsSome (job_at n l)) (sym is) (subst (λ (k : ℕ). IsSome (job_at k all)) job there);
       positive = (omega (arith, seq, limits.seq.0), omega (arith, seq, limits.seq.1));
       count = limits.count;
-      state = limits.state;
       total = limits.total;
     }))
 

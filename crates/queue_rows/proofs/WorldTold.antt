@@ -124,7 +124,7 @@ rows_told_sound m t bs lengths only meta h f =
               sum_from_grant t.grants f.grants pages a.name ((h.accounts a.name).0 (ap is_some (free_there t.accounts f.accounts k lt))));
         };
         reports = record {
-          reports = All-from_get_or IsReportRow t.reports no_report (λ k lt. let r = kept k lt in record { seq = r.positive; count = r.count; state = r.state; total = r.total });
+          reports = All-from_get_or IsReportRow t.reports no_report (λ k lt. let r = kept k lt in record { seq = r.positive; count = r.count; total = r.total });
           order = f.reports;
           there = All-from_get_or (λ k. has_number k.report.job js ≡ 1) t.reports no_report (λ k lt.
               let r = get_or t.reports k no_report in

@@ -1,6 +1,7 @@
 -- The numbers that stand in columns for what has a name.
 use Rattle.std.specs.Prelude.{ℕ, Bool, true, false}
 pub use Rattle.queue_types.specs.Event.{kind_number}
+pub use Rattle.queue_types.specs.States.{job_state_number}
 use Rattle.queue_types.specs.declared.job.Phase.{Phase}
 use Rattle.queue_types.specs.declared.job.Phase.TheVariants.{Waiting, Running, Stopped, Canceled, Aborted, Completed}
 use Rattle.queue_types.specs.declared.job.Why.TheVariants.{ByUser, AtDevice}

@@ -9,7 +9,6 @@ use Rattle.queue_types.specs.declared.event.KeptReport.{KeptReport}
 pub record IsReportRow (k : KeptReport) : Type 0 where
   pub seq : IsPositive k.report.seq
   pub count : k.report.count ≤ 100000000
-  pub state : (3 ≤ k.state) × (k.state ≤ 9)
   pub total : k.total ≤ 100000000
 
 -- by job, then by sequence number

@@ -1,11 +1,13 @@
-//! The numbers that stand for phases, kinds of reports and truth values in the columns of the tables.
+//! The numbers that stand for phases, states, kinds of reports and truth values in the columns of the tables.
 ghost use Rattle.std.specs.Prelude.{◌≡◌, pos, MatchOption, Bool};
 ghost use Rattle.queue_types.specs.declared.event.Kind.{Kind};
 ghost use Rattle.queue_types.specs.declared.job.Phase.{Phase};
-ghost use Rattle.queue_rows.specs.Codes.{phase_number, why_number, kind_number, flag_number};
+ghost use Rattle.queue_types.specs.declared.states.JobState.{JobState};
+ghost use Rattle.queue_rows.specs.Codes.{phase_number, why_number, kind_number, flag_number, job_state_number};
 
 use queue_types::event::Kind;
 use queue_types::job::{Phase, Why};
+use queue_types::states::JobState;
 
 /// The column `phase`: 0 waiting, 1 running, 2 stopped, 7 canceled, 8 aborted, 9 completed.
 pub fn phase_number_of(phase: Phase) -> u32
@@ -62,6 +64,14 @@ pub fn kind_of(kind: i64) -> Option<Kind>
         7 => Some(Kind::Halt),
         _ => None,
     }
+}
+
+/// The state whose number stands in the column `state`, 3 to 9; None where none does.
+pub fn job_state_of(state: i64) -> Option<JobState>
+    ensures { MatchOption result ((s : JobState) → ¬ (state ≡ pos (job_state_number s))) (λ s. state ≡ pos (job_state_number s)) }
+{
+    let number = u8::try_from(state).ok()?;
+    JobState::of_number(number)
 }
 
 /// The truth value that stands in a column: 0 false, 1 true, else None.

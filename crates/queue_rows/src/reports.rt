@@ -8,7 +8,6 @@ ghost use Rattle.queue_rows.specs.Reports.{IsReportRow, report_before, greatest}
 use queue_types::event::KeptReport;
 use queue_types::job::Job;
 use queue_types::limits::{LAST_REPORT_NUMBER, MOST_PRINTED_PAGES};
-use queue_types::states::{JOB_COMPLETED, JOB_PENDING};
 use std::alloc::{AllocError, Global};
 use std::collections::HashMap;
 
@@ -16,10 +15,7 @@ fn is_report(kept: &KeptReport) -> bool
     ensures { IsTrue result ↔ IsReportRow kept.now }
 {
     let seq = kept.report.seq >= 1 && kept.report.seq <= LAST_REPORT_NUMBER;
-    seq && kept.report.count <= MOST_PRINTED_PAGES
-        && kept.state >= JOB_PENDING
-        && kept.state <= JOB_COMPLETED
-        && kept.total <= MOST_PRINTED_PAGES
+    seq && kept.report.count <= MOST_PRINTED_PAGES && kept.total <= MOST_PRINTED_PAGES
 }
 
 /// The numbers of each, and what was told of it, are within their limits.

@@ -78,7 +78,7 @@ next_fits w sound = ((fair_of w (ask [] get_printer_attributes) sound).next, ome
 pub report_fits : (w : World) (job seq : ℕ) (k : KeptReport) → IsSound w → get w.reports (job, seq) ≡ Some k → IsFormedReport k
 report_fits w job seq k sound there =
     let it : IsKept w job seq k = subst (λ o. IfSome o (IsKept w job seq)) there (sound.reports job seq) in
-    record { count = omega (arith, it.count); state = it.state; total = it.total }
+    record { count = omega (arith, it.count); total = it.total }
 
 -- ---- the row of a job
 

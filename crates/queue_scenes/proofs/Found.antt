@@ -20,7 +20,7 @@ use Rattle.sqlite.proofs.Callers.{one_permutation}
 use Rattle.queue_core.specs.Sound.{IsSound, IsKept}
 use Rattle.queue_core.specs.World.{World, grant_cmp, report_cmp, text_cmp}
 use Rattle.queue_types.specs.declared.event.KeptReport.{KeptReport}
-use Rattle.queue_rows.specs.Codes.{kind_number}
+use Rattle.queue_rows.specs.Codes.{job_state_number, kind_number}
 use Rattle.queue_rows.specs.Rows.{meta_row, grant_row}
 use Rattle.queue_rows.proofs.WorldMaps.{found_there}
 use Rattle.queue_rows.proofs.WorldRows.{grant_same, report_same, report_total}
@@ -97,7 +97,7 @@ is_report_of job seq v = is_true (binary (Compare Eq Binary) (column v 0) (Int (
 
 -- the row of a report under its key
 abbrev keyed_values : (ℕ × ℕ) × KeptReport → Row
-keyed_values r = number r.0.0 ∷ number r.0.1 ∷ number (kind_number r.1.report.kind) ∷ number r.1.report.count ∷ number r.1.state ∷ number r.1.total ∷ []
+keyed_values r = number r.0.0 ∷ number r.0.1 ∷ number (kind_number r.1.report.kind) ∷ number r.1.report.count ∷ number (job_state_number r.1.state) ∷ number r.1.total ∷ []
 
 abbrev report_passes : ℕ → ℕ → (ℕ × ℕ) × KeptReport → Bool
 report_passes job seq r = (r.0.0 == job) && (r.0.1 == seq)
@@ -119,7 +119,7 @@ reports_keyed w sound = recursion_from_All (λ (r : (ℕ × ℕ) × KeptReport).
     let e = get_or (entries w.reports) k d in
     let there : get w.reports e.0 ≡ Some e.1 = get-entries w.reports e.0 ∙ found_there report_cmp report_total (entries w.reports) k d low (entries_sorted w.reports) in
     let kept = kept_of_some w e.0.0 e.0.1 (get w.reports e.0) e.1 there (sound.reports e.0.0 e.0.1) in
-    ap₂ (λ (n m : ℕ). number n ∷ number m ∷ number (kind_number e.1.report.kind) ∷ number e.1.report.count ∷ number e.1.state ∷ number e.1.total ∷ []) kept.job kept.seq)
+    ap₂ (λ (n m : ℕ). number n ∷ number m ∷ number (kind_number e.1.report.kind) ∷ number e.1.report.count ∷ number (job_state_number e.1.state) ∷ number e.1.total ∷ []) kept.job kept.seq)
 
 abbrev pub told_row : (ℕ × ℕ) × KeptReport → Row
 told_row r = told_values r.1

@@ -1,12 +1,12 @@
 //! A kept report, by its job and sequence number.
-ghost use Rattle.std.specs.Prelude.{◌≡◌, ◌≤◌, ◌≢◌, ◌<◌, IfOk, OnOk, IfSome, IsTrue, ℕ, length, IfErr};
+ghost use Rattle.std.specs.Prelude.{◌≡◌, ◌≤◌, ◌≢◌, IfOk, OnOk, IfSome, IsTrue, IfErr};
 ghost use Rattle.std.specs.FinMap.{get};
 ghost use Rattle.sqlite.specs.Held.{state};
 ghost use Rattle.sqlite.specs.Order.{column};
 ghost use Rattle.sqlite.specs.State.{HasCleanDisk};
 ghost use Rattle.queue_core.specs.Sound.{IsSound};
 ghost use Rattle.queue_core.specs.World.{World};
-ghost use Rattle.queue_rows.specs.Codes.{kind_number};
+ghost use Rattle.queue_rows.specs.Codes.{job_state_number, kind_number};
 ghost use Rattle.queue_tables.specs.Leaving.{LeavesTables};
 ghost use Rattle.queue_tables.specs.Content.{HoldNoQueue, Holds, content_of};
 ghost use Rattle.queue_tables.specs.Values.{number};
@@ -15,24 +15,11 @@ ghost use Rattle.queue_scenes.specs.Reports.{IsFormedReport, told_values};
 
 use queue_rows::laws::numbers_tell_names;
 use queue_tables::fault::Fault;
-use queue_tables::read::{kind, value};
+use queue_tables::read::{job_state, kind, value};
 use queue_tables::select::select;
 use queue_types::event::{KeptReport, Report};
 use queue_types::limits::MOST_PRINTED_PAGES;
 use sqlite::{Alter, Connection, Row, params};
-
-/// The state of a job, in its column.
-fn state_at(row: &Row, at: usize) -> Result<u8, Fault>
-    ensures is { IfOk result (λ n. column row.now at ≡ number n) }
-    ensures within { IfOk result (λ n. (3 ≤ n) × (n ≤ 9)) }
-    ensures damaged { IfErr result (λ e. e ≡ Fault.Damaged → at < length row.now → (n : ℕ) → 3 ≤ n → n ≤ 9 → column row.now at ≢ number n) }
-{
-    let state: u32 = value(row, at)?;
-    if state < 3 || state > 9 {
-        return Err(Fault::Damaged);
-    }
-    Ok(state as u8)
-}
 
 /// The report in a row under that key. It is damaged where its answer is out of bounds.
 fn read_report(row: &Row, job: u32, seq: u32) -> Result<KeptReport, Fault>
@@ -40,14 +27,14 @@ fn read_report(row: &Row, job: u32, seq: u32) -> Result<KeptReport, Fault>
     ensures seq { IfOk result (λ k. k.report.seq ≡ seq) }
     ensures kind { IfOk result (λ k. column row.now 0 ≡ number (kind_number k.report.kind)) }
     ensures count { IfOk result (λ k. column row.now 1 ≡ number k.report.count) }
-    ensures told { IfOk result (λ k. column row.now 2 ≡ number k.state) }
+    ensures told { IfOk result (λ k. column row.now 2 ≡ number (job_state_number k.state)) }
     ensures total { IfOk result (λ k. column row.now 3 ≡ number k.total) }
-    ensures within { IfOk result (λ k. (3 ≤ k.state) × (k.state ≤ 9) × (k.total ≤ 100000000)) }
+    ensures within { IfOk result (λ k. k.total ≤ 100000000) }
     ensures damaged { IfErr result (λ e. e ≡ Fault.Damaged → (k : KeptValue) → IsFormedReport k → row.now ≢ told_values k) }
 {
     let kind = kind(row, 0)?;
     let count = value(row, 1)?;
-    let state = state_at(row, 2)?;
+    let state = job_state(row, 2)?;
     let total = value(row, 3)?;
     if total > MOST_PRINTED_PAGES {
         return Err(Fault::Damaged);
@@ -72,7 +59,7 @@ pub(crate) fn kept_report<S: Alter>(
 ) -> Result<Option<KeptReport>, Fault>
     ensures leaves { LeavesTables (state S.Store conn.old) (state S.Store conn.new) }
     ensures live { HasCleanDisk (state S.Store conn.new) → OnOk result (IsTrue (state S.Store conn.new).is_open) }
-    ensures within { IfOk result (λ found. IfSome found (λ k. (3 ≤ k.state) × (k.state ≤ 9) × (k.total ≤ 100000000))) }
+    ensures within { IfOk result (λ found. IfSome found (λ k. k.total ≤ 100000000)) }
     ensures found { HasCleanDisk (state S.Store conn.new) → IfOk result (λ found. (w : World) → IsSound w → Holds (content_of w) (state S.Store conn.old) → found ≡ get w.reports (job, seq)) }
     ensures damaged { HasCleanDisk (state S.Store conn.new) → IfErr result (λ e. e ≡ Fault.Damaged → HoldNoQueue (state S.Store conn.old)) }
 {

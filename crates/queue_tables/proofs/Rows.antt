@@ -7,7 +7,7 @@ use Rattle.sqlite.specs.State.{State, ExecutesInside}
 use Rattle.queue_types.specs.declared.job.Job.{Job}
 use Rattle.queue_types.specs.declared.event.GrantRow.{GrantRow}
 use Rattle.queue_types.specs.declared.event.KeptReport.{KeptReport}
-use Rattle.queue_rows.specs.Codes.{phase_number, why_number, kind_number, flag_number}
+use Rattle.queue_rows.specs.Codes.{phase_number, why_number, kind_number, flag_number, job_state_number}
 use Rattle.queue_rows.specs.declared.rows.MetaRow.{MetaRow}
 use Rattle.queue_tables.specs.Plain.{table_of}
 use Rattle.queue_tables.specs.Tables.{book_schema, meta, jobs, documents, pieces, accounts, grants, reports}
@@ -113,7 +113,7 @@ adds_grant old new g count c has h =
     old new v Null v v count has.schema refl (cast_grant g) refl has.rows.grants h.0)) h.1.is_open
 
 cast_report : (k : KeptReport) → cast_row (table_of reports) (Null ∷ report_values k) ≡ Null ∷ report_values k
-cast_report k = rw (cast_null, cast_int (pos k.report.job), cast_int (pos k.report.seq), cast_int (pos (kind_number k.report.kind)), cast_int (pos k.report.count), cast_int (pos k.state), cast_int (pos k.total)) refl
+cast_report k = rw (cast_null, cast_int (pos k.report.job), cast_int (pos k.report.seq), cast_int (pos (kind_number k.report.kind)), cast_int (pos k.report.count), cast_int (pos (job_state_number k.state)), cast_int (pos k.total)) refl
 
 pub adds_report : (old new : State) (k : KeptReport) (count : ℕ) (c : Content) → Holds c old → ExecutesInside 0 insert_report_text (report_values k) old new (Ok count) → Holds (with_report_row (report_values k) c) new
 adds_report old new k count c has h =

@@ -8,7 +8,7 @@ use Rattle.queue_types.specs.declared.job.Job.{Job}
 use Rattle.queue_types.specs.Formats.{format_name}
 use Rattle.queue_types.specs.declared.event.GrantRow.{GrantRow}
 use Rattle.queue_types.specs.declared.event.KeptReport.{KeptReport}
-use Rattle.queue_rows.specs.Codes.{phase_number, why_number, kind_number, flag_number}
+use Rattle.queue_rows.specs.Codes.{phase_number, why_number, kind_number, flag_number, job_state_number}
 use Rattle.queue_rows.specs.declared.rows.DocumentRow.{DocumentRow}
 use Rattle.queue_rows.specs.declared.rows.MetaRow.{MetaRow}
 
@@ -69,7 +69,7 @@ abbrev pub grant_view : Row → Row
 grant_view r = column r 1 ∷ column r 2 ∷ column r 3 ∷ []
 
 abbrev pub report_values : KeptReport → Row
-report_values k = number k.report.job ∷ number k.report.seq ∷ number (kind_number k.report.kind) ∷ number k.report.count ∷ number k.state ∷ number k.total ∷ []
+report_values k = number k.report.job ∷ number k.report.seq ∷ number (kind_number k.report.kind) ∷ number k.report.count ∷ number (job_state_number k.state) ∷ number k.total ∷ []
 
 abbrev pub report_view : Row → Row
 report_view r = column r 1 ∷ column r 2 ∷ column r 3 ∷ column r 4 ∷ column r 5 ∷ column r 6 ∷ []

@@ -9,15 +9,17 @@ ghost use Rattle.queue_types.specs.declared.document.Format.{Format as FormatVal
 ghost use Rattle.queue_types.specs.declared.event.Kind.{Kind as KindValue};
 ghost use Rattle.queue_types.specs.declared.job.Job.{Job as JobValue};
 ghost use Rattle.queue_types.specs.declared.job.Phase.{Phase as PhaseValue};
-ghost use Rattle.queue_rows.specs.Codes.{kind_number, phase_number, why_number};
+ghost use Rattle.queue_types.specs.declared.states.JobState.{JobState as StateValue};
+ghost use Rattle.queue_rows.specs.Codes.{job_state_number, kind_number, phase_number, why_number};
 ghost use Rattle.queue_tables.specs.Forms.{IsFormedJob};
 ghost use Rattle.queue_tables.specs.Values.{job_values, moment, number, truth};
 
 use crate::fault::{Fault, fault_of_value};
-use queue_rows::codes::{flag_of, kind_of, phase_of};
+use queue_rows::codes::{flag_of, job_state_of, kind_of, phase_of};
 use queue_types::document::Format;
 use queue_types::event::Kind;
 use queue_types::job::{Job, Phase};
+use queue_types::states::JobState;
 use queue_types::text::Text;
 use sqlite::Row;
 use sqlite::types::{FromSql, ValueRef};
@@ -72,6 +74,16 @@ pub fn kind(row: &Row, at: usize) -> Result<Kind, Fault>
 {
     let code: i64 = value(row, at)?;
     kind_of(code).ok_or(Fault::Damaged)
+}
+
+/// The state of a job, by its number.
+pub fn job_state(row: &Row, at: usize) -> Result<JobState, Fault>
+    ensures ok { IfOk result (λ s. column row.now at ≡ number (job_state_number s)) }
+    ensures err { IfErr result (λ e. e ≡ Fault.Damaged → at < length row.now → (s : StateValue) → column row.now at ≢ number (job_state_number s)) }
+    ensures never { IfErr result (λ e. e ≢ Fault.Disk) }
+{
+    let code: i64 = value(row, at)?;
+    job_state_of(code).ok_or(Fault::Damaged)
 }
 
 /// A document format, by its name.

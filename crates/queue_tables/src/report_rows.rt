@@ -25,7 +25,7 @@ pub(crate) fn insert_report<S: Alter>(
     ensures done { HasCleanDisk (state S.Store tx.new.conn.now) → OnOk result ((w : World) → get w.reports (kept.now.report.job, kept.now.report.seq) ≡ None → Holds (content_of w) (state S.Store tx.old.conn.now) → Holds (content_of (with_kept (Some kept.now) w)) (state S.Store tx.new.conn.now)) }
 {
     let kind = u32::from(kept.report.kind.number());
-    let told = u32::from(kept.state);
+    let told = u32::from(kept.state.number());
     run(
         tx,
         "INSERT INTO reports (job, seq, kind, count, state, total) VALUES (?1, ?2, ?3, ?4, ?5, ?6)",

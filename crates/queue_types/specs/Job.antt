@@ -1,5 +1,6 @@
 -- The state of a job and its reasons (RFC 8011, sections 5.3.7 and 5.3.8), and the pages that are set aside for it.
 use Rattle.std.specs.Prelude.{ℕ, ◌-◌, ◌*◌, Bool, true, false, ◌||◌, if◌then◌else◌, Some, None}
+use Rattle.queue_types.specs.States.{job_state_number}
 use Rattle.queue_types.specs.declared.job.Job.{Job}
 use Rattle.queue_types.specs.declared.job.Why.TheVariants.{ByUser, AtDevice}
 use Rattle.queue_types.specs.declared.job.Phase.{Phase}
@@ -7,15 +8,23 @@ use Rattle.queue_types.specs.declared.job.Phase.TheVariants.{Waiting, Running, S
 use Rattle.queue_types.specs.declared.job.Reason.{Reason}
 use Rattle.queue_types.specs.declared.job.Reason.TheVariants.{NoReason, JobIncoming, JobHoldUntilSpecified, JobPrinting, PrinterStopped, ProcessingToStopPoint, JobCanceledByUser, JobCanceledAtDevice, AbortedBySystem, JobCompletedSuccessfully}
 use Rattle.queue_types.specs.declared.job.Reasons.{Reasons}
+use Rattle.queue_types.specs.declared.states.JobState.{JobState}
+use Rattle.queue_types.specs.declared.states.JobState.TheVariants.{Pending, PendingHeld, Processing, ProcessingStopped, Canceled as CanceledState, Aborted as AbortedState, Completed as CompletedState}
 
--- 3 pending, 4 pending-held, 5 processing, 6 processing-stopped, 7 canceled, 8 aborted, 9 completed
+abbrev pub job_state_in : Phase → Bool → Bool → JobState
+job_state_in Waiting hold incoming = if hold || incoming then PendingHeld else Pending
+job_state_in Running hold incoming = Processing
+job_state_in Stopped hold incoming = ProcessingStopped
+job_state_in (Canceled why) hold incoming = CanceledState
+job_state_in Aborted hold incoming = AbortedState
+job_state_in Completed hold incoming = CompletedState
+
+abbrev pub job_state : Job → JobState
+job_state j = job_state_in j.phase j.hold j.incoming
+
+-- by its number: 3 pending, 4 pending-held, 5 processing, 6 processing-stopped, 7 canceled, 8 aborted, 9 completed
 abbrev pub state_in : Phase → Bool → Bool → ℕ
-state_in Waiting hold incoming = if hold || incoming then 4 else 3
-state_in Running hold incoming = 5
-state_in Stopped hold incoming = 6
-state_in (Canceled why) hold incoming = 7
-state_in Aborted hold incoming = 8
-state_in Completed hold incoming = 9
+state_in p hold incoming = job_state_number (job_state_in p hold incoming)
 
 abbrev pub state : Job → ℕ
 state j = state_in j.phase j.hold j.incoming

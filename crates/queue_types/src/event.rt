@@ -6,6 +6,7 @@ use crate::document::Format;
 use crate::job::JobList;
 use crate::list::ListOf;
 use crate::settings::Settings;
+use crate::states::{JobState, PrinterState};
 use crate::text::Text;
 use std::alloc::AllocError;
 use std::marker::Model;
@@ -130,17 +131,16 @@ pub enum Reply {
     Done,
     /// The jobs that are shown, in order: those that were asked for, or the one that was made.
     Jobs(JobList),
-    /// The printer's state, 3 idle, 4 processing or 5 stopped (RFC 8011, section 5.4.11), how many jobs are
-    /// in states 3 to 6, and whether there is a number for a new job.
+    /// The printer's state, how many jobs are in states 3 to 6, and whether there is a number for a new job.
     Printer {
-        state: u8,
+        state: PrinterState,
         queued: u32,
         accepting: bool,
     },
-    /// A report is accepted, now or before: the job's state by its number, and the pages reported of it, as
-    /// they were after it was accepted.
+    /// A report is accepted, now or before: the job's state, and the pages reported of it, as they were after it was
+    /// accepted.
     Told {
-        state: u8,
+        state: JobState,
         count: u32,
     },
     /// A report is not accepted. Nothing changes.
@@ -224,11 +224,11 @@ pub struct Report {
     pub count: u32,
 }
 
-/// A report that was accepted, with what its answer told: the state, 3 to 9, and the count, at most 100,000,000 pages.
+/// A report that was accepted, with what its answer told: the state, and the count, at most 100,000,000 pages.
 #[derive(Clone, Copy, Debug, PartialEq, Eq)]
 pub struct KeptReport {
     pub report: Report,
-    pub state: u8,
+    pub state: JobState,
     pub total: u32,
 }
 

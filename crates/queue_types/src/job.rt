@@ -11,13 +11,10 @@
 //! (RFC 8011, section 5.3.7.) A running or stopped job ends by the device alone: a cancel only marks it
 //! as stopping. Only a running job completes, and only a running or stopped one is aborted.
 ghost use Rattle.std.specs.Prelude.{◌≡◌, IfOk, Some, None, if◌then◌else◌};
-ghost use Rattle.queue_types.specs.Job.{estimate, is_live, owed, reasons, state};
+ghost use Rattle.queue_types.specs.Job.{estimate, is_live, job_state, owed, reasons};
 
 use crate::list::ListOf;
-use crate::states::{
-    JOB_ABORTED, JOB_CANCELED, JOB_COMPLETED, JOB_PENDING, JOB_PENDING_HELD, JOB_PROCESSING,
-    JOB_PROCESSING_STOPPED,
-};
+use crate::states::JobState;
 use crate::text::Text;
 use std::alloc::{AllocError, Global};
 
@@ -132,19 +129,18 @@ fn with_second(first: Reason, second: Reason, is_there: bool) -> Reasons
 }
 
 impl Job {
-    /// Its state by its number: 3 pending, 4 pending-held, 5 processing, 6 processing-stopped,
-    /// 7 canceled, 8 aborted, 9 completed (RFC 8011, section 5.3.7). It takes no memory.
-    pub fn state(&self) -> u8
-        ensures { result ≡ state self.now }
+    /// Its state (RFC 8011, section 5.3.7). It takes no memory.
+    pub fn state(&self) -> JobState
+        ensures { result ≡ job_state self.now }
     {
         match self.phase {
-            Phase::Waiting if self.hold || self.incoming => JOB_PENDING_HELD,
-            Phase::Waiting => JOB_PENDING,
-            Phase::Running => JOB_PROCESSING,
-            Phase::Stopped => JOB_PROCESSING_STOPPED,
-            Phase::Canceled(_) => JOB_CANCELED,
-            Phase::Aborted => JOB_ABORTED,
-            Phase::Completed => JOB_COMPLETED,
+            Phase::Waiting if self.hold || self.incoming => JobState::PendingHeld,
+            Phase::Waiting => JobState::Pending,
+            Phase::Running => JobState::Processing,
+            Phase::Stopped => JobState::ProcessingStopped,
+            Phase::Canceled(_) => JobState::Canceled,
+            Phase::Aborted => JobState::Aborted,
+            Phase::Completed => JobState::Completed,
         }
     }
 

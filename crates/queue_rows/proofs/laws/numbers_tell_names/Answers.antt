@@ -1,4 +1,4 @@
-use Rattle.queue_rows.proofs.CodeLemmas.{same_phase, same_kind, same_flag}
+use Rattle.queue_rows.proofs.CodeLemmas.{same_phase, same_kind, same_job_state, same_flag}
 use Rattle.queue_rows.proofs.laws.numbers_tell_names.Goals as goal
 
 pub returns-clause-phases : goal.returns-clause-phases
@@ -6,6 +6,9 @@ returns-clause-phases c = same_phase
 
 pub returns-clause-kinds : goal.returns-clause-kinds
 returns-clause-kinds c = same_kind
+
+pub returns-clause-states : goal.returns-clause-states
+returns-clause-states c = same_job_state
 
 pub returns-clause-flags : goal.returns-clause-flags
 returns-clause-flags c = same_flag

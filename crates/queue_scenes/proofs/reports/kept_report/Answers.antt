@@ -26,7 +26,7 @@ returns-clause-found g c clean w sound has =
     let cell = λ (i : ℕ). ap (λ (v : Row). column v i) at.2 in
     let key = report_keyed w sound c.args.job c.args.seq at.0 at.1 in
     let read = c.in_ok-kept-in-Some.ensures in
-    let same : c.in_ok-kept-in-Some.kept ≡ at.0 = same_report c.numbers_tell_names.ensures.kinds c.in_ok-kept-in-Some.kept at.0 (read.job ∙ sym key.0) (read.seq ∙ sym key.1)
+    let same : c.in_ok-kept-in-Some.kept ≡ at.0 = same_report c.numbers_tell_names.ensures.kinds c.numbers_tell_names.ensures.states c.in_ok-kept-in-Some.kept at.0 (read.job ∙ sym key.0) (read.seq ∙ sym key.1)
     (sym read.kind ∙ cell 0) (sym read.count ∙ cell 1) (sym read.told ∙ cell 2) (sym read.total ∙ cell 3) in
     ap (λ (k : KeptReport). Some k) same ∙ sym at.1
 
