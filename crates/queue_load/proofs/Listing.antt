@@ -11,7 +11,7 @@ use Rattle.sqlite.specs.Order.{Row}
 use Rattle.sqlite.specs.Term.{Term, eval_all}
 use Rattle.sqlite_value.specs.declared.keys.Key.{Key}
 use Rattle.sqlite.specs.Query.{Query, output_cmp, Output}
-use Rattle.queue_tables.specs.Plain.{plain_query, shown_of}
+use Rattle.queue_tables.proofs.PlainQueries.{plain_query, shown_of}
 use Rattle.queue_tables.proofs.Writing.{kept_of, IsListing}
 
 -- a row with the part by which it is sorted

@@ -8,8 +8,8 @@ use Rattle.sqlite_value.specs.declared.keys.Key.{Key}
 use Rattle.sqlite_resolve.specs.Compile.{first}
 use Rattle.sqlite_tied.specs.Compute.{everything}
 use Rattle.sqlite.specs.Listing.{understood}
-use Rattle.queue_tables.specs.Plain.{shown_of}
-use Rattle.queue_tables.proofs.Statements.{IsSelection, Selection, job_terms, job_names}
+use Rattle.queue_tables.proofs.PlainQueries.{shown_of}
+use Rattle.queue_tables.proofs.Statements.{IsSelection, Selection, job_names, job_terms, with_job_columns}
 
 -- a SELECT of these columns of all rows of a table, in the order of the first of them, its keys
 pub record WholeQuery : Type 0 where
@@ -58,7 +58,7 @@ meta_is = record {
 
 abbrev pub jobs_query : WholeQuery
 jobs_query = record {
-  sql = codes "SELECT number, owner, name, copies, impressions, hold, incoming, phase, why, stopping, count, created, begun, ended FROM jobs ORDER BY number";
+  sql = with_job_columns (codes "SELECT ") (codes " FROM jobs ORDER BY number");
   names = job_names;
   tree = 1;
   terms = job_terms;

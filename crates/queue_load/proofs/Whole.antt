@@ -10,7 +10,7 @@ use Rattle.sqlite.specs.Effect.{Reads}
 use Rattle.sqlite.specs.Listing.{understood, reads_listing, IsSourceOf}
 use Rattle.sqlite.specs.State.{State}
 use Rattle.sqlite.proofs.Callers.{IsPlain, command_of}
-use Rattle.queue_tables.specs.Plain.{plain_query, shown_of}
+use Rattle.queue_tables.proofs.PlainQueries.{plain_query, shown_of}
 use Rattle.queue_tables.specs.Tables.{book_schema}
 use Rattle.queue_tables.proofs.Writing.{IsListing, lists, begins_rows}
 use Rattle.queue_load.specs.Reads.{Answers, Tell, HasRead, FindsFormless}

@@ -2,8 +2,7 @@
 ghost use Rattle.std.specs.Prelude.{◌≡◌, ◌↔◌, IfOk, IfErr, OnOk, IsTrue};
 ghost use Rattle.sqlite.specs.Held.{state};
 ghost use Rattle.sqlite.specs.State.{HasCleanDisk, IsUnchanged};
-ghost use Rattle.queue_rows.specs.Order.{AreInOrder};
-ghost use Rattle.queue_load.specs.Keyed.{id_before, id_values, id_view};
+ghost use Rattle.queue_load.specs.Keyed.{id_values, id_view};
 ghost use Rattle.queue_load.specs.Loaded.{IsTable};
 ghost use Rattle.queue_load.specs.Reads.{HasBook};
 ghost use Rattle.queue_tables.specs.Kept.{AreKeyed};
@@ -12,31 +11,24 @@ ghost use Rattle.queue_tables.specs.declared.fault.Fault.TheVariants.{Damaged};
 
 use crate::table::read_table;
 use crate::typed::RowId;
+use queue_rows::order::{Keyed, are_in_order};
 use queue_tables::fault::Fault;
 use sqlite::{Alter, Connection};
 use std::alloc::Global;
 use std::cmp::Ordering;
 
-fn is_id_before(a: &RowId, b: &RowId) -> bool
-    ensures { result ≡ id_before a.now b.now }
-{
-    match a.id.cmp(&b.id) {
-        Ordering::Less => true,
-        Ordering::Equal => false,
-        Ordering::Greater => false,
-    }
-}
+impl Keyed for RowId {
+    ghost use Rattle.queue_load.specs.Keyed.{id_before};
 
-/// The rowids rise, none twice.
-fn ids_rise(ids: &[RowId]) -> bool
-    ensures { IsTrue result ↔ AreInOrder id_before ids.now }
-{
-    for i in 1..ids.len() {
-        if !is_id_before(&ids[i - 1], &ids[i]) {
-            return false;
+    ghost before = { id_before };
+
+    fn is_before(&self, other: &RowId) -> bool {
+        match self.id.cmp(&other.id) {
+            Ordering::Less => true,
+            Ordering::Equal => false,
+            Ordering::Greater => false,
         }
     }
-    true
 }
 
 /// The rowids of the accounts, in their order.
@@ -60,5 +52,5 @@ pub(crate) fn accounts_are_keyed<S: Alter>(
     ensures damaged { HasBook (state S.Store conn.old) → HasCleanDisk (state S.Store conn.new) → IfErr result (λ e. e ≡ Damaged → ¬ AreKeyed ((state S.Store conn.old).now.trees 6)) }
 {
     let ids = read_ids(alloc, conn)?;
-    Ok(ids_rise(ids.as_slice()))
+    Ok(are_in_order(ids.as_slice()))
 }

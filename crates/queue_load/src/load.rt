@@ -13,6 +13,7 @@ ghost use Rattle.queue_tables.specs.declared.fault.Fault.TheVariants.{Damaged};
 use crate::table::read_table;
 use queue_rows::rows::{AccountRow, DocumentRow, MetaRow, PieceRow};
 use queue_tables::fault::Fault;
+use queue_tables::with_job_columns;
 use queue_types::event::{GrantRow, KeptReport};
 use queue_types::job::Job;
 use sqlite::{Alter, Connection};
@@ -48,7 +49,7 @@ pub(crate) fn read_jobs<S: Alter>(
     read_table(
         alloc,
         conn,
-        "SELECT number, owner, name, copies, impressions, hold, incoming, phase, why, stopping, count, created, begun, ended FROM jobs ORDER BY number",
+        with_job_columns!("SELECT ", " FROM jobs ORDER BY number"),
     )
 }
 

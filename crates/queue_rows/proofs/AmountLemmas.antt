@@ -1,21 +1,14 @@
--- Sums over a list of named amounts, as sums over the rows that it was made of.
-use Rattle.std.proofs.Common.{◌≡◌, ℕ, ◌+◌, ◌*◌, ◌≤◌, List, [], ◌∷◌, Bool, Bor, inl, inr, suc, Result, Ok, Err, IfOk, IsTrue, ◌↔◌, All, if◌then◌else◌, true, false, cond, ◌&&◌, length, map, sum_by, bytes_eq, refl, sym, ap, ◌∙◌, arith}
+-- Sums of what is told of rows.
+use Rattle.std.proofs.Common.{◌≡◌, ℕ, ◌+◌, ◌<◌, List, [], ◌∷◌, Bool, Bor, Result, Ok, Err, IfOk, if◌then◌else◌, true, false, cond, ◌&&◌, bytes_eq, get_or, length, take, refl, sym, ap, ◌∙◌, ◌≤◌, Option, None, Some, IfSome, unwrap_or, pos, arith}
 use Rattle.std.specs.Cmp.Lexicographic.{nat_list_eq_equiv}
 use Rattle.std.specs.HashMap.{HashMap}
-use Rattle.std.proofs.lemmas.Bool.{cases_Bool}
-use Rattle.std.proofs.Math.Nat.{mul-le-mul}
-use Rattle.queue_types.specs.Job.{owed, estimate, is_live}
+use Rattle.std.proofs.lemmas.List.Sums.{sum_by-cons, sum_by_more}
+use Rattle.queue_types.specs.Job.{is_live}
 use Rattle.queue_core.specs.World.{live_jobs}
-use Rattle.queue_core.specs.Limits.{IsSoundJob}
 use Rattle.queue_types.specs.declared.job.Job.{Job}
-use Rattle.std.proofs.lemmas.List.Sums.{sum_by-cons}
-use Rattle.queue_rows.specs.Totals.{total, total_in, named}
-
-abbrev amount_at : List ℕ → Bor (List ℕ) × ℕ → ℕ
-amount_at q p = if bytes_eq q p.0.now then p.1 else 0
-
-abbrev amount_named : List ℕ → List ℕ × ℕ → ℕ
-amount_named q p = if bytes_eq q p.0 then p.1 else 0
+use Rattle.queue_rows.specs.Accounts.{HasSums}
+use Rattle.queue_rows.specs.declared.rows.AccountRow.{AccountRow}
+use Rattle.queue_rows.specs.Totals.{TellsAmounts, total, total_in}
 
 -- of that name
 abbrev pub of_name : {X : Type 0} → (X → List ℕ) → (X → ℕ) → List ℕ → X → ℕ
@@ -24,49 +17,25 @@ of_name name amount q x = if bytes_eq (name x) q then amount x else 0
 abbrev pick : Bool → ℕ → ℕ
 pick b n = if b then n else 0
 
-pub total_by : {X : Type 0} (name : X → List ℕ) (amount : X → ℕ) (q : List ℕ) (ps : List (Bor (List ℕ) × ℕ)) (xs : List X) → map named ps ≡ map (λ (x : X). (name x, amount x)) xs → total q ps ≡ sum_by (of_name name amount q) xs
-total_by name amount q [] [] e = refl
-total_by name amount q [] (x ∷ xs) e = absurd cc
-total_by name amount q (p ∷ ps) [] e = absurd cc
-total_by {X} name amount q (p ∷ ps) (x ∷ xs) e =
-    let first : named p ≡ (name x, amount x) = cc in
-    let rest : map named ps ≡ map (λ (y : X). (name y, amount y)) xs = cc in
-    let one : amount_at q p ≡ amount_named q (name x, amount x) = ap (amount_named q) first in
-    let turned : bytes_eq q (name x) ≡ bytes_eq (name x) q = nat_list_eq_equiv.symm q (name x) in
-    let here : amount_at q p ≡ of_name name amount q x = one ∙ ap (λ (b : Bool). pick b (amount x)) turned in
-    sum_by-cons (amount_at q) p ps ∙ ap (λ (n : ℕ). n + total q ps) here ∙ ap (λ (n : ℕ). of_name name amount q x + n) (total_by name amount q ps xs rest) ∙ sym (sum_by-cons (of_name name amount q) x xs)
+-- the sum of a name with one more row, of which p is told
+pub total_more : {X : Type 0} (name : X → List ℕ) (amount : X → ℕ) (q : List ℕ) (xs : List X) (i : ℕ) (x : X) (p : Bor (List ℕ) × ℕ) (before after : ℕ) → i < length xs → x ≡ get_or xs i x → (p.0.now ≡ name x) × (p.1 ≡ amount x)
+    → before ≡ total name amount q (take i xs) → after ≡ before + pick (bytes_eq q p.0.now) p.1 → after ≡ total name amount q (take (i + 1) xs)
+total_more {X} name amount q xs i x p before after lt is told old new =
+    let f = of_name name amount q in
+    let sum = total name amount q (take i xs) in
+    let here : pick (bytes_eq q p.0.now) p.1 ≡ f x = (λ k. pick (bytes_eq q (told.0 k)) (told.1 k)) ∙ ap (λ (b : Bool). pick b (amount x)) (nat_list_eq_equiv.symm q (name x)) in
+    new ∙ (λ k. old k + here k) ∙ ap (λ (y : X). sum + f y) is ∙ sym (sum_by_more f xs i x lt)
 
-pub sum_within : {X : Type 0} (name : X → List ℕ) (amount : X → ℕ) (most : ℕ) (ps : List (Bor (List ℕ) × ℕ)) (xs : List X) → map named ps ≡ map (λ (x : X). (name x, amount x)) xs → All (λ (x : X). amount x ≤ most) xs → sum_by (λ (p : Bor (List ℕ) × ℕ). p.1) ps ≤ length xs * most
-sum_within name amount most [] xs e all = omega arith
-sum_within name amount most (p ∷ ps) [] e all = absurd cc
-sum_within {X} name amount most (p ∷ ps) (x ∷ xs) e all =
-    let first : named p ≡ (name x, amount x) = cc in
-    let rest : map named ps ≡ map (λ (y : X). (name y, amount y)) xs = cc in
-    let amount_is : p.1 ≡ amount x = ap (λ (y : List ℕ × ℕ). y.1) first in
-    let here : amount x ≤ most = all 0 x (omega arith) in
-    let later = sum_within name amount most ps xs rest (λ k d lt. all (suc k) d (omega arith)) in
-    omega (arith, sum_by-cons (λ (y : Bor (List ℕ) × ℕ). y.1) p ps, amount_is, here, later)
+-- of what is told of rows the sums are known
+pub totals_told : {S E X : Type 0} (r : Result (HashMap (Bor (List ℕ)) ℕ S) E) (tells : X → Bor (List ℕ) × ℕ → Type 0) (xs : List X) (name : X → List ℕ) (amount : X → ℕ) (sum : List ℕ → ℕ)
+    → TellsAmounts tells name amount → ((q : List ℕ) → total name amount q xs ≡ sum q)
+    → IfOk r (λ m. (label : X → List ℕ) (size : X → ℕ) → TellsAmounts tells label size → (q : List ℕ) → total_in m q ≡ total label size q xs) → IfOk r (λ m. (q : List ℕ) → total_in m q ≡ sum q)
+totals_told (Ok m) tells xs name amount sum told is h = λ q. h name amount told q ∙ is q
+totals_told (Err e) tells xs name amount sum told is h = tt
 
-pub if_ok_turned : {E : Type 0} (r : Result Bool E) (P Q : Type 0) → (P → Q) → (Q → P) → IfOk r (λ b. IsTrue b ↔ P) → IfOk r (λ b. IsTrue b ↔ Q)
-if_ok_turned (Ok b) P Q to from h = (λ t. to (h.0 t), λ q. h.1 (from q))
-if_ok_turned (Err e) P Q to from h = tt
-
--- totals by name, at what they are of
-pub IfTotals-of : {S E : Type 0} (r : Result (HashMap (Bor (List ℕ)) ℕ S) E) (ps : List (Bor (List ℕ) × ℕ)) (of : List ℕ → ℕ) → ((q : List ℕ) → total q ps ≡ of q)
-    → IfOk r (λ m. (q : List ℕ) → total_in m q ≡ total q ps) → IfOk r (λ m. (q : List ℕ) → total_in m q ≡ of q)
-IfTotals-of (Ok m) ps of is h = λ q. h q ∙ is q
-IfTotals-of (Err e) ps of is h = tt
-
-pub owed_small : (j : Job) → IsSoundJob j → owed j ≤ 99900000
-owed_small j s =
-    let most : estimate j ≤ 100000 * 999 = mul-le-mul s.impressions s.copies.1 in
-    elim (cases_Bool (is_live j)) [
-      | inl live ↦ elim (cases_Bool j.hold) [
-        | inl hold ↦ rw (live, hold) (omega arith)
-        | inr free ↦ rw (live, free) (omega arith)
-      ]
-      | inr ended ↦ rw ended (omega arith)
-    ]
+pub if_ok : {X E : Type 0} (r : Result X E) (P Q : X → Type 0) → ((x : X) → P x → Q x) → IfOk r P → IfOk r Q
+if_ok (Ok x) P Q to h = to x h
+if_ok (Err e) P Q to h = tt
 
 -- ---- jobs in the states 3 to 6
 
@@ -75,12 +44,6 @@ owner_of j = j.owner
 
 abbrev pub live_of : Job → ℕ
 live_of j = if is_live j then 1 else 0
-
-pub live_small : (j : Job) → live_of j ≤ 1
-live_small j = elim (cases_Bool (is_live j)) [
-  | inl live ↦ rw live (omega arith)
-  | inr ended ↦ rw ended (omega arith)
-]
 
 abbrev live_if : Bool → Bool → ℕ
 live_if a b = if a then (if b then 1 else 0) else 0
@@ -94,8 +57,23 @@ if_both true false = refl
 if_both false true = refl
 if_both false false = refl
 
-pub live_is : (q : List ℕ) (js : List Job) → sum_by (of_name owner_of live_of q) js ≡ live_jobs q js
+pub live_is : (q : List ℕ) (js : List Job) → total owner_of live_of q js ≡ live_jobs q js
 live_is q [] = refl
 live_is q (j ∷ js) =
-    sum_by-cons (of_name owner_of live_of q) j js ∙ ap (λ (n : ℕ). n + sum_by (of_name owner_of live_of q) js) (if_both (bytes_eq j.owner q) (is_live j))
+    sum_by-cons (λ (x : Job). live_if (bytes_eq x.owner q) (is_live x)) j js ∙ ap (λ (n : ℕ). n + total owner_of live_of q js) (if_both (bytes_eq j.owner q) (is_live j))
     ∙ ap (λ (n : ℕ). count_if (bytes_eq j.owner q && is_live j) + n) (live_is q js) ∙ sym (sum_by-cons (λ (x : Job). count_if (bytes_eq x.owner q && is_live x)) j js)
+
+-- ---- what a map has at most
+
+pub within_some : (o : Option ℕ) (most : ℕ) → IfSome o (λ n. n ≤ most) → unwrap_or o 0 ≤ most
+within_some None most h = omega arith
+within_some (Some n) most h = h
+
+pub some_within : (o : Option ℕ) (most : ℕ) → unwrap_or o 0 ≤ most → IfSome o (λ n. n ≤ most)
+some_within None most h = tt
+some_within (Some n) most h = h
+
+-- ---- sums of an account
+
+pub sums_same : {g h r s p t : ℕ} (a : AccountRow) → g ≡ h → r ≡ s → p ≡ t → HasSums g r p a → HasSums h s t a
+sums_same a granted reserved printed x = record { reserved = x.reserved ∙ reserved; printed = x.printed ∙ printed; granted = ap pos (sym granted) ∙ x.granted }

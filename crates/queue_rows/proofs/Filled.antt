@@ -72,21 +72,30 @@ printed_filled a js ds = sum_filled (λ (j : Job). if bytes_eq j.owner a then j.
 
 -- ---- limits
 
-fits_filled : (p : Phase) (j : Job) (ds : List DocumentRow) → FitsPhase p j → FitsPhase p (with_group j ds)
-fits_filled Waiting j ds h = h
-fits_filled Running j ds h = h
-fits_filled Stopped j ds h = h
-fits_filled (Canceled why) j ds h = h
-fits_filled Aborted j ds h = h
-fits_filled Completed j ds h = h
+fits_sized : (p : Phase) (j : Job) (n m : ℕ) → FitsPhase p j → FitsPhase p (record j { documents = n; octets = m })
+fits_sized Waiting j n m h = h
+fits_sized Running j n m h = h
+fits_sized Stopped j n m h = h
+fits_sized (Canceled why) j n m h = h
+fits_sized Aborted j n m h = h
+fits_sized Completed j n m h = h
 
-fits_bare : (p : Phase) (j : Job) (ds : List DocumentRow) → FitsPhase p (with_group j ds) → FitsPhase p j
-fits_bare Waiting j ds h = h
-fits_bare Running j ds h = h
-fits_bare Stopped j ds h = h
-fits_bare (Canceled why) j ds h = h
-fits_bare Aborted j ds h = h
-fits_bare Completed j ds h = h
+-- with other documents a job is within its limits where these are
+pub sound_sized : (j : Job) (n m : ℕ) → IsSoundJob j → n ≤ 16 → m ≤ n * 16777216 → IsSoundJob (record j { documents = n; octets = m })
+sound_sized j n m s few small = record {
+  number = s.number;
+  owner = s.owner;
+  name = s.name;
+  copies = s.copies;
+  impressions = s.impressions;
+  count = s.count;
+  created = s.created;
+  begun = s.begun;
+  ended = s.ended;
+  documents = few;
+  octets = small;
+  phase = fits_sized j.phase j n m s.phase;
+}
 
 octets_within : (ds : List DocumentRow) → All HasSize ds → sum_by octets_of ds ≤ length ds * 16777216
 octets_within [] h = omega arith
@@ -99,48 +108,14 @@ pub sound_filled : (js : List Job) (ds : List DocumentRow) → AreGrouped js ds 
 sound_filled [] ds group sizes h = tt
 sound_filled (j ∷ js) ds group sizes h =
     let n = next_of j.number ds in
-    let s = h.0.sound in
     let short : n ≤ length ds = prefix_len-le-length (is_of j.number) ds in
     let many : length (take n ds) ≡ n = length-take-le n ds short in
-    let within = octets_within (take n ds) (All-take HasSize n ds sizes) in (
-      record {
-        number = s.number;
-        owner = s.owner;
-        name = s.name;
-        copies = s.copies;
-        impressions = s.impressions;
-        count = s.count;
-        created = s.created;
-        begun = s.begun;
-        ended = s.ended;
-        documents = group.0.0;
-        octets = omega (arith, within, many);
-        phase = fits_filled j.phase j ds s.phase;
-      },
-      sound_filled js (drop n ds) group.1 (All-drop HasSize n ds sizes) h.1,
-    )
+    let within = octets_within (take n ds) (All-take HasSize n ds sizes) in
+    (sound_sized j n (sum_by octets_of (take n ds)) h.0.sound group.0.0 (omega (arith, within, many)), sound_filled js (drop n ds) group.1 (All-drop HasSize n ds sizes) h.1)
 
 pub sound_bare : (js : List Job) (ds : List DocumentRow) → Each (λ j. (j.documents ≡ 0) × (j.octets ≡ 0)) js → Each IsSoundJob (filled js ds) → Each IsJobRow js
 sound_bare [] ds bare h = tt
 sound_bare (j ∷ js) ds bare h =
-    let s = h.0 in
-    let none = bare.0 in (
-      record {
-        sound = record {
-          number = s.number;
-          owner = s.owner;
-          name = s.name;
-          copies = s.copies;
-          impressions = s.impressions;
-          count = s.count;
-          created = s.created;
-          begun = s.begun;
-          ended = s.ended;
-          documents = omega (arith, none.0);
-          octets = omega (arith, none.1);
-          phase = fits_bare j.phase j ds s.phase;
-        };
-        bare = none.0;
-      },
-      sound_bare js (behind j ds) bare.1 h.1,
-    )
+    let none = bare.0 in
+    let sound = sound_sized (with_group j ds) j.documents j.octets h.0 (omega (arith, none.0)) (omega (arith, none.1)) in
+    (record { sound = sound; bare = none.0 }, sound_bare js (behind j ds) bare.1 h.1)

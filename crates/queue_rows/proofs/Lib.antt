@@ -2,9 +2,7 @@ pub mod Defaults
 pub mod CodeLemmas
 pub mod RunLemmas
 pub mod GroupLemmas
-pub mod OrderLemmas
 pub mod AmountLemmas
-pub mod SumLemmas
 pub mod Filled
 pub mod WorldOf
 pub mod WorldMaps

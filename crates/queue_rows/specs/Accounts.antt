@@ -23,8 +23,12 @@ reserved_for a js = sum_by (λ j. if bytes_eq j.owner a then owed j else 0) js
 abbrev pub printed_for : List ℕ → List Job → ℕ
 printed_for a js = sum_by (λ j. if bytes_eq j.owner a then j.count else 0) js
 
--- the stored sums are those of the jobs, and pages granted are those free, reserved and printed
-pub record IsBalanced (gs : List GrantRow) (js : List Job) (a : AccountRow) : Type 0 where
-  pub reserved : a.reserved ≡ reserved_for a.name js
-  pub printed : a.printed ≡ printed_for a.name js
-  pub granted : pos (granted_to a.name gs) ≡ a.free +ℤ pos (a.reserved + a.printed)
+-- the stored sums are these, and pages granted are those free, reserved and printed
+pub record HasSums (given held done : ℕ) (a : AccountRow) : Type 0 where
+  pub reserved : a.reserved ≡ held
+  pub printed : a.printed ≡ done
+  pub granted : pos given ≡ a.free +ℤ pos (a.reserved + a.printed)
+
+-- they are those of its grants and jobs
+abbrev pub IsBalanced : List GrantRow → List Job → AccountRow → Type 0
+IsBalanced gs js a = HasSums (granted_to a.name gs) (reserved_for a.name js) (printed_for a.name js) a

@@ -1,37 +1,22 @@
 -- Sums by name.
-use Rattle.std.specs.Prelude.{ℕ, List, sum_by, bytes_eq, unwrap_or, if◌then◌else◌}
+use Rattle.std.specs.Prelude.{◌≡◌, ℕ, List, sum_by, bytes_eq, unwrap_or, if◌then◌else◌}
 use Rattle.std.specs.HashMap.{HashMap, get_by}
-use Rattle.queue_types.specs.Job.{owed, is_live}
 use Rattle.queue_types.specs.declared.event.GrantRow.{GrantRow}
-use Rattle.queue_types.specs.declared.job.Job.{Job}
-use Rattle.queue_rows.specs.declared.rows.AccountRow.{AccountRow}
+use Rattle.queue_rows.specs.Grants.{granted_to}
 use denote.Ref.{Bor}
 
 -- the sum of the amounts of that name
-abbrev pub total : List ℕ → List (Bor (List ℕ) × ℕ) → ℕ
-total q ps = sum_by (λ p. if bytes_eq q p.0.now then p.1 else 0) ps
+abbrev pub total : {X : Type 0} → (X → List ℕ) → (X → ℕ) → List ℕ → List X → ℕ
+total name amount q xs = sum_by (λ x. if bytes_eq (name x) q then amount x else 0) xs
 
 -- what a map of sums has of that name, 0 where it has none
 abbrev pub total_in : {S : Type 0} → HashMap (Bor (List ℕ)) ℕ S → List ℕ → ℕ
 total_in m q = unwrap_or (get_by (λ k. bytes_eq q k.now) m) 0
 
-abbrev pub named : Bor (List ℕ) × ℕ → List ℕ × ℕ
-named p = (p.0.now, p.1)
+-- what is told of a row is that name and that amount
+abbrev pub TellsAmounts : {X : Type 0} → (X → Bor (List ℕ) × ℕ → Type 0) → (X → List ℕ) → (X → ℕ) → Type 0
+TellsAmounts {X} tells name amount = (x : X) (p : Bor (List ℕ) × ℕ) → tells x p → (p.0.now ≡ name x) × (p.1 ≡ amount x)
 
--- ---- the amounts of rows
-
-abbrev pub grant_amount : GrantRow → List ℕ × ℕ
-grant_amount g = (g.account, g.pages)
-
-abbrev pub reserved_amount : Job → List ℕ × ℕ
-reserved_amount j = (j.owner, owed j)
-
-abbrev pub printed_amount : Job → List ℕ × ℕ
-printed_amount j = (j.owner, j.count)
-
-abbrev pub name_amount : AccountRow → List ℕ × ℕ
-name_amount a = (a.name, 1)
-
--- a job counts where it is in the states 3 to 6
-abbrev pub live_amount : Job → List ℕ × ℕ
-live_amount j = (j.owner, if is_live j then 1 else 0)
+-- the sums are the pages that were granted to each account
+abbrev pub AreGranted : {S : Type 0} → HashMap (Bor (List ℕ)) ℕ S → List GrantRow → Type 0
+AreGranted m gs = (q : List ℕ) → total_in m q ≡ granted_to q gs

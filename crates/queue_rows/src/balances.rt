@@ -1,14 +1,12 @@
 //! What is stored of an account against grants and jobs.
-ghost use Rattle.std.specs.Prelude.{◌≡◌, ◌↔◌, ◌<◌, ◌^◌, pos, ◌+◌, ◌+ℤ◌, All, IfOk, IsTrue};
-ghost use Rattle.queue_rows.specs.Accounts.{IsBalanced};
-ghost use Rattle.queue_rows.specs.Grants.{IsGrantRow};
-ghost use Rattle.queue_rows.specs.Jobs.{IsJobRow};
-ghost use Rattle.queue_rows.specs.Totals.{total_in};
+ghost use Rattle.std.specs.Prelude.{◌≡◌, ◌↔◌, ◌<◌, ◌^◌, pos, ◌+ℤ◌, List, All, IfOk, IsTrue};
+ghost use Rattle.queue_types.specs.declared.event.GrantRow.{GrantRow};
+ghost use Rattle.queue_rows.specs.Accounts.{HasSums, IsBalanced};
+ghost use Rattle.queue_rows.specs.Totals.{AreGranted, total_in};
 
-use crate::amounts::{granted_totals, printed_totals, reserved_totals};
+use crate::amounts::{printed_totals, reserved_totals};
 use crate::rows::AccountRow;
 use crate::totals::total_of;
-use queue_types::event::GrantRow;
 use queue_types::job::Job;
 use std::alloc::{AllocError, Global};
 use std::collections::HashMap;
@@ -27,7 +25,7 @@ fn is_sum(granted: u128, free: i64, spent: u128) -> bool
 
 /// The stored sums are these, and pages granted are those free, reserved and printed.
 fn is_balanced(account: &AccountRow, granted: u128, reserved: u128, printed: u128) -> bool
-    ensures { IsTrue result ↔ ((account.now.reserved ≡ reserved) × (account.now.printed ≡ printed) × (pos granted ≡ account.now.free +ℤ pos (account.now.reserved + account.now.printed))) }
+    ensures { IsTrue result ↔ HasSums granted reserved printed account.now }
 {
     let spent = u128::from(account.reserved) + u128::from(account.printed);
     u128::from(account.reserved) == reserved
@@ -41,7 +39,7 @@ fn is_account_balanced(
     reserved: &HashMap<&str, u128>,
     printed: &HashMap<&str, u128>,
 ) -> bool
-    ensures { IsTrue result ↔ ((account.now.reserved ≡ total_in reserved.now account.now.name) × (account.now.printed ≡ total_in printed.now account.now.name) × (pos (total_in granted.now account.now.name) ≡ account.now.free +ℤ pos (account.now.reserved + account.now.printed))) }
+    ensures { IsTrue result ↔ HasSums (total_in granted.now account.now.name) (total_in reserved.now account.now.name) (total_in printed.now account.now.name) account.now }
 {
     let name = account.name.as_str();
     is_balanced(
@@ -52,24 +50,28 @@ fn is_account_balanced(
     )
 }
 
+/// What is stored of each account is what these sums say.
+fn are_balanced(
+    accounts: &[AccountRow],
+    granted: &HashMap<&str, u128>,
+    reserved: &HashMap<&str, u128>,
+    printed: &HashMap<&str, u128>,
+) -> bool
+    ensures { IsTrue result ↔ All (λ a. HasSums (total_in granted.now a.name) (total_in reserved.now a.name) (total_in printed.now a.name) a) accounts.now }
+{
+    accounts.iter().all(|account| is_account_balanced(account, granted, reserved, printed))
+}
+
 /// What is stored of each account is what grants and jobs say.
 pub fn accounts_are_balanced(
     alloc: Global,
     accounts: &[AccountRow],
-    grants: &[GrantRow],
+    granted: &HashMap<&str, u128>,
     jobs: &[Job],
 ) -> Result<bool, AllocError>
-    requires grants { All IsGrantRow grants.now }
-    requires jobs { All IsJobRow jobs.now }
-    ensures { IfOk result (λ b. IsTrue b ↔ All (IsBalanced grants.now jobs.now) accounts.now) }
+    ensures { IfOk result (λ b. (gs : List GrantRow) → AreGranted granted.now gs → IsTrue b ↔ All (IsBalanced gs jobs.now) accounts.now) }
 {
-    let granted = granted_totals(alloc, grants)?;
     let reserved = reserved_totals(alloc, jobs)?;
     let printed = printed_totals(alloc, jobs)?;
-    for account in accounts {
-        if !is_account_balanced(account, &granted, &reserved, &printed) {
-            return Ok(false);
-        }
-    }
-    Ok(true)
+    Ok(are_balanced(accounts, granted, &reserved, &printed))
 }

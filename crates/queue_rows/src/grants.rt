@@ -1,18 +1,30 @@
 //! The rows of grants: each one's own limits, their order, and the most of an account.
-ghost use Rattle.std.specs.Prelude.{◌≡◌, ◌↔◌, ◌≤◌, ℕ, List, All, IfOk, IsTrue};
-ghost use Rattle.queue_rows.specs.Grants.{IsGrantRow, grant_before, granted_to};
-ghost use Rattle.queue_rows.specs.Order.{AreInOrder};
+ghost use Rattle.std.specs.Prelude.{◌≡◌, ◌↔◌, ◌≤◌, ℕ, List, All, IsTrue};
+ghost use Rattle.queue_rows.specs.Grants.{IsGrantRow};
+ghost use Rattle.queue_rows.specs.Totals.{total_in};
 
-use crate::amounts::grant_amounts;
+use crate::order::Keyed;
 use crate::texts::{is_batch, is_owner};
 use crate::totals::are_within;
 use queue_types::event::GrantRow;
 use queue_types::limits::{MOST_GRANTED_PAGES, MOST_ROW_PAGES};
-use std::alloc::{AllocError, Global};
 use std::cmp::Ordering;
+use std::collections::HashMap;
 
-/// The most pages that an account is granted in all.
-const MOST_GRANTED: u128 = MOST_GRANTED_PAGES as u128;
+/// By batch, then by account.
+impl Keyed for GrantRow {
+    ghost use Rattle.queue_rows.specs.Grants.{grant_before};
+
+    ghost before = { grant_before };
+
+    fn is_before(&self, other: &GrantRow) -> bool {
+        match self.batch.as_str().cmp(other.batch.as_str()) {
+            Ordering::Less => true,
+            Ordering::Equal => self.account.as_str() < other.account.as_str(),
+            Ordering::Greater => false,
+        }
+    }
+}
 
 fn is_grant(grant: &GrantRow) -> bool
     ensures { IsTrue result ↔ IsGrantRow grant.now }
@@ -25,41 +37,12 @@ fn is_grant(grant: &GrantRow) -> bool
 pub fn grants_are_sound(grants: &[GrantRow]) -> bool
     ensures { IsTrue result ↔ All IsGrantRow grants.now }
 {
-    for grant in grants {
-        if !is_grant(grant) {
-            return false;
-        }
-    }
-    true
-}
-
-fn is_grant_before(a: &GrantRow, b: &GrantRow) -> bool
-    ensures { result ≡ grant_before a.now b.now }
-{
-    match a.batch.as_str().cmp(b.batch.as_str()) {
-        Ordering::Less => true,
-        Ordering::Equal => a.account.as_str() < b.account.as_str(),
-        Ordering::Greater => false,
-    }
-}
-
-/// The grants stand in the order of batch and account, none twice.
-pub fn grants_are_in_order(grants: &[GrantRow]) -> bool
-    ensures { IsTrue result ↔ AreInOrder grant_before grants.now }
-{
-    for i in 1..grants.len() {
-        if !is_grant_before(&grants[i - 1], &grants[i]) {
-            return false;
-        }
-    }
-    true
+    grants.iter().all(is_grant)
 }
 
 /// No account was granted more than 1,000,000,000 pages.
-pub fn grants_are_within(alloc: Global, grants: &[GrantRow]) -> Result<bool, AllocError>
-    requires { All IsGrantRow grants.now }
-    ensures { IfOk result (λ b. IsTrue b ↔ ((a : List ℕ) → granted_to a grants.now ≤ 1000000000)) }
+pub fn grants_are_within(granted: &HashMap<&str, u128>) -> bool
+    ensures { IsTrue result ↔ ((a : List ℕ) → total_in granted.now a ≤ 1000000000) }
 {
-    let amounts = grant_amounts(alloc, grants)?;
-    are_within(alloc, amounts.as_slice(), MOST_GRANTED)
+    are_within(granted, u128::from(MOST_GRANTED_PAGES))
 }

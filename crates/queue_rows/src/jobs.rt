@@ -74,12 +74,7 @@ pub fn is_job_row(job: &Job) -> bool
 pub(crate) fn jobs_are_sound(jobs: &[Job]) -> bool
     ensures { IsTrue result ↔ All IsJobRow jobs.now }
 {
-    for job in jobs {
-        if !is_job_row(job) {
-            return false;
-        }
-    }
-    true
+    jobs.iter().all(is_job_row)
 }
 
 /// The numbers rise from 1 on, and stay below the next.

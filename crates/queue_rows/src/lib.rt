@@ -11,6 +11,7 @@ mod grants;
 pub mod jobs;
 pub mod laws;
 mod meta;
+pub mod order;
 mod owners;
 pub mod pieces;
 mod reports;

@@ -2,12 +2,10 @@
 ghost use Rattle.std.specs.Prelude.{◌≡◌, ◌↔◌, ◌≤◌, ℕ, List, All, IfOk, IsTrue};
 ghost use Rattle.queue_core.specs.Sound.{IsIdle};
 ghost use Rattle.queue_core.specs.World.{live_jobs};
-ghost use Rattle.queue_rows.specs.Grants.{IsGrantRow, granted_to};
 ghost use Rattle.queue_rows.specs.Totals.{total_in};
 
-use crate::amounts::{granted_totals, live_amounts};
+use crate::amounts::live_totals;
 use crate::totals::{are_within, total_of};
-use queue_types::event::GrantRow;
 use queue_types::job::Job;
 use queue_types::limits::MOST_LIVE_JOBS;
 use std::alloc::{AllocError, Global};
@@ -17,8 +15,8 @@ use std::collections::HashMap;
 pub fn live_jobs_fit(alloc: Global, jobs: &[Job]) -> Result<bool, AllocError>
     ensures { IfOk result (λ b. IsTrue b ↔ ((caller : List ℕ) → live_jobs caller jobs.now ≤ 100)) }
 {
-    let amounts = live_amounts(alloc, jobs)?;
-    are_within(alloc, amounts.as_slice(), MOST_LIVE_JOBS as u128)
+    let live = live_totals(alloc, jobs)?;
+    Ok(are_within(&live, MOST_LIVE_JOBS as u128))
 }
 
 fn is_idle(job: &Job) -> bool
@@ -38,15 +36,8 @@ fn is_covered(granted: &HashMap<&str, u128>, job: &Job) -> bool
 }
 
 /// Each job whose owner was granted nothing never began, has no count, and is on hold or ended.
-pub fn others_are_idle(alloc: Global, jobs: &[Job], grants: &[GrantRow]) -> Result<bool, AllocError>
-    requires { All IsGrantRow grants.now }
-    ensures { IfOk result (λ b. IsTrue b ↔ All (λ j. granted_to j.owner grants.now ≡ 0 → IsIdle j) jobs.now) }
+pub fn others_are_idle(jobs: &[Job], granted: &HashMap<&str, u128>) -> bool
+    ensures { IsTrue result ↔ All (λ j. total_in granted.now j.owner ≡ 0 → IsIdle j) jobs.now }
 {
-    let granted = granted_totals(alloc, grants)?;
-    for job in jobs {
-        if !is_covered(&granted, job) {
-            return Ok(false);
-        }
-    }
-    Ok(true)
+    jobs.iter().all(|job| is_covered(granted, job))
 }

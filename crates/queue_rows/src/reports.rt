@@ -2,9 +2,9 @@
 ghost use Rattle.std.specs.Prelude.{◌≡◌, ◌↔◌, ℕ, All, IsTrue, IfOk, unwrap_or, nat_eq};
 ghost use Rattle.std.specs.HashMap.{get};
 ghost use Rattle.queue_rows.specs.Jobs.{has_number};
-ghost use Rattle.queue_rows.specs.Order.{AreInOrder};
-ghost use Rattle.queue_rows.specs.Reports.{IsReportRow, report_before, greatest};
+ghost use Rattle.queue_rows.specs.Reports.{IsReportRow, greatest};
 
+use crate::order::Keyed;
 use queue_types::event::KeptReport;
 use queue_types::job::Job;
 use queue_types::limits::{LAST_REPORT_NUMBER, MOST_PRINTED_PAGES};
@@ -25,22 +25,16 @@ pub fn reports_are_sound(reports: &[KeptReport]) -> bool
     reports.iter().all(is_report)
 }
 
-fn is_report_before(a: &KeptReport, b: &KeptReport) -> bool
-    ensures { result ≡ report_before a.now b.now }
-{
-    a.report.job < b.report.job || (a.report.job == b.report.job && a.report.seq < b.report.seq)
-}
+/// By job, then by sequence number.
+impl Keyed for KeptReport {
+    ghost use Rattle.queue_rows.specs.Reports.{report_before};
 
-/// The reports stand in the order of job and sequence number, none twice.
-pub fn reports_are_in_order(reports: &[KeptReport]) -> bool
-    ensures { IsTrue result ↔ AreInOrder report_before reports.now }
-{
-    for i in 1..reports.len() {
-        if !is_report_before(&reports[i - 1], &reports[i]) {
-            return false;
-        }
+    ghost before = { report_before };
+
+    fn is_before(&self, other: &KeptReport) -> bool {
+        let (a, b) = (self.report, other.report);
+        a.job < b.job || (a.job == b.job && a.seq < b.seq)
     }
-    true
 }
 
 /// The numbers of the jobs.
@@ -63,12 +57,7 @@ pub fn reports_have_jobs(
     ensures { IfOk result (λ b. IsTrue b ↔ All (λ k. has_number k.report.job jobs.now ≡ 1) reports.now) }
 {
     let numbers = job_numbers(alloc, jobs)?;
-    for kept in reports {
-        if numbers.get(&kept.report.job).copied().unwrap_or(0) != 1 {
-            return Ok(false);
-        }
-    }
-    Ok(true)
+    Ok(reports.iter().all(|kept| numbers.get(&kept.report.job).copied().unwrap_or(0) == 1))
 }
 
 /// The greatest count that was reported of each job.
@@ -92,10 +81,5 @@ pub fn counts_are_greatest(
     ensures { IfOk result (λ b. IsTrue b ↔ All (λ j. j.count ≡ greatest j.number reports.now) jobs.now) }
 {
     let counts = greatest_counts(alloc, reports)?;
-    for job in jobs {
-        if job.count != counts.get(&job.number).copied().unwrap_or(0) {
-            return Ok(false);
-        }
-    }
-    Ok(true)
+    Ok(jobs.iter().all(|job| job.count == counts.get(&job.number).copied().unwrap_or(0)))
 }

@@ -1,26 +1,26 @@
 //! Whether the rows of all tables are those of a sound queue.
-ghost use Rattle.std.specs.Prelude.{◌≡◌, ◌↔◌, All, IfOk, IsTrue, false};
-ghost use Rattle.queue_rows.specs.Grants.{IsGrantRow};
-ghost use Rattle.queue_rows.specs.Jobs.{IsJobRow};
+ghost use Rattle.std.specs.Prelude.{◌≡◌, ◌↔◌, List, IfOk, IsTrue, false};
 ghost use Rattle.queue_rows.specs.Rows.{tables_in, StandForSoundWorlds, StandForNoSoundWorld};
 ghost use Rattle.queue_rows.specs.Sound.{HaveSoundJobs, HaveSoundGrants, HaveSoundReports, HaveSoundOwners, HaveSoundTables, AreSoundRows};
+ghost use Rattle.queue_rows.specs.Totals.{AreGranted};
 
-use crate::accounts::{accounts_are_in_order, accounts_have_grants, grants_have_accounts};
+use crate::accounts::{accounts_have_grants, grants_have_accounts};
+use crate::amounts::{granted_totals, name_totals};
 use crate::balances::accounts_are_balanced;
 use crate::documents::{documents_follow, documents_have_sizes};
-use crate::grants::{grants_are_in_order, grants_are_sound, grants_are_within};
+use crate::grants::{grants_are_sound, grants_are_within};
 use crate::jobs::{jobs_are_sound, numbers_rise};
 use crate::meta::is_sound_meta;
+use crate::order::are_in_order;
 use crate::owners::{live_jobs_fit, others_are_idle};
 use crate::pieces::pieces_follow;
-use crate::reports::{
-    counts_are_greatest, reports_are_in_order, reports_are_sound, reports_have_jobs,
-};
+use crate::reports::{counts_are_greatest, reports_are_sound, reports_have_jobs};
 use crate::rows::{AccountRow, DocumentRow, PieceRow, Rows};
 use queue_types::event::{GrantRow, KeptReport};
 use queue_types::job::Job;
 use queue_types::limits::LAST_JOB_NUMBER;
 use std::alloc::{AllocError, Global};
+use std::collections::HashMap;
 
 /// The jobs with their documents and pieces.
 fn have_sound_jobs(jobs: &[Job], documents: &[DocumentRow], pieces: &[PieceRow], next: u32) -> bool
@@ -49,22 +49,25 @@ fn have_sound_grants(
     alloc: Global,
     grants: &[GrantRow],
     accounts: &[AccountRow],
+    granted: &HashMap<&str, u128>,
 ) -> Result<bool, AllocError>
+    requires { AreGranted granted.now grants.now }
     ensures { IfOk result (λ b. IsTrue b ↔ HaveSoundGrants grants.now accounts.now) }
 {
     if !grants_are_sound(grants) {
         return Ok(false);
     }
-    if !grants_are_in_order(grants) || !accounts_are_in_order(accounts) {
+    if !are_in_order(grants) || !are_in_order(accounts) {
         return Ok(false);
     }
-    if !grants_are_within(alloc, grants)? {
+    if !grants_are_within(granted) {
         return Ok(false);
     }
-    if !grants_have_accounts(alloc, grants, accounts)? {
+    if !accounts_have_grants(accounts, granted) {
         return Ok(false);
     }
-    accounts_have_grants(alloc, accounts, grants)
+    let names = name_totals(alloc, accounts)?;
+    Ok(grants_have_accounts(grants, &names))
 }
 
 /// The reports with the counts of the jobs.
@@ -78,7 +81,7 @@ fn have_sound_reports(
     if !reports_are_sound(reports) {
         return Ok(false);
     }
-    if !reports_are_in_order(reports) {
+    if !are_in_order(reports) {
         return Ok(false);
     }
     if !reports_have_jobs(alloc, reports, jobs)? {
@@ -91,20 +94,18 @@ fn have_sound_reports(
 fn have_sound_owners(
     alloc: Global,
     jobs: &[Job],
-    grants: &[GrantRow],
     accounts: &[AccountRow],
+    granted: &HashMap<&str, u128>,
 ) -> Result<bool, AllocError>
-    requires grants { All IsGrantRow grants.now }
-    requires jobs { All IsJobRow jobs.now }
-    ensures { IfOk result (λ b. IsTrue b ↔ HaveSoundOwners jobs.now grants.now accounts.now) }
+    ensures { IfOk result (λ b. (gs : List GrantRow) → AreGranted granted.now gs → IsTrue b ↔ HaveSoundOwners jobs.now gs accounts.now) }
 {
     if !live_jobs_fit(alloc, jobs)? {
         return Ok(false);
     }
-    if !others_are_idle(alloc, jobs, grants)? {
+    if !others_are_idle(jobs, granted) {
         return Ok(false);
     }
-    accounts_are_balanced(alloc, accounts, grants, jobs)
+    accounts_are_balanced(alloc, accounts, granted, jobs)
 }
 
 /// The tables beside `meta`.
@@ -122,13 +123,14 @@ fn have_sound_tables(alloc: Global, rows: &Rows, next: u32) -> Result<bool, Allo
     ) {
         return Ok(false);
     }
-    if !have_sound_grants(alloc, grants, accounts)? {
-        return Ok(false);
-    }
     if !have_sound_reports(alloc, rows.reports.as_slice(), jobs)? {
         return Ok(false);
     }
-    have_sound_owners(alloc, jobs, grants, accounts)
+    let granted = granted_totals(alloc, grants)?;
+    if !have_sound_grants(alloc, grants, accounts, &granted)? {
+        return Ok(false);
+    }
+    have_sound_owners(alloc, jobs, accounts, &granted)
 }
 
 /// Each clause over the rows is kept.

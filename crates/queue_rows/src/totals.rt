@@ -1,21 +1,34 @@
 //! Sums for each name.
-ghost use Rattle.std.specs.Prelude.{◌≡◌, ◌≤◌, ◌<◌, ◌^◌, ◌↔◌, ℕ, List, IfOk, IsTrue, sum_by};
-ghost use Rattle.queue_rows.specs.Totals.{total, total_in};
+ghost use Rattle.std.specs.Prelude.{◌≡◌, ◌≤◌, ◌<◌, ◌+◌, ◌^◌, ◌↔◌, ℕ, List, IfOk, OnOk, IsTrue, bytes_eq, if◌then◌else◌};
+ghost use Rattle.std.specs.Fn.{FnReturnsAt};
+ghost use Rattle.queue_rows.specs.Totals.{TellsAmounts, total, total_in};
 
 use std::alloc::{AllocError, Global};
 use std::collections::HashMap;
 
-/// The sum of the amounts of each name.
-pub fn totals<'a>(
+/// Adds the amount to the sum of the name.
+fn add<'a>(sums: &mut HashMap<&'a str, u128>, name: &'a str, amount: u64) -> Result<(), AllocError>
+    requires { total_in sums.old name.now + 2 ^ 64 ≤ 2 ^ 128 }
+    ensures fits { amount < 2 ^ 64 }
+    ensures added { OnOk result ((q : List ℕ) → total_in sums.new q ≡ total_in sums.old q + (if bytes_eq q name.now then amount else 0)) }
+{
+    *sums.entry(name)?.or_insert(0) += u128::from(amount);
+    Ok(())
+}
+
+/// The sum of the amounts of each name, of which each row tells one.
+pub fn totals<'a, T, F: Fn(&'a T) -> (&'a str, u64)>(
     alloc: Global,
-    amounts: &[(&'a str, u64)],
+    rows: &'a [T],
+    amount_of: F,
 ) -> Result<HashMap<&'a str, u128>, AllocError>
-    requires { sum_by (λ p. p.1) amounts.now < 2 ^ 128 }
-    ensures { IfOk result (λ m. (q : List ℕ) → total_in m q ≡ total q amounts.now) }
+    requires { F.IsAlwaysCallable amount_of }
+    ensures { IfOk result (λ m. (name : T → List ℕ) (amount : T → ℕ) → TellsAmounts (FnReturnsAt F.Fn amount_of) name amount → (q : List ℕ) → total_in m q ≡ total name amount q rows.now) }
 {
     let mut sums = HashMap::new(alloc);
-    for (name, amount) in amounts {
-        *sums.entry(*name)?.or_insert(0) += u128::from(*amount);
+    for row in rows {
+        let (name, amount) = amount_of(row);
+        add(&mut sums, name, amount)?;
     }
     Ok(sums)
 }
@@ -28,15 +41,8 @@ pub fn total_of(sums: &HashMap<&str, u128>, name: &str) -> u128
 }
 
 /// No name has more than the most.
-pub fn are_within(alloc: Global, amounts: &[(&str, u64)], most: u128) -> Result<bool, AllocError>
-    requires { sum_by (λ p. p.1) amounts.now < 2 ^ 128 }
-    ensures { IfOk result (λ b. IsTrue b ↔ ((q : List ℕ) → total q amounts.now ≤ most)) }
+pub fn are_within(sums: &HashMap<&str, u128>, most: u128) -> bool
+    ensures { IsTrue result ↔ ((q : List ℕ) → total_in sums.now q ≤ most) }
 {
-    let sums = totals(alloc, amounts)?;
-    for (name, _) in amounts {
-        if total_of(&sums, *name) > most {
-            return Ok(false);
-        }
-    }
-    Ok(true)
+    sums.values().all(|sum| *sum <= most)
 }

@@ -6,12 +6,11 @@ use Rattle.std.proofs.lemmas.Bool.{cases_Bool, eqb-true}
 use Rattle.queue_types.specs.Event.{Call, ask, get_printer_attributes, grant}
 use Rattle.queue_types.specs.declared.event.GrantRow.{GrantRow}
 use Rattle.queue_types.specs.declared.job.Job.{Job}
-use Rattle.queue_types.specs.declared.job.Phase.{Phase}
-use Rattle.queue_types.specs.declared.job.Phase.TheVariants.{Aborted, Canceled, Completed, Running, Stopped, Waiting}
-use Rattle.queue_core.specs.Limits.{FitsPhase, IsAmount, IsGrant, IsKnown, IsSoundJob}
+use Rattle.queue_core.specs.Limits.{IsAmount, IsGrant, IsKnown, IsSoundJob}
 use Rattle.queue_core.specs.Sound.{IsKept, IsSound, printed, reserved}
 use Rattle.queue_core.specs.World.{World, granted, jobs_for, known_grant, numbered, queue_counts, rows}
 use Rattle.queue_core.proofs.Fair.{fair_of}
+use Rattle.queue_rows.proofs.Filled.{sound_sized}
 use Rattle.queue_rows.specs.Jobs.{IsJobRow}
 use Rattle.queue_tables.specs.Steps.{bare}
 use Rattle.queue_tables.specs.Accounts.{pages_of}
@@ -82,29 +81,5 @@ report_fits w job seq k sound there =
 
 -- ---- the row of a job
 
-fits_bare : (p : Phase) (j : Job) → FitsPhase p j → FitsPhase p (bare j)
-fits_bare Waiting j h = h
-fits_bare Running j h = h
-fits_bare Stopped j h = h
-fits_bare (Canceled why) j h = h
-fits_bare Aborted j h = h
-fits_bare Completed j h = h
-
 pub bare_row : (j : Job) → IsSoundJob j → IsJobRow (bare j)
-bare_row j s = record {
-  sound = record {
-    number = s.number;
-    owner = s.owner;
-    name = s.name;
-    copies = s.copies;
-    impressions = s.impressions;
-    count = s.count;
-    created = s.created;
-    begun = s.begun;
-    ended = s.ended;
-    documents = omega arith;
-    octets = omega arith;
-    phase = fits_bare j.phase j s.phase;
-  };
-  bare = refl;
-}
+bare_row j s = record { sound = sound_sized j 0 0 s (omega arith) (omega arith); bare = refl }

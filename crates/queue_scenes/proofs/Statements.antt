@@ -11,7 +11,7 @@ use Rattle.sqlite_value.specs.declared.keys.Key.{Key}
 use Rattle.sqlite_resolve.specs.Compile.{first}
 use Rattle.sqlite_tied.specs.Compute.{everything}
 use Rattle.sqlite.specs.Listing.{understood}
-use Rattle.queue_tables.proofs.Statements.{IsLimited, IsSelection, Selection, job_terms, job_names}
+use Rattle.queue_tables.proofs.Statements.{IsLimited, IsSelection, Selection, jobs_selected}
 
 abbrev pub descending : Key
 descending = record { collation = Binary; descending = true }
@@ -147,14 +147,7 @@ select_queued_is = record { shows = record { command = refl; plain = (refl, refl
 -- ---- the jobs that may start
 
 abbrev pub select_pending : Selection
-select_pending = record {
-  text = codes "SELECT number, owner, name, copies, impressions, hold, incoming, phase, why, stopping, count, created, begun, ended FROM jobs WHERE phase = 0 AND hold = 0 AND incoming = 0 ORDER BY number";
-  names = job_names;
-  tree = 1;
-  filter = op2 (Compare Eq Binary) (col 1 8) (lit (Int (pos 0))) ∷ op2 (Compare Eq Binary) (col 1 6) (lit (Int (pos 0))) ∷ op2 (Compare Eq Binary) (col 1 7) (lit (Int (pos 0))) ∷ [];
-  terms = job_terms;
-  order = (col 1 0, plain_key Binary) ∷ [];
-}
+select_pending = jobs_selected (codes " FROM jobs WHERE phase = 0 AND hold = 0 AND incoming = 0 ORDER BY number") (op2 (Compare Eq Binary) (col 1 8) (lit (Int (pos 0))) ∷ op2 (Compare Eq Binary) (col 1 6) (lit (Int (pos 0))) ∷ op2 (Compare Eq Binary) (col 1 7) (lit (Int (pos 0))) ∷ []) ((col 1 0, plain_key Binary) ∷ [])
 
 pub select_pending_is : IsSelection select_pending
 unfolding understood first everything
@@ -163,14 +156,7 @@ select_pending_is = record { shows = record { command = refl; plain = (refl, ref
 -- ---- all jobs of an owner
 
 abbrev pub select_own : Selection
-select_own = record {
-  text = codes "SELECT number, owner, name, copies, impressions, hold, incoming, phase, why, stopping, count, created, begun, ended FROM jobs WHERE owner = ?1 ORDER BY number";
-  names = job_names;
-  tree = 1;
-  filter = op2 (Compare Eq Binary) (col 1 2) (col 0 0) ∷ [];
-  terms = job_terms;
-  order = (col 1 0, plain_key Binary) ∷ [];
-}
+select_own = jobs_selected (codes " FROM jobs WHERE owner = ?1 ORDER BY number") (op2 (Compare Eq Binary) (col 1 2) (col 0 0) ∷ []) ((col 1 0, plain_key Binary) ∷ [])
 
 pub select_own_is : IsSelection select_own
 unfolding understood first everything
@@ -179,14 +165,7 @@ select_own_is = record { shows = record { command = refl; plain = (refl, refl); 
 -- ---- an owner's live jobs
 
 abbrev pub select_own_live : Selection
-select_own_live = record {
-  text = codes "SELECT number, owner, name, copies, impressions, hold, incoming, phase, why, stopping, count, created, begun, ended FROM jobs WHERE owner = ?1 AND phase < 7 ORDER BY number";
-  names = job_names;
-  tree = 1;
-  filter = op2 (Compare Eq Binary) (col 1 2) (col 0 0) ∷ op2 (Compare Lt Binary) (col 1 8) (lit (Int (pos 7))) ∷ [];
-  terms = job_terms;
-  order = (col 1 0, plain_key Binary) ∷ [];
-}
+select_own_live = jobs_selected (codes " FROM jobs WHERE owner = ?1 AND phase < 7 ORDER BY number") (op2 (Compare Eq Binary) (col 1 2) (col 0 0) ∷ op2 (Compare Lt Binary) (col 1 8) (lit (Int (pos 7))) ∷ []) ((col 1 0, plain_key Binary) ∷ [])
 
 pub select_own_live_is : IsSelection select_own_live
 unfolding understood first everything
@@ -195,14 +174,7 @@ select_own_live_is = record { shows = record { command = refl; plain = (refl, re
 -- ---- the first of an owner's jobs that the device has
 
 abbrev pub select_at_device : Selection
-select_at_device = record {
-  text = codes "SELECT number, owner, name, copies, impressions, hold, incoming, phase, why, stopping, count, created, begun, ended FROM jobs WHERE owner = ?1 AND phase > 0 AND phase < 7 ORDER BY number LIMIT ?2";
-  names = job_names;
-  tree = 1;
-  filter = op2 (Compare Eq Binary) (col 1 2) (col 0 0) ∷ op2 (Compare Gt Binary) (col 1 8) (lit (Int (pos 0))) ∷ op2 (Compare Lt Binary) (col 1 8) (lit (Int (pos 7))) ∷ [];
-  terms = job_terms;
-  order = (col 1 0, plain_key Binary) ∷ [];
-}
+select_at_device = jobs_selected (codes " FROM jobs WHERE owner = ?1 AND phase > 0 AND phase < 7 ORDER BY number LIMIT ?2") (op2 (Compare Eq Binary) (col 1 2) (col 0 0) ∷ op2 (Compare Gt Binary) (col 1 8) (lit (Int (pos 0))) ∷ op2 (Compare Lt Binary) (col 1 8) (lit (Int (pos 7))) ∷ []) ((col 1 0, plain_key Binary) ∷ [])
 
 pub select_at_device_is : IsLimited select_at_device 1
 unfolding understood first everything
@@ -211,14 +183,7 @@ select_at_device_is = record { shows = record { command = refl; plain = (refl, r
 -- ---- the first of an owner's jobs that may start
 
 abbrev pub select_own_pending : Selection
-select_own_pending = record {
-  text = codes "SELECT number, owner, name, copies, impressions, hold, incoming, phase, why, stopping, count, created, begun, ended FROM jobs WHERE owner = ?1 AND phase = 0 AND hold + incoming = 0 ORDER BY number LIMIT ?2";
-  names = job_names;
-  tree = 1;
-  filter = op2 (Compare Eq Binary) (col 1 2) (col 0 0) ∷ op2 (Compare Eq Binary) (col 1 8) (lit (Int (pos 0))) ∷ op2 (Compare Eq Binary) (op2 (Arith Add) (col 1 6) (col 1 7)) (lit (Int (pos 0))) ∷ [];
-  terms = job_terms;
-  order = (col 1 0, plain_key Binary) ∷ [];
-}
+select_own_pending = jobs_selected (codes " FROM jobs WHERE owner = ?1 AND phase = 0 AND hold + incoming = 0 ORDER BY number LIMIT ?2") (op2 (Compare Eq Binary) (col 1 2) (col 0 0) ∷ op2 (Compare Eq Binary) (col 1 8) (lit (Int (pos 0))) ∷ op2 (Compare Eq Binary) (op2 (Arith Add) (col 1 6) (col 1 7)) (lit (Int (pos 0))) ∷ []) ((col 1 0, plain_key Binary) ∷ [])
 
 pub select_own_pending_is : IsLimited select_own_pending 1
 unfolding understood first everything
@@ -227,14 +192,7 @@ select_own_pending_is = record { shows = record { command = refl; plain = (refl,
 -- ---- the first of an owner's jobs that are held
 
 abbrev pub select_held : Selection
-select_held = record {
-  text = codes "SELECT number, owner, name, copies, impressions, hold, incoming, phase, why, stopping, count, created, begun, ended FROM jobs WHERE owner = ?1 AND phase = 0 AND hold + incoming > 0 ORDER BY number LIMIT ?2";
-  names = job_names;
-  tree = 1;
-  filter = op2 (Compare Eq Binary) (col 1 2) (col 0 0) ∷ op2 (Compare Eq Binary) (col 1 8) (lit (Int (pos 0))) ∷ op2 (Compare Gt Binary) (op2 (Arith Add) (col 1 6) (col 1 7)) (lit (Int (pos 0))) ∷ [];
-  terms = job_terms;
-  order = (col 1 0, plain_key Binary) ∷ [];
-}
+select_held = jobs_selected (codes " FROM jobs WHERE owner = ?1 AND phase = 0 AND hold + incoming > 0 ORDER BY number LIMIT ?2") (op2 (Compare Eq Binary) (col 1 2) (col 0 0) ∷ op2 (Compare Eq Binary) (col 1 8) (lit (Int (pos 0))) ∷ op2 (Compare Gt Binary) (op2 (Arith Add) (col 1 6) (col 1 7)) (lit (Int (pos 0))) ∷ []) ((col 1 0, plain_key Binary) ∷ [])
 
 pub select_held_is : IsLimited select_held 1
 unfolding understood first everything
@@ -243,14 +201,7 @@ select_held_is = record { shows = record { command = refl; plain = (refl, refl);
 -- ---- an owner's jobs that ended
 
 abbrev pub select_ended : Selection
-select_ended = record {
-  text = codes "SELECT number, owner, name, copies, impressions, hold, incoming, phase, why, stopping, count, created, begun, ended FROM jobs WHERE owner = ?1 AND ended > 0 ORDER BY ended DESC, number DESC";
-  names = job_names;
-  tree = 1;
-  filter = op2 (Compare Eq Binary) (col 1 2) (col 0 0) ∷ op2 (Compare Gt Binary) (col 1 14) (lit (Int (pos 0))) ∷ [];
-  terms = job_terms;
-  order = (col 1 14, descending) ∷ (col 1 0, descending) ∷ [];
-}
+select_ended = jobs_selected (codes " FROM jobs WHERE owner = ?1 AND ended > 0 ORDER BY ended DESC, number DESC") (op2 (Compare Eq Binary) (col 1 2) (col 0 0) ∷ op2 (Compare Gt Binary) (col 1 14) (lit (Int (pos 0))) ∷ []) ((col 1 14, descending) ∷ (col 1 0, descending) ∷ [])
 
 pub select_ended_is : IsSelection select_ended
 unfolding understood first everything
@@ -259,14 +210,7 @@ select_ended_is = record { shows = record { command = refl; plain = (refl, refl)
 -- ---- so many of them
 
 abbrev pub select_ended_first : Selection
-select_ended_first = record {
-  text = codes "SELECT number, owner, name, copies, impressions, hold, incoming, phase, why, stopping, count, created, begun, ended FROM jobs WHERE owner = ?1 AND ended > 0 ORDER BY ended DESC, number DESC LIMIT ?2";
-  names = job_names;
-  tree = 1;
-  filter = select_ended.filter;
-  terms = job_terms;
-  order = select_ended.order;
-}
+select_ended_first = jobs_selected (codes " FROM jobs WHERE owner = ?1 AND ended > 0 ORDER BY ended DESC, number DESC LIMIT ?2") select_ended.filter select_ended.order
 
 pub select_ended_first_is : IsLimited select_ended_first 1
 unfolding understood first everything

@@ -19,6 +19,7 @@ use queue_tables::document_sizes::sizes_of;
 use queue_tables::fault::Fault;
 use queue_tables::read::read_job;
 use queue_tables::select::select;
+use queue_tables::with_job_columns;
 use queue_types::job::Job;
 use sqlite::types::ValueRef;
 use sqlite::{Alter, Connection, Row, params};
@@ -96,7 +97,7 @@ pub(crate) fn with_number<S: Alter>(
     select_jobs(
         alloc,
         conn,
-        "SELECT number, owner, name, copies, impressions, hold, incoming, phase, why, stopping, count, created, begun, ended FROM jobs WHERE number = ?1",
+        with_job_columns!("SELECT ", " FROM jobs WHERE number = ?1"),
         params![number],
     )
 }

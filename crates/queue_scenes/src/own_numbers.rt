@@ -126,29 +126,8 @@ fn are_many<S: Alter>(conn: &mut Connection<S>, owner: &str, numbers: &[u32]) ->
     Ok(numbers.len() > count)
 }
 
-/// The owner's jobs of the numbers, which rise. They are looked up one by one; but where many are asked, and more than the
+/// The owner's jobs of the numbers, by number. They are looked up one by one; but where many are asked, and more than the
 /// owner has jobs, all of those are read in their place, so that they bound the work.
-fn found_of<S: Alter>(
-    alloc: Global,
-    conn: &mut Connection<S>,
-    owner: &str,
-    numbers: &[u32],
-) -> Result<Vec<Job>, Fault>
-    requires { IsStrictlySortedBy nat_cmp numbers.now }
-    ensures leaves { LeavesTables (state S.Store conn.old) (state S.Store conn.new) }
-    ensures live { HasCleanDisk (state S.Store conn.new) → IsTrue (state S.Store conn.old).is_open → OnOk result (IsTrue (state S.Store conn.new).is_open) }
-    ensures sound { IfOk result (λ v. All IsSoundJob v.items) }
-    ensures found { HasCleanDisk (state S.Store conn.new) → IfOk result (λ v. (w : World) → IsSound w → Holds (content_of w) (state S.Store conn.old) → v.items ≡ filter (λ (j : JobValue). bytes_eq j.owner owner.now && list_any (λ n. n == j.number) numbers.now) (rows w)) }
-    ensures damaged { HasCleanDisk (state S.Store conn.new) → IfErr result (λ e. e ≡ Fault.Damaged → HoldNoQueue (state S.Store conn.old)) }
-{
-    let many = are_many(conn, owner, numbers)?;
-    if many {
-        return picked_of(alloc, conn, owner, numbers);
-    }
-    owned_of(alloc, conn, owner, numbers)
-}
-
-/// The owner's jobs of the numbers, by number.
 pub(crate) fn numbered_jobs<S: Alter>(
     alloc: Global,
     conn: &mut Connection<S>,
@@ -162,5 +141,10 @@ pub(crate) fn numbered_jobs<S: Alter>(
     ensures damaged { HasCleanDisk (state S.Store conn.new) → IfErr result (λ e. e ≡ Fault.Damaged → HoldNoQueue (state S.Store conn.old)) }
 {
     let wanted = in_order(alloc, numbers)?;
-    found_of(alloc, conn, owner, wanted.as_slice())
+    let asked = wanted.as_slice();
+    let many = are_many(conn, owner, asked)?;
+    if many {
+        return picked_of(alloc, conn, owner, asked);
+    }
+    owned_of(alloc, conn, owner, asked)
 }

@@ -10,6 +10,7 @@ ghost use Rattle.queue_tables.specs.Leaving.{LeavesTables};
 
 use crate::jobs::select_jobs;
 use queue_tables::fault::Fault;
+use queue_tables::with_job_columns;
 use queue_types::job::JobList;
 use sqlite::{Alter, Connection};
 use std::alloc::Global;
@@ -27,7 +28,10 @@ pub fn pending<S: Alter>(alloc: Global, conn: &mut Connection<S>) -> Result<JobL
     let jobs = select_jobs(
         alloc,
         conn,
-        "SELECT number, owner, name, copies, impressions, hold, incoming, phase, why, stopping, count, created, begun, ended FROM jobs WHERE phase = 0 AND hold = 0 AND incoming = 0 ORDER BY number",
+        with_job_columns!(
+            "SELECT ",
+            " FROM jobs WHERE phase = 0 AND hold = 0 AND incoming = 0 ORDER BY number"
+        ),
         &[],
     )?;
     Ok(JobList::from_items(jobs))

@@ -12,7 +12,7 @@ use Rattle.sqlite.specs.Order.{Row, column}
 use Rattle.sqlite.specs.Query.{Query, Output, output_cmp}
 use Rattle.sqlite.specs.Term.{Term}
 use Rattle.queue_tables.specs.Kept.{HasRows}
-use Rattle.queue_tables.specs.Plain.{plain_query, passes}
+use Rattle.queue_tables.proofs.PlainQueries.{plain_query, passes}
 use Rattle.queue_tables.proofs.Writing.{kept_of, sorted_and_shown, IsListing}
 use Rattle.queue_tables.specs.Sizes.{number_in}
 use Rattle.queue_shown.proofs.Unique.{Rises, unique, climbs}

@@ -19,7 +19,7 @@ use Rattle.queue_core.specs.Sound.{IsSound, Rise}
 use Rattle.queue_core.specs.World.{World, Entry, rows, job_at, has_number}
 use Rattle.queue_types.specs.declared.job.Job.{Job}
 use Rattle.queue_tables.specs.Content.{AreRowsOf, Holds, content_of}
-use Rattle.queue_tables.specs.Plain.{plain_query}
+use Rattle.queue_tables.proofs.PlainQueries.{plain_query}
 use Rattle.queue_tables.specs.Steps.{AreDistinct, bare}
 use Rattle.queue_tables.specs.Values.{number, job_values, job_view}
 use Rattle.queue_tables.proofs.Entries.{rows_in}

@@ -20,7 +20,7 @@ use Rattle.queue_types.specs.declared.document.Document.{Document}
 use Rattle.queue_rows.specs.Pieces.{pieces_in, piece_at}
 use Rattle.queue_rows.proofs.WorldFrom.{joined}
 use Rattle.queue_tables.specs.Content.{Holds, content_of, piece_rows, pieces_from}
-use Rattle.queue_tables.specs.Plain.{plain_query}
+use Rattle.queue_tables.proofs.PlainQueries.{plain_query}
 use Rattle.queue_tables.specs.Steps.{AreDistinct}
 use Rattle.queue_tables.specs.Tables.{book_schema}
 use Rattle.queue_tables.specs.Values.{number, piece_values, piece_view}

@@ -18,6 +18,7 @@ use queue_tables::document_sizes::sizes_of;
 use queue_tables::fault::Fault;
 use queue_tables::read::read_job;
 use queue_tables::select::select;
+use queue_tables::with_job_columns;
 use queue_types::job::{Job, JobList};
 use queue_types::sheet::AccountSheet;
 use queue_types::text::Text;
@@ -89,7 +90,7 @@ fn told_jobs<S: Alter>(
 {
     let found = select(
         conn,
-        "SELECT number, owner, name, copies, impressions, hold, incoming, phase, why, stopping, count, created, begun, ended FROM jobs WHERE owner = ?1 ORDER BY number",
+        with_job_columns!("SELECT ", " FROM jobs WHERE owner = ?1 ORDER BY number"),
         params![account],
     )?;
     let jobs = jobs_of(alloc, conn, found.as_slice())?;

@@ -29,6 +29,15 @@ fits_again s image opened found one w left clean all =
     let same : left.db ≡ s.now.trees = ∥∥₁_elim left.held (Trees-set _ _) (it.only _) in
     one s.now.schema s.now.trees (subst (IsSound book_schema) same left.book.tables) it.tables
 
+-- so the queue is in its tables
+pub kept_queue : (s : State) (image : Image) → (HasCleanDisk s → Opens s × IsLive s) → (HasCleanDisk s → FindsIn image s)
+    → ((schema : Schema) (db : Trees) → IsSound book_schema db → IsSound schema db → schema ≡ book_schema) → (w : World) → IsKept image w → HasCleanDisk s → IsQueueIn w s.now
+kept_queue s image opened found one w left clean =
+    let it = holds_only s image opened found clean in
+    let same : left.db ≡ s.now.trees = ∥∥₁_elim left.held (Trees-set _ _) (it.only _) in
+    let schema : s.now.schema ≡ book_schema = one s.now.schema s.now.trees (subst (IsSound book_schema) same left.book.tables) it.tables in
+    record { sound = left.book.sound; schema = schema; rows = subst (HasContent (content_of w)) same left.book.rows }
+
 -- and whose tables hold one queue
 pub found_again : {S : Type 0} (store : Ghosts S) (b : TableBook S) (image : Image) → ((v w : World) (d : Database) → IsQueueIn v d → IsQueueIn w d → v ≡ w)
     → (IsHonest store b → (v : World) × IsKeptIn image v × StandsFor store b v) → (w : World) → IsKept image w → StandsFor store b w

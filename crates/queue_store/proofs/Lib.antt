@@ -6,4 +6,5 @@ pub mod Adopting
 pub mod Closing
 pub mod OneQueue
 pub mod Again
+pub mod Refused
 pub mod OneSchema

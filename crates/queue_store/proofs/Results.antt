@@ -1,5 +1,5 @@
 -- What a call's result gives its caller's.
-use Rattle.std.proofs.Common.{Ok, Err, Result, OnOk, IfOk, IfErr}
+use Rattle.std.proofs.Common.{◌≡◌, Ok, Err, Result, OnOk, IfOk, IfErr, IsErrAnd, subst, sym}
 
 pub on_ok : {A E : Type 0} (r : Result A E) (P Q : Type 0) → (P → Q) → OnOk r P → OnOk r Q
 on_ok (Ok x) P Q then_q p = then_q p
@@ -28,3 +28,12 @@ if_ok_then (Err e) P Q then_q p = tt
 pub both_ok : {A E : Type 0} (r : Result A E) (P Q R : A → Type 0) → ((x : A) → P x → Q x → R x) → IfOk r P → IfOk r Q → IfOk r R
 both_ok (Ok x) P Q R then_r p q = then_r x p q
 both_ok (Err e) P Q R then_r p q = tt
+
+pub both_err : {A E : Type 0} (r : Result A E) (P Q R : E → Type 0) → ((e : E) → P e → Q e → R e) → IfErr r P → IfErr r Q → IfErr r R
+both_err (Ok x) P Q R then_r p q = tt
+both_err (Err e) P Q R then_r p q = then_r e p q
+
+-- an error that a `?` hands on
+pub err_same : {A E : Type 0} (r : Result A E) (e : E) (Q : E → Type 0) → IsErrAnd r (λ f. f ≡ e) → Q e → IfErr r Q
+err_same (Ok x) e Q same q = tt
+err_same (Err f) e Q same q = subst Q (sym same) q

@@ -1,10 +1,12 @@
 -- What the files held that a book is opened from or made in, and how their refusal is told.
-use Rattle.std.specs.Prelude.{◌≡◌, ◌<◌, length}
+use Rattle.std.specs.Prelude.{◌≡◌, ◌<◌, ⊤, Option, None, Some, length}
 use Rattle.sqlite.specs.declared.error.Error.{Error}
 use Rattle.sqlite.specs.declared.error.Error.TheVariants.{SqliteFailure}
 use Rattle.sqlite.specs.declared.error.ErrorCode.TheVariants.{OutOfMemory, NotADatabase, DatabaseCorrupt}
-use Rattle.sqlite.specs.Files.{AreFoundIn, HoldsDatabase}
+use Rattle.sqlite.specs.declared.file.Leftover.{Leftover}
+use Rattle.sqlite.specs.Files.{AreFoundIn, HoldsDatabase, IsCleanLeft, faults_left}
 use Rattle.sqlite_catalog.specs.Listing.{IsSound}
+use Rattle.sqlite_disk.specs.declared.Disk.{Ghosts}
 use Rattle.sqlite_schema.specs.declared.schema.Schema.{Schema}
 use Rattle.sqlite_trees.specs.Tree.{Trees}
 use Rattle.sqlite_wal.specs.Recovery.{Image}
@@ -42,3 +44,8 @@ open_fault (SqliteFailure OutOfMemory) = Memory
 open_fault (SqliteFailure NotADatabase) = Damaged
 open_fault (SqliteFailure DatabaseCorrupt) = Damaged
 open_fault _ = Disk
+
+-- what is left of the files tells of no disk that lied or failed; where they were not opened, there is nothing that tells of one
+abbrev pub IsFaultless : {D : Type 0} {g : Ghosts D} → Option (Leftover D g) → Type 0
+IsFaultless None = ⊤
+IsFaultless (Some left) = IsCleanLeft left × (faults_left left ≡ 0)

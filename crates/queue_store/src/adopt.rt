@@ -82,19 +82,3 @@ impl<S: Alter> TableBook<S> {
         }
     }
 }
-
-impl<S: Alter + Drop> TableBook<S> {
-    /// As `adopt`, but a refusal lets the connection go.
-    pub(crate) fn adopt_or_drop(
-        alloc: Global,
-        conn: Connection<S>,
-    ) -> Result<TableBook<S>, BookFault>
-        ensures stands { FitsIn (state S.Store conn) → IfOk result (λ b. StandsForOne S.Store b) }
-        ensures kept { IfOk result (λ b. LeavesTables (state S.Store conn) (shown_by S.Store b)) }
-    {
-        match TableBook::adopt(alloc, conn) {
-            Ok(book) => Ok(book),
-            Err((fault, _conn)) => Err(fault),
-        }
-    }
-}

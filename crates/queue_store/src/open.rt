@@ -1,5 +1,5 @@
 //! A book from a file.
-ghost use Rattle.std.specs.Prelude.{◌≡◌, codes, Err, IfErr, IfOk, IsTrue};
+ghost use Rattle.std.specs.Prelude.{◌≡◌, ◌≢◌, codes, Err, IfErr, IfOk, IsErrAnd, IsTrue};
 ghost use Rattle.sqlite.specs.Closing.{IsCopied};
 ghost use Rattle.sqlite.specs.Files.{HoldsDatabase, IsOpened, file_state, over_files};
 ghost use Rattle.sqlite.specs.Start.{FindsIn};
@@ -9,11 +9,12 @@ ghost use Rattle.sqlite_wal.specs.Files.{image_at, outcomes};
 ghost use Rattle.sqlite_wal.specs.Reads.{AreClean};
 ghost use Rattle.sqlite_wal.specs.Recovery.{Image};
 ghost use Rattle.queue_core.specs.World.{World, empty_queue};
+ghost use Rattle.queue_load.specs.Queues.{IsQueueIn};
 ghost use Rattle.queue_load.specs.Store.{FitsIn};
 ghost use Rattle.queue_store.specs.Closed.{KeepAlone, LeavesNoMore};
 ghost use Rattle.queue_store.specs.Crash.{IsKept, KeepOneOf, KeepTogether};
 ghost use Rattle.queue_store.specs.Kept.{IsHonest, StandsFor, StandsForOne, shown_by};
-ghost use Rattle.queue_store.specs.Opened.{FitsFile, HasNoTables, IsKeptIn, open_fault};
+ghost use Rattle.queue_store.specs.Opened.{FitsFile, HasNoTables, IsFaultless, IsKeptIn, open_fault};
 ghost use Rattle.queue_tables.specs.Content.{LeavesOneOf};
 ghost use Rattle.queue_tables.specs.Leaving.{LeavesTables};
 ghost use Rattle.queue_tables.specs.Tables.{no_schema};
@@ -22,7 +23,7 @@ use crate::book::TableBook;
 use crate::laws::{tables_hold_one_queue, trees_list_one_schema};
 use queue_core::book::BookFault;
 use queue_types::settings::Settings;
-use sqlite::{Connection, Error, ErrorCode};
+use sqlite::{Connection, Error, ErrorCode, Leftover};
 use sqlite_disk::{Disk, Files, Start};
 use sqlite_std_file::FileFrom;
 use sqlite_store::FileStore;
@@ -62,6 +63,23 @@ fn copy_log<D: Disk + Drop>(
     }
 }
 
+/// A connection to the files at a path. An error hands back what is left of them, where they were opened.
+fn connect_or_left<S: Start>(
+    rt: &HostRuntime,
+    path: &str,
+    start: S,
+) -> Result<Connection<FileStore<FileFrom<S>>>, (BookFault, Option<Leftover<FileFrom<S>>>)>
+    ensures opened { IfOk result (λ c. HasCleanDisk (file_state c) → IsOpened c) }
+    ensures found { IfOk result (λ c. HasCleanDisk (file_state c) → FindsIn (image_at S.Start) (file_state c)) }
+    ensures damaged { (w : World) → IsKept (image_at S.Start) w → IfErr result (λ e. IsFaultless e.1 → e.0 ≢ BookFault.Damaged) }
+    ensures memory { path.now ≡ codes ":memory:" → IsErrAnd result (λ e. e.0 ≡ BookFault.Disk) }
+{
+    match Connection::open_from(rt, path, false, start) {
+        Ok(conn) => Ok(conn),
+        Err((error, left)) => Err((fault_of_open(error), left)),
+    }
+}
+
 /// A connection to the files at a path. Files that can't be connected to are let go.
 fn connect<S: Start>(
     rt: &HostRuntime,
@@ -72,21 +90,26 @@ fn connect<S: Start>(
     ensures found { IfOk result (λ c. HasCleanDisk (file_state c) → FindsIn (image_at S.Start) (file_state c)) }
     ensures memory { path.now ≡ codes ":memory:" → result ≡ Err BookFault.Disk }
 {
-    match Connection::open_from(rt, path, false, start) {
+    match connect_or_left(rt, path, start) {
         Ok(conn) => Ok(conn),
-        Err((error, _left)) => Err(fault_of_open(error)),
+        Err((fault, _left)) => Err(fault),
     }
 }
 
-/// `TableBook::adopt_or_drop` over files.
+/// `TableBook::adopt` over files, whose refusal hands the store back.
 fn adopt_in_files<D: Disk + Drop>(
     alloc: Global,
     conn: Connection<FileStore<D>>,
-) -> Result<TableBook<FileStore<D>>, BookFault>
+) -> Result<TableBook<FileStore<D>>, (BookFault, Option<Leftover<D>>)>
     ensures stands { FitsIn (file_state conn) → IfOk result (λ b. StandsForOne over_files b) }
     ensures kept { IfOk result (λ b. LeavesTables (file_state conn) (shown_by over_files b)) }
+    ensures clean { IfErr result (λ e. IsFaultless e.1 → HasCleanDisk (file_state conn)) }
+    ensures damaged { FitsIn (file_state conn) → IfErr result (λ e. IsFaultless e.1 → e.0 ≡ BookFault.Damaged → (w : World) → ¬ IsQueueIn w (file_state conn).now) }
 {
-    TableBook::adopt_or_drop(alloc, conn)
+    match TableBook::adopt(alloc, conn) {
+        Ok(book) => Ok(book),
+        Err((fault, conn)) => Err((fault, Some(Leftover::Store(conn.into_store())))),
+    }
 }
 
 /// `TableBook::create_or_drop` over files.
@@ -157,7 +180,28 @@ impl<S: Start> TableBook<FileStore<FileFrom<S>>> {
 
     /// The book that the files at a path hold, where `start` stands for what they hold as they are opened. Disk is
     /// told also where they can't be opened or are in use, Damaged also where they are no database. A path without a
-    /// file gets an empty one, which is Damaged. Files that keep a queue, with their log or without, are found as it.
+    /// file gets an empty one, which is Damaged. Files that keep a queue, with their log or without, are found as it. An
+    /// error hands back what is left of the files, where they were opened: where this tells of no disk that lied or
+    /// failed, files that keep a queue are not told to be Damaged.
+    pub fn open_or_left(
+        rt: &HostRuntime,
+        path: &str,
+        start: S,
+    ) -> Result<TableBook<FileStore<FileFrom<S>>>, (BookFault, Option<Leftover<FileFrom<S>>>)>
+        ensures stands { FitsFile (image_at S.Start) → IfOk result (λ b. StandsForOne over_files b) }
+        ensures kept { FitsFile (image_at S.Start) → IfOk result (λ b. IsHonest over_files b → (w : World) × IsKeptIn (image_at S.Start) w × StandsFor over_files b w) }
+        ensures again { (w : World) → IsKept (image_at S.Start) w → IfOk result (λ b. StandsFor over_files b w) }
+        ensures live { (w : World) → IsKept (image_at S.Start) w → IfOk result (λ b. IsHonest over_files b → IsTrue (shown_by over_files b).is_open) }
+        ensures damaged { (w : World) → IsKept (image_at S.Start) w → IfErr result (λ e. IsFaultless e.1 → e.0 ≢ BookFault.Damaged) }
+        ensures memory { path.now ≡ codes ":memory:" → IsErrAnd result (λ e. e.0 ≡ BookFault.Disk) }
+    {
+        tables_hold_one_queue();
+        trees_list_one_schema();
+        let conn = connect_or_left(rt, path, start)?;
+        adopt_in_files(rt.alloc(), conn)
+    }
+
+    /// As `open_or_left`, but an error lets go what is left of the files.
     pub fn open_from(
         rt: &HostRuntime,
         path: &str,
@@ -169,9 +213,9 @@ impl<S: Start> TableBook<FileStore<FileFrom<S>>> {
         ensures live { (w : World) → IsKept (image_at S.Start) w → IfOk result (λ b. IsHonest over_files b → IsTrue (shown_by over_files b).is_open) }
         ensures memory { path.now ≡ codes ":memory:" → result ≡ Err BookFault.Disk }
     {
-        tables_hold_one_queue();
-        trees_list_one_schema();
-        let conn = connect(rt, path, start)?;
-        adopt_in_files(rt.alloc(), conn)
+        match TableBook::open_or_left(rt, path, start) {
+            Ok(book) => Ok(book),
+            Err((fault, _left)) => Err(fault),
+        }
     }
 }

@@ -29,7 +29,8 @@ use Rattle.sqlite_rules.specs.Edit.{is_taken, are_fresh, have_rowids, id_in, lef
 use Rattle.sqlite_rules.specs.Calls.{ids_of}
 use Rattle.sqlite_rules.proofs.TableLemmas.{int_is}
 use Rattle.sqlite_trees.specs.View.{is_int}
-use Rattle.queue_tables.specs.Plain.{Plain, table_of, plain_query, passes, shown_of}
+use Rattle.queue_tables.specs.Plain.{Plain, table_of}
+use Rattle.queue_tables.proofs.PlainQueries.{plain_query, passes, shown_of}
 use Rattle.queue_tables.specs.Kept.{HasRows, replaced}
 use Rattle.queue_tables.proofs.Writing.{inserts, updates, kept_of, sorted_and_shown}
 use Rattle.queue_tables.proofs.Permuting.{added, changed, passing, kept_is_there, replaced_none, has_at}

@@ -1,5 +1,5 @@
 -- What a crash leaves.
-use Rattle.std.proofs.Common.{◌≡◌, subst}
+use Rattle.std.proofs.Common.{subst}
 use Rattle.sqlite.specs.Schema.{Schema}
 use Rattle.sqlite.specs.State.{State}
 use Rattle.sqlite_catalog.specs.Listing.{IsSound as KeepsSchema}

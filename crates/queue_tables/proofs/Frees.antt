@@ -19,7 +19,8 @@ use Rattle.queue_core.specs.World.{World, put_free, text_cmp}
 use Rattle.queue_core.specs.Sound.{reserved, printed}
 use Rattle.queue_rows.specs.Rows.{meta_row}
 use Rattle.queue_rows.specs.declared.rows.MetaRow.{MetaRow}
-use Rattle.queue_tables.specs.Plain.{shown_of, table_of}
+use Rattle.queue_tables.specs.Plain.{table_of}
+use Rattle.queue_tables.proofs.PlainQueries.{shown_of}
 use Rattle.queue_tables.specs.Tables.{book_schema, meta}
 use Rattle.queue_tables.specs.Kept.{replaced}
 use Rattle.queue_tables.specs.Values.{number, meta_values, meta_view, account_values}

@@ -1,4 +1,5 @@
 pub mod Texts
+pub mod PlainQueries
 pub mod Writing
 pub mod Creating
 pub mod Permuting

@@ -9,7 +9,7 @@ use Rattle.sqlite.specs.Listing.{understood}
 use Rattle.sqlite.specs.State.{State, Shown, IsUnchanged}
 use Rattle.sqlite.proofs.Callers.{IsPlain}
 use Rattle.sqlite_value.specs.declared.keys.Key.{Key}
-use Rattle.queue_tables.specs.Plain.{passes, shown_of}
+use Rattle.queue_tables.proofs.PlainQueries.{passes, shown_of}
 use Rattle.queue_tables.specs.Kept.{HasRows}
 use Rattle.queue_tables.specs.Tables.{book_schema}
 use Rattle.queue_tables.proofs.Writing.{reads_rows, kept_of, sorted_and_shown, IsListing}

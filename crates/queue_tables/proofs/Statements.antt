@@ -1,5 +1,5 @@
 -- What the texts on the rows mean.
-use Rattle.std.proofs.Common.{◌≡◌, ℕ, pos, List, [], ◌∷◌, codes, length, ◌==◌, if◌then◌else◌, Bool, true, false, refl}
+use Rattle.std.proofs.Common.{◌≡◌, ℕ, pos, List, [], ◌∷◌, ◌++◌, codes, length, ◌==◌, if◌then◌else◌, Bool, true, false, refl}
 use Rattle.sqlite.specs.declared.types.Value.TheVariants.{Null, Int}
 use Rattle.sqlite.specs.Order.{Row}
 use Rattle.sqlite.specs.Term.{Term, lit, col, op2}
@@ -22,7 +22,7 @@ use Rattle.sqlite.proofs.Callers.{IsPlain, command_of}
 use Rattle.sqlite_schema.specs.declared.schema.Keys.TheVariants.{Enforced}
 use Rattle.sqlite_schema.specs.declared.schema.Action.TheVariants.{NoAction}
 use Rattle.sqlite_rules.specs.Action.{works}
-use Rattle.queue_tables.specs.Plain.{plain_query}
+use Rattle.queue_tables.proofs.PlainQueries.{plain_query}
 use Rattle.queue_tables.specs.Queries.{IsQueryText}
 use Rattle.queue_tables.specs.Tables.{book_schema}
 
@@ -69,6 +69,14 @@ job_terms = col 1 0 ∷ col 1 2 ∷ col 1 3 ∷ col 1 4 ∷ col 1 5 ∷ col 1 6 
 abbrev pub job_names : List (List ℕ)
 job_names = codes "number" ∷ codes "owner" ∷ codes "name" ∷ codes "copies" ∷ codes "impressions" ∷ codes "hold" ∷ codes "incoming" ∷ codes "phase" ∷ codes "why" ∷ codes "stopping" ∷ codes "count" ∷ codes "created" ∷ codes "begun" ∷ codes "ended" ∷ []
 
+-- a text with the columns of a job between two parts
+abbrev pub with_job_columns : List ℕ → List ℕ → List ℕ
+with_job_columns before behind = before ++ (codes "number, owner, name, copies, impressions, hold, incoming, phase, why, stopping, count, created, begun, ended" ++ behind)
+
+-- all columns of the rows of jobs for which the conditions hold; the text is what stands behind the columns
+abbrev pub jobs_selected : List ℕ → List Term → List (Term × Key) → Selection
+jobs_selected behind filter order = record { text = with_job_columns (codes "SELECT ") behind; names = job_names; tree = 1; filter = filter; terms = job_terms; order = order }
+
 -- ---- a new row of meta
 
 abbrev pub insert_meta_text : List ℕ
@@ -84,7 +92,7 @@ insert_meta_is = record { command = refl; plain = (refl, refl) }
 -- ---- a new row of jobs
 
 abbrev pub insert_job_text : List ℕ
-insert_job_text = codes "INSERT INTO jobs (number, owner, name, copies, impressions, hold, incoming, phase, why, stopping, count, created, begun, ended) VALUES (?1, ?2, ?3, ?4, ?5, ?6, ?7, ?8, ?9, ?10, ?11, ?12, ?13, ?14)"
+insert_job_text = with_job_columns (codes "INSERT INTO jobs (") (codes ") VALUES (?1, ?2, ?3, ?4, ?5, ?6, ?7, ?8, ?9, ?10, ?11, ?12, ?13, ?14)")
 
 abbrev pub insert_job_terms : List Term
 insert_job_terms = col 0 0 ∷ lit Null ∷ col 0 1 ∷ col 0 2 ∷ col 0 3 ∷ col 0 4 ∷ col 0 5 ∷ col 0 6 ∷ col 0 7 ∷ col 0 8 ∷ col 0 9 ∷ col 0 10 ∷ col 0 11 ∷ col 0 12 ∷ col 0 13 ∷ []
@@ -216,14 +224,7 @@ update_next_is = record { command = refl; plain = (refl, refl) }
 -- ---- SELECT jobs by number
 
 abbrev pub select_job : Selection
-select_job = record {
-  text = codes "SELECT number, owner, name, copies, impressions, hold, incoming, phase, why, stopping, count, created, begun, ended FROM jobs WHERE number = ?1";
-  names = job_names;
-  tree = 1;
-  filter = op2 (Compare Eq Binary) (col 1 0) (col 0 0) ∷ [];
-  terms = job_terms;
-  order = [];
-}
+select_job = jobs_selected (codes " FROM jobs WHERE number = ?1") (op2 (Compare Eq Binary) (col 1 0) (col 0 0) ∷ []) []
 
 pub select_job_is : IsSelection select_job
 unfolding understood first everything

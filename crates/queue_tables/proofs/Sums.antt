@@ -10,7 +10,8 @@ use Rattle.sqlite_sql.specs.declared.ops.BinaryOp.TheVariants.{Arith}
 use Rattle.sqlite_sql.specs.declared.ops.ArithOp.TheVariants.{Add}
 use Rattle.sqlite.specs.Tree.{rowid}
 use Rattle.sqlite.specs.State.{State, ExecutesInside}
-use Rattle.queue_tables.specs.Plain.{table_of, shown_of}
+use Rattle.queue_tables.specs.Plain.{table_of}
+use Rattle.queue_tables.proofs.PlainQueries.{shown_of}
 use Rattle.queue_tables.specs.Tables.{book_schema, accounts}
 use Rattle.queue_tables.specs.Kept.{replaced}
 use Rattle.queue_tables.specs.Values.{account_values, account_view}

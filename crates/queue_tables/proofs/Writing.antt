@@ -11,21 +11,29 @@ use Rattle.sqlite.specs.Program.{overlay}
 use Rattle.sqlite.specs.Schema.{Schema}
 use Rattle.sqlite.specs.Source.TheVariants.{Values}
 use Rattle.sqlite.specs.Command.TheVariants.{Insert, Update}
-use Rattle.sqlite.specs.Edit.{edit_of, Applies}
+use Rattle.sqlite.specs.Edit.{edit_of, Edit, Applies}
 use Rattle.sqlite.specs.Rowids.TheVariants.{Chosen, Given}
 use Rattle.sqlite.specs.Tree.{Trees}
 use Rattle.sqlite.specs.Does.{Tally, Does, OnRows}
 use Rattle.sqlite.specs.Rows.{Written, Task}
-use Rattle.sqlite.specs.Effect.{Database, value_rows}
+use Rattle.sqlite.specs.Effect.{Database, IsDatabase, value_rows}
 use Rattle.sqlite.specs.Listing.{understood}
-use Rattle.sqlite.specs.State.{State, mode_of, Executes, Begins, Shown}
+use Rattle.sqlite.specs.State.{State, mode_of, Executes, Begins, Shown, Shows}
 use Rattle.sqlite.proofs.Callers.{IsPlain, command_of, statement_of, runs_as, begins_as, reads_as, one_step}
 use Rattle.sqlite_schema.specs.declared.schema.Keys.TheVariants.{Enforced}
 use Rattle.sqlite_rules.specs.Action.{works}
 use Rattle.sqlite_rules.specs.Calls.{ids_of}
-use Rattle.queue_tables.specs.Plain.{Plain, table_of, plain_query, passes, shown_of, Wrote}
+use Rattle.queue_tables.specs.Plain.{Plain, table_of}
+use Rattle.queue_tables.proofs.PlainQueries.{plain_query, passes, shown_of}
 use Rattle.queue_tables.specs.Tables.{book_schema}
 use Rattle.queue_tables.proofs.Statements.{IsSelection, Selection}
+
+-- one write of rows: the schema stays, which the trees list and obey, and each tree but this table's is as it was
+pub record Wrote (schema : Schema) (edit : Edit) (old new : State) : Type 0 where
+  pub schema_is : new.now.schema ≡ schema
+  pub sound : IsDatabase new.now
+  pub applies : Applies schema Enforced old.now.trees edit new.now.trees
+  pub shows : Shows old new new.now (if old.in_transaction then old.committed else new.now) old.in_transaction
 
 -- a part that gave a value did not stop on the way
 went : {B E R : Type 0} {b : B} {Stops : E → Type 0} → ((stop : E) × Stops stop × (Ok b ≡ Err stop)) ⊎ R → R

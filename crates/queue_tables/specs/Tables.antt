@@ -26,41 +26,6 @@ text name = strict name Text true
 abbrev pub refers : List ℕ → List ℕ → List (List ℕ) → Reference
 refers columns parent parent_columns = record { columns = columns; parent = parent; parent_columns = parent_columns; on_delete = NoAction; on_update = NoAction; is_deferred = false }
 
--- ---- the texts that make the tables
-
-abbrev pub meta_text : List ℕ
-meta_text = codes "CREATE TABLE meta (one INTEGER PRIMARY KEY, schema INTEGER NOT NULL, uri TEXT NOT NULL, name TEXT NOT NULL, estimate INTEGER NOT NULL, epoch INTEGER NOT NULL, next_number INTEGER NOT NULL) STRICT"
-
-abbrev pub jobs_text : List ℕ
-jobs_text = codes "CREATE TABLE jobs (number INTEGER PRIMARY KEY, owner TEXT NOT NULL, name TEXT NOT NULL, copies INTEGER NOT NULL, impressions INTEGER NOT NULL, hold INTEGER NOT NULL, incoming INTEGER NOT NULL, phase INTEGER NOT NULL, why INTEGER NOT NULL, stopping INTEGER NOT NULL, count INTEGER NOT NULL, created INTEGER NOT NULL, begun INTEGER, ended INTEGER) STRICT"
-
-abbrev pub documents_text : List ℕ
-documents_text = codes "CREATE TABLE documents (job INTEGER NOT NULL REFERENCES jobs (number), doc INTEGER NOT NULL, format TEXT NOT NULL, octets INTEGER NOT NULL, PRIMARY KEY (job, doc)) STRICT"
-
-abbrev pub pieces_text : List ℕ
-pieces_text = codes "CREATE TABLE pieces (job INTEGER NOT NULL, doc INTEGER NOT NULL, piece INTEGER NOT NULL, bytes BLOB NOT NULL, PRIMARY KEY (job, doc, piece), FOREIGN KEY (job, doc) REFERENCES documents (job, doc)) STRICT"
-
-abbrev pub accounts_text : List ℕ
-accounts_text = codes "CREATE TABLE accounts (name TEXT NOT NULL PRIMARY KEY, free INTEGER NOT NULL, reserved INTEGER NOT NULL, printed INTEGER NOT NULL) STRICT"
-
-abbrev pub grants_text : List ℕ
-grants_text = codes "CREATE TABLE grants (batch TEXT NOT NULL, account TEXT NOT NULL REFERENCES accounts (name), pages INTEGER NOT NULL, PRIMARY KEY (batch, account)) STRICT"
-
-abbrev pub reports_text : List ℕ
-reports_text = codes "CREATE TABLE reports (job INTEGER NOT NULL REFERENCES jobs (number), seq INTEGER NOT NULL, kind INTEGER NOT NULL, count INTEGER NOT NULL, state INTEGER NOT NULL, total INTEGER NOT NULL, PRIMARY KEY (job, seq)) STRICT"
-
--- jobs of one owner by phase
-abbrev pub by_owner_text : List ℕ
-by_owner_text = codes "CREATE INDEX jobs_by_owner ON jobs (owner, phase)"
-
--- jobs of one owner by the moment of their end
-abbrev pub by_end_text : List ℕ
-by_end_text = codes "CREATE INDEX jobs_by_end ON jobs (owner, ended)"
-
--- all jobs by phase, and those that wait by what they wait for
-abbrev pub by_phase_text : List ℕ
-by_phase_text = codes "CREATE INDEX jobs_by_phase ON jobs (phase, hold, incoming)"
-
 -- ---- the tables
 
 abbrev pub meta : Plain
@@ -152,12 +117,15 @@ reports = record {
 abbrev pub key_of : Plain → List ℕ → ℕ → List ℕ → Index
 key_of p name tree columns = record { name = name; tree = tree; table = p.tree; columns = columns; order = plain; is_unique = true }
 
+-- jobs of one owner by phase
 abbrev pub by_owner : Index
 by_owner = record { name = codes "jobs_by_owner"; tree = 12; table = 1; columns = 2 ∷ 8 ∷ []; order = plain; is_unique = false }
 
+-- jobs of one owner by the moment of their end
 abbrev pub by_end : Index
 by_end = record { name = codes "jobs_by_end"; tree = 13; table = 1; columns = 2 ∷ 14 ∷ []; order = plain; is_unique = false }
 
+-- all jobs by phase, and those that wait by what they wait for
 abbrev pub by_phase : Index
 by_phase = record { name = codes "jobs_by_phase"; tree = 14; table = 1; columns = 8 ∷ 6 ∷ 7 ∷ []; order = plain; is_unique = false }
 

@@ -13,6 +13,7 @@ ghost use Rattle.queue_tables.specs.Values.{job_values};
 use crate::fault::Fault;
 use crate::read::read_job;
 use crate::run::{run, select_inside};
+use crate::with_job_columns;
 use queue_rows::codes::{phase_number_of, why_number_of};
 use queue_rows::laws::numbers_tell_names;
 use queue_types::job::Job;
@@ -52,7 +53,10 @@ pub(crate) fn insert_job<S: Alter>(tx: &mut Transaction<'_, S>, job: &Job) -> Re
 {
     run(
         tx,
-        "INSERT INTO jobs (number, owner, name, copies, impressions, hold, incoming, phase, why, stopping, count, created, begun, ended) VALUES (?1, ?2, ?3, ?4, ?5, ?6, ?7, ?8, ?9, ?10, ?11, ?12, ?13, ?14)",
+        with_job_columns!(
+            "INSERT INTO jobs (",
+            ") VALUES (?1, ?2, ?3, ?4, ?5, ?6, ?7, ?8, ?9, ?10, ?11, ?12, ?13, ?14)"
+        ),
         &columns_of(job),
     )?;
     Ok(())
@@ -89,7 +93,7 @@ pub(crate) fn find_job<S: Alter>(
     numbers_tell_names();
     let found = select_inside(
         tx,
-        "SELECT number, owner, name, copies, impressions, hold, incoming, phase, why, stopping, count, created, begun, ended FROM jobs WHERE number = ?1",
+        with_job_columns!("SELECT ", " FROM jobs WHERE number = ?1"),
         params![number],
     )?;
     match found.first() {

@@ -9,6 +9,7 @@ mod document_rows;
 pub mod document_sizes;
 pub mod fault;
 mod grant_rows;
+mod job_columns;
 mod job_rows;
 pub mod meta_rows;
 mod pages;

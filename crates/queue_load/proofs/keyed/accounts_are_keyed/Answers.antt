@@ -6,5 +6,5 @@ pub returns-clause-keyed : goal.returns-clause-keyed
 returns-clause-keyed g c = λ fits clean.
     let it = c.in_ok-ids.ensures.read fits clean in
     let rows = (state g.S.Store c.args.conn.now).now.trees 6 in
-    let told = rw (c.as_slice.ensures.value) at c.ids_rise.ensures in
+    let told = rw (c.as_slice.ensures.value) at c.are_in_order.ensures in
     (λ yes. ids_keyed c.in_ok-ids.ids.items rows (told.0 yes) it.same, λ keyed. told.1 (ids_in_order c.in_ok-ids.ids.items rows it keyed))

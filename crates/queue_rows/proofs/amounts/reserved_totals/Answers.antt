@@ -1,23 +1,8 @@
-use Rattle.std.proofs.Common.{◌≡◌, ℕ, List, map, ap, ◌∙◌, arith}
+use Rattle.std.proofs.Common.{refl, rules}
 use Rattle.queue_types.specs.Job.{owed}
 use Rattle.queue_types.specs.declared.job.Job.{Job}
-use Rattle.queue_rows.specs.Totals.{named, reserved_amount}
-use Rattle.queue_rows.proofs.AmountLemmas.{total_by, sum_within, IfTotals-of, owed_small}
+use Rattle.queue_rows.proofs.AmountLemmas.{totals_told}
 use Rattle.queue_rows.proofs.amounts.reserved_totals.Goals as goal
 
-abbrev name_of : Job → List ℕ
-name_of x = x.owner
-
-abbrev amount_of : Job → ℕ
-amount_of x = owed x
-
-pub totals-requires : goal.totals-requires
-totals-requires c =
-    let same : map named c.as_slice.result.now ≡ map reserved_amount c.args.jobs.now = ap (map named) c.as_slice.ensures.value ∙ c.in_ok-amounts.ensures in
-    let most = sum_within name_of amount_of 99900000 c.as_slice.result.now c.args.jobs.now same (λ k d lt. owed_small _ (c.requires k d lt).sound) in
-    omega (arith, most)
-
 pub returns : goal.returns
-returns c =
-    let same : map named c.as_slice.result.now ≡ map reserved_amount c.args.jobs.now = ap (map named) c.as_slice.ensures.value ∙ c.in_ok-amounts.ensures in
-    IfTotals-of c.totals.result c.as_slice.result.now _ (λ q. total_by name_of amount_of q c.as_slice.result.now c.args.jobs.now same) c.totals.ensures
+returns c = totals_told c.totals.result _ c.args.jobs.now (λ (x : Job). x.owner) (λ (x : Job). owed x) _ (λ x p told. search (rules, told.shows, told.says.met)) (λ q. refl) c.totals.ensures

@@ -1,23 +1,12 @@
-use Rattle.std.proofs.Common.{refl, sym, subst, arith}
-use Rattle.std.proofs.lemmas.List.{take_all}
-use Rattle.std.proofs.lemmas.List.Elements.{All-more}
+use Rattle.std.proofs.Common.{rules, tests}
+use Rattle.std.proofs.lemmas.Bool.{MatchBool-at_true}
+use Rattle.std.proofs.lemmas.Iterator.{YieldsList-from_slice, cases_from_all}
+use Rattle.std.proofs.lemmas.Iterator.Search.{true_from_All}
+use Rattle.std.proofs.lemmas.List.Elements.{All-from_all_within}
 use Rattle.queue_rows.specs.Grants.{IsGrantRow}
-use Rattle.queue_types.specs.declared.event.GrantRow.{GrantRow}
 use Rattle.queue_rows.proofs.grants.grants_are_sound.Goals as goal
 
-pub returns-then-not-is_grant : goal.returns-then-not-is_grant
-returns-then-not-is_grant c = (
-  λ t. absurd cc,
-  λ all.
-      let P = λ (x : GrantRow). IsGrantRow x in
-      let passes = c.is_grant.ensures.1 (subst P (sym c.grant-item.is) (all c.loop-grant.grant-index c.grant-item.result (omega arith))) in
-      absurd (cc (passes, c.if-not-is_grant.true)),
-)
-
-pub loop-grant-preserved : goal.loop-grant-preserved
-loop-grant-preserved c =
-    let P = λ (x : GrantRow). IsGrantRow x in
-    All-more P c.args.grants.now c.loop-grant.grant-index c.grant-item.result (omega arith) c.loop-grant.invariant (subst P c.grant-item.is (c.is_grant.ensures.0 (cc (c.if-not-is_grant.false))))
-
 pub returns : goal.returns
-returns c = (λ t. rw (sym (take_all c.loop-grant.grant-index c.args.grants.now (omega (arith, c.loop-grant-test.false)))) c.loop-grant.invariant, λ all. refl)
+returns c =
+    let r = cases_from_all _ _ _ IsGrantRow (λ x. ¬ IsGrantRow x) c.all.ensures.ran (YieldsList-from_slice c.args.grants.now cc) (λ x q k. search (rules, tests)) (λ x q k. search (rules, tests)) in
+    (λ t. All-from_all_within IsGrantRow c.args.grants.now (MatchBool-at_true _ _ t r), λ all. true_from_All IsGrantRow (λ x. ¬ IsGrantRow x) _ _ (λ x yes no. no yes) r all)

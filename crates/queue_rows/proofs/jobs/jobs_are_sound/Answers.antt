@@ -1,23 +1,12 @@
-use Rattle.std.proofs.Common.{refl, sym, subst, arith}
-use Rattle.std.proofs.lemmas.List.{take_all}
-use Rattle.std.proofs.lemmas.List.Elements.{All-more}
+use Rattle.std.proofs.Common.{rules, tests}
+use Rattle.std.proofs.lemmas.Bool.{MatchBool-at_true}
+use Rattle.std.proofs.lemmas.Iterator.{YieldsList-from_slice, cases_from_all}
+use Rattle.std.proofs.lemmas.Iterator.Search.{true_from_All}
+use Rattle.std.proofs.lemmas.List.Elements.{All-from_all_within}
 use Rattle.queue_rows.specs.Jobs.{IsJobRow}
-use Rattle.queue_types.specs.declared.job.Job.{Job}
 use Rattle.queue_rows.proofs.jobs.jobs_are_sound.Goals as goal
 
-pub returns-then-not-is_job_row : goal.returns-then-not-is_job_row
-returns-then-not-is_job_row c = (
-  λ t. absurd cc,
-  λ all.
-      let P = λ (x : Job). IsJobRow x in
-      let passes = c.is_job_row.ensures.1 (subst P (sym c.job-item.is) (all c.loop-job.job-index c.job-item.result (omega arith))) in
-      absurd (cc (passes, c.if-not-is_job_row.true)),
-)
-
-pub loop-job-preserved : goal.loop-job-preserved
-loop-job-preserved c =
-    let P = λ (x : Job). IsJobRow x in
-    All-more P c.args.jobs.now c.loop-job.job-index c.job-item.result (omega arith) c.loop-job.invariant (subst P c.job-item.is (c.is_job_row.ensures.0 (cc (c.if-not-is_job_row.false))))
-
 pub returns : goal.returns
-returns c = (λ t. rw (sym (take_all c.loop-job.job-index c.args.jobs.now (omega (arith, c.loop-job-test.false)))) c.loop-job.invariant, λ all. refl)
+returns c =
+    let r = cases_from_all _ _ _ IsJobRow (λ x. ¬ IsJobRow x) c.all.ensures.ran (YieldsList-from_slice c.args.jobs.now cc) (λ x q k. search (rules, tests)) (λ x q k. search (rules, tests)) in
+    (λ t. All-from_all_within IsJobRow c.args.jobs.now (MatchBool-at_true _ _ t r), λ all. true_from_All IsJobRow (λ x. ¬ IsJobRow x) _ _ (λ x yes no. no yes) r all)

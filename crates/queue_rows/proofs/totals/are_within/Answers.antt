@@ -1,20 +1,24 @@
-use Rattle.std.proofs.Common.{◌≤◌, get_or, arith, refl}
-use Rattle.queue_rows.specs.Totals.{total}
-use Rattle.queue_rows.proofs.SumLemmas.{no_pair, all_within}
+use Rattle.std.proofs.Common.{◌<◌, ◌≤◌, ℕ, List, Bor, arith, rules, tests}
+use Rattle.std.specs.Cmp.Lexicographic.{on_texts_equal}
+use Rattle.std.specs.HashMap as table
+use Rattle.std.proofs.lemmas.Bool.{MatchBool-at_true}
+use Rattle.std.proofs.lemmas.Iterator.{cases_from_all}
+use Rattle.std.proofs.lemmas.Iterator.Consumers.{YieldsList-from_rest}
+use Rattle.std.proofs.lemmas.Iterator.Search.{true_from_All}
+use Rattle.std.proofs.lemmas.List.Elements.{All-from_all_within}
+use Rattle.std.proofs.lemmas.Map.Views.{IfSome-lookup_from_All, All-values_from_lookup}
+use Rattle.queue_rows.proofs.AmountLemmas.{within_some, some_within}
 use Rattle.queue_rows.proofs.totals.are_within.Goals as goal
-use borrow.Author.Count.{below_more}
 
-pub returns-then-total_of-most : goal.returns-then-total_of-most
-returns-then-total_of-most c =
-    let name = (get_or c.args.amounts.now c.loop-name.name-index no_pair).0.now in
-    let sum = c.in_ok-sums.ensures name in
-    (λ t. absurd cc, λ all. absurd (let most = all name in omega (arith, most, sum, c.total_of.ensures, c.if-total_of-most.true)))
-
-pub loop-name-preserved : goal.loop-name-preserved
-loop-name-preserved c =
-    let name = (get_or c.args.amounts.now c.loop-name.name-index no_pair).0.now in
-    let sum = c.in_ok-sums.ensures name in
-    below_more (λ k. total (get_or c.args.amounts.now k no_pair).0.now c.args.amounts.now ≤ c.args.most) c.loop-name.name-index c.loop-name.invariant (omega (arith, sum, c.total_of.ensures, c.if-total_of-most.false))
+abbrev text_of : Bor (List ℕ) → List ℕ
+text_of k = k.now
 
 pub returns : goal.returns
-returns c = (λ t. all_within c.args.amounts.now c.args.most (λ k low. c.loop-name.invariant k (omega (arith, c.loop-name-test.false))), λ all. refl)
+returns c =
+    let most = c.args.most in
+    let entries = c.args.sums.now.entries in
+    let Fits = λ (x : ℕ). x ≤ most in
+    let r = cases_from_all _ _ _ Fits (λ (x : ℕ). most < x) c.all.ensures.ran (YieldsList-from_rest (table.values c.args.sums.now) c.values.ensures.rest) (λ x q k. search (rules, tests)) (λ x q k. search (rules, tests)) in (
+      λ t q. within_some _ most (IfSome-lookup_from_All Fits _ entries (All-from_all_within Fits (table.values c.args.sums.now) (MatchBool-at_true _ _ t r))),
+      λ all. true_from_All Fits (λ (x : ℕ). most < x) _ _ (λ x p q. absurd (omega arith)) r (All-values_from_lookup (on_texts_equal text_of) Fits entries c.values.ensures.unique (λ k. some_within _ most (all k.now))),
+    )

@@ -1,0 +1,6 @@
+use Rattle.std.proofs.Common.{arith}
+use Rattle.std.proofs.lemmas.Map.Text.{text_keys}
+use Rattle.queue_rows.proofs.totals.add.Goals as goal
+
+pub returns-clause-added : goal.returns-clause-added
+returns-clause-added c = λ q. grind (arith, text_keys)
