@@ -83,7 +83,7 @@ fn serve_at<C: Clock, S: Alter, W: Write>(
 {
     let service = service(alloc, words, listener, settings);
     match service.serve_connections(clock, output, book, words.connections) {
-        Ok(()) => Ok(()),
+        Ok(_) => Ok(()),
         Err(stopped) => Err(fault_of_server(stopped)),
     }
 }

@@ -7,3 +7,7 @@ pub mod RunLemmas
 pub mod PlaceLemmas
 pub mod GrantLemmas
 pub mod CrashLemmas
+pub mod AnswerLemmas
+pub mod EndLemmas
+pub mod ConversationLemmas
+pub mod BrokenLemmas

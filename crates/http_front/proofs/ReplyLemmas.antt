@@ -1,5 +1,5 @@
 -- The answers of the crates below, as parts of a turn.
-use Rattle.std.proofs.Common.{◌≡◌, Option, ℕ, ◌<◌, ◌≤◌, List, Bool, true, false, None, Some, Ok, Err, length, refl, rules, sym, ap, ◌∙◌, subst, arith}
+use Rattle.std.proofs.Common.{◌≡◌, Option, ℕ, ◌<◌, ◌≤◌, List, Bool, true, false, None, Some, Ok, Err, IfErr, IfOk, length, refl, rules, sym, ap, ◌∙◌, subst, arith}
 use Rattle.std.proofs.lemmas.Bool.{false≢true}
 use Rattle.std.proofs.Math.Nat.{lt_of_not-le}
 use Rattle.std.specs.Prelude.{codes, option_map, IsSome, MatchBool, Result}
@@ -18,20 +18,29 @@ use Rattle.http_head.specs.declared.end.Refusal.{Refusal}
 use Rattle.http_head.specs.declared.target.Target.{Target}
 use Rattle.http_head.specs.declared.target.Target.TheVariants.{Ipp, Report, Queue, Document as DocumentTarget}
 use Rattle.http_front.specs.Turns.{IsAnswered, IsIppAnswer, IsReportAnswer, acts_on, document_named}
-use Rattle.http_front.specs.Turned.{IsReplied, IsDeclined}
+use Rattle.http_front.specs.Turned.{IsReplied, IsReplyFaultless, IsDeclined}
 use Rattle.http_front.specs.declared.outcome.Replied.{Replied}
 use Rattle.http_front.specs.declared.outcome.Replied.TheVariants.{Answered, Declined}
 use Rattle.http_front.specs.declared.outcome.Stopped.{Stopped}
+use Rattle.http_front.specs.declared.outcome.Tally.{Tally}
+use Rattle.http_front.specs.Crash.{AsksUnlessDeclined}
+use Rattle.http_front.specs.Places.{AsksFor}
+use Rattle.queue_core.specs.Crash.{Carries}
 
 -- an answer that was written
-pub replied_ok : (now : ℕ) (w u : World) (target : Target) (content : List ℕ) (closes fault : Bool) (v x : Option (List ℕ)) (kind reply : List ℕ)
-    → IsAnswered now w target content fault kind reply u → Appends v x (success_response kind reply closes) → IsReplied now w u target content closes v x (Ok (Answered fault))
-replied_ok now w u target content closes fault v x kind reply a written =
-    (success_response kind reply closes, record { media_type = kind; reply = reply; answered = a; bytes_are = refl }, written)
+pub replied_ok : (now : ℕ) (w u : World) (target : Target) (content : List ℕ) (closes fault : Bool) (tally : Tally) (v x : Option (List ℕ)) (kind reply : List ℕ)
+    → IsAnswered now w target content fault kind reply u → Appends v x (success_response kind reply closes) → tally.acted ≡ acts_on target → tally.is_fault ≡ fault
+    → IsReplied now w u target content closes v x (Ok (Answered tally))
+replied_ok now w u target content closes fault tally v x kind reply a written acted same = (
+  success_response kind reply closes,
+  record { media_type = kind; reply = reply; answered = subst (λ (b : Bool). IsAnswered now w target content b kind reply u) (sym same) a; bytes_are = refl },
+  written,
+  acted,
+)
 
 -- an answer of which a front was
 pub replied_err : (now : ℕ) (w u : World) (target : Target) (content : List ℕ) (closes fault : Bool) (f : Stopped) (v x : Option (List ℕ)) (kind reply : List ℕ)
-    → IsAnswered now w target content fault kind reply u → WritesFront v x (success_response kind reply closes) → f.acted ≡ acts_on target → f.is_fault ≡ fault
+    → IsAnswered now w target content fault kind reply u → WritesFront v x (success_response kind reply closes) → f.tally.acted ≡ acts_on target → f.tally.is_fault ≡ fault
     → IsReplied now w u target content closes v x (Err f)
 replied_err now w u target content closes fault f v x kind reply a written acted same = (
   success_response kind reply closes,
@@ -39,6 +48,34 @@ replied_err now w u target content closes fault f v x kind reply a written acted
   written,
   acted,
 )
+
+-- what came of sending a whole answer
+abbrev pub IsSent : Tally → Option (List ℕ) → Option (List ℕ) → List ℕ → Result Replied Stopped → Type 0
+IsSent tally v x bytes (Ok r) = (r ≡ Answered tally) × Appends v x bytes
+IsSent tally v x bytes (Err f) = (f.tally ≡ tally) × WritesFront v x bytes
+
+pub sent_of : (tally : Tally) (v x : Option (List ℕ)) (bytes : List ℕ) (result : Result Replied Stopped) → IfOk result (λ r. (r ≡ Answered tally) × Appends v x bytes)
+    → IfErr result (λ f. (f.tally ≡ tally) × WritesFront v x bytes) → IsSent tally v x bytes result
+sent_of tally v x bytes (Ok r) ok err = ok
+sent_of tally v x bytes (Err f) ok err = err
+
+pub replied_sent : (now : ℕ) (w u : World) (target : Target) (content : List ℕ) (closes fault : Bool) (tally : Tally) (v x : Option (List ℕ)) (kind reply : List ℕ) (result : Result Replied Stopped)
+    → IsAnswered now w target content fault kind reply u → tally.acted ≡ acts_on target → tally.is_fault ≡ fault → IsSent tally v x (success_response kind reply closes) result
+    → IsReplied now w u target content closes v x result
+replied_sent now w u target content closes fault tally v x kind reply (Ok r) a acted same sent =
+    subst (λ (z : Replied). IsReplied now w u target content closes v x (Ok z)) (sym sent.0) (replied_ok now w u target content closes fault tally v x kind reply a sent.1 acted same)
+replied_sent now w u target content closes fault tally v x kind reply (Err f) a acted same sent =
+    replied_err now w u target content closes fault f v x kind reply a sent.1 (ap (λ (z : Tally). z.acted) sent.0 ∙ acted) (ap (λ (z : Tally). z.is_fault) sent.0 ∙ same)
+
+-- its request was not declined
+pub carries_sent : (before after : World → World → Type 0) (now : ℕ) (w u : World) (target : Target) (content : List ℕ) (tally : Tally) (v x : Option (List ℕ)) (bytes : List ℕ) (result : Result Replied Stopped)
+    → IsSent tally v x bytes result → Carries before after (λ e. AsksFor target content (Some e)) now w u → Carries before after (AsksUnlessDeclined target content result) now w u
+carries_sent before after now w u target content tally v x bytes (Ok r) sent c = subst (λ (z : Replied). Carries before after (AsksUnlessDeclined target content (Ok z)) now w u) (sym sent.0) c
+carries_sent before after now w u target content tally v x bytes (Err f) sent c = c
+
+pub faultless_sent : (tally : Tally) (v x : Option (List ℕ)) (bytes : List ℕ) (result : Result Replied Stopped) → IsSent tally v x bytes result → IsReplyFaultless result → tally.is_fault ≡ false
+faultless_sent tally v x bytes (Ok r) sent none = subst (λ (z : Replied). IsReplyFaultless (Ok z)) sent.0 none
+faultless_sent tally v x bytes (Err f) sent none = sym (ap (λ (z : Tally). z.is_fault) sent.0) ∙ none.0
 
 -- nothing was written
 pub replied_declined : (now : ℕ) (w : World) (target : Target) (content : List ℕ) (closes : Bool) (r : Refusal) (v : Option (List ℕ))

@@ -18,11 +18,12 @@ use Rattle.http_front.specs.Turns.{Turn, IsTurn, request_bytes, answer_bytes, ac
 use Rattle.http_front.specs.Ends.{IsEnd, IsBegun}
 use Rattle.http_front.specs.Connections.{AreTurns, GoesOn, EndsAt, Answers, Breaks, Worked, written_for, world_after, bits, flag_of}
 use Rattle.http_front.specs.Crash.{CarriesAll}
-use Rattle.http_front.specs.Turned.{IsTurned}
+use Rattle.http_front.specs.Turned.{IsTurned, TellsFault}
 use Rattle.http_front.proofs.CrashLemmas.{carries_more}
 use Rattle.http_front.proofs.Runs.{Ran, RanOn}
 use Rattle.http_front.proofs.WorkedLemmas.{are_more, count_one, counts_more, turns_settings, worked_on, worlds_more}
 use Rattle.http_front.specs.declared.outcome.Stopped.{Stopped}
+use Rattle.http_front.specs.declared.outcome.Tally.{Tally}
 use Rattle.http_front.specs.declared.outcome.Turned.TheVariants.{Answered, Ended}
 
 zero_plus : (n : ℕ) → n ≡ 0 + n
@@ -95,21 +96,21 @@ ran_more k now w u p r s q v x y acted faults n m t run count is taken written w
 }
 
 -- a request was answered
-abbrev ran_turned : (left : List Turn → Type 0) (k now : ℕ) (w u p : World) (r s q v x y : Option (List ℕ)) (acted faults n m : ℕ) (a f c : Bool)
-    → RanOn k now w u r s v x acted faults → IsTurned left now k u p s q x y (Ok (Answered a f c)) → n ≡ (if a then 1 else 0) → m ≡ faults + (if f then 2 ^ k else 0)
+abbrev ran_turned : (left : List Turn → Type 0) (k now : ℕ) (w u p : World) (r s q v x y : Option (List ℕ)) (acted faults n m : ℕ) (tally : Tally) (c : Bool)
+    → RanOn k now w u r s v x acted faults → IsTurned left now k u p s q x y (Ok (Answered tally c)) → n ≡ (if tally.acted then 1 else 0) → m ≡ faults + (if tally.is_fault then 2 ^ k else 0)
     → Ran now w p r q v y (acted + n) m
-ran_turned left k now w u p r s q v x y acted faults n m a f c h turned acted_is faults_are =
+ran_turned left k now w u p r s q v x y acted faults n m tally c h turned acted_is faults_are =
     ran_more k now w u p r s q v x y acted faults n m turned.0 h.run h.count turned.1 turned.5 turned.6 turned.7
     (acted_is ∙ ap (λ b. if b then 1 else 0) turned.2) (faults_are ∙ ap (λ b. faults + (if b then 2 ^ k else 0)) turned.3)
 
-pub ran_on : (before between after : World → World → Type 0) (k now : ℕ) (w u p : World) (r s q v x y : Option (List ℕ)) (acted faults n m : ℕ) (a f c : Bool)
+pub ran_on : (before between after : World → World → Type 0) (k now : ℕ) (w u p : World) (r s q v x y : Option (List ℕ)) (acted faults n m : ℕ) (tally : Tally) (c : Bool)
     → (h : RanOn k now w u r s v x acted faults) → CarriesAll before between now h.run.turns w u
-    → IsTurned (λ turns. CarriesAll between after now turns u p) now k u p s q x y (Ok (Answered a f c))
-    → n ≡ (if a then 1 else 0) → m ≡ faults + (if f then 2 ^ k else 0) → c ≡ false
+    → IsTurned (λ turns. CarriesAll between after now turns u p) now k u p s q x y (Ok (Answered tally c))
+    → n ≡ (if tally.acted then 1 else 0) → m ≡ faults + (if tally.is_fault then 2 ^ k else 0) → c ≡ false
     → (j : RanOn (k + 1) now w p r q v y (acted + n) m) × CarriesAll before after now j.run.turns w p
-ran_on before between after k now w u p r s q v x y acted faults n m a f c h left turned acted_is faults_are c_is = (
+ran_on before between after k now w u p r s q v x y acted faults n m tally c h left turned acted_is faults_are c_is = (
   record {
-    run = ran_turned (λ turns. CarriesAll between after now turns u p) k now w u p r s q v x y acted faults n m a f c h turned acted_is faults_are;
+    run = ran_turned (λ turns. CarriesAll between after now turns u p) k now w u p r s q v x y acted faults n m tally c h turned acted_is faults_are;
     count = (let e = length-append h.run.turns (turned.0 ∷ []) in omega (arith, e, h.count));
     goes_on = goes_more 0 h.run.turns turned.0 h.goes_on
         (subst (λ j. closes_at j turned.0 ≡ false) (sym h.count ∙ zero_plus (length h.run.turns)) (sym turned.4 ∙ c_is));
@@ -177,14 +178,14 @@ closed_at : (u : World) (s y : Option (List ℕ)) (turns front : List Turn) (t :
 closed_at u None y turns front t e g c = tt
 closed_at u (Some rest) y turns front t e g c = ([], inl (refl, refl, (front, t, e, g, c)), Appends-nil y)
 
-pub served_done : (before between after : World → World → Type 0) (k now : ℕ) (w u p : World) (r s q v x y : Option (List ℕ)) (acted faults n m : ℕ) (a f c : Bool)
+pub served_done : (before between after : World → World → Type 0) (k now : ℕ) (w u p : World) (r s q v x y : Option (List ℕ)) (acted faults n m : ℕ) (tally : Tally) (c : Bool)
     → k ≤ last_request → (h : RanOn k now w u r s v x acted faults) → CarriesAll before between now h.run.turns w u
-    → IsTurned (λ turns. CarriesAll between after now turns u p) now k u p s q x y (Ok (Answered a f c))
-    → n ≡ (if a then 1 else 0) → m ≡ faults + (if f then 2 ^ k else 0) → c ≡ true
+    → IsTurned (λ turns. CarriesAll between after now turns u p) now k u p s q x y (Ok (Answered tally c))
+    → n ≡ (if tally.acted then 1 else 0) → m ≡ faults + (if tally.is_fault then 2 ^ k else 0) → c ≡ true
     → IfSome r (λ stream. (written : List ℕ) × Appends v y written × (z : Answers now w stream written p (acted + n) m (end_of Done)) × CarriesAll before after now z.turns w p)
-served_done before between after k now w u p r s q v x y acted faults n m a f c few h left turned acted_is faults_are c_is =
+served_done before between after k now w u p r s q v x y acted faults n m tally c few h left turned acted_is faults_are c_is =
     let t = turned.0 in
-    let run = ran_turned (λ turns. CarriesAll between after now turns u p) k now w u p r s q v x y acted faults n m a f c h turned acted_is faults_are in
+    let run = ran_turned (λ turns. CarriesAll between after now turns u p) k now w u p r s q v x y acted faults n m tally c h turned acted_is faults_are in
     let e = length-append h.run.turns (t ∷ []) in
     answers_from (λ turns. CarriesAll before after now turns w p) now w p r q v y y (acted + n) m m Done run (carries_more before between after now h.run.turns (t ∷ []) w u p h.run.world left turned.8)
     (omega (arith, e, h.count, few))
@@ -196,7 +197,7 @@ served_done before between after k now w u p r s q v x y acted faults n m a f c 
 
 pub stopped_at : (before between after : World → World → Type 0) (k now : ℕ) (w u p : World) (r s q v x y : Option (List ℕ)) (acted faults n m : ℕ) (f : Stopped) → k ≤ last_request
     → (h : RanOn k now w u r s v x acted faults) → CarriesAll before between now h.run.turns w u → IsTurned (λ turns. CarriesAll between after now turns u p) now k u p s q x y (Err f)
-    → n ≡ (if f.acted then 1 else 0) → m ≡ faults + (if f.is_fault then 2 ^ k else 0)
+    → n ≡ (if f.tally.acted then 1 else 0) → m ≡ faults + (if f.tally.is_fault then 2 ^ k else 0)
     → IfSome r (λ stream. (written : List ℕ) × Appends v y written × (b : Breaks now w stream written p (acted + n) m) × CarriesAll before after now (b.turns ++ b.broken) w p)
 stopped_at before between after k now w u p None s q v x y acted faults n m f few h left turned acted_is faults_are = tt
 stopped_at before between after k now w u p (Some stream) None q v x y acted faults n m f few h left turned acted_is faults_are = absurd h.run.taken
@@ -211,22 +212,22 @@ stopped_at before between after k now w u p (Some stream) (Some rest) q v x y ac
         rest = rest;
         begun = begun.0;
         broken = one.turns;
-        fault_last = f.is_fault;
+        fault_last = f.tally.is_fault;
         front = begun.2.front;
         unwritten = begun.2.rest;
         stream_is = h.run.taken;
         few = (let e = h.count in omega (arith, e, few));
         are = are_more now w turns one.turns h.run.are (subst (λ (z : World). AreTurns now z one.turns) h.run.world one.are);
         goes_on = h.goes_on;
-        begins = subst (λ (z : World). IsBegun (length turns) z rest begun.0 one.turns f.is_fault) h.run.world (subst (λ (j : ℕ). IsBegun j u rest begun.0 one.turns f.is_fault) (sym h.count) begun.1);
+        begins = subst (λ (z : World). IsBegun (length turns) z rest begun.0 one.turns f.tally.is_fault) h.run.world (subst (λ (j : ℕ). IsBegun j u rest begun.0 one.turns f.tally.is_fault) (sym h.count) begun.1);
         world = one.world ∙ ap (λ (z : World). world_after z one.turns) h.run.world ∙ sym (worlds_more w turns one.turns);
         settings = one.settings ∙ ran_settings now w u (Some stream) (Some rest) v x acted faults h.run;
         begun_is = begun.2.is;
         written_is = refl;
         acted_is = (let e = counts_more turns one.turns in let i = h.run.acted_is in let j = one.acted_is in omega (arith, e, i, j, acted_is));
-        faults_are = faults_are ∙ ap (λ z. z + (if f.is_fault then 2 ^ k else 0)) h.run.faults_are
-            ∙ ap (λ j. bits (map flag_of turns) + (if f.is_fault then 2 ^ j else 0)) (sym h.count ∙ sym (length-map turns flag_of))
-            ∙ sym (bits_more (map flag_of turns) f.is_fault);
+        faults_are = faults_are ∙ ap (λ z. z + (if f.tally.is_fault then 2 ^ k else 0)) h.run.faults_are
+            ∙ ap (λ j. bits (map flag_of turns) + (if f.tally.is_fault then 2 ^ j else 0)) (sym h.count ∙ sym (length-map turns flag_of))
+            ∙ sym (bits_more (map flag_of turns) f.tally.is_fault);
       },
       carries_more before between after now turns one.turns w u p h.run.world left turned.1,
     )
@@ -237,36 +238,59 @@ abbrev worked_of : (most now : ℕ) (w u : World) (r s v x : Option (List ℕ)) 
 worked_of most now w u r s v x acted faults run few =
     record { turns = run.turns; few = few; are = run.are; world = run.world; settings = ran_settings now w u r s v x acted faults run; acted_is = run.acted_is }
 
-pub worked_done : (before between after : World → World → Type 0) (k now : ℕ) (w u p : World) (r s q v x y : Option (List ℕ)) (acted faults n m : ℕ) (a f c : Bool)
-    → k ≤ last_request → (h : RanOn k now w u r s v x acted faults) → CarriesAll before between now h.run.turns w u
-    → IsTurned (λ turns. CarriesAll between after now turns u p) now k u p s q x y (Ok (Answered a f c))
-    → n ≡ (if a then 1 else 0) → m ≡ faults + (if f then 2 ^ k else 0)
-    → (j : Worked most_requests now w p (acted + n)) × CarriesAll before after now j.turns w p
-worked_done before between after k now w u p r s q v x y acted faults n m a f c few h left turned acted_is faults_are = (
-  worked_of most_requests now w p r q v y (acted + n) m
-      (ran_turned (λ turns. CarriesAll between after now turns u p) k now w u p r s q v x y acted faults n m a f c h turned acted_is faults_are)
-      (let e = length-append h.run.turns (turned.0 ∷ []) in omega (arith, e, h.count, few)),
-  carries_more before between after now h.run.turns (turned.0 ∷ []) w u p h.run.world left turned.8,
-)
+-- the bits of all these requests, and of none behind them
+no_mark : (turns : List Turn) (m : ℕ) → m ≡ bits (map flag_of turns) → m ≡ bits (map flag_of turns ++ false ∷ [])
+no_mark turns m is = let e : m ≡ m + 0 = omega arith in e ∙ ap (λ n. n + 0) is ∙ sym (bits_more (map flag_of turns) false)
 
-pub worked_ended : (before between after : World → World → Type 0) (k now : ℕ) (w u p : World) (r s q v x y : Option (List ℕ)) (acted faults : ℕ) (end : Finish)
+-- and one bit more, of the end
+end_mark : (turns : List Turn) (k faults m : ℕ) (f : Bool) → length turns ≡ k → faults ≡ bits (map flag_of turns) → m ≡ faults + (if f then 2 ^ k else 0) → m ≡ bits (map flag_of turns ++ f ∷ [])
+end_mark turns k faults m f count is more =
+    more ∙ ap (λ n. n + (if f then 2 ^ k else 0)) is ∙ ap (λ j. bits (map flag_of turns) + (if f then 2 ^ j else 0)) (sym count ∙ sym (length-map turns flag_of)) ∙ sym (bits_more (map flag_of turns) f)
+
+-- or of the request whose answer was broken off
+stop_mark : (turns ones : List Turn) (k faults m : ℕ) (f : Bool) → length turns ≡ k → faults ≡ bits (map flag_of turns) → m ≡ faults + (if f then 2 ^ k else 0) → length ones ≤ 1 → TellsFault ones f
+    → (last : Bool) × (m ≡ bits (map flag_of (turns ++ ones) ++ last ∷ []))
+stop_mark turns [] k faults m f count is more few tells = (f, end_mark turns k faults m f count is more ∙ ap (λ (ts : List Turn). bits (map flag_of ts ++ f ∷ [])) (sym (append-nil turns)))
+stop_mark turns (t ∷ []) k faults m f count is more few tells = (
+  false,
+  no_mark (turns ++ t ∷ []) m
+      (more ∙ ap (λ n. n + (if f then 2 ^ k else 0)) is ∙ ap (λ b. bits (map flag_of turns) + (if b then 2 ^ k else 0)) tells
+      ∙ ap (λ j. bits (map flag_of turns) + (if t.is_fault then 2 ^ j else 0)) (sym count) ∙ sym (flags_more turns t)),
+)
+stop_mark turns (t ∷ s ∷ ts) k faults m f count is more few tells = absurd (omega (arith, few))
+
+pub worked_done : (before between after : World → World → Type 0) (k now : ℕ) (w u p : World) (r s q v x y : Option (List ℕ)) (acted faults n m : ℕ) (tally : Tally) (c : Bool)
     → k ≤ last_request → (h : RanOn k now w u r s v x acted faults) → CarriesAll before between now h.run.turns w u
-    → IsTurned (λ turns. CarriesAll between after now turns u p) now k u p s q x y (Ok (Ended end))
-    → (j : Worked most_requests now w p acted) × CarriesAll before after now j.turns w p
-worked_ended before between after k now w u p r s q v x y acted faults end few h left turned =
-    subst (λ z. (j : Worked most_requests now w z acted) × CarriesAll before after now j.turns w p) (sym turned.1) (
-      worked_of most_requests now w u r s v x acted faults h.run (let e = h.count in omega (arith, e, few)),
-      carries_ended before between after now h.run.turns w u p h.run.world left turned.2,
+    → IsTurned (λ turns. CarriesAll between after now turns u p) now k u p s q x y (Ok (Answered tally c))
+    → n ≡ (if tally.acted then 1 else 0) → m ≡ faults + (if tally.is_fault then 2 ^ k else 0)
+    → (j : Worked most_requests now w p (acted + n)) × CarriesAll before after now j.turns w p × (m ≡ bits (map flag_of j.turns ++ false ∷ []))
+worked_done before between after k now w u p r s q v x y acted faults n m tally c few h left turned acted_is faults_are =
+    let run = ran_turned (λ turns. CarriesAll between after now turns u p) k now w u p r s q v x y acted faults n m tally c h turned acted_is faults_are in (
+      worked_of most_requests now w p r q v y (acted + n) m run (let e = length-append h.run.turns (turned.0 ∷ []) in omega (arith, e, h.count, few)),
+      carries_more before between after now h.run.turns (turned.0 ∷ []) w u p h.run.world left turned.8,
+      no_mark run.turns m run.faults_are,
     )
 
-pub worked_stopped : (before between after : World → World → Type 0) (k now : ℕ) (w u p : World) (r s q v x y : Option (List ℕ)) (acted faults n : ℕ) (f : Stopped)
+pub worked_ended : (before between after : World → World → Type 0) (k now : ℕ) (w u p : World) (r s q v x y : Option (List ℕ)) (acted faults m : ℕ) (end : Finish)
     → k ≤ last_request → (h : RanOn k now w u r s v x acted faults) → CarriesAll before between now h.run.turns w u
-    → IsTurned (λ turns. CarriesAll between after now turns u p) now k u p s q x y (Err f) → n ≡ (if f.acted then 1 else 0)
-    → (j : Worked most_requests now w p (acted + n)) × CarriesAll before after now j.turns w p
-worked_stopped before between after k now w u p r s q v x y acted faults n f few h left turned acted_is = (
-  worked_on last_request 1 most_requests now w u p acted (if f.acted then 1 else 0) (acted + n) refl (ap (λ z. acted + z) (sym acted_is))
+    → IsTurned (λ turns. CarriesAll between after now turns u p) now k u p s q x y (Ok (Ended end)) → m ≡ faults + (if is_unavailable end then 2 ^ k else 0)
+    → (j : Worked most_requests now w p acted) × CarriesAll before after now j.turns w p × (m ≡ bits (map flag_of j.turns ++ is_unavailable end ∷ []))
+worked_ended before between after k now w u p r s q v x y acted faults m end few h left turned faults_are =
+    subst (λ z. (j : Worked most_requests now w z acted) × CarriesAll before after now j.turns w p × (m ≡ bits (map flag_of j.turns ++ is_unavailable end ∷ []))) (sym turned.1) (
+      worked_of most_requests now w u r s v x acted faults h.run (let e = h.count in omega (arith, e, few)),
+      carries_ended before between after now h.run.turns w u p h.run.world left turned.2,
+      end_mark h.run.turns k faults m (is_unavailable end) h.count h.run.faults_are faults_are,
+    )
+
+pub worked_stopped : (before between after : World → World → Type 0) (k now : ℕ) (w u p : World) (r s q v x y : Option (List ℕ)) (acted faults n m : ℕ) (f : Stopped)
+    → k ≤ last_request → (h : RanOn k now w u r s v x acted faults) → CarriesAll before between now h.run.turns w u
+    → IsTurned (λ turns. CarriesAll between after now turns u p) now k u p s q x y (Err f) → n ≡ (if f.tally.acted then 1 else 0) → m ≡ faults + (if f.tally.is_fault then 2 ^ k else 0)
+    → (j : Worked most_requests now w p (acted + n)) × CarriesAll before after now j.turns w p × ((last : Bool) × (m ≡ bits (map flag_of j.turns ++ last ∷ [])))
+worked_stopped before between after k now w u p r s q v x y acted faults n m f few h left turned acted_is faults_are = (
+  worked_on last_request 1 most_requests now w u p acted (if f.tally.acted then 1 else 0) (acted + n) refl (ap (λ z. acted + z) (sym acted_is))
       (worked_of last_request now w u r s v x acted faults h.run (let e = h.count in omega (arith, e, few))) turned.0,
   carries_more before between after now h.run.turns turned.0.turns w u p h.run.world left turned.1,
+  stop_mark h.run.turns turned.0.turns k faults m f.tally.is_fault h.count h.run.faults_are faults_are turned.0.few turned.3,
 )
 
 -- ---- the router

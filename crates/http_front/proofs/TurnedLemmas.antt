@@ -25,9 +25,10 @@ use Rattle.http_front.specs.Places.{AsksFor}
 use Rattle.http_front.specs.Turns.{Turn, IsTurn, acts_on, answer_bytes, last_request}
 use Rattle.http_front.specs.Ends.{IsEnd, IsBegun}
 use Rattle.http_front.specs.Ends.{no_head, checked, in_body, declined, unavailable, unavailable_later, nothing, interim, answered, ended}
-use Rattle.http_front.specs.Turned.{IsReply, IsDeclined, IsClosed, IsPlanEnd, IsPlanTurn, IsPlanBegun, IsPlanned, IsTurnFaultless, IsTurned}
+use Rattle.http_front.specs.Turned.{IsReply, IsDeclined, IsClosed, IsPlanEnd, IsPlanTurn, IsPlanBegun, IsPlanned, IsTurnFaultless, IsTurned, TellsFault}
 use Rattle.http_front.specs.Turned.{in_body as plan_in_body, declined as plan_declined, unavailable as plan_unavailable, interim as plan_interim, answered as plan_answered, ended as plan_ended}
 use Rattle.http_front.specs.declared.outcome.Stopped.{Stopped}
+use Rattle.http_front.specs.declared.outcome.Tally.{Tally}
 use Rattle.http_front.specs.declared.outcome.Turned.{Turned}
 use Rattle.http_front.specs.declared.outcome.Turned.TheVariants.{Answered, Ended}
 use Rattle.http_front.proofs.CrashLemmas.{carries_idle, carries_one}
@@ -37,15 +38,15 @@ use Rattle.http_front.proofs.WriteLemmas.{front_after, front_all}
 -- ---- behind a head
 
 -- a turn that was stopped with no effect
-unacted : (P : Bool → Bool → Type 0) (f : Stopped) → f.acted ≡ false → f.is_fault ≡ false → P false false → P f.acted f.is_fault
-unacted P f a b p = subst (λ (z : Bool). P z f.is_fault) (sym a) (subst (λ (z : Bool). P false z) (sym b) p)
+unacted : (P : Bool → Bool → Type 0) (f : Stopped) → f.tally.acted ≡ false → f.tally.is_fault ≡ false → P false false → P f.tally.acted f.tally.is_fault
+unacted P f a b p = subst (λ (z : Bool). P z f.tally.is_fault) (sym a) (subst (λ (z : Bool). P false z) (sym b) p)
 
-pub planned_unsaid : (is_left : (Event → Type 0) → Type 0) (now k : ℕ) (w : World) (plan : Plan) (r s v x : Option (List ℕ)) (f : Stopped) → f.acted ≡ false → f.is_fault ≡ false
+pub planned_unsaid : (is_left : (Event → Type 0) → Type 0) (now k : ℕ) (w : World) (plan : Plan) (r s v x : Option (List ℕ)) (f : Stopped) → f.tally.acted ≡ false → f.tally.is_fault ≡ false
     → WritesFront v x (interim_response plan) → is_left (λ e. ⊥) → IsPlanned is_left now k w w plan r s v x (Err f)
 planned_unsaid is_left now k w plan r s v x f a b h left =
     (interim_response plan, unacted (λ p q. IsPlanBegun is_left now k w w plan r s (interim_response plan) p q) f a b (plan_interim refl left), h)
 
-pub planned_unread : (is_left : (Event → Type 0) → Type 0) (now k : ℕ) (w : World) (plan : Plan) (r s v x : Option (List ℕ)) (f : Stopped) → f.acted ≡ false → f.is_fault ≡ false
+pub planned_unread : (is_left : (Event → Type 0) → Type 0) (now k : ℕ) (w : World) (plan : Plan) (r s v x : Option (List ℕ)) (f : Stopped) → f.tally.acted ≡ false → f.tally.is_fault ≡ false
     → Appends v x (interim_response plan) → is_left (λ e. ⊥) → IsPlanned is_left now k w w plan r s v x (Err f)
 planned_unread is_left now k w plan r s v x f a b h left = planned_unsaid is_left now k w plan r s v x f a b (front_all v x (interim_response plan) h) left
 
@@ -55,7 +56,7 @@ planned_closed is_left now k w u plan r s v m x end (Ok t) same left h a c =
     subst (λ (z : Turned). IsPlanned is_left now k w u plan r s v x (Ok z)) (sym c.0) (h, Appends-trans v m x (interim_response plan) (last_response end) a c.1, same, left)
 planned_closed is_left now k w u plan r s v m x end (Err f) same left h a c = (
   interim_response plan ++ last_response end,
-  subst (λ (p : Bool). IsPlanBegun is_left now k w u plan r s (interim_response plan ++ last_response end) p f.is_fault) (sym c.0)
+  subst (λ (p : Bool). IsPlanBegun is_left now k w u plan r s (interim_response plan ++ last_response end) p f.tally.is_fault) (sym c.0)
       (subst (λ (p : Bool). IsPlanBegun is_left now k w u plan r s (interim_response plan ++ last_response end) false p) (sym c.1) (plan_ended end h same left)),
   front_after v m x (interim_response plan) (last_response end) a c.2,
 )
@@ -78,10 +79,10 @@ end_declined w plan None s raw content z taken body d = tt
 end_declined w plan (Some x) None raw content z taken body d = absurd taken
 end_declined w plan (Some x) (Some y) raw content z taken body d = declined_at w plan x y raw content z taken body d
 
-pub planned_answered : (is_left : (Event → Type 0) → Type 0) (now k : ℕ) (w u : World) (plan : Plan) (r s v m x : Option (List ℕ)) (raw content bytes : List ℕ) (acted fault closes : Bool) → Appends v m (interim_response plan)
-    → IsBody plan.framing raw content → Consumes r s raw → IsReply now w plan.target content closes fault bytes u → Appends m x bytes → acted ≡ acts_on plan.target → closes ≡ (plan.closes || (k == last_request))
-    → is_left (λ e. AsksFor plan.target content (Some e)) → IsPlanned is_left now k w u plan r s v x (Ok (Answered acted fault closes))
-planned_answered is_left now k w u plan r s v m x raw content bytes acted fault closes a body taken reply written acted_is closes_is left = (
+pub planned_answered : (is_left : (Event → Type 0) → Type 0) (now k : ℕ) (w u : World) (plan : Plan) (r s v m x : Option (List ℕ)) (raw content bytes : List ℕ) (tally : Tally) (closes : Bool) → Appends v m (interim_response plan)
+    → IsBody plan.framing raw content → Consumes r s raw → IsReply now w plan.target content closes tally.is_fault bytes u → Appends m x bytes → tally.acted ≡ acts_on plan.target → closes ≡ (plan.closes || (k == last_request))
+    → is_left (λ e. AsksFor plan.target content (Some e)) → IsPlanned is_left now k w u plan r s v x (Ok (Answered tally closes))
+planned_answered is_left now k w u plan r s v m x raw content bytes tally closes a body taken reply written acted_is closes_is left = (
   raw,
   bytes,
   record { content = content; body = body; reply = reply; acted_is = acted_is; closes_is = closes_is },
@@ -91,11 +92,11 @@ planned_answered is_left now k w u plan r s v m x raw content bytes acted fault 
 )
 
 pub planned_broken : (is_left : (Event → Type 0) → Type 0) (now k : ℕ) (w u : World) (plan : Plan) (r s v m x : Option (List ℕ)) (raw content bytes : List ℕ) (f : Stopped) (closes : Bool) → Appends v m (interim_response plan)
-    → IsBody plan.framing raw content → Consumes r s raw → IsReply now w plan.target content closes f.is_fault bytes u → WritesFront m x bytes → f.acted ≡ acts_on plan.target → closes ≡ (plan.closes || (k == last_request))
+    → IsBody plan.framing raw content → Consumes r s raw → IsReply now w plan.target content closes f.tally.is_fault bytes u → WritesFront m x bytes → f.tally.acted ≡ acts_on plan.target → closes ≡ (plan.closes || (k == last_request))
     → is_left (λ e. AsksFor plan.target content (Some e)) → IsPlanned is_left now k w u plan r s v x (Err f)
 planned_broken is_left now k w u plan r s v m x raw content bytes f closes a body taken reply front acted_is closes_is left = (
   interim_response plan ++ bytes,
-  plan_answered f.acted f.is_fault closes raw bytes taken (record { content = content; body = body; reply = reply; acted_is = acted_is; closes_is = closes_is }) left,
+  plan_answered f.tally.acted f.tally.is_fault closes raw bytes taken (record { content = content; body = body; reply = reply; acted_is = acted_is; closes_is = closes_is }) left,
   front_after v m x (interim_response plan) bytes a front,
 )
 
@@ -169,33 +170,35 @@ begun_ended k w h (Some b) (Some c) v x end t passes e front = (
 lift_begun : (before after : World → World → Type 0) (now k : ℕ) (w u : World) (h : RequestHead) (r q s v x : Option (List ℕ)) (begun : List ℕ) (acted fault : Bool) → TakesHead r q h
     → refusal_of (head_of h) ≡ None → IsPlanBegun (λ asks. Carries before after asks now w u) now k w u (plan_of (head_of h)) q s begun acted fault → WritesFront v x begun
     → (one : Worked 1 now w u (if acted then 1 else 0)) × CarriesAll before after now one.turns w u × IfSome r (λ bytes. (out : List ℕ) × IsBegun k w bytes out one.turns fault × WritesFront v x out)
+    × TellsFault one.turns fault
 lift_begun before after now k w u h r q s v x _ _ _ t passes (plan_interim same left) front =
-    (worked_none now w u 0 same refl, carries_idle before after now w u left, begun_interim k w h r q v x t passes front)
+    (worked_none now w u 0 same refl, carries_idle before after now w u left, begun_interim k w h r q v x t passes front, tt)
 lift_begun before after now k w u h r q s v x _ _ _ t passes (plan_answered acted fault closes raw out taken p left) front =
     let m = made now k w u h acted fault closes raw out p in (
       worked_one now w u (if acted then 1 else 0) m (made_is now k w u h acted fault closes raw out r q t passes p) refl (ap (λ b. if b then 1 else 0) p.acted_is),
       carries_one before after now m w u left,
       begun_answered now k w u h r q s v x acted fault closes raw out t taken p front,
+      refl,
     )
 lift_begun before after now k w u h r q s v x _ _ _ t passes (plan_ended end e same left) front =
-    (worked_none now w u 0 same refl, carries_idle before after now w u left, begun_ended k w h r q v x end t passes e front)
+    (worked_none now w u 0 same refl, carries_idle before after now w u left, begun_ended k w h r q v x end t passes e front, tt)
 
 lift : (before after : World → World → Type 0) (now k : ℕ) (w u : World) (h : RequestHead) (r q s v x : Option (List ℕ)) (result : Result Turned Stopped) → TakesHead r q h → refusal_of (head_of h) ≡ None
     → IsPlanned (λ asks. Carries before after asks now w u) now k w u (plan_of (head_of h)) q s v x result → IsTurned (λ turns. CarriesAll before after now turns w u) now k w u r s v x result
-lift before after now k w u h r q s v x (Ok (Answered acted fault closes)) t passes p =
+lift before after now k w u h r q s v x (Ok (Answered tally closes)) t passes p =
     let pt = p.2 in (
-      made now k w u h acted fault closes p.0 p.1 pt,
-      made_is now k w u h acted fault closes p.0 p.1 r q t passes pt,
+      made now k w u h tally.acted tally.is_fault closes p.0 p.1 pt,
+      made_is now k w u h tally.acted tally.is_fault closes p.0 p.1 r q t passes pt,
       pt.acted_is,
       refl,
       pt.closes_is,
       Consumes-trans r q s (print_request h) p.0 t.taken p.3,
-      subst (λ (l : List ℕ). Appends v x l) (made_bytes now k w u h acted fault closes p.0 p.1 pt) p.4,
+      subst (λ (l : List ℕ). Appends v x l) (made_bytes now k w u h tally.acted tally.is_fault closes p.0 p.1 pt) p.4,
       refl,
-      carries_one before after now (made now k w u h acted fault closes p.0 p.1 pt) w u p.5,
+      carries_one before after now (made now k w u h tally.acted tally.is_fault closes p.0 p.1 pt) w u p.5,
     )
 lift before after now k w u h r q s v x (Ok (Ended end)) t passes p = (lift_ended now k w u h r q v x end t passes p.0 p.1, p.2, carries_idle before after now w u p.3)
-lift before after now k w u h r q s v x (Err f) t passes p = lift_begun before after now k w u h r q s v x p.0 f.acted f.is_fault t passes p.1 p.2
+lift before after now k w u h r q s v x (Err f) t passes p = lift_begun before after now k w u h r q s v x p.0 f.tally.acted f.tally.is_fault t passes p.1 p.2
 
 pub lifted : (before after : World → World → Type 0) (now k : ℕ) (w u : World) (plan : Plan) (r q s v x : Option (List ℕ)) (result : Result Turned Stopped)
     → (h : RequestHead) × TakesHead r q h × (refusal_of (head_of h) ≡ None) × (plan ≡ plan_of (head_of h)) → IsPlanned (λ asks. Carries before after asks now w u) now k w u plan q s v x result
@@ -217,13 +220,13 @@ stopped_at k w (Some c) v x end fault h b front =
     (last_response end, subst (λ (p : Bool). IsBegun k w c (last_response end) [] p) (sym b) (ended end (last_response end) h), front)
 
 -- nothing was done
-none_of : (f : Stopped) → f.acted ≡ false → ◌≡◌ {A = ℕ} (if f.acted then 1 else 0) 0
+none_of : (f : Stopped) → f.tally.acted ≡ false → ◌≡◌ {A = ℕ} (if f.tally.acted then 1 else 0) 0
 none_of f a = ap (λ (b : Bool). if b then 1 else 0) a
 
 pub turned_closed : (left : List Turn → Type 0) (now k : ℕ) (w : World) (r s v x : Option (List ℕ)) (end : Finish) (result : Result Turned Stopped) → left []
     → IfSome r (λ bytes. IsEnd w bytes end (last_response end)) → IsClosed end v x result → IsTurned left now k w w r s v x result
 turned_closed left now k w r s v x end (Ok t) l h c = subst (λ (z : Turned). IsTurned left now k w w r s v x (Ok z)) (sym c.0) (closed_at now k w r v x end h c.1, refl, l)
-turned_closed left now k w r s v x end (Err f) l h c = (worked_none now w w _ refl (none_of f c.0), l, stopped_at k w r v x end f.is_fault h c.1 c.2)
+turned_closed left now k w r s v x end (Err f) l h c = (worked_none now w w _ refl (none_of f c.0), l, stopped_at k w r v x end f.tally.is_fault h c.1 c.2, tt)
 
 pub end_no_head : (w : World) (r : Option (List ℕ)) (end : Finish) → IfSome r (λ bytes. EndsWithoutHead bytes end) → IfSome r (λ bytes. IsEnd w bytes end (last_response end))
 end_no_head w None end h = tt
@@ -242,9 +245,9 @@ unread_at : (k : ℕ) (w : World) (r v : Option (List ℕ)) (fault : Bool) → f
 unread_at k w None v fault b = tt
 unread_at k w (Some bytes) v fault b = ([], subst (λ (p : Bool). IsBegun k w bytes [] [] p) (sym b) nothing, front_all v v [] (Appends-nil v))
 
-pub turned_unread : (left : List Turn → Type 0) (now k : ℕ) (w : World) (r s v : Option (List ℕ)) (f : Stopped) → left [] → f.acted ≡ false → f.is_fault ≡ false
+pub turned_unread : (left : List Turn → Type 0) (now k : ℕ) (w : World) (r s v : Option (List ℕ)) (f : Stopped) → left [] → f.tally.acted ≡ false → f.tally.is_fault ≡ false
     → IsTurned left now k w w r s v v (Err f)
-turned_unread left now k w r s v f l a b = (worked_none now w w _ refl (none_of f a), l, unread_at k w r v f.is_fault b)
+turned_unread left now k w r s v f l a b = (worked_none now w w _ refl (none_of f a), l, unread_at k w r v f.tally.is_fault b, tt)
 
 pub body_as : (f : Framing) (raw a b : List ℕ) → IsBody f raw a → b ≡ a → IsBody f raw b
 body_as f raw a b h e = subst (λ (l : List ℕ). IsBody f raw l) (sym e) h

@@ -30,7 +30,7 @@ front_after a b c xs ys p f = record {
 }
 
 -- what holds of a turn that is stopped, where a write failed before it acted
-pub by_write : {A : Type 0} (P : Result A Stopped → Type 0) (r : Result A Stopped) → IsErrAnd r (λ f. (f.acted ≡ false) × (f.is_fault ≡ false) × (f.cause ≡ Write))
-    → ((f : Stopped) → f.acted ≡ false → f.is_fault ≡ false → P (Err f)) → P r
+pub by_write : {A : Type 0} (P : Result A Stopped → Type 0) (r : Result A Stopped) → IsErrAnd r (λ f. (f.tally.acted ≡ false) × (f.tally.is_fault ≡ false) × (f.cause ≡ Write))
+    → ((f : Stopped) → f.tally.acted ≡ false → f.tally.is_fault ≡ false → P (Err f)) → P r
 by_write P (Ok a) h each = absurd h
 by_write P (Err f) h each = each f h.0 h.1

@@ -117,6 +117,11 @@ pub record Worked (most now : ℕ) (w u : World) (acted : ℕ) : Type 0 where
   pub settings : u.settings ≡ w.settings
   pub acted_is : acted ≡ count_by acts turns
 
+-- bit k of the faults is set exactly where request k was answered by a fault, and the bit behind these where the end is one, or what was begun there
+abbrev pub MarksFaults : List Turn → Result Served ServeFault → Type 0
+MarksFaults turns (Ok served) = (finish : Finish) × (served.end ≡ end_of finish) × (served.faults ≡ bits (map flag_of turns ++ is_unavailable finish ∷ []))
+MarksFaults turns (Err fault) = (last : Bool) × (fault.faults ≡ bits (map flag_of turns ++ last ∷ []))
+
 -- no request was answered by a fault, and the book did not fail inside a document
 abbrev pub IsFaultless : Result Served ServeFault → Type 0
 IsFaultless (Ok served) = served.faults ≡ 0

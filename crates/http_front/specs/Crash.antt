@@ -12,7 +12,7 @@ use Rattle.http_front.specs.declared.outcome.Stopped.{Stopped}
 
 -- the event that a whole request asks for; one that is declined asks for none
 abbrev pub AsksUnlessDeclined : Target → List ℕ → Result Replied Stopped → Event → Type 0
-AsksUnlessDeclined target content (Ok (Answered fault)) e = AsksFor target content (Some e)
+AsksUnlessDeclined target content (Ok (Answered tally)) e = AsksFor target content (Some e)
 AsksUnlessDeclined target content (Ok (Declined refusal)) e = ⊥
 AsksUnlessDeclined target content (Err stopped) e = AsksFor target content (Some e)
 

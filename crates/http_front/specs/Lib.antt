@@ -4,3 +4,4 @@ pub mod Connections
 pub mod Turned
 pub mod Places
 pub mod Crash
+pub mod Conversations

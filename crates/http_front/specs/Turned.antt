@@ -38,18 +38,18 @@ IsDeclined w target content r = Declines w target content r ⊎ (r ≡ ServiceUn
 
 -- it was answered, or is to be declined, or writing its answer was broken off
 abbrev pub IsReplied : ℕ → World → World → Target → List ℕ → Bool → Option (List ℕ) → Option (List ℕ) → Result Replied Stopped → Type 0
-IsReplied now w u target content closes v x (Ok (ReplyAnswered fault)) =
-    (bytes : List ℕ) × IsReply now w target content closes fault bytes u × Appends v x bytes
+IsReplied now w u target content closes v x (Ok (ReplyAnswered tally)) =
+    (bytes : List ℕ) × IsReply now w target content closes tally.is_fault bytes u × Appends v x bytes × (tally.acted ≡ acts_on target)
 IsReplied now w u target content closes v x (Ok (ReplyDeclined r)) = IsDeclined w target content r × Appends v x [] × (u ≡ w)
 IsReplied now w u target content closes v x (Err f) =
-    (bytes : List ℕ) × IsReply now w target content closes f.is_fault bytes u × WritesFront v x bytes × (f.acted ≡ acts_on target)
+    (bytes : List ℕ) × IsReply now w target content closes f.tally.is_fault bytes u × WritesFront v x bytes × (f.tally.acted ≡ acts_on target)
 
 -- ---- an end
 
 -- its response was written, or writing it was broken off
 abbrev pub IsClosed : Finish → Option (List ℕ) → Option (List ℕ) → Result Turned Stopped → Type 0
 IsClosed end v x (Ok t) = (t ≡ Ended end) × Appends v x (last_response end)
-IsClosed end v x (Err f) = (f.acted ≡ false) × (f.is_fault ≡ is_unavailable end) × WritesFront v x (last_response end)
+IsClosed end v x (Err f) = (f.tally.acted ≡ false) × (f.tally.is_fault ≡ is_unavailable end) × WritesFront v x (last_response end)
 
 -- ---- behind a head
 
@@ -79,32 +79,38 @@ pub data IsPlanBegun (is_left : (Event → Type 0) → Type 0) (now k : ℕ) (w 
 -- what a turn leaves behind its head; and this is left for the events that were asked
 abbrev pub IsPlanned : ((Event → Type 0) → Type 0) → ℕ → ℕ → World → World → Plan → Option (List ℕ) → Option (List ℕ) → Option (List ℕ) → Option (List ℕ)
     → Result Turned Stopped → Type 0
-IsPlanned is_left now k w u plan r s v x (Ok (Answered acted fault closes)) =
-    (raw : List ℕ) × (bytes : List ℕ) × (t : IsPlanTurn now k w u plan acted fault closes raw bytes) × Consumes r s raw × Appends v x (interim_response plan ++ bytes)
+IsPlanned is_left now k w u plan r s v x (Ok (Answered tally closes)) =
+    (raw : List ℕ) × (bytes : List ℕ) × (t : IsPlanTurn now k w u plan tally.acted tally.is_fault closes raw bytes) × Consumes r s raw × Appends v x (interim_response plan ++ bytes)
     × is_left (λ e. AsksFor plan.target t.content (Some e))
 IsPlanned is_left now k w u plan r s v x (Ok (Ended end)) =
     IfSome r (λ bytes. IsPlanEnd w plan bytes end) × Appends v x (interim_response plan ++ last_response end) × (u ≡ w) × is_left (λ e. ⊥)
 IsPlanned is_left now k w u plan r s v x (Err f) =
-    (begun : List ℕ) × IsPlanBegun is_left now k w u plan r s begun f.acted f.is_fault × WritesFront v x begun
+    (begun : List ℕ) × IsPlanBegun is_left now k w u plan r s begun f.tally.acted f.tally.is_fault × WritesFront v x begun
 
 -- ---- one turn
+
+-- where a request was answered, it tells whether by a fault
+abbrev pub TellsFault : List Turn → Bool → Type 0
+TellsFault [] fault = ⊤
+TellsFault (t ∷ ts) fault = fault ≡ t.is_fault
 
 -- what one turn leaves: from the bytes r, the writer's bytes v and the world w to s, x and u; and this is left by the request that was
 -- answered, if one was
 abbrev pub IsTurned : (List Turn → Type 0) → ℕ → ℕ → World → World → Option (List ℕ) → Option (List ℕ) → Option (List ℕ) → Option (List ℕ)
     → Result Turned Stopped → Type 0
-IsTurned left now k w u r s v x (Ok (Answered acted fault closes)) =
-    (t : Turn) × IsTurn now w t × (acted ≡ acts t) × (fault ≡ t.is_fault) × (closes ≡ closes_at k t)
+IsTurned left now k w u r s v x (Ok (Answered tally closes)) =
+    (t : Turn) × IsTurn now w t × (tally.acted ≡ acts t) × (tally.is_fault ≡ t.is_fault) × (closes ≡ closes_at k t)
     × Consumes r s (request_bytes t) × Appends v x (answer_bytes k t) × (u ≡ t.after) × left (t ∷ [])
 IsTurned left now k w u r s v x (Ok (Ended end)) =
     IfSome r (λ bytes. (last : List ℕ) × IsEnd w bytes end last × Appends v x last) × (u ≡ w) × left []
 IsTurned left now k w u r s v x (Err f) =
-    (one : Worked 1 now w u (if f.acted then 1 else 0)) × left one.turns
-    × IfSome r (λ bytes. (begun : List ℕ) × IsBegun k w bytes begun one.turns f.is_fault × WritesFront v x begun)
+    (one : Worked 1 now w u (if f.tally.acted then 1 else 0)) × left one.turns
+    × IfSome r (λ bytes. (begun : List ℕ) × IsBegun k w bytes begun one.turns f.tally.is_fault × WritesFront v x begun)
+    × TellsFault one.turns f.tally.is_fault
 
 -- the last request that a connection may have ends it
 abbrev pub ClosesLast : ℕ → Result Turned Stopped → Type 0
-ClosesLast k (Ok (Answered acted fault closes)) = closes ≡ false → k < last_request
+ClosesLast k (Ok (Answered tally closes)) = closes ≡ false → k < last_request
 ClosesLast k (Ok (Ended end)) = ⊤
 ClosesLast k (Err f) = ⊤
 
@@ -112,16 +118,16 @@ ClosesLast k (Err f) = ⊤
 
 -- what was broken off tells of no fault, and the book did not fail inside a document
 abbrev pub IsStopFaultless : Stopped → Type 0
-IsStopFaultless stopped = (stopped.is_fault ≡ false) × (stopped.cause ≢ Book)
+IsStopFaultless stopped = (stopped.tally.is_fault ≡ false) × (stopped.cause ≢ Book)
 
 -- a whole request met no fault
 abbrev pub IsReplyFaultless : Result Replied Stopped → Type 0
-IsReplyFaultless (Ok (ReplyAnswered fault)) = fault ≡ false
+IsReplyFaultless (Ok (ReplyAnswered tally)) = tally.is_fault ≡ false
 IsReplyFaultless (Ok (ReplyDeclined r)) = is_unavailable (Refused r) ≡ false
 IsReplyFaultless (Err f) = IsStopFaultless f
 
 -- a turn met no fault
 abbrev pub IsTurnFaultless : Result Turned Stopped → Type 0
-IsTurnFaultless (Ok (Answered acted fault closes)) = fault ≡ false
+IsTurnFaultless (Ok (Answered tally closes)) = tally.is_fault ≡ false
 IsTurnFaultless (Ok (Ended end)) = is_unavailable end ≡ false
 IsTurnFaultless (Err f) = IsStopFaultless f

@@ -5,7 +5,7 @@ ghost use Rattle.queue_core.specs.Limits.{IsMoment};
 ghost use Rattle.queue_core.specs.World.{World};
 ghost use Rattle.http_head.specs.Left.{left};
 ghost use Rattle.http_head.specs.Routes.{routes};
-ghost use Rattle.http_front.specs.Connections.{IsFaultless, IsServed, IsStopped, Worked, acted_of};
+ghost use Rattle.http_front.specs.Connections.{IsFaultless, IsServed, IsStopped, MarksFaults, Worked, acted_of};
 ghost use Rattle.http_front.specs.Crash.{CarriesAll, IsAtMostOneMore};
 ghost use Rattle.http_front.specs.Turns.{most_requests};
 
@@ -53,7 +53,7 @@ fn run<R: Read, W: Write, B: QueueBook>(
         context.entry.moment w u (left input.old.buffer (R.remaining input.old.reader)) (W.contents writer.old) (W.contents writer.new) fault) }
     ensures worked { B.is_honest book.new → (w : World) → B.stands book.old w → context.entry.settings.now ≡ w.settings
         → (u : World) × B.stands book.new u × (k : Worked most_requests context.entry.moment w u (acted_of result))
-        × CarriesAll (B.crash_leaves book.old) (B.crash_leaves book.new) context.entry.moment k.turns w u }
+        × CarriesAll (B.crash_leaves book.old) (B.crash_leaves book.new) context.entry.moment k.turns w u × MarksFaults k.turns result }
     ensures few { IfOk result (λ served. served.acted ≤ most_requests) }
     ensures few_stopped { IfErr result (λ fault. fault.acted ≤ most_requests) }
     // what shuts a book is answered as a fault, or breaks a document off
@@ -64,15 +64,9 @@ fn run<R: Read, W: Write, B: QueueBook>(
     let mut k = 0;
     'turns: loop {
         match turn(context, router, input, writer, book, k) {
-            Ok(
-                Turned::Answered {
-                    acted: acts,
-                    is_fault,
-                    closes,
-                },
-            ) => {
-                acted += u32::from(acts);
-                faults = mark(faults, k, is_fault);
+            Ok(Turned::Answered { tally, closes }) => {
+                acted += u32::from(tally.acted);
+                faults = mark(faults, k, tally.is_fault);
                 if closes {
                     return Ok(Served {
                         acted,
@@ -91,8 +85,8 @@ fn run<R: Read, W: Write, B: QueueBook>(
             }
             Err(stopped) => {
                 return Err(ServeFault {
-                    acted: acted + u32::from(stopped.acted),
-                    faults: mark(faults, k, stopped.is_fault),
+                    acted: acted + u32::from(stopped.tally.acted),
+                    faults: mark(faults, k, stopped.tally.is_fault),
                     cause: stopped.cause,
                 });
             }
@@ -109,7 +103,7 @@ fn run<R: Read, W: Write, B: QueueBook>(
 /// It flushes nothing: what is written has to reach the client by itself, as through a socket.
 ///
 /// Of a reader that does not tell its bytes, as a socket, this is known: the queue is what at most 32 requests, answered one after
-/// another, made of it.
+/// another, made of it; so many of them acted, and these were answered by a fault.
 pub fn serve<R: Read, W: Write, B: QueueBook>(
     alloc: Global,
     reader: &mut R,
@@ -130,7 +124,7 @@ pub fn serve<R: Read, W: Write, B: QueueBook>(
         × IsStopped (λ turns. CarriesAll (B.crash_leaves book.old) (B.crash_leaves book.new) now turns w u)
         now w u (R.remaining reader.old) (W.contents writer.old) (W.contents writer.new) fault) }
     ensures worked { B.is_honest book.new → (w : World) → B.stands book.old w → settings.now ≡ w.settings
-        → (u : World) × B.stands book.new u × Worked most_requests now w u (acted_of result) }
+        → (u : World) × B.stands book.new u × (k : Worked most_requests now w u (acted_of result)) × MarksFaults k.turns result }
     // a crash at any moment leaves the queue that the book stands for, or what the event of one of the requests makes of it, before which the queue was
     // that already
     ensures crash { B.is_honest book.new → B.is_live book.old → (w : World) → B.stands book.old w → settings.now ≡ w.settings

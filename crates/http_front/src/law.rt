@@ -1,17 +1,22 @@
 //! What a connection is to the machine, and what it leaves: laws over the definitions, in functions that do nothing.
-ghost use Rattle.std.specs.Prelude.{◌≡◌, ◌≤◌, ◌++◌, ℕ, List, length};
-ghost use Rattle.std.specs.List.{AllByRecursion};
+ghost use Rattle.std.specs.Prelude.{◌≡◌, ◌≢◌, ◌≤◌, ◌⊎◌, ◌++◌, ℕ, List, length};
+ghost use Rattle.std.specs.List.{AllByRecursion, flat_map};
 ghost use Rattle.queue_types.specs.Event.{Event};
 ghost use Rattle.queue_core.specs.Limits.{IsEvent, IsMoment};
 ghost use Rattle.queue_core.specs.Runs.{IsPlace, Place, run};
 ghost use Rattle.queue_core.specs.World.{World};
 ghost use Rattle.http_head.specs.declared.end.End.{End};
+ghost use Rattle.http_head.specs.declared.end.End.TheVariants.{Refused};
+ghost use Rattle.http_head.specs.declared.end.Finish.{Finish};
 ghost use Rattle.http_front.specs.Connections.{Answers, AreTurns, Breaks, Worked};
+ghost use Rattle.http_front.specs.Conversations.{AreSameRequests, MayEndAs};
 ghost use Rattle.http_front.specs.Crash.{IsAskedIn, IsAtMostOneMore};
 ghost use Rattle.http_front.specs.Places.{ArePlacesOf};
-ghost use Rattle.http_front.specs.Turns.{Turn};
+ghost use Rattle.http_front.specs.Turns.{Turn, request_bytes};
 
-use ipp_ops::calls_are_events;
+use http_wire::one_reading;
+use ipp_ops::{calls_are_events, one_verdict};
+use ipp_wire::one_spelling;
 
 /// What a connection makes of a queue is a run of the machine: each of its requests is a place of the run, at the connection's moment, with the event that
 /// the request asks for; or with nothing, where it is refused, only reads, or is answered by a fault.
@@ -45,3 +50,29 @@ pub fn connections_grant_nothing()
     // and what a crash leaves
     ensures crash { (now : ℕ) (w : World) (turns : List Turn) (u x : World) → IsAtMostOneMore now w turns u x → x.grants ≡ u.grants }
 {}
+
+/// The bytes of a connection are read in one way, and over one queue at one moment answered in one way, but for faults. Only an end where no head or no
+/// whole body stands may be told in more than one way.
+pub fn one_conversation()
+    // whatever the queues, the moments and the faults: the same requests, as far as both were answered
+    ensures requests { (now later : ℕ) (w v : World) (ss ts : List Turn) (r q : List ℕ) → AreTurns now w ss → AreTurns later v ts
+        → flat_map request_bytes ss ++ r ≡ flat_map request_bytes ts ++ q → AreSameRequests ss ts }
+    // over one queue at one moment, with the same faults and the same end: the same answers, but for a 100 Continue before a 503
+    ensures served { (now : ℕ) (w u v : World) (stream written other : List ℕ) (acted n faults : ℕ) (end : End)
+        → (a : Answers now w stream written u acted faults end) → (b : Answers now w stream other v n faults end)
+        → (a.turns ≡ b.turns) × (a.rest ≡ b.rest) × (u ≡ v) × (acted ≡ n) × (end ≢ Refused 503 → written ≡ other) }
+    // without a fault the end is the same too, unless no head or no whole body stands there
+    ensures faultless { (now : ℕ) (w u v : World) (stream written other : List ℕ) (acted n : ℕ) (end last : End)
+        → (a : Answers now w stream written u acted 0 end) → (b : Answers now w stream other v n 0 last)
+        → (a.turns ≡ b.turns) × (a.rest ≡ b.rest) × (u ≡ v) × (acted ≡ n) × (end ≡ last → written ≡ other)
+        × ((end ≡ last) ⊎ MayEndAs a.rest a.finish b.finish) }
+    // where answers without a fault were broken off, their turns are the first of these, and what was written is a front, unless such an end was begun
+    ensures broken { (now : ℕ) (w u v : World) (stream written other : List ℕ) (acted n : ℕ) (end : End)
+        → (a : Answers now w stream written u acted 0 end) → (b : Breaks now w stream other v n 0)
+        → (more : List Turn) × (a.turns ≡ (b.turns ++ b.broken) ++ more)
+        × (((unwritten : List ℕ) × (written ≡ other ++ unwritten)) ⊎ ((f : Finish) × MayEndAs b.rest f a.finish)) }
+{
+    one_reading();
+    one_spelling();
+    one_verdict();
+}

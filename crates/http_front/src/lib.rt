@@ -17,5 +17,5 @@ mod turn;
 
 pub use connection::serve;
 pub use http_head::end::End;
-pub use law::{connections_are_runs, connections_grant_nothing};
+pub use law::{connections_are_runs, connections_grant_nothing, one_conversation};
 pub use outcome::{ServeCause, ServeFault, Served};

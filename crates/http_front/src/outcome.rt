@@ -42,25 +42,44 @@ pub struct ServeFault {
     pub cause: ServeCause,
 }
 
-/// A turn that was stopped.
+/// What is counted of a request.
 #[derive(Clone, Copy)]
-pub struct Stopped {
-    /// Its request was answered as an IPP message or as a line of the device.
+pub struct Tally {
+    /// It was answered as an IPP message or as a line of the device.
     pub acted: bool,
     /// It was answered by a fault.
     pub is_fault: bool,
+}
+
+impl Tally {
+    /// Nothing is counted: of a request that only reads, or of none.
+    pub fn empty() -> Tally
+        ensures acted { result.acted ≡ false }
+        ensures is_fault { result.is_fault ≡ false }
+    {
+        Tally {
+            acted: false,
+            is_fault: false,
+        }
+    }
+}
+
+/// A turn that was stopped.
+#[derive(Clone, Copy)]
+pub struct Stopped {
+    /// What is counted of its request.
+    pub tally: Tally,
     /// What stopped it.
     pub cause: ServeCause,
 }
 
 /// A write failed in a turn that had not acted and met no fault.
 impl From<WriteFault> for Stopped {
-    ghost from_gives = { λ _ stopped. (stopped.acted ≡ false) × (stopped.is_fault ≡ false) × (stopped.cause ≡ causes.Write) };
+    ghost from_gives = { λ _ stopped. (stopped.tally.acted ≡ false) × (stopped.tally.is_fault ≡ false) × (stopped.cause ≡ causes.Write) };
 
     fn from(_fault: WriteFault) -> Stopped {
         Stopped {
-            acted: false,
-            is_fault: false,
+            tally: Tally::empty(),
             cause: ServeCause::Write,
         }
     }
@@ -69,8 +88,8 @@ impl From<WriteFault> for Stopped {
 /// What became of a whole request.
 #[derive(Clone, Copy)]
 pub enum Replied {
-    /// It was answered; whether by a fault.
-    Answered(bool),
+    /// It was answered.
+    Answered(Tally),
     /// Nothing was written yet, and this refusal is to be.
     Declined(Refusal),
 }
@@ -80,10 +99,8 @@ pub enum Replied {
 pub enum Turned {
     /// A request was answered.
     Answered {
-        /// As an IPP message or as a line of the device.
-        acted: bool,
-        /// By a fault.
-        is_fault: bool,
+        /// What is counted of it.
+        tally: Tally,
         /// The connection ends after it.
         closes: bool,
     },

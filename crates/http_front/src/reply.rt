@@ -1,14 +1,16 @@
 //! The answer to one whole request.
-ghost use Rattle.std.specs.Prelude.{◌≡◌, ◌≢◌, ◌≤◌, ℕ, List, false, length};
+ghost use Rattle.std.specs.Prelude.{◌≡◌, ◌≢◌, ◌≤◌, ℕ, List, false, length, IfErr, IfOk};
+ghost use Rattle.std.specs.Io.KnownBytes.{Appends};
 ghost use Rattle.queue_core.specs.Crash.{Carries};
 ghost use Rattle.queue_core.specs.Limits.{IsMoment};
 ghost use Rattle.queue_core.specs.World.{World};
 ghost use Rattle.http_front.specs.Crash.{AsksUnlessDeclined};
 ghost use Rattle.http_front.specs.Turned.{IsReplied, IsReplyFaultless};
 ghost use Rattle.http_head.specs.declared.target.Target.TheVariants.{Ipp, Report, Queue, Document};
+ghost use Rattle.http_wire.specs.Responses.{WritesFront, success_response};
 
 use crate::context::Context;
-use crate::outcome::{Replied, ServeCause, Stopped};
+use crate::outcome::{Replied, ServeCause, Stopped, Tally};
 use device_lines::{queue_text, report};
 use http_head::end::{Refusal, WriteFault};
 use http_head::target::Target;
@@ -17,6 +19,29 @@ use ipp_ops::{TooShort, answer};
 use queue_core::book::{QueueBook, SendCause};
 use std::alloc::Global;
 use std::io::Write;
+
+/// Writes a whole answer, and tells what is counted of its request, also where writing it is broken off.
+fn send<W: Write>(
+    writer: &mut W,
+    media_type: &str,
+    content: &[u8],
+    closes: bool,
+    tally: Tally,
+) -> Result<Replied, Stopped>
+    requires { length media_type.now ≤ 64 }
+    ensures ok { IfOk result (λ replied. (replied ≡ Replied.Answered tally)
+        × Appends (W.contents writer.old) (W.contents writer.new) (success_response media_type.now content.now closes)) }
+    ensures err { IfErr result (λ stopped. (stopped.tally ≡ tally)
+        × WritesFront (W.contents writer.old) (W.contents writer.new) (success_response media_type.now content.now closes)) }
+{
+    match send_success(writer, media_type, content, closes) {
+        Ok(()) => Ok(Replied::Answered(tally)),
+        Err(WriteFault) => Err(Stopped {
+            tally,
+            cause: ServeCause::Write,
+        }),
+    }
+}
 
 /// Answers an IPP message.
 fn reply_ipp<W: Write, B: QueueBook>(
@@ -44,16 +69,11 @@ fn reply_ipp<W: Write, B: QueueBook>(
     ) {
         Err(TooShort) => Ok(Replied::Declined(Refusal::BadRequest)),
         Ok(a) => {
-            let is_fault = a.is_fault();
-            let bytes = a.bytes();
-            match send_success(writer, "application/ipp", bytes, closes) {
-                Ok(()) => Ok(Replied::Answered(is_fault)),
-                Err(WriteFault) => Err(Stopped {
-                    acted: true,
-                    is_fault,
-                    cause: ServeCause::Write,
-                }),
-            }
+            let tally = Tally {
+                acted: true,
+                is_fault: a.is_fault(),
+            };
+            send(writer, "application/ipp", a.bytes(), closes, tally)
         }
     }
 }
@@ -75,15 +95,11 @@ fn reply_report<W: Write, B: QueueBook>(
     ensures live { B.is_honest book.new → B.is_live book.old → IsReplyFaultless result → B.is_live book.new }
 {
     let answer = report(book, now, content);
-    let is_fault = answer.is_fault();
-    match send_success(writer, "text/plain", answer.bytes(), closes) {
-        Ok(()) => Ok(Replied::Answered(is_fault)),
-        Err(WriteFault) => Err(Stopped {
-            acted: true,
-            is_fault,
-            cause: ServeCause::Write,
-        }),
-    }
+    let tally = Tally {
+        acted: true,
+        is_fault: answer.is_fault(),
+    };
+    send(writer, "text/plain", answer.bytes(), closes, tally)
 }
 
 /// Answers with the device's queue.
@@ -106,19 +122,23 @@ fn reply_queue<W: Write, B: QueueBook>(
     let Ok(text) = queue_text(alloc, jobs.as_slice()) else {
         return Ok(Replied::Declined(Refusal::ServiceUnavailable));
     };
-    send_success(writer, "text/plain", text.as_bytes(), closes)?;
-    Ok(Replied::Answered(false))
+    send(
+        writer,
+        "text/plain",
+        text.as_bytes(),
+        closes,
+        Tally::empty(),
+    )
 }
 
 /// A turn without an effect was stopped.
 pub fn stopped_by(cause: ServeCause) -> Stopped
-    ensures acted { result.acted ≡ false }
-    ensures is_fault { result.is_fault ≡ false }
+    ensures acted { result.tally.acted ≡ false }
+    ensures is_fault { result.tally.is_fault ≡ false }
     ensures cause { result.cause ≡ cause }
 {
     Stopped {
-        acted: false,
-        is_fault: false,
+        tally: Tally::empty(),
         cause,
     }
 }
@@ -157,7 +177,7 @@ fn reply_document<W: Write, B: QueueBook>(
     };
     send_head(writer, head.format.name(), head.octets, closes)?;
     match book.send_document(job, number, writer) {
-        Ok(sent) if sent == head.octets => Ok(Replied::Answered(false)),
+        Ok(sent) if sent == head.octets => Ok(Replied::Answered(Tally::empty())),
         // the length that the head tells isn't kept, as of a book that isn't honest
         Ok(_) => Err(stopped_by(ServeCause::Book)),
         Err(fault) => Err(stopped_by(cause_of(fault.cause))),

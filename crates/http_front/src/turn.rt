@@ -8,11 +8,11 @@ ghost use Rattle.http_head.specs.Framing.{size_of};
 ghost use Rattle.http_head.specs.Left.{left};
 ghost use Rattle.http_head.specs.Routes.{routes};
 ghost use Rattle.http_front.specs.Crash.{CarriesAll};
-ghost use Rattle.http_front.specs.Turns.{acts_on, last_request};
+ghost use Rattle.http_front.specs.Turns.{last_request};
 ghost use Rattle.http_front.specs.Turned.{IsClosed, IsPlanned, IsTurnFaultless, IsTurned, ClosesLast};
 
 use crate::context::Context;
-use crate::outcome::{Replied, ServeCause, Stopped, Turned};
+use crate::outcome::{Replied, ServeCause, Stopped, Tally, Turned};
 use crate::reply::{reply, stopped_by};
 use http_head::end::{Finish, Refusal, WriteFault};
 use http_head::fault::HeadFault;
@@ -21,7 +21,6 @@ use http_head::limits::MOST_REQUESTS;
 use http_head::plan::Plan;
 use http_head::receive::take_head;
 use http_head::routes::Route;
-use http_head::target::Target;
 use http_wire::fault::BodyFault;
 use http_wire::framed::take_framed;
 use http_wire::respond::{send_continue, send_end};
@@ -39,19 +38,12 @@ fn close_with<W: Write>(writer: &mut W, end: Finish) -> Result<Turned, Stopped>
     match send_end(writer, end) {
         Ok(()) => Ok(Turned::Ended(end)),
         Err(WriteFault) => Err(Stopped {
-            acted: false,
-            is_fault: end.is_unavailable(),
+            tally: Tally {
+                acted: false,
+                is_fault: end.is_unavailable(),
+            },
             cause: ServeCause::Write,
         }),
-    }
-}
-
-fn acts_on_target(target: Target) -> bool
-    ensures { result ≡ acts_on target }
-{
-    match target {
-        Target::Ipp | Target::Report => true,
-        Target::Queue | Target::Document(_) => false,
     }
 }
 
@@ -103,11 +95,7 @@ fn take_planned<R: Read, W: Write, B: QueueBook>(
         content.as_slice(),
         closes,
     ) {
-        Ok(Replied::Answered(is_fault)) => Ok(Turned::Answered {
-            acted: acts_on_target(plan.target),
-            is_fault,
-            closes,
-        }),
+        Ok(Replied::Answered(tally)) => Ok(Turned::Answered { tally, closes }),
         Ok(Replied::Declined(refusal)) => close_with(writer, Finish::Refused(refusal)),
         Err(stopped) => Err(stopped),
     }

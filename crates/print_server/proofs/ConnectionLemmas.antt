@@ -1,5 +1,5 @@
 -- Connections one after another, and the lines that tell of them.
-use Rattle.std.proofs.Common.{◌≡◌, ◌≢◌, ◌∙◌, ◌==◌, ◌||◌, ℕ, Bool, true, false, not, List, [], ◌∷◌, ◌++◌, Option, Result, Ok, Err, IfErr, IfOk, IsErrOf, IsOk, OnErr, ap, sym, subst, refl, arith, rules, append-nil}
+use Rattle.std.proofs.Common.{◌≡◌, ◌≢◌, ◌∙◌, ◌==◌, ◌||◌, ℕ, Bool, true, false, not, List, [], ◌∷◌, ◌++◌, Option, Result, Ok, Err, IfErr, IfOk, IsErrOf, OnErr, OnOk, ap, sym, subst, refl, arith, rules, append-nil}
 use Rattle.std.specs.Io.KnownBytes.{Appends}
 use Rattle.std.proofs.KnownBytes.{Appends-trans}
 use Rattle.std.proofs.lemmas.Bool.{not-false}
@@ -17,6 +17,8 @@ use Rattle.http_front.specs.declared.outcome.ServeCause.TheVariants.{Book as ByB
 use Rattle.http_front.specs.declared.outcome.ServeFault.{ServeFault}
 use Rattle.print_server.specs.Connections.{AreConnections, has_fault, is_of_book}
 use Rattle.print_server.specs.Lines.{served_line, served_lines}
+use Rattle.print_server.specs.declared.serving.Standing.{Standing}
+use Rattle.print_server.specs.declared.serving.Standing.TheVariants.{Live, Unseen}
 
 -- a connection that was not served has changed nothing
 pub worked_none : (now : ℕ) (w : World) → Worked most_requests now w w 0
@@ -72,11 +74,28 @@ faultless (Err f) is =
     let each = neither (not (f.faults == 0)) (is_of_book f.cause) is in
     (none_of f.faults each.0, not_of_book f.cause each.1)
 
--- a look at the book tells damage only where the book did
-pub seen_damaged : {A B : Type 0} (look : Result A BookFault) (result : Result B BookFault) (P : Type 0) → IfOk look (λ a. IsOk result) → (IsErrOf look Memory → IsOk result)
-    → IfErr look (λ e. e ≢ Memory → IsErrOf result e) → IfErr look (λ e. e ≡ Damaged → P) → IfErr result (λ e. e ≡ Damaged → P)
-seen_damaged look (Ok b) P whole wanting lost damaged = tt
-seen_damaged (Ok a) (Err e) P whole wanting lost damaged = absurd (let no : false ≡ true = whole in cc)
-seen_damaged (Err Memory) (Err e) P whole wanting lost damaged = absurd (let no : false ≡ true = wanting refl in cc)
-seen_damaged (Err Disk) (Err e) P whole wanting lost damaged = λ is. absurd (let same = lost (λ other. absurd cc) in cc)
-seen_damaged (Err Damaged) (Err e) P whole wanting lost damaged = λ is. damaged refl
+-- ---- a look at the book
+
+-- it tells damage only where the book did
+pub seen_damaged : {A : Type 0} (look : Result A BookFault) (result : Result Standing BookFault) (P : Type 0) → IfOk look (λ a. result ≡ Ok Live) → (IsErrOf look Memory → result ≡ Ok Unseen)
+    → IfErr look (λ e. e ≢ Memory → result ≡ Err e) → IfErr look (λ e. e ≡ Damaged → P) → IfErr result (λ e. e ≡ Damaged → P)
+seen_damaged (Ok a) result P whole wanting lost damaged = subst (λ (z : Result Standing BookFault). IfErr z (λ e. e ≡ Damaged → P)) (sym whole) tt
+seen_damaged (Err Memory) result P whole wanting lost damaged = subst (λ (z : Result Standing BookFault). IfErr z (λ e. e ≡ Damaged → P)) (sym (wanting refl)) tt
+seen_damaged (Err Disk) result P whole wanting lost damaged = subst (λ (z : Result Standing BookFault). IfErr z (λ e. e ≡ Damaged → P)) (sym (lost (λ other. absurd cc))) (λ is. absurd cc)
+seen_damaged (Err Damaged) result P whole wanting lost damaged = subst (λ (z : Result Standing BookFault). IfErr z (λ e. e ≡ Damaged → P)) (sym (lost (λ other. absurd cc))) damaged
+
+-- and that the book is live only where it answered
+pub seen_live : {A : Type 0} (look : Result A BookFault) (result : Result Standing BookFault) (P : Type 0) → (IsErrOf look Memory → result ≡ Ok Unseen)
+    → IfErr look (λ e. e ≢ Memory → result ≡ Err e) → OnOk look P → result ≡ Ok Live → P
+seen_live (Ok a) result P wanting lost live is = live
+seen_live (Err Memory) result P wanting lost live is = absurd (let no : Ok Unseen ≡ Ok Live = sym (wanting refl) ∙ is in cc)
+seen_live (Err Disk) result P wanting lost live is = absurd (let no : Err Disk ≡ Ok Live = sym (lost (λ other. absurd cc)) ∙ is in cc)
+seen_live (Err Damaged) result P wanting lost live is = absurd (let no : Err Damaged ≡ Ok Live = sym (lost (λ other. absurd cc)) ∙ is in cc)
+
+-- want of memory is no error of it
+pub seen_wanting : {A : Type 0} (look : Result A BookFault) (result : Result Standing BookFault) → IfOk look (λ a. result ≡ Ok Live) → (IsErrOf look Memory → result ≡ Ok Unseen)
+    → IfErr look (λ e. e ≢ Memory → result ≡ Err e) → result ≢ Err Memory
+seen_wanting (Ok a) result whole wanting lost is = absurd (let no : Ok Live ≡ Err Memory = sym whole ∙ is in cc)
+seen_wanting (Err Memory) result whole wanting lost is = absurd (let no : Ok Unseen ≡ Err Memory = sym (wanting refl) ∙ is in cc)
+seen_wanting (Err Disk) result whole wanting lost is = absurd (let no : Err Disk ≡ Err Memory = sym (lost (λ other. absurd cc)) ∙ is in cc)
+seen_wanting (Err Damaged) result whole wanting lost is = absurd (let no : Err Damaged ≡ Err Memory = sym (lost (λ other. absurd cc)) ∙ is in cc)

@@ -20,4 +20,4 @@ pub use fault::ServerFault;
 pub use law::{served_queues_are_runs, servers_grant_nothing};
 pub use listening::listen;
 pub use moment::present_moment;
-pub use serving::Service;
+pub use serving::{Service, Standing};

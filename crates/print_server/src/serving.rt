@@ -1,5 +1,5 @@
 //! Connections one after another.
-ghost use Rattle.std.specs.Prelude.{◌≡◌, ◌≢◌, ◌≤◌, ◌*◌, List, ℕ, IfErr, IfOk, IsErrOf, IsOk, OnOk, OnErr, false, length};
+ghost use Rattle.std.specs.Prelude.{◌≡◌, ◌≢◌, ◌≤◌, ◌*◌, List, ℕ, Err, IfErr, IfOk, IsErrOf, Ok, OnOk, OnErr, false, length};
 ghost use Rattle.std.specs.Duration.{as_nanos};
 ghost use Rattle.std.specs.Io.KnownBytes.{Appends};
 ghost use Rattle.queue_core.specs.Limits.{IsMoment};
@@ -77,24 +77,45 @@ struct Outcome {
     has_fault: bool,
 }
 
-/// What a look at the book comes to: one that had no memory for it can still be read.
-fn after_look(look: Result<JobList, BookFault>) -> Result<(), BookFault>
-    ensures whole { IfOk look (λ jobs. IsOk result) }
-    ensures wanting { IsErrOf look BookFault.Memory → IsOk result }
-    ensures lost { IfErr look (λ e. e ≢ BookFault.Memory → IsErrOf result e) }
+/// What is known of a book.
+#[derive(Clone, Copy)]
+pub enum Standing {
+    /// No error has shut it.
+    Live,
+    /// A request met a fault, and it wasn't seen since then whether the book can still be read.
+    Unseen,
+}
+
+impl Standing {
+    /// Behind a connection one of whose requests met a fault, or none did.
+    fn behind(self, has_fault: bool) -> Standing
+        ensures { result ≡ Standing.Live → (has_fault ≡ false) × (self ≡ Standing.Live) }
+    {
+        if has_fault { Standing::Unseen } else { self }
+    }
+}
+
+/// What a look at the book tells of it. A book that can't be read, where memory is there, is lost.
+fn after_look(look: Result<JobList, BookFault>) -> Result<Standing, BookFault>
+    ensures whole { IfOk look (λ jobs. result ≡ Ok Standing.Live) }
+    ensures wanting { IsErrOf look BookFault.Memory → result ≡ Ok Standing.Unseen }
+    ensures lost { IfErr look (λ e. e ≢ BookFault.Memory → result ≡ Err e) }
 {
     match look {
-        Ok(_) | Err(BookFault::Memory) => Ok(()),
+        Ok(_) => Ok(Standing::Live),
+        Err(BookFault::Memory) => Ok(Standing::Unseen),
         Err(fault) => Err(fault),
     }
 }
 
-/// Whether the book can still be read.
-fn check_book<B: QueueBook>(book: &mut B) -> Result<(), BookFault>
+/// Looks whether the book can still be read.
+fn check_book<B: QueueBook>(book: &mut B) -> Result<Standing, BookFault>
     ensures began { B.is_honest book.new → B.is_honest book.old }
     ensures kept { (w : World) → B.stands book.old w → B.stands book.new w }
     ensures left { B.is_honest book.new → (v w : World) → B.crash_leaves book.old v w → B.crash_leaves book.new v w }
     ensures damaged { B.is_honest book.new → IfErr result (λ e. e ≡ BookFault.Damaged → (w : World) → ¬ B.stands book.old w) }
+    ensures live { B.is_honest book.new → result ≡ Ok Standing.Live → B.is_live book.new }
+    ensures wanting { result ≢ Err BookFault.Memory }
 {
     after_look(book.pending())
 }
@@ -136,14 +157,15 @@ impl Service<'_> {
         }
     }
 
-    /// Takes the next connection, serves it at the moment when it was taken, and prints `served ACTED`. Where a request met a fault, the book is
-    /// read once more.
+    /// Takes the next connection, serves it at the moment when it was taken, and prints `served ACTED`. Where a request met a fault, or one had
+    /// met one before and the book wasn't seen since, the book is looked at.
     fn serve_next<C: Clock, O: Write, B: QueueBook>(
         self,
         clock: &C,
         out: &mut O,
         book: &mut B,
-    ) -> Result<(), ServerFault>
+        before: Standing,
+    ) -> Result<Standing, ServerFault>
         ensures began { B.is_honest book.new → B.is_honest book.old }
         ensures ok { B.is_honest book.new → OnOk result ((w : World) → B.stands book.old w → self.entry.settings.now ≡ w.settings
             → (u : World) × B.stands book.new u × (counts : List ℕ) × AreConnections w counts u × (length counts ≡ 1)
@@ -154,29 +176,31 @@ impl Service<'_> {
             × Carries (B.crash_leaves book.old) (B.crash_leaves book.new) w u) }
         ensures damaged { B.is_honest book.new → IfErr result (λ f. f ≡ ServerFault.Book BookFault.Damaged
             → (w : World) → B.stands book.old w → self.entry.settings.now ≡ w.settings → ⊥) }
+        ensures live { B.is_honest book.new → (before ≡ Standing.Live → B.is_live book.old) → result ≡ Ok Standing.Live → B.is_live book.new }
+        ensures wanting { result ≢ Err (ServerFault.Book BookFault.Memory) }
     {
         let stream = next_stream(self.listener)?;
         let now = present_moment(clock, self.settings.epoch())?;
         let served = self.serve_stream(stream, book, now);
         tell_served(out, served.acted)?;
-        if served.has_fault {
-            check_book(book)?;
+        match before.behind(served.has_fault) {
+            Standing::Live => Ok(Standing::Live),
+            Standing::Unseen => Ok(check_book(book)?),
         }
-        Ok(())
     }
 
     /// Serves so many connections, one after another, over a book whose queue has the settings, each at the moment by the clock when it is taken, and
     /// prints `served ACTED` as it ends.
     ///
     /// It is an error where no connection can be taken, the clock can't be read or the line can't be written, and where after a fault the book can't be
-    /// read any more. The connections before it stay served.
+    /// read any more. The connections before it stay served. A book that there is no memory to look at is looked at behind the next connection again.
     pub fn serve_connections<C: Clock, O: Write, B: QueueBook>(
         self,
         clock: &C,
         out: &mut O,
         book: &mut B,
         connections: u32,
-    ) -> Result<(), ServerFault>
+    ) -> Result<Standing, ServerFault>
         ensures began { B.is_honest book.new → B.is_honest book.old }
         // every connection was served, and its count printed; a crash leaves what goes with just these connections
         ensures ok { B.is_honest book.new → OnOk result ((w : World) → B.stands book.old w → self.entry.settings.now ≡ w.settings
@@ -194,10 +218,14 @@ impl Service<'_> {
         // an honest book that stands for a queue with the settings is never called damaged
         ensures damaged { B.is_honest book.new → IfErr result (λ f. f ≡ ServerFault.Book BookFault.Damaged
             → (w : World) → B.stands book.old w → self.entry.settings.now ≡ w.settings → ⊥) }
+        // a book that was live and has been shut ends the server, or there was no memory to see it
+        ensures live { B.is_honest book.new → B.is_live book.old → result ≡ Ok Standing.Live → B.is_live book.new }
+        ensures wanting { result ≢ Err (ServerFault.Book BookFault.Memory) }
     {
+        let mut standing = Standing::Live;
         for _round in 0..connections {
-            self.serve_next(clock, out, book)?;
+            standing = self.serve_next(clock, out, book, standing)?;
         }
-        Ok(())
+        Ok(standing)
     }
 }

@@ -5,7 +5,7 @@ use http_desk::compare::{Mismatch, Place, Subject, no_book};
 use http_desk::connection::{Wanted, wanted_bytes};
 use http_desk::desk::settings;
 use http_desk::streams::BrokenWriter;
-use print_server::{ServerFault, Service, listen};
+use print_server::{ServerFault, Service, Standing, listen};
 use queue_core::book::{BookFault, QueueBook};
 use queue_types::settings::Settings;
 use std::alloc::{AllocError, Global};
@@ -130,7 +130,7 @@ impl<B: QueueBook + Drop> Server<B> {
         clock: &C,
         out: &mut W,
         connections: u32,
-    ) -> Result<(), ServerFault> {
+    ) -> Result<Standing, ServerFault> {
         let service = Service {
             alloc: self.alloc,
             listener: &self.listener,

@@ -1,6 +1,7 @@
-use Rattle.std.proofs.Common.{◌≡◌, ℕ, Bool, true, false, ◌∙◌, arith, rules, ap, sym, subst, if◌then◌else◌, ◌+◌, ◌^◌}
+use Rattle.std.proofs.Common.{◌≡◌, ℕ, Bool, true, false, ◌∙◌, arith, rules, ap, refl, sym, subst, if◌then◌else◌, ◌+◌, ◌^◌}
 use Rattle.http_head.specs.Left.{left}
 use Rattle.http_head.specs.declared.end.End.{End}
+use Rattle.http_head.specs.declared.end.Finish.TheVariants.{Done}
 use Rattle.http_front.specs.Connections.{IsServed}
 use Rattle.http_front.specs.Crash.{CarriesAll}
 use Rattle.http_front.proofs.CrashLemmas.{carries_no_turn}
@@ -37,7 +38,7 @@ turns-preserved g c = record {
       let on = ran_on (g.B.QueueBook.crash_leaves c.args.book.now) (g.B.QueueBook.crash_leaves c.turns.book) (g.B.QueueBook.crash_leaves c.turn.new.book) c.turns.k c.args.context.moment w r.0 t.0
       (left c.args.input.now.buffer (g.R.Read.remaining c.args.input.now.reader)) (left c.turns.input.buffer (g.R.Read.remaining c.turns.input.reader)) (left c.turn.new.input.buffer (g.R.Read.remaining c.turn.new.input.reader))
       (g.W.Write.contents c.args.writer.now) (g.W.Write.contents c.turns.writer) (g.W.Write.contents c.turn.new.writer)
-      c.turns.acted c.turns.faults c.from-acted.result c.mark-faults.result c.in-Ok-Answered.acts c.in-Ok-Answered.is_fault c.in-Ok-Answered.closes
+      c.turns.acted c.turns.faults c.from-acted.result c.mark-faults.result c.in-Ok-Answered.tally c.in-Ok-Answered.closes
       r.2 r.3 t.2 (counted _ _ c.from-acted.ensures) c.mark-faults.ensures.exact c.if-closes.false in
       (t.0, t.1, on.0, on.1);
 }
@@ -51,7 +52,7 @@ returns-then-closes-clause-served g c = λ h w st set.
       served_done (g.B.QueueBook.crash_leaves c.args.book.now) (g.B.QueueBook.crash_leaves c.turns.book) (g.B.QueueBook.crash_leaves c.turn.new.book) c.turns.k c.args.context.moment w r.0 t.0
           (left c.args.input.now.buffer (g.R.Read.remaining c.args.input.now.reader)) (left c.turns.input.buffer (g.R.Read.remaining c.turns.input.reader)) (left c.turn.new.input.buffer (g.R.Read.remaining c.turn.new.input.reader))
           (g.W.Write.contents c.args.writer.now) (g.W.Write.contents c.turns.writer) (g.W.Write.contents c.turn.new.writer)
-          c.turns.acted c.turns.faults c.from-acted.result c.mark-faults.result c.in-Ok-Answered.acts c.in-Ok-Answered.is_fault c.in-Ok-Answered.closes
+          c.turns.acted c.turns.faults c.from-acted.result c.mark-faults.result c.in-Ok-Answered.tally c.in-Ok-Answered.closes
           c.turns.invariant.few r.2 r.3 t.2 (counted _ _ c.from-acted.ensures) c.mark-faults.ensures.exact c.if-closes.true,
     )
 
@@ -90,9 +91,9 @@ returns-then-closes-clause-worked g c = λ h w st set.
     let all = worked_done (g.B.QueueBook.crash_leaves c.args.book.now) (g.B.QueueBook.crash_leaves c.turns.book) (g.B.QueueBook.crash_leaves c.turn.new.book) c.turns.k c.args.context.moment w r.0 t.0
     (left c.args.input.now.buffer (g.R.Read.remaining c.args.input.now.reader)) (left c.turns.input.buffer (g.R.Read.remaining c.turns.input.reader)) (left c.turn.new.input.buffer (g.R.Read.remaining c.turn.new.input.reader))
     (g.W.Write.contents c.args.writer.now) (g.W.Write.contents c.turns.writer) (g.W.Write.contents c.turn.new.writer)
-    c.turns.acted c.turns.faults c.from-acted.result c.mark-faults.result c.in-Ok-Answered.acts c.in-Ok-Answered.is_fault c.in-Ok-Answered.closes
+    c.turns.acted c.turns.faults c.from-acted.result c.mark-faults.result c.in-Ok-Answered.tally c.in-Ok-Answered.closes
     c.turns.invariant.few r.2 r.3 t.2 (counted _ _ c.from-acted.ensures) c.mark-faults.ensures.exact in
-    (t.0, t.1, all.0, all.1)
+    (t.0, t.1, all.0, all.1, (Done, refl, all.2))
 
 pub returns-in-Ok-Ended-clause-worked : goal.returns-in-Ok-Ended-clause-worked
 returns-in-Ok-Ended-clause-worked g c = λ h w st set.
@@ -101,8 +102,9 @@ returns-in-Ok-Ended-clause-worked g c = λ h w st set.
     let all = worked_ended (g.B.QueueBook.crash_leaves c.args.book.now) (g.B.QueueBook.crash_leaves c.turns.book) (g.B.QueueBook.crash_leaves c.turn.new.book) c.turns.k c.args.context.moment w r.0 t.0
     (left c.args.input.now.buffer (g.R.Read.remaining c.args.input.now.reader)) (left c.turns.input.buffer (g.R.Read.remaining c.turns.input.reader)) (left c.turn.new.input.buffer (g.R.Read.remaining c.turn.new.input.reader))
     (g.W.Write.contents c.args.writer.now) (g.W.Write.contents c.turns.writer) (g.W.Write.contents c.turn.new.writer)
-    c.turns.acted c.turns.faults c.in-Ok-Ended.finish c.turns.invariant.few r.2 r.3 t.2 in
-    (t.0, t.1, all.0, all.1)
+    c.turns.acted c.turns.faults c.mark.result c.in-Ok-Ended.finish c.turns.invariant.few r.2 r.3 t.2
+    (c.mark.ensures.exact ∙ ap (λ b. c.turns.faults + (if b then 2 ^ c.turns.k else 0)) c.is_unavailable.ensures) in
+    (t.0, t.1, all.0, all.1, (c.in-Ok-Ended.finish, c.end.ensures, all.2))
 
 pub returns-in-Err-clause-worked : goal.returns-in-Err-clause-worked
 returns-in-Err-clause-worked g c = λ h w st set.
@@ -111,8 +113,8 @@ returns-in-Err-clause-worked g c = λ h w st set.
     let all = worked_stopped (g.B.QueueBook.crash_leaves c.args.book.now) (g.B.QueueBook.crash_leaves c.turns.book) (g.B.QueueBook.crash_leaves c.turn.new.book) c.turns.k c.args.context.moment w r.0 t.0
     (left c.args.input.now.buffer (g.R.Read.remaining c.args.input.now.reader)) (left c.turns.input.buffer (g.R.Read.remaining c.turns.input.reader)) (left c.turn.new.input.buffer (g.R.Read.remaining c.turn.new.input.reader))
     (g.W.Write.contents c.args.writer.now) (g.W.Write.contents c.turns.writer) (g.W.Write.contents c.turn.new.writer)
-    c.turns.acted c.turns.faults c.from.result c.in-Err.stopped c.turns.invariant.few r.2 r.3 t.2 (counted _ _ c.from.ensures) in
-    (t.0, t.1, all.0, all.1)
+    c.turns.acted c.turns.faults c.from.result c.mark-in-Err.result c.in-Err.stopped c.turns.invariant.few r.2 r.3 t.2 (counted _ _ c.from.ensures) c.mark-in-Err.ensures.exact in
+    (t.0, t.1, all.0, all.1, all.2)
 
 pub returns-then-closes-clause-live : goal.returns-then-closes-clause-live
 returns-then-closes-clause-live g c = λ h live none.

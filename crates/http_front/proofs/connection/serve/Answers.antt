@@ -23,7 +23,10 @@ returns-clause-broken g c = λ h.
     (left_at_first c.new-input.result.buffer _ (g.R.Read.remaining c.args.reader.now) c.new-input.ensures.empty (ap (λ p. g.R.Read.remaining p.now) c.new-input.ensures.reader)) (c.run.ensures.broken h)
 
 pub returns-clause-worked : goal.returns-clause-worked
-returns-clause-worked g c = λ h w st set. let r = c.run.ensures.worked h w st set in (r.0, r.1, r.2)
+returns-clause-worked g c = λ h w st set. let r = c.run.ensures.worked h w st set in (r.0, r.1, r.2, r.4)
+
+pub returns-clause-left : goal.returns-clause-left
+returns-clause-left g c = λ h w st set. let r = c.run.ensures.worked h w st set in (r.0, r.1, r.2, r.3)
 
 pub returns-clause-crash : goal.returns-clause-crash
 returns-clause-crash g c = λ h live w st set.

@@ -47,8 +47,8 @@ returns-in-Ok-clause-replied g c = λ honest w st now content.
     let v = g.W.Write.contents c.args.writer.now in
     let m = g.W.Write.contents c.send_head.new.writer in
     let x = g.W.Write.contents c.send_document.new.out in
-    replied_ok now w w (Document c.args.n) content c.args.closes false v x (format_name d.format) d.bytes (document_answer now w c.args.n content d there)
-    (Appends-trans v m x (success_head (format_name d.format) (length d.bytes) c.args.closes) d.bytes (subst (λ (l : List ℕ). Appends v m l) line c.in_ok-send_head.ensures.ok) sent.1)
+    replied_ok now w w (Document c.args.n) content c.args.closes false c.empty.result v x (format_name d.format) d.bytes (document_answer now w c.args.n content d there)
+    (Appends-trans v m x (success_head (format_name d.format) (length d.bytes) c.args.closes) d.bytes (subst (λ (l : List ℕ). Appends v m l) line c.in_ok-send_head.ensures.ok) sent.1) c.empty.ensures.acted c.empty.ensures.is_fault
 
 pub returns-in-Err-send_document-clause-replied : goal.returns-in-Err-send_document-clause-replied
 returns-in-Err-send_document-clause-replied g c = λ honest w st now content.

@@ -62,8 +62,8 @@ returns-in-Ok-Answered-clause-planned g c = λ honest w st set.
       t.0,
       t.1,
       planned_answered (λ asks. Carries (g.B.QueueBook.crash_leaves c.args.book.now) (g.B.QueueBook.crash_leaves c.reply.new.book) asks c.args.context.moment w t.0) c.args.context.moment c.args.k w t.0 c.args.plan r s (g.W.Write.contents c.args.writer.now) (g.W.Write.contents c.send_continue.new.writer) (g.W.Write.contents c.reply.new.writer)
-          f.0 c.as_slice.result.now t.2.0 c.acts_on_target.result c.in-Ok-Answered.is_fault c.closes_after-closes.result c.in_ok-invited.ensures.ok
-          (body_as c.args.plan.framing f.0 c.in-Ok.content.items c.as_slice.result.now f.1 c.as_slice.ensures.value) f.2 t.2.1 t.2.2 c.acts_on_target.ensures c.closes_after-closes.ensures t.3,
+          f.0 c.as_slice.result.now t.2.0 c.in-Ok-Answered.tally c.closes_after-closes.result c.in_ok-invited.ensures.ok
+          (body_as c.args.plan.framing f.0 c.in-Ok.content.items c.as_slice.result.now f.1 c.as_slice.ensures.value) f.2 t.2.1 t.2.2 t.2.3 c.closes_after-closes.ensures t.3,
     )
 
 pub returns-in-Ok-Declined-clause-planned : goal.returns-in-Ok-Declined-clause-planned

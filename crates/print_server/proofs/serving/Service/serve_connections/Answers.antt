@@ -1,4 +1,4 @@
-use Rattle.std.proofs.Common.{[], ◌++◌, ◌∙◌, refl, sym, arith, length-append}
+use Rattle.std.proofs.Common.{[], ◌++◌, ◌∙◌, Ok, ap, refl, sym, arith, length-append}
 use Rattle.std.proofs.KnownBytes.{Appends-nil}
 use Rattle.std.proofs.lemmas.Result.{err_from_is_err_and}
 use Rattle.print_server.proofs.CrashLemmas.{carries_none, carries_on, left_one}
@@ -6,31 +6,35 @@ use Rattle.print_server.proofs.ConnectionLemmas.{joined, on_err, settings_kept, 
 use Rattle.print_server.proofs.serving.Service.serve_connections.Goals as goal
 
 pub loop-round-init : goal.loop-round-init
-loop-round-init g c = record { began = λ h. h; served = λ h w st set. (w, st, [], refl, refl, Appends-nil _, carries_none (g.B.QueueBook.crash_leaves c.args.book.now) w) }
+loop-round-init g c = record { began = λ h. h; served = λ h w st set. (w, st, [], refl, refl, Appends-nil _, carries_none (g.B.QueueBook.crash_leaves c.args.book.now) w); live = λ h live is. live }
 
 pub loop-round-preserved : goal.loop-round-preserved
 loop-round-preserved g c = record {
   began = λ h. c.loop-round.invariant.began (c.serve_next.ensures.began h);
   served = λ h w st set.
       let r = c.loop-round.invariant.served (c.serve_next.ensures.began h) w st set in
-      let t = c.in_ok-serve_next.ensures.ok h r.0 r.1 (settings_kept c.args.self.settings.now w r.0 r.2 r.3 set) in
+      let t = c.in_ok-standing.ensures.ok h r.0 r.1 (settings_kept c.args.self.settings.now w r.0 r.2 r.3 set) in
       let more = length-append r.2 t.2 in
       (t.0, t.1, r.2 ++ t.2, joined w r.0 t.0 r.2 t.2 r.3 t.3, omega (arith, more, r.4, t.4), told_on _ _ _ r.2 t.2 r.5 t.5, carries_on (g.B.QueueBook.crash_leaves c.args.book.now) (g.B.QueueBook.crash_leaves c.loop-round.book) (g.B.QueueBook.crash_leaves c.serve_next.new.book) w r.0 t.0 r.6 t.6);
+  live = λ h live is. c.serve_next.ensures.live h (λ before. c.loop-round.invariant.live (c.serve_next.ensures.began h) live before) (c.in_ok-standing.was ∙ ap Ok is);
 }
 
-pub returns-in_err-serve_next-clause-err : goal.returns-in_err-serve_next-clause-err
-returns-in_err-serve_next-clause-err g c = λ h. on_err c.from_residual.result _ (λ w st set.
+pub returns-clause-live : goal.returns-clause-live
+returns-clause-live g c = λ h live is. c.loop-round.invariant.live h live (cc is)
+
+pub returns-in_err-standing-clause-err : goal.returns-in_err-standing-clause-err
+returns-in_err-standing-clause-err g c = λ h. on_err c.from_residual.result _ (λ w st set.
     let r = c.loop-round.invariant.served (c.serve_next.ensures.began h) w st set in
-    let t = c.in_err-serve_next.ensures.err h r.0 r.1 (settings_kept c.args.self.settings.now w r.0 r.2 r.3 set) in
+    let t = c.in_err-standing.ensures.err h r.0 r.1 (settings_kept c.args.self.settings.now w r.0 r.2 r.3 set) in
     let more = length-append r.2 t.2 in
     (t.0, t.1, r.2 ++ t.2, joined w r.0 t.0 r.2 t.2 r.3 t.3, omega (arith, more, r.4, t.4), carries_on (g.B.QueueBook.crash_leaves c.args.book.now) (g.B.QueueBook.crash_leaves c.loop-round.book) (g.B.QueueBook.crash_leaves c.serve_next.new.book) w r.0 t.0 r.6 t.5))
 
-pub returns-in_err-serve_next-clause-damaged : goal.returns-in_err-serve_next-clause-damaged
-returns-in_err-serve_next-clause-damaged g c = λ h.
+pub returns-in_err-standing-clause-damaged : goal.returns-in_err-standing-clause-damaged
+returns-in_err-standing-clause-damaged g c = λ h.
     let p = err_from_is_err_and c.from_residual.result c.from_residual.ensures.1 in
     rw p.1 (λ told w st set.
     let r = c.loop-round.invariant.served (c.serve_next.ensures.began h) w st set in
-    c.in_err-serve_next.ensures.damaged h (sym p.2 ∙ told) r.0 r.1 (settings_kept c.args.self.settings.now w r.0 r.2 r.3 set))
+    c.in_err-standing.ensures.damaged h (sym p.2 ∙ told) r.0 r.1 (settings_kept c.args.self.settings.now w r.0 r.2 r.3 set))
 
 pub returns-clause-ok : goal.returns-clause-ok
 returns-clause-ok g c = λ h w st set.
@@ -38,10 +42,10 @@ returns-clause-ok g c = λ h w st set.
     let is = r.4 in
     (r.0, r.1, r.2, r.3, omega (arith, is), r.5, r.6)
 
-pub returns-in_err-serve_next-clause-crash : goal.returns-in_err-serve_next-clause-crash
-returns-in_err-serve_next-clause-crash g c = λ h live w st set.
+pub returns-in_err-standing-clause-crash : goal.returns-in_err-standing-clause-crash
+returns-in_err-standing-clause-crash g c = λ h live w st set.
     let r = c.loop-round.invariant.served (c.serve_next.ensures.began h) w st set in
-    let t = c.in_err-serve_next.ensures.err h r.0 r.1 (settings_kept c.args.self.settings.now w r.0 r.2 r.3 set) in
+    let t = c.in_err-standing.ensures.err h r.0 r.1 (settings_kept c.args.self.settings.now w r.0 r.2 r.3 set) in
     let more = length-append r.2 t.2 in
     let on = carries_on (g.B.QueueBook.crash_leaves c.args.book.now) (g.B.QueueBook.crash_leaves c.loop-round.book) (g.B.QueueBook.crash_leaves c.serve_next.new.book) w r.0 t.0 r.6 t.5 in
     let l = on w (g.met.B.QueueBook.lasts c.args.book.now w w (c.loop-round.invariant.began (c.serve_next.ensures.began h)) live st) in

@@ -3,6 +3,7 @@ use Rattle.std.specs.Io.KnownBytes.{Appends}
 use Rattle.queue_core.specs.World.{World}
 use Rattle.print_server.specs.Connections.{AreConnections, Carries}
 use Rattle.print_server.specs.Lines.{served_lines}
+use Rattle.print_server.specs.declared.serving.Standing.TheVariants.{Live}
 use Rattle.print_server.proofs.serving.Service.serve_connections.Given as goal
 
 abbrev pub invariant-loop-round : goal.invariant-loop-round
@@ -12,4 +13,5 @@ invariant-loop-round g l = record {
       → (u : World) × g.B.QueueBook.stands l.book u × (counts : List ℕ) × AreConnections w counts u × (length counts ≡ l._round)
       × Appends (g.O.Write.contents l.initial.out) (g.O.Write.contents l.out) (served_lines counts)
       × Carries (g.B.QueueBook.crash_leaves l.initial.book) (g.B.QueueBook.crash_leaves l.book) w u;
+  live : g.B.QueueBook.is_honest l.book → g.B.QueueBook.is_live l.initial.book → l.standing ≡ Live → g.B.QueueBook.is_live l.book;
 }

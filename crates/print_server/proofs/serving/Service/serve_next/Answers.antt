@@ -14,8 +14,8 @@ returns-in_err-tell_served-clause-err g c = λ h. on_err c.from_residual-in_err-
     let u = c.serve_stream-served.ensures.worked h w st set in
     (u.0, u.1, c.serve_stream-served.result.acted ∷ [], one c.in_ok-now.now w u.0 _ c.in_ok-now.ensures u.2, omega arith, carries_at (g.B.QueueBook.crash_leaves c.args.book.now) (g.B.QueueBook.crash_leaves c.serve_stream-served.new.book) c.in_ok-now.now w u.0 _ c.in_ok-now.ensures u.2 u.3))
 
-pub returns-in_err-check_book-clause-err : goal.returns-in_err-check_book-clause-err
-returns-in_err-check_book-clause-err g c = λ h. on_err c.from_residual-in_err-check_book.result _ (λ w st set.
+pub returns-in_err-check_book-in-Unseen-clause-err : goal.returns-in_err-check_book-in-Unseen-clause-err
+returns-in_err-check_book-in-Unseen-clause-err g c = λ h. on_err c.from_residual-in_err-check_book-in-Unseen.result _ (λ w st set.
     let u = c.serve_stream-served.ensures.worked (c.check_book.ensures.began h) w st set in (
       u.0,
       c.check_book.ensures.kept u.0 u.1,
@@ -26,8 +26,8 @@ returns-in_err-check_book-clause-err g c = λ h. on_err c.from_residual-in_err-c
           (carries_at (g.B.QueueBook.crash_leaves c.args.book.now) (g.B.QueueBook.crash_leaves c.serve_stream-served.new.book) c.in_ok-now.now w u.0 _ c.in_ok-now.ensures u.2 u.3),
     ))
 
-pub returns-in_ok-check_book-clause-ok : goal.returns-in_ok-check_book-clause-ok
-returns-in_ok-check_book-clause-ok g c = λ h w st set.
+pub returns-in_ok-check_book-in-Unseen-clause-ok : goal.returns-in_ok-check_book-in-Unseen-clause-ok
+returns-in_ok-check_book-in-Unseen-clause-ok g c = λ h w st set.
     let u = c.serve_stream-served.ensures.worked (c.check_book.ensures.began h) w st set in (
       u.0,
       c.check_book.ensures.kept u.0 u.1,
@@ -39,7 +39,7 @@ returns-in_ok-check_book-clause-ok g c = λ h w st set.
           (carries_at (g.B.QueueBook.crash_leaves c.args.book.now) (g.B.QueueBook.crash_leaves c.serve_stream-served.new.book) c.in_ok-now.now w u.0 _ c.in_ok-now.ensures u.2 u.3),
     )
 
-pub returns-else-served-clause-ok : goal.returns-else-served-clause-ok
-returns-else-served-clause-ok g c = λ h w st set.
+pub returns-in-Live-clause-ok : goal.returns-in-Live-clause-ok
+returns-in-Live-clause-ok g c = λ h w st set.
     let u = c.serve_stream-served.ensures.worked h w st set in
     (u.0, u.1, c.serve_stream-served.result.acted ∷ [], one c.in_ok-now.now w u.0 _ c.in_ok-now.ensures u.2, refl, told_one _ _ _ c.in_ok-tell_served.ensures, carries_at (g.B.QueueBook.crash_leaves c.args.book.now) (g.B.QueueBook.crash_leaves c.serve_stream-served.new.book) c.in_ok-now.now w u.0 _ c.in_ok-now.ensures u.2 u.3)
