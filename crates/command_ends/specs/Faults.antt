@@ -31,7 +31,6 @@ fault_of_office office.Io = Io
 abbrev pub fault_of_replay : ReplayFault → Fault
 fault_of_replay replay.Memory = Memory
 fault_of_replay replay.Disk = Disk
-fault_of_replay replay.Damaged = Damaged
 fault_of_replay replay.Io = Io
 
 -- a file or a stream failed

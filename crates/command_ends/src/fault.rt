@@ -108,7 +108,6 @@ impl From<replay::Fault> for Fault {
         match told {
             replay::Fault::Memory => Fault::Memory,
             replay::Fault::Disk => Fault::Disk,
-            replay::Fault::Damaged => Fault::Damaged,
             replay::Fault::Io => Fault::Io,
         }
     }

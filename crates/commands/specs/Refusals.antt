@@ -36,9 +36,9 @@ MayBeToldOf (Serve words) = IsOfServe
 abbrev pub IsOfNoAccount : Fault → Type 0
 IsOfNoAccount fault = (fault ≡ NoAccount) ⊎ (fault ≡ Memory) ⊎ (fault ≡ Disk)
 
--- a replay that can't go on is told so: its book, its input or its output failed
+-- a replay that can't go on is told so: its input or its output failed, there was no memory, or its new store was refused
 abbrev pub IsOfReplay : Fault → Type 0
-IsOfReplay fault = IsOfStore fault ⊎ (fault ≡ Io)
+IsOfReplay fault = IsOfStream fault ⊎ (fault ≡ Disk)
 
 -- what may be told of a command
 abbrev pub MayBeToldBy : Command → Fault → Type 0

@@ -172,10 +172,11 @@ impl<S: Alter + Drop> TableBook<S> {
 }
 
 impl TableBook<MemStore> {
-    /// A new book with these settings, without jobs, accounts and reports, in tables in memory.
+    /// A new book with these settings, without jobs, accounts and reports, in tables in memory. Damaged is never told, since no table is there.
     pub fn in_memory(alloc: Global, settings: Settings) -> Result<TableBook<MemStore>, BookFault>
         ensures stands { IfOk result (λ b. StandsFor over_memory b (empty_queue settings)) }
         ensures live { IfOk result (λ b. IsHonest over_memory b → IsTrue (shown_by over_memory b).is_open) }
+        ensures never { IfErr result (λ e. e ≢ Damaged) }
     {
         let conn = Connection::open_in_memory(alloc)?;
         TableBook::create_or_drop(alloc, conn, settings)

@@ -1,15 +1,8 @@
--- What becomes of the faults of the parts.
+-- What may end a replay.
 use Rattle.std.specs.Prelude.{◌≡◌, ◌⊎◌}
-use Rattle.queue_core.specs.declared.book.BookFault.{BookFault}
-use Rattle.queue_core.specs.declared.book.BookFault.TheVariants as book
 use Rattle.replay.specs.declared.fault.Fault.{Fault}
-use Rattle.replay.specs.declared.fault.Fault.TheVariants.{Memory, Disk, Damaged, Io}
+use Rattle.replay.specs.declared.fault.Fault.TheVariants.{Memory, Io}
 
-abbrev pub fault_of_book : BookFault → Fault
-fault_of_book book.Memory = Memory
-fault_of_book book.Disk = Disk
-fault_of_book book.Damaged = Damaged
-
--- a stream failed
+-- a stream failed, or there was no memory
 abbrev pub IsOfStream : Fault → Type 0
 IsOfStream fault = (fault ≡ Memory) ⊎ (fault ≡ Io)

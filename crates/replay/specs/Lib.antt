@@ -1,5 +1,6 @@
 pub mod Faults
 pub mod Line
+pub mod Places
 pub mod Replay
 pub mod RequestLine
 pub mod Session

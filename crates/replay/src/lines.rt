@@ -1,8 +1,9 @@
 //! The lines of an input.
 
-ghost use Rattle.std.specs.Prelude.{◌≡◌, ◌+◌, ◌<◌, ◌≤◌, ◌++◌, ◌∷◌, ℕ, List, [], length, vec_len, drop, take, IfSome, IfNone, IfOk, OnOk, OnErr};
+ghost use Rattle.std.specs.Prelude.{◌≡◌, ◌+◌, ◌<◌, ◌≤◌, ◌++◌, ◌∷◌, ℕ, List, [], length, vec_len, drop, take, IfSome, IfNone, IfErr, IfOk, OnOk, OnErr};
 ghost use Rattle.std.specs.Bool.{MatchBool, OnFalse};
 ghost use Rattle.std.specs.Io.KnownBytes.{Consumes, IsAtEnd, Keeps};
+ghost use Rattle.replay.specs.Faults.{IsOfStream};
 ghost use Rattle.replay.specs.Line.{GivesLine, IsFrontOf, IsOneLine};
 ghost use Rattle.replay.specs.Unread.{left};
 
@@ -109,6 +110,7 @@ impl LineReader {
             (IsAtEnd (left self.old (R.remaining input.old)))) }
         ensures counted { (self.old.reads ≤ self.new.reads) × (self.new.reads ≤ 4294967295) }
         ensures flushed { Keeps (W.contents tied.old) (W.contents tied.new) }
+        ensures failed { IfErr result IsOfStream }
     {
         line.clear();
         'pieces: loop {
@@ -152,6 +154,7 @@ impl LineReader {
         ensures end { IfOk result (λ is_more. OnFalse is_more ((self.new.come ≡ []) × IsAtEnd (R.remaining input.new))) }
         ensures counted { OnOk result (self.new.reads ≡ self.old.reads + 1) }
         ensures few { (self.old.reads ≤ self.new.reads) × (self.new.reads ≤ 4294967295) }
+        ensures failed { IfErr result IsOfStream }
     {
         if self.reads == MOST_READS {
             return Err(Fault::Io);

@@ -1,12 +1,14 @@
 //! A replay over any book: requests that stand on lines, and the lines that answer them.
 
-ghost use Rattle.std.specs.Prelude.{◌≡◌, ◌≤◌, ℕ, List, IfOk, OnOk};
+ghost use Rattle.std.specs.Prelude.{◌≡◌, ◌≤◌, ℕ, List, IfErr, IfOk, OnOk};
 ghost use Rattle.std.specs.Io.KnownBytes.{Appends};
 ghost use Rattle.queue_core.specs.World.{World};
+ghost use Rattle.replay.specs.Faults.{IsOfStream};
 ghost use Rattle.replay.specs.Replay.{Replays, bad_line, first};
-ghost use Rattle.replay.specs.Session.{State};
+ghost use Rattle.replay.specs.Session.{State, state};
 ghost use Rattle.replay.specs.Unread.{left};
 
+use crate::context::Context;
 use crate::fault::Fault;
 use crate::lines::{Line, LineReader};
 use crate::session::take_line;
@@ -20,7 +22,8 @@ const FIRST_MOMENT: u32 = 1;
 
 /// Answers the lines of an input over a book, whose settings these are, until the input ends, and gives the program's exit
 /// status: 0, or 1 at a bad line: one that is of no form, too long, or whose message is. It is answered by `bad line K`, where lines count from 1, and none
-/// behind it is answered. Answers are flushed before the program waits for more of the input.
+/// behind it is answered. Answers are flushed before the program waits for more of the input. A fault of the book is told in the answer to
+/// its line and ends nothing: a replay ends by a fault only where there was no memory or a stream failed.
 pub fn replay_over<R: Read, W: Write, B: QueueBook>(
     alloc: Global,
     input: &mut R,
@@ -33,35 +36,41 @@ pub fn replay_over<R: Read, W: Write, B: QueueBook>(
     ensures answered { B.is_honest book.new → IfOk result (λ status. (w : World) → B.stands book.old w → settings.now ≡ w.settings
         → (last : State) × (text : List ℕ) × Replays (R.remaining input.old) (first w) status text last × B.stands book.new last.queue
         × Appends (W.contents output.old) (W.contents output.new) text) }
+    ensures failed { IfErr result IsOfStream }
 {
     let mut lines = LineReader::new(alloc)?;
     let mut line = Line::new(alloc);
-    answer_lines(alloc, input, output, book, settings, &mut lines, &mut line)
+    let first = Context {
+        alloc,
+        settings,
+        now: FIRST_MOMENT,
+    };
+    answer_lines(first, book, input, output, &mut lines, &mut line)
 }
 
 /// Answers the lines that are left. The line is room for each.
 fn answer_lines<R: Read, W: Write, B: QueueBook>(
-    alloc: Global,
+    first: Context<'_>,
+    book: &mut B,
     input: &mut R,
     output: &mut W,
-    book: &mut B,
-    settings: &Settings,
     lines: &mut LineReader,
     line: &mut Line,
 ) -> Result<u8, Fault>
     ensures began { B.is_honest book.new → B.is_honest book.old }
     ensures status { IfOk result (λ status. status ≤ 1) }
-    ensures answered { B.is_honest book.new → IfOk result (λ status. (w : World) → B.stands book.old w → settings.now ≡ w.settings
-        → (last : State) × (text : List ℕ) × Replays (left lines.old (R.remaining input.old)) (first w) status text last × B.stands book.new last.queue
+    ensures answered { B.is_honest book.new → IfOk result (λ status. (w : World) → B.stands book.old w → first.entry.settings.now ≡ w.settings
+        → (last : State) × (text : List ℕ) × Replays (left lines.old (R.remaining input.old)) (state first.entry.now w) status text last × B.stands book.new last.queue
         × Appends (W.contents output.old) (W.contents output.new) text) }
+    ensures failed { IfErr result IsOfStream }
 {
-    let mut now = FIRST_MOMENT;
+    let mut now = first.now;
     for number in 1..u64::MAX {
         if !lines.next_line(input, output, line)? {
             output.flush()?;
             return Ok(0);
         }
-        match take_line(alloc, book, settings, now, line, output)? {
+        match take_line(first.at(now), book, line, output)? {
             Some(next) => now = next,
             None => {
                 tell_bad_line(output, number)?;
@@ -74,7 +83,8 @@ fn answer_lines<R: Read, W: Write, B: QueueBook>(
 
 /// Writes which line is bad, at once.
 fn tell_bad_line<W: Write>(output: &mut W, number: u64) -> Result<(), Fault>
-    ensures { OnOk result (Appends (W.contents output.old) (W.contents output.new) (bad_line number)) }
+    ensures told { OnOk result (Appends (W.contents output.old) (W.contents output.new) (bad_line number)) }
+    ensures failed { IfErr result IsOfStream }
 {
     writeln!(output, "bad line {number}")?;
     output.flush()?;

@@ -1,6 +1,6 @@
 //! What a line of a replay asks is done, over any book, and answered.
 
-ghost use Rattle.std.specs.Prelude.{◌≡◌, ◌<◌, ◌≤◌, ◌++◌, ◌∷◌, [], ℕ, List, Result, Ok, IfOk, IfNone, IfSome, OnErr, OnOk, codes, length};
+ghost use Rattle.std.specs.Prelude.{◌≡◌, ◌<◌, ◌≤◌, ◌++◌, ◌∷◌, [], ℕ, List, Result, Ok, IfErr, IfOk, IfNone, IfSome, OnErr, OnOk, codes, length};
 ghost use Rattle.std.specs.Fmt.{decimal};
 ghost use Rattle.std.specs.Bool.{OnFalse, OnTrue};
 ghost use Rattle.std.specs.Io.KnownBytes.{Appends};
@@ -13,9 +13,11 @@ ghost use Rattle.grants_csv.specs.declared.importing.Imported.{Imported};
 ghost use Rattle.ipp_ops.specs.Answer.{bytes_of};
 ghost use Rattle.queue_core.specs.Limits.{IsMoment};
 ghost use Rattle.queue_core.specs.World.{World};
+ghost use Rattle.replay.specs.Faults.{IsOfStream};
 ghost use Rattle.replay.specs.Replay.{IsBadLine, TakesLine};
 ghost use Rattle.replay.specs.Session.{AnswersMessage, IsNoMessage, IsReply, file_of, import_line, state};
 
+use crate::context::Context;
 use crate::fault::Fault;
 use crate::hexadecimal::{HexFault, put_hex, read_hex};
 use crate::lines::Line;
@@ -24,27 +26,24 @@ use device_lines::report;
 use grants_csv::{ImportCause, ImportFault, Imported, import};
 use ipp_ops::{Answer, TooShort, answer};
 use queue_core::book::QueueBook;
-use queue_types::settings::Settings;
 use std::alloc::{AllocError, Global};
 use std::io::Write;
 
-/// Does at this moment what a line asks, writes what answers it, and tells the moment of the next line. There is none
-/// where the line is bad, and then nothing happens.
+/// Does what a line asks, writes what answers it, and tells the moment of the next line. There is none where the line is bad,
+/// and then nothing happens.
 pub fn take_line<B: QueueBook, W: Write>(
-    alloc: Global,
+    context: Context<'_>,
     book: &mut B,
-    settings: &Settings,
-    now: u32,
     line: &Line,
     output: &mut W,
 ) -> Result<Option<u32>, Fault>
-    requires { IsMoment now }
     ensures began { B.is_honest book.new → B.is_honest book.old }
     ensures moment { IfOk result (λ next. IfSome next IsMoment) }
-    ensures taken { B.is_honest book.new → IfOk result (λ next. IfSome next (λ moment. (w : World) → B.stands book.old w → settings.now ≡ w.settings
-        → (u : World) × (text : List ℕ) × TakesLine line.now (state now w) (state moment u) text
+    ensures taken { B.is_honest book.new → IfOk result (λ next. IfSome next (λ moment. (w : World) → B.stands book.old w → context.entry.settings.now ≡ w.settings
+        → (u : World) × (text : List ℕ) × TakesLine line.now (state context.entry.now w) (state moment u) text
         × B.stands book.new u × Appends (W.contents output.old) (W.contents output.new) text)) }
     ensures bad { IfOk result (λ next. IfNone next (IsBadLine line.now × (book.new ≡ book.old) × (output.new ≡ output.old))) }
+    ensures failed { IfErr result IsOfStream }
 {
     if line.is_cut {
         return Ok(None);
@@ -55,42 +54,40 @@ pub fn take_line<B: QueueBook, W: Write>(
     match request {
         RequestLine::Now(moment) => Ok(Some(moment)),
         RequestLine::Ipp(digits) => {
-            if answer_digits(alloc, book, settings, now, digits, output)? {
-                Ok(Some(now))
+            if answer_digits(context, book, digits, output)? {
+                Ok(Some(context.now))
             } else {
                 Ok(None)
             }
         }
         RequestLine::Dev(text) => {
-            answer_device(alloc, book, now, text, output)?;
-            Ok(Some(now))
+            answer_device(context, book, text, output)?;
+            Ok(Some(context.now))
         }
         RequestLine::Grant(row) => {
-            import_row(alloc, book, now, row, output)?;
-            Ok(Some(now))
+            import_row(context, book, row, output)?;
+            Ok(Some(context.now))
         }
     }
 }
 
 /// Writes the line that answers the message of these digits, and says whether they stand for one. Else nothing happens.
 fn answer_digits<B: QueueBook, W: Write>(
-    alloc: Global,
+    context: Context<'_>,
     book: &mut B,
-    settings: &Settings,
-    now: u32,
     digits: &[u8],
     output: &mut W,
 ) -> Result<bool, Fault>
-    requires { IsMoment now }
     ensures began { B.is_honest book.new → B.is_honest book.old }
-    ensures answered { B.is_honest book.new → IfOk result (λ is_message. OnTrue is_message ((w : World) → B.stands book.old w → settings.now ≡ w.settings
-        → (u : World) × (text : List ℕ) × ((message : List ℕ) × (decode_of digits.now ≡ Ok message) × AnswersMessage w now message u text)
+    ensures answered { B.is_honest book.new → IfOk result (λ is_message. OnTrue is_message ((w : World) → B.stands book.old w → context.entry.settings.now ≡ w.settings
+        → (u : World) × (text : List ℕ) × ((message : List ℕ) × (decode_of digits.now ≡ Ok message) × AnswersMessage w context.entry.now message u text)
         × B.stands book.new u × Appends (W.contents output.old) (W.contents output.new) text)) }
     ensures refused { IfOk result (λ is_message. OnFalse is_message (IsNoMessage digits.now × (book.new ≡ book.old) × (output.new ≡ output.old))) }
+    ensures failed { IfErr result IsOfStream }
 {
-    match read_hex(alloc, digits) {
+    match read_hex(context.alloc, digits) {
         Ok(message) => {
-            answer_message(alloc, book, settings, now, message.as_slice(), output)?;
+            answer_message(context, book, message.as_slice(), output)?;
             Ok(true)
         }
         Err(HexFault::NotOfTheForm | HexFault::TooLong) => Ok(false),
@@ -100,21 +97,19 @@ fn answer_digits<B: QueueBook, W: Write>(
 
 /// Writes the line that answers a message.
 fn answer_message<B: QueueBook, W: Write>(
-    alloc: Global,
+    context: Context<'_>,
     book: &mut B,
-    settings: &Settings,
-    now: u32,
     message: &[u8],
     output: &mut W,
 ) -> Result<(), Fault>
-    requires moment { IsMoment now }
-    requires fits { length message.now ≤ 16777216 }
+    requires { length message.now ≤ 16777216 }
     ensures began { B.is_honest book.new → B.is_honest book.old }
-    ensures answered { B.is_honest book.new → OnOk result ((w : World) → B.stands book.old w → settings.now ≡ w.settings
-        → (u : World) × (text : List ℕ) × AnswersMessage w now message.now u text
+    ensures answered { B.is_honest book.new → OnOk result ((w : World) → B.stands book.old w → context.entry.settings.now ≡ w.settings
+        → (u : World) × (text : List ℕ) × AnswersMessage w context.entry.now message.now u text
         × B.stands book.new u × Appends (W.contents output.old) (W.contents output.new) text) }
+    ensures failed { IfErr result IsOfStream }
 {
-    match answered(alloc, book, settings, now, message) {
+    match answered(context, book, message) {
         Ok(reply) => {
             output.write_all(b"ipp ")?;
             put_hex(output, reply.bytes())?;
@@ -127,58 +122,53 @@ fn answer_message<B: QueueBook, W: Write>(
 
 /// The answer to a message.
 fn answered<B: QueueBook>(
-    alloc: Global,
+    context: Context<'_>,
     book: &mut B,
-    settings: &Settings,
-    now: u32,
     message: &[u8],
 ) -> Result<Answer, TooShort>
-    requires moment { IsMoment now }
-    requires fits { length message.now ≤ 16777216 }
+    requires { length message.now ≤ 16777216 }
     ensures began { B.is_honest book.new → B.is_honest book.old }
-    ensures reply { B.is_honest book.new → IfOk result (λ reply. (w : World) → B.stands book.old w → settings.now ≡ w.settings
-        → (u : World) × IsReply w now message.now u (bytes_of reply) × B.stands book.new u) }
+    ensures reply { B.is_honest book.new → IfOk result (λ reply. (w : World) → B.stands book.old w → context.entry.settings.now ≡ w.settings
+        → (u : World) × IsReply w context.entry.now message.now u (bytes_of reply) × B.stands book.new u) }
     ensures short { OnErr result ((length message.now < 8) × ((w : World) → B.stands book.old w → B.stands book.new w)) }
 {
-    answer(alloc, book, settings, now, message)
+    answer(context.alloc, book, context.settings, context.now, message)
 }
 
 /// Writes the answer to a line of the device.
 fn answer_device<B: QueueBook, W: Write>(
-    alloc: Global,
+    context: Context<'_>,
     book: &mut B,
-    now: u32,
     text: &[u8],
     output: &mut W,
 ) -> Result<(), Fault>
-    requires { IsMoment now }
     ensures began { B.is_honest book.new → B.is_honest book.old }
     ensures answered { B.is_honest book.new → OnOk result ((w : World) → B.stands book.old w
-        → (u : World) × (out : List ℕ) × AnswersLine w now (text.now ++ 10 ∷ []) u out
+        → (u : World) × (out : List ℕ) × AnswersLine w context.entry.now (text.now ++ 10 ∷ []) u out
         × B.stands book.new u × Appends (W.contents output.old) (W.contents output.new) out) }
+    ensures failed { IfErr result IsOfStream }
 {
-    let line = ended_line(alloc, text)?;
-    let answer = report(book, now, line.as_slice());
+    let line = ended_line(context.alloc, text)?;
+    let answer = report(book, context.now, line.as_slice());
     output.write_all(answer.bytes())?;
     Ok(())
 }
 
 /// Imports the account file of one row, and writes what came of it.
 fn import_row<B: QueueBook, W: Write>(
-    alloc: Global,
+    context: Context<'_>,
     book: &mut B,
-    now: u32,
     row: &[u8],
     output: &mut W,
 ) -> Result<(), Fault>
-    requires { IsMoment now }
     ensures began { B.is_honest book.new → B.is_honest book.old }
     ensures answered { B.is_honest book.new → OnOk result ((w : World) → B.stands book.old w
-        → (u : World) × (answer : Result Imported ImportFault) × Imports w now (file_of row.now) u answer
+        → (u : World) × (answer : Result Imported ImportFault) × Imports w context.entry.now (file_of row.now) u answer
         × B.stands book.new u × Appends (W.contents output.old) (W.contents output.new) (import_line answer)) }
+    ensures failed { IfErr result IsOfStream }
 {
-    let file = account_file(alloc, row)?;
-    let answer = import(alloc, book, now, file.as_slice());
+    let file = account_file(context.alloc, row)?;
+    let answer = import(context.alloc, book, context.now, file.as_slice());
     tell_import(output, &answer)?;
     Ok(())
 }
@@ -207,7 +197,8 @@ fn tell_import<W: Write>(
     output: &mut W,
     answer: &Result<Imported, ImportFault>,
 ) -> Result<(), Fault>
-    ensures { OnOk result (Appends (W.contents output.old) (W.contents output.new) (import_line answer.now)) }
+    ensures told { OnOk result (Appends (W.contents output.old) (W.contents output.new) (import_line answer.now)) }
+    ensures failed { IfErr result IsOfStream }
 {
     match answer {
         Ok(n) => tell_added(output, *n),
@@ -216,7 +207,8 @@ fn tell_import<W: Write>(
 }
 
 fn tell_added<W: Write>(output: &mut W, imported: Imported) -> Result<(), Fault>
-    ensures { OnOk result (Appends (W.contents output.old) (W.contents output.new) (import_line (Ok imported))) }
+    ensures told { OnOk result (Appends (W.contents output.old) (W.contents output.new) (import_line (Ok imported))) }
+    ensures failed { IfErr result IsOfStream }
 {
     let Imported { added, repeats } = imported;
     writeln!(output, "grant new {added} repeats {repeats}")?;
@@ -224,7 +216,8 @@ fn tell_added<W: Write>(output: &mut W, imported: Imported) -> Result<(), Fault>
 }
 
 fn tell_refused<W: Write>(output: &mut W, cause: ImportCause) -> Result<(), Fault>
-    ensures { OnOk result (Appends (W.contents output.old) (W.contents output.new) (codes "grant refused " ++ decimal (code_of cause) ++ 10 ∷ [])) }
+    ensures told { OnOk result (Appends (W.contents output.old) (W.contents output.new) (codes "grant refused " ++ decimal (code_of cause) ++ 10 ∷ [])) }
+    ensures failed { IfErr result IsOfStream }
 {
     let code = cause.code();
     writeln!(output, "grant refused {code}")?;

@@ -11,7 +11,7 @@ use Rattle.replay_in_memory.proofs.replay_with.Goals as goal
 
 pub returns-clause-answered : goal.returns-clause-answered
 returns-clause-answered g c =
-    let stands = subst (λ (s : SettingValues). StandsFor over_memory c.in_ok-book.book (empty_queue s)) c.in_ok-try_clone.ensures.same c.in_ok-book.ensures.stands in
+    let stands = subst (λ (s : SettingValues). StandsFor over_memory c.in_ok-book.book (empty_queue s)) c.in_ok-try_clone.ensures.same c.in_ok-book.ensures in
     ok_so c.replay_over.result _
     (λ (status : ℕ). (last : State) × (text : List ℕ) × Replays (g.R.Read.remaining c.args.input.now) (first (empty_queue c.args.printer.now)) status text last
     × Appends (g.W.Write.contents c.args.output.now) (g.W.Write.contents c.replay_over.new.output) text)

@@ -3,12 +3,12 @@ use Rattle.std.specs.Io.KnownBytes.{Appends}
 use Rattle.std.proofs.KnownBytes.{Appends-kept, Appends-nil, Appends-trans}
 use Rattle.std.proofs.lemmas.Bool.Decides.{when_false, when_true}
 use Rattle.replay.proofs.SessionLemmas.{takes_settings}
-use Rattle.replay.specs.Replay.{bad_line, broken, none, one_more, whole}
+use Rattle.replay.specs.Replay.{TakesLine, bad_line, broken, none, one_more, whole}
 use Rattle.replay.specs.Session.{state}
 use Rattle.replay.proofs.replaying.answer_lines.Goals as goal
 
 pub loop-number-init : goal.loop-number-init
-loop-number-init g c = record { began = λ h. h; moment = omega arith; taken = λ h w s set. (w, 0, [], refl, none, s, set, Appends-nil _) }
+loop-number-init g c = record { began = λ h. h; moment = c.args.first.moment; taken = λ h w s set. (w, 0, [], refl, none, s, set, Appends-nil _) }
 
 pub loop-number-preserved : goal.loop-number-preserved
 loop-number-preserved g c = record {
@@ -18,14 +18,15 @@ loop-number-preserved g c = record {
       let r = c.loop-number.invariant.taken (c.take_line.ensures.began h) w s set in
       let given = when_true _ _ c.if-not-branch.false c.in_ok-next_line.ensures.given in
       let took = rw c.in-Some.is at (c.in_ok-next.ensures.taken h) in
-      let t = took r.0 r.5 r.6 in
-      let kept = takes_settings t.2.request (state c.loop-number.now r.0) (state c.in-Some.next t.0) t.1 t.2.takes in
+      let t = took r.0 r.5 (c.at.ensures.settings ∙ r.6) in
+      let takes = subst (λ (n : ℕ). TakesLine c.next_line.new.line (state n r.0) (state c.in-Some.next t.0) t.1) c.at.ensures.moment t.2 in
+      let kept = takes_settings takes.request (state c.loop-number.now r.0) (state c.in-Some.next t.0) t.1 takes.takes in
       let counted = r.3 in (
         t.0,
         r.1 + 1,
         r.2 ++ t.1,
         omega (arith, counted),
-        one_more r.1 r.2 t.1 _ _ _ _ _ r.4 given t.2,
+        one_more r.1 r.2 t.1 _ _ _ _ _ r.4 given takes,
         t.3,
         r.6 ∙ sym kept,
         Appends-trans _ _ _ r.2 t.1 (Appends-kept _ _ _ _ r.7 c.in_ok-next_line.ensures.flushed) t.4,
@@ -55,7 +56,7 @@ returns-in-None-clause-answered g c = λ h w s set.
     let r = c.loop-number.invariant.taken (c.take_line.ensures.began h) w s set in
     let given = when_true _ _ c.if-not-branch.false c.in_ok-next_line.ensures.given in
     let bad = rw c.in-None.is at c.in_ok-next.ensures.bad in
-    let told = told_as g.W.Write.contents _ _ _ _ _ bad.2 r.3 c.in_ok-tell_bad_line-in-None.ensures in (
+    let told = told_as g.W.Write.contents _ _ _ _ _ bad.2 r.3 c.in_ok-tell_bad_line-in-None.ensures.told in (
       state c.loop-number.now r.0,
       r.2 ++ bad_line (r.1 + 1),
       broken r.1 r.2 _ _ _ _ r.4 given bad.0,

@@ -8,7 +8,7 @@ returns-clause-answered g c = λ h w s.
     let a = c.report-answer.ensures.answers h w s in (
       a.0,
       c.report-answer.result,
-      subst (λ (l : _). AnswersLine w c.args.now l a.0 c.report-answer.result) line a.1,
+      subst (λ (l : _). AnswersLine w c.args.context.now l a.0 c.report-answer.result) line a.1,
       a.2,
       rw (← c.bytes.ensures) c.in_ok-write_all.ensures.bytes,
     )

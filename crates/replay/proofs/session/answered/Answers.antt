@@ -2,5 +2,5 @@ use Rattle.replay.proofs.SessionLemmas.{is_reply}
 use Rattle.replay.proofs.session.answered.Goals as goal
 
 pub returns-clause-reply : goal.returns-clause-reply
-returns-clause-reply g c = λ h. is_reply (g.B.QueueBook.stands c.args.book.now) (g.B.QueueBook.stands c.answer.new.book) c.args.now c.args.settings.now c.args.message.now c.answer.result
+returns-clause-reply g c = λ h. is_reply (g.B.QueueBook.stands c.args.book.now) (g.B.QueueBook.stands c.answer.new.book) c.args.context.now c.args.context.settings.now c.args.message.now c.answer.result
     (c.answer.ensures.answered h) (c.answer.ensures.failed h)

@@ -9,7 +9,7 @@ returns-clause-answered g c = λ h w s.
     let a = c.import-answer.ensures.imports h w s in (
       a.0,
       c.import-answer.result,
-      subst (λ bytes. Imports w c.args.now bytes a.0 c.import-answer.result) file a.1,
+      subst (λ bytes. Imports w c.args.context.now bytes a.0 c.import-answer.result) file a.1,
       a.2,
-      c.in_ok-tell_import.ensures,
+      c.in_ok-tell_import.ensures.told,
     )
