@@ -14,9 +14,12 @@ use Rattle.queue_core.specs.Limits.{IsMoment}
 use Rattle.queue_core.specs.Shown.{sheet_of}
 use Rattle.queue_core.specs.World.{World}
 use Rattle.queue_types.specs.declared.sheet.AccountSheet.{AccountSheet}
+use Rattle.queue_store.specs.Kept.{IsHonest, StandsFor, shown_by}
+use Rattle.queue_store.specs.declared.book.TableBook.{TableBook}
 use Rattle.queue_tables.specs.Content.{LeavesOneOf}
 use Rattle.sqlite.specs.State.{State}
-use Rattle.commands.specs.Refusals.{IsOfNoAccount}
+use Rattle.sqlite_trees.specs.declared.store.Store.{Ghosts}
+use Rattle.commands.specs.Refusals.{IsOfNoAccount, MayBeToldOf}
 use Rattle.commands.specs.declared.work.Work.{Work}
 use Rattle.commands.specs.declared.work.Work.TheVariants.{Import, Statement, Serve}
 
@@ -84,6 +87,26 @@ abbrev pub PrintsLast : Work → Type 0
 PrintsLast (Import words) = ⊤
 PrintsLast (Statement words) = ⊤
 PrintsLast (Serve words) = ⊥
+
+-- what is told of work that was refused: a fault that may be told of it; and what prints nothing before it is done has printed nothing, or a stream failed
+pub record IsRefusal (work : Work) (before after : Option (List ℕ)) (fault : Fault) : Type 0 where
+  pub told : MayBeToldOf work fault
+  pub quiet : PrintsLast work → IsOfStream fault ⊎ (after ≡ before)
+
+-- a book, and what was written, before the work and after it
+module _ {S : Type 0} (store : Ghosts S) (are_read : List ℕ → Type 0) (work : Work) (old new : TableBook S) (before after : Option (List ℕ)) where
+  -- the work is done: of the queue w it made u, and a crash at any moment leaves u, or a queue that may be left beside it
+  pub record IsDoneOn : Type 0 where
+    pub began : IsHonest store old
+    pub done : (w : World) → StandsFor store old w → (u : World) × StandsFor store new u × IsDone are_read work w u before after
+        × CrashLeaves (shown_by store old) (shown_by store new) u (MayBeLeft are_read work w u)
+    pub live : LeavesOpen work → IsTrue (shown_by store new).is_open
+
+  -- the work is refused with this fault: of the queue w it left u, and a crash at any moment leaves u, or a queue that may be left beside it
+  pub record IsRefusedOn (fault : Fault) : Type 0 where
+    pub began : IsHonest store old
+    pub refused : (w : World) → StandsFor store old w → (u : World) × StandsFor store new u × IsNotDone are_read work fault w u before after
+        × CrashLeaves (shown_by store old) (shown_by store new) u (MayBeLeft are_read work w u)
 
 abbrev pub store_of : Work → List ℕ
 store_of (Import words) = words.store.now

@@ -10,7 +10,7 @@ ghost use Rattle.queue_tables.specs.Content.{LeavesOneOf};
 ghost use Rattle.command_ends.specs.Faults.{IsOfStream};
 ghost use Rattle.commands.specs.Store.{IsOfStore};
 ghost use Rattle.commands.specs.Refusals.{MayBeToldOf};
-ghost use Rattle.commands.specs.Work.{AreAny, AreReadIn, CrashLeaves, IsDone, IsNotDone, LeavesOpen, MayBeLeft, PrintsLast, store_of};
+ghost use Rattle.commands.specs.Work.{AreAny, AreReadIn, IsDone, IsDoneOn, IsRefusal, IsRefusedOn, LeavesOpen, MayBeLeft, PrintsLast, store_of};
 
 use crate::office_commands::{import_into, print_from};
 use crate::serving::serve_book;
@@ -75,19 +75,11 @@ fn work_on<
     output: &mut W,
     book: &mut TableBook<S>,
 ) -> Result<(), Fault>
-    ensures began { IsHonest S.Store book.new → IsHonest S.Store book.old }
-    ensures done { IsHonest S.Store book.new → OnOk result ((w : World) → StandsFor S.Store book.old w
-        → (u : World) × StandsFor S.Store book.new u × IsDone (AreReadIn F.remaining file) work.entry w u (W.contents output.old) (W.contents output.new)
-        × CrashLeaves (shown_by S.Store book.old) (shown_by S.Store book.new) u (MayBeLeft (AreReadIn F.remaining file) work.entry w u)) }
-    ensures live { IsHonest S.Store book.new → OnOk result (LeavesOpen work.entry → IsTrue (shown_by S.Store book.new).is_open) }
-    ensures quiet { IfErr result (λ f. PrintsLast work.entry → IsOfStream f ⊎ (W.contents output.new ≡ W.contents output.old)) }
-    ensures told { IfErr result (MayBeToldOf work.entry) }
-    ensures refused { IsHonest S.Store book.new → IfErr result (λ fault. (w : World) → StandsFor S.Store book.old w
-        → (u : World) × StandsFor S.Store book.new u × IsNotDone (AreReadIn F.remaining file) work.entry fault w u (W.contents output.old) (W.contents output.new)
-        × CrashLeaves (shown_by S.Store book.old) (shown_by S.Store book.new) u (MayBeLeft (AreReadIn F.remaining file) work.entry w u)) }
-    // whatever it answers, and at any moment
-    ensures crash { IsHonest S.Store book.new → IsTrue (shown_by S.Store book.old).is_open → (w : World) → StandsFor S.Store book.old w
-        → (u x : World) × StandsFor S.Store book.new u × LeavesOneOf u x (shown_by S.Store book.new) × MayBeLeft (AreReadIn F.remaining file) work.entry w u x }
+    ensures done { IsHonest S.Store book.new
+        → OnOk result (IsDoneOn S.Store (AreReadIn F.remaining file) work.entry book.old book.new (W.contents output.old) (W.contents output.new)) }
+    ensures refused { IsHonest S.Store book.new
+        → IfErr result (IsRefusedOn S.Store (AreReadIn F.remaining file) work.entry book.old book.new (W.contents output.old) (W.contents output.new)) }
+    ensures told { IfErr result (IsRefusal work.entry (W.contents output.old) (W.contents output.new)) }
 {
     match work {
         Work::Import(_) => import_into(alloc, rt, file, output, book),
@@ -110,19 +102,11 @@ fn work_in<
     output: &mut W,
     book: &mut TableBook<FileStore<D>>,
 ) -> Result<(), Fault>
-    ensures began { IsHonest over_files book.new → IsHonest over_files book.old }
-    ensures done { IsHonest over_files book.new → OnOk result ((w : World) → StandsFor over_files book.old w
-        → (u : World) × StandsFor over_files book.new u × IsDone (AreReadIn F.remaining file) work.entry w u (W.contents output.old) (W.contents output.new)
-        × CrashLeaves (shown_by over_files book.old) (shown_by over_files book.new) u (MayBeLeft (AreReadIn F.remaining file) work.entry w u)) }
-    ensures live { IsHonest over_files book.new → OnOk result (LeavesOpen work.entry → IsTrue (shown_by over_files book.new).is_open) }
-    ensures quiet { IfErr result (λ f. PrintsLast work.entry → IsOfStream f ⊎ (W.contents output.new ≡ W.contents output.old)) }
-    ensures told { IfErr result (MayBeToldOf work.entry) }
-    ensures refused { IsHonest over_files book.new → IfErr result (λ fault. (w : World) → StandsFor over_files book.old w
-        → (u : World) × StandsFor over_files book.new u × IsNotDone (AreReadIn F.remaining file) work.entry fault w u (W.contents output.old) (W.contents output.new)
-        × CrashLeaves (shown_by over_files book.old) (shown_by over_files book.new) u (MayBeLeft (AreReadIn F.remaining file) work.entry w u)) }
-    // whatever it answers, and at any moment
-    ensures crash { IsHonest over_files book.new → IsTrue (shown_by over_files book.old).is_open → (w : World) → StandsFor over_files book.old w
-        → (u x : World) × StandsFor over_files book.new u × LeavesOneOf u x (shown_by over_files book.new) × MayBeLeft (AreReadIn F.remaining file) work.entry w u x }
+    ensures done { IsHonest over_files book.new
+        → OnOk result (IsDoneOn over_files (AreReadIn F.remaining file) work.entry book.old book.new (W.contents output.old) (W.contents output.new)) }
+    ensures refused { IsHonest over_files book.new
+        → IfErr result (IsRefusedOn over_files (AreReadIn F.remaining file) work.entry book.old book.new (W.contents output.old) (W.contents output.new)) }
+    ensures told { IfErr result (IsRefusal work.entry (W.contents output.old) (W.contents output.new)) }
 {
     work_on(alloc, rt, work, file, output, book)
 }
@@ -141,12 +125,9 @@ fn work_over<
     output: &mut W,
     mut book: TableBook<FileStore<D>>,
 ) -> Result<TableBook<FileStore<D>>, Fault>
-    ensures done { IfOk result (λ b. IsHonest over_files b → IsHonest over_files book × ((w : World) → StandsFor over_files book w
-        → (u : World) × StandsFor over_files b u × IsDone (AreReadIn F.remaining file) work.entry w u (W.contents output.old) (W.contents output.new)
-        × CrashLeaves (shown_by over_files book) (shown_by over_files b) u (MayBeLeft (AreReadIn F.remaining file) work.entry w u))) }
-    ensures live { IfOk result (λ b. IsHonest over_files b → LeavesOpen work.entry → IsTrue (shown_by over_files b).is_open) }
-    ensures quiet { IfErr result (λ f. PrintsLast work.entry → IsOfStream f ⊎ (W.contents output.new ≡ W.contents output.old)) }
-    ensures told { IfErr result (MayBeToldOf work.entry) }
+    ensures done { IfOk result (λ b. IsHonest over_files b
+        → IsDoneOn over_files (AreReadIn F.remaining file) work.entry book b (W.contents output.old) (W.contents output.new)) }
+    ensures told { IfErr result (IsRefusal work.entry (W.contents output.old) (W.contents output.new)) }
 {
     let done = work_in(alloc, rt, work, file, output, &mut book);
     left(book, done)
