@@ -8,8 +8,8 @@ use std::alloc::{AllocError, AllocFailed};
 /// Why a step is not well.
 #[derive(Debug, Drop)]
 pub enum StepFault {
-    /// What came is not what was wanted.
-    Differs { wanted: String, came: String },
+    /// What came is not what was wanted: both.
+    Differs(String),
     /// The book could not do it.
     Book(BookFault),
     /// The book could not do it, and the answer is the one that tells this, and not why.

@@ -2,13 +2,17 @@
 //! is wanted of it, and a difference names the book, the row and the step.
 #![tactic(auto)]
 
+mod accounts;
+mod asked;
 mod desk;
+mod device;
+mod documents;
 mod fault;
 mod request;
 mod shelf;
 mod step;
 
-pub use desk::{Desk, Place};
+pub use desk::{Desk, Place, printer};
 pub use fault::{Books, RowFault, StepFault};
 pub use request::{JobsWanted, Request};
 pub use shelf::{Shelf, take_row};

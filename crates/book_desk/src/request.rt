@@ -4,9 +4,11 @@ use std::alloc::{AllocError, Global};
 
 /// What a caller asks.
 #[derive(Clone, Copy)]
-pub enum Request {
+pub enum Request<'a> {
     /// Print-Job with the document `hi`.
     Print,
+    /// Print-Job with this document.
+    PrintThis(&'a [u8]),
     /// Print-Job of so many impressions and copies.
     PrintSized {
         impressions: u32,
@@ -17,7 +19,7 @@ pub enum Request {
     /// Send-Document to the job of that number.
     Send {
         job: u32,
-        document: &'static [u8],
+        document: &'a [u8],
         last: bool,
     },
     /// Release-Job.
@@ -30,8 +32,14 @@ pub enum Request {
     CancelMine(Option<u32>),
     /// Get-Job-Attributes of the state and its reasons.
     Look(u32),
+    /// Get-Job-Attributes of all of them.
+    LookAtAll(u32),
     /// Get-Jobs of the numbers.
     Jobs(JobsWanted),
+    /// Get-Jobs of all attributes.
+    JobsInFull(JobsWanted),
+    /// Get-Printer-Attributes of all of them.
+    Printer,
 }
 
 /// The jobs that Get-Jobs lists.
@@ -65,16 +73,17 @@ impl JobsWanted {
     }
 }
 
-impl Request {
+impl<'a> Request<'a> {
     /// The operation's number.
     fn operation(self) -> u8 {
         match self {
-            Request::Print | Request::PrintSized { .. } => 0x02,
+            Request::Print | Request::PrintThis(_) | Request::PrintSized { .. } => 0x02,
             Request::Create => 0x05,
             Request::Send { .. } => 0x06,
             Request::Cancel(_) => 0x08,
-            Request::Look(_) => 0x09,
-            Request::Jobs(_) => 0x0a,
+            Request::Look(_) | Request::LookAtAll(_) => 0x09,
+            Request::Jobs(_) | Request::JobsInFull(_) => 0x0a,
+            Request::Printer => 0x0b,
             Request::Hold(_) => 0x0c,
             Request::Release(_) => 0x0d,
             Request::CancelMine(_) => 0x39,
@@ -85,22 +94,26 @@ impl Request {
     fn job(self) -> Option<u32> {
         match self {
             Request::Print
+            | Request::PrintThis(_)
             | Request::PrintSized { .. }
             | Request::Create
             | Request::CancelMine(_)
-            | Request::Jobs(_) => None,
+            | Request::Jobs(_)
+            | Request::JobsInFull(_)
+            | Request::Printer => None,
             Request::Send { job, .. }
             | Request::Release(job)
             | Request::Hold(job)
             | Request::Cancel(job)
-            | Request::Look(job) => Some(job),
+            | Request::Look(job)
+            | Request::LookAtAll(job) => Some(job),
         }
     }
 
-    fn payload(self) -> &'static [u8] {
+    fn payload(self) -> &'a [u8] {
         match self {
             Request::Print | Request::PrintSized { .. } => b"hi",
-            Request::Send { document, .. } => document,
+            Request::PrintThis(document) | Request::Send { document, .. } => document,
             _ => b"",
         }
     }
@@ -137,7 +150,7 @@ fn put_target(bytes: &mut Vec<u8>, caller: &str, job: Option<u32>) -> Result<(),
 }
 
 /// Adds the attributes that only this request has.
-fn put_own(bytes: &mut Vec<u8>, request: Request) -> Result<(), AllocError> {
+fn put_own(bytes: &mut Vec<u8>, request: Request<'_>) -> Result<(), AllocError> {
     match request {
         Request::PrintSized {
             impressions,
@@ -149,7 +162,8 @@ fn put_own(bytes: &mut Vec<u8>, request: Request) -> Result<(), AllocError> {
             put(bytes, 0x44, "requested-attributes", b"job-state")?;
             put(bytes, 0x44, "", b"job-state-reasons")
         }
-        Request::Jobs(wanted) => put_wanted(bytes, wanted),
+        Request::Jobs(wanted) => put_wanted(bytes, wanted, b"job-id"),
+        Request::JobsInFull(wanted) => put_wanted(bytes, wanted, b"all"),
         _ => Ok(()),
     }
 }
@@ -161,9 +175,13 @@ fn put_size(bytes: &mut Vec<u8>, impressions: u32, copies: u32) -> Result<(), Al
     put(bytes, 0x21, "copies", &copies.to_be_bytes())
 }
 
-/// Adds the jobs that are wanted, of which the numbers are asked.
-fn put_wanted(bytes: &mut Vec<u8>, wanted: JobsWanted) -> Result<(), AllocError> {
-    put(bytes, 0x44, "requested-attributes", b"job-id")?;
+/// Adds the jobs that are wanted, and which of their attributes.
+fn put_wanted(
+    bytes: &mut Vec<u8>,
+    wanted: JobsWanted,
+    attributes: &[u8],
+) -> Result<(), AllocError> {
+    put(bytes, 0x44, "requested-attributes", attributes)?;
     put(bytes, 0x44, "which-jobs", wanted.which().as_bytes())?;
     match wanted.limit() {
         Some(count) => put(bytes, 0x21, "limit", &count.to_be_bytes()),
@@ -175,7 +193,7 @@ fn put_wanted(bytes: &mut Vec<u8>, wanted: JobsWanted) -> Result<(), AllocError>
 pub(crate) fn message(
     alloc: Global,
     caller: &str,
-    request: Request,
+    request: Request<'_>,
 ) -> Result<Vec<u8>, AllocError> {
     let operation = request.operation();
     let mut bytes = Vec::from_slice(alloc, &[1, 1, 0, operation, 0, 0, 0, 1])?;
@@ -183,7 +201,7 @@ pub(crate) fn message(
     Ok(bytes)
 }
 
-fn put_message(bytes: &mut Vec<u8>, caller: &str, request: Request) -> Result<(), AllocError> {
+fn put_message(bytes: &mut Vec<u8>, caller: &str, request: Request<'_>) -> Result<(), AllocError> {
     put_language(bytes)?;
     put_target(bytes, caller, request.job())?;
     put_own(bytes, request)?;

@@ -27,9 +27,9 @@ pub enum Step<'a> {
     /// A line of the device, and its answer, both without their line feeds.
     Dev(&'a str, &'a str),
     /// A caller's request, and the status code of the reply.
-    Ask(&'a str, Request, u16),
+    Ask(&'a str, Request<'a>, u16),
     /// A caller's request so many times, and the status code of each reply.
-    AskTimes(u32, &'a str, Request, u16),
+    AskTimes(u32, &'a str, Request<'a>, u16),
     /// A caller's job has this state, with these reasons.
     Look(&'a str, u32, u8, &'a [&'a str]),
     /// A caller's Get-Jobs lists the jobs of these numbers, in this order.

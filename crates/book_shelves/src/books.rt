@@ -3,7 +3,8 @@
 use crate::shelves::{Adopted, InFile, InFolder, InLists, InTables};
 use book_desk::{RowFault, Step, take_row};
 use std::alloc::Global;
-use std::fs;
+use std::io;
+use std::test::Fail;
 
 /// Takes the first steps and then those of a row, over lists and over tables in memory. It is for what takes long.
 pub fn take_in_memory(
@@ -16,32 +17,42 @@ pub fn take_in_memory(
     take_row(alloc, &InTables, row, first, steps)
 }
 
+/// Rows of steps, each of which begins with the same first ones in an empty queue of its own.
+#[derive(Clone, Copy)]
+pub struct Case<'a> {
+    /// What is told where a step is not well.
+    pub name: &'a str,
+    pub first: &'a [Step<'a>],
+    pub rows: &'a [&'a [Step<'a>]],
+}
+
+/// Takes cases over all books, with a folder of that name for their files.
+pub fn take_cases(rt: &HostRuntime, folder: &str, cases: &[Case<'_>]) -> Result<(), Fail> {
+    let books = TestBooks::new(rt, folder)?;
+    for case in cases {
+        books.take_case(case)?;
+    }
+    Ok(())
+}
+
 /// All books of a test, with a folder of its own for its files.
 #[derive(Drop)]
 pub struct TestBooks<'a> {
-    rt: &'a HostRuntime,
-    folder: &'a str,
+    in_file: InFile<InFolder<'a>>,
 }
 
 impl<'a> TestBooks<'a> {
-    /// The books of a test of this name, after which the folder is called.
-    pub fn new(rt: &'a HostRuntime, name: &'a str) -> TestBooks<'a> {
-        TestBooks { rt, folder: name }
+    /// The books of a test, whose folder has this name, beside that of the process.
+    pub fn new(rt: &'a HostRuntime, name: &str) -> io::Result<TestBooks<'a>> {
+        let files = InFolder::new(rt, name)?;
+        Ok(TestBooks {
+            in_file: InFile { files },
+        })
     }
 
     /// The allocator of the test's runtime.
     pub fn alloc(&self) -> Global {
-        self.rt.alloc()
-    }
-
-    /// Those in files.
-    fn in_file(&self) -> InFile<InFolder<'a>> {
-        InFile {
-            files: InFolder {
-                rt: self.rt,
-                folder: self.folder,
-            },
-        }
+        self.in_file.files.rt().alloc()
     }
 
     /// Takes the first steps and then those of a row, over each book.
@@ -54,21 +65,24 @@ impl<'a> TestBooks<'a> {
         let alloc = self.alloc();
         take_in_memory(alloc, row, first, steps)?;
         take_row(alloc, &Adopted, row, first, steps)?;
-        take_row(alloc, &self.in_file(), row, first, steps)?;
-        self.remove_files();
+        take_row(alloc, &self.in_file, row, first, steps)?;
+        self.in_file.files.remove();
         Ok(())
     }
 
     /// Takes the first steps and then those of each row, over each book.
-    pub fn take_rows(&self, first: &[Step<'_>], rows: &[&[Step<'_>]]) -> Result<(), RowFault> {
+    fn take_rows(&self, first: &[Step<'_>], rows: &[&[Step<'_>]]) -> Result<(), RowFault> {
         for (row, steps) in rows.iter().enumerate() {
             self.take_row(row, first, steps)?;
         }
         Ok(())
     }
 
-    /// Removes the folder of the test's files.
-    pub fn remove_files(&self) {
-        let _ = fs::remove_dir_all(self.rt, self.folder);
+    /// Takes a case over each book.
+    fn take_case(&self, case: &Case<'_>) -> Result<(), Fail> {
+        match self.take_rows(case.first, case.rows) {
+            Ok(()) => Ok(()),
+            Err(fault) => Err(Fail::new(format_args!("{}: {fault:?}", case.name))),
+        }
     }
 }

@@ -4,9 +4,11 @@
 #![tactic(auto)]
 
 mod books;
+mod disk;
 mod shelves;
 mod stops;
+mod store;
 
-pub use books::{TestBooks, take_in_memory};
-pub use shelves::{adopt, take_adopted};
+pub use books::{Case, TestBooks, take_cases, take_in_memory};
+pub use shelves::take_adopted;
 pub use stops::Stopping;

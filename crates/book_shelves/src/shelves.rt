@@ -1,16 +1,18 @@
 //! Where books of each kind come from.
 
+use crate::store::{Source, all_well, take_both, take_in_file_store};
 use book_desk::{Books, Desk, Shelf, Step, StepFault};
 use list_book::ListBook;
 use queue_core::book::BookFault;
 use queue_store::TableBook;
 use queue_types::settings::Settings;
-use sqlite::{Alter, Connection, MemStore};
+use sqlite::{Connection, MemStore};
 use sqlite_disk::Disk;
 use sqlite_std_file::{FileFrom, Unknown};
 use sqlite_store::FileStore;
 use std::alloc::{AllocError, Global};
-use std::fs;
+use std::path::PathBuf;
+use std::{env, fs, io, mem, process, slice};
 
 /// Books in lists.
 pub struct InLists;
@@ -27,19 +29,7 @@ impl Shelf for InLists {
         steps: &[Step<'_>],
     ) -> Result<(), StepFault> {
         let mut book = ListBook::new(desk.alloc(), desk.settings()?);
-        desk.take_each(&mut book, first)?;
-        desk.take_each(&mut book, steps)
-    }
-}
-
-/// The book that the tables of a connection hold.
-pub fn adopt<S: Alter + Drop>(
-    alloc: Global,
-    conn: Connection<S>,
-) -> Result<TableBook<S>, StepFault> {
-    match TableBook::adopt(alloc, conn) {
-        Ok(book) => Ok(book),
-        Err((fault, _conn)) => Err(StepFault::Book(fault)),
+        take_both(desk, &mut book, first, steps)
     }
 }
 
@@ -58,22 +48,36 @@ impl Shelf for InTables {
         steps: &[Step<'_>],
     ) -> Result<(), StepFault> {
         let mut book = TableBook::in_memory(desk.alloc(), desk.settings()?)?;
-        desk.take_each(&mut book, first)?;
-        desk.take_each(&mut book, steps)
+        take_both(desk, &mut book, first, steps)
     }
 }
 
-/// Takes steps over tables in memory that are closed and adopted before each.
+/// Takes a step over tables in memory, which are adopted before it and closed behind it.
+fn take_once(
+    desk: &mut Desk,
+    conn: &mut Connection<MemStore>,
+    step: Step<'_>,
+) -> Result<(), StepFault> {
+    let empty = Connection::open_in_memory(desk.alloc())?;
+    match TableBook::adopt(desk.alloc(), mem::replace(conn, empty)) {
+        Ok(mut book) => {
+            let taken = desk.take(&mut book, step);
+            *conn = book.close();
+            taken
+        }
+        Err((fault, _conn)) => Err(StepFault::Book(fault)),
+    }
+}
+
+/// Takes steps over tables in memory that are adopted before each.
 pub fn take_adopted(
     desk: &mut Desk,
-    book: TableBook<MemStore>,
+    mut conn: Connection<MemStore>,
     first: &[Step<'_>],
     steps: &[Step<'_>],
 ) -> Result<(), StepFault> {
-    let mut book = book;
     for step in first.iter().chain(steps) {
-        book = adopt(desk.alloc(), book.close())?;
-        desk.take(&mut book, *step)?;
+        take_once(desk, &mut conn, *step)?;
     }
     Ok(())
 }
@@ -92,8 +96,8 @@ impl Shelf for Adopted {
         first: &[Step<'_>],
         steps: &[Step<'_>],
     ) -> Result<(), StepFault> {
-        let book = TableBook::in_memory(desk.alloc(), desk.settings()?)?;
-        take_adopted(desk, book, first, steps)
+        let conn = TableBook::in_memory(desk.alloc(), desk.settings()?)?.close();
+        take_adopted(desk, conn, first, steps)
     }
 }
 
@@ -113,26 +117,43 @@ pub trait BookFiles {
     fn open(&self, alloc: Global) -> Result<TableBook<FileStore<Self::File>>, StepFault>;
 }
 
-/// The files of a book in a folder, which has nothing else.
+/// The files of a book in a folder for temporary files, which has nothing else.
 #[derive(Drop)]
 pub struct InFolder<'a> {
-    pub(crate) rt: &'a HostRuntime,
-    pub(crate) folder: &'a str,
+    rt: &'a HostRuntime,
+    folder: PathBuf,
 }
 
-impl InFolder<'_> {
+impl<'a> InFolder<'a> {
+    /// A folder that is called after a test and its process. It is not there yet.
+    pub(crate) fn new(rt: &'a HostRuntime, name: &str) -> io::Result<InFolder<'a>> {
+        let name = format!(in rt.alloc(); "printd-books-{name}-{}", process::id(rt.process()))?;
+        let folder = env::temp_dir(rt)?.join(rt.alloc(), name.as_str())?;
+        Ok(InFolder { rt, folder })
+    }
+
+    /// The runtime of the test.
+    pub(crate) fn rt(&self) -> &'a HostRuntime {
+        self.rt
+    }
+
+    /// Removes the folder with its files, where it is there.
+    pub(crate) fn remove(&self) {
+        let _ = fs::remove_dir_all(self.rt, self.folder.as_path());
+    }
+
     /// The folder, with nothing in it.
     fn empty(&self) -> Result<(), StepFault> {
-        let _ = fs::remove_dir_all(self.rt, self.folder);
-        match fs::create_dir(self.rt, self.folder) {
+        self.remove();
+        match fs::create_dir(self.rt, self.folder.as_path()) {
             Ok(()) => Ok(()),
             Err(_error) => Err(StepFault::Book(BookFault::Disk)),
         }
     }
 
     /// The path of the book.
-    fn path(&self, alloc: Global) -> Result<String, AllocError> {
-        format!(in alloc; "{}/queue", self.folder)
+    fn path(&self, alloc: Global) -> Result<PathBuf, AllocError> {
+        self.folder.as_path().join(alloc, "queue")
     }
 }
 
@@ -163,24 +184,20 @@ pub struct InFile<F: BookFiles> {
     pub(crate) files: F,
 }
 
-/// Takes a step over tables, whatever store keeps these.
-fn take_stored<S: Alter>(
-    desk: &mut Desk,
-    book: &mut TableBook<S>,
-    step: Step<'_>,
-) -> Result<(), StepFault> {
-    desk.take(book, step)
-}
+impl<F: BookFiles> InFile<F> {
+    /// Makes a new book, whose files are let go at once.
+    fn make(&self, desk: &Desk) -> Result<(), StepFault> {
+        let book = self.files.create(desk.alloc(), desk.settings()?)?;
+        let _files = book.into_files();
+        Ok(())
+    }
 
-/// Takes a step over tables in files, which are then let go.
-fn take_in_files<D: Disk + Drop>(
-    desk: &mut Desk,
-    mut book: TableBook<FileStore<D>>,
-    step: Step<'_>,
-) -> Result<(), StepFault> {
-    let taken = take_stored(desk, &mut book, step);
-    let _ = book.into_files();
-    taken
+    /// Opens the book and takes a step over it. Its files are let go then.
+    fn take_opened(&self, desk: &mut Desk, step: &Step<'_>) -> Result<(), StepFault> {
+        let book = Source::Book(self.files.open(desk.alloc())?);
+        let (ended, _files) = take_in_file_store(desk, book, slice::from_ref(step), &[]);
+        all_well(ended)
+    }
 }
 
 impl<F: BookFiles> Shelf for InFile<F> {
@@ -194,14 +211,9 @@ impl<F: BookFiles> Shelf for InFile<F> {
         first: &[Step<'_>],
         steps: &[Step<'_>],
     ) -> Result<(), StepFault> {
-        // its files are let go at once
-        let _ = self
-            .files
-            .create(desk.alloc(), desk.settings()?)?
-            .into_files();
+        self.make(desk)?;
         for step in first.iter().chain(steps) {
-            let book = self.files.open(desk.alloc())?;
-            take_in_files(desk, book, *step)?;
+            self.take_opened(desk, step)?;
         }
         Ok(())
     }

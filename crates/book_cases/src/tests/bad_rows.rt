@@ -1,69 +1,76 @@
 //! Rows of account files that are not of the form, and rows of many bytes.
 
+use book_desk::Outcome;
 use book_desk::Step::{Grant, NoRow, NoSheet};
-use book_desk::{Outcome, RowFault, Step};
-use book_shelves::TestBooks;
+use book_shelves::{Case, TestBooks, take_cases};
 use std::alloc::AllocError;
 use std::test::Fail;
 
-#[test]
-fn rows_with_other_fields(rt: HostRuntime) -> Result<(), RowFault> {
-    const STEPS: &[Step<'static>] = &[
-        NoRow(b"f24,alice"),
-        NoRow(b"f24"),
-        NoRow(b"f24,alice,30,"),
-        NoRow(b"f24,alice,30,x"),
-        NoRow(b",alice,30"),
-        NoRow(b"f24,,30"),
-        NoRow(b"f24,alice,"),
-        NoRow(b",,"),
-        NoRow(b"\"\""),
-        NoRow(b"f 24,alice,30"),
-        NoRow(b"f/24,alice,30"),
-        NoRow(b"f+24,alice,30"),
-        NoRow(b"f\xC3\xBC,alice,30"),
-        NoRow(b"\"f,24\",alice,30"),
-        NoRow(b" f24,alice,30"),
-        NoRow(b"f24,al\tice,30"),
-        NoRow(b"f24,al\0ice,30"),
-        NoRow(b"f24,al\x1Fice,30"),
-        NoRow(b"f24,al\x7Fice,30"),
-        NoRow(b"f24,\"al\nice\",30"),
-        NoRow(b"f24,\"al\r\nice\",30"),
-        NoRow(b"f24,\xFF,30"),
-        NoRow(b"f24,\xC3,30"),
-        NoRow(b"f24,\xC0\x80,30"),
-        NoRow(b"f24,\"alice,30"),
-        NoRow(b"f24,\xED\xA0\x80,30"),
-        NoRow(b"f24,\xF4\x90\x80\x80,30"),
-        NoSheet("alice"),
-        NoSheet("zoe"),
-    ];
-    TestBooks::new(&rt, "rows_with_other_fields").take_rows(&[], &[STEPS])
-}
+/// Lines that are no row.
+const CASES: &[Case<'static>] = &[
+    Case {
+        name: "rows with other fields",
+        first: &[],
+        rows: &[&[
+            NoRow(b"f24,alice"),
+            NoRow(b"f24"),
+            NoRow(b"f24,alice,30,"),
+            NoRow(b"f24,alice,30,x"),
+            NoRow(b",alice,30"),
+            NoRow(b"f24,,30"),
+            NoRow(b"f24,alice,"),
+            NoRow(b",,"),
+            NoRow(b"\"\""),
+            NoRow(b"f 24,alice,30"),
+            NoRow(b"f/24,alice,30"),
+            NoRow(b"f+24,alice,30"),
+            NoRow(b"f\xC3\xBC,alice,30"),
+            NoRow(b"\"f,24\",alice,30"),
+            NoRow(b" f24,alice,30"),
+            NoRow(b"f24,al\tice,30"),
+            NoRow(b"f24,al\0ice,30"),
+            NoRow(b"f24,al\x1Fice,30"),
+            NoRow(b"f24,al\x7Fice,30"),
+            NoRow(b"f24,\"al\nice\",30"),
+            NoRow(b"f24,\"al\r\nice\",30"),
+            NoRow(b"f24,\xFF,30"),
+            NoRow(b"f24,\xC3,30"),
+            NoRow(b"f24,\xC0\x80,30"),
+            NoRow(b"f24,\"alice,30"),
+            NoRow(b"f24,\xED\xA0\x80,30"),
+            NoRow(b"f24,\xF4\x90\x80\x80,30"),
+            NoSheet("alice"),
+            NoSheet("zoe"),
+        ]],
+    },
+    Case {
+        name: "rows with pages that are no number",
+        first: &[],
+        rows: &[&[
+            NoRow(b"f24,alice,030"),
+            NoRow(b"f24,alice,00"),
+            NoRow(b"f24,alice,01"),
+            NoRow(b"f24,alice,+30"),
+            NoRow(b"f24,alice,-30"),
+            NoRow(b"f24,alice,-0"),
+            NoRow(b"f24,alice,30.0"),
+            NoRow(b"f24,alice,3e1"),
+            NoRow(b"f24,alice,0x1E"),
+            NoRow(b"f24,alice,3 0"),
+            NoRow(b"f24,alice, 30"),
+            NoRow(b"f24,alice,30 "),
+            NoRow(b"f24,alice,thirty"),
+            NoRow(b"f24,alice,\xD9\xA3\xD9\xA0"),
+            NoRow(b"batch,account,pages"),
+            NoSheet("alice"),
+            NoSheet("zoe"),
+        ]],
+    },
+];
 
 #[test]
-fn rows_with_pages_that_are_no_number(rt: HostRuntime) -> Result<(), RowFault> {
-    const STEPS: &[Step<'static>] = &[
-        NoRow(b"f24,alice,030"),
-        NoRow(b"f24,alice,00"),
-        NoRow(b"f24,alice,01"),
-        NoRow(b"f24,alice,+30"),
-        NoRow(b"f24,alice,-30"),
-        NoRow(b"f24,alice,-0"),
-        NoRow(b"f24,alice,30.0"),
-        NoRow(b"f24,alice,3e1"),
-        NoRow(b"f24,alice,0x1E"),
-        NoRow(b"f24,alice,3 0"),
-        NoRow(b"f24,alice, 30"),
-        NoRow(b"f24,alice,30 "),
-        NoRow(b"f24,alice,thirty"),
-        NoRow(b"f24,alice,\xD9\xA3\xD9\xA0"),
-        NoRow(b"batch,account,pages"),
-        NoSheet("alice"),
-        NoSheet("zoe"),
-    ];
-    TestBooks::new(&rt, "rows_with_pages_that_are_no_number").take_rows(&[], &[STEPS])
+fn lines_that_are_no_row(rt: HostRuntime) -> Result<(), Fail> {
+    take_cases(&rt, "lines", CASES)
 }
 
 /// Adds a part so many times.
@@ -109,5 +116,5 @@ fn rows_of_many_bytes(rt: HostRuntime) -> Result<(), Fail> {
         (b"f24,", (b"\xC3\xBC", 128), b",1\n", Err((2, 1))),
         (b"f24,alice,", (b"9", 1000), b"\n", Err((3, 1))),
     ];
-    take_long_rows(&TestBooks::new(&rt, "rows_of_many_bytes"), ROWS)
+    take_long_rows(&TestBooks::new(&rt, "rows_of_many_bytes")?, ROWS)
 }

@@ -5,8 +5,8 @@ ghost use Rattle.std.specs.Prelude.{◌≤◌};
 
 use book_desk::Request::{Create, Print};
 use book_desk::Step::{Ask, Jobs, Look};
-use book_desk::{Books, Desk, JobsWanted, RowFault, Shelf, Step, StepFault, take_row};
-use book_shelves::{adopt, take_adopted};
+use book_desk::{Books, Desk, JobsWanted, RowFault, Shelf, Step, StepFault, printer, take_row};
+use book_shelves::take_adopted;
 use queue_core::book::BookFault;
 use queue_core::machine::decide;
 use queue_store::TableBook;
@@ -76,8 +76,7 @@ fn number_in(alloc: Global, scene: &Scene) -> Result<Result<u32, u16>, Fail>
 fn number_given(alloc: Global, next: u32) -> Result<Result<u32, u16>, Fail>
     requires { 1 ≤ next }
 {
-    let settings = Settings::new(alloc, "ipp://localhost/ipp/print", "release", 20, 0)?;
-    let scene = empty_scene(alloc, settings, next);
+    let scene = empty_scene(alloc, printer(alloc)?, next);
     number_in(alloc, &scene)
 }
 
@@ -113,8 +112,7 @@ impl Shelf for AtLastNumber {
     ) -> Result<(), StepFault> {
         let mut conn = TableBook::in_memory(desk.alloc(), desk.settings()?)?.close();
         skip_numbers(&mut conn)?;
-        let book = adopt(desk.alloc(), conn)?;
-        take_adopted(desk, book, first, steps)
+        take_adopted(desk, conn, first, steps)
     }
 }
 

@@ -2,11 +2,12 @@
 
 use book_desk::Request::{Create, Release, Send};
 use book_desk::Step::{Ask, Cut, Document, Fetch, Grant};
-use book_desk::{Request, RowFault, Step};
-use book_shelves::TestBooks;
+use book_desk::{Request, Step};
+use book_shelves::{Case, take_cases};
+use std::test::Fail;
 
 /// The one document of job 1.
-const SEVEN: Request = Send {
+const SEVEN: Request<'static> = Send {
     job: 1,
     document: b"seven..",
     last: true,
@@ -21,15 +22,21 @@ const READY: &[Step<'static>] = &[
     Document(1, 1, Some(7)),
 ];
 
-#[test]
-fn a_document_that_is_sent_or_cut(rt: HostRuntime) -> Result<(), RowFault> {
-    const ROWS: &[&[Step<'static>]] = &[
+/// A document that is sent or cut.
+const CASES: &[Case<'static>] = &[Case {
+    name: "a document that is sent or cut",
+    first: READY,
+    rows: &[
         &[Fetch(1, 1, b"seven..")],
         &[Cut(1, 1, 0, b"")],
         &[Cut(1, 1, 4, b"seve")],
         &[Cut(1, 1, 6, b"seven.")],
         // what was cut is still there
         &[Cut(1, 1, 4, b"seve"), Fetch(1, 1, b"seven..")],
-    ];
-    TestBooks::new(&rt, "a_document_that_is_sent_or_cut").take_rows(READY, ROWS)
+    ],
+}];
+
+#[test]
+fn documents_that_are_sent(rt: HostRuntime) -> Result<(), Fail> {
+    take_cases(&rt, "sending", CASES)
 }

@@ -51,7 +51,7 @@ fn jobs_that_are_made(rt: HostRuntime) -> Result<(), RowFault> {
 const LONG: &[u8] = &[b'.'; 70_000];
 
 /// The one document of job 1.
-const SEND_LONG: Request = Send {
+const SEND_LONG: Request<'static> = Send {
     job: 1,
     document: LONG,
     last: true,
@@ -72,7 +72,7 @@ fn a_long_document(rt: HostRuntime) -> Result<(), RowFault> {
 }
 
 /// That job 1 has no document.
-const NOTHING: Request = Send {
+const NOTHING: Request<'static> = Send {
     job: 1,
     document: b"",
     last: true,
@@ -97,31 +97,6 @@ fn a_job_that_is_released_while_open(rt: HostRuntime) -> Result<(), RowFault> {
         Sheet("alice", (30, 10, 20, 0)),
         Queue("1 1 0 0\n"),
         Document(1, 1, None),
-    ];
-    stop(rt.alloc(), &[], STEPS, LAST)
-}
-
-#[test]
-fn pages_that_are_reserved(rt: HostRuntime) -> Result<(), RowFault> {
-    const STEPS: &[Step<'static>] = &[
-        NoSheet("alice"),
-        GRANTED,
-        Sheet("alice", (30, 30, 0, 0)),
-        Ask("alice", Print, 0x0000),
-        Look("alice", 1, 4, &["job-hold-until-specified"]),
-        Ask("alice", Print, 0x0000),
-        Look("alice", 2, 4, &["job-hold-until-specified"]),
-        Ask("alice", Release(1), 0x0000),
-        Sheet("alice", (30, 10, 20, 0)),
-        Ask("alice", Release(2), 0x0404),
-        Look("alice", 2, 4, &["job-hold-until-specified"]),
-        Sheet("alice", (30, 10, 20, 0)),
-    ];
-    const LAST: &[Step<'static>] = &[
-        Sheet("alice", (30, 10, 20, 0)),
-        Look("alice", 1, 3, &["none"]),
-        Look("alice", 2, 4, &["job-hold-until-specified"]),
-        Queue("1 1 1 2\n"),
     ];
     stop(rt.alloc(), &[], STEPS, LAST)
 }
@@ -153,7 +128,7 @@ fn jobs_that_are_held_and_canceled(rt: HostRuntime) -> Result<(), RowFault> {
 }
 
 #[test]
-fn a_job_that_is_printed(rt: HostRuntime) -> Result<(), RowFault> {
+fn pages_that_are_reserved_and_printed(rt: HostRuntime) -> Result<(), RowFault> {
     const STEPS: &[Step<'static>] = &[
         NoSheet("alice"),
         GRANTED,
@@ -166,6 +141,9 @@ fn a_job_that_is_printed(rt: HostRuntime) -> Result<(), RowFault> {
         Sheet("alice", (30, 10, 20, 0)),
         Ask("alice", Release(2), 0x0404),
         Look("alice", 2, 4, &["job-hold-until-specified"]),
+        Sheet("alice", (30, 10, 20, 0)),
+        Look("alice", 1, 3, &["none"]),
+        Queue("1 1 1 2\n"),
         Dev("1 1 start 0", "ok 1 5 0"),
         Look("alice", 1, 5, &["job-printing"]),
         Dev("1 2 count 12", "ok 1 5 12"),
