@@ -3,11 +3,9 @@
 mod adopted;
 mod columns;
 mod compare;
-mod desk;
 mod judge;
 mod pieces;
 mod queue;
-mod request;
 mod rows;
 mod shown;
 mod tables;

@@ -1,14 +1,13 @@
 //! Books that are made, closed and adopted again.
 
 use crate::tests::compare::same;
-use crate::tests::desk::Step::{Ask, Grant, Tell};
-use crate::tests::desk::{Desk, Step};
 use crate::tests::judge::Changes;
-use crate::tests::queue::{empty_book, fill, full_tables, new_book, settings, take_steps};
-use crate::tests::request::Request::{Print, Release};
+use crate::tests::queue::{empty_book, fill, full_tables, new_book, take_steps};
 use crate::tests::shown::shown;
 use crate::tests::tables::{DAMAGED, Tables};
-use ipp_ops::Answer;
+use book_desk::Request::{Print, Release};
+use book_desk::Step::{Ask, Dev, Grant};
+use book_desk::{Desk, Step, printer};
 use list_book::ListBook;
 use queue_core::book::{BookFault, QueueBook};
 use queue_store::TableBook;
@@ -18,26 +17,19 @@ use std::alloc::Global;
 use std::test::Fail;
 
 /// Makes the queue in a book without jobs, and tells what the book shows at moment 100.
-fn fill_and_show<B: QueueBook + Drop>(
-    alloc: Global,
-    settings: &Settings,
-    mut book: B,
-) -> Result<Vec<u8>, Fail> {
+fn fill_and_show<B: QueueBook + Drop>(alloc: Global, mut book: B) -> Result<Vec<u8>, Fail> {
     fill(alloc, &mut book)?;
-    shown(&Desk::new(alloc, settings, 100), &mut book)
+    shown(&Desk::of(alloc, printer(alloc)?, 100), &mut book)
 }
 
 /// What a book in lists of the queue shows at moment 100.
 fn plain_queue(alloc: Global) -> Result<Vec<u8>, Fail> {
-    let settings = settings(alloc)?;
-    let kept = settings.try_clone()?;
-    fill_and_show(alloc, &settings, ListBook::new(alloc, kept))
+    fill_and_show(alloc, ListBook::new(alloc, printer(alloc)?))
 }
 
 /// What a book shows at moment 100.
 fn queue_of<S: Alter>(alloc: Global, book: &mut TableBook<S>) -> Result<Vec<u8>, Fail> {
-    let settings = book.settings()?;
-    shown(&Desk::new(alloc, &settings, 100), book)
+    shown(&Desk::of(alloc, book.settings()?, 100), book)
 }
 
 /// At moment 100 the book shows what a book in lists of the queue shows.
@@ -189,12 +181,12 @@ fn a_book_over_a_book(rt: HostRuntime) -> Result<(), Fail> {
 
 /// Pages that are reserved and printed for one job.
 const PRINTING: &[Step<'static>] = &[
-    Grant("batch,account,pages\nf24,alice,30\n", (1, 0)),
-    Ask("alice", Print(b"hi")),
-    Ask("alice", Print(b"hi")),
-    Ask("alice", Release(1)),
-    Tell("1 1 start 0\n", "ok 1 5 0\n"),
-    Tell("1 2 count 12\n", "ok 1 5 12\n"),
+    Grant(b"f24,alice,30\n", Ok((1, 0))),
+    Ask("alice", Print, 0x0000),
+    Ask("alice", Print, 0x0000),
+    Ask("alice", Release(1), 0x0000),
+    Dev("1 1 start 0", "ok 1 5 0"),
+    Dev("1 2 count 12", "ok 1 5 12"),
 ];
 
 /// Totals that are not those of the account's jobs.
@@ -221,12 +213,6 @@ fn totals_of_an_account(rt: HostRuntime) -> Result<(), Fail> {
     damage_each(&mut tables, TOTALS)
 }
 
-/// The answer to a Print-Job.
-fn printed(alloc: Global, book: &mut TableBook<MemStore>) -> Result<Answer, Fail> {
-    let settings = book.settings()?;
-    Desk::new(alloc, &settings, 100).ask(book, "bob", Print(b"hi"))
-}
-
 /// A Print-Job is answered by a reply of this status code, in which this attribute of the job's number stands.
 fn print_next(
     alloc: Global,
@@ -234,7 +220,8 @@ fn print_next(
     code: &[u8],
     job_id: &[u8],
 ) -> Result<(), Fail> {
-    let answer = printed(alloc, book)?;
+    let desk = Desk::of(alloc, book.settings()?, 100);
+    let answer = desk.ask(book, "bob", Print)?;
     let reply = answer.bytes();
     same(&reply.get(2..4), &Some(code), "status code")?;
     let has_id = job_id.is_empty() || reply.windows(job_id.len()).any(|part| part == job_id);

@@ -1,10 +1,10 @@
 //! Documents in pieces.
 
-use crate::tests::compare::same;
-use crate::tests::desk::Step::{Ask, Grant, Tell};
 use crate::tests::queue::{empty_book, long_document, take_steps};
-use crate::tests::request::Request::{Print, Release};
 use crate::tests::tables::Tables;
+use book_desk::Request::{PrintThis, Release};
+use book_desk::Step::{Ask, Dev, Document, Fetch, Grant};
+use book_desk::StepFault;
 use queue_core::book::QueueBook;
 use std::alloc::Global;
 use std::test::Fail;
@@ -25,40 +25,30 @@ const COUNT: &str = "SELECT count(*) FROM pieces";
 /// The number and the length of the last one.
 const LAST: &str = "SELECT piece, length(bytes) FROM pieces ORDER BY piece DESC LIMIT 1";
 
-/// Prints a document of one job, whose device has begun.
-fn print<B: QueueBook>(alloc: Global, book: &mut B, document: &[u8]) -> Result<(), Fail> {
+/// A document of one job, whose device has begun, comes back from a book.
+fn comes_back<B: QueueBook>(alloc: Global, book: &mut B, document: &[u8]) -> Result<(), StepFault> {
     let steps = [
-        Grant("batch,account,pages\nf24,alice,30\n", (1, 0)),
-        Ask("alice", Print(document)),
-        Ask("alice", Release(1)),
-        Tell("1 1 start 0\n", "ok 1 5 0\n"),
+        Grant(b"f24,alice,30\n", Ok((1, 0))),
+        Ask("alice", PrintThis(document), 0x0000),
+        Ask("alice", Release(1), 0x0000),
+        Dev("1 1 start 0", "ok 1 5 0"),
+        Document(1, 1, Some(document.len() as u64)),
+        Fetch(1, 1, document),
     ];
     take_steps(alloc, book, &steps)
 }
 
-/// Adds the bytes of the first document of the first job, as the device gets them.
-fn fetch<B: QueueBook>(book: &mut B, out: &mut Vec<u8>) -> Result<(), Fail> {
-    let head = book.document_head(1, 1)?;
-    if head.is_some() {
-        book.send_document(1, 1, out)?;
-    }
-    Ok(())
-}
-
-/// The bytes of a document come back from a book.
-fn comes_back<B: QueueBook>(alloc: Global, book: &mut B, length: usize) -> Result<(), Fail> {
+/// A document of that length comes back from a book, which is closed.
+fn keep(alloc: Global, length: usize) -> Result<Tables, Fail> {
+    let mut book = empty_book(alloc)?;
     let document = long_document(alloc, length)?;
-    print(alloc, book, document.as_slice())?;
-    let mut came = Vec::new(alloc);
-    fetch(book, &mut came)?;
-    same(&came.as_slice(), &document.as_slice(), "document")
+    comes_back(alloc, &mut book, document.as_slice())?;
+    Ok(Tables::of(alloc, book))
 }
 
 /// A document of that length comes back, and is kept in so many pieces, of which this is the last.
 fn keep_document(alloc: Global, length: usize, count: &str, last: &str) -> Result<(), Fail> {
-    let mut book = empty_book(alloc)?;
-    comes_back(alloc, &mut book, length)?;
-    let mut tables = Tables::of(alloc, book);
+    let mut tables = keep(alloc, length)?;
     tables.show(COUNT, count)?;
     tables.show(LAST, last)
 }

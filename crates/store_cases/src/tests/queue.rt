@@ -1,20 +1,22 @@
 //! A queue with a job in each phase.
 
-use crate::tests::desk::Step::{Ask, Grant, Tell};
-use crate::tests::desk::{Desk, Step};
-use crate::tests::request::Request::{Cancel, Create, Print, Release, Send, SendLast};
 use crate::tests::tables::{Tables, opened};
+use book_desk::Request::{Cancel, Create, PrintThis, Release, Send};
+use book_desk::Step::{Ask, Dev, Grant};
+use book_desk::{Desk, Request, Step, StepFault, printer};
 use queue_core::book::QueueBook;
 use queue_store::TableBook;
-use queue_types::settings::{SettingFault, Settings};
+use queue_types::settings::Settings;
 use sqlite::{Connection, MemStore};
 use std::alloc::{AllocError, Global};
 use std::test::Fail;
 
-/// A printer with an estimate of 20 pages.
-pub(super) fn settings(alloc: Global) -> Result<Settings, SettingFault> {
-    Settings::new(alloc, "ipp://localhost/ipp/print", "release", 20, 0)
-}
+/// The first document of job 7.
+const HI: Request<'static> = Send {
+    job: 7,
+    document: b"hi",
+    last: false,
+};
 
 /// What makes the queue, but for the second document of job 7, which is long.
 ///
@@ -31,40 +33,40 @@ pub(super) fn settings(alloc: Global) -> Result<Settings, SettingFault> {
 /// | 9 | alice | released, and open for documents |
 /// | 10 | carol, who has no account | on hold |
 const FIRST: &[Step<'static>] = &[
-    Grant("batch,account,pages\nf24,alice,300\nf24,bob,50\n", (2, 0)),
-    Ask("alice", Print(b"one")),
-    Ask("alice", Print(b"two")),
-    Ask("alice", Print(b"three")),
-    Ask("alice", Print(b"four")),
-    Ask("alice", Print(b"five")),
-    Ask("alice", Print(b"six")),
-    Ask("alice", Create),
-    Ask("bob", Print(b"eight")),
-    Ask("alice", Create),
-    Ask("carol", Print(b"ten")),
-    Ask("alice", Send(7, b"hi")),
+    Grant(b"f24,alice,300\nf24,bob,50\n", Ok((2, 0))),
+    Ask("alice", PrintThis(b"one"), 0x0000),
+    Ask("alice", PrintThis(b"two"), 0x0000),
+    Ask("alice", PrintThis(b"three"), 0x0000),
+    Ask("alice", PrintThis(b"four"), 0x0000),
+    Ask("alice", PrintThis(b"five"), 0x0000),
+    Ask("alice", PrintThis(b"six"), 0x0000),
+    Ask("alice", Create, 0x0000),
+    Ask("bob", PrintThis(b"eight"), 0x0000),
+    Ask("alice", Create, 0x0000),
+    Ask("carol", PrintThis(b"ten"), 0x0000),
+    Ask("alice", HI, 0x0000),
 ];
 
 const SECOND: &[Step<'static>] = &[
-    Ask("alice", Release(1)),
-    Ask("alice", Release(3)),
-    Ask("alice", Release(4)),
-    Ask("alice", Release(5)),
-    Ask("alice", Release(6)),
-    Ask("alice", Release(7)),
-    Ask("alice", Release(9)),
-    Ask("alice", Cancel(2)),
-    Tell("1 1 start 0\n", "ok 1 5 0\n"),
-    Tell("1 2 count 12\n", "ok 1 5 12\n"),
-    Tell("1 3 done 25\n", "ok 1 9 25\n"),
-    Tell("3 1 start 0\n", "ok 3 5 0\n"),
-    Tell("3 2 halt 3\n", "ok 3 7 3\n"),
-    Tell("4 1 start 0\n", "ok 4 5 0\n"),
-    Tell("4 2 fail 6\n", "ok 4 8 6\n"),
-    Tell("5 1 start 0\n", "ok 5 5 0\n"),
-    Ask("alice", Cancel(5)),
-    Tell("6 1 start 0\n", "ok 6 5 0\n"),
-    Tell("6 2 stop 4\n", "ok 6 6 4\n"),
+    Ask("alice", Release(1), 0x0000),
+    Ask("alice", Release(3), 0x0000),
+    Ask("alice", Release(4), 0x0000),
+    Ask("alice", Release(5), 0x0000),
+    Ask("alice", Release(6), 0x0000),
+    Ask("alice", Release(7), 0x0000),
+    Ask("alice", Release(9), 0x0000),
+    Ask("alice", Cancel(2), 0x0000),
+    Dev("1 1 start 0", "ok 1 5 0"),
+    Dev("1 2 count 12", "ok 1 5 12"),
+    Dev("1 3 done 25", "ok 1 9 25"),
+    Dev("3 1 start 0", "ok 3 5 0"),
+    Dev("3 2 halt 3", "ok 3 7 3"),
+    Dev("4 1 start 0", "ok 4 5 0"),
+    Dev("4 2 fail 6", "ok 4 8 6"),
+    Dev("5 1 start 0", "ok 5 5 0"),
+    Ask("alice", Cancel(5), 0x0000),
+    Dev("6 1 start 0", "ok 6 5 0"),
+    Dev("6 2 stop 4", "ok 6 6 4"),
 ];
 
 /// Bytes 0 to 255, again and again, so that whole pieces of a document are alike.
@@ -73,31 +75,31 @@ pub(super) fn long_document(alloc: Global, length: usize) -> Result<Vec<u8>, All
 }
 
 /// The long document is sent to job 7.
-fn send_long<B: QueueBook>(desk: &mut Desk<'_>, book: &mut B) -> Result<(), Fail> {
-    let document = long_document(desk.alloc, 131_073)?;
-    desk.take(book, &[Ask("alice", SendLast(7, document.as_slice()))])
-}
-
-fn fill_at<B: QueueBook>(desk: &mut Desk<'_>, book: &mut B) -> Result<(), Fail> {
-    desk.take(book, FIRST)?;
-    send_long(desk, book)?;
-    desk.take(book, SECOND)
+fn send_long<B: QueueBook>(desk: &mut Desk, book: &mut B) -> Result<(), StepFault> {
+    let document = long_document(desk.alloc(), 131_073)?;
+    let send = Send {
+        job: 7,
+        document: document.as_slice(),
+        last: true,
+    };
+    desk.take_by_seconds(book, &[Ask("alice", send, 0x0000)])
 }
 
 /// Makes the queue in a book without jobs.
-pub(super) fn fill<B: QueueBook>(alloc: Global, book: &mut B) -> Result<(), Fail> {
-    let settings = settings(alloc)?;
-    fill_at(&mut Desk::new(alloc, &settings, 1), book)
+pub(super) fn fill<B: QueueBook>(alloc: Global, book: &mut B) -> Result<(), StepFault> {
+    let mut desk = Desk::new(alloc)?;
+    desk.take_by_seconds(book, FIRST)?;
+    send_long(&mut desk, book)?;
+    desk.take_by_seconds(book, SECOND)
 }
 
-/// Takes steps with a book, from moment 1 on.
+/// Takes steps with a book.
 pub(super) fn take_steps<B: QueueBook>(
     alloc: Global,
     book: &mut B,
     steps: &[Step<'_>],
-) -> Result<(), Fail> {
-    let settings = settings(alloc)?;
-    Desk::new(alloc, &settings, 1).take(book, steps)
+) -> Result<(), StepFault> {
+    Desk::new(alloc)?.take_each(book, steps)
 }
 
 /// A new book in memory.
@@ -108,7 +110,7 @@ pub(super) fn new_book(alloc: Global, settings: Settings) -> Result<TableBook<Me
 
 /// A new book of the printer in memory.
 pub(super) fn empty_book(alloc: Global) -> Result<TableBook<MemStore>, Fail> {
-    new_book(alloc, settings(alloc)?)
+    new_book(alloc, printer(alloc)?)
 }
 
 /// The tables of the queue.

@@ -1,8 +1,9 @@
 //! All that a book shows of its queue, as bytes that can be compared.
 
 use crate::tests::compare::same;
-use crate::tests::desk::Desk;
-use crate::tests::request::Request;
+use book_desk::JobsWanted::{Ended, Live};
+use book_desk::Request::{JobsInFull, LookAtAll, Printer};
+use book_desk::{Desk, Request};
 use device_lines::queue_text;
 use queue_core::book::QueueBook;
 use std::alloc::Global;
@@ -19,23 +20,23 @@ const NOT_FOUND: Code = [0x04, 0x06];
 /// What the users ask of their jobs and of the printer, and the codes of the replies. Jobs 1 to 7 and 9 are alice's, 8 is bob's and
 /// 10 is carol's. There is no job 11.
 const REQUESTS: &[(&str, Request<'static>, Code)] = &[
-    ("alice", Request::Look(1), OK),
-    ("alice", Request::Look(2), OK),
-    ("alice", Request::Look(3), OK),
-    ("alice", Request::Look(4), OK),
-    ("alice", Request::Look(5), OK),
-    ("alice", Request::Look(6), OK),
-    ("alice", Request::Look(7), OK),
-    ("bob", Request::Look(8), OK),
-    ("alice", Request::Look(9), OK),
-    ("carol", Request::Look(10), OK),
-    ("alice", Request::Look(10), NOT_FOUND),
-    ("carol", Request::Look(11), NOT_FOUND),
-    ("alice", Request::LiveJobs, OK),
-    ("alice", Request::EndedJobs, OK),
-    ("bob", Request::LiveJobs, OK),
-    ("carol", Request::LiveJobs, OK),
-    ("carol", Request::Printer, OK),
+    ("alice", LookAtAll(1), OK),
+    ("alice", LookAtAll(2), OK),
+    ("alice", LookAtAll(3), OK),
+    ("alice", LookAtAll(4), OK),
+    ("alice", LookAtAll(5), OK),
+    ("alice", LookAtAll(6), OK),
+    ("alice", LookAtAll(7), OK),
+    ("bob", LookAtAll(8), OK),
+    ("alice", LookAtAll(9), OK),
+    ("carol", LookAtAll(10), OK),
+    ("alice", LookAtAll(10), NOT_FOUND),
+    ("carol", LookAtAll(11), NOT_FOUND),
+    ("alice", JobsInFull(Live), OK),
+    ("alice", JobsInFull(Ended), OK),
+    ("bob", JobsInFull(Live), OK),
+    ("carol", JobsInFull(Live), OK),
+    ("carol", Printer, OK),
 ];
 
 /// Documents by job and number, with the octets of those that the device may fetch: one of an ended and one of a held job, and
@@ -54,7 +55,7 @@ const DOCUMENTS: &[(u32, u32, Option<u64>)] = &[
 
 /// Adds the answer to a request, which has this code.
 fn put_answer<B: QueueBook>(
-    desk: &Desk<'_>,
+    desk: &Desk,
     book: &mut B,
     caller: &str,
     request: Request<'_>,
@@ -69,7 +70,7 @@ fn put_answer<B: QueueBook>(
 }
 
 /// Adds the answers to the requests.
-fn put_answers<B: QueueBook>(desk: &Desk<'_>, book: &mut B, out: &mut Vec<u8>) -> Result<(), Fail> {
+fn put_answers<B: QueueBook>(desk: &Desk, book: &mut B, out: &mut Vec<u8>) -> Result<(), Fail> {
     for (caller, request, code) in REQUESTS {
         put_answer(desk, book, caller, *request, *code, out)?;
     }
@@ -118,9 +119,9 @@ fn put_sheet<B: QueueBook>(book: &mut B, account: &str, out: &mut Vec<u8>) -> Re
 }
 
 /// Adds all that the book shows.
-fn put_all<B: QueueBook>(desk: &Desk<'_>, book: &mut B, out: &mut Vec<u8>) -> Result<(), Fail> {
+fn put_all<B: QueueBook>(desk: &Desk, book: &mut B, out: &mut Vec<u8>) -> Result<(), Fail> {
     put_answers(desk, book, out)?;
-    put_queue(desk.alloc, book, out)?;
+    put_queue(desk.alloc(), book, out)?;
     put_documents(book, out)?;
     put_sheet(book, "alice", out)?;
     put_sheet(book, "bob", out)?;
@@ -128,8 +129,8 @@ fn put_all<B: QueueBook>(desk: &Desk<'_>, book: &mut B, out: &mut Vec<u8>) -> Re
 }
 
 /// All that the book shows.
-pub(super) fn shown<B: QueueBook>(desk: &Desk<'_>, book: &mut B) -> Result<Vec<u8>, Fail> {
-    let mut out = Vec::new(desk.alloc);
+pub(super) fn shown<B: QueueBook>(desk: &Desk, book: &mut B) -> Result<Vec<u8>, Fail> {
+    let mut out = Vec::new(desk.alloc());
     put_all(desk, book, &mut out)?;
     Ok(out)
 }

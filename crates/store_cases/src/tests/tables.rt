@@ -1,7 +1,7 @@
 //! The tables of a book: what is in them, statements that change them, and whether they are taken.
 
 use crate::tests::compare::same;
-use crate::tests::queue::settings;
+use book_desk::printer;
 use queue_core::book::BookFault;
 use queue_store::TableBook;
 use sqlite::types::ValueRef;
@@ -180,7 +180,7 @@ impl Tables {
 
     /// What becomes of them where a book of the printer is made in them, which is closed again.
     pub(super) fn make(&mut self) -> Result<Judgement, Fail> {
-        let settings = settings(self.alloc)?;
+        let settings = printer(self.alloc)?;
         let conn = self.take_out()?;
         let (came, conn) = closed(TableBook::create(self.alloc, conn, settings));
         self.conn = conn;
