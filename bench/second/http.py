@@ -148,8 +148,6 @@ def read_fields(reader, too_many):
             return fields
         if byte not in TOKEN:
             raise Refused(400)
-        if len(fields) == MOST_FIELD_LINES:
-            raise too_many
         name, value = bytearray(), bytearray()
         while byte != 0x3A:
             if byte not in TOKEN:
@@ -160,6 +158,8 @@ def read_fields(reader, too_many):
             if byte in NO_TEXT and byte != 0x09:
                 raise Refused(400)
             value.append(byte)
+        if len(fields) == MOST_FIELD_LINES:
+            raise too_many
         fields.append((bytes(name), bytes(value).strip(b" \t")))
 
 

@@ -2,6 +2,7 @@
 ghost use Rattle.std.specs.Prelude.{◌≡◌, ◌∷◌, [], IfErr, IfOk};
 ghost use Rattle.sqlite.specs.Held.{state};
 ghost use Rattle.sqlite.specs.State.{HasCleanDisk};
+ghost use Rattle.sqlite_trees.specs.View.{IsClean};
 ghost use Rattle.queue_types.specs.Settings.{AreSettings};
 ghost use Rattle.queue_core.specs.World.{World};
 ghost use Rattle.queue_rows.specs.Meta.{settings_in};
@@ -79,6 +80,24 @@ impl<S: Alter> TableBook<S> {
                 settings,
             }),
             Err(fault) => Err((BookFault::from(fault), conn)),
+        }
+    }
+}
+
+impl<S: Alter + Drop> TableBook<S> {
+    /// As `adopt`, but a refusal hands back the store alone.
+    pub(crate) fn adopt_or_store(
+        alloc: Global,
+        conn: Connection<S>,
+    ) -> Result<TableBook<S>, (BookFault, S)>
+        ensures stands { FitsIn (state S.Store conn) → IfOk result (λ b. StandsForOne S.Store b) }
+        ensures kept { IfOk result (λ b. LeavesTables (state S.Store conn) (shown_by S.Store b)) }
+        ensures clean { IfErr result (λ e. IsClean (S.Store.view e.1) → HasCleanDisk (state S.Store conn)) }
+        ensures damaged { FitsIn (state S.Store conn) → IfErr result (λ e. IsClean (S.Store.view e.1) → e.0 ≡ BookFault.Damaged → (w : World) → ¬ IsQueueIn w (state S.Store conn).now) }
+    {
+        match TableBook::adopt(alloc, conn) {
+            Ok(book) => Ok(book),
+            Err((fault, conn)) => Err((fault, conn.into_store())),
         }
     }
 }

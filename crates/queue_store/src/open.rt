@@ -96,7 +96,7 @@ fn connect<S: Start>(
     }
 }
 
-/// `TableBook::adopt` over files, whose refusal hands the store back.
+/// `TableBook::adopt_or_store` over files.
 fn adopt_in_files<D: Disk + Drop>(
     alloc: Global,
     conn: Connection<FileStore<D>>,
@@ -106,9 +106,9 @@ fn adopt_in_files<D: Disk + Drop>(
     ensures clean { IfErr result (λ e. IsFaultless e.1 → HasCleanDisk (file_state conn)) }
     ensures damaged { FitsIn (file_state conn) → IfErr result (λ e. IsFaultless e.1 → e.0 ≡ BookFault.Damaged → (w : World) → ¬ IsQueueIn w (file_state conn).now) }
 {
-    match TableBook::adopt(alloc, conn) {
+    match TableBook::adopt_or_store(alloc, conn) {
         Ok(book) => Ok(book),
-        Err((fault, conn)) => Err((fault, Some(Leftover::Store(conn.into_store())))),
+        Err((fault, store)) => Err((fault, Some(Leftover::Store(store)))),
     }
 }
 
