@@ -4,7 +4,8 @@
 //! is a function over values, or over a reader and a writer: the moment of a connection (`moment`), what a connection comes to
 //! (`connection`) and the lines that are printed (`lines`).
 //!
-//! A client that goes away, resets or stays silent ends its own connection alone. A book that can't be read any more ends the server, which
+//! A client that goes away, resets or stays silent ends its own connection alone, and none keeps the others from their turn for longer than
+//! 60 timeouts. A book that can't be read any more ends the server, which
 //! may find it whole when it is started again.
 #![tactic(auto)]
 
@@ -15,6 +16,7 @@ mod lines;
 mod listening;
 mod moment;
 mod serving;
+mod timed;
 
 pub use fault::ServerFault;
 pub use law::{served_queues_are_runs, servers_grant_nothing};

@@ -15,6 +15,7 @@ use crate::fault::ServerFault;
 use crate::lines::tell_served;
 use crate::listening::next_stream;
 use crate::moment::present_moment;
+use crate::timed::TimedStream;
 use http_front::serve;
 use queue_core::book::{BookFault, QueueBook};
 use queue_types::job::JobList;
@@ -36,12 +37,19 @@ pub struct Service<'a> {
     pub listener: &'a TcpListener,
     /// The settings of the book's queue.
     pub settings: &'a Settings,
-    /// How many seconds one read or one write may wait. A timeout ends its connection alone.
+    /// How many seconds one read or one write may wait. A timeout ends its connection alone, and so does the end of the time that a connection
+    /// has in all, 60 timeouts.
     pub timeout: NonZeroU32,
 }
 
+/// The time that a connection has in all, in timeouts.
+const MOST_TIMEOUTS: u32 = 60;
+
 /// How long one read waits for what a client sends behind its last request.
 const LINGER_SECONDS: u64 = 1;
+
+/// How long all these reads may take.
+const MOST_LINGER_SECONDS: u64 = 10;
 
 /// So many seconds.
 fn seconds(count: u32) -> Duration
@@ -50,21 +58,27 @@ fn seconds(count: u32) -> Duration
     Duration::from_secs(u64::from(count))
 }
 
-/// Readies a stream: no read and no write waits longer than so many seconds, and small writes go out at once.
-fn prepare(stream: &TcpStream, timeout: NonZeroU32) -> io::Result<()> {
-    let wait = Some(seconds(timeout.get()));
-    stream.set_read_timeout(wait)?;
-    stream.set_write_timeout(wait)?;
-    stream.set_nodelay(true)
+/// Readies a stream: no read and no write waits longer than so many seconds, none begins once 60 times as many are over, and small writes go
+/// out at once.
+fn prepare<'a, C: Clock>(
+    stream: &'a TcpStream,
+    clock: &'a C,
+    timeout: NonZeroU32,
+) -> io::Result<TimedStream<'a, &'a C>> {
+    let wait = seconds(timeout.get());
+    stream.set_read_timeout(Some(wait))?;
+    stream.set_write_timeout(Some(wait))?;
+    stream.set_nodelay(true)?;
+    TimedStream::new(stream, clock, wait.saturating_mul(MOST_TIMEOUTS))
 }
 
 /// Ends a stream whose client may still be sending: says that no more comes, and reads past what does. A stream that is closed with bytes
 /// unread is reset, and its client may then lose the answer that it was sent (RFC 9112, section 9.6).
-fn linger(stream: &TcpStream) -> io::Result<()> {
+fn linger<C: Clock>(stream: &TcpStream, clock: &C) -> io::Result<()> {
     stream.shutdown(Shutdown::Write)?;
     stream.set_read_timeout(Some(Duration::from_secs(LINGER_SECONDS)))?;
-    let mut reader = stream;
-    drain(&mut reader);
+    let mut timed = TimedStream::new(stream, clock, Duration::from_secs(MOST_LINGER_SECONDS))?;
+    drain(&mut timed);
     Ok(())
 }
 
@@ -122,7 +136,13 @@ fn check_book<B: QueueBook>(book: &mut B) -> Result<Standing, BookFault>
 
 impl Service<'_> {
     /// Serves a connection at a moment and closes it. One that can't be readied has gone away.
-    fn serve_stream<B: QueueBook>(self, stream: TcpStream, book: &mut B, now: u32) -> Outcome
+    fn serve_stream<C: Clock, B: QueueBook>(
+        self,
+        clock: &C,
+        stream: TcpStream,
+        book: &mut B,
+        now: u32,
+    ) -> Outcome
         requires { IsMoment now }
         ensures began { B.is_honest book.new → B.is_honest book.old }
         ensures worked { B.is_honest book.new → (w : World) → B.stands book.old w → self.entry.settings.now ≡ w.settings
@@ -131,14 +151,14 @@ impl Service<'_> {
         ensures few { result.acted ≤ most_requests }
         ensures live { B.is_honest book.new → B.is_live book.old → result.has_fault ≡ false → B.is_live book.new }
     {
-        if prepare(&stream, self.timeout).is_err() {
+        let Ok(timed) = prepare(&stream, clock, self.timeout) else {
             return Outcome {
                 acted: 0,
                 has_fault: false,
             };
-        }
-        let mut reader = &stream;
-        let mut writer = &stream;
+        };
+        let mut reader = timed;
+        let mut writer = timed;
         let served = serve(
             self.alloc,
             &mut reader,
@@ -149,7 +169,7 @@ impl Service<'_> {
         );
         if is_ended_here(served) {
             // whatever comes of it, the connection ends here
-            let _ = linger(&stream);
+            let _ = linger(&stream, clock);
         }
         Outcome {
             acted: acted_of(served),
@@ -181,7 +201,7 @@ impl Service<'_> {
     {
         let stream = next_stream(self.listener)?;
         let now = present_moment(clock, self.settings.epoch())?;
-        let served = self.serve_stream(stream, book, now);
+        let served = self.serve_stream(clock, stream, book, now);
         tell_served(out, served.acted)?;
         match before.behind(served.has_fault) {
             Standing::Live => Ok(Standing::Live),

@@ -1,4 +1,4 @@
-//! Clients that keep a connection and say nothing, or don't read. Each costs the server its timeout.
+//! Clients that keep a connection and say nothing, or don't read. Each costs the server its timeout. And connections whose time is over.
 
 use crate::tests::server::Step::{Gets, GetsFront, Sends, SendsLast, Serves};
 use crate::tests::server::{Server, Step, take_steps};
@@ -10,6 +10,10 @@ use http_desk::desk::Desk;
 use http_desk::messages::{DONE, JOB_1, JOB_2, JOB_3, PRINT_JOB, PRINT_JOB_BEGUN, RELEASE_JOB};
 use http_desk::requests::{GET_DOCUMENT, IPP, OCTETS, POST_JOB, POST_RELEASE};
 use std::alloc::Global;
+use std::cell::Cell;
+use std::io;
+use std::rt::Clock;
+use std::time::Duration;
 
 /// Another client prints.
 const PRINTS: Step<'static> = SendsLast(&[POST_JOB, PRINT_JOB]);
@@ -113,4 +117,64 @@ fn is_left_unread<B: DeskBook>(rt: &HostRuntime, document: &[u8]) -> Result<(), 
 fn a_client_that_does_not_read(rt: HostRuntime) -> Result<(), Mismatch> {
     let document = vec![in rt.alloc(); b'0'; MOST_BYTES]?;
     is_left_unread::<MemoryBook>(&rt, document.as_slice())
+}
+
+/// A clock by which so many seconds pass from each look to the next.
+#[derive(Drop)]
+struct Leaps {
+    seconds: u64,
+    looks: Cell<u64>,
+}
+
+impl Leaps {
+    fn by(seconds: u64) -> Leaps {
+        Leaps {
+            seconds,
+            looks: Cell::new(0),
+        }
+    }
+}
+
+impl Clock for Leaps {
+    fn monotonic(&self) -> io::Result<Duration> {
+        let looks = self.looks.get();
+        self.looks.set(looks.saturating_add(1));
+        Ok(Duration::from_secs(looks.saturating_mul(self.seconds)))
+    }
+
+    fn since_1970(&self) -> io::Result<Duration> {
+        Ok(Duration::from_secs(41))
+    }
+}
+
+/// A client prints while this clock goes, and the server prints this line of it. Another that prints then is served in time, and gets this job.
+fn prints_by<B: DeskBook>(
+    rt: &HostRuntime,
+    clock: &Leaps,
+    line: &str,
+    job: &[u8],
+) -> Result<(), Mismatch> {
+    let mut server = Server::<B>::new(rt)?;
+    server.add_last_client(rt, &[POST_JOB, PRINT_JOB])?;
+    server.serve(clock, 1, line)?;
+    server.take_each(
+        rt,
+        &[
+            PRINTS,
+            Serves(1, "served 1\n"),
+            Gets(1, &[Success(IPP, job)]),
+        ],
+    )
+}
+
+/// A connection has a minute in all, 60 timeouts of a second. In its last second the request is still read and acts; then its answer is not written any more.
+#[test]
+fn the_last_second_of_a_connection(rt: HostRuntime) -> Result<(), Mismatch> {
+    prints_by::<MemoryBook>(&rt, &Leaps::by(59), "served 1\n", JOB_2)
+}
+
+/// Behind it the request is not read any more.
+#[test]
+fn a_connection_whose_time_is_over(rt: HostRuntime) -> Result<(), Mismatch> {
+    prints_by::<MemoryBook>(&rt, &Leaps::by(60), "served 0\n", JOB_1)
 }

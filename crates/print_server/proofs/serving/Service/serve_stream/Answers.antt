@@ -5,8 +5,8 @@ use Rattle.http_front.specs.Turns.{most_requests}
 use Rattle.print_server.proofs.ConnectionLemmas.{faultless, worked_none}
 use Rattle.print_server.proofs.serving.Service.serve_stream.Goals as goal
 
-pub returns-then-is_err-clause-worked : goal.returns-then-is_err-clause-worked
-returns-then-is_err-clause-worked g c = λ h w st set. (w, st, worked_none c.args.now w, λ v left. (v, left, inl (refl, refl)))
+pub returns-in_default-clause-worked : goal.returns-in_default-clause-worked
+returns-in_default-clause-worked g c = λ h w st set. (w, st, worked_none c.args.now w, λ v left. (v, left, inl (refl, refl)))
 
 pub returns-clause-worked : goal.returns-clause-worked
 returns-clause-worked g c = λ h w st set.
