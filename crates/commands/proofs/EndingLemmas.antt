@@ -5,11 +5,7 @@ use Rattle.clap.specs.declared.error.kind.ErrorKind.{ErrorKind}
 use Rattle.clap.specs.declared.error.kind.ErrorKind.TheVariants.{DisplayHelp, DisplayVersion}
 use Rattle.commands.specs.Words.{AreWrong, AskForText}
 
--- what holds where a call was done
-pub where_ok : {A E X : Type 0} (r : Result A E) → IsOk r → OnOk r X → X
-where_ok (Ok a) ok x = x
-where_ok (Err e) ok x = absurd (let no : false ≡ true = ok in cc)
-
+-- what holds where a call was done, or refused
 pub on_ok : {A E X Y : Type 0} (r : Result A E) → OnOk r X → (X → Y) → OnOk r Y
 on_ok (Ok a) x then_y = then_y x
 on_ok (Err e) x then_y = tt

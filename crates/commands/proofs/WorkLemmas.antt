@@ -1,10 +1,13 @@
 -- Work on a store, where less is known of what its account file holds.
-use Rattle.std.proofs.Common.{◌≡◌, ℕ, IsTrue, List, Option, Result, Ok, subst, sym}
+use Rattle.std.proofs.Common.{◌≡◌, ℕ, IfErr, IsOk, IsTrue, List, OnOk, Option, Result, Ok, Err, false, true, subst, sym}
 use Rattle.sqlite.specs.State.{State}
 use Rattle.office.specs.Told.{AreReadOf}
 use Rattle.queue_core.specs.World.{World}
+use Rattle.queue_store.specs.declared.book.TableBook.{TableBook}
 use Rattle.queue_tables.specs.Content.{LeavesOneOf}
-use Rattle.commands.specs.Work.{AreAny, AreReadIn, CrashLeaves, IsDone, MayBeLeft}
+use Rattle.sqlite_trees.specs.declared.store.Store.{Ghosts}
+use Rattle.command_ends.specs.declared.fault.Fault.{Fault}
+use Rattle.commands.specs.Work.{AreAny, AreReadIn, CrashLeaves, HasEnded, IsDone, IsDoneOn, IsRefusedOn, MayBeLeft}
 use Rattle.commands.specs.declared.work.Work.{Work}
 use Rattle.commands.specs.declared.work.Work.TheVariants.{Import, Statement, Serve}
 use Rattle.commands.proofs.CrashLemmas.{known_of_all}
@@ -42,3 +45,14 @@ module _ (are_read : List ℕ → Type 0) (work : Work) (before after : State) (
   handed_on_kept kept stood at live done =
       let it = handed_on_of at.0 live (done at.0 at.2) in
       (at.0, at.1, it.0, it.1, it.2, it.3, it.4, it.5)
+
+-- work on a book that ended
+module _ {S A : Type 0} (store : Ghosts S) (are_read : List ℕ → Type 0) (work : Work) (old new : TableBook S) (before after : Option (List ℕ)) where
+  pub ended : (r : Result A Fault) → OnOk r (IsDoneOn store are_read work old new before after) → IfErr r (IsRefusedOn store are_read work old new before after)
+      → HasEnded store are_read work old new before after r
+  ended (Ok a) done refused = done
+  ended (Err fault) done refused = refused
+
+  pub ended_ok : (r : Result A Fault) → IsOk r → HasEnded store are_read work old new before after r → IsDoneOn store are_read work old new before after
+  ended_ok (Ok a) ok done = done
+  ended_ok (Err fault) ok refused = absurd (let no : false ≡ true = ok in cc)

@@ -1,5 +1,5 @@
 //! What a command does on the store that is at a path.
-ghost use Rattle.std.specs.Prelude.{◌≡◌, ◌⊎◌, IfErr, IfOk, IsTrue, OnOk};
+ghost use Rattle.std.specs.Prelude.{◌≡◌, ◌⊎◌, IfErr, IfOk, IsTrue};
 ghost use Rattle.sqlite.specs.Files.{over_files};
 ghost use Rattle.sqlite_wal.specs.Files.{image_at};
 ghost use Rattle.queue_core.specs.World.{World};
@@ -10,7 +10,7 @@ ghost use Rattle.queue_tables.specs.Content.{LeavesOneOf};
 ghost use Rattle.command_ends.specs.Faults.{IsOfStream};
 ghost use Rattle.commands.specs.Store.{IsOfStore};
 ghost use Rattle.commands.specs.Refusals.{MayBeToldOf};
-ghost use Rattle.commands.specs.Work.{AreAny, AreReadIn, IsDone, IsDoneOn, IsRefusal, IsRefusedOn, LeavesOpen, MayBeLeft, PrintsLast, store_of};
+ghost use Rattle.commands.specs.Work.{AreAny, AreReadIn, HasEnded, IsDone, IsDoneOn, IsRefusal, LeavesOpen, MayBeLeft, PrintsLast, store_of};
 
 use crate::office_commands::{import_into, print_from};
 use crate::serving::serve_book;
@@ -75,10 +75,8 @@ fn work_on<
     output: &mut W,
     book: &mut TableBook<S>,
 ) -> Result<(), Fault>
-    ensures done { IsHonest S.Store book.new
-        → OnOk result (IsDoneOn S.Store (AreReadIn F.remaining file) work.entry book.old book.new (W.contents output.old) (W.contents output.new)) }
-    ensures refused { IsHonest S.Store book.new
-        → IfErr result (IsRefusedOn S.Store (AreReadIn F.remaining file) work.entry book.old book.new (W.contents output.old) (W.contents output.new)) }
+    ensures ended { IsHonest S.Store book.new
+        → HasEnded S.Store (AreReadIn F.remaining file) work.entry book.old book.new (W.contents output.old) (W.contents output.new) result }
     ensures told { IfErr result (IsRefusal work.entry (W.contents output.old) (W.contents output.new)) }
 {
     match work {
@@ -102,10 +100,8 @@ fn work_in<
     output: &mut W,
     book: &mut TableBook<FileStore<D>>,
 ) -> Result<(), Fault>
-    ensures done { IsHonest over_files book.new
-        → OnOk result (IsDoneOn over_files (AreReadIn F.remaining file) work.entry book.old book.new (W.contents output.old) (W.contents output.new)) }
-    ensures refused { IsHonest over_files book.new
-        → IfErr result (IsRefusedOn over_files (AreReadIn F.remaining file) work.entry book.old book.new (W.contents output.old) (W.contents output.new)) }
+    ensures ended { IsHonest over_files book.new
+        → HasEnded over_files (AreReadIn F.remaining file) work.entry book.old book.new (W.contents output.old) (W.contents output.new) result }
     ensures told { IfErr result (IsRefusal work.entry (W.contents output.old) (W.contents output.new)) }
 {
     work_on(alloc, rt, work, file, output, book)

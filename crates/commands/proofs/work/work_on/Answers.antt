@@ -1,20 +1,32 @@
-use Rattle.std.proofs.Common.{IfErr, OnOk, ap, arith, refl, subst, sym, inl, inr}
-use Rattle.commands.specs.Work.{AreReadIn, IsDoneOn, IsRefusal, IsRefusedOn}
+use Rattle.std.proofs.Common.{IfErr, ap, arith, refl, subst, sym, inl, inr}
+use Rattle.commands.specs.Work.{AreReadIn, HasEnded, IsRefusal}
 use Rattle.commands.proofs.EndingLemmas.{both, both_ok, by_four, if_err, on_ok, or_same}
+use Rattle.commands.proofs.WorkLemmas.{ended}
 use Rattle.commands.proofs.work.work_on.Goals as goal
 
-pub returns-in-Import-clause-done : goal.returns-in-Import-clause-done
-returns-in-Import-clause-done g c = λ honest.
-    subst (λ work. OnOk c.import_into.result (IsDoneOn g.S.Store (AreReadIn g.F.Read.remaining c.args.file) work c.args.book.now c.import_into.new.book (g.W.Write.contents c.args.output.now) (g.W.Write.contents c.import_into.new.output))) (sym c.in-Import.is)
+pub returns-in-Import-clause-ended : goal.returns-in-Import-clause-ended
+returns-in-Import-clause-ended g c = λ honest.
+    subst (λ work. HasEnded g.S.Store (AreReadIn g.F.Read.remaining c.args.file) work c.args.book.now c.import_into.new.book (g.W.Write.contents c.args.output.now) (g.W.Write.contents c.import_into.new.output) c.import_into.result) (sym c.in-Import.is)
+    (ended g.S.Store _ _ _ _ _ _ c.import_into.result
     (on_ok c.import_into.result (both_ok c.import_into.result _ _ (c.import_into.ensures.taken honest) (c.import_into.ensures.live honest)) (λ told. record {
       began = c.import_into.ensures.began honest;
       done = λ w stands. let it = told.0 w stands in (it.1, it.3, (it.0, it.2, it.4), it.5);
       live = λ leaves. told.1;
     }))
+    (if_err c.import_into.result _ _ (both c.import_into.result _ _ (c.import_into.ensures.left honest) (c.import_into.ensures.why honest)) (λ fault told. record {
+      began = c.import_into.ensures.began honest;
+      refused = λ w stands. let it = told.0 w stands in (
+        it.0,
+        it.1,
+        (told.1 w stands, elim it.2 [ inl same ↦ inl (same.0, ap g.W.Write.contents same.1) | inr taken ↦ inr taken ]),
+        it.3,
+      );
+    })))
 
-pub returns-in-Statement-clause-done : goal.returns-in-Statement-clause-done
-returns-in-Statement-clause-done g c = λ honest.
-    subst (λ work. OnOk c.print_from.result (IsDoneOn g.S.Store (AreReadIn g.F.Read.remaining c.args.file) work c.args.book.now c.print_from.new.book (g.W.Write.contents c.args.output.now) (g.W.Write.contents c.print_from.new.output))) (sym c.in-Statement.is)
+pub returns-in-Statement-clause-ended : goal.returns-in-Statement-clause-ended
+returns-in-Statement-clause-ended g c = λ honest.
+    subst (λ work. HasEnded g.S.Store (AreReadIn g.F.Read.remaining c.args.file) work c.args.book.now c.print_from.new.book (g.W.Write.contents c.args.output.now) (g.W.Write.contents c.print_from.new.output) c.print_from.result) (sym c.in-Statement.is)
+    (ended g.S.Store _ _ _ _ _ _ c.print_from.result
     (on_ok c.print_from.result (both_ok c.print_from.result _ _ (c.print_from.ensures.printed honest) (c.print_from.ensures.live honest)) (λ told. record {
       began = c.print_from.ensures.began honest;
       done = λ w stands. let it = told.0 w stands in (
@@ -25,10 +37,20 @@ returns-in-Statement-clause-done g c = λ honest.
       );
       live = λ leaves. told.1;
     }))
+    (by_four c.print_from.result _ _ _ _ _ (c.print_from.ensures.damaged honest) (c.print_from.ensures.unknown honest) (c.print_from.ensures.known honest) c.print_from.ensures.quiet (λ fault damaged unknown known quiet. record {
+      began = c.print_from.ensures.began honest;
+      refused = λ w stands. (
+        w,
+        c.print_from.ensures.kept w stands,
+        ((λ is. damaged is w stands), (λ is. unknown is w stands), (λ none. known w stands none), refl, or_same g.W.Write.contents _ _ quiet),
+        λ live. (w, c.print_from.ensures.crash honest live w stands, (refl, refl)),
+      );
+    })))
 
-pub returns-in-Serve-clause-done : goal.returns-in-Serve-clause-done
-returns-in-Serve-clause-done g c = λ honest.
-    subst (λ work. OnOk c.serve_book.result (IsDoneOn g.S.Store (AreReadIn g.F.Read.remaining c.args.file) work c.args.book.now c.serve_book.new.book (g.W.Write.contents c.args.output.now) (g.W.Write.contents c.serve_book.new.output))) (sym c.in-Serve.is)
+pub returns-in-Serve-clause-ended : goal.returns-in-Serve-clause-ended
+returns-in-Serve-clause-ended g c = λ honest.
+    subst (λ work. HasEnded g.S.Store (AreReadIn g.F.Read.remaining c.args.file) work c.args.book.now c.serve_book.new.book (g.W.Write.contents c.args.output.now) (g.W.Write.contents c.serve_book.new.output) c.serve_book.result) (sym c.in-Serve.is)
+    (ended g.S.Store _ _ _ _ _ _ c.serve_book.result
     (on_ok c.serve_book.result (c.serve_book.ensures.served honest) (λ told. record {
       began = c.serve_book.ensures.began honest;
       done = λ w stands. let it = told w stands in (
@@ -42,36 +64,6 @@ returns-in-Serve-clause-done g c = λ honest.
       );
       live = λ leaves. absurd leaves;
     }))
-
-pub returns-in-Import-clause-refused : goal.returns-in-Import-clause-refused
-returns-in-Import-clause-refused g c = λ honest.
-    subst (λ work. IfErr c.import_into.result (IsRefusedOn g.S.Store (AreReadIn g.F.Read.remaining c.args.file) work c.args.book.now c.import_into.new.book (g.W.Write.contents c.args.output.now) (g.W.Write.contents c.import_into.new.output))) (sym c.in-Import.is)
-    (if_err c.import_into.result _ _ (both c.import_into.result _ _ (c.import_into.ensures.left honest) (c.import_into.ensures.why honest)) (λ fault told. record {
-      began = c.import_into.ensures.began honest;
-      refused = λ w stands. let it = told.0 w stands in (
-        it.0,
-        it.1,
-        (told.1 w stands, elim it.2 [ inl same ↦ inl (same.0, ap g.W.Write.contents same.1) | inr taken ↦ inr taken ]),
-        it.3,
-      );
-    }))
-
-pub returns-in-Statement-clause-refused : goal.returns-in-Statement-clause-refused
-returns-in-Statement-clause-refused g c = λ honest.
-    subst (λ work. IfErr c.print_from.result (IsRefusedOn g.S.Store (AreReadIn g.F.Read.remaining c.args.file) work c.args.book.now c.print_from.new.book (g.W.Write.contents c.args.output.now) (g.W.Write.contents c.print_from.new.output))) (sym c.in-Statement.is)
-    (by_four c.print_from.result _ _ _ _ _ (c.print_from.ensures.damaged honest) (c.print_from.ensures.unknown honest) (c.print_from.ensures.known honest) c.print_from.ensures.quiet (λ fault damaged unknown known quiet. record {
-      began = c.print_from.ensures.began honest;
-      refused = λ w stands. (
-        w,
-        c.print_from.ensures.kept w stands,
-        ((λ is. damaged is w stands), (λ is. unknown is w stands), (λ none. known w stands none), refl, or_same g.W.Write.contents _ _ quiet),
-        λ live. (w, c.print_from.ensures.crash honest live w stands, (refl, refl)),
-      );
-    }))
-
-pub returns-in-Serve-clause-refused : goal.returns-in-Serve-clause-refused
-returns-in-Serve-clause-refused g c = λ honest.
-    subst (λ work. IfErr c.serve_book.result (IsRefusedOn g.S.Store (AreReadIn g.F.Read.remaining c.args.file) work c.args.book.now c.serve_book.new.book (g.W.Write.contents c.args.output.now) (g.W.Write.contents c.serve_book.new.output))) (sym c.in-Serve.is)
     (if_err c.serve_book.result _ _ (both c.serve_book.result _ _ (c.serve_book.ensures.err honest) (c.serve_book.ensures.damaged honest)) (λ fault it. record {
       began = c.serve_book.ensures.began honest;
       refused = λ w stands. let left = it.0 w stands in (
@@ -80,7 +72,7 @@ returns-in-Serve-clause-refused g c = λ honest.
         ((λ is. it.1 is w stands), left.2, left.3, left.4),
         λ live. let crashed = left.5 live in (crashed.0, crashed.1, (left.2, left.3, left.4, crashed.2)),
       );
-    }))
+    })))
 
 pub returns-in-Import-clause-told : goal.returns-in-Import-clause-told
 returns-in-Import-clause-told g c =
