@@ -1,6 +1,7 @@
 //! Connections one after another.
 ghost use Rattle.std.specs.Prelude.{◌≡◌, ◌≢◌, ◌≤◌, ◌*◌, List, ℕ, Err, IfErr, IfOk, IsErrOf, Ok, OnOk, OnErr, false, length};
 ghost use Rattle.std.specs.Duration.{as_nanos};
+ghost use Rattle.std.specs.Int.NonZero.{non_zero_u32_get};
 ghost use Rattle.std.specs.Io.KnownBytes.{Appends};
 ghost use Rattle.queue_core.specs.Limits.{IsMoment};
 ghost use Rattle.queue_core.specs.World.{World};
@@ -43,19 +44,19 @@ pub struct Service<'a> {
 }
 
 /// The time that a connection has in all, in timeouts.
-const MOST_TIMEOUTS: u32 = 60;
+const MOST_TIMEOUTS: u64 = 60;
 
-/// How long one read waits for what a client sends behind its last request.
+/// How many seconds one read waits for what a client sends behind its last request.
 const LINGER_SECONDS: u64 = 1;
 
-/// How long all these reads may take.
+/// How many seconds all these reads may take.
 const MOST_LINGER_SECONDS: u64 = 10;
 
-/// So many seconds.
-fn seconds(count: u32) -> Duration
-    ensures { as_nanos result ≡ count * 1000000000 }
+/// The time that a connection has in all, where one read or write may wait so many seconds.
+fn connection_time(timeout: NonZeroU32) -> Duration
+    ensures { as_nanos result ≡ 60 * (non_zero_u32_get timeout * 1000000000) }
 {
-    Duration::from_secs(u64::from(count))
+    Duration::from_secs(u64::from(timeout.get()) * MOST_TIMEOUTS)
 }
 
 /// Readies a stream: no read and no write waits longer than so many seconds, none begins once 60 times as many are over, and small writes go
@@ -64,20 +65,33 @@ fn prepare<'a, C: Clock>(
     stream: &'a TcpStream,
     clock: &'a C,
     timeout: NonZeroU32,
-) -> io::Result<TimedStream<'a, &'a C>> {
-    let wait = seconds(timeout.get());
+) -> io::Result<TimedStream<'a, &'a C>>
+    ensures { IfOk result (λ s. as_nanos s.time ≡ 60 * (non_zero_u32_get timeout * 1000000000)) }
+{
+    let wait = Duration::from_secs(u64::from(timeout.get()));
     stream.set_read_timeout(Some(wait))?;
     stream.set_write_timeout(Some(wait))?;
     stream.set_nodelay(true)?;
-    TimedStream::new(stream, clock, wait.saturating_mul(MOST_TIMEOUTS))
+    TimedStream::new(stream, clock, connection_time(timeout))
+}
+
+/// Says to a client that no more comes, and readies the stream for what it still sends: no read waits longer than a second, and none begins
+/// once ten are over.
+fn end_writing<'a, C: Clock>(
+    stream: &'a TcpStream,
+    clock: &'a C,
+) -> io::Result<TimedStream<'a, &'a C>>
+    ensures { IfOk result (λ s. as_nanos s.time ≡ 10 * 1000000000) }
+{
+    stream.shutdown(Shutdown::Write)?;
+    stream.set_read_timeout(Some(Duration::from_secs(LINGER_SECONDS)))?;
+    TimedStream::new(stream, clock, Duration::from_secs(MOST_LINGER_SECONDS))
 }
 
 /// Ends a stream whose client may still be sending: says that no more comes, and reads past what does. A stream that is closed with bytes
 /// unread is reset, and its client may then lose the answer that it was sent (RFC 9112, section 9.6).
 fn linger<C: Clock>(stream: &TcpStream, clock: &C) -> io::Result<()> {
-    stream.shutdown(Shutdown::Write)?;
-    stream.set_read_timeout(Some(Duration::from_secs(LINGER_SECONDS)))?;
-    let mut timed = TimedStream::new(stream, clock, Duration::from_secs(MOST_LINGER_SECONDS))?;
+    let mut timed = end_writing(stream, clock)?;
     drain(&mut timed);
     Ok(())
 }
