@@ -29,10 +29,6 @@ pub both_ok : {A E : Type 0} (r : Result A E) (P Q R : A → Type 0) → ((x : A
 both_ok (Ok x) P Q R then_r p q = then_r x p q
 both_ok (Err e) P Q R then_r p q = tt
 
-pub both_err : {A E : Type 0} (r : Result A E) (P Q R : E → Type 0) → ((e : E) → P e → Q e → R e) → IfErr r P → IfErr r Q → IfErr r R
-both_err (Ok x) P Q R then_r p q = tt
-both_err (Err e) P Q R then_r p q = then_r e p q
-
 -- an error that a `?` hands on
 pub err_same : {A E : Type 0} (r : Result A E) (e : E) (Q : E → Type 0) → IsErrAnd r (λ f. f ≡ e) → Q e → IfErr r Q
 err_same (Ok x) e Q same q = tt

@@ -5,6 +5,7 @@ ghost use Rattle.sqlite.specs.Files.{HoldsDatabase, IsOpened, file_state, over_f
 ghost use Rattle.sqlite.specs.Start.{FindsIn};
 ghost use Rattle.sqlite.specs.State.{HasCleanDisk};
 ghost use Rattle.sqlite_trees.specs.Tree.{Trees};
+ghost use Rattle.sqlite_trees.specs.View.{IsClean};
 ghost use Rattle.sqlite_wal.specs.Files.{image_at, outcomes};
 ghost use Rattle.sqlite_wal.specs.Reads.{AreClean};
 ghost use Rattle.sqlite_wal.specs.Recovery.{Image};
@@ -100,16 +101,13 @@ fn connect<S: Start>(
 fn adopt_in_files<D: Disk + Drop>(
     alloc: Global,
     conn: Connection<FileStore<D>>,
-) -> Result<TableBook<FileStore<D>>, (BookFault, Option<Leftover<D>>)>
+) -> Result<TableBook<FileStore<D>>, (BookFault, FileStore<D>)>
     ensures stands { FitsIn (file_state conn) → IfOk result (λ b. StandsForOne over_files b) }
     ensures kept { IfOk result (λ b. LeavesTables (file_state conn) (shown_by over_files b)) }
-    ensures clean { IfErr result (λ e. IsFaultless e.1 → HasCleanDisk (file_state conn)) }
-    ensures damaged { FitsIn (file_state conn) → IfErr result (λ e. IsFaultless e.1 → e.0 ≡ BookFault.Damaged → (w : World) → ¬ IsQueueIn w (file_state conn).now) }
+    ensures clean { IfErr result (λ e. IsClean (over_files.view e.1) → HasCleanDisk (file_state conn)) }
+    ensures damaged { FitsIn (file_state conn) → IfErr result (λ e. IsClean (over_files.view e.1) → e.0 ≡ BookFault.Damaged → (w : World) → ¬ IsQueueIn w (file_state conn).now) }
 {
-    match TableBook::adopt_or_store(alloc, conn) {
-        Ok(book) => Ok(book),
-        Err((fault, store)) => Err((fault, Some(Leftover::Store(store)))),
-    }
+    TableBook::adopt_or_store(alloc, conn)
 }
 
 /// `TableBook::create_or_drop` over files.
@@ -198,7 +196,10 @@ impl<S: Start> TableBook<FileStore<FileFrom<S>>> {
         tables_hold_one_queue();
         trees_list_one_schema();
         let conn = connect_or_left(rt, path, start)?;
-        adopt_in_files(rt.alloc(), conn)
+        match adopt_in_files(rt.alloc(), conn) {
+            Ok(book) => Ok(book),
+            Err((fault, store)) => Err((fault, Some(Leftover::Store(store)))),
+        }
     }
 
     /// As `open_or_left`, but an error lets go what is left of the files.

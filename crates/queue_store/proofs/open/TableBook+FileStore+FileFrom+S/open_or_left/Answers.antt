@@ -1,46 +1,44 @@
 use Rattle.sqlite.specs.Files.{file_state, over_files}
+use Rattle.sqlite_trees.proofs.Doubt.{no_doubt}
 use Rattle.sqlite_wal.specs.Files.{image_at}
 use Rattle.queue_store.proofs.Adopting.{fits_in, kept_in}
 use Rattle.queue_store.proofs.Again.{fits_again, found_again, kept_queue}
-use Rattle.queue_store.proofs.Results.{both_err, both_ok, err_same, if_ok_then}
+use Rattle.queue_store.proofs.Results.{err_same}
 use Rattle.queue_store.proofs.open.TableBook+FileStore+FileFrom+S.open_or_left.Goals as goal
 
-pub returns-clause-stands : goal.returns-clause-stands
-returns-clause-stands g c = λ fits. c.adopt_in_files.ensures.stands (fits_in (file_state c.in_ok-conn.conn) (image_at g.S.Start) c.in_ok-conn.ensures.opened c.in_ok-conn.ensures.found fits)
+pub returns-in-Ok-clause-stands : goal.returns-in-Ok-clause-stands
+returns-in-Ok-clause-stands g c = λ fits. c.in-Ok.ensures.stands (fits_in (file_state c.in_ok-conn.conn) (image_at g.S.Start) c.in_ok-conn.ensures.opened c.in_ok-conn.ensures.found fits)
 
-pub returns-clause-kept : goal.returns-clause-kept
-returns-clause-kept g c = λ fits.
+pub returns-in-Ok-clause-kept : goal.returns-in-Ok-clause-kept
+returns-in-Ok-clause-kept g c = λ fits honest.
     let image = image_at g.S.Start in
     let before = file_state c.in_ok-conn.conn in
     let opened = c.in_ok-conn.ensures.opened in
     let found = c.in_ok-conn.ensures.found in
-    both_ok c.adopt_in_files.result _ _ _ (λ b stands kept honest. kept_in before image opened found over_files b kept honest (stands honest))
-    (c.adopt_in_files.ensures.stands (fits_in before image opened found fits)) c.adopt_in_files.ensures.kept
+    kept_in before image opened found over_files c.in-Ok.book c.in-Ok.ensures.kept honest (c.in-Ok.ensures.stands (fits_in before image opened found fits) honest)
 
-pub returns-clause-again : goal.returns-clause-again
-returns-clause-again g c = λ w left.
+pub returns-in-Ok-clause-again : goal.returns-in-Ok-clause-again
+returns-in-Ok-clause-again g c = λ w left.
     let image = image_at g.S.Start in
     let before = file_state c.in_ok-conn.conn in
     let opened = c.in_ok-conn.ensures.opened in
     let found = c.in_ok-conn.ensures.found in
-    both_ok c.adopt_in_files.result _ _ _ (λ b stands kept. found_again over_files b image c.tables_hold_one_queue.ensures (λ honest. kept_in before image opened found over_files b kept honest (stands honest)) w left)
-    (c.adopt_in_files.ensures.stands (fits_again before image opened found c.trees_list_one_schema.ensures w left)) c.adopt_in_files.ensures.kept
+    let stands = c.in-Ok.ensures.stands (fits_again before image opened found c.trees_list_one_schema.ensures w left) in
+    found_again over_files c.in-Ok.book image c.tables_hold_one_queue.ensures (λ honest. kept_in before image opened found over_files c.in-Ok.book c.in-Ok.ensures.kept honest (stands honest)) w left
 
-pub returns-clause-live : goal.returns-clause-live
-returns-clause-live g c = λ w left.
-    let image = image_at g.S.Start in
+pub returns-in-Ok-clause-live : goal.returns-in-Ok-clause-live
+returns-in-Ok-clause-live g c = λ w left honest.
     let before = file_state c.in_ok-conn.conn in
-    if_ok_then c.adopt_in_files.result _ _ (λ b stands honest. (stands honest).live)
-    (c.adopt_in_files.ensures.stands (fits_again before image c.in_ok-conn.ensures.opened c.in_ok-conn.ensures.found c.trees_list_one_schema.ensures w left))
+    (c.in-Ok.ensures.stands (fits_again before (image_at g.S.Start) c.in_ok-conn.ensures.opened c.in_ok-conn.ensures.found c.trees_list_one_schema.ensures w left) honest).live
 
-pub returns-clause-damaged : goal.returns-clause-damaged
-returns-clause-damaged g c = λ w left.
+pub returns-in-Err-clause-damaged : goal.returns-in-Err-clause-damaged
+returns-in-Err-clause-damaged g c = λ w left faultless told.
     let image = image_at g.S.Start in
     let before = file_state c.in_ok-conn.conn in
     let opened = c.in_ok-conn.ensures.opened in
     let found = c.in_ok-conn.ensures.found in
-    both_err c.adopt_in_files.result _ _ _ (λ e clean none faultless told. none faultless told w (kept_queue before image opened found c.trees_list_one_schema.ensures w left (clean faultless)))
-    c.adopt_in_files.ensures.clean (c.adopt_in_files.ensures.damaged (fits_again before image opened found c.trees_list_one_schema.ensures w left))
+    let clean = no_doubt _ faultless.0 in
+    c.in-Err.ensures.damaged (fits_again before image opened found c.trees_list_one_schema.ensures w left) clean told w (kept_queue before image opened found c.trees_list_one_schema.ensures w left (c.in-Err.ensures.clean clean))
 
 pub returns-in_err-conn-clause-damaged : goal.returns-in_err-conn-clause-damaged
 returns-in_err-conn-clause-damaged g c = λ w left. err_same _ c.in_err-conn.field-0.0 _ c.from_residual.ensures.1 (c.in_err-conn.ensures.damaged w left)
