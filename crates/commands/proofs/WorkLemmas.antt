@@ -3,11 +3,12 @@ use Rattle.std.proofs.Common.{◌≡◌, ℕ, IfErr, IsOk, IsTrue, List, OnOk, O
 use Rattle.sqlite.specs.State.{State}
 use Rattle.office.specs.Told.{AreReadOf}
 use Rattle.queue_core.specs.World.{World}
+use Rattle.queue_store.specs.Kept.{IsHonest}
 use Rattle.queue_store.specs.declared.book.TableBook.{TableBook}
 use Rattle.queue_tables.specs.Content.{LeavesOneOf}
 use Rattle.sqlite_trees.specs.declared.store.Store.{Ghosts}
 use Rattle.command_ends.specs.declared.fault.Fault.{Fault}
-use Rattle.commands.specs.Work.{AreAny, AreReadIn, CrashLeaves, HasEnded, IsDone, IsDoneOn, IsRefusedOn, MayBeLeft}
+use Rattle.commands.specs.Work.{AreAny, AreReadIn, CrashLeaves, HasEnded, IsDone, IsDoneOn, IsRefusal, IsRefusedOn, MayBeLeft}
 use Rattle.commands.specs.declared.work.Work.{Work}
 use Rattle.commands.specs.declared.work.Work.TheVariants.{Import, Statement, Serve}
 use Rattle.commands.proofs.CrashLemmas.{known_of_all}
@@ -48,11 +49,16 @@ module _ (are_read : List ℕ → Type 0) (work : Work) (before after : State) (
 
 -- work on a book that ended
 module _ {S A : Type 0} (store : Ghosts S) (are_read : List ℕ → Type 0) (work : Work) (old new : TableBook S) (before after : Option (List ℕ)) where
-  pub ended : (r : Result A Fault) → OnOk r (IsDoneOn store are_read work old new before after) → IfErr r (IsRefusedOn store are_read work old new before after)
-      → HasEnded store are_read work old new before after r
-  ended (Ok a) done refused = done
-  ended (Err fault) done refused = refused
+  pub ended : (r : Result A Fault) → (IsHonest store new → OnOk r (IsDoneOn store are_read work old new before after)) → IfErr r (IsRefusal work before after)
+      → (IsHonest store new → IfErr r (IsRefusedOn store are_read work old new before after)) → HasEnded store are_read work old new before after r
+  ended (Ok a) done told refused = done
+  ended (Err fault) done told refused = (told, refused)
 
-  pub ended_ok : (r : Result A Fault) → IsOk r → HasEnded store are_read work old new before after r → IsDoneOn store are_read work old new before after
+  pub ended_ok : (r : Result A Fault) → IsOk r → HasEnded store are_read work old new before after r → IsHonest store new
+      → IsDoneOn store are_read work old new before after
   ended_ok (Ok a) ok done = done
   ended_ok (Err fault) ok refused = absurd (let no : false ≡ true = ok in cc)
+
+  pub ended_err : (r : Result A Fault) → HasEnded store are_read work old new before after r → IfErr r (IsRefusal work before after)
+  ended_err (Ok a) done = tt
+  ended_err (Err fault) refused = refused.0

@@ -108,10 +108,11 @@ module _ {S : Type 0} (store : Ghosts S) (are_read : List ℕ → Type 0) (work 
     pub refused : (w : World) → StandsFor store old w → (u : World) × StandsFor store new u × IsNotDone are_read work fault w u before after
         × CrashLeaves (shown_by store old) (shown_by store new) u (MayBeLeft are_read work w u)
 
-  -- what came of the work: it is done, or refused with a fault
+  -- what came of the work: it is done, or refused with a fault; what is told of it is known of any book, and what became of the book where it is
+  -- an honest one
   abbrev pub HasEnded : {A : Type 0} → Result A Fault → Type 0
-  HasEnded (Ok done) = IsDoneOn
-  HasEnded (Err fault) = IsRefusedOn fault
+  HasEnded (Ok done) = IsHonest store new → IsDoneOn
+  HasEnded (Err fault) = IsRefusal work before after fault × (IsHonest store new → IsRefusedOn fault)
 
 abbrev pub store_of : Work → List ℕ
 store_of (Import words) = words.store.now

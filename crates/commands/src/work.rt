@@ -75,9 +75,7 @@ fn work_on<
     output: &mut W,
     book: &mut TableBook<S>,
 ) -> Result<(), Fault>
-    ensures ended { IsHonest S.Store book.new
-        → HasEnded S.Store (AreReadIn F.remaining file) work.entry book.old book.new (W.contents output.old) (W.contents output.new) result }
-    ensures told { IfErr result (IsRefusal work.entry (W.contents output.old) (W.contents output.new)) }
+    ensures { HasEnded S.Store (AreReadIn F.remaining file) work.entry book.old book.new (W.contents output.old) (W.contents output.new) result }
 {
     match work {
         Work::Import(_) => import_into(alloc, rt, file, output, book),
@@ -100,9 +98,7 @@ fn work_in<
     output: &mut W,
     book: &mut TableBook<FileStore<D>>,
 ) -> Result<(), Fault>
-    ensures ended { IsHonest over_files book.new
-        → HasEnded over_files (AreReadIn F.remaining file) work.entry book.old book.new (W.contents output.old) (W.contents output.new) result }
-    ensures told { IfErr result (IsRefusal work.entry (W.contents output.old) (W.contents output.new)) }
+    ensures { HasEnded over_files (AreReadIn F.remaining file) work.entry book.old book.new (W.contents output.old) (W.contents output.new) result }
 {
     work_on(alloc, rt, work, file, output, book)
 }

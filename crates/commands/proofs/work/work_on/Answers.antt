@@ -1,19 +1,23 @@
-use Rattle.std.proofs.Common.{IfErr, ap, arith, refl, subst, sym, inl, inr}
-use Rattle.commands.specs.Work.{AreReadIn, HasEnded, IsRefusal}
+use Rattle.std.proofs.Common.{ap, arith, refl, subst, sym, inl, inr}
+use Rattle.commands.specs.Work.{AreReadIn, HasEnded}
 use Rattle.commands.proofs.EndingLemmas.{both, both_ok, by_four, if_err, on_ok, or_same}
 use Rattle.commands.proofs.WorkLemmas.{ended}
 use Rattle.commands.proofs.work.work_on.Goals as goal
 
-pub returns-in-Import-clause-ended : goal.returns-in-Import-clause-ended
-returns-in-Import-clause-ended g c = λ honest.
+pub returns-in-Import : goal.returns-in-Import
+returns-in-Import g c =
     subst (λ work. HasEnded g.S.Store (AreReadIn g.F.Read.remaining c.args.file) work c.args.book.now c.import_into.new.book (g.W.Write.contents c.args.output.now) (g.W.Write.contents c.import_into.new.output) c.import_into.result) (sym c.in-Import.is)
     (ended g.S.Store _ _ _ _ _ _ c.import_into.result
-    (on_ok c.import_into.result (both_ok c.import_into.result _ _ (c.import_into.ensures.taken honest) (c.import_into.ensures.live honest)) (λ told. record {
+    (λ honest. on_ok c.import_into.result (both_ok c.import_into.result _ _ (c.import_into.ensures.taken honest) (c.import_into.ensures.live honest)) (λ told. record {
       began = c.import_into.ensures.began honest;
       done = λ w stands. let it = told.0 w stands in (it.1, it.3, (it.0, it.2, it.4), it.5);
       live = λ leaves. told.1;
     }))
-    (if_err c.import_into.result _ _ (both c.import_into.result _ _ (c.import_into.ensures.left honest) (c.import_into.ensures.why honest)) (λ fault told. record {
+    (if_err c.import_into.result _ _ (both c.import_into.result _ _ c.import_into.ensures.told c.import_into.ensures.quiet) (λ fault it. record {
+      told = it.0;
+      quiet = λ prints. or_same g.W.Write.contents _ _ it.1;
+    }))
+    (λ honest. if_err c.import_into.result _ _ (both c.import_into.result _ _ (c.import_into.ensures.left honest) (c.import_into.ensures.why honest)) (λ fault told. record {
       began = c.import_into.ensures.began honest;
       refused = λ w stands. let it = told.0 w stands in (
         it.0,
@@ -23,11 +27,11 @@ returns-in-Import-clause-ended g c = λ honest.
       );
     })))
 
-pub returns-in-Statement-clause-ended : goal.returns-in-Statement-clause-ended
-returns-in-Statement-clause-ended g c = λ honest.
+pub returns-in-Statement : goal.returns-in-Statement
+returns-in-Statement g c =
     subst (λ work. HasEnded g.S.Store (AreReadIn g.F.Read.remaining c.args.file) work c.args.book.now c.print_from.new.book (g.W.Write.contents c.args.output.now) (g.W.Write.contents c.print_from.new.output) c.print_from.result) (sym c.in-Statement.is)
     (ended g.S.Store _ _ _ _ _ _ c.print_from.result
-    (on_ok c.print_from.result (both_ok c.print_from.result _ _ (c.print_from.ensures.printed honest) (c.print_from.ensures.live honest)) (λ told. record {
+    (λ honest. on_ok c.print_from.result (both_ok c.print_from.result _ _ (c.print_from.ensures.printed honest) (c.print_from.ensures.live honest)) (λ told. record {
       began = c.print_from.ensures.began honest;
       done = λ w stands. let it = told.0 w stands in (
         w,
@@ -37,7 +41,11 @@ returns-in-Statement-clause-ended g c = λ honest.
       );
       live = λ leaves. told.1;
     }))
-    (by_four c.print_from.result _ _ _ _ _ (c.print_from.ensures.damaged honest) (c.print_from.ensures.unknown honest) (c.print_from.ensures.known honest) c.print_from.ensures.quiet (λ fault damaged unknown known quiet. record {
+    (if_err c.print_from.result _ _ (both c.print_from.result _ _ c.print_from.ensures.told c.print_from.ensures.quiet) (λ fault it. record {
+      told = it.0;
+      quiet = λ prints. or_same g.W.Write.contents _ _ it.1;
+    }))
+    (λ honest. by_four c.print_from.result _ _ _ _ _ (c.print_from.ensures.damaged honest) (c.print_from.ensures.unknown honest) (c.print_from.ensures.known honest) c.print_from.ensures.quiet (λ fault damaged unknown known quiet. record {
       began = c.print_from.ensures.began honest;
       refused = λ w stands. (
         w,
@@ -47,11 +55,11 @@ returns-in-Statement-clause-ended g c = λ honest.
       );
     })))
 
-pub returns-in-Serve-clause-ended : goal.returns-in-Serve-clause-ended
-returns-in-Serve-clause-ended g c = λ honest.
+pub returns-in-Serve : goal.returns-in-Serve
+returns-in-Serve g c =
     subst (λ work. HasEnded g.S.Store (AreReadIn g.F.Read.remaining c.args.file) work c.args.book.now c.serve_book.new.book (g.W.Write.contents c.args.output.now) (g.W.Write.contents c.serve_book.new.output) c.serve_book.result) (sym c.in-Serve.is)
     (ended g.S.Store _ _ _ _ _ _ c.serve_book.result
-    (on_ok c.serve_book.result (c.serve_book.ensures.served honest) (λ told. record {
+    (λ honest. on_ok c.serve_book.result (c.serve_book.ensures.served honest) (λ told. record {
       began = c.serve_book.ensures.began honest;
       done = λ w stands. let it = told w stands in (
         it.0,
@@ -64,7 +72,8 @@ returns-in-Serve-clause-ended g c = λ honest.
       );
       live = λ leaves. absurd leaves;
     }))
-    (if_err c.serve_book.result _ _ (both c.serve_book.result _ _ (c.serve_book.ensures.err honest) (c.serve_book.ensures.damaged honest)) (λ fault it. record {
+    (if_err c.serve_book.result _ _ c.serve_book.ensures.told (λ fault told. record { told = told; quiet = λ prints. absurd prints }))
+    (λ honest. if_err c.serve_book.result _ _ (both c.serve_book.result _ _ (c.serve_book.ensures.err honest) (c.serve_book.ensures.damaged honest)) (λ fault it. record {
       began = c.serve_book.ensures.began honest;
       refused = λ w stands. let left = it.0 w stands in (
         left.0,
@@ -73,24 +82,3 @@ returns-in-Serve-clause-ended g c = λ honest.
         λ live. let crashed = left.5 live in (crashed.0, crashed.1, (left.2, left.3, left.4, crashed.2)),
       );
     })))
-
-pub returns-in-Import-clause-told : goal.returns-in-Import-clause-told
-returns-in-Import-clause-told g c =
-    subst (λ work. IfErr c.import_into.result (IsRefusal work (g.W.Write.contents c.args.output.now) (g.W.Write.contents c.import_into.new.output))) (sym c.in-Import.is)
-    (if_err c.import_into.result _ _ (both c.import_into.result _ _ c.import_into.ensures.told c.import_into.ensures.quiet) (λ fault it. record {
-      told = it.0;
-      quiet = λ prints. or_same g.W.Write.contents _ _ it.1;
-    }))
-
-pub returns-in-Statement-clause-told : goal.returns-in-Statement-clause-told
-returns-in-Statement-clause-told g c =
-    subst (λ work. IfErr c.print_from.result (IsRefusal work (g.W.Write.contents c.args.output.now) (g.W.Write.contents c.print_from.new.output))) (sym c.in-Statement.is)
-    (if_err c.print_from.result _ _ (both c.print_from.result _ _ c.print_from.ensures.told c.print_from.ensures.quiet) (λ fault it. record {
-      told = it.0;
-      quiet = λ prints. or_same g.W.Write.contents _ _ it.1;
-    }))
-
-pub returns-in-Serve-clause-told : goal.returns-in-Serve-clause-told
-returns-in-Serve-clause-told g c =
-    subst (λ work. IfErr c.serve_book.result (IsRefusal work (g.W.Write.contents c.args.output.now) (g.W.Write.contents c.serve_book.new.output))) (sym c.in-Serve.is)
-    (if_err c.serve_book.result _ _ c.serve_book.ensures.told (λ fault told. record { told = told; quiet = λ prints. absurd prints }))
