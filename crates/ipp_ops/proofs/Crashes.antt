@@ -22,8 +22,10 @@ abbrev pub Comes : (World → World → Type 0) → (World → World → Type 0)
 Comes old new now h verdict w v = old w v → (x : World) × new (outcome verdict h w now).world x × Leaves (IsPassed verdict) now w v (outcome verdict h w now).world x
 
 -- a refused request does nothing
-pub refused_comes : (old : World → World → Type 0) (now : ℕ) (h : Head) (code : ℕ) (u : Unsupported) (verdict : Verdict) → refused code u ≡ verdict → (w v : World) → Comes old old now h verdict w v
-refused_comes old now h code u verdict e w v = subst (λ (z : Verdict). Comes old old now h z w v) e (λ left. (v, left, untaken refl refl))
+pub refused_comes : {A E : Type 0} (r : Result A E) (stands : World → Type 0) (old : World → World → Type 0) (now : ℕ) (h : Head) (code : ℕ) (u : Unsupported) (verdict : Verdict) → refused code u ≡ verdict
+    → OnOk r ((w v : World) → stands w → Comes old old now h verdict w v)
+refused_comes (Ok n) stands old now h code u verdict e = λ w v st. subst (λ (z : Verdict). Comes old old now h z w v) e (λ left. (v, left, untaken refl refl))
+refused_comes (Err f) stands old now h code u verdict e = tt
 
 call_comes : {A E : Type 0} (stands made : World → Type 0) (old new : World → World → Type 0) (now : ℕ) (h : Head) (caller : List ℕ) (call : Call) (rows : Rows) (u : Unsupported) (r : Result A E) (live : Type 0)
     → IfOk r (λ n. (w : World) → stands w → made (step w now (ask caller call)).world) → OnOk r live → ((w v : World) → live → made w → new w v)

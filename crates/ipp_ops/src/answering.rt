@@ -73,18 +73,19 @@ fn reply_bytes(
     write(&message)
 }
 
-/// The bytes of the reply that refuses a request.
+/// The bytes of the reply that refuses a request. Want of memory for them is a fault, as of a book.
 fn refusal_bytes(
     context: ReplyContext<'_>,
     code: u16,
     unsupported: &Unsupported<'_>,
-) -> Result<Vec<u8>, AllocError>
+) -> Result<Vec<u8>, BookFault>
     requires listed { CanList (unsupported_of unsupported.now) }
     ensures spelled { IfOk result (λ b. Spells (reply_of (Refused code) context.entry.head no_rows (unsupported_of unsupported.now) context.entry.settings.now context.entry.now) b.items) }
     ensures replies { IfOk result (λ b. IsReplyTo context.entry.head b.items) }
 {
     let wanted = Wanted::nothing(context.alloc);
-    reply_bytes(context, &Reply::Refused(code), &wanted, unsupported)
+    let bytes = reply_bytes(context, &Reply::Refused(code), &wanted, unsupported)?;
+    Ok(bytes)
 }
 
 /// One step of the machine, or a fault and no change: the book is changed last, once the reply's bytes
@@ -152,10 +153,7 @@ fn answer_message<B: QueueBook>(
         now,
     };
     match ask(alloc, view)? {
-        Ask::Refused { code, unsupported } => {
-            let bytes = refusal_bytes(context, code, &unsupported)?;
-            Ok(bytes)
-        }
+        Ask::Refused { code, unsupported } => refusal_bytes(context, code, &unsupported),
         Ask::Call {
             caller,
             call,

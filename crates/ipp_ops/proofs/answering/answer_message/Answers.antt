@@ -12,13 +12,13 @@ use Rattle.ipp_ops.proofs.answering.answer_message.Goals as goal
 pub returns-in_err-code-clause-crash_err : goal.returns-in_err-code-clause-crash_err
 returns-in_err-code-clause-crash_err g c = λ honest. on_err _ (g.B.QueueBook.stands c.args.book.now) (g.B.QueueBook.crash_leaves c.args.book.now) (g.B.QueueBook.crash_leaves c.args.book.now) (IsPassed (verdict (message_of c.args.view.now))) c.args.now (λ w v stands left. (v, left, untaken refl refl))
 
-pub returns-in_err-bytes-in-Refused-clause-crash_err : goal.returns-in_err-bytes-in-Refused-clause-crash_err
-returns-in_err-bytes-in-Refused-clause-crash_err g c = λ honest. on_err _ (g.B.QueueBook.stands c.args.book.now) (g.B.QueueBook.crash_leaves c.args.book.now) (g.B.QueueBook.crash_leaves c.args.book.now) (IsPassed (verdict (message_of c.args.view.now))) c.args.now (λ w v stands left. (v, left, untaken refl refl))
+pub returns-in-Refused-clause-crash_ok : goal.returns-in-Refused-clause-crash_ok
+returns-in-Refused-clause-crash_ok g c = λ honest.
+    refused_comes c.refusal_bytes.result (g.B.QueueBook.stands c.args.book.now) (g.B.QueueBook.crash_leaves c.args.book.now) c.args.now c.args.view.now.head c.in-Refused.code (unsupported_of c.in-Refused.unsupported) (verdict (message_of c.args.view.now))
+    (rw c.in-Refused.is at c.in_ok-code.ensures.verdict)
 
-pub returns-in_ok-bytes-in-Refused-clause-crash_ok : goal.returns-in_ok-bytes-in-Refused-clause-crash_ok
-returns-in_ok-bytes-in-Refused-clause-crash_ok g c = λ honest w v stands left.
-    refused_comes (g.B.QueueBook.crash_leaves c.args.book.now) c.args.now c.args.view.now.head c.in-Refused.code (unsupported_of c.in-Refused.unsupported) (verdict (message_of c.args.view.now))
-    (rw c.in-Refused.is at c.in_ok-code.ensures.verdict) w v left
+pub returns-in-Refused-clause-crash_err : goal.returns-in-Refused-clause-crash_err
+returns-in-Refused-clause-crash_err g c = λ honest. on_err _ (g.B.QueueBook.stands c.args.book.now) (g.B.QueueBook.crash_leaves c.args.book.now) (g.B.QueueBook.crash_leaves c.args.book.now) (IsPassed (verdict (message_of c.args.view.now))) c.args.now (λ w v stands left. (v, left, untaken refl refl))
 
 pub returns-in-Call-clause-crash_ok : goal.returns-in-Call-clause-crash_ok
 returns-in-Call-clause-crash_ok g c = λ honest.
