@@ -1,34 +1,58 @@
 -- Work on a store, where less is known of what its account file holds.
-use Rattle.std.proofs.Common.{◌≡◌, ℕ, IfErr, IsOk, IsTrue, List, OnOk, Option, Result, Ok, Err, false, true, subst, sym}
+use Rattle.std.proofs.Common.{◌≡◌, ℕ, IfErr, IfOk, IsOk, IsTrue, List, OnOk, Option, Result, Ok, Err, Vec, false, true, subst, sym}
 use Rattle.sqlite.specs.State.{State}
-use Rattle.office.specs.Told.{AreReadOf}
+use Rattle.grants_csv.specs.declared.importing.Imported.{Imported}
+use Rattle.office.specs.Told.{IsTaken}
+use Rattle.queue_core.specs.Limits.{IsMoment}
 use Rattle.queue_core.specs.World.{World}
 use Rattle.queue_store.specs.Kept.{IsHonest}
 use Rattle.queue_store.specs.declared.book.TableBook.{TableBook}
 use Rattle.queue_tables.specs.Content.{LeavesOneOf}
 use Rattle.sqlite_trees.specs.declared.store.Store.{Ghosts}
 use Rattle.command_ends.specs.declared.fault.Fault.{Fault}
-use Rattle.commands.specs.Work.{AreAny, AreReadIn, CrashLeaves, HasEnded, IsDone, IsDoneOn, IsRefusal, IsRefusedOn, MayBeLeft}
+use Rattle.commands.specs.Work.{AreAny, AreIn, CrashLeaves, HasEnded, IsDone, IsDoneOn, IsImport, IsRefusal, IsRefusedOn, MayBeLeft}
 use Rattle.commands.specs.declared.work.Work.{Work}
 use Rattle.commands.specs.declared.work.Work.TheVariants.{Import, Statement, Serve}
 use Rattle.commands.proofs.CrashLemmas.{known_of_all}
 
-module _ {R E : Type 0} where
-  -- what is read of a file that was opened
-  pub read_in : (remaining : R → Option (List ℕ)) (file : Result R E) (opened : R) → file ≡ Ok opened → (bytes : List ℕ) → AreReadOf (remaining opened) bytes
-      → AreReadIn remaining file bytes
-  read_in remaining file opened is bytes read = subst (λ (x : Result R E). AreReadIn remaining x bytes) (sym is) read
+-- bytes that were read
+pub in_read : {Z E : Type 0} (file : Result (Vec ℕ Z) E) (read : Vec ℕ Z) → file ≡ Ok read → (bytes : List ℕ) → bytes ≡ read.items → AreIn file bytes
+in_read file read is bytes same = subst (λ (x : Result (Vec _ _) _). AreIn x bytes) (sym is) same
 
-pub done_of_any : (are_read : List ℕ → Type 0) (work : Work) (w u : World) (before after : Option (List ℕ)) → IsDone are_read work w u before after
-    → IsDone AreAny work w u before after
-done_of_any are_read (Import words) w u before after done = (done.0, (done.1.0, done.1.1, done.1.2, tt, done.1.4), done.2)
-done_of_any are_read (Statement words) w u before after done = done
-done_of_any are_read (Serve words) w u before after done = done
+-- what is known of the bytes that were read
+pub known_in : {Z E : Type 0} (file : Result (Vec ℕ Z) E) (P : List ℕ → Type 0) → IfOk file (λ read. P read.items) → (bytes : List ℕ) → AreIn file bytes → P bytes
+known_in (Ok read) P p bytes is = subst P (sym is) p
+known_in (Err error) P p bytes is = absurd is
 
-pub left_of_any : (are_read : List ℕ → Type 0) (work : Work) (w u x : World) → MayBeLeft are_read work w u x → MayBeLeft AreAny work w u x
-left_of_any are_read (Import words) w u x left = known_of_all _ _ w u x (λ v told. (told.0, (told.1.0, told.1.1, told.1.2, tt, told.1.4))) left
-left_of_any are_read (Statement words) w u x left = left
-left_of_any are_read (Serve words) w u x left = left
+-- rows that were taken at a moment
+pub import_of : (are_read : List ℕ → Type 0) (now : ℕ) → IsMoment now → (bytes : List ℕ) → are_read bytes → (w u : World) (n : Imported) → IsTaken now w u bytes n
+    → IsImport are_read w u n
+import_of are_read now moment bytes read w u n told = (now, moment, bytes, read, told)
+
+-- so it is where more is known of what an account file holds than is wanted
+module _ (P Q : List ℕ → Type 0) (known : (bytes : List ℕ) → P bytes → Q bytes) where
+  done_by : (work : Work) (w u : World) (before after : Option (List ℕ)) → IsDone P work w u before after → IsDone Q work w u before after
+  done_by (Import words) w u before after done = (done.0, (done.1.0, done.1.1, done.1.2, known done.1.2 done.1.3, done.1.4), done.2)
+  done_by (Statement words) w u before after done = done
+  done_by (Serve words) w u before after done = done
+
+  left_by : (work : Work) (w u x : World) → MayBeLeft P work w u x → MayBeLeft Q work w u x
+  left_by (Import words) w u x left = known_of_all _ _ w u x (λ v told. (told.0, (told.1.0, told.1.1, told.1.2, known told.1.2 told.1.3, told.1.4))) left
+  left_by (Statement words) w u x left = left
+  left_by (Serve words) w u x left = left
+
+  pub done_on_by : {S : Type 0} (store : Ghosts S) (work : Work) (old new : TableBook S) (before after : Option (List ℕ))
+      → IsDoneOn store P work old new before after → IsDoneOn store Q work old new before after
+  done_on_by store work old new before after it = record {
+    began = it.began;
+    done = λ w stands. let done = it.done w stands in (
+      done.0,
+      done.1,
+      done_by work w done.0 before after done.2,
+      λ live. let left = done.3 live in (left.0, left.1, left_by work w done.0 left.0 left.2),
+    );
+    live = it.live;
+  }
 
 -- what was done on an open store, and what a crash leaves of it
 module _ (are_read : List ℕ → Type 0) (work : Work) (before after : State) (stands : World → Type 0) (x y : Option (List ℕ)) where
@@ -37,7 +61,7 @@ module _ (are_read : List ℕ → Type 0) (work : Work) (before after : State) (
       → (u : World) × stands u × IsDone AreAny work w u x y × (z : World) × LeavesOneOf u z after × MayBeLeft AreAny work w u z
   handed_on_of w live it =
       let left = it.3 live in
-      (it.0, it.1, done_of_any are_read work w it.0 x y it.2, left.0, left.1, left_of_any are_read work w it.0 left.0 left.2)
+      (it.0, it.1, done_by are_read AreAny (λ bytes read. tt) work w it.0 x y it.2, left.0, left.1, left_by are_read AreAny (λ bytes read. tt) work w it.0 left.0 left.2)
 
   -- so it is of the queue that was kept
   pub handed_on_kept : (kept stood : World → Type 0) → (w : World) × kept w × stood w → IsTrue before.is_open

@@ -1,5 +1,5 @@
 -- What a command does on the book of a store.
-use Rattle.std.specs.Prelude.{◌≡◌, ◌≢◌, ◌≤◌, ◌⊎◌, ◌++◌, ⊤, ℕ, IsTrue, List, Option, Some, None, Result, Ok, Err, length}
+use Rattle.std.specs.Prelude.{◌≡◌, ◌≢◌, ◌≤◌, ◌⊎◌, ◌++◌, ⊤, ℕ, IsTrue, List, Option, Some, None, Result, Ok, Err, Vec, length}
 use Rattle.std.specs.Io.KnownBytes.{Appends}
 use Rattle.command_ends.specs.Faults.{IsOfStream}
 use Rattle.command_ends.specs.declared.fault.Fault.{Fault}
@@ -27,6 +27,11 @@ use Rattle.commands.specs.declared.work.Work.TheVariants.{Import, Statement, Ser
 abbrev pub AreReadIn : {R E : Type 0} → (R → Option (List ℕ)) → Result R E → List ℕ → Type 0
 AreReadIn remaining (Ok file) bytes = AreReadOf (remaining file) bytes
 AreReadIn remaining (Err error) bytes = ⊥
+
+-- these bytes were read of an account file
+abbrev pub AreIn : {Z E : Type 0} → Result (Vec ℕ Z) E → List ℕ → Type 0
+AreIn (Ok read) bytes = bytes ≡ read.items
+AreIn (Err error) bytes = ⊥
 
 -- where it is not known what an account file holds, it may be any bytes
 abbrev pub AreAny : List ℕ → Type 0

@@ -1,15 +1,15 @@
 //! What the office asks of a store.
-ghost use Rattle.std.specs.Prelude.{◌≡◌, ◌≢◌, ◌⊎◌, ℕ, List, Err, IfErr, IfOk, IsTrue, OnOk, None, Some};
+ghost use Rattle.std.specs.Prelude.{◌≡◌, ◌≢◌, ◌⊎◌, Err, IfErr, IfOk, IsTrue, OnOk, None, Some};
 ghost use Rattle.std.specs.Io.KnownBytes.{Appends};
 ghost use Rattle.command_ends.specs.Faults.{IsOfStream};
 ghost use Rattle.command_ends.specs.declared.fault.Fault.TheVariants.{Damaged, NoAccount, Import as ByFile};
 ghost use Rattle.commands.specs.Refusals.{IsOfImport, IsOfNoAccount, IsOfStatement};
-ghost use Rattle.commands.specs.Work.{AreReadIn, CrashLeaves, IsAllOrNone, IsImport, IsOfFile};
+ghost use Rattle.commands.specs.Work.{AreIn, CrashLeaves, IsAllOrNone, IsImport, IsOfFile};
 ghost use Rattle.grants_csv.specs.Fault.{fault};
 ghost use Rattle.grants_csv.specs.File.{rows_of};
 ghost use Rattle.grants_csv.specs.declared.fault.ImportFault.{ImportFault};
 ghost use Rattle.grants_csv.specs.declared.importing.Imported.{Imported as ImportedRows};
-ghost use Rattle.office.specs.Told.{AreReadOf, IsRefused, IsTaken, import_line};
+ghost use Rattle.office.specs.Told.{IsRefused, IsTaken, import_line};
 ghost use Rattle.page_statements.specs.Statement.{sheet_text};
 ghost use Rattle.queue_core.specs.Limits.{IsMoment};
 ghost use Rattle.queue_core.specs.Shown.{sheet_of};
@@ -19,13 +19,13 @@ ghost use Rattle.queue_store.specs.Kept.{IsHonest, StandsFor, shown_by};
 ghost use Rattle.queue_tables.specs.Content.{LeavesOneOf};
 
 use command_ends::Fault;
-use office::{import_bytes, print_statement, read_account_file};
+use office::{import_bytes, print_statement};
 use print_server::present_moment;
 use queue_store::TableBook;
 use sqlite::Alter;
 use std::alloc::Global;
 use std::io;
-use std::io::{Read, Write};
+use std::io::Write;
 use std::rt::Clock;
 
 /// The present moment of a book's printer.
@@ -73,73 +73,38 @@ fn import_bytes_at<S: Alter, W: Write>(
     Ok(())
 }
 
-/// Takes an account file into a book at this moment, whole or not at all, and prints `new N repeats M`. A file that is refused leaves the book as it
-/// was, and nothing is printed.
-fn import_at<R: Read + Drop, S: Alter, W: Write>(
-    alloc: Global,
-    file: R,
-    output: &mut W,
-    book: &mut TableBook<S>,
-    now: u32,
-) -> Result<(), Fault>
-    requires moment { IsMoment now }
-    ensures began { IsHonest S.Store book.new → IsHonest S.Store book.old }
-    ensures taken { IsHonest S.Store book.new → OnOk result ((w : World) → StandsFor S.Store book.old w
-        → (bytes : List ℕ) × AreReadOf (R.remaining file) bytes × (n : ImportedRows) × (u : World) × IsTaken now w u bytes n × StandsFor S.Store book.new u
-        × Appends (W.contents output.old) (W.contents output.new) (import_line n)) }
-    ensures left { IsHonest S.Store book.new → IfErr result (λ f. (w : World) → StandsFor S.Store book.old w → StandsFor S.Store book.new w × (output.new ≡ output.old)
-        ⊎ (IsOfStream f × (bytes : List ℕ) × AreReadOf (R.remaining file) bytes × (n : ImportedRows) × (u : World) × IsTaken now w u bytes n × StandsFor S.Store book.new u)) }
-    ensures refused { IfErr result (λ f. (told : ImportFault) → f ≡ ByFile told → (w : World) → StandsFor S.Store book.old w → StandsFor S.Store book.new w) }
-    ensures live { IsHonest S.Store book.new → OnOk result (IsTrue (shown_by S.Store book.new).is_open) }
-    ensures still_live { IsHonest S.Store book.new → IsTrue (shown_by S.Store book.old).is_open
-        → IfErr result (λ f. f ≢ ByFile fault → IsTrue (shown_by S.Store book.new).is_open) }
-    // whatever it answers: a crash at any moment leaves all of the rows, or none
-    ensures crash { IsHonest S.Store book.new → IsTrue (shown_by S.Store book.old).is_open → (w : World) → StandsFor S.Store book.old w
-        → (u x : World) × StandsFor S.Store book.new u × LeavesOneOf u x (shown_by S.Store book.new)
-        × IsAllOrNone (λ v. (bytes : List ℕ) × AreReadOf (R.remaining file) bytes × (n : ImportedRows) × IsTaken now w v bytes n) w u x }
-    // a stream failed, or nothing was written
-    ensures quiet { IfErr result (λ f. IsOfStream f ⊎ (output.new ≡ output.old)) }
-    // a stream failed, or the file is refused
-    ensures why { IsHonest S.Store book.new → IfErr result (λ f. (w : World) → StandsFor S.Store book.old w
-        → IsOfStream f ⊎ ((told : ImportFault) × (f ≡ ByFile told) × (bytes : List ℕ) × AreReadOf (R.remaining file) bytes × IsRefused now w bytes told)) }
-    ensures told { IfErr result IsOfImport }
-{
-    let bytes = read_account_file(alloc, file)?;
-    import_bytes_at(alloc, bytes.as_slice(), output, book, now)
-}
-
-/// Takes an account file that was opened into a book at the present moment, and prints `new N repeats M`, as [`import_at`] does. One that could not be
-/// opened is told of once the moment is known.
-pub(crate) fn import_into<C: Clock, R: Read + Drop, S: Alter, W: Write>(
+/// Takes the bytes that were read of an account file into a book at the present moment, whole or not at all, and prints `new N repeats M`. A file that
+/// is refused leaves the book as it was, and nothing is printed. One that could not be read is told of once the moment is known.
+pub(crate) fn import_into<C: Clock, S: Alter, W: Write>(
     alloc: Global,
     clock: &C,
-    file: io::Result<R>,
+    file: io::Result<Vec<u8>>,
     output: &mut W,
     book: &mut TableBook<S>,
 ) -> Result<(), Fault>
     ensures began { IsHonest S.Store book.new → IsHonest S.Store book.old }
     ensures taken { IsHonest S.Store book.new → OnOk result ((w : World) → StandsFor S.Store book.old w
-        → (n : ImportedRows) × (u : World) × IsImport (AreReadIn R.remaining file) w u n × StandsFor S.Store book.new u
+        → (n : ImportedRows) × (u : World) × IsImport (AreIn file) w u n × StandsFor S.Store book.new u
         × Appends (W.contents output.old) (W.contents output.new) (import_line n)
-        × CrashLeaves (shown_by S.Store book.old) (shown_by S.Store book.new) u (IsAllOrNone (λ v. (n : ImportedRows) × IsImport (AreReadIn R.remaining file) w v n) w u)) }
+        × CrashLeaves (shown_by S.Store book.old) (shown_by S.Store book.new) u (IsAllOrNone (λ v. (n : ImportedRows) × IsImport (AreIn file) w v n) w u)) }
     ensures left { IsHonest S.Store book.new → IfErr result (λ f. (w : World) → StandsFor S.Store book.old w
-        → (u : World) × StandsFor S.Store book.new u × ((u ≡ w) × (output.new ≡ output.old) ⊎ (IsOfStream f × (n : ImportedRows) × IsImport (AreReadIn R.remaining file) w u n))
-        × CrashLeaves (shown_by S.Store book.old) (shown_by S.Store book.new) u (IsAllOrNone (λ v. (n : ImportedRows) × IsImport (AreReadIn R.remaining file) w v n) w u)) }
+        → (u : World) × StandsFor S.Store book.new u × ((u ≡ w) × (output.new ≡ output.old) ⊎ (IsOfStream f × (n : ImportedRows) × IsImport (AreIn file) w u n))
+        × CrashLeaves (shown_by S.Store book.old) (shown_by S.Store book.new) u (IsAllOrNone (λ v. (n : ImportedRows) × IsImport (AreIn file) w v n) w u)) }
     ensures refused { IfErr result (λ f. (told : ImportFault) → f ≡ ByFile told → (w : World) → StandsFor S.Store book.old w → StandsFor S.Store book.new w) }
     ensures live { IsHonest S.Store book.new → OnOk result (IsTrue (shown_by S.Store book.new).is_open) }
     // whatever it answers: a crash at any moment leaves all of the rows, or none
     ensures crash { IsHonest S.Store book.new → IsTrue (shown_by S.Store book.old).is_open → (w : World) → StandsFor S.Store book.old w
         → (u x : World) × StandsFor S.Store book.new u × LeavesOneOf u x (shown_by S.Store book.new)
-        × IsAllOrNone (λ v. (n : ImportedRows) × IsImport (AreReadIn R.remaining file) w v n) w u x }
+        × IsAllOrNone (λ v. (n : ImportedRows) × IsImport (AreIn file) w v n) w u x }
     // a stream failed, or nothing was written
     ensures quiet { IfErr result (λ f. IsOfStream f ⊎ (output.new ≡ output.old)) }
     // a stream failed, or the file is refused
-    ensures why { IsHonest S.Store book.new → IfErr result (λ f. (w : World) → StandsFor S.Store book.old w → IsOfStream f ⊎ IsOfFile (AreReadIn R.remaining file) f w) }
+    ensures why { IsHonest S.Store book.new → IfErr result (λ f. (w : World) → StandsFor S.Store book.old w → IsOfStream f ⊎ IsOfFile (AreIn file) f w) }
     ensures told { IfErr result IsOfImport }
 {
     let now = moment_of(clock, book)?;
-    let opened = file?;
-    import_at(alloc, opened, output, book, now)
+    let bytes = file?;
+    import_bytes_at(alloc, bytes.as_slice(), output, book, now)
 }
 
 /// Prints the statement of an account of a book, and leaves the book as it was.

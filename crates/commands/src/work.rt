@@ -10,13 +10,14 @@ ghost use Rattle.queue_tables.specs.Content.{LeavesOneOf};
 ghost use Rattle.command_ends.specs.Faults.{IsOfStream};
 ghost use Rattle.commands.specs.Store.{IsOfStore};
 ghost use Rattle.commands.specs.Refusals.{MayBeToldOf};
-ghost use Rattle.commands.specs.Work.{AreAny, AreReadIn, HasEnded, IsDone, IsDoneOn, IsRefusal, LeavesOpen, MayBeLeft, PrintsLast, store_of};
+ghost use Rattle.commands.specs.Work.{AreAny, AreIn, AreReadIn, HasEnded, IsDone, IsDoneOn, IsRefusal, LeavesOpen, MayBeLeft, PrintsLast, store_of};
 
 use crate::office_commands::{import_into, print_from};
 use crate::serving::serve_book;
 use crate::store::{FileBook, left, open_store};
 use command_ends::Fault;
 use command_words::{Import, Serve, Statement};
+use office::read_account_file;
 use queue_store::TableBook;
 use sqlite::Alter;
 use sqlite_disk::Disk;
@@ -61,21 +62,23 @@ impl<'a> Work<'a> {
     }
 }
 
-/// Does the work on a book, with its account file opened.
-fn work_on<
-    R: Clock + Net<Listener = TcpListener, Stream = TcpStream>,
-    F: Read + Drop,
-    S: Alter,
-    W: Write,
->(
+/// The bytes of an account file that was opened.
+fn read_opened<F: Read + Drop>(alloc: Global, file: io::Result<F>) -> io::Result<Vec<u8>>
+    ensures { IfOk result (λ bytes. AreReadIn F.remaining file bytes.items) }
+{
+    read_account_file(alloc, file?)
+}
+
+/// Does the work on a book, with the bytes of its account file.
+fn work_on<R: Clock + Net<Listener = TcpListener, Stream = TcpStream>, S: Alter, W: Write>(
     alloc: Global,
     rt: &R,
     work: Work<'_>,
-    file: io::Result<F>,
+    file: io::Result<Vec<u8>>,
     output: &mut W,
     book: &mut TableBook<S>,
 ) -> Result<(), Fault>
-    ensures { HasEnded S.Store (AreReadIn F.remaining file) work.entry book.old book.new (W.contents output.old) (W.contents output.new) result }
+    ensures { HasEnded S.Store (AreIn file) work.entry book.old book.new (W.contents output.old) (W.contents output.new) result }
 {
     match work {
         Work::Import(_) => import_into(alloc, rt, file, output, book),
@@ -85,25 +88,20 @@ fn work_on<
 }
 
 /// Does the work on a book in files.
-fn work_in<
-    R: Clock + Net<Listener = TcpListener, Stream = TcpStream>,
-    F: Read + Drop,
-    D: Disk + Drop,
-    W: Write,
->(
+fn work_in<R: Clock + Net<Listener = TcpListener, Stream = TcpStream>, D: Disk + Drop, W: Write>(
     alloc: Global,
     rt: &R,
     work: Work<'_>,
-    file: io::Result<F>,
+    file: io::Result<Vec<u8>>,
     output: &mut W,
     book: &mut TableBook<FileStore<D>>,
 ) -> Result<(), Fault>
-    ensures { HasEnded over_files (AreReadIn F.remaining file) work.entry book.old book.new (W.contents output.old) (W.contents output.new) result }
+    ensures { HasEnded over_files (AreIn file) work.entry book.old book.new (W.contents output.old) (W.contents output.new) result }
 {
     work_on(alloc, rt, work, file, output, book)
 }
 
-/// Does the work on a book in files, and gives the book back; one on which it was not done is let go.
+/// Reads the account file, does the work on a book in files, and gives the book back; one on which it was not done is let go.
 fn work_over<
     R: Clock + Net<Listener = TcpListener, Stream = TcpStream>,
     F: Read + Drop,
@@ -121,7 +119,8 @@ fn work_over<
         → IsDoneOn over_files (AreReadIn F.remaining file) work.entry book b (W.contents output.old) (W.contents output.new)) }
     ensures told { IfErr result (IsRefusal work.entry (W.contents output.old) (W.contents output.new)) }
 {
-    let done = work_in(alloc, rt, work, file, output, &mut book);
+    let bytes = read_opened(alloc, file);
+    let done = work_in(alloc, rt, work, bytes, output, &mut book);
     left(book, done)
 }
 

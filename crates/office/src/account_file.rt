@@ -18,25 +18,24 @@ use crate::fault::OfficeFault;
 use grants_csv::{Imported, MOST_FILE_BYTES, import};
 use queue_core::book::QueueBook;
 use std::alloc::Global;
+use std::io;
 use std::io::{Read, Write};
 
 /// One byte more than an account file may have, so that a file that is too long is seen to be so.
 const MOST_READ: u64 = MOST_FILE_BYTES as u64 + 1;
 
 /// The bytes of a file, at most so many.
-fn read_file<R: Read + Drop>(alloc: Global, reader: R, most: u64) -> Result<Vec<u8>, OfficeFault>
-    ensures bytes { IfOk result (λ bytes. IfSome (R.remaining reader) (λ file. bytes.items ≡ take most file)) }
-    ensures failed { IfErr result IsOfStream }
+fn read_file<R: Read + Drop>(alloc: Global, reader: R, most: u64) -> io::Result<Vec<u8>>
+    ensures { IfOk result (λ bytes. IfSome (R.remaining reader) (λ file. bytes.items ≡ take most file)) }
 {
     let mut bytes = Vec::new(alloc);
     reader.take(most).read_to_end(&mut bytes)?;
     Ok(bytes)
 }
 
-/// The bytes of an account file, of which no more than 16,777,217 are read.
-pub fn read_account_file<R: Read + Drop>(alloc: Global, reader: R) -> Result<Vec<u8>, OfficeFault>
-    ensures bytes { IfOk result (λ bytes. AreReadOf (R.remaining reader) bytes.items) }
-    ensures failed { IfErr result IsOfStream }
+/// The bytes of an account file, of which no more than 16,777,217 are read. Want of memory is an error of the kind `OutOfMemory`.
+pub fn read_account_file<R: Read + Drop>(alloc: Global, reader: R) -> io::Result<Vec<u8>>
+    ensures { IfOk result (λ bytes. AreReadOf (R.remaining reader) bytes.items) }
 {
     read_file(alloc, reader, MOST_READ)
 }
