@@ -1,8 +1,8 @@
 -- The answers of the crates below, as parts of a turn.
-use Rattle.std.proofs.Common.{◌≡◌, Option, ℕ, ◌<◌, ◌≤◌, List, Bool, true, false, None, Some, Ok, Err, IfErr, IfOk, length, refl, rules, sym, ap, ◌∙◌, subst, arith}
+use Rattle.std.proofs.Common.{◌≡◌, Option, ℕ, ◌<◌, ◌≤◌, List, Bool, true, false, None, Some, Ok, Err, IfErr, IfOk, length, refl, sym, ap, ◌∙◌, subst, arith}
 use Rattle.std.proofs.lemmas.Bool.{false≢true}
 use Rattle.std.proofs.Math.Nat.{lt_of_not-le}
-use Rattle.std.specs.Prelude.{codes, option_map, IsSome, MatchBool, Result}
+use Rattle.std.specs.Prelude.{codes, option_map, MatchBool, Result}
 use Rattle.std.specs.Io.KnownBytes.{Appends}
 use Rattle.std.proofs.KnownBytes.{Appends-nil}
 use Rattle.queue_core.specs.World.{World}
@@ -18,7 +18,7 @@ use Rattle.http_head.specs.declared.end.Refusal.{Refusal}
 use Rattle.http_head.specs.declared.target.Target.{Target}
 use Rattle.http_head.specs.declared.target.Target.TheVariants.{Ipp, Report, Queue, Document as DocumentTarget}
 use Rattle.http_front.specs.Turns.{IsAnswered, IsIppAnswer, IsReportAnswer, acts_on, document_named}
-use Rattle.http_front.specs.Turned.{IsReplied, IsReplyFaultless, IsDeclined}
+use Rattle.http_front.specs.Turned.{IsReplied, IsDeclined}
 use Rattle.http_front.specs.declared.outcome.Replied.{Replied}
 use Rattle.http_front.specs.declared.outcome.Replied.TheVariants.{Answered, Declined}
 use Rattle.http_front.specs.declared.outcome.Stopped.{Stopped}
@@ -73,10 +73,6 @@ pub carries_sent : (before after : World → World → Type 0) (now : ℕ) (w u 
 carries_sent before after now w u target content tally v x bytes (Ok r) sent c = subst (λ (z : Replied). Carries before after (AsksUnlessDeclined target content (Ok z)) now w u) (sym sent.0) c
 carries_sent before after now w u target content tally v x bytes (Err f) sent c = c
 
-pub faultless_sent : (tally : Tally) (v x : Option (List ℕ)) (bytes : List ℕ) (result : Result Replied Stopped) → IsSent tally v x bytes result → IsReplyFaultless result → tally.is_fault ≡ false
-faultless_sent tally v x bytes (Ok r) sent none = subst (λ (z : Replied). IsReplyFaultless (Ok z)) sent.0 none
-faultless_sent tally v x bytes (Err f) sent none = sym (ap (λ (z : Tally). z.is_fault) sent.0) ∙ none.0
-
 -- nothing was written
 pub replied_declined : (now : ℕ) (w : World) (target : Target) (content : List ℕ) (closes : Bool) (r : Refusal) (v : Option (List ℕ))
     → IsDeclined w target content r → IsReplied now w w target content closes v v (Ok (Declined r))
@@ -111,10 +107,6 @@ report_answer now w u content bytes body fault brought e f =
 pub there_of : (o : Option Document) (h : DocumentHead) → Some h ≡ option_map head_of o → (d : Document) × (o ≡ Some d) × (h ≡ head_of d)
 there_of None h e = absurd (cc)
 there_of (Some d) h e = (d, refl, cc)
-
-pub is_there : (o : Option Document) (h : DocumentHead) → Some h ≡ option_map head_of o → IsSome o
-is_there None h e = absurd (cc)
-is_there (Some d) h e = search rules
 
 pub none_there : (o : Option Document) → None ≡ option_map head_of o → o ≡ None
 none_there None e = refl

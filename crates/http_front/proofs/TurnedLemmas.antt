@@ -33,7 +33,8 @@ use Rattle.http_front.specs.declared.outcome.Turned.{Turned}
 use Rattle.http_front.specs.declared.outcome.Turned.TheVariants.{Answered, Ended}
 use Rattle.http_front.proofs.CrashLemmas.{carries_idle, carries_one}
 use Rattle.http_front.proofs.WorkedLemmas.{worked_none, worked_one}
-use Rattle.http_front.proofs.WriteLemmas.{front_after, front_all}
+use Rattle.http_wire.proofs.WriteLemmas.{front_after}
+use Rattle.http_front.proofs.WriteLemmas.{front_all}
 
 -- ---- behind a head
 

@@ -20,6 +20,12 @@ use queue_core::book::{QueueBook, SendCause};
 use std::alloc::Global;
 use std::io::Write;
 
+/// The media type of an IPP message.
+const IPP: &str = "application/ipp";
+
+/// The media type of the device's lines.
+const PLAIN_TEXT: &str = "text/plain";
+
 /// Writes a whole answer, and tells what is counted of its request, also where writing it is broken off.
 fn send<W: Write>(
     writer: &mut W,
@@ -73,7 +79,7 @@ fn reply_ipp<W: Write, B: QueueBook>(
                 acted: true,
                 is_fault: a.is_fault(),
             };
-            send(writer, "application/ipp", a.bytes(), closes, tally)
+            send(writer, IPP, a.bytes(), closes, tally)
         }
     }
 }
@@ -99,7 +105,7 @@ fn reply_report<W: Write, B: QueueBook>(
         acted: true,
         is_fault: answer.is_fault(),
     };
-    send(writer, "text/plain", answer.bytes(), closes, tally)
+    send(writer, PLAIN_TEXT, answer.bytes(), closes, tally)
 }
 
 /// Answers with the device's queue.
@@ -122,13 +128,7 @@ fn reply_queue<W: Write, B: QueueBook>(
     let Ok(text) = queue_text(alloc, jobs.as_slice()) else {
         return Ok(Replied::Declined(Refusal::ServiceUnavailable));
     };
-    send(
-        writer,
-        "text/plain",
-        text.as_bytes(),
-        closes,
-        Tally::empty(),
-    )
+    send(writer, PLAIN_TEXT, text.as_bytes(), closes, Tally::empty())
 }
 
 /// A turn without an effect was stopped.

@@ -1,20 +1,14 @@
 -- Where the bytes that have come hold no head, those left of the connection hold none within the limits.
 use Rattle.std.proofs.Common.{◌≡◌, Option, ℕ, ◌≤◌, List, ◌++◌, None, Some, IfSome, length, take, drop, refl, sym, ap, ◌∙◌, subst, append_assoc, arith, take-append-drop, inl, inr, length-append}
-use Rattle.std.specs.Io.KnownBytes.{Keeps, Consumes}
+use Rattle.std.specs.Io.KnownBytes.{Keeps}
 use Rattle.std.proofs.lemmas.List.{take-append-le}
 use Rattle.std.proofs.Math.Seq.{take-append_seam}
-use Rattle.httparse.specs.Grammar.{RequestHead, HasNoRequest, print_request}
+use Rattle.httparse.specs.Grammar.{HasNoRequest, print_request}
 use Rattle.httparse.specs.Spans.{RequestOverflows, RequestExceeds}
-use Rattle.httparse.specs.declared.spans.HeaderSpan.{HeaderSpan}
-use Rattle.httparse.specs.declared.spans.RequestSpans.{RequestSpans}
-use Rattle.http_head.specs.Found.{IsHeadAt}
-use Rattle.http_head.specs.Received.{TakesHead}
-use Rattle.http_head.specs.Checks.{head_of, refusal_of}
 use Rattle.http_head.specs.Left.{left}
-use Rattle.http_head.specs.Head.{BeginsHead, HasNoHead, EndsWithoutHead}
+use Rattle.http_head.specs.Head.{HasNoHead, EndsWithoutHead}
 use Rattle.http_head.specs.Limits.{head_limit, field_limit}
 use Rattle.http_head.specs.declared.end.Finish.TheVariants.{Refused}
-use Rattle.http_head.specs.declared.end.Refusal.{Refusal}
 use Rattle.http_head.specs.declared.end.Refusal.TheVariants.{HeaderFieldsTooLarge}
 
 -- a front that is no longer than another front begins it
@@ -56,33 +50,3 @@ refused_many (Some x) None come p over many = absurd p
 refused_many (Some x) (Some y) come p over many =
     subst (λ xs. EndsWithoutHead xs (Refused HeaderFieldsTooLarge)) p
     (inr (refl, no_head_in_many come y over, inr (exceeds_more come y many)))
-
-pub head_consumed : (bytes r : Option (List ℕ)) (come front rest : List ℕ) → Keeps bytes (left come r) → come ≡ front ++ rest → Consumes bytes (left rest r) front
-head_consumed None r come front rest p e = tt
-head_consumed (Some x) None come front rest p e = absurd p
-head_consumed (Some x) (Some y) come front rest p e = sym p ∙ ap (λ l. l ++ y) e ∙ append_assoc front rest y
-
-pub head_taken : (bytes r : Option (List ℕ)) (come : List ℕ) (headers : List HeaderSpan) (spans : RequestSpans) (h : RequestHead) → Keeps bytes (left come r)
-    → IsHeadAt come headers spans h → TakesHead bytes (left (drop spans.len come) r) h
-head_taken bytes r come headers spans h p is = record {
-  valid = is.at.reads.0;
-  short = omega (arith, is.short, is.at.len);
-  few = is.few;
-  taken = head_consumed bytes r come (print_request h) (drop spans.len come) p is.at.reads.1;
-}
-
-pub head_begins : (bytes r : Option (List ℕ)) (come : List ℕ) (headers : List HeaderSpan) (spans : RequestSpans) (h : RequestHead) (code : Refusal) → Keeps bytes (left come r)
-    → IsHeadAt come headers spans h → refusal_of (head_of h) ≡ Some code
-    → IfSome bytes (λ xs. (k : RequestHead) × (rest : List ℕ) × BeginsHead xs k rest × (refusal_of (head_of k) ≡ Some code))
-head_begins None r come headers spans h code p is e = tt
-head_begins (Some x) None come headers spans h code p is e = absurd p
-head_begins (Some x) (Some y) come headers spans h code p is e = (
-  h,
-  drop spans.len come ++ y,
-  record {
-    reads = (is.at.reads.0, sym p ∙ ap (λ l. l ++ y) is.at.reads.1 ∙ append_assoc (print_request h) (drop spans.len come) y);
-    short = omega (arith, is.short, is.at.len);
-    few = is.few;
-  },
-  e,
-)

@@ -13,11 +13,6 @@ fill_keeps None q come more got p e = tt
 fill_keeps (Some x) None come more got p e = absurd p
 fill_keeps (Some x) (Some y) come more got p e = ap (λ l. l ++ y) e ∙ append_assoc come got y ∙ ap (λ l. come ++ l) (sym p)
 
-same_keeps : (r q : Option (List ℕ)) (come same : List ℕ) → Keeps r q → same ≡ come → Keeps (left come r) (left same q)
-same_keeps None q come same p e = tt
-same_keeps (Some x) None come same p e = absurd p
-same_keeps (Some x) (Some y) come same p e = ap (λ l. l ++ y) e ∙ ap (λ l. come ++ l) p
-
 -- the first n bytes are taken from the buffer
 pub take_consumes : (r : Option (List ℕ)) (come : List ℕ) (n : ℕ) → Consumes (left come r) (left (drop n come) r) (take n come)
 take_consumes None come n = tt
@@ -30,12 +25,6 @@ packed_and_read old packed read start end at n p q =
     let e : n ≡ (at + n) - at = omega arith in
     let z : (at + n) - 0 ≡ at + n = omega arith in
     ap (λ k. take k read) z ∙ take-add at n read ∙ ap (λ l. l ++ take n (drop at read)) (q ∙ p) ∙ ap (λ k. slice_range old start end ++ take k (drop at read)) e
-
-pub same_packed : (old packed read : List ℕ) (start end at : ℕ) → take at packed ≡ slice_range old start end → take at read ≡ take at packed
-    → slice_range read 0 at ≡ slice_range old start end
-same_packed old packed read start end at p q =
-    let z : at - 0 ≡ at = omega arith in
-    ap (λ k. take k read) z ∙ q ∙ p
 
 -- a later start of a range drops its front
 pub range_drop : (xs : List ℕ) (start end n : ℕ) → start + n ≤ end → slice_range xs (start + n) end ≡ drop n (slice_range xs start end)

@@ -1,5 +1,5 @@
 //! How a body is framed (RFC 9112, section 6), by the values of Transfer-Encoding and of Content-Length.
-ghost use Rattle.std.specs.Prelude.{◌≡◌, ◌&&◌, ◌||◌, not, map, bytes_eq, false};
+ghost use Rattle.std.specs.Prelude.{◌≡◌, map, bytes_eq, false};
 ghost use Rattle.std.specs.List.{list_all};
 ghost use Rattle.httparse.specs.Spans.{span_bytes};
 ghost use Rattle.http_head.specs.Fields.{is_digits as is_digits_of};

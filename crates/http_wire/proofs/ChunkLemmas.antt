@@ -10,8 +10,7 @@ use Rattle.httparse.specs.Grammar.{ChunkLine, print_chunk_line, chunk_size, prin
 use Rattle.http_head.specs.Limits.{content_limit, raw_limit, line_limit, trailer_limit}
 use Rattle.http_wire.specs.Chunks.{Chunk, IsChunk, AreChunks, IsShortLine, chunks_bytes, chunks_content, chunk_bytes, content_of, chunked_bytes, chunked_content}
 use Rattle.http_wire.specs.ChunkEnds.{BeginsWithChunks, EndsAtLine, EndsAtTrailers, EndsAtLineEnd, EndsInChunk, EndsInChunks, IsPastLimits, at_line, too_large, in_chunk, at_trailers, bound_behind}
-use Rattle.http_wire.specs.ChunkParts.{TakesLine, TakesChunk, TakesChunks, TakesToLast, TakesTrailers, TakesChunked}
-use Rattle.http_wire.specs.Bodies.{EndsInLength, TakesMore}
+use Rattle.http_wire.specs.ChunkParts.{TakesLine, TakesChunks, TakesToLast, TakesTrailers, TakesChunked}
 use Rattle.http_head.specs.declared.end.Finish.{Finish}
 use Rattle.http_head.specs.declared.end.Finish.TheVariants.{Closed, Cut, Done, Refused}
 use Rattle.http_head.specs.declared.end.Refusal.TheVariants.{ContentTooLarge}
@@ -81,21 +80,6 @@ past_line : (a b c : Option (List ℕ)) (limit raw len size : ℕ) (body : List 
     → Consumes a c (chunks_bytes run.chunks ++ print_chunk_line line.line)
 past_line a b c limit raw len size body run line = Consumes-trans a b c (chunks_bytes run.chunks) (print_chunk_line line.line) run.taken line.taken
 
--- the line of the last chunk
-pub chunks_to_last : (a b c : Option (List ℕ)) (limit raw len size : ℕ) (body : List ℕ) → TakesChunks a b raw body → TakesLine limit b c len size → size ≡ 0
-    → raw + len ≤ raw_limit → TakesToLast a c (raw + len) body
-chunks_to_last a b c limit raw len size body run line none fits = record {
-  chunks = run.chunks;
-  last = line.line;
-  are = run.are;
-  line = line.is;
-  ended = sym line.size_is ∙ none;
-  taken = past_line a b c limit raw len size body run line;
-  raw_is = omega (arith, run.raw_is, line.len_is);
-  raw_fits = fits;
-  content_is = run.content_is;
-}
-
 -- ---- ends
 
 pub ended_at_line : (a b : Option (List ℕ)) (raw : ℕ) (body : List ℕ) (end : Finish) → TakesChunks a b raw body
@@ -156,14 +140,7 @@ body_taken a c d raw limit body run t fits =
       content_is = run.content_is;
     }
 
-pub content_fits : (a c : Option (List ℕ)) (raw : ℕ) (body : List ℕ) → TakesToLast a c raw body → length body ≤ content_limit
-content_fits a c raw body run = let e = ap length run.content_is in omega (arith, e, run.are.fits)
-
 -- ---- a chunk
-
-pub chunk_cut : (bytes : Option (List ℕ)) (size : ℕ) (end : Finish) → IfSome bytes (λ xs. EndsInLength size xs end) → IfSome bytes (λ xs. EndsInChunk size xs end)
-chunk_cut None size end h = tt
-chunk_cut (Some x) size end h = subst (λ (e : Finish). EndsInChunk size x e) (sym h.0) (inl h.1)
 
 chunk_end_of : (size : ℕ) (x y content : List ℕ) (end : Finish) → x ≡ content ++ y → length content ≡ size → EndsAtLineEnd y end → EndsInChunk size x end
 chunk_end_of size x y content Closed e h n = n
@@ -175,11 +152,3 @@ pub chunk_end : (a b : Option (List ℕ)) (size : ℕ) (content : List ℕ) (end
 chunk_end None b size content end t h e = tt
 chunk_end (Some x) None size content end t h e = absurd t
 chunk_end (Some x) (Some y) size content end t h e = chunk_end_of size x y content end t h e
-
-pub chunk_taken : (a b d : Option (List ℕ)) (size : ℕ) (before after : List ℕ) → TakesMore size a b before after → Consumes b d crlf_bytes → TakesChunk size a d before after
-chunk_taken a b d size before after m e = record {
-  more = m.more;
-  size_is = m.size;
-  after_is = m.after_is;
-  taken = Consumes-trans a b d m.more crlf_bytes m.taken e;
-}

@@ -1,20 +1,19 @@
 -- What a window over the bytes that have come says of a chunk line or a trailer section in the bytes left.
-use Rattle.std.proofs.Common.{◌≡◌, Option, ℕ, zero, suc, [], ◌∷◌, ◌<◌, ◌≤◌, List, ◌++◌, None, Some, IfSome, length, take, drop, refl, sym, ap, ◌∙◌, subst, append_assoc, arith, take-append-drop, inl, inr, length-append, append-nil, zero-add}
-use Rattle.std.specs.Io.KnownBytes.{Keeps, Consumes, IsAtEnd}
-use Rattle.std.proofs.KnownBytes.{Keeps-trans}
+use Rattle.std.proofs.Common.{◌≡◌, Option, ℕ, zero, suc, [], ◌∷◌, ◌≤◌, List, ◌++◌, None, Some, IfSome, length, take, drop, refl, sym, ap, ◌∙◌, subst, append_assoc, arith, take-append-drop, inl, inr, length-append, zero-add}
+use Rattle.std.specs.Io.KnownBytes.{Keeps}
 use Rattle.std.proofs.lemmas.List.{length-take-le, length-take, length-map, take_all, take-append-le}
 use Rattle.std.proofs.Math.Seq.{drop-append_seam}
 use Rattle.httparse.specs.Grammar.{ChunkLine, HasNoChunkLine, MayBecomeChunkLine, NeverHasChunkLine, print_chunk_line, Field, print_section, HasNoSection, MayBecomeSection}
 use Rattle.httparse.specs.Spans.{IsChunkLineAt, SectionOverflows, IsSectionOf, AreFieldsAt, header_bytes, name_and_value}
 use Rattle.httparse.specs.declared.spans.HeaderSpan.{HeaderSpan}
 use Rattle.http_head.specs.Left.{left}
-use Rattle.http_head.specs.Limits.{line_limit, trailer_limit, field_limit}
-use Rattle.http_wire.specs.ChunkEnds.{HasNoLineWithin, HasNoTrailersWithin, NeverHasTrailers, EndsAtLine, EndsAtLineEnd, EndsAtTrailers, IsOpenLineEnd, NeverHasLineEnd}
-use Rattle.http_wire.specs.ChunkParts.{TakesLine, TakesTrailers, AreTrailersAt}
+use Rattle.http_head.specs.Limits.{trailer_limit, field_limit}
+use Rattle.http_wire.specs.ChunkEnds.{HasNoLineWithin, HasNoTrailersWithin, NeverHasTrailers, EndsAtLine, EndsAtTrailers}
+use Rattle.http_wire.specs.ChunkParts.{AreTrailersAt}
 use Rattle.http_wire.specs.declared.chunk.Bound.{Bound}
-use Rattle.http_head.specs.declared.end.Finish.TheVariants.{Cut, Refused}
+use Rattle.http_head.specs.declared.end.Finish.TheVariants.{Refused}
 use Rattle.http_head.specs.declared.end.Refusal.TheVariants.{BadRequest}
-use Rattle.http_head.proofs.HeadLemmas.{front_of, head_consumed}
+use Rattle.http_head.proofs.HeadLemmas.{front_of}
 
 -- ---- windows
 
@@ -29,9 +28,6 @@ front_on (suc n) (b ∷ come) more = let r = front_on n come more in (r.0, ap (�
 
 window_of : (come more : List ℕ) (n : ℕ) → take n come ++ (drop n come ++ more) ≡ come ++ more
 window_of come more n = sym (append_assoc (take n come) (drop n come) more) ∙ ap (λ l. l ++ more) (take-append-drop n come)
-
-pub kept_on : (bytes r q : Option (List ℕ)) (come new : List ℕ) → Keeps bytes (left come r) → Keeps (left come r) (left new q) → new ≡ come → Keeps bytes (left come q)
-kept_on bytes r q come new p k e = subst (λ b. Keeps bytes (left b q)) e (Keeps-trans bytes (left come r) (left new q) p k)
 
 -- what stands at the front of a window stands at the front of all that has come
 in_window : (come window part : List ℕ) (n len : ℕ) → window ≡ take n come → window ≡ part ++ drop len window → len ≡ length part
@@ -79,49 +75,12 @@ line_never (Some x) (Some y) come window bound p e never =
     subst (λ xs. EndsAtLine bound xs (Refused BadRequest)) p
     (inl (refl, subst NeverHasChunkLine (sym on.1) (λ more. subst HasNoChunkLine (sym (append_assoc (take n come) on.0 more)) (cut (on.0 ++ more)))))
 
-pub line_cut : (bytes r : Option (List ℕ)) (come window : List ℕ) (bound : Bound) → Keeps bytes (left come r) → length come < bound.limit → window ≡ take bound.limit come → HasNoChunkLine window → MayBecomeChunkLine window → IsAtEnd r
-    → IfSome bytes (λ xs. EndsAtLine bound xs Cut)
-line_cut None r come window bound p few e none may end = tt
-line_cut (Some x) None come window bound p few e none may end = absurd p
-line_cut (Some x) (Some y) come window bound p few e none may end =
-    let small : length come ≤ bound.limit = omega (arith, few) in
-    let same : come ≡ x = sym (append-nil come) ∙ ap (λ l. come ++ l) (sym end) ∙ p in
-    let whole : window ≡ come = e ∙ take_all bound.limit come small in
-    subst (λ xs. EndsAtLine bound xs Cut) same (few, subst HasNoChunkLine whole none, subst MayBecomeChunkLine whole may)
-
 -- a line in the window is a line
 pub line_found : (come window : List ℕ) (n len size : ℕ) → window ≡ take n come → ((l : ChunkLine) × IsChunkLineAt window len size l)
     → (l : ChunkLine) × IsChunkLineAt come len size l × (len ≤ n)
 line_found come window n len size e h =
     let r = in_window come window (print_chunk_line h.0) n len e h.1.reads.1 h.1.len_is in
     (h.0, record { reads = (h.1.reads.0, r.0); len_is = h.1.len_is; size_is = h.1.size_is }, r.1)
-
-pub line_taken : (bytes r : Option (List ℕ)) (come new : List ℕ) (limit len size : ℕ) → Keeps bytes (left come r) → ((l : ChunkLine) × IsChunkLineAt come len size l × (len ≤ limit)) → limit ≤ line_limit
-    → new ≡ drop len come → TakesLine limit bytes (left new r) len size
-line_taken bytes r come new limit len size p found small e = record {
-  line = found.0;
-  is = record { line = found.1.reads.0; short = omega (arith, found.1.len_is, found.2, small) };
-  len_is = found.1.len_is;
-  size_is = found.1.size_is;
-  fits = found.2;
-  taken = subst (λ (b : List ℕ). Consumes bytes (left b r) (print_chunk_line found.0)) (sym e) (head_consumed bytes r come (print_chunk_line found.0) (drop len come) p found.1.reads.1);
-}
-
--- ---- the line end behind a chunk's content
-
--- what can never begin a line end can't where more stands behind it
-pub line_end_never : (bytes r : Option (List ℕ)) (come : List ℕ) → Keeps bytes (left come r) → NeverHasLineEnd come → IfSome bytes (λ xs. EndsAtLineEnd xs (Refused BadRequest))
-line_end_never None r come p never = tt
-line_end_never (Some x) None come p never = absurd p
-line_end_never (Some x) (Some y) come p never =
-    subst (λ xs. EndsAtLineEnd xs (Refused BadRequest)) p (refl, λ more rest e. never (y ++ more) rest (sym (append_assoc come y more) ∙ e))
-
-pub line_end_cut : (bytes r : Option (List ℕ)) (come : List ℕ) → Keeps bytes (left come r) → IsOpenLineEnd come → IsAtEnd r → IfSome bytes (λ xs. EndsAtLineEnd xs Cut)
-line_end_cut None r come p part end = tt
-line_end_cut (Some x) None come p part end = absurd p
-line_end_cut (Some x) (Some y) come p part end =
-    let same : come ≡ x = sym (append-nil come) ∙ ap (λ l. come ++ l) (sym end) ∙ p in
-    subst IsOpenLineEnd same part
 
 -- ---- a trailer section
 
@@ -151,17 +110,6 @@ trailers_found come window headers n len count e small room h =
       },
       r.1,
     )
-
-pub trailers_taken : (bytes r : Option (List ℕ)) (come new : List ℕ) (limit len : ℕ) → Keeps bytes (left come r) → (AreTrailersAt come len × (len ≤ limit)) → new ≡ drop len come
-    → TakesTrailers limit bytes (left new r)
-trailers_taken bytes r come new limit len p found e = record {
-  fields = found.0.fields;
-  end = found.0.end;
-  are = found.0.are;
-  fits = omega (arith, found.0.len_is, found.1);
-  taken = subst (λ (b : List ℕ). Consumes bytes (left b r) (print_section found.0.fields found.0.end)) (sym e)
-      (head_consumed bytes r come (print_section found.0.fields found.0.end) (drop len come) p found.0.bytes);
-}
 
 overflown : (window : List ℕ) → SectionOverflows 64 window → NeverHasTrailers window
 overflown window over more fields end rest are e = omega (arith, over more fields end rest (are.each, e), are.few)
@@ -196,14 +144,3 @@ trailers_endless (Some x) (Some y) come window bound p full e none may =
     let same : window ≡ take bound.limit (come ++ y) = e ∙ sym (take-append-le bound.limit come y full) in
     subst (λ xs. EndsAtTrailers bound xs (Refused bound.refusal)) p
     (inr (refl, omega (arith, full, length-append come y), no_trailers_within come y bound.limit full cut, subst MayBecomeSection same may))
-
-pub trailers_cut : (bytes r : Option (List ℕ)) (come window : List ℕ) (bound : Bound) → Keeps bytes (left come r) → length come < bound.limit → window ≡ take bound.limit come → HasNoSection window → MayBecomeSection window → IsAtEnd r
-    → IfSome bytes (λ xs. EndsAtTrailers bound xs Cut)
-trailers_cut None r come window bound p few e none may end = tt
-trailers_cut (Some x) None come window bound p few e none may end = absurd p
-trailers_cut (Some x) (Some y) come window bound p few e none may end =
-    let small : length come ≤ bound.limit = omega (arith, few) in
-    let same : come ≡ x = sym (append-nil come) ∙ ap (λ l. come ++ l) (sym end) ∙ p in
-    let whole : window ≡ come = e ∙ take_all bound.limit come small in
-    let here : HasNoSection come = subst HasNoSection whole none in
-    subst (λ xs. EndsAtTrailers bound xs Cut) same (few, λ fields last rest are short same. here fields last rest (are.each, same), subst MayBecomeSection whole may)

@@ -2,7 +2,6 @@ pub mod Keep
 pub mod Rows
 pub mod Moves
 pub mod Own
-pub mod OneJob
 pub mod Send
 pub mod Enter
 pub mod Print

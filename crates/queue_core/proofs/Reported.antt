@@ -161,9 +161,6 @@ reported_is r now j x sound moment report e = moved_is r.count now j sound momen
 
 -- ---- the entries
 
-unlike : (a b : ℕ) → a < b → nat_eq a b ≡ false
-unlike a b h = grind (arith, nat_tests)
-
 -- the others have other numbers
 others_keep : (P Q : Entry → Type 0) (n first next : ℕ) (es : List Entry) → n < first → Rise first es next → ((e : Entry) → nat_eq e.row.number n ≡ false → P e → Q e) → Each P es → Each Q es
 others_keep P Q n first next [] low rise other all = tt

@@ -25,9 +25,6 @@ abbrev and_then : Taken → (List GrantRow → List FreeRow → ℕ → Taken) �
 and_then (all_taken new free n) more = more new free n
 and_then (none_taken fault row) more = none_taken fault row
 
-one_further : (m n : ℕ) → (m + 1) + n ≡ m + (n + 1)
-one_further m n = omega arith
-
 no_further : (m : ℕ) → m ≡ m + 0
 no_further m = omega arith
 

@@ -104,9 +104,6 @@ module _ (w : World) (now : ℕ) (r : Report) where
 number_of : (x j : Job) → IsSameJob x j → x.number ≡ j.number
 number_of x j same = ap (λ (k : Job). k.number) same
 
-owner_of : (x j : Job) → IsSameJob x j → x.owner ≡ j.owner
-owner_of x j same = ap (λ (k : Job). k.owner) same
-
 pub but_row : (n : ℕ) (x : Job) (es : List Entry) → x.number ≡ n → jobs_but n (with_row es x) ≡ jobs_but n es
 but_row n x [] is = ap (λ t. cond (not t) (fresh x ∷ []) []) (ap (λ m. nat_eq m n) is ∙ itself n)
 but_row n x (e ∷ es) is =

@@ -1,7 +1,6 @@
 -- A table that is read whole, row by row.
-use Rattle.std.proofs.Common.{◌≡◌, ℕ, List, [], ◌∷◌, ◌++◌, sym, ap, subst, ◌∙◌}
+use Rattle.std.proofs.Common.{◌≡◌, ℕ, List, [], ◌∷◌, ◌++◌, sym, subst}
 use Rattle.sqlite.specs.Order.{Row}
-use Rattle.sqlite.specs.Effect.{Database}
 use Rattle.sqlite.specs.Listing.{understood}
 use Rattle.sqlite.specs.State.{State}
 use Rattle.sqlite.proofs.Callers.{IsPlain}
@@ -12,9 +11,6 @@ use Rattle.queue_tables.proofs.Reading.{answers_same, begins_at}
 
 pub plain_in : (sql : List ℕ) (schema : Schema) → IsPlain (understood book_schema sql) → schema ≡ book_schema → IsPlain (understood schema sql)
 plain_in sql schema plain has = subst (λ (s : Schema). IsPlain (understood s sql)) (sym has) plain
-
-pub schema_in : (first now : Database) → first.schema ≡ book_schema → now ≡ first → now.schema ≡ book_schema
-schema_in first now has same = ap (λ (d : Database). d.schema) same ∙ has
 
 -- one more row that is told of
 pub tell_more : {T : Type 0} (tells : T → Row → Type 0) (ts : List T) (rs : List Row) (t : T) (r : Row) → Tell tells ts rs → tells t r → Tell tells (ts ++ t ∷ []) (rs ++ r ∷ [])

@@ -56,9 +56,6 @@ world_from m t bs = record {
 abbrev pub IsBare : Job → Type 0
 IsBare j = (j.documents ≡ 0) × (j.octets ≡ 0)
 
-abbrev pub bare : Job → Job
-bare j = record j { documents = 0; octets = 0 }
-
 -- what no world tells of the rows: their order, the numbers of documents and pieces, and the stored sums
 pub record FitTogether (t : Tables) : Type 0 where
   pub no_documents : All IsBare t.jobs

@@ -1,5 +1,5 @@
 -- Sound rows stand for a sound world.
-use Rattle.std.proofs.Common.{◌≡◌, inl, inr, ◌↔◌, ℕ, ℤ, pos, ◌+◌, ◌+ℤ◌, ◌≤◌, List, [], ◌∷◌, Option, Some, None, IfSome, IsSome, IsSomeAnd, All, length, map, get_or, refl, sym, ap, subst, ◌∙◌, arith}
+use Rattle.std.proofs.Common.{◌≡◌, inl, inr, ◌↔◌, ℕ, ℤ, pos, ◌+◌, ◌+ℤ◌, ◌≤◌, List, [], ◌∷◌, Option, Some, None, IfSome, IsSome, IsSomeAnd, length, map, get_or, refl, sym, ap, subst, ◌∙◌, arith}
 use Rattle.std.specs.List.{AllByRecursion as Each}
 use Rattle.std.specs.FinMap.{get}
 use Rattle.std.proofs.lemmas.Bool.{cases_lt}
@@ -12,7 +12,7 @@ use Rattle.queue_types.specs.declared.event.GrantRow.{GrantRow}
 use Rattle.queue_types.specs.declared.event.KeptReport.{KeptReport}
 use Rattle.queue_types.specs.declared.job.Job.{Job}
 use Rattle.queue_rows.specs.Accounts.{accounts_of, reserved_for, printed_for}
-use Rattle.queue_rows.specs.Grants.{IsGrantRow, granted_to}
+use Rattle.queue_rows.specs.Grants.{granted_to}
 use Rattle.queue_rows.specs.Jobs.{IsJobRow, NumbersRise, has_number}
 use Rattle.queue_rows.specs.Pieces.{length_in}
 use Rattle.queue_rows.specs.Reports.{greatest}
@@ -37,9 +37,6 @@ is_grant gs acs h batch account = if_some (get (grants_of gs) (batch, account)) 
     let kept : IsGrant g.batch g.account g.pages = h.grants row.0 no_grant row.1 in
     let named : IsGrant batch account g.pages = subst (λ (q : List ℕ × List ℕ). IsGrant q.0 q.1 g.pages) row.2 kept in
     subst (IsGrant batch account) row.3 named)
-
-pub pages_some : (gs : List GrantRow) → All IsGrantRow gs → All (λ g. 1 ≤ g.pages) gs
-pages_some gs h k d lt = (h k d lt).2
 
 pub account_has : (gs : List GrantRow) (acs : List AccountRow) → HaveSoundGrants gs acs → (a : List ℕ) → IsSome (get (free_of acs) a) ↔ HasGrant gs a
 account_has gs acs h a = (

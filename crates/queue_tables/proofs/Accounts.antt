@@ -64,14 +64,6 @@ T_both : (a b : Bool) → T a → T b → T (a && b)
 T_both true b h k = k
 T_both false b h k = absurd h
 
-T_is : (b : Bool) → T b → b ≡ true
-T_is true h = refl
-T_is false h = absurd h
-
-is_T : (b : Bool) → b ≡ true → T b
-is_T true h = tt
-is_T false h = absurd cc
-
 less_of : (o : Ordering) → T (is_lt o) → o ≡ Less
 less_of Less h = refl
 less_of Equal h = absurd h

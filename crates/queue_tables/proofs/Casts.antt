@@ -6,7 +6,6 @@ use Rattle.sqlite.specs.Values.{bound_value}
 use Rattle.sqlite.specs.Ops.{unary}
 use Rattle.sqlite.specs.Kind.TheVariants.{Integer}
 use Rattle.sqlite.specs.Cast.{cast}
-use Rattle.queue_rows.specs.Codes.{flag_number}
 use Rattle.queue_tables.specs.Values.{moment, truth}
 
 either : (b : Bool) (x : Value) → cond b x x ≡ x
@@ -24,9 +23,6 @@ cast_int n = either _ (Int n)
 pub cast_moment : (o : Option ℕ) → cast Integer (moment o) ≡ moment o
 cast_moment None = cast_null
 cast_moment (Some n) = cast_int (pos n)
-
-pub cast_truth : (b : Bool) → cast Integer (truth b) ≡ truth b
-cast_truth b = cast_int (pos (flag_number b))
 
 pub bound_moment : (o : Option ℕ) → bound_value (moment o) ≡ moment o
 bound_moment None = refl

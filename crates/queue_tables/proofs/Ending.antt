@@ -1,5 +1,5 @@
 -- How a transaction ends.
-use Rattle.std.proofs.Common.{◌≡◌, ◌⊎◌, inl, inr, sym, ap, subst, ◌∙◌, List, ℕ, Option, None, Some, IsTrue, true, Bool, Result, Ok, Err, OnOk, OnErr, IfOk, IfErr, IsErrAnd, ◌≤◌, arith}
+use Rattle.std.proofs.Common.{◌≡◌, ◌⊎◌, inl, inr, sym, ap, subst, ◌∙◌, List, ℕ, Option, None, Some, IsTrue, true, Bool, Result, Ok, Err, OnOk, IfOk, IfErr, IsErrAnd, ◌≤◌, arith}
 use Rattle.sqlite.specs.declared.error.Error.{Error}
 use Rattle.sqlite.specs.Effect.{Database, IsDatabase}
 use Rattle.sqlite.specs.State.{State, HasCleanDisk, IsRolledBack, Shows, IsUnchanged, FailsToQuery, FailsToShow, IsNotRun}
@@ -7,18 +7,12 @@ use Rattle.sqlite.specs.Order.{Row}
 use Rattle.sqlite.specs.Clock.{timed}
 use Rattle.sqlite_resolve.specs.declared.compiled.Compiled.{Compiled}
 use Rattle.sqlite_schema.specs.declared.command.Returning.{Returning}
-use Rattle.sqlite.specs.Steps.{FailsToCommit}
 use Rattle.sqlite_trees.specs.View.{doubt}
 use Rattle.sqlite_trees.specs.declared.store.Store.{Ghosts}
 use Rattle.sqlite.specs.Held.{Held, state}
 use Rattle.queue_tables.specs.Content.{Content, Holds, HasContent}
 use Rattle.queue_tables.specs.declared.fault.Fault.{Fault}
 use Rattle.queue_tables.specs.declared.fault.Fault.TheVariants.{Damaged}
-
--- a commit that fails leaves the last commit, where the connection is open still
-pub fails_back : (old new : State) (e : Error) → FailsToCommit old new e → IsTrue new.is_open → IsTrue old.in_transaction → (IsTrue old.is_open) × (new.now ≡ old.committed)
-fails_back old new e (inl failed) open_still inside = let back = failed.3 in (back.was_open open_still, (back.undone open_still).0)
-fails_back old new e (inr late) open_still inside = absurd (let no = late.1 in cc)
 
 -- a database with the same schema and rows has the same content
 pub same_holds : (c : Content) (old new : State) → Holds c old → new.now ≡ old.now → IsTrue new.is_open → Holds c new
@@ -62,10 +56,6 @@ query_fails sql params old new e (inr h) = shown_fails h.0 (timed params h.0.for
     shown_fails c given None it = inl it.3
     shown_fails c given (Some what) (inl refused) = inl refused.1
     shown_fails c given (Some what) (inr failed) = inr failed.3
-
-pub if_err : {A E : Type 0} (r : Result A E) (P : E → Type 0) (Q : Type 0) → ((e : E) → P e → Q) → IfErr r P → OnErr r Q
-if_err (Ok x) P Q then_q p = tt
-if_err (Err e) P Q then_q p = then_q e p
 
 -- an error that a `?` hands on
 pub err_after : {T : Type 0} (r : Result T Fault) (e : Fault) (P : Type 0) → IsErrAnd r (λ f. f ≡ e) → (e ≡ Damaged → P) → IfErr r (λ f. f ≡ Damaged → P)

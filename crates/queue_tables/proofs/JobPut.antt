@@ -94,9 +94,6 @@ same_job phases flags j k e documents octets =
     let d = same_moment j.ended k.ended (at 13) in
     λ x. record { number = n x; owner = o x; name = m x; copies = c x; impressions = i x; hold = h x; incoming = inc x; phase = p x; stopping = s x; count = t x; created = r x; begun = b x; ended = d x; documents = documents x; octets = octets x }
 
-fourteen : (k : Job) → length (job_values k) ≡ 14
-fourteen k = refl
-
 pub found_none : (rs : List Row) (o : Option Job) → slice_get rs 0 ≡ None → rs ≡ found_rows o → None ≡ option_map bare o
 found_none rs None none is = refl
 found_none rs (Some j) none is = absurd (let e : ◌≡◌ {A = Option Row} (Some (job_values j)) None = subst (λ (k : List Row). slice_get k 0 ≡ None) is none in cc)

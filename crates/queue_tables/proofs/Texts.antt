@@ -41,6 +41,8 @@ by_end_text = codes "CREATE INDEX jobs_by_end ON jobs (owner, ended)"
 abbrev pub by_phase_text : List ℕ
 by_phase_text = codes "CREATE INDEX jobs_by_phase ON jobs (phase, hold, incoming)"
 
+-- ---- checks that each text makes the table or the index of the definitions, which nothing cites: a proof that needs one computes it anew
+
 meta_is : table_defined_by meta_text ≡ Ok (table_of meta)
 unfolding understood everything
 meta_is = refl

@@ -6,7 +6,8 @@ use Rattle.queue_core.specs.Shown.{document_at}
 use Rattle.http_wire.specs.Responses.{success_head, WritesFront}
 use Rattle.http_head.specs.declared.end.Refusal.TheVariants.{NotFound, ServiceUnavailable}
 use Rattle.http_head.specs.declared.target.Target.TheVariants.{Document}
-use Rattle.http_front.proofs.WriteLemmas.{front_taken, front_part, front_after, by_write}
+use Rattle.http_wire.proofs.WriteLemmas.{front_taken, front_part, front_after}
+use Rattle.http_front.proofs.WriteLemmas.{by_write}
 use Rattle.http_front.specs.Turned.{IsReplied}
 use Rattle.http_front.proofs.ReplyLemmas.{no_number, at_number, there_of, none_there, document_answer, line_is, replied_ok, replied_err, replied_declined}
 use Rattle.http_front.proofs.reply.reply_document.Goals as goal
