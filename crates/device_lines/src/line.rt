@@ -16,16 +16,16 @@ use thiserror::Error;
 /// The greatest number of ten digits.
 const MOST_IN_TEN_DIGITS: u64 = 9_999_999_999;
 
-/// Why a line is no report.
+/// Why a line is no report, by its number.
 #[derive(Clone, Copy, Debug, PartialEq, Eq, Error)]
 pub enum LineFault {
     /// It isn't of the form.
     #[error("the line is not of the form")]
-    Syntax,
+    Syntax = 1,
     /// It is of the form, but the job or the sequence number isn't 1 to 2,147,483,647, or the count is over
     /// 100,000,000.
     #[error("a number is not within its limits")]
-    Range,
+    Range = 4,
 }
 
 /// What a line of the form says, in numbers of up to ten digits.

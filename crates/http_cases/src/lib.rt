@@ -9,7 +9,7 @@
 //!   Documents that aren't there are asked for at one of the speeds each.
 //! - Where reads or writes fail, and where a book does, a read gives all that there is. Reads fail behind each byte of the requests over lists, and
 //!   behind each 25th over tables. Writes fail after each byte of an answer over lists, with at most 50, 7 and 1 bytes a write, and after each 25th
-//!   over tables, with at most 50; inside a large document they fail at nine places over both. Books fail over both.
+//!   over tables, with at most 50; in a large document they fail at each write and at five other places, over both. Books fail over both.
 #![tactic(auto)]
 
 #[cfg(test)]

@@ -74,13 +74,16 @@ fn print_large<B: DeskBook>(desk: &mut Desk<B>, document: &[u8]) -> Result<(), M
     desk.take(&connection, 4096)
 }
 
-/// After how many bytes of the document's answer a writer fails.
-const ROOMS: [usize; 9] = [0, 1, 82, 83, 84, 8192, 65_619, 65_620, 131_155];
+/// After how many bytes of the document's answer a writer fails inside a write or where the head begins.
+const ROOMS: [usize; 6] = [0, 1, 82, 84, 8192, 65_620];
 
-/// The document is fetched by writers that fail, and by one that takes it whole.
+/// The document is fetched by writers that fail, also at each write behind the head of 83 bytes, and by one that takes it whole.
 fn fetch_large<B: DeskBook>(desk: &mut Desk<B>, answer: &[u8]) -> Result<(), Mismatch> {
     for room in ROOMS {
         desk.take_writer(GET_DOCUMENT, (room, 8192), 0, answer)?;
+    }
+    for pieces in 0..17 {
+        desk.take_writer(GET_DOCUMENT, (83 + 8192 * pieces, 8192), 0, answer)?;
     }
     let served = Served {
         acted: 0,
