@@ -1,81 +1,211 @@
 -- Bytes and what they are answered.
 use Rattle.std.proofs.Common.{◌≡◌, ℕ, List, [], ◌==◌, Bool, true, false, refl, ap, subst, sym, ◌∙◌}
-use Rattle.std.specs.Prelude.{Some, None, MatchBool, ⊤, if◌then◌else◌}
+use Rattle.std.specs.Prelude.{Option, Some, None, MatchBool, if◌then◌else◌}
+use Rattle.std.specs.Bool.{OnFalse, OnTrue}
 use Rattle.ipp_wire.specs.declared.view.Head.{Head}
 use Rattle.ipp_wire.specs.Message.{Group, Message, Spells, head_of}
 use Rattle.ipp_wire.specs.Bare.{bare}
 use Rattle.queue_types.specs.Settings.{SettingValues}
+use Rattle.queue_core.specs.Crash.{untaken}
 use Rattle.queue_core.specs.World.{World}
 use Rattle.queue_types.specs.declared.event.Reply.{Reply}
 use Rattle.queue_types.specs.declared.event.Reply.TheVariants.{Refused, Done, Jobs, Printer}
 use Rattle.ipp_reply.specs.Unsupported.{Unsupported, nothing}
 use Rattle.ipp_reply.specs.Wanted.{Rows, no_rows}
 use Rattle.ipp_reply.specs.Reply.{reply_of, with_groups}
-use Rattle.ipp_ops.specs.Answer.{IsReplyTo, Answers, Fails, IsVerdictOn, IsMalformed, by_head, malformed, request, is_fault, outcome}
-use Rattle.ipp_ops.specs.Verdict.{Verdict, passed, refused, verdict}
+use Rattle.ipp_ops.specs.Answer.{IsReplyTo, Answers, Fails, IsAnswered, IsBareAnswer, IsDone, IsMalformed, IsRequestIn, IsUndone, IsVerdictOn, bare_fault, bare_refusal, by_head, malformed, request, is_fault, is_refusal, outcome}
+use Rattle.ipp_ops.specs.Verdict.{Verdict, refused, verdict}
 use Rattle.ipp_request.specs.Reading.{head_refusal}
+use Rattle.ipp_ops.proofs.Crashes.{as_asked}
+use Rattle.ipp_ops.proofs.Faults.{answer_keeps, answer_tells, refusal_tells}
+
+-- ---- a bare reply
 
 same_twice : (b : Bool) (gs : List Group) → (if b then gs else gs) ≡ gs
 same_twice true gs = refl
 same_twice false gs = refl
 
--- a refusal with nothing listed is bare
-bare_refusal : (code : ℕ) (h : Head) (s : SettingValues) (now : ℕ) → reply_of (Refused code) h no_rows nothing s now ≡ bare h code
-bare_refusal code h s now = ap (λ (gs : List Group). with_groups (bare h code) gs) (same_twice (code == 0x040B) [])
+-- a refusal with nothing listed is one
+nothing_listed : (code : ℕ) (h : Head) (s : SettingValues) (now : ℕ) → reply_of (Refused code) h no_rows nothing s now ≡ bare h code
+nothing_listed code h s now = ap (λ (gs : List Group). with_groups (bare h code) gs) (same_twice (code == 0x040B) [])
 
 bare_spelled : (code : ℕ) (h : Head) (s : SettingValues) (now : ℕ) (out : List ℕ) → Spells (bare h code) out → Spells (reply_of (Refused code) h no_rows nothing s now) out
-bare_spelled code h s now out spelled = subst (λ (m : Message). Spells m out) (sym (bare_refusal code h s now)) spelled
+bare_spelled code h s now out spelled = subst (λ (m : Message). Spells m out) (sym (nothing_listed code h s now)) spelled
 
--- the head of the bytes refuses them
-pub refused_by_head : (code : ℕ) (h : Head) (b : List ℕ) → h ≡ head_of b → Some code ≡ head_refusal h → IsVerdictOn b (refused code nothing)
-refused_by_head code h b e found = by_head code (ap head_refusal (sym e) ∙ sym found)
+bare_of : (h : Head) (b : List ℕ) (code : ℕ) (out : List ℕ) → h ≡ head_of b → Spells (bare h code) out → Spells (bare (head_of b) code) out
+bare_of h b code out e spelled = subst (λ (x : Head). Spells (bare x code) out) e spelled
 
--- they spell no message
-pub refused_malformed : (h : Head) (b : List ℕ) → h ≡ head_of b → None ≡ head_refusal h → IsMalformed b → IsVerdictOn b (refused 0x0400 nothing)
-refused_malformed h b e found unspelled = malformed (ap head_refusal (sym e) ∙ sym found) unspelled
+-- to bytes whose head is refused
+pub head_refused : (h : Head) (b : List ℕ) (code : ℕ) (out : List ℕ) → h ≡ head_of b → Some code ≡ head_refusal h → Spells (bare h code) out → IsBareAnswer b out
+head_refused h b code out e found spelled = bare_refusal code (by_head code (ap head_refusal (sym e) ∙ sym found)) (bare_of h b code out e spelled)
 
--- what is refused so is answered by a bare reply, and the world stays
-pub bare_answers : (code : ℕ) (h : Head) (b out : List ℕ) (w : World) (now : ℕ) → h ≡ head_of b → IsVerdictOn b (refused code nothing) → Spells (bare h code) out → Answers w now b w out
-bare_answers code h b out w now e given spelled = record {
-  verdict = refused code nothing;
-  on_bytes = given;
-  world = refl;
-  spelled = subst (λ (x : Head). Spells (reply_of (Refused code) x no_rows nothing w.settings now) out) e (bare_spelled code h w.settings now out spelled);
+-- to bytes that spell no message
+pub malformed_refused : (h : Head) (b : List ℕ) (out : List ℕ) → h ≡ head_of b → None ≡ head_refusal h → IsMalformed b → Spells (bare h 0x0400) out → IsBareAnswer b out
+malformed_refused h b out e found unspelled spelled = bare_refusal 0x0400 (malformed (ap head_refusal (sym e) ∙ sym found) unspelled) (bare_of h b 0x0400 out e spelled)
+
+-- where a fault came
+pub request_fails : (h : Head) (b : List ℕ) (m : Message) (out : List ℕ) → h ≡ head_of b → IsRequestIn b m → Spells (bare h 0x0505) out → IsBareAnswer b out
+request_fails h b m out e is spelled = bare_fault (record { supported = is.supported; spelled = bare_of h b 0x0505 out e spelled })
+
+pub bare_replies : (b out : List ℕ) → IsBareAnswer b out → IsReplyTo (head_of b) out
+bare_replies b out (bare_refusal code on spelled) = record { code = code; groups = []; spelled = spelled }
+bare_replies b out (bare_fault fails) = record { code = 0x0505; groups = []; spelled = fails.spelled }
+
+-- ---- a fault or none
+
+where_fault : (P Q : Type 0) (b : Bool) → b ≡ true → P → MatchBool b P Q
+where_fault P Q true e p = p
+where_fault P Q false e p = absurd (cc)
+
+where_none : (P Q : Type 0) (b : Bool) → b ≡ false → Q → MatchBool b P Q
+where_none P Q true e q = absurd (cc)
+where_none P Q false e q = q
+
+fails_told : (b out : List ℕ) (P Q : Type 0) → Fails b out → P → MatchBool (is_fault out) P Q
+fails_told b out P Q fails p = where_fault P Q (is_fault out) (ap is_fault fails.spelled.bytes) p
+
+-- the answer to bytes, of which the world comes that is new
+abbrev Brings : World → ℕ → List ℕ → World → List ℕ → Type 0
+Brings w now b new out = MatchBool (is_fault out) (Fails b out × (new ≡ w)) (Answers w now b new out)
+
+answer_brings : (w : World) (now : ℕ) (b : List ℕ) (new : World) (out : List ℕ) → Answers w now b new out → Brings w now b new out
+answer_brings w now b new out a = where_none _ _ (is_fault out) (answer_tells w now b new out a) a
+
+bare_brings : (w : World) (now : ℕ) (b out : List ℕ) → IsBareAnswer b out → Brings w now b w out
+bare_brings w now b out (bare_refusal code on spelled) =
+    answer_brings w now b w out (record { verdict = refused code nothing; on_bytes = on; world = refl; spelled = bare_spelled code (head_of b) w.settings now out spelled })
+bare_brings w now b out (bare_fault fails) = fails_told b out _ _ fails (fails, refl)
+
+-- ---- a book and the answer
+
+-- it was left alone
+pub bare_answered : (b : List ℕ) (s : SettingValues) (now : ℕ) (stands : World → Type 0) (before : World → World → Type 0) (w : World) (out : List ℕ) → IsBareAnswer b out → stands w → IsAnswered b s now stands before before w out
+bare_answered b s now stands before w out bare st = record {
+  new = w;
+  brings = λ set. bare_brings w now b out bare;
+  world = st;
+  crash = λ v left. (v, left, untaken refl refl);
 }
 
-pub not_fault : (fault : Bool) (P Q : Type 0) → fault ≡ false → Q → MatchBool fault P Q
-not_fault true P Q e q = absurd (cc)
-not_fault false P Q e q = q
+-- a fault came
+pub undone_answered : (b : List ℕ) (m : Message) (s : SettingValues) (now : ℕ) (stands : World → Type 0) (before after : World → World → Type 0) (w : World) (out : List ℕ)
+    → IsRequestIn b m → IsBareAnswer b out → IsUndone (verdict m) now stands before after w → IsAnswered b s now stands before after w out
+undone_answered b m s now stands before after w out is bare undone = record {
+  new = w;
+  brings = λ set. bare_brings w now b out bare;
+  world = undone.world;
+  crash = λ v left. let l = undone.crash v left in (l.0, l.1, as_asked b (verdict m) now w v w l.0 (request m is.spelled) l.2);
+}
 
--- out tells what refuses the bytes, or a fault
-abbrev IsTold : List ℕ → List ℕ → SettingValues → ℕ → Verdict → Type 0
-IsTold b out s now (refused code u) = MatchBool (is_fault out) (Fails b out) (Spells (reply_of (Refused code) (head_of b) no_rows u s now) out)
-IsTold b out s now (passed caller call rows u) = ⊤
-
--- a bare reply tells it
-pub bare_told : (code : ℕ) (h : Head) (b out : List ℕ) (s : SettingValues) (now : ℕ) (v : Verdict) → h ≡ head_of b → is_fault out ≡ false → Spells (bare h code) out → refused code nothing ≡ v → IsTold b out s now v
-bare_told code h b out s now v e quiet spelled same =
-    subst (λ (x : Verdict). IsTold b out s now x) same
-    (not_fault (is_fault out) (Fails b out) (Spells (reply_of (Refused code) (head_of b) no_rows nothing s now) out) quiet
-    (subst (λ (x : Head). Spells (reply_of (Refused code) x no_rows nothing s now) out) e (bare_spelled code h s now out spelled)))
-
--- a message is answered by what comes of it
-pub message_answers : (m : Message) (b out : List ℕ) (w : World) (now : ℕ) → m.head ≡ head_of b → Spells m b → Spells (outcome (verdict m) m.head w now).reply out → Answers w now b (outcome (verdict m) m.head w now).world out
-message_answers m b out w now e found spelled = record {
+message_answers : (m : Message) (b out : List ℕ) (w : World) (now : ℕ) → IsRequestIn b m → Spells (outcome (verdict m) m.head w now).reply out → Answers w now b (outcome (verdict m) m.head w now).world out
+message_answers m b out w now is spelled = record {
   verdict = verdict m;
-  on_bytes = request m found;
-  world = ap (λ (x : Head). (outcome (verdict m) x w now).world) e;
-  spelled = subst (λ (x : Head). Spells (outcome (verdict m) x w now).reply out) e spelled;
+  on_bytes = request m is.spelled;
+  world = ap (λ (x : Head). (outcome (verdict m) x w now).world) is.head;
+  spelled = subst (λ (x : Head). Spells (outcome (verdict m) x w now).reply out) is.head spelled;
 }
 
--- a bare reply is one to its head
-pub bare_replies : (h : Head) (code : ℕ) (out : List ℕ) → Spells (bare h code) out → IsReplyTo h out
-bare_replies h code out spelled = record { code = code; groups = []; spelled = spelled }
+-- the message was done
+pub done_answered : (b : List ℕ) (m : Message) (s : SettingValues) (now : ℕ) (stands : World → Type 0) (before after : World → World → Type 0) (w : World) (out : List ℕ)
+    → IsRequestIn b m → IsDone (verdict m) m.head s now stands before after w out → IsAnswered b s now stands before after w out
+done_answered b m s now stands before after w out is done =
+    let new = (outcome (verdict m) m.head w now).world in record {
+      new = new;
+      brings = λ set. answer_brings w now b new out (message_answers m b out w now is (done.reply set));
+      world = done.world;
+      crash = λ v left. let l = done.crash v left in (l.0, l.1, as_asked b (verdict m) now w v new l.0 (request m is.spelled) l.2);
+    }
 
--- and so is each reply of the machine's
+-- ---- what refuses the bytes
+
+-- out tells it, or a fault
+abbrev IsTold : List ℕ → List ℕ → SettingValues → ℕ → ℕ → Unsupported → Type 0
+IsTold b out s now code u = MatchBool (is_fault out) (Fails b out) (Spells (reply_of (Refused code) (head_of b) no_rows u s now) out)
+
+refusal_told : (b out : List ℕ) (s : SettingValues) (now code : ℕ) (u : Unsupported) → IsVerdictOn b (refused code u) → Spells (reply_of (Refused code) (head_of b) no_rows u s now) out → IsTold b out s now code u
+refusal_told b out s now code u on spelled = where_none _ _ (is_fault out) (refusal_tells b code u s now out on spelled) spelled
+
+pub message_told : (b : List ℕ) (m : Message) (out : List ℕ) (s : SettingValues) (now code : ℕ) (u : Unsupported) → IsRequestIn b m → IsVerdictOn b (refused code u) → Spells (reply_of (Refused code) m.head no_rows u s now) out → IsTold b out s now code u
+message_told b m out s now code u is on spelled = refusal_told b out s now code u on (subst (λ (x : Head). Spells (reply_of (Refused code) x no_rows u s now) out) is.head spelled)
+
+same_refusal : (b out : List ℕ) (s : SettingValues) (now code : ℕ) (u : Unsupported) (c : ℕ) → refused c nothing ≡ refused code u → Spells (bare (head_of b) c) out → Spells (reply_of (Refused code) (head_of b) no_rows u s now) out
+same_refusal b out s now code u c e spelled =
+    let codes : c ≡ code = cc in
+    let lists : nothing ≡ u = cc in
+    subst (λ (x : Unsupported). Spells (reply_of (Refused code) (head_of b) no_rows x s now) out) lists
+    (subst (λ (x : ℕ). Spells (reply_of (Refused x) (head_of b) no_rows nothing s now) out) codes (bare_spelled c (head_of b) s now out spelled))
+
+pub bare_told : (b out : List ℕ) (s : SettingValues) (now code : ℕ) (u : Unsupported) → ((b : List ℕ) (v w : Verdict) → IsVerdictOn b v → IsVerdictOn b w → v ≡ w) → IsBareAnswer b out → IsVerdictOn b (refused code u) → IsTold b out s now code u
+bare_told b out s now code u one (bare_refusal c given spelled) on = refusal_told b out s now code u on (same_refusal b out s now code u c (one b (refused c nothing) (refused code u) given on) spelled)
+bare_told b out s now code u one (bare_fault fails) on = fails_told b out _ _ fails fails
+
+-- ---- what an answer tells
+
+on_false : (P : Type 0) (b : Bool) → (b ≡ false → P) → OnFalse b P
+on_false P true p = tt
+on_false P false p = p refl
+
+on_true : (P : Type 0) (b : Bool) → (b ≡ true → P) → OnTrue b P
+on_true P true p = p refl
+on_true P false p = tt
+
+none_there : (P Q : Type 0) (b : Bool) → b ≡ false → MatchBool b P Q → Q
+none_there P Q true e m = absurd (cc)
+none_there P Q false e m = m
+
+fault_there : (P Q : Type 0) (b : Bool) → b ≡ true → MatchBool b P Q → P
+fault_there P Q true e m = m
+fault_there P Q false e m = absurd (cc)
+
+kept : (fault : Bool) (w : World) (now : ℕ) (b : List ℕ) (new : World) (out : List ℕ) → MatchBool fault (Fails b out × (new ≡ w)) (Answers w now b new out) → is_refusal out ≡ true → new ≡ w
+kept true w now b new out m e = m.1
+kept false w now b new out m e = answer_keeps w now b new out m e
+
+-- a book that stood for a world stands for one that the answer brings
+abbrev Answered : List ℕ → SettingValues → ℕ → (World → Type 0) → (World → Type 0) → (World → World → Type 0) → (World → World → Type 0) → List ℕ → Type 0
+Answered b s now stood stands before after out = (w : World) → stood w → IsAnswered b s now stands before after w out
+
+pub answered : (b : List ℕ) (s : SettingValues) (now : ℕ) (stood stands : World → Type 0) (before after : World → World → Type 0) (out : List ℕ) → Answered b s now stood stands before after out
+    → OnFalse (is_fault out) ((w : World) → stood w → s ≡ w.settings → (new : World) × Answers w now b new out × stands new)
+answered b s now stood stands before after out h = on_false _ (is_fault out) (λ none w st set. let a = h w st in (a.new, none_there _ _ (is_fault out) none (a.brings set), a.world))
+
+pub failed : (b : List ℕ) (s : SettingValues) (now : ℕ) (stood stands : World → Type 0) (before after : World → World → Type 0) (out : List ℕ) → Answered b s now stood stands before after out
+    → OnTrue (is_fault out) ((w : World) → stood w → s ≡ w.settings → Fails b out × stands w)
+failed b s now stood stands before after out h = on_true _ (is_fault out) (λ fault w st set.
+    let a = h w st in
+    let f = fault_there _ _ (is_fault out) fault (a.brings set) in
+    (f.0, subst stands f.1 a.world))
+
+pub refused_keeps : (b : List ℕ) (s : SettingValues) (now : ℕ) (stood stands : World → Type 0) (before after : World → World → Type 0) (out : List ℕ) → Answered b s now stood stands before after out
+    → OnTrue (is_refusal out) ((w : World) → stood w → s ≡ w.settings → stands w)
+refused_keeps b s now stood stands before after out h = on_true _ (is_refusal out) (λ refusal w st set. let a = h w st in subst stands (kept (is_fault out) w now b a.new out (a.brings set) refusal) a.world)
+
+-- what the head refuses is told as it is, and never as a fault
+head_tells : (fault : Bool) (b out : List ℕ) (s : SettingValues) (now code : ℕ) → head_refusal (head_of b) ≡ Some code → MatchBool fault (Fails b out) (Spells (reply_of (Refused code) (head_of b) no_rows nothing s now) out) → Spells (bare (head_of b) code) out
+head_tells true b out s now code e fails = let none = fails.supported in absurd (cc)
+head_tells false b out s now code e spelled = subst (λ (m : Message). Spells m out) (nothing_listed code (head_of b) s now) spelled
+
+pub head_told : (b out : List ℕ) (s : SettingValues) (now : ℕ) → ((code : ℕ) (u : Unsupported) → IsVerdictOn b (refused code u) → IsTold b out s now code u) → (code : ℕ) → head_refusal (head_of b) ≡ Some code → Spells (bare (head_of b) code) out
+head_told b out s now told code e = head_tells (is_fault out) b out s now code e (told code nothing (by_head code e))
+
+malformed_tells : (fault : Bool) (b out : List ℕ) (s : SettingValues) (now : ℕ) → MatchBool fault (Fails b out) (Spells (reply_of (Refused 0x0400) (head_of b) no_rows nothing s now) out) → MatchBool fault (Fails b out) (Spells (bare (head_of b) 0x0400) out)
+malformed_tells true b out s now fails = fails
+malformed_tells false b out s now spelled = subst (λ (m : Message). Spells m out) (nothing_listed 0x0400 (head_of b) s now) spelled
+
+pub malformed_told : (b out : List ℕ) (s : SettingValues) (now : ℕ) → ((code : ℕ) (u : Unsupported) → IsVerdictOn b (refused code u) → IsTold b out s now code u) → head_refusal (head_of b) ≡ None → IsMalformed b → MatchBool (is_fault out) (Fails b out) (Spells (bare (head_of b) 0x0400) out)
+malformed_told b out s now told none unspelled = malformed_tells (is_fault out) b out s now (told 0x0400 nothing (malformed none unspelled))
+
+-- bytes that spell no message are refused, if not by their head
+pub malformed_on : (b : List ℕ) (o : Option ℕ) → head_refusal (head_of b) ≡ o → IsMalformed b → (code : ℕ) × IsVerdictOn b (refused code nothing)
+malformed_on b (Some code) e unspelled = (code, by_head code e)
+malformed_on b None e unspelled = (0x0400, malformed e unspelled)
+
+-- ---- a reply
+
+-- each reply of the machine's is one to the head
 pub each_replies : (r : Reply) (h : Head) (rows : Rows) (u : Unsupported) (s : SettingValues) (now : ℕ) (out : List ℕ) → Spells (reply_of r h rows u s now) out → IsReplyTo h out
 each_replies (Refused code) h rows u s now out spelled = record { code = _; groups = _; spelled = spelled }
 each_replies Done h rows u s now out spelled = record { code = _; groups = _; spelled = spelled }
 each_replies (Jobs js) h rows u s now out spelled = record { code = _; groups = _; spelled = spelled }
 each_replies (Printer state queued accepting) h rows u s now out spelled = record { code = _; groups = _; spelled = spelled }
-each_replies _ h rows u s now out spelled = bare_replies h 0x0505 out spelled
+each_replies _ h rows u s now out spelled = record { code = 0x0505; groups = []; spelled = spelled }

@@ -1,8 +1,7 @@
 -- What the code of a reply tells: 0x0505 stands for a fault alone, which no check and no answer of the machine has, and a
 -- reply of the machine that refuses leaves the world.
 use Rattle.std.proofs.Common.{◌≡◌, ℕ, List, [], ◌∷◌, ◌++◌, Bool, true, false, refl, ap, sym, ◌∙◌, subst, Ok, Err}
-use Rattle.std.specs.Prelude.{Option, Some, None, MatchBool, if◌then◌else◌, ⊤, ◌==◌, nat_le, nat_lt, map, bytes_eq}
-use Rattle.std.specs.Bool.{OnFalse, OnTrue}
+use Rattle.std.specs.Prelude.{Option, Some, None, if◌then◌else◌, ⊤, ◌==◌, nat_le, nat_lt, map, bytes_eq}
 use Rattle.std.specs.List.{list_all}
 use Rattle.std.specs.Option.{ok_or}
 use Rattle.std.specs.Result.{result_err}
@@ -28,15 +27,14 @@ use Rattle.ipp_reply.specs.Operations.{operation_of}
 use Rattle.ipp_reply.specs.Unsupported.{Unsupported, is_listed}
 use Rattle.ipp_request.specs.Unsupported.{unsupported}
 use Rattle.ipp_ops.specs.Checks.{code, refusal}
-use Rattle.ipp_request.specs.Reading.{groups_begin, head_refusal, request_by}
+use Rattle.ipp_request.specs.Reading.{groups_begin, request_by}
 use Rattle.ipp_request.specs.Unsupported.{is_refused_for}
 use Rattle.ipp_request.specs.Request.{Request, request_for}
 use Rattle.ipp_ops.specs.Verdict.{Verdict, passed, refused, verdict, request_verdict, listed_verdict, checked_verdict}
 use Rattle.ipp_reply.specs.Reply.{with_groups, unsupported_groups, reply_of}
 use Rattle.ipp_reply.specs.JobReply.{job_group}
 use Rattle.ipp_reply.specs.PrinterReply.{printer_group}
-use Rattle.ipp_ops.specs.Answer.{Fails, is_fault, is_refusal, outcome}
-use Rattle.ipp_ops.proofs.Bytes.{not_fault}
+use Rattle.ipp_ops.specs.Answer.{Answers, IsVerdictOn, by_head, malformed, request, is_fault, is_refusal, outcome}
 
 -- a reply with this code is no fault
 abbrev IsQuiet : ℕ → Type 0
@@ -182,25 +180,21 @@ outcome_tells : (v : Verdict) (h : Head) (w : World) (now : ℕ) → QuietVerdic
 outcome_tells (refused code u) h w now q = q h (if code == 0x040B then unsupported_groups u else [])
 outcome_tells (passed caller call rows u) h w now q = reply_quiet _ _ h rows u w.settings now (machine_quiet (cut w (ask caller call)) now caller call)
 
--- bytes that a request is answered are no fault
-pub request_tells : (m : Message) (w : World) (now : ℕ) (out : List ℕ) → Spells (outcome (verdict m) m.head w now).reply out → is_fault out ≡ false
-request_tells m w now out spelled = ap is_fault spelled.bytes ∙ outcome_tells (verdict m) m.head w now (verdict_quiet m)
+-- nothing that refuses bytes is a fault
+bytes_quiet : (b : List ℕ) (v : Verdict) → IsVerdictOn b v → QuietVerdict v
+bytes_quiet b _ (by_head code found) = head_quiet (is_known_version (head_of b)) (operation_of (head_of b).code) code found
+bytes_quiet b _ (malformed found unspelled) = λ h gs. refl
+bytes_quiet b _ (request m spelled) = verdict_quiet m
 
--- nor those that what a check refuses is answered
-pub refused_tells : (m : Message) (code : ℕ) (u : Unsupported) (h : Head) (s : SettingValues) (now : ℕ) (out : List ℕ) → verdict m ≡ refused code u → Spells (reply_of (Refused code) h no_rows u s now) out → is_fault out ≡ false
-refused_tells m code u h s now out e spelled =
-    let quiet : IsQuiet code = subst QuietVerdict e (verdict_quiet m) in
-    ap is_fault spelled.bytes ∙ quiet h (if code == 0x040B then unsupported_groups u else [])
+-- so their answer is none
+pub answer_tells : (w : World) (now : ℕ) (b : List ℕ) (new : World) (out : List ℕ) → Answers w now b new out → is_fault out ≡ false
+answer_tells w now b new out a = ap is_fault a.spelled.bytes ∙ outcome_tells a.verdict (head_of b) w now (bytes_quiet b a.verdict a.on_bytes)
 
--- so it is told as a refusal
-pub message_told : (m : Message) (code : ℕ) (u : Unsupported) (b out : List ℕ) (s : SettingValues) (now : ℕ) → m.head ≡ head_of b → verdict m ≡ refused code u → Spells (reply_of (Refused code) m.head no_rows u s now) out → MatchBool (is_fault out) (Fails b out) (Spells (reply_of (Refused code) (head_of b) no_rows u s now) out)
-message_told m code u b out s now h e spelled =
-    not_fault (is_fault out) (Fails b out) (Spells (reply_of (Refused code) (head_of b) no_rows u s now) out) (refused_tells m code u m.head s now out e spelled)
-    (subst (λ (x : Head). Spells (reply_of (Refused code) x no_rows u s now) out) h spelled)
-
--- nor those that the head alone is answered
-pub head_tells : (h : Head) (code : ℕ) (out : List ℕ) → head_refusal h ≡ Some code → Spells (bare h code) out → is_fault out ≡ false
-head_tells h code out found spelled = ap is_fault spelled.bytes ∙ head_quiet (is_known_version h) (operation_of h.code) code found h []
+-- nor is the reply that tells what refuses them
+pub refusal_tells : (b : List ℕ) (code : ℕ) (u : Unsupported) (s : SettingValues) (now : ℕ) (out : List ℕ) → IsVerdictOn b (refused code u) → Spells (reply_of (Refused code) (head_of b) no_rows u s now) out → is_fault out ≡ false
+refusal_tells b code u s now out on spelled =
+    let quiet : IsQuiet code = bytes_quiet b (refused code u) on in
+    ap is_fault spelled.bytes ∙ quiet (head_of b) (if code == 0x040B then unsupported_groups u else [])
 
 -- ---- a reply that refuses
 
@@ -220,16 +214,6 @@ outcome_keeps : (v : Verdict) (h : Head) (w : World) (now : ℕ) → is_refusal 
 outcome_keeps (refused code u) h w now e = refl
 outcome_keeps (passed caller call rows u) h w now e = reply_keeps _ _ h rows u w.settings now w (machine_quiet (cut w (ask caller call)) now caller call) e
 
--- bytes that refuse a request leave the world
-pub request_keeps : (m : Message) (w : World) (now : ℕ) (out : List ℕ) → Spells (outcome (verdict m) m.head w now).reply out → is_refusal out ≡ true → (outcome (verdict m) m.head w now).world ≡ w
-request_keeps m w now out spelled e = outcome_keeps (verdict m) m.head w now (sym (ap is_refusal spelled.bytes) ∙ e)
-
--- ---- a fact for one value of a test
-
-pub on_false : (P : Type 0) (b : Bool) → P → OnFalse b P
-on_false P true p = tt
-on_false P false p = p
-
-pub on_true : (P : Type 0) (b : Bool) → (b ≡ true → P) → OnTrue b P
-on_true P true p = p refl
-on_true P false p = tt
+-- an answer that refuses leaves the world
+pub answer_keeps : (w : World) (now : ℕ) (b : List ℕ) (new : World) (out : List ℕ) → Answers w now b new out → is_refusal out ≡ true → new ≡ w
+answer_keeps w now b new out a e = a.world ∙ outcome_keeps a.verdict (head_of b) w now (sym (ap is_refusal a.spelled.bytes) ∙ e)

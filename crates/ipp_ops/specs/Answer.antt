@@ -4,13 +4,15 @@ use Rattle.ipp_wire.specs.declared.view.Head.{Head}
 use Rattle.ipp_wire.specs.Message.{Group, Message, Spells, head_of}
 use Rattle.ipp_wire.specs.Bare.{bare}
 use Rattle.queue_types.specs.Event.{Event, Call, ask}
+use Rattle.queue_types.specs.Settings.{SettingValues}
+use Rattle.queue_core.specs.Crash.{Carries}
 use Rattle.queue_core.specs.World.{World}
 use Rattle.queue_core.specs.Machine.{step}
 use Rattle.queue_types.specs.declared.event.Reply.TheVariants.{Refused as RefusedReply}
 use Rattle.ipp_ops.specs.declared.outcome.Answer.{Answer}
 use Rattle.ipp_ops.specs.declared.outcome.Answer.TheVariants.{Whole, Bare}
 use Rattle.ipp_ops.specs.declared.outcome.TooShort.{TooShort}
-use Rattle.ipp_ops.specs.Verdict.{Verdict, passed, refused, verdict}
+use Rattle.ipp_ops.specs.Verdict.{IsPassed, Verdict, passed, refused, verdict}
 use Rattle.ipp_reply.specs.Unsupported.{Unsupported, nothing}
 use Rattle.ipp_request.specs.Reading.{head_refusal}
 use Rattle.ipp_reply.specs.Reply.{reply_of, with_groups}
@@ -93,3 +95,35 @@ IsFaultless (Err short) = ⊤
 abbrev pub BringsAnswer : World → ℕ → List ℕ → World → Result Answer TooShort → Type 0
 BringsAnswer old now b new (Ok a) = MatchBool (is_fault (bytes_of a)) (Fails b (bytes_of a) × (new ≡ old)) (Answers old now b new (bytes_of a))
 BringsAnswer old now b new (Err short) = new ≡ old
+
+-- ---- the parts of an answer
+
+-- a message that the bytes spell, whose head is not refused
+pub record IsRequestIn (b : List ℕ) (m : Message) : Type 0 where
+  pub head : m.head ≡ head_of b
+  pub supported : head_refusal (head_of b) ≡ None
+  pub spelled : Spells m b
+
+-- out is the bare reply of what refuses the bytes, or of a fault
+pub data IsBareAnswer (b out : List ℕ) : Type 0 where
+  bare_refusal : (code : ℕ) → IsVerdictOn b (refused code nothing) → Spells (bare (head_of b) code) out → IsBareAnswer b out
+  bare_fault : Fails b out → IsBareAnswer b out
+
+-- A book stood for the world w, beside which a crash leaves what before says. Now it stands for the outcome of the verdict, to which out
+-- replies, and a crash leaves it done or not done.
+pub record IsDone (v : Verdict) (h : Head) (settings : SettingValues) (now : ℕ) (stands : World → Type 0) (before after : World → World → Type 0) (w : World) (out : List ℕ) : Type 0 where
+  pub reply : settings ≡ w.settings → Spells (outcome v h w now).reply out
+  pub world : stands (outcome v h w now).world
+  pub crash : Carries before after (IsPassed v) now w (outcome v h w now).world
+
+-- it still stands for w
+pub record IsUndone (v : Verdict) (now : ℕ) (stands : World → Type 0) (before after : World → World → Type 0) (w : World) : Type 0 where
+  pub world : stands w
+  pub crash : Carries before after (IsPassed v) now w w
+
+-- it stands for a world that out brings, as the answer to the bytes
+pub record IsAnswered (b : List ℕ) (settings : SettingValues) (now : ℕ) (stands : World → Type 0) (before after : World → World → Type 0) (w : World) (out : List ℕ) : Type 0 where
+  pub new : World
+  pub brings : settings ≡ w.settings → MatchBool (is_fault out) (Fails b out × (new ≡ w)) (Answers w now b new out)
+  pub world : stands new
+  pub crash : Carries before after (λ e. Asks b (Some e)) now w new

@@ -1,5 +1,5 @@
 //! One request, from its bytes to those of its answer.
-ghost use Rattle.std.specs.Prelude.{◌≡◌, ◌<◌, ◌≤◌, ◌↔◌, None, Some, ℕ, length, IfOk, IsErr, MatchBool, OnErr, OnOk};
+ghost use Rattle.std.specs.Prelude.{◌≡◌, ◌<◌, ◌≤◌, ◌↔◌, None, Some, ℕ, false, length, IfErr, IfOk, IsErr, MatchBool, OnErr, OnOk};
 ghost use Rattle.std.specs.Bool.{OnFalse, OnTrue};
 ghost use Rattle.ipp_wire.specs.Message.{IsMessage, Spells, head_of};
 ghost use Rattle.ipp_wire.specs.Viewed.{message_of};
@@ -13,8 +13,8 @@ ghost use Rattle.queue_core.specs.World.{World};
 ghost use Rattle.ipp_reply.specs.Reply.{reply_of};
 ghost use Rattle.ipp_reply.specs.Unsupported.{CanList, Unsupported as Listed, unsupported_of};
 ghost use Rattle.ipp_reply.specs.Wanted.{no_rows, rows_of};
-ghost use Rattle.ipp_ops.specs.Answer.{Answers, Asks, BringsAnswer, Fails, IsFaultless, IsReplyTo, IsAsk, IsMalformed, IsVerdictOn, bytes_of, is_fault, is_refusal, outcome};
-ghost use Rattle.ipp_ops.specs.Verdict.{IsPassed, refused, verdict};
+ghost use Rattle.ipp_ops.specs.Answer.{Answers, Asks, BringsAnswer, Fails, IsAnswered, IsAsk, IsBareAnswer, IsDone, IsFaultless, IsMalformed, IsReplyTo, IsRequestIn, IsUndone, IsVerdictOn, bytes_of, is_fault, is_refusal};
+ghost use Rattle.ipp_ops.specs.Verdict.{IsWithinLimits, ListsAttributes, ask_content, refused, verdict};
 ghost use Rattle.ipp_request.specs.Reading.{head_refusal};
 
 use crate::asking::ask;
@@ -118,6 +118,40 @@ fn take_step<B: QueueBook>(
     Ok(bytes)
 }
 
+/// What a request is answered that asks this: the reply that refuses it, or one step of the machine; or a fault and no change.
+fn answer_ask<B: QueueBook>(
+    context: ReplyContext<'_>,
+    book: &mut B,
+    ask: Ask<'_>,
+) -> Result<Vec<u8>, BookFault>
+    requires moment { IsMoment context.now }
+    requires limits { IsWithinLimits (ask_content ask) }
+    requires listed { ListsAttributes (ask_content ask) }
+    ensures began { B.is_honest book.new → B.is_honest book.old }
+    ensures replies { IfOk result (λ b. IsReplyTo context.entry.head b.items) }
+    ensures done { B.is_honest book.new → IfOk result (λ b. (w : World) → B.stands book.old w
+        → IsDone (ask_content ask.entry) context.entry.head context.entry.settings.now context.entry.now (B.stands book.new) (B.crash_leaves book.old) (B.crash_leaves book.new) w b.items) }
+    ensures undone { B.is_honest book.new → OnErr result ((w : World) → B.stands book.old w
+        → IsUndone (ask_content ask.entry) context.entry.now (B.stands book.new) (B.crash_leaves book.old) (B.crash_leaves book.new) w) }
+    ensures live { B.is_honest book.new → B.is_live book.old → OnOk result (B.is_live book.new) }
+    // What the checks refuse, whatever the book is.
+    ensures checked { (code : ℕ) (u : Listed) → ask_content ask.entry ≡ refused code u → IfOk result (λ b. Spells (reply_of (Refused code) context.entry.head no_rows u context.entry.settings.now context.entry.now) b.items) }
+    ensures checked_kept { (code : ℕ) (u : Listed) → ask_content ask.entry ≡ refused code u → (w : World) → B.stands book.old w → B.stands book.new w }
+{
+    match ask {
+        Ask::Refused { code, unsupported } => refusal_bytes(context, code, &unsupported),
+        Ask::Call {
+            caller,
+            call,
+            wanted,
+            unsupported,
+        } => {
+            let event = Event::Ask { caller, call };
+            take_step(context, book, &event, &wanted, &unsupported)
+        }
+    }
+}
+
 /// What a request that was read is answered: the reply to it, or a fault and no change.
 fn answer_message<B: QueueBook>(
     alloc: Global,
@@ -130,18 +164,12 @@ fn answer_message<B: QueueBook>(
     requires message { IsMessage (message_of view.now) }
     requires fits { length view.now.payload.now ≤ 16777216 }
     ensures began { B.is_honest book.new → B.is_honest book.old }
-    ensures reply { B.is_honest book.new → IfOk result (λ b. (w : World) → B.stands book.old w → settings.now ≡ w.settings
-        → Spells (outcome (verdict (message_of view.now)) view.now.head w now).reply b.items) }
     ensures replies { IfOk result (λ b. IsReplyTo view.now.head b.items) }
-    ensures world { B.is_honest book.new → IfOk result (λ b. (w : World) → B.stands book.old w
-        → B.stands book.new (outcome (verdict (message_of view.now)) view.now.head w now).world) }
-    ensures err { OnErr result ((w : World) → B.stands book.old w → B.stands book.new w) }
+    ensures done { B.is_honest book.new → IfOk result (λ b. (w : World) → B.stands book.old w
+        → IsDone (verdict (message_of view.now)) view.now.head settings.now now (B.stands book.new) (B.crash_leaves book.old) (B.crash_leaves book.new) w b.items) }
+    ensures undone { B.is_honest book.new → OnErr result ((w : World) → B.stands book.old w
+        → IsUndone (verdict (message_of view.now)) now (B.stands book.new) (B.crash_leaves book.old) (B.crash_leaves book.new) w) }
     ensures live { B.is_honest book.new → B.is_live book.old → OnOk result (B.is_live book.new) }
-    ensures crash_ok { B.is_honest book.new → OnOk result ((w v : World) → B.stands book.old w → B.crash_leaves book.old w v
-        → (x : World) × B.crash_leaves book.new (outcome (verdict (message_of view.now)) view.now.head w now).world x
-        × Leaves (IsPassed (verdict (message_of view.now))) now w v (outcome (verdict (message_of view.now)) view.now.head w now).world x) }
-    ensures crash_err { B.is_honest book.new → OnErr result ((w v : World) → B.stands book.old w → B.crash_leaves book.old w v
-        → (x : World) × B.crash_leaves book.new w x × Leaves (IsPassed (verdict (message_of view.now))) now w v w x) }
     // What the checks refuse, whatever the book is.
     ensures checked { (code : ℕ) (u : Listed) → verdict (message_of view.now) ≡ refused code u → IfOk result (λ b. Spells (reply_of (Refused code) view.now.head no_rows u settings.now now) b.items) }
     ensures checked_kept { (code : ℕ) (u : Listed) → verdict (message_of view.now) ≡ refused code u → (w : World) → B.stands book.old w → B.stands book.new w }
@@ -152,17 +180,57 @@ fn answer_message<B: QueueBook>(
         settings,
         now,
     };
-    match ask(alloc, view)? {
-        Ask::Refused { code, unsupported } => refusal_bytes(context, code, &unsupported),
-        Ask::Call {
-            caller,
-            call,
-            wanted,
-            unsupported,
-        } => {
-            let event = Event::Ask { caller, call };
-            take_step(context, book, &event, &wanted, &unsupported)
-        }
+    let ask = ask(alloc, view)?;
+    answer_ask(context, book, ask)
+}
+
+/// The message that bytes with a head spell. What the head alone refuses, without memory, bytes that spell no message, and want of memory
+/// are answered by a bare reply.
+fn request_in<'a>(alloc: Global, head: Head, body: &'a [u8]) -> Result<View<'a>, Answer>
+    requires head { head ≡ head_of body.now }
+    requires long { 8 ≤ length body.now }
+    ensures request { IfOk result (λ view. IsRequestIn body.now (message_of view)) }
+    ensures bare { IfErr result (λ a. IsBareAnswer body.now (bytes_of a)) }
+{
+    if let Some(code) = head_check(head) {
+        return Err(bare_answer(head, code));
+    }
+    match read(alloc, body) {
+        Ok(view) => Ok(view),
+        Err(WireFault::Malformed { .. }) => Err(bare_answer(head, CLIENT_ERROR_BAD_REQUEST)),
+        Err(WireFault::Memory) => Err(bare_answer(head, SERVER_ERROR_TEMPORARY_ERROR)),
+        Err(WireFault::Short) => unreachable!(),
+    }
+}
+
+/// What bytes with a head are answered.
+fn answer_headed<B: QueueBook>(
+    alloc: Global,
+    book: &mut B,
+    settings: &Settings,
+    now: u32,
+    head: Head,
+    body: &[u8],
+) -> Answer
+    requires moment { IsMoment now }
+    requires fits { length body.now ≤ 16777216 }
+    requires head { head ≡ head_of body.now }
+    requires long { 8 ≤ length body.now }
+    ensures began { B.is_honest book.new → B.is_honest book.old }
+    ensures replies { IsReplyTo (head_of body.now) (bytes_of result) }
+    ensures answered { B.is_honest book.new → (w : World) → B.stands book.old w
+        → IsAnswered body.now settings.now now (B.stands book.new) (B.crash_leaves book.old) (B.crash_leaves book.new) w (bytes_of result) }
+    ensures live { B.is_honest book.new → B.is_live book.old → is_fault (bytes_of result) ≡ false → B.is_live book.new }
+    ensures checked { (code : ℕ) (u : Listed) → IsVerdictOn body.now (refused code u) → MatchBool (is_fault (bytes_of result)) (Fails body.now (bytes_of result)) (Spells (reply_of (Refused code) (head_of body.now) no_rows u settings.now now) (bytes_of result)) }
+    ensures checked_kept { (code : ℕ) (u : Listed) → IsVerdictOn body.now (refused code u) → (w : World) → B.stands book.old w → B.stands book.new w }
+{
+    one_verdict();
+    match request_in(alloc, head, body) {
+        Ok(view) => match answer_message(alloc, book, settings, now, &view) {
+            Ok(bytes) => Answer::Whole(bytes),
+            Err(_) => bare_answer(head, SERVER_ERROR_TEMPORARY_ERROR),
+        },
+        Err(answer) => answer,
     }
 }
 
@@ -211,20 +279,8 @@ pub fn answer<B: QueueBook>(
     ensures err { OnErr result ((w : World) → B.stands book.old w → B.stands book.new w) }
     ensures err_left { B.is_honest book.new → OnErr result ((v w : World) → B.crash_leaves book.old v w → B.crash_leaves book.new v w) }
 {
-    one_verdict();
-    let Some(h) = head(body) else {
+    let Some(head) = head(body) else {
         return Err(TooShort);
     };
-    if let Some(code) = head_check(h) {
-        return Ok(bare_answer(h, code));
-    }
-    match read(alloc, body) {
-        Ok(view) => match answer_message(alloc, book, settings, now, &view) {
-            Ok(bytes) => Ok(Answer::Whole(bytes)),
-            Err(_) => Ok(bare_answer(h, SERVER_ERROR_TEMPORARY_ERROR)),
-        },
-        Err(WireFault::Malformed { .. }) => Ok(bare_answer(h, CLIENT_ERROR_BAD_REQUEST)),
-        Err(WireFault::Memory) => Ok(bare_answer(h, SERVER_ERROR_TEMPORARY_ERROR)),
-        Err(WireFault::Short) => unreachable!(),
-    }
+    Ok(answer_headed(alloc, book, settings, now, head, body))
 }
