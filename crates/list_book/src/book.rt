@@ -116,6 +116,7 @@ impl QueueBook for ListBook {
         ensures began { ⊤ → ⊤ }
         ensures ok { OnOk result ((w : World) → IsContent self.old w → IsContent self.new (made_on (change_of decision.entry.change) w)) }
         ensures err { OnErr result ((w : World) → IsContent self.old w → IsContent self.new w) }
+        ensures damaged { ⊤ → IfErr result (λ e. e ≡ BookFault.Damaged → (w : World) → ¬ IsContent self.old w) }
         ensures crash { ⊤ → ⊤ → (w : World) → IsContent self.old w → ⊤ }
         ensures live { ⊤ → OnOk result ⊤ }
         ensures opened { ⊤ → ⊤ → ⊤ }

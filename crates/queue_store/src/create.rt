@@ -8,7 +8,7 @@ ghost use Rattle.queue_core.specs.World.{World};
 ghost use Rattle.queue_store.specs.Made.{IsMade, schema4, schema7, schema10};
 ghost use Rattle.queue_store.specs.New.{KeepsTables, LeavesOldOrNew, new_content};
 ghost use Rattle.queue_tables.specs.Content.{Content, Holds, content_of};
-ghost use Rattle.queue_tables.specs.Leaving.{KeepsBehind};
+ghost use Rattle.queue_tables.specs.Leaving.{StaysInside};
 ghost use Rattle.queue_tables.specs.Steps.{with_meta_row};
 ghost use Rattle.queue_tables.specs.Tables.{no_schema};
 ghost use Rattle.queue_tables.specs.Values.{meta_values};
@@ -22,9 +22,7 @@ use sqlite::{Alter, Connection, Transaction};
 /// Runs a statement that makes a table or an index.
 fn define<S: Alter>(tx: &mut Transaction<'_, S>, sql: &str) -> Result<usize, Fault>
     ensures same_reference { tx.new.conn.ghost_name ≡ tx.old.conn.ghost_name }
-    ensures clean { HasCleanDisk (state S.Store tx.new.conn.now) → HasCleanDisk (state S.Store tx.old.conn.now) }
-    ensures kept { HasCleanDisk (state S.Store tx.new.conn.now) → IsTrue (state S.Store tx.old.conn.now).in_transaction → KeepsBehind (state S.Store tx.old.conn.now) (state S.Store tx.new.conn.now) }
-    ensures inside { HasCleanDisk (state S.Store tx.new.conn.now) → OnOk result (IsTrue (state S.Store tx.old.conn.now).in_transaction → IsTrue (state S.Store tx.new.conn.now).in_transaction) }
+    ensures stays { StaysInside (state S.Store tx.old.conn.now) (state S.Store tx.new.conn.now) result }
     ensures ran { HasCleanDisk (state S.Store tx.new.conn.now) → IfOk result (λ count. ExecutesInside 0 sql.now [] (state S.Store tx.old.conn.now) (state S.Store tx.new.conn.now) (Ok count)) }
     ensures never { IfErr result (λ e. e ≢ Damaged) }
 {
@@ -35,9 +33,7 @@ fn define<S: Alter>(tx: &mut Transaction<'_, S>, sql: &str) -> Result<usize, Fau
 /// The tables of the book itself and of jobs, documents and pieces.
 fn create_first<S: Alter>(tx: &mut Transaction<'_, S>) -> Result<(), Fault>
     ensures same_reference { tx.new.conn.ghost_name ≡ tx.old.conn.ghost_name }
-    ensures clean { HasCleanDisk (state S.Store tx.new.conn.now) → HasCleanDisk (state S.Store tx.old.conn.now) }
-    ensures kept { HasCleanDisk (state S.Store tx.new.conn.now) → IsTrue (state S.Store tx.old.conn.now).in_transaction → KeepsBehind (state S.Store tx.old.conn.now) (state S.Store tx.new.conn.now) }
-    ensures inside { HasCleanDisk (state S.Store tx.new.conn.now) → OnOk result (IsTrue (state S.Store tx.old.conn.now).in_transaction → IsTrue (state S.Store tx.new.conn.now).in_transaction) }
+    ensures stays { StaysInside (state S.Store tx.old.conn.now) (state S.Store tx.new.conn.now) result }
     ensures done { HasCleanDisk (state S.Store tx.new.conn.now) → OnOk result ((state S.Store tx.old.conn.now).now.schema ≡ no_schema → IsMade schema4 (state S.Store tx.new.conn.now)) }
     ensures never { IfErr result (λ e. e ≢ Damaged) }
 {
@@ -63,9 +59,7 @@ fn create_first<S: Alter>(tx: &mut Transaction<'_, S>) -> Result<(), Fault>
 /// The tables of accounts, grants and reports.
 fn create_second<S: Alter>(tx: &mut Transaction<'_, S>) -> Result<(), Fault>
     ensures same_reference { tx.new.conn.ghost_name ≡ tx.old.conn.ghost_name }
-    ensures clean { HasCleanDisk (state S.Store tx.new.conn.now) → HasCleanDisk (state S.Store tx.old.conn.now) }
-    ensures kept { HasCleanDisk (state S.Store tx.new.conn.now) → IsTrue (state S.Store tx.old.conn.now).in_transaction → KeepsBehind (state S.Store tx.old.conn.now) (state S.Store tx.new.conn.now) }
-    ensures inside { HasCleanDisk (state S.Store tx.new.conn.now) → OnOk result (IsTrue (state S.Store tx.old.conn.now).in_transaction → IsTrue (state S.Store tx.new.conn.now).in_transaction) }
+    ensures stays { StaysInside (state S.Store tx.old.conn.now) (state S.Store tx.new.conn.now) result }
     ensures done { HasCleanDisk (state S.Store tx.new.conn.now) → OnOk result (IsMade schema4 (state S.Store tx.old.conn.now) → IsMade schema7 (state S.Store tx.new.conn.now)) }
     ensures never { IfErr result (λ e. e ≢ Damaged) }
 {
@@ -87,9 +81,7 @@ fn create_second<S: Alter>(tx: &mut Transaction<'_, S>) -> Result<(), Fault>
 /// The indexes.
 fn create_indexes<S: Alter>(tx: &mut Transaction<'_, S>) -> Result<(), Fault>
     ensures same_reference { tx.new.conn.ghost_name ≡ tx.old.conn.ghost_name }
-    ensures clean { HasCleanDisk (state S.Store tx.new.conn.now) → HasCleanDisk (state S.Store tx.old.conn.now) }
-    ensures kept { HasCleanDisk (state S.Store tx.new.conn.now) → IsTrue (state S.Store tx.old.conn.now).in_transaction → KeepsBehind (state S.Store tx.old.conn.now) (state S.Store tx.new.conn.now) }
-    ensures inside { HasCleanDisk (state S.Store tx.new.conn.now) → OnOk result (IsTrue (state S.Store tx.old.conn.now).in_transaction → IsTrue (state S.Store tx.new.conn.now).in_transaction) }
+    ensures stays { StaysInside (state S.Store tx.old.conn.now) (state S.Store tx.new.conn.now) result }
     ensures done { HasCleanDisk (state S.Store tx.new.conn.now) → OnOk result (IsMade schema7 (state S.Store tx.old.conn.now) → IsMade schema10 (state S.Store tx.new.conn.now) × IsDatabase (state S.Store tx.new.conn.now).now × IsTrue (state S.Store tx.new.conn.now).is_open) }
     ensures never { IfErr result (λ e. e ≢ Damaged) }
 {
@@ -105,9 +97,7 @@ fn create_indexes<S: Alter>(tx: &mut Transaction<'_, S>) -> Result<(), Fault>
 /// The first row of the book itself.
 fn add_meta<S: Alter>(tx: &mut Transaction<'_, S>, meta: &MetaRow) -> Result<(), Fault>
     ensures same_reference { tx.new.conn.ghost_name ≡ tx.old.conn.ghost_name }
-    ensures clean { HasCleanDisk (state S.Store tx.new.conn.now) → HasCleanDisk (state S.Store tx.old.conn.now) }
-    ensures kept { HasCleanDisk (state S.Store tx.new.conn.now) → IsTrue (state S.Store tx.old.conn.now).in_transaction → KeepsBehind (state S.Store tx.old.conn.now) (state S.Store tx.new.conn.now) }
-    ensures inside { HasCleanDisk (state S.Store tx.new.conn.now) → OnOk result (IsTrue (state S.Store tx.old.conn.now).in_transaction → IsTrue (state S.Store tx.new.conn.now).in_transaction) }
+    ensures stays { StaysInside (state S.Store tx.old.conn.now) (state S.Store tx.new.conn.now) result }
     ensures done { HasCleanDisk (state S.Store tx.new.conn.now) → OnOk result ((c : Content) → Holds c (state S.Store tx.old.conn.now) → Holds (with_meta_row (meta_values meta.now) c) (state S.Store tx.new.conn.now)) }
     ensures never { IfErr result (λ e. e ≢ Damaged) }
 {
@@ -121,9 +111,7 @@ fn add_meta<S: Alter>(tx: &mut Transaction<'_, S>, meta: &MetaRow) -> Result<(),
 /// All tables and indexes, and the first row.
 fn create_all<S: Alter>(tx: &mut Transaction<'_, S>, meta: &MetaRow) -> Result<(), Fault>
     ensures same_reference { tx.new.conn.ghost_name ≡ tx.old.conn.ghost_name }
-    ensures clean { HasCleanDisk (state S.Store tx.new.conn.now) → HasCleanDisk (state S.Store tx.old.conn.now) }
-    ensures kept { HasCleanDisk (state S.Store tx.new.conn.now) → IsTrue (state S.Store tx.old.conn.now).in_transaction → KeepsBehind (state S.Store tx.old.conn.now) (state S.Store tx.new.conn.now) }
-    ensures inside { HasCleanDisk (state S.Store tx.new.conn.now) → OnOk result (IsTrue (state S.Store tx.old.conn.now).in_transaction → IsTrue (state S.Store tx.new.conn.now).in_transaction) }
+    ensures stays { StaysInside (state S.Store tx.old.conn.now) (state S.Store tx.new.conn.now) result }
     ensures done { HasCleanDisk (state S.Store tx.new.conn.now) → OnOk result ((state S.Store tx.old.conn.now).now.schema ≡ no_schema → Holds (new_content meta.now) (state S.Store tx.new.conn.now)) }
     ensures never { IfErr result (λ e. e ≢ Damaged) }
 {

@@ -126,15 +126,24 @@ sum_bound f small [] all = omega arith
 sum_bound f small (e ∷ es) all =
     let a = sum_by-cons f e.row (rows_in es) in let here = small e.row all.0 in let more = sum_bound f small es all.1 in omega (arith, a, here, more)
 
-pub amounts-with_row : (j : Job) (es : List Entry) → AreAmounts j → Each (λ e. AreAmounts e.row) es → Each (λ e. AreAmounts e.row) (with_row es j)
-amounts-with_row j [] it all = (it, tt)
-amounts-with_row j (e ∷ es) it all = elim (cases_Bool (e.row.number == j.number)) [
+-- what holds of each row and of the row that is put holds of each row then
+pub each-with_row : (P : Job → Type 0) (j : Job) (es : List Entry) → P j → Each (λ e. P e.row) es → Each (λ e. P e.row) (with_row es j)
+each-with_row P j [] it all = (it, tt)
+each-with_row P j (e ∷ es) it all = elim (cases_Bool (e.row.number == j.number)) [
   | inl same ↦ rw same (it, all.1)
-  | inr apart ↦ rw apart (all.0, amounts-with_row j es it all.1)
+  | inr apart ↦ rw apart (all.0, each-with_row P j es it all.1)
 ]
 
+pub each-fold : (P : Job → Type 0) (js : List Job) (es : List Entry) → Each P js → Each (λ e. P e.row) es → Each (λ e. P e.row) (fold with_row es js)
+each-fold P [] es those all = all
+each-fold P (j ∷ js) es those all = each-fold P js (with_row es j) those.1 (each-with_row P j es those.0 all)
+
+pub distinct-fold : (js : List Job) (es : List Entry) → AreDistinct es → AreDistinct (fold with_row es js)
+distinct-fold [] es d = d
+distinct-fold (j ∷ js) es d = distinct-fold js (with_row es j) (distinct-with_row j es d)
+
 pub summable-with_row : (j : Job) (es : List Entry) → AreAmounts j → IsSummable es → length (with_row es j) ≤ 2 ^ 31 → IsSummable (with_row es j)
-summable-with_row j es it s few = record { distinct = distinct-with_row j es s.distinct; amounts = amounts-with_row j es it s.amounts; few = few }
+summable-with_row j es it s few = record { distinct = distinct-with_row j es s.distinct; amounts = each-with_row AreAmounts j es it s.amounts; few = few }
 
 amounts_of : (es : List Entry) → Each IsSoundEntry es → Each (λ e. AreAmounts e.row) es
 amounts_of [] all = tt

@@ -132,14 +132,14 @@ free_more rows k x w s below is covered has =
 next_put : ℕ → Row → Row
 next_put n v = column v 0 ∷ column v 1 ∷ column v 2 ∷ column v 3 ∷ column v 4 ∷ column v 5 ∷ number n ∷ []
 
-next_stored : MetaRow → ℕ → ℤ → Row
+unfoldable pub next_stored : MetaRow → ℕ → ℤ → Row
 next_stored m n id = Int id ∷ Null ∷ number m.schema ∷ Words m.uri ∷ Words m.name ∷ number m.estimate ∷ Int m.epoch ∷ number n ∷ []
 
-cast_next : (m : MetaRow) (n : ℕ) (id : ℤ) → cast_row (table_of meta) (next_stored m n id) ≡ next_stored m n id
+pub cast_next : (m : MetaRow) (n : ℕ) (id : ℤ) → cast_row (table_of meta) (next_stored m n id) ≡ next_stored m n id
 unfolding next_stored
 cast_next m n id = rw (cast_null, cast_int id, cast_int (pos m.schema), cast_int (pos m.estimate), cast_int m.epoch, cast_int (pos n)) refl
 
-next_shown : (m : MetaRow) (n : ℕ) (r : Row) (id : ℤ) → rowid r ≡ Int id → meta_view r ≡ meta_values m → shown_of update_next_terms (number n ∷ []) r ≡ Int id ∷ next_stored m n id
+pub next_shown : (m : MetaRow) (n : ℕ) (r : Row) (id : ℤ) → rowid r ≡ Int id → meta_view r ≡ meta_values m → shown_of update_next_terms (number n ∷ []) r ≡ Int id ∷ next_stored m n id
 unfolding next_stored
 next_shown m n r id keyed is =
     let b : column r 2 ≡ number m.schema = ap (λ (v : Row). column v 1) is in
@@ -155,7 +155,7 @@ next_view m n r id keyed is =
     let first : Int id ≡ number m.one = sym keyed ∙ ap (λ (v : Row). column v 0) is in
     ap (λ (v : Value). v ∷ number m.schema ∷ Words m.uri ∷ Words m.name ∷ number m.estimate ∷ Int m.epoch ∷ number n ∷ []) first
 
-next_id : (m : MetaRow) (n : ℕ) (id : ℤ) → rowid (next_stored m n id) ≡ Int id
+pub next_id : (m : MetaRow) (n : ℕ) (id : ℤ) → rowid (next_stored m n id) ≡ Int id
 unfolding next_stored
 next_id m n id = refl
 

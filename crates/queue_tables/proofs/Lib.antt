@@ -33,3 +33,14 @@ pub mod AccountRows
 pub mod Sizes
 pub mod Formed
 pub mod Crash
+pub mod Refused
+pub mod Allowed
+pub mod Entering
+pub mod Entrants
+pub mod Opened
+pub mod Standing
+pub mod Updating
+pub mod Renewing
+pub mod Spared
+pub mod Decisions
+pub mod Added

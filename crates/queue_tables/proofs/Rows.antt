@@ -68,22 +68,20 @@ adds_job old new j count c has h =
 
 -- ---- tables whose rowid is hidden
 
-document_row : ℕ → ℕ → List ℕ → ℕ → Row
+abbrev pub document_row : ℕ → ℕ → List ℕ → ℕ → Row
 document_row job doc format octets = number job ∷ number doc ∷ Words format ∷ number octets ∷ []
 
-cast_document : (job doc : ℕ) (format : List ℕ) (octets : ℕ) → cast_row (table_of documents) (Null ∷ document_row job doc format octets) ≡ Null ∷ document_row job doc format octets
-unfolding document_row
+pub cast_document : (job doc : ℕ) (format : List ℕ) (octets : ℕ) → cast_row (table_of documents) (Null ∷ document_row job doc format octets) ≡ Null ∷ document_row job doc format octets
 cast_document job doc format octets = rw (cast_null, cast_int (pos job), cast_int (pos doc), cast_int (pos octets)) refl
 
 pub adds_document : (old new : State) (job doc : ℕ) (format : List ℕ) (octets count : ℕ) (c : Content) → Holds c old
     → ExecutesInside 0 insert_document_text (number job ∷ number doc ∷ Words format ∷ number octets ∷ []) old new (Ok count) → Holds (with_document_row (number job ∷ number doc ∷ Words format ∷ number octets ∷ []) c) new
-unfolding document_row
 adds_document old new job doc format octets count c has h =
     let v : Row = document_row job doc format octets in
     holds_documents c _ old new has (last v c.documents old new (inserts_row book_schema insert_document_text 2 documents insert_document_terms 5 insert_document_is.command insert_document_is.plain refl (documents_still []) document_view c.documents
     old new v Null v v count has.schema refl (cast_document job doc format octets) refl has.rows.documents h.0)) h.1.is_open
 
-cast_piece : (job doc piece : ℕ) (bytes : List ℕ) → cast_row (table_of pieces) (Null ∷ piece_values job doc piece bytes) ≡ Null ∷ piece_values job doc piece bytes
+pub cast_piece : (job doc piece : ℕ) (bytes : List ℕ) → cast_row (table_of pieces) (Null ∷ piece_values job doc piece bytes) ≡ Null ∷ piece_values job doc piece bytes
 cast_piece job doc piece bytes = rw (cast_null, cast_int (pos job), cast_int (pos doc), cast_int (pos piece)) refl
 
 pub adds_piece : (old new : State) (job doc piece : ℕ) (bytes : List ℕ) (count : ℕ) (c : Content) → Holds c old → ExecutesInside 0 insert_piece_text (piece_values job doc piece bytes) old new (Ok count)
@@ -93,7 +91,7 @@ adds_piece old new job doc piece bytes count c has h =
     holds_pieces c _ old new has (last v c.pieces old new (inserts_row book_schema insert_piece_text 3 pieces insert_piece_terms 5 insert_piece_is.command insert_piece_is.plain refl (pieces_still []) piece_view c.pieces
     old new v Null v v count has.schema refl (cast_piece job doc piece bytes) refl has.rows.pieces h.0)) h.1.is_open
 
-cast_new_account : (name : List ℕ) (free set_aside done : ℤ) → cast_row (table_of accounts) (Null ∷ account_values name free set_aside done) ≡ Null ∷ account_values name free set_aside done
+pub cast_new_account : (name : List ℕ) (free set_aside done : ℤ) → cast_row (table_of accounts) (Null ∷ account_values name free set_aside done) ≡ Null ∷ account_values name free set_aside done
 cast_new_account name free set_aside done = rw (cast_null, cast_int free, cast_int set_aside, cast_int done) refl
 
 pub adds_account : (old new : State) (name : List ℕ) (free set_aside done : ℤ) (count : ℕ) (c : Content) → Holds c old → ExecutesInside 0 insert_account_text (account_values name free set_aside done) old new (Ok count)
@@ -103,7 +101,7 @@ adds_account old new name free set_aside done count c has h =
     holds_accounts c _ old new has (last v c.accounts old new (inserts_row book_schema insert_account_text 4 accounts insert_account_terms 5 insert_account_is.command insert_account_is.plain refl (accounts_still []) account_view c.accounts
     old new v Null v v count has.schema refl (cast_new_account name free set_aside done) refl has.rows.accounts h.0)) h.1.is_open
 
-cast_grant : (g : GrantRow) → cast_row (table_of grants) (Null ∷ grant_values g) ≡ Null ∷ grant_values g
+pub cast_grant : (g : GrantRow) → cast_row (table_of grants) (Null ∷ grant_values g) ≡ Null ∷ grant_values g
 cast_grant g = rw (cast_null, cast_int (pos g.pages)) refl
 
 pub adds_grant : (old new : State) (g : GrantRow) (count : ℕ) (c : Content) → Holds c old → ExecutesInside 0 insert_grant_text (grant_values g) old new (Ok count) → Holds (with_grant_row (grant_values g) c) new
@@ -112,7 +110,7 @@ adds_grant old new g count c has h =
     holds_grants c _ old new has (last v c.grants old new (inserts_row book_schema insert_grant_text 5 grants insert_grant_terms 4 insert_grant_is.command insert_grant_is.plain refl (grants_still []) grant_view c.grants
     old new v Null v v count has.schema refl (cast_grant g) refl has.rows.grants h.0)) h.1.is_open
 
-cast_report : (k : KeptReport) → cast_row (table_of reports) (Null ∷ report_values k) ≡ Null ∷ report_values k
+pub cast_report : (k : KeptReport) → cast_row (table_of reports) (Null ∷ report_values k) ≡ Null ∷ report_values k
 cast_report k = rw (cast_null, cast_int (pos k.report.job), cast_int (pos k.report.seq), cast_int (pos (kind_number k.report.kind)), cast_int (pos k.report.count), cast_int (pos (job_state_number k.state)), cast_int (pos k.total)) refl
 
 pub adds_report : (old new : State) (k : KeptReport) (count : ℕ) (c : Content) → Holds c old → ExecutesInside 0 insert_report_text (report_values k) old new (Ok count) → Holds (with_report_row (report_values k) c) new

@@ -37,10 +37,10 @@ cast_account named free set_aside done id = rw (cast_int id, cast_int free, cast
 
 -- ---- the sums
 
-abbrev sums_params : List ℕ → ℤ → ℤ → Row
+abbrev pub sums_params : List ℕ → ℤ → ℤ → Row
 sums_params name set_aside done = Words name ∷ Int set_aside ∷ Int done ∷ []
 
-sums_shown : (name named : List ℕ) (free was_set_aside was_done set_aside done : ℤ) (r : Row) (id : ℤ) → rowid r ≡ Int id → account_view r ≡ account_values named free was_set_aside was_done
+pub sums_shown : (name named : List ℕ) (free was_set_aside was_done set_aside done : ℤ) (r : Row) (id : ℤ) → rowid r ≡ Int id → account_view r ≡ account_values named free was_set_aside was_done
     → fits_i64 (was_set_aside +ℤ set_aside) ≡ true → fits_i64 (was_done +ℤ done) ≡ true
     → shown_of update_sums_terms (sums_params name set_aside done) r ≡ Int id ∷ anew named free (was_set_aside +ℤ set_aside) (was_done +ℤ done) id
 sums_shown name named free was_set_aside was_done set_aside done r id keyed is p q =
@@ -102,7 +102,7 @@ free_params name free = Words name ∷ Int free ∷ []
 abbrev pub free_put : ℤ → Row → Row
 free_put free v = column v 0 ∷ Int free ∷ column v 2 ∷ column v 3 ∷ []
 
-free_shown : (name named : List ℕ) (free was_free set_aside done : ℤ) (r : Row) (id : ℤ) → rowid r ≡ Int id → account_view r ≡ account_values named was_free set_aside done
+pub free_shown : (name named : List ℕ) (free was_free set_aside done : ℤ) (r : Row) (id : ℤ) → rowid r ≡ Int id → account_view r ≡ account_values named was_free set_aside done
     → shown_of update_free_terms (free_params name free) r ≡ Int id ∷ anew named free set_aside done id
 free_shown name named free was_free set_aside done r id keyed is =
     let a : column r 1 ≡ Words named = ap (λ (v : Row). column v 0) is in

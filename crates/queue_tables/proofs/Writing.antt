@@ -36,11 +36,11 @@ pub record Wrote (schema : Schema) (edit : Edit) (old new : State) : Type 0 wher
   pub shows : Shows old new new.now (if old.in_transaction then old.committed else new.now) old.in_transaction
 
 -- a part that gave a value did not stop on the way
-went : {B E R : Type 0} {b : B} {Stops : E → Type 0} → ((stop : E) × Stops stop × (Ok b ≡ Err stop)) ⊎ R → R
+pub went : {B E R : Type 0} {b : B} {Stops : E → Type 0} → ((stop : E) × Stops stop × (Ok b ≡ Err stop)) ⊎ R → R
 went (inl stopped) = absurd (let e = stopped.2 in cc)
 went (inr on) = on
 
-same_value : {B E : Type 0} {a b : B} → ◌≡◌ {A = Result B E} (Ok a) (Ok b) → a ≡ b
+pub same_value : {B E : Type 0} {a b : B} → ◌≡◌ {A = Result B E} (Ok a) (Ok b) → a ≡ b
 same_value e = cc
 
 module _ (schema : Schema) (sql : List ℕ) (at : ℕ) (p : Plain) (terms : List Term) (width : ℕ)

@@ -81,6 +81,10 @@ pub record Holds (c : Content) (s : State) : Type 0 where
   pub rows : HasContent c s.now.trees
   pub live : IsTrue s.is_open
 
+-- the same, as long as the connection is open
+abbrev pub HoldsWhileOpen : Content → State → Type 0
+HoldsWhileOpen c s = IsTrue s.is_open → Holds c s
+
 -- each of them is the world's job of its number
 abbrev pub AreRowsOf : World → List Job → Type 0
 AreRowsOf w js = All (λ j. job_at j.number (rows w) ≡ Some j) js

@@ -2,6 +2,7 @@
 use Rattle.sqlite.specs.declared.error.Error.{Error}
 use Rattle.sqlite.specs.declared.error.Error.TheVariants.{SqliteFailure}
 use Rattle.sqlite.specs.declared.error.ErrorCode.TheVariants.{OutOfMemory, ConstraintViolation}
+use Rattle.sqlite_schema.specs.declared.schema.Constraint.TheVariants.{PrimaryKey}
 use Rattle.queue_core.specs.declared.book.BookFault.{BookFault}
 use Rattle.queue_core.specs.declared.book.BookFault.TheVariants.{Memory as BookMemory, Disk as BookDisk, Damaged as BookDamaged}
 use Rattle.queue_tables.specs.declared.fault.Fault.{Fault}
@@ -21,6 +22,11 @@ form_fault _ = Damaged
 abbrev pub write_fault : Error → Fault
 write_fault (SqliteFailure (ConstraintViolation which)) = Damaged
 write_fault e = read_fault e
+
+-- of a row whose rowid the store chooses: where that is taken, the rowids are used up
+abbrev pub insert_fault : Error → Fault
+insert_fault (SqliteFailure (ConstraintViolation PrimaryKey)) = Disk
+insert_fault e = write_fault e
 
 abbrev pub told_as : Fault → BookFault
 told_as Memory = BookMemory

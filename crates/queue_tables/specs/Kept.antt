@@ -1,5 +1,5 @@
 -- What a table keeps, whatever the order of its rows.
-use Rattle.std.specs.Prelude.{◌≡◌, ◌≤◌, ℤ, Bool, true, if◌then◌else◌, List, map, filter, length, All, IsPermutation}
+use Rattle.std.specs.Prelude.{◌≡◌, ◌≤◌, ℤ, Bool, true, if◌then◌else◌, List, [], ◌∷◌, map, filter, length, All, IsPermutation}
 use Rattle.sqlite.specs.Order.{Row}
 use Rattle.sqlite.specs.Tree.{rowid, has_rowid}
 use Rattle.sqlite_trees.specs.View.{is_int}
@@ -13,6 +13,10 @@ pub record AreKeyed (rows : List Row) : Type 0 where
 pub record HasRows (Needed : Type 0) (view : Row → Row) (values rows : List Row) : Type 0 where
   pub same : IsPermutation values (map view rows)
   pub keyed : Needed → AreKeyed rows
+
+-- of the values one passes
+abbrev pub HasOne : (Row → Bool) → List Row → Type 0
+HasOne passes values = (v : Row) × (filter passes values ≡ v ∷ [])
 
 -- what passes is put anew, and the rest stays
 abbrev pub replaced : (Row → Bool) → (Row → Row) → List Row → List Row

@@ -1,5 +1,5 @@
 -- What a query, or a statement of a transaction, leaves as it was.
-use Rattle.std.specs.Prelude.{◌≡◌, IsTrue}
+use Rattle.std.specs.Prelude.{◌≡◌, IsTrue, OnOk, Result}
 use Rattle.sqlite.specs.State.{State, HasCleanDisk}
 use Rattle.sqlite.specs.Tree.{Trees}
 
@@ -17,3 +17,10 @@ pub record KeepsBehind (old new : State) : Type 0 where
   pub was_open : IsTrue new.is_open → IsTrue old.is_open
   pub committed : IsTrue new.is_open → new.committed ≡ old.committed
   pub left : (db : Trees) → new.may_leave db → old.may_leave db
+
+-- what a function leaves of a transaction, whatever it answers: nothing was committed, and a crash leaves nothing but what it left before; after
+-- an Ok the transaction goes on. It says nothing once the disk has lied
+pub record StaysInside {T E : Type 0} (old new : State) (result : Result T E) : Type 0 where
+  pub clean : HasCleanDisk new → HasCleanDisk old
+  pub kept : HasCleanDisk new → IsTrue old.in_transaction → KeepsBehind old new
+  pub inside : HasCleanDisk new → OnOk result (IsTrue old.in_transaction → IsTrue new.in_transaction)

@@ -9,5 +9,6 @@ pub mod Faults
 pub mod Queries
 pub mod Reads
 pub mod Leaving
+pub mod Refusing
 pub mod Accounts
 pub mod Sizes

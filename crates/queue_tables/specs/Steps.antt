@@ -1,5 +1,5 @@
 -- What single statements make of the rows, and the worlds that the tables show between them. Those need not be sound.
-use Rattle.std.specs.Prelude.{◌≡◌, ◌⊎◌, ℕ, ℤ, ◌+ℤ◌, ◌≤◌, ◌^◌, List, [], ◌∷◌, ◌++◌, Option, None, ⊤, Bool, true, false, ◌==◌, ◌&&◌, length, map, filter, fold, if◌then◌else◌}
+use Rattle.std.specs.Prelude.{◌≡◌, ◌⊎◌, ℕ, ℤ, ◌+ℤ◌, ◌≤◌, ◌^◌, List, [], ◌∷◌, ◌++◌, Option, Some, None, IfSome, ⊤, Bool, true, false, ◌==◌, ◌&&◌, length, map, filter, fold, if◌then◌else◌}
 use Rattle.std.specs.List.{range_with_len, AllByRecursion as Each}
 use Rattle.std.specs.FinMap.{get}
 use Rattle.sqlite.specs.declared.types.Value.{Value}
@@ -13,7 +13,7 @@ use Rattle.queue_types.specs.declared.job.Job.{Job}
 use Rattle.queue_types.specs.declared.event.FreeRow.{FreeRow}
 use Rattle.queue_types.specs.declared.event.GrantRow.{GrantRow}
 use Rattle.queue_types.specs.declared.event.KeptReport.{KeptReport}
-use Rattle.queue_core.specs.World.{World, Entry, has_number, with_row, put_free, put_grant, with_report, with_document}
+use Rattle.queue_core.specs.World.{World, Entry, has_number, job_at, rows, with_row, put_free, put_grant, with_report, with_document}
 use Rattle.queue_types.specs.Event.{NewDocument}
 use Rattle.queue_core.specs.Balance.{AreAmounts}
 use Rattle.queue_core.specs.Sound.{reserved, printed}
@@ -58,6 +58,19 @@ is_numbered n v = is_true (binary (Compare Eq Binary) (column v 0) (number n)) &
 -- the first column is this name
 abbrev pub is_named : List ℕ → Row → Bool
 is_named name v = is_true (binary (Compare Eq Binary) (column v 0) (Words name)) && true
+
+-- the first two are these numbers: a job's document, or a report of a job
+abbrev pub are_numbered : ℕ → ℕ → Row → Bool
+are_numbered n m v = is_true (binary (Compare Eq Binary) (column v 0) (number n)) && (is_true (binary (Compare Eq Binary) (column v 1) (number m)) && true)
+
+-- the first three: a piece of a document
+abbrev pub is_piece : ℕ → ℕ → ℕ → Row → Bool
+is_piece job doc piece v =
+    is_true (binary (Compare Eq Binary) (column v 0) (number job)) && (is_true (binary (Compare Eq Binary) (column v 1) (number doc)) && (is_true (binary (Compare Eq Binary) (column v 2) (number piece)) && true))
+
+-- the first two are these names: a batch's grant to an account
+abbrev pub is_granted : List ℕ → List ℕ → Row → Bool
+is_granted batch account v = is_true (binary (Compare Eq Binary) (column v 0) (Words batch)) && (is_true (binary (Compare Eq Binary) (column v 1) (Words account)) && true)
 
 abbrev pub with_job_anew : Job → Content → Content
 with_job_anew j c = record c { jobs = replaced (is_numbered j.number) (λ v. job_values j) c.jobs }
@@ -135,7 +148,18 @@ with_next n w = record w { next = n }
 abbrev pub with_added : Option NewDocument → World → World
 with_added d w = record w { jobs = with_document w.jobs d }
 
+-- each report stands under its job and sequence number
+abbrev pub AreReportsKeyed : World → Type 0
+AreReportsKeyed w = (job seq : ℕ) → IfSome (get w.reports (job, seq)) (λ k. (k.report.job ≡ job) × (k.report.seq ≡ seq))
+
 -- how many documents the job of that number has
 abbrev pub documents_at : ℕ → List Entry → ℕ
 documents_at n [] = 0
 documents_at n (e ∷ es) = if e.row.number == n then length e.documents else documents_at n es
+
+-- its job is there, with at most sixteen documents, and it is no longer than one may be
+pub record CanTake (d : NewDocument) (w : World) : Type 0 where
+  pub job : Job
+  pub there : job_at d.job (rows w) ≡ Some job
+  pub few : documents_at d.job w.jobs ≤ 16
+  pub short : length d.bytes ≤ 16777216

@@ -1,19 +1,22 @@
 //! The statements on documents.
-ghost use Rattle.std.specs.Prelude.{◌≡◌, ◌≤◌, ◌+◌, IfOk, OnOk, IsTrue, Some, length};
+ghost use Rattle.std.specs.Prelude.{◌≡◌, ◌≤◌, ◌+◌, IfOk, OnOk, Some, length, filter, []};
 ghost use Rattle.sqlite.specs.State.{HasCleanDisk};
 ghost use Rattle.sqlite.specs.Held.{state};
 ghost use Rattle.queue_types.specs.Event.{document_of};
 ghost use Rattle.queue_core.specs.World.{World, rows, job_at};
 ghost use Rattle.queue_types.specs.declared.job.Job.{Job as JobValue};
-ghost use Rattle.queue_tables.specs.Content.{Content, Holds, content_of};
-ghost use Rattle.queue_tables.specs.Leaving.{KeepsBehind};
-ghost use Rattle.queue_tables.specs.Steps.{AreDistinct, documents_at, with_added, with_document_row};
+ghost use Rattle.queue_tables.specs.Content.{Content, Holds, content_of, HoldsWhileOpen};
+ghost use Rattle.queue_tables.specs.Leaving.{StaysInside};
+ghost use Rattle.queue_tables.specs.Steps.{AreDistinct, documents_at, with_added, with_document_row, CanTake, are_numbered, is_numbered};
 ghost use Rattle.queue_tables.specs.Values.{document_values};
+ghost use Rattle.queue_tables.specs.Forms.{AreFormed};
+ghost use Rattle.queue_tables.specs.Kept.{HasOne};
+ghost use Rattle.queue_tables.specs.Refusing.{DamagedOnlyWhere};
 
 use crate::fault::Fault;
 use crate::job_rows::find_job;
 use crate::piece_rows::insert_pieces;
-use crate::run::{run, select_inside};
+use crate::run::{insert, select_inside};
 use queue_rows::rows::DocumentRow;
 use queue_types::document::Format;
 use queue_types::event::NewDocument;
@@ -27,12 +30,11 @@ fn insert_document<S: Alter>(
     document: &DocumentRow,
 ) -> Result<(), Fault>
     ensures same_reference { tx.new.conn.ghost_name ≡ tx.old.conn.ghost_name }
-    ensures clean { HasCleanDisk (state S.Store tx.new.conn.now) → HasCleanDisk (state S.Store tx.old.conn.now) }
-    ensures kept { HasCleanDisk (state S.Store tx.new.conn.now) → IsTrue (state S.Store tx.old.conn.now).in_transaction → KeepsBehind (state S.Store tx.old.conn.now) (state S.Store tx.new.conn.now) }
-    ensures inside { HasCleanDisk (state S.Store tx.new.conn.now) → OnOk result (IsTrue (state S.Store tx.old.conn.now).in_transaction → IsTrue (state S.Store tx.new.conn.now).in_transaction) }
+    ensures stays { StaysInside (state S.Store tx.old.conn.now) (state S.Store tx.new.conn.now) result }
     ensures done { HasCleanDisk (state S.Store tx.new.conn.now) → OnOk result ((c : Content) → Holds c (state S.Store tx.old.conn.now) → Holds (with_document_row (document_values document.now) c) (state S.Store tx.new.conn.now)) }
+    ensures damaged { DamagedOnlyWhere (state S.Store tx.old.conn.now) (state S.Store tx.new.conn.now) result ((c : Content) → HasOne (is_numbered document.now.job) c.jobs → filter (are_numbered document.now.job document.now.doc) c.documents ≡ [] → ¬ HoldsWhileOpen c (state S.Store tx.old.conn.now)) }
 {
-    run(
+    insert(
         tx,
         "INSERT INTO documents (job, doc, format, octets) VALUES (?1, ?2, ?3, ?4)",
         params![
@@ -48,11 +50,10 @@ fn insert_document<S: Alter>(
 /// How many documents the job of that number has.
 fn count_documents<S: Alter>(tx: &mut Transaction<'_, S>, job: u32) -> Result<u32, Fault>
     ensures same_reference { tx.new.conn.ghost_name ≡ tx.old.conn.ghost_name }
-    ensures clean { HasCleanDisk (state S.Store tx.new.conn.now) → HasCleanDisk (state S.Store tx.old.conn.now) }
-    ensures kept { HasCleanDisk (state S.Store tx.new.conn.now) → IsTrue (state S.Store tx.old.conn.now).in_transaction → KeepsBehind (state S.Store tx.old.conn.now) (state S.Store tx.new.conn.now) }
-    ensures inside { HasCleanDisk (state S.Store tx.new.conn.now) → OnOk result (IsTrue (state S.Store tx.old.conn.now).in_transaction → IsTrue (state S.Store tx.new.conn.now).in_transaction) }
+    ensures stays { StaysInside (state S.Store tx.old.conn.now) (state S.Store tx.new.conn.now) result }
     ensures few { IfOk result (λ n. n ≤ 16) }
     ensures counted { HasCleanDisk (state S.Store tx.new.conn.now) → IfOk result (λ n. (w : World) → AreDistinct w.jobs → Holds (content_of w) (state S.Store tx.old.conn.now) → (n ≡ documents_at job w.jobs) × Holds (content_of w) (state S.Store tx.new.conn.now)) }
+    ensures damaged { DamagedOnlyWhere (state S.Store tx.old.conn.now) (state S.Store tx.new.conn.now) result ((w : World) → AreDistinct w.jobs → documents_at job w.jobs ≤ 16 → ¬ HoldsWhileOpen (content_of w) (state S.Store tx.old.conn.now)) }
 {
     let found = select_inside(
         tx,
@@ -74,10 +75,9 @@ fn add_document<S: Alter>(
 ) -> Result<(), Fault>
     requires { length bytes.now ≤ 16777216 }
     ensures same_reference { tx.new.conn.ghost_name ≡ tx.old.conn.ghost_name }
-    ensures clean { HasCleanDisk (state S.Store tx.new.conn.now) → HasCleanDisk (state S.Store tx.old.conn.now) }
-    ensures kept { HasCleanDisk (state S.Store tx.new.conn.now) → IsTrue (state S.Store tx.old.conn.now).in_transaction → KeepsBehind (state S.Store tx.old.conn.now) (state S.Store tx.new.conn.now) }
-    ensures inside { HasCleanDisk (state S.Store tx.new.conn.now) → OnOk result (IsTrue (state S.Store tx.old.conn.now).in_transaction → IsTrue (state S.Store tx.new.conn.now).in_transaction) }
+    ensures stays { StaysInside (state S.Store tx.old.conn.now) (state S.Store tx.new.conn.now) result }
     ensures done { HasCleanDisk (state S.Store tx.new.conn.now) → OnOk result ((w : World) (was : JobValue) → AreDistinct w.jobs → job_at job (rows w) ≡ Some was → Holds (content_of w) (state S.Store tx.old.conn.now) → Holds (content_of (with_added (Some (record { job = job; format = format; bytes = bytes.now })) w)) (state S.Store tx.new.conn.now)) }
+    ensures damaged { DamagedOnlyWhere (state S.Store tx.old.conn.now) (state S.Store tx.new.conn.now) result ((w : World) → AreDistinct w.jobs → CanTake (record { job = job; format = format; bytes = bytes.now }) w → ¬ HoldsWhileOpen (content_of w) (state S.Store tx.old.conn.now)) }
 {
     let doc = count_documents(tx, job)? + 1;
     let row = DocumentRow {
@@ -97,10 +97,9 @@ pub(crate) fn put_document<S: Alter>(
     document: &NewDocument<'_>,
 ) -> Result<(), Fault>
     ensures same_reference { tx.new.conn.ghost_name ≡ tx.old.conn.ghost_name }
-    ensures clean { HasCleanDisk (state S.Store tx.new.conn.now) → HasCleanDisk (state S.Store tx.old.conn.now) }
-    ensures kept { HasCleanDisk (state S.Store tx.new.conn.now) → IsTrue (state S.Store tx.old.conn.now).in_transaction → KeepsBehind (state S.Store tx.old.conn.now) (state S.Store tx.new.conn.now) }
-    ensures inside { HasCleanDisk (state S.Store tx.new.conn.now) → OnOk result (IsTrue (state S.Store tx.old.conn.now).in_transaction → IsTrue (state S.Store tx.new.conn.now).in_transaction) }
+    ensures stays { StaysInside (state S.Store tx.old.conn.now) (state S.Store tx.new.conn.now) result }
     ensures done { HasCleanDisk (state S.Store tx.new.conn.now) → OnOk result ((w : World) → AreDistinct w.jobs → Holds (content_of w) (state S.Store tx.old.conn.now) → Holds (content_of (with_added (Some (document_of document.now)) w)) (state S.Store tx.new.conn.now)) }
+    ensures damaged { DamagedOnlyWhere (state S.Store tx.old.conn.now) (state S.Store tx.new.conn.now) result ((w : World) → AreDistinct w.jobs → AreFormed w.jobs → CanTake (document_of document.now) w → ¬ HoldsWhileOpen (content_of w) (state S.Store tx.old.conn.now)) }
 {
     if document.bytes.len() > MOST_DOCUMENT_OCTETS as usize {
         return Err(Fault::Damaged);

@@ -1,9 +1,9 @@
 //! Why the tables can't be read or written.
 ghost use Rattle.std.specs.Prelude.{◌≡◌};
-ghost use Rattle.queue_tables.specs.Faults.{write_fault, form_fault};
+ghost use Rattle.queue_tables.specs.Faults.{insert_fault, write_fault, form_fault};
 
 use queue_core::book::BookFault;
-use sqlite::{Error, ErrorCode};
+use sqlite::{Constraint, Error, ErrorCode};
 use std::alloc::{AllocError, AllocFailed};
 
 /// Why the tables can't be read or written.
@@ -91,5 +91,16 @@ pub(crate) fn fault_of_write(error: Error) -> Fault
     match error {
         Error::SqliteFailure(ErrorCode::ConstraintViolation(_)) => Fault::Damaged,
         _ => Fault::from(error),
+    }
+}
+
+/// An INSERT was refused of a row whose rowid the store chooses: Disk where that rowid is taken, since then they are used up, and
+/// else as any statement that writes.
+pub(crate) fn fault_of_insert(error: Error) -> Fault
+    ensures { result ≡ insert_fault error }
+{
+    match error {
+        Error::SqliteFailure(ErrorCode::ConstraintViolation(Constraint::PrimaryKey)) => Fault::Disk,
+        _ => fault_of_write(error),
     }
 }

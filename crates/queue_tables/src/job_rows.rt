@@ -5,10 +5,12 @@ ghost use Rattle.sqlite.specs.Held.{state};
 ghost use Rattle.sqlite.specs.Values.{bound};
 ghost use Rattle.queue_types.specs.declared.job.Job.{Job as JobValue};
 ghost use Rattle.queue_core.specs.World.{World, rows, job_at};
-ghost use Rattle.queue_tables.specs.Content.{Content, Holds, content_of};
-ghost use Rattle.queue_tables.specs.Leaving.{KeepsBehind};
+ghost use Rattle.queue_tables.specs.Content.{Content, Holds, content_of, HoldsWhileOpen};
+ghost use Rattle.queue_tables.specs.Leaving.{StaysInside};
 ghost use Rattle.queue_tables.specs.Steps.{AreDistinct, bare, is_numbered, with_job_anew, with_job_row};
 ghost use Rattle.queue_tables.specs.Values.{job_values};
+ghost use Rattle.queue_tables.specs.Forms.{AreFormed};
+ghost use Rattle.queue_tables.specs.Refusing.{DamagedOnlyWhere};
 
 use crate::fault::Fault;
 use crate::read::read_job;
@@ -46,10 +48,9 @@ fn columns_of(job: &Job) -> [ValueRef<'_>; 14]
 /// Adds a job.
 pub(crate) fn insert_job<S: Alter>(tx: &mut Transaction<'_, S>, job: &Job) -> Result<(), Fault>
     ensures same_reference { tx.new.conn.ghost_name ≡ tx.old.conn.ghost_name }
-    ensures clean { HasCleanDisk (state S.Store tx.new.conn.now) → HasCleanDisk (state S.Store tx.old.conn.now) }
-    ensures kept { HasCleanDisk (state S.Store tx.new.conn.now) → IsTrue (state S.Store tx.old.conn.now).in_transaction → KeepsBehind (state S.Store tx.old.conn.now) (state S.Store tx.new.conn.now) }
-    ensures inside { HasCleanDisk (state S.Store tx.new.conn.now) → OnOk result (IsTrue (state S.Store tx.old.conn.now).in_transaction → IsTrue (state S.Store tx.new.conn.now).in_transaction) }
+    ensures stays { StaysInside (state S.Store tx.old.conn.now) (state S.Store tx.new.conn.now) result }
     ensures done { HasCleanDisk (state S.Store tx.new.conn.now) → OnOk result ((c : Content) → Holds c (state S.Store tx.old.conn.now) → Holds (with_job_row (job_values job.now) c) (state S.Store tx.new.conn.now)) }
+    ensures damaged { DamagedOnlyWhere (state S.Store tx.old.conn.now) (state S.Store tx.new.conn.now) result ((c : Content) → filter (is_numbered job.now.number) c.jobs ≡ [] → ¬ HoldsWhileOpen c (state S.Store tx.old.conn.now)) }
 {
     run(
         tx,
@@ -65,10 +66,9 @@ pub(crate) fn insert_job<S: Alter>(tx: &mut Transaction<'_, S>, job: &Job) -> Re
 /// Puts the columns of a job anew.
 pub(crate) fn update_job<S: Alter>(tx: &mut Transaction<'_, S>, job: &Job) -> Result<(), Fault>
     ensures same_reference { tx.new.conn.ghost_name ≡ tx.old.conn.ghost_name }
-    ensures clean { HasCleanDisk (state S.Store tx.new.conn.now) → HasCleanDisk (state S.Store tx.old.conn.now) }
-    ensures kept { HasCleanDisk (state S.Store tx.new.conn.now) → IsTrue (state S.Store tx.old.conn.now).in_transaction → KeepsBehind (state S.Store tx.old.conn.now) (state S.Store tx.new.conn.now) }
-    ensures inside { HasCleanDisk (state S.Store tx.new.conn.now) → OnOk result (IsTrue (state S.Store tx.old.conn.now).in_transaction → IsTrue (state S.Store tx.new.conn.now).in_transaction) }
+    ensures stays { StaysInside (state S.Store tx.old.conn.now) (state S.Store tx.new.conn.now) result }
     ensures done { HasCleanDisk (state S.Store tx.new.conn.now) → OnOk result ((c : Content) (was : JobValue) → Holds c (state S.Store tx.old.conn.now) → filter (is_numbered job.now.number) c.jobs ≡ job_values was ∷ [] → was.number ≡ job.now.number → Holds (with_job_anew job.now c) (state S.Store tx.new.conn.now)) }
+    ensures damaged { DamagedOnlyWhere (state S.Store tx.old.conn.now) (state S.Store tx.new.conn.now) result ((c : Content) (was : JobValue) → filter (is_numbered job.now.number) c.jobs ≡ job_values was ∷ [] → was.number ≡ job.now.number → ¬ HoldsWhileOpen c (state S.Store tx.old.conn.now)) }
 {
     run(
         tx,
@@ -85,10 +85,10 @@ pub(crate) fn find_job<S: Alter>(
     number: u32,
 ) -> Result<Option<Job>, Fault>
     ensures same_reference { tx.new.conn.ghost_name ≡ tx.old.conn.ghost_name }
-    ensures clean { HasCleanDisk (state S.Store tx.new.conn.now) → HasCleanDisk (state S.Store tx.old.conn.now) }
-    ensures kept { HasCleanDisk (state S.Store tx.new.conn.now) → IsTrue (state S.Store tx.old.conn.now).in_transaction → KeepsBehind (state S.Store tx.old.conn.now) (state S.Store tx.new.conn.now) }
-    ensures inside { HasCleanDisk (state S.Store tx.new.conn.now) → OnOk result (IsTrue (state S.Store tx.old.conn.now).in_transaction → IsTrue (state S.Store tx.new.conn.now).in_transaction) }
+    ensures stays { StaysInside (state S.Store tx.old.conn.now) (state S.Store tx.new.conn.now) result }
     ensures found { HasCleanDisk (state S.Store tx.new.conn.now) → IfOk result (λ found. (w : World) → AreDistinct w.jobs → Holds (content_of w) (state S.Store tx.old.conn.now) → (found ≡ option_map bare (job_at number (rows w))) × Holds (content_of w) (state S.Store tx.new.conn.now)) }
+    ensures live { HasCleanDisk (state S.Store tx.new.conn.now) → OnOk result (IsTrue (state S.Store tx.new.conn.now).is_open) }
+    ensures damaged { DamagedOnlyWhere (state S.Store tx.old.conn.now) (state S.Store tx.new.conn.now) result ((w : World) → AreDistinct w.jobs → AreFormed w.jobs → ¬ HoldsWhileOpen (content_of w) (state S.Store tx.old.conn.now)) }
 {
     numbers_tell_names();
     let found = select_inside(

@@ -1,5 +1,5 @@
 //! The pages that a job takes of its owner's account.
-ghost use Rattle.std.specs.Prelude.{◌≡◌, IfOk, pos, neg_ℤ, ◌≤ℤ◌};
+ghost use Rattle.std.specs.Prelude.{◌≡◌, IfOk, IfErr, pos, neg_ℤ, ◌≤ℤ◌};
 ghost use Rattle.queue_core.specs.Balance.{AreAmounts};
 ghost use Rattle.queue_types.specs.Job.{owed};
 
@@ -14,6 +14,7 @@ pub(crate) fn taken_by(job: &Job) -> Result<SumChange, Fault>
     ensures reserved { IfOk result (λ t. t.reserved ≡ pos (owed job.now)) }
     ensures printed { IfOk result (λ t. t.printed ≡ pos job.now.count) }
     ensures small { IfOk result (λ t. (pos 0 ≤ℤ t.reserved) × (t.reserved ≤ℤ pos 100000000) × (pos 0 ≤ℤ t.printed) × (t.printed ≤ℤ pos 100000000)) }
+    ensures damaged { IfErr result (λ _. ¬ AreAmounts job.now) }
 {
     if job.impressions > MOST_IMPRESSIONS
         || job.copies > MOST_COPIES
@@ -32,6 +33,7 @@ pub(crate) fn taken_by(job: &Job) -> Result<SumChange, Fault>
 pub(crate) fn returned_by(job: &Job) -> Result<SumChange, Fault>
     ensures reserved { IfOk result (λ t. t.reserved ≡ neg_ℤ (pos (owed job.now))) }
     ensures printed { IfOk result (λ t. t.printed ≡ neg_ℤ (pos job.now.count)) }
+    ensures damaged { IfErr result (λ _. ¬ AreAmounts job.now) }
 {
     let taken = taken_by(job)?;
     Ok(SumChange {

@@ -1,12 +1,12 @@
 //! A decision in one transaction.
-ghost use Rattle.std.specs.Prelude.{◌≡◌, OnOk, OnErr, IsTrue};
+ghost use Rattle.std.specs.Prelude.{◌≡◌, OnOk, OnErr, IsTrue, IfErr};
 ghost use Rattle.sqlite.specs.State.{HasCleanDisk};
 ghost use Rattle.sqlite.specs.Held.{state};
 ghost use Rattle.queue_core.specs.Book.{IsDecisionOn};
 ghost use Rattle.queue_types.specs.Event.{change_of, decision_of};
 ghost use Rattle.queue_core.specs.Sound.{IsSound};
 ghost use Rattle.queue_core.specs.World.{World, made_on};
-ghost use Rattle.queue_tables.specs.Content.{Holds, LeavesOneOf, content_of};
+ghost use Rattle.queue_tables.specs.Content.{Holds, LeavesOneOf, content_of, HoldsWhileOpen};
 
 use crate::change::write_change;
 use crate::fault::{Fault, fault_of_write};
@@ -18,7 +18,7 @@ use std::alloc::Global;
 /// Makes a decision of the machine on the world that the tables stand for: all of its change in one
 /// transaction, which is committed where the answer is Ok. After a refusal they stand for the same world as
 /// before, where the connection is still open. Whatever the answer, a crash then leaves the queue from before
-/// it or the one after it.
+/// it or the one after it. Damaged is told only where the tables stand for no such world.
 pub fn make<S: Alter>(
     alloc: Global,
     conn: &mut Connection<S>,
@@ -32,6 +32,7 @@ pub fn make<S: Alter>(
     ensures settled { HasCleanDisk (state S.Store conn.new) → OnOk result ((state S.Store conn.new).now ≡ (state S.Store conn.new).committed) }
     ensures still_settled { HasCleanDisk (state S.Store conn.new) → OnErr result ((state S.Store conn.old).now ≡ (state S.Store conn.old).committed → IsTrue (state S.Store conn.new).is_open → (state S.Store conn.new).now ≡ (state S.Store conn.new).committed) }
     ensures crash { HasCleanDisk (state S.Store conn.new) → (w : World) → IsSound w → IsDecisionOn w (decision_of decision.now) → Holds (content_of w) (state S.Store conn.old) → (state S.Store conn.old).now ≡ (state S.Store conn.old).committed → LeavesOneOf w (made_on (change_of decision.now.change) w) (state S.Store conn.new) }
+    ensures damaged { HasCleanDisk (state S.Store conn.new) → IfErr result (λ e. e ≡ Fault.Damaged → (w : World) → IsSound w → IsDecisionOn w (decision_of decision.now) → ¬ HoldsWhileOpen (content_of w) (state S.Store conn.old)) }
 {
     decisions_are_sound();
     if !conn.is_autocommit() {

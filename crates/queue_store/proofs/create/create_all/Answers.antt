@@ -7,8 +7,8 @@ use Rattle.queue_store.proofs.create.create_all.Goals as goal
 pub returns-clause-done : goal.returns-clause-done
 returns-clause-done g c clean =
     on_ok c.add_meta.result _ _ (λ adds blank.
-    let third = c.add_meta.ensures.clean clean in
-    let second = c.create_indexes.ensures.clean third in
-    let first = c.create_second.ensures.clean second in
+    let third = c.add_meta.ensures.stays.clean clean in
+    let second = c.create_indexes.ensures.stays.clean third in
+    let first = c.create_second.ensures.stays.clean second in
     let made = c.in_ok-create_indexes.ensures.done third (c.in_ok-create_second.ensures.done second (c.in_ok-create_first.ensures.done first blank)) in
     adds no_content (made_holds (state g.S.Store c.create_indexes.new.tx.conn.now) made.0 made.1 made.2)) (c.add_meta.ensures.done clean)

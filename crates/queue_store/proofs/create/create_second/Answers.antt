@@ -5,8 +5,8 @@ use Rattle.queue_store.proofs.create.create_second.Goals as goal
 pub returns-clause-done : goal.returns-clause-done
 returns-clause-done g c clean = λ made.
     let k3 = clean in
-    let k2 = c.define-3.ensures.clean k3 in
-    let k1 = c.define-2.ensures.clean k2 in
+    let k2 = c.define-3.ensures.stays.clean k3 in
+    let k1 = c.define-2.ensures.stays.clean k2 in
     let m1 = makes_accounts (state g.S.Store c.args.tx.now.conn.now) (state g.S.Store c.define.new.tx.conn.now) c.in_ok-define.field-0 made (c.in_ok-define.ensures.ran k1).0 in
     let m2 = makes_grants (state g.S.Store c.define.new.tx.conn.now) (state g.S.Store c.define-2.new.tx.conn.now) c.in_ok-define-2.field-0 m1 (c.in_ok-define-2.ensures.ran k2).0 in
     let m3 = makes_reports (state g.S.Store c.define-2.new.tx.conn.now) (state g.S.Store c.define-3.new.tx.conn.now) c.in_ok-define-3.field-0 m2 (c.in_ok-define-3.ensures.ran k3).0 in

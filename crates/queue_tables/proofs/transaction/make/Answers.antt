@@ -26,11 +26,11 @@ returns-in-Ok-clause-crash g c = λ clean w sound decided has same.
     let tie : c.conn-2-1.given.0 ≡ c.commit.new.self.0 = search rules in
     let made = made_on (change_of c.args.decision.now.change) w in
     subst (λ h. HasCleanDisk (state g.S.Store h) → LeavesOneOf w made (state g.S.Store h)) (sym tie)
-    (commit_leaves g.S.Store c.args.conn.now c.transaction-tx.result.conn.now c.write_change.new.tx.conn.now c.commit.new.self.0 w made (g.met.S.Store.settled c.args.conn.now.store) c.transaction-tx.ensures.begun c.write_change.ensures.kept (λ early. c.in_ok-write_change.ensures.made early w sound decided) c.commit.ensures.survives sound (c.decisions_are_sound.ensures.made w _ sound decided) has same) clean
+    (commit_leaves g.S.Store c.args.conn.now c.transaction-tx.result.conn.now c.write_change.new.tx.conn.now c.commit.new.self.0 w made (g.met.S.Store.settled c.args.conn.now.store) c.transaction-tx.ensures.begun c.write_change.ensures.stays.kept (λ early. c.in_ok-write_change.ensures.made early w sound decided) c.commit.ensures.survives sound (c.decisions_are_sound.ensures.made w _ sound decided) has same) clean
 
 pub returns-in-Err-clause-crash : goal.returns-in-Err-clause-crash
 returns-in-Err-clause-crash g c = λ clean w sound decided has same.
     let tie : c.conn-2-1.given.0 ≡ c.commit.new.self.0 = search rules in
     let made = made_on (change_of c.args.decision.now.change) w in
     subst (λ h. HasCleanDisk (state g.S.Store h) → LeavesOneOf w made (state g.S.Store h)) (sym tie)
-    (commit_leaves g.S.Store c.args.conn.now c.transaction-tx.result.conn.now c.write_change.new.tx.conn.now c.commit.new.self.0 w made (g.met.S.Store.settled c.args.conn.now.store) c.transaction-tx.ensures.begun c.write_change.ensures.kept (λ early. c.in_ok-write_change.ensures.made early w sound decided) c.commit.ensures.survives sound (c.decisions_are_sound.ensures.made w _ sound decided) has same) clean
+    (commit_leaves g.S.Store c.args.conn.now c.transaction-tx.result.conn.now c.write_change.new.tx.conn.now c.commit.new.self.0 w made (g.met.S.Store.settled c.args.conn.now.store) c.transaction-tx.ensures.begun c.write_change.ensures.stays.kept (λ early. c.in_ok-write_change.ensures.made early w sound decided) c.commit.ensures.survives sound (c.decisions_are_sound.ensures.made w _ sound decided) has same) clean

@@ -1,4 +1,9 @@
+use Rattle.std.proofs.Common.{◌≡◌, refl, sym, ◌∙◌}
+use Rattle.queue_core.specs.declared.book.BookFault.TheVariants.{Damaged as BookDamaged}
 use Rattle.queue_types.specs.Event.{decision_of}
+use Rattle.queue_tables.specs.Faults.{told_as}
+use Rattle.queue_tables.specs.declared.fault.Fault.{Fault}
+use Rattle.queue_tables.specs.declared.fault.Fault.TheVariants.{Memory, Disk, Damaged}
 use Rattle.queue_store.proofs.queue_book.TableBookQueueBook.apply.Goals as goal
 
 pub returns-in-Ok-clause-ok : goal.returns-in-Ok-clause-ok
@@ -21,3 +26,16 @@ pub returns-clause-crash : goal.returns-clause-crash
 returns-clause-crash g c honest live w stands =
     let was = stands (c.make.ensures.clean honest) in
     c.make.ensures.crash honest w was.sound (c.requires.decided w (c.make.ensures.clean honest) stands) (was.holds live) (was.settled live)
+
+-- only Damaged is told as Damaged
+told_damaged : (f : Fault) → told_as f ≡ BookDamaged → f ≡ Damaged
+told_damaged Memory e = absurd cc
+told_damaged Disk e = absurd cc
+told_damaged Damaged e = refl
+
+pub returns-clause-damaged : goal.returns-clause-damaged
+returns-clause-damaged g c honest told w stands =
+    let began = c.make.ensures.clean honest in
+    let was = stands began in
+    let decided = c.requires.decided w began stands in
+    c.in-Err.ensures.damaged honest (told_damaged c.in-Err.fault (sym c.from.ensures ∙ told)) w was.sound decided was.holds
