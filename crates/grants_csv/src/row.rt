@@ -3,7 +3,6 @@ ghost use Rattle.std.specs.Prelude.{◌≡◌, ◌∷◌, [], true, false, if◌
 ghost use Rattle.std.specs.Char.{is_ascii_digit};
 ghost use Rattle.std.specs.List.{list_all};
 ghost use Rattle.std.specs.Option.{option_copied};
-ghost use Rattle.std.specs.Str.{is_utf8};
 ghost use Rattle.csv.specs.Records.{fields_of};
 ghost use Rattle.queue_core.specs.Limits as limits;
 ghost use Rattle.grants_csv.specs.Fault.{IsUnlessFault};
@@ -11,36 +10,16 @@ ghost use Rattle.grants_csv.specs.File as file;
 
 use crate::fault::{ImportCause, ImportFault};
 use csv::ByteRecord;
+use queue_core::{are_batch_bytes, has_no_control};
 use queue_types::event::GrantRow;
-use queue_types::limits::{MOST_NAME_OCTETS, MOST_ROW_PAGES};
+use queue_types::limits::{MOST_BATCH_OCTETS, MOST_NAME_OCTETS, MOST_ROW_PAGES};
 use queue_types::text::{Text, utf8_text};
 use std::alloc::Global;
-
-/// The most octets of a batch's name.
-const MOST_BATCH_OCTETS: usize = 40;
-
-fn is_batch_byte(b: u8) -> bool
-    ensures { result ≡ limits.is_batch_byte b }
-{
-    b.is_ascii_alphanumeric() || b == b'-' || b == b'.' || b == b'_'
-}
-
-fn are_batch_bytes(bytes: &[u8]) -> bool
-    ensures { result ≡ list_all limits.is_batch_byte bytes.now }
-{
-    bytes.iter().all(|b| is_batch_byte(*b))
-}
 
 fn is_batch(bytes: &[u8]) -> bool
     ensures { result ≡ file.is_batch bytes.now }
 {
     1 <= bytes.len() && bytes.len() <= MOST_BATCH_OCTETS && are_batch_bytes(bytes)
-}
-
-fn is_printable(bytes: &[u8]) -> bool
-    ensures { result ≡ list_all limits.is_no_control bytes.now }
-{
-    bytes.iter().all(|b| 0x20 <= *b && *b != 0x7f)
 }
 
 fn are_digits(bytes: &[u8]) -> bool
@@ -71,7 +50,7 @@ fn batch_text(bytes: &[u8]) -> Option<&str>
 fn account_text(bytes: &[u8]) -> Option<&str>
     ensures { option_copied result ≡ (if file.is_account bytes.now then Some bytes.now else None) }
 {
-    if 1 <= bytes.len() && bytes.len() <= MOST_NAME_OCTETS && is_printable(bytes) {
+    if 1 <= bytes.len() && bytes.len() <= MOST_NAME_OCTETS && has_no_control(bytes) {
         utf8_text(bytes)
     } else {
         None

@@ -4,5 +4,4 @@ pub mod ByNumber
 pub mod ByKey
 pub mod Keyed
 pub mod SeenLemmas
-pub mod SentLemmas
 pub mod Totals

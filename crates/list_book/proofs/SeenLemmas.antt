@@ -1,6 +1,6 @@
 -- What is read of the book's lists is what its world shows.
 use Rattle.std.proofs.Common.{◌≡◌, ℕ, suc, ◌<◌, ◌≤◌, ◌+◌, ◌*◌, ◌^◌, List, [], ◌∷◌, length, map, refl, ap, sym, ◌∙◌, arith, Bool, true, false, cond}
-use Rattle.std.specs.Prelude.{nat_eq, nat_lt, ◌&&◌, ◌||◌, Option, Some, None, find, option_map, slice_get, ◌-◌}
+use Rattle.std.specs.Prelude.{nat_eq, nat_lt, ◌&&◌, ◌||◌, Option, Some, None, find, filter, option_map, slice_get, ◌-◌}
 use Rattle.std.specs.List.{AllByRecursion as Each}
 use Rattle.std.specs.FinMap.{empty, entries, from_sorted, entries-from_sorted, get, get-empty, get-from_sorted, same_map}
 use Rattle.list_book.proofs.Keyed.{grant_exact, grant_total}
@@ -10,6 +10,7 @@ use Rattle.queue_core.specs.Shown.{document_at, document_of, sheet_of}
 use Rattle.queue_core.specs.Sound.{IsSound, IsSoundEntry, Rise}
 use Rattle.queue_core.specs.World.{World, Entry, grant_cmp, granted_in, known_grant, rows, job_at}
 use Rattle.queue_types.specs.declared.job.Job.{Job}
+use Rattle.queue_types.specs.declared.document.Document.{Document}
 use Rattle.queue_types.specs.declared.document.KeptDocument.{KeptDocument}
 use Rattle.queue_types.specs.declared.event.GrantRow.{GrantRow}
 use Rattle.list_book.specs.declared.lists.Lists.{Lists}
@@ -18,6 +19,8 @@ use Rattle.list_book.specs.Tables.{free_map, grants_map, known_in, total_of}
 use Rattle.list_book.proofs.Put.{rows_of}
 use Rattle.std.specs.Prelude.{bytes_eq, sum_by, ℤ}
 use Rattle.std.proofs.lemmas.List.Sums.{sum_by-cons}
+use Rattle.std.proofs.lemmas.Bool.{lt-ltb}
+use Rattle.std.proofs.lemmas.Option.{slice_get-map}
 use Rattle.std.proofs.Math.Nat.{mul-le-mul_left}
 use Rattle.queue_types.specs.Job.{owed, estimate, is_live}
 use Rattle.queue_types.specs.declared.event.Scene.{Scene}
@@ -53,6 +56,29 @@ pub fetched : (l : Lists) (j : Job) (job n : ℕ) → Some j ≡ job_at job l.jo
 fetched l j job n there =
     sym (both (is_fetched j) (nat_lt 0 n) (slice_get (documents_of j.number l.documents.items) (n - 1)) None)
     ∙ ap (λ o. document_of (option_map (entry_of l.documents.items) o) n) there ∙ sym (document_is l job n)
+
+one_document : (b : Bool) (k : KeptDocument) (ds : List Document) (ks : List KeptDocument) → ds ≡ map (λ x. x.document) ks → cond b (k.document ∷ ds) ds ≡ map (λ x. x.document) (cond b (k ∷ ks) ks)
+one_document true k ds ks same = ap (λ xs. k.document ∷ xs) same
+one_document false k ds ks same = same
+
+documents_are : (job : ℕ) (ks : List KeptDocument) → documents_of job ks ≡ map (λ x. x.document) (filter (λ x. nat_eq x.job job) ks)
+documents_are job [] = refl
+documents_are job (k ∷ ks) = one_document (nat_eq k.job job) k _ _ (documents_are job ks)
+
+document_behind : (job n : ℕ) (ks : List KeptDocument) → slice_get (documents_of job ks) n ≡ option_map (λ x. x.document) (slice_get (filter (λ x. nat_eq x.job job) ks) n)
+document_behind job n ks = ap (λ ds. slice_get ds n) (documents_are job ks) ∙ slice_get-map (λ x. x.document) (filter (λ x. nat_eq x.job job) ks) n
+
+where_some : {X : Type 0} (b : Bool) (x : Option X) → b ≡ true → x ≡ cond b x None
+where_some true x is = refl
+where_some false x is = absurd (cc)
+
+-- document n is that of the row behind n - 1 rows of its job
+pub nth_is : (job n before : ℕ) (ks : List KeptDocument) (o : Option KeptDocument) → 1 ≤ n → before ≡ n - 1 → o ≡ slice_get (filter (λ x. nat_eq x.job job) ks) before → option_map (λ x. x.document) o ≡ nth_of job n ks
+nth_is job n before ks o some is there =
+    ap (option_map (λ x. x.document)) there
+    ∙ sym (document_behind job before ks)
+    ∙ ap (slice_get (documents_of job ks)) is
+    ∙ where_some (nat_lt 0 n) (slice_get (documents_of job ks) (n - 1)) (lt-ltb 0 n some)
 
 -- ---- limits of a sound world
 

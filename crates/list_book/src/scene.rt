@@ -134,16 +134,16 @@ fn concerned(
     }
 }
 
+fn is_live_of(job: &Job, caller: &str) -> bool
+    ensures { result ≡ (bytes_eq job.now.owner caller.now && is_live job.now) }
+{
+    job.owner.as_str() == caller && job.is_live()
+}
+
 fn live_of(jobs: &[Job], caller: &str) -> usize
     ensures { result ≡ count_by (λ j. bytes_eq j.owner caller.now && is_live j) jobs.now }
 {
-    let mut live = 0;
-    for job in jobs {
-        if job.owner.as_str() == caller && job.is_live() {
-            live += 1;
-        }
-    }
-    live
+    jobs.iter().filter(|j| is_live_of(j, caller)).count()
 }
 
 /// How many live jobs the caller has, for a call that asks for a new one.

@@ -3,10 +3,10 @@ ghost use Rattle.std.specs.Prelude.{◌≡◌, ◌==◌, ◌||◌, IfOk, filter,
 ghost use Rattle.std.specs.Option.{option_copied};
 ghost use Rattle.queue_types.specs.Job.{state};
 ghost use Rattle.queue_core.specs.Shown.{document_at, head_of};
-ghost use Rattle.queue_core.specs.World.{job_at};
 ghost use Rattle.list_book.specs.Lists.{nth_of, world_of};
 
 use crate::lists::Lists;
+use queue_core::numbered_job;
 use queue_types::document::{Document, DocumentHead, KeptDocument};
 use queue_types::job::Job;
 use queue_types::states::JobState;
@@ -25,12 +25,6 @@ pub(crate) fn pending(alloc: Global, jobs: &[Job]) -> Result<Vec<Job>, AllocErro
     Ok(pending)
 }
 
-fn numbered_job(jobs: &[Job], number: u32) -> Option<&Job>
-    ensures { option_copied result ≡ job_at number jobs.now }
-{
-    jobs.iter().find(|j| j.number == number)
-}
-
 /// The device may fetch the job's documents.
 fn is_fetched(job: &Job) -> bool
     ensures { result ≡ (state job.now == 3 || state job.now == 5 || state job.now == 6) }
@@ -45,21 +39,12 @@ fn is_fetched(job: &Job) -> bool
 fn nth_document(documents: &[KeptDocument], job: u32, n: u32) -> Option<&Document>
     ensures { option_copied result ≡ nth_of job n documents.now }
 {
-    if n == 0 {
-        return None;
-    }
-    let mut rest = documents;
-    let mut left = n;
-    while let [d, behind @ ..] = rest {
-        if d.job == job {
-            if left == 1 {
-                return Some(&d.document);
-            }
-            left -= 1;
-        }
-        rest = behind;
-    }
-    None
+    let before = n.checked_sub(1)?;
+    let kept = documents
+        .iter()
+        .filter(|d| d.job == job)
+        .nth(before as usize)?;
+    Some(&kept.document)
 }
 
 /// Document n, counted from 1, of a job in state 3, 5 or 6.

@@ -20,3 +20,4 @@ pub mod Orders
 pub mod GrantLemmas
 pub mod Granted
 pub mod Crashes
+pub mod Writes

@@ -21,7 +21,8 @@ fn taken_of(job: &Job) -> u64
     job.owed() + u64::from(job.count)
 }
 
-fn number_at(jobs: &[Job], number: u32) -> Option<&Job>
+/// The first of the jobs that has that number, where there is one.
+pub fn numbered_job(jobs: &[Job], number: u32) -> Option<&Job>
     ensures at { option_copied result ≡ job_at number jobs.now }
     ensures amounts { All AreAmounts jobs.now → IfSome result (λ j. AreAmounts j.now) }
 {
@@ -37,7 +38,7 @@ fn given_back_by(before: &[Job], job: &Job, account: &str) -> i64
     if job.owner.as_str() != account {
         return 0;
     }
-    let was = match number_at(before, job.number) {
+    let was = match numbered_job(before, job.number) {
         Some(old) => taken_of(old),
         None => 0,
     };

@@ -8,11 +8,14 @@ mod grants;
 pub mod laws;
 pub mod machine;
 mod my_jobs;
+mod names;
 mod outcome;
 mod own_job;
 mod reports;
 pub mod visible;
+mod writing;
 
+pub use balance::numbered_job;
 pub use book::{BookFault, QueueBook, SendCause, SendFault};
 pub use laws::{
     cut_is_fair, decisions_are_sound, empty_is_sound, get_jobs_in_order, new_grants_add_up,
@@ -20,3 +23,5 @@ pub use laws::{
 };
 pub use machine::decide;
 pub use my_jobs::number_set;
+pub use names::{are_batch_bytes, has_no_control, has_no_zero};
+pub use writing::{Unwritten, put_whole};

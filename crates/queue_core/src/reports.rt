@@ -76,7 +76,7 @@ fn moved(job: Job, kind: Kind, now: u32) -> Option<Job>
         (Kind::Start, Phase::Waiting) => started(job, now),
         (Kind::Stop, Phase::Running) => Some(in_phase(job, Phase::Stopped)),
         (Kind::Resume, Phase::Stopped) => Some(in_phase(job, Phase::Running)),
-        (Kind::Count, _) => { if job.begun.is_some() { Some(job) } else { None } }
+        (Kind::Count, _) if job.begun.is_some() => Some(job),
         (Kind::Done, Phase::Running) => Some(ended_job(job, Phase::Completed, now)),
         (Kind::Fail, Phase::Running | Phase::Stopped) => Some(ended_job(job, Phase::Aborted, now)),
         (Kind::Halt, Phase::Running | Phase::Stopped) => {

@@ -1,5 +1,5 @@
 //! The documents of a job.
-ghost use Rattle.std.specs.Prelude.{◌≡◌, ◌≢◌, ◌≤◌, IfOk, MatchOption, length};
+ghost use Rattle.std.specs.Prelude.{◌≡◌, ◌≢◌, ◌≤◌, IfOk, MatchOption, bytes_eq, length};
 ghost use Rattle.queue_types.specs.Formats as formats;
 ghost use Rattle.queue_types.specs.declared.document.Format.{Format as FormatValue};
 
@@ -53,32 +53,17 @@ impl Format {
         }
     }
 
+    fn is_named(self, name: &[u8]) -> bool
+        ensures { result ≡ bytes_eq (formats.format_name self) name.now }
+    {
+        self.name().as_bytes() == name
+    }
+
     /// The format of this name, byte for byte, where it is a supported one.
     pub fn of_name(name: &[u8]) -> Option<Format>
         ensures { MatchOption result ((f : FormatValue) → name.now ≢ formats.format_name f) (λ f. name.now ≡ formats.format_name f) }
     {
-        if name == b"application/octet-stream".as_slice() {
-            return Some(Format::OctetStream);
-        }
-        if name == b"application/pdf".as_slice() {
-            return Some(Format::Pdf);
-        }
-        if name == b"application/postscript".as_slice() {
-            return Some(Format::Postscript);
-        }
-        if name == b"image/jpeg".as_slice() {
-            return Some(Format::Jpeg);
-        }
-        if name == b"image/pwg-raster".as_slice() {
-            return Some(Format::PwgRaster);
-        }
-        if name == b"image/urf".as_slice() {
-            return Some(Format::Urf);
-        }
-        if name == b"text/plain".as_slice() {
-            return Some(Format::PlainText);
-        }
-        None
+        FORMATS.iter().copied().find(|f| f.is_named(name))
     }
 }
 

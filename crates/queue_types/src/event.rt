@@ -181,19 +181,19 @@ pub enum GrantFault {
 #[derive(Clone, Copy, Debug, PartialEq, Eq)]
 pub enum Kind {
     /// The job begins to print.
-    Start,
+    Start = 1,
     /// The device stands still in the job.
-    Stop,
+    Stop = 2,
     /// It goes on with the job.
-    Resume,
+    Resume = 3,
     /// So many pages of the job are printed by now.
-    Count,
+    Count = 4,
     /// The job is printed.
-    Done,
+    Done = 5,
     /// The job can't be printed.
-    Fail,
+    Fail = 6,
     /// The job was ended before it was done.
-    Halt,
+    Halt = 7,
 }
 
 impl Kind {
@@ -203,15 +203,7 @@ impl Kind {
     pub fn number(self) -> u8
         ensures { result ≡ kind_number self }
     {
-        match self {
-            Kind::Start => 1,
-            Kind::Stop => 2,
-            Kind::Resume => 3,
-            Kind::Count => 4,
-            Kind::Done => 5,
-            Kind::Fail => 6,
-            Kind::Halt => 7,
-        }
+        self as u8
     }
 }
 

@@ -27,6 +27,9 @@ pub const MOST_IMPRESSIONS: u32 = 100_000;
 /// The most octets of a job's name, a user's name or an account's name.
 pub const MOST_NAME_OCTETS: usize = 255;
 
+/// The most octets of a batch's name.
+pub const MOST_BATCH_OCTETS: usize = 40;
+
 /// The most jobs in states 3 to 6 that one caller may have.
 pub const MOST_LIVE_JOBS: usize = 100;
 

@@ -79,8 +79,5 @@ impl Text {
 pub fn utf8_text(bytes: &[u8]) -> Option<&str>
     ensures { option_copied result ≡ (if is_utf8 bytes.now then Some bytes.now else None) }
 {
-    match str::from_utf8(bytes) {
-        Ok(text) => Some(text),
-        Err(_) => None,
-    }
+    str::from_utf8(bytes).ok()
 }

@@ -1,6 +1,7 @@
-use Rattle.std.proofs.Common.{◌≡◌, List, ℕ, Bool, true, false, refl, ap}
-use Rattle.std.specs.Prelude.{Some, None, if◌then◌else◌}
-use Rattle.std.specs.Str.{is_utf8}
+use Rattle.std.proofs.Common.{◌≡◌, List, ℕ, Bool, Bor, Result, Ok, Err, true, false, refl, ap, option_copied}
+use Rattle.std.specs.Prelude.{Some, None, MatchResult, if◌then◌else◌}
+use Rattle.std.specs.Result.{result_ok}
+use Rattle.std.specs.Str.{IsUtf8, is_utf8}
 use Rattle.std.proofs.lemmas.Str.{is_utf8-from_IsUtf8}
 use Rattle.queue_types.proofs.Texts.{no_text}
 use Rattle.queue_types.proofs.text.utf8_text.Goals as goal
@@ -13,8 +14,10 @@ none_chosen : (b : Bool) (bytes : List ℕ) → b ≡ false → None ≡ (if b t
 none_chosen true bytes t = absurd (cc)
 none_chosen false bytes t = refl
 
-pub returns-in-Ok : goal.returns-in-Ok
-returns-in-Ok c = chosen (is_utf8 c.args.bytes.now) _ c.args.bytes.now (is_utf8-from_IsUtf8 c.args.bytes.now c.in-Ok.ensures.cases.1) c.in-Ok.ensures.cases.0
+text_read : {E : Type 0} (Q : E → Type 0) (bytes : List ℕ) (r : Result (Bor (List ℕ)) E) → MatchResult r (λ s. (s.now ≡ bytes) × IsUtf8 bytes) (λ e. (IsUtf8 bytes → ⊥) × Q e)
+    → option_copied (result_ok r) ≡ (if is_utf8 bytes then Some bytes else None)
+text_read Q bytes (Ok s) h = chosen (is_utf8 bytes) s.now bytes (is_utf8-from_IsUtf8 bytes h.1) h.0
+text_read Q bytes (Err e) h = none_chosen (is_utf8 bytes) bytes (no_text bytes h.0)
 
-pub returns-in-Err : goal.returns-in-Err
-returns-in-Err c = none_chosen (is_utf8 c.args.bytes.now) c.args.bytes.now (no_text c.args.bytes.now c.in-Err.ensures.cases.0)
+pub returns : goal.returns
+returns c = rw c.ok.ensures.value (text_read _ c.args.bytes.now c.from_utf8.result c.from_utf8.ensures.cases)

@@ -1,6 +1,6 @@
 use Rattle.std.proofs.Common.{◌-◌, ◌≤◌, length, take}
 use Rattle.std.specs.Io.KnownBytes.{Appends}
-use Rattle.list_book.proofs.send.send.Given as goal
+use Rattle.queue_core.proofs.writing.put_whole.Given as goal
 
 abbrev pub invariant-write : goal.invariant-write
 invariant-write g l = record {
