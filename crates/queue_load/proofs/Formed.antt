@@ -1,8 +1,8 @@
 -- The rows of a sound queue have the forms in which they are read.
-use Rattle.std.proofs.Common.{◌≡◌, inl, inr, ℕ, ◌+◌, ◌^◌, ◌<◌, ◌≤◌, ◌==◌, suc, zero, List, [], ◌∷◌, Bool, true, cond, All, fold, length, bytes_eq, refl, ap, subst, ◌∙◌, arith, rules}
+use Rattle.std.proofs.Common.{◌≡◌, inl, inr, ℕ, ◌+◌, ◌^◌, ◌<◌, ◌≤◌, ◌==◌, suc, zero, List, [], ◌∷◌, Bool, true, IsTrue, cond, All, length, bytes_eq, ap, subst, arith, rules}
 use Rattle.std.specs.List.{AllByRecursion as Each, flat_map, list_all, range_with_len}
 use Rattle.std.specs.Str.{IsAscii, IsUtf8}
-use Rattle.std.proofs.lemmas.Bool.{and_parts, cases_Bool, cases_eq, ne_eqb}
+use Rattle.std.proofs.lemmas.Bool.{and_parts, cases_Bool, eqb-true}
 use Rattle.std.proofs.lemmas.Bool.Decides.{nat_tests}
 use Rattle.std.proofs.lemmas.List.Elements.{All-head, All-tail}
 use Rattle.std.proofs.lemmas.List.Sums.{sum_by-cons}
@@ -99,16 +99,16 @@ formed_account gs all a some = (named a.name gs all some).utf8
 
 -- ---- reports
 
-numbered : (n g : ℕ) (js : List Job) → All IsJobRow js → fold (λ g j. cond (n == j.number) 1 g) g js ≡ 1 → g ≡ 0 → n < 2 ^ 31
-numbered n g [] all is none = absurd (omega (arith, is, none))
-numbered n g (j ∷ js) all is none = elim (cases_eq n j.number) [
-  | inl same ↦ omega (arith, same, (All-head IsJobRow j js all).sound.number.1)
-  | inr other ↦ numbered n (cond (n == j.number) 1 g) js (All-tail IsJobRow j js all) is (ap (λ (b : Bool). cond b 1 g) (ne_eqb n j.number other) ∙ none)
+numbered : (n : ℕ) (js : List Job) → All IsJobRow js → IsTrue (has_number n js) → n < 2 ^ 31
+numbered n [] all is = absurd cc
+numbered n (j ∷ js) all is = elim (cases_Bool (j.number == n)) [
+  | inl same ↦ let here : j.number ≡ n = eqb-true j.number n same in omega (arith, here, (All-head IsJobRow j js all).sound.number.1)
+  | inr other ↦ numbered n js (All-tail IsJobRow j js all) (rw other at is)
 ]
 
-pub formed_report : (js : List Job) → All IsJobRow js → (k : KeptReport) → IsReportRow k → has_number k.report.job js ≡ 1 → IsFormedReport k
+pub formed_report : (js : List Job) → All IsJobRow js → (k : KeptReport) → IsReportRow k → IsTrue (has_number k.report.job js) → IsFormedReport k
 formed_report js all k h there = record {
-  job = let low : k.report.job < 2 ^ 31 = numbered k.report.job 0 js all there refl in omega (arith, low);
+  job = let low : k.report.job < 2 ^ 31 = numbered k.report.job js all there in omega (arith, low);
   seq = omega (arith, h.seq.1);
   count = omega (arith, h.count);
   total = omega (arith, h.total);

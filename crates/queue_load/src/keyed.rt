@@ -15,7 +15,6 @@ use queue_rows::order::{Keyed, are_in_order};
 use queue_tables::fault::Fault;
 use sqlite::{Alter, Connection};
 use std::alloc::Global;
-use std::cmp::Ordering;
 
 impl Keyed for RowId {
     ghost use Rattle.queue_load.specs.Keyed.{id_before};
@@ -23,11 +22,7 @@ impl Keyed for RowId {
     ghost before = { id_before };
 
     fn is_before(&self, other: &RowId) -> bool {
-        match self.id.cmp(&other.id) {
-            Ordering::Less => true,
-            Ordering::Equal => false,
-            Ordering::Greater => false,
-        }
+        self.id < other.id
     }
 }
 

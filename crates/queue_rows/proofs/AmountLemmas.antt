@@ -1,7 +1,7 @@
 -- Sums of what is told of rows.
 use Rattle.std.proofs.Common.{◌≡◌, ℕ, ◌+◌, ◌<◌, List, [], ◌∷◌, Bool, Bor, Result, Ok, Err, IfOk, if◌then◌else◌, true, false, cond, ◌&&◌, bytes_eq, get_or, length, take, refl, sym, ap, ◌∙◌, ◌≤◌, Option, None, Some, IfSome, unwrap_or, pos, arith}
 use Rattle.std.specs.Cmp.Lexicographic.{nat_list_eq_equiv}
-use Rattle.std.specs.HashMap.{HashMap}
+use Rattle.std.specs.BTreeMap.{BTreeMap}
 use Rattle.std.proofs.lemmas.List.Sums.{sum_by-cons, sum_by_more}
 use Rattle.queue_types.specs.Job.{is_live}
 use Rattle.queue_core.specs.World.{live_jobs}
@@ -27,7 +27,7 @@ total_more {X} name amount q xs i x p before after lt is told old new =
     new ∙ (λ k. old k + here k) ∙ ap (λ (y : X). sum + f y) is ∙ sym (sum_by_more f xs i x lt)
 
 -- of what is told of rows the sums are known
-pub totals_told : {S E X : Type 0} (r : Result (HashMap (Bor (List ℕ)) ℕ S) E) (tells : X → Bor (List ℕ) × ℕ → Type 0) (xs : List X) (name : X → List ℕ) (amount : X → ℕ) (sum : List ℕ → ℕ)
+pub totals_told : {E X : Type 0} (r : Result (BTreeMap (Bor (List ℕ)) ℕ) E) (tells : X → Bor (List ℕ) × ℕ → Type 0) (xs : List X) (name : X → List ℕ) (amount : X → ℕ) (sum : List ℕ → ℕ)
     → TellsAmounts tells name amount → ((q : List ℕ) → total name amount q xs ≡ sum q)
     → IfOk r (λ m. (label : X → List ℕ) (size : X → ℕ) → TellsAmounts tells label size → (q : List ℕ) → total_in m q ≡ total label size q xs) → IfOk r (λ m. (q : List ℕ) → total_in m q ≡ sum q)
 totals_told (Ok m) tells xs name amount sum told is h = λ q. h name amount told q ∙ is q

@@ -1,5 +1,5 @@
 -- Jobs with what their documents tell of them.
-use Rattle.std.proofs.Common.{◌≡◌, ℕ, ◌+◌, ◌*◌, ◌≤◌, suc, List, [], ◌∷◌, All, fold, ◌==◌, ◌&&◌, cond, if◌then◌else◌, bytes_eq, length, take, drop, sum_by, refl, ap, ◌∙◌, sym, arith}
+use Rattle.std.proofs.Common.{◌≡◌, ℕ, ◌+◌, ◌*◌, ◌≤◌, suc, List, [], ◌∷◌, All, Bool, ◌==◌, ◌||◌, ◌&&◌, cond, if◌then◌else◌, bytes_eq, length, take, drop, sum_by, refl, ap, ◌∙◌, sym, arith}
 use Rattle.std.specs.List.{AllByRecursion as Each}
 use Rattle.std.proofs.lemmas.List.{length-take-le}
 use Rattle.std.proofs.lemmas.List.Elements.{All-take, All-drop}
@@ -54,12 +54,9 @@ sum_filled f one (j ∷ js) ds =
     sum_by-cons f (with_group j ds) (filled js (behind j ds)) ∙ ap (λ (n : ℕ). n + sum_by f (filled js (behind j ds))) (one j ds)
     ∙ ap (λ (n : ℕ). f j + n) (sum_filled f one js (behind j ds)) ∙ sym (sum_by-cons f j js)
 
-pub fold_filled : {A : Type 0} (f : A → Job → A) → ((a : A) (j : Job) (ds : List DocumentRow) → f a (with_group j ds) ≡ f a j) → (a : A) (js : List Job) (ds : List DocumentRow) → fold f a (filled js ds) ≡ fold f a js
-fold_filled f one a [] ds = refl
-fold_filled {A} f one a (j ∷ js) ds = ap (λ (b : A). fold f b (filled js (behind j ds))) (one a j ds) ∙ fold_filled f one (f a j) js (behind j ds)
-
 pub number_filled : (n : ℕ) (js : List Job) (ds : List DocumentRow) → has_number n (filled js ds) ≡ has_number n js
-number_filled n js ds = fold_filled (λ (g : ℕ) (j : Job). if n == j.number then 1 else g) (λ g j ds'. refl) 0 js ds
+number_filled n [] ds = refl
+number_filled n (j ∷ js) ds = ap (λ (b : Bool). j.number == n || b) (number_filled n js (behind j ds))
 
 pub live_filled : (caller : List ℕ) (js : List Job) (ds : List DocumentRow) → live_jobs caller (filled js ds) ≡ live_jobs caller js
 live_filled caller js ds = sum_filled (λ (j : Job). cond (bytes_eq j.owner caller && is_live j) 1 0) (λ j ds'. refl) js ds

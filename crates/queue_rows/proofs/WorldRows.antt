@@ -1,5 +1,5 @@
 -- Rows as entries of finite maps.
-use Rattle.std.proofs.Common.{◌≡◌, ◌⊎◌, inl, inr, ℕ, ◌+◌, ◌<◌, ◌≤◌, ◌==◌, suc, zero, List, [], ◌∷◌, Bool, true, false, cond, if◌then◌else◌, Option, Some, None, IfSome, IsSome, is_some, max, fold, length, map, get_or, sum_by, bytes_eq, refl, sym, ap, subst, ◌∙◌, arith}
+use Rattle.std.proofs.Common.{◌≡◌, ◌⊎◌, inl, inr, ℕ, ◌+◌, ◌<◌, ◌≤◌, ◌==◌, suc, zero, List, [], ◌∷◌, Bool, true, if◌then◌else◌, Option, Some, None, IfSome, IsSome, is_some, max, fold, length, map, get_or, sum_by, bytes_eq, refl, sym, ap, subst, ◌∙◌, arith}
 use lib.Dec.{T}
 use Rattle.std.specs.declared.cmp.Ordering.{Ordering}
 use Rattle.std.specs.declared.cmp.Ordering.TheVariants.{Less, Equal, Greater}
@@ -111,25 +111,10 @@ row_positive name amount a e (x ∷ xs) (suc k) lt is some =
 
 -- ---- numbers of jobs
 
-abbrev seen : ℕ → ℕ → Job → ℕ
-seen n g j = if n == j.number then 1 else g
-
-number_from : (n g : ℕ) (js : List Job) → fold (seen n) g js ≡ 1 → (g ≡ 1) ⊎ IsSome (job_at n js)
-number_from n g [] h = inl h
-number_from n g (j ∷ js) h = elim (cases_eq n j.number) [
-  | inl same ↦ let here : j.number == n ≡ true = eq-eqb j.number n (sym same) in inr (ap (λ (b : Bool). is_some (cond b (Some j) (job_at n js))) here)
-  | inr other ↦
-      let left : n == j.number ≡ false = ne_eqb n j.number other in
-      let right : j.number == n ≡ false = ne_eqb j.number n (λ e. other (sym e)) in
-      let stays : seen n g j ≡ g = ap (λ (b : Bool). if b then 1 else g) left in
-      elim (number_from n g js (ap (λ (m : ℕ). fold (seen n) m js) (sym stays) ∙ h)) [
-        | inl is ↦ inl is
-        | inr there ↦ inr (ap (λ (b : Bool). is_some (cond b (Some j) (job_at n js))) right ∙ there)
-      ]
-]
-
-pub job_there : (n : ℕ) (js : List Job) → has_number n js ≡ 1 → IsSome (job_at n js)
-job_there n js h = elim (number_from n 0 js h) [ inl never ↦ absurd (omega arith) | inr there ↦ there ]
+-- a job has a number just where one is found by it
+pub number_is : (n : ℕ) (js : List Job) → has_number n js ≡ is_some (job_at n js)
+number_is n [] = refl
+number_is n (j ∷ js) = elim (cases_Bool (j.number == n)) [ inl same ↦ rw same refl | inr other ↦ rw other (number_is n js) ]
 
 -- ---- the greatest count
 

@@ -24,7 +24,7 @@ use Rattle.queue_rows.proofs.Filled.{octets_of, filled, each_filled, rise_filled
 use Rattle.queue_rows.proofs.WorldGrants.{grants_of, free_of, reports_of, grant_found, free_found, report_found, report_there, granted_told, HasGrant, grant_from_sum, free_from_count}
 use Rattle.queue_rows.proofs.WorldJobs.{row_of, rows_in, rise_from, size_of, sizes_in, entries_sound, each_map}
 use Rattle.queue_rows.proofs.WorldOf.{documents_in, entries_in, world_from}
-use Rattle.queue_rows.proofs.WorldRows.{if_some, some_of, job_there, count_within, count_reached}
+use Rattle.queue_rows.proofs.WorldRows.{if_some, some_of, number_is, count_within, count_reached}
 
 pub each_rows : (P : Job → Type 0) (es : List Entry) → Each P (map row_of es) → Each (λ e. P e.row) es
 each_rows P [] h = tt
@@ -57,7 +57,7 @@ is_kept w rs js all h same is n m = if_some (get (reports_of rs) (n, m)) (IsKept
     let job : r.report.job ≡ n = ap (λ (q : ℕ × ℕ). q.0) row.2 in
     let seq : r.report.seq ≡ m = ap (λ (q : ℕ × ℕ). q.1) row.2 in
     let limits = h.reports row.0 no_report row.1 in
-    let there : IsSome (job_at r.report.job all) = job_there r.report.job all (same r.report.job ∙ h.there row.0 no_report row.1) in
+    let there : IsSome (job_at r.report.job all) = sym (number_is r.report.job all) ∙ same r.report.job ∙ h.there row.0 no_report row.1 in
     subst (IsKept w n m) row.3 (record {
       job = job;
       seq = seq;

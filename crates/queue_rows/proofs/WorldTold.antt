@@ -1,8 +1,7 @@
 -- A sound world has sound rows.
-use Rattle.std.proofs.Common.{◌≡◌, ◌⊎◌, inl, inr, ℕ, ℤ, pos, ◌+◌, ◌+ℤ◌, ◌<◌, ◌≤◌, ◌==◌, List, [], ◌∷◌, Bool, false, cond, if◌then◌else◌, Option, Some, None, IfSome, IsSome, IsSomeAnd, is_some, All, fold, length, map, get_or, refl, sym, ap, subst, ◌∙◌, arith}
+use Rattle.std.proofs.Common.{◌≡◌, inl, inr, ℕ, ℤ, pos, ◌+◌, ◌+ℤ◌, ◌<◌, ◌≤◌, List, [], ◌∷◌, Option, Some, None, IfSome, IsSome, IsSomeAnd, is_some, IsTrue, All, length, map, get_or, refl, sym, ap, subst, ◌∙◌, arith}
 use Rattle.std.specs.List.{AllByRecursion as Each}
 use Rattle.std.specs.FinMap.{get}
-use Rattle.std.proofs.lemmas.Bool.{cases_eq, eq-eqb, ne_eqb}
 use Rattle.std.proofs.lemmas.List.Elements.{All-from_recursion, recursion_from_All, All-from_get_or}
 use Rattle.queue_core.specs.Sound.{IsSound, IsKept, IsGreatestCount, IsIdle, reserved, printed}
 use Rattle.queue_core.specs.World.{granted}
@@ -25,24 +24,7 @@ use Rattle.queue_rows.proofs.Filled.{octets_of, filled, each_bare, rise_bare, so
 use Rattle.queue_rows.proofs.WorldGrants.{free_of, reports_of, grant_there, free_there, report_found, report_there, granted_told, sum_from_grant, count_from_free}
 use Rattle.queue_rows.proofs.WorldJobs.{row_of, rows_in, rise_to, size_of, sizes_in, rows_told, all_sizes_told, each_map}
 use Rattle.queue_rows.proofs.WorldOf.{IsBare, FitTogether, documents_in, entries_in, world_from}
-use Rattle.queue_rows.proofs.WorldRows.{count_within, count_reached}
-
-abbrev seen : ℕ → ℕ → Job → ℕ
-seen n g j = if n == j.number then 1 else g
-
-number_into : (n g : ℕ) (js : List Job) → (g ≡ 1) ⊎ IsSome (job_at n js) → fold (seen n) g js ≡ 1
-number_into n g [] (inl is) = is
-number_into n g [] (inr there) = absurd cc
-number_into n g (j ∷ js) h = elim (cases_eq n j.number) [
-  | inl same ↦ number_into n (seen n g j) js (inl (ap (λ (b : Bool). if b then 1 else g) (eq-eqb n j.number same)))
-  | inr other ↦
-      let left : n == j.number ≡ false = ne_eqb n j.number other in
-      let right : j.number == n ≡ false = ne_eqb j.number n (λ e. other (sym e)) in
-      number_into n (seen n g j) js (elim h [
-        | inl is ↦ inl (ap (λ (b : Bool). if b then 1 else g) left ∙ is)
-        | inr there ↦ inr (sym (ap (λ (b : Bool). is_some (cond b (Some j) (job_at n js))) right) ∙ there)
-      ])
-]
+use Rattle.queue_rows.proofs.WorldRows.{number_is, count_within, count_reached}
 
 rows_each : (P : Job → Type 0) (es : List Entry) → Each (λ e. P e.row) es → Each P (map row_of es)
 rows_each P [] h = tt
@@ -126,9 +108,9 @@ rows_told_sound m t bs lengths only meta h f =
         reports = record {
           reports = All-from_get_or IsReportRow t.reports no_report (λ k lt. let r = kept k lt in record { seq = r.positive; count = r.count; total = r.total });
           order = f.reports;
-          there = All-from_get_or (λ k. has_number k.report.job js ≡ 1) t.reports no_report (λ k lt.
+          there = All-from_get_or (λ k. IsTrue (has_number k.report.job js)) t.reports no_report (λ k lt.
               let r = get_or t.reports k no_report in
-              sym (number_filled r.report.job js ds) ∙ number_into r.report.job 0 full (inr (subst (λ (l : List Job). IsSome (job_at r.report.job l)) is (kept k lt).there)));
+              sym (number_filled r.report.job js ds) ∙ number_is r.report.job full ∙ subst (λ (l : List Job). IsSome (job_at r.report.job l)) is (kept k lt).there);
           counts = All-from_recursion (λ j. j.count ≡ greatest j.number t.reports) js (each_bare (λ j. j.count ≡ greatest j.number t.reports) (λ j ds' e. e) js ds counts);
         };
         owners = record {

@@ -1,5 +1,6 @@
 -- The rows of jobs.
-use Rattle.std.specs.Prelude.{◌≡◌, ℕ, ◌+◌, ◌≤◌, List, [], ◌∷◌, fold, ◌==◌, if◌then◌else◌}
+use Rattle.std.specs.Prelude.{◌≡◌, ℕ, ◌+◌, ◌≤◌, List, [], ◌∷◌, Bool, ◌==◌}
+use Rattle.std.specs.List.{list_any}
 use Rattle.queue_core.specs.Limits.{IsSoundJob}
 use Rattle.queue_types.specs.declared.job.Job.{Job}
 
@@ -13,6 +14,6 @@ abbrev pub NumbersRise : ℕ → List Job → ℕ → Type 0
 NumbersRise first [] next = first ≤ next
 NumbersRise first (j ∷ js) next = (first ≤ j.number) × NumbersRise (j.number + 1) js next
 
--- 1 where a job has that number, else 0
-abbrev pub has_number : ℕ → List Job → ℕ
-has_number n js = fold (λ g j. if n == j.number then 1 else g) 0 js
+-- a job has this number
+abbrev pub has_number : ℕ → List Job → Bool
+has_number n js = list_any (λ j. j.number == n) js

@@ -1,5 +1,5 @@
 -- When rows are those of a sound world, clause by clause over the rows alone.
-use Rattle.std.specs.Prelude.{◌≡◌, ℕ, ◌≤◌, ◌^◌, List, [], ◌∷◌, All}
+use Rattle.std.specs.Prelude.{◌≡◌, ℕ, ◌≤◌, ◌^◌, List, [], ◌∷◌, All, IsTrue}
 use Rattle.std.specs.List.{flat_map}
 use Rattle.queue_core.specs.Sound.{IsIdle}
 use Rattle.queue_core.specs.World.{live_jobs}
@@ -42,7 +42,7 @@ pub record HaveSoundGrants (gs : List GrantRow) (acs : List AccountRow) : Type 0
 pub record HaveSoundReports (rs : List KeptReport) (js : List Job) : Type 0 where
   pub reports : All IsReportRow rs
   pub order : AreInOrder report_before rs
-  pub there : All (λ k. has_number k.report.job js ≡ 1) rs
+  pub there : All (λ k. IsTrue (has_number k.report.job js)) rs
   pub counts : All (λ j. j.count ≡ greatest j.number rs) js
 
 pub record HaveSoundOwners (js : List Job) (gs : List GrantRow) (acs : List AccountRow) : Type 0 where

@@ -1,6 +1,8 @@
 -- Sums by name.
 use Rattle.std.specs.Prelude.{◌≡◌, ℕ, List, sum_by, bytes_eq, unwrap_or, if◌then◌else◌}
-use Rattle.std.specs.HashMap.{HashMap, get_by}
+use Rattle.std.specs.BTreeMap.{BTreeMap, get_by}
+use Rattle.std.specs.Cmp.Lexicographic.{slice_cmp}
+use Rattle.std.specs.Ordering.{nat_cmp}
 use Rattle.queue_types.specs.declared.event.GrantRow.{GrantRow}
 use Rattle.queue_rows.specs.Grants.{granted_to}
 use denote.Ref.{Bor}
@@ -10,13 +12,13 @@ abbrev pub total : {X : Type 0} → (X → List ℕ) → (X → ℕ) → List �
 total name amount q xs = sum_by (λ x. if bytes_eq (name x) q then amount x else 0) xs
 
 -- what a map of sums has of that name, 0 where it has none
-abbrev pub total_in : {S : Type 0} → HashMap (Bor (List ℕ)) ℕ S → List ℕ → ℕ
-total_in m q = unwrap_or (get_by (λ k. bytes_eq q k.now) m) 0
+unfoldable pub total_in : BTreeMap (Bor (List ℕ)) ℕ → List ℕ → ℕ
+total_in m q = unwrap_or (get_by (λ k. slice_cmp nat_cmp q k.now) m) 0
 
 -- what is told of a row is that name and that amount
 abbrev pub TellsAmounts : {X : Type 0} → (X → Bor (List ℕ) × ℕ → Type 0) → (X → List ℕ) → (X → ℕ) → Type 0
 TellsAmounts {X} tells name amount = (x : X) (p : Bor (List ℕ) × ℕ) → tells x p → (p.0.now ≡ name x) × (p.1 ≡ amount x)
 
 -- the sums are the pages that were granted to each account
-abbrev pub AreGranted : {S : Type 0} → HashMap (Bor (List ℕ)) ℕ S → List GrantRow → Type 0
+abbrev pub AreGranted : BTreeMap (Bor (List ℕ)) ℕ → List GrantRow → Type 0
 AreGranted m gs = (q : List ℕ) → total_in m q ≡ granted_to q gs

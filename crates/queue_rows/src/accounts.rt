@@ -1,12 +1,12 @@
 //! The rows of accounts: their order, and that they are those that have a grant.
-ghost use Rattle.std.specs.Prelude.{◌≡◌, ◌↔◌, ◌≤◌, All, IsTrue};
+ghost use Rattle.std.specs.Prelude.{◌↔◌, ◌≤◌, All, IsTrue};
 ghost use Rattle.queue_rows.specs.Totals.{total_in};
 
 use crate::order::Keyed;
 use crate::rows::AccountRow;
 use crate::totals::total_of;
 use queue_types::event::GrantRow;
-use std::collections::HashMap;
+use std::collections::BTreeMap;
 
 /// By name.
 impl Keyed for AccountRow {
@@ -19,14 +19,14 @@ impl Keyed for AccountRow {
     }
 }
 
-fn has_total(sums: &HashMap<&str, u128>, name: &str) -> bool
+fn has_total(sums: &BTreeMap<&str, u128>, name: &str) -> bool
     ensures { IsTrue result ↔ (1 ≤ total_in sums.now name.now) }
 {
     total_of(sums, name) >= 1
 }
 
 /// Each grant's account is among the names.
-pub fn grants_have_accounts(grants: &[GrantRow], names: &HashMap<&str, u128>) -> bool
+pub fn grants_have_accounts(grants: &[GrantRow], names: &BTreeMap<&str, u128>) -> bool
     ensures { IsTrue result ↔ All (λ g. 1 ≤ total_in names.now g.account) grants.now }
 {
     grants
@@ -35,7 +35,7 @@ pub fn grants_have_accounts(grants: &[GrantRow], names: &HashMap<&str, u128>) ->
 }
 
 /// Each account was granted pages.
-pub fn accounts_have_grants(accounts: &[AccountRow], granted: &HashMap<&str, u128>) -> bool
+pub fn accounts_have_grants(accounts: &[AccountRow], granted: &BTreeMap<&str, u128>) -> bool
     ensures { IsTrue result ↔ All (λ a. 1 ≤ total_in granted.now a.name) accounts.now }
 {
     accounts

@@ -10,13 +10,13 @@ use crate::totals::totals;
 use queue_types::event::GrantRow;
 use queue_types::job::Job;
 use std::alloc::{AllocError, Global};
-use std::collections::HashMap;
+use std::collections::BTreeMap;
 
 /// The pages that were granted to each account.
 pub fn granted_totals<'a>(
     alloc: Global,
     grants: &'a [GrantRow],
-) -> Result<HashMap<&'a str, u128>, AllocError>
+) -> Result<BTreeMap<&'a str, u128>, AllocError>
     ensures { IfOk result (λ m. (q : List ℕ) → total_in m q ≡ granted_to q grants.now) }
 {
     totals(alloc, grants, |grant| {
@@ -28,7 +28,7 @@ pub fn granted_totals<'a>(
 pub fn reserved_totals<'a>(
     alloc: Global,
     jobs: &'a [Job],
-) -> Result<HashMap<&'a str, u128>, AllocError>
+) -> Result<BTreeMap<&'a str, u128>, AllocError>
     ensures { IfOk result (λ m. (q : List ℕ) → total_in m q ≡ reserved_for q jobs.now) }
 {
     totals(alloc, jobs, |job| (job.owner.as_str(), job.owed()))
@@ -38,7 +38,7 @@ pub fn reserved_totals<'a>(
 pub fn printed_totals<'a>(
     alloc: Global,
     jobs: &'a [Job],
-) -> Result<HashMap<&'a str, u128>, AllocError>
+) -> Result<BTreeMap<&'a str, u128>, AllocError>
     ensures { IfOk result (λ m. (q : List ℕ) → total_in m q ≡ printed_for q jobs.now) }
 {
     totals(alloc, jobs, |job| {
@@ -50,14 +50,17 @@ pub fn printed_totals<'a>(
 pub fn name_totals<'a>(
     alloc: Global,
     accounts: &'a [AccountRow],
-) -> Result<HashMap<&'a str, u128>, AllocError>
+) -> Result<BTreeMap<&'a str, u128>, AllocError>
     ensures { IfOk result (λ m. (q : List ℕ) → total_in m q ≡ accounts_of q accounts.now) }
 {
     totals(alloc, accounts, |account| (account.name.as_str(), 1u64))
 }
 
 /// How many jobs of each owner are in the states 3 to 6.
-pub fn live_totals<'a>(alloc: Global, jobs: &'a [Job]) -> Result<HashMap<&'a str, u128>, AllocError>
+pub fn live_totals<'a>(
+    alloc: Global,
+    jobs: &'a [Job],
+) -> Result<BTreeMap<&'a str, u128>, AllocError>
     ensures { IfOk result (λ m. (q : List ℕ) → total_in m q ≡ live_jobs q jobs.now) }
 {
     totals(alloc, jobs, |job| {

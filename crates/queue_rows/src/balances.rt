@@ -9,7 +9,7 @@ use crate::rows::AccountRow;
 use crate::totals::total_of;
 use queue_types::job::Job;
 use std::alloc::{AllocError, Global};
-use std::collections::HashMap;
+use std::collections::BTreeMap;
 
 fn is_sum(granted: u128, free: i64, spent: u128) -> bool
     requires { spent < 2 ^ 70 }
@@ -35,9 +35,9 @@ fn is_balanced(account: &AccountRow, granted: u128, reserved: u128, printed: u12
 
 fn is_account_balanced(
     account: &AccountRow,
-    granted: &HashMap<&str, u128>,
-    reserved: &HashMap<&str, u128>,
-    printed: &HashMap<&str, u128>,
+    granted: &BTreeMap<&str, u128>,
+    reserved: &BTreeMap<&str, u128>,
+    printed: &BTreeMap<&str, u128>,
 ) -> bool
     ensures { IsTrue result ↔ HasSums (total_in granted.now account.now.name) (total_in reserved.now account.now.name) (total_in printed.now account.now.name) account.now }
 {
@@ -53,9 +53,9 @@ fn is_account_balanced(
 /// What is stored of each account is what these sums say.
 fn are_balanced(
     accounts: &[AccountRow],
-    granted: &HashMap<&str, u128>,
-    reserved: &HashMap<&str, u128>,
-    printed: &HashMap<&str, u128>,
+    granted: &BTreeMap<&str, u128>,
+    reserved: &BTreeMap<&str, u128>,
+    printed: &BTreeMap<&str, u128>,
 ) -> bool
     ensures { IsTrue result ↔ All (λ a. HasSums (total_in granted.now a.name) (total_in reserved.now a.name) (total_in printed.now a.name) a) accounts.now }
 {
@@ -66,7 +66,7 @@ fn are_balanced(
 pub fn accounts_are_balanced(
     alloc: Global,
     accounts: &[AccountRow],
-    granted: &HashMap<&str, u128>,
+    granted: &BTreeMap<&str, u128>,
     jobs: &[Job],
 ) -> Result<bool, AllocError>
     ensures { IfOk result (λ b. (gs : List GrantRow) → AreGranted granted.now gs → IsTrue b ↔ All (IsBalanced gs jobs.now) accounts.now) }

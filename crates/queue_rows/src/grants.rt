@@ -1,5 +1,5 @@
 //! The rows of grants: each one's own limits, their order, and the most of an account.
-ghost use Rattle.std.specs.Prelude.{◌≡◌, ◌↔◌, ◌≤◌, ℕ, List, All, IsTrue};
+ghost use Rattle.std.specs.Prelude.{◌↔◌, ◌≤◌, ℕ, List, All, IsTrue};
 ghost use Rattle.queue_rows.specs.Grants.{IsGrantRow};
 ghost use Rattle.queue_rows.specs.Totals.{total_in};
 
@@ -8,8 +8,7 @@ use crate::texts::{is_batch, is_owner};
 use crate::totals::are_within;
 use queue_types::event::GrantRow;
 use queue_types::limits::{MOST_GRANTED_PAGES, MOST_ROW_PAGES};
-use std::cmp::Ordering;
-use std::collections::HashMap;
+use std::collections::BTreeMap;
 
 /// By batch, then by account.
 impl Keyed for GrantRow {
@@ -18,11 +17,8 @@ impl Keyed for GrantRow {
     ghost before = { grant_before };
 
     fn is_before(&self, other: &GrantRow) -> bool {
-        match self.batch.as_str().cmp(other.batch.as_str()) {
-            Ordering::Less => true,
-            Ordering::Equal => self.account.as_str() < other.account.as_str(),
-            Ordering::Greater => false,
-        }
+        (self.batch.as_str(), self.account.as_str())
+            < (other.batch.as_str(), other.account.as_str())
     }
 }
 
@@ -41,7 +37,7 @@ pub fn grants_are_sound(grants: &[GrantRow]) -> bool
 }
 
 /// No account was granted more than 1,000,000,000 pages.
-pub fn grants_are_within(granted: &HashMap<&str, u128>) -> bool
+pub fn grants_are_within(granted: &BTreeMap<&str, u128>) -> bool
     ensures { IsTrue result ↔ ((a : List ℕ) → total_in granted.now a ≤ 1000000000) }
 {
     are_within(granted, u128::from(MOST_GRANTED_PAGES))

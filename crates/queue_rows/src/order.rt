@@ -16,10 +16,5 @@ pub trait Keyed {
 pub fn are_in_order<R: Keyed>(rows: &[R]) -> bool
     ensures { IsTrue result ↔ AreInOrder R.before rows.now }
 {
-    for i in 1..rows.len() {
-        if !rows[i - 1].is_before(&rows[i]) {
-            return false;
-        }
-    }
-    true
+    rows.is_sorted_by(|a, b| a.is_before(b))
 }

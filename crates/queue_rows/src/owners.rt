@@ -9,7 +9,7 @@ use crate::totals::{are_within, total_of};
 use queue_types::job::Job;
 use queue_types::limits::MOST_LIVE_JOBS;
 use std::alloc::{AllocError, Global};
-use std::collections::HashMap;
+use std::collections::BTreeMap;
 
 /// No owner has more than 100 jobs in the states 3 to 6.
 pub fn live_jobs_fit(alloc: Global, jobs: &[Job]) -> Result<bool, AllocError>
@@ -26,7 +26,7 @@ fn is_idle(job: &Job) -> bool
 }
 
 /// The owner was granted pages, or the job is idle.
-fn is_covered(granted: &HashMap<&str, u128>, job: &Job) -> bool
+fn is_covered(granted: &BTreeMap<&str, u128>, job: &Job) -> bool
     ensures { IsTrue result ↔ (total_in granted.now job.now.owner ≡ 0 → IsIdle job.now) }
 {
     if total_of(granted, job.owner.as_str()) > 0 {
@@ -36,7 +36,7 @@ fn is_covered(granted: &HashMap<&str, u128>, job: &Job) -> bool
 }
 
 /// Each job whose owner was granted nothing never began, has no count, and is on hold or ended.
-pub fn others_are_idle(jobs: &[Job], granted: &HashMap<&str, u128>) -> bool
+pub fn others_are_idle(jobs: &[Job], granted: &BTreeMap<&str, u128>) -> bool
     ensures { IsTrue result ↔ All (λ j. total_in granted.now j.owner ≡ 0 → IsIdle j) jobs.now }
 {
     jobs.iter().all(|job| is_covered(granted, job))

@@ -1,6 +1,7 @@
 //! The rows of kept reports: each one's own limits, their order, their jobs, and the jobs' counts.
 ghost use Rattle.std.specs.Prelude.{◌≡◌, ◌↔◌, ℕ, All, IsTrue, IfOk, unwrap_or, nat_eq};
 ghost use Rattle.std.specs.HashMap.{get};
+ghost use Rattle.std.specs.HashSet.{contains};
 ghost use Rattle.queue_rows.specs.Jobs.{has_number};
 ghost use Rattle.queue_rows.specs.Reports.{IsReportRow, greatest};
 
@@ -9,7 +10,7 @@ use queue_types::event::KeptReport;
 use queue_types::job::Job;
 use queue_types::limits::{LAST_REPORT_NUMBER, MOST_PRINTED_PAGES};
 use std::alloc::{AllocError, Global};
-use std::collections::HashMap;
+use std::collections::{HashMap, HashSet};
 
 fn is_report(kept: &KeptReport) -> bool
     ensures { IsTrue result ↔ IsReportRow kept.now }
@@ -33,17 +34,17 @@ impl Keyed for KeptReport {
 
     fn is_before(&self, other: &KeptReport) -> bool {
         let (a, b) = (self.report, other.report);
-        a.job < b.job || (a.job == b.job && a.seq < b.seq)
+        (a.job, a.seq) < (b.job, b.seq)
     }
 }
 
 /// The numbers of the jobs.
-fn job_numbers(alloc: Global, jobs: &[Job]) -> Result<HashMap<u32, u32>, AllocError>
-    ensures { IfOk result (λ m. (n : ℕ) → unwrap_or (get nat_eq m n) 0 ≡ has_number n jobs.now) }
+fn job_numbers(alloc: Global, jobs: &[Job]) -> Result<HashSet<u32>, AllocError>
+    ensures { IfOk result (λ s. (n : ℕ) → contains nat_eq s n ≡ has_number n jobs.now) }
 {
-    let mut numbers = HashMap::new(alloc);
+    let mut numbers = HashSet::new(alloc);
     for job in jobs {
-        numbers.insert(job.number, 1)?;
+        numbers.insert(job.number)?;
     }
     Ok(numbers)
 }
@@ -54,10 +55,14 @@ pub fn reports_have_jobs(
     reports: &[KeptReport],
     jobs: &[Job],
 ) -> Result<bool, AllocError>
-    ensures { IfOk result (λ b. IsTrue b ↔ All (λ k. has_number k.report.job jobs.now ≡ 1) reports.now) }
+    ensures { IfOk result (λ b. IsTrue b ↔ All (λ k. IsTrue (has_number k.report.job jobs.now)) reports.now) }
 {
     let numbers = job_numbers(alloc, jobs)?;
-    Ok(reports.iter().all(|kept| numbers.get(&kept.report.job).copied().unwrap_or(0) == 1))
+    Ok(
+        reports
+            .iter()
+            .all(|kept| numbers.contains(&kept.report.job)),
+    )
 }
 
 /// The greatest count that was reported of each job.

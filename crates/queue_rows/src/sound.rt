@@ -20,7 +20,7 @@ use queue_types::event::{GrantRow, KeptReport};
 use queue_types::job::Job;
 use queue_types::limits::LAST_JOB_NUMBER;
 use std::alloc::{AllocError, Global};
-use std::collections::HashMap;
+use std::collections::BTreeMap;
 
 /// The jobs with their documents and pieces.
 fn have_sound_jobs(jobs: &[Job], documents: &[DocumentRow], pieces: &[PieceRow], next: u32) -> bool
@@ -49,7 +49,7 @@ fn have_sound_grants(
     alloc: Global,
     grants: &[GrantRow],
     accounts: &[AccountRow],
-    granted: &HashMap<&str, u128>,
+    granted: &BTreeMap<&str, u128>,
 ) -> Result<bool, AllocError>
     requires { AreGranted granted.now grants.now }
     ensures { IfOk result (λ b. IsTrue b ↔ HaveSoundGrants grants.now accounts.now) }
@@ -95,7 +95,7 @@ fn have_sound_owners(
     alloc: Global,
     jobs: &[Job],
     accounts: &[AccountRow],
-    granted: &HashMap<&str, u128>,
+    granted: &BTreeMap<&str, u128>,
 ) -> Result<bool, AllocError>
     ensures { IfOk result (λ b. (gs : List GrantRow) → AreGranted granted.now gs → IsTrue b ↔ HaveSoundOwners jobs.now gs accounts.now) }
 {

@@ -1,13 +1,15 @@
-//! Sums for each name.
+//! Sums for each name, in a tree: users pick the names of owners, and could pick names that collide in a hash
+//! table.
 ghost use Rattle.std.specs.Prelude.{◌≡◌, ◌≤◌, ◌<◌, ◌+◌, ◌^◌, ◌↔◌, ℕ, List, IfOk, OnOk, IsTrue, bytes_eq, if◌then◌else◌};
 ghost use Rattle.std.specs.Fn.{FnReturnsAt};
 ghost use Rattle.queue_rows.specs.Totals.{TellsAmounts, total, total_in};
 
 use std::alloc::{AllocError, Global};
-use std::collections::HashMap;
+use std::collections::BTreeMap;
 
 /// Adds the amount to the sum of the name.
-fn add<'a>(sums: &mut HashMap<&'a str, u128>, name: &'a str, amount: u64) -> Result<(), AllocError>
+#[tactic(auto, unfolding(crate::specs::Totals::total_in))]
+fn add<'a>(sums: &mut BTreeMap<&'a str, u128>, name: &'a str, amount: u64) -> Result<(), AllocError>
     requires { total_in sums.old name.now + 2 ^ 64 ≤ 2 ^ 128 }
     ensures fits { amount < 2 ^ 64 }
     ensures added { OnOk result ((q : List ℕ) → total_in sums.new q ≡ total_in sums.old q + (if bytes_eq q name.now then amount else 0)) }
@@ -21,11 +23,11 @@ pub fn totals<'a, T, F: Fn(&'a T) -> (&'a str, u64)>(
     alloc: Global,
     rows: &'a [T],
     amount_of: F,
-) -> Result<HashMap<&'a str, u128>, AllocError>
+) -> Result<BTreeMap<&'a str, u128>, AllocError>
     requires { F.IsAlwaysCallable amount_of }
     ensures { IfOk result (λ m. (name : T → List ℕ) (amount : T → ℕ) → TellsAmounts (FnReturnsAt F.Fn amount_of) name amount → (q : List ℕ) → total_in m q ≡ total name amount q rows.now) }
 {
-    let mut sums = HashMap::new(alloc);
+    let mut sums = BTreeMap::new(alloc);
     for row in rows {
         let (name, amount) = amount_of(row);
         add(&mut sums, name, amount)?;
@@ -34,14 +36,15 @@ pub fn totals<'a, T, F: Fn(&'a T) -> (&'a str, u64)>(
 }
 
 /// The sum of a name.
-pub fn total_of(sums: &HashMap<&str, u128>, name: &str) -> u128
+#[tactic(auto, unfolding(crate::specs::Totals::total_in))]
+pub fn total_of(sums: &BTreeMap<&str, u128>, name: &str) -> u128
     ensures { result ≡ total_in sums.now name.now }
 {
     sums.get(name).copied().unwrap_or(0)
 }
 
 /// No name has more than the most.
-pub fn are_within(sums: &HashMap<&str, u128>, most: u128) -> bool
+pub fn are_within(sums: &BTreeMap<&str, u128>, most: u128) -> bool
     ensures { IsTrue result ↔ ((q : List ℕ) → total_in sums.now q ≤ most) }
 {
     sums.values().all(|sum| *sum <= most)

@@ -1,7 +1,6 @@
 use Rattle.std.proofs.Common.{arith}
 use Rattle.std.proofs.lemmas.Grind.{common_steps}
-use Rattle.std.proofs.lemmas.List.Sums.{fold_more}
 use Rattle.queue_rows.proofs.reports.job_numbers.Goals as goal
 
 pub loop-job-preserved : goal.loop-job-preserved
-loop-job-preserved c = λ n. grind (arith, common_steps, fold_more, c.loop-job.invariant n)
+loop-job-preserved c = λ n. grind (arith, common_steps, c.loop-job.invariant n)

@@ -1,10 +1,11 @@
 use Rattle.std.proofs.Common.{refl, arith, ap, ◌∙◌}
 use Rattle.std.proofs.lemmas.List.{take_all}
-use Rattle.queue_rows.specs.Totals.{total}
+use Rattle.queue_rows.specs.Totals.{total, total_in}
 use Rattle.queue_rows.proofs.AmountLemmas.{total_more}
 use Rattle.queue_rows.proofs.totals.totals.Goals as goal
 
 pub loop-row-init : goal.loop-row-init
+unfolding total_in
 loop-row-init g c = record { sums = λ name amount told q. grind arith; small = λ q. grind arith }
 
 pub add-requires : goal.add-requires
