@@ -3,12 +3,13 @@ use Rattle.std.proofs.Common.{◌≡◌, inl, inr, ℕ, ℤ, pos, ◌+ℤ◌, �
 use Rattle.std.specs.FinMap.{get}
 use Rattle.std.specs.List.{AllByRecursion as Each}
 use Rattle.std.proofs.lemmas.Bool.{cases_Bool, eqb-true}
+use Rattle.std.proofs.lemmas.List.{length-map}
 use Rattle.queue_types.specs.Event.{Call, ask, get_printer_attributes, grant}
 use Rattle.queue_types.specs.declared.event.GrantRow.{GrantRow}
 use Rattle.queue_types.specs.declared.job.Job.{Job}
 use Rattle.queue_core.specs.Limits.{IsAmount, IsGrant, IsKnown, IsSoundJob}
-use Rattle.queue_core.specs.Sound.{IsKept, IsSound, printed, reserved}
-use Rattle.queue_core.specs.World.{World, granted, jobs_for, known_grant, numbered, queue_counts, rows}
+use Rattle.queue_core.specs.Sound.{IsKept, IsSound, Rise, printed, reserved}
+use Rattle.queue_core.specs.World.{Entry, World, granted, jobs_for, known_grant, numbered, queue_counts, rows}
 use Rattle.queue_core.proofs.Fair.{fair_of}
 use Rattle.queue_rows.proofs.Filled.{sound_sized}
 use Rattle.queue_rows.specs.Jobs.{IsJobRow}
@@ -24,6 +25,13 @@ use Rattle.queue_scenes.proofs.Numbers.{AreRising}
 use Rattle.queue_scenes.proofs.Picked.{none_numbered}
 
 -- ---- numbers of jobs
+
+risen : (first : ℕ) (es : List Entry) (next : ℕ) → Rise first es next → length es + first ≤ next
+risen first [] next rise = omega (arith, rise)
+risen first (e ∷ es) next rise = omega (arith, rise.0, risen (e.row.number + 1) es next rise.1)
+
+pub jobs_are_few : (w : World) → IsSound w → length (rows w) < 2 ^ 31
+jobs_are_few w sound = omega (arith, length-map w.jobs (λ (e : Entry). e.row), risen 1 w.jobs w.next sound.numbers, sound.next)
 
 pub queued_fit : (w : World) → IsSound w → (queue_counts (rows w)).queued < 2 ^ 31
 queued_fit w sound = (fair_of w (ask [] get_printer_attributes) sound).queued

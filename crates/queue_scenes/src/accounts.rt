@@ -12,7 +12,6 @@ ghost use Rattle.queue_scenes.specs.Accounts.{FitAccount};
 use queue_tables::account_pages::{AccountPages, find_account};
 use queue_tables::fault::Fault;
 use queue_types::event::FreeRow;
-use queue_types::limits::MOST_GRANTED_PAGES;
 use queue_types::text::Text;
 use sqlite::{Alter, Connection};
 use std::alloc::Global;
@@ -32,16 +31,13 @@ pub(crate) fn free_in(pages: AccountPages) -> Result<i64, Fault>
     Ok(pages.free)
 }
 
-/// The pages granted to an account in all. They are damaged where they are not 0 to 1,000,000,000.
+/// The pages granted to an account in all: 0 to 1,000,000,000.
 pub(crate) fn granted_in(pages: AccountPages) -> Result<u32, Fault>
     ensures most { IfOk result (λ n. n ≤ 1000000000) }
     ensures sum { IfOk result (λ n. pos n ≡ pages.free +ℤ pos (pages.reserved + pages.printed)) }
     ensures damaged { IfErr result (λ _. ¬ FitAccount pages) }
 {
     let granted = pages.granted()?;
-    if granted > u64::from(MOST_GRANTED_PAGES) {
-        return Err(Fault::Damaged);
-    }
     Ok(granted as u32)
 }
 

@@ -3,9 +3,10 @@ ghost use Rattle.std.specs.Prelude.{◌≡◌, ◌<◌, ◌^◌, ◌≢◌, ℕ,
 ghost use Rattle.sqlite.specs.Held.{state};
 ghost use Rattle.sqlite.specs.State.{HasCleanDisk};
 ghost use Rattle.sqlite.specs.Values.{bound};
+ghost use Rattle.queue_core.specs.Sound.{IsSound};
 ghost use Rattle.queue_core.specs.World.{World, live_jobs, queue_counts, rows};
 ghost use Rattle.queue_types.specs.declared.job.Job.{Job as JobValue};
-ghost use Rattle.queue_scenes.specs.Counts.{ShowsMany};
+ghost use Rattle.queue_scenes.specs.Counts.{ShowsCount};
 ghost use Rattle.queue_tables.specs.Leaving.{LeavesTables};
 ghost use Rattle.queue_tables.specs.Content.{Content, HoldNoQueue, Holds, content_of};
 ghost use Rattle.queue_tables.specs.Queries.{IsQueryText};
@@ -17,7 +18,7 @@ use queue_types::limits::LAST_JOB_NUMBER;
 use sqlite::types::ValueRef;
 use sqlite::{Alter, Connection, params};
 
-/// How many rows a SELECT shows.
+/// The number that a SELECT of one row and one column shows.
 fn count<S: Alter>(
     conn: &mut Connection<S>,
     sql: &str,
@@ -26,23 +27,27 @@ fn count<S: Alter>(
     requires query { IsQueryText sql.now }
     ensures leaves { LeavesTables (state S.Store conn.old) (state S.Store conn.new) }
     ensures live { HasCleanDisk (state S.Store conn.new) → OnOk result (IsTrue (state S.Store conn.new).is_open) }
-    ensures found { HasCleanDisk (state S.Store conn.new) → IfOk result (λ n. (c : Content) (m : ℕ) → Holds c (state S.Store conn.old) → ShowsMany sql.now (bound params.now) (state S.Store conn.old) m → n ≡ m) }
+    ensures found { HasCleanDisk (state S.Store conn.new) → IfOk result (λ n. (c : Content) (m : ℕ) → Holds c (state S.Store conn.old) → ShowsCount sql.now (bound params.now) (state S.Store conn.old) m → n ≡ m) }
     ensures never { IfErr result (λ e. e ≢ Fault.Damaged) }
 {
     let found = select(conn, sql, params)?;
-    Ok(found.len())
+    let [row] = found.as_slice() else {
+        return Err(Fault::Disk);
+    };
+    let count: u64 = row.get(0)?;
+    Ok(count as usize)
 }
 
 /// How many jobs of the caller are in states 3 to 6.
 pub(crate) fn live_count<S: Alter>(conn: &mut Connection<S>, caller: &str) -> Result<usize, Fault>
     ensures leaves { LeavesTables (state S.Store conn.old) (state S.Store conn.new) }
     ensures live { HasCleanDisk (state S.Store conn.new) → OnOk result (IsTrue (state S.Store conn.new).is_open) }
-    ensures found { HasCleanDisk (state S.Store conn.new) → IfOk result (λ n. (w : World) → Holds (content_of w) (state S.Store conn.old) → n ≡ live_jobs caller.now (rows w)) }
+    ensures found { HasCleanDisk (state S.Store conn.new) → IfOk result (λ n. (w : World) → IsSound w → Holds (content_of w) (state S.Store conn.old) → n ≡ live_jobs caller.now (rows w)) }
     ensures never { IfErr result (λ e. e ≢ Fault.Damaged) }
 {
     count(
         conn,
-        "SELECT number FROM jobs WHERE owner = ?1 AND phase < 7",
+        "SELECT count(*) FROM jobs WHERE owner = ?1 AND phase < 7",
         params![caller],
     )
 }
@@ -51,12 +56,12 @@ pub(crate) fn live_count<S: Alter>(conn: &mut Connection<S>, caller: &str) -> Re
 pub(crate) fn own_count<S: Alter>(conn: &mut Connection<S>, owner: &str) -> Result<usize, Fault>
     ensures leaves { LeavesTables (state S.Store conn.old) (state S.Store conn.new) }
     ensures live { HasCleanDisk (state S.Store conn.new) → OnOk result (IsTrue (state S.Store conn.new).is_open) }
-    ensures found { HasCleanDisk (state S.Store conn.new) → IfOk result (λ n. (w : World) → Holds (content_of w) (state S.Store conn.old) → n ≡ count_by (λ (j : JobValue). bytes_eq j.owner owner.now) (rows w)) }
+    ensures found { HasCleanDisk (state S.Store conn.new) → IfOk result (λ n. (w : World) → IsSound w → Holds (content_of w) (state S.Store conn.old) → n ≡ count_by (λ (j : JobValue). bytes_eq j.owner owner.now) (rows w)) }
     ensures never { IfErr result (λ e. e ≢ Fault.Damaged) }
 {
     count(
         conn,
-        "SELECT number FROM jobs WHERE owner = ?1",
+        "SELECT count(*) FROM jobs WHERE owner = ?1",
         params![owner],
     )
 }
@@ -66,13 +71,13 @@ pub(crate) fn all_counts<S: Alter>(conn: &mut Connection<S>) -> Result<QueueCoun
     ensures leaves { LeavesTables (state S.Store conn.old) (state S.Store conn.new) }
     ensures live { HasCleanDisk (state S.Store conn.new) → OnOk result (IsTrue (state S.Store conn.new).is_open) }
     ensures few { IfOk result (λ c. c.queued < 2 ^ 31) }
-    ensures found { HasCleanDisk (state S.Store conn.new) → IfOk result (λ c. (w : World) → Holds (content_of w) (state S.Store conn.old) → c ≡ queue_counts (rows w)) }
+    ensures found { HasCleanDisk (state S.Store conn.new) → IfOk result (λ c. (w : World) → IsSound w → Holds (content_of w) (state S.Store conn.old) → c ≡ queue_counts (rows w)) }
     ensures damaged { HasCleanDisk (state S.Store conn.new) → IfErr result (λ e. e ≡ Fault.Damaged → HoldNoQueue (state S.Store conn.old)) }
     ensures opened { HasCleanDisk (state S.Store conn.new) → IfErr result (λ e. e ≡ Fault.Damaged → IsTrue (state S.Store conn.old).is_open) }
 {
-    let running = count(conn, "SELECT number FROM jobs WHERE phase = 1", &[])?;
-    let stopped = count(conn, "SELECT number FROM jobs WHERE phase = 2", &[])?;
-    let queued = count(conn, "SELECT number FROM jobs WHERE phase < 7", &[])?;
+    let running = count(conn, "SELECT count(*) FROM jobs WHERE phase = 1", &[])?;
+    let stopped = count(conn, "SELECT count(*) FROM jobs WHERE phase = 2", &[])?;
+    let queued = count(conn, "SELECT count(*) FROM jobs WHERE phase < 7", &[])?;
     if queued > LAST_JOB_NUMBER as usize {
         return Err(Fault::Damaged);
     }

@@ -115,7 +115,7 @@ fn picked_of<S: Alter>(
 fn are_many<S: Alter>(conn: &mut Connection<S>, owner: &str, numbers: &[u32]) -> Result<bool, Fault>
     ensures leaves { LeavesTables (state S.Store conn.old) (state S.Store conn.new) }
     ensures live { HasCleanDisk (state S.Store conn.new) → IsTrue (state S.Store conn.old).is_open → OnOk result (IsTrue (state S.Store conn.new).is_open) }
-    ensures many { HasCleanDisk (state S.Store conn.new) → IfOk result (λ b. (w : World) → Holds (content_of w) (state S.Store conn.old)
+    ensures many { HasCleanDisk (state S.Store conn.new) → IfOk result (λ b. (w : World) → IsSound w → Holds (content_of w) (state S.Store conn.old)
         → IsTrue b ↔ (100 < length numbers.now) × (count_by (λ (j : JobValue). bytes_eq j.owner owner.now) (rows w) < length numbers.now)) }
     ensures never { IfErr result (λ e. e ≢ Fault.Damaged) }
 {

@@ -104,7 +104,7 @@ fn live_for_call<S: Alter>(
 ) -> Result<usize, Fault>
     ensures leaves { LeavesTables (state S.Store conn.old) (state S.Store conn.new) }
     ensures live { HasCleanDisk (state S.Store conn.new) → IsTrue (state S.Store conn.old).is_open → OnOk result (IsTrue (state S.Store conn.new).is_open) }
-    ensures found { HasCleanDisk (state S.Store conn.new) → IfOk result (λ n. (w : World) → Holds (content_of w) (state S.Store conn.old) → n ≡ live_for caller.now (call_of call.now) (rows w)) }
+    ensures found { HasCleanDisk (state S.Store conn.new) → IfOk result (λ n. (w : World) → IsSound w → Holds (content_of w) (state S.Store conn.old) → n ≡ live_for caller.now (call_of call.now) (rows w)) }
     ensures never { IfErr result (λ e. e ≢ Fault.Damaged) }
 {
     match call {
@@ -123,7 +123,7 @@ fn counts_for_call<S: Alter>(
     ensures leaves { LeavesTables (state S.Store conn.old) (state S.Store conn.new) }
     ensures live { HasCleanDisk (state S.Store conn.new) → IsTrue (state S.Store conn.old).is_open → OnOk result (IsTrue (state S.Store conn.new).is_open) }
     ensures few { IfOk result (λ c. c.queued < 2 ^ 31) }
-    ensures found { HasCleanDisk (state S.Store conn.new) → IfOk result (λ c. (w : World) → Holds (content_of w) (state S.Store conn.old) → c ≡ counts_for (call_of call.now) (rows w)) }
+    ensures found { HasCleanDisk (state S.Store conn.new) → IfOk result (λ c. (w : World) → IsSound w → Holds (content_of w) (state S.Store conn.old) → c ≡ counts_for (call_of call.now) (rows w)) }
     ensures damaged { HasCleanDisk (state S.Store conn.new) → IfErr result (λ e. e ≡ Fault.Damaged → HoldNoQueue (state S.Store conn.old)) }
     ensures opened { HasCleanDisk (state S.Store conn.new) → IfErr result (λ e. e ≡ Fault.Damaged → IsTrue (state S.Store conn.old).is_open) }
 {
@@ -143,7 +143,7 @@ fn numbers_for_call<S: Alter>(
     ensures live { HasCleanDisk (state S.Store conn.new) → OnOk result (IsTrue (state S.Store conn.new).is_open) }
     ensures few { IfOk result (λ n. n.counts.queued < 2 ^ 31) }
     ensures least { IfOk result (λ n. 1 ≤ n.next) }
-    ensures found { HasCleanDisk (state S.Store conn.new) → IfOk result (λ n. (w : World) → Holds (content_of w) (state S.Store conn.old) → (n.live ≡ live_for caller.now (call_of call.now) (rows w)) × (n.counts ≡ counts_for (call_of call.now) (rows w)) × (n.next ≡ w.next)) }
+    ensures found { HasCleanDisk (state S.Store conn.new) → IfOk result (λ n. (w : World) → IsSound w → Holds (content_of w) (state S.Store conn.old) → (n.live ≡ live_for caller.now (call_of call.now) (rows w)) × (n.counts ≡ counts_for (call_of call.now) (rows w)) × (n.next ≡ w.next)) }
     ensures damaged { HasCleanDisk (state S.Store conn.new) → IfErr result (λ e. e ≡ Fault.Damaged → HoldNoQueue (state S.Store conn.old)) }
     ensures opened { HasCleanDisk (state S.Store conn.new) → IfErr result (λ e. e ≡ Fault.Damaged → IsTrue (state S.Store conn.old).is_open) }
 {

@@ -1,5 +1,5 @@
 -- The sheet of an account, job by job.
-use Rattle.std.proofs.Common.{◌≡◌, ◌≢◌, ℕ, ℤ, pos, ◌+ℤ◌, zero, suc, ◌+◌, ◌<◌, ◌^◌, List, [], ◌∷◌, ◌++◌, map, filter, length, take, get_or, Bool, true, false, if◌then◌else◌, Option, None, Some, IfSome, option_map, refl, sym, ap, subst, ◌∙◌, arith, append-nil}
+use Rattle.std.proofs.Common.{◌≡◌, ◌≢◌, ℕ, ℤ, pos, ◌+ℤ◌, zero, suc, ◌+◌, ◌<◌, ◌≤◌, ◌^◌, List, [], ◌∷◌, ◌++◌, map, filter, length, take, get_or, Bool, true, false, if◌then◌else◌, Option, None, Some, IfSome, option_map, refl, sym, ap, subst, ◌∙◌, arith, append-nil}
 use Rattle.std.specs.FinMap.{get}
 use Rattle.std.proofs.lemmas.Int.{ints}
 use Rattle.std.proofs.lemmas.List.Elements.{filter_more}
@@ -74,9 +74,9 @@ granted_of w a p n sound found is = at (get w.free a) found (sound.balances a)
         let q : p.printed ≡ printed a w = ap (λ (x : AccountPages). x.printed) same in
         omega (arith, ints, is, balance, f, r, q)
 
--- and that sum is within 64 bits
+-- and that sum is within its limit
 pub adds_up : (w : World) (a : List ℕ) (p : AccountPages) → IsSound w → Some p ≡ option_map (pages_of w a) (get w.free a)
-    → ((n : ℕ) → n < 2 ^ 64 → p.reserved + p.printed < 2 ^ 64 → pos n ≢ p.free +ℤ pos (p.reserved + p.printed)) → ⊥
+    → ((n : ℕ) → n ≤ 1000000000 → p.reserved + p.printed < 2 ^ 64 → pos n ≢ p.free +ℤ pos (p.reserved + p.printed)) → ⊥
 adds_up w a p sound found never = at (get w.free a) found (sound.balances a)
   where
     at : (o : Option ℤ) → Some p ≡ option_map (pages_of w a) o → IfSome o (λ free. pos (granted a w) ≡ free +ℤ pos (reserved a w + printed a w)) → ⊥
@@ -86,9 +86,8 @@ adds_up w a p sound found never = at (get w.free a) found (sound.balances a)
         let f : p.free ≡ free = ap (λ (x : AccountPages). x.free) same in
         let r : p.reserved ≡ reserved a w = ap (λ (x : AccountPages). x.reserved) same in
         let q : p.printed ≡ printed a w = ap (λ (x : AccountPages). x.printed) same in
-        let most = sound.most a in
         let fits = sums_fit a w sound in
-        never (granted a w) (omega (arith, most)) (omega (arith, fits.0, fits.1, r, q)) (omega (arith, ints, balance, f, r, q))
+        never (granted a w) (sound.most a) (omega (arith, fits.0, fits.1, r, q)) (omega (arith, ints, balance, f, r, q))
 
 pub no_sheet : (w : World) (a : List ℕ) → None ≡ option_map (pages_of w a) (get w.free a) → None ≡ sheet_of w a
 unfolding sheet_of

@@ -1,5 +1,5 @@
--- A document of a sound queue is short.
-use Rattle.std.proofs.Common.{◌≡◌, inl, inr, ℕ, ◌-◌, ◌<◌, ◌^◌, ◌==◌, nat_lt, suc, zero, List, [], ◌∷◌, Option, Some, None, length, slice_get, subst, arith}
+-- A document of a sound queue has 1 to 16,777,216 bytes.
+use Rattle.std.proofs.Common.{◌≡◌, inl, inr, ℕ, ◌-◌, ◌==◌, nat_lt, suc, zero, List, [], ◌∷◌, Option, Some, None, slice_get, subst}
 use Rattle.std.specs.List.{AllByRecursion as Each}
 use Rattle.std.proofs.lemmas.Bool.{cases_Bool}
 use Rattle.queue_core.specs.Sound.{IsSound, IsSoundDocument, IsSoundEntry}
@@ -26,5 +26,5 @@ sound_document job n (e ∷ es) d all there = elim (cases_Bool (e.row.number == 
   | inr apart ↦ sound_document job n es d all.1 (rw apart at there)
 ]
 
-pub document_fits : (w : World) (job n : ℕ) (d : Document) → IsSound w → document_in w.jobs job n ≡ Some d → length d.bytes < 2 ^ 32
-document_fits w job n d sound there = let it = sound_document job n w.jobs d sound.entries there in omega (arith, it.1)
+pub document_fits : (w : World) (job n : ℕ) (d : Document) → IsSound w → document_in w.jobs job n ≡ Some d → IsSoundDocument d
+document_fits w job n d sound there = sound_document job n w.jobs d sound.entries there

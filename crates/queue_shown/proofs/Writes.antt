@@ -1,23 +1,12 @@
 -- What is written in several calls.
-use Rattle.std.proofs.Common.{◌≡◌, Option, ℕ, ◌+◌, ◌-◌, ◌≤◌, List, [], ◌∷◌, ◌++◌, length, take, drop, sym, ap, ◌∙◌, subst, arith, length-drop, length-append, append-nil, append_assoc, take-append-drop, inr}
+use Rattle.std.proofs.Common.{◌≡◌, Option, ℕ, ◌+◌, ◌≤◌, List, [], ◌∷◌, ◌++◌, length, take, drop, sym, ap, ◌∙◌, arith, length-append, append-nil, append_assoc, take-append-drop, inr}
 use Rattle.std.specs.Io.KnownBytes.{Appends}
-use Rattle.std.proofs.Math.Seq.{take-add}
-use Rattle.std.proofs.lemmas.List.{length-take, take_all}
+use Rattle.std.proofs.lemmas.List.{length-take}
 use Rattle.std.proofs.lemmas.Grind.{flat_map-append}
 use Rattle.std.proofs.KnownBytes.{Appends-trans}
 use Rattle.sqlite.specs.Order.{Row}
 use Rattle.sqlite.specs.State.{State, Begins}
 use Rattle.queue_shown.specs.Sent.{piece_bytes, bytes_of, pieces_select, HasSentFront}
-
-rest_is : (xs : List ℕ) (at : ℕ) → take (length xs - at) (drop at xs) ≡ drop at xs
-rest_is xs at = let e = length-drop at xs in take_all (length xs - at) (drop at xs) (omega (arith, e))
-
-pub rest_length : (xs : List ℕ) (at : ℕ) → length (take (length xs - at) (drop at xs)) ≡ length xs - at
-rest_length xs at = ap length (rest_is xs at) ∙ length-drop at xs
-
--- one more write behind those before it
-pub put_rest : (a b c : Option (List ℕ)) (xs : List ℕ) (at n : ℕ) → Appends a b (take at xs) → Appends b c (take n (take (length xs - at) (drop at xs))) → Appends a c (take (at + n) xs)
-put_rest a b c xs at n p q = subst (λ (l : List ℕ). Appends a c l) (sym (take-add at n xs)) (Appends-trans a b c _ _ p (subst (λ (l : List ℕ). Appends b c (take n l)) (rest_is xs at) q))
 
 -- one more piece
 pub one_more : (rows : List Row) (row : Row) → bytes_of (rows ++ row ∷ []) ≡ bytes_of rows ++ piece_bytes row

@@ -1,9 +1,9 @@
 //! The head of a document: its format and its length.
-ghost use Rattle.std.specs.Prelude.{◌≡◌, ◌≢◌, ◌<◌, ◌^◌, length, IfOk, IfErr, OnOk, IsTrue, option_map};
+ghost use Rattle.std.specs.Prelude.{◌≡◌, ◌≢◌, ◌≤◌, IfSome, IfOk, IfErr, OnOk, IsTrue, option_map};
 ghost use Rattle.sqlite.specs.Held.{state};
 ghost use Rattle.sqlite.specs.State.{HasCleanDisk};
 ghost use Rattle.queue_core.specs.Shown.{document_at, head_of};
-ghost use Rattle.queue_core.specs.Sound.{IsSound};
+ghost use Rattle.queue_core.specs.Sound.{IsSound, IsSoundDocument};
 ghost use Rattle.queue_core.specs.World.{World, rows, job_at};
 ghost use Rattle.queue_types.specs.declared.document.Document.{Document};
 ghost use Rattle.queue_types.specs.declared.job.Job.{Job as JobValue};
@@ -19,6 +19,7 @@ use queue_tables::read::{flag, format, phase, value};
 use queue_tables::select::select;
 use queue_types::document::DocumentHead;
 use queue_types::job::Phase;
+use queue_types::limits::MOST_DOCUMENT_OCTETS;
 use sqlite::{Alter, Connection, Row, params};
 
 /// Whether the device may fetch the documents of a job in that phase.
@@ -65,14 +66,17 @@ fn may_fetch<S: Alter>(conn: &mut Connection<S>, job: u32) -> Result<bool, Fault
     }
 }
 
-/// The head of a document of those columns. Damaged is told only where they are of no document shorter than 2^32
-/// bytes.
+/// The head of a document of those columns. Damaged is told only where they are of no document of 1 to 16,777,216 bytes.
 fn read_head(row: &Row) -> Result<DocumentHead, Fault>
     ensures head { IfOk result (λ h. (d : Document) → row.now ≡ head_values d → h ≡ head_of d) }
-    ensures damaged { IfErr result (λ e. e ≡ Fault.Damaged → (d : Document) → length d.bytes < 2 ^ 32 → row.now ≢ head_values d) }
+    ensures within { IfOk result (λ h. (1 ≤ h.octets) × (h.octets ≤ 16777216)) }
+    ensures damaged { IfErr result (λ e. e ≡ Fault.Damaged → (d : Document) → IsSoundDocument d → row.now ≢ head_values d) }
 {
     let format = format(row, 0)?;
     let octets = value(row, 1)?;
+    if octets < 1 || octets > u64::from(MOST_DOCUMENT_OCTETS) {
+        return Err(Fault::Damaged);
+    }
     Ok(DocumentHead { format, octets })
 }
 
@@ -87,6 +91,7 @@ fn find_head<S: Alter>(
     ensures live { HasCleanDisk (state S.Store conn.new) → OnOk result (IsTrue (state S.Store conn.new).is_open) }
     ensures damaged { HasCleanDisk (state S.Store conn.new) → IfErr result (λ e. e ≡ Fault.Damaged → HoldNoQueue (state S.Store conn.old)) }
     ensures found { HasCleanDisk (state S.Store conn.new) → IfOk result (λ h. (w : World) → AreDistinct w.jobs → Holds (content_of w) (state S.Store conn.old) → h ≡ option_map head_of (document_in w.jobs job n)) }
+    ensures within { IfOk result (λ h. IfSome h (λ it. (1 ≤ it.octets) × (it.octets ≤ 16777216))) }
 {
     let found = select(
         conn,
@@ -102,7 +107,7 @@ fn find_head<S: Alter>(
     }
 }
 
-/// The format and the length of document n, counted from 1, of a job in state 3, 5 or 6. It writes nothing:
+/// The format and the length of document n, counted from 1, of a job in state 3, 5 or 6: 1 to 16,777,216 bytes. It writes nothing:
 /// the tables stay as they were, where the connection is still open. Within a transaction it answers Disk. Damaged
 /// is told only where the tables hold no sound queue.
 pub fn document_head<S: Alter>(
@@ -114,6 +119,7 @@ pub fn document_head<S: Alter>(
     ensures live { HasCleanDisk (state S.Store conn.new) → OnOk result (IsTrue (state S.Store conn.new).is_open) }
     ensures damaged { HasCleanDisk (state S.Store conn.new) → IfErr result (λ e. e ≡ Fault.Damaged → HoldNoQueue (state S.Store conn.old)) }
     ensures head { HasCleanDisk (state S.Store conn.new) → IfOk result (λ h. (w : World) → IsSound w → Holds (content_of w) (state S.Store conn.old) → h ≡ option_map head_of (document_at w job n)) }
+    ensures within { IfOk result (λ h. IfSome h (λ it. (1 ≤ it.octets) × (it.octets ≤ 16777216))) }
     ensures opened { HasCleanDisk (state S.Store conn.new) → IfErr result (λ e. e ≡ Fault.Damaged → IsTrue (state S.Store conn.old).is_open) }
 {
     let is_shown = may_fetch(conn, job)?;

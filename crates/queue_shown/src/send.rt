@@ -1,6 +1,6 @@
 //! A document, written a piece at a time while its rows borrow the connection.
 ghost use Rattle.std.specs.Prelude.{◌≡◌, ◌+◌, ◌<◌, ◌≤◌, ◌^◌, ℕ, [], ◌∷◌, Some, length, take, IfOk, IfErr, OnOk, OnErr, IsTrue};
-ghost use Rattle.std.specs.Io.KnownBytes.{Appends, Keeps};
+ghost use Rattle.std.specs.Io.KnownBytes.{Appends};
 ghost use Rattle.sqlite.specs.Given.{HasGiven, IsPlain};
 ghost use Rattle.sqlite.specs.Held.{state};
 ghost use Rattle.sqlite.specs.Listing.{understood};
@@ -17,11 +17,11 @@ ghost use Rattle.queue_tables.specs.Content.{HoldNoQueue, Holds, content_of};
 ghost use Rattle.queue_tables.specs.Leaving.{LeavesTables};
 ghost use Rattle.queue_tables.specs.Values.{number};
 
-use queue_core::{BookFault, SendCause, SendFault};
+use queue_core::{BookFault, SendCause, SendFault, put_whole};
 use queue_tables::fault::Fault;
 use sqlite::types::ValueRef;
 use sqlite::{Alter, Connection, Error, Row, Rows, params};
-use std::io::{ErrorKind, Write};
+use std::io::Write;
 
 /// Why the pieces were not written to the last.
 #[derive(Clone, Copy)]
@@ -52,29 +52,6 @@ fn cause_of(stop: Stop) -> SendCause
     }
 }
 
-/// How often in a row a write that is interrupted is tried, before it has failed.
-const MOST_TRIES: u32 = 4_294_967_295;
-
-/// Writes once, and answers how many bytes were taken. A write that is interrupted is tried again.
-fn put_once<W: Write>(out: &mut W, bytes: &[u8]) -> Result<usize, Stop>
-    ensures within { IfOk result (λ n. n ≤ length bytes.now) }
-    ensures ok { IfOk result (λ n. Appends (W.contents out.old) (W.contents out.new) (take n bytes.now)) }
-    ensures writer { IfErr result (λ stop. stop ≡ Stop.Write) }
-    ensures err { OnErr result (Keeps (W.contents out.old) (W.contents out.new)) }
-{
-    'tries: for _ in 0..MOST_TRIES {
-        match out.write(bytes) {
-            Ok(n) => return Ok(n),
-            Err(error) => {
-                if error.kind() != ErrorKind::Interrupted {
-                    return Err(Stop::Write);
-                }
-            }
-        }
-    }
-    Err(Stop::Write)
-}
-
 /// Writes all the bytes, by as many writes as it takes. After a fault, which is the writer's, a front of them was written.
 fn put<W: Write>(out: &mut W, bytes: &[u8], written: &mut u64) -> Result<(), Stop>
     requires { written.old + length bytes.now < 2 ^ 64 }
@@ -82,16 +59,16 @@ fn put<W: Write>(out: &mut W, bytes: &[u8], written: &mut u64) -> Result<(), Sto
     ensures writer { IfErr result (λ stop. stop ≡ Stop.Write) }
     ensures err { OnErr result ((n : ℕ) × (n ≤ length bytes.now) × Appends (W.contents out.old) (W.contents out.new) (take n bytes.now) × (written.new ≡ written.old + n)) }
 {
-    let mut at = 0;
-    'write: while at < bytes.len() {
-        let n = put_once(out, &bytes[at..])?;
-        if n == 0 {
-            return Err(Stop::Write);
+    match put_whole(out, bytes) {
+        Ok(()) => {
+            *written += bytes.len() as u64;
+            Ok(())
         }
-        at += n;
-        *written += n as u64;
+        Err(front) => {
+            *written += front.written as u64;
+            Err(Stop::Write)
+        }
     }
-    Ok(())
 }
 
 /// Writes the bytes of a row. Damaged is told only where it shows none.

@@ -1,8 +1,9 @@
 //! What the office is told of an account.
-ghost use Rattle.std.specs.Prelude.{◌≡◌, ◌≢◌, List, [], ◌∷◌, ◌++◌, Some, IfOk, IfErr, OnOk, IsTrue, filter, if◌then◌else◌, map};
+ghost use Rattle.std.specs.Prelude.{◌≡◌, ◌≢◌, ◌≤◌, List, [], ◌∷◌, ◌++◌, Some, All, IfSome, IfOk, IfErr, OnOk, IsTrue, filter, if◌then◌else◌, map};
 ghost use Rattle.sqlite.specs.Held.{state};
 ghost use Rattle.sqlite.specs.State.{HasCleanDisk};
 ghost use Rattle.queue_types.specs.Job.{owed};
+ghost use Rattle.queue_core.specs.Limits.{IsSoundJob};
 ghost use Rattle.queue_core.specs.Shown.{sheet_jobs, sheet_of};
 ghost use Rattle.queue_core.specs.Sound.{IsSound};
 ghost use Rattle.queue_core.specs.World.{World, job_at, rows};
@@ -12,6 +13,7 @@ ghost use Rattle.queue_tables.specs.Content.{AreRowsOf, HoldNoQueue, Holds, cont
 ghost use Rattle.queue_tables.specs.Leaving.{LeavesTables};
 ghost use Rattle.queue_tables.specs.Values.{job_values};
 
+use queue_rows::jobs::is_job_row;
 use queue_rows::laws::numbers_tell_names;
 use queue_tables::account_pages::find_account;
 use queue_tables::document_sizes::sizes_of;
@@ -32,8 +34,8 @@ fn is_told(job: &Job) -> bool
     0 < job.owed() || 0 < job.count
 }
 
-/// Adds the job of that row where it has pages reserved or printed. Damaged is told only where the tables hold no
-/// sound queue with a job of that row.
+/// Adds the job of that row where it has pages reserved or printed. It is damaged where it is not within a job's limits;
+/// Damaged is told only where the tables hold no sound queue with a job of that row.
 fn push_told<S: Alter>(
     alloc: Global,
     conn: &mut Connection<S>,
@@ -44,9 +46,13 @@ fn push_told<S: Alter>(
     ensures live { HasCleanDisk (state S.Store conn.new) → OnOk result (IsTrue (state S.Store conn.old).is_open → IsTrue (state S.Store conn.new).is_open) }
     ensures damaged { HasCleanDisk (state S.Store conn.new) → IfErr result (λ e. e ≡ Fault.Damaged → (w : World) (j : JobValue) → IsSound w → Holds (content_of w) (state S.Store conn.old) → job_at j.number (rows w) ≡ Some j → row.now ≢ job_values j) }
     ensures told { HasCleanDisk (state S.Store conn.new) → OnOk result ((w : World) (j : JobValue) → IsSound w → Holds (content_of w) (state S.Store conn.old) → job_at j.number (rows w) ≡ Some j → row.now ≡ job_values j → jobs.new.items ≡ jobs.old.items ++ (if has_pages j then j ∷ [] else [])) }
+    ensures sound { OnOk result (All IsSoundJob jobs.old.items → All IsSoundJob jobs.new.items) }
 {
     numbers_tell_names();
     let mut job = read_job(alloc, row)?;
+    if !is_job_row(&job) {
+        return Err(Fault::Damaged);
+    }
     if !is_told(&job) {
         return Ok(());
     }
@@ -68,6 +74,7 @@ fn jobs_of<S: Alter>(
     ensures live { HasCleanDisk (state S.Store conn.new) → OnOk result (IsTrue (state S.Store conn.old).is_open → IsTrue (state S.Store conn.new).is_open) }
     ensures damaged { HasCleanDisk (state S.Store conn.new) → IfErr result (λ e. e ≡ Fault.Damaged → (w : World) (js : List JobValue) → IsSound w → Holds (content_of w) (state S.Store conn.old) → AreRowsOf w js → found.now ≢ map job_values js) }
     ensures told { HasCleanDisk (state S.Store conn.new) → IfOk result (λ v. (w : World) (js : List JobValue) → IsSound w → Holds (content_of w) (state S.Store conn.old) → AreRowsOf w js → found.now ≡ map job_values js → v.items ≡ filter has_pages js) }
+    ensures sound { IfOk result (λ v. All IsSoundJob v.items) }
 {
     let mut jobs = Vec::new(alloc);
     for row in found {
@@ -87,6 +94,7 @@ fn told_jobs<S: Alter>(
     ensures live { HasCleanDisk (state S.Store conn.new) → OnOk result (IsTrue (state S.Store conn.new).is_open) }
     ensures damaged { HasCleanDisk (state S.Store conn.new) → IfErr result (λ e. e ≡ Fault.Damaged → HoldNoQueue (state S.Store conn.old)) }
     ensures told { HasCleanDisk (state S.Store conn.new) → IfOk result (λ js. (w : World) → IsSound w → Holds (content_of w) (state S.Store conn.old) → js ≡ sheet_jobs w account.now) }
+    ensures sound { IfOk result (λ js. All IsSoundJob js) }
 {
     let found = select(
         conn,
@@ -99,7 +107,8 @@ fn told_jobs<S: Alter>(
 
 /// What is granted to an account, what of it is free, reserved and printed, and its jobs, where the account is
 /// there. It writes nothing: the tables stay as they were, where the connection is still open. Within a
-/// transaction it answers Disk. Damaged is told only where the tables hold no sound queue.
+/// transaction it answers Disk. What was granted and each of the jobs is within its limits, whatever the tables hold;
+/// Damaged is told only where they hold no sound queue.
 pub fn sheet<S: Alter>(
     alloc: Global,
     conn: &mut Connection<S>,
@@ -109,6 +118,7 @@ pub fn sheet<S: Alter>(
     ensures live { HasCleanDisk (state S.Store conn.new) → OnOk result (IsTrue (state S.Store conn.new).is_open) }
     ensures damaged { HasCleanDisk (state S.Store conn.new) → IfErr result (λ e. e ≡ Fault.Damaged → HoldNoQueue (state S.Store conn.old)) }
     ensures sheet { HasCleanDisk (state S.Store conn.new) → IfOk result (λ s. (w : World) → IsSound w → Holds (content_of w) (state S.Store conn.old) → s ≡ sheet_of w account.now) }
+    ensures within { IfOk result (λ s. IfSome s (λ it. (it.granted ≤ 1000000000) × All IsSoundJob it.jobs)) }
     ensures opened { HasCleanDisk (state S.Store conn.new) → IfErr result (λ e. e ≡ Fault.Damaged → IsTrue (state S.Store conn.old).is_open) }
 {
     let found = find_account(conn, account)?;

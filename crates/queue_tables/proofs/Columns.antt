@@ -1,9 +1,10 @@
 -- A row by its columns.
-use Rattle.std.proofs.Common.{◌≡◌, ◌≢◌, ◌⊎◌, inl, inr, ℕ, pos, ◌<◌, ◌^◌, [], ◌∷◌, length, Option, Some, None, MatchOption, IfSome, Ok, Err, Result, IfErr, refl, arith}
+use Rattle.std.proofs.Common.{◌≡◌, ◌≢◌, ◌⊎◌, inl, inr, ℕ, pos, ◌<◌, ◌^◌, [], ◌∷◌, length, Option, Some, None, MatchOption, IfSome, refl, arith}
 use Rattle.sqlite.specs.declared.types.Value.{Value}
 use Rattle.sqlite.specs.declared.types.Value.TheVariants.{Null, Int}
 use Rattle.sqlite.specs.Order.{Row, column}
 use Rattle.queue_tables.specs.Values.{moment}
+pub use Rattle.std.proofs.lemmas.Result.{IfErr-weaker as map_err}
 
 pub fourteen : (r : Row) → length r ≡ 14 → r ≡ column r 0 ∷ column r 1 ∷ column r 2 ∷ column r 3 ∷ column r 4 ∷ column r 5 ∷ column r 6 ∷ column r 7 ∷ column r 8 ∷ column r 9 ∷ column r 10 ∷ column r 11 ∷ column r 12 ∷ column r 13 ∷ []
 fourteen (a ∷ b ∷ c ∷ d ∷ e ∷ f ∷ g ∷ h ∷ k ∷ l ∷ m ∷ n ∷ o ∷ p ∷ []) len = refl
@@ -35,7 +36,3 @@ optional v (Some n) h = h.1
 pub unread : (v : Value) → ((v ≡ Null) ⊎ ((n : ℕ) × (v ≡ Int (pos n)) × (n < 2 ^ 32)) → ⊥) → (o : Option ℕ) → IfSome o (λ n. n < 2 ^ 32) → v ≢ moment o
 unread v never None small is = never (inl is)
 unread v never (Some n) small is = never (inr (n, is, small))
-
-pub map_err : {T E : Type 0} (r : Result T E) (P Q : E → Type 0) → ((e : E) → P e → Q e) → IfErr r P → IfErr r Q
-map_err (Ok x) P Q then_q p = tt
-map_err (Err e) P Q then_q p = then_q e p

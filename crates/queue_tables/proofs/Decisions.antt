@@ -1,11 +1,11 @@
 -- What the machine's decision on a sound world gives those who write its change: the rows are such that no table refuses them.
-use Rattle.std.proofs.Common.{◌≡◌, ◌≤◌, inl, inr, ℕ, List, [], ◌∷◌, ◌++◌, map, length, fold, get_or, Bool, true, false, ◌==◌, Option, Some, None, IfSome, IsSome, is_some, All, refl, sym, ap, subst, ◌∙◌, arith, cond}
+use Rattle.std.proofs.Common.{◌≡◌, ◌≤◌, ◌<◌, inl, inr, ℕ, List, [], ◌∷◌, ◌++◌, map, length, fold, get_or, Bool, true, false, ◌==◌, Option, Some, None, IfSome, IsSome, is_some, All, refl, sym, ap, subst, ◌∙◌, arith, cond}
 use Rattle.std.specs.FinMap.{FinMap, get, get-insert}
 use Rattle.std.specs.Ordering.{eq_by_cmp}
 use Rattle.std.specs.List.{AllByRecursion as Each}
 use Rattle.std.proofs.lemmas.Bool.{cases_Bool, eqb-true, eq-eqb}
 use Rattle.std.proofs.lemmas.List.{length-append}
-use Rattle.std.proofs.lemmas.List.Elements.{All-from_recursion, recursion_from_All}
+use Rattle.std.proofs.lemmas.List.Elements.{All-from_recursion}
 use Rattle.queue_types.specs.Event.{Change, NewDocument}
 use Rattle.queue_types.specs.declared.document.Document.{Document}
 use Rattle.queue_types.specs.declared.event.GrantRow.{GrantRow}
@@ -19,7 +19,7 @@ use Rattle.queue_core.proofs.Maps.{grant_total, own_grant_key, own_report_key, r
 use Rattle.queue_tables.specs.Forms.{AreFormed, IsFormedJob}
 use Rattle.queue_tables.specs.Steps.{AreDistinct, AreReportsKeyed, CanTake, documents_at, with_frees, with_puts}
 use Rattle.queue_tables.proofs.Documents.{plain_of}
-use Rattle.queue_tables.proofs.Entries.{distinct-fold, distinct_of, each-fold, rows_in}
+use Rattle.queue_tables.proofs.Entries.{distinct-fold, distinct_of, rows_in}
 use Rattle.queue_tables.proofs.Formed.{formed_job}
 
 -- ---- the jobs that are put
@@ -33,14 +33,6 @@ amounts_of_job j sound = record { impressions = sound.impressions; copies = soun
 
 pub jobs_fit : (js : List Job) → All IsSoundJob js → All (λ j. AreAmounts j × IsFormedJob j) js
 jobs_fit js sound = λ k d below. (amounts_of_job (get_or js k d) (sound k d below), formed_job (get_or js k d) (sound k d below))
-
-formed_each : (js : List Job) → Each IsSoundJob js → Each IsFormedJob js
-formed_each [] sound = tt
-formed_each (j ∷ js) sound = (formed_job j sound.0, formed_each js sound.1)
-
--- the jobs of a sound world with those of a sound change are formed
-pub formed_made : (c : Change) (w : World) → IsSound w → IsSoundChange c → AreFormed (fold with_row w.jobs c.jobs)
-formed_made c w sound within = each-fold IsFormedJob c.jobs w.jobs (formed_each c.jobs (recursion_from_All IsSoundJob c.jobs within.jobs)) (formed_entries w.jobs sound.entries)
 
 pub distinct_made : (c : Change) (w : World) → IsSound w → AreDistinct (fold with_row w.jobs c.jobs)
 distinct_made c w sound = distinct-fold c.jobs w.jobs (distinct_of 1 w.jobs w.next sound.numbers)
@@ -87,13 +79,13 @@ last_document [] d sound = sound.0.1
 last_document (x ∷ ds) d sound = last_document ds d sound.1
 
 -- with one more the job's documents are within their limits
-within_limits : (d : NewDocument) (es : List Entry) → IsSome (job_at d.job (rows_in es)) → Each IsSoundEntry (map (add_document d) es) → (documents_at d.job es ≤ 16) × (length d.bytes ≤ 16777216)
+within_limits : (d : NewDocument) (es : List Entry) → IsSome (job_at d.job (rows_in es)) → Each IsSoundEntry (map (add_document d) es) → (documents_at d.job es < 16) × (length d.bytes ≤ 16777216)
 within_limits d [] there sound = absurd cc
 within_limits d (e ∷ es) there sound = elim (cases_Bool (e.row.number == d.job)) [
   | inl same ↦
       let it : IsSoundEntry (record e { documents = e.documents ++ plain_of d ∷ [] }) = rw same at sound.0 in
       let long = length-append e.documents (plain_of d ∷ []) in
-      let few : length e.documents ≤ 16 = omega (arith, it.documents, it.row.documents, long) in
+      let few : length e.documents < 16 = omega (arith, it.documents, it.row.documents, long) in
       rw same (few, last_document e.documents (plain_of d) it.sizes)
   | inr apart ↦ rw apart (within_limits d es (rw apart at there) sound.1)
 ]

@@ -1,5 +1,5 @@
 -- How a transaction ends.
-use Rattle.std.proofs.Common.{◌≡◌, ◌⊎◌, inl, inr, sym, ap, subst, ◌∙◌, List, ℕ, Option, None, Some, IsTrue, true, Bool, Result, Ok, Err, OnOk, IfOk, IfErr, IsErrAnd, ◌≤◌, arith}
+use Rattle.std.proofs.Common.{◌≡◌, ◌⊎◌, inl, inr, sym, ap, subst, ◌∙◌, List, ℕ, Option, None, Some, IsTrue, true, false, Bool, not, Result, Ok, Err, OnOk, IfErr, IsErrAnd, ◌≤◌, arith}
 use Rattle.sqlite.specs.declared.error.Error.{Error}
 use Rattle.sqlite.specs.Effect.{Database, IsDatabase}
 use Rattle.sqlite.specs.State.{State, HasCleanDisk, IsRolledBack, Shows, IsUnchanged, FailsToQuery, FailsToShow, IsNotRun}
@@ -13,6 +13,7 @@ use Rattle.sqlite.specs.Held.{Held, state}
 use Rattle.queue_tables.specs.Content.{Content, Holds, HasContent}
 use Rattle.queue_tables.specs.declared.fault.Fault.{Fault}
 use Rattle.queue_tables.specs.declared.fault.Fault.TheVariants.{Damaged}
+pub use Rattle.std.proofs.lemmas.Result.{IfOk-weaker as if_ok}
 
 -- a database with the same schema and rows has the same content
 pub same_holds : (c : Content) (old new : State) → Holds c old → new.now ≡ old.now → IsTrue new.is_open → Holds c new
@@ -41,10 +42,6 @@ clean_before old new le clean = omega (arith, le, clean)
 pub unchanged_holds : (c : Content) (old new : State) → Holds c old → IsUnchanged old new → Holds c new
 unchanged_holds c old new h same = same_holds c old new h same.0.now_is same.0.is_open
 
-pub if_ok : {A E : Type 0} (r : Result A E) (P Q : A → Type 0) → ((x : A) → P x → Q x) → IfOk r P → IfOk r Q
-if_ok (Ok x) P Q then_q p = then_q x p
-if_ok (Err e) P Q then_q p = tt
-
 -- a query that fails changes nothing, or what was begun is undone
 pub query_fails : (sql : List ℕ) (params : Row) (old new : State) (e : Error) → FailsToQuery sql params old new e → IsUnchanged old new ⊎ IsRolledBack old new
 unfolding FailsToQuery IsNotRun
@@ -56,6 +53,11 @@ query_fails sql params old new e (inr h) = shown_fails h.0 (timed params h.0.for
     shown_fails c given None it = inl it.3
     shown_fails c given (Some what) (inl refused) = inl refused.1
     shown_fails c given (Some what) (inr failed) = inr failed.3
+
+-- outside of a transaction nothing is said of the inside
+pub not_inside : {P : Type 0} (outside inside : Bool) → outside ≡ not inside → IsTrue outside → IsTrue inside → P
+not_inside outside true is out within = absurd (let both = sym out ∙ is in cc)
+not_inside outside false is out within = absurd (let both = within in cc)
 
 -- an error that a `?` hands on
 pub err_after : {T : Type 0} (r : Result T Fault) (e : Fault) (P : Type 0) → IsErrAnd r (λ f. f ≡ e) → (e ≡ Damaged → P) → IfErr r (λ f. f ≡ Damaged → P)

@@ -44,3 +44,4 @@ pub mod Renewing
 pub mod Spared
 pub mod Decisions
 pub mod Added
+mod Chain

@@ -1,5 +1,5 @@
 -- What single statements make of the rows, and the worlds that the tables show between them. Those need not be sound.
-use Rattle.std.specs.Prelude.{◌≡◌, ◌⊎◌, ℕ, ℤ, ◌+ℤ◌, ◌≤◌, ◌^◌, List, [], ◌∷◌, ◌++◌, Option, Some, None, IfSome, ⊤, Bool, true, false, ◌==◌, ◌&&◌, length, map, filter, fold, if◌then◌else◌}
+use Rattle.std.specs.Prelude.{◌≡◌, ◌⊎◌, ℕ, ℤ, ◌+ℤ◌, ◌≤◌, ◌<◌, ◌^◌, List, [], ◌∷◌, ◌++◌, Option, Some, None, IfSome, ⊤, Bool, true, false, ◌==◌, ◌&&◌, length, map, filter, fold, if◌then◌else◌}
 use Rattle.std.specs.List.{range_with_len, AllByRecursion as Each}
 use Rattle.std.specs.FinMap.{get}
 use Rattle.sqlite.specs.declared.types.Value.{Value}
@@ -157,9 +157,9 @@ abbrev pub documents_at : ℕ → List Entry → ℕ
 documents_at n [] = 0
 documents_at n (e ∷ es) = if e.row.number == n then length e.documents else documents_at n es
 
--- its job is there, with at most sixteen documents, and it is no longer than one may be
+-- its job is there, with fewer than sixteen documents, and it is no longer than one may be
 pub record CanTake (d : NewDocument) (w : World) : Type 0 where
   pub job : Job
   pub there : job_at d.job (rows w) ≡ Some job
-  pub few : documents_at d.job w.jobs ≤ 16
+  pub few : documents_at d.job w.jobs < 16
   pub short : length d.bytes ≤ 16777216

@@ -1,5 +1,5 @@
 //! The pages of an account, as its row has them.
-ghost use Rattle.std.specs.Prelude.{◌≡◌, ◌≢◌, ◌<◌, ◌^◌, ◌+◌, ◌+ℤ◌, pos, ℕ, ℤ, [], ◌∷◌, IfOk, IfErr, OnOk, IsTrue, option_map};
+ghost use Rattle.std.specs.Prelude.{◌≡◌, ◌≢◌, ◌<◌, ◌≤◌, ◌^◌, ◌+◌, ◌+ℤ◌, pos, ℕ, ℤ, [], ◌∷◌, IfOk, IfErr, OnOk, IsTrue, option_map};
 ghost use Rattle.std.specs.FinMap.{get};
 ghost use Rattle.sqlite.specs.Held.{state};
 ghost use Rattle.sqlite.specs.Order.{column};
@@ -13,6 +13,7 @@ ghost use Rattle.queue_tables.specs.Leaving.{LeavesTables};
 use crate::fault::Fault;
 use crate::read::value;
 use crate::select::select;
+use queue_types::limits::MOST_GRANTED_PAGES;
 use sqlite::{Alter, Connection, Row, params};
 
 /// The pages of an account: free ones, which may be below zero, and the sums over its owner's jobs.
@@ -25,17 +26,18 @@ pub struct AccountPages {
 
 impl AccountPages {
     /// The pages that were granted: those that are free, reserved and printed, together. They are damaged where they are
-    /// below zero or past 64 bits.
+    /// not 0 to 1,000,000,000.
     pub fn granted(self) -> Result<u64, Fault>
         ensures sum { IfOk result (λ n. pos n ≡ self.free +ℤ pos (self.reserved + self.printed)) }
-        ensures damaged { IfErr result (λ _. (n : ℕ) → n < 2 ^ 64 → self.reserved + self.printed < 2 ^ 64 → pos n ≢ self.free +ℤ pos (self.reserved + self.printed)) }
+        ensures most { IfOk result (λ n. n ≤ 1000000000) }
+        ensures damaged { IfErr result (λ _. (n : ℕ) → n ≤ 1000000000 → self.reserved + self.printed < 2 ^ 64 → pos n ≢ self.free +ℤ pos (self.reserved + self.printed)) }
     {
         let Some(used) = self.reserved.checked_add(self.printed) else {
             return Err(Fault::Damaged);
         };
         match used.checked_add_signed(self.free) {
-            Some(granted) => Ok(granted),
-            None => Err(Fault::Damaged),
+            Some(granted) if granted <= u64::from(MOST_GRANTED_PAGES) => Ok(granted),
+            _ => Err(Fault::Damaged),
         }
     }
 }

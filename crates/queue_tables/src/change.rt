@@ -10,7 +10,6 @@ ghost use Rattle.queue_core.specs.World.{World, made_on, job_at, rows};
 ghost use Rattle.queue_tables.specs.Content.{Holds, content_of, HoldsWhileOpen};
 ghost use Rattle.queue_tables.specs.Leaving.{StaysInside};
 ghost use Rattle.queue_tables.specs.Steps.{AreDistinct, AreReportsKeyed, with_added, with_kept, with_next, CanTake};
-ghost use Rattle.queue_tables.specs.Forms.{AreFormed};
 ghost use Rattle.queue_tables.specs.Refusing.{DamagedOnlyWhere};
 
 use crate::account_rows::put_frees;
@@ -27,17 +26,16 @@ use std::alloc::Global;
 
 /// Adds the document, where there is one.
 fn put_any_document<S: Alter>(
-    alloc: Global,
     tx: &mut Transaction<'_, S>,
     document: &Option<NewDocument<'_>>,
 ) -> Result<(), Fault>
     ensures same_reference { tx.new.conn.ghost_name ≡ tx.old.conn.ghost_name }
     ensures stays { StaysInside (state S.Store tx.old.conn.now) (state S.Store tx.new.conn.now) result }
-    ensures done { HasCleanDisk (state S.Store tx.new.conn.now) → OnOk result ((w : World) → AreDistinct w.jobs → Holds (content_of w) (state S.Store tx.old.conn.now) → Holds (content_of (with_added (option_map document_of document.now) w)) (state S.Store tx.new.conn.now)) }
-    ensures damaged { DamagedOnlyWhere (state S.Store tx.old.conn.now) (state S.Store tx.new.conn.now) result ((w : World) → AreDistinct w.jobs → AreFormed w.jobs → IfSome (option_map document_of document.now) (λ d. CanTake d w) → ¬ HoldsWhileOpen (content_of w) (state S.Store tx.old.conn.now)) }
+    ensures done { HasCleanDisk (state S.Store tx.new.conn.now) → OnOk result ((w : World) → AreDistinct w.jobs → IfSome (option_map document_of document.now) (λ d. CanTake d w) → Holds (content_of w) (state S.Store tx.old.conn.now) → Holds (content_of (with_added (option_map document_of document.now) w)) (state S.Store tx.new.conn.now)) }
+    ensures damaged { DamagedOnlyWhere (state S.Store tx.old.conn.now) (state S.Store tx.new.conn.now) result ((w : World) → AreDistinct w.jobs → IfSome (option_map document_of document.now) (λ d. CanTake d w) → ¬ HoldsWhileOpen (content_of w) (state S.Store tx.old.conn.now)) }
 {
     match document {
-        Some(d) => put_document(alloc, tx, d),
+        Some(d) => put_document(tx, d),
         None => Ok(()),
     }
 }
@@ -85,7 +83,7 @@ pub(crate) fn write_change<S: Alter>(
     decisions_are_sound();
     put_frees(tx, decision.change.free.as_slice())?;
     put_jobs(alloc, tx, decision.change.jobs.as_slice())?;
-    put_any_document(alloc, tx, &decision.change.document)?;
+    put_any_document(tx, &decision.change.document)?;
     insert_grants(tx, decision.change.grants.as_slice())?;
     put_any_report(tx, &decision.change.report)?;
     put_any_next(tx, decision.change.next)

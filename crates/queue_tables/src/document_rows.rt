@@ -1,20 +1,17 @@
 //! The statements on documents.
-ghost use Rattle.std.specs.Prelude.{◌≡◌, ◌≤◌, ◌+◌, IfOk, OnOk, Some, length, filter, []};
+ghost use Rattle.std.specs.Prelude.{◌≡◌, ◌≤◌, ◌<◌, ◌+◌, IfOk, OnOk, Some, length, filter, []};
 ghost use Rattle.sqlite.specs.State.{HasCleanDisk};
 ghost use Rattle.sqlite.specs.Held.{state};
 ghost use Rattle.queue_types.specs.Event.{document_of};
-ghost use Rattle.queue_core.specs.World.{World, rows, job_at};
-ghost use Rattle.queue_types.specs.declared.job.Job.{Job as JobValue};
+ghost use Rattle.queue_core.specs.World.{World};
 ghost use Rattle.queue_tables.specs.Content.{Content, Holds, content_of, HoldsWhileOpen};
 ghost use Rattle.queue_tables.specs.Leaving.{StaysInside};
 ghost use Rattle.queue_tables.specs.Steps.{AreDistinct, documents_at, with_added, with_document_row, CanTake, are_numbered, is_numbered};
 ghost use Rattle.queue_tables.specs.Values.{document_values};
-ghost use Rattle.queue_tables.specs.Forms.{AreFormed};
 ghost use Rattle.queue_tables.specs.Kept.{HasOne};
 ghost use Rattle.queue_tables.specs.Refusing.{DamagedOnlyWhere};
 
 use crate::fault::Fault;
-use crate::job_rows::find_job;
 use crate::piece_rows::insert_pieces;
 use crate::run::{insert, select_inside};
 use queue_rows::rows::DocumentRow;
@@ -22,7 +19,6 @@ use queue_types::document::Format;
 use queue_types::event::NewDocument;
 use queue_types::limits::{MOST_DOCUMENT_OCTETS, MOST_DOCUMENTS};
 use sqlite::{Alter, Transaction, params};
-use std::alloc::Global;
 
 /// Adds the row of a document.
 fn insert_document<S: Alter>(
@@ -47,26 +43,27 @@ fn insert_document<S: Alter>(
     Ok(())
 }
 
-/// How many documents the job of that number has.
+/// How many documents the job of that number has, where it may have one more. They are damaged where there are as many as a job
+/// may have.
 fn count_documents<S: Alter>(tx: &mut Transaction<'_, S>, job: u32) -> Result<u32, Fault>
     ensures same_reference { tx.new.conn.ghost_name ≡ tx.old.conn.ghost_name }
     ensures stays { StaysInside (state S.Store tx.old.conn.now) (state S.Store tx.new.conn.now) result }
-    ensures few { IfOk result (λ n. n ≤ 16) }
+    ensures few { IfOk result (λ n. n < 16) }
     ensures counted { HasCleanDisk (state S.Store tx.new.conn.now) → IfOk result (λ n. (w : World) → AreDistinct w.jobs → Holds (content_of w) (state S.Store tx.old.conn.now) → (n ≡ documents_at job w.jobs) × Holds (content_of w) (state S.Store tx.new.conn.now)) }
-    ensures damaged { DamagedOnlyWhere (state S.Store tx.old.conn.now) (state S.Store tx.new.conn.now) result ((w : World) → AreDistinct w.jobs → documents_at job w.jobs ≤ 16 → ¬ HoldsWhileOpen (content_of w) (state S.Store tx.old.conn.now)) }
+    ensures damaged { DamagedOnlyWhere (state S.Store tx.old.conn.now) (state S.Store tx.new.conn.now) result ((w : World) → AreDistinct w.jobs → documents_at job w.jobs < 16 → ¬ HoldsWhileOpen (content_of w) (state S.Store tx.old.conn.now)) }
 {
     let found = select_inside(
         tx,
         "SELECT octets FROM documents WHERE job = ?1 ORDER BY doc",
         params![job],
     )?;
-    if found.len() > MOST_DOCUMENTS as usize {
+    if found.len() >= MOST_DOCUMENTS as usize {
         return Err(Fault::Damaged);
     }
     Ok(found.len() as u32)
 }
 
-/// Adds a document after those that the job has.
+/// Adds a document after those that its job has, which is there.
 fn add_document<S: Alter>(
     tx: &mut Transaction<'_, S>,
     job: u32,
@@ -76,7 +73,7 @@ fn add_document<S: Alter>(
     requires { length bytes.now ≤ 16777216 }
     ensures same_reference { tx.new.conn.ghost_name ≡ tx.old.conn.ghost_name }
     ensures stays { StaysInside (state S.Store tx.old.conn.now) (state S.Store tx.new.conn.now) result }
-    ensures done { HasCleanDisk (state S.Store tx.new.conn.now) → OnOk result ((w : World) (was : JobValue) → AreDistinct w.jobs → job_at job (rows w) ≡ Some was → Holds (content_of w) (state S.Store tx.old.conn.now) → Holds (content_of (with_added (Some (record { job = job; format = format; bytes = bytes.now })) w)) (state S.Store tx.new.conn.now)) }
+    ensures done { HasCleanDisk (state S.Store tx.new.conn.now) → OnOk result ((w : World) → AreDistinct w.jobs → CanTake (record { job = job; format = format; bytes = bytes.now }) w → Holds (content_of w) (state S.Store tx.old.conn.now) → Holds (content_of (with_added (Some (record { job = job; format = format; bytes = bytes.now })) w)) (state S.Store tx.new.conn.now)) }
     ensures damaged { DamagedOnlyWhere (state S.Store tx.old.conn.now) (state S.Store tx.new.conn.now) result ((w : World) → AreDistinct w.jobs → CanTake (record { job = job; format = format; bytes = bytes.now }) w → ¬ HoldsWhileOpen (content_of w) (state S.Store tx.old.conn.now)) }
 {
     let doc = count_documents(tx, job)? + 1;
@@ -90,22 +87,18 @@ fn add_document<S: Alter>(
     insert_pieces(tx, job, doc, bytes)
 }
 
-/// Adds the document of a change, where its job is there.
+/// Adds the document of a change, whose job is there.
 pub(crate) fn put_document<S: Alter>(
-    alloc: Global,
     tx: &mut Transaction<'_, S>,
     document: &NewDocument<'_>,
 ) -> Result<(), Fault>
     ensures same_reference { tx.new.conn.ghost_name ≡ tx.old.conn.ghost_name }
     ensures stays { StaysInside (state S.Store tx.old.conn.now) (state S.Store tx.new.conn.now) result }
-    ensures done { HasCleanDisk (state S.Store tx.new.conn.now) → OnOk result ((w : World) → AreDistinct w.jobs → Holds (content_of w) (state S.Store tx.old.conn.now) → Holds (content_of (with_added (Some (document_of document.now)) w)) (state S.Store tx.new.conn.now)) }
-    ensures damaged { DamagedOnlyWhere (state S.Store tx.old.conn.now) (state S.Store tx.new.conn.now) result ((w : World) → AreDistinct w.jobs → AreFormed w.jobs → CanTake (document_of document.now) w → ¬ HoldsWhileOpen (content_of w) (state S.Store tx.old.conn.now)) }
+    ensures done { HasCleanDisk (state S.Store tx.new.conn.now) → OnOk result ((w : World) → AreDistinct w.jobs → CanTake (document_of document.now) w → Holds (content_of w) (state S.Store tx.old.conn.now) → Holds (content_of (with_added (Some (document_of document.now)) w)) (state S.Store tx.new.conn.now)) }
+    ensures damaged { DamagedOnlyWhere (state S.Store tx.old.conn.now) (state S.Store tx.new.conn.now) result ((w : World) → AreDistinct w.jobs → CanTake (document_of document.now) w → ¬ HoldsWhileOpen (content_of w) (state S.Store tx.old.conn.now)) }
 {
     if document.bytes.len() > MOST_DOCUMENT_OCTETS as usize {
         return Err(Fault::Damaged);
     }
-    match find_job(alloc, tx, document.job)? {
-        None => Err(Fault::Damaged),
-        Some(_job) => add_document(tx, document.job, document.format, document.bytes),
-    }
+    add_document(tx, document.job, document.format, document.bytes)
 }

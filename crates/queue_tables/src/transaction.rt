@@ -1,5 +1,5 @@
 //! A decision in one transaction.
-ghost use Rattle.std.specs.Prelude.{◌≡◌, OnOk, OnErr, IsTrue, IfErr};
+ghost use Rattle.std.specs.Prelude.{◌≡◌, OnOk, OnErr, IsTrue, IfErr, Err, false};
 ghost use Rattle.sqlite.specs.State.{HasCleanDisk};
 ghost use Rattle.sqlite.specs.Held.{state};
 ghost use Rattle.queue_core.specs.Book.{IsDecisionOn};
@@ -15,10 +15,39 @@ use queue_types::event::Decision;
 use sqlite::{Alter, Connection};
 use std::alloc::Global;
 
+/// The same outside of any transaction.
+fn make_outside<S: Alter>(
+    alloc: Global,
+    conn: &mut Connection<S>,
+    decision: &Decision<'_>,
+) -> Result<(), Fault>
+    requires outside { (state S.Store conn.old).in_transaction ≡ false }
+    requires none_open { IsTrue (state S.Store conn.old).is_open → (state S.Store conn.old).now ≡ (state S.Store conn.old).committed }
+    ensures clean { HasCleanDisk (state S.Store conn.new) → HasCleanDisk (state S.Store conn.old) }
+    ensures opened { HasCleanDisk (state S.Store conn.new) → IsTrue (state S.Store conn.new).is_open → IsTrue (state S.Store conn.old).is_open }
+    ensures live { HasCleanDisk (state S.Store conn.new) → OnOk result (IsTrue (state S.Store conn.new).is_open) }
+    ensures made { HasCleanDisk (state S.Store conn.new) → OnOk result ((w : World) → IsSound w → IsDecisionOn w (decision_of decision.now) → Holds (content_of w) (state S.Store conn.old) → Holds (content_of (made_on (change_of decision.now.change) w)) (state S.Store conn.new)) }
+    ensures refused { HasCleanDisk (state S.Store conn.new) → OnErr result ((w : World) → Holds (content_of w) (state S.Store conn.old) → IsTrue (state S.Store conn.new).is_open → Holds (content_of w) (state S.Store conn.new)) }
+    ensures settled { HasCleanDisk (state S.Store conn.new) → OnOk result ((state S.Store conn.new).now ≡ (state S.Store conn.new).committed) }
+    ensures still_settled { HasCleanDisk (state S.Store conn.new) → OnErr result ((state S.Store conn.old).now ≡ (state S.Store conn.old).committed → IsTrue (state S.Store conn.new).is_open → (state S.Store conn.new).now ≡ (state S.Store conn.new).committed) }
+    ensures crash { HasCleanDisk (state S.Store conn.new) → (w : World) → IsSound w → IsDecisionOn w (decision_of decision.now) → Holds (content_of w) (state S.Store conn.old) → (state S.Store conn.old).now ≡ (state S.Store conn.old).committed → LeavesOneOf w (made_on (change_of decision.now.change) w) (state S.Store conn.new) }
+    ensures damaged { HasCleanDisk (state S.Store conn.new) → IfErr result (λ e. e ≡ Fault.Damaged → (w : World) → IsSound w → IsDecisionOn w (decision_of decision.now) → ¬ HoldsWhileOpen (content_of w) (state S.Store conn.old)) }
+    ensures ended { (state S.Store conn.new).in_transaction ≡ false }
+{
+    decisions_are_sound();
+    let mut tx = conn.transaction();
+    write_change(alloc, &mut tx, decision)?;
+    match tx.commit() {
+        Ok(()) => Ok(()),
+        Err(e) => Err(fault_of_write(e)),
+    }
+}
+
 /// Makes a decision of the machine on the world that the tables stand for: all of its change in one
 /// transaction, which is committed where the answer is Ok. After a refusal they stand for the same world as
 /// before, where the connection is still open. Whatever the answer, a crash then leaves the queue from before
-/// it or the one after it. Damaged is told only where the tables stand for no such world.
+/// it or the one after it. Damaged is told only where the tables stand for no such world. Inside a transaction of
+/// the caller's it answers Disk and does nothing; else none is under way behind it.
 pub fn make<S: Alter>(
     alloc: Global,
     conn: &mut Connection<S>,
@@ -32,16 +61,12 @@ pub fn make<S: Alter>(
     ensures settled { HasCleanDisk (state S.Store conn.new) → OnOk result ((state S.Store conn.new).now ≡ (state S.Store conn.new).committed) }
     ensures still_settled { HasCleanDisk (state S.Store conn.new) → OnErr result ((state S.Store conn.old).now ≡ (state S.Store conn.old).committed → IsTrue (state S.Store conn.new).is_open → (state S.Store conn.new).now ≡ (state S.Store conn.new).committed) }
     ensures crash { HasCleanDisk (state S.Store conn.new) → (w : World) → IsSound w → IsDecisionOn w (decision_of decision.now) → Holds (content_of w) (state S.Store conn.old) → (state S.Store conn.old).now ≡ (state S.Store conn.old).committed → LeavesOneOf w (made_on (change_of decision.now.change) w) (state S.Store conn.new) }
+    ensures inside { IsTrue (state S.Store conn.old).in_transaction → (result ≡ Err Fault.Disk) × (conn.new ≡ conn.old) }
+    ensures ended { (state S.Store conn.old).in_transaction ≡ false → (state S.Store conn.new).in_transaction ≡ false }
     ensures damaged { HasCleanDisk (state S.Store conn.new) → IfErr result (λ e. e ≡ Fault.Damaged → (w : World) → IsSound w → IsDecisionOn w (decision_of decision.now) → ¬ HoldsWhileOpen (content_of w) (state S.Store conn.old)) }
 {
-    decisions_are_sound();
     if !conn.is_autocommit() {
         return Err(Fault::Disk);
     }
-    let mut tx = conn.transaction();
-    write_change(alloc, &mut tx, decision)?;
-    match tx.commit() {
-        Ok(()) => Ok(()),
-        Err(e) => Err(fault_of_write(e)),
-    }
+    make_outside(alloc, conn, decision)
 }

@@ -18,12 +18,12 @@ returns-clause-leaves g c =
     c.live_for_call.ensures.leaves c.counts_for_call.ensures.leaves c.next_number.ensures.leaves
 
 pub returns-clause-found : goal.returns-clause-found
-returns-clause-found g c clean w has =
+returns-clause-found g c clean w sound has =
     let second = c.next_number.ensures.leaves.clean clean in
     let first = c.counts_for_call.ensures.leaves.clean second in
     let has_first = holds_after c.live_for_call.ensures.leaves first (content_of w) has (c.in_ok-live.ensures.live first has.live) in
     let has_second = holds_after c.counts_for_call.ensures.leaves second (content_of w) has_first (c.in_ok-counts.ensures.live second has_first.live) in
-    (c.in_ok-live.ensures.found first w has, c.in_ok-counts.ensures.found second w has_first, c.in_ok-next.ensures.found clean w has_second)
+    (c.in_ok-live.ensures.found first w sound has, c.in_ok-counts.ensures.found second w sound has_first, c.in_ok-next.ensures.found clean w has_second)
 
 pub returns-in_err-counts-clause-damaged : goal.returns-in_err-counts-clause-damaged
 returns-in_err-counts-clause-damaged g c clean = err_after _ c.in_err-counts.field-0.0 _ c.from_residual-in_err-counts.ensures.1 (λ d w sound has.

@@ -50,7 +50,7 @@ returns-clause-found g c clean w sound has settings_are =
     let first = c.free_rows.ensures.leaves.clean second in
     let has_first = holds_after c.numbers_for_call.ensures.leaves first (content_of w) has (c.in_ok-numbers.ensures.live first) in
     let has_second = holds_after c.free_rows.ensures.leaves second (content_of w) has_first (c.in_ok-free.ensures.live second) in
-    let numbers = c.in_ok-numbers.ensures.found first w has in
+    let numbers = c.in_ok-numbers.ensures.found first w sound has in
     same_scene _ (cut w (ask c.args.caller.now (call_of c.args.call.now)))
     (c.in_ok-settings.ensures.same ∙ settings_are)
     (c.in_ok-jobs.ensures.found clean w sound has_second)

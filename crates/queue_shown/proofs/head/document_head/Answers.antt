@@ -1,8 +1,7 @@
 use Rattle.std.proofs.Common.{◌∙◌, sym, ap, rules, option_map}
+use Rattle.std.proofs.lemmas.Result.{IfErr-weaker, IfOk-weaker}
 use Rattle.queue_core.specs.Shown.{head_of}
 use Rattle.queue_tables.specs.Content.{content_of}
-use Rattle.queue_tables.proofs.Columns.{map_err}
-use Rattle.queue_tables.proofs.Ending.{if_ok}
 use Rattle.sqlite.specs.Held.{state}
 use Rattle.queue_tables.proofs.Entries.{distinct_of}
 use Rattle.queue_shown.proofs.Fetching.{not_shown, is_shown}
@@ -19,7 +18,7 @@ returns-clause-leaves g c = leaves_then (state g.S.Store c.args.conn.now) (state
 
 pub returns-clause-head : goal.returns-clause-head
 returns-clause-head g c clean =
-    if_ok c.find_head.result _ _ (λ h found w sound has.
+    IfOk-weaker c.find_head.result _ _ (λ h found w sound has.
     let early = c.find_head.ensures.leaves.clean clean in
     let distinct = distinct_of 1 w.jobs w.next sound.numbers in
     let told = c.in_ok-is_shown.ensures.told early w distinct has in
@@ -28,11 +27,11 @@ returns-clause-head g c clean =
 
 pub returns-clause-damaged : goal.returns-clause-damaged
 returns-clause-damaged g c clean =
-    map_err c.find_head.result _ _ (λ e told damaged w sound has.
+    IfErr-weaker c.find_head.result _ _ (λ e told damaged w sound has.
     let early = c.find_head.ensures.leaves.clean clean in
     told damaged w sound (holds_after c.may_fetch.ensures.leaves early (content_of w) has (c.in_ok-is_shown.ensures.live early))) (c.find_head.ensures.damaged clean)
 
 pub returns-clause-opened : goal.returns-clause-opened
 returns-clause-opened g c clean =
     let early = c.find_head.ensures.leaves.clean clean in
-    map_err c.find_head.result _ _ (λ e none d. c.may_fetch.ensures.leaves.opened early (c.in_ok-is_shown.ensures.live early)) (c.find_head.ensures.damaged clean)
+    IfErr-weaker c.find_head.result _ _ (λ e none d. c.may_fetch.ensures.leaves.opened early (c.in_ok-is_shown.ensures.live early)) (c.find_head.ensures.damaged clean)

@@ -22,6 +22,7 @@ loop-row-preserved g c =
           let here = nth_job js c.loop-row.row-index c.row-item.result low (c.row-item.is ∙ ap (λ (rs : List Row). get_or rs c.loop-row.row-index c.row-item.result) is) in
           let mid = holds_after before.leaves early (content_of w) has (before.live early has.live) in
           told_more js c.loop-row.row-index here.0 _ _ low here.2 (before.told early w js sound has all is) (step.told clean w here.0 sound mid (nth_in w js c.loop-row.row-index here.0 low here.2 all) here.1);
+      sound = step.sound before.sound;
     }
 
 pub returns-in_err-push_told-clause-leaves : goal.returns-in_err-push_told-clause-leaves

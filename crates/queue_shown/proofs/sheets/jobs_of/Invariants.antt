@@ -1,6 +1,7 @@
-use Rattle.std.proofs.Common.{◌≡◌, List, take, filter, map, IsTrue}
+use Rattle.std.proofs.Common.{◌≡◌, List, All, take, filter, map, IsTrue}
 use Rattle.sqlite.specs.Held.{state}
 use Rattle.sqlite.specs.State.{HasCleanDisk}
+use Rattle.queue_core.specs.Limits.{IsSoundJob}
 use Rattle.queue_core.specs.Sound.{IsSound}
 use Rattle.queue_core.specs.World.{World}
 use Rattle.queue_types.specs.declared.job.Job.{Job}
@@ -18,4 +19,5 @@ invariant-loop-row g l =
       leaves : LeavesTables old now;
       live : HasCleanDisk now → IsTrue old.is_open → IsTrue now.is_open;
       told : HasCleanDisk now → (w : World) (js : List Job) → IsSound w → Holds (content_of w) old → AreRowsOf w js → l.found ≡ map job_values js → l.jobs.items ≡ filter has_pages (take l.row-index js);
+      sound : All IsSoundJob l.jobs.items;
     }

@@ -1,6 +1,8 @@
-use Rattle.std.proofs.Common.{◌∙◌, filter, bytes_eq}
+use Rattle.std.proofs.Common.{◌∙◌, List, All, filter, bytes_eq, subst, sym}
 use Rattle.sqlite.specs.Held.{state}
+use Rattle.queue_core.specs.Limits.{IsSoundJob}
 use Rattle.queue_core.specs.World.{rows}
+use Rattle.queue_types.specs.declared.job.Job.{Job}
 use Rattle.queue_tables.specs.Content.{content_of}
 use Rattle.queue_tables.proofs.Ending.{err_after}
 use Rattle.queue_tables.proofs.Entries.{distinct_of}
@@ -26,6 +28,9 @@ returns-clause-told g c clean w sound has =
     let mid = holds_after c.select.ensures.leaves early (content_of w) has (c.in_ok-found.ensures.live early) in
     let js = filter (λ j. bytes_eq j.owner a) (rows w) in
     c.from_items.ensures ∙ c.in_ok-jobs.ensures.told clean w js sound mid (owned_in w a (distinct_of 1 w.jobs w.next sound.numbers)) (c.as_slice.ensures.value ∙ shown) ∙ told_owned a (rows w)
+
+pub returns-clause-sound : goal.returns-clause-sound
+returns-clause-sound g c = subst (λ (js : List Job). All IsSoundJob js) (sym c.from_items.ensures) c.in_ok-jobs.ensures.sound
 
 pub returns-in_err-jobs-clause-damaged : goal.returns-in_err-jobs-clause-damaged
 returns-in_err-jobs-clause-damaged g c clean =

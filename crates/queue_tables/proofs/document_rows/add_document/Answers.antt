@@ -11,12 +11,12 @@ use Rattle.queue_tables.proofs.document_rows.add_document.Goals as goal
 
 pub returns-clause-done : goal.returns-clause-done
 returns-clause-done g c clean =
-    on_ok c.insert_pieces.result _ _ (λ puts w was distinct there has.
+    on_ok c.insert_pieces.result _ _ (λ puts w distinct takes has.
     let early = c.insert_pieces.ensures.stays.clean clean in
     let it = c.in_ok-doc.ensures.counted (c.insert_document.ensures.stays.clean early) w distinct has in
     let d : NewDocument = record { job = c.args.job; format = c.args.format; bytes = c.args.bytes.now } in
     let row = c.in_ok-insert_document.ensures.done early (content_of w) it.1 in
-    added_holds d w was (state g.S.Store c.insert_pieces.new.tx.conn.now) distinct there (rw (it.0) at (puts _ row))) (c.insert_pieces.ensures.done clean)
+    added_holds d w takes.job (state g.S.Store c.insert_pieces.new.tx.conn.now) distinct takes.there (rw (it.0) at (puts _ row))) (c.insert_pieces.ensures.done clean)
 
 pub returns-in_err-insert_document-clause-damaged : goal.returns-in_err-insert_document-clause-damaged
 returns-in_err-insert_document-clause-damaged g c clean inside = err_after _ c.in_err-insert_document.field-0.0 _ c.from_residual-in_err-insert_document.ensures.1 (λ e w distinct takes held.

@@ -1,4 +1,4 @@
-use Rattle.std.proofs.Common.{◌<◌, arith, length, rules}
+use Rattle.std.proofs.Common.{◌≤◌, arith, length, rules}
 use Rattle.sqlite.specs.Held.{state}
 use Rattle.queue_tables.proofs.Documents.{counts_documents}
 use Rattle.queue_tables.proofs.Leaving.{shown_live}
@@ -17,5 +17,5 @@ returns-then-len-clause-damaged g c clean inside d w distinct few held =
     let shown = rw (c.params-to_sql.ensures) at (c.in_ok-found.ensures.shown clean) in
     let live = (c.in_ok-found.ensures.stays.kept clean inside).was_open (shown_live _ _ old new c.in_ok-found.found.items shown) in
     let it = counts_documents old new c.args.job c.in_ok-found.found.items w distinct (held live) shown in
-    let long : 16 < length c.in_ok-found.found.items = search rules in
+    let long : 16 ≤ length c.in_ok-found.found.items = search rules in
     omega (arith, it.0, few, long)
