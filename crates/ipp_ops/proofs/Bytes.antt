@@ -47,10 +47,6 @@ malformed_refused h b out e found unspelled spelled = bare_refusal 0x0400 (malfo
 pub request_fails : (h : Head) (b : List ℕ) (m : Message) (out : List ℕ) → h ≡ head_of b → IsRequestIn b m → Spells (bare h 0x0505) out → IsBareAnswer b out
 request_fails h b m out e is spelled = bare_fault (record { supported = is.supported; spelled = bare_of h b 0x0505 out e spelled })
 
-pub bare_replies : (b out : List ℕ) → IsBareAnswer b out → IsReplyTo (head_of b) out
-bare_replies b out (bare_refusal code on spelled) = record { code = code; groups = []; spelled = spelled }
-bare_replies b out (bare_fault fails) = record { code = 0x0505; groups = []; spelled = fails.spelled }
-
 -- ---- a fault or none
 
 where_fault : (P Q : Type 0) (b : Bool) → b ≡ true → P → MatchBool b P Q

@@ -6,3 +6,5 @@ pub mod Laws
 pub mod Told
 pub mod Numbered
 pub mod Crashes
+pub mod Validations
+pub mod Callers

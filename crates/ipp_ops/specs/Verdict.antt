@@ -8,12 +8,11 @@ use Rattle.ipp_reply.specs.declared.operation.Operation.{Operation}
 use Rattle.ipp_reply.specs.declared.operation.Operation.TheVariants.{PrintJob, ValidateJob, CreateJob, SendDocument, CancelJob, GetJobAttributes, GetJobs, GetPrinterAttributes, HoldJob, ReleaseJob, CancelMyJobs}
 use Rattle.ipp_request.specs.declared.attribute.OperationAttribute.TheVariants.{RequestedAttributes, WhichJobs, Limit, LastDocument, JobIds}
 use Rattle.ipp_ops.specs.declared.check.Check.{Check}
-use Rattle.ipp_reply.specs.Wanted.{Rows, of_job, of_printer, rows_of}
+use Rattle.ipp_reply.specs.Wanted.{Rows, of_job, of_printer, no_rows, rows_of, words_of}
 use Rattle.ipp_ops.specs.declared.verdict.Ask.{Ask}
 use Rattle.ipp_ops.specs.declared.verdict.Ask.TheVariants.{Call as CallAsk, Refused}
 use Rattle.queue_types.specs.declared.event.WhichJobs.{WhichJobs as Which}
 use Rattle.queue_types.specs.declared.event.WhichJobs.TheVariants as which
-use Rattle.ipp_reply.specs.Wanted.{words_of}
 use Rattle.ipp_request.specs.Values.{number_of}
 use Rattle.ipp_request.specs.Request.{Request, known, bytes_of, is_true, target_job, caller}
 use Rattle.ipp_reply.specs.Unsupported.{Unsupported, nothing, unsupported_of, CanList}
@@ -22,8 +21,9 @@ use Rattle.ipp_ops.specs.Checks.{refusal, code}
 use Rattle.ipp_request.specs.Reading.{request_in}
 use Rattle.ipp_request.specs.Unsupported.{is_refused_for}
 use Rattle.ipp_ops.specs.NewJob.{new_job, format}
-use Rattle.ipp_reply.specs.JobReply.{selected}
-use Rattle.ipp_reply.specs.PrinterReply.{selected as selected_of_printer}
+use Rattle.ipp_reply.specs.JobReply.{selected, table as job_table}
+use Rattle.ipp_reply.specs.PrinterReply.{selected as selected_of_printer, table as printer_table}
+use Rattle.ipp_reply.specs.declared.job_reply.JobAttribute.TheVariants as attribute
 
 -- a status code that refuses; or a call by a caller, with the rows that its reply is to have; and what is
 -- unsupported
@@ -67,31 +67,34 @@ call_by CancelMyJobs r = cancel_my_jobs (job_ids r)
 abbrev pub call : Request → Call
 call r = call_by r.operation r
 
--- the names that stand for an absent requested-attributes
-abbrev pub usual : Operation → List (List ℕ)
-usual PrintJob = codes "job-uri" ∷ codes "job-id" ∷ codes "job-state" ∷ codes "job-state-reasons" ∷ []
-usual ValidateJob = []
-usual CreateJob = codes "job-uri" ∷ codes "job-id" ∷ codes "job-state" ∷ codes "job-state-reasons" ∷ []
-usual SendDocument = codes "job-uri" ∷ codes "job-id" ∷ codes "job-state" ∷ codes "job-state-reasons" ∷ []
-usual CancelJob = []
-usual GetJobAttributes = codes "all" ∷ []
-usual GetJobs = codes "job-uri" ∷ codes "job-id" ∷ []
-usual GetPrinterAttributes = codes "all" ∷ []
-usual HoldJob = []
-usual ReleaseJob = []
-usual CancelMyJobs = []
+-- ---- the rows of the reply
 
--- the names by which attributes of the reply are requested
-abbrev pub requested : Request → List (List ℕ)
-requested r = option_map_or (λ a. words_of a.values) (known r RequestedAttributes) (usual r.operation)
-
--- the rows of the table of which the operation shows something
+-- the rows of the table of which the operation shows something, by the names that select them
 abbrev pub rows_by : Operation → List (List ℕ) → Rows
 rows_by GetPrinterAttributes words = of_printer (selected_of_printer words)
 rows_by _ words = of_job (selected words)
 
+-- what is told of the job that a request has made, or to which it adds a document (RFC 8011, section 4.2.1.2)
+abbrev pub job_status : Rows
+job_status = of_job (attribute.JobUri ∷ attribute.JobId ∷ attribute.JobState ∷ attribute.JobStateReasons ∷ [])
+
+-- the rows that stand for an absent requested-attributes
+abbrev pub usual : Operation → Rows
+usual PrintJob = job_status
+usual ValidateJob = no_rows
+usual CreateJob = job_status
+usual SendDocument = job_status
+usual CancelJob = no_rows
+usual GetJobAttributes = of_job job_table
+usual GetJobs = of_job (attribute.JobUri ∷ attribute.JobId ∷ [])
+usual GetPrinterAttributes = of_printer printer_table
+usual HoldJob = no_rows
+usual ReleaseJob = no_rows
+usual CancelMyJobs = no_rows
+
+-- those that the values of requested-attributes select, or else the usual ones
 abbrev pub rows : Request → Rows
-rows r = rows_by r.operation (requested r)
+rows r = option_map_or (λ a. rows_by r.operation (words_of a.values)) (known r RequestedAttributes) (usual r.operation)
 
 -- ---- the verdict
 

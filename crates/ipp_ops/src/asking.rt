@@ -1,16 +1,14 @@
 //! What a request asks: the first check that refuses it, or else its call.
-ghost use Rattle.std.specs.Prelude.{◌≡◌, ◌≤◌, [], IfOk, length, map, unwrap_or};
+ghost use Rattle.std.specs.Prelude.{◌≡◌, ◌≤◌, IfOk, length, map, unwrap_or};
 ghost use Rattle.ipp_wire.specs.Message.{IsMessage};
 ghost use Rattle.ipp_wire.specs.Viewed.{message_of, values_of};
 ghost use Rattle.queue_types.specs.Event.{call_of};
 ghost use Rattle.ipp_reply.specs.Unsupported.{nothing, unsupported_of};
-ghost use Rattle.ipp_reply.specs.JobReply.{selected};
-ghost use Rattle.ipp_reply.specs.Wanted.{of_job, rows_of};
-ghost use Rattle.ipp_reply.specs.declared.operation.Operation.TheVariants as variant;
+ghost use Rattle.ipp_reply.specs.Wanted.{rows_of, words_of};
 ghost use Rattle.ipp_request.specs.Request.{caller, request_of};
 ghost use Rattle.ipp_request.specs.Unsupported.{unsupported};
 ghost use Rattle.ipp_request.specs.Values.{number_of};
-ghost use Rattle.ipp_ops.specs.Verdict.{call, job_ids, passed, refused, requested, rows, usual, verdict, ask_content, listed_verdict, checked_verdict, which_jobs, IsWithinLimits, ListsAttributes};
+ghost use Rattle.ipp_ops.specs.Verdict.{call, job_ids, passed, refused, rows, rows_by, usual, verdict, ask_content, listed_verdict, checked_verdict, which_jobs, IsWithinLimits, ListsAttributes};
 ghost use Rattle.ipp_ops.specs.Checks.{refusal};
 ghost use Rattle.ipp_request.specs.Unsupported.{is_refused_for};
 
@@ -18,8 +16,8 @@ use crate::check::first_refusal;
 use crate::new_job::{format, new_job};
 use crate::verdict::Ask;
 use ipp_reply::{
-    Operation, Unsupported, Wanted, select_of_printer, select_requested, select_usual,
-    select_whole_printer,
+    JOB_TABLE, JobAttribute, Operation, PRINTER_TABLE, Unsupported, Wanted, select_of_printer,
+    select_requested,
 };
 use ipp_request::attribute::OperationAttribute;
 use ipp_request::request::Request;
@@ -46,9 +44,9 @@ fn which_jobs(request: Request<'_, '_>) -> WhichJobs
 fn numbers(alloc: Global, values: &[ValueView<'_>]) -> Result<Vec<u32>, AllocError>
     ensures { IfOk result (λ n. n.items ≡ map (λ v. unwrap_or (number_of v.bytes) 0) (values_of values.now)) }
 {
-    let mut numbers = Vec::new(alloc);
+    let mut numbers = Vec::with_capacity(alloc, values.len())?;
     for value in values {
-        numbers.push(number(value.bytes).unwrap_or(0))?;
+        numbers.push_reserved(number(value.bytes).unwrap_or(0));
     }
     Ok(numbers)
 }
@@ -104,50 +102,54 @@ fn call<'a>(alloc: Global, request: Request<'_, 'a>) -> Result<Call<'a>, AllocEr
     })
 }
 
-/// The names that stand for an absent requested-attributes.
-fn usual(operation: Operation) -> &'static [&'static str]
-    ensures { map (λ w. w.now) result.now ≡ usual operation }
+/// The rows that stand for an absent requested-attributes.
+fn usual(alloc: Global, operation: Operation) -> Result<Wanted, AllocError>
+    ensures { IfOk result (λ w. rows_of w ≡ usual operation) }
 {
     match operation {
-        Operation::PrintJob | Operation::CreateJob | Operation::SendDocument => {
-            &["job-uri", "job-id", "job-state", "job-state-reasons"]
-        }
+        Operation::PrintJob | Operation::CreateJob | Operation::SendDocument => Wanted::of_job(
+            alloc,
+            &[
+                JobAttribute::JobUri,
+                JobAttribute::JobId,
+                JobAttribute::JobState,
+                JobAttribute::JobStateReasons,
+            ],
+        ),
         Operation::ValidateJob
         | Operation::CancelJob
         | Operation::HoldJob
         | Operation::ReleaseJob
-        | Operation::CancelMyJobs => &[],
-        Operation::GetJobAttributes | Operation::GetPrinterAttributes => &["all"],
-        Operation::GetJobs => &["job-uri", "job-id"],
+        | Operation::CancelMyJobs => Ok(Wanted::nothing(alloc)),
+        Operation::GetJobAttributes => Wanted::of_job(alloc, &JOB_TABLE),
+        Operation::GetJobs => {
+            Wanted::of_job(alloc, &[JobAttribute::JobUri, JobAttribute::JobId])
+        }
+        Operation::GetPrinterAttributes => Wanted::of_printer(alloc, &PRINTER_TABLE),
     }
 }
 
-fn printer_rows(alloc: Global, request: Request<'_, '_>) -> Result<Wanted, AllocError>
-    requires { request.operation ≡ variant.GetPrinterAttributes }
-    ensures { IfOk result (λ w. rows_of w ≡ rows (request_of request.entry)) }
+/// The rows that the names in these values select, of the table of which the operation shows something.
+fn selected(
+    alloc: Global,
+    operation: Operation,
+    values: &[ValueView<'_>],
+) -> Result<Wanted, AllocError>
+    ensures { IfOk result (λ w. rows_of w ≡ rows_by operation (words_of (values_of values.now))) }
 {
-    match request.known(OperationAttribute::RequestedAttributes) {
-        Some(a) => select_of_printer(alloc, a.values.as_slice()),
-        None => select_whole_printer(alloc),
+    match operation {
+        Operation::GetPrinterAttributes => select_of_printer(alloc, values),
+        _ => select_requested(alloc, values),
     }
 }
 
-fn job_rows(alloc: Global, request: Request<'_, '_>) -> Result<Wanted, AllocError>
-    ensures { IfOk result (λ w. rows_of w ≡ of_job (selected (requested (request_of request.entry)))) }
-{
-    match request.known(OperationAttribute::RequestedAttributes) {
-        Some(a) => select_requested(alloc, a.values.as_slice()),
-        None => select_usual(alloc, usual(request.operation)),
-    }
-}
-
-/// The rows that the reply is to have.
+/// The rows that the reply is to have: those that requested-attributes selects, or else the usual ones.
 fn rows(alloc: Global, request: Request<'_, '_>) -> Result<Wanted, AllocError>
     ensures { IfOk result (λ w. rows_of w ≡ rows (request_of request.entry)) }
 {
-    match request.operation {
-        Operation::GetPrinterAttributes => printer_rows(alloc, request),
-        _ => job_rows(alloc, request),
+    match request.known(OperationAttribute::RequestedAttributes) {
+        Some(a) => selected(alloc, request.operation, a.values.as_slice()),
+        None => usual(alloc, request.operation),
     }
 }
 

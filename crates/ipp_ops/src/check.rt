@@ -48,10 +48,9 @@ const CHECKS: [Check; 7] = [
 fn is_misformed(request: Request<'_, '_>, attribute: OperationAttribute) -> bool
     ensures { result ≡ fails (λ row vs. not (values.are_formed row vs)) (request_of request.entry) attribute }
 {
-    match request.known(attribute) {
-        Some(a) => !are_formed(&attribute.row(), a.values.as_slice()),
-        None => false,
-    }
+    request
+        .known(attribute)
+        .is_some_and(|a| !are_formed(&attribute.row(), a.values.as_slice()))
 }
 
 fn some_misformed(request: Request<'_, '_>) -> bool
@@ -64,10 +63,9 @@ fn some_misformed(request: Request<'_, '_>) -> bool
 fn is_overlong(request: Request<'_, '_>, attribute: OperationAttribute) -> bool
     ensures { result ≡ fails values.any_long (request_of request.entry) attribute }
 {
-    match request.known(attribute) {
-        Some(a) => any_long(&attribute.row(), a.values.as_slice()),
-        None => false,
-    }
+    request
+        .known(attribute)
+        .is_some_and(|a| any_long(&attribute.row(), a.values.as_slice()))
 }
 
 fn some_overlong(request: Request<'_, '_>) -> bool

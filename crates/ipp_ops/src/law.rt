@@ -1,5 +1,5 @@
 //! What the definitions of requests promise: laws over them, in functions that do nothing.
-ghost use Rattle.std.specs.Prelude.{◌≡◌, ◌≤◌, ◌∷◌, [], ℕ, List, All, Contains, IfSome, Option, Some, true, length, find, bytes_eq};
+ghost use Rattle.std.specs.Prelude.{◌≡◌, ◌≤◌, ◌<◌, ◌∷◌, [], ℕ, List, All, Contains, IfSome, Option, Some, true, length, find, bytes_eq};
 ghost use Rattle.std.specs.Option.{option_and_then};
 ghost use Rattle.queue_types.specs.declared.job.Job.{Job};
 ghost use Rattle.queue_types.specs.Settings.{SettingValues, AreSettings};
@@ -13,7 +13,11 @@ ghost use Rattle.ipp_reply.specs.PrinterReply.{name_of as printer_reply_name, se
 ghost use Rattle.ipp_reply.specs.declared.job_reply.JobAttribute.{JobAttribute};
 ghost use Rattle.ipp_reply.specs.declared.job_reply.JobAttribute.TheVariants.{JobUri};
 ghost use Rattle.ipp_reply.specs.declared.printer_reply.PrinterAttribute.{PrinterAttribute};
-ghost use Rattle.ipp_ops.specs.Answer.{Asks, IsVerdictOn};
+ghost use Rattle.ipp_wire.specs.Message.{Message, Spells};
+ghost use Rattle.ipp_ops.specs.Answer.{Answers, Asks, IsVerdictOn};
+ghost use Rattle.ipp_ops.specs.Caller.{IsCallerOf};
+ghost use Rattle.ipp_ops.specs.Validations.{AreAlike, without_jobs};
+ghost use Rattle.queue_core.specs.World.{World};
 ghost use Rattle.queue_core.specs.Limits.{IsEvent, IsPositive};
 ghost use Rattle.queue_types.specs.Event.{Call, Event, ask, cancel_my_jobs, on_job};
 ghost use Rattle.ipp_request.specs.Attributes.{knows, row, table, template_name, template_table};
@@ -26,6 +30,7 @@ ghost use Rattle.ipp_request.specs.declared.attribute.OperationAttribute.{Operat
 ghost use Rattle.ipp_request.specs.declared.attribute.TemplateAttribute.{TemplateAttribute};
 ghost use Rattle.ipp_ops.specs.declared.check.Check.{Check};
 
+use ipp_request::names_with_languages;
 use ipp_wire::one_spelling;
 
 /// A request asks one thing: no bytes have two verdicts.
@@ -46,6 +51,27 @@ pub fn calls_name_jobs()
     ensures one_job { (b caller : List ℕ) (c : Call) → Asks b (Some (ask caller c)) → IfSome (on_job c) IsPositive }
     ensures own_jobs { (b caller numbers : List ℕ) → Asks b (Some (ask caller (cancel_my_jobs (Some numbers)))) → All IsPositive numbers }
 {}
+
+/// The caller is whom the first `requesting-user-name` of the first group names, which is the operation group: no later one, none of another
+/// group and no other attribute says whose a request is. Where there is none, or its name is empty, the caller is `anonymous`.
+pub fn callers_are_named_first()
+    ensures { (b caller : List ℕ) (c : Call) → All (λ x. x < 256) b → Asks b (Some (ask caller c)) → IsCallerOf b caller }
+{
+    names_with_languages();
+}
+
+/// A Validate-Job is answered what the Print-Job would be in the same queue that has the same bytes but for the operation's number. Both are
+/// refused with one status code and the same unsupported attributes, or both are about the same job of the same caller. The reply is that to
+/// the Print-Job without its job group, and nothing changes.
+pub fn validations_are_answered_as_prints()
+    ensures asked { (major minor : ℕ) (rest : List ℕ) (print validate : Verdict) → IsVerdictOn (major ∷ minor ∷ 0x00 ∷ 0x02 ∷ rest) print
+        → IsVerdictOn (major ∷ minor ∷ 0x00 ∷ 0x04 ∷ rest) validate → AreAlike print validate }
+    ensures answered { (w printed validated : World) (now major minor : ℕ) (rest print validate : List ℕ) → Answers w now (major ∷ minor ∷ 0x00 ∷ 0x02 ∷ rest) printed print
+        → Answers w now (major ∷ minor ∷ 0x00 ∷ 0x04 ∷ rest) validated validate → (m : Message) × Spells m print × Spells (without_jobs m) validate }
+    ensures kept { (w validated : World) (now major minor : ℕ) (rest validate : List ℕ) → Answers w now (major ∷ minor ∷ 0x00 ∷ 0x04 ∷ rest) validated validate → validated ≡ w }
+{
+    one_spelling();
+}
 
 /// A path names a job exactly where it is the printer's, a slash and the job's number in decimal, which is
 /// from 1 to 2,147,483,647. The path of the job-uri that a reply tells of a job names that job, with any

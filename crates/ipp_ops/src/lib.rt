@@ -14,6 +14,9 @@ pub use answering::answer;
 pub use asking::ask;
 pub use ipp_reply::{JobAttribute, PrinterAttribute, Unsupported, Wanted, reply_message};
 pub use ipp_request::head_check;
-pub use law::{calls_are_events, calls_name_jobs, job_paths, one_verdict, whole_tables};
+pub use law::{
+    callers_are_named_first, calls_are_events, calls_name_jobs, job_paths, one_verdict,
+    validations_are_answered_as_prints, whole_tables,
+};
 pub use outcome::{Answer, TooShort};
 pub use verdict::Ask;

@@ -85,9 +85,9 @@ fn text_views<'a>(
 ) -> Result<Vec<ValueView<'a>>, AllocError>
     ensures { IfOk result (λ v. values_of v.items ≡ spec_texts tag (map (λ t. t.now) texts.now)) }
 {
-    let mut views = Vec::new(alloc);
+    let mut views = Vec::with_capacity(alloc, texts.len())?;
     for text in texts {
-        views.push(text_view(tag, text))?;
+        views.push_reserved(text_view(tag, text));
     }
     Ok(views)
 }
@@ -95,9 +95,9 @@ fn text_views<'a>(
 fn format_names(alloc: Global) -> Result<Vec<&'static str>, AllocError>
     ensures { IfOk result (λ v. map (λ t. t.now) v.items ≡ map format_name formats) }
 {
-    let mut names = Vec::new(alloc);
+    let mut names = Vec::with_capacity(alloc, FORMATS.len())?;
     for format in &FORMATS {
-        names.push(format.name())?;
+        names.push_reserved(format.name());
     }
     Ok(names)
 }
@@ -111,9 +111,9 @@ fn id_bytes(operation: Operation) -> [u8; 4]
 fn operation_ids(alloc: Global) -> Result<Vec<[u8; 4]>, AllocError>
     ensures { IfOk result (λ v. v.items ≡ map (λ o. 0 ∷ 0 ∷ 0 ∷ id o ∷ []) operations) }
 {
-    let mut ids = Vec::new(alloc);
+    let mut ids = Vec::with_capacity(alloc, OPERATIONS.len())?;
     for operation in &OPERATIONS {
-        ids.push(id_bytes(*operation))?;
+        ids.push_reserved(id_bytes(*operation));
     }
     Ok(ids)
 }
@@ -121,12 +121,12 @@ fn operation_ids(alloc: Global) -> Result<Vec<[u8; 4]>, AllocError>
 fn enum_views<'a>(alloc: Global, ids: &'a [[u8; 4]]) -> Result<Vec<ValueView<'a>>, AllocError>
     ensures { IfOk result (λ v. values_of v.items ≡ map (λ id. record { tag = 0x23; bytes = id }) ids.entry.now) }
 {
-    let mut views = Vec::new(alloc);
+    let mut views = Vec::with_capacity(alloc, ids.len())?;
     for id in ids {
-        views.push(ValueView {
+        views.push_reserved(ValueView {
             tag: ENUM,
             bytes: id,
-        })?;
+        });
     }
     Ok(views)
 }

@@ -40,8 +40,8 @@ pub enum JobAttribute {
     JobHoldUntil,
 }
 
-/// The rows, in the table's order.
-const TABLE: [JobAttribute; 19] = [
+/// The rows of the table of job attributes, in order.
+pub const JOB_TABLE: [JobAttribute; 19] = [
     JobAttribute::JobUri,
     JobAttribute::JobId,
     JobAttribute::JobPrinterUri,
@@ -205,19 +205,6 @@ pub(crate) fn put_jobs(
     Ok(())
 }
 
-fn is_among(attribute: JobAttribute, words: &[&str]) -> bool
-    ensures { result ≡ list_any (λ w. spec.selects attribute w.now) words.now }
-{
-    words.iter().any(|w| attribute.is_selected(w.as_bytes()))
-}
-
-#[tactic(auto, using(crate::proofs::Lists::list_any_map))]
-fn is_usual(attribute: JobAttribute, words: &[&str]) -> bool
-    ensures { result ≡ list_any (spec.selects attribute) (map (λ w. w.now) words.now) }
-{
-    is_among(attribute, words)
-}
-
 fn is_requested(attribute: JobAttribute, values: &[ValueView<'_>]) -> bool
     ensures { result ≡ list_any (λ v. spec.selects attribute v.bytes.now) values.now }
 {
@@ -229,19 +216,6 @@ fn is_named(attribute: JobAttribute, values: &[ValueView<'_>]) -> bool
     ensures { result ≡ list_any (spec.selects attribute) (words_of (values_of values.now)) }
 {
     is_requested(attribute, values)
-}
-
-fn usual_rows(
-    alloc: Global,
-    rows: &[JobAttribute],
-    words: &[&str],
-) -> Result<Vec<JobAttribute>, AllocError>
-    ensures { IfOk result (λ v. v.items ≡ filter (λ a. list_any (spec.selects a) (map (λ w. w.now) words.now)) rows.now) }
-{
-    rows.iter()
-        .copied()
-        .filter(|a| is_usual(*a, words))
-        .collect(alloc)
 }
 
 fn requested_rows(
@@ -257,19 +231,11 @@ fn requested_rows(
         .collect(alloc)
 }
 
-/// The rows of a job that these names select: a name of a row, its group or `all` (RFC 8011, section 4.3.4).
-/// The one error is want of memory.
-pub fn select_usual(alloc: Global, words: &[&str]) -> Result<Wanted, AllocError>
-    ensures { IfOk result (λ w. rows_of w ≡ of_job (spec.selected (map (λ x. x.now) words.now))) }
-{
-    let rows = usual_rows(alloc, &TABLE, words)?;
-    Ok(Wanted::Job(rows))
-}
-
-/// The rows of a job that the names in these values select. The one error is want of memory.
+/// The rows of a job that the names in these values select: a name of a row, its group or `all`
+/// (RFC 8011, section 4.3.4). The one error is want of memory.
 pub fn select_requested(alloc: Global, values: &[ValueView<'_>]) -> Result<Wanted, AllocError>
     ensures { IfOk result (λ w. rows_of w ≡ of_job (spec.selected (words_of (values_of values.now)))) }
 {
-    let rows = requested_rows(alloc, &TABLE, values)?;
+    let rows = requested_rows(alloc, &JOB_TABLE, values)?;
     Ok(Wanted::Job(rows))
 }

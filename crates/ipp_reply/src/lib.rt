@@ -10,9 +10,9 @@ mod reply;
 mod unsupported;
 mod wanted;
 
-pub use job_reply::{JobAttribute, select_requested, select_usual};
+pub use job_reply::{JOB_TABLE, JobAttribute, select_requested};
 pub use operation::{OPERATIONS, Operation};
-pub use printer_reply::{PrinterAttribute, select_of_printer, select_whole_printer};
+pub use printer_reply::{PRINTER_TABLE, PrinterAttribute, select_of_printer};
 pub use reply::reply_message;
 pub use unsupported::{Unsupported, is_filled};
 pub use wanted::Wanted;

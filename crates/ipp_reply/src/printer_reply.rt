@@ -1,5 +1,5 @@
 //! The printer attributes of a reply, as a table in order (RFC 8011, section 5.4).
-ghost use Rattle.std.specs.Prelude.{◌≡◌, ◌++◌, ◌∷◌, [], IfOk, OnOk, codes, filter};
+ghost use Rattle.std.specs.Prelude.{◌≡◌, ◌++◌, ◌∷◌, [], IfOk, OnOk, filter};
 ghost use Rattle.std.specs.List.{list_any};
 ghost use Rattle.ipp_wire.specs.Viewed.{values_of};
 ghost use Rattle.queue_types.specs.Settings.{AreSettings};
@@ -44,8 +44,8 @@ pub enum PrinterAttribute {
     CompressionSupported,
 }
 
-/// The rows, in the table's order.
-const TABLE: [PrinterAttribute; 19] = [
+/// The rows of the table of printer attributes, in order.
+pub const PRINTER_TABLE: [PrinterAttribute; 19] = [
     PrinterAttribute::PrinterUriSupported,
     PrinterAttribute::UriAuthenticationSupported,
     PrinterAttribute::UriSecuritySupported,
@@ -204,14 +204,6 @@ fn named_rows(
 pub fn select_of_printer(alloc: Global, values: &[ValueView<'_>]) -> Result<Wanted, AllocError>
     ensures { IfOk result (λ w. rows_of w ≡ of_printer (spec.selected (words_of (values_of values.now)))) }
 {
-    let rows = named_rows(alloc, &TABLE, values)?;
-    Ok(Wanted::Printer(rows))
-}
-
-/// All rows of the printer. The one error is want of memory.
-pub fn select_whole_printer(alloc: Global) -> Result<Wanted, AllocError>
-    ensures { IfOk result (λ w. rows_of w ≡ of_printer (spec.selected (codes "all" ∷ []))) }
-{
-    let rows = TABLE.to_vec(alloc)?;
+    let rows = named_rows(alloc, &PRINTER_TABLE, values)?;
     Ok(Wanted::Printer(rows))
 }

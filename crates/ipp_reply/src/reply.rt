@@ -125,6 +125,7 @@ pub fn reply_message(
     requires listed { CanList (unsupported_of unsupported.now) }
     ensures { IfOk result (λ m. m ≡ reply_of reply.now head (rows_of wanted.now) (unsupported_of unsupported.now) settings.now now) }
 {
+    let uri = settings.uri();
     match reply {
         Reply::Refused(code) => refusal_message(alloc, head, *code, unsupported),
         Reply::Done => success_message(alloc, head, unsupported),
@@ -141,8 +142,6 @@ pub fn reply_message(
                 accepting: *accepting,
             };
             let mut message = success_message(alloc, head, unsupported)?;
-            // its contract says that the settings are within their limits
-            let _within_limits = settings.name();
             put_printer(alloc, &mut message, printer, wanted.printer_rows())?;
             Ok(message)
         }
@@ -151,7 +150,7 @@ pub fn reply_message(
             put_jobs(
                 alloc,
                 &mut message,
-                settings.uri(),
+                uri,
                 now,
                 wanted.job_rows(),
                 jobs.as_slice(),

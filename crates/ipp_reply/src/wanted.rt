@@ -1,7 +1,7 @@
 //! The rows that a reply is to have.
 use crate::job_reply::JobAttribute;
 use crate::printer_reply::PrinterAttribute;
-use std::alloc::Global;
+use std::alloc::{AllocError, Global};
 
 /// The rows that a reply is to have, in their table's order.
 #[derive(Debug, Drop)]
@@ -12,7 +12,7 @@ pub enum Wanted {
 }
 
 impl Wanted {
-    ghost use Rattle.std.specs.Prelude.{◌≡◌};
+    ghost use Rattle.std.specs.Prelude.{◌≡◌, IfOk};
     ghost use Rattle.ipp_reply.specs.Wanted as spec;
     ghost use Rattle.ipp_reply.specs.Wanted.{rows_of};
 
@@ -21,6 +21,20 @@ impl Wanted {
         ensures { rows_of result ≡ spec.no_rows }
     {
         Wanted::Job(Vec::new(alloc))
+    }
+
+    /// These rows of each job, which stand in their table's order. The one error is want of memory.
+    pub fn of_job(alloc: Global, rows: &[JobAttribute]) -> Result<Self, AllocError>
+        ensures { IfOk result (λ w. rows_of w ≡ spec.of_job rows.now) }
+    {
+        Ok(Wanted::Job(Vec::from_slice(alloc, rows)?))
+    }
+
+    /// These rows of the printer, which stand in their table's order. The one error is want of memory.
+    pub fn of_printer(alloc: Global, rows: &[PrinterAttribute]) -> Result<Self, AllocError>
+        ensures { IfOk result (λ w. rows_of w ≡ spec.of_printer rows.now) }
+    {
+        Ok(Wanted::Printer(Vec::from_slice(alloc, rows)?))
     }
 
     /// The rows of a job.

@@ -11,9 +11,9 @@ use Rattle.ipp_wire.specs.Message.{Value, Attribute}
 use Rattle.queue_core.specs.Limits.{IsOwner, IsJobName, is_no_control}
 use Rattle.ipp_request.specs.declared.attribute.Syntax.TheVariants.{UserName, Title}
 use Rattle.ipp_request.specs.Attributes.{Row, limit_of, tags_of}
-use Rattle.ipp_request.specs.Values.{text_of, has_shape, is_control, are_formed, any_long, is_shaped, is_long, passes}
+use Rattle.ipp_request.specs.Values.{text_of, has_shape, are_formed, any_long, is_shaped, is_long, passes}
 use Rattle.ipp_request.specs.Request.{first_value, filled}
-use Rattle.ipp_request.proofs.Tests.{and_true, or_false, not_false, not_true}
+use Rattle.ipp_request.proofs.Tests.{and_true, or_false, not_false}
 
 -- ---- texts of ASCII
 
@@ -32,29 +32,15 @@ untitled_names = record { some = lit≤ tt; fits = lit≤ tt; utf8 = ascii_text 
 
 -- ---- what a shape says
 
-no_control : (b : ℕ) → is_control b ≡ false → is_no_control b ≡ true
-no_control b h = let e = or_false (nat_lt b 32) (b == 127) h in grind arith
-
-no_controls : (t : List ℕ) → list_any is_control t ≡ false → list_all is_no_control t ≡ true
-no_controls [] h = refl
-no_controls (b ∷ bs) h = let e = or_false (is_control b) (list_any is_control bs) h in rw (no_control b e.0) (no_controls bs e.1)
-
-no_zero : (b : ℕ) → (b == 0) ≡ false → nat_le 1 b ≡ true
-no_zero b h = grind arith
-
-no_zeros : (t : List ℕ) → list_any (λ b. b == 0) t ≡ false → list_all (λ b. nat_le 1 b) t ≡ true
-no_zeros [] h = refl
-no_zeros (b ∷ bs) h = let e = or_false (b == 0) (list_any (λ c. c == 0) bs) h in rw (no_zero b e.0) (no_zeros bs e.1)
-
 pub owns : (t : List ℕ) → 0 < length t → is_utf8 t ≡ true → has_shape UserName t ≡ true → passes (Some 255) t ≡ false → IsOwner t
 owns t some utf8 shaped short =
-    let e = and_true (is_utf8 t) (not (list_any is_control t)) shaped in
-    record { some = omega arith; fits = ltb-false _ _ short; utf8 = IsUtf8-from_is_utf8 t utf8; printable = no_controls t (not_true (list_any is_control t) e.1) }
+    let e = and_true (is_utf8 t) (list_all is_no_control t) shaped in
+    record { some = omega arith; fits = ltb-false _ _ short; utf8 = IsUtf8-from_is_utf8 t utf8; printable = e.1 }
 
 pub names : (t : List ℕ) → 0 < length t → is_utf8 t ≡ true → has_shape Title t ≡ true → passes (Some 255) t ≡ false → IsJobName t
 names t some utf8 shaped short =
-    let e = and_true (is_utf8 t) (not (list_any (λ b. b == 0) t)) shaped in
-    record { some = omega arith; fits = ltb-false _ _ short; utf8 = IsUtf8-from_is_utf8 t utf8; no_zero = no_zeros t (not_true (list_any (λ b. b == 0) t) e.1) }
+    let e = and_true (is_utf8 t) (list_all (λ b. nat_le 1 b) t) shaped in
+    record { some = omega arith; fits = ltb-false _ _ short; utf8 = IsUtf8-from_is_utf8 t utf8; no_zero = e.1 }
 
 -- ---- the text of an attribute, or what stands for it
 

@@ -1,5 +1,5 @@
 -- What a request says: its attributes, its caller and its target (RFC 8011, sections 4.1.1 to 4.1.6).
-use Rattle.std.specs.Prelude.{ℕ, ◌≡◌, ◌≤◌, ◌++◌, ◌==◌, List, [], ◌∷◌, Option, Some, None, Bool, true, false, codes, bytes_eq, drop, find, if◌then◌else◌, is_some, unwrap_or, not, ◌&&◌, nat_eq}
+use Rattle.std.specs.Prelude.{ℕ, ◌≡◌, ◌≤◌, ◌++◌, ◌==◌, List, [], ◌∷◌, Option, Some, None, Bool, true, false, codes, length, bytes_eq, drop, find, if◌then◌else◌, is_some, unwrap_or, not, ◌&&◌, nat_eq}
 use Rattle.std.specs.Option.{option_map_or, option_and_then}
 use Rattle.std.specs.Str.{is_utf8}
 use Rattle.std.specs.Char.{is_ascii_digit}
@@ -77,15 +77,19 @@ is_printer uri = bytes_eq (path_of uri) printer_path
 abbrev pub number_in : List ℕ → Option ℕ
 number_in text = if list_all is_ascii_digit text && not (starts_with nat_eq text (codes "0")) && is_positive (digits_value 10 text) then Some (digits_value 10 text) else None
 
--- the path under which the printer is found, a slash, and the number of a job
+-- the path under which the printer is found, and a slash: the path of a job goes on with its number
+abbrev pub jobs_path : List ℕ
+jobs_path = printer_path ++ codes "/"
+
+-- the number of the job of that path
 abbrev pub job_in : List ℕ → Option ℕ
-job_in path = if starts_with nat_eq path (codes "/ipp/print/") then number_in (drop 11 path) else None
+job_in path = if starts_with nat_eq path jobs_path then number_in (drop (length jobs_path) path) else None
 
 -- the path of the job of that number
 pub record IsJobPath (path : List ℕ) (n : ℕ) : Type 0 where
   pub low : 1 ≤ n
   pub high : n ≤ 2147483647
-  pub spelled : path ≡ codes "/ipp/print/" ++ decimal n
+  pub spelled : path ≡ jobs_path ++ decimal n
 
 -- the number of a job-id, where it may be a job's
 abbrev pub job_of_id : ℕ → Option ℕ

@@ -1,10 +1,11 @@
 -- What the values of an attribute say (RFC 8010, section 3.9; RFC 8011, section 5.1).
-use Rattle.std.specs.Prelude.{ℕ, ◌+◌, ◌==◌, List, [], ◌∷◌, Option, Some, None, Bool, true, false, not, ◌&&◌, ◌||◌, nat_le, nat_lt, length, drop, is_some, bytes_eq, if◌then◌else◌}
+use Rattle.std.specs.Prelude.{ℕ, ◌+◌, ◌==◌, List, [], ◌∷◌, Option, Some, None, Bool, true, false, ◌&&◌, ◌||◌, nat_le, nat_lt, length, drop, is_some, bytes_eq, if◌then◌else◌}
 use Rattle.std.specs.List.{list_any, list_all}
 use Rattle.std.specs.Option.{option_map_or}
 use Rattle.std.specs.Str.{is_utf8}
 use Rattle.std.specs.Int.{w16, w32, from_be_bytes}
 use Rattle.ipp_wire.specs.Message.{Value}
+use Rattle.queue_core.specs.Limits.{is_no_control}
 use Rattle.ipp_request.specs.declared.attribute.Syntax.{Syntax}
 use Rattle.ipp_request.specs.declared.attribute.Syntax.TheVariants.{Integer, Positive, Boolean, UserName, Title}
 use Rattle.ipp_request.specs.Attributes.{Row, Support, anything, between, words, tags_of, limit_of}
@@ -36,17 +37,14 @@ text_of v = if v.tag == 0x36 then behind_language v.bytes else Some v.bytes
 
 -- ---- the form
 
-abbrev pub is_control : ℕ → Bool
-is_control b = nat_lt b 0x20 || b == 0x7f
-
 -- a number of 4 bytes, which may have to be at least 1; one byte, 0 or 1; UTF-8 without control characters, or
 -- without a zero byte; else any octets
 abbrev pub has_shape : Syntax → List ℕ → Bool
 has_shape Integer text = is_some (number_of text)
 has_shape Positive text = option_map_or is_positive (number_of text) false
 has_shape Boolean text = bytes_eq text (0 ∷ []) || bytes_eq text (1 ∷ [])
-has_shape UserName text = is_utf8 text && not (list_any is_control text)
-has_shape Title text = is_utf8 text && not (list_any (λ b. b == 0) text)
+has_shape UserName text = is_utf8 text && list_all is_no_control text
+has_shape Title text = is_utf8 text && list_all (λ b. nat_le 1 b) text
 has_shape _ text = true
 
 -- the value has one of the tags of the syntax

@@ -25,11 +25,11 @@ fn without_parameters(bytes: &[u8]) -> &[u8]
 fn trimmed(text: &[u8]) -> &[u8]
     ensures { result.now ≡ spec.trimmed text.now }
 {
-    let mut end = text.len();
-    while end > 0 && text[end - 1] == b' ' {
-        end -= 1;
+    let mut kept = text;
+    while let [front @ .., b' '] = kept {
+        kept = front;
     }
-    &text[..end]
+    kept
 }
 
 fn is_named(format: Format, media_type: &[u8]) -> bool

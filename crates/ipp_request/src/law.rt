@@ -7,5 +7,5 @@ ghost use Rattle.ipp_request.specs.Values.{behind_language};
 /// (RFC 8010, section 3.9), and from nothing else.
 pub fn names_with_languages()
     ensures read { (language name : List ℕ) → length language < 2 ^ 16 → length name < 2 ^ 16 → behind_language (text_bytes language ++ text_bytes name) ≡ Some name }
-    ensures spelled { (bytes name : List ℕ) → ((i : ℕ) → get_or bytes i 0 < 256) → behind_language bytes ≡ Some name → (language : List ℕ) × (bytes ≡ text_bytes language ++ text_bytes name) }
+    ensures spelled { (bytes name : List ℕ) → ((i : ℕ) → get_or bytes i 0 < 256) → behind_language bytes ≡ Some name → (language : List ℕ) × (length language < 2 ^ 16) × (length name < 2 ^ 16) × (bytes ≡ text_bytes language ++ text_bytes name) }
 {}

@@ -42,7 +42,8 @@ fn number_in(bytes: &[u8]) -> Option<u32>
 fn job_in(path: &[u8]) -> Option<u32>
     ensures { result ≡ spec.job_in path.now }
 {
-    number_in(path.strip_prefix(b"/ipp/print/")?)
+    let behind = path.strip_prefix(PRINTER_PATH.as_bytes())?;
+    number_in(behind.strip_prefix(b"/")?)
 }
 
 /// The number of the job that a request is about: by job-uri where it is there, else by printer-uri and
@@ -70,10 +71,9 @@ fn job_numbers_in(values: &[ValueView<'_>]) -> bool
 fn are_job_numbers(request: Request<'_, '_>) -> bool
     ensures { result ≡ spec.are_job_numbers (request_of request.entry) }
 {
-    match request.known(OperationAttribute::JobIds) {
-        Some(a) => job_numbers_in(a.values.as_slice()),
-        None => true,
-    }
+    request
+        .known(OperationAttribute::JobIds)
+        .is_none_or(|a| job_numbers_in(a.values.as_slice()))
 }
 
 /// This printer, or a job of it, is what the request is about.

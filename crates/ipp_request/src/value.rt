@@ -1,5 +1,5 @@
 //! What the values of an attribute say (RFC 8010, section 3.9; RFC 8011, section 5.1).
-ghost use Rattle.std.specs.Prelude.{◌≡◌, ◌==◌, false, if◌then◌else◌, bytes_eq, map};
+ghost use Rattle.std.specs.Prelude.{◌≡◌, false, bytes_eq, map};
 ghost use Rattle.std.specs.List.{list_any, list_all};
 ghost use Rattle.std.specs.Str.{is_utf8};
 ghost use Rattle.std.specs.Option.{option_copied, option_map, option_map_or};
@@ -11,6 +11,7 @@ ghost use Rattle.ipp_request.specs.Values as spec;
 use crate::attribute::{Row, Support, Syntax};
 use ipp_wire::ValueView;
 use ipp_wire::tags::{INTEGER, KEYWORD, NAME_WITH_LANGUAGE};
+use queue_core::{has_no_control, has_no_zero};
 use queue_types::text::utf8_text;
 
 /// A number of 4 bytes, by its bits: one of 2,147,483,648 or more stands for a number below zero (RFC 8010, section 3.9).
@@ -41,10 +42,7 @@ pub(crate) fn job_of_id(n: u32) -> Option<u32>
 pub(crate) fn is_positive_number(bytes: &[u8]) -> bool
     ensures { result ≡ option_map_or spec.is_positive (spec.number_of bytes.now) false }
 {
-    match number(bytes) {
-        Some(n) => is_positive(n),
-        None => false,
-    }
+    number(bytes).is_some_and(is_positive)
 }
 
 /// What follows a length in two bytes and that many bytes.
@@ -91,18 +89,6 @@ pub fn first_value<'a>(values: &[ValueView<'a>]) -> Option<ValueView<'a>>
     }
 }
 
-fn has_zero(text: &[u8]) -> bool
-    ensures { result ≡ list_any (λ b. b == 0) text.now }
-{
-    text.iter().any(|b| *b == 0)
-}
-
-fn has_control(text: &[u8]) -> bool
-    ensures { result ≡ list_any spec.is_control text.now }
-{
-    text.iter().any(|b| *b < 0x20 || *b == 0x7f)
-}
-
 fn is_utf8(text: &[u8]) -> bool
     ensures { result ≡ is_utf8 text.now }
 {
@@ -116,8 +102,8 @@ fn has_shape(syntax: Syntax, text: &[u8]) -> bool
         Syntax::Integer => number(text).is_some(),
         Syntax::Positive => is_positive_number(text),
         Syntax::Boolean => text == [0].as_slice() || text == [1].as_slice(),
-        Syntax::UserName => is_utf8(text) && !has_control(text),
-        Syntax::Title => is_utf8(text) && !has_zero(text),
+        Syntax::UserName => is_utf8(text) && has_no_control(text),
+        Syntax::Title => is_utf8(text) && has_no_zero(text),
         Syntax::Charset
         | Syntax::NaturalLanguage
         | Syntax::Uri
@@ -137,11 +123,7 @@ pub(crate) fn is_tagged(syntax: Syntax, value: ValueView<'_>) -> bool
 fn is_shaped(syntax: Syntax, value: ValueView<'_>) -> bool
     ensures { result ≡ spec.is_shaped syntax (value_of value.entry) }
 {
-    is_tagged(syntax, value)
-        && match text(value) {
-            Some(bytes) => has_shape(syntax, bytes),
-            None => false,
-        }
+    is_tagged(syntax, value) && text(value).is_some_and(|bytes| has_shape(syntax, bytes))
 }
 
 fn are_shaped(syntax: Syntax, values: &[ValueView<'_>]) -> bool
@@ -182,11 +164,7 @@ fn is_word(words: &[&str], bytes: &[u8]) -> bool
 fn is_number_within(low: u32, high: u32, value: ValueView<'_>) -> bool
     ensures { result ≡ spec.is_number_within low high (value_of value.entry) }
 {
-    value.tag == INTEGER
-        && match number(value.bytes) {
-            Some(n) => low <= n && n <= high,
-            None => false,
-        }
+    value.tag == INTEGER && number(value.bytes).is_some_and(|n| low <= n && n <= high)
 }
 
 /// The values are supported.

@@ -119,7 +119,7 @@ pub fn write(message: &Message) -> Result<Vec<u8>, Memory>
 fn owned_values(alloc: Global, values: &[ValueView<'_>]) -> Result<Vec<OwnedValue>, Memory>
     ensures { IfOk result (λ v. map owned_value v.items ≡ values_of values.now) }
 {
-    let mut owned = Vec::new(alloc);
+    let mut owned = Vec::with_capacity(alloc, values.len())?;
     for value in values {
         let bytes = Vec::from_slice(alloc, value.bytes)?;
         owned.push(OwnedValue {

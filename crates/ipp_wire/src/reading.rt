@@ -176,8 +176,9 @@ fn attribute_at<'a>(
         return Ok(None);
     };
     let name = first.name;
-    let mut values = Vec::new(alloc);
-    values.push(first.value)?;
+    // Nearly every attribute has one value.
+    let mut values = Vec::with_capacity(alloc, 1)?;
+    values.push_reserved(first.value);
     let mut rest = Rest { bytes: first.rest };
     'values: while let Some((further, deeper)) = further_at(rest.bytes, depth) {
         values.push(further.value)?;

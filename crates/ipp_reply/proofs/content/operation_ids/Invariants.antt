@@ -1,7 +1,12 @@
-use Rattle.std.proofs.Common.{◌≡◌, ◌∷◌, [], take}
-use Rattle.std.specs.Prelude.{map}
+use Rattle.std.proofs.Common.{◌≡◌, ◌∷◌, [], length, take}
+use Rattle.std.specs.Prelude.{map, vec_capacity, vec_len}
 use Rattle.ipp_reply.specs.Operations.{id, operations}
 use Rattle.ipp_reply.proofs.content.operation_ids.Given as goal
 
+-- there is room for all
 abbrev pub invariant-loop-operation : goal.invariant-loop-operation
-invariant-loop-operation l = l.ids.items ≡ map (λ o. 0 ∷ 0 ∷ 0 ∷ id o ∷ []) (take l.operation-index operations)
+invariant-loop-operation l = record {
+  count : vec_len l.ids ≡ l.operation-index;
+  room : vec_capacity l.ids ≡ length operations;
+  put : l.ids.items ≡ map (λ o. 0 ∷ 0 ∷ 0 ∷ id o ∷ []) (take l.operation-index operations);
+}

@@ -15,8 +15,8 @@ values-preserved c =
     let vs = c.values.values.items in
     let rest = c.values.rest.bytes in
     let v = found.further.value in
-    let items : c.push-in-Some-further_at.new.self.items ≡ vs ++ v ∷ [] = c.in_ok-push-2.ensures.items in
-    let pushed : values_of c.push-in-Some-further_at.new.self.items ≡ values_of vs ++ value_of v ∷ [] = ap values_of items ∙ map_push value_of vs v in
+    let items : c.push.new.self.items ≡ vs ++ v ∷ [] = c.in_ok-push.ensures.items in
+    let pushed : values_of c.push.new.self.items ≡ values_of vs ++ value_of v ∷ [] = ap values_of items ∙ map_push value_of vs v in
     let long : 0 < length vs = omega (arith, invariant.values.fits.valued, length-map vs value_of) in
     let whole : length bytes ≡ length (values_under name (values_of vs)) + length rest.now = ap length invariant.values.parts ∙ length-append (values_under name (values_of vs)) rest.now in
     record {
