@@ -128,10 +128,7 @@ pub fn take_all<W: Write, B: QueueBook>(
     let mut outcomes = Vec::with_capacity(alloc, arrivals.len())?;
     for arrival in arrivals {
         let outcome = take(alloc, book, settings, *arrival, writer);
-        match outcomes.push(outcome) {
-            Ok(()) => {}
-            Err(_) => unreachable!(),
-        }
+        outcomes.push_reserved(outcome);
     }
     Ok(outcomes)
 }

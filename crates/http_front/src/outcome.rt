@@ -73,15 +73,37 @@ pub struct Stopped {
     pub cause: ServeCause,
 }
 
+impl Stopped {
+    /// A turn that had not acted and met no fault was stopped.
+    pub fn by(cause: ServeCause) -> Stopped
+        ensures acted { result.tally.acted ≡ false }
+        ensures is_fault { result.tally.is_fault ≡ false }
+        ensures cause { result.cause ≡ cause }
+    {
+        Stopped {
+            tally: Tally::empty(),
+            cause,
+        }
+    }
+
+    /// A write failed in a turn of which so much is counted.
+    pub fn in_write(tally: Tally) -> Stopped
+        ensures tally { result.tally ≡ tally }
+        ensures cause { result.cause ≡ ServeCause.Write }
+    {
+        Stopped {
+            tally,
+            cause: ServeCause::Write,
+        }
+    }
+}
+
 /// A write failed in a turn that had not acted and met no fault.
 impl From<WriteFault> for Stopped {
     ghost from_gives = { λ _ stopped. (stopped.tally.acted ≡ false) × (stopped.tally.is_fault ≡ false) × (stopped.cause ≡ causes.Write) };
 
     fn from(_fault: WriteFault) -> Stopped {
-        Stopped {
-            tally: Tally::empty(),
-            cause: ServeCause::Write,
-        }
+        Stopped::in_write(Tally::empty())
     }
 }
 

@@ -1,5 +1,5 @@
 //! The answer to one whole request.
-ghost use Rattle.std.specs.Prelude.{◌≡◌, ◌≢◌, ◌≤◌, ℕ, List, false, length, IfErr, IfOk};
+ghost use Rattle.std.specs.Prelude.{◌≡◌, ◌≢◌, ◌≤◌, ℕ, List, length, IfErr, IfOk};
 ghost use Rattle.std.specs.Io.KnownBytes.{Appends};
 ghost use Rattle.queue_core.specs.Crash.{Carries};
 ghost use Rattle.queue_core.specs.Limits.{IsMoment};
@@ -42,10 +42,7 @@ fn send<W: Write>(
 {
     match send_success(writer, media_type, content, closes) {
         Ok(()) => Ok(Replied::Answered(tally)),
-        Err(WriteFault) => Err(Stopped {
-            tally,
-            cause: ServeCause::Write,
-        }),
+        Err(WriteFault) => Err(Stopped::in_write(tally)),
     }
 }
 
@@ -131,18 +128,6 @@ fn reply_queue<W: Write, B: QueueBook>(
     send(writer, PLAIN_TEXT, text.as_bytes(), closes, Tally::empty())
 }
 
-/// A turn without an effect was stopped.
-pub fn stopped_by(cause: ServeCause) -> Stopped
-    ensures acted { result.tally.acted ≡ false }
-    ensures is_fault { result.tally.is_fault ≡ false }
-    ensures cause { result.cause ≡ cause }
-{
-    Stopped {
-        tally: Tally::empty(),
-        cause,
-    }
-}
-
 fn cause_of(cause: SendCause) -> ServeCause
     ensures book { result ≢ ServeCause.Book → cause ≡ SendCause.Write }
     ensures write { cause ≡ SendCause.Write → result ≡ ServeCause.Write }
@@ -179,8 +164,8 @@ fn reply_document<W: Write, B: QueueBook>(
     match book.send_document(job, number, writer) {
         Ok(sent) if sent == head.octets => Ok(Replied::Answered(Tally::empty())),
         // the length that the head tells isn't kept, as of a book that isn't honest
-        Ok(_) => Err(stopped_by(ServeCause::Book)),
-        Err(fault) => Err(stopped_by(cause_of(fault.cause))),
+        Ok(_) => Err(Stopped::by(ServeCause::Book)),
+        Err(fault) => Err(Stopped::by(cause_of(fault.cause))),
     }
 }
 

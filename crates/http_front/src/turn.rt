@@ -13,7 +13,7 @@ ghost use Rattle.http_front.specs.Turned.{IsClosed, IsPlanned, IsTurnFaultless, 
 
 use crate::context::Context;
 use crate::outcome::{Replied, ServeCause, Stopped, Tally, Turned};
-use crate::reply::{reply, stopped_by};
+use crate::reply::reply;
 use http_head::end::{Finish, Refusal, WriteFault};
 use http_head::fault::HeadFault;
 use http_head::input::Input;
@@ -37,13 +37,10 @@ fn close_with<W: Write>(writer: &mut W, end: Finish) -> Result<Turned, Stopped>
 {
     match send_end(writer, end) {
         Ok(()) => Ok(Turned::Ended(end)),
-        Err(WriteFault) => Err(Stopped {
-            tally: Tally {
-                acted: false,
-                is_fault: end.is_unavailable(),
-            },
-            cause: ServeCause::Write,
-        }),
+        Err(WriteFault) => Err(Stopped::in_write(Tally {
+            acted: false,
+            is_fault: end.is_unavailable(),
+        })),
     }
 }
 
@@ -80,7 +77,7 @@ fn take_planned<R: Read, W: Write, B: QueueBook>(
     let content = match take_framed(context.alloc, input, plan.framing, invited) {
         Ok(content) => content,
         Err(BodyFault::Ended(end)) => return close_with(writer, end),
-        Err(BodyFault::Read) => return Err(stopped_by(ServeCause::Read)),
+        Err(BodyFault::Read) => return Err(Stopped::by(ServeCause::Read)),
         Err(BodyFault::Memory) => return close_with(
             writer,
             Finish::Refused(Refusal::ServiceUnavailable),
@@ -130,6 +127,6 @@ pub fn turn<R: Read, W: Write, B: QueueBook>(
         Ok(plan) => take_planned(context, input, writer, book, plan, k),
         Err(HeadFault::Ended(end)) => close_with(writer, end),
         Err(HeadFault::Failed(refusal)) => close_with(writer, Finish::Refused(refusal)),
-        Err(HeadFault::Read) => Err(stopped_by(ServeCause::Read)),
+        Err(HeadFault::Read) => Err(Stopped::by(ServeCause::Read)),
     }
 }

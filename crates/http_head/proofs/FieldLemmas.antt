@@ -1,11 +1,12 @@
 -- The words of a head, as the code reads them.
 use Rattle.std.proofs.Common.{◌≡◌, ◌+◌, ◌-◌, ◌*◌, ◌<◌, ℕ, List, [], ◌∷◌, ◌&&◌, Bool, true, false, length, ◌^◌, take, map, min, refl, sym, ap, ◌∙◌, arith, get_or, IsTrue, ◌↔◌}
-use Rattle.std.specs.Prelude.{bytes_eq, if◌then◌else◌, ◌||◌, nat_lt, Some, None}
-use Rattle.std.specs.List.{list_all, list_any}
+use Rattle.std.specs.Prelude.{bytes_eq, codes, if◌then◌else◌, ◌||◌, nat_eq, nat_lt, Option, Some, None, Result, Ok, Err}
+use Rattle.std.specs.List.{list_all, list_any, starts_with}
+use Rattle.std.specs.Result.{result_ok}
 use Rattle.std.specs.Char.{is_ascii_digit, digit_value}
 use Rattle.std.specs.Str.{IsAscii, is_utf8}
 use Rattle.std.specs.Str.Parse.{digits_value, ParsesUnsigned}
-use Rattle.std.proofs.Common.{Err, rules, zero, suc}
+use Rattle.std.proofs.Common.{rules, zero, suc}
 use Rattle.std.proofs.lemmas.Bool.Decides.{nat_tests}
 use Rattle.std.proofs.lemmas.Str.{IsUtf8-from_ascii, is_utf8-from_IsUtf8}
 use Rattle.std.proofs.lemmas.Str.Ascii.{IsAscii-nil, IsAscii-cons}
@@ -24,7 +25,7 @@ told r a b h = same_from_decides r (bytes_eq a b) h (bytes_eq-Decides a b)
 
 -- ---- numbers
 
-and_true : (a b : Bool) → (a && b) ≡ true → (a ≡ true) × (b ≡ true)
+pub and_true : (a b : Bool) → (a && b) ≡ true → (a ≡ true) × (b ≡ true)
 and_true true b h = (refl, h)
 and_true false b h = absurd (cc)
 
@@ -56,10 +57,16 @@ none_chosen true true n h = absurd (cc)
 none_chosen true false n h = refl
 none_chosen false b n h = refl
 
--- digits that no number of 32 bits has
-pub unparsed : {E : Type 0} (bs : List ℕ) (e : E) → list_all is_ascii_digit bs ≡ true → ParsesUnsigned 32 10 bs (Err e) → None ≡ number_in bs
-unparsed bs e digits parsed =
-    none_chosen _ (fits_word bs) (digits_value 10 bs) (refused (fits_word bs) (not_small bs (parse_digits model 32 bs (Err e) parsed digits)))
+-- what is read of digits without a leading zero
+pub parsed_is : {E : Type 0} (bs : List ℕ) (r : Result ℕ E) (o : Option ℕ) → list_all is_ascii_digit bs ≡ true → starts_with nat_eq bs (codes "0") ≡ false
+    → ParsesUnsigned 32 10 bs r → o ≡ result_ok r → o ≡ number_in bs
+parsed_is {E = E} bs (Ok n) o digits plain parsed is =
+    let p = parse_digits model {E = E} 32 bs (Ok n) parsed digits in
+    let some : nat_lt 0 (length bs) ≡ true = grind (arith, nat_tests, p.0.0) in
+    let fits : nat_lt (digits_value 10 bs) 4294967296 ≡ true = grind (arith, nat_tests, p.0.1) in
+    rw (digits, plain, some, fits) (is ∙ ap Some p.1)
+parsed_is bs (Err e) o digits plain parsed is =
+    is ∙ none_chosen _ (fits_word bs) (digits_value 10 bs) (refused (fits_word bs) (not_small bs (parse_digits model 32 bs (Err e) parsed digits)))
 
 -- what text is chosen
 pub text_chosen : (b : Bool) (t bs : List ℕ) → Some t ≡ (if b then Some bs else None) → t ≡ bs

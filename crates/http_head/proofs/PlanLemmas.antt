@@ -1,6 +1,6 @@
 -- The checks of a head in code are those of the table.
 use Rattle.std.proofs.Common.{◌≡◌, ℕ, ◌≤◌, List, [], ◌∷◌, Bool, true, false, ◌&&◌, Option, Some, None, min, refl, sym, ap, ◌∙◌, subst, arith, take, map}
-use Rattle.std.specs.Prelude.{◌||◌, nat_lt, ◌==◌, codes, if◌then◌else◌, Result, Ok, Err, IfOk}
+use Rattle.std.specs.Prelude.{◌||◌, nat_lt, ◌==◌, codes, if◌then◌else◌, option_map, find, Result, Ok, Err, IfOk}
 use Rattle.std.proofs.lemmas.Bool.Decides.{nat_tests}
 use Rattle.httparse.specs.Grammar.{RequestHead}
 use Rattle.httparse.specs.declared.spans.HeaderSpan.{HeaderSpan}
@@ -55,9 +55,9 @@ refused_routed h t u m f method typed r u_is some m_is f_is method_is typed_is r
     ∙ ap (λ x. first_that_applies (rows t (is_misframed h) f x typed)) method_is
     ∙ ap (λ b. first_that_applies (rows t (is_misframed h) f h.method b)) typed_is)
 
-if_none : (b : Bool) (r : Refusal) (o : Option Refusal) → (if b then Some r else o) ≡ None → (b ≡ false) × (o ≡ None)
-if_none true r o e = absurd (cc)
-if_none false r o e = (refl, e)
+if_none : (b : Bool) (row : Bool × Refusal) (o : Option (Bool × Refusal)) → option_map (λ r. r.1) (if b then Some row else o) ≡ None → (b ≡ false) × (option_map (λ r. r.1) o ≡ None)
+if_none true row o e = absurd (cc)
+if_none false row o e = (refl, e)
 
 abbrev NoneApply : List (Bool × Refusal) → Type 0
 NoneApply [] = Unit {0}
@@ -65,7 +65,7 @@ NoneApply (row ∷ table) = (row.0 ≡ false) × NoneApply table
 
 none_applies : (table : List (Bool × Refusal)) → first_that_applies table ≡ None → NoneApply table
 none_applies [] e = tt
-none_applies (row ∷ table) e = let f = if_none row.0 row.1 (first_that_applies table) e in (f.0, none_applies table f.1)
+none_applies (row ∷ table) e = let f = if_none row.0 row (find (λ r. r.0) table) e in (f.0, none_applies table f.1)
 
 fits_cap : (n : ℕ) → nat_lt 16777216 n ≡ false → min n 16777217 ≡ n
 fits_cap n h = grind (arith, nat_tests)

@@ -10,7 +10,7 @@ use Rattle.matchit.specs.Route.{scan}
 use Rattle.http_head.specs.Routes.{IsSegment, route_of, routes, value_of}
 use Rattle.http_head.specs.declared.routes.Route.TheVariants.{Document, Print, Queue, Report}
 
-test_of : (a b : ℕ) → a ≢ b → (a == b) ≡ false
+pub test_of : (a b : ℕ) → a ≢ b → (a == b) ≡ false
 test_of a b h = grind (arith, nat_tests)
 
 both : (a b : Bool) → (a && b) ≡ true → (a ≡ true) × (b ≡ true)

@@ -1,5 +1,5 @@
 -- The checks of a request's head in their order, and what a head that passes them asks for.
-use Rattle.std.specs.Prelude.{◌==◌, nat_lt, ◌&&◌, ◌||◌, not, bytes_eq, Bool, true, false, ℕ, List, [], ◌∷◌, map, Option, None, Some, unwrap_or, codes, if◌then◌else◌}
+use Rattle.std.specs.Prelude.{◌==◌, nat_lt, ◌&&◌, ◌||◌, not, bytes_eq, Bool, true, false, ℕ, List, [], ◌∷◌, map, Option, None, Some, option_map, find, unwrap_or, codes, if◌then◌else◌}
 use Rattle.std.specs.List.{list_any, list_all, before_first}
 use Rattle.httparse.specs.Grammar.{RequestHead}
 use Rattle.httparse.specs.Spans.{name_and_value}
@@ -66,8 +66,7 @@ asks name word h = list_any (has_member word) (values_of name h)
 
 -- the first row whose test holds
 abbrev pub first_that_applies : List (Bool × Refusal) → Option Refusal
-first_that_applies [] = None
-first_that_applies (row ∷ rows) = if row.0 then Some row.1 else first_that_applies rows
+first_that_applies rows = option_map (λ row. row.1) (find (λ row. row.0) rows)
 
 -- the checks of a request without a route
 abbrev pub unrouted : Bool → List (Bool × Refusal)

@@ -3,6 +3,7 @@ use Rattle.std.specs.Prelude.{◌-◌, ◌==◌, nat_lt, nat_le, ◌&&◌, ◌||
 use Rattle.std.specs.List.{list_any, list_all, position_or_len, suffix_len, slice_split, starts_with}
 use Rattle.std.specs.Str.Parse.{digits_value}
 use Rattle.std.specs.Char.{to_ascii_lowercase, is_ascii_digit}
+use Rattle.http_head.specs.Limits.{digit_limit}
 
 -- a field name, and a value without the white space around it (section 5.5)
 abbrev pub FieldLine : Type 0
@@ -45,9 +46,9 @@ trimmed p text = end_cut p (front_cut p text)
 abbrev pub has_member : List ℕ → List ℕ → Bool
 has_member word value = list_any (λ member. same_word (trimmed (is_blank true) member) word) (slice_split (λ b. b == 44) value)
 
--- 1 to 20 digits
+-- one digit or more, within the limit
 abbrev pub is_digits : List ℕ → Bool
-is_digits text = nat_lt 0 (length text) && nat_le (length text) 20 && list_all is_ascii_digit text
+is_digits text = nat_lt 0 (length text) && nat_le (length text) digit_limit && list_all is_ascii_digit text
 
 -- there are digits, and their number has at most 32 bits
 abbrev pub fits_word : List ℕ → Bool

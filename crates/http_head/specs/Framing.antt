@@ -1,8 +1,9 @@
 -- How a body is framed (RFC 9112, section 6): by the field lines Transfer-Encoding (section 6.1) and Content-Length (section 6.2).
-use Rattle.std.specs.Prelude.{◌&&◌, ◌||◌, not, bytes_eq, Bool, true, false, ℕ, List, [], ◌∷◌, codes, if◌then◌else◌, min}
+use Rattle.std.specs.Prelude.{◌+◌, ◌&&◌, ◌||◌, not, bytes_eq, Bool, true, false, ℕ, List, [], ◌∷◌, codes, if◌then◌else◌, min}
 use Rattle.std.specs.List.{list_all}
 use Rattle.std.specs.Str.Parse.{digits_value}
 use Rattle.http_head.specs.Fields.{same_word, is_digits}
+use Rattle.http_head.specs.Limits.{content_limit}
 use Rattle.http_head.specs.declared.framing.Framing.{Framing}
 use Rattle.http_head.specs.declared.framing.Framing.TheVariants.{Nothing, Sized, Chunked}
 
@@ -45,7 +46,7 @@ framing codings lengths = if is_there codings then Chunked else (if is_there len
 -- a length over the limit is as good as the limit and one more
 abbrev pub capped : Framing → Framing
 capped Nothing = Nothing
-capped (Sized n) = Sized (min n 16777217)
+capped (Sized n) = Sized (min n (content_limit + 1))
 capped Chunked = Chunked
 
 -- ---- of a framing

@@ -13,6 +13,10 @@ field_limit = 64
 abbrev pub content_limit : ℕ
 content_limit = 16777216
 
+-- the digits of a length that a head tells, as many as the greatest number of 64 bits has: how many
+abbrev pub digit_limit : ℕ
+digit_limit = 20
+
 -- a chunk line, with its CR LF
 abbrev pub line_limit : ℕ
 line_limit = 1024

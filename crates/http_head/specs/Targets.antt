@@ -1,5 +1,5 @@
 -- What a request target names (RFC 9110, section 7.1; RFC 9112, section 3.2).
-use Rattle.std.specs.Prelude.{◌==◌, Bool, true, false, ℕ, List, [], drop, Option, None, Some, option_map, codes, if◌then◌else◌, nat_eq}
+use Rattle.std.specs.Prelude.{◌==◌, Bool, true, false, ℕ, List, [], drop, length, Option, None, Some, option_map, codes, if◌then◌else◌, nat_eq}
 use Rattle.std.specs.List.{before_first, after_first, position_or_len, starts_with}
 use Rattle.std.specs.Str.{is_utf8}
 use Rattle.http_head.specs.Fields.{number_in}
@@ -34,12 +34,15 @@ both (Some a) (Some b) = Some (a, b)
 abbrev pub numbers_in : List ℕ → Option (ℕ × ℕ)
 numbers_in text = both (number_in (before_first (λ b. b == 47) text)) (number_in (after_first (λ b. b == 47) text))
 
--- the numbers of a document stand behind "/device/document/"
+-- what stands before the numbers in the path of a document
+abbrev pub document_prefix : List ℕ
+document_prefix = codes "/device/document/"
+
 abbrev pub target_of : List ℕ → Route → Target
 target_of path PrintRoute = Ipp
 target_of path ReportRoute = Report
 target_of path QueueRoute = Queue
-target_of path DocumentRoute = Document (numbers_in (drop 17 path))
+target_of path DocumentRoute = Document (numbers_in (drop (length document_prefix) path))
 
 -- what a path names, where it has a route
 abbrev pub routed : List ℕ → Option Target

@@ -1,5 +1,5 @@
 //! The checks of a request's head, in their order.
-ghost use Rattle.std.specs.Prelude.{◌≡◌, ◌≤◌, ◌&&◌, length, codes};
+ghost use Rattle.std.specs.Prelude.{◌≡◌, ◌≤◌, length, codes, find};
 ghost use Rattle.std.specs.List.{list_all, list_any};
 ghost use Rattle.httparse.specs.Spans.{span_bytes};
 ghost use Rattle.http_head.specs.Checks as spec;
@@ -61,17 +61,17 @@ pub(crate) fn asks_for(come: &[u8], fields: &[HeaderSpan], name: &[u8], word: &[
     any_has(come, values(come, fields, name).as_slice(), word)
 }
 
+fn first_row(rows: &[(bool, Refusal)]) -> Option<(bool, Refusal)>
+    ensures { result ≡ find (λ row. row.0) rows.now }
+{
+    rows.iter().copied().find(|row| row.0)
+}
+
 fn first_that_applies(rows: &[(bool, Refusal)]) -> Option<Refusal>
     ensures { result ≡ spec.first_that_applies rows.now }
 {
-    let mut at = rows;
-    while let [row, rest @ ..] = at {
-        if row.0 {
-            return Some(row.1);
-        }
-        at = rest;
-    }
-    None
+    let (_, refusal) = first_row(rows)?;
+    Some(refusal)
 }
 
 /// The first check that applies to a request with a route.

@@ -8,7 +8,7 @@ ghost use Rattle.std.specs.Str.Parse.{digits_value};
 ghost use Rattle.httparse.specs.Spans.{span_bytes, header_bytes};
 ghost use Rattle.http_head.specs.Fields as spec;
 
-use crate::limits::{CONTENT_LIMIT, MOST_FIELDS};
+use crate::limits::{CONTENT_LIMIT, MOST_DIGITS, MOST_FIELDS};
 use arrayvec::ArrayVec;
 use httparse::spans::{HeaderSpan, Span};
 use std::str;
@@ -102,7 +102,8 @@ pub fn has_member(word: &[u8], value: &[u8]) -> bool
         .any(|member| is_member(member, word))
 }
 
-fn place_of(byte: u8, text: &[u8]) -> Option<usize>
+/// Where the byte first stands.
+pub fn place_of(byte: u8, text: &[u8]) -> Option<usize>
     ensures { result ≡ position (λ b. b == byte) text.now }
 {
     text.iter().position(|b| *b == byte)
@@ -134,11 +135,11 @@ fn are_digits(text: &[u8]) -> bool
     text.iter().all(|b| b.is_ascii_digit())
 }
 
-/// 1 to 20 digits.
+/// One digit or more, of which there are at most as many as a length may have.
 pub fn is_digits(text: &[u8]) -> bool
     ensures { result ≡ spec.is_digits text.now }
 {
-    !text.is_empty() && text.len() <= 20 && are_digits(text)
+    !text.is_empty() && text.len() <= MOST_DIGITS && are_digits(text)
 }
 
 /// The number that digits write, or 16,777,217 where it is more.
@@ -157,10 +158,7 @@ pub fn capped_number(text: &[u8]) -> u32
 pub fn utf8_text(bytes: &[u8]) -> Option<&str>
     ensures { option_copied result ≡ (if is_utf8 bytes.now then Some bytes.now else None) }
 {
-    match str::from_utf8(bytes) {
-        Ok(text) => Some(text),
-        Err(_) => None,
-    }
+    str::from_utf8(bytes).ok()
 }
 
 /// A number in decimal without a leading zero, of 32 bits.
@@ -170,9 +168,5 @@ pub fn number_in(text: &[u8]) -> Option<u32>
     if !are_digits(text) || text.starts_with(b"0") {
         return None;
     }
-    let numeral = utf8_text(text)?;
-    match numeral.parse::<u32>() {
-        Ok(n) => Some(n),
-        Err(_) => None,
-    }
+    utf8_text(text)?.parse::<u32>().ok()
 }

@@ -9,6 +9,9 @@ pub const MOST_FIELDS: usize = 64;
 /// The most bytes that the content of a request may have.
 pub const CONTENT_LIMIT: u32 = 16_777_216;
 
+/// The most digits of a length that a head tells: as many as the greatest number of 64 bits has.
+pub const MOST_DIGITS: usize = 20;
+
 /// The most bytes of a chunk line, with its CR LF.
 pub const LINE_LIMIT: usize = 1_024;
 

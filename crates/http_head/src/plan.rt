@@ -1,5 +1,5 @@
 //! What a request's head asks for.
-ghost use Rattle.std.specs.Prelude.{◌≡◌, ◌≤◌, ◌&&◌, ◌||◌, length, take, IfOk};
+ghost use Rattle.std.specs.Prelude.{◌≡◌, ◌≤◌, length, take, IfOk};
 ghost use Rattle.http_head.specs.Framing.{size_of};
 ghost use Rattle.http_head.specs.Planned.{IsPlanned, IsPlanOf, said};
 ghost use Rattle.http_head.specs.Routes.{routes};

@@ -1,5 +1,6 @@
 //! The head of a request, taken and checked.
-ghost use Rattle.std.specs.Prelude.{◌≡◌, ◌≤◌, IfErr, IfOk};
+ghost use Rattle.std.specs.Prelude.{◌≡◌, ◌≤◌, IfErr, IfOk, OnErr};
+ghost use Rattle.std.specs.Io.KnownBytes.{Keeps};
 ghost use Rattle.http_head.specs.Fault.{IsHeadFault};
 ghost use Rattle.http_head.specs.Framing.{size_of};
 ghost use Rattle.http_head.specs.Left.{left};
@@ -21,6 +22,7 @@ pub fn take_head<R: Read>(router: &Router<Route>, input: &mut Input<R>) -> Resul
     requires { router.now ≡ routes }
     ensures taken { IfOk result (TakesPlan (left input.old.buffer (R.remaining input.old.reader)) (left input.new.buffer (R.remaining input.new.reader))) }
     ensures fits { IfOk result (λ plan. size_of plan.framing ≤ 16777216) }
+    ensures kept { OnErr result (Keeps (left input.old.buffer (R.remaining input.old.reader)) (left input.new.buffer (R.remaining input.new.reader))) }
     ensures failed { IfErr result (IsHeadFault (left input.old.buffer (R.remaining input.old.reader))) }
 {
     let mut headers = [EMPTY_HEADER_SPAN; MOST_FIELDS];

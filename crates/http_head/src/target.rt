@@ -1,10 +1,9 @@
 //! What a request target names (RFC 9110, section 7.1; RFC 9112, section 3.2).
-ghost use Rattle.std.specs.Prelude.{◌≡◌, ◌==◌, drop};
-ghost use Rattle.std.specs.List.{position};
+ghost use Rattle.std.specs.Prelude.{◌≡◌, drop, length};
 ghost use Rattle.http_head.specs.Routes.{routes};
 ghost use Rattle.http_head.specs.Targets as spec;
 
-use crate::fields::{after, before, number_in, utf8_text};
+use crate::fields::{after, before, number_in, place_of, utf8_text};
 use crate::routes::{Route, route_of};
 use matchit::Router;
 
@@ -54,16 +53,10 @@ impl Target {
     }
 }
 
-fn slash_at(text: &[u8]) -> Option<usize>
-    ensures { result ≡ position (λ b. b == 47) text.now }
-{
-    text.iter().position(|b| *b == b'/')
-}
-
 fn from_slash(text: &[u8]) -> &[u8]
     ensures { result.now ≡ spec.from_slash text.now }
 {
-    match slash_at(text) {
+    match place_of(b'/', text) {
         Some(i) => &text[i..],
         None => &[],
     }
@@ -86,7 +79,7 @@ pub(crate) fn path_of(target: &[u8]) -> &[u8]
 }
 
 fn behind_document(path: &[u8]) -> &[u8]
-    ensures { result.now ≡ drop 17 path.now }
+    ensures { result.now ≡ drop (length spec.document_prefix) path.now }
 {
     path.get(DOCUMENT_PREFIX.len()..).unwrap_or(&[])
 }

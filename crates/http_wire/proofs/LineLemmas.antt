@@ -1,7 +1,7 @@
 -- What a window over the bytes that have come says of a chunk line or a trailer section in the bytes left.
 use Rattle.std.proofs.Common.{◌≡◌, Option, ℕ, zero, suc, [], ◌∷◌, ◌≤◌, List, ◌++◌, None, Some, IfSome, length, take, drop, refl, sym, ap, ◌∙◌, subst, append_assoc, arith, take-append-drop, inl, inr, length-append, zero-add}
 use Rattle.std.specs.Io.KnownBytes.{Keeps}
-use Rattle.std.proofs.lemmas.List.{length-take-le, length-take, length-map, take_all, take-append-le}
+use Rattle.std.proofs.lemmas.List.{length-take-le, length-take, length-map, take-append-le}
 use Rattle.std.proofs.Math.Seq.{drop-append_seam}
 use Rattle.httparse.specs.Grammar.{ChunkLine, HasNoChunkLine, MayBecomeChunkLine, NeverHasChunkLine, print_chunk_line, Field, print_section, HasNoSection, MayBecomeSection}
 use Rattle.httparse.specs.Spans.{IsChunkLineAt, SectionOverflows, IsSectionOf, AreFieldsAt, header_bytes, name_and_value}
@@ -16,9 +16,6 @@ use Rattle.http_head.specs.declared.end.Refusal.TheVariants.{BadRequest}
 use Rattle.http_head.proofs.HeadLemmas.{front_of}
 
 -- ---- windows
-
-pub front_all : (come : List ℕ) (n : ℕ) → length come ≤ n → come ≡ take n come
-front_all come n h = sym (take_all n come h)
 
 -- the first bytes of what has come begin those of more
 front_on : (n : ℕ) (come more : List ℕ) → (rest : List ℕ) × (take n (come ++ more) ≡ take n come ++ rest)

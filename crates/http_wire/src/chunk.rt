@@ -49,11 +49,11 @@ pub fn bound_behind(raw: usize, limit: usize) -> Bound
 }
 
 /// The first n bytes, or all of them.
-#[tactic(auto, using(crate::proofs::LineLemmas::front_all))]
+#[tactic(auto, using(std::proofs::lemmas::List::take_min))]
 pub fn front(bytes: &[u8], n: usize) -> &[u8]
     ensures { result.now ≡ take n bytes.now }
 {
-    if bytes.len() < n { bytes } else { &bytes[..n] }
+    &bytes[..n.min(bytes.len())]
 }
 
 /// A chunk line.

@@ -54,6 +54,10 @@ pub on_err : {X E : Type 0} (r : Result X E) (B : Type 0) → B → OnErr r B
 on_err (Ok x) B h = tt
 on_err (Err e) B h = h
 
+pub if_err : {X E : Type 0} (r : Result X E) (P : E → Type 0) → ((e : E) → P e) → IfErr r P
+if_err (Ok x) P h = tt
+if_err (Err e) P h = h e
+
 -- ---- a connection that met no fault
 
 none_of : (n : ℕ) → not (n == 0) ≡ false → n ≡ 0

@@ -44,7 +44,8 @@ has_fault (Err fault) = not (fault.faults == 0) || is_of_book fault.cause
 
 -- ---- a crash at any moment
 
--- x is the queue u, or what the event of a request makes of it, of the connection that made u and at its moment
+-- x is the queue u, or what the event of a request makes of it at the moment of its connection, which is any one by which u comes of some
+-- queue, as one whose only request a fault answered
 abbrev pub IsAtMostOneMore : World → World → Type 0
 IsAtMostOneMore u x = (x ≡ u) ⊎ ((w : World) × (acted : ℕ) × (k : IsConnection w acted u) × IsOneMoreOf k.now w k.worked.turns u x)
 

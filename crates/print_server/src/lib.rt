@@ -5,8 +5,8 @@
 //! (`connection`) and the lines that are printed (`lines`).
 //!
 //! A client that goes away, resets or stays silent ends its own connection alone, and none keeps the others from their turn for longer than
-//! 60 timeouts. A book that can't be read any more ends the server, which
-//! may find it whole when it is started again.
+//! 61 timeouts and 11 seconds, its requests' own work aside. A book that can't be read any more ends the server, which may find it whole
+//! when it is started again.
 #![tactic(auto)]
 
 mod connection;

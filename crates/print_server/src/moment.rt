@@ -14,13 +14,7 @@ fn moment_at(epoch: i64, second: u64) -> u32
     ensures late { pos 2147483646 ≤ℤ (pos second -ℤ epoch) → result ≡ 2147483647 }
 {
     let up = i128::from(second) - i128::from(epoch) + 1;
-    if up < 1 {
-        1
-    } else if up > i128::from(LAST_MOMENT) {
-        LAST_MOMENT
-    } else {
-        up as u32
-    }
+    up.clamp(1, i128::from(LAST_MOMENT)) as u32
 }
 
 /// The present moment of a printer with this epoch.

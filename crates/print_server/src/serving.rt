@@ -5,11 +5,12 @@ ghost use Rattle.std.specs.Int.NonZero.{non_zero_u32_get};
 ghost use Rattle.std.specs.Io.KnownBytes.{Appends};
 ghost use Rattle.queue_core.specs.Limits.{IsMoment};
 ghost use Rattle.queue_core.specs.World.{World};
+ghost use Rattle.queue_core.specs.declared.book.BookFault.{BookFault};
 ghost use Rattle.http_front.specs.Connections.{Worked};
 ghost use Rattle.http_front.specs.Crash.{CarriesAll};
 ghost use Rattle.http_front.specs.Turns.{most_requests};
 ghost use Rattle.print_server.specs.Connections.{AreConnections, Carries, IsAtMostOneMore};
-ghost use Rattle.print_server.specs.Lines.{served_lines};
+ghost use Rattle.print_server.specs.Lines.{served_line, served_lines};
 
 use crate::connection::{acted_of, drain, has_fault, is_ended_here};
 use crate::fault::ServerFault;
@@ -208,10 +209,17 @@ impl Service<'_> {
         ensures err { B.is_honest book.new → OnErr result ((w : World) → B.stands book.old w → self.entry.settings.now ≡ w.settings
             → (u : World) × B.stands book.new u × (counts : List ℕ) × AreConnections w counts u × (length counts ≤ 1)
             × Carries (B.crash_leaves book.old) (B.crash_leaves book.new) w u) }
+        // where the book ends it, the connection's count was printed
+        ensures told { B.is_honest book.new → IfErr result (λ f. (e : BookFault) → f ≡ ServerFault.Book e
+            → (w : World) → B.stands book.old w → self.entry.settings.now ≡ w.settings
+            → (u : World) × B.stands book.new u × (counts : List ℕ) × AreConnections w counts u × (length counts ≡ 1)
+            × Appends (O.contents out.old) (O.contents out.new) (served_lines counts)) }
         ensures damaged { B.is_honest book.new → IfErr result (λ f. f ≡ ServerFault.Book BookFault.Damaged
             → (w : World) → B.stands book.old w → self.entry.settings.now ≡ w.settings → ⊥) }
         ensures live { B.is_honest book.new → (before ≡ Standing.Live → B.is_live book.old) → result ≡ Ok Standing.Live → B.is_live book.new }
         ensures wanting { result ≢ Err (ServerFault.Book BookFault.Memory) }
+        // over any book, also one that is not honest
+        ensures printed { OnOk result ((acted : ℕ) × Appends (O.contents out.old) (O.contents out.new) (served_line acted)) }
     {
         let stream = next_stream(self.listener)?;
         let now = present_moment(clock, self.settings.epoch())?;
@@ -245,6 +253,11 @@ impl Service<'_> {
         ensures err { B.is_honest book.new → OnErr result ((w : World) → B.stands book.old w → self.entry.settings.now ≡ w.settings
             → (u : World) × B.stands book.new u × (counts : List ℕ) × AreConnections w counts u × (length counts ≤ connections)
             × Carries (B.crash_leaves book.old) (B.crash_leaves book.new) w u) }
+        // where the book ends it, every connection's count was printed
+        ensures told { B.is_honest book.new → IfErr result (λ f. (e : BookFault) → f ≡ ServerFault.Book e
+            → (w : World) → B.stands book.old w → self.entry.settings.now ≡ w.settings
+            → (u : World) × B.stands book.new u × (counts : List ℕ) × AreConnections w counts u × (length counts ≤ connections)
+            × Appends (O.contents out.old) (O.contents out.new) (served_lines counts)) }
         // whatever it answers: a crash at any moment leaves the queue that the book stands for, or what the event of one request makes of it
         ensures crash { B.is_honest book.new → B.is_live book.old → (w : World) → B.stands book.old w → self.entry.settings.now ≡ w.settings
             → (u x : World) × B.stands book.new u × (counts : List ℕ) × AreConnections w counts u × (length counts ≤ connections)
@@ -255,6 +268,9 @@ impl Service<'_> {
         // a book that was live and has been shut ends the server, or there was no memory to see it
         ensures live { B.is_honest book.new → B.is_live book.old → result ≡ Ok Standing.Live → B.is_live book.new }
         ensures wanting { result ≢ Err (ServerFault.Book BookFault.Memory) }
+        // over any book, also one that is not honest
+        ensures printed { OnOk result ((counts : List ℕ) × (length counts ≡ connections)
+            × Appends (O.contents out.old) (O.contents out.new) (served_lines counts)) }
     {
         let mut standing = Standing::Live;
         for _round in 0..connections {

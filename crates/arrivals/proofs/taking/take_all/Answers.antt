@@ -24,10 +24,10 @@ blank = record { moment = 0; what = Connection (record { ref_ptr = (0, 0); now =
 pub loop-arrival-preserved : goal.loop-arrival-preserved
 loop-arrival-preserved g c = record {
   began = λ honest. c.loop-arrival.invariant.began (c.take-outcome.ensures.began honest);
-  count = omega (arith, ap length c.in-Ok.ensures.items, length-append c.loop-arrival.outcomes.items (c.take-outcome.result ∷ []), c.loop-arrival.invariant.count);
-  room = omega (arith, c.in-Ok.ensures.capacity, c.loop-arrival.invariant.room);
+  count = omega (arith, ap length c.push_reserved.ensures.items, length-append c.loop-arrival.outcomes.items (c.take-outcome.result ∷ []), c.loop-arrival.invariant.count);
+  room = omega (arith, c.push_reserved.ensures.capacity, c.loop-arrival.invariant.room);
   live = λ honest live all.
-      let each = each_before_last IsFaultless c.loop-arrival.outcomes.items c.take-outcome.result (rw c.in-Ok.ensures.items at all) in
+      let each = each_before_last IsFaultless c.loop-arrival.outcomes.items c.take-outcome.result (rw c.push_reserved.ensures.items at all) in
       c.take-outcome.ensures.live honest (c.loop-arrival.invariant.live (c.take-outcome.ensures.began honest) live each.0) each.1;
   taken = λ honest w s set.
       let i = c.loop-arrival.arrival-index in
@@ -37,7 +37,7 @@ loop-arrival-preserved g c = record {
       let x = g.W.Write.contents c.args.writer.now in
       let z = g.W.Write.contents c.take-outcome.new.writer in
       taken_by (g.B.QueueBook.stands c.take-outcome.new.book) (g.B.QueueBook.crash_leaves c.args.book.now) (g.B.QueueBook.crash_leaves c.take-outcome.new.book) w x z (take i arrivals ++ get_or arrivals i blank ∷ []) (take (i + 1) arrivals)
-      (c.loop-arrival.outcomes.items ++ c.take-outcome.result ∷ []) c.push.new.self.items (take_more arrivals i blank c.loop-arrival-test.true) c.in-Ok.ensures.items
+      (c.loop-arrival.outcomes.items ++ c.take-outcome.result ∷ []) c.push_reserved.new.self.items (take_more arrivals i blank c.loop-arrival-test.true) c.push_reserved.ensures.items
       (more_taken (g.B.QueueBook.stands c.loop-arrival.book) (g.B.QueueBook.stands c.take-outcome.new.book) (g.B.QueueBook.crash_leaves c.args.book.now) (g.B.QueueBook.crash_leaves c.loop-arrival.book) (g.B.QueueBook.crash_leaves c.take-outcome.new.book) w (take i arrivals) c.loop-arrival.outcomes.items (get_or arrivals i blank)
       c.take-outcome.result x (g.W.Write.contents c.loop-arrival.writer) z t k);
 }

@@ -62,7 +62,7 @@ returns-in-Err-send_document-clause-replied g c = λ honest w st now content.
     let v = g.W.Write.contents c.args.writer.now in
     let m = g.W.Write.contents c.send_head.new.writer in
     let x = g.W.Write.contents c.send_document.new.out in
-    replied_err now w w (Document c.args.n) content c.args.closes false c.stopped_by-in-Err-send_document.result v x (format_name d.format) d.bytes (document_answer now w c.args.n content d there)
+    replied_err now w w (Document c.args.n) content c.args.closes false c.by-in-Err-send_document.result v x (format_name d.format) d.bytes (document_answer now w c.args.n content d there)
     (front_after v m x (success_head (format_name d.format) (length d.bytes) c.args.closes) d.bytes (subst (λ (l : List ℕ). Appends v m l) line c.in_ok-send_head.ensures.ok)
     (front_taken m x d.bytes c.in-Err-send_document.fault.written sent.1))
-    c.stopped_by-in-Err-send_document.ensures.acted c.stopped_by-in-Err-send_document.ensures.is_fault
+    c.by-in-Err-send_document.ensures.acted c.by-in-Err-send_document.ensures.is_fault

@@ -38,7 +38,7 @@ returns-in-Err-Read-clause-planned g c = λ honest w st set.
     let s = left c.take_framed.new.input.buffer (g.R.Read.remaining c.take_framed.new.input.reader) in (
       w,
       st,
-      planned_unread (λ asks. Carries (g.B.QueueBook.crash_leaves c.args.book.now) (g.B.QueueBook.crash_leaves c.args.book.now) asks c.args.context.moment w w) c.args.context.moment c.args.k w c.args.plan r s (g.W.Write.contents c.args.writer.now) (g.W.Write.contents c.send_continue.new.writer) c.stopped_by.result c.stopped_by.ensures.acted c.stopped_by.ensures.is_fault c.in_ok-invited.ensures.ok
+      planned_unread (λ asks. Carries (g.B.QueueBook.crash_leaves c.args.book.now) (g.B.QueueBook.crash_leaves c.args.book.now) asks c.args.context.moment w w) c.args.context.moment c.args.k w c.args.plan r s (g.W.Write.contents c.args.writer.now) (g.W.Write.contents c.send_continue.new.writer) c.by.result c.by.ensures.acted c.by.ensures.is_fault c.in_ok-invited.ensures.ok
           (carries_none (g.B.QueueBook.crash_leaves c.args.book.now) (λ e. ⊥) c.args.context.moment w),
     )
 

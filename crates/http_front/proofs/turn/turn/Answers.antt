@@ -47,6 +47,6 @@ pub returns-in-Err-Read-clause-turned : goal.returns-in-Err-Read-clause-turned
 returns-in-Err-Read-clause-turned g c = λ honest w st set. (
   w,
   st,
-  turned_unread (λ turns. CarriesAll (g.B.QueueBook.crash_leaves c.args.book.now) (g.B.QueueBook.crash_leaves c.args.book.now) c.args.context.moment turns w w) c.args.context.moment c.args.k w (left c.args.input.now.buffer (g.R.Read.remaining c.args.input.now.reader)) (left c.take_head.new.input.buffer (g.R.Read.remaining c.take_head.new.input.reader)) (g.W.Write.contents c.args.writer.now) c.stopped_by.result
-      (carries_no_turn (g.B.QueueBook.crash_leaves c.args.book.now) c.args.context.moment w) c.stopped_by.ensures.acted c.stopped_by.ensures.is_fault,
+  turned_unread (λ turns. CarriesAll (g.B.QueueBook.crash_leaves c.args.book.now) (g.B.QueueBook.crash_leaves c.args.book.now) c.args.context.moment turns w w) c.args.context.moment c.args.k w (left c.args.input.now.buffer (g.R.Read.remaining c.args.input.now.reader)) (left c.take_head.new.input.buffer (g.R.Read.remaining c.take_head.new.input.reader)) (g.W.Write.contents c.args.writer.now) c.by.result
+      (carries_no_turn (g.B.QueueBook.crash_leaves c.args.book.now) c.args.context.moment w) c.by.ensures.acted c.by.ensures.is_fault,
 )

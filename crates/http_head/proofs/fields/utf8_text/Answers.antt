@@ -1,5 +1,7 @@
-use Rattle.std.proofs.Common.{◌≡◌, List, ℕ, Bool, true, false, refl, ap}
+use Rattle.std.proofs.Common.{◌≡◌, ◌∙◌, List, ℕ, Bool, true, false, Option, Result, Ok, Err, Bor, MatchResult, refl, ap}
 use Rattle.std.specs.Prelude.{IsUtf8, Some, None, if◌then◌else◌}
+use Rattle.std.specs.Option.{option_copied}
+use Rattle.std.specs.Result.{result_ok}
 use Rattle.std.specs.Str.{is_utf8}
 use Rattle.std.proofs.lemmas.Str.{is_utf8-from_IsUtf8, IsUtf8-from_is_utf8}
 use Rattle.http_head.proofs.fields.utf8_text.Goals as goal
@@ -17,8 +19,10 @@ none_chosen : (b : Bool) (bytes : List ℕ) → b ≡ false → None ≡ (if b t
 none_chosen true bytes t = absurd (cc)
 none_chosen false bytes t = refl
 
-pub returns-in-Ok : goal.returns-in-Ok
-returns-in-Ok c = chosen (is_utf8 c.args.bytes.now) _ c.args.bytes.now (is_utf8-from_IsUtf8 c.args.bytes.now c.in-Ok.ensures.cases.1) c.in-Ok.ensures.cases.0
+text_read : {E : Type 0} (bytes : List ℕ) (r : Result (Bor (List ℕ)) E) (o : Option (Bor (List ℕ))) (Q : E → Type 0)
+    → MatchResult r (λ s. (s.now ≡ bytes) × IsUtf8 bytes) (λ e. ¬ IsUtf8 bytes × Q e) → o ≡ result_ok r → option_copied o ≡ (if is_utf8 bytes then Some bytes else None)
+text_read bytes (Ok s) o Q h is = ap option_copied is ∙ chosen (is_utf8 bytes) s.now bytes (is_utf8-from_IsUtf8 bytes h.1) h.0
+text_read bytes (Err e) o Q h is = ap option_copied is ∙ none_chosen (is_utf8 bytes) bytes (no_text bytes h.0)
 
-pub returns-in-Err : goal.returns-in-Err
-returns-in-Err c = none_chosen (is_utf8 c.args.bytes.now) c.args.bytes.now (no_text c.args.bytes.now c.in-Err.ensures.cases.0)
+pub returns : goal.returns
+returns c = text_read c.args.bytes.now c.from_utf8.result c.ok.result _ c.from_utf8.ensures.cases c.ok.ensures.value

@@ -1,12 +1,12 @@
-use Rattle.std.proofs.Common.{[], ◌++◌, ◌∙◌, Ok, ap, refl, sym, arith, length-append}
+use Rattle.std.proofs.Common.{[], ◌∷◌, ◌++◌, ◌∙◌, Ok, ap, refl, sym, arith, length-append}
 use Rattle.std.proofs.KnownBytes.{Appends-nil}
 use Rattle.std.proofs.lemmas.Result.{err_from_is_err_and}
 use Rattle.print_server.proofs.CrashLemmas.{carries_none, carries_on, left_one}
-use Rattle.print_server.proofs.ConnectionLemmas.{joined, on_err, settings_kept, told_on}
+use Rattle.print_server.proofs.ConnectionLemmas.{joined, on_err, settings_kept, told_on, told_one}
 use Rattle.print_server.proofs.serving.Service.serve_connections.Goals as goal
 
 pub loop-round-init : goal.loop-round-init
-loop-round-init g c = record { began = λ h. h; served = λ h w st set. (w, st, [], refl, refl, Appends-nil _, carries_none (g.B.QueueBook.crash_leaves c.args.book.now) w); live = λ h live is. live }
+loop-round-init g c = record { began = λ h. h; served = λ h w st set. (w, st, [], refl, refl, Appends-nil _, carries_none (g.B.QueueBook.crash_leaves c.args.book.now) w); printed = ([], refl, Appends-nil _); live = λ h live is. live }
 
 pub loop-round-preserved : goal.loop-round-preserved
 loop-round-preserved g c = record {
@@ -16,6 +16,12 @@ loop-round-preserved g c = record {
       let t = c.in_ok-standing.ensures.ok h r.0 r.1 (settings_kept c.args.self.settings.now w r.0 r.2 r.3 set) in
       let more = length-append r.2 t.2 in
       (t.0, t.1, r.2 ++ t.2, joined w r.0 t.0 r.2 t.2 r.3 t.3, omega (arith, more, r.4, t.4), told_on _ _ _ r.2 t.2 r.5 t.5, carries_on (g.B.QueueBook.crash_leaves c.args.book.now) (g.B.QueueBook.crash_leaves c.loop-round.book) (g.B.QueueBook.crash_leaves c.serve_next.new.book) w r.0 t.0 r.6 t.6);
+  printed =
+      let before = c.loop-round.invariant.printed in
+      let next = c.in_ok-standing.ensures.printed in
+      let more = length-append before.0 (next.0 ∷ []) in
+      let many = before.1 in
+      (before.0 ++ next.0 ∷ [], omega (arith, more, many), told_on _ _ _ before.0 (next.0 ∷ []) before.2 (told_one _ _ next.0 next.1));
   live = λ h live is. c.serve_next.ensures.live h (λ before. c.loop-round.invariant.live (c.serve_next.ensures.began h) live before) (c.in_ok-standing.was ∙ ap Ok is);
 }
 
@@ -29,12 +35,27 @@ returns-in_err-standing-clause-err g c = λ h. on_err c.from_residual.result _ (
     let more = length-append r.2 t.2 in
     (t.0, t.1, r.2 ++ t.2, joined w r.0 t.0 r.2 t.2 r.3 t.3, omega (arith, more, r.4, t.4), carries_on (g.B.QueueBook.crash_leaves c.args.book.now) (g.B.QueueBook.crash_leaves c.loop-round.book) (g.B.QueueBook.crash_leaves c.serve_next.new.book) w r.0 t.0 r.6 t.5))
 
+pub returns-in_err-standing-clause-told : goal.returns-in_err-standing-clause-told
+returns-in_err-standing-clause-told g c = λ h.
+    let p = err_from_is_err_and c.from_residual.result c.from_residual.ensures.1 in
+    rw p.1 (λ e is w st set.
+    let r = c.loop-round.invariant.served (c.serve_next.ensures.began h) w st set in
+    let t = c.in_err-standing.ensures.told h e (sym p.2 ∙ is) r.0 r.1 (settings_kept c.args.self.settings.now w r.0 r.2 r.3 set) in
+    let more = length-append r.2 t.2 in
+    (t.0, t.1, r.2 ++ t.2, joined w r.0 t.0 r.2 t.2 r.3 t.3, omega (arith, more, r.4, t.4), told_on _ _ _ r.2 t.2 r.5 t.5))
+
 pub returns-in_err-standing-clause-damaged : goal.returns-in_err-standing-clause-damaged
 returns-in_err-standing-clause-damaged g c = λ h.
     let p = err_from_is_err_and c.from_residual.result c.from_residual.ensures.1 in
     rw p.1 (λ told w st set.
     let r = c.loop-round.invariant.served (c.serve_next.ensures.began h) w st set in
     c.in_err-standing.ensures.damaged h (sym p.2 ∙ told) r.0 r.1 (settings_kept c.args.self.settings.now w r.0 r.2 r.3 set))
+
+pub returns-clause-printed : goal.returns-clause-printed
+returns-clause-printed g c =
+    let it = c.loop-round.invariant.printed in
+    let is = it.1 in
+    (it.0, omega (arith, is), it.2)
 
 pub returns-clause-ok : goal.returns-clause-ok
 returns-clause-ok g c = λ h w st set.

@@ -13,5 +13,6 @@ invariant-loop-round g l = record {
       → (u : World) × g.B.QueueBook.stands l.book u × (counts : List ℕ) × AreConnections w counts u × (length counts ≡ l._round)
       × Appends (g.O.Write.contents l.initial.out) (g.O.Write.contents l.out) (served_lines counts)
       × Carries (g.B.QueueBook.crash_leaves l.initial.book) (g.B.QueueBook.crash_leaves l.book) w u;
+  printed : (counts : List ℕ) × (length counts ≡ l._round) × Appends (g.O.Write.contents l.initial.out) (g.O.Write.contents l.out) (served_lines counts);
   live : g.B.QueueBook.is_honest l.book → g.B.QueueBook.is_live l.initial.book → l.standing ≡ Live → g.B.QueueBook.is_live l.book;
 }

@@ -1,6 +1,6 @@
 use Rattle.std.proofs.Common.{[], ◌∷◌, refl, arith}
 use Rattle.print_server.proofs.CrashLemmas.{carries_at, carries_none, carries_seen}
-use Rattle.print_server.proofs.ConnectionLemmas.{on_err, one, told_one}
+use Rattle.print_server.proofs.ConnectionLemmas.{if_err, on_err, one, told_one}
 use Rattle.print_server.proofs.serving.Service.serve_next.Goals as goal
 
 pub returns-in_err-stream-clause-err : goal.returns-in_err-stream-clause-err
@@ -24,6 +24,17 @@ returns-in_err-check_book-in-Unseen-clause-err g c = λ h. on_err c.from_residua
       omega arith,
       carries_seen (g.B.QueueBook.crash_leaves c.args.book.now) (g.B.QueueBook.crash_leaves c.serve_stream-served.new.book) (g.B.QueueBook.crash_leaves c.check_book.new.book) w u.0 (c.check_book.ensures.left h)
           (carries_at (g.B.QueueBook.crash_leaves c.args.book.now) (g.B.QueueBook.crash_leaves c.serve_stream-served.new.book) c.in_ok-now.now w u.0 _ c.in_ok-now.ensures u.2 u.3),
+    ))
+
+pub returns-in_err-check_book-in-Unseen-clause-told : goal.returns-in_err-check_book-in-Unseen-clause-told
+returns-in_err-check_book-in-Unseen-clause-told g c = λ h. if_err c.from_residual-in_err-check_book-in-Unseen.result _ (λ f e is w st set.
+    let u = c.serve_stream-served.ensures.worked (c.check_book.ensures.began h) w st set in (
+      u.0,
+      c.check_book.ensures.kept u.0 u.1,
+      c.serve_stream-served.result.acted ∷ [],
+      one c.in_ok-now.now w u.0 _ c.in_ok-now.ensures u.2,
+      refl,
+      told_one _ _ _ c.in_ok-tell_served.ensures,
     ))
 
 pub returns-in_ok-check_book-in-Unseen-clause-ok : goal.returns-in_ok-check_book-in-Unseen-clause-ok
