@@ -14,7 +14,7 @@ use Rattle.clap.specs.declared.parser.matches.ArgMatches.TheViews.{out-SubComman
 use Rattle.clap.specs.declared.parser.matches.SubCommand.{SubCommand}
 use Rattle.std.specs.Box.{box_value}
 use Rattle.clap.proofs.OnLiterals.{clap_on_literals}
-use Rattle.command_words.specs.CommandLine.{IsFaultOf, IsNameIn, IsProgram, IsWordsFault, definition, subcommands}
+use Rattle.command_words.specs.CommandLine.{IsApp, IsFaultOf, IsNameIn, IsWordsFault, definition, subcommands}
 use Rattle.command_words.specs.declared.outcome.CommandFault.{CommandFault}
 use Rattle.command_words.specs.declared.outcome.CommandFault.TheVariants as fault
 
@@ -51,10 +51,10 @@ met_by_definition a words m is matches =
     (matches (ap is_simple is ∙ definition_is_simple)).1 ∙ ap (λ a. subcommand_of a words) is
 
 -- a parse that succeeds met a subcommand
-pub meets_subcommand : (c : Definition) (m : ArgMatches) → IsProgram subcommands c → IsParsedFrom c m → has_subcommand m ≡ true
+pub meets_subcommand : (c : Definition) (m : ArgMatches) → IsApp definition c → IsParsedFrom c m → has_subcommand m ≡ true
 meets_subcommand c m d p =
     let parsed = p.parsed (p.from.globals ∙ d.globals) in
-    parsed.checked.subcommand (p.from.needs_subcommand ∙ d.required)
+    parsed.checked.subcommand (p.from.needs_subcommand ∙ ap (λ (z : App). z.top.subcommand_required) d.app)
 
 step_named : (b : Bool) (s : Shape) (rest : List Shape) (found : Option Shape) (words : List Text) (met : Text × List Row)
     → (option_map (λ s. rows_at s words) found ≡ Some met → IsNameIn rest met.0)

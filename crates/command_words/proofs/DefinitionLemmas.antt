@@ -1,12 +1,12 @@
 -- A definition with an argument or a subcommand more.
-use Rattle.std.proofs.Common.{◌≡◌, ◌∙◌, ◌||◌, ◌++◌, ◌∷◌, [], List, false, ap, IfOk, Result, Ok, Err}
+use Rattle.std.proofs.Common.{◌≡◌, ◌∙◌, ◌||◌, ◌++◌, ◌∷◌, [], false, ap, IfOk, Result, Ok, Err}
 use Rattle.clap.specs.Built.{AddsArg, AddsSubcommand}
 use Rattle.clap.specs.Simple.{App, Shape, shape_of, with_rule, with_subcommand}
 use Rattle.clap.specs.Walk.{Rule, rule_of}
 use Rattle.clap.specs.declared.builder.arg.Arg.{Arg}
 use Rattle.clap.specs.declared.builder.command.Command.{Command as Definition}
 use Rattle.clap.specs.declared.builder.command.Command.TheViews.{out-Command}
-use Rattle.command_words.specs.CommandLine.{IsApp, IsPart, IsProgram, program_with}
+use Rattle.command_words.specs.CommandLine.{IsApp, IsPart}
 
 pub adds_argument : (s : Shape) (r : Rule) (old : Definition) (a : Arg) (new : Definition) → AddsArg old a new → IsPart s old → rule_of a ≡ r → a.global ≡ false
     → IsPart (record s { rules = s.rules ++ r ∷ [] }) new
@@ -20,10 +20,6 @@ adds_subcommand a s old sub new h is part = record {
   app = h.shape part.globals ∙ (ap (λ (z : App). with_subcommand z (shape_of sub)) is.app ∙ ap (λ (z : App). with_subcommand a z.top) part.app);
   globals = h.globals ∙ (ap (λ b. b || (out-Command sub).has_globals) is.globals ∙ part.globals);
 }
-
--- a definition that is the program with these subcommands needs one of them
-pub is_program : (subs : List Shape) (c : Definition) → IsApp (program_with subs) c → IsProgram subs c
-is_program subs c h = record { app = h.app; globals = h.globals; required = ap (λ (z : App). z.top.subcommand_required) h.app }
 
 pub if_ok : {X E : Type 0} (P Q : X → Type 0) (r : Result X E) → ((x : X) → P x → Q x) → IfOk r P → IfOk r Q
 if_ok P Q (Ok x) each h = each x h

@@ -96,12 +96,6 @@ pub record IsApp (a : App) (c : Definition) : Type 0 where
 abbrev pub IsPart : Shape → Definition → Type 0
 IsPart s c = IsApp (record { top = s; subs = [] }) c
 
--- `clap` has the program with these subcommands
-pub record IsProgram (subs : List Shape) (c : Definition) : Type 0 where
-  pub app : app_of c ≡ program_with subs
-  pub globals : (out-Command c).has_globals ≡ false
-  pub required : (out-Command c).subcommand_required ≡ true
-
 -- ---- faults
 
 -- what becomes of an error of `clap`

@@ -3,7 +3,7 @@
 ghost use Rattle.std.specs.Prelude.{◌≡◌, ◌∷◌, [], IfOk, false, codes};
 ghost use Rattle.clap.specs.Simple.{App, Shape, with_subcommand};
 ghost use Rattle.clap.specs.Words.{rule_of};
-ghost use Rattle.command_words.specs.CommandLine.{IsApp, IsPart, IsProgram, import_words, init_words, number_rule, office_subcommands, optional_rule, place_rule, program, program_with, replay_words, serve_words, statement_words, store_rule, subcommands, text_rule, words};
+ghost use Rattle.command_words.specs.CommandLine.{IsApp, IsPart, definition, import_words, init_words, number_rule, office_subcommands, optional_rule, place_rule, program, program_with, replay_words, serve_words, statement_words, store_rule, text_rule, words};
 
 use crate::limits::{CONNECTIONS, ESTIMATE, Limits, PORT, TIMEOUT};
 use clap::builder::ValueParser;
@@ -161,7 +161,7 @@ fn for_office<'a>(alloc: Global) -> Result<Definition<'a>, AllocError>
 
 /// The program and its subcommands.
 pub fn defined<'a>(alloc: Global) -> Result<Definition<'a>, AllocError>
-    ensures { IfOk result (IsProgram subcommands) }
+    ensures { IfOk result (IsApp definition) }
 {
     let program = with(for_office(alloc)?, serve(alloc))?;
     program.subcommand(replay(alloc))

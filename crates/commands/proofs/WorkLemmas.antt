@@ -10,6 +10,7 @@ use Rattle.queue_store.specs.declared.book.TableBook.{TableBook}
 use Rattle.queue_tables.specs.Content.{LeavesOneOf}
 use Rattle.sqlite_trees.specs.declared.store.Store.{Ghosts}
 use Rattle.command_ends.specs.declared.fault.Fault.{Fault}
+use Rattle.commands.specs.Printed.{Prints}
 use Rattle.commands.specs.Work.{AreAny, AreIn, CrashLeaves, HasEnded, IsDone, IsDoneOn, IsImport, IsRefusal, IsRefusedOn, MayBeLeft}
 use Rattle.commands.specs.declared.work.Work.{Work}
 use Rattle.commands.specs.declared.work.Work.TheVariants.{Import, Statement, Serve}
@@ -73,15 +74,19 @@ module _ (are_read : List ℕ → Type 0) (work : Work) (before after : State) (
 
 -- work on a book that ended
 module _ {S A : Type 0} (store : Ghosts S) (are_read : List ℕ → Type 0) (work : Work) (old new : TableBook S) (before after : Option (List ℕ)) where
-  pub ended : (r : Result A Fault) → (IsHonest store new → OnOk r (IsDoneOn store are_read work old new before after)) → IfErr r (IsRefusal work before after)
+  pub ended : (r : Result A Fault) → OnOk r (Prints work before after) → (IsHonest store new → OnOk r (IsDoneOn store are_read work old new before after)) → IfErr r (IsRefusal work before after)
       → (IsHonest store new → IfErr r (IsRefusedOn store are_read work old new before after)) → HasEnded store are_read work old new before after r
-  ended (Ok a) done told refused = done
-  ended (Err fault) done told refused = (told, refused)
+  ended (Ok a) printed done told refused = (printed, done)
+  ended (Err fault) printed done told refused = (told, refused)
 
   pub ended_ok : (r : Result A Fault) → IsOk r → HasEnded store are_read work old new before after r → IsHonest store new
       → IsDoneOn store are_read work old new before after
-  ended_ok (Ok a) ok done = done
+  ended_ok (Ok a) ok done = done.1
   ended_ok (Err fault) ok refused = absurd (let no : false ≡ true = ok in cc)
+
+  pub ended_printed : (r : Result A Fault) → IsOk r → HasEnded store are_read work old new before after r → Prints work before after
+  ended_printed (Ok a) ok done = done.0
+  ended_printed (Err fault) ok refused = absurd (let no : false ≡ true = ok in cc)
 
   pub ended_err : (r : Result A Fault) → HasEnded store are_read work old new before after r → IfErr r (IsRefusal work before after)
   ended_err (Ok a) done = tt

@@ -1,4 +1,5 @@
 pub mod Found
+pub mod Printed
 pub mod Refusals
 pub mod Store
 pub mod Words

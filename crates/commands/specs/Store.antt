@@ -1,10 +1,10 @@
 -- What a new store is to have, where it can be, and why one is not opened.
-use Rattle.std.specs.Prelude.{◌≡◌, ◌⊎◌, ◌||◌, ℕ, ℤ, Bool, List, bytes_eq, codes, nat_eq, not}
+use Rattle.std.specs.Prelude.{◌≡◌, ◌⊎◌, ◌||◌, ℕ, ℤ, Bool, IsTrue, List, bytes_eq, codes, nat_eq, not}
 use Rattle.std.specs.List.{starts_with}
 use Rattle.command_ends.specs.declared.fault.Fault.{Fault}
 use Rattle.command_ends.specs.declared.fault.Fault.TheVariants.{Memory, Disk, Damaged}
 use Rattle.command_words.specs.declared.outcome.Init.{Init}
-use Rattle.queue_types.specs.Settings.{SettingValues}
+use Rattle.queue_types.specs.Settings.{AreSettings, SettingValues}
 
 -- the settings that a new store is to have, from this second of the clock on
 abbrev pub settings_of : Init → ℤ → SettingValues
@@ -13,6 +13,10 @@ settings_of words epoch = record { uri = words.uri.now; name = words.name.now; e
 -- SQLite takes the path for a file's name: it is not that of a database in memory, and no URI
 abbrev pub is_file_name : List ℕ → Bool
 is_file_name path = not (bytes_eq path (codes ":memory:") || starts_with nat_eq path (codes "file:"))
+
+-- a store that these words ask for can be made: its path is a file's name, and its settings are within their limits, at any second of the clock
+abbrev pub CanBeMade : Init → Type 0
+CanBeMade words = IsTrue (is_file_name words.store.now) × ((epoch : ℤ) → AreSettings (settings_of words epoch))
 
 -- a path that can't be looked at or made is told so
 abbrev pub IsOfPath : Fault → Type 0

@@ -19,6 +19,7 @@ use Rattle.queue_store.specs.declared.book.TableBook.{TableBook}
 use Rattle.queue_tables.specs.Content.{LeavesOneOf}
 use Rattle.sqlite.specs.State.{State}
 use Rattle.sqlite_trees.specs.declared.store.Store.{Ghosts}
+use Rattle.commands.specs.Printed.{Prints}
 use Rattle.commands.specs.Refusals.{IsOfNoAccount, MayBeToldOf}
 use Rattle.commands.specs.declared.work.Work.{Work}
 use Rattle.commands.specs.declared.work.Work.TheVariants.{Import, Statement, Serve}
@@ -80,23 +81,17 @@ MayBeLeft are_read (Serve words) w u x = (counts : List ℕ) × AreConnections w
 abbrev pub CrashLeaves : State → State → World → (World → Type 0) → Type 0
 CrashLeaves before after u may_be_left = IsTrue before.is_open → (x : World) × LeavesOneOf u x after × may_be_left x
 
--- once it is done the store is open; of a server no contract says so, as a fault may have shut its store and the look at it behind that
--- have had no memory
-abbrev pub LeavesOpen : Work → Type 0
-LeavesOpen (Import words) = ⊤
-LeavesOpen (Statement words) = ⊤
-LeavesOpen (Serve words) = ⊥
+-- it is an account file or a statement, which is no server
+abbrev pub IsBrief : Work → Type 0
+IsBrief (Import words) = ⊤
+IsBrief (Statement words) = ⊤
+IsBrief (Serve words) = ⊥
 
--- it prints nothing before it is done; a server tells of each connection
-abbrev pub PrintsLast : Work → Type 0
-PrintsLast (Import words) = ⊤
-PrintsLast (Statement words) = ⊤
-PrintsLast (Serve words) = ⊥
-
--- what is told of work that was refused: a fault that may be told of it; and what prints nothing before it is done has printed nothing, or a stream failed
+-- what is told of work that was refused: a fault that may be told of it
 pub record IsRefusal (work : Work) (before after : Option (List ℕ)) (fault : Fault) : Type 0 where
   pub told : MayBeToldOf work fault
-  pub quiet : PrintsLast work → IsOfStream fault ⊎ (after ≡ before)
+  -- nothing was printed, or a stream failed; a server tells of each connection
+  pub quiet : IsBrief work → IsOfStream fault ⊎ (after ≡ before)
 
 -- a book, and what was written, before the work and after it
 module _ {S : Type 0} (store : Ghosts S) (are_read : List ℕ → Type 0) (work : Work) (old new : TableBook S) (before after : Option (List ℕ)) where
@@ -105,7 +100,8 @@ module _ {S : Type 0} (store : Ghosts S) (are_read : List ℕ → Type 0) (work 
     pub began : IsHonest store old
     pub done : (w : World) → StandsFor store old w → (u : World) × StandsFor store new u × IsDone are_read work w u before after
         × CrashLeaves (shown_by store old) (shown_by store new) u (MayBeLeft are_read work w u)
-    pub live : LeavesOpen work → IsTrue (shown_by store new).is_open
+    -- the store is open; of a server no contract says so, as a fault may have shut its store and the look at it behind that have had no memory
+    pub live : IsBrief work → IsTrue (shown_by store new).is_open
 
   -- the work is refused with this fault: of the queue w it left u, and a crash at any moment leaves u, or a queue that may be left beside it
   pub record IsRefusedOn (fault : Fault) : Type 0 where
@@ -113,10 +109,10 @@ module _ {S : Type 0} (store : Ghosts S) (are_read : List ℕ → Type 0) (work 
     pub refused : (w : World) → StandsFor store old w → (u : World) × StandsFor store new u × IsNotDone are_read work fault w u before after
         × CrashLeaves (shown_by store old) (shown_by store new) u (MayBeLeft are_read work w u)
 
-  -- what came of the work: it is done, or refused with a fault; what is told of it is known of any book, and what became of the book where it is
-  -- an honest one
+  -- what came of the work: it is done, or refused with a fault; what was printed or is told of it is known of any book, and what became of the book where
+  -- it is an honest one
   abbrev pub HasEnded : {A : Type 0} → Result A Fault → Type 0
-  HasEnded (Ok done) = IsHonest store new → IsDoneOn
+  HasEnded (Ok done) = Prints work before after × (IsHonest store new → IsDoneOn)
   HasEnded (Err fault) = IsRefusal work before after fault × (IsHonest store new → IsRefusedOn fault)
 
 abbrev pub store_of : Work → List ℕ

@@ -64,6 +64,7 @@ fn import_bytes_at<S: Alter, W: Write>(
         → (u x : World) × StandsFor S.Store book.new u × LeavesOneOf u x (shown_by S.Store book.new)
         × IsAllOrNone (λ v. (n : ImportedRows) × IsTaken now w v bytes.now n) w u x }
     // over any book, also one that is not honest
+    ensures written { OnOk result ((n : ImportedRows) × Appends (W.contents output.old) (W.contents output.new) (import_line n)) }
     ensures unread { (told : ImportFault) → rows_of bytes.now ≡ Err told → (result ≡ Err (ByFile told)) ⊎ (result ≡ Err (ByFile fault)) }
     ensures refused { IfErr result (λ f. (told : ImportFault) → f ≡ ByFile told → (w : World) → StandsFor S.Store book.old w → StandsFor S.Store book.new w) }
     ensures told { IfErr result IsOfImport }
@@ -101,6 +102,8 @@ pub(crate) fn import_into<C: Clock, S: Alter, W: Write>(
     // a stream failed, or the file is refused
     ensures why { IsHonest S.Store book.new → IfErr result (λ f. (w : World) → StandsFor S.Store book.old w → IsOfStream f ⊎ IsOfFile (AreIn file) f w) }
     ensures told { IfErr result IsOfImport }
+    // over any book, also one that is not honest
+    ensures written { OnOk result ((n : ImportedRows) × Appends (W.contents output.old) (W.contents output.new) (import_line n)) }
 {
     let now = moment_of(clock, book)?;
     let bytes = file?;
@@ -126,6 +129,8 @@ pub(crate) fn print_from<S: Alter, W: Write>(
     ensures damaged { IsHonest S.Store book.new → IfErr result (λ f. f ≡ Damaged → (w : World) → ¬ StandsFor S.Store book.old w) }
     ensures live { IsHonest S.Store book.new → OnOk result (IsTrue (shown_by S.Store book.new).is_open) }
     ensures told { IfErr result IsOfStatement }
+    // over any book, also one that is not honest
+    ensures written { OnOk result ((s : Sheet) × Appends (W.contents output.old) (W.contents output.new) (sheet_text s)) }
     // a stream failed, or nothing was written
     ensures quiet { IfErr result (λ f. IsOfStream f ⊎ (output.new ≡ output.old)) }
 {

@@ -1,8 +1,13 @@
 //! The program: its words, the command that they name and the exit status.
-ghost use Rattle.std.specs.Prelude.{◌≡◌, ◌≤◌, [], IfErr, IfOk, IsErrOf, IsOk, map};
-ghost use Rattle.clap.specs.Words.{fault_of};
+ghost use Rattle.std.specs.Prelude.{◌≡◌, ◌≤◌, ◌⊎◌, [], IfErr, IfOk, IsErrOf, IsOk, IsSomeAnd, OnOk, map};
+ghost use Rattle.clap.specs.Words.{fault_of, subcommand_of};
 ghost use Rattle.command_words.specs.CommandLine.{definition};
-ghost use Rattle.commands.specs.Refusals.{MayBeToldBy};
+ghost use Rattle.command_words.specs.Values.{IsCommand};
+ghost use Rattle.command_words.specs.declared.outcome.Command.{Command as NamedCommand};
+ghost use Rattle.command_words.specs.declared.outcome.Init.{Init};
+ghost use Rattle.commands.specs.Printed.{HasPrinted, Prints};
+ghost use Rattle.commands.specs.Refusals.{MayBeToldBy, MayBeToldOf};
+ghost use Rattle.commands.specs.Store.{CanBeMade, IsOfStore};
 ghost use Rattle.commands.specs.Words.{AreWrong, AskForText};
 
 use crate::store::{FileBook, make_store};
@@ -26,21 +31,36 @@ fn close(done: Result<FileBook<Unknown>, Fault>) -> Result<(), Fault>
     Ok(())
 }
 
+/// Does the work on the store that is at its path, closes the store and flushes what is printed, and gives the exit status.
+fn do_work<O: Write>(rt: &HostRuntime, work: Work<'_>, out: &mut O) -> Result<u8, Fault>
+    ensures status { IfOk result (λ status. status ≡ 0) }
+    ensures printed { OnOk result (Prints work.entry (O.contents out.old) (O.contents out.new)) }
+    ensures told { IfErr result (λ f. IsOfStore f ⊎ MayBeToldOf work.entry f) }
+{
+    close(work_at(rt, work, out, Unknown))?;
+    out.flush()?;
+    Ok(0)
+}
+
 /// Does what a command asks, and gives the exit status.
 fn do_command<O: Write>(rt: &HostRuntime, command: Command<'_>, out: &mut O) -> Result<u8, Fault>
     ensures status { IfOk result (λ status. status ≤ 1) }
     ensures replayed { IfOk result (λ status. status ≡ 1 → command.entry ≡ Command.Replay) }
     ensures told { IfErr result (MayBeToldBy command.entry) }
+    // whatever its files hold
+    ensures made { (words : Init) → command.entry ≡ Command.Init words → OnOk result (CanBeMade words) }
+    ensures printed { IfOk result (λ status. HasPrinted command.entry status (O.contents out.old) (O.contents out.new)) }
 {
     match command {
-        Command::Init(words) => close(make_store(rt, words, Unknown))?,
-        Command::Import(words) => close(work_at(rt, Work::Import(words), out, Unknown))?,
-        Command::Statement(words) => close(work_at(rt, Work::Statement(words), out, Unknown))?,
-        Command::Serve(words) => close(work_at(rt, Work::Serve(words), out, Unknown))?,
-        Command::Replay => return Ok(replay(rt.alloc(), &mut rt.reader(), out)?),
+        Command::Init(words) => {
+            close(make_store(rt, words, Unknown))?;
+            Ok(0)
+        }
+        Command::Import(words) => do_work(rt, Work::Import(words), out),
+        Command::Statement(words) => do_work(rt, Work::Statement(words), out),
+        Command::Serve(words) => do_work(rt, Work::Serve(words), out),
+        Command::Replay => Ok(replay(rt.alloc(), &mut rt.reader(), out)?),
     }
-    out.flush()?;
-    Ok(0)
 }
 
 /// Does what the program's words ask, the first of which is its own name, and gives the exit status: 0 where it is done, 1 where it is
@@ -55,6 +75,10 @@ pub fn run<O: Write, E: Write>(rt: &HostRuntime, words: &[&str], out: &mut O, er
     ensures status { result ≤ 2 }
     ensures silent { result ≡ 0 → err.new ≡ err.old }
     ensures unprinted { result ≡ 2 → out.new ≡ out.old }
+    // a command that was done, whatever its files hold: its words allow it, and it has printed what it is to print
+    ensures done { fault_of definition (map (λ w. w.now) words.now) ≡ [] → result ≡ 0 → (c : NamedCommand)
+        × IsSomeAnd (subcommand_of definition (map (λ w. w.now) words.now)) (IsCommand c)
+        × ((words : Init) → c ≡ Command.Init words → CanBeMade words) × HasPrinted c 0 (O.contents out.old) (O.contents out.new) }
 {
     match command(rt.alloc(), words) {
         Ok(command) => {

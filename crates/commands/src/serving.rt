@@ -80,6 +80,8 @@ fn serve_at<C: Clock, S: Alter, W: Write>(
         × LeavesOneOf u x (shown_by S.Store book.new) × IsAtMostOneMore u x }
     ensures damaged { IsHonest S.Store book.new → IfErr result (λ f. f ≡ Damaged → (w : World) → StandsFor S.Store book.old w → settings.now ≡ w.settings → ⊥) }
     ensures told { IfErr result IsOfServe }
+    // over any book, also one that is not honest
+    ensures written { OnOk result ((counts : List ℕ) × (length counts ≡ words.entry.connections) × Appends (W.contents output.old) (W.contents output.new) (served_lines counts)) }
 {
     let service = service(alloc, words, listener, settings);
     match service.serve_connections(clock, output, book, words.connections) {
@@ -115,6 +117,9 @@ pub(crate) fn serve_book<
         × LeavesOneOf u x (shown_by S.Store book.new) × IsAtMostOneMore u x }
     ensures damaged { IsHonest S.Store book.new → IfErr result (λ f. f ≡ Damaged → (w : World) → ¬ StandsFor S.Store book.old w) }
     ensures told { IfErr result IsOfServe }
+    // over any book, also one that is not honest
+    ensures written { OnOk result ((counts : List ℕ) × (length counts ≡ words.entry.connections)
+        × Appends (W.contents output.old) (W.contents output.new) (listening_line words.entry.port ++ served_lines counts)) }
 {
     let settings = book.settings()?;
     let listener = listen(rt, output, words.port)?;

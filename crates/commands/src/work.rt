@@ -1,5 +1,5 @@
 //! What a command does on the store that is at a path.
-ghost use Rattle.std.specs.Prelude.{◌≡◌, ◌⊎◌, IfErr, IfOk, IsTrue};
+ghost use Rattle.std.specs.Prelude.{◌≡◌, ◌⊎◌, IfErr, IfOk, IsTrue, OnOk};
 ghost use Rattle.sqlite.specs.Files.{over_files};
 ghost use Rattle.sqlite_wal.specs.Files.{image_at};
 ghost use Rattle.queue_core.specs.World.{World};
@@ -9,8 +9,9 @@ ghost use Rattle.queue_store.specs.Opened.{FitsFile, IsKeptIn};
 ghost use Rattle.queue_tables.specs.Content.{LeavesOneOf};
 ghost use Rattle.command_ends.specs.Faults.{IsOfStream};
 ghost use Rattle.commands.specs.Store.{IsOfStore};
+ghost use Rattle.commands.specs.Printed.{Prints};
 ghost use Rattle.commands.specs.Refusals.{MayBeToldOf};
-ghost use Rattle.commands.specs.Work.{AreAny, AreIn, AreReadIn, HasEnded, IsDone, IsDoneOn, IsRefusal, LeavesOpen, MayBeLeft, PrintsLast, store_of};
+ghost use Rattle.commands.specs.Work.{AreAny, AreIn, AreReadIn, HasEnded, IsBrief, IsDone, IsDoneOn, IsRefusal, MayBeLeft, store_of};
 
 use crate::office_commands::{import_into, print_from};
 use crate::serving::serve_book;
@@ -117,6 +118,7 @@ fn work_over<
 ) -> Result<TableBook<FileStore<D>>, Fault>
     ensures done { IfOk result (λ b. IsHonest over_files b
         → IsDoneOn over_files (AreReadIn F.remaining file) work.entry book b (W.contents output.old) (W.contents output.new)) }
+    ensures printed { OnOk result (Prints work.entry (W.contents output.old) (W.contents output.new)) }
     ensures told { IfErr result (IsRefusal work.entry (W.contents output.old) (W.contents output.new)) }
 {
     let bytes = read_opened(alloc, file);
@@ -140,8 +142,12 @@ pub(crate) fn work_at<S: Start, W: Write>(
     ensures again { (w : World) → IsKept (image_at S.Start) w → IfOk result (λ b. IsHonest over_files b
         → (u : World) × StandsFor over_files b u × IsDone AreAny work.entry w u (W.contents output.old) (W.contents output.new)
         × (x : World) × LeavesOneOf u x (shown_by over_files b) × MayBeLeft AreAny work.entry w u x) }
-    ensures live { IfOk result (λ b. IsHonest over_files b → LeavesOpen work.entry → IsTrue (shown_by over_files b).is_open) }
-    ensures quiet { IfErr result (λ f. PrintsLast work.entry → IsOfStream f ⊎ (W.contents output.new ≡ W.contents output.old)) }
+    // the store is open; of a server no contract says so, as a fault may have shut its store and the look at it behind that have had no memory
+    ensures live { IfOk result (λ b. IsHonest over_files b → IsBrief work.entry → IsTrue (shown_by over_files b).is_open) }
+    // over any store, also one that is not honest
+    ensures printed { OnOk result (Prints work.entry (W.contents output.old) (W.contents output.new)) }
+    // nothing was printed, or a stream failed; a server tells of each connection
+    ensures quiet { IfErr result (λ f. IsBrief work.entry → IsOfStream f ⊎ (W.contents output.new ≡ W.contents output.old)) }
     ensures told { IfErr result (λ f. IsOfStore f ⊎ MayBeToldOf work.entry f) }
 {
     let book = open_store(rt, work.store(), start)?;

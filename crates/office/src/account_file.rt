@@ -1,5 +1,5 @@
 //! An account file enters a book.
-ghost use Rattle.std.specs.Prelude.{◌≡◌, ◌≢◌, ◌⊎◌, ℕ, List, Err, Some, IfErr, IfOk, OnOk, take};
+ghost use Rattle.std.specs.Prelude.{◌≡◌, ◌≢◌, ◌⊎◌, Err, Some, IfErr, IfOk, OnOk, take};
 ghost use Rattle.office.specs.declared.fault.OfficeFault.TheVariants.{Import};
 ghost use Rattle.std.specs.Io.KnownBytes.{Appends};
 ghost use Rattle.std.specs.Option.{IfSome};
@@ -78,6 +78,7 @@ pub fn import_bytes<W: Write, B: QueueBook>(
         → (u : World) × B.stands book.new u
         × ((v : World) → B.crash_leaves book.old w v → (x : World) × B.crash_leaves book.new u x × Leaves (λ e. Asks bytes.now (Some e)) now w v u x) }
     // over any book, also one that is not honest
+    ensures written { OnOk result ((n : ImportedRows) × Appends (W.contents writer.old) (W.contents writer.new) (import_line n)) }
     ensures unread { (told : ImportFault) → rows_of bytes.now ≡ Err told → (result ≡ Err (Import told)) ⊎ (result ≡ Err (Import fault)) }
     ensures refused { IfErr result (λ f. (told : ImportFault) → f ≡ Import told → (w : World) → B.stands book.old w → B.stands book.new w) }
     ensures told { IfErr result (λ f. IsOfStream f ⊎ IsOfFile f) }

@@ -18,7 +18,7 @@ use std::marker::Model;
 pub const MOST_LINE: usize = b"ipp ".len() + 2 * MOST_BYTES;
 
 /// How many times an input is read at most. After that it ends as by a read that fails.
-pub const MOST_READS: u32 = 4_294_967_295;
+pub const MOST_READS: u32 = u32::MAX;
 
 /// How many bytes a read may give.
 const BUFFER: usize = 65_536;
@@ -167,13 +167,8 @@ impl LineReader {
                 self.end = count;
                 Ok(count > 0)
             }
-            Err(error) => {
-                if error.kind() == ErrorKind::Interrupted {
-                    Ok(true)
-                } else {
-                    Err(Fault::from(error))
-                }
-            }
+            Err(error) if error.kind() == ErrorKind::Interrupted => Ok(true),
+            Err(error) => Err(Fault::from(error)),
         }
     }
 }

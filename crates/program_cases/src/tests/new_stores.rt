@@ -6,7 +6,6 @@ use crate::tests::folder::{
     At, DAMAGED, DISK, FILE, MADE, NO_ACCOUNT, STORE, Step, Told, URI, take_steps,
     take_steps_for_nothing,
 };
-use commands::run;
 use std::test::Fail;
 
 const BAD_SETTING: Told<'static> = (1, "", "printd: bad setting\n");
@@ -107,70 +106,4 @@ const NOWHERE: &[Step<'static>] = &[
 #[test]
 fn paths_where_no_store_can_be_made(rt: HostRuntime) -> Result<(), Fail> {
     take_steps_for_nothing(&rt, "nowhere", NOWHERE)
-}
-
-/// Words that name no command, and the exit status.
-const WORDS: &[(&[&str], u8)] = &[
-    (&["printd", "sweep", "x"], 2),
-    (&["printd", "import", "--store"], 2),
-    (&["printd", "import", "--store", "a"], 2),
-    (&["printd", "init", "--store", "a", "--uri", URI], 2),
-    (
-        &[
-            "printd",
-            "init",
-            "--store",
-            "a",
-            "--uri",
-            URI,
-            "--name",
-            "b",
-            "--estimate",
-            "100001",
-        ],
-        2,
-    ),
-    (
-        &[
-            "printd",
-            "serve",
-            "--store",
-            "a",
-            "--port",
-            "0",
-            "--connections",
-            "1",
-        ],
-        2,
-    ),
-    (
-        &[
-            "printd",
-            "serve",
-            "--store",
-            "a",
-            "--port",
-            "1",
-            "--connections",
-            "0",
-        ],
-        2,
-    ),
-    (&["printd", "--help"], 0),
-    (&["printd", "import", "--help"], 0),
-];
-
-/// Words that name no command end with status 2 and print nothing; a help text that was asked for ends with 0.
-#[test]
-fn words_of_no_command(rt: HostRuntime) {
-    for (words, wanted) in WORDS {
-        let mut out = Vec::new(rt.alloc());
-        let mut err = Vec::new(rt.alloc());
-        assert_eq!(rt; run(&rt, *words, &mut out, &mut err), *wanted, "{words:?}");
-        assert_eq!(rt;
-            (out.is_empty(), err.is_empty()),
-            (*wanted == 2, *wanted == 0),
-            "{words:?}"
-        );
-    }
 }

@@ -2,6 +2,7 @@
 
 use crate::tests::folder::tell;
 use command_words::{Command, CommandFault, Import, Init, Serve, Statement, command};
+use commands::run;
 use http_desk::compare::Mismatch;
 use std::alloc::Global;
 use std::num::NonZeroU32;
@@ -117,18 +118,85 @@ fn words_that_serve(rt: HostRuntime) {
     }
 }
 
+/// Words of a server on port 0.
+const PORT_0: &[&str] = &[
+    "printd",
+    "serve",
+    "--store",
+    "a",
+    "--port",
+    "0",
+    "--connections",
+    "1",
+];
+
+/// Words that name no command, and the exit status.
+const WORDS: &[(&[&str], u8)] = &[
+    (&["printd"], 2),
+    (&["printd", "print"], 2),
+    (&["printd", "replay", "now"], 2),
+    (&["printd", "sweep", "x"], 2),
+    (&["printd", "import", "--store"], 2),
+    (&["printd", "import", "--store", "a"], 2),
+    (&["printd", "init", "--store", "a", "--uri", "b"], 2),
+    (
+        &[
+            "printd",
+            "init",
+            "--store",
+            "a",
+            "--uri",
+            "b",
+            "--name",
+            "c",
+            "--estimate",
+            "100001",
+        ],
+        2,
+    ),
+    (PORT_0, 2),
+    (
+        &[
+            "printd",
+            "serve",
+            "--store",
+            "a",
+            "--port",
+            "1",
+            "--connections",
+            "0",
+        ],
+        2,
+    ),
+    (&["printd", "--help"], 0),
+    (&["printd", "import", "--help"], 0),
+];
+
+/// Words that name no command are told what is wrong with them, or the text that they ask for.
 #[test]
 fn words_that_name_none(rt: HostRuntime) {
-    for (words, status) in [
-        (&["printd"] as &[&str], 2),
-        (&["printd", "print"], 2),
-        (&["printd", "replay", "now"], 2),
-        (&["printd", "--help"], 0),
-    ] {
-        match command(rt.alloc(), words) {
-            Err(CommandFault::Words(error)) => assert_eq!(rt; error.exit_code(), status),
-            _ => panic!(rt; "a command"),
+    for (words, status) in WORDS {
+        match command(rt.alloc(), *words) {
+            Err(CommandFault::Words(error)) => {
+                assert_eq!(rt; error.exit_code(), i32::from(*status), "{words:?}")
+            }
+            _ => panic!(rt; "a command: {words:?}"),
         }
+    }
+}
+
+/// Words that name no command end with status 2 and print nothing; a help text that was asked for ends with 0.
+#[test]
+fn words_of_no_command(rt: HostRuntime) {
+    for (words, status) in WORDS {
+        let mut out = Vec::new(rt.alloc());
+        let mut err = Vec::new(rt.alloc());
+        assert_eq!(rt; run(&rt, *words, &mut out, &mut err), *status, "{words:?}");
+        assert_eq!(rt;
+            (out.is_empty(), err.is_empty()),
+            (*status == 2, *status == 0),
+            "{words:?}"
+        );
     }
 }
 
@@ -158,18 +226,6 @@ For more information, try '--help'.
 fn text_of_a_help(rt: HostRuntime) -> Result<(), Mismatch> {
     tell(&rt, &["printd", "serve", "--help"], (0, SERVE_HELP, ""))
 }
-
-/// Words of a server on port 0.
-const PORT_0: &[&str] = &[
-    "printd",
-    "serve",
-    "--store",
-    "a",
-    "--port",
-    "0",
-    "--connections",
-    "1",
-];
 
 /// What is wrong with words is printed on standard error, and the exit status is 2.
 #[test]

@@ -3,6 +3,7 @@
 use crate::tests::judge::judge_changes;
 use crate::tests::queue::{empty_book, full_tables};
 use crate::tests::tables::{DAMAGED, Judgement, Tables};
+use sqlite::Constraint;
 use std::alloc::Global;
 use std::test::Fail;
 
@@ -111,18 +112,27 @@ const NULLS: &str = "\
     UPDATE reports SET kind = NULL; UPDATE reports SET count = NULL; \
     UPDATE reports SET state = NULL; UPDATE reports SET total = NULL";
 
-/// What the tables refuse beside that: another type, a key that is taken, or a row that isn't there.
-const REFUSED: &str = "\
+/// Values of another type than their columns.
+const OTHER_TYPES: &str = "\
     UPDATE jobs SET created = 'soon'; \
     UPDATE jobs SET begun = 'soon'; \
-    UPDATE pieces SET bytes = 'one' WHERE job = 1; \
+    UPDATE pieces SET bytes = 'one' WHERE job = 1";
+
+/// Rows whose number is taken.
+const NUMBERS_TAKEN: &str = "\
     INSERT INTO meta VALUES (1, 1, 'ipp://localhost/ipp/print', 'release', 20, 0, 11); \
-    INSERT INTO jobs VALUES (9, 'alice', 'untitled', 1, 20, 1, 0, 0, 0, 0, 0, 10, NULL, NULL); \
+    INSERT INTO jobs VALUES (9, 'alice', 'untitled', 1, 20, 1, 0, 0, 0, 0, 0, 10, NULL, NULL)";
+
+/// Rows whose key, of another kind or of several columns, is taken.
+const KEYS_TAKEN: &str = "\
     INSERT INTO documents VALUES (1, 1, 'text/plain', 3); \
     INSERT INTO pieces VALUES (1, 1, 0, x'6f6e65'); \
     INSERT INTO accounts VALUES ('alice', 0, 0, 0); \
     INSERT INTO grants VALUES ('f24', 'alice', 300); \
-    INSERT INTO reports VALUES (1, 1, 1, 0, 5, 0); \
+    INSERT INTO reports VALUES (1, 1, 1, 0, 5, 0)";
+
+/// Rows of a job, a document or an account that isn't there, or that go while others need them.
+const ROWS_APART: &str = "\
     INSERT INTO documents VALUES (11, 1, 'text/plain', 3); \
     INSERT INTO pieces VALUES (1, 2, 0, x'6f6e65'); \
     INSERT INTO grants VALUES ('f24', 'dave', 1); \
@@ -131,26 +141,34 @@ const REFUSED: &str = "\
     DELETE FROM documents WHERE job = 1; \
     DELETE FROM accounts WHERE name = 'alice'";
 
-fn refuse_in_turn(tables: &mut Tables, whole: &[u8], statements: &str) -> Result<(), Fail> {
+fn refuse_in_turn(
+    tables: &mut Tables,
+    whole: &[u8],
+    statements: &str,
+    broken: Constraint,
+) -> Result<(), Fail> {
     for statement in statements.split("; ") {
-        tables.refuse(whole, statement)?;
+        tables.refuse(whole, statement, broken)?;
     }
     Ok(())
 }
 
-/// Each statement by itself is refused by the queue's tables, which stay as they were.
-fn refuse_each(alloc: Global, statements: &str) -> Result<(), Fail> {
+/// Each statement by itself is refused by the queue's tables, since it breaks a constraint of this kind, and they stay as they were.
+fn refuse_each(alloc: Global, statements: &str, broken: Constraint) -> Result<(), Fail> {
     let mut tables = full_tables(alloc)?;
     let whole = tables.content()?;
-    refuse_in_turn(&mut tables, whole.as_slice(), statements)
+    refuse_in_turn(&mut tables, whole.as_slice(), statements, broken)
 }
 
 #[test]
 fn rows_that_tables_refuse(rt: HostRuntime) -> Result<(), Fail> {
-    refuse_each(rt.alloc(), REFUSED)
+    refuse_each(rt.alloc(), OTHER_TYPES, Constraint::Datatype)?;
+    refuse_each(rt.alloc(), NUMBERS_TAKEN, Constraint::PrimaryKey)?;
+    refuse_each(rt.alloc(), KEYS_TAKEN, Constraint::Unique)?;
+    refuse_each(rt.alloc(), ROWS_APART, Constraint::ForeignKey)
 }
 
 #[test]
 fn columns_without_a_value(rt: HostRuntime) -> Result<(), Fail> {
-    refuse_each(rt.alloc(), NULLS)
+    refuse_each(rt.alloc(), NULLS, Constraint::NotNull)
 }

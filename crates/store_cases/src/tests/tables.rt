@@ -5,7 +5,8 @@ use book_desk::printer;
 use queue_core::book::BookFault;
 use queue_store::TableBook;
 use sqlite::types::ValueRef;
-use sqlite::{Alter, Connection, MemStore, Row, params};
+use sqlite::{Alter, Connection, Constraint, Error, ErrorCode, MemStore, Row, params};
+use sqlite_resolve::CompileError;
 use std::alloc::{AllocError, Global};
 use std::io::Write;
 use std::test::Fail;
@@ -100,11 +101,12 @@ impl Tables {
         opened(TableBook::adopt(alloc, conn))
     }
 
-    /// Adds the rows that a query shows, where its tables are there.
+    /// Adds the rows that a query shows, or none where its table isn't there.
     fn put_shown(&mut self, out: &mut Vec<u8>, query: &str) -> Result<(), Fail> {
         match self.conn.query_all(query, &[]) {
             Ok(rows) => put_rows(out, rows.as_slice()),
-            Err(_error) => Ok(()),
+            Err(Error::SqlInputError(CompileError::NoSuchTable)) => Ok(()),
+            Err(error) => Err(Fail::from(error)),
         }
     }
 
@@ -157,10 +159,16 @@ impl Tables {
         Ok(())
     }
 
-    /// A statement is refused, and they stay as they were.
-    pub(super) fn refuse(&mut self, whole: &[u8], statement: &str) -> Result<(), Fail> {
+    /// A statement is refused, since it breaks a constraint of this kind, and they stay as they were.
+    pub(super) fn refuse(
+        &mut self,
+        whole: &[u8],
+        statement: &str,
+        broken: Constraint,
+    ) -> Result<(), Fail> {
         let came = self.conn.execute(statement, &[]);
-        same(&came.is_err(), &true, statement)?;
+        let refusal = Error::SqliteFailure(ErrorCode::ConstraintViolation(broken));
+        same(&came, &Err(refusal), statement)?;
         self.has_content(whole, statement)
     }
 

@@ -1,8 +1,8 @@
-use Rattle.command_words.specs.CommandLine.{IsProgram, replay_words, serve_words}
-use Rattle.command_words.proofs.DefinitionLemmas.{adds_subcommand, if_ok, is_program}
+use Rattle.command_words.specs.CommandLine.{IsApp, replay_words, serve_words}
+use Rattle.command_words.proofs.DefinitionLemmas.{adds_subcommand, if_ok}
 use Rattle.command_words.proofs.definition.defined.Goals as goal
 
 pub returns : goal.returns
 returns c =
     let serves = c.in_ok-program.ensures _ serve_words c.in_ok-for_office.ensures c.serve.ensures in
-    if_ok _ (IsProgram _) c.subcommand.result (λ x h. is_program _ x (adds_subcommand _ replay_words _ _ x h serves c.replay.ensures)) c.subcommand.ensures
+    if_ok _ (IsApp _) c.subcommand.result (λ x h. adds_subcommand _ replay_words _ _ x h serves c.replay.ensures) c.subcommand.ensures

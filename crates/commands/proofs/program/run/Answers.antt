@@ -1,9 +1,26 @@
-use Rattle.std.proofs.Common.{◌≡◌, ◌≤◌, ◌∙◌, ℕ, lit≤, arith}
+use Rattle.std.proofs.Common.{◌≡◌, ◌≤◌, ◌∙◌, ℕ, subst, lit≤, arith}
+use Rattle.commands.specs.Printed.{HasPrinted}
+use Rattle.commands.specs.Store.{CanBeMade}
 use Rattle.commands.proofs.EndingLemmas.{asks_nothing, asks_text, at_least_one, at_most, at_status, but_one, if_ok}
 use Rattle.commands.proofs.program.run.Goals as goal
 
 pub returns-in-Ok-clause-named : goal.returns-in-Ok-clause-named
 returns-in-Ok-clause-named g c = λ none. at_most _ c.do_command-done.result c.end.result 1 c.end.ensures.done c.end.ensures.refused c.do_command-done.ensures.status (lit≤ tt)
+
+pub returns-in-Ok-clause-done : goal.returns-in-Ok-clause-done
+returns-in-Ok-clause-done g c = λ none zero.
+    let ok = (but_one _ c.do_command-done.result c.end.result c.end.ensures.done c.end.ensures.refused (λ one. absurd (omega arith))).0 in (
+      c.in-Ok.command,
+      c.in-Ok.ensures.named,
+      λ words is. at_status _ (λ n. CanBeMade words) c.do_command-done.result c.end.result c.end.ensures.done ok (c.do_command-done.ensures.made words is),
+      subst (λ n. HasPrinted c.in-Ok.command n (g.O.Write.contents c.args.out.now) (g.O.Write.contents c.do_command-done.new.out)) zero
+          (at_status _ _ c.do_command-done.result c.end.result c.end.ensures.done ok c.do_command-done.ensures.printed),
+    )
+
+pub returns-in-Err-Words-clause-done : goal.returns-in-Err-Words-clause-done
+returns-in-Err-Words-clause-done g c = λ none zero.
+    let among = rw c.in-Err-Words.field-0-is at c.in-Err-Words.ensures.refused in
+    absurd (rw none at among)
 
 pub returns-in-Ok-clause-wrong : goal.returns-in-Ok-clause-wrong
 returns-in-Ok-clause-wrong g c = λ wrong. absurd (wrong.0 c.in-Ok.ensures.taken)

@@ -21,6 +21,14 @@ returns-clause-served g c = λ honest. on_ok c.serve_at.result (c.serve_at.ensur
       end.6,
     ))
 
+pub returns-clause-written : goal.returns-clause-written
+returns-clause-written g c = on_ok c.serve_at.result c.serve_at.ensures.written (λ told. (
+  told.0,
+  told.1,
+  Appends-trans (g.W.Write.contents c.args.output.now) (g.W.Write.contents c.listen.new.out) (g.W.Write.contents c.serve_at.new.output)
+      (listening_line c.args.words.port) (served_lines told.0) c.in_ok-listener.ensures told.2,
+))
+
 pub returns-clause-err : goal.returns-clause-err
 returns-clause-err g c = λ honest. if_err c.serve_at.result _ _ (c.serve_at.ensures.err honest) (λ fault left w stands.
     left w stands (c.in_ok-settings.ensures w (c.serve_at.ensures.began honest) stands))

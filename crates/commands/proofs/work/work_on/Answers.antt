@@ -1,5 +1,6 @@
 use Rattle.std.proofs.Common.{ap, arith, refl, subst, sym, inl, inr}
 use Rattle.commands.specs.Work.{AreIn, HasEnded}
+use Rattle.commands.specs.declared.work.Work.TheVariants.{Import, Statement, Serve}
 use Rattle.commands.proofs.EndingLemmas.{both, both_ok, by_four, if_err, on_ok, or_same}
 use Rattle.commands.proofs.WorkLemmas.{ended}
 use Rattle.commands.proofs.work.work_on.Goals as goal
@@ -7,7 +8,7 @@ use Rattle.commands.proofs.work.work_on.Goals as goal
 pub returns-in-Import : goal.returns-in-Import
 returns-in-Import g c =
     subst (λ work. HasEnded g.S.Store (AreIn c.args.file) work c.args.book.now c.import_into.new.book (g.W.Write.contents c.args.output.now) (g.W.Write.contents c.import_into.new.output) c.import_into.result) (sym c.in-Import.is)
-    (ended g.S.Store _ _ _ _ _ _ c.import_into.result
+    (ended g.S.Store (AreIn c.args.file) (Import c.in-Import.field-0) c.args.book.now c.import_into.new.book (g.W.Write.contents c.args.output.now) (g.W.Write.contents c.import_into.new.output) c.import_into.result c.import_into.ensures.written
     (λ honest. on_ok c.import_into.result (both_ok c.import_into.result _ _ (c.import_into.ensures.taken honest) (c.import_into.ensures.live honest)) (λ told. record {
       began = c.import_into.ensures.began honest;
       done = λ w stands. let it = told.0 w stands in (it.1, it.3, (it.0, it.2, it.4), it.5);
@@ -30,7 +31,7 @@ returns-in-Import g c =
 pub returns-in-Statement : goal.returns-in-Statement
 returns-in-Statement g c =
     subst (λ work. HasEnded g.S.Store (AreIn c.args.file) work c.args.book.now c.print_from.new.book (g.W.Write.contents c.args.output.now) (g.W.Write.contents c.print_from.new.output) c.print_from.result) (sym c.in-Statement.is)
-    (ended g.S.Store _ _ _ _ _ _ c.print_from.result
+    (ended g.S.Store (AreIn c.args.file) (Statement c.in-Statement.words) c.args.book.now c.print_from.new.book (g.W.Write.contents c.args.output.now) (g.W.Write.contents c.print_from.new.output) c.print_from.result c.print_from.ensures.written
     (λ honest. on_ok c.print_from.result (both_ok c.print_from.result _ _ (c.print_from.ensures.printed honest) (c.print_from.ensures.live honest)) (λ told. record {
       began = c.print_from.ensures.began honest;
       done = λ w stands. let it = told.0 w stands in (
@@ -58,7 +59,7 @@ returns-in-Statement g c =
 pub returns-in-Serve : goal.returns-in-Serve
 returns-in-Serve g c =
     subst (λ work. HasEnded g.S.Store (AreIn c.args.file) work c.args.book.now c.serve_book.new.book (g.W.Write.contents c.args.output.now) (g.W.Write.contents c.serve_book.new.output) c.serve_book.result) (sym c.in-Serve.is)
-    (ended g.S.Store _ _ _ _ _ _ c.serve_book.result
+    (ended g.S.Store (AreIn c.args.file) (Serve c.in-Serve.words) c.args.book.now c.serve_book.new.book (g.W.Write.contents c.args.output.now) (g.W.Write.contents c.serve_book.new.output) c.serve_book.result c.serve_book.ensures.written
     (λ honest. on_ok c.serve_book.result (c.serve_book.ensures.served honest) (λ told. record {
       began = c.serve_book.ensures.began honest;
       done = λ w stands. let it = told w stands in (

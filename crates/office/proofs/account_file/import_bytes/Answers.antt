@@ -10,6 +10,9 @@ returns-clause-taken g c = λ honest. then c.tell.result c.tell.ensures.told (λ
     let a = c.in_ok-imported.ensures.added honest w stands in
     (c.in_ok-imported.imported, (step w c.args.now (grant a.0)).world, (a.0, a.1, a.2, refl), a.3, told))
 
+pub returns-clause-written : goal.returns-clause-written
+returns-clause-written g c = then c.tell.result c.tell.ensures.told (λ told. (c.in_ok-imported.imported, told))
+
 pub returns-clause-why : goal.returns-clause-why
 returns-clause-why g c = λ honest. failing c.tell.result IsOfStream _ c.tell.ensures.failed (λ f of_stream w stands.
     let a = c.in_ok-imported.ensures.added honest w stands in

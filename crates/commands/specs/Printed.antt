@@ -1,0 +1,31 @@
+-- What a command that is done has printed, whatever its files hold.
+use Rattle.std.specs.Prelude.{◌≡◌, ◌++◌, ℕ, List, Option, length}
+use Rattle.std.specs.Io.KnownBytes.{Appends, Keeps}
+use Rattle.command_words.specs.declared.outcome.Command.{Command}
+use Rattle.command_words.specs.declared.outcome.Command.TheVariants as command
+use Rattle.grants_csv.specs.declared.importing.Imported.{Imported}
+use Rattle.office.specs.Told.{import_line}
+use Rattle.page_statements.specs.Statement.{sheet_text}
+use Rattle.print_server.specs.Lines.{listening_line, served_lines}
+use Rattle.queue_core.specs.World.{empty_queue}
+use Rattle.queue_types.specs.declared.sheet.AccountSheet.{AccountSheet}
+use Rattle.replay.specs.Replay.{Replays, first, settings}
+use Rattle.replay.specs.Session.{State}
+use Rattle.commands.specs.declared.work.Work.{Work}
+use Rattle.commands.specs.declared.work.Work.TheVariants.{Import, Statement, Serve}
+
+-- what was written is the output then, where that was the output before: the line of an account file, of some counts; the statement of some
+-- account; or the line of a server that listens on its port, and one for each of its connections
+abbrev pub Prints : Work → Option (List ℕ) → Option (List ℕ) → Type 0
+Prints (Import words) before after = (n : Imported) × Appends before after (import_line n)
+Prints (Statement words) before after = (s : AccountSheet) × Appends before after (sheet_text s)
+Prints (Serve words) before after = (counts : List ℕ) × (length counts ≡ words.connections) × Appends before after (listening_line words.port ++ served_lines counts)
+
+-- a command that ends with this status has printed so: a new store prints nothing, and a replay the answers to the lines of some input
+abbrev pub HasPrinted : Command → ℕ → Option (List ℕ) → Option (List ℕ) → Type 0
+HasPrinted (command.Init words) status before after = Keeps before after
+HasPrinted (command.Import words) status before after = Prints (Import words) before after
+HasPrinted (command.Statement words) status before after = Prints (Statement words) before after
+HasPrinted (command.Serve words) status before after = Prints (Serve words) before after
+HasPrinted command.Replay status before after = (input : Option (List ℕ)) × (last : State) × (text : List ℕ)
+    × Replays input (first (empty_queue settings)) status text last × Appends before after text
