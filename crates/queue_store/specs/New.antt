@@ -1,14 +1,16 @@
 -- A new book.
-use Rattle.std.specs.Prelude.{◌≡◌, ◌⊎◌, [], ◌∷◌, ◌||◌, Bool, IsTrue, is_some, codes}
+use Rattle.std.specs.Prelude.{◌≡◌, ◌⊎◌, [], ◌∷◌, Bool, IsTrue}
+use Rattle.std.specs.List.{list_any}
 use Rattle.sqlite.specs.Schema.{Schema}
 use Rattle.sqlite.specs.State.{State, HasCleanDisk}
-use Rattle.sqlite_schema.specs.Names.{table_named}
+use Rattle.sqlite_catalog.specs.Change.{is_used}
 use Rattle.sqlite_trees.specs.Tree.{Trees}
 use Rattle.queue_types.specs.Settings.{SettingValues}
 use Rattle.queue_core.specs.World.{World, empty_queue}
 use Rattle.queue_rows.specs.Rows.{meta_row}
 use Rattle.queue_rows.specs.declared.rows.MetaRow.{MetaRow}
 use Rattle.queue_tables.specs.Content.{Content, IsBookOf}
+use Rattle.queue_tables.specs.Tables.{book_schema}
 use Rattle.queue_tables.specs.Values.{meta_values}
 
 abbrev pub no_content : Content
@@ -36,8 +38,6 @@ LeavesOldOrNew w old new = HasCleanDisk new → (db : Trees) → new.may_leave d
 abbrev pub LeavesOnly : World → State → Type 0
 LeavesOnly w s = HasCleanDisk s → (db : Trees) → s.may_leave db → IsBookOf w db
 
--- the name of a table is taken
+-- a table, an index or a view has the name of a table of the book
 abbrev pub has_any : Schema → Bool
-has_any s =
-    is_some (table_named s (codes "meta")) || is_some (table_named s (codes "jobs")) || is_some (table_named s (codes "documents")) || is_some (table_named s (codes "pieces"))
-    || is_some (table_named s (codes "accounts")) || is_some (table_named s (codes "grants")) || is_some (table_named s (codes "reports"))
+has_any s = list_any (λ table. is_used s table.name) book_schema.tables

@@ -1,8 +1,10 @@
 //! The book in tables.
-ghost use Rattle.std.specs.Prelude.{◌≡◌, ◌≢◌, ◌↔◌, IfErr, IfOk, IsTrue, OnErr};
+ghost use Rattle.std.specs.Prelude.{◌≡◌, ◌≢◌, ◌↔◌, IfErr, IfOk, IsErrAnd, IsErrOf, IsTrue, OnErr};
+ghost use Rattle.std.specs.List.{list_any};
 ghost use Rattle.sqlite.specs.Held.{state};
 ghost use Rattle.sqlite.specs.State.{HasCleanDisk};
 ghost use Rattle.sqlite.specs.Steps.{over_memory};
+ghost use Rattle.sqlite_catalog.specs.Change.{is_used};
 ghost use Rattle.queue_core.specs.Sound.{IsSound};
 ghost use Rattle.queue_core.specs.World.{World, empty_queue};
 ghost use Rattle.queue_core.specs.declared.book.BookFault.TheVariants.{Damaged};
@@ -19,6 +21,8 @@ use queue_tables::fault::Fault;
 use queue_types::settings::Settings;
 use queue_types::text::Text;
 use sqlite::{Alter, Connection, MemStore};
+use sqlite_catalog::layout::is_used;
+use sqlite_schema::schema::Schema;
 use std::alloc::{AllocError, Global};
 
 /// A book kept in the tables of a connection.
@@ -40,18 +44,29 @@ fn is_blank<S: Alter>(conn: &Connection<S>) -> bool
         && schema.views.as_slice().is_empty()
 }
 
-/// The name of a table of the book is taken.
-fn has_any_table<S: Alter>(conn: &Connection<S>) -> bool
+/// The names of the book's tables.
+const NAMES: [&[u8]; 7] = [
+    b"meta",
+    b"jobs",
+    b"documents",
+    b"pieces",
+    b"accounts",
+    b"grants",
+    b"reports",
+];
+
+/// A table, an index or a view has one of the names.
+fn has_one_of(schema: &Schema, names: &[&[u8]]) -> bool
+    ensures { result ≡ list_any (λ name. is_used schema.now name.now) names.now }
+{
+    names.iter().any(|name| is_used(schema, name))
+}
+
+/// A table, an index or a view has the name of a table of the book.
+fn has_any_name<S: Alter>(conn: &Connection<S>) -> bool
     ensures { result ≡ has_any (state S.Store conn.now).now.schema }
 {
-    let schema = conn.schema();
-    schema.table_named(b"meta").is_some()
-        || schema.table_named(b"jobs").is_some()
-        || schema.table_named(b"documents").is_some()
-        || schema.table_named(b"pieces").is_some()
-        || schema.table_named(b"accounts").is_some()
-        || schema.table_named(b"grants").is_some()
-        || schema.table_named(b"reports").is_some()
+    has_one_of(conn.schema(), &NAMES)
 }
 
 /// The row of a new book with these settings.
@@ -85,10 +100,11 @@ fn make_new<S: Alter>(
     ensures crash { IsSound (empty_queue settings.now) → LeavesOldOrNew (empty_queue settings.now) (state S.Store conn.old) (state S.Store conn.new) }
     ensures untouched { (state S.Store conn.old).now.schema ≢ no_schema → conn.new ≡ conn.old }
     ensures damaged { IfErr result (λ e. e ≡ Fault.Damaged → IsTrue (has_any (state S.Store conn.old).now.schema)) }
+    ensures taken { IsTrue (has_any (state S.Store conn.old).now.schema) → IsErrOf result Fault.Damaged }
 {
     // its contract says that outside a transaction the tables are those of the last commit
     let _settled = conn.is_autocommit();
-    if has_any_table(conn) {
+    if has_any_name(conn) {
         return Err(Fault::Damaged);
     }
     if !is_blank(conn) {
@@ -99,10 +115,10 @@ fn make_new<S: Alter>(
 }
 
 impl<S: Alter> TableBook<S> {
-    /// A new book with these settings, without jobs, accounts and reports, in a store without tables. Damaged is
-    /// told only where the name of one of its tables is taken. A refusal hands the connection back, with its
-    /// tables as they were, and as it came where there were any. Whatever the answer, a crash then leaves what it might have
-    /// left before, or the new book; after an Ok the new book alone.
+    /// A new book with these settings, without jobs, accounts and reports, in a store without tables, indexes and
+    /// views. Damaged is told only where one of these has the name of a table of the book. A refusal hands the connection
+    /// back, with its tables as they were, and as it came where there were any. Whatever the answer, a crash then leaves
+    /// what it might have left before, or the new book; after an Ok the new book alone.
     pub fn create(
         alloc: Global,
         mut conn: Connection<S>,
@@ -113,6 +129,7 @@ impl<S: Alter> TableBook<S> {
         ensures stands { IfOk result (λ b. StandsFor S.Store b (empty_queue settings)) }
         ensures live { IfOk result (λ b. IsHonest S.Store b → IsTrue (shown_by S.Store b).is_open) }
         ensures damaged { IfErr result (λ e. e.0 ≡ Damaged → IsTrue (has_any (state S.Store conn).now.schema)) }
+        ensures taken { IsTrue (has_any (state S.Store conn).now.schema) → IsErrAnd result (λ e. e.0 ≡ Damaged) }
         ensures lasts { IfOk result (λ b. LeavesOnly (empty_queue settings) (shown_by S.Store b)) }
         ensures handed { IfErr result (λ e. KeepsTables (state S.Store conn) (state S.Store e.1)) }
         ensures crash { IfErr result (λ e. LeavesOldOrNew (empty_queue settings) (state S.Store conn) (state S.Store e.1)) }

@@ -159,9 +159,9 @@ impl<D: Disk + Drop> TableBook<FileStore<D>> {
 
 impl<S: Start> TableBook<FileStore<FileFrom<S>>> {
     /// A new book with these settings, without jobs, accounts and reports, in the files at a path, which are made
-    /// where they are missing. Damaged is told where they have a table of a book already, or are no database; Disk
-    /// where they have other tables, can't be opened or are in use. A refusal lets them go, so what a crash then leaves
-    /// is said by `create` alone, of the connection to them.
+    /// where they are missing. Damaged is told where a table, an index or a view in them has the name of a table of the
+    /// book, or they are no database; Disk where they have others, can't be opened or are in use. A refusal lets them go,
+    /// so what a crash then leaves is said by `create` alone, of the connection to them.
     pub fn create_from(
         rt: &HostRuntime,
         path: &str,

@@ -142,31 +142,43 @@ fn settings_come_back(rt: HostRuntime) -> Result<(), Fail> {
     Ok(())
 }
 
-/// Tables of which one is named as a table of the book, and those of another program, where none is.
-const STRANGERS: &[(&str, BookFault)] = &[
-    ("CREATE TABLE meta (x)", BookFault::Damaged),
-    ("CREATE TABLE jobs (x)", BookFault::Damaged),
-    ("CREATE TABLE documents (x)", BookFault::Damaged),
-    ("CREATE TABLE pieces (x)", BookFault::Damaged),
-    ("CREATE TABLE accounts (x)", BookFault::Damaged),
-    ("CREATE TABLE grants (x)", BookFault::Damaged),
-    ("CREATE TABLE reports (x)", BookFault::Damaged),
-    ("CREATE TABLE Jobs (x)", BookFault::Damaged),
-    ("CREATE TABLE note (x)", BookFault::Disk),
+/// Statements of another program, how many tables, indexes and views they make, and what a book beside these is refused
+/// as: Damaged where one of them has the name of a table of the book.
+const STRANGERS: &[(&str, &str, BookFault)] = &[
+    ("CREATE TABLE meta (x)", "1|\n", BookFault::Damaged),
+    ("CREATE TABLE jobs (x)", "1|\n", BookFault::Damaged),
+    ("CREATE TABLE documents (x)", "1|\n", BookFault::Damaged),
+    ("CREATE TABLE pieces (x)", "1|\n", BookFault::Damaged),
+    ("CREATE TABLE accounts (x)", "1|\n", BookFault::Damaged),
+    ("CREATE TABLE grants (x)", "1|\n", BookFault::Damaged),
+    ("CREATE TABLE reports (x)", "1|\n", BookFault::Damaged),
+    ("CREATE TABLE Jobs (x)", "1|\n", BookFault::Damaged),
+    ("CREATE VIEW jobs AS SELECT 1", "1|\n", BookFault::Damaged),
+    (
+        "CREATE TABLE note (x); CREATE INDEX jobs ON note (x)",
+        "2|\n",
+        BookFault::Damaged,
+    ),
+    ("CREATE TABLE note (x)", "1|\n", BookFault::Disk),
 ];
 
-/// No book is made beside a table, which stays alone.
-fn make_beside(alloc: Global, statement: &str, wanted: BookFault) -> Result<(), Fail> {
+/// No book is made beside what the statements make, which stays alone.
+fn make_beside(
+    alloc: Global,
+    statements: &str,
+    count: &str,
+    wanted: BookFault,
+) -> Result<(), Fail> {
     let mut tables = Tables::none(alloc)?;
-    tables.run(statement)?;
-    same(&tables.make()?, &Err(wanted), statement)?;
-    tables.show("SELECT count(*) FROM sqlite_schema", "1|\n")
+    tables.run(statements)?;
+    same(&tables.make()?, &Err(wanted), statements)?;
+    tables.show("SELECT count(*) FROM sqlite_schema", count)
 }
 
 #[test]
 fn names_that_are_taken(rt: HostRuntime) -> Result<(), Fail> {
-    for (statement, wanted) in STRANGERS {
-        make_beside(rt.alloc(), statement, *wanted)?;
+    for (statements, count, wanted) in STRANGERS {
+        make_beside(rt.alloc(), statements, count, *wanted)?;
     }
     Ok(())
 }
