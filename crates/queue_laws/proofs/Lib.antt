@@ -45,3 +45,4 @@ pub mod OfPrinter
 pub mod Staying
 pub mod OfMine
 pub mod Coming
+pub mod Accounted

@@ -10,3 +10,4 @@ pub mod Alike
 pub mod Thin
 pub mod Doing
 pub mod Documents
+pub mod Sheets

@@ -5,6 +5,7 @@
 //! [`own_jobs_are_shown`], which is the machine's; [`own_jobs_are_in_order`] says that order in words of its own.
 #![tactic(auto)]
 
+mod accounting;
 mod accounts;
 mod alone;
 mod charges;
@@ -23,6 +24,7 @@ mod showing;
 mod single;
 mod sums;
 
+pub use accounting::sheets_are_balanced;
 pub use accounts::{
     account_files_change_accounts, files_are_taken_in_order, grants_count_once, one_row_is_taken,
     repeated_files_change_nothing,
