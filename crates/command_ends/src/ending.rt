@@ -1,12 +1,13 @@
 //! How a command ends: its exit status, and what is told of a refusal.
-ghost use Rattle.std.specs.Prelude.{◌≡◌, ◌≢◌, ◌≤◌, ◌⊎◌, IfErr, IfOk, OnOk};
-ghost use Rattle.std.specs.Io.KnownBytes.{Appends};
+ghost use Rattle.std.specs.Prelude.{◌≡◌, ◌≢◌, ◌≤◌, ◌⊎◌, IfErr, IfOk};
 ghost use Rattle.clap.specs.Values.{kind_of};
 ghost use Rattle.clap.specs.declared.error.kind.ErrorKind.TheVariants.{DisplayHelp, DisplayVersion};
-ghost use Rattle.command_ends.specs.Texts.{refusal_line};
+ghost use Rattle.command_ends.specs.Texts as spec;
+ghost use Rattle.command_ends.specs.Texts.{Tells};
 
 use crate::fault::Fault;
-use std::io;
+use arrayvec::ArrayString;
+use queue_core::put_whole;
 use std::io::Write;
 
 /// The exit status of a command that was refused.
@@ -15,23 +16,40 @@ const REFUSED: u8 = 1;
 /// The exit status of words that name no command.
 const WRONG_WORDS: u8 = 2;
 
-/// Writes the one line of a refusal, `printd: FAULT`.
-pub fn tell<E: Write>(err: &mut E, fault: Fault) -> io::Result<()>
-    ensures { OnOk result (Appends (E.contents err.old) (E.contents err.new) (refusal_line fault)) }
+/// More bytes than the longest line of a refusal has.
+const LINE_BYTES: usize = 64;
+
+/// The one line of a refusal, `printd: FAULT`. It takes no memory.
+fn refusal_line(fault: Fault) -> ArrayString<LINE_BYTES>
+    ensures { result.bytes ≡ spec.refusal_line fault }
 {
-    writeln!(err, "printd: {fault}")?;
-    err.flush()
+    let mut line = ArrayString::new();
+    line.push_str("printd: ");
+    line.push_str(fault.text().as_str());
+    line.push_str("\n");
+    line
 }
 
-/// The exit status of a command, whose refusal is told. Where that can't be written, nobody is there to read it.
+/// Writes the line of a refusal. Where it can't be written, nobody is there to read it.
+fn tell<E: Write>(err: &mut E, fault: Fault)
+    ensures { Tells fault (E.contents err.old) (E.contents err.new) }
+{
+    let line = refusal_line(fault);
+    if put_whole(err, line.as_str().as_bytes()).is_ok() {
+        let _ = err.flush();
+    }
+}
+
+/// The exit status of a command, whose refusal is told: 1, and one line `printd: FAULT`, or a front of it where it can't be written whole.
 pub fn end<E: Write>(err: &mut E, outcome: Result<u8, Fault>) -> u8
     ensures done { IfOk outcome (λ status. (result ≡ status) × (err.new ≡ err.old)) }
     ensures refused { IfErr outcome (λ fault. result ≡ 1) }
+    ensures told { IfErr outcome (λ fault. Tells fault (E.contents err.old) (E.contents err.new)) }
 {
     match outcome {
         Ok(status) => status,
         Err(fault) => {
-            let _ = tell(err, fault);
+            tell(err, fault);
             REFUSED
         }
     }

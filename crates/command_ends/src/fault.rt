@@ -1,14 +1,20 @@
 //! Why a command is refused.
 ghost use Rattle.std.specs.Prelude.{◌≡◌};
+ghost use Rattle.command_ends.specs.Texts.{fault_text};
 ghost use Rattle.command_ends.specs.declared.fault.Fault.TheVariants as faults;
 ghost use Rattle.command_ends.specs.Faults.{fault_of_book, fault_of_office, fault_of_replay, fault_of_setting};
 
+use arrayvec::ArrayString;
 use grants_csv::ImportFault;
+use itoa::Buffer;
 use office::OfficeFault;
 use queue_core::book::BookFault;
 use queue_types::settings::SettingFault;
 use std::alloc::AllocError;
 use std::{error, fmt, io};
+
+/// More bytes than the longest text of a fault has, that of a row of ten digits.
+const TEXT_BYTES: usize = 48;
 
 /// Why a command is refused.
 #[derive(Debug, Clone, Copy, PartialEq, Eq)]
@@ -29,27 +35,37 @@ pub enum Fault {
     Io,
 }
 
-/// Its text in the line that tells it.
+impl Fault {
+    /// Its text in the line that tells it. It takes no memory.
+    pub(crate) fn text(self) -> ArrayString<TEXT_BYTES>
+        ensures { result.bytes ≡ fault_text self }
+    {
+        let mut text = ArrayString::new();
+        match self {
+            Fault::Memory => text.push_str("memory"),
+            Fault::Disk => text.push_str("disk"),
+            Fault::Damaged => text.push_str("damaged"),
+            Fault::NoAccount => text.push_str("no account"),
+            Fault::Import(told) => {
+                text.push_str("import fault ");
+                text.push_str(Buffer::new().format(told.cause.code()));
+                text.push_str(" at row ");
+                text.push_str(Buffer::new().format(told.row));
+            }
+            Fault::BadSetting => text.push_str("bad setting"),
+            Fault::Io => text.push_str("io"),
+        }
+        text
+    }
+}
+
 impl fmt::Display for Fault {
     ghost use Rattle.std.specs.Prelude.{Some};
-    ghost use Rattle.command_ends.specs.Texts.{fault_text};
 
     ghost output = { λ fault. Some (fault_text fault) };
 
     fn fmt<W: fmt::Write>(&self, f: &mut fmt::Formatter<W>) -> fmt::Result {
-        match *self {
-            Fault::Memory => f.write_str("memory"),
-            Fault::Disk => f.write_str("disk"),
-            Fault::Damaged => f.write_str("damaged"),
-            Fault::NoAccount => f.write_str("no account"),
-            Fault::Import(told) => {
-                let code = told.cause.code();
-                let row = told.row;
-                write!(f, "import fault {code} at row {row}")
-            }
-            Fault::BadSetting => f.write_str("bad setting"),
-            Fault::Io => f.write_str("io"),
-        }
+        f.write_str(self.text().as_str())
     }
 }
 

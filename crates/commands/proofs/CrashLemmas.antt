@@ -15,7 +15,7 @@ use Rattle.queue_tables.specs.Content.{IsBookOf, LeavesOneOf}
 use Rattle.grants_csv.specs.Import.{Adds, Asks, grants}
 use Rattle.grants_csv.specs.declared.importing.Imported.{Imported}
 use Rattle.office.specs.Told.{IsTaken}
-use Rattle.print_server.specs.Connections.{Carries, IsAtMostOneMore}
+use Rattle.print_server.specs.Connections.{AreConnections, Carries, IsAtMostOneMore}
 use Rattle.print_server.proofs.CrashLemmas.{left_one}
 use Rattle.commands.specs.Work.{CrashLeaves, IsAllOrNone, broken_off, taken, untaken}
 
@@ -25,9 +25,9 @@ pub lasts : {S : Type 0} (store : Ghosts S) → ((s : S) (db : Trees) → IsTrue
 lasts store settled b w honest live stands = open_lasts w stands (settled (connection_of b).store) honest live
 
 -- what connections carry from an open store
-pub one_more : (before after : State) (w u : World) → (IsTrue before.is_open → LeavesOneOf w w before)
-    → Carries (λ (v x : World). LeavesOneOf v x before) (λ (v x : World). LeavesOneOf v x after) w u → CrashLeaves before after u (IsAtMostOneMore u)
-one_more before after w u last carried = λ live. let left = carried w (last live) in (left.0, left.1, left_one w u left.0 left.2)
+pub one_more : (before after : State) (w : World) (counts : List ℕ) (u : World) (are : AreConnections w counts u) → (IsTrue before.is_open → LeavesOneOf w w before)
+    → Carries (λ (v x : World). LeavesOneOf v x before) (λ (v x : World). LeavesOneOf v x after) w counts u are → CrashLeaves before after u (IsAtMostOneMore w counts u are)
+one_more before after w counts u are last carried = λ live. let left = carried w (last live) in (left.0, left.1, left_one w counts u are left.0 left.2)
 
 -- rows that are refused change nothing
 added_or_same : (t : Taken) (w : World) → ((n : Imported) × Adds (grant_row t).reply n) ⊎ (made_on (grant_row t).change w ≡ w)

@@ -1,6 +1,8 @@
 -- What a command that is refused may tell.
-use Rattle.std.specs.Prelude.{◌≡◌, ◌⊎◌}
+use Rattle.std.specs.Prelude.{◌≡◌, ◌⊎◌, ℕ, List, Option}
+use Rattle.std.specs.Io.KnownBytes.{Keeps}
 use Rattle.command_ends.specs.Faults.{IsOfStream}
+use Rattle.command_ends.specs.Texts.{Tells}
 use Rattle.command_ends.specs.declared.fault.Fault.{Fault}
 use Rattle.command_ends.specs.declared.fault.Fault.TheVariants.{Memory, Disk, NoAccount, Import as ByFile, BadSetting, Io}
 use Rattle.command_words.specs.declared.outcome.Command.{Command}
@@ -47,3 +49,7 @@ MayBeToldBy (command.Import words) fault = IsOfStore fault ⊎ IsOfImport fault
 MayBeToldBy (command.Statement words) fault = IsOfStatement fault
 MayBeToldBy (command.Serve words) fault = IsOfServe fault
 MayBeToldBy command.Replay fault = IsOfReplay fault
+
+-- what is told of a command that ended with status 1: a fault that may be told of it; or it is a replay that ended at a bad line, of which nothing is
+abbrev pub IsTold : Command → Option (List ℕ) → Option (List ℕ) → Type 0
+IsTold asked before after = ((fault : Fault) × MayBeToldBy asked fault × Tells fault before after) ⊎ ((asked ≡ command.Replay) × Keeps before after)

@@ -71,11 +71,11 @@ pub data IsAllOrNone (all : World → Type 0) (w u x : World) : Type 0 where
 
 -- it made u of the queue w, and a crash at any moment leaves u or x:
 -- all rows of an account file are taken, or none; a statement leaves the queue as it is; no more than so many connections are served, and x is u or what
--- one request more makes of it
+-- one request of theirs makes of it
 abbrev pub MayBeLeft : (List ℕ → Type 0) → Work → World → World → World → Type 0
 MayBeLeft are_read (Import words) w u x = IsAllOrNone (λ v. (n : Imported) × IsImport are_read w v n) w u x
 MayBeLeft are_read (Statement words) w u x = (u ≡ w) × (x ≡ u)
-MayBeLeft are_read (Serve words) w u x = (counts : List ℕ) × AreConnections w counts u × (length counts ≤ words.connections) × IsAtMostOneMore u x
+MayBeLeft are_read (Serve words) w u x = (counts : List ℕ) × (are : AreConnections w counts u) × (length counts ≤ words.connections) × IsAtMostOneMore w counts u are x
 
 -- of a store that was open before, a crash at any moment leaves the queue u, or one that may be left beside it
 abbrev pub CrashLeaves : State → State → World → (World → Type 0) → Type 0

@@ -1,12 +1,15 @@
 //! The program: its words, the command that they name and the exit status.
 ghost use Rattle.std.specs.Prelude.{◌≡◌, ◌≤◌, ◌⊎◌, [], IfErr, IfOk, IsErrOf, IsOk, IsSomeAnd, OnOk, map};
+ghost use Rattle.std.specs.Io.Buffered.{writer_buffer, writer_contents};
 ghost use Rattle.clap.specs.Words.{fault_of, subcommand_of};
+ghost use Rattle.command_ends.specs.Texts.{Tells};
+ghost use Rattle.command_ends.specs.declared.fault.Fault.TheVariants.{Memory as OfMemory};
 ghost use Rattle.command_words.specs.CommandLine.{definition};
 ghost use Rattle.command_words.specs.Values.{IsCommand};
 ghost use Rattle.command_words.specs.declared.outcome.Command.{Command as NamedCommand};
 ghost use Rattle.command_words.specs.declared.outcome.Init.{Init};
 ghost use Rattle.commands.specs.Printed.{HasPrinted, Prints};
-ghost use Rattle.commands.specs.Refusals.{MayBeToldBy, MayBeToldOf};
+ghost use Rattle.commands.specs.Refusals.{IsTold, MayBeToldBy, MayBeToldOf};
 ghost use Rattle.commands.specs.Store.{CanBeMade, IsOfStore};
 ghost use Rattle.commands.specs.Words.{AreWrong, AskForText};
 
@@ -16,7 +19,7 @@ use command_ends::{Fault, end, tell_words};
 use command_words::{Command, CommandFault, command};
 use replay_in_memory::replay;
 use sqlite_std_file::Unknown;
-use std::io::{Input, Write};
+use std::io::{BufWriter, Input, Write};
 use std::rt::HostRuntime;
 
 /// Closes the store of a command that was done, so that its file alone keeps all of it. Where that fails nothing is lost and nothing is told: what was
@@ -32,9 +35,14 @@ fn close(done: Result<FileBook<Unknown>, Fault>) -> Result<(), Fault>
 }
 
 /// Does the work on the store that is at its path, closes the store and flushes what is printed, and gives the exit status.
-fn do_work<O: Write>(rt: &HostRuntime, work: Work<'_>, out: &mut O) -> Result<u8, Fault>
+fn do_work<O: Write + Drop>(
+    rt: &HostRuntime,
+    work: Work<'_>,
+    out: &mut BufWriter<O>,
+) -> Result<u8, Fault>
     ensures status { IfOk result (λ status. status ≡ 0) }
-    ensures printed { OnOk result (Prints work.entry (O.contents out.old) (O.contents out.new)) }
+    ensures printed { OnOk result (Prints work.entry (writer_contents O.contents out.old) (writer_contents O.contents out.new)) }
+    ensures handed { OnOk result (writer_buffer out.new ≡ []) }
     ensures told { IfErr result (λ f. IsOfStore f ⊎ MayBeToldOf work.entry f) }
 {
     close(work_at(rt, work, out, Unknown))?;
@@ -42,33 +50,48 @@ fn do_work<O: Write>(rt: &HostRuntime, work: Work<'_>, out: &mut O) -> Result<u8
     Ok(0)
 }
 
-/// Does what a command asks, and gives the exit status.
-fn do_command<O: Write>(rt: &HostRuntime, command: Command<'_>, out: &mut O) -> Result<u8, Fault>
+/// Does what a command asks, flushes what is printed, and gives the exit status.
+fn do_command<O: Write + Drop>(
+    rt: &HostRuntime,
+    command: Command<'_>,
+    out: &mut BufWriter<O>,
+) -> Result<u8, Fault>
     ensures status { IfOk result (λ status. status ≤ 1) }
     ensures replayed { IfOk result (λ status. status ≡ 1 → command.entry ≡ Command.Replay) }
     ensures told { IfErr result (MayBeToldBy command.entry) }
     // whatever its files hold
     ensures made { (words : Init) → command.entry ≡ Command.Init words → OnOk result (CanBeMade words) }
-    ensures printed { IfOk result (λ status. HasPrinted command.entry status (O.contents out.old) (O.contents out.new)) }
+    ensures printed { IfOk result (λ status. HasPrinted command.entry status (writer_contents O.contents out.old) (writer_contents O.contents out.new)) }
+    ensures handed { OnOk result (writer_buffer out.new ≡ []) }
 {
     match command {
         Command::Init(words) => {
             close(make_store(rt, words, Unknown))?;
+            out.flush()?;
             Ok(0)
         }
         Command::Import(words) => do_work(rt, Work::Import(words), out),
         Command::Statement(words) => do_work(rt, Work::Statement(words), out),
         Command::Serve(words) => do_work(rt, Work::Serve(words), out),
-        Command::Replay => Ok(replay(rt.alloc(), &mut rt.reader(), out)?),
+        Command::Replay => {
+            let status = replay(rt.alloc(), &mut rt.reader(), out)?;
+            out.flush()?;
+            Ok(status)
+        }
     }
 }
 
 /// Does what the program's words ask, the first of which is its own name, and gives the exit status: 0 where it is done, 1 where it is
 /// refused, or what is wrong with its words can't be told, 2 where the words name no command and ask for no help.
 ///
-/// What a command prints goes to `out`, and so does a help text that was asked for. A refusal is one line on `err`, `printd: FAULT`, and
+/// What a command prints goes through `out`, and so does a help text that was asked for. A refusal is one line on `err`, `printd: FAULT`, and
 /// words that name no command have `clap`'s text there. A replay that ends at a bad line has status 1 and no line on `err`.
-pub fn run<O: Write, E: Write>(rt: &HostRuntime, words: &[&str], out: &mut O, err: &mut E) -> u8
+pub fn run<O: Write + Drop, E: Write>(
+    rt: &HostRuntime,
+    words: &[&str],
+    out: &mut BufWriter<O>,
+    err: &mut E,
+) -> u8
     ensures named { fault_of definition (map (λ w. w.now) words.now) ≡ [] → result ≤ 1 }
     ensures wrong { AreWrong (fault_of definition (map (λ w. w.now) words.now)) → 1 ≤ result }
     ensures helped { AskForText (fault_of definition (map (λ w. w.now) words.now)) → result ≤ 1 }
@@ -78,7 +101,12 @@ pub fn run<O: Write, E: Write>(rt: &HostRuntime, words: &[&str], out: &mut O, er
     // a command that was done, whatever its files hold: its words allow it, and it has printed what it is to print
     ensures done { fault_of definition (map (λ w. w.now) words.now) ≡ [] → result ≡ 0 → (c : NamedCommand)
         × IsSomeAnd (subcommand_of definition (map (λ w. w.now) words.now)) (IsCommand c)
-        × ((words : Init) → c ≡ Command.Init words → CanBeMade words) × HasPrinted c 0 (O.contents out.old) (O.contents out.new) }
+        × ((words : Init) → c ≡ Command.Init words → CanBeMade words) × HasPrinted c 0 (writer_contents O.contents out.old) (writer_contents O.contents out.new) }
+    // what it has printed was handed on, and lies in the buffer no longer
+    ensures handed { fault_of definition (map (λ w. w.now) words.now) ≡ [] → result ≡ 0 → writer_buffer out.new ≡ [] }
+    // one that was refused, or for whose words there was no memory
+    ensures told { fault_of definition (map (λ w. w.now) words.now) ≡ [] → result ≡ 1 → Tells OfMemory (E.contents err.old) (E.contents err.new) ⊎ ((c : NamedCommand)
+        × IsSomeAnd (subcommand_of definition (map (λ w. w.now) words.now)) (IsCommand c) × IsTold c (E.contents err.old) (E.contents err.new)) }
 {
     match command(rt.alloc(), words) {
         Ok(command) => {

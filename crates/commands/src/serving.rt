@@ -18,13 +18,14 @@ ghost use Rattle.queue_tables.specs.Content.{LeavesOneOf};
 
 use command_ends::Fault;
 use command_words::Serve;
-use print_server::{ServerFault, Service, listen};
+use print_server::{ServerFault, Service, tell_listening};
 use queue_store::TableBook;
 use queue_types::settings::Settings;
 use sqlite::Alter;
 use std::alloc::Global;
+use std::io;
 use std::io::Write;
-use std::net::{Net, TcpListener, TcpStream};
+use std::net::TcpListener;
 use std::rt::Clock;
 
 /// A server that stopped.
@@ -56,6 +57,19 @@ fn service<'a>(
     }
 }
 
+/// The port that was opened, told of by `listening 127.0.0.1:PORT`.
+fn tell_port<W: Write>(
+    listener: io::Result<TcpListener>,
+    output: &mut W,
+    port: u16,
+) -> io::Result<TcpListener>
+    ensures { OnOk result (Appends (W.contents output.old) (W.contents output.new) (listening_line port)) }
+{
+    let listener = listener?;
+    tell_listening(output, port)?;
+    Ok(listener)
+}
+
 /// Serves connections that come in at a listener over a book with these settings.
 fn serve_at<C: Clock, S: Alter, W: Write>(
     alloc: Global,
@@ -68,16 +82,16 @@ fn serve_at<C: Clock, S: Alter, W: Write>(
 ) -> Result<(), Fault>
     ensures began { IsHonest S.Store book.new → IsHonest S.Store book.old }
     ensures served { IsHonest S.Store book.new → OnOk result ((w : World) → StandsFor S.Store book.old w → settings.now ≡ w.settings
-        → (u : World) × StandsFor S.Store book.new u × (counts : List ℕ) × AreConnections w counts u × (length counts ≡ words.entry.connections)
+        → (u : World) × StandsFor S.Store book.new u × (counts : List ℕ) × (are : AreConnections w counts u) × (length counts ≡ words.entry.connections)
         × Appends (W.contents output.old) (W.contents output.new) (served_lines counts)
-        × CrashLeaves (shown_by S.Store book.old) (shown_by S.Store book.new) u (IsAtMostOneMore u)) }
+        × CrashLeaves (shown_by S.Store book.old) (shown_by S.Store book.new) u (IsAtMostOneMore w counts u are)) }
     ensures err { IsHonest S.Store book.new → OnErr result ((w : World) → StandsFor S.Store book.old w → settings.now ≡ w.settings
-        → (u : World) × StandsFor S.Store book.new u × (counts : List ℕ) × AreConnections w counts u × (length counts ≤ words.entry.connections)
-        × CrashLeaves (shown_by S.Store book.old) (shown_by S.Store book.new) u (IsAtMostOneMore u)) }
-    // whatever it answers: a crash at any moment leaves the queue that the book stands for, or the one after one request more
+        → (u : World) × StandsFor S.Store book.new u × (counts : List ℕ) × (are : AreConnections w counts u) × (length counts ≤ words.entry.connections)
+        × CrashLeaves (shown_by S.Store book.old) (shown_by S.Store book.new) u (IsAtMostOneMore w counts u are)) }
+    // whatever it answers: a crash at any moment leaves the queue that the book stands for, or the one after one of these connections' requests more
     ensures crash { IsHonest S.Store book.new → IsTrue (shown_by S.Store book.old).is_open → (w : World) → StandsFor S.Store book.old w → settings.now ≡ w.settings
-        → (u x : World) × StandsFor S.Store book.new u × (counts : List ℕ) × AreConnections w counts u × (length counts ≤ words.entry.connections)
-        × LeavesOneOf u x (shown_by S.Store book.new) × IsAtMostOneMore u x }
+        → (u x : World) × StandsFor S.Store book.new u × (counts : List ℕ) × (are : AreConnections w counts u) × (length counts ≤ words.entry.connections)
+        × LeavesOneOf u x (shown_by S.Store book.new) × IsAtMostOneMore w counts u are x }
     ensures damaged { IsHonest S.Store book.new → IfErr result (λ f. f ≡ Damaged → (w : World) → StandsFor S.Store book.old w → settings.now ≡ w.settings → ⊥) }
     ensures told { IfErr result IsOfServe }
     // over any book, also one that is not honest
@@ -90,31 +104,28 @@ fn serve_at<C: Clock, S: Alter, W: Write>(
     }
 }
 
-/// Listens on the port, and serves connections over a book.
-pub(crate) fn serve_book<
-    R: Clock + Net<Listener = TcpListener, Stream = TcpStream>,
-    S: Alter,
-    W: Write,
->(
+/// Tells of the port that is listened on, and serves connections over a book. One that could not be listened on is told of once the settings are known.
+pub(crate) fn serve_book<C: Clock, S: Alter, W: Write>(
     alloc: Global,
-    rt: &R,
+    clock: &C,
     words: Serve<'_>,
+    listener: io::Result<TcpListener>,
     output: &mut W,
     book: &mut TableBook<S>,
 ) -> Result<(), Fault>
     ensures began { IsHonest S.Store book.new → IsHonest S.Store book.old }
     ensures served { IsHonest S.Store book.new → OnOk result ((w : World) → StandsFor S.Store book.old w
-        → (u : World) × StandsFor S.Store book.new u × (counts : List ℕ) × AreConnections w counts u × (length counts ≡ words.entry.connections)
+        → (u : World) × StandsFor S.Store book.new u × (counts : List ℕ) × (are : AreConnections w counts u) × (length counts ≡ words.entry.connections)
         × Appends (W.contents output.old) (W.contents output.new) (listening_line words.entry.port ++ served_lines counts)
-        × CrashLeaves (shown_by S.Store book.old) (shown_by S.Store book.new) u (IsAtMostOneMore u)) }
+        × CrashLeaves (shown_by S.Store book.old) (shown_by S.Store book.new) u (IsAtMostOneMore w counts u are)) }
     // no more than so many connections were served
     ensures err { IsHonest S.Store book.new → OnErr result ((w : World) → StandsFor S.Store book.old w
-        → (u : World) × StandsFor S.Store book.new u × (counts : List ℕ) × AreConnections w counts u × (length counts ≤ words.entry.connections)
-        × CrashLeaves (shown_by S.Store book.old) (shown_by S.Store book.new) u (IsAtMostOneMore u)) }
-    // whatever it answers: a crash at any moment leaves the queue that the book stands for, or the one after one request more
+        → (u : World) × StandsFor S.Store book.new u × (counts : List ℕ) × (are : AreConnections w counts u) × (length counts ≤ words.entry.connections)
+        × CrashLeaves (shown_by S.Store book.old) (shown_by S.Store book.new) u (IsAtMostOneMore w counts u are)) }
+    // whatever it answers: a crash at any moment leaves the queue that the book stands for, or the one after one of these connections' requests more
     ensures crash { IsHonest S.Store book.new → IsTrue (shown_by S.Store book.old).is_open → (w : World) → StandsFor S.Store book.old w
-        → (u x : World) × StandsFor S.Store book.new u × (counts : List ℕ) × AreConnections w counts u × (length counts ≤ words.entry.connections)
-        × LeavesOneOf u x (shown_by S.Store book.new) × IsAtMostOneMore u x }
+        → (u x : World) × StandsFor S.Store book.new u × (counts : List ℕ) × (are : AreConnections w counts u) × (length counts ≤ words.entry.connections)
+        × LeavesOneOf u x (shown_by S.Store book.new) × IsAtMostOneMore w counts u are x }
     ensures damaged { IsHonest S.Store book.new → IfErr result (λ f. f ≡ Damaged → (w : World) → ¬ StandsFor S.Store book.old w) }
     ensures told { IfErr result IsOfServe }
     // over any book, also one that is not honest
@@ -122,6 +133,6 @@ pub(crate) fn serve_book<
         × Appends (W.contents output.old) (W.contents output.new) (listening_line words.entry.port ++ served_lines counts)) }
 {
     let settings = book.settings()?;
-    let listener = listen(rt, output, words.port)?;
-    serve_at(alloc, rt, words, &listener, &settings, output, book)
+    let listener = tell_port(listener, output, words.port)?;
+    serve_at(alloc, clock, words, &listener, &settings, output, book)
 }

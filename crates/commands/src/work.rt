@@ -19,6 +19,7 @@ use crate::store::{FileBook, left, open_store};
 use command_ends::Fault;
 use command_words::{Import, Serve, Statement};
 use office::read_account_file;
+use print_server::listen;
 use queue_store::TableBook;
 use sqlite::Alter;
 use sqlite_disk::Disk;
@@ -27,7 +28,7 @@ use sqlite_store::FileStore;
 use std::alloc::Global;
 use std::fs::Files;
 use std::io::{ErrorKind, Read, Write};
-use std::net::{Net, TcpListener, TcpStream};
+use std::net::{Net, TcpListener};
 use std::rt::{Clock, HostRuntime};
 use std::{fs, io};
 
@@ -61,6 +62,14 @@ impl<'a> Work<'a> {
             Work::Statement(_) | Work::Serve(_) => Err(ErrorKind::NotFound.into()),
         }
     }
+
+    /// Listens on its port. Work that has none finds none. That it is the port of the words no contract says.
+    fn listener<R: Net>(self, net: &R) -> io::Result<R::Listener> {
+        match self {
+            Work::Serve(words) => listen(net, words.port),
+            Work::Import(_) | Work::Statement(_) => Err(ErrorKind::NotFound.into()),
+        }
+    }
 }
 
 /// The bytes of an account file that was opened.
@@ -70,49 +79,47 @@ fn read_opened<F: Read + Drop>(alloc: Global, file: io::Result<F>) -> io::Result
     read_account_file(alloc, file?)
 }
 
-/// Does the work on a book, with the bytes of its account file.
-fn work_on<R: Clock + Net<Listener = TcpListener, Stream = TcpStream>, S: Alter, W: Write>(
+/// Does the work on a book, with the bytes of its account file or over its port.
+fn work_on<C: Clock, S: Alter, W: Write>(
     alloc: Global,
-    rt: &R,
+    clock: &C,
     work: Work<'_>,
     file: io::Result<Vec<u8>>,
+    listener: io::Result<TcpListener>,
     output: &mut W,
     book: &mut TableBook<S>,
 ) -> Result<(), Fault>
     ensures { HasEnded S.Store (AreIn file) work.entry book.old book.new (W.contents output.old) (W.contents output.new) result }
 {
     match work {
-        Work::Import(_) => import_into(alloc, rt, file, output, book),
+        Work::Import(_) => import_into(alloc, clock, file, output, book),
         Work::Statement(words) => print_from(alloc, words.account, output, book),
-        Work::Serve(words) => serve_book(alloc, rt, words, output, book),
+        Work::Serve(words) => serve_book(alloc, clock, words, listener, output, book),
     }
 }
 
 /// Does the work on a book in files.
-fn work_in<R: Clock + Net<Listener = TcpListener, Stream = TcpStream>, D: Disk + Drop, W: Write>(
+fn work_in<C: Clock, D: Disk + Drop, W: Write>(
     alloc: Global,
-    rt: &R,
+    clock: &C,
     work: Work<'_>,
     file: io::Result<Vec<u8>>,
+    listener: io::Result<TcpListener>,
     output: &mut W,
     book: &mut TableBook<FileStore<D>>,
 ) -> Result<(), Fault>
     ensures { HasEnded over_files (AreIn file) work.entry book.old book.new (W.contents output.old) (W.contents output.new) result }
 {
-    work_on(alloc, rt, work, file, output, book)
+    work_on(alloc, clock, work, file, listener, output, book)
 }
 
 /// Reads the account file, does the work on a book in files, and gives the book back; one on which it was not done is let go.
-fn work_over<
-    R: Clock + Net<Listener = TcpListener, Stream = TcpStream>,
-    F: Read + Drop,
-    D: Disk + Drop,
-    W: Write,
->(
+fn work_over<C: Clock, F: Read + Drop, D: Disk + Drop, W: Write>(
     alloc: Global,
-    rt: &R,
+    clock: &C,
     work: Work<'_>,
     file: io::Result<F>,
+    listener: io::Result<TcpListener>,
     output: &mut W,
     mut book: TableBook<FileStore<D>>,
 ) -> Result<TableBook<FileStore<D>>, Fault>
@@ -122,12 +129,12 @@ fn work_over<
     ensures told { IfErr result (IsRefusal work.entry (W.contents output.old) (W.contents output.new)) }
 {
     let bytes = read_opened(alloc, file);
-    let done = work_in(alloc, rt, work, bytes, output, &mut book);
+    let done = work_in(alloc, clock, work, bytes, listener, output, &mut book);
     left(book, done)
 }
 
 /// Does the work on the store that is at its path, and gives the book, which is not closed yet. What is done on the open store is done behind
-/// [`work_over`], which has memory, a clock and a port, and no way to a file but the store and the account file that is opened here.
+/// [`work_over`], which has memory, a clock, and no way to a file or a port but the store and the account file or port that is opened here.
 pub(crate) fn work_at<S: Start, W: Write>(
     rt: &HostRuntime,
     work: Work<'_>,
@@ -152,5 +159,6 @@ pub(crate) fn work_at<S: Start, W: Write>(
 {
     let book = open_store(rt, work.store(), start)?;
     let file = work.account_file(rt);
-    work_over(rt.alloc(), rt, work, file, output, book)
+    let listener = work.listener(rt);
+    work_over(rt.alloc(), rt, work, file, listener, output, book)
 }

@@ -36,10 +36,10 @@ grants_after kept w u (n ∷ rest) h = grants_after kept h.0 u rest h.2 ∙ kept
 pub settings_kept : (set : SettingValues) (w u : World) (counts : List ℕ) → AreConnections w counts u → set ≡ w.settings → set ≡ u.settings
 settings_kept set w u counts h is = is ∙ sym (settings_after w u counts h)
 
-pub one : (now : ℕ) (w u : World) (acted : ℕ) → IsMoment now → Worked most_requests now w u acted → AreConnections w (acted ∷ []) u
+abbrev pub one : (now : ℕ) (w u : World) (acted : ℕ) → IsMoment now → Worked most_requests now w u acted → AreConnections w (acted ∷ []) u
 one now w u acted moment worked = (u, record { now = now; moment = moment; worked = worked }, refl)
 
-pub joined : (w v u : World) (front rest : List ℕ) → AreConnections w front v → AreConnections v rest u → AreConnections w (front ++ rest) u
+abbrev pub joined : (w v u : World) (front rest : List ℕ) → AreConnections w front v → AreConnections v rest u → AreConnections w (front ++ rest) u
 joined w v u [] rest is h = subst (λ (z : World). AreConnections z rest u) is h
 joined w v u (n ∷ front) rest g h = (g.0, g.1, joined g.0 v u front rest g.2 h)
 

@@ -1,54 +1,80 @@
 -- What a crash leaves, from one connection to the next.
-use Rattle.std.proofs.Common.{◌≡◌, ◌∙◌, ℕ, List, inl, inr, refl, ap, subst, sym}
+use Rattle.std.proofs.Common.{◌≡◌, ◌∙◌, ℕ, List, [], ◌∷◌, ◌++◌, inl, inr, refl, ap, subst, sym}
 use Rattle.queue_core.specs.Limits.{IsMoment}
 use Rattle.queue_core.specs.World.{World}
 use Rattle.http_front.specs.Connections.{Worked}
 use Rattle.http_front.specs.Crash.{CarriesAll, IsAtMostOneMore as IsOneMoreOf, IsLeft as IsLeftAt}
 use Rattle.http_front.specs.Turns.{Turn, most_requests}
-use Rattle.print_server.specs.Connections.{Carries, IsAtMostOneMore, IsLeft}
+use Rattle.print_server.specs.Connections.{AreConnections, Carries, IsAtMostOneMore, IsLeft}
+use Rattle.print_server.proofs.ConnectionLemmas.{joined, one}
 
 -- where nothing is done, all stays
-pub carries_none : (before : World → World → Type 0) (w : World) → Carries before before w w
+pub carries_none : (before : World → World → Type 0) (w : World) → Carries before before w [] w refl
 carries_none before w = λ v left. (v, left, inl (refl, refl))
 
-left_at : (now : ℕ) (w v u x : World) (acted : ℕ) → IsMoment now → (k : Worked most_requests now w u acted) → IsLeftAt now k.turns w v u x → IsLeft w v u x
+left_at : (now : ℕ) (w v u x : World) (acted : ℕ) (moment : IsMoment now) (k : Worked most_requests now w u acted) → IsLeftAt now k.turns w v u x
+    → IsLeft w (acted ∷ []) u (one now w u acted moment k) v x
 left_at now w v u x acted moment k (inl e) = inl e
-left_at now w v u x acted moment k (inr h) = inr (inr (w, acted, record { now = now; moment = moment; worked = k }, h))
+left_at now w v u x acted moment k (inr h) = inr (inl h)
 
 -- one connection at its moment
-pub carries_at : (before after : World → World → Type 0) (now : ℕ) (w u : World) (acted : ℕ) → IsMoment now → (k : Worked most_requests now w u acted)
-    → CarriesAll before after now k.turns w u → Carries before after w u
+pub carries_at : (before after : World → World → Type 0) (now : ℕ) (w u : World) (acted : ℕ) (moment : IsMoment now) (k : Worked most_requests now w u acted)
+    → CarriesAll before after now k.turns w u → Carries before after w (acted ∷ []) u (one now w u acted moment k)
 carries_at before after now w u acted moment k c = λ v left. let l = c v left in (l.0, l.1, left_at now w v u l.0 acted moment k l.2)
 
--- a look at the book behind it
-pub carries_seen : (before between after : World → World → Type 0) (w u : World) → ((z x : World) → between z x → after z x) → Carries before between w u → Carries before after w u
-carries_seen before between after w u seen c = λ v left. let l = c v left in (l.0, seen u l.0 l.1, l.2)
+-- a look at the book behind them
+pub carries_seen : (before between after : World → World → Type 0) (w : World) (counts : List ℕ) (u : World) (are : AreConnections w counts u)
+    → ((z x : World) → between z x → after z x) → Carries before between w counts u are → Carries before after w counts u are
+carries_seen before between after w counts u are seen c = λ v left. let l = c v left in (l.0, seen u l.0 l.1, l.2)
 
-left_more : (w v u x p y : World) → IsLeft w v u x → IsLeft u x p y → IsLeft w v p y
-left_more w v u x p y h (inl e) = subst (λ (z : World). IsLeft w v z y) (sym e.0) (subst (λ (z : World). IsLeft w v u z) (sym e.1) h)
-left_more w v u x p y h (inr t) = inr t
+-- a crash that leaves the queue leaves no more
+unchanged : (w : World) (counts : List ℕ) (u : World) (are : AreConnections w counts u) (x : World) → x ≡ u → IsAtMostOneMore w counts u are x
+unchanged w [] u are x is = is
+unchanged w (n ∷ rest) u are x is = inl (inl is)
 
--- one connection more
-pub carries_on : (before between after : World → World → Type 0) (w u p : World) → Carries before between w u → Carries between after u p → Carries before after w p
-carries_on before between after w u p h c = λ v left.
+-- a request of connections behind which nothing was done, and one of those that came behind others
+more_before : (w v p x : World) (front rest : List ℕ) (a : AreConnections w front v) (b : AreConnections v rest p) → p ≡ v → IsAtMostOneMore w front v a x
+    → IsAtMostOneMore w (front ++ rest) p (joined w v p front rest a b) x
+more_before w v p x [] rest a b same is = unchanged w rest p (joined w v p [] rest a b) x (is ∙ sym same)
+more_before w v p x (n ∷ front) rest a b same (inl h) = inl (subst (λ (z : World). IsOneMoreOf a.1.now w a.1.worked.turns z x) (sym same) h)
+more_before w v p x (n ∷ front) rest a b same (inr h) = inr (more_before a.0 v p x front rest a.2 b same h)
+
+more_behind : (w v p x : World) (front rest : List ℕ) (a : AreConnections w front v) (b : AreConnections v rest p) → IsAtMostOneMore v rest p b x
+    → IsAtMostOneMore w (front ++ rest) p (joined w v p front rest a b) x
+more_behind w v p x [] rest a b h = coe 0 1 (i. IsAtMostOneMore (a i) rest p (coe 0 i (j. AreConnections (a j) rest p) b) x) h
+more_behind w v p x (n ∷ front) rest a b h = inr (more_behind a.0 v p x front rest a.2 b h)
+
+left_more : (w v u x p y : World) (front rest : List ℕ) (a : AreConnections w front u) (b : AreConnections u rest p) → IsLeft w front u a v x → IsLeft u rest p b x y
+    → IsLeft w (front ++ rest) p (joined w u p front rest a b) v y
+left_more w v u x p y front rest a b (inl e) (inl f) = inl (f.0 ∙ e.0, f.1 ∙ e.1)
+left_more w v u x p y front rest a b (inr h) (inl f) = inr (more_before w u p y front rest a b f.0 (subst (λ (z : World). IsAtMostOneMore w front u a z) (sym f.1) h))
+left_more w v u x p y front rest a b h (inr t) = inr (more_behind w u p y front rest a b t)
+
+-- connections behind others
+pub carries_on : (before between after : World → World → Type 0) (w u p : World) (front rest : List ℕ) (a : AreConnections w front u) (b : AreConnections u rest p)
+    → Carries before between w front u a → Carries between after u rest p b → Carries before after w (front ++ rest) p (joined w u p front rest a b)
+carries_on before between after w u p front rest a b h c = λ v left.
     let r = h v left in
     let t = c r.0 r.1 in
-    (t.0, t.1, left_more w v u r.0 p t.0 r.2 t.2)
+    (t.0, t.1, left_more w v u r.0 p t.0 front rest a b r.2 t.2)
 
--- where a crash left just the queue
-pub left_one : (w u x : World) → IsLeft w w u x → IsAtMostOneMore u x
-left_one w u x (inl e) = inl (e.1 ∙ sym e.0)
-left_one w u x (inr h) = h
+-- where a crash left just the queue before them
+pub left_one : (w : World) (counts : List ℕ) (u : World) (are : AreConnections w counts u) (x : World) → IsLeft w counts u are w x → IsAtMostOneMore w counts u are x
+left_one w counts u are x (inl e) = unchanged w counts u are x (e.1 ∙ sym e.0)
+left_one w counts u are x (inr h) = h
 
 -- it grants nothing and changes no settings
-pub left_grants : ((now : ℕ) (w : World) (turns : List Turn) (u x : World) → IsOneMoreOf now w turns u x → x.grants ≡ u.grants) → (u x : World) → IsAtMostOneMore u x → x.grants ≡ u.grants
-left_grants one u x (inl e) = ap (λ (z : World). z.grants) e
-left_grants one u x (inr h) = one h.2.now h.0 h.2.worked.turns u x h.3
+pub left_grants : ((now : ℕ) (w : World) (turns : List Turn) (u x : World) → IsOneMoreOf now w turns u x → x.grants ≡ u.grants)
+    → (w : World) (counts : List ℕ) (u : World) (are : AreConnections w counts u) (x : World) → IsAtMostOneMore w counts u are x → x.grants ≡ u.grants
+left_grants one w [] u are x is = ap (λ (z : World). z.grants) is
+left_grants one w (n ∷ rest) u are x (inl h) = one are.1.now w are.1.worked.turns u x h
+left_grants one w (n ∷ rest) u are x (inr h) = left_grants one are.0 rest u are.2 x h
 
 more_settings : (now : ℕ) (w : World) (turns : List Turn) (u x : World) → IsOneMoreOf now w turns u x → x.settings ≡ u.settings
 more_settings now w turns u x (inl e) = ap (λ (z : World). z.settings) e
 more_settings now w turns u x (inr h) = ap (λ (z : World). z.settings) h.2
 
-pub left_settings : (u x : World) → IsAtMostOneMore u x → x.settings ≡ u.settings
-left_settings u x (inl e) = ap (λ (z : World). z.settings) e
-left_settings u x (inr h) = more_settings h.2.now h.0 h.2.worked.turns u x h.3
+pub left_settings : (w : World) (counts : List ℕ) (u : World) (are : AreConnections w counts u) (x : World) → IsAtMostOneMore w counts u are x → x.settings ≡ u.settings
+left_settings w [] u are x is = ap (λ (z : World). z.settings) is
+left_settings w (n ∷ rest) u are x (inl h) = more_settings are.1.now w are.1.worked.turns u x h
+left_settings w (n ∷ rest) u are x (inr h) = left_settings are.0 rest u are.2 x h

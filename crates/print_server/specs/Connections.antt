@@ -44,16 +44,16 @@ has_fault (Err fault) = not (fault.faults == 0) || is_of_book fault.cause
 
 -- ---- a crash at any moment
 
--- x is the queue u, or what the event of a request makes of it at the moment of its connection, which is any one by which u comes of some
--- queue, as one whose only request a fault answered
-abbrev pub IsAtMostOneMore : World → World → Type 0
-IsAtMostOneMore u x = (x ≡ u) ⊎ ((w : World) × (acted : ℕ) × (k : IsConnection w acted u) × IsOneMoreOf k.now w k.worked.turns u x)
+-- x is the queue u, which these connections made of w, or what the event that one of their requests asked for makes of u at its moment
+abbrev pub IsAtMostOneMore : (w : World) (counts : List ℕ) (u : World) → AreConnections w counts u → World → Type 0
+IsAtMostOneMore w [] u are x = x ≡ u
+IsAtMostOneMore w (acted ∷ rest) u are x = IsOneMoreOf are.1.now w are.1.worked.turns u x ⊎ IsAtMostOneMore are.0 rest u are.2 x
 
--- behind some connections, which made u of the queue w: nothing was done, and a crash leaves what it left before; or it leaves u, or what
--- the event of one request makes of u
-abbrev pub IsLeft : World → World → World → World → Type 0
-IsLeft w v u x = ((u ≡ w) × (x ≡ v)) ⊎ IsAtMostOneMore u x
+-- behind these connections, which made u of the queue w: nothing was done, and a crash leaves v, as before; or it leaves u, or what the
+-- event of one of their requests makes of u
+abbrev pub IsLeft : (w : World) (counts : List ℕ) (u : World) → AreConnections w counts u → World → World → Type 0
+IsLeft w counts u are v x = ((u ≡ w) × (x ≡ v)) ⊎ IsAtMostOneMore w counts u are x
 
--- what a crash leaves beside the queue w, before some connections, comes to what it leaves beside u, after them
-abbrev pub Carries : (World → World → Type 0) → (World → World → Type 0) → World → World → Type 0
-Carries before after w u = (v : World) → before w v → (x : World) × after u x × IsLeft w v u x
+-- what a crash leaves beside the queue w, before these connections, comes to what it leaves beside u, after them
+abbrev pub Carries : (World → World → Type 0) → (World → World → Type 0) → (w : World) (counts : List ℕ) (u : World) → AreConnections w counts u → Type 0
+Carries before after w counts u are = (v : World) → before w v → (x : World) × after u x × IsLeft w counts u are v x

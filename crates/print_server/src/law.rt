@@ -12,7 +12,7 @@ use queue_core::run_keeps;
 pub fn served_queues_are_runs()
     ensures served { (w u : World) (counts : List ℕ) → AreConnections w counts u
         → (ps : List Place) × AllByRecursion IsPlace ps × (u ≡ run w ps) }
-    ensures crash { (w u x : World) (counts : List ℕ) → AreConnections w counts u → IsAtMostOneMore u x
+    ensures crash { (w u x : World) (counts : List ℕ) (are : AreConnections w counts u) → IsAtMostOneMore w counts u are x
         → (ps : List Place) × AllByRecursion IsPlace ps × (x ≡ run w ps) }
 {
     connections_are_runs();
@@ -23,7 +23,8 @@ pub fn served_queues_are_runs()
 pub fn servers_grant_nothing()
     ensures grants { (w u : World) (counts : List ℕ) → AreConnections w counts u → u.grants ≡ w.grants }
     ensures settings { (w u : World) (counts : List ℕ) → AreConnections w counts u → u.settings ≡ w.settings }
-    ensures crash { (w u x : World) (counts : List ℕ) → AreConnections w counts u → IsAtMostOneMore u x → (x.grants ≡ w.grants) × (x.settings ≡ w.settings) }
+    ensures crash { (w u x : World) (counts : List ℕ) (are : AreConnections w counts u) → IsAtMostOneMore w counts u are x
+        → (x.grants ≡ w.grants) × (x.settings ≡ w.settings) }
 {
     connections_grant_nothing();
 }

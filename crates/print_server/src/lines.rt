@@ -6,7 +6,7 @@ ghost use Rattle.print_server.specs.Lines.{listening_line, served_line};
 use std::io;
 use std::io::Write;
 
-/// `listening 127.0.0.1:PORT`: connections can be made from now on.
+/// Prints `listening 127.0.0.1:PORT`, by which connections can be made from now on.
 pub fn tell_listening<W: Write>(out: &mut W, port: u16) -> io::Result<()>
     ensures { OnOk result (Appends (W.contents out.old) (W.contents out.new) (listening_line port)) }
 {
@@ -14,7 +14,7 @@ pub fn tell_listening<W: Write>(out: &mut W, port: u16) -> io::Result<()>
     out.flush()
 }
 
-/// `served ACTED`: a connection has ended, and so many of its requests acted.
+/// Prints `served ACTED`: a connection has ended, and so many of its requests acted.
 pub fn tell_served<W: Write>(out: &mut W, acted: u32) -> io::Result<()>
     ensures { OnOk result (Appends (W.contents out.old) (W.contents out.new) (served_line acted)) }
 {

@@ -1,15 +1,11 @@
 //! The port that connections are made to.
-ghost use Rattle.std.specs.Prelude.{◌≡◌, ◌∷◌, [], OnOk};
+ghost use Rattle.std.specs.Prelude.{◌≡◌, ◌∷◌, []};
 ghost use Rattle.std.specs.Net.Socket.{socket_ip, socket_port};
 ghost use Rattle.std.specs.Net.Addr.{ipv4_octets};
 ghost use Rattle.std.specs.declared.net.ip_addr.IpAddr.TheVariants.{V4};
 ghost use Rattle.std.specs.declared.net.ipv4_addr.Ipv4Addr.{Ipv4Addr as IpOfVersion4};
-ghost use Rattle.std.specs.Io.KnownBytes.{Appends};
-ghost use Rattle.print_server.specs.Lines.{listening_line};
 
-use crate::lines::tell_listening;
 use std::io;
-use std::io::Write;
 use std::net::{Ipv4Addr, Net, SocketAddr, TcpListener, TcpStream};
 
 /// How often in a row taking a connection may fail before the server gives up.
@@ -23,15 +19,11 @@ fn loopback(port: u16) -> SocketAddr
     SocketAddr::from((Ipv4Addr::LOCALHOST, port))
 }
 
-/// Listens on a port of the loopback interface, and prints `listening 127.0.0.1:PORT`.
+/// Listens on a port of the loopback interface. That it is this port no contract says, as those of the kit's listeners name no address.
 ///
-/// It is an error where the port can't be listened on, or the line can't be written.
-pub fn listen<R: Net, O: Write>(net: &R, out: &mut O, port: u16) -> io::Result<R::Listener>
-    ensures { OnOk result (Appends (O.contents out.old) (O.contents out.new) (listening_line port)) }
-{
-    let listener = TcpListener::bind(net, loopback(port))?;
-    tell_listening(out, port)?;
-    Ok(listener)
+/// It is an error where the port can't be listened on, as one that another program listens on.
+pub fn listen<R: Net>(net: &R, port: u16) -> io::Result<R::Listener> {
+    TcpListener::bind(net, loopback(port))
 }
 
 /// The next connection. A connection that fails while it is taken is passed over, as it may have been reset by its client; a listener

@@ -203,12 +203,12 @@ impl Service<'_> {
     ) -> Result<Standing, ServerFault>
         ensures began { B.is_honest book.new → B.is_honest book.old }
         ensures ok { B.is_honest book.new → OnOk result ((w : World) → B.stands book.old w → self.entry.settings.now ≡ w.settings
-            → (u : World) × B.stands book.new u × (counts : List ℕ) × AreConnections w counts u × (length counts ≡ 1)
+            → (u : World) × B.stands book.new u × (counts : List ℕ) × (are : AreConnections w counts u) × (length counts ≡ 1)
             × Appends (O.contents out.old) (O.contents out.new) (served_lines counts)
-            × Carries (B.crash_leaves book.old) (B.crash_leaves book.new) w u) }
+            × Carries (B.crash_leaves book.old) (B.crash_leaves book.new) w counts u are) }
         ensures err { B.is_honest book.new → OnErr result ((w : World) → B.stands book.old w → self.entry.settings.now ≡ w.settings
-            → (u : World) × B.stands book.new u × (counts : List ℕ) × AreConnections w counts u × (length counts ≤ 1)
-            × Carries (B.crash_leaves book.old) (B.crash_leaves book.new) w u) }
+            → (u : World) × B.stands book.new u × (counts : List ℕ) × (are : AreConnections w counts u) × (length counts ≤ 1)
+            × Carries (B.crash_leaves book.old) (B.crash_leaves book.new) w counts u are) }
         // where the book ends it, the connection's count was printed
         ensures told { B.is_honest book.new → IfErr result (λ f. (e : BookFault) → f ≡ ServerFault.Book e
             → (w : World) → B.stands book.old w → self.entry.settings.now ≡ w.settings
@@ -246,22 +246,23 @@ impl Service<'_> {
         ensures began { B.is_honest book.new → B.is_honest book.old }
         // every connection was served, and its count printed; a crash leaves what goes with just these connections
         ensures ok { B.is_honest book.new → OnOk result ((w : World) → B.stands book.old w → self.entry.settings.now ≡ w.settings
-            → (u : World) × B.stands book.new u × (counts : List ℕ) × AreConnections w counts u × (length counts ≡ connections)
+            → (u : World) × B.stands book.new u × (counts : List ℕ) × (are : AreConnections w counts u) × (length counts ≡ connections)
             × Appends (O.contents out.old) (O.contents out.new) (served_lines counts)
-            × Carries (B.crash_leaves book.old) (B.crash_leaves book.new) w u) }
+            × Carries (B.crash_leaves book.old) (B.crash_leaves book.new) w counts u are) }
         // some were, and so it does
         ensures err { B.is_honest book.new → OnErr result ((w : World) → B.stands book.old w → self.entry.settings.now ≡ w.settings
-            → (u : World) × B.stands book.new u × (counts : List ℕ) × AreConnections w counts u × (length counts ≤ connections)
-            × Carries (B.crash_leaves book.old) (B.crash_leaves book.new) w u) }
+            → (u : World) × B.stands book.new u × (counts : List ℕ) × (are : AreConnections w counts u) × (length counts ≤ connections)
+            × Carries (B.crash_leaves book.old) (B.crash_leaves book.new) w counts u are) }
         // where the book ends it, every connection's count was printed
         ensures told { B.is_honest book.new → IfErr result (λ f. (e : BookFault) → f ≡ ServerFault.Book e
             → (w : World) → B.stands book.old w → self.entry.settings.now ≡ w.settings
             → (u : World) × B.stands book.new u × (counts : List ℕ) × AreConnections w counts u × (length counts ≤ connections)
             × Appends (O.contents out.old) (O.contents out.new) (served_lines counts)) }
-        // whatever it answers: a crash at any moment leaves the queue that the book stands for, or what the event of one request makes of it
+        // whatever it answers: a crash at any moment leaves the queue that the book stands for, or what the event of one of these connections' requests
+        // makes of it
         ensures crash { B.is_honest book.new → B.is_live book.old → (w : World) → B.stands book.old w → self.entry.settings.now ≡ w.settings
-            → (u x : World) × B.stands book.new u × (counts : List ℕ) × AreConnections w counts u × (length counts ≤ connections)
-            × B.crash_leaves book.new u x × IsAtMostOneMore u x }
+            → (u x : World) × B.stands book.new u × (counts : List ℕ) × (are : AreConnections w counts u) × (length counts ≤ connections)
+            × B.crash_leaves book.new u x × IsAtMostOneMore w counts u are x }
         // an honest book that stands for a queue with the settings is never called damaged
         ensures damaged { B.is_honest book.new → IfErr result (λ f. f ≡ ServerFault.Book BookFault.Damaged
             → (w : World) → B.stands book.old w → self.entry.settings.now ≡ w.settings → ⊥) }

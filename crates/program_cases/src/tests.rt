@@ -12,4 +12,5 @@ mod patience;
 mod replays;
 mod server;
 mod serving;
+mod unprinted;
 mod words;

@@ -105,6 +105,7 @@ const NO_FILE: &[Step<'static>] = &[
     Asks(Statement(MISSING, "alice"), DISK),
     Asks(Statement(At::Folder, "alice"), DISK),
     Asks(Statement(NO_PATH, "alice"), DISK),
+    Asks(Statement(EMPTY, "alice"), DISK),
     Asks(Import(MISSING, EMPTY), DISK),
     Asks(Import(At::Folder, EMPTY), DISK),
     Asks(Import(NO_PATH, EMPTY), DISK),

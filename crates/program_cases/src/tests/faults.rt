@@ -1,7 +1,7 @@
 //! Books that can't do what they are asked.
 
 use crate::tests::server::Step::{Gets, SendsLast, Serves, Stops};
-use crate::tests::server::{Server, Step};
+use crate::tests::server::{AT, Server, Step};
 use http_desk::compare::Mismatch;
 use http_desk::connection::Wanted::Success;
 use http_desk::messages::{FAULT, PRINT_JOB};
@@ -11,7 +11,9 @@ use queue_types::document::DocumentHead;
 use queue_types::event::{Decision, Event};
 use queue_types::job::JobList;
 use queue_types::sheet::AccountSheet;
+use replay::{Fault, replay_over, replay_settings};
 use std::alloc::Global;
+use std::io;
 use std::io::Write;
 
 /// A book that takes nothing, as one whose disk is full.
@@ -116,4 +118,44 @@ fn stops(rt: &HostRuntime, fault: BookFault) -> Result<(), Mismatch> {
 fn a_book_that_cannot_be_read(rt: HostRuntime) -> Result<(), Mismatch> {
     stops(&rt, BookFault::Disk)?;
     stops(&rt, BookFault::Damaged)
+}
+
+/// A line of a replay with this message, and these lines behind it.
+fn message_and_lines(alloc: Global, message: &[u8], lines: &str) -> io::Result<Vec<u8>> {
+    let mut text = Vec::from_slice(alloc, b"ipp ")?;
+    for byte in message {
+        write!(text, "{byte:02x}")?;
+    }
+    write!(text, "\n{lines}")?;
+    Ok(text)
+}
+
+/// Replays an input over a book that can't be read by this fault.
+fn replay_by(
+    alloc: Global,
+    fault: BookFault,
+    mut input: &[u8],
+    output: &mut Vec<u8>,
+) -> Result<u8, Fault> {
+    let settings = replay_settings(alloc)?;
+    let unread = Some(fault);
+    let mut book = FaultyBook { alloc, unread };
+    replay_over(alloc, &mut input, output, &mut book, &settings)
+}
+
+/// Each line is told the fault, and the replay comes to its end.
+fn replays_on(alloc: Global, fault: BookFault) -> Result<(), Mismatch> {
+    let input = message_and_lines(alloc, PRINT_JOB, "dev 1 1 start 0\ngrant f24,alice,30\n")?;
+    let wanted = message_and_lines(alloc, FAULT, "refused 6 fault\ngrant refused 6\n")?;
+    let mut output = Vec::new(alloc);
+    let came = replay_by(alloc, fault, input.as_slice(), &mut output);
+    AT.is_so(came == Ok(0), "a replay that comes to its end")?;
+    AT.same_bytes(wanted.as_slice(), output.as_slice())
+}
+
+#[test]
+fn a_replay_over_a_book_that_cannot_be_read(rt: HostRuntime) -> Result<(), Mismatch> {
+    replays_on(rt.alloc(), BookFault::Disk)?;
+    replays_on(rt.alloc(), BookFault::Memory)?;
+    replays_on(rt.alloc(), BookFault::Damaged)
 }

@@ -3,7 +3,7 @@
 use commands::run;
 use http_desk::compare::{Mismatch, Place, Subject};
 use std::alloc::Global;
-use std::io::Write;
+use std::io::{BufWriter, Write};
 use std::os::unix::fs::PermissionsExt;
 use std::path::PathBuf;
 use std::test::Fail;
@@ -108,8 +108,9 @@ pub(super) fn tell_to<O: Write>(
     wanted: (u8, &str),
 ) -> Result<(), Mismatch> {
     let (wanted_status, wanted_err) = wanted;
+    let mut out = BufWriter::new(rt.alloc(), out)?;
     let mut err = Vec::new(rt.alloc());
-    let status = run(rt, words, out, &mut err);
+    let status = run(rt, words, &mut out, &mut err);
     AT.same_bytes(wanted_err.as_bytes(), err.as_slice())?;
     AT.is_so(status == wanted_status, "the exit status")
 }
@@ -134,6 +135,8 @@ impl<'a> Folder<'a> {
     pub(super) fn new(rt: &'a HostRuntime, name: &str) -> Result<Folder<'a>, Mismatch> {
         let name = format!(in rt.alloc(); "printd-{name}-{}", process::id(rt.process()))?;
         let path = env::temp_dir(rt)?.join(rt.alloc(), name.as_str())?;
+        // what a failed test of a process with this number has left
+        let _ = fs::remove_dir_all(rt, path.as_path());
         fs::create_dir(rt, path.as_path())?;
         Ok(Folder { rt, path })
     }

@@ -7,7 +7,7 @@ use http_desk::compare::Mismatch;
 use http_desk::connection::Wanted::Success;
 use http_desk::messages::{JOB_1, JOB_2, PRINT_JOB};
 use http_desk::requests::{IPP, POST_JOB};
-use print_server::listen;
+use print_server::{listen, tell_listening};
 use std::io;
 use std::io::ErrorKind;
 use std::net::{Ipv4Addr, SocketAddr, TcpListener};
@@ -18,14 +18,18 @@ pub(super) fn free_port(rt: &HostRuntime) -> io::Result<u16> {
     Ok(listener.local_addr()?.port())
 }
 
-/// It is told of, and listened on by the loopback interface alone.
 #[test]
 fn the_line_that_tells_of_a_port(rt: HostRuntime) -> Result<(), Mismatch> {
-    let port = free_port(&rt)?;
-    let line = format!(in rt.alloc(); "listening 127.0.0.1:{port}\n")?;
     let mut printed = Vec::new(rt.alloc());
-    let listener = listen(&rt, &mut printed, port)?;
-    AT.same_bytes(line.as_bytes(), printed.as_slice())?;
+    tell_listening(&mut printed, 8631)?;
+    AT.same_bytes(b"listening 127.0.0.1:8631\n", printed.as_slice())
+}
+
+/// It is listened on by the loopback interface alone.
+#[test]
+fn the_port_that_is_listened_on(rt: HostRuntime) -> Result<(), Mismatch> {
+    let port = free_port(&rt)?;
+    let listener = listen(&rt, port)?;
     let address = SocketAddr::from((Ipv4Addr::LOCALHOST, port));
     AT.is_so(listener.local_addr()? == address, "the address")
 }
@@ -39,20 +43,21 @@ fn has_failed<T: Drop>(
     AT.is_so(matches!(&came, Err(error) if error.kind() == kind), said)
 }
 
-/// A port that is listened on can't be listened on again, and no line is printed.
+/// A port that is listened on can't be listened on again.
 #[test]
 fn a_port_that_is_taken(rt: HostRuntime) -> Result<(), Mismatch> {
-    let listener = listen(&rt, &mut io::sink(), 0)?;
+    let listener = listen(&rt, 0)?;
     let port = listener.local_addr()?.port();
-    let mut printed = Vec::new(rt.alloc());
-    let came = listen(&rt, &mut printed, port);
-    has_failed(came, ErrorKind::AddrInUse, "a port that is taken")?;
-    AT.same_bytes(b"", printed.as_slice())
+    has_failed(
+        listen(&rt, port),
+        ErrorKind::AddrInUse,
+        "a port that is taken",
+    )
 }
 
 #[test]
 fn a_port_that_cannot_be_told(rt: HostRuntime) -> Result<(), Mismatch> {
-    let came = listen(&rt, &mut narrow(rt.alloc()), 0);
+    let came = tell_listening(&mut narrow(rt.alloc()), 8631);
     has_failed(came, NO_ROOM, "a line that can't be written")
 }
 

@@ -99,6 +99,7 @@ const NOWHERE: &[Step<'static>] = &[
     Asks(Init(IN_A_MISSING_FOLDER, URI, "release"), DISK),
     Asks(Init(At::Folder, URI, "release"), DISK),
     Asks(Init(At::Path(""), URI, "release"), DISK),
+    Asks(Init(At::Path("/dev/null"), URI, "release"), DISK),
     Asks(Statement(IN_A_MISSING_FOLDER, "alice"), DISK),
     Asks(Statement(At::Path("/dev/null/x"), "alice"), DISK),
 ];

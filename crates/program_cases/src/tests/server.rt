@@ -9,7 +9,6 @@ use print_server::{ServerFault, Service, Standing, listen};
 use queue_core::book::{BookFault, QueueBook};
 use queue_types::settings::Settings;
 use std::alloc::{AllocError, Global};
-use std::io;
 use std::io::{ErrorKind, Read, Write};
 use std::net::{Shutdown, SocketAddr, TcpListener, TcpStream};
 use std::num::NonZeroU32;
@@ -80,7 +79,7 @@ impl<B: QueueBook + Drop> Server<B> {
     /// A server on a port that the system chose, with the queue of a book of such a printer.
     pub(super) fn over(rt: &HostRuntime, book: B) -> Result<Server<B>, Mismatch> {
         let alloc = rt.alloc();
-        let listener = listen(rt, &mut io::sink(), 0)?;
+        let listener = listen(rt, 0)?;
         let address = listener.local_addr()?;
         let settings = settings(alloc)?;
         Ok(Server {

@@ -265,12 +265,13 @@ fn a_store_that_is_not_there(rt: HostRuntime) -> Result<(), Fail> {
     Ok(())
 }
 
-/// A store isn't served on a port that another listens on.
+/// A store isn't served on a port that another listens on. That there is no store is told first.
 fn is_taken(rt: &HostRuntime, folder: &Folder<'_>) -> Result<(), Fail> {
     folder.take_each(ONLY_MADE)?;
     let other = TcpListener::bind(rt, SocketAddr::from((Ipv4Addr::LOCALHOST, 0)))?;
     let port = other.local_addr()?.port();
     refuses(folder, STORE, port, "printd: io\n")?;
+    refuses(folder, FILE, port, "printd: disk\n")?;
     Ok(())
 }
 

@@ -1,7 +1,9 @@
-use Rattle.std.proofs.Common.{◌≡◌, ◌≤◌, ◌∙◌, ℕ, subst, lit≤, arith}
+use Rattle.std.proofs.Common.{◌≡◌, ◌≤◌, ◌∙◌, ℕ, [], inl, inr, subst, lit≤, arith}
+use Rattle.std.specs.Io.Buffered.{writer_buffer, writer_contents}
 use Rattle.commands.specs.Printed.{HasPrinted}
 use Rattle.commands.specs.Store.{CanBeMade}
 use Rattle.commands.proofs.EndingLemmas.{asks_nothing, asks_text, at_least_one, at_most, at_status, but_one, if_ok}
+use Rattle.commands.proofs.PrintedLemmas.{told_of}
 use Rattle.commands.proofs.program.run.Goals as goal
 
 pub returns-in-Ok-clause-named : goal.returns-in-Ok-clause-named
@@ -13,9 +15,19 @@ returns-in-Ok-clause-done g c = λ none zero.
       c.in-Ok.command,
       c.in-Ok.ensures.named,
       λ words is. at_status _ (λ n. CanBeMade words) c.do_command-done.result c.end.result c.end.ensures.done ok (c.do_command-done.ensures.made words is),
-      subst (λ n. HasPrinted c.in-Ok.command n (g.O.Write.contents c.args.out.now) (g.O.Write.contents c.do_command-done.new.out)) zero
+      subst (λ n. HasPrinted c.in-Ok.command n (writer_contents g.O.Write.contents c.args.out.now) (writer_contents g.O.Write.contents c.do_command-done.new.out)) zero
           (at_status _ _ c.do_command-done.result c.end.result c.end.ensures.done ok c.do_command-done.ensures.printed),
     )
+
+pub returns-in-Ok-clause-handed : goal.returns-in-Ok-clause-handed
+returns-in-Ok-clause-handed g c = λ none zero.
+    let ok = (but_one _ c.do_command-done.result c.end.result c.end.ensures.done c.end.ensures.refused (λ one. absurd (omega arith))).0 in
+    at_status _ (λ n. writer_buffer c.do_command-done.new.out ≡ []) c.do_command-done.result c.end.result c.end.ensures.done ok c.do_command-done.ensures.handed
+
+pub returns-in-Err-Words-clause-handed : goal.returns-in-Err-Words-clause-handed
+returns-in-Err-Words-clause-handed g c = λ none zero.
+    let among = rw c.in-Err-Words.field-0-is at c.in-Err-Words.ensures.refused in
+    absurd (rw none at among)
 
 pub returns-in-Err-Words-clause-done : goal.returns-in-Err-Words-clause-done
 returns-in-Err-Words-clause-done g c = λ none zero.
@@ -70,3 +82,19 @@ returns-in-Err-Words-clause-helped g c = λ text.
     let asks = asks_text _ _ among text in
     let none = if_ok c.tell_words-told.result _ (λ (own : ℕ). own ≤ 1) c.tell_words-told.ensures.asked (λ own zero. let is : own ≡ 0 = zero asks in omega arith) in
     at_most _ c.tell_words-told.result c.end-in-Err-Words.result 1 c.end-in-Err-Words.ensures.done c.end-in-Err-Words.ensures.refused none (lit≤ tt)
+
+pub returns-in-Ok-clause-told : goal.returns-in-Ok-clause-told
+returns-in-Ok-clause-told g c = λ none one. inr (
+  c.in-Ok.command,
+  c.in-Ok.ensures.named,
+  told_of g.E.Write.contents c.args.err.now c.end.new.err c.in-Ok.command c.do_command-done.result c.end.result c.end.ensures.done c.end.ensures.told c.do_command-done.ensures.replayed
+      c.do_command-done.ensures.told one,
+)
+
+pub returns-in-Err-Words-clause-told : goal.returns-in-Err-Words-clause-told
+returns-in-Err-Words-clause-told g c = λ none one.
+    let among = rw c.in-Err-Words.field-0-is at c.in-Err-Words.ensures.refused in
+    absurd (rw none at among)
+
+pub returns-in-Err-Memory-clause-told : goal.returns-in-Err-Memory-clause-told
+returns-in-Err-Memory-clause-told g c = λ none one. inl c.end-in-Err-Memory.ensures.told

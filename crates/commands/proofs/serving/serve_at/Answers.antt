@@ -21,7 +21,7 @@ returns-in-Ok-clause-served g c = λ honest w stands same.
       it.3,
       it.4,
       it.5,
-      one_more (shown_by g.S.Store c.args.book.now) (shown_by g.S.Store c.serve_connections.new.book) w it.0
+      one_more (shown_by g.S.Store c.args.book.now) (shown_by g.S.Store c.serve_connections.new.book) w it.2 it.0 it.3
           (λ live. lasts g.S.Store g.met.S.Store.settled c.args.book.now w (c.serve_connections.ensures.began honest) live stands) it.6,
     )
 
@@ -33,7 +33,7 @@ returns-in-Err-clause-err g c = λ honest w stands same.
       it.2,
       it.3,
       it.4,
-      one_more (shown_by g.S.Store c.args.book.now) (shown_by g.S.Store c.serve_connections.new.book) w it.0
+      one_more (shown_by g.S.Store c.args.book.now) (shown_by g.S.Store c.serve_connections.new.book) w it.2 it.0 it.3
           (λ live. lasts g.S.Store g.met.S.Store.settled c.args.book.now w (c.serve_connections.ensures.began honest) live stands) it.5,
     )
 

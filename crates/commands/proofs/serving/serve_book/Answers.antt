@@ -1,4 +1,4 @@
-use Rattle.std.proofs.Common.{[], refl, arith, inl}
+use Rattle.std.proofs.Common.{[], refl, arith}
 use Rattle.std.proofs.KnownBytes.{Appends-trans}
 use Rattle.std.proofs.lemmas.Result.{err_from_is_err_and}
 use Rattle.print_server.specs.Lines.{listening_line, served_lines}
@@ -16,7 +16,7 @@ returns-clause-served g c = λ honest. on_ok c.serve_at.result (c.serve_at.ensur
       end.2,
       end.3,
       end.4,
-      Appends-trans (g.W.Write.contents c.args.output.now) (g.W.Write.contents c.listen.new.out) (g.W.Write.contents c.serve_at.new.output)
+      Appends-trans (g.W.Write.contents c.args.output.now) (g.W.Write.contents c.tell_port.new.output) (g.W.Write.contents c.serve_at.new.output)
           (listening_line c.args.words.port) (served_lines end.2) c.in_ok-listener.ensures end.5,
       end.6,
     ))
@@ -25,7 +25,7 @@ pub returns-clause-written : goal.returns-clause-written
 returns-clause-written g c = on_ok c.serve_at.result c.serve_at.ensures.written (λ told. (
   told.0,
   told.1,
-  Appends-trans (g.W.Write.contents c.args.output.now) (g.W.Write.contents c.listen.new.out) (g.W.Write.contents c.serve_at.new.output)
+  Appends-trans (g.W.Write.contents c.args.output.now) (g.W.Write.contents c.tell_port.new.output) (g.W.Write.contents c.serve_at.new.output)
       (listening_line c.args.words.port) (served_lines told.0) c.in_ok-listener.ensures told.2,
 ))
 
@@ -40,12 +40,12 @@ returns-clause-damaged g c = λ honest. if_err c.serve_at.result _ _ (c.serve_at
 pub returns-in_err-settings-clause-err : goal.returns-in_err-settings-clause-err
 returns-in_err-settings-clause-err g c = λ honest.
     let p = err_from_is_err_and c.from_residual.result c.from_residual.ensures.1 in
-    rw p.1 (λ w stands. (w, stands, [], refl, omega arith, λ live. (w, lasts g.S.Store g.met.S.Store.settled c.args.book.now w honest live stands, inl refl)))
+    rw p.1 (λ w stands. (w, stands, [], refl, omega arith, λ live. (w, lasts g.S.Store g.met.S.Store.settled c.args.book.now w honest live stands, refl)))
 
 pub returns-in_err-listener-clause-err : goal.returns-in_err-listener-clause-err
 returns-in_err-listener-clause-err g c = λ honest.
     let p = err_from_is_err_and c.from_residual-in_err-listener.result c.from_residual-in_err-listener.ensures.1 in
-    rw p.1 (λ w stands. (w, stands, [], refl, omega arith, λ live. (w, lasts g.S.Store g.met.S.Store.settled c.args.book.now w honest live stands, inl refl)))
+    rw p.1 (λ w stands. (w, stands, [], refl, omega arith, λ live. (w, lasts g.S.Store g.met.S.Store.settled c.args.book.now w honest live stands, refl)))
 
 pub returns-in_err-listener-clause-damaged : goal.returns-in_err-listener-clause-damaged
 returns-in_err-listener-clause-damaged g c = λ honest.
@@ -58,10 +58,10 @@ returns-in_err-listener-clause-told g c =
     rw p.1 (of_serve_stream _ p.2.0)
 
 pub returns-in_err-settings-clause-crash : goal.returns-in_err-settings-clause-crash
-returns-in_err-settings-clause-crash g c = λ honest live w stands. (w, w, stands, [], refl, omega arith, lasts g.S.Store g.met.S.Store.settled c.args.book.now w honest live stands, inl refl)
+returns-in_err-settings-clause-crash g c = λ honest live w stands. (w, w, stands, [], refl, omega arith, lasts g.S.Store g.met.S.Store.settled c.args.book.now w honest live stands, refl)
 
 pub returns-in_err-listener-clause-crash : goal.returns-in_err-listener-clause-crash
-returns-in_err-listener-clause-crash g c = λ honest live w stands. (w, w, stands, [], refl, omega arith, lasts g.S.Store g.met.S.Store.settled c.args.book.now w honest live stands, inl refl)
+returns-in_err-listener-clause-crash g c = λ honest live w stands. (w, w, stands, [], refl, omega arith, lasts g.S.Store g.met.S.Store.settled c.args.book.now w honest live stands, refl)
 
 pub returns-clause-crash : goal.returns-clause-crash
 returns-clause-crash g c = λ honest live w stands.

@@ -8,4 +8,4 @@ returns-clause-served c = connections_run (λ now w u acted moment k. let r = c.
 pub returns-clause-crash : goal.returns-clause-crash
 returns-clause-crash c = λ w u x counts are left.
     let served = connections_run (λ now w u acted moment k. let r = c.connections_are_runs.ensures.worked most_requests now w u acted moment k in (r.0, r.2, r.3)) c.run_keeps.ensures.joined w u counts are in
-    left_run (λ now w u x acted moment k more. let r = c.connections_are_runs.ensures.crash now w u x k.turns moment k.are more in (r.0, r.1, r.3)) c.run_keeps.ensures.joined w u x served.0 served.1 served.2 left
+    left_run (λ now w u x turns moment turned more. let r = c.connections_are_runs.ensures.crash now w u x turns moment turned more in (r.0, r.1, r.3)) c.run_keeps.ensures.joined w counts u are x served left

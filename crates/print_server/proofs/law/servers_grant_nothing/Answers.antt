@@ -11,6 +11,6 @@ returns-clause-settings c = settings_after
 
 pub returns-clause-crash : goal.returns-clause-crash
 returns-clause-crash c = λ w u x counts are left. (
-  left_grants c.connections_grant_nothing.ensures.crash u x left ∙ grants_after c.connections_grant_nothing.ensures.worked w u counts are,
-  left_settings u x left ∙ settings_after w u counts are,
+  left_grants c.connections_grant_nothing.ensures.crash w counts u are x left ∙ grants_after c.connections_grant_nothing.ensures.worked w u counts are,
+  left_settings w counts u are x left ∙ settings_after w u counts are,
 )

@@ -15,7 +15,7 @@ loop-round-preserved g c = record {
       let r = c.loop-round.invariant.served (c.serve_next.ensures.began h) w st set in
       let t = c.in_ok-standing.ensures.ok h r.0 r.1 (settings_kept c.args.self.settings.now w r.0 r.2 r.3 set) in
       let more = length-append r.2 t.2 in
-      (t.0, t.1, r.2 ++ t.2, joined w r.0 t.0 r.2 t.2 r.3 t.3, omega (arith, more, r.4, t.4), told_on _ _ _ r.2 t.2 r.5 t.5, carries_on (g.B.QueueBook.crash_leaves c.args.book.now) (g.B.QueueBook.crash_leaves c.loop-round.book) (g.B.QueueBook.crash_leaves c.serve_next.new.book) w r.0 t.0 r.6 t.6);
+      (t.0, t.1, r.2 ++ t.2, joined w r.0 t.0 r.2 t.2 r.3 t.3, omega (arith, more, r.4, t.4), told_on _ _ _ r.2 t.2 r.5 t.5, carries_on (g.B.QueueBook.crash_leaves c.args.book.now) (g.B.QueueBook.crash_leaves c.loop-round.book) (g.B.QueueBook.crash_leaves c.serve_next.new.book) w r.0 t.0 r.2 t.2 r.3 t.3 r.6 t.6);
   printed =
       let before = c.loop-round.invariant.printed in
       let next = c.in_ok-standing.ensures.printed in
@@ -33,7 +33,7 @@ returns-in_err-standing-clause-err g c = λ h. on_err c.from_residual.result _ (
     let r = c.loop-round.invariant.served (c.serve_next.ensures.began h) w st set in
     let t = c.in_err-standing.ensures.err h r.0 r.1 (settings_kept c.args.self.settings.now w r.0 r.2 r.3 set) in
     let more = length-append r.2 t.2 in
-    (t.0, t.1, r.2 ++ t.2, joined w r.0 t.0 r.2 t.2 r.3 t.3, omega (arith, more, r.4, t.4), carries_on (g.B.QueueBook.crash_leaves c.args.book.now) (g.B.QueueBook.crash_leaves c.loop-round.book) (g.B.QueueBook.crash_leaves c.serve_next.new.book) w r.0 t.0 r.6 t.5))
+    (t.0, t.1, r.2 ++ t.2, joined w r.0 t.0 r.2 t.2 r.3 t.3, omega (arith, more, r.4, t.4), carries_on (g.B.QueueBook.crash_leaves c.args.book.now) (g.B.QueueBook.crash_leaves c.loop-round.book) (g.B.QueueBook.crash_leaves c.serve_next.new.book) w r.0 t.0 r.2 t.2 r.3 t.3 r.6 t.5))
 
 pub returns-in_err-standing-clause-told : goal.returns-in_err-standing-clause-told
 returns-in_err-standing-clause-told g c = λ h.
@@ -68,13 +68,13 @@ returns-in_err-standing-clause-crash g c = λ h live w st set.
     let r = c.loop-round.invariant.served (c.serve_next.ensures.began h) w st set in
     let t = c.in_err-standing.ensures.err h r.0 r.1 (settings_kept c.args.self.settings.now w r.0 r.2 r.3 set) in
     let more = length-append r.2 t.2 in
-    let on = carries_on (g.B.QueueBook.crash_leaves c.args.book.now) (g.B.QueueBook.crash_leaves c.loop-round.book) (g.B.QueueBook.crash_leaves c.serve_next.new.book) w r.0 t.0 r.6 t.5 in
+    let on = carries_on (g.B.QueueBook.crash_leaves c.args.book.now) (g.B.QueueBook.crash_leaves c.loop-round.book) (g.B.QueueBook.crash_leaves c.serve_next.new.book) w r.0 t.0 r.2 t.2 r.3 t.3 r.6 t.5 in
     let l = on w (g.met.B.QueueBook.lasts c.args.book.now w w (c.loop-round.invariant.began (c.serve_next.ensures.began h)) live st) in
-    (t.0, l.0, t.1, r.2 ++ t.2, joined w r.0 t.0 r.2 t.2 r.3 t.3, omega (arith, more, r.4, t.4), l.1, left_one w t.0 l.0 l.2)
+    (t.0, l.0, t.1, r.2 ++ t.2, joined w r.0 t.0 r.2 t.2 r.3 t.3, omega (arith, more, r.4, t.4), l.1, left_one w (r.2 ++ t.2) t.0 (joined w r.0 t.0 r.2 t.2 r.3 t.3) l.0 l.2)
 
 pub returns-clause-crash : goal.returns-clause-crash
 returns-clause-crash g c = λ h live w st set.
     let r = c.loop-round.invariant.served h w st set in
     let is = r.4 in
     let l = r.6 w (g.met.B.QueueBook.lasts c.args.book.now w w (c.loop-round.invariant.began h) live st) in
-    (r.0, l.0, r.1, r.2, r.3, omega (arith, is), l.1, left_one w r.0 l.0 l.2)
+    (r.0, l.0, r.1, r.2, r.3, omega (arith, is), l.1, left_one w r.2 r.0 r.3 l.0 l.2)

@@ -22,7 +22,7 @@ returns-in_err-check_book-in-Unseen-clause-err g c = λ h. on_err c.from_residua
       c.serve_stream-served.result.acted ∷ [],
       one c.in_ok-now.now w u.0 _ c.in_ok-now.ensures u.2,
       omega arith,
-      carries_seen (g.B.QueueBook.crash_leaves c.args.book.now) (g.B.QueueBook.crash_leaves c.serve_stream-served.new.book) (g.B.QueueBook.crash_leaves c.check_book.new.book) w u.0 (c.check_book.ensures.left h)
+      carries_seen (g.B.QueueBook.crash_leaves c.args.book.now) (g.B.QueueBook.crash_leaves c.serve_stream-served.new.book) (g.B.QueueBook.crash_leaves c.check_book.new.book) w (c.serve_stream-served.result.acted ∷ []) u.0 (one c.in_ok-now.now w u.0 _ c.in_ok-now.ensures u.2) (c.check_book.ensures.left h)
           (carries_at (g.B.QueueBook.crash_leaves c.args.book.now) (g.B.QueueBook.crash_leaves c.serve_stream-served.new.book) c.in_ok-now.now w u.0 _ c.in_ok-now.ensures u.2 u.3),
     ))
 
@@ -46,7 +46,7 @@ returns-in_ok-check_book-in-Unseen-clause-ok g c = λ h w st set.
       one c.in_ok-now.now w u.0 _ c.in_ok-now.ensures u.2,
       refl,
       told_one _ _ _ c.in_ok-tell_served.ensures,
-      carries_seen (g.B.QueueBook.crash_leaves c.args.book.now) (g.B.QueueBook.crash_leaves c.serve_stream-served.new.book) (g.B.QueueBook.crash_leaves c.check_book.new.book) w u.0 (c.check_book.ensures.left h)
+      carries_seen (g.B.QueueBook.crash_leaves c.args.book.now) (g.B.QueueBook.crash_leaves c.serve_stream-served.new.book) (g.B.QueueBook.crash_leaves c.check_book.new.book) w (c.serve_stream-served.result.acted ∷ []) u.0 (one c.in_ok-now.now w u.0 _ c.in_ok-now.ensures u.2) (c.check_book.ensures.left h)
           (carries_at (g.B.QueueBook.crash_leaves c.args.book.now) (g.B.QueueBook.crash_leaves c.serve_stream-served.new.book) c.in_ok-now.now w u.0 _ c.in_ok-now.ensures u.2 u.3),
     )
 
