@@ -92,9 +92,11 @@ class Writer:
             if operation in ON_JOB:
                 attributes.append(("job-id", [(INTEGER, number)]))
         attributes.append(("requesting-user-name", [(NAME, self.random.choice(CALLERS))]))
+        # now and then more numbers than a caller can have live jobs
+        numbers = range(1, 102) if self.chance(0.05) else [self.any_number() for _ in range(self.random.randint(1, 3))]
         choices = {
             SEND_DOCUMENT: [("last-document", [(BOOLEAN, self.chance(0.3))])],
-            CANCEL_MY_JOBS: [("job-ids", [(INTEGER, self.any_number()) for _ in range(self.random.randint(1, 3))])],
+            CANCEL_MY_JOBS: [("job-ids", [(INTEGER, number) for number in numbers])],
         }
         attributes += choices.get(operation, [])
         if operation == CANCEL_MY_JOBS and self.chance(0.2):

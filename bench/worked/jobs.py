@@ -218,3 +218,27 @@ case(
     (print_job(), taken(102)),
     (print_job(), refused(0x0404)),
 )
+# more numbers than a caller can have live jobs
+case(
+    "more numbers than the caller has jobs",
+    (print_job(), taken(1)),
+    (print_job(caller="bob"), taken(2)),
+    (print_job(), taken(3)),
+    (cancel_mine(*range(1, 102)), refused(0x0406)),
+    (cancel_mine(*range(1, 102), caller="carol"), refused(0x0406)),
+    # one number, however often
+    (cancel_mine(*(101 * [3])), done()),
+    (look(1, "job-state"), seen(WAITING, "job-state")),
+    (look(3, "job-state"), seen(canceled(3), "job-state")),
+)
+case(
+    "more numbers than a caller may have live jobs",
+    *HUNDRED,
+    (job_request(CANCEL_JOB, 7), done()),
+    (print_job(), taken(101)),
+    # all are hers, and one has ended
+    (cancel_mine(*range(1, 102)), refused(0x0404)),
+    (look(1, "job-state"), seen(WAITING, "job-state")),
+    (cancel_mine(*(number for number in range(1, 102) if number != 7)), done()),
+    (look(1, "job-state"), seen(canceled(1), "job-state")),
+)

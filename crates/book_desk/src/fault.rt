@@ -26,7 +26,7 @@ pub enum StepFault {
     AtStop(String),
     /// A store that a fault shut for good answers.
     ShutAnswers,
-    /// A fault was told, and no call of the disk has failed.
+    /// No call of the disk has failed, though a fault was told, or its first was to.
     NoStop,
     /// A row that a disk stops has a step with no look before it.
     NoLook,

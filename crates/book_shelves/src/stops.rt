@@ -244,7 +244,12 @@ impl Stopping<'_> {
         for calls in 0..MOST_CALLS {
             desk.go_to(place);
             if !self.stops_at(desk, kept, stop.after(calls), steps)? {
-                return Ok(());
+                // each file is called as it is opened
+                return if calls == 0 {
+                    Err(StepFault::NoStop)
+                } else {
+                    Ok(())
+                };
             }
         }
         Err(StepFault::NoEnd)

@@ -3,9 +3,11 @@
 mod answers;
 mod bodies;
 mod broken;
+mod calls;
 mod cut;
 mod days;
 mod documents;
+mod drawn;
 mod ends;
 mod faults;
 mod interrupted;

@@ -21,6 +21,8 @@ const CASES: &[Case<'static>] = &[
             NoRow(b"f24,alice,"),
             NoRow(b",,"),
             NoRow(b"\"\""),
+            NoRow(b" "),
+            NoRow(b"   "),
             NoRow(b"f 24,alice,30"),
             NoRow(b"f/24,alice,30"),
             NoRow(b"f+24,alice,30"),

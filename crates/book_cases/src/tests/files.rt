@@ -171,6 +171,7 @@ const LINE_ENDS_AND_HEADERS: &[Case<'static>] = &[
             File(b"", NO_HEADER),
             File(b"\n", NO_HEADER),
             File(b"\r\n\r\n", NO_HEADER),
+            File(b" \nbatch,account,pages\n", NO_HEADER),
             File(b"\xEF\xBB\xBF", NO_HEADER),
             File(b"f24,alice,30\n", NO_HEADER),
             File(b"Batch,account,pages\n", NO_HEADER),

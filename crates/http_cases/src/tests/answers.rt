@@ -84,6 +84,27 @@ fn other_targets_of_a_print_job(rt: HostRuntime) -> Result<(), Mismatch> {
     Ok(())
 }
 
+/// Heads of a Print-Job: with lines that end by a line feed alone, behind empty lines, and with a length of 20 digits.
+const HEADS: [&[u8]; 3] = [
+    b"POST /ipp/print HTTP/1.1\nContent-Type: application/ipp\nContent-Length: 145\n\n",
+    b"\r\n\n\r\nPOST /ipp/print HTTP/1.1\r\nContent-Type: application/ipp\r\nContent-Length: 145\r\n\r\n",
+    b"POST /ipp/print HTTP/1.1\r\nContent-Type: application/ipp\r\nContent-Length: 00000000000000000145\r\n\r\n",
+];
+
+#[test]
+fn other_spellings_of_a_head(rt: HostRuntime) -> Result<(), Mismatch> {
+    for head in HEADS {
+        let connection = Connection {
+            stream: &[head, PRINT_JOB],
+            acted: 1,
+            end: End::Closed,
+            wanted: &[PRINTED],
+        };
+        take_all_over_both(rt.alloc(), &[connection])?;
+    }
+    Ok(())
+}
+
 const QUEUE_AND_DOCUMENT: &[Connection<'static>] = &[
     LOOK_AT_NONE,
     PRINT_AND_RELEASE,

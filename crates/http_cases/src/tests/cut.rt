@@ -8,6 +8,7 @@ use http_desk::desk::Desk;
 use http_desk::messages::{BAD_REQUEST, JOB_1, JOB_2, PRINT_JOB};
 use http_desk::refused::end_behind;
 use http_desk::requests::{IPP, POST_CHUNKED, POST_JOB, POST_WAITING};
+use http_desk::streams::SPEEDS;
 use http_front::{End, Served};
 use list_book::ListBook;
 use std::alloc::Global;
@@ -24,8 +25,10 @@ fn cut_to<B: DeskBook>(desk: &mut Desk<B>, front: &[u8], answers: &[u8]) -> Resu
         faults: 0,
         end,
     };
-    desk.take_bytes(front, served, answers, 4096)?;
-    desk.take_bytes(front, served, answers, 1)
+    for most in SPEEDS {
+        desk.take_bytes(front, served, answers, most)?;
+    }
+    Ok(())
 }
 
 /// A request is cut at each length. From the end of a head of so many bytes on, these are the answers.
@@ -100,12 +103,13 @@ fn chunks_that_may_go_on(rt: HostRuntime) -> Result<(), Mismatch> {
     end_behind(rt.alloc(), POST_CHUNKED, End::Cut, &[], BEGUN_CHUNKS)
 }
 
-/// A message behind its head is answered so.
+/// A message behind its head is answered so, where a read gives at most so many bytes.
 fn take_message<B: DeskBook>(
     desk: &mut Desk<B>,
     head: &[u8],
     message: &[u8],
     wanted: &[Wanted<'_>],
+    most: usize,
 ) -> Result<(), Mismatch> {
     let connection = Connection {
         stream: &[head, message],
@@ -113,7 +117,7 @@ fn take_message<B: DeskBook>(
         end: End::Closed,
         wanted,
     };
-    desk.take(&connection, 4096)
+    desk.take(&connection, most)
 }
 
 /// The smallest Print-Job, cut to so many bytes, is answered so.
@@ -122,20 +126,25 @@ fn cut_message<B: DeskBook>(
     desk: &mut Desk<B>,
     length: usize,
     wanted: &[Wanted<'_>],
+    most: usize,
 ) -> Result<(), Mismatch> {
     let head = format!(in alloc;
         "POST /ipp/print HTTP/1.1\r\nContent-Type: application/ipp\r\nContent-Length: {length}\r\n\r\n"
     )?;
     let message = PRINT_JOB.get(..length).unwrap_or(PRINT_JOB);
-    take_message(desk, head.as_bytes(), message, wanted)
+    take_message(desk, head.as_bytes(), message, wanted, most)
 }
 
 const REFUSED: &[Wanted<'static>] = &[Success(IPP, BAD_REQUEST)];
 
 /// Cut inside its attributes it is refused.
-fn cut_attributes<B: DeskBook>(alloc: Global, desk: &mut Desk<B>) -> Result<(), Mismatch> {
+fn cut_attributes<B: DeskBook>(
+    alloc: Global,
+    desk: &mut Desk<B>,
+    most: usize,
+) -> Result<(), Mismatch> {
     for length in 8..143 {
-        cut_message(alloc, desk, length, REFUSED)?;
+        cut_message(alloc, desk, length, REFUSED, most)?;
     }
     Ok(())
 }
@@ -145,15 +154,23 @@ const FIRST: &[Wanted<'static>] = &[Success(IPP, JOB_1)];
 const SECOND: &[Wanted<'static>] = &[Success(IPP, JOB_2)];
 
 /// Cut inside its attributes it makes no job. With a part of its document, or none, it makes one.
-fn cut_messages<B: DeskBook>(alloc: Global) -> Result<(), Mismatch> {
+fn cut_messages<B: DeskBook>(alloc: Global, most: usize) -> Result<(), Mismatch> {
     let mut desk = Desk::<B>::new(alloc)?;
-    cut_attributes(alloc, &mut desk)?;
-    cut_message(alloc, &mut desk, 143, FIRST)?;
-    cut_message(alloc, &mut desk, 144, SECOND)
+    cut_attributes(alloc, &mut desk, most)?;
+    cut_message(alloc, &mut desk, 143, FIRST, most)?;
+    cut_message(alloc, &mut desk, 144, SECOND, most)
+}
+
+/// So it is at each speed.
+fn cut_messages_in<B: DeskBook>(alloc: Global) -> Result<(), Mismatch> {
+    for most in SPEEDS {
+        cut_messages::<B>(alloc, most)?;
+    }
+    Ok(())
 }
 
 #[test]
 fn a_message_cut_at_each_length(rt: HostRuntime) -> Result<(), Mismatch> {
-    cut_messages::<ListBook>(rt.alloc())?;
-    cut_messages::<MemoryBook>(rt.alloc())
+    cut_messages_in::<ListBook>(rt.alloc())?;
+    cut_messages_in::<MemoryBook>(rt.alloc())
 }

@@ -35,8 +35,9 @@ const CROOKED: &[u8] =
     b"PUT /nothing HTTP/1.1\r\nContent-Length: 99999999\r\nTransfer-Encoding: gzip\r\n";
 
 /// Heads of 65 fields, of 16,385 bytes and more, and of no end.
-const HEADS_PAST_LIMITS: [Long; 5] = [
+const HEADS_PAST_LIMITS: [Long; 6] = [
     (QUEUE_LINE, b"", (b"a:b\r\n", 65), b"\r\n"),
+    (QUEUE_LINE, b"", (b"a:b\r\n", 65), b"bad line\r\n\r\n"),
     (QUEUE_LINE, b"a:", (b"b", ROOM + 1), b"\r\n\r\n"),
     (CROOKED, b"", (b"a:b\r\n", 63), b"\r\n"),
     (CROOKED, b"a:", (b"b", 16_384), b"\r\n\r\n"),
@@ -46,6 +47,14 @@ const HEADS_PAST_LIMITS: [Long; 5] = [
 #[test]
 fn heads_past_their_limits(rt: HostRuntime) -> Result<(), Mismatch> {
     refuse_long(rt.alloc(), 431, &[HEAD_TOO_LARGE], &HEADS_PAST_LIMITS)
+}
+
+/// As many fields as a head may have, and a line behind them that is none.
+const WRONG_LINE: [Long; 1] = [(QUEUE_LINE, b"", (b"a:b\r\n", 64), b"bad line\r\n\r\n")];
+
+#[test]
+fn a_wrong_line_behind_sixty_four_fields(rt: HostRuntime) -> Result<(), Mismatch> {
+    refuse_long(rt.alloc(), 400, &[BAD], &WRONG_LINE)
 }
 
 /// A POST of one byte, up to its chunk's extension.

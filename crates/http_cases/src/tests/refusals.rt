@@ -15,11 +15,23 @@ const UNREADABLE_HEADS: &[&[u8]] = &[
     b"GET /device/queue HTTP/2.0\r\n\r\n",
     b"a b c d\r\n\r\n",
     b"GET /device/queue HTTP/1.1\r\na b\r\n\r\n",
+    b"GET  /device/queue HTTP/1.1\r\n\r\n",
+    b"GET /device/queue HTTP/1.2\r\n\r\n",
+    b"GET /device/queue HTTP/1.1\r\nA: b\r\n c\r\n\r\n",
+    b"GET /device/queue HTTP/1.1\r\nContent-Length : 0\r\n\r\n",
+    b"GET /device/queue HTTP/1.1\r\nA: b\x0Bc\r\n\r\n",
+    b"GET /device/queue HTTP/1.1\r\nA: b\rC: d\r\n\r\n",
 ];
 
 #[test]
 fn heads_that_cannot_be_read(rt: HostRuntime) -> Result<(), Mismatch> {
     refuse_all(rt.alloc(), 400, BAD, UNREADABLE_HEADS)
+}
+
+/// One wrong byte refuses them, also where the input ends behind it.
+#[test]
+fn heads_that_cannot_be_read_at_the_end_of_the_input(rt: HostRuntime) -> Result<(), Mismatch> {
+    end_behind(rt.alloc(), b"", End::Refused(400), &[BAD], UNREADABLE_HEADS)
 }
 
 const UNREADABLE_LENGTHS: &[&[u8]] = &[
@@ -51,6 +63,13 @@ const WITHOUT_A_ROUTE: &[&[u8]] = &[
     b"PUT http://h HTTP/1.1\r\n\r\n",
     b"PUT HTTP://h/device/queue HTTP/1.1\r\n\r\n",
     b"OPTIONS * HTTP/1.1\r\n\r\n",
+    b"PUT /ipp/print#x HTTP/1.1\r\n\r\n",
+    b"PUT /ipp/prin%74 HTTP/1.1\r\n\r\n",
+    b"PUT /device/queue/ HTTP/1.1\r\n\r\n",
+    b"PUT //device/queue HTTP/1.1\r\n\r\n",
+    b"PUT /device/document//1 HTTP/1.1\r\n\r\n",
+    b"PUT /\xC3\xBC HTTP/1.1\r\n\r\n",
+    b"PUT http://h?/ipp/print HTTP/1.1\r\n\r\n",
 ];
 
 #[test]
@@ -75,6 +94,7 @@ const NOT_BY_GET: &[&[u8]] = &[
     b"HEAD /device/queue HTTP/1.1\r\nContent-Length: 1\r\n\r\n",
     b"POST /device/queue HTTP/1.1\r\n\r\n",
     b"DELETE /device/document/a/b HTTP/1.1\r\nContent-Length: 99999999\r\n\r\n",
+    b"M-SEARCH /device/queue HTTP/1.1\r\n\r\n",
 ];
 
 #[test]
@@ -152,6 +172,12 @@ const UNREADABLE_CHUNKS: &[&[u8]] = &[
     b"1\r\na\rx",
     b"00000000000000001\r\n",
     b"0\r\na b\r\n\r\n",
+    b"1\nx",
+    b" 1\r\n",
+    b"+1\r\n",
+    b"0x1\r\n",
+    b"1 x\r\n",
+    b"1;a\nx",
 ];
 
 #[test]
