@@ -1,6 +1,5 @@
 -- What a crash leaves, from one thing to the next.
-use Rattle.std.proofs.Common.{◌≡◌, ◌∙◌, ℕ, Bool, Bor, List, [], ◌∷◌, ◌++◌, Option, inl, inr, length, refl, sym, ap, subst, append_assoc, append-nil}
-use Rattle.std.specs.Prelude.{IfSome}
+use Rattle.std.proofs.Common.{◌≡◌, ◌∙◌, ℕ, Bool, Bor, List, [], ◌∷◌, ◌++◌, inl, inr, length, refl, sym, ap, subst, append_assoc, append-nil}
 use Rattle.std.specs.List.{flat_map}
 use Rattle.std.proofs.lemmas.Grind.{flat_map-append}
 use Rattle.queue_types.specs.Event.{Event}
@@ -9,7 +8,6 @@ use Rattle.queue_core.specs.Limits.{IsEvent, IsMoment}
 use Rattle.queue_core.specs.Machine.{step}
 use Rattle.queue_core.specs.Runs.{Place}
 use Rattle.queue_core.specs.World.{World}
-use Rattle.device_lines.specs.Reports.{Tells, reports, unread}
 use Rattle.http_head.specs.declared.end.End.{End}
 use Rattle.http_front.specs.Connections.{Answers, AreTurns, Breaks, world_after}
 use Rattle.http_front.specs.Crash.{CarriesAll, IsAskedIn, IsLeft as IsLeftOn}
@@ -81,11 +79,6 @@ left_by asks now w v u x within moment (broken_off e is p q) =
 pub carries_one : (before after : World → World → Type 0) (asks : Event → Type 0) (now : ℕ) (w u : World) → ((e : Event) → asks e → IsEvent e) → IsMoment now
     → CarriesOne before after asks now w u → Carries before after (λ z y at e. (at ≡ now) × (asks e × (y ≡ z))) w u
 carries_one before after asks now w u within moment c = λ v left. let l = c v left in (l.0, l.1, left_by asks now w v u l.0 within moment l.2)
-
--- what a line tells is within the limits
-pub told_fits : (line : List ℕ) (e : Option Event) → Tells line e → IfSome e IsEvent
-told_fits line _ (reports r reads) = reads.1
-told_fits line _ (unread f reads) = tt
 
 -- ---- a connection
 

@@ -10,8 +10,6 @@ use Rattle.queue_types.specs.declared.job.Job.{Job}
 use Rattle.queue_core.specs.Runs.{Place, IsPlace, Follows, MovesAlong, after, run}
 use Rattle.queue_core.specs.Sound.{Balances, IsSound}
 use Rattle.queue_core.specs.World.{World, job_at, rows}
-use Rattle.queue_core.proofs.Runs.{run-append}
-use Rattle.http_front.proofs.PlaceLemmas.{each_append}
 use Rattle.arrivals.specs.Crash.{IsAskedBy, AsksAt, Carries}
 use Rattle.arrivals.specs.History.{AreTaken, History}
 use Rattle.arrivals.specs.Taken.{IsTaken, Takes}
@@ -33,6 +31,14 @@ pub settings_after : (set : SettingValues) (w u : World) (ps : List Place) → u
 settings_after set w u ps e f = f ∙ sym (run_settings w ps) ∙ ap (λ (x : World). x.settings) (sym e)
 
 -- ---- one more at the end
+
+-- the run of a joined list: a law of runs
+abbrev pub AreJoined : Type 0
+AreJoined = (w : World) (ps qs : List Place) → run w (ps ++ qs) ≡ run (run w ps) qs
+
+each_append : (ps qs : List Place) → Each IsPlace ps → Each IsPlace qs → Each IsPlace (ps ++ qs)
+each_append [] qs h k = k
+each_append (p ∷ ps) qs h k = (h.0, each_append ps qs h.1 k)
 
 taken_more : (w v u : World) (xs : List Arrival) (os : List Outcome) (a : Arrival) (o : Outcome) (written more : List ℕ) (ps qs : List Place)
     → AreTaken w xs os written ps v → Takes a.moment v a.what o more qs u → AreTaken w (xs ++ a ∷ []) (os ++ o ∷ []) (written ++ more) (ps ++ qs) u
@@ -61,17 +67,17 @@ taken_more w v u (x ∷ xs) (p ∷ os) a o written more ps qs t c = (
   taken_more t.4 v u xs os a o t.1 more t.3 qs t.8 c,
 )
 
-pub more_taken : (held new : World → Type 0) (before between behind : World → World → Type 0) (w : World) (xs : List Arrival) (os : List Outcome) (a : Arrival) (o : Outcome) (v x y : Option (List ℕ))
+pub more_taken : AreJoined → (held new : World → Type 0) (before between behind : World → World → Type 0) (w : World) (xs : List Arrival) (os : List Outcome) (a : Arrival) (o : Outcome) (v x y : Option (List ℕ))
     → (t : IsTaken held (Carries before between (IsAskedBy xs os) w) w v x (AreTaken w xs os)) → IsTaken new (Carries between behind (AsksAt a.moment a.what) t.after) t.after x y (Takes a.moment t.after a.what o)
     → IsTaken new (Carries before behind (IsAskedBy (xs ++ a ∷ []) (os ++ o ∷ [])) w) w v y (AreTaken w (xs ++ a ∷ []) (os ++ o ∷ []))
-more_taken held new before between behind w xs os a o v x y t k = record {
+more_taken joined held new before between behind w xs os a o v x y t k = record {
   after = k.after;
   stands_after = k.stands_after;
   written = t.written ++ k.written;
   appended = Appends-trans v x y t.written k.written t.appended k.appended;
   places = t.places ++ k.places;
   are = each_append t.places k.places t.are k.are;
-  run_is = k.run_is ∙ ap (λ (z : World). run z k.places) t.run_is ∙ sym (run-append t.places k.places w);
+  run_is = k.run_is ∙ ap (λ (z : World). run z k.places) t.run_is ∙ sym (joined w t.places k.places);
   comes = taken_more w t.after k.after xs os a o t.written k.written t.places k.places t.comes k.comes;
   is_left = carries_more before between behind xs os a o t.written t.places w t.after k.after t.comes t.is_left k.is_left;
 }
@@ -147,6 +153,7 @@ history_of sound moves balances held before behind w xs ys os v x same s t = (
     run_is = t.run_is;
     moves = λ k. moves_more sound moves k w t.places s t.are;
     balances = λ k. balances w (take k t.places) s (each_take k t.places t.are);
+    sound = λ k. sound w (take k t.places) s (each_take k t.places t.are);
   },
   subst (λ (z : List Arrival). Carries before behind (IsAskedBy z os) w t.after) same t.is_left,
 )

@@ -1,29 +1,36 @@
 -- What comes of a line of the device and of an account file, as one place of a run.
 use Rattle.std.proofs.Common.{◌≡◌, ℕ, Bool, true, false, List, [], ◌∷◌, Bor, Option, None, Some, Ok, Err, inl, inr, refl, subst}
-use Rattle.std.specs.Prelude.{MatchBool}
+use Rattle.std.specs.Prelude.{IfSome, MatchBool}
 use Rattle.std.proofs.KnownBytes.{Appends-nil}
 use Rattle.queue_types.specs.Event.{Event, grant}
 use Rattle.queue_types.specs.declared.event.GrantRow.{GrantRow}
 use Rattle.queue_core.specs.Limits.{IsEvent, IsMoment}
+use Rattle.queue_core.specs.Runs.{after}
 use Rattle.queue_core.specs.World.{World}
 use Rattle.device_lines.specs.Reports.{IsReported, IsUntaken, Tells, is_fault_line}
 use Rattle.grants_csv.specs.File.{rows_of}
 use Rattle.grants_csv.specs.Import.{Imports, grants}
 use Rattle.grants_csv.specs.declared.fault.ImportFault.{ImportFault}
 use Rattle.grants_csv.specs.declared.importing.Imported.{Imported}
-use Rattle.http_front.proofs.PlaceLemmas.{report_event}
 use Rattle.arrivals.specs.Taken.{IsTaken, Takes}
 use Rattle.arrivals.specs.declared.arrival.Arrived.TheVariants.{Line, AccountFile}
 use Rattle.arrivals.specs.declared.arrival.Outcome.TheVariants.{Told, Imported as ImportedRows, Refused}
 
 -- ---- a line
 
+-- the laws of lines
+abbrev pub LinesWithin : Type 0
+LinesWithin = (line : List ℕ) (e : Option Event) → Tells line e → IfSome e IsEvent
+
+abbrev pub LinesDone : Type 0
+LinesDone = (now : ℕ) (w u : World) (line out : List ℕ) → IsReported w now line u out → (e : Option Event) × Tells line e × (u ≡ after w now e)
+
 asks_by : (b c : Bool) (e : Option Event) (line : List ℕ) → b ≡ c → MatchBool b (e ≡ None) (Tells line e) → MatchBool c (e ≡ None) (Tells line e)
 asks_by b c e line flag h = subst (λ (x : Bool). MatchBool x (e ≡ None) (Tells line e)) flag h
 
-pub line_taken : (new left : World → Type 0) (now : ℕ) (line : Bor (List ℕ)) (out : List ℕ) (w u : World) (b : Bool) → b ≡ is_fault_line out → IsMoment now
+pub line_taken : LinesWithin → LinesDone → (new left : World → Type 0) (now : ℕ) (line : Bor (List ℕ)) (out : List ℕ) (w u : World) (b : Bool) → b ≡ is_fault_line out → IsMoment now
     → MatchBool b (IsUntaken line.now out × (u ≡ w)) (IsReported w now line.now u out) → new u → left u → (v : Option (List ℕ)) → IsTaken new left w v v (Takes now w (Line line) (Told out))
-line_taken new left now line out w u true flag moment brings s l v = record {
+line_taken are done new left now line out w u true flag moment brings s l v = record {
   after = u;
   stands_after = s;
   written = [];
@@ -42,22 +49,22 @@ line_taken new left now line out w u true flag moment brings s l v = record {
   );
   is_left = l;
 }
-line_taken new left now line out w u false flag moment brings s l v =
-    let e = report_event now w u line.now out brings.reading brings.reads brings.brings in record {
+line_taken are done new left now line out w u false flag moment brings s l v =
+    let e = done now w u line.now out brings in record {
       after = u;
       stands_after = s;
       written = [];
       appended = Appends-nil v;
       places = record { now = now; event = e.0 } ∷ [];
-      are = ((moment, e.2), tt);
-      run_is = e.3;
+      are = ((moment, are line.now e.0 e.1), tt);
+      run_is = e.2;
       comes = (
         refl,
         record {
           answers = inl brings;
           event = e.0;
           asks = asks_by false (is_fault_line out) e.0 line.now flag e.1;
-          place = record { only = refl; world = e.3 };
+          place = record { only = refl; world = e.2 };
         },
       );
       is_left = l;

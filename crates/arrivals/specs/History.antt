@@ -2,7 +2,7 @@
 use Rattle.std.specs.Prelude.{◌≡◌, ◌+◌, ℕ, List, [], ◌∷◌, ◌++◌, take}
 use Rattle.std.specs.List.{AllByRecursion}
 use Rattle.queue_core.specs.Runs.{Place, IsPlace, MovesAlong, run}
-use Rattle.queue_core.specs.Sound.{Balances}
+use Rattle.queue_core.specs.Sound.{Balances, IsSound}
 use Rattle.queue_core.specs.World.{World}
 use Rattle.arrivals.specs.Taken.{Takes}
 use Rattle.arrivals.specs.declared.arrival.Arrival.{Arrival}
@@ -29,3 +29,5 @@ pub record History (w : World) (arrivals : List Arrival) (outcomes : List Outcom
   pub moves : (k : ℕ) → MovesAlong (run w (take k places)) (run w (take (k + 1) places))
   -- before and after each of them, in every account the pages granted are those that are free, reserved and printed
   pub balances : (k : ℕ) → Balances (run w (take k places))
+  -- and the queue is sound: its accounts are those that have a grant, and all keep their limits
+  pub sound : (k : ℕ) → IsSound (run w (take k places))

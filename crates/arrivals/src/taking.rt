@@ -11,7 +11,7 @@ ghost use Rattle.arrivals.specs.Taken.{IsFaultless, IsTaken, Takes};
 ghost use Rattle.arrivals.specs.declared.arrival.Arrived.TheVariants.{AccountFile, Connection, Line};
 
 use crate::arrival::{Arrival, Arrived, Outcome};
-use device_lines::report;
+use device_lines::{lines_are_events, report};
 use grants_csv::{files_are_events, import};
 use http_front::{connections_are_runs, serve};
 use queue_core::book::QueueBook;
@@ -53,6 +53,7 @@ fn take_line<B: QueueBook>(book: &mut B, now: u32, line: &[u8]) -> Outcome
         w v v (Takes now w (Line line.entry) result) }
     ensures live { B.is_honest book.new → B.is_live book.old → IsFaultless result → B.is_live book.new }
 {
+    lines_are_events();
     Outcome::Told(report(book, now, line))
 }
 

@@ -160,7 +160,7 @@ fn for_office<'a>(alloc: Global) -> Result<Definition<'a>, AllocError>
 }
 
 /// The program and its subcommands.
-pub fn defined<'a>(alloc: Global) -> Result<Definition<'a>, AllocError>
+pub(crate) fn defined<'a>(alloc: Global) -> Result<Definition<'a>, AllocError>
     ensures { IfOk result (IsApp definition) }
 {
     let program = with(for_office(alloc)?, serve(alloc))?;

@@ -41,7 +41,7 @@ fn non_zero_of(matches: &ArgMatches<'_>, id: &str, limits: Limits) -> NonZeroU32
 }
 
 /// What `init` is asked for.
-pub fn init_of<'a>(matches: &ArgMatches<'a>) -> Init<'a>
+pub(crate) fn init_of<'a>(matches: &ArgMatches<'a>) -> Init<'a>
     ensures { IsInit (rows_of (found_of matches.now)) result }
 {
     Init {
@@ -53,7 +53,7 @@ pub fn init_of<'a>(matches: &ArgMatches<'a>) -> Init<'a>
 }
 
 /// What `serve` is asked for.
-pub fn serve_of<'a>(matches: &ArgMatches<'a>) -> Serve<'a>
+pub(crate) fn serve_of<'a>(matches: &ArgMatches<'a>) -> Serve<'a>
     ensures { IsServe (rows_of (found_of matches.now)) result }
 {
     Serve {
@@ -65,7 +65,7 @@ pub fn serve_of<'a>(matches: &ArgMatches<'a>) -> Serve<'a>
 }
 
 /// What `import` is asked for.
-pub fn import_of<'a>(matches: &ArgMatches<'a>) -> Import<'a>
+pub(crate) fn import_of<'a>(matches: &ArgMatches<'a>) -> Import<'a>
     ensures { IsImport (rows_of (found_of matches.now)) result }
 {
     Import {
@@ -75,7 +75,7 @@ pub fn import_of<'a>(matches: &ArgMatches<'a>) -> Import<'a>
 }
 
 /// What `statement` is asked for.
-pub fn statement_of<'a>(matches: &ArgMatches<'a>) -> Statement<'a>
+pub(crate) fn statement_of<'a>(matches: &ArgMatches<'a>) -> Statement<'a>
     ensures { IsStatement (rows_of (found_of matches.now)) result }
 {
     Statement {

@@ -47,7 +47,7 @@ one_report line r s p q =
     let count = number_cut 10 r.count s.count [] [] (omega arith) p.count q.count kind.1 in
     λ i. record { job = job.0 i; seq = seq.0 i; kind = kind.0 i; count = count.0 i }
 
-one_reading : (line : List ℕ) (y z : Result Report LineFault) → Reads line y → Reads line z → y ≡ z
+pub one_reading : (line : List ℕ) (y z : Result Report LineFault) → Reads line y → Reads line z → y ≡ z
 one_reading line (Ok r) (Ok s) g h = ap Ok (one_report line r s g.0 h.0)
 one_reading line (Ok r) (Err Syntax) g h = absurd (h r g.0)
 one_reading line (Ok r) (Err Range) g h = absurd (h.2 (subst IsReport (one_report line r h.0 g.0 h.1) g.1))

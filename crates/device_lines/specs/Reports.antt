@@ -2,6 +2,7 @@
 use Rattle.std.specs.Prelude.{◌≡◌, ◌⊎◌, ◌++◌, ℕ, Bool, List, Option, Some, None, Result, Ok, Err, codes, decimal, bytes_eq, MatchBool}
 use Rattle.queue_types.specs.Event.{Event, tell}
 use Rattle.queue_types.specs.States.{job_state_number}
+use Rattle.queue_core.specs.Limits.{IsReportReply}
 use Rattle.queue_core.specs.Machine.{step}
 use Rattle.queue_core.specs.World.{World}
 use Rattle.queue_types.specs.declared.event.Reply.{Reply}
@@ -43,6 +44,12 @@ abbrev pub AnswersReport : ℕ → Reply → List ℕ → Type 0
 AnswersReport job (Told state count) out = out ≡ told_line job state count
 AnswersReport job (NotTold refusal) out = out ≡ untold_line refusal
 AnswersReport job _ out = ⊥
+
+-- out is what the device is answered to a report of that job, whatever the machine replies
+pub record IsReplyToReport (job : ℕ) (out : List ℕ) : Type 0 where
+  pub reply : Reply
+  pub within : IsReportReply reply
+  pub answers : AnswersReport job reply out
 
 -- ---- one line
 

@@ -1,13 +1,14 @@
 //! One line of the device, from its bytes to those of its answer.
-ghost use Rattle.std.specs.Prelude.{◌≡◌, Err, Some, IfOk, OnOk, OnErr, false};
+ghost use Rattle.std.specs.Prelude.{◌≡◌, ◌⊎◌, Err, Ok, Some, IfOk, OnOk, OnErr, false};
 ghost use Rattle.std.specs.Bool.{OnFalse, OnTrue};
 ghost use Rattle.queue_types.specs.Event.{tell};
+ghost use Rattle.queue_types.specs.declared.event.Report.{Report};
 ghost use Rattle.queue_core.specs.Crash.{Leaves};
 ghost use Rattle.queue_core.specs.Limits.{IsMoment, IsReport, IsReportReply};
 ghost use Rattle.queue_core.specs.Machine.{step as step_of};
 ghost use Rattle.queue_core.specs.World.{World};
 ghost use Rattle.device_lines.specs.Lines.{Reads};
-ghost use Rattle.device_lines.specs.Reports.{AnswersLine, AnswersReport, BringsLine, IsReported, IsUntaken, Tells, is_fault_line, unread_line};
+ghost use Rattle.device_lines.specs.Reports.{AnswersLine, AnswersReport, BringsLine, IsReplyToReport, IsReported, IsUntaken, Tells, fault_line, is_fault_line, unread_line};
 ghost use Rattle.device_lines.specs.declared.line.LineFault.{LineFault};
 
 use crate::line::read_report;
@@ -17,8 +18,8 @@ use queue_types::event::{Event, Reply, Report};
 
 /// Answers one line of the device at a moment from 1 to 2,147,483,647: it reads the line, and takes one step of the machine on its report. A
 /// line that is no report is refused and changes nothing; the book never sees it. A fault of the book is
-/// answered by `refused 6 fault`, which stands for nothing else, and changes nothing. It takes no memory of
-/// its own.
+/// answered by `refused 6 fault`, which stands for nothing else, and changes nothing. Any other answer to a report is
+/// one that the machine may give to a report of its job, whatever the book is. It takes no memory of its own.
 pub fn report<B: QueueBook>(book: &mut B, now: u32, line: &[u8]) -> ReportAnswer
     requires moment { IsMoment now }
     ensures began { B.is_honest book.new → B.is_honest book.old }
@@ -39,6 +40,7 @@ pub fn report<B: QueueBook>(book: &mut B, now: u32, line: &[u8]) -> ReportAnswer
     ensures unread { (f : LineFault) → Reads line.now (Err f) → (result ≡ unread_line f)
         × ((w : World) → B.stands book.old w → B.stands book.new w) }
     ensures unseen { (f : LineFault) → Reads line.now (Err f) → book.new ≡ book.old }
+    ensures replies { (r : Report) → Reads line.now (Ok r) → (result ≡ fault_line) ⊎ IsReplyToReport r.job result }
 {
     match read_report(line) {
         Ok(r) => match step(book, now, r) {
@@ -63,6 +65,8 @@ fn step<B: QueueBook>(book: &mut B, now: u32, report: Report) -> Result<ReportAn
     ensures err { OnErr result ((w : World) → B.stands book.old w → B.stands book.new w) }
     ensures crash { B.is_honest book.new → OnErr result ((w v : World) → B.stands book.old w → B.crash_leaves book.old w v
         → (x : World) × B.crash_leaves book.new w x × Leaves (λ e. e ≡ tell report) now w v w x) }
+    // on any book, also one that is not honest
+    ensures replies { IfOk result (λ a. IsReplyToReport report.job a) }
 {
     let decision = book.decide(now, &Event::Report(report))?;
     let answer = answer_to(report.job, &decision.reply);
@@ -79,6 +83,6 @@ fn answer_to(job: u32, reply: &Reply) -> ReportAnswer
     match reply {
         Reply::Told { state, count } => ReportAnswer::told(job, *state, *count),
         Reply::NotTold(refusal) => ReportAnswer::untold(*refusal),
-        _ => unreachable!(),
+        _ => unreachable!("no other reply is to a report"),
     }
 }

@@ -9,7 +9,7 @@ use Rattle.queue_core.specs.Machine.{step}
 use Rattle.queue_core.specs.World.{World}
 use Rattle.grants_csv.specs.Fault.{IsUnlessFault, fault}
 use Rattle.grants_csv.specs.File.{rows_of}
-use Rattle.grants_csv.specs.Import.{Adds, Imports, Refuses}
+use Rattle.grants_csv.specs.Import.{Adds, Imports, IsRowRefusal, Refuses}
 use Rattle.grants_csv.specs.declared.fault.ImportFault.{ImportFault}
 use Rattle.grants_csv.specs.declared.importing.Imported.{Imported}
 use Rattle.queue_types.specs.declared.event.Reply.{Reply}
@@ -39,6 +39,13 @@ pub unread_imports : (held : World → Type 0) (now : ℕ) (file : List ℕ) (f 
 unread_imports held now file f (Ok n) read is same w s = cc
 unread_imports held now file f (Err e) read is same w s =
     (w, (unread_by w now e (rows_of file) (subst (λ (x : ImportFault). IsUnlessFault (Err x) (rows_of file)) (sym same) read), refl), s)
+
+-- it is refused for no row
+pub unread_replies : (file : List ℕ) (f : ImportFault) (r : Result Imported ImportFault) → IsUnlessFault (Err f) (rows_of file) → IsErrAnd r (λ e. e ≡ f)
+    → IfErr r (λ e. (rows : List GrantRow) → rows_of file ≡ Ok rows → (e ≡ fault) ⊎ IsRowRefusal e)
+unread_replies file f (Ok n) read same = tt
+unread_replies file f (Err e) (inl is) same = λ rows has. absurd (cc)
+unread_replies file f (Err e) (inr is) same = λ rows has. inl (cc)
 
 pub read_by : (file : List ℕ) (rows : List GrantRow) → IsUnlessFault (Ok rows) (rows_of file) → rows_of file ≡ Ok rows
 read_by file rows (inl e) = sym e

@@ -11,7 +11,7 @@ use Rattle.queue_types.specs.Event.{Event, grant}
 use Rattle.queue_types.specs.declared.event.GrantRow.{GrantRow}
 use Rattle.queue_core.specs.Limits.{IsEvent, IsGrantRow}
 use Rattle.grants_csv.specs.Fault.{at_row}
-use Rattle.grants_csv.specs.File.{add_row, granted, has_form, is_header, pages_in, row_of, rows_from, rows_of, rows_under}
+use Rattle.grants_csv.specs.File.{add_row, grant_in, has_form, is_header, pages_in, row_of, rows_from, rows_of, rows_under}
 use Rattle.grants_csv.specs.Import.{Asks, grants, unread}
 use Rattle.grants_csv.specs.declared.fault.ImportFault.{ImportFault}
 use Rattle.grants_csv.specs.declared.fault.ImportCause.TheVariants.{Header, Form, Range}
@@ -20,7 +20,7 @@ use Rattle.grants_csv.proofs.Forms.{grant_limits}
 -- ---- one row
 
 row_by : (n : ℕ) (b a p : List ℕ) (g : GrantRow) (form : Bool) (pages : Option ℕ) → has_form (b ∷ a ∷ p ∷ []) ≡ form → pages_in p ≡ pages
-    → (if form then granted n b a pages else Err (at_row Form n)) ≡ Ok g → IsGrantRow g
+    → (if form then grant_in n b a pages else Err (at_row Form n)) ≡ Ok g → IsGrantRow g
 row_by n b a p g true (Some k) is has e =
     let same : record { batch = b; account = a; pages = k } ≡ g = cc in
     subst IsGrantRow same (grant_limits b a p k is (sym has))

@@ -1,27 +1,37 @@
 -- How long a text is behind its byte order mark.
-use Rattle.std.proofs.Common.{◌≡◌, ◌+◌, ℕ, List, [], ◌∷◌, Bool, true, false, length, refl, arith}
-use Rattle.std.specs.Prelude.{if◌then◌else◌}
-use Rattle.csv.specs.Reading.{is_bom, strip_bom}
-use Rattle.grants_csv.specs.Records.{has_byte_order_mark}
+use Rattle.std.proofs.Common.{◌≡◌, ◌∙◌, ◌+◌, ◌≤◌, ℕ, Bool, Bor, List, [], ◌∷◌, ◌++◌, Option, None, Some, true, false, ◌&&◌, length, take, drop, nat_eq, refl, sym, ap, arith, take-append-drop}
+use Rattle.std.specs.Prelude.{MatchOption, if◌then◌else◌, unwrap_or}
+use Rattle.std.specs.Cmp.Lexicographic.{pointwise, same_text}
+use Rattle.csv.specs.Reading.{strip_bom}
 
-marked_len : (m : Bool) (a b c : ℕ) (rest : List ℕ) → m ≡ true → length (if m then rest else a ∷ b ∷ c ∷ rest) + 3 ≡ length (a ∷ b ∷ c ∷ rest)
-marked_len true a b c rest h = omega arith
-marked_len false a b c rest h = absurd (cc)
+abbrev pub mark : List ℕ
+mark = 0xEF ∷ 0xBB ∷ 0xBF ∷ []
 
-plain_len : (m : Bool) (a b c : ℕ) (rest : List ℕ) → m ≡ false → length (a ∷ b ∷ c ∷ rest) ≡ length (if m then rest else a ∷ b ∷ c ∷ rest)
-plain_len true a b c rest h = absurd (cc)
-plain_len false a b c rest h = refl
-
-pub length-strip_bom : (bs : List ℕ) → has_byte_order_mark bs ≡ true → length (strip_bom bs) + 3 ≡ length bs
+-- the rest is what follows the mark
+marked : (bs : List ℕ) → pointwise nat_eq (take 3 bs) mark ≡ true → strip_bom bs ≡ drop 3 bs
 unfolding strip_bom
-length-strip_bom [] h = absurd (cc)
-length-strip_bom (a ∷ []) h = absurd (cc)
-length-strip_bom (a ∷ b ∷ []) h = absurd (cc)
-length-strip_bom (a ∷ b ∷ c ∷ rest) h = marked_len (is_bom a b c) a b c rest h
+marked bs h = ap strip_bom (sym (take-append-drop 3 bs) ∙ ap (λ (t : List ℕ). t ++ drop 3 bs) (same_text (take 3 bs) mark (sym h)))
 
-pub length-no_bom : (bs : List ℕ) → has_byte_order_mark bs ≡ false → length bs ≡ length (strip_bom bs)
+by_bytes : (x y z : Bool) (rest whole : List ℕ) → (x && (y && (z && true))) ≡ false → (if x && y && z then rest else whole) ≡ whole
+by_bytes true true true rest whole h = absurd (cc)
+by_bytes true true false rest whole h = refl
+by_bytes true false z rest whole h = refl
+by_bytes false y z rest whole h = refl
+
+-- nothing is stripped of a text without it
+unmarked : (bs : List ℕ) → pointwise nat_eq (take 3 bs) mark ≡ false → strip_bom bs ≡ bs
 unfolding strip_bom
-length-no_bom [] h = refl
-length-no_bom (a ∷ []) h = refl
-length-no_bom (a ∷ b ∷ []) h = refl
-length-no_bom (a ∷ b ∷ c ∷ rest) h = plain_len (is_bom a b c) a b c rest h
+unmarked [] h = refl
+unmarked (a ∷ []) h = refl
+unmarked (a ∷ b ∷ []) h = refl
+unmarked (a ∷ b ∷ c ∷ rest) h = by_bytes (nat_eq a 0xEF) (nat_eq b 0xBB) (nat_eq c 0xBF) rest (a ∷ b ∷ c ∷ rest) h
+
+-- the length of what is left, and its limit
+pub stripped_len : (bs : Bor (List ℕ)) (o : Option (Bor (List ℕ)))
+    → MatchOption o (pointwise nat_eq (take 3 bs.now) mark ≡ false)
+    (λ x. (pointwise nat_eq (take 3 bs.now) mark ≡ true) × (x.now ≡ drop 3 bs.now) × (length x.now + 3 ≡ length bs.now))
+    → (length (unwrap_or o bs).now ≡ length (strip_bom bs.now)) × (length (unwrap_or o bs).now ≤ length bs.now)
+stripped_len bs (Some x) h =
+    let whole = h.2 in
+    (ap length (h.1 ∙ sym (marked bs.now h.0)), omega (arith, whole))
+stripped_len bs None h = (ap length (sym (unmarked bs.now h)), omega arith)

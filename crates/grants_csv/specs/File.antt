@@ -42,14 +42,14 @@ has_form _ = false
 abbrev pub pages_in : List ℕ → Option ℕ
 pages_in digits = if nat_le 1 (digits_value 10 digits) && nat_le (digits_value 10 digits) 1000000 then Some (digits_value 10 digits) else None
 
-abbrev pub granted : ℕ → List ℕ → List ℕ → Option ℕ → Result GrantRow ImportFault
-granted n batch account None = Err (at_row Range n)
-granted n batch account (Some pages) = Ok (record { batch = batch; account = account; pages = pages })
+abbrev pub grant_in : ℕ → List ℕ → List ℕ → Option ℕ → Result GrantRow ImportFault
+grant_in n batch account None = Err (at_row Range n)
+grant_in n batch account (Some pages) = Ok (record { batch = batch; account = account; pages = pages })
 
 -- the grant of row n, or why it is none
 abbrev pub row_of : ℕ → List (List ℕ) → Result GrantRow ImportFault
 row_of n (batch ∷ account ∷ pages ∷ []) =
-    if has_form (batch ∷ account ∷ pages ∷ []) then granted n batch account (pages_in pages) else Err (at_row Form n)
+    if has_form (batch ∷ account ∷ pages ∷ []) then grant_in n batch account (pages_in pages) else Err (at_row Form n)
 row_of n _ = Err (at_row Form n)
 
 -- ---- all rows

@@ -1,5 +1,5 @@
 -- What importing an account file answers.
-use Rattle.std.specs.Prelude.{◌≡◌, ◌⊎◌, ℕ, List, Option, Some, None, Result, Ok, Err, MatchResult}
+use Rattle.std.specs.Prelude.{◌≡◌, ◌⊎◌, ◌≤◌, ℕ, List, Option, Some, None, Result, Ok, Err, MatchResult}
 use Rattle.queue_types.specs.declared.event.GrantFault.{GrantFault}
 use Rattle.queue_types.specs.declared.event.GrantFault.TheVariants as refusal
 use Rattle.queue_types.specs.declared.event.GrantRow.{GrantRow}
@@ -22,6 +22,13 @@ cause_of refusal.TooMany = TooMany
 -- the reply says that so many rows were added, and so many are repeats
 abbrev pub Adds : Reply → Imported → Type 0
 Adds r n = r ≡ Added n.added n.repeats
+
+-- f is why a row is refused, whichever the reply of the machine is that refuses one
+pub record IsRowRefusal (f : ImportFault) : Type 0 where
+  pub why : GrantFault
+  pub row : ℕ
+  pub counted : (1 ≤ row) × (row ≤ 16777216)
+  pub is : f ≡ at_row (cause_of why) row
 
 -- the reply refuses a row, and this is why; or the fault
 abbrev pub Refuses : Reply → ImportFault → Type 0

@@ -1,8 +1,8 @@
 -- Where a reader of records stands in its text.
-use Rattle.std.specs.Prelude.{◌≡◌, ℕ, Bool, true, false, List, ◌∷◌, Option, Some, None}
+use Rattle.std.specs.Prelude.{◌≡◌, ℕ, Bool, true, false, List, Option, Some, None}
 use denote.Ref.{Bor}
 use Rattle.csv.specs.Machine.{Read}
-use Rattle.csv.specs.Reading.{Ready, default_config, reader_config, reader_state, reader_trim, source_of, is_bom}
+use Rattle.csv.specs.Reading.{Ready, default_config, reader_config, reader_state, reader_trim, source_of}
 use Rattle.csv.specs.declared.parser.State.{State}
 use Rattle.csv.specs.declared.reader.Reader.{Reader}
 use Rattle.csv.specs.declared.reader.Trim.TheVariants as trim
@@ -19,8 +19,3 @@ pub record IsAt (r : Reader (Bor (List ℕ))) (s : State) (left : List ℕ) : Ty
 abbrev pub Gives : Reader (Bor (List ℕ)) → Bool → List (List ℕ) → Option Read → Type 0
 Gives r found fields None = found ≡ false
 Gives r found fields (Some p) = (found ≡ true) × (fields ≡ p.0) × IsAt r p.1 p.2
-
--- the text begins with the byte order mark, U+FEFF in UTF-8
-abbrev pub has_byte_order_mark : List ℕ → Bool
-has_byte_order_mark (a ∷ b ∷ c ∷ rest) = is_bom a b c
-has_byte_order_mark _ = false

@@ -1,5 +1,5 @@
 //! An account file enters a book.
-ghost use Rattle.std.specs.Prelude.{◌≡◌, ◌≢◌, ◌<◌, List, Err, Ok, Some, IfErr, IfOk, OnErr, OnOk, length};
+ghost use Rattle.std.specs.Prelude.{◌≡◌, ◌≢◌, ◌<◌, ◌⊎◌, List, Err, Ok, Some, IfErr, IfOk, OnErr, OnOk, length};
 ghost use Rattle.queue_types.specs.Event.{grant};
 ghost use Rattle.queue_core.specs.Crash.{Leaves};
 ghost use Rattle.queue_core.specs.Limits.{IsEvent, IsMoment};
@@ -9,7 +9,7 @@ ghost use Rattle.queue_types.specs.declared.event.GrantRow.{GrantRow};
 ghost use Rattle.grants_csv.specs.Fault.{IsUnlessFault, at_row, fault};
 ghost use Rattle.grants_csv.specs.File.{rows_of};
 ghost use Rattle.grants_csv.specs.declared.fault.ImportCause.TheVariants.{Range};
-ghost use Rattle.grants_csv.specs.Import.{Adds, Asks, Imports, Refuses};
+ghost use Rattle.grants_csv.specs.Import.{Adds, Asks, Imports, IsRowRefusal, Refuses};
 
 use crate::fault::{ImportCause, ImportFault};
 use crate::reading::read_grants;
@@ -66,6 +66,8 @@ fn take_rows<B: QueueBook>(
     ensures still_live { B.is_honest book.new → IfErr result (λ f. f ≢ fault → B.is_live book.new) }
     ensures crash { B.is_honest book.new → OnErr result ((w v : World) → B.stands book.old w → B.crash_leaves book.old w v
         → (x : World) × B.crash_leaves book.new w x × Leaves (λ e. e ≡ grant rows.now) now w v w x) }
+    // on any book, also one that is not honest
+    ensures replies { IfErr result (λ f. (f ≡ fault) ⊎ IsRowRefusal f) }
 {
     let decision = book.decide(now, &Event::Grants(rows))?;
     match decision.reply {
@@ -74,13 +76,14 @@ fn take_rows<B: QueueBook>(
             Ok(Imported { added, repeats })
         }
         Reply::NotAdded { fault, row } => Err(ImportCause::from(fault).at(row)),
-        _ => unreachable!(),
+        _ => unreachable!("no other reply is to an account file"),
     }
 }
 
 /// Reads an account file and takes its rows as one event at this moment, from 1 to 2,147,483,647: all of them, or none. A row that
 /// equals one accepted before, in this file or earlier, is a repeat. A refusal says why and for which row,
-/// and the book stands for the world it stood for.
+/// and the book stands for the world it stood for. Whatever the book is, a file that can be read is refused for what the
+/// machine refuses rows for, or by a fault.
 pub fn import<B: QueueBook>(
     alloc: Global,
     book: &mut B,
@@ -105,6 +108,7 @@ pub fn import<B: QueueBook>(
     ensures event { IfOk result (λ n. (rows : List GrantRow) → rows_of bytes.now ≡ Ok rows → IsEvent (grant rows)) }
     ensures size { 16777216 < length bytes.now → result ≡ Err (at_row Range 0) }
     ensures unread { (f : ImportFault) → rows_of bytes.now ≡ Err f → IsUnlessFault result (Err f) }
+    ensures replies { IfErr result (λ f. (rows : List GrantRow) → rows_of bytes.now ≡ Ok rows → (f ≡ fault) ⊎ IsRowRefusal f) }
     ensures refused { B.is_honest book.new → IfErr result (λ f. (rows : List GrantRow) (w : World) → rows_of bytes.now ≡ Ok rows → B.stands book.old w
         → Refuses (step w now (grant rows)).reply f) }
     ensures err { OnErr result ((w : World) → B.stands book.old w → B.stands book.new w) }

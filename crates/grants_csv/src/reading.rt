@@ -9,7 +9,7 @@ ghost use Rattle.queue_core.specs.Limits.{IsGrantRow};
 ghost use Rattle.grants_csv.specs.Fault.{IsUnlessFault, at_row, fault};
 ghost use Rattle.grants_csv.specs.File.{has_field, is_header, rows_from, rows_of, rows_under};
 ghost use Rattle.grants_csv.specs.declared.fault.ImportCause.TheVariants.{Range};
-ghost use Rattle.grants_csv.specs.Records.{Gives, IsAt, has_byte_order_mark};
+ghost use Rattle.grants_csv.specs.Records.{Gives, IsAt};
 
 use crate::fault::{ImportCause, ImportFault};
 use crate::row::read_row;
@@ -19,6 +19,9 @@ use std::alloc::Global;
 
 /// The most bytes of an account file.
 pub const MOST_FILE_BYTES: usize = 16_777_216;
+
+/// U+FEFF in UTF-8.
+const BYTE_ORDER_MARK: &[u8] = b"\xEF\xBB\xBF";
 
 /// The first record is not the header.
 const NO_HEADER: ImportFault = ImportFault {
@@ -97,25 +100,12 @@ fn read_file(
     read_rows(alloc, rdr, fields, rows, most)
 }
 
-fn has_byte_order_mark(bytes: &[u8]) -> bool
-    ensures { result ≡ has_byte_order_mark bytes.now }
-{
-    match bytes {
-        [a, b, c, ..] => *a == 0xEF && *b == 0xBB && *c == 0xBF,
-        _ => false,
-    }
-}
-
 /// How many bytes there are behind a byte order mark. No text has more records than bytes.
 fn text_len(bytes: &[u8]) -> usize
     ensures len { result ≡ length (strip_bom bytes.now) }
     ensures within { result ≤ length bytes.now }
 {
-    if has_byte_order_mark(bytes) {
-        bytes.len() - 3
-    } else {
-        bytes.len()
-    }
+    bytes.strip_prefix(BYTE_ORDER_MARK).unwrap_or(bytes).len()
 }
 
 /// The grants of an account file, in their order, or why it is refused: at row 0 for its size, which is

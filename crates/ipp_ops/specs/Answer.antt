@@ -91,9 +91,13 @@ IsFaultless (Err short) = ⊤
 
 -- ---- the world after an answer
 
--- where there is no head to reply to, or a fault answers, the world stays; any other answer is the reply to the bytes
+-- the reply that tells of a fault is told apart: behind it the world stays, and any other is the reply to the bytes
+abbrev pub BringsReply : World → ℕ → List ℕ → World → List ℕ → Type 0
+BringsReply old now b new out = MatchBool (is_fault out) (Fails b out × (new ≡ old)) (Answers old now b new out)
+
+-- where there is no head to reply to, the world stays
 abbrev pub BringsAnswer : World → ℕ → List ℕ → World → Result Answer TooShort → Type 0
-BringsAnswer old now b new (Ok a) = MatchBool (is_fault (bytes_of a)) (Fails b (bytes_of a) × (new ≡ old)) (Answers old now b new (bytes_of a))
+BringsAnswer old now b new (Ok a) = BringsReply old now b new (bytes_of a)
 BringsAnswer old now b new (Err short) = new ≡ old
 
 -- ---- the parts of an answer
@@ -124,6 +128,6 @@ pub record IsUndone (v : Verdict) (now : ℕ) (stands : World → Type 0) (befor
 -- it stands for a world that out brings, as the answer to the bytes
 pub record IsAnswered (b : List ℕ) (settings : SettingValues) (now : ℕ) (stands : World → Type 0) (before after : World → World → Type 0) (w : World) (out : List ℕ) : Type 0 where
   pub new : World
-  pub brings : settings ≡ w.settings → MatchBool (is_fault out) (Fails b out × (new ≡ w)) (Answers w now b new out)
+  pub brings : settings ≡ w.settings → BringsReply w now b new out
   pub world : stands new
   pub crash : Carries before after (λ e. Asks b (Some e)) now w new

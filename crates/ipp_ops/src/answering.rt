@@ -199,7 +199,7 @@ fn request_in<'a>(alloc: Global, head: Head, body: &'a [u8]) -> Result<View<'a>,
         Ok(view) => Ok(view),
         Err(WireFault::Malformed { .. }) => Err(bare_answer(head, CLIENT_ERROR_BAD_REQUEST)),
         Err(WireFault::Memory) => Err(bare_answer(head, SERVER_ERROR_TEMPORARY_ERROR)),
-        Err(WireFault::Short) => unreachable!(),
+        Err(WireFault::Short) => unreachable!("its head was read"),
     }
 }
 

@@ -16,8 +16,8 @@ use crate::check::first_refusal;
 use crate::new_job::{format, new_job};
 use crate::verdict::Ask;
 use ipp_reply::{
-    JOB_TABLE, JobAttribute, Operation, PRINTER_TABLE, Unsupported, Wanted, select_of_printer,
-    select_requested,
+    JOB_TABLE, JobAttribute, Operation, PRINTER_TABLE, Unsupported, Wanted, select_of_job,
+    select_of_printer,
 };
 use ipp_request::attribute::OperationAttribute;
 use ipp_request::request::Request;
@@ -139,7 +139,7 @@ fn selected(
 {
     match operation {
         Operation::GetPrinterAttributes => select_of_printer(alloc, values),
-        _ => select_requested(alloc, values),
+        _ => select_of_job(alloc, values),
     }
 }
 

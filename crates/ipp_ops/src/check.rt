@@ -134,7 +134,7 @@ impl Check {
 }
 
 /// The first check that refuses the request.
-pub fn first_refusal(request: Request<'_, '_>) -> Option<Check>
+pub(crate) fn first_refusal(request: Request<'_, '_>) -> Option<Check>
     ensures { result ≡ refusal (request_of request.entry) }
 {
     CHECKS.iter().copied().find(|c| c.applies(request))

@@ -59,7 +59,7 @@ fn job_name<'a>(request: Request<'_, 'a>) -> &'a str
 }
 
 /// What the request asks of a new job.
-pub fn new_job<'a>(request: Request<'_, 'a>) -> NewJob<'a>
+pub(crate) fn new_job<'a>(request: Request<'_, 'a>) -> NewJob<'a>
     ensures { new_job_of result ≡ spec.new_job (request_of request.entry) }
 {
     NewJob {
@@ -70,7 +70,7 @@ pub fn new_job<'a>(request: Request<'_, 'a>) -> NewJob<'a>
 }
 
 /// The format of the request's document.
-pub fn format(request: Request<'_, '_>) -> Format
+pub(crate) fn format(request: Request<'_, '_>) -> Format
     ensures { result ≡ spec.format (request_of request.entry) }
 {
     format_of(request.bytes_of(OperationAttribute::DocumentFormat)).unwrap_or(Format::OctetStream)

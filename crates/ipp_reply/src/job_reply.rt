@@ -8,6 +8,7 @@ ghost use Rattle.ipp_reply.specs.JobReply as spec;
 ghost use Rattle.ipp_reply.specs.Wanted.{of_job, rows_of, words_of};
 
 use crate::content::{Content, ENGLISH, UTF_8, put};
+use crate::selection::{Selectable, selected_rows};
 use crate::wanted::Wanted;
 use ipp_wire::tags::{
     CHARSET, JOB_ATTRIBUTES, KEYWORD, NAME_WITHOUT_LANGUAGE, NATURAL_LANGUAGE, URI,
@@ -99,15 +100,6 @@ impl JobAttribute {
             JobAttribute::Copies | JobAttribute::JobHoldUntil => "job-template",
             _ => "job-description",
         }
-    }
-
-    /// The word selects the row.
-    fn is_selected(self, word: &[u8]) -> bool
-        ensures { result ≡ spec.selects self word.now }
-    {
-        word == self.name().as_bytes()
-            || word == "all".as_bytes()
-            || word == self.family().as_bytes()
     }
 
     /// What the row says of a job.
@@ -205,37 +197,21 @@ pub(crate) fn put_jobs(
     Ok(())
 }
 
-fn is_requested(attribute: JobAttribute, values: &[ValueView<'_>]) -> bool
-    ensures { result ≡ list_any (λ v. spec.selects attribute v.bytes.now) values.now }
-{
-    values.iter().any(|v| attribute.is_selected(v.bytes))
-}
+impl Selectable for JobAttribute {
+    ghost selects = { spec.selects };
 
-#[tactic(auto, using(crate::proofs::Lists::list_any_map))]
-fn is_named(attribute: JobAttribute, values: &[ValueView<'_>]) -> bool
-    ensures { result ≡ list_any (spec.selects attribute) (words_of (values_of values.now)) }
-{
-    is_requested(attribute, values)
-}
-
-fn requested_rows(
-    alloc: Global,
-    rows: &[JobAttribute],
-    values: &[ValueView<'_>],
-) -> Result<Vec<JobAttribute>, AllocError>
-    ensures { IfOk result (λ v. v.items ≡ filter (λ a. list_any (spec.selects a) (words_of (values_of values.now))) rows.now) }
-{
-    rows.iter()
-        .copied()
-        .filter(|a| is_named(*a, values))
-        .collect(alloc)
+    fn is_selected(self, word: &[u8]) -> bool {
+        word == self.name().as_bytes()
+            || word == "all".as_bytes()
+            || word == self.family().as_bytes()
+    }
 }
 
 /// The rows of a job that the names in these values select: a name of a row, its group or `all`
 /// (RFC 8011, section 4.3.4). The one error is want of memory.
-pub fn select_requested(alloc: Global, values: &[ValueView<'_>]) -> Result<Wanted, AllocError>
+pub fn select_of_job(alloc: Global, values: &[ValueView<'_>]) -> Result<Wanted, AllocError>
     ensures { IfOk result (λ w. rows_of w ≡ of_job (spec.selected (words_of (values_of values.now)))) }
 {
-    let rows = requested_rows(alloc, &JOB_TABLE, values)?;
+    let rows = selected_rows(alloc, &JOB_TABLE, values)?;
     Ok(Wanted::Job(rows))
 }

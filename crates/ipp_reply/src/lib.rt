@@ -7,10 +7,11 @@ mod job_reply;
 mod operation;
 mod printer_reply;
 mod reply;
+mod selection;
 mod unsupported;
 mod wanted;
 
-pub use job_reply::{JOB_TABLE, JobAttribute, select_requested};
+pub use job_reply::{JOB_TABLE, JobAttribute, select_of_job};
 pub use operation::{OPERATIONS, Operation};
 pub use printer_reply::{PRINTER_TABLE, PrinterAttribute, select_of_printer};
 pub use reply::reply_message;

@@ -9,6 +9,7 @@ ghost use Rattle.ipp_reply.specs.PrinterView.{printer_of};
 ghost use Rattle.ipp_reply.specs.Wanted.{of_printer, rows_of, words_of};
 
 use crate::content::{Content, ENGLISH, UTF_8, put};
+use crate::selection::{Selectable, selected_rows};
 use crate::wanted::Wanted;
 use ipp_wire::tags::{
     CHARSET, KEYWORD, MIME_MEDIA_TYPE, NAME_WITHOUT_LANGUAGE, NATURAL_LANGUAGE, PRINTER_ATTRIBUTES,
@@ -107,15 +108,6 @@ impl PrinterAttribute {
         }
     }
 
-    /// The word selects the row.
-    fn is_selected(self, word: &[u8]) -> bool
-        ensures { result ≡ spec.selects self word.now }
-    {
-        word == self.name().as_bytes()
-            || word == "all".as_bytes()
-            || word == "printer-description".as_bytes()
-    }
-
     /// What the row says of a printer.
     fn content<'a>(self, printer: PrinterView<'a>) -> Content<'a>
         ensures { values_in result ≡ spec.values_of (printer_of printer.entry) self }
@@ -173,30 +165,14 @@ pub(crate) fn put_printer(
     Ok(())
 }
 
-fn is_requested(attribute: PrinterAttribute, values: &[ValueView<'_>]) -> bool
-    ensures { result ≡ list_any (λ v. spec.selects attribute v.bytes.now) values.now }
-{
-    values.iter().any(|v| attribute.is_selected(v.bytes))
-}
+impl Selectable for PrinterAttribute {
+    ghost selects = { spec.selects };
 
-#[tactic(auto, using(crate::proofs::Lists::list_any_map))]
-fn is_named(attribute: PrinterAttribute, values: &[ValueView<'_>]) -> bool
-    ensures { result ≡ list_any (spec.selects attribute) (words_of (values_of values.now)) }
-{
-    is_requested(attribute, values)
-}
-
-fn named_rows(
-    alloc: Global,
-    rows: &[PrinterAttribute],
-    values: &[ValueView<'_>],
-) -> Result<Vec<PrinterAttribute>, AllocError>
-    ensures { IfOk result (λ v. v.items ≡ filter (λ a. list_any (spec.selects a) (words_of (values_of values.now))) rows.now) }
-{
-    rows.iter()
-        .copied()
-        .filter(|a| is_named(*a, values))
-        .collect(alloc)
+    fn is_selected(self, word: &[u8]) -> bool {
+        word == self.name().as_bytes()
+            || word == "all".as_bytes()
+            || word == "printer-description".as_bytes()
+    }
 }
 
 /// The rows of the printer that the names in these values select: a name of a row,
@@ -204,6 +180,6 @@ fn named_rows(
 pub fn select_of_printer(alloc: Global, values: &[ValueView<'_>]) -> Result<Wanted, AllocError>
     ensures { IfOk result (λ w. rows_of w ≡ of_printer (spec.selected (words_of (values_of values.now)))) }
 {
-    let rows = named_rows(alloc, &PRINTER_TABLE, values)?;
+    let rows = selected_rows(alloc, &PRINTER_TABLE, values)?;
     Ok(Wanted::Printer(rows))
 }

@@ -157,10 +157,8 @@ pub fn reply_message(
             )?;
             Ok(message)
         }
-        // These answer reports and account files.
-        Reply::Told { .. } => unreachable!(),
-        Reply::NotTold(_) => unreachable!(),
-        Reply::Added { .. } => unreachable!(),
-        Reply::NotAdded { .. } => unreachable!(),
+        Reply::Told { .. } | Reply::NotTold(_) | Reply::Added { .. } | Reply::NotAdded { .. } => {
+            unreachable!("these answer reports and account files")
+        }
     }
 }

@@ -19,10 +19,7 @@ pub struct Unsupported<'a> {
 pub fn is_filled(attrs: &[AttrView<'_>]) -> bool
     ensures { result ≡ spec.is_filled (attributes_of attrs.now) }
 {
-    match attrs {
-        [] => false,
-        _ => true,
-    }
+    !attrs.is_empty()
 }
 
 impl<'a> Unsupported<'a> {

@@ -32,7 +32,8 @@ pub fn is_known_version(head: Head) -> bool
 }
 
 /// The head of a reply with this status code to a request with this head: the request's version, or 1.1
-/// where its major version isn't 1 or 2, and its request-id (RFC 8011, section 4.1.8). It takes no memory.
+/// where its major version isn't 1 or 2, and its request-id. It takes no memory. (RFC 8011, section 4.1.8,
+/// would have the closest version that is supported.)
 pub fn reply_head(head: Head, code: u16) -> Head
     ensures { result ≡ bare_head head code }
 {

@@ -1,20 +1,19 @@
 -- What is read of the book's lists is what its world shows.
 use Rattle.std.proofs.Common.{◌≡◌, ℕ, suc, ◌<◌, ◌≤◌, ◌+◌, ◌*◌, ◌^◌, List, [], ◌∷◌, length, map, refl, ap, sym, ◌∙◌, arith, Bool, true, false, cond}
-use Rattle.std.specs.Prelude.{nat_eq, nat_lt, ◌&&◌, ◌||◌, Option, Some, None, find, filter, option_map, slice_get, ◌-◌}
+use Rattle.std.specs.Prelude.{IfSome, nat_eq, nat_lt, ◌&&◌, Option, Some, None, find, filter, option_map, slice_get, ◌-◌}
 use Rattle.std.specs.List.{AllByRecursion as Each}
 use Rattle.std.specs.FinMap.{empty, entries, from_sorted, entries-from_sorted, get, get-empty, get-from_sorted, same_map}
 use Rattle.list_book.proofs.Keyed.{grant_exact, grant_total}
-use Rattle.queue_types.specs.Job.{state}
 use Rattle.queue_core.specs.Limits.{IsSoundJob}
-use Rattle.queue_core.specs.Shown.{document_at, document_of, sheet_of}
-use Rattle.queue_core.specs.Sound.{IsSound, IsSoundEntry, Rise}
+use Rattle.queue_core.specs.Shown.{charged_to, document_at, document_of, is_fetched, sheet_of}
+use Rattle.queue_core.specs.Sound.{IsSound, IsSoundEntry, Rise, printed_for, reserved_for}
 use Rattle.queue_core.specs.World.{World, Entry, grant_cmp, granted_in, known_grant, rows, job_at}
 use Rattle.queue_types.specs.declared.job.Job.{Job}
 use Rattle.queue_types.specs.declared.document.Document.{Document}
 use Rattle.queue_types.specs.declared.document.KeptDocument.{KeptDocument}
 use Rattle.queue_types.specs.declared.event.GrantRow.{GrantRow}
 use Rattle.list_book.specs.declared.lists.Lists.{Lists}
-use Rattle.list_book.specs.Lists.{AreTotals, entry_of, entries_of, jobs_shown, nth_of, documents_of, printed_of, reserved_of, sheet_in, world_of}
+use Rattle.list_book.specs.Lists.{AreTotals, entry_of, entries_of, nth_of, documents_of, sheet_in, world_of}
 use Rattle.list_book.specs.Tables.{free_map, grants_map, known_in, total_of}
 use Rattle.list_book.proofs.Put.{rows_of}
 use Rattle.std.specs.Prelude.{bytes_eq, sum_by, ℤ}
@@ -29,9 +28,6 @@ use Rattle.queue_core.specs.World.{cut, queue_counts}
 use Rattle.queue_types.specs.Event.{grant}
 
 -- ---- documents
-
-abbrev pub is_fetched : Job → Bool
-is_fetched j = nat_eq (state j) 3 || nat_eq (state j) 5 || nat_eq (state j) 6
 
 found : (b : Bool) (ds : List KeptDocument) (j : Job) (e : Option Entry) (o : Option Job) → e ≡ option_map (entry_of ds) o → cond b (Some (entry_of ds j)) e ≡ option_map (entry_of ds) (cond b (Some j) o)
 found true ds j e o same = refl
@@ -119,13 +115,13 @@ sum_fits : (f : Job → ℕ) (js : List Job) → Each IsSoundJob js → ((j : Jo
 sum_fits f [] each fits = omega arith
 sum_fits f (j ∷ js) each fits = let here = fits j each.0 in let more = sum_fits f js each.1 fits in let e = sum_by-cons f j js in omega (arith, here, more, e)
 
-pub reserved_fits : (l : Lists) (a : List ℕ) → IsSound (world_of l) → reserved_of a l.jobs.items < 2 ^ 64
+pub reserved_fits : (l : Lists) (a : List ℕ) → IsSound (world_of l) → reserved_for a l.jobs.items < 2 ^ 64
 reserved_fits l a sound =
     let few = few_jobs l sound in
     let sum = sum_fits (λ j. cond (bytes_eq j.owner a) (owed j) 0) l.jobs.items (each_job l.documents.items l.jobs.items sound.entries) (λ j s. either (bytes_eq j.owner a) (owed j) 0 100000000 (owed_fits j s) (omega arith)) in
     omega (arith, few, sum)
 
-pub printed_fits : (l : Lists) (a : List ℕ) → IsSound (world_of l) → printed_of a l.jobs.items < 2 ^ 64
+pub printed_fits : (l : Lists) (a : List ℕ) → IsSound (world_of l) → printed_for a l.jobs.items < 2 ^ 64
 printed_fits l a sound =
     let few = few_jobs l sound in
     let sum = sum_fits (λ j. cond (bytes_eq j.owner a) j.count 0) l.jobs.items (each_job l.documents.items l.jobs.items sound.entries) (λ j s. either (bytes_eq j.owner a) j.count 0 100000000 s.count (omega arith)) in
@@ -153,6 +149,11 @@ pub grants_scene_is : (l : Lists) (rows : List GrantRow) (s : Scene) → s.setti
 grants_scene_is l rows s settings jobs free live counts report known next =
     λ i. record { settings = settings i; jobs = jobs i; free = free i; live = live i; counts = counts i; report = report i; known = known i; next = next i }
 
+-- a sheet is of the account that was asked for
+pub sheet_named : (l : Lists) (a : List ℕ) (free : Option ℤ) → IfSome (option_map (sheet_in l a) free) (λ it. it.account ≡ a)
+sheet_named l a None = tt
+sheet_named l a (Some pages) = refl
+
 -- the sheet is the world's
 pub sheet_is : (l : Lists) (a : List ℕ) → AreTotals l → option_map (sheet_in l a) (get (free_map l.accounts.entries) a) ≡ sheet_of (world_of l) a
 unfolding sheet_of
@@ -163,14 +164,14 @@ sheet_is l a totals =
       account = a;
       granted = total i;
       free = free;
-      reserved = reserved_of a (sym same i);
-      printed = printed_of a (sym same i);
-      jobs = jobs_shown a (sym same i);
+      reserved = reserved_for a (sym same i);
+      printed = printed_for a (sym same i);
+      jobs = charged_to a (sym same i);
     }) (get (free_map l.accounts.entries) a)
 
 -- a sheet by its parts
 pub same_sheet : (l : Lists) (a : List ℕ) (free : ℤ) (s : AccountSheet) → s.account ≡ a → s.granted ≡ total_of l.accounts.entries a → s.free ≡ free
-    → s.reserved ≡ reserved_of a l.jobs.items → s.printed ≡ printed_of a l.jobs.items
-    → s.jobs ≡ jobs_shown a l.jobs.items → s ≡ sheet_in l a free
+    → s.reserved ≡ reserved_for a l.jobs.items → s.printed ≡ printed_for a l.jobs.items
+    → s.jobs ≡ charged_to a l.jobs.items → s ≡ sheet_in l a free
 same_sheet l a free s account granted pages reserved printed jobs =
     λ i. record { account = account i; granted = granted i; free = pages i; reserved = reserved i; printed = printed i; jobs = jobs i }

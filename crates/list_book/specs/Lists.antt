@@ -1,14 +1,15 @@
 -- What the lists and tables of the book stand for.
-use Rattle.std.specs.Prelude.{ℕ, ℤ, ◌-◌, nat_lt, slice_get, fold, ◌≡◌, ◌≤◌, ◌+◌, List, [], ◌∷◌, ◌++◌, Option, None, Some, map, ◌==◌, if◌then◌else◌, Bool, ◌&&◌, ◌||◌, bytes_eq, filter, sum_by, vec_len, vec_capacity}
+use Rattle.std.specs.Prelude.{ℕ, ℤ, ◌-◌, nat_lt, slice_get, fold, ◌≡◌, ◌≤◌, ◌+◌, List, [], ◌∷◌, ◌++◌, Option, None, Some, map, ◌==◌, if◌then◌else◌, Bool, vec_len, vec_capacity}
 use Rattle.std.specs.FinMap.{FinMap, from_entries}
 use Rattle.std.specs.HashMap.{spare}
 use Rattle.queue_types.specs.Event.{NewDocument}
+use Rattle.queue_core.specs.Shown.{charged_to}
+use Rattle.queue_core.specs.Sound.{printed_for, reserved_for}
 use Rattle.queue_core.specs.World.{World, Entry, granted_in, report_cmp, job_at}
 use Rattle.queue_types.specs.declared.job.Job.{Job}
 use Rattle.queue_types.specs.declared.document.Document.{Document}
 use Rattle.queue_types.specs.declared.document.KeptDocument.{KeptDocument}
 use Rattle.queue_types.specs.declared.event.KeptReport.{KeptReport}
-use Rattle.queue_types.specs.Job.{owed}
 use Rattle.queue_types.specs.declared.sheet.AccountSheet.{AccountSheet}
 use Rattle.list_book.specs.declared.lists.Lists.{Lists}
 use Rattle.list_book.specs.Tables.{free_map, grants_map, total_of}
@@ -54,27 +55,15 @@ world_of l = record { settings = l.settings; jobs = entries_of l.documents.items
 abbrev pub AreTotals : Lists → Type 0
 AreTotals l = (a : List ℕ) → total_of l.accounts.entries a ≡ granted_in a (grants_map l.grants.entries)
 
--- the pages that are reserved in the account for these jobs
-abbrev pub reserved_of : List ℕ → List Job → ℕ
-reserved_of a js = sum_by (λ j. if bytes_eq j.owner a then owed j else 0) js
-
--- the pages of these jobs that are printed in the account
-abbrev pub printed_of : List ℕ → List Job → ℕ
-printed_of a js = sum_by (λ j. if bytes_eq j.owner a then j.count else 0) js
-
--- those of the account's jobs that have pages reserved or printed
-abbrev pub jobs_shown : List ℕ → List Job → List Job
-jobs_shown a js = filter (λ j. bytes_eq j.owner a && (nat_lt 0 (owed j) || nat_lt 0 j.count)) js
-
 -- the sheet of an account with these free pages
 abbrev pub sheet_in : Lists → List ℕ → ℤ → AccountSheet
 sheet_in l a free = record {
   account = a;
   granted = total_of l.accounts.entries a;
   free = free;
-  reserved = reserved_of a l.jobs.items;
-  printed = printed_of a l.jobs.items;
-  jobs = jobs_shown a l.jobs.items;
+  reserved = reserved_for a l.jobs.items;
+  printed = printed_for a l.jobs.items;
+  jobs = charged_to a l.jobs.items;
 }
 
 -- a number that no job has has no documents

@@ -97,7 +97,7 @@ fn put_free_row(accounts: &mut Accounts, row: FreeRow)
     };
     match accounts.insert(name, account) {
         Ok(_) => {}
-        Err(_) => unreachable!(),
+        Err(_) => unreachable!("there is room for it"),
     }
 }
 

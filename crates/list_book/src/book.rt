@@ -1,5 +1,5 @@
 //! The book in lists, which keeps a queue in memory.
-ghost use Rattle.std.specs.Prelude.{◌≡◌, ◌≤◌, ⊤, IfOk, IfErr, IsSome, OnOk, OnErr, Some, length, option_map, take};
+ghost use Rattle.std.specs.Prelude.{◌≡◌, ◌≤◌, ⊤, IfOk, IfErr, IfSome, IsSome, OnOk, OnErr, Some, length, option_map, take};
 ghost use Rattle.std.specs.Io.KnownBytes.{Appends};
 ghost use Rattle.queue_core.specs.Book.{IsContent, IsDecisionOn};
 ghost use Rattle.queue_types.specs.Event.{event_of, change_of, decision_of};
@@ -192,6 +192,7 @@ impl QueueBook for ListBook {
         ensures damaged { ⊤ → IfErr result (λ e. e ≡ BookFault.Damaged → (w : World) → ¬ IsContent self.old w) }
         ensures live { ⊤ → OnOk result ⊤ }
         ensures opened { ⊤ → ⊤ → ⊤ }
+        ensures named { IfOk result (λ s. IfSome s (λ it. it.account ≡ account.now)) }
         ensures fault { IfErr result (λ f. f ≡ BookFault.Memory) }
     {
         let sheet = sheet::sheet(self.alloc, &self.lists, account)?;

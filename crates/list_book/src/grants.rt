@@ -81,7 +81,7 @@ fn put_grant(grants: &mut Grants, accounts: &mut Accounts, row: GrantRow)
     add_pages(accounts, &key.1, row.pages);
     match grants.insert(key, row.pages) {
         Ok(_) => {}
-        Err(_) => unreachable!(),
+        Err(_) => unreachable!("there is room for it"),
     }
 }
 

@@ -108,7 +108,7 @@ fn put_report(reports: &mut Reports, report: Option<KeptReport>)
     if let Some(k) = report {
         match reports.insert((k.report.job, k.report.seq), k) {
             Ok(_) => {}
-            Err(_) => unreachable!(),
+            Err(_) => unreachable!("there is room for it"),
         }
     }
 }

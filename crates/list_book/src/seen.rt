@@ -1,8 +1,8 @@
 //! What the book in lists shows to the device.
-ghost use Rattle.std.specs.Prelude.{◌≡◌, ◌==◌, ◌||◌, IfOk, filter, option_map};
+ghost use Rattle.std.specs.Prelude.{◌≡◌, ◌==◌, IfOk, filter, option_map};
 ghost use Rattle.std.specs.Option.{option_copied};
 ghost use Rattle.queue_types.specs.Job.{state};
-ghost use Rattle.queue_core.specs.Shown.{document_at, head_of};
+ghost use Rattle.queue_core.specs.Shown.{document_at, head_of, is_fetched};
 ghost use Rattle.list_book.specs.Lists.{nth_of, world_of};
 
 use crate::lists::Lists;
@@ -27,7 +27,7 @@ pub(crate) fn pending(alloc: Global, jobs: &[Job]) -> Result<Vec<Job>, AllocErro
 
 /// The device may fetch the job's documents.
 fn is_fetched(job: &Job) -> bool
-    ensures { result ≡ (state job.now == 3 || state job.now == 5 || state job.now == 6) }
+    ensures { result ≡ is_fetched job.now }
 {
     matches!(
         job.state(),
@@ -47,7 +47,7 @@ fn nth_document(documents: &[KeptDocument], job: u32, n: u32) -> Option<&Documen
     Some(&kept.document)
 }
 
-/// Document n, counted from 1, of a job in state 3, 5 or 6.
+/// Document n, counted from 1, of a job whose documents the device may fetch.
 pub(crate) fn document(lists: &Lists, job: u32, n: u32) -> Option<&Document>
     ensures { option_copied result ≡ document_at (world_of lists.now) job n }
 {

@@ -1,7 +1,9 @@
 //! What the book in lists tells an office of an account.
 ghost use Rattle.std.specs.Prelude.{◌≡◌, ◌<◌, ◌^◌, IfOk, option_map};
 ghost use Rattle.std.specs.FinMap.{get};
-ghost use Rattle.list_book.specs.Lists.{jobs_shown, printed_of, reserved_of, sheet_in};
+ghost use Rattle.queue_core.specs.Shown.{charged_to};
+ghost use Rattle.queue_core.specs.Sound.{printed_for, reserved_for};
+ghost use Rattle.list_book.specs.Lists.{sheet_in};
 ghost use Rattle.list_book.specs.Tables.{free_map};
 
 use crate::accounts::{free_pages, pages_granted};
@@ -13,7 +15,7 @@ use std::alloc::{AllocError, Global};
 
 /// The account's jobs that have pages reserved or printed.
 fn sheet_jobs(alloc: Global, jobs: &[Job], account: &str) -> Result<Vec<Job>, AllocError>
-    ensures { IfOk result (λ v. v.items ≡ jobs_shown account.now jobs.now) }
+    ensures { IfOk result (λ v. v.items ≡ charged_to account.now jobs.now) }
 {
     let mut shown = Vec::new(alloc);
     for job in jobs {
@@ -26,8 +28,8 @@ fn sheet_jobs(alloc: Global, jobs: &[Job], account: &str) -> Result<Vec<Job>, Al
 
 /// The pages that are reserved in the account.
 fn reserved_in(jobs: &[Job], account: &str) -> u64
-    requires { reserved_of account.now jobs.now < 2 ^ 64 }
-    ensures { result ≡ reserved_of account.now jobs.now }
+    requires { reserved_for account.now jobs.now < 2 ^ 64 }
+    ensures { result ≡ reserved_for account.now jobs.now }
 {
     let mut pages = 0;
     for job in jobs {
@@ -40,8 +42,8 @@ fn reserved_in(jobs: &[Job], account: &str) -> u64
 
 /// The pages that are printed in the account.
 fn printed_in(jobs: &[Job], account: &str) -> u64
-    requires { printed_of account.now jobs.now < 2 ^ 64 }
-    ensures { result ≡ printed_of account.now jobs.now }
+    requires { printed_for account.now jobs.now < 2 ^ 64 }
+    ensures { result ≡ printed_for account.now jobs.now }
 {
     let mut pages = 0;
     for job in jobs {
@@ -61,8 +63,8 @@ fn sheet_with(
     free: i64,
 ) -> Result<AccountSheet, AllocError>
     requires name { name ≡ account.now }
-    requires reserved { reserved_of account.now lists.now.jobs.items < 2 ^ 64 }
-    requires printed { printed_of account.now lists.now.jobs.items < 2 ^ 64 }
+    requires reserved { reserved_for account.now lists.now.jobs.items < 2 ^ 64 }
+    requires printed { printed_for account.now lists.now.jobs.items < 2 ^ 64 }
     ensures { IfOk result (λ s. s ≡ sheet_in lists.now account.now free) }
 {
     let jobs = lists.jobs.as_slice();
@@ -84,8 +86,8 @@ pub(crate) fn sheet(
     lists: &Lists,
     account: &str,
 ) -> Result<Option<AccountSheet>, AllocError>
-    requires reserved { reserved_of account.now lists.now.jobs.items < 2 ^ 64 }
-    requires printed { printed_of account.now lists.now.jobs.items < 2 ^ 64 }
+    requires reserved { reserved_for account.now lists.now.jobs.items < 2 ^ 64 }
+    requires printed { printed_for account.now lists.now.jobs.items < 2 ^ 64 }
     ensures { IfOk result (λ s. s ≡ option_map (sheet_in lists.now account.now) (get (free_map lists.now.accounts.entries) account.now)) }
 {
     let name = Name::copy_of(alloc, account)?;

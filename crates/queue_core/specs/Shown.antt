@@ -1,5 +1,5 @@
 -- What of a world the device and the office are shown.
-use Rattle.std.specs.Prelude.{ℕ, ◌-◌, ◌==◌, ◌&&◌, ◌||◌, nat_lt, bytes_eq, List, Option, Some, None, find, filter, length, option_map, slice_get, if◌then◌else◌}
+use Rattle.std.specs.Prelude.{Bool, ℕ, ◌-◌, ◌==◌, ◌&&◌, ◌||◌, nat_lt, bytes_eq, List, Option, Some, None, find, filter, length, option_map, slice_get, if◌then◌else◌}
 use Rattle.std.specs.FinMap.{get}
 use Rattle.queue_types.specs.Job.{state, owed}
 use Rattle.queue_core.specs.Sound.{reserved, printed}
@@ -16,10 +16,14 @@ pending_in js = filter (λ j. state j == 3) js
 abbrev pub pending_jobs : World → List Job
 pending_jobs w = pending_in (rows w)
 
--- document n, from 1, of a job in state 3, 5 or 6
+-- the device may fetch the job's documents: it is pending, processing or processing-stopped (RFC 8011, section 5.3.7)
+abbrev pub is_fetched : Job → Bool
+is_fetched j = state j == 3 || state j == 5 || state j == 6
+
+-- document n, from 1, of a job whose documents the device may fetch
 abbrev pub document_of : Option Entry → ℕ → Option Document
 document_of None n = None
-document_of (Some e) n = if (state e.row == 3 || state e.row == 5 || state e.row == 6) && nat_lt 0 n then slice_get e.documents (n - 1) else None
+document_of (Some e) n = if is_fetched e.row && nat_lt 0 n then slice_get e.documents (n - 1) else None
 
 unfoldable pub document_at : World → ℕ → ℕ → Option Document
 document_at w job n = document_of (find (λ (e : Entry). e.row.number == job) w.jobs) n
@@ -27,9 +31,17 @@ document_at w job n = document_of (find (λ (e : Entry). e.row.number == job) w.
 abbrev pub head_of : Document → DocumentHead
 head_of d = record { format = d.format; octets = length d.bytes }
 
--- the account's jobs that have pages reserved or printed, by number
+-- a job for which pages are set aside, or of which pages were printed
+abbrev pub is_charged : Job → Bool
+is_charged j = nat_lt 0 (owed j) || nat_lt 0 j.count
+
+-- those of these jobs that are charged to the account
+abbrev pub charged_to : List ℕ → List Job → List Job
+charged_to a js = filter (λ j. bytes_eq j.owner a && is_charged j) js
+
+-- by number
 abbrev pub sheet_jobs : World → List ℕ → List Job
-sheet_jobs w a = filter (λ j. bytes_eq j.owner a && (nat_lt 0 (owed j) || nat_lt 0 j.count)) (rows w)
+sheet_jobs w a = charged_to a (rows w)
 
 -- what is granted to an account, what of it is free, reserved and printed, where the account is there
 unfoldable pub sheet_of : World → List ℕ → Option AccountSheet

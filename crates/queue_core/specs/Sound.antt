@@ -29,11 +29,19 @@ Rise first (e ∷ es) next = (first ≤ e.row.number) × Rise (e.row.number + 1)
 
 -- ---- the account equation, over the rows as they now are
 
+-- the pages that are set aside for that owner's jobs
+abbrev pub reserved_for : List ℕ → List Job → ℕ
+reserved_for a js = sum_by (λ j. if bytes_eq j.owner a then owed j else 0) js
+
+-- the pages that they have printed
+abbrev pub printed_for : List ℕ → List Job → ℕ
+printed_for a js = sum_by (λ j. if bytes_eq j.owner a then j.count else 0) js
+
 abbrev pub reserved : List ℕ → World → ℕ
-reserved a w = sum_by (λ j. if bytes_eq j.owner a then owed j else 0) (rows w)
+reserved a w = reserved_for a (rows w)
 
 abbrev pub printed : List ℕ → World → ℕ
-printed a w = sum_by (λ j. if bytes_eq j.owner a then j.count else 0) (rows w)
+printed a w = printed_for a (rows w)
 
 -- in each account, pages granted are those that are free, reserved and printed
 abbrev pub Balances : World → Type 0

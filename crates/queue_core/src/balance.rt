@@ -61,7 +61,7 @@ fn returned_to(before: &[Job], after: &[Job], account: &str) -> i64
 }
 
 /// The accounts with what comes back to each.
-pub fn credited_rows(
+pub(crate) fn credited_rows(
     alloc: Global,
     before: &[Job],
     after: &[Job],

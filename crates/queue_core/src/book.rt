@@ -4,7 +4,7 @@
 //! the call ends; a call that ends honest began so. A refused call leaves what the book stands for. No call on an
 //! honest book that stands for a queue is told Damaged. A book that an error has shut answers nothing but faults.
 //! A crash, at whatever moment, leaves the queue from before a call or the one after it, and nothing between.
-ghost use Rattle.std.specs.Prelude.{◌≡◌, ◌≤◌, Some, IfErr, IfOk, IsSome, OnOk, OnErr, length, option_map, take};
+ghost use Rattle.std.specs.Prelude.{◌≡◌, ◌≤◌, Some, IfErr, IfOk, IfSome, IsSome, OnOk, OnErr, length, option_map, take};
 ghost use Rattle.std.specs.Io.KnownBytes.{Appends};
 ghost use Rattle.queue_core.specs.Book.{IsDecisionOn};
 ghost use Rattle.queue_types.specs.Event.{event_of, change_of, decision_of};
@@ -152,7 +152,9 @@ pub trait QueueBook {
         ensures sheet { is_honest self.new → IfOk result (λ s. (w : World) → stands self.new w → s ≡ sheet_of w account.now) }
         ensures damaged { is_honest self.new → IfErr result (λ e. e ≡ BookFault.Damaged → (w : World) → ¬ stands self.old w) }
         ensures live { is_honest self.new → OnOk result (is_live self.new) }
-        ensures opened { is_honest self.new → is_live self.new → is_live self.old };
+        ensures opened { is_honest self.new → is_live self.new → is_live self.old }
+        // on any book, also one that is not honest
+        ensures named { IfOk result (λ s. IfSome s (λ it. it.account ≡ account.now)) };
 
     /// A world that an honest book stands for is sound.
     ghost sound: { (b : Self) (w : World) → is_honest b → stands b w → IsSound w };

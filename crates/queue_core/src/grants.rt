@@ -7,7 +7,7 @@ ghost use Rattle.queue_core.specs.Limits.{IsFair, IsKnown};
 ghost use Rattle.queue_core.specs.Machine.{grant_row};
 ghost use Rattle.queue_core.specs.Tally.{total_of, row_in, rows_after, free_rows_after, taken_at, ArePages, AreTotals, IsEndWithin, IsTallied, IsTalliedAfter};
 
-use crate::outcome::answer_only;
+use crate::outcome::{answer_only, no_change};
 use queue_types::event::{
     Decision, FreeList, FreeRow, GrantFault, GrantList, GrantRow, KnownGrant, Reply, Scene,
 };
@@ -215,11 +215,13 @@ pub(crate) fn grant<'a>(
     match take_rows(&mut tally, rows, scene.known.as_slice())? {
         End::Whole { repeats } => {
             let added = tally.rows.len() as u32;
-            let reply = Reply::Added { added, repeats };
-            let Decision { reply, mut change } = answer_only(alloc, reply);
+            let mut change = no_change(alloc);
             change.free = FreeList::from_items(tally.free);
             change.grants = GrantList::from_items(tally.rows);
-            Ok(Decision { reply, change })
+            Ok(Decision {
+                reply: Reply::Added { added, repeats },
+                change,
+            })
         }
         End::At { fault, row } => Ok(answer_only(alloc, Reply::NotAdded { fault, row })),
     }

@@ -23,5 +23,5 @@ pub use laws::{
 };
 pub use machine::decide;
 pub use my_jobs::number_set;
-pub use names::{are_batch_bytes, has_no_control, has_no_zero};
+pub use names::{are_batch_bytes, has_no_control, has_no_zero, is_batch, is_job_name, is_owner};
 pub use writing::{Unwritten, put_whole};

@@ -197,7 +197,7 @@ fn answer_on_job<'a>(
         Call::HoldJob { .. } => hold(alloc, scene, job),
         Call::ReleaseJob { .. } => release(alloc, scene, job),
         Call::GetJobAttributes { .. } => show(alloc, job),
-        _ => unreachable!(),
+        _ => unreachable!("no other call is about one job"),
     }
 }
 

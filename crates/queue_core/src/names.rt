@@ -1,7 +1,9 @@
-//! The bytes that names may have.
-ghost use Rattle.std.specs.Prelude.{◌≡◌, nat_le};
+//! Names within their limits, and the bytes that they may have.
+ghost use Rattle.std.specs.Prelude.{◌≡◌, ◌↔◌, IsTrue, nat_le};
 ghost use Rattle.std.specs.List.{list_all};
 ghost use Rattle.queue_core.specs.Limits as limits;
+
+use queue_types::limits::{MOST_BATCH_OCTETS, MOST_NAME_OCTETS};
 
 /// No byte is a control character of ASCII, as in the names of users and accounts.
 pub fn has_no_control(text: &[u8]) -> bool
@@ -28,4 +30,25 @@ pub fn are_batch_bytes(text: &[u8]) -> bool
     ensures { result ≡ list_all limits.is_batch_byte text.now }
 {
     text.iter().all(|b| is_batch_byte(*b))
+}
+
+/// The name of a user or an account: 1 to 255 octets without control characters.
+pub fn is_owner(text: &str) -> bool
+    ensures { IsTrue result ↔ limits.IsOwner text.now }
+{
+    text.len() >= 1 && text.len() <= MOST_NAME_OCTETS && has_no_control(text.as_bytes())
+}
+
+/// The name of a job: 1 to 255 octets without a zero byte.
+pub fn is_job_name(text: &str) -> bool
+    ensures { IsTrue result ↔ limits.IsJobName text.now }
+{
+    text.len() >= 1 && text.len() <= MOST_NAME_OCTETS && has_no_zero(text.as_bytes())
+}
+
+/// The name of a batch: 1 to 40 ASCII letters or digits, `-`, `.` or `_`.
+pub fn is_batch(text: &str) -> bool
+    ensures { IsTrue result ↔ limits.IsBatch text.now }
+{
+    text.len() >= 1 && text.len() <= MOST_BATCH_OCTETS && are_batch_bytes(text.as_bytes())
 }

@@ -3,7 +3,7 @@ ghost use Rattle.std.specs.Prelude.{◌≡◌, ◌<◌, ◌^◌, ◌∷◌, [], 
 ghost use Rattle.queue_core.specs.Balance.{AreAmounts};
 ghost use Rattle.queue_types.specs.Event.{change_of, decision_of};
 ghost use Rattle.queue_core.specs.Limits.{IsFair};
-ghost use Rattle.queue_core.specs.Machine.{refused, answered, becomes, changed};
+ghost use Rattle.queue_core.specs.Machine.{refused, answered, becomes, changed, no_change as empty_change};
 ghost use Rattle.queue_types.specs.declared.event.Reply.TheVariants.{Jobs};
 
 use crate::balance::credited_rows;
@@ -11,19 +11,26 @@ use queue_types::event::{Change, Decision, FreeList, GrantList, Reply, Scene};
 use queue_types::job::{Job, JobList};
 use std::alloc::{AllocError, Global};
 
+/// The change of no row. It takes no memory.
+pub(crate) fn no_change<'a>(alloc: Global) -> Change<'a>
+    ensures { change_of result ≡ empty_change }
+{
+    Change {
+        jobs: JobList::from_items(Vec::new(alloc)),
+        document: None,
+        free: FreeList::from_items(Vec::new(alloc)),
+        grants: GrantList::from_items(Vec::new(alloc)),
+        report: None,
+        next: None,
+    }
+}
+
 pub(crate) fn answer_only<'a>(alloc: Global, reply: Reply) -> Decision<'a>
     ensures { decision_of result ≡ answered reply }
 {
     Decision {
         reply,
-        change: Change {
-            jobs: JobList::from_items(Vec::new(alloc)),
-            document: None,
-            free: FreeList::from_items(Vec::new(alloc)),
-            grants: GrantList::from_items(Vec::new(alloc)),
-            report: None,
-            next: None,
-        },
+        change: no_change(alloc),
     }
 }
 
@@ -59,14 +66,10 @@ pub(crate) fn change_jobs<'a>(
         jobs.as_slice(),
         scene.free.as_slice(),
     )?;
-    Ok(Change {
-        jobs: JobList::from_items(jobs),
-        document: None,
-        free: FreeList::from_items(free),
-        grants: GrantList::from_items(Vec::new(alloc)),
-        report: None,
-        next: None,
-    })
+    let mut change = no_change(alloc);
+    change.jobs = JobList::from_items(jobs);
+    change.free = FreeList::from_items(free);
+    Ok(change)
 }
 
 pub(crate) fn change_job<'a>(

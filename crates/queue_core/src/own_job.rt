@@ -68,14 +68,8 @@ pub(crate) fn own<'s>(scene: &'s Scene, caller: &str) -> Result<&'s Job, u16>
     ensures sound { IfOk result (λ j. IsSoundJob j.now) }
 {
     match scene.jobs.as_slice() {
-        [] => Err(CLIENT_ERROR_NOT_FOUND),
-        [j, ..] => {
-            if j.owner.as_str() == caller {
-                Ok(j)
-            } else {
-                Err(CLIENT_ERROR_NOT_FOUND)
-            }
-        }
+        [job, ..] if job.owner.as_str() == caller => Ok(job),
+        _ => Err(CLIENT_ERROR_NOT_FOUND),
     }
 }
 
@@ -135,14 +129,8 @@ pub(crate) fn release<'a>(
     ensures { IfOk result (λ d. decision_of d ≡ release_in job.now.phase scene.now job.now) }
 {
     match job.phase {
-        Phase::Waiting => {
-            if job.hold {
-                allow(alloc, scene, job)
-            } else {
-                Ok(answer_only(alloc, Reply::Done))
-            }
-        }
-        Phase::Running | Phase::Stopped => Ok(answer_only(alloc, Reply::Done)),
+        Phase::Waiting if job.hold => allow(alloc, scene, job),
+        Phase::Waiting | Phase::Running | Phase::Stopped => Ok(answer_only(alloc, Reply::Done)),
         Phase::Canceled(_) | Phase::Aborted | Phase::Completed => Ok(refuse(
             alloc,
             CLIENT_ERROR_NOT_POSSIBLE,

@@ -28,7 +28,7 @@ impl From<Unwritten> for SendFault {
 }
 
 /// How often in a row a write that is interrupted is tried, before it has failed.
-const MOST_TRIES: u32 = 4_294_967_295;
+const MOST_TRIES: u32 = u32::MAX;
 
 /// Writes once, and answers how many bytes were taken: none where the writer failed. A write that is interrupted is tried again.
 fn put_once<W: Write>(out: &mut W, bytes: &[u8]) -> usize

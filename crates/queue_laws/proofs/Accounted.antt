@@ -6,13 +6,12 @@ use Rattle.std.proofs.lemmas.Bool.Decides.{nat_tests}
 use Rattle.std.proofs.lemmas.List.Sums.{sum_by-cons}
 use Rattle.queue_types.specs.Job.{owed}
 use Rattle.queue_core.specs.Order.{AreRising}
-use Rattle.queue_core.specs.Shown.{sheet_jobs, sheet_of}
+use Rattle.queue_core.specs.Shown.{is_charged, sheet_jobs, sheet_of}
 use Rattle.queue_core.specs.Sound.{IsSound, reserved, printed}
 use Rattle.queue_core.specs.World.{World, rows, granted}
 use Rattle.queue_types.specs.declared.job.Job.{Job}
 use Rattle.queue_types.specs.declared.sheet.AccountSheet.{AccountSheet}
 use Rattle.queue_laws.specs.Jobs.{is_owned_by}
-use Rattle.queue_laws.specs.Sheets.{has_pages}
 use Rattle.queue_laws.proofs.Base.{left_none, right_none}
 use Rattle.queue_laws.proofs.InOrder.{count_filter, rising, rising_filter}
 
@@ -23,7 +22,7 @@ no_pages n e = grind (arith, nat_tests)
 
 -- a job of which a sheet does not tell has none of these pages
 abbrev AreLeftOut : (Job → ℕ) → Type 0
-AreLeftOut pages = (j : Job) → has_pages j ≡ false → pages j ≡ 0
+AreLeftOut pages = (j : Job) → is_charged j ≡ false → pages j ≡ 0
 
 owed_left_out : AreLeftOut owed
 owed_left_out j e = no_pages (owed j) (left_none (nat_lt 0 (owed j)) (nat_lt 0 j.count) e)
@@ -31,15 +30,15 @@ owed_left_out j e = no_pages (owed j) (left_none (nat_lt 0 (owed j)) (nat_lt 0 j
 count_left_out : AreLeftOut (λ j. j.count)
 count_left_out j e = no_pages j.count (right_none (nat_lt 0 (owed j)) (nat_lt 0 j.count) e)
 
-lines_add_up : (a : List ℕ) (pages : Job → ℕ) → AreLeftOut pages → (js : List Job) → sum_by (λ j. cond (bytes_eq j.owner a) (pages j) 0) js ≡ sum_by pages (filter (λ j. bytes_eq j.owner a && has_pages j) js)
+lines_add_up : (a : List ℕ) (pages : Job → ℕ) → AreLeftOut pages → (js : List Job) → sum_by (λ j. cond (bytes_eq j.owner a) (pages j) 0) js ≡ sum_by pages (filter (λ j. bytes_eq j.owner a && is_charged j) js)
 lines_add_up a pages left_out [] = refl
 lines_add_up a pages left_out (j ∷ js) =
-    let rest : List Job = filter (λ j. bytes_eq j.owner a && has_pages j) js in
+    let rest : List Job = filter (λ j. bytes_eq j.owner a && is_charged j) js in
     let more : sum_by (λ j. cond (bytes_eq j.owner a) (pages j) 0) js ≡ sum_by pages rest = lines_add_up a pages left_out js in
     sum_by-cons (λ j. cond (bytes_eq j.owner a) (pages j) 0) j js
     ∙ ap (λ n. cond (bytes_eq j.owner a) (pages j) 0 + n) more
-    ∙ elim (bytes_eq j.owner a) as (λ b. cond b (pages j) 0 + sum_by pages rest ≡ sum_by pages (cond (b && has_pages j) (j ∷ rest) rest)) [
-      | true ↦ elim (has_pages j) as (λ t. has_pages j ≡ t → pages j + sum_by pages rest ≡ sum_by pages (cond t (j ∷ rest) rest)) [
+    ∙ elim (bytes_eq j.owner a) as (λ b. cond b (pages j) 0 + sum_by pages rest ≡ sum_by pages (cond (b && is_charged j) (j ∷ rest) rest)) [
+      | true ↦ elim (is_charged j) as (λ t. is_charged j ≡ t → pages j + sum_by pages rest ≡ sum_by pages (cond t (j ∷ rest) rest)) [
         | true ↦ λ is. sym (sum_by-cons pages j rest)
         | false ↦ λ is. omega (arith, left_out j is)
       ] refl
@@ -83,8 +82,8 @@ module _ (w : World) (a : List ℕ) where
     pub sheet_printed : sheet_of w a ≡ Some s → s.printed ≡ sum_by (λ j. j.count) s.jobs
     sheet_printed = of_sheet (λ s. s.printed ≡ sum_by (λ j. j.count) s.jobs) w a s (λ free there. lines_add_up a (λ j. j.count) count_left_out (rows w))
 
-    pub sheet_each : (p : Job → Bool) → sheet_of w a ≡ Some s → count_by p s.jobs ≡ count_by (λ j. is_owned_by a j && has_pages j && p j) (rows w)
-    sheet_each p = of_sheet (λ s. count_by p s.jobs ≡ count_by (λ j. is_owned_by a j && has_pages j && p j) (rows w)) w a s (λ free there. count_filter p (λ j. bytes_eq j.owner a && has_pages j) (rows w))
+    pub sheet_each : (p : Job → Bool) → sheet_of w a ≡ Some s → count_by p s.jobs ≡ count_by (λ j. is_owned_by a j && is_charged j && p j) (rows w)
+    sheet_each p = of_sheet (λ s. count_by p s.jobs ≡ count_by (λ j. is_owned_by a j && is_charged j && p j) (rows w)) w a s (λ free there. count_filter p (λ j. bytes_eq j.owner a && is_charged j) (rows w))
 
     pub sheet_in_order : IsSound w → sheet_of w a ≡ Some s → AreRising s.jobs
-    sheet_in_order sound = of_sheet (λ s. AreRising s.jobs) w a s (λ free there. rising_filter (λ j. bytes_eq j.owner a && has_pages j) (rows w) (rising 1 w.next w.jobs sound.numbers))
+    sheet_in_order sound = of_sheet (λ s. AreRising s.jobs) w a s (λ free there. rising_filter (λ j. bytes_eq j.owner a && is_charged j) (rows w) (rising 1 w.next w.jobs sound.numbers))

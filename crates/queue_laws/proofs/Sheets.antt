@@ -1,9 +1,9 @@
 -- What the device and the office are shown of a caller depends on what is the caller's own alone.
 use Rattle.std.proofs.Common.{◌≡◌, ℕ, ◌<◌, ◌+◌, List, [], ◌∷◌, refl, ap, sym, ◌∙◌, arith, Bool, true, false, cond}
-use Rattle.std.specs.Prelude.{Some, nat_eq, nat_lt, bytes_eq, filter, find, option_map, sum_by, ◌&&◌, ◌||◌}
+use Rattle.std.specs.Prelude.{Some, nat_eq, bytes_eq, filter, find, option_map, sum_by, ◌&&◌, ◌||◌}
 use Rattle.std.proofs.lemmas.List.Sums.{sum_by-cons}
 use Rattle.queue_types.specs.Job.{state, owed}
-use Rattle.queue_core.specs.Shown.{pending_in, pending_jobs, document_of, document_at, sheet_jobs, sheet_of}
+use Rattle.queue_core.specs.Shown.{charged_to, is_charged, pending_in, pending_jobs, document_of, document_at, sheet_jobs, sheet_of}
 use Rattle.queue_core.specs.Sound.{IsSound, Rise, reserved, printed}
 use Rattle.queue_core.specs.World.{World, Entry, rows, granted_in, has_number}
 use Rattle.queue_types.specs.declared.job.Job.{Job}
@@ -85,9 +85,9 @@ same_sheet u w v same =
     let owing : reserved u w ≡ reserved u v = sum_own u owed w.jobs ∙ ap (λ es. sum_by (λ (j : Job). cond (bytes_eq j.owner u) (owed j) 0) (rows_of es)) jobs ∙ sym (sum_own u owed v.jobs) in
     let counts : printed u w ≡ printed u v = sum_own u (λ j. j.count) w.jobs ∙ ap (λ es. sum_by (λ (j : Job). cond (bytes_eq j.owner u) j.count 0) (rows_of es)) jobs ∙ sym (sum_own u (λ j. j.count) v.jobs) in
     let charged : sheet_jobs w u ≡ sheet_jobs v u =
-    filter_own u (λ j. nat_lt 0 (owed j) || nat_lt 0 j.count) w.jobs
-    ∙ ap (λ es. filter (λ (j : Job). bytes_eq j.owner u && (nat_lt 0 (owed j) || nat_lt 0 j.count)) (rows_of es)) jobs
-    ∙ sym (filter_own u (λ j. nat_lt 0 (owed j) || nat_lt 0 j.count) v.jobs) in
+    filter_own u is_charged w.jobs
+    ∙ ap (λ es. charged_to u (rows_of es)) jobs
+    ∙ sym (filter_own u is_charged v.jobs) in
     λ i. option_map (λ free. record { account = u; granted = granted_in u (same i).grants; free = free; reserved = owing i; printed = counts i; jobs = charged i }) (same i).free
 
 pub same_pending : (u : List ℕ) (w v : World) → own u w ≡ own u v → filter (is_owned_by u) (pending_jobs w) ≡ filter (is_owned_by u) (pending_jobs v)

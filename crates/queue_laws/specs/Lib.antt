@@ -10,4 +10,3 @@ pub mod Alike
 pub mod Thin
 pub mod Doing
 pub mod Documents
-pub mod Sheets

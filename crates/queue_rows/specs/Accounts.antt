@@ -1,7 +1,7 @@
 -- The rows of accounts, and what the other tables say of an account.
 use Rattle.std.specs.Prelude.{◌≡◌, ℕ, pos, ◌+◌, ◌+ℤ◌, List, bytes_eq, sum_by, if◌then◌else◌, Bool}
 use Rattle.std.specs.Ordering.{is_lt}
-use Rattle.queue_types.specs.Job.{owed}
+pub use Rattle.queue_core.specs.Sound.{reserved_for, printed_for}
 use Rattle.queue_core.specs.World.{text_cmp}
 use Rattle.queue_types.specs.declared.event.GrantRow.{GrantRow}
 use Rattle.queue_types.specs.declared.job.Job.{Job}
@@ -14,14 +14,6 @@ account_before a b = is_lt (text_cmp a.name b.name)
 -- how many accounts have that name
 abbrev pub accounts_of : List ℕ → List AccountRow → ℕ
 accounts_of n accounts = sum_by (λ a. if bytes_eq a.name n then 1 else 0) accounts
-
--- the pages that are set aside for that owner's jobs
-abbrev pub reserved_for : List ℕ → List Job → ℕ
-reserved_for a js = sum_by (λ j. if bytes_eq j.owner a then owed j else 0) js
-
--- the pages that they have printed
-abbrev pub printed_for : List ℕ → List Job → ℕ
-printed_for a js = sum_by (λ j. if bytes_eq j.owner a then j.count else 0) js
 
 -- the stored sums are these, and pages granted are those free, reserved and printed
 pub record HasSums (given held done : ℕ) (a : AccountRow) : Type 0 where

@@ -26,7 +26,7 @@ fn has_total(sums: &BTreeMap<&str, u128>, name: &str) -> bool
 }
 
 /// Each grant's account is among the names.
-pub fn grants_have_accounts(grants: &[GrantRow], names: &BTreeMap<&str, u128>) -> bool
+pub(crate) fn grants_have_accounts(grants: &[GrantRow], names: &BTreeMap<&str, u128>) -> bool
     ensures { IsTrue result ↔ All (λ g. 1 ≤ total_in names.now g.account) grants.now }
 {
     grants
@@ -35,7 +35,7 @@ pub fn grants_have_accounts(grants: &[GrantRow], names: &BTreeMap<&str, u128>) -
 }
 
 /// Each account was granted pages.
-pub fn accounts_have_grants(accounts: &[AccountRow], granted: &BTreeMap<&str, u128>) -> bool
+pub(crate) fn accounts_have_grants(accounts: &[AccountRow], granted: &BTreeMap<&str, u128>) -> bool
     ensures { IsTrue result ↔ All (λ a. 1 ≤ total_in granted.now a.name) accounts.now }
 {
     accounts

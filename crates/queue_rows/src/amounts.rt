@@ -13,7 +13,7 @@ use std::alloc::{AllocError, Global};
 use std::collections::BTreeMap;
 
 /// The pages that were granted to each account.
-pub fn granted_totals<'a>(
+pub(crate) fn granted_totals<'a>(
     alloc: Global,
     grants: &'a [GrantRow],
 ) -> Result<BTreeMap<&'a str, u128>, AllocError>
@@ -25,7 +25,7 @@ pub fn granted_totals<'a>(
 }
 
 /// The pages that are set aside for each owner's jobs.
-pub fn reserved_totals<'a>(
+pub(crate) fn reserved_totals<'a>(
     alloc: Global,
     jobs: &'a [Job],
 ) -> Result<BTreeMap<&'a str, u128>, AllocError>
@@ -35,7 +35,7 @@ pub fn reserved_totals<'a>(
 }
 
 /// The pages that each owner's jobs have printed.
-pub fn printed_totals<'a>(
+pub(crate) fn printed_totals<'a>(
     alloc: Global,
     jobs: &'a [Job],
 ) -> Result<BTreeMap<&'a str, u128>, AllocError>
@@ -47,7 +47,7 @@ pub fn printed_totals<'a>(
 }
 
 /// How many accounts have each name.
-pub fn name_totals<'a>(
+pub(crate) fn name_totals<'a>(
     alloc: Global,
     accounts: &'a [AccountRow],
 ) -> Result<BTreeMap<&'a str, u128>, AllocError>
@@ -57,7 +57,7 @@ pub fn name_totals<'a>(
 }
 
 /// How many jobs of each owner are in the states 3 to 6.
-pub fn live_totals<'a>(
+pub(crate) fn live_totals<'a>(
     alloc: Global,
     jobs: &'a [Job],
 ) -> Result<BTreeMap<&'a str, u128>, AllocError>

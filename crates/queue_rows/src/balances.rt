@@ -63,7 +63,7 @@ fn are_balanced(
 }
 
 /// What is stored of each account is what grants and jobs say.
-pub fn accounts_are_balanced(
+pub(crate) fn accounts_are_balanced(
     alloc: Global,
     accounts: &[AccountRow],
     granted: &BTreeMap<&str, u128>,

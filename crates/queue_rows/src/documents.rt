@@ -35,7 +35,7 @@ fn behind(documents: &[DocumentRow], count: u32) -> &[DocumentRow]
 }
 
 /// The documents are those of the jobs, each job's after another's, numbered from 1.
-pub fn documents_follow(jobs: &[Job], documents: &[DocumentRow]) -> bool
+pub(crate) fn documents_follow(jobs: &[Job], documents: &[DocumentRow]) -> bool
     ensures { IsTrue result ↔ AreGrouped jobs.now documents.now }
 {
     let mut rest = documents;
@@ -49,7 +49,7 @@ pub fn documents_follow(jobs: &[Job], documents: &[DocumentRow]) -> bool
 }
 
 /// Each document has 1 to 16,777,216 octets.
-pub fn documents_have_sizes(documents: &[DocumentRow]) -> bool
+pub(crate) fn documents_have_sizes(documents: &[DocumentRow]) -> bool
     ensures { IsTrue result ↔ All HasSize documents.now }
 {
     documents

@@ -4,8 +4,8 @@ ghost use Rattle.queue_rows.specs.Grants.{IsGrantRow};
 ghost use Rattle.queue_rows.specs.Totals.{total_in};
 
 use crate::order::Keyed;
-use crate::texts::{is_batch, is_owner};
 use crate::totals::are_within;
+use queue_core::{is_batch, is_owner};
 use queue_types::event::GrantRow;
 use queue_types::limits::{MOST_GRANTED_PAGES, MOST_ROW_PAGES};
 use std::collections::BTreeMap;
@@ -30,14 +30,14 @@ fn is_grant(grant: &GrantRow) -> bool
 }
 
 /// The batch, the account and the pages of each are within their limits.
-pub fn grants_are_sound(grants: &[GrantRow]) -> bool
+pub(crate) fn grants_are_sound(grants: &[GrantRow]) -> bool
     ensures { IsTrue result ↔ All IsGrantRow grants.now }
 {
     grants.iter().all(is_grant)
 }
 
 /// No account was granted more than 1,000,000,000 pages.
-pub fn grants_are_within(granted: &BTreeMap<&str, u128>) -> bool
+pub(crate) fn grants_are_within(granted: &BTreeMap<&str, u128>) -> bool
     ensures { IsTrue result ↔ ((a : List ℕ) → total_in granted.now a ≤ 1000000000) }
 {
     are_within(granted, u128::from(MOST_GRANTED_PAGES))

@@ -3,12 +3,20 @@ ghost use Rattle.std.specs.Prelude.{◌≡◌, ◌↔◌, All, IsTrue, IsSome, I
 ghost use Rattle.queue_core.specs.Limits.{IsPositive, IsMoment, FitsPhase};
 ghost use Rattle.queue_rows.specs.Jobs.{IsJobRow, NumbersRise};
 
-use crate::texts::{is_job_name, is_owner};
+use queue_core::{is_job_name, is_owner};
 use queue_types::job::{Job, Phase};
-use queue_types::limits::{LAST_MOMENT, MOST_COPIES, MOST_IMPRESSIONS, MOST_PRINTED_PAGES};
+use queue_types::limits::{
+    LAST_JOB_NUMBER, LAST_MOMENT, MOST_COPIES, MOST_IMPRESSIONS, MOST_PRINTED_PAGES,
+};
 
-fn is_positive(n: u32) -> bool
+fn is_job_number(n: u32) -> bool
     ensures { IsTrue result ↔ IsPositive n }
+{
+    n >= 1 && n <= LAST_JOB_NUMBER
+}
+
+fn is_moment(n: u32) -> bool
+    ensures { IsTrue result ↔ IsMoment n }
 {
     n >= 1 && n <= LAST_MOMENT
 }
@@ -17,7 +25,7 @@ fn is_moment_if_some(moment: Option<u32>) -> bool
     ensures { IsTrue result ↔ IfSome moment IsMoment }
 {
     match moment {
-        Some(n) => is_positive(n),
+        Some(n) => is_moment(n),
         None => true,
     }
 }
@@ -45,11 +53,8 @@ fn fits_phase(job: &Job) -> bool
 {
     match job.phase {
         Phase::Waiting => fits_waiting(job),
-        Phase::Running => fits_at_device(job),
-        Phase::Stopped => fits_at_device(job),
-        Phase::Canceled(_) => fits_ended(job),
-        Phase::Aborted => fits_ended(job),
-        Phase::Completed => fits_ended(job),
+        Phase::Running | Phase::Stopped => fits_at_device(job),
+        Phase::Canceled(_) | Phase::Aborted | Phase::Completed => fits_ended(job),
     }
 }
 
@@ -58,10 +63,10 @@ pub fn is_job_row(job: &Job) -> bool
     ensures { IsTrue result ↔ IsJobRow job.now }
 {
     let texts = is_owner(job.owner.as_str()) && is_job_name(job.name.as_str());
-    let moments = is_positive(job.created)
+    let moments = is_moment(job.created)
         && is_moment_if_some(job.begun)
         && is_moment_if_some(job.ended);
-    let numbers = is_positive(job.number)
+    let numbers = is_job_number(job.number)
         && job.copies >= 1
         && job.copies <= MOST_COPIES
         && job.impressions <= MOST_IMPRESSIONS

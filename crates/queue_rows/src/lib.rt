@@ -17,5 +17,4 @@ pub mod pieces;
 mod reports;
 pub mod rows;
 pub mod sound;
-mod texts;
 mod totals;

@@ -7,7 +7,7 @@ use queue_types::settings::{SettingFault, Settings};
 use std::alloc::{AllocError, Global};
 
 /// The row is of schema 1, and its settings are within their limits.
-pub fn is_sound_meta(alloc: Global, row: &MetaRow) -> Result<bool, AllocError>
+pub(crate) fn is_sound_meta(alloc: Global, row: &MetaRow) -> Result<bool, AllocError>
     ensures { IfOk result (λ b. IsTrue b ↔ IsSoundMeta row.now) }
 {
     if row.one != 1 || row.schema != 1 {

@@ -12,7 +12,7 @@ use std::alloc::{AllocError, Global};
 use std::collections::BTreeMap;
 
 /// No owner has more than 100 jobs in the states 3 to 6.
-pub fn live_jobs_fit(alloc: Global, jobs: &[Job]) -> Result<bool, AllocError>
+pub(crate) fn live_jobs_fit(alloc: Global, jobs: &[Job]) -> Result<bool, AllocError>
     ensures { IfOk result (λ b. IsTrue b ↔ ((caller : List ℕ) → live_jobs caller jobs.now ≤ 100)) }
 {
     let live = live_totals(alloc, jobs)?;
@@ -36,7 +36,7 @@ fn is_covered(granted: &BTreeMap<&str, u128>, job: &Job) -> bool
 }
 
 /// Each job whose owner was granted nothing never began, has no count, and is on hold or ended.
-pub fn others_are_idle(jobs: &[Job], granted: &BTreeMap<&str, u128>) -> bool
+pub(crate) fn others_are_idle(jobs: &[Job], granted: &BTreeMap<&str, u128>) -> bool
     ensures { IsTrue result ↔ All (λ j. total_in granted.now j.owner ≡ 0 → IsIdle j) jobs.now }
 {
     jobs.iter().all(|job| is_covered(granted, job))

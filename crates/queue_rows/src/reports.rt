@@ -20,7 +20,7 @@ fn is_report(kept: &KeptReport) -> bool
 }
 
 /// The numbers of each, and what was told of it, are within their limits.
-pub fn reports_are_sound(reports: &[KeptReport]) -> bool
+pub(crate) fn reports_are_sound(reports: &[KeptReport]) -> bool
     ensures { IsTrue result ↔ All IsReportRow reports.now }
 {
     reports.iter().all(is_report)
@@ -50,7 +50,7 @@ fn job_numbers(alloc: Global, jobs: &[Job]) -> Result<HashSet<u32>, AllocError>
 }
 
 /// Each report's job is there.
-pub fn reports_have_jobs(
+pub(crate) fn reports_have_jobs(
     alloc: Global,
     reports: &[KeptReport],
     jobs: &[Job],
@@ -78,7 +78,7 @@ fn greatest_counts(alloc: Global, reports: &[KeptReport]) -> Result<HashMap<u32,
 }
 
 /// Each job's count is the greatest of its reports.
-pub fn counts_are_greatest(
+pub(crate) fn counts_are_greatest(
     alloc: Global,
     jobs: &[Job],
     reports: &[KeptReport],

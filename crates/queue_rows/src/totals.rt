@@ -19,7 +19,7 @@ fn add<'a>(sums: &mut BTreeMap<&'a str, u128>, name: &'a str, amount: u64) -> Re
 }
 
 /// The sum of the amounts of each name, of which each row tells one.
-pub fn totals<'a, T, F: Fn(&'a T) -> (&'a str, u64)>(
+pub(crate) fn totals<'a, T, F: Fn(&'a T) -> (&'a str, u64)>(
     alloc: Global,
     rows: &'a [T],
     amount_of: F,
@@ -37,14 +37,14 @@ pub fn totals<'a, T, F: Fn(&'a T) -> (&'a str, u64)>(
 
 /// The sum of a name.
 #[tactic(auto, unfolding(crate::specs::Totals::total_in))]
-pub fn total_of(sums: &BTreeMap<&str, u128>, name: &str) -> u128
+pub(crate) fn total_of(sums: &BTreeMap<&str, u128>, name: &str) -> u128
     ensures { result ≡ total_in sums.now name.now }
 {
     sums.get(name).copied().unwrap_or(0)
 }
 
 /// No name has more than the most.
-pub fn are_within(sums: &BTreeMap<&str, u128>, most: u128) -> bool
+pub(crate) fn are_within(sums: &BTreeMap<&str, u128>, most: u128) -> bool
     ensures { IsTrue result ↔ ((q : List ℕ) → total_in sums.now q ≤ most) }
 {
     sums.values().all(|sum| *sum <= most)

@@ -13,7 +13,7 @@ pub no_text : (text : List ℕ) → (IsUtf8 text → ⊥) → is_utf8 text ≡ f
 no_text text h =
     elim (is_utf8 text) as (λ b. is_utf8 text ≡ b → b ≡ false) [ true ↦ λ t. absurd (h (IsUtf8-from_is_utf8 text t)) | false ↦ λ _. refl ] refl
 
-both : (a b : Bool) → (a && b) ≡ true → (a ≡ true) × (b ≡ true)
+pub both : (a b : Bool) → (a && b) ≡ true → (a ≡ true) × (b ≡ true)
 both true b h = (refl, h)
 both false b h = absurd (cc)
 

@@ -1,7 +1,7 @@
 //! The path of a URI (RFC 3986, section 3.3), by which a request names the printer or a job: from the first slash behind `://` up to the
 //! query or the fragment. A `?` or `#` before that slash, which ends an authority (section 3.2), is not looked for.
-ghost use Rattle.std.specs.Prelude.{◌≡◌, ◌==◌, ◌||◌, drop};
-ghost use Rattle.std.specs.List.{position, position_or_len, before_first};
+ghost use Rattle.std.specs.Prelude.{◌≡◌, ◌≢◌, ◌⊎◌, ◌==◌, ◌||◌, ◌++◌, ◌∷◌, [], ℕ, List, codes, drop, not, true};
+ghost use Rattle.std.specs.List.{list_all, position, position_or_len, before_first};
 ghost use Rattle.std.specs.Str.{byte};
 ghost use Rattle.queue_types.specs.Uri.{behind_mark, path_of};
 
@@ -59,3 +59,17 @@ pub fn path(uri: &[u8]) -> &[u8]
 {
     up_to_query(from_slash(after_scheme(uri)))
 }
+
+/// A URI of a scheme, `://`, an authority, a path, and a query or a fragment or neither, has that path (RFC 3986, section 3). One in which no `://`
+/// stands, or no path behind it, has none.
+pub fn uris_have_paths()
+    ensures found { (scheme authority path rest : List ℕ)
+        → list_all (λ b. not (b == byte ":")) scheme ≡ true → list_all (λ b. not (b == byte "/")) authority ≡ true
+        → list_all (λ b. not (b == byte "?" || b == byte "#")) path ≡ true
+        → (rest ≡ []) ⊎ ((more : List ℕ) × ((rest ≡ byte "?" ∷ more) ⊎ (rest ≡ byte "#" ∷ more)))
+        → path_of (scheme ++ codes "://" ++ (authority ++ byte "/" ∷ (path ++ rest))) ≡ byte "/" ∷ path }
+    ensures unmarked { (uri : List ℕ) → ((front rest : List ℕ) → uri ≢ front ++ codes "://" ++ rest) → path_of uri ≡ [] }
+    ensures unrooted { (scheme authority : List ℕ)
+        → list_all (λ b. not (b == byte ":")) scheme ≡ true → list_all (λ b. not (b == byte "/")) authority ≡ true
+        → path_of (scheme ++ codes "://" ++ authority) ≡ [] }
+{}

@@ -31,7 +31,7 @@ use std::io::Write;
 
 /// Does what a line asks, writes what answers it, and tells the moment of the next line. There is none where the line is bad,
 /// and then nothing happens.
-pub fn take_line<B: QueueBook, W: Write>(
+pub(crate) fn take_line<B: QueueBook, W: Write>(
     context: Context<'_>,
     book: &mut B,
     line: &Line,

@@ -38,7 +38,7 @@ loop-arrival-preserved g c = record {
       let z = g.W.Write.contents c.take-outcome.new.writer in
       taken_by (g.B.QueueBook.stands c.take-outcome.new.book) (g.B.QueueBook.crash_leaves c.args.book.now) (g.B.QueueBook.crash_leaves c.take-outcome.new.book) w x z (take i arrivals ++ get_or arrivals i blank ∷ []) (take (i + 1) arrivals)
       (c.loop-arrival.outcomes.items ++ c.take-outcome.result ∷ []) c.push_reserved.new.self.items (take_more arrivals i blank c.loop-arrival-test.true) c.push_reserved.ensures.items
-      (more_taken (g.B.QueueBook.stands c.loop-arrival.book) (g.B.QueueBook.stands c.take-outcome.new.book) (g.B.QueueBook.crash_leaves c.args.book.now) (g.B.QueueBook.crash_leaves c.loop-arrival.book) (g.B.QueueBook.crash_leaves c.take-outcome.new.book) w (take i arrivals) c.loop-arrival.outcomes.items (get_or arrivals i blank)
+      (more_taken c.run_keeps.ensures.joined (g.B.QueueBook.stands c.loop-arrival.book) (g.B.QueueBook.stands c.take-outcome.new.book) (g.B.QueueBook.crash_leaves c.args.book.now) (g.B.QueueBook.crash_leaves c.loop-arrival.book) (g.B.QueueBook.crash_leaves c.take-outcome.new.book) w (take i arrivals) c.loop-arrival.outcomes.items (get_or arrivals i blank)
       c.take-outcome.result x (g.W.Write.contents c.loop-arrival.writer) z t k);
 }
 

@@ -1,8 +1,9 @@
-use Rattle.std.proofs.Common.{refl, Ok, Err, inl, inr}
+use Rattle.std.proofs.Common.{◌≡◌, refl, subst, Ok, Err, inl, inr}
 use Rattle.queue_types.specs.Event.{tell}
+use Rattle.queue_types.specs.declared.event.Report.{Report}
 use Rattle.queue_core.specs.Crash.{taken, untaken}
 use Rattle.queue_core.specs.Machine.{step}
-use Rattle.device_lines.specs.Reports.{is_fault_line, reports}
+use Rattle.device_lines.specs.Reports.{IsReplyToReport, is_fault_line, reports}
 use Rattle.device_lines.proofs.Crashes.{as_told, fault_brings, match_false, unread_brings}
 use Rattle.device_lines.proofs.Flags.{on_false, on_true}
 use Rattle.device_lines.proofs.Readings.{refused_reads}
@@ -111,3 +112,14 @@ returns-in-Err-clause-crash g c = λ honest w stands. (
   stands,
   λ v left. (v, left, untaken refl refl),
 )
+
+pub returns-in-Ok-step-clause-replies : goal.returns-in-Ok-step-clause-replies
+returns-in-Ok-step-clause-replies g c = λ r reads.
+    let same : c.in-Ok.r ≡ r = cc ((c.in-Ok.ensures.ok r).1 reads) in
+    inr (subst (λ (z : Report). IsReplyToReport z.job c.in-Ok-step.answer) same c.in-Ok-step.ensures.replies)
+
+pub returns-in-Err-step-clause-replies : goal.returns-in-Err-step-clause-replies
+returns-in-Err-step-clause-replies g c = λ r reads. inl c.fault.ensures
+
+pub returns-in-Err-clause-replies : goal.returns-in-Err-clause-replies
+returns-in-Err-clause-replies g c = λ r reads. absurd (let is = (c.read_report.ensures.ok r).1 reads in cc (is, c.in-Err.is))

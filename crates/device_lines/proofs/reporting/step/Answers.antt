@@ -26,3 +26,10 @@ returns-in_err-apply-clause-crash g c = λ honest. on_err _ (g.B.QueueBook.stand
     let kept = c.decide.ensures.kept w stands in
     broken (g.B.QueueBook.crash_leaves c.apply.new.self w) c.args.now w v (tell c.args.report) _ (c.in_ok-decision.ensures.decides began w kept)
     (c.apply.ensures.crash honest (c.in_ok-decision.ensures.live began) w kept))
+
+pub returns-clause-replies : goal.returns-clause-replies
+returns-clause-replies g c = record {
+  reply = c.in_ok-decision.decision.reply;
+  within = c.in_ok-decision.ensures.limits;
+  answers = c.answer_to-answer.ensures.answer;
+}

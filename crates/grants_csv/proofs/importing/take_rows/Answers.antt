@@ -1,4 +1,4 @@
-use Rattle.std.proofs.Common.{◌≡◌, refl}
+use Rattle.std.proofs.Common.{◌≡◌, inr, refl, rules}
 use Rattle.queue_types.specs.Event.{grant}
 use Rattle.queue_core.specs.Crash.{untaken}
 use Rattle.queue_core.proofs.Crashes.{broken, on_err}
@@ -27,3 +27,6 @@ returns-in_err-apply-in-Added-clause-crash g c = λ honest. on_err _ (g.B.QueueB
     let kept = c.decide.ensures.kept w stands in
     broken (g.B.QueueBook.crash_leaves c.apply.new.self w) c.args.now w v (grant c.args.rows.now) _ (c.in_ok-decision.ensures.decides began w kept)
     (c.apply.ensures.crash honest (c.in_ok-decision.ensures.live began) w kept))
+
+pub returns-in-NotAdded-clause-replies : goal.returns-in-NotAdded-clause-replies
+returns-in-NotAdded-clause-replies g c = inr record { why = c.in-NotAdded.fault; row = c.in-NotAdded.row; counted = rw c.in-NotAdded.is at c.in_ok-decision.ensures.limits; is = search rules }

@@ -1,5 +1,6 @@
 use Rattle.std.proofs.Common.{ap, ◌∙◌, rules}
-use Rattle.list_book.specs.Lists.{jobs_shown, printed_of, reserved_of}
+use Rattle.queue_core.specs.Shown.{charged_to}
+use Rattle.queue_core.specs.Sound.{printed_for, reserved_for}
 use Rattle.list_book.specs.Tables.{total_of}
 use Rattle.list_book.proofs.SeenLemmas.{same_sheet}
 use Rattle.list_book.proofs.sheet.sheet_with.Goals as goal
@@ -12,6 +13,6 @@ returns c =
     (c.into_text.ensures ∙ c.requires.name)
     (c.from.ensures ∙ c.pages_granted-granted.ensures ∙ ap (total_of c.args.lists.now.accounts.entries) c.requires.name)
     (search rules)
-    (c.reserved_in.ensures ∙ ap (reserved_of a) jobs)
-    (c.printed_in.ensures ∙ ap (printed_of a) jobs)
-    (c.from_items.ensures ∙ c.in_ok-shown.ensures ∙ ap (jobs_shown a) jobs)
+    (c.reserved_in.ensures ∙ ap (reserved_for a) jobs)
+    (c.printed_in.ensures ∙ ap (printed_for a) jobs)
+    (c.from_items.ensures ∙ c.in_ok-shown.ensures ∙ ap (charged_to a) jobs)
