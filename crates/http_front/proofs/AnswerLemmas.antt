@@ -4,9 +4,9 @@ use Rattle.httparse.specs.Grammar.{RequestHead, print_request}
 use Rattle.ipp_wire.specs.Message.{Message, Spells, head_of as ipp_head_of}
 use Rattle.ipp_ops.specs.Answer.{IsVerdictOn, outcome}
 use Rattle.ipp_ops.specs.Verdict.{Verdict}
+use Rattle.device_lines.specs.Lines.{Reads}
 use Rattle.device_lines.specs.Reports.{AnswersReport, BringsAbout}
 use Rattle.device_lines.specs.declared.line.LineFault.{LineFault}
-use Rattle.device_lines.proofs.Readings.{exact}
 use Rattle.queue_types.specs.Event.{tell}
 use Rattle.queue_types.specs.Formats.{format_name}
 use Rattle.queue_types.specs.declared.document.Document.{Document}
@@ -33,6 +33,7 @@ pub record Laws : Type 0 where
   pub whole_bodies : (f : Framing) (raw content rest : List ℕ) (end : Finish) → IsBody f raw content → ¬ EndsInBody f (raw ++ rest) end
   pub one_text : (m : Message) (a b : List ℕ) → Spells m a → Spells m b → a ≡ b
   pub one_verdict : (b : List ℕ) (v w : Verdict) → IsVerdictOn b v → IsVerdictOn b w → v ≡ w
+  pub one_report : (line : List ℕ) (r q : Result DeviceReport LineFault) → Reads line r → Reads line q → r ≡ q
 
 -- ---- the request
 
@@ -78,7 +79,7 @@ one_answer laws now w Ipp content false j k a b u v p q =
     )
 one_answer laws now w Report content true j k a b u v p q = (p.type_is ∙ sym q.type_is, p.answers.0.text ∙ sym q.answers.0.text, p.answers.1 ∙ sym q.answers.1)
 one_answer laws now w Report content false j k a b u v p q =
-    let same = (exact content p.answers.reading p.answers.reads q.answers.reading).1 q.answers.reads in
+    let same = laws.one_report content p.answers.reading q.answers.reading p.answers.reads q.answers.reads in
     let one = one_brought q.answers.reading w now u v a b (subst (λ (z : Result DeviceReport LineFault). BringsAbout z w now u a) same p.answers.brings) q.answers.brings in
     (p.type_is ∙ sym q.type_is, one.0, one.1)
 one_answer laws now w Queue content fault j k a b u v p q = (p.type_is ∙ sym q.type_is, p.reply_is ∙ sym q.reply_is, p.after_is ∙ sym q.after_is)

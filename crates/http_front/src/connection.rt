@@ -54,6 +54,7 @@ fn run<R: Read, W: Write, B: QueueBook>(
     ensures worked { B.is_honest book.new → (w : World) → B.stands book.old w → context.entry.settings.now ≡ w.settings
         → (u : World) × B.stands book.new u × (k : Worked most_requests context.entry.moment w u (acted_of result))
         × CarriesAll (B.crash_leaves book.old) (B.crash_leaves book.new) context.entry.moment k.turns w u × MarksFaults k.turns result }
+    ensures never_more { input.new.reads_left ≤ input.old.reads_left }
     ensures few { IfOk result (λ served. served.acted ≤ most_requests) }
     ensures few_stopped { IfErr result (λ fault. fault.acted ≤ most_requests) }
     // what shuts a book is answered as a fault, or breaks a document off

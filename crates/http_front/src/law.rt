@@ -14,6 +14,7 @@ ghost use Rattle.http_front.specs.Crash.{IsAskedIn, IsAtMostOneMore};
 ghost use Rattle.http_front.specs.Places.{ArePlacesOf};
 ghost use Rattle.http_front.specs.Turns.{Turn, request_bytes};
 
+use device_lines::one_line_reading;
 use http_wire::one_reading;
 use ipp_ops::{calls_are_events, one_verdict};
 use ipp_wire::one_spelling;
@@ -72,6 +73,7 @@ pub fn one_conversation()
         → (more : List Turn) × (a.turns ≡ (b.turns ++ b.broken) ++ more)
         × (((unwritten : List ℕ) × (written ≡ other ++ unwritten)) ⊎ ((f : Finish) × MayEndAs b.rest f a.finish)) }
 {
+    one_line_reading();
     one_reading();
     one_spelling();
     one_verdict();

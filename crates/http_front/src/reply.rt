@@ -142,26 +142,26 @@ fn cause_of(cause: SendCause) -> ServeCause
 fn reply_document<W: Write, B: QueueBook>(
     writer: &mut W,
     book: &mut B,
-    n: Option<(u32, u32)>,
+    numbers: Option<(u32, u32)>,
     closes: bool,
 ) -> Result<Replied, Stopped>
     ensures began { B.is_honest book.new → B.is_honest book.old }
     ensures kept { (w : World) → B.stands book.old w → B.stands book.new w }
     ensures left { B.is_honest book.new → (v w : World) → B.crash_leaves book.old v w → B.crash_leaves book.new v w }
     ensures replied { B.is_honest book.new → (w : World) → B.stands book.old w → (now : ℕ) (content : List ℕ)
-        → IsReplied now w w (Document n) content closes (W.contents writer.old) (W.contents writer.new) result }
+        → IsReplied now w w (Document numbers) content closes (W.contents writer.old) (W.contents writer.new) result }
     ensures live { B.is_honest book.new → B.is_live book.old → IsReplyFaultless result → B.is_live book.new }
 {
-    let Some((job, number)) = n else {
+    let Some((job, n)) = numbers else {
         return Ok(Replied::Declined(Refusal::NotFound));
     };
-    let head = match book.document_head(job, number) {
+    let head = match book.document_head(job, n) {
         Ok(Some(head)) => head,
         Ok(None) => return Ok(Replied::Declined(Refusal::NotFound)),
         Err(_) => return Ok(Replied::Declined(Refusal::ServiceUnavailable)),
     };
     send_head(writer, head.format.name(), head.octets, closes)?;
-    match book.send_document(job, number, writer) {
+    match book.send_document(job, n, writer) {
         Ok(sent) if sent == head.octets => Ok(Replied::Answered(Tally::empty())),
         // the length that the head tells isn't kept, as of a book that isn't honest
         Ok(_) => Err(Stopped::by(ServeCause::Book)),
@@ -170,7 +170,7 @@ fn reply_document<W: Write, B: QueueBook>(
 }
 
 /// Answers a whole request.
-pub fn reply<W: Write, B: QueueBook>(
+pub(crate) fn reply<W: Write, B: QueueBook>(
     context: Context<'_>,
     writer: &mut W,
     book: &mut B,
@@ -191,6 +191,6 @@ pub fn reply<W: Write, B: QueueBook>(
         Target::Ipp => reply_ipp(context, writer, book, content, closes),
         Target::Report => reply_report(writer, book, context.moment, content, closes),
         Target::Queue => reply_queue(context.alloc, writer, book, closes),
-        Target::Document(n) => reply_document(writer, book, n, closes),
+        Target::Document(numbers) => reply_document(writer, book, numbers, closes),
     }
 }

@@ -69,6 +69,7 @@ fn take_planned<R: Read, W: Write, B: QueueBook>(
         × IsPlanned (λ asks. Carries (B.crash_leaves book.old) (B.crash_leaves book.new) asks context.entry.moment w u)
         context.entry.moment k w u plan (left input.old.buffer (R.remaining input.old.reader)) (left input.new.buffer (R.remaining input.new.reader))
         (W.contents writer.old) (W.contents writer.new) result }
+    ensures never_more { input.new.reads_left ≤ input.old.reads_left }
     ensures last { ClosesLast k result }
     // what shuts a book is answered as a fault, or breaks a document off
     ensures live { B.is_honest book.new → B.is_live book.old → IsTurnFaultless result → B.is_live book.new }
@@ -99,7 +100,7 @@ fn take_planned<R: Read, W: Write, B: QueueBook>(
 }
 
 /// Takes and answers request k of a connection, from 0. Without a router, for want of memory, it can't.
-pub fn turn<R: Read, W: Write, B: QueueBook>(
+pub(crate) fn turn<R: Read, W: Write, B: QueueBook>(
     context: Context<'_>,
     router: Option<&Router<Route>>,
     input: &mut Input<R>,
@@ -116,6 +117,7 @@ pub fn turn<R: Read, W: Write, B: QueueBook>(
         × IsTurned (λ turns. CarriesAll (B.crash_leaves book.old) (B.crash_leaves book.new) context.entry.moment turns w u)
         context.entry.moment k w u (left input.old.buffer (R.remaining input.old.reader)) (left input.new.buffer (R.remaining input.new.reader))
         (W.contents writer.old) (W.contents writer.new) result }
+    ensures never_more { input.new.reads_left ≤ input.old.reads_left }
     ensures last { ClosesLast k result }
     // what shuts a book is answered as a fault, or breaks a document off
     ensures live { B.is_honest book.new → B.is_live book.old → IsTurnFaultless result → B.is_live book.new }

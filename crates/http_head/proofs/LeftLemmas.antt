@@ -1,7 +1,8 @@
 -- The bytes left of a connection, as a buffer takes them from a reader and gives them on.
 use Rattle.std.proofs.Common.{◌≡◌, Option, ℕ, ◌+◌, ◌-◌, ◌≤◌, List, ◌++◌, None, Some, length, take, drop, slice_range, sym, ap, ◌∙◌, subst, append_assoc, arith, take-append-drop, length-drop}
+use Rattle.std.specs.Io.{StartsWith}
 use Rattle.std.specs.Io.KnownBytes.{Consumes, Keeps, Appends}
-use Rattle.std.proofs.Math.Seq.{take-add}
+use Rattle.std.proofs.Math.Seq.{take-add, take-append_seam}
 use Rattle.std.proofs.lemmas.List.{drop-take, length-take, take_all}
 use Rattle.std.proofs.KnownBytes.{Appends-trans}
 use Rattle.http_head.specs.Left.{left}
@@ -25,6 +26,21 @@ packed_and_read old packed read start end at n p q =
     let e : n ≡ (at + n) - at = omega arith in
     let z : (at + n) - 0 ≡ at + n = omega arith in
     ap (λ k. take k read) z ∙ take-add at n read ∙ ap (λ l. l ++ take n (drop at read)) (q ∙ p) ∙ ap (λ k. slice_range old start end ++ take k (drop at read)) e
+
+-- the bytes that were packed stay in front of what a read puts behind them
+pub packed_front : (old packed read come : List ℕ) (start end at n : ℕ) → take at packed ≡ slice_range old start end → take at read ≡ take at packed
+    → slice_range old start end ≡ come → StartsWith (slice_range read 0 (at + n)) come
+packed_front old packed read come start end at n p q e =
+    let got = slice_range read at (at + n) in
+    ap (take (length come)) (packed_and_read old packed read start end at n p q ∙ ap (λ l. l ++ got) e) ∙ take-append_seam come got
+
+-- and where none is read
+pub packed_alone : (old packed read come : List ℕ) (start end at : ℕ) → take at packed ≡ slice_range old start end → take at read ≡ take at packed
+    → slice_range old start end ≡ come → StartsWith (slice_range read 0 at) come
+packed_alone old packed read come start end at p q e =
+    let z : at - 0 ≡ at = omega arith in
+    let whole : slice_range read 0 at ≡ come = ap (λ k. take k read) z ∙ q ∙ p ∙ e in
+    ap (take (length come)) whole ∙ take_all (length come) come (omega arith)
 
 -- a later start of a range drops its front
 pub range_drop : (xs : List ℕ) (start end n : ℕ) → start + n ≤ end → slice_range xs (start + n) end ≡ drop n (slice_range xs start end)

@@ -11,3 +11,4 @@ pub mod Framing
 pub mod Checks
 pub mod Planned
 pub mod Received
+pub mod Reads

@@ -1,5 +1,6 @@
 //! The bytes of a connection that have come and are not taken yet.
 ghost use Rattle.std.specs.Prelude.{◌≡◌, ◌+◌, ◌<◌, ◌≤◌, ℕ, List, [], length, take, drop, slice_range, IfOk, OnErr};
+ghost use Rattle.std.specs.Io.{StartsWith};
 ghost use Rattle.std.specs.Io.KnownBytes.{Consumes, Keeps, IsAtEnd};
 ghost use Rattle.http_head.specs.Left.{left};
 
@@ -62,6 +63,7 @@ impl Buffer {
         ensures kept { Keeps (left self.old (R.remaining reader.old)) (left self.new (R.remaining reader.new)) }
         ensures grows { IfOk result (λ n. length self.new ≡ length self.old + n) }
         ensures end { IfOk result (λ n. n ≡ 0 → (self.new ≡ self.old) × IsAtEnd (R.remaining reader.new)) }
+        ensures front { StartsWith self.new self.old }
         ensures fits { length self.new ≤ 16384 }
     {
         self.end = pack(&mut self.bytes, self.start, self.end);

@@ -14,7 +14,7 @@ use httparse::spans::{HeaderSpan, Span};
 use std::str;
 
 /// The bytes that a span covers, of those that have come.
-pub fn text_at(come: &[u8], span: Span) -> &[u8]
+pub(crate) fn text_at(come: &[u8], span: Span) -> &[u8]
     ensures { result.now ≡ span_bytes come.now span }
 {
     let end = span.end.min(come.len());
@@ -23,7 +23,7 @@ pub fn text_at(come: &[u8], span: Span) -> &[u8]
 }
 
 /// The same text, ASCII case aside.
-pub fn same_word(a: &[u8], b: &[u8]) -> bool
+pub(crate) fn same_word(a: &[u8], b: &[u8]) -> bool
     ensures { result ≡ spec.same_word a.now b.now }
 {
     a.eq_ignore_ascii_case(b)
@@ -36,7 +36,11 @@ fn is_named(come: &[u8], header: &HeaderSpan, name: &[u8]) -> bool
 }
 
 /// The values of all field lines of that name.
-pub fn values(come: &[u8], headers: &[HeaderSpan], name: &[u8]) -> ArrayVec<Span, MOST_FIELDS>
+pub(crate) fn values(
+    come: &[u8],
+    headers: &[HeaderSpan],
+    name: &[u8],
+) -> ArrayVec<Span, MOST_FIELDS>
     requires { length headers.now ≤ 64 }
     ensures { map (span_bytes come.now) result.items ≡ spec.values name.now (map (header_bytes come.now) headers.now) }
 {
@@ -81,7 +85,7 @@ fn end_cut(text: &[u8], tabs: bool) -> &[u8]
 }
 
 /// The text without the spaces, and where `tabs` the tabs, at both ends.
-pub fn trimmed(text: &[u8], tabs: bool) -> &[u8]
+pub(crate) fn trimmed(text: &[u8], tabs: bool) -> &[u8]
     ensures { result.now ≡ spec.trimmed (spec.is_blank tabs) text.now }
 {
     end_cut(front_cut(text, tabs), tabs)
@@ -94,7 +98,7 @@ fn is_member(member: &[u8], word: &[u8]) -> bool
 }
 
 /// A member of the list that the value is, is that word.
-pub fn has_member(word: &[u8], value: &[u8]) -> bool
+pub(crate) fn has_member(word: &[u8], value: &[u8]) -> bool
     ensures { result ≡ spec.has_member word.now value.now }
 {
     value
@@ -103,14 +107,14 @@ pub fn has_member(word: &[u8], value: &[u8]) -> bool
 }
 
 /// Where the byte first stands.
-pub fn place_of(byte: u8, text: &[u8]) -> Option<usize>
+pub(crate) fn place_of(byte: u8, text: &[u8]) -> Option<usize>
     ensures { result ≡ position (λ b. b == byte) text.now }
 {
     text.iter().position(|b| *b == byte)
 }
 
 /// The text before the byte, or all of it.
-pub fn before(byte: u8, text: &[u8]) -> &[u8]
+pub(crate) fn before(byte: u8, text: &[u8]) -> &[u8]
     ensures { result.now ≡ before_first (λ b. b == byte) text.now }
 {
     match place_of(byte, text) {
@@ -120,7 +124,7 @@ pub fn before(byte: u8, text: &[u8]) -> &[u8]
 }
 
 /// The text after the byte.
-pub fn after(byte: u8, text: &[u8]) -> &[u8]
+pub(crate) fn after(byte: u8, text: &[u8]) -> &[u8]
     ensures { result.now ≡ after_first (λ b. b == byte) text.now }
 {
     match place_of(byte, text) {
@@ -136,14 +140,14 @@ fn are_digits(text: &[u8]) -> bool
 }
 
 /// One digit or more, of which there are at most as many as a length may have.
-pub fn is_digits(text: &[u8]) -> bool
+pub(crate) fn is_digits(text: &[u8]) -> bool
     ensures { result ≡ spec.is_digits text.now }
 {
     !text.is_empty() && text.len() <= MOST_DIGITS && are_digits(text)
 }
 
 /// The number that digits write, or 16,777,217 where it is more.
-pub fn capped_number(text: &[u8]) -> u32
+pub(crate) fn capped_number(text: &[u8]) -> u32
     ensures capped { result ≤ 16777217 }
     ensures value { list_all is_ascii_digit text.now ≡ true → result ≡ min (digits_value 10 text.now) 16777217 }
 {
@@ -155,14 +159,14 @@ pub fn capped_number(text: &[u8]) -> u32
 }
 
 /// The bytes as text, where they are UTF-8.
-pub fn utf8_text(bytes: &[u8]) -> Option<&str>
+pub(crate) fn utf8_text(bytes: &[u8]) -> Option<&str>
     ensures { option_copied result ≡ (if is_utf8 bytes.now then Some bytes.now else None) }
 {
     str::from_utf8(bytes).ok()
 }
 
 /// A number in decimal without a leading zero, of 32 bits.
-pub fn number_in(text: &[u8]) -> Option<u32>
+pub(crate) fn number_in(text: &[u8]) -> Option<u32>
     ensures { result ≡ spec.number_in text.now }
 {
     if !are_digits(text) || text.starts_with(b"0") {

@@ -1,5 +1,6 @@
 //! The input of a connection.
 ghost use Rattle.std.specs.Prelude.{◌≡◌, ◌+◌, ◌<◌, ◌≤◌, [], length, drop, IfOk};
+ghost use Rattle.std.specs.Io.{StartsWith};
 ghost use Rattle.std.specs.Io.KnownBytes.{Keeps, IsAtEnd};
 ghost use Rattle.http_head.specs.Left.{left};
 
@@ -61,8 +62,10 @@ impl<R: Read> Input<R> {
         ensures kept { Keeps (left self.old.buffer (R.remaining self.old.reader)) (left self.new.buffer (R.remaining self.new.reader)) }
         ensures grows { IfOk result (λ n. length self.new.buffer ≡ length self.old.buffer + n) }
         ensures end { IfOk result (λ n. n ≡ 0 → (self.new.buffer ≡ self.old.buffer) × IsAtEnd (R.remaining self.new.reader)) }
+        ensures front { StartsWith self.new.buffer self.old.buffer }
         ensures fits { length self.new.buffer ≤ 16384 }
         ensures counted { IfOk result (λ n. self.new.reads_left + 1 ≡ self.old.reads_left) }
+        ensures never_more { self.new.reads_left ≤ self.old.reads_left }
     {
         let Some(reads_left) = self.reads_left.checked_sub(1) else {
             return Err(ReadFault);

@@ -25,4 +25,4 @@ pub const RAW_LIMIT: usize = 67_108_864;
 pub const MOST_REQUESTS: u32 = 32;
 
 /// How often in a row a read or a write that is interrupted is tried, before it has failed.
-pub const MOST_TRIES: u32 = 4_294_967_295;
+pub const MOST_TRIES: u32 = u32::MAX;

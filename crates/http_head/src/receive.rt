@@ -1,9 +1,11 @@
 //! The head of a request, taken and checked.
-ghost use Rattle.std.specs.Prelude.{◌≡◌, ◌≤◌, IfErr, IfOk, OnErr};
+ghost use Rattle.std.specs.Prelude.{◌≡◌, ◌≤◌, ℕ, List, IfErr, IfOk, OnErr};
 ghost use Rattle.std.specs.Io.KnownBytes.{Keeps};
+ghost use Rattle.httparse.specs.Grammar.{RequestHead, ReadsRequest};
 ghost use Rattle.http_head.specs.Fault.{IsHeadFault};
 ghost use Rattle.http_head.specs.Framing.{size_of};
 ghost use Rattle.http_head.specs.Left.{left};
+ghost use Rattle.http_head.specs.Reads.{MakesNoRead};
 ghost use Rattle.http_head.specs.Received.{TakesPlan};
 ghost use Rattle.http_head.specs.Routes.{routes};
 
@@ -24,6 +26,9 @@ pub fn take_head<R: Read>(router: &Router<Route>, input: &mut Input<R>) -> Resul
     ensures fits { IfOk result (λ plan. size_of plan.framing ≤ 16777216) }
     ensures kept { OnErr result (Keeps (left input.old.buffer (R.remaining input.old.reader)) (left input.new.buffer (R.remaining input.new.reader))) }
     ensures failed { IfErr result (IsHeadFault (left input.old.buffer (R.remaining input.old.reader))) }
+    ensures never_more { input.new.reads_left ≤ input.old.reads_left }
+    // where a head has come, no read is made
+    ensures unread { (h : RequestHead) (rest : List ℕ) → ReadsRequest input.old.buffer h rest → MakesNoRead input.old input.new }
 {
     let mut headers = [EMPTY_HEADER_SPAN; MOST_FIELDS];
     let spans = find_head(input, &mut headers)?;

@@ -1,10 +1,12 @@
 -- Bytes of a body, as they are taken from the buffer.
-use Rattle.std.proofs.Common.{◌≡◌, Option, ℕ, ◌+◌, ◌≤◌, List, ◌++◌, length, take, drop, ap, ◌∙◌, append_assoc, arith, length-append}
+use Rattle.std.proofs.Common.{◌≡◌, Option, ℕ, ◌+◌, ◌≤◌, List, ◌++◌, length, take, drop, ap, ◌∙◌, append_assoc, arith, length-append, length-drop}
 use Rattle.std.specs.Io.KnownBytes.{Keeps}
 use Rattle.std.proofs.lemmas.List.{length-take-le}
 use Rattle.std.proofs.KnownBytes.{Consumes-trans, Consumes-kept}
 use Rattle.http_wire.specs.Bodies.{TakesMore}
 use Rattle.http_head.specs.Left.{left}
+use Rattle.http_head.specs.Reads.{MakesNoRead}
+use Rattle.http_head.specs.declared.input.Input.{Input}
 use Rattle.http_head.proofs.LeftLemmas.{take_consumes}
 
 -- more of a body was taken from the buffer, once something had come
@@ -16,3 +18,13 @@ more_taken a b r come before body more taken n m k fits e = record {
   after_is = e ∙ ap (λ l. l ++ take n come) m.after_is ∙ append_assoc before m.more (take n come);
   taken = Consumes-trans a (left come r) (left (drop n come) r) m.more (take n come) (Consumes-kept a b (left come r) m.more m.taken k) (take_consumes r come n);
 }
+
+-- bytes that had come were taken, and no read was made
+pub unread_on : {R : Type 0} (a b c d : Input R) (n taken size : ℕ) → MakesNoRead a b × (length b.buffer + taken ≡ size) → c ≡ b → d ≡ record c { buffer = drop n c.buffer } → n ≤ length c.buffer
+    → MakesNoRead a d × (length d.buffer + (taken + n) ≡ size)
+unread_on {R} a b c d n taken size h same took fits =
+    let reader = ap (λ (i : Input R). i.reader) same in
+    let counted = ap (λ (i : Input R). i.reads_left) same in
+    let come = ap (λ (i : Input R). length i.buffer) same in
+    let now = ap (λ (i : Input R). length i.buffer) took ∙ length-drop n c.buffer in
+    ((ap (λ (i : Input R). i.reader) took ∙ reader ∙ h.0.0, ap (λ (i : Input R). i.reads_left) took ∙ counted ∙ h.0.1), omega (arith, now, come, fits, h.1))

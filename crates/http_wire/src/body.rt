@@ -1,7 +1,8 @@
 //! A body whose length is told.
-ghost use Rattle.std.specs.Prelude.{◌≡◌, ◌<◌, [], length, true, false, IfErr, IfOk, IfSome, OnOk};
+ghost use Rattle.std.specs.Prelude.{◌≡◌, ◌<◌, ◌≤◌, [], length, true, false, IfErr, IfOk, IfSome, OnOk};
 ghost use Rattle.std.specs.Io.KnownBytes.{Consumes, Keeps, IsAtEnd};
 ghost use Rattle.http_head.specs.Left.{left};
+ghost use Rattle.http_head.specs.Reads.{MakesNoRead};
 ghost use Rattle.http_wire.specs.Bodies.{EndsInLength, TakesMore};
 ghost use Rattle.http_wire.specs.Fault.{IfEnded};
 
@@ -12,10 +13,12 @@ use std::alloc::Global;
 use std::io::Read;
 
 /// Reads where nothing has come, and says whether something has come now: nothing only at the input's end.
-pub fn await_bytes<R: Read>(input: &mut Input<R>) -> Result<bool, ReadFault>
+pub(crate) fn await_bytes<R: Read>(input: &mut Input<R>) -> Result<bool, ReadFault>
     ensures kept { Keeps (left input.old.buffer (R.remaining input.old.reader)) (left input.new.buffer (R.remaining input.new.reader)) }
     ensures there { IfOk result (λ some. some ≡ true → 0 < length input.new.buffer) }
     ensures none { IfOk result (λ some. some ≡ false → (input.new.buffer ≡ []) × IsAtEnd (R.remaining input.new.reader)) }
+    ensures never_more { input.new.reads_left ≤ input.old.reads_left }
+    ensures unread { 0 < length input.old.buffer → input.new ≡ input.old }
 {
     if !input.bytes().is_empty() {
         return Ok(true);
@@ -24,13 +27,16 @@ pub fn await_bytes<R: Read>(input: &mut Input<R>) -> Result<bool, ReadFault>
 }
 
 /// Takes the next n bytes and adds them to the content. Where fewer are left, the input was cut.
-pub fn take_more<R: Read>(
+pub(crate) fn take_more<R: Read>(
     input: &mut Input<R>,
     content: &mut Vec<u8>,
     n: usize,
 ) -> Result<(), BodyFault>
     ensures whole { OnOk result (TakesMore n (left input.old.buffer (R.remaining input.old.reader)) (left input.new.buffer (R.remaining input.new.reader)) content.old.items content.new.items) }
     ensures cut { IfErr result (λ f. IfEnded f (λ end. IfSome (left input.old.buffer (R.remaining input.old.reader)) (λ bytes. EndsInLength n bytes end))) }
+    ensures never_more { input.new.reads_left ≤ input.old.reads_left }
+    // where they have come, no read is made
+    ensures unread { n ≤ length input.old.buffer → MakesNoRead input.old input.new }
 {
     let mut taken: usize = 0;
     'take: while taken < n {
@@ -46,7 +52,7 @@ pub fn take_more<R: Read>(
 }
 
 /// Takes the next n bytes. Where fewer are left, the input was cut.
-pub fn take_body<R: Read>(
+pub(crate) fn take_body<R: Read>(
     alloc: Global,
     input: &mut Input<R>,
     n: usize,
@@ -54,6 +60,9 @@ pub fn take_body<R: Read>(
     ensures whole { IfOk result (λ body. (length body.items ≡ n)
         × Consumes (left input.old.buffer (R.remaining input.old.reader)) (left input.new.buffer (R.remaining input.new.reader)) body.items) }
     ensures cut { IfErr result (λ f. IfEnded f (λ end. IfSome (left input.old.buffer (R.remaining input.old.reader)) (λ bytes. EndsInLength n bytes end))) }
+    ensures never_more { input.new.reads_left ≤ input.old.reads_left }
+    // where they have come, no read is made
+    ensures unread { n ≤ length input.old.buffer → MakesNoRead input.old input.new }
 {
     let mut content = Vec::new(alloc);
     take_more(input, &mut content, n)?;

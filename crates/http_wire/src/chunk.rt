@@ -29,7 +29,7 @@ pub struct Bound {
 }
 
 /// The bound of a part behind that many raw bytes of the body: its own limit, or what the raw limit leaves it.
-pub fn bound_behind(raw: usize, limit: usize) -> Bound
+pub(crate) fn bound_behind(raw: usize, limit: usize) -> Bound
     ensures value { result ≡ ends.bound_behind raw limit }
     ensures own { result.limit ≤ limit }
     ensures whole { raw ≤ 67108864 → raw + result.limit ≤ 67108864 }
@@ -50,7 +50,7 @@ pub fn bound_behind(raw: usize, limit: usize) -> Bound
 
 /// The first n bytes, or all of them.
 #[tactic(auto, using(std::proofs::lemmas::List::take_min))]
-pub fn front(bytes: &[u8], n: usize) -> &[u8]
+pub(crate) fn front(bytes: &[u8], n: usize) -> &[u8]
     ensures { result.now ≡ take n bytes.now }
 {
     &bytes[..n.min(bytes.len())]
@@ -71,6 +71,7 @@ fn find_line<R: Read>(input: &mut Input<R>, bound: Bound) -> Result<Line, BodyFa
     ensures kept { Keeps (left input.old.buffer (R.remaining input.old.reader)) (left input.new.buffer (R.remaining input.new.reader)) }
     ensures found { IfOk result (λ line. (l : ChunkLine) × IsChunkLineAt input.new.buffer line.len line.size l × (line.len ≤ bound.limit)) }
     ensures ended { IfErr result (λ f. IfEnded f (λ end. IfSome (left input.old.buffer (R.remaining input.old.reader)) (λ bytes. EndsAtLine bound bytes end))) }
+    ensures never_more { input.new.reads_left ≤ input.old.reads_left }
 {
     'fill: loop {
         match parse_chunk_size(front(input.bytes(), bound.limit)) {
@@ -88,10 +89,11 @@ fn find_line<R: Read>(input: &mut Input<R>, bound: Bound) -> Result<Line, BodyFa
 }
 
 /// Takes a chunk line. No byte is read for it once `bound.limit` bytes have come, which is at most 1,024.
-pub fn take_line<R: Read>(input: &mut Input<R>, bound: Bound) -> Result<Line, BodyFault>
+pub(crate) fn take_line<R: Read>(input: &mut Input<R>, bound: Bound) -> Result<Line, BodyFault>
     requires { bound.limit ≤ 1024 }
     ensures taken { IfOk result (λ line. TakesLine bound.limit (left input.old.buffer (R.remaining input.old.reader)) (left input.new.buffer (R.remaining input.new.reader)) line.len line.size) }
     ensures ended { IfErr result (λ f. IfEnded f (λ end. IfSome (left input.old.buffer (R.remaining input.old.reader)) (λ bytes. EndsAtLine bound bytes end))) }
+    ensures never_more { input.new.reads_left ≤ input.old.reads_left }
 {
     let line = find_line(input, bound)?;
     input.take(line.len);
@@ -113,8 +115,7 @@ fn line_end_in(bytes: &[u8]) -> LineEndState
     ensures { IsLineEndState bytes.now result }
 {
     match bytes {
-        [] => LineEndState::Open,
-        [b'\r'] => LineEndState::Open,
+        [] | [b'\r'] => LineEndState::Open,
         [b'\r', b'\n', ..] => LineEndState::Whole,
         _ => LineEndState::Wrong,
     }
@@ -124,6 +125,7 @@ fn line_end_in(bytes: &[u8]) -> LineEndState
 fn take_line_end<R: Read>(input: &mut Input<R>) -> Result<(), BodyFault>
     ensures taken { OnOk result (Consumes (left input.old.buffer (R.remaining input.old.reader)) (left input.new.buffer (R.remaining input.new.reader)) crlf_bytes) }
     ensures ended { IfErr result (λ f. IfEnded f (λ end. IfSome (left input.old.buffer (R.remaining input.old.reader)) (λ bytes. EndsAtLineEnd bytes end))) }
+    ensures never_more { input.new.reads_left ≤ input.old.reads_left }
 {
     'fill: loop {
         match line_end_in(input.bytes()) {
@@ -143,13 +145,14 @@ fn take_line_end<R: Read>(input: &mut Input<R>) -> Result<(), BodyFault>
 }
 
 /// Takes the content of a chunk, which it adds to that of the chunks before it, and the CR LF behind it.
-pub fn take_chunk<R: Read>(
+pub(crate) fn take_chunk<R: Read>(
     input: &mut Input<R>,
     content: &mut Vec<u8>,
     size: usize,
 ) -> Result<(), BodyFault>
     ensures taken { OnOk result (TakesChunk size (left input.old.buffer (R.remaining input.old.reader)) (left input.new.buffer (R.remaining input.new.reader)) content.old.items content.new.items) }
     ensures ended { IfErr result (λ f. IfEnded f (λ end. IfSome (left input.old.buffer (R.remaining input.old.reader)) (λ bytes. EndsInChunk size bytes end))) }
+    ensures never_more { input.new.reads_left ≤ input.old.reads_left }
 {
     take_more(input, content, size)?;
     take_line_end(input)

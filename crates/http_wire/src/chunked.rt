@@ -37,6 +37,7 @@ fn take_chunks<R: Read>(input: &mut Input<R>, content: &mut Vec<u8>) -> Result<u
     requires { content.old.items ≡ [] }
     ensures taken { IfOk result (λ raw. TakesToLast (left input.old.buffer (R.remaining input.old.reader)) (left input.new.buffer (R.remaining input.new.reader)) raw content.new.items) }
     ensures ended { IfErr result (λ f. IfEnded f (λ end. IfSome (left input.old.buffer (R.remaining input.old.reader)) (λ bytes. EndsInChunks bytes end))) }
+    ensures never_more { input.new.reads_left ≤ input.old.reads_left }
 {
     let mut raw: usize = 0;
     'chunks: loop {
@@ -53,10 +54,14 @@ fn take_chunks<R: Read>(input: &mut Input<R>, content: &mut Vec<u8>) -> Result<u
 }
 
 /// Takes a chunked body, and answers its content.
-pub fn take_chunked<R: Read>(alloc: Global, input: &mut Input<R>) -> Result<Vec<u8>, BodyFault>
+pub(crate) fn take_chunked<R: Read>(
+    alloc: Global,
+    input: &mut Input<R>,
+) -> Result<Vec<u8>, BodyFault>
     ensures taken { IfOk result (λ content. TakesChunked (left input.old.buffer (R.remaining input.old.reader)) (left input.new.buffer (R.remaining input.new.reader)) content.items) }
     ensures fits { IfOk result (λ content. length content.items ≤ 16777216) }
     ensures ended { IfErr result (λ f. IfEnded f (λ end. IfSome (left input.old.buffer (R.remaining input.old.reader)) (λ bytes. EndsInChunks bytes end))) }
+    ensures never_more { input.new.reads_left ≤ input.old.reads_left }
 {
     let mut content = Vec::new(alloc);
     let raw = take_chunks(input, &mut content)?;

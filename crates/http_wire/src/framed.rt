@@ -1,9 +1,10 @@
 //! A body, however it is framed (RFC 9112, section 6).
-ghost use Rattle.std.specs.Prelude.{◌≤◌, ℕ, List, length, IfErr, IfOk, IfSome};
+ghost use Rattle.std.specs.Prelude.{◌≡◌, ◌≤◌, ℕ, List, false, length, IfErr, IfOk, IfSome};
 ghost use Rattle.std.specs.Io.KnownBytes.{Consumes};
 ghost use Rattle.http_wire.specs.Bodies.{EndsInBody, IsBody};
-ghost use Rattle.http_head.specs.Framing.{size_of};
+ghost use Rattle.http_head.specs.Framing.{is_chunked, size_of};
 ghost use Rattle.http_head.specs.Left.{left};
+ghost use Rattle.http_head.specs.Reads.{MakesNoRead};
 ghost use Rattle.http_wire.specs.Fault.{IfEnded};
 
 use crate::body::take_body;
@@ -27,6 +28,9 @@ pub fn take_framed<R: Read>(
         × Consumes (left input.old.buffer (R.remaining input.old.reader)) (left input.new.buffer (R.remaining input.new.reader)) raw) }
     ensures fits { IfOk result (λ content. length content.items ≤ 16777216) }
     ensures ended { IfErr result (λ f. IfEnded f (λ end. IfSome (left input.old.buffer (R.remaining input.old.reader)) (λ bytes. EndsInBody framing bytes end))) }
+    ensures never_more { input.new.reads_left ≤ input.old.reads_left }
+    // where none is told, or as many bytes as its length tells have come, no read is made
+    ensures unread { is_chunked framing ≡ false → size_of framing ≤ length input.old.buffer → MakesNoRead input.old input.new }
 {
     match framing {
         Framing::Nothing => Ok(Vec::new(alloc)),

@@ -28,7 +28,7 @@ fn put_once<W: Write>(writer: &mut W, bytes: &[u8]) -> Result<usize, WriteFault>
 
 /// Writes all the bytes, by as many writes as it takes. After a fault a front of them was written.
 #[tactic(auto, using(crate::proofs::WriteLemmas::front_taken))]
-pub fn put<W: Write>(writer: &mut W, bytes: &[u8]) -> Result<(), WriteFault>
+pub(crate) fn put<W: Write>(writer: &mut W, bytes: &[u8]) -> Result<(), WriteFault>
     ensures ok { OnOk result (Appends (W.contents writer.old) (W.contents writer.new) bytes.now) }
     ensures err { OnErr result (WritesFront (W.contents writer.old) (W.contents writer.new) bytes.now) }
 {
@@ -45,7 +45,11 @@ pub fn put<W: Write>(writer: &mut W, bytes: &[u8]) -> Result<(), WriteFault>
 
 /// Writes one text and then another.
 #[tactic(auto, using(crate::proofs::WriteLemmas::front_part, crate::proofs::WriteLemmas::front_after, crate::proofs::WriteLemmas::both))]
-pub fn put_both<W: Write>(writer: &mut W, first: &[u8], second: &[u8]) -> Result<(), WriteFault>
+pub(crate) fn put_both<W: Write>(
+    writer: &mut W,
+    first: &[u8],
+    second: &[u8],
+) -> Result<(), WriteFault>
     ensures ok { OnOk result (Appends (W.contents writer.old) (W.contents writer.new) (first.now ++ second.now)) }
     ensures err { OnErr result (WritesFront (W.contents writer.old) (W.contents writer.new) (first.now ++ second.now)) }
 {

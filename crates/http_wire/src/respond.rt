@@ -81,7 +81,7 @@ fn phrase_text(refusal: Refusal) -> &'static str
 {
     match StatusCode::from_u16(refusal.code()) {
         Ok(status) => status.canonical_reason().unwrap_or(""),
-        Err(_) => unreachable!(),
+        Err(_) => unreachable!("the code of a refusal is from 100 to 999"),
     }
 }
 

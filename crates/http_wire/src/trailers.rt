@@ -21,6 +21,7 @@ fn find_trailers<R: Read>(input: &mut Input<R>, bound: Bound) -> Result<usize, B
     ensures kept { Keeps (left input.old.buffer (R.remaining input.old.reader)) (left input.new.buffer (R.remaining input.new.reader)) }
     ensures found { IfOk result (λ len. AreTrailersAt input.new.buffer len × (len ≤ bound.limit)) }
     ensures ended { IfErr result (λ f. IfEnded f (λ end. IfSome (left input.old.buffer (R.remaining input.old.reader)) (λ bytes. EndsAtTrailers bound bytes end))) }
+    ensures never_more { input.new.reads_left ≤ input.old.reads_left }
 {
     let mut headers = [EMPTY_HEADER_SPAN; MOST_FIELDS];
     'fill: loop {
@@ -39,10 +40,11 @@ fn find_trailers<R: Read>(input: &mut Input<R>, bound: Bound) -> Result<usize, B
 }
 
 /// Takes a trailer section. No byte is read for it once `bound.limit` bytes have come, which is at most 16,384.
-pub fn take_trailers<R: Read>(input: &mut Input<R>, bound: Bound) -> Result<(), BodyFault>
+pub(crate) fn take_trailers<R: Read>(input: &mut Input<R>, bound: Bound) -> Result<(), BodyFault>
     requires { bound.limit ≤ 16384 }
     ensures taken { OnOk result (TakesTrailers bound.limit (left input.old.buffer (R.remaining input.old.reader)) (left input.new.buffer (R.remaining input.new.reader))) }
     ensures ended { IfErr result (λ f. IfEnded f (λ end. IfSome (left input.old.buffer (R.remaining input.old.reader)) (λ bytes. EndsAtTrailers bound bytes end))) }
+    ensures never_more { input.new.reads_left ≤ input.old.reads_left }
 {
     let len = find_trailers(input, bound)?;
     input.take(len);

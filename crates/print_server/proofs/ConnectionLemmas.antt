@@ -1,21 +1,16 @@
 -- Connections one after another, and the lines that tell of them.
-use Rattle.std.proofs.Common.{◌≡◌, ◌≢◌, ◌∙◌, ◌==◌, ◌||◌, ℕ, Bool, true, false, not, List, [], ◌∷◌, ◌++◌, Option, Result, Ok, Err, IfErr, IfOk, IsErrOf, OnErr, OnOk, ap, sym, subst, refl, arith, rules, append-nil}
+use Rattle.std.proofs.Common.{◌≡◌, ◌≢◌, ◌∙◌, ℕ, List, [], ◌∷◌, ◌++◌, Option, Result, Ok, Err, IfErr, IfOk, IsErrOf, OnErr, OnOk, ap, sym, subst, refl, arith, append-nil}
 use Rattle.std.specs.Io.KnownBytes.{Appends}
 use Rattle.std.proofs.KnownBytes.{Appends-trans}
-use Rattle.std.proofs.lemmas.Bool.{not-false}
 use Rattle.std.proofs.lemmas.Grind.{flat_map-append}
 use Rattle.queue_core.specs.Limits.{IsMoment}
 use Rattle.queue_types.specs.Settings.{SettingValues}
 use Rattle.queue_core.specs.World.{World}
 use Rattle.queue_core.specs.declared.book.BookFault.{BookFault}
 use Rattle.queue_core.specs.declared.book.BookFault.TheVariants.{Memory, Disk, Damaged}
-use Rattle.http_front.specs.Connections.{IsFaultless, Worked}
+use Rattle.http_front.specs.Connections.{Worked}
 use Rattle.http_front.specs.Turns.{most_requests}
-use Rattle.http_front.specs.declared.outcome.Served.{Served}
-use Rattle.http_front.specs.declared.outcome.ServeCause.{ServeCause}
-use Rattle.http_front.specs.declared.outcome.ServeCause.TheVariants.{Book as ByBook, Read, Write}
-use Rattle.http_front.specs.declared.outcome.ServeFault.{ServeFault}
-use Rattle.print_server.specs.Connections.{AreConnections, has_fault, is_of_book}
+use Rattle.print_server.specs.Connections.{AreConnections}
 use Rattle.print_server.specs.Lines.{served_line, served_lines}
 use Rattle.print_server.specs.declared.serving.Standing.{Standing}
 use Rattle.print_server.specs.declared.serving.Standing.TheVariants.{Live, Unseen}
@@ -57,26 +52,6 @@ on_err (Err e) B h = h
 pub if_err : {X E : Type 0} (r : Result X E) (P : E → Type 0) → ((e : E) → P e) → IfErr r P
 if_err (Ok x) P h = tt
 if_err (Err e) P h = h e
-
--- ---- a connection that met no fault
-
-none_of : (n : ℕ) → not (n == 0) ≡ false → n ≡ 0
-none_of n is = let zero_is = not-false (n == 0) is in search (rules, zero_is)
-
-neither : (a b : Bool) → (a || b) ≡ false → (a ≡ false) × (b ≡ false)
-neither false b is = (refl, is)
-neither true b is = absurd cc
-
-not_of_book : (cause : ServeCause) → is_of_book cause ≡ false → cause ≢ ByBook
-not_of_book Read is = λ e. absurd cc
-not_of_book Write is = λ e. absurd cc
-not_of_book ByBook is = absurd cc
-
-pub faultless : (served : Result Served ServeFault) → has_fault served ≡ false → IsFaultless served
-faultless (Ok s) is = none_of s.faults is
-faultless (Err f) is =
-    let each = neither (not (f.faults == 0)) (is_of_book f.cause) is in
-    (none_of f.faults each.0, not_of_book f.cause each.1)
 
 -- ---- a look at the book
 

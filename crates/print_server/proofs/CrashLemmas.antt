@@ -3,7 +3,7 @@ use Rattle.std.proofs.Common.{◌≡◌, ◌∙◌, ℕ, List, [], ◌∷◌, �
 use Rattle.queue_core.specs.Limits.{IsMoment}
 use Rattle.queue_core.specs.World.{World}
 use Rattle.http_front.specs.Connections.{Worked}
-use Rattle.http_front.specs.Crash.{CarriesAll, IsAtMostOneMore as IsOneMoreOf, IsLeft as IsLeftAt}
+use Rattle.http_front.specs.Crash.{CarriesAll, IsAtMostOneMore as IsAtMostOneMoreIn, IsLeft as IsLeftAt}
 use Rattle.http_front.specs.Turns.{Turn, most_requests}
 use Rattle.print_server.specs.Connections.{AreConnections, Carries, IsAtMostOneMore, IsLeft}
 use Rattle.print_server.proofs.ConnectionLemmas.{joined, one}
@@ -36,7 +36,7 @@ unchanged w (n ∷ rest) u are x is = inl (inl is)
 more_before : (w v p x : World) (front rest : List ℕ) (a : AreConnections w front v) (b : AreConnections v rest p) → p ≡ v → IsAtMostOneMore w front v a x
     → IsAtMostOneMore w (front ++ rest) p (joined w v p front rest a b) x
 more_before w v p x [] rest a b same is = unchanged w rest p (joined w v p [] rest a b) x (is ∙ sym same)
-more_before w v p x (n ∷ front) rest a b same (inl h) = inl (subst (λ (z : World). IsOneMoreOf a.1.now w a.1.worked.turns z x) (sym same) h)
+more_before w v p x (n ∷ front) rest a b same (inl h) = inl (subst (λ (z : World). IsAtMostOneMoreIn a.1.now w a.1.worked.turns z x) (sym same) h)
 more_before w v p x (n ∷ front) rest a b same (inr h) = inr (more_before a.0 v p x front rest a.2 b same h)
 
 more_behind : (w v p x : World) (front rest : List ℕ) (a : AreConnections w front v) (b : AreConnections v rest p) → IsAtMostOneMore v rest p b x
@@ -64,13 +64,13 @@ left_one w counts u are x (inl e) = unchanged w counts u are x (e.1 ∙ sym e.0)
 left_one w counts u are x (inr h) = h
 
 -- it grants nothing and changes no settings
-pub left_grants : ((now : ℕ) (w : World) (turns : List Turn) (u x : World) → IsOneMoreOf now w turns u x → x.grants ≡ u.grants)
+pub left_grants : ((now : ℕ) (w : World) (turns : List Turn) (u x : World) → IsAtMostOneMoreIn now w turns u x → x.grants ≡ u.grants)
     → (w : World) (counts : List ℕ) (u : World) (are : AreConnections w counts u) (x : World) → IsAtMostOneMore w counts u are x → x.grants ≡ u.grants
 left_grants one w [] u are x is = ap (λ (z : World). z.grants) is
 left_grants one w (n ∷ rest) u are x (inl h) = one are.1.now w are.1.worked.turns u x h
 left_grants one w (n ∷ rest) u are x (inr h) = left_grants one are.0 rest u are.2 x h
 
-more_settings : (now : ℕ) (w : World) (turns : List Turn) (u x : World) → IsOneMoreOf now w turns u x → x.settings ≡ u.settings
+more_settings : (now : ℕ) (w : World) (turns : List Turn) (u x : World) → IsAtMostOneMoreIn now w turns u x → x.settings ≡ u.settings
 more_settings now w turns u x (inl e) = ap (λ (z : World). z.settings) e
 more_settings now w turns u x (inr h) = ap (λ (z : World). z.settings) h.2
 

@@ -5,7 +5,7 @@ use Rattle.queue_core.specs.Limits.{IsMoment}
 use Rattle.queue_core.specs.Runs.{Place, IsPlace, run}
 use Rattle.queue_core.specs.World.{World}
 use Rattle.http_front.specs.Connections.{AreTurns, Worked}
-use Rattle.http_front.specs.Crash.{IsAtMostOneMore as IsOneMoreOf}
+use Rattle.http_front.specs.Crash.{IsAtMostOneMore as IsAtMostOneMoreIn}
 use Rattle.http_front.specs.Turns.{Turn, most_requests}
 use Rattle.http_front.proofs.PlaceLemmas.{each_append}
 use Rattle.print_server.specs.Connections.{AreConnections, IsAtMostOneMore}
@@ -23,13 +23,13 @@ connections_run one joined w u (acted ∷ rest) are =
     )
 
 -- what a crash leaves behind connections is a run
-left_places : ((now : ℕ) (w u x : World) (turns : List Turn) → IsMoment now → AreTurns now w turns → IsOneMoreOf now w turns u x → (ps : List Place) × Each IsPlace ps × (x ≡ run u ps))
+left_places : ((now : ℕ) (w u x : World) (turns : List Turn) → IsMoment now → AreTurns now w turns → IsAtMostOneMoreIn now w turns u x → (ps : List Place) × Each IsPlace ps × (x ≡ run u ps))
     → (w : World) (counts : List ℕ) (u : World) (are : AreConnections w counts u) (x : World) → IsAtMostOneMore w counts u are x → (ps : List Place) × Each IsPlace ps × (x ≡ run u ps)
 left_places one w [] u are x is = ([], tt, is)
 left_places one w (n ∷ rest) u are x (inl h) = one are.1.now w u x are.1.worked.turns are.1.moment are.1.worked.are h
 left_places one w (n ∷ rest) u are x (inr h) = left_places one are.0 rest u are.2 x h
 
-pub left_run : ((now : ℕ) (w u x : World) (turns : List Turn) → IsMoment now → AreTurns now w turns → IsOneMoreOf now w turns u x → (ps : List Place) × Each IsPlace ps × (x ≡ run u ps))
+pub left_run : ((now : ℕ) (w u x : World) (turns : List Turn) → IsMoment now → AreTurns now w turns → IsAtMostOneMoreIn now w turns u x → (ps : List Place) × Each IsPlace ps × (x ≡ run u ps))
     → ((w : World) (ps qs : List Place) → run w (ps ++ qs) ≡ run (run w ps) qs)
     → (w : World) (counts : List ℕ) (u : World) (are : AreConnections w counts u) (x : World) → (ps : List Place) × Each IsPlace ps × (u ≡ run w ps) → IsAtMostOneMore w counts u are x
     → (qs : List Place) × Each IsPlace qs × (x ≡ run w qs)

@@ -1,16 +1,10 @@
 -- What connections, one after another, make of the queue.
-use Rattle.std.specs.Prelude.{◌≡◌, ◌⊎◌, ◌==◌, ◌||◌, ℕ, Bool, true, false, not, List, [], ◌∷◌, Result, Ok, Err}
+use Rattle.std.specs.Prelude.{◌≡◌, ◌⊎◌, ℕ, List, [], ◌∷◌}
 use Rattle.queue_core.specs.Limits.{IsMoment}
 use Rattle.queue_core.specs.World.{World}
-use Rattle.http_head.specs.declared.end.End.{End}
-use Rattle.http_head.specs.declared.end.End.TheVariants.{Done, Refused}
 use Rattle.http_front.specs.Connections.{Worked}
-use Rattle.http_front.specs.Crash.{IsAtMostOneMore as IsOneMoreOf}
+use Rattle.http_front.specs.Crash.{IsAtMostOneMore as IsAtMostOneMoreIn}
 use Rattle.http_front.specs.Turns.{most_requests}
-use Rattle.http_front.specs.declared.outcome.Served.{Served}
-use Rattle.http_front.specs.declared.outcome.ServeCause.{ServeCause}
-use Rattle.http_front.specs.declared.outcome.ServeCause.TheVariants.{Book as ByBook}
-use Rattle.http_front.specs.declared.outcome.ServeFault.{ServeFault}
 
 -- at some moment a connection's requests, so many of which acted, made u of the world w
 pub record IsConnection (w : World) (acted : ℕ) (u : World) : Type 0 where
@@ -23,31 +17,12 @@ abbrev pub AreConnections : World → List ℕ → World → Type 0
 AreConnections w [] u = u ≡ w
 AreConnections w (acted ∷ rest) u = (v : World) × IsConnection w acted v × AreConnections v rest u
 
--- the server was the one to end it: its last request was answered, or one was refused
-abbrev pub ends_here : End → Bool
-ends_here Done = true
-ends_here (Refused code) = true
-ends_here end = false
-
-abbrev pub is_ended_here : Result Served ServeFault → Bool
-is_ended_here (Ok served) = ends_here served.end
-is_ended_here (Err fault) = false
-
-abbrev pub is_of_book : ServeCause → Bool
-is_of_book ByBook = true
-is_of_book cause = false
-
--- a request was answered by a fault, or the book failed inside a document
-abbrev pub has_fault : Result Served ServeFault → Bool
-has_fault (Ok served) = not (served.faults == 0)
-has_fault (Err fault) = not (fault.faults == 0) || is_of_book fault.cause
-
 -- ---- a crash at any moment
 
 -- x is the queue u, which these connections made of w, or what the event that one of their requests asked for makes of u at its moment
 abbrev pub IsAtMostOneMore : (w : World) (counts : List ℕ) (u : World) → AreConnections w counts u → World → Type 0
 IsAtMostOneMore w [] u are x = x ≡ u
-IsAtMostOneMore w (acted ∷ rest) u are x = IsOneMoreOf are.1.now w are.1.worked.turns u x ⊎ IsAtMostOneMore are.0 rest u are.2 x
+IsAtMostOneMore w (acted ∷ rest) u are x = IsAtMostOneMoreIn are.1.now w are.1.worked.turns u x ⊎ IsAtMostOneMore are.0 rest u are.2 x
 
 -- behind these connections, which made u of the queue w: nothing was done, and a crash leaves v, as before; or it leaves u, or what the
 -- event of one of their requests makes of u

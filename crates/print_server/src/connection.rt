@@ -1,7 +1,7 @@
 //! What a connection came to, and what its client still sends.
-ghost use Rattle.std.specs.Prelude.{◌≡◌};
-ghost use Rattle.http_front.specs.Connections.{acted_of};
-ghost use Rattle.print_server.specs.Connections.{has_fault, is_ended_here};
+ghost use Rattle.std.specs.Prelude.{◌≡◌, ◌≢◌, ◌≤◌, ◌*◌, ◌↔◌, ℕ, List, length, IsOkAnd, IsTrue, false};
+ghost use Rattle.std.specs.Io.KnownBytes.{Consumes};
+ghost use Rattle.http_front.specs.Connections.{IsFaultless, acted_of};
 
 use http_front::{End, ServeCause, ServeFault, Served};
 use std::io::{ErrorKind, Read};
@@ -13,7 +13,7 @@ const DRAIN_READS: u32 = 256;
 const DRAIN_BYTES: usize = 65_536;
 
 /// How many requests of a connection acted, whether it ended or was broken off.
-pub fn acted_of(served: Result<Served, ServeFault>) -> u32
+pub(crate) fn acted_of(served: Result<Served, ServeFault>) -> u32
     ensures { result ≡ acted_of served }
 {
     match served {
@@ -23,8 +23,8 @@ pub fn acted_of(served: Result<Served, ServeFault>) -> u32
 }
 
 /// The server has ended the connection, and its client may still be sending.
-pub fn is_ended_here(served: Result<Served, ServeFault>) -> bool
-    ensures { result ≡ is_ended_here served }
+pub(crate) fn is_ended_here(served: Result<Served, ServeFault>) -> bool
+    ensures { IsTrue result ↔ IsOkAnd served (λ s. (s.end ≢ End.Closed) × (s.end ≢ End.Cut)) }
 {
     match served {
         Ok(served) => match served.end {
@@ -36,8 +36,8 @@ pub fn is_ended_here(served: Result<Served, ServeFault>) -> bool
 }
 
 /// A request of the connection was answered by a fault, or the book failed inside a document.
-pub fn has_fault(served: Result<Served, ServeFault>) -> bool
-    ensures { result ≡ has_fault served }
+pub(crate) fn has_fault(served: Result<Served, ServeFault>) -> bool
+    ensures { (result ≡ false) ↔ IsFaultless served }
 {
     match served {
         Ok(served) => served.faults != 0,
@@ -47,9 +47,11 @@ pub fn has_fault(served: Result<Served, ServeFault>) -> bool
 
 /// Reads past what a client still sends: to its end, to a read that fails, or through 256 reads of at most 65,536 bytes. A read that is
 /// interrupted counts as one of them.
-pub fn drain<R: Read>(reader: &mut R) {
+pub(crate) fn drain<R: Read>(reader: &mut R)
+    ensures { (bytes : List ℕ) × Consumes (R.remaining reader.old) (R.remaining reader.new) bytes × (length bytes ≤ 256 * 65536) }
+{
     let mut bytes = [0; DRAIN_BYTES];
-    for _ in 0..DRAIN_READS {
+    for _round in 0..DRAIN_READS {
         match reader.read(bytes.as_mut_slice()) {
             Ok(0) => return,
             Ok(_) => {}

@@ -15,7 +15,7 @@ pub fn tell_listening<W: Write>(out: &mut W, port: u16) -> io::Result<()>
 }
 
 /// Prints `served ACTED`: a connection has ended, and so many of its requests acted.
-pub fn tell_served<W: Write>(out: &mut W, acted: u32) -> io::Result<()>
+pub(crate) fn tell_served<W: Write>(out: &mut W, acted: u32) -> io::Result<()>
     ensures { OnOk result (Appends (W.contents out.old) (W.contents out.new) (served_line acted)) }
 {
     writeln!(out, "served {acted}")?;

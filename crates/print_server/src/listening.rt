@@ -28,7 +28,7 @@ pub fn listen<R: Net>(net: &R, port: u16) -> io::Result<R::Listener> {
 
 /// The next connection. A connection that fails while it is taken is passed over, as it may have been reset by its client; a listener
 /// that fails again and again is an error.
-pub fn next_stream(listener: &TcpListener) -> io::Result<TcpStream> {
+pub(crate) fn next_stream(listener: &TcpListener) -> io::Result<TcpStream> {
     for _ in 1..ACCEPT_TRIES {
         if let Ok((stream, _)) = listener.accept() {
             return Ok(stream);

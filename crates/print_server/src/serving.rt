@@ -212,14 +212,17 @@ impl Service<'_> {
         // where the book ends it, the connection's count was printed
         ensures told { B.is_honest book.new → IfErr result (λ f. (e : BookFault) → f ≡ ServerFault.Book e
             → (w : World) → B.stands book.old w → self.entry.settings.now ≡ w.settings
-            → (u : World) × B.stands book.new u × (counts : List ℕ) × AreConnections w counts u × (length counts ≡ 1)
-            × Appends (O.contents out.old) (O.contents out.new) (served_lines counts)) }
+            → (u : World) × B.stands book.new u × (counts : List ℕ) × (are : AreConnections w counts u) × (length counts ≡ 1)
+            × Appends (O.contents out.old) (O.contents out.new) (served_lines counts)
+            × Carries (B.crash_leaves book.old) (B.crash_leaves book.new) w counts u are) }
         ensures damaged { B.is_honest book.new → IfErr result (λ f. f ≡ ServerFault.Book BookFault.Damaged
             → (w : World) → B.stands book.old w → self.entry.settings.now ≡ w.settings → ⊥) }
         ensures live { B.is_honest book.new → (before ≡ Standing.Live → B.is_live book.old) → result ≡ Ok Standing.Live → B.is_live book.new }
         ensures wanting { result ≢ Err (ServerFault.Book BookFault.Memory) }
         // over any book, also one that is not honest
         ensures printed { OnOk result ((acted : ℕ) × Appends (O.contents out.old) (O.contents out.new) (served_line acted)) }
+        ensures stopped { IfErr result (λ f. (e : BookFault) → f ≡ ServerFault.Book e
+            → (acted : ℕ) × Appends (O.contents out.old) (O.contents out.new) (served_line acted)) }
     {
         let stream = next_stream(self.listener)?;
         let now = present_moment(clock, self.settings.epoch())?;
@@ -256,8 +259,9 @@ impl Service<'_> {
         // where the book ends it, every connection's count was printed
         ensures told { B.is_honest book.new → IfErr result (λ f. (e : BookFault) → f ≡ ServerFault.Book e
             → (w : World) → B.stands book.old w → self.entry.settings.now ≡ w.settings
-            → (u : World) × B.stands book.new u × (counts : List ℕ) × AreConnections w counts u × (length counts ≤ connections)
-            × Appends (O.contents out.old) (O.contents out.new) (served_lines counts)) }
+            → (u : World) × B.stands book.new u × (counts : List ℕ) × (are : AreConnections w counts u) × (length counts ≤ connections)
+            × Appends (O.contents out.old) (O.contents out.new) (served_lines counts)
+            × Carries (B.crash_leaves book.old) (B.crash_leaves book.new) w counts u are) }
         // whatever it answers: a crash at any moment leaves the queue that the book stands for, or what the event of one of these connections' requests
         // makes of it
         ensures crash { B.is_honest book.new → B.is_live book.old → (w : World) → B.stands book.old w → self.entry.settings.now ≡ w.settings
@@ -272,6 +276,8 @@ impl Service<'_> {
         // over any book, also one that is not honest
         ensures printed { OnOk result ((counts : List ℕ) × (length counts ≡ connections)
             × Appends (O.contents out.old) (O.contents out.new) (served_lines counts)) }
+        ensures stopped { IfErr result (λ f. (e : BookFault) → f ≡ ServerFault.Book e
+            → (counts : List ℕ) × (length counts ≤ connections) × Appends (O.contents out.old) (O.contents out.new) (served_lines counts)) }
     {
         let mut standing = Standing::Live;
         for _round in 0..connections {

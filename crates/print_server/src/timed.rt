@@ -32,7 +32,11 @@ fn is_over(time: Duration, spent: Duration) -> bool
 
 impl<'a, C: Clock> TimedStream<'a, C> {
     /// The stream, with so much time from now on. It is an error where the clock can't be read.
-    pub fn new(stream: &'a TcpStream, clock: C, time: Duration) -> io::Result<TimedStream<'a, C>>
+    pub(crate) fn new(
+        stream: &'a TcpStream,
+        clock: C,
+        time: Duration,
+    ) -> io::Result<TimedStream<'a, C>>
     where
         C: Copy,
         ensures { IfOk result (λ s. s.time ≡ time) }

@@ -11,6 +11,7 @@ invariant-turns g l = record {
   few : l.k ≤ last_request;
   acted_few : l.acted ≤ l.k;
   below : l.faults < 2 ^ l.k;
+  never_more : l.input.reads_left ≤ l.initial.input.reads_left;
   began : g.B.QueueBook.is_honest l.book → g.B.QueueBook.is_honest l.initial.book;
   live : g.B.QueueBook.is_honest l.book → g.B.QueueBook.is_live l.initial.book → l.faults ≡ 0 → g.B.QueueBook.is_live l.book;
   ran : g.B.QueueBook.is_honest l.book → (w : World) → g.B.QueueBook.stands l.initial.book w → l.context.settings.now ≡ w.settings → (u : World) × g.B.QueueBook.stands l.book u

@@ -13,6 +13,7 @@ laws c = record {
   whole_bodies = c.one_reading.ensures.whole_bodies;
   one_text = c.one_spelling.ensures.one_text;
   one_verdict = c.one_verdict.ensures;
+  one_report = c.one_line_reading.ensures;
 }
 
 pub returns-clause-requests : goal.returns-clause-requests

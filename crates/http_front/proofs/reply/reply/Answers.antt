@@ -36,7 +36,7 @@ pub returns-in-Document-clause-replied : goal.returns-in-Document-clause-replied
 returns-in-Document-clause-replied g c = λ honest w st set. (
   w,
   c.reply_document.ensures.kept w st,
-  retarget c.args.context.moment w w c.args.target (Document c.in-Document.n) c.args.content.now c.args.closes _ _ c.reply_document.result c.in-Document.is
+  retarget c.args.context.moment w w c.args.target (Document c.in-Document.numbers) c.args.content.now c.args.closes _ _ c.reply_document.result c.in-Document.is
       (c.reply_document.ensures.replied honest w st c.args.context.moment c.args.content.now),
   λ v left. (v, c.reply_document.ensures.left honest w v left, untaken refl refl),
 )

@@ -14,55 +14,55 @@ use Rattle.http_front.proofs.reply.reply_document.Goals as goal
 
 pub returns-in_default-clause-replied : goal.returns-in_default-clause-replied
 returns-in_default-clause-replied g c = λ honest w st now content.
-    replied_declined now w (Document c.args.n) content c.args.closes NotFound _ (inl (refl, no_number w c.args.n (search rules)))
+    replied_declined now w (Document c.args.numbers) content c.args.closes NotFound _ (inl (refl, no_number w c.args.numbers (search rules)))
 
 pub returns-in-Ok-None-clause-replied : goal.returns-in-Ok-None-clause-replied
 returns-in-Ok-None-clause-replied g c = λ honest w st now content.
-    let none = none_there (document_at w c.in-Some.job c.in-Some.number) (rw c.in-Ok-None.field-0-is at (c.in-Ok-None.ensures.head honest w (c.document_head.ensures.kept w st))) in
-    replied_declined now w (Document c.args.n) content c.args.closes NotFound _ (inl (refl, at_number w c.args.n c.in-Some.job c.in-Some.number None (search rules) none))
+    let none = none_there (document_at w c.in-Some.job c.in-Some.n) (rw c.in-Ok-None.field-0-is at (c.in-Ok-None.ensures.head honest w (c.document_head.ensures.kept w st))) in
+    replied_declined now w (Document c.args.numbers) content c.args.closes NotFound _ (inl (refl, at_number w c.args.numbers c.in-Some.job c.in-Some.n None (search rules) none))
 
 pub returns-in-Err-clause-replied : goal.returns-in-Err-clause-replied
-returns-in-Err-clause-replied g c = λ honest w st now content. replied_declined now w (Document c.args.n) content c.args.closes ServiceUnavailable _ (inr refl)
+returns-in-Err-clause-replied g c = λ honest w st now content. replied_declined now w (Document c.args.numbers) content c.args.closes ServiceUnavailable _ (inr refl)
 
 pub returns-in_err-send_head-clause-replied : goal.returns-in_err-send_head-clause-replied
 returns-in_err-send_head-clause-replied g c = λ honest w st now content.
-    let t = there_of (document_at w c.in-Some.job c.in-Some.number) c.in-Ok-Some.head (rw c.in-Ok-Some.field-0-is at (c.in-Ok-Some.ensures.head honest w (c.document_head.ensures.kept w st))) in
+    let t = there_of (document_at w c.in-Some.job c.in-Some.n) c.in-Ok-Some.head (rw c.in-Ok-Some.field-0-is at (c.in-Ok-Some.ensures.head honest w (c.document_head.ensures.kept w st))) in
     let d = t.0 in
-    let there = at_number w c.args.n c.in-Some.job c.in-Some.number (Some d) (search rules) t.1 in
+    let there = at_number w c.args.numbers c.in-Some.job c.in-Some.n (Some d) (search rules) t.1 in
     let line = line_is c.name.result.now c.in-Ok-Some.head d c.args.closes c.name.ensures.name t.2 in
     let v = g.W.Write.contents c.args.writer.now in
     let m = g.W.Write.contents c.send_head.new.writer in
     let head : WritesFront v m (success_head (format_name d.format) (length d.bytes) c.args.closes) = subst (λ (l : List ℕ). WritesFront v m l) line c.in_err-send_head.ensures.err in
-    by_write (λ result. IsReplied now w w (Document c.args.n) content c.args.closes v m result) c.from_residual.result c.from_residual.ensures.1
-    (λ f acted fault. replied_err now w w (Document c.args.n) content c.args.closes false f v m (format_name d.format) d.bytes (document_answer now w c.args.n content d there)
+    by_write (λ result. IsReplied now w w (Document c.args.numbers) content c.args.closes v m result) c.from_residual.result c.from_residual.ensures.1
+    (λ f acted fault. replied_err now w w (Document c.args.numbers) content c.args.closes false f v m (format_name d.format) d.bytes (document_answer now w c.args.numbers content d there)
     (front_part v m (success_head (format_name d.format) (length d.bytes) c.args.closes) d.bytes head) acted fault)
 
 pub returns-in-Ok-clause-replied : goal.returns-in-Ok-clause-replied
 returns-in-Ok-clause-replied g c = λ honest w st now content.
     let kept = c.document_head.ensures.kept w st in
-    let t = there_of (document_at w c.in-Some.job c.in-Some.number) c.in-Ok-Some.head (rw c.in-Ok-Some.field-0-is at (c.in-Ok-Some.ensures.head (c.send_document.ensures.began honest) w kept)) in
+    let t = there_of (document_at w c.in-Some.job c.in-Some.n) c.in-Ok-Some.head (rw c.in-Ok-Some.field-0-is at (c.in-Ok-Some.ensures.head (c.send_document.ensures.began honest) w kept)) in
     let d = t.0 in
-    let there = at_number w c.args.n c.in-Some.job c.in-Some.number (Some d) (search rules) t.1 in
+    let there = at_number w c.args.numbers c.in-Some.job c.in-Some.n (Some d) (search rules) t.1 in
     let line = line_is c.name.result.now c.in-Ok-Some.head d c.args.closes c.name.ensures.name t.2 in
     let sent = c.in-Ok.ensures.ok honest w d (c.send_document.ensures.kept w kept) t.1 in
     let v = g.W.Write.contents c.args.writer.now in
     let m = g.W.Write.contents c.send_head.new.writer in
     let x = g.W.Write.contents c.send_document.new.out in
-    replied_ok now w w (Document c.args.n) content c.args.closes false c.empty.result v x (format_name d.format) d.bytes (document_answer now w c.args.n content d there)
+    replied_ok now w w (Document c.args.numbers) content c.args.closes false c.empty.result v x (format_name d.format) d.bytes (document_answer now w c.args.numbers content d there)
     (Appends-trans v m x (success_head (format_name d.format) (length d.bytes) c.args.closes) d.bytes (subst (λ (l : List ℕ). Appends v m l) line c.in_ok-send_head.ensures.ok) sent.1) c.empty.ensures.acted c.empty.ensures.is_fault
 
 pub returns-in-Err-send_document-clause-replied : goal.returns-in-Err-send_document-clause-replied
 returns-in-Err-send_document-clause-replied g c = λ honest w st now content.
     let kept = c.document_head.ensures.kept w st in
-    let t = there_of (document_at w c.in-Some.job c.in-Some.number) c.in-Ok-Some.head (rw c.in-Ok-Some.field-0-is at (c.in-Ok-Some.ensures.head (c.send_document.ensures.began honest) w kept)) in
+    let t = there_of (document_at w c.in-Some.job c.in-Some.n) c.in-Ok-Some.head (rw c.in-Ok-Some.field-0-is at (c.in-Ok-Some.ensures.head (c.send_document.ensures.began honest) w kept)) in
     let d = t.0 in
-    let there = at_number w c.args.n c.in-Some.job c.in-Some.number (Some d) (search rules) t.1 in
+    let there = at_number w c.args.numbers c.in-Some.job c.in-Some.n (Some d) (search rules) t.1 in
     let line = line_is c.name.result.now c.in-Ok-Some.head d c.args.closes c.name.ensures.name t.2 in
     let sent = c.in-Err-send_document.ensures.err honest w d kept t.1 in
     let v = g.W.Write.contents c.args.writer.now in
     let m = g.W.Write.contents c.send_head.new.writer in
     let x = g.W.Write.contents c.send_document.new.out in
-    replied_err now w w (Document c.args.n) content c.args.closes false c.by-in-Err-send_document.result v x (format_name d.format) d.bytes (document_answer now w c.args.n content d there)
+    replied_err now w w (Document c.args.numbers) content c.args.closes false c.by-in-Err-send_document.result v x (format_name d.format) d.bytes (document_answer now w c.args.numbers content d there)
     (front_after v m x (success_head (format_name d.format) (length d.bytes) c.args.closes) d.bytes (subst (λ (l : List ℕ). Appends v m l) line c.in_ok-send_head.ensures.ok)
     (front_taken m x d.bytes c.in-Err-send_document.fault.written sent.1))
     c.by-in-Err-send_document.ensures.acted c.by-in-Err-send_document.ensures.is_fault

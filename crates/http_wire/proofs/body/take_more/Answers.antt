@@ -1,9 +1,9 @@
-use Rattle.std.proofs.Common.{◌≡◌, ◌+◌, ◌≤◌, ◌++◌, take, length, ap, arith, subst, sym, rules}
+use Rattle.std.proofs.Common.{◌≡◌, ◌+◌, ◌<◌, ◌≤◌, ◌++◌, take, length, ap, arith, subst, sym, rules}
 use Rattle.std.proofs.lemmas.Grind.{common_steps}
 use Rattle.http_wire.specs.Bodies.{TakesMore}
 use Rattle.http_head.specs.Left.{left}
 use Rattle.http_head.specs.declared.input.Input.{Input}
-use Rattle.http_wire.proofs.BodyLemmas.{more_taken}
+use Rattle.http_wire.proofs.BodyLemmas.{more_taken, unread_on}
 use Rattle.http_wire.proofs.body.take_more.Goals as goal
 
 pub take-preserved : goal.take-preserved
@@ -19,4 +19,9 @@ take-preserved g c =
       more = subst (λ (i : Input g.row.R.Denot). TakesMore (c.take.taken + n) a (left i.buffer (g.R.Read.remaining i.reader)) c.args.content.now.items c.extend_from_slice.new.self.items) (sym c.take-in-take.ensures)
           (more_taken a (left c.take.input.buffer (g.R.Read.remaining c.take.input.reader)) r come c.args.content.now.items c.take.content.items c.extend_from_slice.new.self.items c.take.taken n
           c.take.invariant.more c.await_bytes.ensures.kept fits e);
+      never_more = let left_of = ap (λ (i : Input g.row.R.Denot). i.reads_left) c.take-in-take.ensures in omega (arith, left_of, c.await_bytes.ensures.never_more, c.take.invariant.never_more);
+      unread = λ there.
+          let before = c.take.invariant.unread there in
+          let some : 0 < length c.take.input.buffer = omega (arith, before.1, there) in
+          unread_on c.args.input.now c.take.input c.await_bytes.new.input _ n c.take.taken _ before (c.await_bytes.ensures.unread some) c.take-in-take.ensures fits;
     }

@@ -15,6 +15,7 @@ chunks-init g c = record {
   raw_fits = omega arith;
   content_fits = let e = ap length c.requires in omega (arith, e);
   chunks = chunks_none (left c.args.input.now.buffer (g.R.Read.remaining c.args.input.now.reader)) c.args.content.now.items c.requires;
+  never_more = search rules;
 }
 
 pub returns-in_err-line-clause-ended : goal.returns-in_err-line-clause-ended
@@ -65,4 +66,5 @@ chunks-preserved g c =
       content_fits = let e = ap length taken.after_is in let f = length-append c.chunks.content.items taken.more in omega (arith, e, f, taken.size_is, room);
       chunks = chunks_more (left c.args.input.now.buffer (g.R.Read.remaining c.args.input.now.reader)) b r d c.bound_behind.result.limit c.chunks.raw c.in_ok-line.line.len c.in_ok-line.line.size _
           c.chunks.content.items taken.more c.take_chunk.new.content.items c.chunks.invariant.chunks line (search rules) taken.size_is taken.after_is taken.taken room fits refl;
+      never_more = omega (arith, c.chunks.invariant.never_more, c.in_ok-line.ensures.never_more, c.in_ok-take_chunk.ensures.never_more);
     }

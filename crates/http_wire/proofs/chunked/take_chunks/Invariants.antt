@@ -8,6 +8,7 @@ invariant-chunks g l = record {
   raw_fits : l.raw ≤ 67108864;
   content_fits : length l.content.items ≤ 16777216;
   chunks : TakesChunks (left l.initial.input.buffer (g.R.Read.remaining l.initial.input.reader)) (left l.input.buffer (g.R.Read.remaining l.input.reader)) l.raw l.content.items;
+  never_more : l.input.reads_left ≤ l.initial.input.reads_left;
 }
 
 abbrev pub decreases-chunks : goal.decreases-chunks

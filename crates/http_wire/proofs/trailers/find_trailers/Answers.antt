@@ -13,11 +13,11 @@ returns-in-Ok-Complete-clause-found g c =
 pub returns-in-Err-clause-ended : goal.returns-in-Err-clause-ended
 returns-in-Err-clause-ended g c =
     let over : SectionOverflows 64 c.front.result.now = search rules in
-    trailers_refused _ _ c.fill.input.buffer c.front.result.now c.args.bound c.fill.invariant (search rules) over
+    trailers_refused _ _ c.fill.input.buffer c.front.result.now c.args.bound c.fill.invariant.kept (search rules) over
 
 pub returns-then-bytes-bound-clause-ended : goal.returns-then-bytes-bound-clause-ended
 returns-then-bytes-bound-clause-ended g c =
     let none : HasNoSection c.front.result.now = search rules in
     let may : MayBecomeSection c.front.result.now = search rules in
     let full : c.args.bound.limit ≤ length c.fill.input.buffer = search rules in
-    trailers_endless _ _ c.fill.input.buffer c.front.result.now c.args.bound c.fill.invariant full (search rules) none may
+    trailers_endless _ _ c.fill.input.buffer c.front.result.now c.args.bound c.fill.invariant.kept full (search rules) none may

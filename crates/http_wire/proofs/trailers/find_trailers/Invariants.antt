@@ -1,10 +1,13 @@
-use Rattle.std.proofs.Common.{◌-◌, length}
+use Rattle.std.proofs.Common.{◌-◌, ◌≤◌, length}
 use Rattle.std.specs.Io.KnownBytes.{Keeps}
 use Rattle.http_head.specs.Left.{left}
 use Rattle.http_wire.proofs.trailers.find_trailers.Given as goal
 
 abbrev pub invariant-fill : goal.invariant-fill
-invariant-fill g l = Keeps (left l.initial.input.buffer (g.R.Read.remaining l.initial.input.reader)) (left l.input.buffer (g.R.Read.remaining l.input.reader))
+invariant-fill g l = record {
+  kept : Keeps (left l.initial.input.buffer (g.R.Read.remaining l.initial.input.reader)) (left l.input.buffer (g.R.Read.remaining l.input.reader));
+  never_more : l.input.reads_left ≤ l.initial.input.reads_left;
+}
 
 abbrev pub decreases-fill : goal.decreases-fill
 decreases-fill g l = 16384 - length l.input.buffer

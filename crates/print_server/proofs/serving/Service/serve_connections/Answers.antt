@@ -42,7 +42,17 @@ returns-in_err-standing-clause-told g c = λ h.
     let r = c.loop-round.invariant.served (c.serve_next.ensures.began h) w st set in
     let t = c.in_err-standing.ensures.told h e (sym p.2 ∙ is) r.0 r.1 (settings_kept c.args.self.settings.now w r.0 r.2 r.3 set) in
     let more = length-append r.2 t.2 in
-    (t.0, t.1, r.2 ++ t.2, joined w r.0 t.0 r.2 t.2 r.3 t.3, omega (arith, more, r.4, t.4), told_on _ _ _ r.2 t.2 r.5 t.5))
+    (t.0, t.1, r.2 ++ t.2, joined w r.0 t.0 r.2 t.2 r.3 t.3, omega (arith, more, r.4, t.4), told_on _ _ _ r.2 t.2 r.5 t.5, carries_on (g.B.QueueBook.crash_leaves c.args.book.now) (g.B.QueueBook.crash_leaves c.loop-round.book) (g.B.QueueBook.crash_leaves c.serve_next.new.book) w r.0 t.0 r.2 t.2 r.3 t.3 r.6 t.6))
+
+pub returns-in_err-standing-clause-stopped : goal.returns-in_err-standing-clause-stopped
+returns-in_err-standing-clause-stopped g c =
+    let p = err_from_is_err_and c.from_residual.result c.from_residual.ensures.1 in
+    rw p.1 (λ e is.
+    let before = c.loop-round.invariant.printed in
+    let last = c.in_err-standing.ensures.stopped e (sym p.2 ∙ is) in
+    let more = length-append before.0 (last.0 ∷ []) in
+    let many = before.1 in
+    (before.0 ++ last.0 ∷ [], omega (arith, more, many), told_on _ _ _ before.0 (last.0 ∷ []) before.2 (told_one _ _ last.0 last.1)))
 
 pub returns-in_err-standing-clause-damaged : goal.returns-in_err-standing-clause-damaged
 returns-in_err-standing-clause-damaged g c = λ h.

@@ -35,7 +35,12 @@ returns-in_err-check_book-in-Unseen-clause-told g c = λ h. if_err c.from_residu
       one c.in_ok-now.now w u.0 _ c.in_ok-now.ensures u.2,
       refl,
       told_one _ _ _ c.in_ok-tell_served.ensures,
+      carries_seen (g.B.QueueBook.crash_leaves c.args.book.now) (g.B.QueueBook.crash_leaves c.serve_stream-served.new.book) (g.B.QueueBook.crash_leaves c.check_book.new.book) w (c.serve_stream-served.result.acted ∷ []) u.0 (one c.in_ok-now.now w u.0 _ c.in_ok-now.ensures u.2) (c.check_book.ensures.left h)
+          (carries_at (g.B.QueueBook.crash_leaves c.args.book.now) (g.B.QueueBook.crash_leaves c.serve_stream-served.new.book) c.in_ok-now.now w u.0 _ c.in_ok-now.ensures u.2 u.3),
     ))
+
+pub returns-in_err-check_book-in-Unseen-clause-stopped : goal.returns-in_err-check_book-in-Unseen-clause-stopped
+returns-in_err-check_book-in-Unseen-clause-stopped g c = if_err c.from_residual-in_err-check_book-in-Unseen.result _ (λ f e is. (c.serve_stream-served.result.acted, c.in_ok-tell_served.ensures))
 
 pub returns-in_ok-check_book-in-Unseen-clause-ok : goal.returns-in_ok-check_book-in-Unseen-clause-ok
 returns-in_ok-check_book-in-Unseen-clause-ok g c = λ h w st set.

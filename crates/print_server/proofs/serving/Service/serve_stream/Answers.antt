@@ -1,8 +1,8 @@
-use Rattle.std.proofs.Common.{◌∙◌, inl, refl, sym, subst}
+use Rattle.std.proofs.Common.{inl, refl, sym, subst}
 use Rattle.http_front.specs.Connections.{Worked}
 use Rattle.http_front.specs.Crash.{CarriesAll}
 use Rattle.http_front.specs.Turns.{most_requests}
-use Rattle.print_server.proofs.ConnectionLemmas.{faultless, worked_none}
+use Rattle.print_server.proofs.ConnectionLemmas.{worked_none}
 use Rattle.print_server.proofs.serving.Service.serve_stream.Goals as goal
 
 pub returns-in_default-clause-worked : goal.returns-in_default-clause-worked
@@ -15,4 +15,4 @@ returns-clause-worked g c = λ h w st set.
     (u.0, u.1, k.0, k.1)
 
 pub returns-clause-live : goal.returns-clause-live
-returns-clause-live g c = λ h live none. c.serve-served.ensures.live h live (faultless c.serve-served.result (sym c.has_fault.ensures ∙ none))
+returns-clause-live g c = λ h live none. c.serve-served.ensures.live h live (c.has_fault.ensures.0 none)
