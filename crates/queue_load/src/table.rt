@@ -1,5 +1,5 @@
 //! A whole table, read a row at a time.
-ghost use Rattle.std.specs.Prelude.{◌≡◌, ◌≢◌, ℕ, List, [], IfOk, IfErr, OnOk, IsTrue};
+ghost use Rattle.std.specs.Prelude.{◌≡◌, ◌≢◌, ℕ, List, [], false, IfOk, IfErr, OnOk, IsTrue};
 ghost use Rattle.sqlite.specs.Given.{IsPlain, HasGiven};
 ghost use Rattle.sqlite.specs.Held.{state};
 ghost use Rattle.sqlite.specs.Listing.{understood};
@@ -7,7 +7,7 @@ ghost use Rattle.sqlite.specs.Order.{Row as Columns};
 ghost use Rattle.sqlite.specs.State.{HasCleanDisk, IsUnchanged};
 ghost use Rattle.sqlite.specs.Tree.{Trees};
 ghost use Rattle.queue_load.specs.Reads.{FindsFormless, HasBook, HasRead, LeavesRows};
-ghost use Rattle.queue_tables.specs.Leaving.{LeavesTables};
+ghost use Rattle.queue_tables.specs.Leaving.{KeepsServing, LeavesTables};
 ghost use Rattle.queue_tables.specs.Queries.{IsQueryText};
 ghost use Rattle.queue_tables.specs.Tables.{book_schema};
 ghost use Rattle.queue_tables.specs.declared.fault.Fault.TheVariants.{Damaged, Disk};
@@ -41,6 +41,8 @@ fn read_rows<S: Alter, T: TableRow>(alloc: Global, rows: &mut Rows<S>) -> Result
     ensures formless { HasCleanDisk (state S.Store rows.new.conn.now) → IsTrue (state S.Store rows.old.conn.now).is_open → (sql : List ℕ) → HasGiven S.Store sql [] rows.old.conn.now [] → IfErr result (λ e. e ≡ Damaged → FindsFormless T.is_formless sql (state S.Store rows.old.conn.now)) }
     ensures same { HasCleanDisk (state S.Store rows.new.conn.now) → IsTrue (state S.Store rows.old.conn.now).is_open → OnOk result (IsUnchanged (state S.Store rows.old.conn.now) (state S.Store rows.new.conn.now)) }
     ensures left { HasCleanDisk (state S.Store rows.new.conn.now) → IsTrue (state S.Store rows.old.conn.now).is_open → LeavesRows (state S.Store rows.old.conn.now) (state S.Store rows.new.conn.now) }
+    ensures mode { (state S.Store rows.old.conn.now).in_transaction ≡ false → (state S.Store rows.new.conn.now).in_transaction ≡ false }
+    ensures serves { KeepsServing (state S.Store rows.old.conn.now) (state S.Store rows.new.conn.now) }
 {
     let mut items = Vec::new(alloc);
     'rows: for _ in 0..u64::MAX {

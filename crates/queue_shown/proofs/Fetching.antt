@@ -4,7 +4,7 @@ use Rattle.std.specs.List.Sorted.{IsPermutation}
 use Rattle.std.proofs.lemmas.Bool.{cases_Bool}
 use Rattle.sqlite.specs.Order.{Row, column}
 use Rattle.sqlite.specs.State.{State, Shown}
-use Rattle.queue_core.specs.Shown.{document_at, document_of}
+use Rattle.queue_core.specs.Shown.{document_at, document_of, is_fetched}
 use Rattle.queue_core.specs.World.{World, Entry, rows, job_at}
 use Rattle.queue_types.specs.declared.document.Document.{Document}
 use Rattle.queue_types.specs.declared.job.Job.{Job}
@@ -15,7 +15,7 @@ use Rattle.queue_tables.proofs.Documents.{row_of, all_documents}
 use Rattle.queue_tables.proofs.Entries.{rows_in, row_at, found_rows}
 use Rattle.queue_tables.proofs.Puts.{rows_twice}
 use Rattle.queue_tables.proofs.Showing.{shows_all}
-use Rattle.queue_shown.specs.Fetched.{document_in, is_fetched, is_fetched_job, nth_document, state_values}
+use Rattle.queue_shown.specs.Fetched.{document_in, is_fetched_job, nth_document, state_values}
 use Rattle.queue_shown.specs.Heads.{head_values}
 use Rattle.queue_shown.proofs.DocumentParts.{is_of, of_numbers, rows_from, all_rows, chosen, only_document}
 use Rattle.queue_tables.proofs.Firsts.{rows_for, exactly}

@@ -1,17 +1,13 @@
 -- Which documents the device may fetch.
-use Rattle.std.specs.Prelude.{ℕ, ◌-◌, ◌==◌, ◌||◌, Bool, false, nat_lt, List, [], ◌∷◌, Option, Some, None, find, slice_get, if◌then◌else◌}
+use Rattle.std.specs.Prelude.{ℕ, ◌-◌, ◌==◌, Bool, false, nat_lt, List, [], ◌∷◌, Option, Some, None, find, slice_get, if◌then◌else◌}
 use Rattle.std.specs.Option.{option_map_or}
 use Rattle.sqlite.specs.Order.{Row}
-use Rattle.queue_types.specs.Job.{state}
+use Rattle.queue_core.specs.Shown.{is_fetched}
 use Rattle.queue_core.specs.World.{Entry}
 use Rattle.queue_types.specs.declared.job.Job.{Job}
 use Rattle.queue_types.specs.declared.document.Document.{Document}
 use Rattle.queue_rows.specs.Codes.{phase_number, why_number}
 use Rattle.queue_tables.specs.Values.{number, truth}
-
--- a job whose documents are fetched: pending, processing or processing-stopped
-abbrev pub is_fetched : Job → Bool
-is_fetched j = state j == 3 || state j == 5 || state j == 6
 
 -- there is such a job
 abbrev pub is_fetched_job : Option Job → Bool

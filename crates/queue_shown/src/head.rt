@@ -2,12 +2,12 @@
 ghost use Rattle.std.specs.Prelude.{◌≡◌, ◌≢◌, ◌≤◌, IfSome, IfOk, IfErr, OnOk, IsTrue, option_map};
 ghost use Rattle.sqlite.specs.Held.{state};
 ghost use Rattle.sqlite.specs.State.{HasCleanDisk};
-ghost use Rattle.queue_core.specs.Shown.{document_at, head_of};
+ghost use Rattle.queue_core.specs.Shown.{document_at, head_of, is_fetched};
 ghost use Rattle.queue_core.specs.Sound.{IsSound, IsSoundDocument};
 ghost use Rattle.queue_core.specs.World.{World, rows, job_at};
 ghost use Rattle.queue_types.specs.declared.document.Document.{Document};
 ghost use Rattle.queue_types.specs.declared.job.Job.{Job as JobValue};
-ghost use Rattle.queue_shown.specs.Fetched.{document_in, is_fetched, is_fetched_job, state_values};
+ghost use Rattle.queue_shown.specs.Fetched.{document_in, is_fetched_job, state_values};
 ghost use Rattle.queue_shown.specs.Heads.{head_values};
 ghost use Rattle.queue_tables.specs.Content.{HoldNoQueue, Holds, content_of};
 ghost use Rattle.queue_tables.specs.Leaving.{LeavesTables};

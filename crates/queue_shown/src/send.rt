@@ -1,5 +1,5 @@
 //! A document, written a piece at a time while its rows borrow the connection.
-ghost use Rattle.std.specs.Prelude.{◌≡◌, ◌+◌, ◌<◌, ◌≤◌, ◌^◌, ℕ, [], ◌∷◌, Some, length, take, IfOk, IfErr, OnOk, OnErr, IsTrue};
+ghost use Rattle.std.specs.Prelude.{◌≡◌, ◌+◌, ◌<◌, ◌≤◌, ◌^◌, ℕ, [], ◌∷◌, Some, false, length, take, IfOk, IfErr, OnOk, OnErr, IsTrue};
 ghost use Rattle.std.specs.Io.KnownBytes.{Appends};
 ghost use Rattle.sqlite.specs.Given.{HasGiven, IsPlain};
 ghost use Rattle.sqlite.specs.Held.{state};
@@ -14,7 +14,7 @@ ghost use Rattle.queue_types.specs.declared.document.Document.{Document};
 ghost use Rattle.queue_shown.specs.Sent.{FindsNoBlob, HasBook, HasSent, HasSentFront, LeavesRows, ShowsNoBlob, piece_bytes, pieces_select};
 ghost use Rattle.queue_shown.specs.Stops.{told_cause};
 ghost use Rattle.queue_tables.specs.Content.{HoldNoQueue, Holds, content_of};
-ghost use Rattle.queue_tables.specs.Leaving.{LeavesTables};
+ghost use Rattle.queue_tables.specs.Leaving.{KeepsServing, LeavesTables};
 ghost use Rattle.queue_tables.specs.Values.{number};
 
 use queue_core::{BookFault, SendCause, SendFault, put_whole};
@@ -77,10 +77,8 @@ fn put_piece<W: Write>(row: &Row, out: &mut W, written: &mut u64) -> Result<(), 
     ensures damaged { IfErr result (λ stop. stop ≡ Stop.Tables Fault.Damaged → ShowsNoBlob row.now) }
     ensures err { OnErr result ((n : ℕ) × (n ≤ length (piece_bytes row.now)) × Appends (W.contents out.old) (W.contents out.new) (take n (piece_bytes row.now)) × (written.new ≡ written.old + n)) }
 {
-    let bytes = match row.get_ref(0) {
-        Ok(ValueRef::Blob(bytes)) => bytes,
-        Ok(_) => return Err(Stop::Tables(Fault::Damaged)),
-        Err(_) => return Err(Stop::Tables(Fault::Damaged)),
+    let Ok(ValueRef::Blob(bytes)) = row.get_ref(0) else {
+        return Err(Stop::Tables(Fault::Damaged));
     };
     if written.checked_add(bytes.len() as u64).is_none() {
         return Err(Stop::Tables(Fault::Disk));
@@ -106,6 +104,8 @@ fn send_rows<S: Alter, W: Write>(
     ensures same { HasCleanDisk (state S.Store rows.new.conn.now) → IsTrue (state S.Store rows.old.conn.now).is_open → OnOk result (IsUnchanged (state S.Store rows.old.conn.now) (state S.Store rows.new.conn.now)) }
     ensures writer_failed { HasCleanDisk (state S.Store rows.new.conn.now) → IsTrue (state S.Store rows.old.conn.now).is_open → IfErr result (λ stop. stop ≡ Stop.Write → IsUnchanged (state S.Store rows.old.conn.now) (state S.Store rows.new.conn.now)) }
     ensures left { HasCleanDisk (state S.Store rows.new.conn.now) → IsTrue (state S.Store rows.old.conn.now).is_open → LeavesRows (state S.Store rows.old.conn.now) (state S.Store rows.new.conn.now) }
+    ensures mode { (state S.Store rows.old.conn.now).in_transaction ≡ false → (state S.Store rows.new.conn.now).in_transaction ≡ false }
+    ensures serves { KeepsServing (state S.Store rows.old.conn.now) (state S.Store rows.new.conn.now) }
 {
     'rows: for _ in 0..u64::MAX {
         let Some(row) = rows.next()? else {
@@ -135,6 +135,8 @@ fn send_pieces<S: Alter, W: Write>(
     ensures front { HasBook (state S.Store conn.old) → HasCleanDisk (state S.Store conn.new) → OnErr result (HasSentFront (number job ∷ number doc ∷ []) (state S.Store conn.old) (W.contents out.old) (W.contents out.new) written.new) }
     ensures damaged { HasBook (state S.Store conn.old) → HasCleanDisk (state S.Store conn.new) → IfErr result (λ stop. stop ≡ Stop.Tables Fault.Damaged → FindsNoBlob (number job ∷ number doc ∷ []) (state S.Store conn.old)) }
     ensures left { HasCleanDisk (state S.Store conn.new) → LeavesRows (state S.Store conn.old) (state S.Store conn.new) }
+    ensures mode { (state S.Store conn.old).in_transaction ≡ false → (state S.Store conn.new).in_transaction ≡ false }
+    ensures serves { KeepsServing (state S.Store conn.old) (state S.Store conn.new) }
 {
     let mut rows = conn.query(
         "SELECT bytes FROM pieces WHERE job = ?1 AND doc = ?2 ORDER BY piece",

@@ -107,7 +107,7 @@ fn told_jobs<S: Alter>(
 
 /// What is granted to an account, what of it is free, reserved and printed, and its jobs, where the account is
 /// there. It writes nothing: the tables stay as they were, where the connection is still open. Within a
-/// transaction it answers Disk. What was granted and each of the jobs is within its limits, whatever the tables hold;
+/// transaction it answers Disk. The sheet is of that account, and what was granted and each of the jobs is within its limits, whatever the tables hold;
 /// Damaged is told only where they hold no sound queue.
 pub fn sheet<S: Alter>(
     alloc: Global,
@@ -118,7 +118,7 @@ pub fn sheet<S: Alter>(
     ensures live { HasCleanDisk (state S.Store conn.new) → OnOk result (IsTrue (state S.Store conn.new).is_open) }
     ensures damaged { HasCleanDisk (state S.Store conn.new) → IfErr result (λ e. e ≡ Fault.Damaged → HoldNoQueue (state S.Store conn.old)) }
     ensures sheet { HasCleanDisk (state S.Store conn.new) → IfOk result (λ s. (w : World) → IsSound w → Holds (content_of w) (state S.Store conn.old) → s ≡ sheet_of w account.now) }
-    ensures within { IfOk result (λ s. IfSome s (λ it. (it.granted ≤ 1000000000) × All IsSoundJob it.jobs)) }
+    ensures within { IfOk result (λ s. IfSome s (λ it. (it.account ≡ account.now) × (it.granted ≤ 1000000000) × All IsSoundJob it.jobs)) }
     ensures opened { HasCleanDisk (state S.Store conn.new) → IfErr result (λ e. e ≡ Fault.Damaged → IsTrue (state S.Store conn.old).is_open) }
 {
     let found = find_account(conn, account)?;

@@ -1,5 +1,5 @@
 -- Tables that were adopted, and files that were opened.
-use Rattle.std.proofs.Common.{◌≡◌, ◌<◌, List, [], ◌∷◌, IsTrue, inl, inr, map, length, sym, ap, subst, ◌∙◌, arith}
+use Rattle.std.proofs.Common.{◌≡◌, ◌<◌, Bool, List, [], ◌∷◌, IsTrue, false, true, not, inl, inr, map, length, refl, sym, ap, subst, ◌∙◌, arith}
 use Rattle.std.proofs.lemmas.List.Sorted.{length_permutation}
 use Rattle.sqlite.specs.Effect.{Database, IsDatabase}
 use Rattle.sqlite.specs.Files.{AreFoundIn}
@@ -21,16 +21,21 @@ use Rattle.queue_tables.specs.Content.{HasContent, content_of}
 use Rattle.queue_tables.specs.Leaving.{LeavesTables}
 use Rattle.queue_tables.specs.Tables.{book_schema, no_schema}
 use Rattle.queue_tables.specs.Values.{meta_view}
-use Rattle.queue_store.specs.Kept.{HasWorld, StandsFor, shown_by}
+use Rattle.queue_store.specs.Kept.{HasWorld, StandsFor, shown_by, without_limit}
 use Rattle.queue_store.specs.Opened.{FitsFile, HasNoTables, HoldsOnly, IsKeptIn}
 use Rattle.queue_store.specs.declared.book.TableBook.{TableBook}
+
+-- outside of a transaction, as a test of it says
+pub out_of : (outside inside : Bool) → outside ≡ not inside → IsTrue outside → inside ≡ false
+out_of outside false is out = refl
+out_of outside true is out = absurd (let both = sym out ∙ is in cc)
 
 row_of : (t : Tables) (d : Database) (has : HasQueue t d) → t.meta ≡ meta_row has.world ∷ []
 row_of t d has = sym (ap (λ (u : Tables). u.meta) has.rows)
 
 pub adopted : (t : Tables) (old new : State) (settings : SettingValues) → HasQueue t old.now → IsLive old → IsUnchanged old new → (IsTrue old.is_open → old.now ≡ old.committed)
-    → ((m : MetaRow) → t.meta ≡ m ∷ [] → settings ≡ settings_in m) → HasWorld new settings
-adopted t old new settings has live same settled told = record {
+    → old.in_transaction ≡ false → ((m : MetaRow) → t.meta ≡ m ∷ [] → settings ≡ settings_in m) → HasWorld (without_limit new) settings
+adopted t old new settings has live same settled outside told = record {
   world = has.world;
   keeps = record {
     sound = has.queue.sound;
@@ -42,6 +47,8 @@ adopted t old new settings has live same settled told = record {
       live = is_open;
     };
     settled = λ is_open. same.0.now_is ∙ (settled same.0.was_open ∙ sym same.0.committed_is);
+    outside = λ is_open. same.0.mode ∙ outside;
+    unlimited = λ is_open. refl;
   };
   live = same.0.is_open;
 }
@@ -75,7 +82,7 @@ module _ (s : State) (image : Image) (opened : HasCleanDisk s → Opens s × IsL
   fits_in fits clean = let it = holds_only clean in fits s.now.trees s.now.schema it.found it.tables
 
   -- a book that was opened stands for the queue that its files keep
-  pub kept_in : {S : Type 0} (store : Ghosts S) (b : TableBook S) → LeavesTables s (shown_by store b) → HasCleanDisk (shown_by store b) → HasWorld (shown_by store b) b.settings
+  pub kept_in : {S : Type 0} (store : Ghosts S) (b : TableBook S) → LeavesTables (without_limit s) (shown_by store b) → HasCleanDisk (shown_by store b) → HasWorld (shown_by store b) b.settings
       → (w : World) × IsKeptIn image w × StandsFor store b w
   kept_in store b kept honest one =
       let same : (shown_by store b).now ≡ s.now = kept.same honest one.live in

@@ -1,5 +1,5 @@
 -- What a call leaves of the world that a book keeps.
-use Rattle.std.proofs.Common.{ℕ, inl, inr, IsSome, IsTrue, refl, sym, ◌∙◌}
+use Rattle.std.proofs.Common.{◌≡◌, ℕ, false, inl, inr, IsSome, IsTrue, refl, sym, ◌∙◌}
 use Rattle.std.proofs.lemmas.Bool.{cases_Bool}
 use Rattle.sqlite.specs.State.{State, HasCleanDisk}
 use Rattle.queue_types.specs.Settings.{SettingValues}
@@ -21,7 +21,23 @@ module _ (old new : State) where
         settings_are = was.settings_are;
         holds = λ is_open. holds_after leaves honest (content_of w) (was.holds (leaves.opened honest is_open)) is_open;
         settled = λ is_open. leaves.same honest is_open ∙ (was.settled (leaves.opened honest is_open) ∙ sym (leaves.committed honest is_open));
+        outside = λ is_open. leaves.mode ∙ was.outside (leaves.opened honest is_open);
+        unlimited = λ is_open. leaves.serves.limit ∙ was.unlimited (leaves.opened honest is_open);
       }
+
+-- a shut connection keeps an empty queue, as any
+shut_keeps : (s : State) (settings : SettingValues) → IsSound (empty_queue settings) → s.is_open ≡ false → Keeps s settings (empty_queue settings)
+shut_keeps s settings sound shut = record {
+  sound = sound;
+  settings_are = refl;
+  holds = λ shown. absurd (never shown);
+  settled = λ shown. absurd (never shown);
+  outside = λ shown. absurd (never shown);
+  unlimited = λ shown. absurd (never shown);
+}
+  where
+    never : IsTrue s.is_open → ⊥
+    never shown = let both = sym shut ∙ shown in cc
 
 -- a book that stands for an empty queue, as one on a shut connection does, has no document
 pub open_with_document : (s : State) (settings : SettingValues) (job n : ℕ) → HasCleanDisk s → IsSound (empty_queue settings)
@@ -29,7 +45,7 @@ pub open_with_document : (s : State) (settings : SettingValues) (job n : ℕ) �
 unfolding document_at
 open_with_document s settings job n honest sound there = elim (cases_Bool s.is_open) [
   | inl shown ↦ shown
-  | inr shut ↦ absurd (none (there (empty_queue settings) honest (λ h. record { sound = sound; settings_are = refl; holds = λ shown. absurd (let never = sym shut ∙ shown in cc); settled = λ shown. absurd (let never = sym shut ∙ shown in cc) })))
+  | inr shut ↦ absurd (none (there (empty_queue settings) honest (λ h. shut_keeps s settings sound shut)))
 ]
   where
     none : IsSome (document_at (empty_queue settings) job n) → ⊥

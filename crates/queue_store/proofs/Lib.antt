@@ -2,6 +2,7 @@ pub mod Results
 pub mod Made
 pub mod Empty
 pub mod Keeping
+pub mod Lifted
 pub mod Adopting
 pub mod Closing
 pub mod OneQueue

@@ -1,5 +1,5 @@
 //! A book from tables that are there.
-ghost use Rattle.std.specs.Prelude.{◌≡◌, ◌∷◌, [], IfErr, IfOk};
+ghost use Rattle.std.specs.Prelude.{◌≡◌, ◌∷◌, [], Err, IfErr, IfOk, IsErrAnd, IsTrue};
 ghost use Rattle.sqlite.specs.Held.{state};
 ghost use Rattle.sqlite.specs.State.{HasCleanDisk};
 ghost use Rattle.sqlite_trees.specs.View.{IsClean};
@@ -10,7 +10,7 @@ ghost use Rattle.queue_rows.specs.Rows.{tables_in};
 ghost use Rattle.queue_rows.specs.declared.rows.MetaRow.{MetaRow as MetaValue};
 ghost use Rattle.queue_load.specs.Queues.{IsQueueIn};
 ghost use Rattle.queue_load.specs.Store.{FitsIn};
-ghost use Rattle.queue_store.specs.Kept.{HasWorld, StandsForOne, shown_by};
+ghost use Rattle.queue_store.specs.Kept.{HasWorld, StandsForOne, shown_by, without_limit};
 ghost use Rattle.queue_tables.specs.Leaving.{LeavesTables};
 ghost use Rattle.queue_tables.specs.declared.fault.Fault.TheVariants.{Damaged};
 
@@ -48,8 +48,9 @@ fn settings_of(alloc: Global, rows: &Rows) -> Result<Settings, Fault>
 /// as a disk that fails.
 fn settings_in_tables<S: Alter>(alloc: Global, conn: &mut Connection<S>) -> Result<Settings, Fault>
     ensures leaves { LeavesTables (state S.Store conn.old) (state S.Store conn.new) }
-    ensures stands { FitsIn (state S.Store conn.old) → HasCleanDisk (state S.Store conn.new) → IfOk result (HasWorld (state S.Store conn.new)) }
+    ensures stands { FitsIn (state S.Store conn.old) → HasCleanDisk (state S.Store conn.new) → IfOk result (HasWorld (without_limit (state S.Store conn.new))) }
     ensures damaged { FitsIn (state S.Store conn.old) → HasCleanDisk (state S.Store conn.new) → IfErr result (λ e. e ≡ Damaged → (w : World) → ¬ IsQueueIn w (state S.Store conn.old).now) }
+    ensures inside { IsTrue (state S.Store conn.old).in_transaction → (result ≡ Err Fault.Disk) × (conn.new ≡ conn.old) }
 {
     // its contract says that outside a transaction what the tables show is committed
     if !conn.is_autocommit() {
@@ -62,23 +63,21 @@ fn settings_in_tables<S: Alter>(alloc: Global, conn: &mut Connection<S>) -> Resu
 }
 
 impl<S: Alter> TableBook<S> {
-    /// The book that the tables hold, where those that are there are as `create` makes them. Damaged is told only
-    /// where they hold no sound queue. A refusal hands the connection back, with its tables as they were.
+    /// The book that the tables hold, where those that are there are as `create` makes them. The connection's step limit is
+    /// lifted. Damaged is told only where they hold no sound queue. A refusal hands the connection back, with its tables as
+    /// they were; within a transaction it is Disk, and the connection is as it came.
     pub fn adopt(
         alloc: Global,
         mut conn: Connection<S>,
     ) -> Result<TableBook<S>, (BookFault, Connection<S>)>
         ensures stands { FitsIn (state S.Store conn) → IfOk result (λ b. StandsForOne S.Store b) }
-        ensures kept { IfOk result (λ b. LeavesTables (state S.Store conn) (shown_by S.Store b)) }
+        ensures kept { IfOk result (λ b. LeavesTables (without_limit (state S.Store conn)) (shown_by S.Store b)) }
         ensures damaged { FitsIn (state S.Store conn) → IfErr result (λ e. HasCleanDisk (state S.Store e.1) → e.0 ≡ BookFault.Damaged → (w : World) → ¬ IsQueueIn w (state S.Store conn).now) }
         ensures handed { IfErr result (λ e. LeavesTables (state S.Store conn) (state S.Store e.1)) }
+        ensures inside { IsTrue (state S.Store conn).in_transaction → IsErrAnd result (λ e. (e.0 ≡ BookFault.Disk) × (e.1 ≡ conn)) }
     {
         match settings_in_tables(alloc, &mut conn) {
-            Ok(settings) => Ok(TableBook {
-                alloc,
-                conn,
-                settings,
-            }),
+            Ok(settings) => Ok(TableBook::over(alloc, conn, settings)),
             Err(fault) => Err((BookFault::from(fault), conn)),
         }
     }
@@ -91,7 +90,7 @@ impl<S: Alter + Drop> TableBook<S> {
         conn: Connection<S>,
     ) -> Result<TableBook<S>, (BookFault, S)>
         ensures stands { FitsIn (state S.Store conn) → IfOk result (λ b. StandsForOne S.Store b) }
-        ensures kept { IfOk result (λ b. LeavesTables (state S.Store conn) (shown_by S.Store b)) }
+        ensures kept { IfOk result (λ b. LeavesTables (without_limit (state S.Store conn)) (shown_by S.Store b)) }
         ensures clean { IfErr result (λ e. IsClean (S.Store.view e.1) → HasCleanDisk (state S.Store conn)) }
         ensures damaged { FitsIn (state S.Store conn) → IfErr result (λ e. IsClean (S.Store.view e.1) → e.0 ≡ BookFault.Damaged → (w : World) → ¬ IsQueueIn w (state S.Store conn).now) }
     {

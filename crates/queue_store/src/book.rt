@@ -1,5 +1,5 @@
 //! The book in tables.
-ghost use Rattle.std.specs.Prelude.{◌≡◌, ◌≢◌, ◌↔◌, IfErr, IfOk, IsErrAnd, IsErrOf, IsTrue, OnErr};
+ghost use Rattle.std.specs.Prelude.{◌≡◌, ◌≢◌, ◌↔◌, false, None, Err, IfErr, IfOk, IsErrAnd, IsErrOf, IsTrue, OnErr, OnOk};
 ghost use Rattle.std.specs.List.{list_any};
 ghost use Rattle.sqlite.specs.Held.{state};
 ghost use Rattle.sqlite.specs.State.{HasCleanDisk};
@@ -101,6 +101,8 @@ fn make_new<S: Alter>(
     ensures untouched { (state S.Store conn.old).now.schema ≢ no_schema → conn.new ≡ conn.old }
     ensures damaged { IfErr result (λ e. e ≡ Fault.Damaged → IsTrue (has_any (state S.Store conn.old).now.schema)) }
     ensures taken { IsTrue (has_any (state S.Store conn.old).now.schema) → IsErrOf result Fault.Damaged }
+    ensures others { (state S.Store conn.old).now.schema ≢ no_schema → has_any (state S.Store conn.old).now.schema ≡ false → result ≡ Err Fault.Disk }
+    ensures ended { OnOk result ((state S.Store conn.new).in_transaction ≡ false) }
 {
     // its contract says that outside a transaction the tables are those of the last commit
     let _settled = conn.is_autocommit();
@@ -115,10 +117,24 @@ fn make_new<S: Alter>(
 }
 
 impl<S: Alter> TableBook<S> {
+    /// A book with these settings over a connection, whose step limit is lifted.
+    pub(crate) fn over(alloc: Global, mut conn: Connection<S>, settings: Settings) -> TableBook<S>
+        ensures lifted { connection_of result ≡ record conn { step_limit = None } }
+        ensures settings { result.settings ≡ settings }
+    {
+        conn.set_step_limit(None);
+        TableBook {
+            alloc,
+            conn,
+            settings,
+        }
+    }
+
     /// A new book with these settings, without jobs, accounts and reports, in a store without tables, indexes and
-    /// views. Damaged is told only where one of these has the name of a table of the book. A refusal hands the connection
-    /// back, with its tables as they were, and as it came where there were any. Whatever the answer, a crash then leaves
-    /// what it might have left before, or the new book; after an Ok the new book alone.
+    /// views. A store where one of these has the name of a table of the book is Damaged, another that has any is told as Disk.
+    /// A refusal hands the connection back, with its tables as they were, and as it came where there were any; an Ok lifts its
+    /// step limit. Whatever the answer, a crash then leaves what it might have left before, or the new book; after an Ok the
+    /// new book alone.
     pub fn create(
         alloc: Global,
         mut conn: Connection<S>,
@@ -130,6 +146,7 @@ impl<S: Alter> TableBook<S> {
         ensures live { IfOk result (λ b. IsHonest S.Store b → IsTrue (shown_by S.Store b).is_open) }
         ensures damaged { IfErr result (λ e. e.0 ≡ Damaged → IsTrue (has_any (state S.Store conn).now.schema)) }
         ensures taken { IsTrue (has_any (state S.Store conn).now.schema) → IsErrAnd result (λ e. e.0 ≡ Damaged) }
+        ensures others { (state S.Store conn).now.schema ≢ no_schema → has_any (state S.Store conn).now.schema ≡ false → IsErrAnd result (λ e. e.0 ≡ BookFault.Disk) }
         ensures lasts { IfOk result (λ b. LeavesOnly (empty_queue settings) (shown_by S.Store b)) }
         ensures handed { IfErr result (λ e. KeepsTables (state S.Store conn) (state S.Store e.1)) }
         ensures crash { IfErr result (λ e. LeavesOldOrNew (empty_queue settings) (state S.Store conn) (state S.Store e.1)) }
@@ -139,11 +156,7 @@ impl<S: Alter> TableBook<S> {
         // its contract says that the settings are within their limits
         let _estimate = settings.estimate();
         match make_new(alloc, &mut conn, &settings) {
-            Ok(()) => Ok(TableBook {
-                alloc,
-                conn,
-                settings,
-            }),
+            Ok(()) => Ok(TableBook::over(alloc, conn, settings)),
             Err(fault) => Err((BookFault::from(fault), conn)),
         }
     }
@@ -180,6 +193,8 @@ impl<S: Alter + Drop> TableBook<S> {
         ensures stands { IfOk result (λ b. StandsFor S.Store b (empty_queue settings)) }
         ensures live { IfOk result (λ b. IsHonest S.Store b → IsTrue (shown_by S.Store b).is_open) }
         ensures damaged { IfErr result (λ e. e ≡ Damaged → IsTrue (has_any (state S.Store conn).now.schema)) }
+        ensures taken { IsTrue (has_any (state S.Store conn).now.schema) → result ≡ Err Damaged }
+        ensures others { (state S.Store conn).now.schema ≢ no_schema → has_any (state S.Store conn).now.schema ≡ false → result ≡ Err BookFault.Disk }
     {
         match TableBook::create(alloc, conn, settings) {
             Ok(book) => Ok(book),

@@ -1,5 +1,5 @@
 //! A new book: its tables, and the row of its settings.
-ghost use Rattle.std.specs.Prelude.{◌≡◌, ◌≢◌, [], IfErr, IfOk, Ok, OnErr, OnOk, IsTrue};
+ghost use Rattle.std.specs.Prelude.{◌≡◌, ◌≢◌, false, [], IfErr, IfOk, Ok, OnErr, OnOk, IsTrue};
 ghost use Rattle.sqlite.specs.Effect.{IsDatabase};
 ghost use Rattle.sqlite.specs.State.{ExecutesInside, HasCleanDisk};
 ghost use Rattle.sqlite.specs.Held.{state};
@@ -130,6 +130,7 @@ pub(crate) fn make_tables<S: Alter>(conn: &mut Connection<S>, meta: &MetaRow) ->
     ensures refused { OnErr result (KeepsTables (state S.Store conn.old) (state S.Store conn.new)) }
     ensures crash { (state S.Store conn.old).now.schema ≡ no_schema → (w : World) → IsSound w → new_content meta.now ≡ content_of w → LeavesOldOrNew w (state S.Store conn.old) (state S.Store conn.new) }
     ensures never { IfErr result (λ e. e ≢ Damaged) }
+    ensures ended { OnOk result ((state S.Store conn.new).in_transaction ≡ false) }
 {
     if !conn.is_autocommit() {
         return Err(Fault::Disk);

@@ -14,7 +14,7 @@ ghost use Rattle.queue_load.specs.Queues.{IsQueueIn};
 ghost use Rattle.queue_load.specs.Store.{FitsIn};
 ghost use Rattle.queue_store.specs.Closed.{KeepAlone, LeavesNoMore};
 ghost use Rattle.queue_store.specs.Crash.{IsKept, KeepOneOf, KeepTogether};
-ghost use Rattle.queue_store.specs.Kept.{IsHonest, StandsFor, StandsForOne, shown_by};
+ghost use Rattle.queue_store.specs.Kept.{IsHonest, StandsFor, StandsForOne, shown_by, without_limit};
 ghost use Rattle.queue_store.specs.Opened.{FitsFile, HasNoTables, IsFaultless, IsKeptIn, open_fault};
 ghost use Rattle.queue_tables.specs.Content.{LeavesOneOf};
 ghost use Rattle.queue_tables.specs.Leaving.{LeavesTables};
@@ -103,7 +103,7 @@ fn adopt_in_files<D: Disk + Drop>(
     conn: Connection<FileStore<D>>,
 ) -> Result<TableBook<FileStore<D>>, (BookFault, FileStore<D>)>
     ensures stands { FitsIn (file_state conn) → IfOk result (λ b. StandsForOne over_files b) }
-    ensures kept { IfOk result (λ b. LeavesTables (file_state conn) (shown_by over_files b)) }
+    ensures kept { IfOk result (λ b. LeavesTables (without_limit (file_state conn)) (shown_by over_files b)) }
     ensures clean { IfErr result (λ e. IsClean (over_files.view e.1) → HasCleanDisk (file_state conn)) }
     ensures damaged { FitsIn (file_state conn) → IfErr result (λ e. IsClean (over_files.view e.1) → e.0 ≡ BookFault.Damaged → (w : World) → ¬ IsQueueIn w (file_state conn).now) }
 {

@@ -36,8 +36,8 @@ fn decide_on<'a>(
     Ok(decision)
 }
 
-/// A `TableBook` stands for a world that its tables hold, as long as the connection is open. It is honest where
-/// the disk has returned what was written to it. A crash leaves one of two worlds of it where each database that the
+/// A `TableBook` stands for a world that its tables hold, as long as the connection is open, which is then outside of any
+/// transaction and has no step limit. It is honest where the disk has returned what was written to it. A crash leaves one of two worlds of it where each database that the
 /// next open may find holds one of them.
 impl<S: Alter> QueueBook for TableBook<S> {
     ghost stands = { λ b w. StandsFor S.Store b w };

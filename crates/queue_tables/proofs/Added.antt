@@ -30,7 +30,7 @@ use Rattle.queue_rows.proofs.WorldMaps.{found_there}
 use Rattle.queue_tables.specs.Content.{Content, Holds, HoldsWhileOpen, content_of, document_rows, piece_rows, pieces_from}
 use Rattle.queue_tables.specs.Kept.{HasOne}
 use Rattle.queue_tables.specs.Leaving.{KeepsBehind}
-use Rattle.queue_tables.specs.Steps.{AreDistinct, AreReportsKeyed, CanTake, are_numbered, documents_at, is_granted, is_named, is_numbered, is_piece, with_document_row, with_grants, with_pieces}
+use Rattle.queue_tables.specs.Steps.{AreDistinct, AreReportsKeyed, CanTake, are_numbered, document_count_at, is_granted, is_named, is_numbered, is_piece, with_document_row, with_grants, with_pieces}
 use Rattle.queue_tables.specs.Values.{document_values, grant_values, job_values, number, piece_values, report_values}
 use Rattle.queue_tables.proofs.Documents.{row_of}
 use Rattle.queue_tables.proofs.Entries.{found_rows, row_at}
@@ -119,7 +119,7 @@ none_of_others f p n apart (e ∷ es) none =
     none_in_both p (f e.row.number e.documents) (flat_map (λ (e : Entry). f e.row.number e.documents) es) (apart e.row.number e.documents parts.0) (none_of_others f p n apart es parts.1)
 
 none_of_parts : (f : ℕ → List Document → List Row) (p : Row → Bool) (n : ℕ) → ((m : ℕ) (ds : List Document) → (m == n) ≡ false → filter p (f m ds) ≡ []) → (es : List Entry) → AreDistinct es
-    → ((ds : List Document) → length ds ≡ documents_at n es → filter p (f n ds) ≡ []) → filter p (flat_map (λ (e : Entry). f e.row.number e.documents) es) ≡ []
+    → ((ds : List Document) → length ds ≡ document_count_at n es → filter p (f n ds) ≡ []) → filter p (flat_map (λ (e : Entry). f e.row.number e.documents) es) ≡ []
 none_of_parts f p n apart [] distinct here = refl
 none_of_parts f p n apart (e ∷ es) distinct here =
     let rest : List Row = flat_map (λ (e : Entry). f e.row.number e.documents) es in
@@ -158,15 +158,15 @@ later_pieces n k from (d ∷ ds) low =
     (later_pieces n k (from + 1) ds (omega (arith, low)))
 
 -- no document of the job has the next number
-pub no_document : (n : ℕ) (w : World) → AreDistinct w.jobs → filter (are_numbered n (documents_at n w.jobs + 1)) (content_of w).documents ≡ []
+pub no_document : (n : ℕ) (w : World) → AreDistinct w.jobs → filter (are_numbered n (document_count_at n w.jobs + 1)) (content_of w).documents ≡ []
 no_document n w distinct =
-    let k = documents_at n w.jobs + 1 in
+    let k = document_count_at n w.jobs + 1 in
     none_of_parts (λ m ds. document_rows m 1 ds) (are_numbered n k) n (λ m ds apart. other_documents n k m 1 ds apart) w.jobs distinct (λ ds long. later_documents n k 1 ds (omega (arith, long)))
 
 -- and no piece is of such a document
-pub no_piece : (n : ℕ) (w : World) → AreDistinct w.jobs → filter (are_numbered n (documents_at n w.jobs + 1)) (content_of w).pieces ≡ []
+pub no_piece : (n : ℕ) (w : World) → AreDistinct w.jobs → filter (are_numbered n (document_count_at n w.jobs + 1)) (content_of w).pieces ≡ []
 no_piece n w distinct =
-    let k = documents_at n w.jobs + 1 in
+    let k = document_count_at n w.jobs + 1 in
     none_of_parts (λ m ds. pieces_from m 1 ds) (are_numbered n k) n (λ m ds apart. other_pieces n k m 1 ds apart) w.jobs distinct (λ ds long. later_pieces n k 1 ds (omega (arith, long)))
 
 -- ---- a document is added
@@ -175,7 +175,7 @@ numbers_itself : (d : DocumentRow) → are_numbered d.job d.doc (document_values
 numbers_itself d = numbers_document d.job d.doc d ∙ rw (eq-eqb d.job d.job refl, eq-eqb d.doc d.doc refl) refl
 
 module _ (w : World) (d : NewDocument) (n : ℕ) (old mid : State) (distinct : AreDistinct w.jobs) (takes : CanTake d w) (kept : KeepsBehind old mid)
-    (counted : Holds (content_of w) old → (n ≡ documents_at d.job w.jobs) × Holds (content_of w) mid) (held : HoldsWhileOpen (content_of w) old) where
+    (counted : Holds (content_of w) old → (n ≡ document_count_at d.job w.jobs) × Holds (content_of w) mid) (held : HoldsWhileOpen (content_of w) old) where
   -- its row isn't refused
   pub document_enters : ((c : Content) → HasOne (is_numbered d.job) c.jobs → filter (are_numbered d.job (n + 1)) c.documents ≡ [] → HoldsWhileOpen c mid → ⊥) → ⊥
   document_enters refused =

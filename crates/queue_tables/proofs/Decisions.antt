@@ -17,7 +17,7 @@ use Rattle.queue_core.specs.Sound.{IsKept, IsSound, IsSoundDocument, IsSoundEntr
 use Rattle.queue_core.specs.World.{World, Entry, add_document, grant_cmp, job_at, made_on, put_free, put_grant, rows, with_document, with_report, with_row}
 use Rattle.queue_core.proofs.Maps.{grant_total, own_grant_key, own_report_key, report_total}
 use Rattle.queue_tables.specs.Forms.{AreFormed, IsFormedJob}
-use Rattle.queue_tables.specs.Steps.{AreDistinct, AreReportsKeyed, CanTake, documents_at, with_frees, with_puts}
+use Rattle.queue_tables.specs.Steps.{AreDistinct, AreReportsKeyed, CanTake, document_count_at, with_frees, with_puts}
 use Rattle.queue_tables.proofs.Documents.{plain_of}
 use Rattle.queue_tables.proofs.Entries.{distinct-fold, distinct_of, rows_in}
 use Rattle.queue_tables.proofs.Formed.{formed_job}
@@ -79,7 +79,7 @@ last_document [] d sound = sound.0.1
 last_document (x ∷ ds) d sound = last_document ds d sound.1
 
 -- with one more the job's documents are within their limits
-within_limits : (d : NewDocument) (es : List Entry) → IsSome (job_at d.job (rows_in es)) → Each IsSoundEntry (map (add_document d) es) → (documents_at d.job es < 16) × (length d.bytes ≤ 16777216)
+within_limits : (d : NewDocument) (es : List Entry) → IsSome (job_at d.job (rows_in es)) → Each IsSoundEntry (map (add_document d) es) → (document_count_at d.job es < 16) × (length d.bytes ≤ 16777216)
 within_limits d [] there sound = absurd cc
 within_limits d (e ∷ es) there sound = elim (cases_Bool (e.row.number == d.job)) [
   | inl same ↦

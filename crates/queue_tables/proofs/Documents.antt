@@ -21,7 +21,7 @@ use Rattle.queue_rows.specs.Pieces.{pieces_in}
 use Rattle.queue_rows.specs.declared.rows.DocumentRow.{DocumentRow}
 use Rattle.queue_tables.specs.Values.{number, document_values, document_view, job_values, account_values}
 use Rattle.queue_tables.specs.Content.{Holds, content_of, document_rows, piece_rows, pieces_from}
-use Rattle.queue_tables.specs.Steps.{is_numbered, AreDistinct, with_added, with_document_row, with_pieces, documents_at}
+use Rattle.queue_tables.specs.Steps.{is_numbered, AreDistinct, with_added, with_document_row, with_pieces, document_count_at}
 use Rattle.queue_tables.proofs.Numbers.{numbered_document}
 use Rattle.queue_tables.proofs.Entries.{rows_in, length_of}
 use Rattle.queue_tables.proofs.Held.{like_holds, same_order}
@@ -55,7 +55,7 @@ no_rows n (e ∷ es) none =
     ∙ ap (λ (rs : List Row). rs ++ filter (is_numbered n) (all_documents es)) (none_of_job n e.row.number 1 e.documents parts.0)
     ∙ no_rows n es parts.1
 
-pub document_count : (n : ℕ) (es : List Entry) → AreDistinct es → length (filter (is_numbered n) (all_documents es)) ≡ documents_at n es
+pub document_count : (n : ℕ) (es : List Entry) → AreDistinct es → length (filter (is_numbered n) (all_documents es)) ≡ document_count_at n es
 document_count n [] d = refl
 document_count n (e ∷ es) d = elim (cases_Bool (e.row.number == n)) [
   | inl same ↦
@@ -81,7 +81,7 @@ plain_of d = record { format = d.format; bytes = d.bytes }
 
 -- what is made of the documents has so many rows more
 pub parts_added : (f : ℕ → List Document → List Row) (d : NewDocument) (extra : List Row) (es : List Entry) (was : Job) → AreDistinct es → job_at d.job (rows_in es) ≡ Some was
-    → ((ds : List Document) → length ds ≡ documents_at d.job es → f d.job (ds ++ plain_of d ∷ []) ≡ f d.job ds ++ extra)
+    → ((ds : List Document) → length ds ≡ document_count_at d.job es → f d.job (ds ++ plain_of d ∷ []) ≡ f d.job ds ++ extra)
     → IsPermutation (flat_map (λ (e : Entry). f e.row.number e.documents) es ++ extra) (flat_map (λ (e : Entry). f e.row.number e.documents) (map (add_document d) es))
 parts_added f d extra [] was distinct there more = absurd cc
 parts_added f d extra (e ∷ es) was distinct there more = elim (cases_Bool (e.row.number == d.job)) [
@@ -122,7 +122,7 @@ rows_added d (e ∷ es) = elim (cases_Bool (e.row.number == d.job)) [
 -- ---- how many there are
 
 pub counts_documents : (old new : State) (n : ℕ) (shown_rows : List Row) (w : World) → AreDistinct w.jobs → Holds (content_of w) old → Shown select_octets.text (number n ∷ []) old new shown_rows
-    → (length shown_rows ≡ documents_at n w.jobs) × Holds (content_of w) new
+    → (length shown_rows ≡ document_count_at n w.jobs) × Holds (content_of w) new
 counts_documents old new n shown_rows w d has h =
     let p = shows_all select_octets select_octets_is
     old new (number n ∷ []) document_view (is_numbered n) (λ v. column v 3 ∷ []) (content_of w).documents shown_rows has.schema (λ r. refl) (λ r. refl) has.rows.documents h in (
@@ -133,10 +133,10 @@ counts_documents old new n shown_rows w d has h =
 -- ---- the whole
 
 pub added_holds : (d : NewDocument) (w : World) (was : Job) (s : State) → AreDistinct w.jobs → job_at d.job (rows w) ≡ Some was
-    → Holds (with_pieces d.job (documents_at d.job w.jobs + 1) d.bytes (pieces_in (length d.bytes)) (with_document_row (document_values (row_of d.job (documents_at d.job w.jobs + 1) (plain_of d))) (content_of w))) s
+    → Holds (with_pieces d.job (document_count_at d.job w.jobs + 1) d.bytes (pieces_in (length d.bytes)) (with_document_row (document_values (row_of d.job (document_count_at d.job w.jobs + 1) (plain_of d))) (content_of w))) s
     → Holds (content_of (with_added (Some d) w)) s
 added_holds d w was s distinct there has =
-    let n = documents_at d.job w.jobs + 1 in
+    let n = document_count_at d.job w.jobs + 1 in
     like_holds (with_pieces d.job n d.bytes (pieces_in (length d.bytes)) (with_document_row (document_values (row_of d.job n (plain_of d))) (content_of w))) (content_of (with_added (Some d) w)) s (record {
       meta = same_order refl;
       jobs = same_order (ap (map job_values) (sym (rows_added d w.jobs)));

@@ -1,5 +1,5 @@
 -- What a SELECT leaves, whatever it shows.
-use Rattle.std.proofs.Common.{◌≡◌, ◌⊎◌, List, ℕ, Option, None, Some, IsTrue, Result, Ok, Err, IfOk, IfErr, inl, inr, refl, sym, ◌∙◌}
+use Rattle.std.proofs.Common.{◌≡◌, ◌⊎◌, Bool, true, false, not, arith, List, ℕ, Option, None, Some, IsTrue, Result, Ok, Err, IfOk, IfErr, inl, inr, refl, sym, subst, ◌∙◌}
 use Rattle.sqlite.specs.declared.error.Error.{Error}
 use Rattle.sqlite.specs.Given.{HasBegun}
 use Rattle.sqlite.specs.Held.{Held, state}
@@ -14,13 +14,34 @@ use Rattle.queue_tables.specs.Content.{Content, HoldNoQueue, Holds, content_of}
 use Rattle.queue_tables.specs.Queries.{IsQueryText}
 use Rattle.queue_tables.proofs.Ending.{clean_before, query_fails, same_holds}
 use Rattle.queue_tables.proofs.Queries.{query_changes_nothing, query_is_bare, query_never_commits}
-use Rattle.queue_tables.specs.Leaving.{LeavesTables}
+use Rattle.queue_tables.specs.Leaving.{KeepsServing, LeavesTables}
 
 -- nothing is done
+pub serves_all : (s : State) → KeepsServing s s
+serves_all s = record { limit = refl; counts = omega arith; closes = λ clean live. inl live }
+
 pub leaves_all : (s : State) → LeavesTables s s
-leaves_all s = record { clean = λ clean. clean; opened = λ clean live. live; same = λ clean live. refl; committed = λ clean live. refl; left = λ clean db may. may }
+leaves_all s = record {
+  clean = λ clean. clean;
+  opened = λ clean live. live;
+  same = λ clean live. refl;
+  committed = λ clean live. refl;
+  left = λ clean db may. may;
+  mode = refl;
+  serves = serves_all s;
+}
 
 -- one after another
+pub serves_then : (a b c : State) → (HasCleanDisk c → HasCleanDisk b) → KeepsServing a b → KeepsServing b c → KeepsServing a c
+serves_then a b c mid first last = record {
+  limit = last.limit ∙ first.limit;
+  counts = omega (arith, first.counts, last.counts);
+  closes = λ clean live. elim (first.closes (mid clean) live) [
+    | inl still ↦ elim (last.closes clean still) [ inl shown ↦ inl shown | inr more ↦ inr (omega (arith, first.counts, more)) ]
+    | inr more ↦ inr (omega (arith, last.counts, more))
+  ];
+}
+
 pub leaves_then : (a b c : State) → LeavesTables a b → LeavesTables b c → LeavesTables a c
 leaves_then a b c first last = record {
   clean = λ clean. first.clean (last.clean clean);
@@ -28,6 +49,8 @@ leaves_then a b c first last = record {
   same = λ clean live. last.same clean live ∙ first.same (last.clean clean) (last.opened clean live);
   committed = λ clean live. last.committed clean live ∙ first.committed (last.clean clean) (last.opened clean live);
   left = λ clean db may. first.left (last.clean clean) db (last.left clean db may);
+  mode = last.mode ∙ first.mode;
+  serves = serves_then a b c last.clean first.serves last.serves;
 }
 
 pub leaves_three : (a b c d : State) → LeavesTables a b → LeavesTables b c → LeavesTables c d → LeavesTables a d
@@ -57,15 +80,30 @@ held_by {old} {new} leaves clean c has = same_holds c new old has (sym (leaves.s
 pub none_before : {old new : State} → LeavesTables old new → HasCleanDisk new → IsTrue new.is_open → HoldNoQueue new → HoldNoQueue old
 none_before leaves clean live none = λ w sound has. none w sound (holds_after leaves clean (content_of w) has live)
 
+-- so it is behind a call of the connection
+pub survives_serves : (old new : State) (Commits : Trees → Type 0) → Survives old new Commits → KeepsServing old new
+survives_serves old new Commits survives = record { limit = survives.limit; counts = survives.counts; closes = survives.closes }
+
+-- a transaction, from its begin to behind its end
+pub transaction_serves : {S : Type 0} (g : Ghosts S) (old begun mid new : Held S) (Commits : Trees → Type 0) → begun ≡ record old { in_transaction = true } → KeepsServing (state g begun) (state g mid) → Survives (state g mid) (state g new) Commits
+    → KeepsServing (state g old) (state g new)
+transaction_serves {S} g old begun mid new Commits is within ended =
+    let last = survives_serves (state g mid) (state g new) Commits ended in
+    let whole = serves_then (state g begun) (state g mid) (state g new) (clean_before (state g mid) (state g new) ended.clean) within last in
+    let it : KeepsServing (state g (record old { in_transaction = true })) (state g new) = subst (λ (h : Held S). KeepsServing (state g h) (state g new)) is whole in
+    record { limit = it.limit; counts = it.counts; closes = it.closes }
+
 -- outside a transaction: nothing is changed, or what was begun is undone
 pub left_leaves : (old new : State) → (IsTrue old.is_open → old.now ≡ old.committed) → (HasCleanDisk new → HasCleanDisk old) → (HasCleanDisk new → (db : Trees) → new.may_leave db → old.may_leave db)
-    → (HasCleanDisk new → IsUnchanged old new ⊎ IsRolledBack old new) → LeavesTables old new
-left_leaves old new settled early behind left = record {
+    → new.in_transaction ≡ old.in_transaction → KeepsServing old new → (HasCleanDisk new → IsUnchanged old new ⊎ IsRolledBack old new) → LeavesTables old new
+left_leaves old new settled early behind mode serves left = record {
   clean = early;
   opened = λ clean live. opened (left clean) live;
   same = λ clean live. same (left clean) live;
   committed = λ clean live. committed (left clean) live;
   left = behind;
+  mode = mode;
+  serves = serves;
 }
   where
     opened : IsUnchanged old new ⊎ IsRolledBack old new → IsTrue new.is_open → IsTrue old.is_open
@@ -80,6 +118,11 @@ left_leaves old new settled early behind left = record {
     committed (inl unchanged) live = unchanged.0.committed_is
     committed (inr back) live = (back.undone live).1
 
+-- outside a transaction it is where it began none
+pub still_outside : (before after outside : Bool) → outside ≡ not before → IsTrue outside → (before ≡ false → after ≡ false) → after ≡ before
+still_outside true after outside is out keeps = absurd (let both = sym out ∙ is in cc)
+still_outside false after outside is out keeps = keeps refl
+
 -- what a query may commit is nothing
 pub query_stays : (sql : List ℕ) (params : Row) (old new : State) → IsQueryText sql → Survives old new (CommitsShowing sql params old) → HasCleanDisk new → (db : Trees) → new.may_leave db → old.may_leave db
 query_stays sql params old new query survives clean db may = elim (survives.crash clean db may) [
@@ -92,10 +135,11 @@ module _ {R : Type 0} (shows : R → List Row) (sql : List ℕ) (params : Row) (
   left_by (Ok rows) ok err = inl (query_changes_nothing sql params old new (shows rows) query ok)
   left_by (Err e) ok err = query_fails sql params old new e err
 
-  pub query_leaves_tables : (r : Result R Error) → (IsTrue old.is_open → old.now ≡ old.committed) → Survives old new (CommitsShowing sql params old) → (HasCleanDisk new → IfOk r (λ rows. Shown sql params old new (shows rows)))
-      → (HasCleanDisk new → IfErr r (FailsToQuery sql params old new)) → LeavesTables old new
-  query_leaves_tables r settled survives ok err =
-      left_leaves old new settled (clean_before old new survives.clean) (query_stays sql params old new query survives) (λ clean. left_by r (ok clean) (err clean))
+  pub query_leaves_tables : (r : Result R Error) → (IsTrue old.is_open → old.now ≡ old.committed) → Survives old new (CommitsShowing sql params old) → new.in_transaction ≡ old.in_transaction
+      → (HasCleanDisk new → IfOk r (λ rows. Shown sql params old new (shows rows))) → (HasCleanDisk new → IfErr r (FailsToQuery sql params old new)) → LeavesTables old new
+  query_leaves_tables r settled survives mode ok err =
+      left_leaves old new settled (clean_before old new survives.clean) (query_stays sql params old new query survives) mode (survives_serves old new (CommitsShowing sql params old) survives)
+      (λ clean. left_by r (ok clean) (err clean))
 
 -- a query that begins writes nothing
 pub begun_unchanged : {S : Type 0} (g : Ghosts S) (sql : List ℕ) (params : Row) (old new : Held S) → IsQueryText sql → HasBegun g sql params old new → IsUnchanged (state g old) (state g new)

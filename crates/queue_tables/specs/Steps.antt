@@ -153,13 +153,13 @@ abbrev pub AreReportsKeyed : World → Type 0
 AreReportsKeyed w = (job seq : ℕ) → IfSome (get w.reports (job, seq)) (λ k. (k.report.job ≡ job) × (k.report.seq ≡ seq))
 
 -- how many documents the job of that number has
-abbrev pub documents_at : ℕ → List Entry → ℕ
-documents_at n [] = 0
-documents_at n (e ∷ es) = if e.row.number == n then length e.documents else documents_at n es
+abbrev pub document_count_at : ℕ → List Entry → ℕ
+document_count_at n [] = 0
+document_count_at n (e ∷ es) = if e.row.number == n then length e.documents else document_count_at n es
 
 -- its job is there, with fewer than sixteen documents, and it is no longer than one may be
 pub record CanTake (d : NewDocument) (w : World) : Type 0 where
   pub job : Job
   pub there : job_at d.job (rows w) ≡ Some job
-  pub few : documents_at d.job w.jobs < 16
+  pub few : document_count_at d.job w.jobs < 16
   pub short : length d.bytes ≤ 16777216

@@ -16,7 +16,7 @@ use queue_types::event::FreeRow;
 use sqlite::{Alter, Transaction, params};
 
 /// Pages that are added to the sums of an account, below zero where they are taken off.
-#[derive(Debug, Drop)]
+#[derive(Clone, Copy, Debug)]
 pub(crate) struct SumChange {
     pub reserved: i64,
     pub printed: i64,
@@ -26,12 +26,12 @@ pub(crate) struct SumChange {
 pub(crate) fn add_to_sums<S: Alter>(
     tx: &mut Transaction<'_, S>,
     name: &str,
-    more: &SumChange,
+    more: SumChange,
 ) -> Result<(), Fault>
     ensures same_reference { tx.new.conn.ghost_name ≡ tx.old.conn.ghost_name }
     ensures stays { StaysInside (state S.Store tx.old.conn.now) (state S.Store tx.new.conn.now) result }
-    ensures done { HasCleanDisk (state S.Store tx.new.conn.now) → OnOk result ((c : Content) → Holds c (state S.Store tx.old.conn.now) → CanAdd name.now more.now.reserved more.now.printed c → Holds (with_sums name.now more.now.reserved more.now.printed c) (state S.Store tx.new.conn.now)) }
-    ensures damaged { DamagedOnlyWhere (state S.Store tx.old.conn.now) (state S.Store tx.new.conn.now) result ((c : Content) → CanAdd name.now more.now.reserved more.now.printed c → ¬ HoldsWhileOpen c (state S.Store tx.old.conn.now)) }
+    ensures done { HasCleanDisk (state S.Store tx.new.conn.now) → OnOk result ((c : Content) → Holds c (state S.Store tx.old.conn.now) → CanAdd name.now more.reserved more.printed c → Holds (with_sums name.now more.reserved more.printed c) (state S.Store tx.new.conn.now)) }
+    ensures damaged { DamagedOnlyWhere (state S.Store tx.old.conn.now) (state S.Store tx.new.conn.now) result ((c : Content) → CanAdd name.now more.reserved more.printed c → ¬ HoldsWhileOpen c (state S.Store tx.old.conn.now)) }
 {
     if more.reserved == 0 && more.printed == 0 {
         return Ok(());
@@ -98,8 +98,8 @@ pub(crate) fn put_frees<S: Alter>(
     ensures done { HasCleanDisk (state S.Store tx.new.conn.now) → OnOk result ((w : World) → AreCovered w → Holds (content_of w) (state S.Store tx.old.conn.now) → Holds (content_of (with_frees accounts.now w)) (state S.Store tx.new.conn.now)) }
     ensures damaged { DamagedOnlyWhere (state S.Store tx.old.conn.now) (state S.Store tx.new.conn.now) result ((w : World) → AreCovered w → ¬ HoldsWhileOpen (content_of w) (state S.Store tx.old.conn.now)) }
 {
-    for k in 0..accounts.len() {
-        put_free(tx, &accounts[k])?;
+    for account in accounts {
+        put_free(tx, account)?;
     }
     Ok(())
 }

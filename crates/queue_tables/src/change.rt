@@ -43,15 +43,15 @@ fn put_any_document<S: Alter>(
 /// Adds the report, where there is one.
 fn put_any_report<S: Alter>(
     tx: &mut Transaction<'_, S>,
-    report: &Option<KeptReport>,
+    report: Option<KeptReport>,
 ) -> Result<(), Fault>
     ensures same_reference { tx.new.conn.ghost_name ≡ tx.old.conn.ghost_name }
     ensures stays { StaysInside (state S.Store tx.old.conn.now) (state S.Store tx.new.conn.now) result }
-    ensures done { HasCleanDisk (state S.Store tx.new.conn.now) → OnOk result ((w : World) → IfSome report.now (λ k. get w.reports (k.report.job, k.report.seq) ≡ None) → Holds (content_of w) (state S.Store tx.old.conn.now) → Holds (content_of (with_kept report.now w)) (state S.Store tx.new.conn.now)) }
-    ensures damaged { DamagedOnlyWhere (state S.Store tx.old.conn.now) (state S.Store tx.new.conn.now) result ((w : World) → AreDistinct w.jobs → AreReportsKeyed w → IfSome report.now (λ k. (get w.reports (k.report.job, k.report.seq) ≡ None) × IsSome (job_at k.report.job (rows w))) → ¬ HoldsWhileOpen (content_of w) (state S.Store tx.old.conn.now)) }
+    ensures done { HasCleanDisk (state S.Store tx.new.conn.now) → OnOk result ((w : World) → IfSome report (λ k. get w.reports (k.report.job, k.report.seq) ≡ None) → Holds (content_of w) (state S.Store tx.old.conn.now) → Holds (content_of (with_kept report w)) (state S.Store tx.new.conn.now)) }
+    ensures damaged { DamagedOnlyWhere (state S.Store tx.old.conn.now) (state S.Store tx.new.conn.now) result ((w : World) → AreDistinct w.jobs → AreReportsKeyed w → IfSome report (λ k. (get w.reports (k.report.job, k.report.seq) ≡ None) × IsSome (job_at k.report.job (rows w))) → ¬ HoldsWhileOpen (content_of w) (state S.Store tx.old.conn.now)) }
 {
     match report {
-        Some(kept) => insert_report(tx, kept),
+        Some(kept) => insert_report(tx, &kept),
         None => Ok(()),
     }
 }
@@ -85,6 +85,6 @@ pub(crate) fn write_change<S: Alter>(
     put_jobs(alloc, tx, decision.change.jobs.as_slice())?;
     put_any_document(tx, &decision.change.document)?;
     insert_grants(tx, decision.change.grants.as_slice())?;
-    put_any_report(tx, &decision.change.report)?;
+    put_any_report(tx, decision.change.report)?;
     put_any_next(tx, decision.change.next)
 }

@@ -6,7 +6,7 @@ ghost use Rattle.queue_types.specs.Event.{document_of};
 ghost use Rattle.queue_core.specs.World.{World};
 ghost use Rattle.queue_tables.specs.Content.{Content, Holds, content_of, HoldsWhileOpen};
 ghost use Rattle.queue_tables.specs.Leaving.{StaysInside};
-ghost use Rattle.queue_tables.specs.Steps.{AreDistinct, documents_at, with_added, with_document_row, CanTake, are_numbered, is_numbered};
+ghost use Rattle.queue_tables.specs.Steps.{AreDistinct, document_count_at, with_added, with_document_row, CanTake, are_numbered, is_numbered};
 ghost use Rattle.queue_tables.specs.Values.{document_values};
 ghost use Rattle.queue_tables.specs.Kept.{HasOne};
 ghost use Rattle.queue_tables.specs.Refusing.{DamagedOnlyWhere};
@@ -49,8 +49,8 @@ fn count_documents<S: Alter>(tx: &mut Transaction<'_, S>, job: u32) -> Result<u3
     ensures same_reference { tx.new.conn.ghost_name ≡ tx.old.conn.ghost_name }
     ensures stays { StaysInside (state S.Store tx.old.conn.now) (state S.Store tx.new.conn.now) result }
     ensures few { IfOk result (λ n. n < 16) }
-    ensures counted { HasCleanDisk (state S.Store tx.new.conn.now) → IfOk result (λ n. (w : World) → AreDistinct w.jobs → Holds (content_of w) (state S.Store tx.old.conn.now) → (n ≡ documents_at job w.jobs) × Holds (content_of w) (state S.Store tx.new.conn.now)) }
-    ensures damaged { DamagedOnlyWhere (state S.Store tx.old.conn.now) (state S.Store tx.new.conn.now) result ((w : World) → AreDistinct w.jobs → documents_at job w.jobs < 16 → ¬ HoldsWhileOpen (content_of w) (state S.Store tx.old.conn.now)) }
+    ensures counted { HasCleanDisk (state S.Store tx.new.conn.now) → IfOk result (λ n. (w : World) → AreDistinct w.jobs → Holds (content_of w) (state S.Store tx.old.conn.now) → (n ≡ document_count_at job w.jobs) × Holds (content_of w) (state S.Store tx.new.conn.now)) }
+    ensures damaged { DamagedOnlyWhere (state S.Store tx.old.conn.now) (state S.Store tx.new.conn.now) result ((w : World) → AreDistinct w.jobs → document_count_at job w.jobs < 16 → ¬ HoldsWhileOpen (content_of w) (state S.Store tx.old.conn.now)) }
 {
     let found = select_inside(
         tx,

@@ -41,8 +41,8 @@ pub(crate) fn insert_grants<S: Alter>(
     ensures done { HasCleanDisk (state S.Store tx.new.conn.now) → OnOk result ((w : World) → AreNew w.grants grants.now → Holds (content_of w) (state S.Store tx.old.conn.now) → Holds (content_of (with_grants grants.now w)) (state S.Store tx.new.conn.now)) }
     ensures damaged { DamagedOnlyWhere (state S.Store tx.old.conn.now) (state S.Store tx.new.conn.now) result ((w : World) → AreNew w.grants grants.now → All (λ g. IsSome (get w.free g.account)) grants.now → ¬ HoldsWhileOpen (content_of w) (state S.Store tx.old.conn.now)) }
 {
-    for k in 0..grants.len() {
-        insert_grant(tx, &grants[k])?;
+    for grant in grants {
+        insert_grant(tx, grant)?;
     }
     Ok(())
 }

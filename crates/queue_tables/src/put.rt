@@ -28,7 +28,7 @@ fn enter_job<S: Alter>(tx: &mut Transaction<'_, S>, job: &Job) -> Result<(), Fau
 {
     let taken = taken_by(job)?;
     insert_job(tx, job)?;
-    add_to_sums(tx, job.owner.as_str(), &taken)
+    add_to_sums(tx, job.owner.as_str(), taken)
 }
 
 /// Puts a job anew that was this before, and what it takes of its account.
@@ -41,8 +41,8 @@ fn replace_job<S: Alter>(tx: &mut Transaction<'_, S>, job: &Job, before: &Job) -
     let back = returned_by(before)?;
     let taken = taken_by(job)?;
     update_job(tx, job)?;
-    add_to_sums(tx, before.owner.as_str(), &back)?;
-    add_to_sums(tx, job.owner.as_str(), &taken)
+    add_to_sums(tx, before.owner.as_str(), back)?;
+    add_to_sums(tx, job.owner.as_str(), taken)
 }
 
 /// Puts a job anew, or adds it where there is none of its number.
@@ -69,8 +69,8 @@ pub(crate) fn put_jobs<S: Alter>(
     ensures done { HasCleanDisk (state S.Store tx.new.conn.now) → OnOk result ((w : World) → IsSummable w.jobs → length (fold with_row w.jobs jobs.now) ≤ 2 ^ 31 → Holds (content_of w) (state S.Store tx.old.conn.now) → IsSummable (fold with_row w.jobs jobs.now) × Holds (content_of (with_puts jobs.now w)) (state S.Store tx.new.conn.now)) }
     ensures damaged { DamagedOnlyWhere (state S.Store tx.old.conn.now) (state S.Store tx.new.conn.now) result ((w : World) → IsSummable w.jobs → AreFormed w.jobs → All (λ j. AreAmounts j × IsFormedJob j) jobs.now → length (fold with_row w.jobs jobs.now) ≤ 2 ^ 31 → ¬ HoldsWhileOpen (content_of w) (state S.Store tx.old.conn.now)) }
 {
-    for k in 0..jobs.len() {
-        put_job(alloc, tx, &jobs[k])?;
+    for job in jobs {
+        put_job(alloc, tx, job)?;
     }
     Ok(())
 }

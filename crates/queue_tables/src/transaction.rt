@@ -7,6 +7,7 @@ ghost use Rattle.queue_types.specs.Event.{change_of, decision_of};
 ghost use Rattle.queue_core.specs.Sound.{IsSound};
 ghost use Rattle.queue_core.specs.World.{World, made_on};
 ghost use Rattle.queue_tables.specs.Content.{Holds, LeavesOneOf, content_of, HoldsWhileOpen};
+ghost use Rattle.queue_tables.specs.Leaving.{KeepsServing};
 
 use crate::change::write_change;
 use crate::fault::{Fault, fault_of_write};
@@ -15,7 +16,7 @@ use queue_types::event::Decision;
 use sqlite::{Alter, Connection};
 use std::alloc::Global;
 
-/// The same outside of any transaction.
+/// Makes a decision as [`make`] says, on a connection outside of any transaction.
 fn make_outside<S: Alter>(
     alloc: Global,
     conn: &mut Connection<S>,
@@ -33,6 +34,7 @@ fn make_outside<S: Alter>(
     ensures crash { HasCleanDisk (state S.Store conn.new) → (w : World) → IsSound w → IsDecisionOn w (decision_of decision.now) → Holds (content_of w) (state S.Store conn.old) → (state S.Store conn.old).now ≡ (state S.Store conn.old).committed → LeavesOneOf w (made_on (change_of decision.now.change) w) (state S.Store conn.new) }
     ensures damaged { HasCleanDisk (state S.Store conn.new) → IfErr result (λ e. e ≡ Fault.Damaged → (w : World) → IsSound w → IsDecisionOn w (decision_of decision.now) → ¬ HoldsWhileOpen (content_of w) (state S.Store conn.old)) }
     ensures ended { (state S.Store conn.new).in_transaction ≡ false }
+    ensures serves { KeepsServing (state S.Store conn.old) (state S.Store conn.new) }
 {
     decisions_are_sound();
     let mut tx = conn.transaction();
@@ -47,7 +49,8 @@ fn make_outside<S: Alter>(
 /// transaction, which is committed where the answer is Ok. After a refusal they stand for the same world as
 /// before, where the connection is still open. Whatever the answer, a crash then leaves the queue from before
 /// it or the one after it. Damaged is told only where the tables stand for no such world. Inside a transaction of
-/// the caller's it answers Disk and does nothing; else none is under way behind it.
+/// the caller's it answers Disk and does nothing; else none is under way behind it. Only a disk that fails or
+/// refuses shuts the connection: want of memory doesn't.
 pub fn make<S: Alter>(
     alloc: Global,
     conn: &mut Connection<S>,
@@ -62,7 +65,8 @@ pub fn make<S: Alter>(
     ensures still_settled { HasCleanDisk (state S.Store conn.new) → OnErr result ((state S.Store conn.old).now ≡ (state S.Store conn.old).committed → IsTrue (state S.Store conn.new).is_open → (state S.Store conn.new).now ≡ (state S.Store conn.new).committed) }
     ensures crash { HasCleanDisk (state S.Store conn.new) → (w : World) → IsSound w → IsDecisionOn w (decision_of decision.now) → Holds (content_of w) (state S.Store conn.old) → (state S.Store conn.old).now ≡ (state S.Store conn.old).committed → LeavesOneOf w (made_on (change_of decision.now.change) w) (state S.Store conn.new) }
     ensures inside { IsTrue (state S.Store conn.old).in_transaction → (result ≡ Err Fault.Disk) × (conn.new ≡ conn.old) }
-    ensures ended { (state S.Store conn.old).in_transaction ≡ false → (state S.Store conn.new).in_transaction ≡ false }
+    ensures mode { (state S.Store conn.new).in_transaction ≡ (state S.Store conn.old).in_transaction }
+    ensures serves { KeepsServing (state S.Store conn.old) (state S.Store conn.new) }
     ensures damaged { HasCleanDisk (state S.Store conn.new) → IfErr result (λ e. e ≡ Fault.Damaged → (w : World) → IsSound w → IsDecisionOn w (decision_of decision.now) → ¬ HoldsWhileOpen (content_of w) (state S.Store conn.old)) }
 {
     if !conn.is_autocommit() {

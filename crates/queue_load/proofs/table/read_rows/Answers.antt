@@ -4,6 +4,7 @@ use Rattle.sqlite.specs.Held.{state}
 use Rattle.sqlite.proofs.Callers.{unchanged_then, given_begin}
 use Rattle.queue_load.proofs.Loading.{tell_more}
 use Rattle.queue_tables.proofs.Ending.{err_after}
+use Rattle.queue_tables.proofs.Leaving.{serves_all, serves_then, survives_serves}
 use Rattle.queue_tables.proofs.Reading.{answers_at, begins_at, plain_at, unchanged_open}
 use Rattle.queue_load.proofs.table.read_rows.Goals as goal
 
@@ -15,6 +16,8 @@ rows-init g c =
       λ clean live. unchanged_open old live,
       λ clean sql given. ([], given, rw c.new-items.ensures.items tt),
       λ clean db may. may,
+      λ outside. outside,
+      serves_all old,
     )
 
 pub returns-in_default-clause-read : goal.returns-in_default-clause-read
@@ -64,4 +67,6 @@ rows-preserved g c =
           let given = (rw (c.in_ok-row.was, c.in-Some.is) at (moved.ok clean)) sql [] was.0 was.1 in
           (was.0 ++ row ∷ [], given, rw c.in_ok-push.ensures.items (tell_more g.T.TableRow.tells c.rows.items.items was.0 c.in_ok-read.field-0 row was.2 c.in_ok-read.ensures.ok)),
       search rules,
+      λ outside. moved.mode (c.rows.invariant.5 outside),
+      serves_then first before now mid c.rows.invariant.6 (survives_serves before now (λ _. ⊥) moved.survives),
     )

@@ -2,10 +2,10 @@ use Rattle.std.proofs.Common.{[], IsTrue, arith, rules}
 use Rattle.sqlite.specs.Given.{HasGiven, IsPlain}
 use Rattle.sqlite.specs.Held.{state}
 use Rattle.sqlite.specs.Listing.{understood}
-use Rattle.sqlite.specs.State.{State, HasCleanDisk, IsUnchanged}
+use Rattle.sqlite.specs.State.{State, CommitsShowing, HasCleanDisk, IsUnchanged}
 use Rattle.sqlite.proofs.Callers.{begun_plain, unchanged_then}
 use Rattle.queue_tables.proofs.Ending.{on_ok, query_fails}
-use Rattle.queue_tables.proofs.Leaving.{begun_unchanged, leaves_all, left_leaves, query_stays}
+use Rattle.queue_tables.proofs.Leaving.{begun_unchanged, leaves_all, left_leaves, query_stays, serves_then, still_outside, survives_serves}
 use Rattle.queue_tables.proofs.Reading.{left_then, plain_at}
 use Rattle.queue_load.specs.Reads.{HasBook}
 use Rattle.queue_load.proofs.Loading.{plain_in, same_read, same_formless}
@@ -47,6 +47,7 @@ returns-in_err-rows-clause-leaves g c =
     let held = rw c.in_err-rows.was at c.query.follows.holds-at-none in
     let outside : IsTrue c.is_autocommit.result = search rules in
     left_leaves old new (c.is_autocommit.ensures.settled outside) (λ clean. omega (arith, held.survives.clean)) (query_stays c.args.sql.now [] old new c.requires.query held.survives)
+    (still_outside old.in_transaction new.in_transaction c.is_autocommit.result c.is_autocommit.ensures.value outside held.mode) (survives_serves old new (CommitsShowing c.args.sql.now [] old) held.survives)
     (λ clean. query_fails c.args.sql.now [] old new c.in_err-rows.field-0.0 (held.err clean))
 
 pub returns-clause-leaves : goal.returns-clause-leaves
@@ -56,6 +57,8 @@ returns-clause-leaves g c =
     let mid = c.read_rows.ensures.clean in
     let kept = left_leaves (old g it) (now g it) (c.is_autocommit.ensures.settled outside) (λ clean. early g it (mid clean))
     (λ clean db may. query_stays c.args.sql.now [] (old g it) (first g it) c.requires.query c.in_ok-rows.ensures.survives (mid clean) db (c.read_rows.ensures.behind clean db may))
+    (still_outside (old g it).in_transaction (now g it).in_transaction c.is_autocommit.result c.is_autocommit.ensures.value outside (λ before. c.read_rows.ensures.mode (c.in_ok-rows.ensures.mode before)))
+    (serves_then (old g it) (first g it) (now g it) mid (survives_serves (old g it) (first g it) (CommitsShowing c.args.sql.now [] (old g it)) c.in_ok-rows.ensures.survives) c.read_rows.ensures.serves)
     (λ clean. let was = same g it (mid clean) in left_then (old g it) (first g it) (now g it) was (c.read_rows.ensures.left clean was.0.is_open)) in
     search (rules, kept)
 

@@ -5,7 +5,7 @@ use Rattle.queue_tables.proofs.Entries.{distinct_of}
 use Rattle.queue_shown.proofs.Damage.{damage_told, write_told}
 use Rattle.queue_shown.proofs.PieceRows.{none_without}
 use Rattle.queue_shown.proofs.PiecesSent.{whole_sent, front_sent, there_shown}
-use Rattle.queue_tables.proofs.Leaving.{leaves_all, left_leaves}
+use Rattle.queue_tables.proofs.Leaving.{leaves_all, left_leaves, still_outside}
 use Rattle.queue_shown.proofs.send.send_document.Goals as goal
 
 pub returns-then-not-is_autocommit-clause-err : goal.returns-then-not-is_autocommit-clause-err
@@ -17,7 +17,8 @@ returns-then-not-is_autocommit-clause-leaves g c = leaves_all (state g.S.Store c
 pub returns-in-Ok-clause-leaves : goal.returns-in-Ok-clause-leaves
 returns-in-Ok-clause-leaves g c =
     let outside : IsTrue c.is_autocommit.result = search rules in
-    left_leaves (state g.S.Store c.args.conn.now) (state g.S.Store c.send_pieces.new.conn) (c.is_autocommit.ensures.settled outside) c.send_pieces.ensures.clean c.send_pieces.ensures.behind c.send_pieces.ensures.left
+    left_leaves (state g.S.Store c.args.conn.now) (state g.S.Store c.send_pieces.new.conn) (c.is_autocommit.ensures.settled outside) c.send_pieces.ensures.clean c.send_pieces.ensures.behind
+    (still_outside c.args.conn.now.in_transaction c.send_pieces.new.conn.in_transaction c.is_autocommit.result c.is_autocommit.ensures.value outside c.send_pieces.ensures.mode) c.send_pieces.ensures.serves c.send_pieces.ensures.left
 
 pub returns-in-Ok-clause-ok : goal.returns-in-Ok-clause-ok
 returns-in-Ok-clause-ok g c clean w d sound has there =
@@ -27,7 +28,8 @@ returns-in-Ok-clause-ok g c clean w d sound has there =
 pub returns-in-Err-clause-leaves : goal.returns-in-Err-clause-leaves
 returns-in-Err-clause-leaves g c =
     let outside : IsTrue c.is_autocommit.result = search rules in
-    left_leaves (state g.S.Store c.args.conn.now) (state g.S.Store c.send_pieces.new.conn) (c.is_autocommit.ensures.settled outside) c.send_pieces.ensures.clean c.send_pieces.ensures.behind c.send_pieces.ensures.left
+    left_leaves (state g.S.Store c.args.conn.now) (state g.S.Store c.send_pieces.new.conn) (c.is_autocommit.ensures.settled outside) c.send_pieces.ensures.clean c.send_pieces.ensures.behind
+    (still_outside c.args.conn.now.in_transaction c.send_pieces.new.conn.in_transaction c.is_autocommit.result c.is_autocommit.ensures.value outside c.send_pieces.ensures.mode) c.send_pieces.ensures.serves c.send_pieces.ensures.left
 
 pub returns-in-Err-clause-err : goal.returns-in-Err-clause-err
 returns-in-Err-clause-err g c clean w d sound has there =

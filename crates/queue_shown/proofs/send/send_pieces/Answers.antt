@@ -12,7 +12,7 @@ use Rattle.queue_shown.specs.Sent.{HasBook, pieces_select}
 use Rattle.queue_shown.specs.declared.send.Stop.TheVariants.{Write}
 use Rattle.queue_shown.proofs.Frames.{failed_opens}
 use Rattle.queue_shown.proofs.Sending.{pieces_plain_in, err_then, same_found, same_sent, same_front}
-use Rattle.queue_tables.proofs.Leaving.{begun_unchanged, query_stays}
+use Rattle.queue_tables.proofs.Leaving.{begun_unchanged, query_stays, serves_then, survives_serves}
 use Rattle.queue_tables.proofs.Reading.{left_then, plain_at, still_open}
 use Rattle.queue_shown.proofs.Texts.{select_pieces_is}
 use Rattle.queue_shown.proofs.send.send_pieces.Goals.{After-send_rows}
@@ -125,3 +125,14 @@ returns-clause-writer_failed g c clean =
     let kept = same g it (c.send_rows.ensures.clean late) in
     let live = map_err c.send_rows.result _ (λ stop. stop ≡ Write → IsTrue (now g it).is_open) (λ stop told unwritten. still_open (first g it) (now g it) (told unwritten)) (c.send_rows.ensures.writer_failed late kept.0.is_open) in
     search (rules, live)
+
+pub returns-in_err-rows-clause-serves : goal.returns-in_err-rows-clause-serves
+returns-in_err-rows-clause-serves g c =
+    let held = rw c.in_err-rows.was at c.query.follows.holds-at-none in
+    survives_serves (state g.S.Store c.args.conn.now) (state g.S.Store c.query.follows.lender-at-none) _ held.survives
+
+pub returns-clause-serves : goal.returns-clause-serves
+returns-clause-serves g c =
+    let it = (goal.at.returns-clause-serves g c).After-send_rows in
+    let serves = serves_then (old g it) (first g it) (now g it) c.send_rows.ensures.clean (survives_serves (old g it) (first g it) _ c.in_ok-rows.ensures.survives) c.send_rows.ensures.serves in
+    search (rules, serves)

@@ -9,6 +9,7 @@ use Rattle.queue_shown.specs.Sent.{pieces_select, bytes_of, piece_bytes}
 use Rattle.queue_shown.proofs.Damage.{stop_after, write_after}
 use Rattle.queue_shown.proofs.Writes.{one_more, front_of}
 use Rattle.queue_shown.proofs.Sending.{on_err, front_whole}
+use Rattle.queue_tables.proofs.Leaving.{serves_all, serves_then, survives_serves}
 use Rattle.queue_tables.proofs.Reading.{answers_at, begins_at, plain_at, unchanged_open}
 use Rattle.queue_shown.proofs.send.send_rows.Goals.{After-put_piece}
 use Rattle.queue_shown.proofs.send.send_rows.Given.{Over}
@@ -47,6 +48,8 @@ rows-init g c =
       λ clean live. unchanged_open old live,
       λ clean params given. ([], given, Appends-nil (g.W.Write.contents c.args.out.now), c.requires),
       λ clean db may. may,
+      λ outside. outside,
+      serves_all old,
     )
 
 pub returns-in_err-row-clause-front : goal.returns-in_err-row-clause-front
@@ -96,6 +99,8 @@ rows-preserved g c =
             rw (one_more was.0 row) (omega (arith, length-append (bytes_of was.0) (piece_bytes row), was.3, whole.1)),
           ),
       search rules,
+      λ outside. c.next.follows.holds-at-none.mode (c.rows.invariant.5 outside),
+      serves_then (first g it) (before g it) (now g it) (earlier g it) c.rows.invariant.6 (survives_serves (before g it) (now g it) (λ _. ⊥) c.next.follows.holds-at-none.survives),
     )
 
 pub returns-clause-front : goal.returns-clause-front

@@ -1,7 +1,8 @@
 use Rattle.std.proofs.Common.{IsTrue, rules}
 use Rattle.sqlite.specs.Held.{state}
 use Rattle.queue_rows.specs.Rows.{tables_in}
-use Rattle.queue_store.proofs.Adopting.{adopted, within_limits}
+use Rattle.queue_tables.proofs.Ending.{not_inside}
+use Rattle.queue_store.proofs.Adopting.{adopted, out_of, within_limits}
 use Rattle.queue_store.proofs.Results.{if_ok_then, if_err}
 use Rattle.queue_store.proofs.adopt.settings_in_tables.Goals as goal
 
@@ -10,8 +11,14 @@ returns-clause-stands g c = λ fits clean.
     let old = state g.S.Store c.args.conn.now in
     let new = state g.S.Store c.load_queue.new.conn in
     let outside : IsTrue c.is_autocommit.result = search rules in
-    if_ok_then c.settings_of.result _ _ (λ s told. adopted (tables_in c.in_ok-rows.rows) old new s (c.in_ok-rows.ensures.queue fits clean) c.schema-schema.ensures.live (c.in_ok-rows.ensures.same clean) (c.is_autocommit.ensures.settled outside) told) c.settings_of.ensures.ok
+    if_ok_then c.settings_of.result _ _ (λ s told. adopted (tables_in c.in_ok-rows.rows) old new s (c.in_ok-rows.ensures.queue fits clean) c.schema-schema.ensures.live (c.in_ok-rows.ensures.same clean) (c.is_autocommit.ensures.settled outside) (out_of _ _ c.is_autocommit.ensures.value outside) told) c.settings_of.ensures.ok
 
 pub returns-clause-damaged : goal.returns-clause-damaged
 returns-clause-damaged g c = λ fits clean.
     if_err c.settings_of.result _ _ (λ e beyond is w holds. within_limits (tables_in c.in_ok-rows.rows) (state g.S.Store c.args.conn.now).now (c.in_ok-rows.ensures.queue fits clean) (beyond is)) c.settings_of.ensures.damaged
+
+pub returns-in_err-rows-clause-inside : goal.returns-in_err-rows-clause-inside
+returns-in_err-rows-clause-inside g c = not_inside c.is_autocommit.result (state g.S.Store c.args.conn.now).in_transaction c.is_autocommit.ensures.value (search rules)
+
+pub returns-clause-inside : goal.returns-clause-inside
+returns-clause-inside g c = not_inside c.is_autocommit.result (state g.S.Store c.args.conn.now).in_transaction c.is_autocommit.ensures.value (search rules)

@@ -1,4 +1,4 @@
-use Rattle.std.proofs.Common.{rules, ◌≡◌, sym, subst}
+use Rattle.std.proofs.Common.{rules, ◌≡◌, false, sym, subst}
 use Rattle.sqlite.specs.State.{HasCleanDisk}
 use Rattle.sqlite.specs.Held.{state}
 use Rattle.queue_tables.specs.Content.{Holds}
@@ -18,3 +18,8 @@ returns-in-Ok-clause-made g c clean =
     let begun = subst (λ h. (state g.S.Store h).now.schema ≡ no_schema) (sym c.transaction-tx.ensures.begun) blank in
     let put = c.in_ok-create_all.ensures.done early begun in
     subst (λ h. Holds (new_content c.args.meta.now) (state g.S.Store h)) (sym tie) (committed_holds (new_content c.args.meta.now) mid after _ put shown.1)
+
+pub returns-in-Ok-clause-ended : goal.returns-in-Ok-clause-ended
+returns-in-Ok-clause-ended g c =
+    let tie : c.conn-2-1.given.0 ≡ c.commit.new.self.0 = search rules in
+    subst (λ h. (state g.S.Store h).in_transaction ≡ false) (sym tie) c.commit.ensures.ended

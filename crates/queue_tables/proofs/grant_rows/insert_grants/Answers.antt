@@ -11,30 +11,31 @@ use Rattle.queue_tables.proofs.Ending.{err_after}
 use Rattle.queue_tables.proofs.Kept.{grant_more}
 use Rattle.queue_tables.proofs.grant_rows.insert_grants.Goals as goal
 
-pub loop-k-preserved : goal.loop-k-preserved
-loop-k-preserved g c = (
+pub loop-grant-preserved : goal.loop-grant-preserved
+loop-grant-preserved g c = (
   search rules,
   search rules,
   search rules,
   search rules,
   λ clean w new has.
       let rows = c.args.grants.now in
-      let at = c.loop-k.invariant.4 (c.in_ok-insert_grant.ensures.stays.clean clean) w new has in
-      grant_more rows c.loop-k.k c.index-grants-k.result w (state g.S.Store c.insert_grant.new.tx.conn.now) (omega arith) c.index-grants-k.is at.0
-      (c.in_ok-insert_grant.ensures.done clean (content_of (with_grants (take c.loop-k.k rows) w)) at.1),
+      let at = c.loop-grant.invariant.4 (c.in_ok-insert_grant.ensures.stays.clean clean) w new has in
+      grant_more rows c.loop-grant.grant-index c.grant-item.result w (state g.S.Store c.insert_grant.new.tx.conn.now) (omega arith) c.grant-item.is at.0
+      (c.in_ok-insert_grant.ensures.done clean (content_of (with_grants (take c.loop-grant.grant-index rows) w)) at.1),
+  search rules,
 )
 
 pub returns-clause-done : goal.returns-clause-done
 returns-clause-done g c clean = λ w new has.
     let rows = c.args.grants.now in
-    subst (λ (ks : List GrantRow). Holds (content_of (with_grants ks w)) (state g.S.Store c.loop-k.tx.conn.now)) (take_all c.loop-k.k rows (omega arith)) (c.loop-k.invariant.4 clean w new has).1
+    subst (λ (ks : List GrantRow). Holds (content_of (with_grants ks w)) (state g.S.Store c.loop-grant.tx.conn.now)) (take_all c.loop-grant.grant-index rows (omega arith)) (c.loop-grant.invariant.4 clean w new has).1
 
 pub returns-in_err-insert_grant-clause-damaged : goal.returns-in_err-insert_grant-clause-damaged
 returns-in_err-insert_grant-clause-damaged g c clean inside = err_after _ c.in_err-insert_grant.field-0.0 _ c.from_residual.ensures.1 (λ d w new accounts held.
     let gs = c.args.grants.now in
-    let x = c.index-grants-k.result in
-    let wk = with_grants (take c.loop-k.k gs) w in
+    let x = c.grant-item.result in
+    let wk = with_grants (take c.loop-grant.grant-index gs) w in
     let early = c.insert_grant.ensures.stays.clean clean in
-    let held_yet = held_then (c.loop-k.invariant.2 early inside) (λ has. (c.loop-k.invariant.4 early w new has).1) held in
-    let account = subst (λ (y : GrantRow). IsSome (get w.free y.account)) (sym c.index-grants-k.is) (accounts c.loop-k.k x (omega arith)) in
-    c.in_err-insert_grant.ensures.damaged clean (c.loop-k.invariant.3 early inside) d (content_of wk) (has_account x.account wk account) (no_grant_yet gs c.loop-k.k x w (omega arith) c.index-grants-k.is new) held_yet)
+    let held_yet = held_then (c.loop-grant.invariant.2 early inside) (λ has. (c.loop-grant.invariant.4 early w new has).1) held in
+    let account = subst (λ (y : GrantRow). IsSome (get w.free y.account)) (sym c.grant-item.is) (accounts c.loop-grant.grant-index x (omega arith)) in
+    c.in_err-insert_grant.ensures.damaged clean (c.loop-grant.invariant.3 early inside) d (content_of wk) (has_account x.account wk account) (no_grant_yet gs c.loop-grant.grant-index x w (omega arith) c.grant-item.is new) held_yet)

@@ -18,6 +18,7 @@ loop-k-preserved g c = (
   λ clean content has. next_piece c.args.job c.args.doc c.args.bytes.now _ c.loop-k.k content (state g.S.Store c.insert_piece.new.tx.conn.now)
       (piece_is c.args.bytes.now (c.loop-k.k * 65536) c.min-end.result c.min-end.ensures)
       (c.in_ok-insert_piece.ensures.done clean _ (c.loop-k.invariant.4 (c.in_ok-insert_piece.ensures.stays.clean clean) content has)),
+  search rules,
 )
 
 pub returns-clause-done : goal.returns-clause-done

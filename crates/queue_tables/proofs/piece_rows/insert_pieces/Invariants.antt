@@ -2,7 +2,7 @@ use Rattle.std.proofs.Common.{◌≡◌, IsTrue}
 use Rattle.sqlite.specs.State.{HasCleanDisk}
 use Rattle.sqlite.specs.Held.{state}
 use Rattle.queue_tables.specs.Content.{Content, Holds}
-use Rattle.queue_tables.specs.Leaving.{KeepsBehind}
+use Rattle.queue_tables.specs.Leaving.{KeepsBehind, KeepsServing}
 use Rattle.queue_tables.specs.Steps.{with_pieces}
 use Rattle.queue_tables.proofs.piece_rows.insert_pieces.Given as goal
 
@@ -15,3 +15,4 @@ invariant-loop-k g l =
     × (HasCleanDisk now → IsTrue first.in_transaction → KeepsBehind first now)
     × (HasCleanDisk now → IsTrue first.in_transaction → IsTrue now.in_transaction)
     × (HasCleanDisk now → (c : Content) → Holds c first → Holds (with_pieces l.fn.job l.fn.doc l.fn.bytes l.k c) now)
+    × KeepsServing first now

@@ -4,8 +4,10 @@ use Rattle.sqlite.specs.Held.{state}
 use Rattle.queue_core.specs.World.{made_on}
 use Rattle.queue_types.specs.Event.{change_of}
 use Rattle.queue_tables.specs.Content.{Holds, LeavesOneOf, content_of}
+use Rattle.queue_tables.specs.Leaving.{KeepsServing}
 use Rattle.queue_tables.proofs.Crash.{commit_leaves}
 use Rattle.queue_tables.proofs.Ending.{committed_holds, begun_holds, clean_before}
+use Rattle.queue_tables.proofs.Leaving.{transaction_serves}
 use Rattle.queue_tables.proofs.transaction.make_outside.Goals as goal
 
 pub returns-in-Ok-clause-made : goal.returns-in-Ok-clause-made
@@ -44,3 +46,15 @@ pub returns-in-Err-clause-ended : goal.returns-in-Err-clause-ended
 returns-in-Err-clause-ended g c =
     let tie : c.conn-2-1.given.0 ≡ c.commit.new.self.0 = search rules in
     subst (λ h. (state g.S.Store h).in_transaction ≡ false) (sym tie) c.commit.ensures.ended
+
+pub returns-in-Ok-clause-serves : goal.returns-in-Ok-clause-serves
+returns-in-Ok-clause-serves g c =
+    let tie : c.conn-2-1.given.0 ≡ c.commit.new.self.0 = search rules in
+    subst (λ h. KeepsServing (state g.S.Store c.args.conn.now) (state g.S.Store h)) (sym tie)
+    (transaction_serves g.S.Store c.args.conn.now c.transaction-tx.result.conn.now c.write_change.new.tx.conn.now c.commit.new.self.0 _ c.transaction-tx.ensures.begun c.write_change.ensures.stays.serves c.commit.ensures.survives)
+
+pub returns-in-Err-clause-serves : goal.returns-in-Err-clause-serves
+returns-in-Err-clause-serves g c =
+    let tie : c.conn-2-1.given.0 ≡ c.commit.new.self.0 = search rules in
+    subst (λ h. KeepsServing (state g.S.Store c.args.conn.now) (state g.S.Store h)) (sym tie)
+    (transaction_serves g.S.Store c.args.conn.now c.transaction-tx.result.conn.now c.write_change.new.tx.conn.now c.commit.new.self.0 _ c.transaction-tx.ensures.begun c.write_change.ensures.stays.serves c.commit.ensures.survives)

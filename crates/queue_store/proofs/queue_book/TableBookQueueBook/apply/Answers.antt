@@ -15,6 +15,20 @@ returns-in-Ok-clause-ok g c w stands honest =
       settings_are = was.settings_are;
       holds = λ is_open. c.in-Ok.ensures.made honest w was.sound decided (was.holds (c.make.ensures.opened honest is_open));
       settled = λ is_open. c.in-Ok.ensures.settled honest;
+      outside = λ is_open. c.make.ensures.mode ∙ was.outside (c.make.ensures.opened honest is_open);
+      unlimited = λ is_open. c.make.ensures.serves.limit ∙ was.unlimited (c.make.ensures.opened honest is_open);
+    }
+
+pub returns-clause-err : goal.returns-clause-err
+returns-clause-err g c w stood honest =
+    let was = stood (c.make.ensures.clean honest) in
+    record {
+      sound = was.sound;
+      settings_are = was.settings_are;
+      holds = λ is_open. c.in-Err.ensures.refused honest w (was.holds (c.make.ensures.opened honest is_open)) is_open;
+      settled = λ is_open. c.in-Err.ensures.still_settled honest (was.settled (c.make.ensures.opened honest is_open)) is_open;
+      outside = λ is_open. c.make.ensures.mode ∙ was.outside (c.make.ensures.opened honest is_open);
+      unlimited = λ is_open. c.make.ensures.serves.limit ∙ was.unlimited (c.make.ensures.opened honest is_open);
     }
 
 pub returns-in-Ok-clause-crash : goal.returns-in-Ok-clause-crash
