@@ -33,6 +33,6 @@ fault_of_replay replay.Memory = Memory
 fault_of_replay replay.Disk = Disk
 fault_of_replay replay.Io = Io
 
--- a file or a stream failed
+-- a file or a stream failed, or there was no memory
 abbrev pub IsOfStream : Fault → Type 0
 IsOfStream fault = (fault ≡ Memory) ⊎ (fault ≡ Io)

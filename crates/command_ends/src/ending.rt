@@ -2,6 +2,7 @@
 ghost use Rattle.std.specs.Prelude.{◌≡◌, ◌≢◌, ◌≤◌, ◌⊎◌, IfErr, IfOk};
 ghost use Rattle.clap.specs.Values.{kind_of};
 ghost use Rattle.clap.specs.declared.error.kind.ErrorKind.TheVariants.{DisplayHelp, DisplayVersion};
+ghost use Rattle.command_ends.specs.Faults.{IsOfStream};
 ghost use Rattle.command_ends.specs.Texts as spec;
 ghost use Rattle.command_ends.specs.Texts.{Tells};
 
@@ -65,6 +66,10 @@ pub fn tell_words<O: Write, E: Write>(
     ensures wrong { IfOk result (λ status. kind_of error.now ≢ DisplayHelp → kind_of error.now ≢ DisplayVersion → status ≡ 2) }
     ensures asked { IfOk result (λ status. (kind_of error.now ≡ DisplayHelp) ⊎ (kind_of error.now ≡ DisplayVersion) → status ≡ 0) }
     ensures status { IfOk result (λ status. status ≤ 2) }
+    // what they are told goes to one of the two, and an error is one of that stream
+    ensures out { kind_of error.now ≢ DisplayHelp → kind_of error.now ≢ DisplayVersion → out.new ≡ out.old }
+    ensures err { (kind_of error.now ≡ DisplayHelp) ⊎ (kind_of error.now ≡ DisplayVersion) → err.new ≡ err.old }
+    ensures told { IfErr result IsOfStream }
     ensures apart { IfOk result (λ status. (status ≡ 2 → out.new ≡ out.old) × (status ≡ 0 → err.new ≡ err.old)) }
 {
     if error.use_stderr() {

@@ -1,5 +1,5 @@
 -- How a call ended, and the exit status of a program whose words are read.
-use Rattle.std.proofs.Common.{◌≡◌, ◌≢◌, ◌≤◌, ◌⊎◌, ℕ, Result, Ok, Err, IfOk, IfErr, IsErrOf, IsOk, OnOk, ap, refl, subst, sym, arith, true, false, inl, inr}
+use Rattle.std.proofs.Common.{◌≡◌, ◌≢◌, ◌≤◌, ◌⊎◌, ℕ, [], Result, Ok, Err, IfOk, IfErr, IsErrOf, IsOk, OnOk, ap, refl, subst, sym, arith, true, false, inl, inr}
 use Rattle.clap.specs.Kinds.{IsAmong, Kinds}
 use Rattle.clap.specs.declared.error.kind.ErrorKind.{ErrorKind}
 use Rattle.clap.specs.declared.error.kind.ErrorKind.TheVariants.{DisplayHelp, DisplayVersion}
@@ -60,6 +60,10 @@ asks_text faults kind among text = elim text [
   | inl help ↦ elim (subst (IsAmong kind) help among) [ inl is ↦ inl is | inr never ↦ absurd never ]
   | inr version ↦ elim (subst (IsAmong kind) version among) [ inl is ↦ inr is | inr never ↦ absurd never ]
 ]
+
+-- so it has a fault
+pub asks_something : (faults : Kinds) → faults ≡ [] → AskForText faults → ⊥
+asks_something faults none text = elim text [ inl help ↦ cc | inr version ↦ cc ]
 
 -- the status of a command is its own, or 1
 pub at_most : {E : Type 0} (X : Type 0) (outcome : Result ℕ E) (status most : ℕ) → IfOk outcome (λ own. (status ≡ own) × X) → IfErr outcome (λ fault. status ≡ 1)

@@ -103,3 +103,9 @@ pub of_server : (stopped : ServerFault) (fault : Fault) → ((told : BookFault) 
     → ((error : StreamError) → stopped ≡ server.Io error → IsOfStream fault) → IsOfServe fault
 of_server (server.Io error) fault by_book by_stream = of_serve_stream fault (by_stream error refl)
 of_server (server.Book told) fault by_book by_stream = inl (of_book told fault (by_book told refl))
+
+-- a stream failed, or the book ended it
+pub stopped_by : (stopped : ServerFault) (fault : Fault) → ((error : StreamError) → stopped ≡ server.Io error → IsOfStream fault)
+    → IsOfStream fault ⊎ ((told : BookFault) × (stopped ≡ server.Book told))
+stopped_by (server.Io error) fault by_stream = inl (by_stream error refl)
+stopped_by (server.Book told) fault by_stream = inr (told, refl)

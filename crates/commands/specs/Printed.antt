@@ -14,11 +14,11 @@ use Rattle.replay.specs.Session.{State}
 use Rattle.commands.specs.declared.work.Work.{Work}
 use Rattle.commands.specs.declared.work.Work.TheVariants.{Import, Statement, Serve}
 
--- what was written is the output then, where that was the output before: the line of an account file, of some counts; the statement of some
--- account; or the line of a server that listens on its port, and one for each of its connections
+-- what was written is the output then, where that was the output before: the line of an account file, of some counts; a statement of
+-- that account; or the line of a server that listens on its port, and one for each of its connections
 abbrev pub Prints : Work → Option (List ℕ) → Option (List ℕ) → Type 0
 Prints (Import words) before after = (n : Imported) × Appends before after (import_line n)
-Prints (Statement words) before after = (s : AccountSheet) × Appends before after (sheet_text s)
+Prints (Statement words) before after = (s : AccountSheet) × (s.account ≡ words.account.now) × Appends before after (sheet_text s)
 Prints (Serve words) before after = (counts : List ℕ) × (length counts ≡ words.connections) × Appends before after (listening_line words.port ++ served_lines counts)
 
 -- a command that ends with this status has printed so: a new store prints nothing, and a replay the answers to the lines of some input

@@ -1,13 +1,16 @@
--- What a command that is refused may tell.
-use Rattle.std.specs.Prelude.{◌≡◌, ◌⊎◌, ℕ, List, Option}
-use Rattle.std.specs.Io.KnownBytes.{Keeps}
+-- What a command that is refused may tell, and what it has printed.
+use Rattle.std.specs.Prelude.{◌≡◌, ◌≤◌, ◌⊎◌, ◌++◌, ⊤, ℕ, [], List, Option, length}
+use Rattle.std.specs.Io.KnownBytes.{Appends, Keeps}
 use Rattle.command_ends.specs.Faults.{IsOfStream}
 use Rattle.command_ends.specs.Texts.{Tells}
 use Rattle.command_ends.specs.declared.fault.Fault.{Fault}
 use Rattle.command_ends.specs.declared.fault.Fault.TheVariants.{Memory, Disk, NoAccount, Import as ByFile, BadSetting, Io}
 use Rattle.command_words.specs.declared.outcome.Command.{Command}
 use Rattle.command_words.specs.declared.outcome.Command.TheVariants as command
+use Rattle.command_words.specs.declared.outcome.Serve.{Serve as ServeWords}
 use Rattle.grants_csv.specs.declared.fault.ImportFault.{ImportFault}
+use Rattle.print_server.specs.Lines.{listening_line, served_lines}
+use Rattle.commands.specs.Printed.{HasPrinted}
 use Rattle.commands.specs.Store.{IsOfStore}
 use Rattle.commands.specs.declared.work.Work.{Work}
 use Rattle.commands.specs.declared.work.Work.TheVariants.{Import, Statement, Serve}
@@ -50,6 +53,28 @@ MayBeToldBy (command.Statement words) fault = IsOfStatement fault
 MayBeToldBy (command.Serve words) fault = IsOfServe fault
 MayBeToldBy command.Replay fault = IsOfReplay fault
 
--- what is told of a command that ended with status 1: a fault that may be told of it; or it is a replay that ended at a bad line, of which nothing is
-abbrev pub IsTold : Command → Option (List ℕ) → Option (List ℕ) → Type 0
-IsTold asked before after = ((fault : Fault) × MayBeToldBy asked fault × Tells fault before after) ⊎ ((asked ≡ command.Replay) × Keeps before after)
+-- a server has told of its port, and of no more connections than its words ask for
+abbrev pub HasListened : ServeWords → Option (List ℕ) → Option (List ℕ) → Type 0
+HasListened words before after = (counts : List ℕ) × (length counts ≤ words.connections) × Appends before after (listening_line words.port ++ served_lines counts)
+
+-- what work that isn't done has printed, where no stream failed and there was memory: nothing; but a server may have told of its port and of connections before it was stopped
+abbrev pub MayBePrintedOf : Work → Option (List ℕ) → Option (List ℕ) → Type 0
+MayBePrintedOf (Import words) before after = after ≡ before
+MayBePrintedOf (Statement words) before after = after ≡ before
+MayBePrintedOf (Serve words) before after = (after ≡ before) ⊎ HasListened words before after
+
+-- what a command that is refused has printed, where no stream failed and there was memory; of a replay that can't go on nothing is said
+abbrev pub MayBePrintedBy : Command → Option (List ℕ) → Option (List ℕ) → Type 0
+MayBePrintedBy (command.Init words) before after = after ≡ before
+MayBePrintedBy (command.Import words) before after = MayBePrintedOf (Import words) before after
+MayBePrintedBy (command.Statement words) before after = MayBePrintedOf (Statement words) before after
+MayBePrintedBy (command.Serve words) before after = MayBePrintedOf (Serve words) before after
+MayBePrintedBy command.Replay before after = ⊤
+
+-- what is told of a command that ended with status 1, and what it has printed: a fault that may be told of it, and where that is
+-- neither of a stream nor want of memory, nothing but what may be printed then; or it is a replay that ended at a bad line, of which
+-- nothing is told, and all of whose answers were handed on, so that none are left in the buffer
+abbrev pub IsTold : Command → (err_before err_after out_before out_after : Option (List ℕ)) → (left : List ℕ) → Type 0
+IsTold asked err_before err_after out_before out_after left =
+    ((fault : Fault) × MayBeToldBy asked fault × Tells fault err_before err_after × (IsOfStream fault ⊎ MayBePrintedBy asked out_before out_after))
+    ⊎ ((asked ≡ command.Replay) × Keeps err_before err_after × HasPrinted command.Replay 1 out_before out_after × (left ≡ []))

@@ -20,7 +20,7 @@ use Rattle.queue_tables.specs.Content.{LeavesOneOf}
 use Rattle.sqlite.specs.State.{State}
 use Rattle.sqlite_trees.specs.declared.store.Store.{Ghosts}
 use Rattle.commands.specs.Printed.{Prints}
-use Rattle.commands.specs.Refusals.{IsOfNoAccount, MayBeToldOf}
+use Rattle.commands.specs.Refusals.{IsOfNoAccount, MayBePrintedOf, MayBeToldOf}
 use Rattle.commands.specs.declared.work.Work.{Work}
 use Rattle.commands.specs.declared.work.Work.TheVariants.{Import, Statement, Serve}
 
@@ -56,11 +56,12 @@ IsDone are_read (Serve words) w u before after = (counts : List ℕ) × AreConne
 
 -- it is refused with this fault, and left the second queue of the first:
 -- a stream failed or the account file is refused, and nothing is done, or its rows are taken and a stream failed behind them;
--- the queue stays as it is, and nothing is written but where a stream failed; no more than so many connections are served
+-- the queue stays as it is, and nothing is written but where a stream failed; no more than so many connections are served, and each is told of but where a
+-- stream failed
 abbrev pub IsNotDone : (List ℕ → Type 0) → Work → Fault → World → World → Option (List ℕ) → Option (List ℕ) → Type 0
 IsNotDone are_read (Import words) fault w u before after = (IsOfStream fault ⊎ IsOfFile are_read fault w) × ((u ≡ w) × (after ≡ before) ⊎ (IsOfStream fault × (n : Imported) × IsImport are_read w u n))
 IsNotDone are_read (Statement words) fault w u before after = (fault ≢ Damaged) × (fault ≡ NoAccount → sheet_of w words.account.now ≡ None) × (sheet_of w words.account.now ≡ None → IsOfNoAccount fault) × (u ≡ w) × (IsOfStream fault ⊎ (after ≡ before))
-IsNotDone are_read (Serve words) fault w u before after = (fault ≢ Damaged) × (counts : List ℕ) × AreConnections w counts u × (length counts ≤ words.connections)
+IsNotDone are_read (Serve words) fault w u before after = (fault ≢ Damaged) × (counts : List ℕ) × AreConnections w counts u × (length counts ≤ words.connections) × (IsOfStream fault ⊎ Appends before after (listening_line words.port ++ served_lines counts))
 
 -- of the queue w all of something is taken, or nothing: nothing is, u is w, and a crash leaves u; all is taken in u, and a crash leaves u; or taking it was
 -- broken off, u is w, and a crash leaves u, or x, in which all is taken
@@ -87,11 +88,11 @@ IsBrief (Import words) = ⊤
 IsBrief (Statement words) = ⊤
 IsBrief (Serve words) = ⊥
 
--- what is told of work that was refused: a fault that may be told of it
+-- what is told of work that was refused, and printed: a fault that may be told of it, and what may be printed then
 pub record IsRefusal (work : Work) (before after : Option (List ℕ)) (fault : Fault) : Type 0 where
   pub told : MayBeToldOf work fault
-  -- nothing was printed, or a stream failed; a server tells of each connection
-  pub quiet : IsBrief work → IsOfStream fault ⊎ (after ≡ before)
+  -- a stream failed or there was no memory, or no more was printed than may be
+  pub quiet : IsOfStream fault ⊎ MayBePrintedOf work before after
 
 -- a book, and what was written, before the work and after it
 module _ {S : Type 0} (store : Ghosts S) (are_read : List ℕ → Type 0) (work : Work) (old new : TableBook S) (before after : Option (List ℕ)) where

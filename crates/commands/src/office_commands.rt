@@ -97,7 +97,7 @@ pub(crate) fn import_into<C: Clock, S: Alter, W: Write>(
     ensures crash { IsHonest S.Store book.new → IsTrue (shown_by S.Store book.old).is_open → (w : World) → StandsFor S.Store book.old w
         → (u x : World) × StandsFor S.Store book.new u × LeavesOneOf u x (shown_by S.Store book.new)
         × IsAllOrNone (λ v. (n : ImportedRows) × IsImport (AreIn file) w v n) w u x }
-    // a stream failed, or nothing was written
+    // a stream failed or there was no memory, or nothing was written
     ensures quiet { IfErr result (λ f. IsOfStream f ⊎ (output.new ≡ output.old)) }
     // a stream failed, or the file is refused
     ensures why { IsHonest S.Store book.new → IfErr result (λ f. (w : World) → StandsFor S.Store book.old w → IsOfStream f ⊎ IsOfFile (AreIn file) f w) }
@@ -130,8 +130,8 @@ pub(crate) fn print_from<S: Alter, W: Write>(
     ensures live { IsHonest S.Store book.new → OnOk result (IsTrue (shown_by S.Store book.new).is_open) }
     ensures told { IfErr result IsOfStatement }
     // over any book, also one that is not honest
-    ensures written { OnOk result ((s : Sheet) × Appends (W.contents output.old) (W.contents output.new) (sheet_text s)) }
-    // a stream failed, or nothing was written
+    ensures written { OnOk result ((s : Sheet) × (s.account ≡ account.now) × Appends (W.contents output.old) (W.contents output.new) (sheet_text s)) }
+    // a stream failed or there was no memory, or nothing was written
     ensures quiet { IfErr result (λ f. IsOfStream f ⊎ (output.new ≡ output.old)) }
 {
     print_statement(alloc, output, book, account)?;

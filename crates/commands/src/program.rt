@@ -1,15 +1,17 @@
 //! The program: its words, the command that they name and the exit status.
-ghost use Rattle.std.specs.Prelude.{◌≡◌, ◌≤◌, ◌⊎◌, [], IfErr, IfOk, IsErrOf, IsOk, IsSomeAnd, OnOk, map};
+ghost use Rattle.std.specs.Prelude.{◌≡◌, ◌≤◌, ◌⊎◌, [], IfErr, IfOk, IsSomeAnd, OnOk, map};
 ghost use Rattle.std.specs.Io.Buffered.{writer_buffer, writer_contents};
 ghost use Rattle.clap.specs.Words.{fault_of, subcommand_of};
+ghost use Rattle.command_ends.specs.Faults.{IsOfStream};
 ghost use Rattle.command_ends.specs.Texts.{Tells};
+ghost use Rattle.command_ends.specs.declared.fault.Fault.{Fault as ToldFault};
 ghost use Rattle.command_ends.specs.declared.fault.Fault.TheVariants.{Memory as OfMemory};
 ghost use Rattle.command_words.specs.CommandLine.{definition};
 ghost use Rattle.command_words.specs.Values.{IsCommand};
 ghost use Rattle.command_words.specs.declared.outcome.Command.{Command as NamedCommand};
 ghost use Rattle.command_words.specs.declared.outcome.Init.{Init};
 ghost use Rattle.commands.specs.Printed.{HasPrinted, Prints};
-ghost use Rattle.commands.specs.Refusals.{IsTold, MayBeToldBy, MayBeToldOf};
+ghost use Rattle.commands.specs.Refusals.{IsTold, MayBePrintedBy, MayBePrintedOf, MayBeToldBy, MayBeToldOf};
 ghost use Rattle.commands.specs.Store.{CanBeMade, IsOfStore};
 ghost use Rattle.commands.specs.Words.{AreWrong, AskForText};
 
@@ -24,14 +26,10 @@ use std::rt::HostRuntime;
 
 /// Closes the store of a command that was done, so that its file alone keeps all of it. Where that fails nothing is lost and nothing is told: what was
 /// done is in the log.
-fn close(done: Result<FileBook<Unknown>, Fault>) -> Result<(), Fault>
-    ensures done { IfOk done (λ book. IsOk result) }
-    ensures refused { IfErr done (λ fault. IsErrOf result fault) }
-{
-    if let Err((_fault, store)) = done?.close_files() {
+fn close(book: FileBook<Unknown>) {
+    if let Err((_fault, store)) = book.close_files() {
         let _files = store.close();
     }
-    Ok(())
 }
 
 /// Does the work on the store that is at its path, closes the store and flushes what is printed, and gives the exit status.
@@ -44,8 +42,10 @@ fn do_work<O: Write + Drop>(
     ensures printed { OnOk result (Prints work.entry (writer_contents O.contents out.old) (writer_contents O.contents out.new)) }
     ensures handed { OnOk result (writer_buffer out.new ≡ []) }
     ensures told { IfErr result (λ f. IsOfStore f ⊎ MayBeToldOf work.entry f) }
+    // a stream failed or there was no memory, or nothing was printed; a server may have told of its port and of connections
+    ensures quiet { IfErr result (λ f. IsOfStream f ⊎ MayBePrintedOf work.entry (writer_contents O.contents out.old) (writer_contents O.contents out.new)) }
 {
-    close(work_at(rt, work, out, Unknown))?;
+    close(work_at(rt, work, out, Unknown)?);
     out.flush()?;
     Ok(0)
 }
@@ -59,6 +59,8 @@ fn do_command<O: Write + Drop>(
     ensures status { IfOk result (λ status. status ≤ 1) }
     ensures replayed { IfOk result (λ status. status ≡ 1 → command.entry ≡ Command.Replay) }
     ensures told { IfErr result (MayBeToldBy command.entry) }
+    // a stream failed or there was no memory, or no more was printed than may be
+    ensures quiet { IfErr result (λ f. IsOfStream f ⊎ MayBePrintedBy command.entry (writer_contents O.contents out.old) (writer_contents O.contents out.new)) }
     // whatever its files hold
     ensures made { (words : Init) → command.entry ≡ Command.Init words → OnOk result (CanBeMade words) }
     ensures printed { IfOk result (λ status. HasPrinted command.entry status (writer_contents O.contents out.old) (writer_contents O.contents out.new)) }
@@ -66,7 +68,7 @@ fn do_command<O: Write + Drop>(
 {
     match command {
         Command::Init(words) => {
-            close(make_store(rt, words, Unknown))?;
+            close(make_store(rt, words, Unknown)?);
             out.flush()?;
             Ok(0)
         }
@@ -105,8 +107,13 @@ pub fn run<O: Write + Drop, E: Write>(
     // what it has printed was handed on, and lies in the buffer no longer
     ensures handed { fault_of definition (map (λ w. w.now) words.now) ≡ [] → result ≡ 0 → writer_buffer out.new ≡ [] }
     // one that was refused, or for whose words there was no memory
-    ensures told { fault_of definition (map (λ w. w.now) words.now) ≡ [] → result ≡ 1 → Tells OfMemory (E.contents err.old) (E.contents err.new) ⊎ ((c : NamedCommand)
-        × IsSomeAnd (subcommand_of definition (map (λ w. w.now) words.now)) (IsCommand c) × IsTold c (E.contents err.old) (E.contents err.new)) }
+    ensures told { fault_of definition (map (λ w. w.now) words.now) ≡ [] → result ≡ 1 → (Tells OfMemory (E.contents err.old) (E.contents err.new) × (out.new ≡ out.old))
+        ⊎ ((c : NamedCommand) × IsSomeAnd (subcommand_of definition (map (λ w. w.now) words.now)) (IsCommand c)
+        × IsTold c (E.contents err.old) (E.contents err.new) (writer_contents O.contents out.old) (writer_contents O.contents out.new) (writer_buffer out.new)) }
+    // words that name no command and ask for no text print nothing; where those that ask for a text aren't told it, a stream failed or there was no memory, and one line says so
+    ensures misnamed { AreWrong (fault_of definition (map (λ w. w.now) words.now)) → out.new ≡ out.old }
+    ensures unhelped { AskForText (fault_of definition (map (λ w. w.now) words.now)) → result ≡ 1
+        → (f : ToldFault) × IsOfStream f × Tells f (E.contents err.old) (E.contents err.new) }
 {
     match command(rt.alloc(), words) {
         Ok(command) => {

@@ -1,12 +1,12 @@
 //! Connections over a store.
 ghost use Rattle.std.specs.IoError.{error_kind};
-ghost use Rattle.std.specs.Prelude.{◌≡◌, ◌↔◌, ◌≤◌, ◌++◌, ℕ, List, IfErr, IsTrue, OnErr, OnOk, length};
+ghost use Rattle.std.specs.Prelude.{◌≡◌, ◌↔◌, ◌≤◌, ◌⊎◌, ◌++◌, ℕ, List, IfErr, IsTrue, OnOk, length};
 ghost use Rattle.std.specs.Io.KnownBytes.{Appends};
 ghost use Rattle.std.specs.declared.io.Error.{Error as StreamError};
 ghost use Rattle.std.specs.declared.io.ErrorKind.TheVariants.{OutOfMemory};
 ghost use Rattle.command_ends.specs.Faults.{IsOfStream, fault_of_book};
 ghost use Rattle.command_ends.specs.declared.fault.Fault.TheVariants.{Damaged, Memory as OfMemory};
-ghost use Rattle.commands.specs.Refusals.{IsOfServe};
+ghost use Rattle.commands.specs.Refusals.{HasListened, IsOfServe};
 ghost use Rattle.commands.specs.Work.{CrashLeaves};
 ghost use Rattle.print_server.specs.Connections.{AreConnections, IsAtMostOneMore};
 ghost use Rattle.print_server.specs.Lines.{listening_line, served_lines};
@@ -70,35 +70,35 @@ fn tell_port<W: Write>(
     Ok(listener)
 }
 
-/// Serves connections that come in at a listener over a book with these settings.
+/// Serves so many connections over a book with the settings of the service.
 fn serve_at<C: Clock, S: Alter, W: Write>(
-    alloc: Global,
+    service: Service<'_>,
     clock: &C,
-    words: Serve<'_>,
-    listener: &TcpListener,
-    settings: &Settings,
+    connections: u32,
     output: &mut W,
     book: &mut TableBook<S>,
 ) -> Result<(), Fault>
     ensures began { IsHonest S.Store book.new → IsHonest S.Store book.old }
-    ensures served { IsHonest S.Store book.new → OnOk result ((w : World) → StandsFor S.Store book.old w → settings.now ≡ w.settings
-        → (u : World) × StandsFor S.Store book.new u × (counts : List ℕ) × (are : AreConnections w counts u) × (length counts ≡ words.entry.connections)
+    ensures served { IsHonest S.Store book.new → OnOk result ((w : World) → StandsFor S.Store book.old w → service.entry.settings.now ≡ w.settings
+        → (u : World) × StandsFor S.Store book.new u × (counts : List ℕ) × (are : AreConnections w counts u) × (length counts ≡ connections)
         × Appends (W.contents output.old) (W.contents output.new) (served_lines counts)
         × CrashLeaves (shown_by S.Store book.old) (shown_by S.Store book.new) u (IsAtMostOneMore w counts u are)) }
-    ensures err { IsHonest S.Store book.new → OnErr result ((w : World) → StandsFor S.Store book.old w → settings.now ≡ w.settings
-        → (u : World) × StandsFor S.Store book.new u × (counts : List ℕ) × (are : AreConnections w counts u) × (length counts ≤ words.entry.connections)
+    ensures err { IsHonest S.Store book.new → IfErr result (λ f. (w : World) → StandsFor S.Store book.old w → service.entry.settings.now ≡ w.settings
+        → (u : World) × StandsFor S.Store book.new u × (counts : List ℕ) × (are : AreConnections w counts u) × (length counts ≤ connections)
+        × (IsOfStream f ⊎ Appends (W.contents output.old) (W.contents output.new) (served_lines counts))
         × CrashLeaves (shown_by S.Store book.old) (shown_by S.Store book.new) u (IsAtMostOneMore w counts u are)) }
     // whatever it answers: a crash at any moment leaves the queue that the book stands for, or the one after one of these connections' requests more
-    ensures crash { IsHonest S.Store book.new → IsTrue (shown_by S.Store book.old).is_open → (w : World) → StandsFor S.Store book.old w → settings.now ≡ w.settings
-        → (u x : World) × StandsFor S.Store book.new u × (counts : List ℕ) × (are : AreConnections w counts u) × (length counts ≤ words.entry.connections)
+    ensures crash { IsHonest S.Store book.new → IsTrue (shown_by S.Store book.old).is_open → (w : World) → StandsFor S.Store book.old w → service.entry.settings.now ≡ w.settings
+        → (u x : World) × StandsFor S.Store book.new u × (counts : List ℕ) × (are : AreConnections w counts u) × (length counts ≤ connections)
         × LeavesOneOf u x (shown_by S.Store book.new) × IsAtMostOneMore w counts u are x }
-    ensures damaged { IsHonest S.Store book.new → IfErr result (λ f. f ≡ Damaged → (w : World) → StandsFor S.Store book.old w → settings.now ≡ w.settings → ⊥) }
+    ensures damaged { IsHonest S.Store book.new → IfErr result (λ f. f ≡ Damaged → (w : World) → StandsFor S.Store book.old w → service.entry.settings.now ≡ w.settings → ⊥) }
     ensures told { IfErr result IsOfServe }
     // over any book, also one that is not honest
-    ensures written { OnOk result ((counts : List ℕ) × (length counts ≡ words.entry.connections) × Appends (W.contents output.old) (W.contents output.new) (served_lines counts)) }
+    ensures stopped { IfErr result (λ f. IsOfStream f
+        ⊎ ((counts : List ℕ) × (length counts ≤ connections) × Appends (W.contents output.old) (W.contents output.new) (served_lines counts))) }
+    ensures written { OnOk result ((counts : List ℕ) × (length counts ≡ connections) × Appends (W.contents output.old) (W.contents output.new) (served_lines counts)) }
 {
-    let service = service(alloc, words, listener, settings);
-    match service.serve_connections(clock, output, book, words.connections) {
+    match service.serve_connections(clock, output, book, connections) {
         Ok(_) => Ok(()),
         Err(stopped) => Err(fault_of_server(stopped)),
     }
@@ -118,9 +118,10 @@ pub(crate) fn serve_book<C: Clock, S: Alter, W: Write>(
         → (u : World) × StandsFor S.Store book.new u × (counts : List ℕ) × (are : AreConnections w counts u) × (length counts ≡ words.entry.connections)
         × Appends (W.contents output.old) (W.contents output.new) (listening_line words.entry.port ++ served_lines counts)
         × CrashLeaves (shown_by S.Store book.old) (shown_by S.Store book.new) u (IsAtMostOneMore w counts u are)) }
-    // no more than so many connections were served
-    ensures err { IsHonest S.Store book.new → OnErr result ((w : World) → StandsFor S.Store book.old w
+    // no more than so many connections were served, and each was told of, or a stream failed or there was no memory
+    ensures err { IsHonest S.Store book.new → IfErr result (λ f. (w : World) → StandsFor S.Store book.old w
         → (u : World) × StandsFor S.Store book.new u × (counts : List ℕ) × (are : AreConnections w counts u) × (length counts ≤ words.entry.connections)
+        × (IsOfStream f ⊎ Appends (W.contents output.old) (W.contents output.new) (listening_line words.entry.port ++ served_lines counts))
         × CrashLeaves (shown_by S.Store book.old) (shown_by S.Store book.new) u (IsAtMostOneMore w counts u are)) }
     // whatever it answers: a crash at any moment leaves the queue that the book stands for, or the one after one of these connections' requests more
     ensures crash { IsHonest S.Store book.new → IsTrue (shown_by S.Store book.old).is_open → (w : World) → StandsFor S.Store book.old w
@@ -129,10 +130,12 @@ pub(crate) fn serve_book<C: Clock, S: Alter, W: Write>(
     ensures damaged { IsHonest S.Store book.new → IfErr result (λ f. f ≡ Damaged → (w : World) → ¬ StandsFor S.Store book.old w) }
     ensures told { IfErr result IsOfServe }
     // over any book, also one that is not honest
+    ensures stopped { IfErr result (λ f. IsOfStream f ⊎ HasListened words.entry (W.contents output.old) (W.contents output.new)) }
     ensures written { OnOk result ((counts : List ℕ) × (length counts ≡ words.entry.connections)
         × Appends (W.contents output.old) (W.contents output.new) (listening_line words.entry.port ++ served_lines counts)) }
 {
     let settings = book.settings()?;
     let listener = tell_port(listener, output, words.port)?;
-    serve_at(alloc, clock, words, &listener, &settings, output, book)
+    let service = service(alloc, words, &listener, &settings);
+    serve_at(service, clock, words.connections, output, book)
 }

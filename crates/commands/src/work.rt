@@ -10,7 +10,7 @@ ghost use Rattle.queue_tables.specs.Content.{LeavesOneOf};
 ghost use Rattle.command_ends.specs.Faults.{IsOfStream};
 ghost use Rattle.commands.specs.Store.{IsOfStore};
 ghost use Rattle.commands.specs.Printed.{Prints};
-ghost use Rattle.commands.specs.Refusals.{MayBeToldOf};
+ghost use Rattle.commands.specs.Refusals.{MayBePrintedOf, MayBeToldOf};
 ghost use Rattle.commands.specs.Work.{AreAny, AreIn, AreReadIn, HasEnded, IsBrief, IsDone, IsDoneOn, IsRefusal, MayBeLeft, store_of};
 
 use crate::office_commands::{import_into, print_from};
@@ -153,8 +153,8 @@ pub(crate) fn work_at<S: Start, W: Write>(
     ensures live { IfOk result (λ b. IsHonest over_files b → IsBrief work.entry → IsTrue (shown_by over_files b).is_open) }
     // over any store, also one that is not honest
     ensures printed { OnOk result (Prints work.entry (W.contents output.old) (W.contents output.new)) }
-    // nothing was printed, or a stream failed; a server tells of each connection
-    ensures quiet { IfErr result (λ f. IsBrief work.entry → IsOfStream f ⊎ (W.contents output.new ≡ W.contents output.old)) }
+    // a stream failed or there was no memory, or nothing was printed; a server may have told of its port and of connections
+    ensures quiet { IfErr result (λ f. IsOfStream f ⊎ MayBePrintedOf work.entry (W.contents output.old) (W.contents output.new)) }
     ensures told { IfErr result (λ f. IsOfStore f ⊎ MayBeToldOf work.entry f) }
 {
     let book = open_store(rt, work.store(), start)?;

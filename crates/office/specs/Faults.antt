@@ -11,7 +11,7 @@ fault_of_book book.Memory = Memory
 fault_of_book book.Disk = Disk
 fault_of_book book.Damaged = Damaged
 
--- a file or a stream failed
+-- a file or a stream failed, or there was no memory
 abbrev pub IsOfStream : OfficeFault → Type 0
 IsOfStream f = (f ≡ Memory) ⊎ (f ≡ Io)
 

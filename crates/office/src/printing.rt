@@ -49,7 +49,7 @@ pub fn print_statement<W: Write, B: QueueBook>(
     ensures live { B.is_honest book.new → OnOk result (B.is_live book.new) }
     ensures still_live { B.is_honest book.new → IfErr result (λ f. f ≡ NoAccount → B.is_live book.new) }
     // over any book, also one that is not honest
-    ensures written { OnOk result ((s : Sheet) × Appends (W.contents writer.old) (W.contents writer.new) (sheet_text s)) }
+    ensures written { OnOk result ((s : Sheet) × (s.account ≡ account.now) × Appends (W.contents writer.old) (W.contents writer.new) (sheet_text s)) }
     ensures told { IfErr result (λ f. ¬ IsOfFile f) }
     // a stream failed, or nothing was written
     ensures quiet { IfErr result (λ f. IsOfStream f ⊎ (writer.new ≡ writer.old)) }

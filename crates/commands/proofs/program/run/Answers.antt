@@ -1,9 +1,10 @@
-use Rattle.std.proofs.Common.{◌≡◌, ◌≤◌, ◌∙◌, ℕ, [], inl, inr, subst, lit≤, arith}
+use Rattle.std.proofs.Common.{◌≡◌, ◌≤◌, ◌∙◌, ℕ, [], inl, inr, refl, subst, lit≤, arith}
 use Rattle.std.specs.Io.Buffered.{writer_buffer, writer_contents}
+use Rattle.command_ends.specs.declared.fault.Fault.TheVariants.{Memory}
 use Rattle.commands.specs.Printed.{HasPrinted}
 use Rattle.commands.specs.Store.{CanBeMade}
-use Rattle.commands.proofs.EndingLemmas.{asks_nothing, asks_text, at_least_one, at_most, at_status, but_one, if_ok}
-use Rattle.commands.proofs.PrintedLemmas.{told_of}
+use Rattle.commands.proofs.EndingLemmas.{asks_nothing, asks_something, asks_text, at_least_one, at_most, at_status, but_one, if_ok}
+use Rattle.commands.proofs.PrintedLemmas.{told_of, untold}
 use Rattle.commands.proofs.program.run.Goals as goal
 
 pub returns-in-Ok-clause-named : goal.returns-in-Ok-clause-named
@@ -87,8 +88,9 @@ pub returns-in-Ok-clause-told : goal.returns-in-Ok-clause-told
 returns-in-Ok-clause-told g c = λ none one. inr (
   c.in-Ok.command,
   c.in-Ok.ensures.named,
-  told_of g.E.Write.contents c.args.err.now c.end.new.err c.in-Ok.command c.do_command-done.result c.end.result c.end.ensures.done c.end.ensures.told c.do_command-done.ensures.replayed
-      c.do_command-done.ensures.told one,
+  told_of g.E.Write.contents c.args.err.now c.end.new.err c.in-Ok.command (writer_contents g.O.Write.contents c.args.out.now) (writer_contents g.O.Write.contents c.do_command-done.new.out)
+      (writer_buffer c.do_command-done.new.out) c.do_command-done.result c.end.result c.end.ensures.done c.end.ensures.told c.do_command-done.ensures.replayed
+      c.do_command-done.ensures.told c.do_command-done.ensures.printed c.do_command-done.ensures.handed c.do_command-done.ensures.quiet one,
 )
 
 pub returns-in-Err-Words-clause-told : goal.returns-in-Err-Words-clause-told
@@ -97,4 +99,27 @@ returns-in-Err-Words-clause-told g c = λ none one.
     absurd (rw none at among)
 
 pub returns-in-Err-Memory-clause-told : goal.returns-in-Err-Memory-clause-told
-returns-in-Err-Memory-clause-told g c = λ none one. inl c.end-in-Err-Memory.ensures.told
+returns-in-Err-Memory-clause-told g c = λ none one. inl (c.end-in-Err-Memory.ensures.told, refl)
+
+pub returns-in-Ok-clause-misnamed : goal.returns-in-Ok-clause-misnamed
+returns-in-Ok-clause-misnamed g c = λ wrong. absurd (wrong.0 c.in-Ok.ensures.taken)
+
+pub returns-in-Err-Words-clause-misnamed : goal.returns-in-Err-Words-clause-misnamed
+returns-in-Err-Words-clause-misnamed g c = λ wrong.
+    let among = rw c.in-Err-Words.field-0-is at c.in-Err-Words.ensures.refused in
+    let asks = asks_nothing _ _ among wrong in
+    c.tell_words-told.ensures.out asks.0 asks.1
+
+pub returns-in-Ok-clause-unhelped : goal.returns-in-Ok-clause-unhelped
+returns-in-Ok-clause-unhelped g c = λ text one. absurd (asks_something _ c.in-Ok.ensures.taken text)
+
+pub returns-in-Err-Words-clause-unhelped : goal.returns-in-Err-Words-clause-unhelped
+returns-in-Err-Words-clause-unhelped g c = λ text one.
+    let among = rw c.in-Err-Words.field-0-is at c.in-Err-Words.ensures.refused in
+    let asks = asks_text _ _ among text in
+    let none = if_ok c.tell_words-told.result _ (λ (own : ℕ). own ≡ 0) c.tell_words-told.ensures.asked (λ own zero. zero asks) in
+    untold g.E.Write.contents c.args.err.now c.tell_words-told.new.err c.end-in-Err-Words.new.err c.tell_words-told.result c.end-in-Err-Words.result c.end-in-Err-Words.ensures.done
+    c.end-in-Err-Words.ensures.told none c.tell_words-told.ensures.told (c.tell_words-told.ensures.err asks) one
+
+pub returns-in-Err-Memory-clause-unhelped : goal.returns-in-Err-Memory-clause-unhelped
+returns-in-Err-Memory-clause-unhelped g c = λ text one. (Memory, inl refl, c.end-in-Err-Memory.ensures.told)

@@ -1,20 +1,26 @@
-use Rattle.std.proofs.Common.{◌∙◌}
+use Rattle.std.proofs.Common.{inl, inr}
 use Rattle.queue_store.specs.Kept.{shown_by}
 use Rattle.commands.proofs.CrashLemmas.{lasts, one_more}
-use Rattle.commands.proofs.FaultLemmas.{of_damaged_server, of_server}
+use Rattle.commands.proofs.FaultLemmas.{of_damaged_server, of_server, stopped_by}
 use Rattle.commands.proofs.serving.serve_at.Goals as goal
 
 pub returns-in-Err-clause-damaged : goal.returns-in-Err-clause-damaged
 returns-in-Err-clause-damaged g c = λ honest is.
     let never = of_damaged_server _ _ c.fault_of_server.ensures.book (λ error at. (c.fault_of_server.ensures.stream error at).0) is in
-    rw c.service-service.ensures.settings at (c.in-Err.ensures.damaged honest never)
+    c.in-Err.ensures.damaged honest never
 
 pub returns-in-Err-clause-told : goal.returns-in-Err-clause-told
 returns-in-Err-clause-told g c = of_server _ _ c.fault_of_server.ensures.book (λ error at. (c.fault_of_server.ensures.stream error at).0)
 
+pub returns-in-Err-clause-stopped : goal.returns-in-Err-clause-stopped
+returns-in-Err-clause-stopped g c = elim (stopped_by c.in-Err.stopped c.fault_of_server.result (λ error at. (c.fault_of_server.ensures.stream error at).0)) [
+  | inl stream ↦ inl stream
+  | inr book ↦ inr (c.in-Err.ensures.stopped book.0 book.1)
+]
+
 pub returns-in-Ok-clause-served : goal.returns-in-Ok-clause-served
 returns-in-Ok-clause-served g c = λ honest w stands same.
-    let it = c.in-Ok.ensures.ok honest w stands (c.service-service.ensures.settings ∙ same) in (
+    let it = c.in-Ok.ensures.ok honest w stands same in (
       it.0,
       it.1,
       it.2,
@@ -27,18 +33,33 @@ returns-in-Ok-clause-served g c = λ honest w stands same.
 
 pub returns-in-Err-clause-err : goal.returns-in-Err-clause-err
 returns-in-Err-clause-err g c = λ honest w stands same.
-    let it = c.in-Err.ensures.err honest w stands (c.service-service.ensures.settings ∙ same) in (
-      it.0,
-      it.1,
-      it.2,
-      it.3,
-      it.4,
-      one_more (shown_by g.S.Store c.args.book.now) (shown_by g.S.Store c.serve_connections.new.book) w it.2 it.0 it.3
-          (λ live. lasts g.S.Store g.met.S.Store.settled c.args.book.now w (c.serve_connections.ensures.began honest) live stands) it.5,
-    )
+    elim (stopped_by c.in-Err.stopped c.fault_of_server.result (λ error at. (c.fault_of_server.ensures.stream error at).0)) [
+      | inl stream ↦
+          let it = c.in-Err.ensures.err honest w stands same in (
+            it.0,
+            it.1,
+            it.2,
+            it.3,
+            it.4,
+            inl stream,
+            one_more (shown_by g.S.Store c.args.book.now) (shown_by g.S.Store c.serve_connections.new.book) w it.2 it.0 it.3
+                (λ live. lasts g.S.Store g.met.S.Store.settled c.args.book.now w (c.serve_connections.ensures.began honest) live stands) it.5,
+          )
+      | inr book ↦
+          let it = c.in-Err.ensures.told honest book.0 book.1 w stands same in (
+            it.0,
+            it.1,
+            it.2,
+            it.3,
+            it.4,
+            inr it.5,
+            one_more (shown_by g.S.Store c.args.book.now) (shown_by g.S.Store c.serve_connections.new.book) w it.2 it.0 it.3
+                (λ live. lasts g.S.Store g.met.S.Store.settled c.args.book.now w (c.serve_connections.ensures.began honest) live stands) it.6,
+          )
+    ]
 
 pub returns-in-Ok-clause-crash : goal.returns-in-Ok-clause-crash
-returns-in-Ok-clause-crash g c = λ honest. rw c.service-service.ensures.settings at (c.serve_connections.ensures.crash honest)
+returns-in-Ok-clause-crash g c = c.serve_connections.ensures.crash
 
 pub returns-in-Err-clause-crash : goal.returns-in-Err-clause-crash
-returns-in-Err-clause-crash g c = λ honest. rw c.service-service.ensures.settings at (c.serve_connections.ensures.crash honest)
+returns-in-Err-clause-crash g c = c.serve_connections.ensures.crash

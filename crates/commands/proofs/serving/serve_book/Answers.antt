@@ -1,4 +1,4 @@
-use Rattle.std.proofs.Common.{[], refl, arith}
+use Rattle.std.proofs.Common.{◌∙◌, [], refl, arith, inl, inr}
 use Rattle.std.proofs.KnownBytes.{Appends-trans}
 use Rattle.std.proofs.lemmas.Result.{err_from_is_err_and}
 use Rattle.print_server.specs.Lines.{listening_line, served_lines}
@@ -9,7 +9,7 @@ use Rattle.commands.proofs.serving.serve_book.Goals as goal
 
 pub returns-clause-served : goal.returns-clause-served
 returns-clause-served g c = λ honest. on_ok c.serve_at.result (c.serve_at.ensures.served honest) (λ served w stands.
-    let same = c.in_ok-settings.ensures w (c.serve_at.ensures.began honest) stands in
+    let same = c.service-service.ensures.settings ∙ c.in_ok-settings.ensures w (c.serve_at.ensures.began honest) stands in
     let end = served w stands same in (
       end.0,
       end.1,
@@ -29,23 +29,58 @@ returns-clause-written g c = on_ok c.serve_at.result c.serve_at.ensures.written 
       (listening_line c.args.words.port) (served_lines told.0) c.in_ok-listener.ensures told.2,
 ))
 
+pub returns-clause-stopped : goal.returns-clause-stopped
+returns-clause-stopped g c = if_err c.serve_at.result _ _ c.serve_at.ensures.stopped (λ fault stopped. elim stopped [
+  | inl stream ↦ inl stream
+  | inr told ↦ inr (
+    told.0,
+    told.1,
+    Appends-trans (g.W.Write.contents c.args.output.now) (g.W.Write.contents c.tell_port.new.output) (g.W.Write.contents c.serve_at.new.output)
+        (listening_line c.args.words.port) (served_lines told.0) c.in_ok-listener.ensures told.2,
+  )
+])
+
 pub returns-clause-err : goal.returns-clause-err
 returns-clause-err g c = λ honest. if_err c.serve_at.result _ _ (c.serve_at.ensures.err honest) (λ fault left w stands.
-    left w stands (c.in_ok-settings.ensures w (c.serve_at.ensures.began honest) stands))
+    let it = left w stands (c.service-service.ensures.settings ∙ c.in_ok-settings.ensures w (c.serve_at.ensures.began honest) stands) in (
+      it.0,
+      it.1,
+      it.2,
+      it.3,
+      it.4,
+      elim it.5 [
+        | inl stream ↦ inl stream
+        | inr told ↦ inr (
+            Appends-trans (g.W.Write.contents c.args.output.now) (g.W.Write.contents c.tell_port.new.output) (g.W.Write.contents c.serve_at.new.output)
+            (listening_line c.args.words.port) (served_lines it.2) c.in_ok-listener.ensures told
+            )
+      ],
+      it.6,
+    ))
 
 pub returns-clause-damaged : goal.returns-clause-damaged
 returns-clause-damaged g c = λ honest. if_err c.serve_at.result _ _ (c.serve_at.ensures.damaged honest) (λ fault never is w stands.
-    never is w stands (c.in_ok-settings.ensures w (c.serve_at.ensures.began honest) stands))
+    never is w stands (c.service-service.ensures.settings ∙ c.in_ok-settings.ensures w (c.serve_at.ensures.began honest) stands))
+
+pub returns-in_err-settings-clause-stopped : goal.returns-in_err-settings-clause-stopped
+returns-in_err-settings-clause-stopped g c =
+    let p = err_from_is_err_and c.from_residual.result c.from_residual.ensures.1 in
+    rw p.1 (inl (inl p.2))
+
+pub returns-in_err-listener-clause-stopped : goal.returns-in_err-listener-clause-stopped
+returns-in_err-listener-clause-stopped g c =
+    let p = err_from_is_err_and c.from_residual-in_err-listener.result c.from_residual-in_err-listener.ensures.1 in
+    rw p.1 (inl p.2.0)
 
 pub returns-in_err-settings-clause-err : goal.returns-in_err-settings-clause-err
 returns-in_err-settings-clause-err g c = λ honest.
     let p = err_from_is_err_and c.from_residual.result c.from_residual.ensures.1 in
-    rw p.1 (λ w stands. (w, stands, [], refl, omega arith, λ live. (w, lasts g.S.Store g.met.S.Store.settled c.args.book.now w honest live stands, refl)))
+    rw p.1 (λ w stands. (w, stands, [], refl, omega arith, inl (inl p.2), λ live. (w, lasts g.S.Store g.met.S.Store.settled c.args.book.now w honest live stands, refl)))
 
 pub returns-in_err-listener-clause-err : goal.returns-in_err-listener-clause-err
 returns-in_err-listener-clause-err g c = λ honest.
     let p = err_from_is_err_and c.from_residual-in_err-listener.result c.from_residual-in_err-listener.ensures.1 in
-    rw p.1 (λ w stands. (w, stands, [], refl, omega arith, λ live. (w, lasts g.S.Store g.met.S.Store.settled c.args.book.now w honest live stands, refl)))
+    rw p.1 (λ w stands. (w, stands, [], refl, omega arith, inl p.2.0, λ live. (w, lasts g.S.Store g.met.S.Store.settled c.args.book.now w honest live stands, refl)))
 
 pub returns-in_err-listener-clause-damaged : goal.returns-in_err-listener-clause-damaged
 returns-in_err-listener-clause-damaged g c = λ honest.
@@ -65,4 +100,4 @@ returns-in_err-listener-clause-crash g c = λ honest live w stands. (w, w, stand
 
 pub returns-clause-crash : goal.returns-clause-crash
 returns-clause-crash g c = λ honest live w stands.
-    c.serve_at.ensures.crash honest live w stands (c.in_ok-settings.ensures w (c.serve_at.ensures.began honest) stands)
+    c.serve_at.ensures.crash honest live w stands (c.service-service.ensures.settings ∙ c.in_ok-settings.ensures w (c.serve_at.ensures.began honest) stands)

@@ -1,7 +1,8 @@
 use Rattle.std.proofs.Common.{inr}
 use Rattle.sqlite.specs.Files.{over_files}
 use Rattle.queue_store.specs.Kept.{StandsFor, shown_by}
-use Rattle.commands.proofs.EndingLemmas.{if_err, if_ok}
+use Rattle.commands.proofs.EndingLemmas.{any_err, if_err, if_ok}
+use Rattle.commands.proofs.PrintedLemmas.{unprinted}
 use Rattle.commands.proofs.WorkLemmas.{handed_on_kept, handed_on_of}
 use Rattle.commands.proofs.work.work_at.Goals as goal
 
@@ -19,6 +20,9 @@ returns-clause-again g c = λ w kept. if_ok c.work_over.result _ _ c.work_over.e
 
 pub returns-clause-live : goal.returns-clause-live
 returns-clause-live g c = if_ok c.work_over.result _ _ c.work_over.ensures.done (λ b is honest. (is honest).live)
+
+pub returns-in_err-book-clause-quiet : goal.returns-in_err-book-clause-quiet
+returns-in_err-book-clause-quiet g c = any_err c.from_residual.result _ (λ fault. inr (unprinted c.args.work (g.W.Write.contents c.args.output.now)))
 
 pub returns-clause-quiet : goal.returns-clause-quiet
 returns-clause-quiet g c = if_err c.work_over.result _ _ c.work_over.ensures.told (λ fault told. told.quiet)

@@ -16,7 +16,7 @@ returns-in-Import g c =
     }))
     (if_err c.import_into.result _ _ (both c.import_into.result _ _ c.import_into.ensures.told c.import_into.ensures.quiet) (λ fault it. record {
       told = it.0;
-      quiet = λ prints. or_same g.W.Write.contents _ _ it.1;
+      quiet = or_same g.W.Write.contents _ _ it.1;
     }))
     (λ honest. if_err c.import_into.result _ _ (both c.import_into.result _ _ (c.import_into.ensures.left honest) (c.import_into.ensures.why honest)) (λ fault told. record {
       began = c.import_into.ensures.began honest;
@@ -44,7 +44,7 @@ returns-in-Statement g c =
     }))
     (if_err c.print_from.result _ _ (both c.print_from.result _ _ c.print_from.ensures.told c.print_from.ensures.quiet) (λ fault it. record {
       told = it.0;
-      quiet = λ prints. or_same g.W.Write.contents _ _ it.1;
+      quiet = or_same g.W.Write.contents _ _ it.1;
     }))
     (λ honest. by_four c.print_from.result _ _ _ _ _ (c.print_from.ensures.damaged honest) (c.print_from.ensures.unknown honest) (c.print_from.ensures.known honest) c.print_from.ensures.quiet (λ fault damaged unknown known quiet. record {
       began = c.print_from.ensures.began honest;
@@ -73,13 +73,16 @@ returns-in-Serve g c =
       );
       live = λ leaves. absurd leaves;
     }))
-    (if_err c.serve_book.result _ _ c.serve_book.ensures.told (λ fault told. record { told = told; quiet = λ prints. absurd prints }))
+    (if_err c.serve_book.result _ _ (both c.serve_book.result _ _ c.serve_book.ensures.told c.serve_book.ensures.stopped) (λ fault it. record {
+      told = it.0;
+      quiet = elim it.1 [ inl stream ↦ inl stream | inr told ↦ inr (inr told) ];
+    }))
     (λ honest. if_err c.serve_book.result _ _ (both c.serve_book.result _ _ (c.serve_book.ensures.err honest) (c.serve_book.ensures.damaged honest)) (λ fault it. record {
       began = c.serve_book.ensures.began honest;
       refused = λ w stands. let left = it.0 w stands in (
         left.0,
         left.1,
-        ((λ is. it.1 is w stands), left.2, left.3, left.4),
-        λ live. let crashed = left.5 live in (crashed.0, crashed.1, (left.2, left.3, left.4, crashed.2)),
+        ((λ is. it.1 is w stands), left.2, left.3, left.4, left.5),
+        λ live. let crashed = left.6 live in (crashed.0, crashed.1, (left.2, left.3, left.4, crashed.2)),
       );
     })))
