@@ -1,7 +1,7 @@
 //! Connections by the bytes that a client sends and those that it is to get.
 
 use crate::compare::Mismatch;
-use http_front::End;
+use http_front::{End, ServeCause, ServeFault, Served};
 use std::alloc::Global;
 use std::io::Write;
 
@@ -27,6 +27,31 @@ pub struct Connection<'a> {
     pub acted: u32,
     pub end: End,
     pub wanted: &'a [Wanted<'a>],
+}
+
+impl Connection<'_> {
+    /// What it comes to.
+    pub fn outcome(&self) -> Served {
+        faultless(self.acted, self.end)
+    }
+}
+
+/// A connection comes to this end, so many of its requests act, and none meets a fault.
+pub fn faultless(acted: u32, end: End) -> Served {
+    Served {
+        acted,
+        faults: 0,
+        end,
+    }
+}
+
+/// A connection is broken off by this, so many of its requests have acted, and none met a fault.
+pub fn broken_off(acted: u32, cause: ServeCause) -> ServeFault {
+    ServeFault {
+        acted,
+        faults: 0,
+        cause,
+    }
 }
 
 /// A connection that ends so, and of whose requests none acts.

@@ -2,7 +2,7 @@
 
 use crate::books::{DeskBook, MemoryBook};
 use crate::compare::{Mismatch, Place, Subject};
-use crate::connection::{Connection, Wanted, closed, joined, length_of, wanted_bytes};
+use crate::connection::{Connection, Wanted, broken_off, closed, joined, length_of, wanted_bytes};
 use crate::messages::{PRINT_JOB, job_reply};
 use crate::requests::{IPP, POST_JOB};
 use crate::streams::{
@@ -115,13 +115,9 @@ impl<B: QueueBook + Drop> Desk<B> {
     /// A connection is served as it is to be, where a read gives at most so many bytes.
     pub fn take(&mut self, connection: &Connection<'_>, most: usize) -> Result<(), Mismatch> {
         let stream = joined(self.alloc, connection.stream)?;
-        let wanted = wanted_bytes(self.alloc, connection.wanted)?;
-        let served = Served {
-            acted: connection.acted,
-            faults: 0,
-            end: connection.end,
-        };
-        self.take_bytes(stream.as_slice(), served, wanted.as_slice(), most)
+        let answers = wanted_bytes(self.alloc, connection.wanted)?;
+        let wanted = connection.outcome();
+        self.take_bytes(stream.as_slice(), wanted, answers.as_slice(), most)
     }
 
     /// A stream is served so, with these bytes as its answers, and no read more than it has bytes but for one.
@@ -173,13 +169,8 @@ impl<B: QueueBook + Drop> Desk<B> {
             taken: Vec::new(self.alloc),
         };
         let served = self.serve(&mut reader, &mut writer);
-        let fault = ServeFault {
-            acted,
-            faults: 0,
-            cause: ServeCause::Write,
-        };
         let place = self.place(room);
-        place.same_outcome(Err(fault), served)?;
+        place.same_outcome(Err(broken_off(acted, ServeCause::Write)), served)?;
         let front = answers.get(..room).unwrap_or(answers);
         place.same_bytes(front, writer.taken.as_slice())
     }
@@ -192,13 +183,9 @@ impl<B: QueueBook + Drop> Desk<B> {
         most: usize,
     ) -> Result<(), Mismatch> {
         let stream = joined(self.alloc, connection.stream)?;
-        let wanted = wanted_bytes(self.alloc, connection.wanted)?;
-        let served = Served {
-            acted: connection.acted,
-            faults: 0,
-            end: connection.end,
-        };
-        self.interrupt(stream.as_slice(), served, wanted.as_slice(), most)
+        let answers = wanted_bytes(self.alloc, connection.wanted)?;
+        let wanted = connection.outcome();
+        self.interrupt(stream.as_slice(), wanted, answers.as_slice(), most)
     }
 
     /// A stream is served so, with these bytes as its answers.

@@ -1,6 +1,7 @@
 //! What the tests of HTTP connections share: a queue in a book of either kind, the requests that are sent to it, and the answers that are wanted.
 //!
-//! A `desk` has a queue and serves connections to it, over any book that keeps a queue; `books` has those that it is run over. A connection
+//! A `desk` has a queue and serves connections to it, over any book that keeps a queue; `books` has those that it is run over, and
+//! `faulty` one that can't do what it is asked. A connection
 //! is data (`connection`): the bytes that a client sends and what it is to get. Requests and IPP messages stand in `requests` and `messages`,
 //! readers and writers that are slow or fail in `streams`. Streams that are refused are in `refused`, those in which a part stands many times in `long`. A comparison that fails is told with the name of its book (`compare`).
 //!
@@ -11,6 +12,7 @@ pub mod books;
 pub mod compare;
 pub mod connection;
 pub mod desk;
+pub mod faulty;
 pub mod long;
 pub mod messages;
 pub mod refused;

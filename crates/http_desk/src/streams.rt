@@ -101,6 +101,20 @@ impl Write for InterruptedWriter {
     }
 }
 
+/// Takes each byte, and can't flush.
+#[derive(Drop)]
+pub struct UnflushedWriter;
+
+impl Write for UnflushedWriter {
+    fn write(&mut self, buf: &[u8]) -> io::Result<usize> {
+        Ok(buf.len())
+    }
+
+    fn flush(&mut self) -> io::Result<()> {
+        Err(io::Error::other("full"))
+    }
+}
+
 /// Gives some bytes, and then fails.
 #[derive(Drop)]
 pub struct BrokenReader<'a> {

@@ -12,5 +12,6 @@ mod patience;
 mod replays;
 mod server;
 mod serving;
+mod sockets;
 mod unprinted;
 mod words;

@@ -3,11 +3,13 @@
 use http_desk::books::{DeskBook, MemoryBook};
 use http_desk::compare::Mismatch;
 use http_desk::connection::Wanted::{Continue, Success};
-use http_desk::connection::{Connection, Wanted, filled, in_chunks_of_one_byte, wanted_bytes};
+use http_desk::connection::{
+    Connection, Wanted, faultless, filled, in_chunks_of_one_byte, wanted_bytes,
+};
 use http_desk::desk::{Desk, take_all_over_both};
 use http_desk::messages::{DONE, JOB_1, PRINT_JOB, PRINT_JOB_BEGUN, RELEASE_JOB};
 use http_desk::requests::{GET_DOCUMENT, IPP, OCTETS, POST_RELEASE, POST_WAITING};
-use http_front::{End, Served};
+use http_front::End;
 use list_book::ListBook;
 use std::alloc::Global;
 use std::slice;
@@ -85,12 +87,7 @@ fn fetch_large<B: DeskBook>(desk: &mut Desk<B>, answer: &[u8]) -> Result<(), Mis
     for pieces in 0..17 {
         desk.take_writer(GET_DOCUMENT, (83 + 8192 * pieces, 8192), 0, answer)?;
     }
-    let served = Served {
-        acted: 0,
-        faults: 0,
-        end: End::Closed,
-    };
-    desk.take_bytes(GET_DOCUMENT, served, answer, 4096)
+    desk.take_bytes(GET_DOCUMENT, faultless(0, End::Closed), answer, 4096)
 }
 
 /// A queue takes a large document, and gives it.

@@ -3,7 +3,7 @@
 use http_desk::books::{DeskBook, MemoryBook};
 use http_desk::compare::Mismatch;
 use http_desk::connection::Wanted::{Continue, Success};
-use http_desk::connection::{Connection, Wanted, joined, wanted_bytes};
+use http_desk::connection::{Connection, Wanted, broken_off, joined, wanted_bytes};
 use http_desk::desk::Desk;
 use http_desk::messages::{DONE, JOB_1, JOB_2, JOB_3, PRINT_JOB, RELEASE_JOB};
 use http_desk::refused::POST_ALLOWED;
@@ -11,7 +11,7 @@ use http_desk::requests::{
     GET_QUEUE, IPP, POST_JOB, POST_RELEASE, POST_WAITING, REPORT_DONE, REPORT_START, TEXT,
 };
 use http_desk::streams::BrokenReader;
-use http_front::{End, ServeCause, ServeFault};
+use http_front::{End, ServeCause};
 use list_book::ListBook;
 use std::alloc::Global;
 use std::ops::Range;
@@ -234,11 +234,7 @@ fn break_reader<B: DeskBook>(
     answers: &[u8],
 ) -> Result<(), Mismatch> {
     let mut desk = Desk::<B>::new(alloc)?;
-    let fault = ServeFault {
-        acted,
-        faults: 0,
-        cause: ServeCause::Read,
-    };
+    let fault = broken_off(acted, ServeCause::Read);
     desk.take_reader(
         &mut BrokenReader { rest: front },
         Err(fault),

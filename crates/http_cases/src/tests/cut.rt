@@ -3,13 +3,13 @@
 use http_desk::books::{DeskBook, MemoryBook};
 use http_desk::compare::Mismatch;
 use http_desk::connection::Wanted::Success;
-use http_desk::connection::{Connection, Wanted, in_chunks_of_one_byte, joined};
+use http_desk::connection::{Connection, Wanted, faultless, in_chunks_of_one_byte, joined};
 use http_desk::desk::Desk;
 use http_desk::messages::{BAD_REQUEST, JOB_1, JOB_2, PRINT_JOB};
 use http_desk::refused::end_behind;
 use http_desk::requests::{IPP, POST_CHUNKED, POST_JOB, POST_WAITING};
 use http_desk::streams::SPEEDS;
-use http_front::{End, Served};
+use http_front::End;
 use list_book::ListBook;
 use std::alloc::Global;
 
@@ -20,13 +20,8 @@ fn cut_to<B: DeskBook>(desk: &mut Desk<B>, front: &[u8], answers: &[u8]) -> Resu
     } else {
         End::Cut
     };
-    let served = Served {
-        acted: 0,
-        faults: 0,
-        end,
-    };
     for most in SPEEDS {
-        desk.take_bytes(front, served, answers, most)?;
+        desk.take_bytes(front, faultless(0, end), answers, most)?;
     }
     Ok(())
 }

@@ -7,12 +7,12 @@ use grants_csv::{ImportCause, ImportFault, Imported};
 use http_desk::books::{DeskBook, MemoryBook};
 use http_desk::compare::{Mismatch, Place};
 use http_desk::connection::Wanted::Success;
-use http_desk::connection::{Wanted, joined, wanted_bytes};
+use http_desk::connection::{Wanted, broken_off, faultless, joined, wanted_bytes};
 use http_desk::desk::settings;
 use http_desk::messages::{DONE, JOB_1, PRINT_JOB, RELEASE_JOB};
 use http_desk::requests::{GET_QUEUE, IPP, POST_JOB, POST_RELEASE, TEXT};
 use http_desk::streams::BrokenWriter;
-use http_front::{End, ServeCause, ServeFault, Served};
+use http_front::{End, ServeCause};
 use list_book::ListBook;
 use queue_types::limits::LAST_MOMENT;
 use queue_types::settings::Settings;
@@ -91,21 +91,12 @@ fn day(print: &[u8]) -> [Arrival<'_>; 11]
 
 /// One came to what it was to come to.
 fn compare(place: &Place, wanted: Comes, came: &Outcome) -> Result<(), Mismatch> {
-    let faults = 0;
     match (wanted, came) {
         (Comes::Serves(acted, end), Outcome::Served(served)) => {
-            place.same_outcome(Ok(Served { acted, faults, end }), Ok(*served))
+            place.same_outcome(Ok(faultless(acted, end)), Ok(*served))
         }
         (Comes::Breaks(acted), Outcome::Broken(fault)) => {
-            let cause = ServeCause::Write;
-            place.same_outcome(
-                Err(ServeFault {
-                    acted,
-                    faults,
-                    cause,
-                }),
-                Err(*fault),
-            )
+            place.same_outcome(Err(broken_off(acted, ServeCause::Write)), Err(*fault))
         }
         (Comes::Tells(line), Outcome::Told(answer)) => {
             place.same_bytes(line.as_bytes(), answer.bytes())

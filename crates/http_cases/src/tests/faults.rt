@@ -3,73 +3,17 @@
 use http_desk::books::{DeskBook, MemoryBook};
 use http_desk::compare::Mismatch;
 use http_desk::connection::Wanted::{Refusal, Success};
-use http_desk::connection::{Connection, Wanted, joined, wanted_bytes};
+use http_desk::connection::{Connection, Wanted, broken_off, faultless, joined, wanted_bytes};
 use http_desk::desk::Desk;
+use http_desk::faulty::FaultyBook;
 use http_desk::messages::{DONE, FAULT, PRINT_JOB, RELEASE_JOB};
 use http_desk::requests::{
     GET_DOCUMENT, GET_QUEUE, IPP, OCTETS, POST_JOB, POST_RELEASE, REPORT_START, TEXT,
 };
 use http_front::{End, ServeCause, ServeFault, Served};
 use list_book::ListBook;
-use queue_core::book::{BookFault, QueueBook, SendCause, SendFault};
-use queue_types::document::DocumentHead;
-use queue_types::event::{Decision, Event};
-use queue_types::job::JobList;
-use queue_types::sheet::AccountSheet;
+use queue_core::book::{BookFault, SendCause, SendFault};
 use std::alloc::Global;
-use std::io::Write;
-
-/// A book that refuses to change, to tell the device's queue, and to send a document past its first byte.
-#[derive(Drop)]
-struct BrokenBook<B> {
-    inner: B,
-    /// What it tells of a document behind that byte.
-    sent: Result<u64, SendFault>,
-}
-
-impl<B: QueueBook> QueueBook for BrokenBook<B> {
-    ghost stands = { λ b w. ⊥ };
-
-    ghost is_honest = { λ b. ⊥ };
-
-    ghost is_live = { λ b. ⊥ };
-
-    ghost crash_leaves = { λ b v w. ⊥ };
-
-    ghost sound = { λ b w h s. absurd h };
-
-    ghost lasts = { λ b w v h live s. absurd h };
-
-    fn decide<'a>(&mut self, now: u32, e: &Event<'a>) -> Result<Decision<'a>, BookFault> {
-        self.inner.decide(now, e)
-    }
-
-    fn apply(&mut self, _d: Decision<'_>) -> Result<(), BookFault> {
-        Err(BookFault::Disk)
-    }
-
-    fn pending(&mut self) -> Result<JobList, BookFault> {
-        Err(BookFault::Disk)
-    }
-
-    fn document_head(&mut self, job: u32, n: u32) -> Result<Option<DocumentHead>, BookFault> {
-        self.inner.document_head(job, n)
-    }
-
-    fn send_document<W: Write>(
-        &mut self,
-        _job: u32,
-        _n: u32,
-        out: &mut W,
-    ) -> Result<u64, SendFault> {
-        let _taken = out.write(b"h");
-        self.sent
-    }
-
-    fn sheet(&mut self, account: &str) -> Result<Option<AccountSheet>, BookFault> {
-        self.inner.sheet(account)
-    }
-}
 
 /// Job 1 of alice is released.
 const RELEASE: Connection<'static> = Connection {
@@ -87,30 +31,99 @@ fn released<B: DeskBook>(alloc: Global) -> Result<B, Mismatch> {
     Ok(desk.into_book())
 }
 
+/// How a book fails: why it can't be read, if it can't, and what it tells of a document behind its first byte.
+type Failure = (Option<BookFault>, Result<u64, SendFault>);
+
+/// A stream to such a book, which fails so from then on, is served so, with these bytes as its answers.
+fn serve_faulty<B: DeskBook>(
+    alloc: Global,
+    (unread, sent): Failure,
+    stream: &[u8],
+    wanted: Result<Served, ServeFault>,
+    answers: &[u8],
+) -> Result<(), Mismatch> {
+    let inner = released::<B>(alloc)?;
+    let book = FaultyBook {
+        inner,
+        unread,
+        undecided: None,
+        sent,
+    };
+    let mut desk = Desk::over(alloc, book, B::subject())?;
+    let mut reader = stream;
+    desk.take_reader(&mut reader, wanted, answers, stream.len())
+}
+
+/// It is over each book.
+fn serve_faulty_over_both(
+    alloc: Global,
+    failure: Failure,
+    stream: &[u8],
+    wanted: Result<Served, ServeFault>,
+    answers: &[u8],
+) -> Result<(), Mismatch> {
+    serve_faulty::<ListBook>(alloc, failure, stream, wanted, answers)?;
+    serve_faulty::<MemoryBook>(alloc, failure, stream, wanted, answers)
+}
+
 /// A fault is told of a document behind its first byte.
 const FAULTY: Result<u64, SendFault> = Err(SendFault {
     written: 1,
     cause: SendCause::Book(BookFault::Disk),
 });
 
-/// A stream to such a book, which is broken from then on and tells this of a document, is served so, with these bytes as its
-/// answers.
-fn serve_broken<B: DeskBook>(
+/// Requests to a book that can't be read by this fault, or can be, are served so, with these answers.
+fn answer_each(
     alloc: Global,
-    sent: Result<u64, SendFault>,
-    stream: &[u8],
-    wanted: Result<Served, ServeFault>,
-    answers: &[u8],
+    unread: Option<BookFault>,
+    stream: &[&[u8]],
+    served: Served,
+    wanted: &[Wanted<'_>],
 ) -> Result<(), Mismatch> {
-    let inner = released::<B>(alloc)?;
-    let mut desk = Desk::over(alloc, BrokenBook { inner, sent }, B::subject())?;
-    let mut reader = stream;
-    desk.take_reader(&mut reader, wanted, answers, stream.len())
+    let stream = joined(alloc, stream)?;
+    let answers = wanted_bytes(alloc, wanted)?;
+    let (stream, answers) = (stream.as_slice(), answers.as_slice());
+    serve_faulty_over_both(alloc, (unread, FAULTY), stream, Ok(served), answers)
 }
 
-/// A request that changes nothing, and three that fail: two changes, and a look at the queue, which ends the connection.
-const STREAM: &[&[u8]] = &[
-    b"POST /device/report HTTP/1.1\r\nContent-Type: text/plain\r\nContent-Length: 1\r\n\r\nx",
+/// A report that is no line of the device: it asks nothing of a book.
+const NO_REPORT: &[u8] =
+    b"POST /device/report HTTP/1.1\r\nContent-Type: text/plain\r\nContent-Length: 1\r\n\r\nx";
+
+const NO_LINE: Wanted<'static> = Success(TEXT, b"refused 1 syntax\n");
+
+const REPORT_FAULT: Wanted<'static> = Success(TEXT, b"refused 6 fault\n");
+
+const JOB_FAULT: Wanted<'static> = Success(IPP, FAULT);
+
+const UNAVAILABLE: Wanted<'static> = Refusal("503 Service Unavailable");
+
+/// A request that asks nothing of the book, two changes, which fail, and a look at the queue.
+const CHANGES: &[&[u8]] = &[NO_REPORT, REPORT_START, POST_JOB, PRINT_JOB, GET_QUEUE];
+
+/// The queue is as it was.
+const CHANGED: &[Wanted<'static>] = &[
+    NO_LINE,
+    REPORT_FAULT,
+    JOB_FAULT,
+    Success(TEXT, b"1 1 1 2\n"),
+];
+
+#[test]
+fn changes_that_fail(rt: HostRuntime) -> Result<(), Mismatch> {
+    let served = Served {
+        faults: 0b0110,
+        ..faultless(3, End::Closed)
+    };
+    answer_each(rt.alloc(), None, CHANGES, served, CHANGED)
+}
+
+/// Why a book can't be read.
+const UNREAD: [BookFault; 3] = [BookFault::Memory, BookFault::Disk, BookFault::Damaged];
+
+/// The same requests, and one more behind the look, which ends the connection.
+const LOOK: &[&[u8]] = &[
+    NO_REPORT,
     REPORT_START,
     POST_JOB,
     PRINT_JOB,
@@ -119,35 +132,36 @@ const STREAM: &[&[u8]] = &[
     PRINT_JOB,
 ];
 
-const ANSWERS: &[Wanted<'static>] = &[
-    Success(TEXT, b"refused 1 syntax\n"),
-    Success(TEXT, b"refused 6 fault\n"),
-    Success(IPP, FAULT),
-    Refusal("503 Service Unavailable"),
-];
-
-/// What they come to.
-const SERVED: Result<Served, ServeFault> = Ok(Served {
-    acted: 3,
-    faults: 0b1110,
-    end: End::Refused(503),
-});
+const LOOKED: &[Wanted<'static>] = &[NO_LINE, REPORT_FAULT, JOB_FAULT, UNAVAILABLE];
 
 #[test]
-fn changes_and_a_queue_that_fail(rt: HostRuntime) -> Result<(), Mismatch> {
-    let alloc = rt.alloc();
-    let stream = joined(alloc, STREAM)?;
-    let answers = wanted_bytes(alloc, ANSWERS)?;
-    serve_broken::<ListBook>(alloc, FAULTY, stream.as_slice(), SERVED, answers.as_slice())?;
-    serve_broken::<MemoryBook>(alloc, FAULTY, stream.as_slice(), SERVED, answers.as_slice())
+fn a_queue_that_cannot_be_read(rt: HostRuntime) -> Result<(), Mismatch> {
+    let served = Served {
+        faults: 0b1110,
+        ..faultless(3, End::Refused(503))
+    };
+    for fault in UNREAD {
+        answer_each(rt.alloc(), Some(fault), LOOK, served, LOOKED)?;
+    }
+    Ok(())
 }
 
-/// A document broken off behind its first byte.
-const BROKEN_OFF: Result<Served, ServeFault> = Err(ServeFault {
-    acted: 0,
-    faults: 0,
-    cause: ServeCause::Book,
-});
+/// A Print-Job, a document, and one more request behind that.
+const FETCH: &[&[u8]] = &[POST_JOB, PRINT_JOB, GET_DOCUMENT, POST_JOB, PRINT_JOB];
+
+const FETCHED: &[Wanted<'static>] = &[JOB_FAULT, UNAVAILABLE];
+
+#[test]
+fn a_document_that_cannot_be_read(rt: HostRuntime) -> Result<(), Mismatch> {
+    let served = Served {
+        faults: 0b11,
+        ..faultless(1, End::Refused(503))
+    };
+    for fault in UNREAD {
+        answer_each(rt.alloc(), Some(fault), FETCH, served, FETCHED)?;
+    }
+    Ok(())
+}
 
 /// A document that is broken off behind its first byte, of which the book tells this, ends the connection: the request behind it is
 /// not answered.
@@ -155,8 +169,8 @@ fn break_off(alloc: Global, sent: Result<u64, SendFault>) -> Result<(), Mismatch
     let stream = joined(alloc, &[GET_DOCUMENT, GET_DOCUMENT])?;
     let answer = wanted_bytes(alloc, &[Success(OCTETS, b"hi")])?;
     let front = answer.as_slice().strip_suffix(b"i").unwrap_or(b"");
-    serve_broken::<ListBook>(alloc, sent, stream.as_slice(), BROKEN_OFF, front)?;
-    serve_broken::<MemoryBook>(alloc, sent, stream.as_slice(), BROKEN_OFF, front)
+    let broken = broken_off(0, ServeCause::Book);
+    serve_faulty_over_both(alloc, (None, sent), stream.as_slice(), Err(broken), front)
 }
 
 #[test]

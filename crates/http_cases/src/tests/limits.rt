@@ -3,7 +3,7 @@
 use http_desk::books::{DeskBook, MemoryBook};
 use http_desk::compare::Mismatch;
 use http_desk::connection::Wanted::Success;
-use http_desk::connection::{Wanted, filled, wanted_bytes};
+use http_desk::connection::{Wanted, faultless, filled, wanted_bytes};
 use http_desk::desk::Desk;
 use http_desk::long::{Long, refuse_long, serve_long};
 use http_desk::refused::{BAD, HEAD_TOO_LARGE, TOO_LARGE, end_behind};
@@ -115,11 +115,6 @@ fn refuse_endless_at<B: DeskBook>(
     answer: &[u8],
     most: usize,
 ) -> Result<(), Mismatch> {
-    let served = Served {
-        acted: 0,
-        faults: 0,
-        end: End::Refused(code),
-    };
     let mut reader = EndlessReader {
         rest: front,
         byte: b'a',
@@ -127,7 +122,8 @@ fn refuse_endless_at<B: DeskBook>(
         given: 0,
     };
     let mut desk = Desk::<B>::new(alloc)?;
-    desk.take_reader(&mut reader, Ok(served), answer, most)?;
+    let refused = faultless(0, End::Refused(code));
+    desk.take_reader(&mut reader, Ok(refused), answer, most)?;
     let bytes = front.len().saturating_add(room);
     desk.place(most).few_reads(reader.given, bytes)
 }
@@ -233,13 +229,9 @@ fn take_long_chunks(
 
 #[test]
 fn a_chunked_body_at_its_raw_limit(rt: HostRuntime) -> Result<(), Mismatch> {
-    let served = Served {
-        acted: 1,
-        faults: 0,
-        end: End::Closed,
-    };
+    let rest: Rest = (b"0;", 570, b"\r\n\r\n");
     let answer = [Success(TEXT, b"refused 1 syntax\n")];
-    take_long_chunks(rt.alloc(), (b"0;", 570, b"\r\n\r\n"), served, &answer)
+    take_long_chunks(rt.alloc(), rest, faultless(1, End::Closed), &answer)
 }
 
 /// A POST in such chunks ends so, with these answers, and doesn't act.
@@ -249,12 +241,7 @@ fn stop_long_chunks(
     end: End,
     wanted: &[Wanted<'_>],
 ) -> Result<(), Mismatch> {
-    let served = Served {
-        acted: 0,
-        faults: 0,
-        end,
-    };
-    take_long_chunks(alloc, rest, served, wanted)
+    take_long_chunks(alloc, rest, faultless(0, end), wanted)
 }
 
 /// A POST in such chunks passes the raw limit by this end.

@@ -95,7 +95,7 @@ fn a_client_that_resets(rt: HostRuntime) -> Result<(), Mismatch> {
 }
 
 /// The head of a request whose body is too large.
-const POST_TOO_LARGE: &[u8] =
+pub(super) const POST_TOO_LARGE: &[u8] =
     b"POST /ipp/print HTTP/1.1\r\nContent-Type: application/ipp\r\nContent-Length: 16777217\r\n\r\n";
 
 /// What comes of it: the whole answer.

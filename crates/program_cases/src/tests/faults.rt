@@ -1,76 +1,30 @@
 //! Books that can't do what they are asked.
 
 use crate::tests::server::Step::{Gets, SendsLast, Serves, Stops};
-use crate::tests::server::{AT, Server, Step};
+use crate::tests::server::{Server, Step};
+use crate::tests::sockets::AT;
+use http_desk::books::{DeskBook, MemoryBook};
 use http_desk::compare::Mismatch;
 use http_desk::connection::Wanted::Success;
+use http_desk::desk::settings;
+use http_desk::faulty::FaultyBook;
 use http_desk::messages::{FAULT, PRINT_JOB};
 use http_desk::requests::{IPP, POST_JOB};
-use queue_core::book::{BookFault, QueueBook, SendCause, SendFault};
-use queue_types::document::DocumentHead;
-use queue_types::event::{Decision, Event};
-use queue_types::job::JobList;
-use queue_types::sheet::AccountSheet;
-use replay::{Fault, replay_over, replay_settings};
+use queue_core::book::BookFault;
+use replay::{replay_over, replay_settings};
 use std::alloc::Global;
 use std::io;
 use std::io::Write;
 
-/// A book that takes nothing, as one whose disk is full.
-#[derive(Drop)]
-struct FaultyBook {
-    alloc: Global,
-    /// Why neither what an event needs nor the jobs that wait can be read. Where they can be read the disk is full.
-    unread: Option<BookFault>,
-}
-
-impl QueueBook for FaultyBook {
-    ghost stands = { λ b w. ⊥ };
-
-    ghost is_honest = { λ b. ⊥ };
-
-    ghost is_live = { λ b. ⊥ };
-
-    ghost crash_leaves = { λ b v w. ⊥ };
-
-    ghost sound = { λ b w h s. absurd h };
-
-    ghost lasts = { λ b w v h live s. absurd h };
-
-    fn decide<'a>(&mut self, _now: u32, _e: &Event<'a>) -> Result<Decision<'a>, BookFault> {
-        Err(self.unread.unwrap_or(BookFault::Disk))
-    }
-
-    fn apply(&mut self, _d: Decision<'_>) -> Result<(), BookFault> {
-        Err(BookFault::Disk)
-    }
-
-    fn pending(&mut self) -> Result<JobList, BookFault> {
-        match self.unread {
-            Some(fault) => Err(fault),
-            None => Ok(JobList::from_items(Vec::new(self.alloc))),
-        }
-    }
-
-    fn document_head(&mut self, _job: u32, _n: u32) -> Result<Option<DocumentHead>, BookFault> {
-        Err(BookFault::Disk)
-    }
-
-    fn send_document<W: Write>(
-        &mut self,
-        _job: u32,
-        _n: u32,
-        _out: &mut W,
-    ) -> Result<u64, SendFault> {
-        Err(SendFault {
-            written: 0,
-            cause: SendCause::Book(BookFault::Disk),
-        })
-    }
-
-    fn sheet(&mut self, _account: &str) -> Result<Option<AccountSheet>, BookFault> {
-        Err(BookFault::Disk)
-    }
+/// A book of an empty queue that takes nothing, as one whose disk is full. It can't be read by this fault, or can be.
+fn faulty(alloc: Global, unread: Option<BookFault>) -> Result<FaultyBook<MemoryBook>, Mismatch> {
+    let inner = MemoryBook::empty(alloc, settings(alloc)?)?;
+    Ok(FaultyBook {
+        inner,
+        unread,
+        undecided: None,
+        sent: Ok(1),
+    })
 }
 
 /// Takes steps, one after another, with a server over such a book.
@@ -79,8 +33,7 @@ fn take_steps_over(
     unread: Option<BookFault>,
     steps: &[Step<'_>],
 ) -> Result<(), Mismatch> {
-    let alloc = rt.alloc();
-    let mut server = Server::over(rt, FaultyBook { alloc, unread })?;
+    let mut server = Server::over(rt, faulty(rt.alloc(), unread)?)?;
     server.take_each(rt, steps)
 }
 
@@ -96,6 +49,15 @@ const GOES_ON: &[Step<'static>] = &[
 #[test]
 fn a_book_that_takes_nothing(rt: HostRuntime) -> Result<(), Mismatch> {
     take_steps_over(&rt, None, GOES_ON)
+}
+
+/// It is read where it can decide nothing.
+#[test]
+fn a_book_that_decides_nothing(rt: HostRuntime) -> Result<(), Mismatch> {
+    let mut book = faulty(rt.alloc(), None)?;
+    book.undecided = Some(BookFault::Disk);
+    let mut server = Server::over(&rt, book)?;
+    server.take_each(&rt, GOES_ON)
 }
 
 /// It may be read again once there is memory.
@@ -130,17 +92,17 @@ fn message_and_lines(alloc: Global, message: &[u8], lines: &str) -> io::Result<V
     Ok(text)
 }
 
-/// Replays an input over a book that can't be read by this fault.
+/// A replay over a book that can't be read by this fault comes to its end.
 fn replay_by(
     alloc: Global,
     fault: BookFault,
     mut input: &[u8],
     output: &mut Vec<u8>,
-) -> Result<u8, Fault> {
+) -> Result<(), Mismatch> {
     let settings = replay_settings(alloc)?;
-    let unread = Some(fault);
-    let mut book = FaultyBook { alloc, unread };
-    replay_over(alloc, &mut input, output, &mut book, &settings)
+    let mut book = faulty(alloc, Some(fault))?;
+    let came = replay_over(alloc, &mut input, output, &mut book, &settings);
+    AT.is_so(came == Ok(0), "a replay that comes to its end")
 }
 
 /// Each line is told the fault, and the replay comes to its end.
@@ -148,8 +110,7 @@ fn replays_on(alloc: Global, fault: BookFault) -> Result<(), Mismatch> {
     let input = message_and_lines(alloc, PRINT_JOB, "dev 1 1 start 0\ngrant f24,alice,30\n")?;
     let wanted = message_and_lines(alloc, FAULT, "refused 6 fault\ngrant refused 6\n")?;
     let mut output = Vec::new(alloc);
-    let came = replay_by(alloc, fault, input.as_slice(), &mut output);
-    AT.is_so(came == Ok(0), "a replay that comes to its end")?;
+    replay_by(alloc, fault, input.as_slice(), &mut output)?;
     AT.same_bytes(wanted.as_slice(), output.as_slice())
 }
 

@@ -1,7 +1,8 @@
 //! The port that a server listens on, and lines that can't be printed.
 
-use crate::tests::server::Step::{Gets, SendsLast, Serves, ServesUntold};
-use crate::tests::server::{AT, NO_ROOM, Step, narrow, take_steps};
+use crate::tests::server::Step::{Gets, SendsLast, Serves, ServesUnflushed, ServesUntold};
+use crate::tests::server::{NO_ROOM, Step, narrow, take_steps};
+use crate::tests::sockets::AT;
 use http_desk::books::MemoryBook;
 use http_desk::compare::Mismatch;
 use http_desk::connection::Wanted::Success;
@@ -61,19 +62,28 @@ fn a_port_that_cannot_be_told(rt: HostRuntime) -> Result<(), Mismatch> {
     has_failed(came, NO_ROOM, "a line that can't be written")
 }
 
-/// The first of two connections has been served when its line can't be printed; the second is not taken, and served later.
-const UNTOLD: &[Step<'static>] = &[
-    SendsLast(&[POST_JOB, PRINT_JOB]),
-    SendsLast(&[POST_JOB, PRINT_JOB]),
-    ServesUntold(2),
-    Gets(0, &[Success(IPP, JOB_1)]),
-    Serves(1, "served 1\n"),
-    Gets(1, &[Success(IPP, JOB_2)]),
-];
+/// The first of two connections has been served when its line can't be printed so; the second is not taken, and served later.
+fn serves_untold(rt: &HostRuntime, untold: Step<'_>) -> Result<(), Mismatch> {
+    let steps = [
+        SendsLast(&[POST_JOB, PRINT_JOB]),
+        SendsLast(&[POST_JOB, PRINT_JOB]),
+        untold,
+        Gets(0, &[Success(IPP, JOB_1)]),
+        Serves(1, "served 1\n"),
+        Gets(1, &[Success(IPP, JOB_2)]),
+    ];
+    take_steps::<MemoryBook>(rt, &steps)
+}
 
 #[test]
 fn a_count_that_cannot_be_told(rt: HostRuntime) -> Result<(), Mismatch> {
-    take_steps::<MemoryBook>(&rt, UNTOLD)
+    serves_untold(&rt, ServesUntold(2))
+}
+
+/// A count that is not flushed would be lost where the server is stopped.
+#[test]
+fn a_count_that_cannot_be_flushed(rt: HostRuntime) -> Result<(), Mismatch> {
+    serves_untold(&rt, ServesUnflushed(2))
 }
 
 const NO_CONNECTION: &[Step<'static>] = &[Serves(0, "")];

@@ -1,6 +1,8 @@
 //! The moment of a connection.
 
-use crate::tests::server::{AT, Server};
+use crate::tests::server::Server;
+use crate::tests::server::Step::Gets;
+use crate::tests::sockets::AT;
 use http_desk::books::{DeskBook, MemoryBook};
 use http_desk::compare::Mismatch;
 use http_desk::connection::Wanted::Success;
@@ -52,7 +54,7 @@ fn is_served_by_the_clock<B: DeskBook>(rt: &HostRuntime) -> Result<(), Mismatch>
     let mut server = Server::<B>::new(rt)?;
     server.add_last_client(rt, &[POST_UP_TIME, GET_UP_TIME])?;
     server.serve(&StandsAt41, 1, "served 1\n")?;
-    server.answers(0, &[Success(IPP, UP_FOR_42)])
+    server.take_each(rt, &[Gets(0, &[Success(IPP, UP_FOR_42)])])
 }
 
 /// A printer that was up at second 0 is up for 42 seconds at second 41.

@@ -1,7 +1,9 @@
 //! Clients that keep a connection and say nothing, or don't read. Each costs the server its timeout. And connections whose time is over.
 
+use crate::tests::clients::POST_TOO_LARGE;
 use crate::tests::server::Step::{Gets, GetsFront, Sends, SendsLast, Serves};
 use crate::tests::server::{Server, Step, take_steps};
+use crate::tests::sockets::AT;
 use http_desk::books::{DeskBook, MemoryBook};
 use http_desk::compare::Mismatch;
 use http_desk::connection::Wanted::Success;
@@ -12,6 +14,8 @@ use http_desk::requests::{GET_DOCUMENT, IPP, OCTETS, POST_JOB, POST_RELEASE};
 use std::alloc::Global;
 use std::cell::Cell;
 use std::io;
+use std::io::Write;
+use std::net::TcpStream;
 use std::rt::Clock;
 use std::time::Duration;
 
@@ -177,4 +181,45 @@ fn the_last_second_of_a_connection(rt: HostRuntime) -> Result<(), Mismatch> {
 #[test]
 fn a_connection_whose_time_is_over(rt: HostRuntime) -> Result<(), Mismatch> {
     prints_by::<MemoryBook>(&rt, &Leaps::by(60), "served 0\n", JOB_1)
+}
+
+/// A clock by which a client sends on: at each look at it some bytes more.
+#[derive(Drop)]
+struct SendsOn<'a> {
+    clock: &'a Leaps,
+    client: &'a TcpStream,
+}
+
+impl Clock for SendsOn<'_> {
+    fn monotonic(&self) -> io::Result<Duration> {
+        let mut client = self.client;
+        client.write_all(b"01234567")?;
+        self.clock.monotonic()
+    }
+
+    fn since_1970(&self) -> io::Result<Duration> {
+        self.clock.since_1970()
+    }
+}
+
+/// How often the server looks at this clock where the client of a request whose body is too large sends on without end.
+fn looks_by<B: DeskBook>(rt: &HostRuntime, clock: &Leaps) -> Result<u64, Mismatch> {
+    let mut server = Server::<B>::new(rt)?;
+    let client = server.client(rt, &[POST_TOO_LARGE])?;
+    let client = &client;
+    server.serve(&SendsOn { clock, client }, 1, "served 0\n")?;
+    Ok(clock.looks.get())
+}
+
+/// It reads 256 times past what came where no time passes, and ten times where a second passes from each look to the next: then it leaves the
+/// client.
+#[test]
+fn a_client_that_sends_without_end(rt: HostRuntime) -> Result<(), Mismatch> {
+    let reads = looks_by::<MemoryBook>(&rt, &Leaps::by(0))?;
+    let seconds = looks_by::<MemoryBook>(&rt, &Leaps::by(1))?;
+    AT.is_so(reads > 256, "a client whose bytes are read past")?;
+    AT.is_so(
+        reads.checked_sub(seconds) == Some(246),
+        "a client that is left",
+    )
 }

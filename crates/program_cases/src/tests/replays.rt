@@ -1,6 +1,6 @@
 //! Replays over streams that fail, text of bytes, and examples that are not answered as they are to be.
 
-use http_desk::streams::{BrokenReader, BrokenWriter};
+use http_desk::streams::{BrokenReader, BrokenWriter, UnflushedWriter};
 use replay::{Fault, HexFault, put_hex, read_hex};
 use replay_examples::run_cases;
 use replay_in_memory::replay;
@@ -23,6 +23,17 @@ fn streams_that_fail(rt: HostRuntime) {
         taken: Vec::new(rt.alloc()),
     };
     assert_eq!(rt; replay(rt.alloc(), &mut input, &mut output), Err(Fault::Io));
+}
+
+/// What it has written is flushed before it waits for more: where that can't be, nothing is read.
+#[test]
+fn output_that_is_flushed_first(rt: HostRuntime) {
+    let mut input: &[u8] = b"ipp 00\n";
+    assert_eq!(rt;
+        replay(rt.alloc(), &mut input, &mut UnflushedWriter),
+        Err(Fault::Io)
+    );
+    assert_eq!(rt; input, b"ipp 00\n".as_slice());
 }
 
 /// The digits stand for these bytes.

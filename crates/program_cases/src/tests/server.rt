@@ -1,31 +1,23 @@
 //! A server on a port of the loopback interface with its clients, and what they do in turn.
 
+use crate::tests::sockets::{AT, Clients, client_at};
 use http_desk::books::DeskBook;
-use http_desk::compare::{Mismatch, Place, Subject, no_book};
-use http_desk::connection::{Wanted, wanted_bytes};
+use http_desk::compare::{Mismatch, no_book};
+use http_desk::connection::Wanted;
 use http_desk::desk::settings;
-use http_desk::streams::BrokenWriter;
+use http_desk::streams::{BrokenWriter, UnflushedWriter};
 use print_server::{ServerFault, Service, Standing, listen};
 use queue_core::book::{BookFault, QueueBook};
 use queue_types::settings::Settings;
-use std::alloc::{AllocError, Global};
-use std::io::{ErrorKind, Read, Write};
+use std::alloc::Global;
+use std::io;
+use std::io::{ErrorKind, Write};
 use std::net::{Shutdown, SocketAddr, TcpListener, TcpStream};
 use std::num::NonZeroU32;
 use std::rt::Clock;
-use std::time::Duration;
 
 /// The seconds that a server of a test waits for a client.
 const PATIENCE: NonZeroU32 = NonZeroU32::MIN;
-
-/// The seconds that a client waits for an answer that has been sent before it asks.
-const CLIENT_SECONDS: u64 = 10;
-
-/// Where comparisons are made.
-pub(super) const AT: Place = Place {
-    subject: Subject::Server,
-    most: usize::MAX,
-};
 
 /// What is done next.
 #[derive(Clone, Copy)]
@@ -40,6 +32,8 @@ pub(super) enum Step<'a> {
     Serves(u32, &'a str),
     /// The server serves so many connections, and can't print its lines.
     ServesUntold(u32),
+    /// The same, where it can't flush them.
+    ServesUnflushed(u32),
     /// The server is to serve so many connections, prints these lines, and stops since its book can't be read any more, by this fault.
     Stops(u32, &'a str, BookFault),
     /// The client of this number, of those that stayed, gets this and then the end of its connection. The first is number 0.
@@ -64,7 +58,7 @@ pub(super) struct Server<B: QueueBook> {
     address: SocketAddr,
     settings: Settings,
     book: B,
-    clients: Vec<TcpStream>,
+    clients: Clients,
 }
 
 impl<B: DeskBook> Server<B> {
@@ -88,28 +82,19 @@ impl<B: QueueBook + Drop> Server<B> {
             address,
             settings,
             book,
-            clients: Vec::new(alloc),
+            clients: Clients::new(alloc),
         })
     }
 
     /// A client that has sent these bytes and may send more.
-    fn client(&self, rt: &HostRuntime, parts: &[&[u8]]) -> Result<TcpStream, Mismatch> {
-        let mut stream = TcpStream::connect(rt, self.address)?;
-        stream.set_read_timeout(Some(Duration::from_secs(CLIENT_SECONDS)))?;
-        send(&mut stream, parts)?;
-        Ok(stream)
-    }
-
-    /// This client stays.
-    fn keep(&mut self, client: TcpStream) -> Result<(), Mismatch> {
-        self.clients.push(client).map_err(AllocError::from)?;
-        Ok(())
+    pub(super) fn client(&self, rt: &HostRuntime, parts: &[&[u8]]) -> io::Result<TcpStream> {
+        client_at(rt, self.address, parts)
     }
 
     /// A client stays that has sent these bytes and may send more.
     fn add_client(&mut self, rt: &HostRuntime, parts: &[&[u8]]) -> Result<(), Mismatch> {
         let client = self.client(rt, parts)?;
-        self.keep(client)
+        self.clients.add(client)
     }
 
     /// A client stays that has sent these bytes and sends no more.
@@ -120,7 +105,7 @@ impl<B: QueueBook + Drop> Server<B> {
     ) -> Result<(), Mismatch> {
         let client = self.client(rt, parts)?;
         client.shutdown(Shutdown::Write)?;
-        self.keep(client)
+        self.clients.add(client)
     }
 
     /// Serves so many connections by this clock, and prints to a writer.
@@ -170,32 +155,18 @@ impl<B: QueueBook + Drop> Server<B> {
         AT.same_bytes(lines.as_bytes(), printed.as_slice())
     }
 
-    /// Serves so many connections, and fails to print a line.
-    fn serve_untold(&mut self, rt: &HostRuntime, connections: u32) -> Result<(), Mismatch> {
-        let mut printed = narrow(self.alloc);
-        let came = self.serve_into(rt, &mut printed, connections);
+    /// Serves so many connections, and fails to print a line to this writer.
+    fn serve_untold<W: Write>(
+        &mut self,
+        rt: &HostRuntime,
+        out: &mut W,
+        connections: u32,
+    ) -> Result<(), Mismatch> {
+        let came = self.serve_into(rt, out, connections);
         AT.is_so(
             matches!(&came, Err(ServerFault::Io(error)) if error.kind() == NO_ROOM),
-            "a line that can't be written",
+            "a line that can't be printed",
         )
-    }
-
-    /// The client of this number gets this, and then the end of its connection.
-    pub(super) fn answers(&self, client: usize, wanted: &[Wanted<'_>]) -> Result<(), Mismatch> {
-        let Some(stream) = self.clients.get(client) else {
-            return AT.is_so(false, "a client of this number");
-        };
-        let mut reader = stream;
-        reads(self.alloc, &mut reader, wanted)
-    }
-
-    /// The client of this number gets a front of this, and then the end of its connection.
-    fn breaks_off(&self, client: usize, wanted: &[Wanted<'_>]) -> Result<(), Mismatch> {
-        let Some(stream) = self.clients.get(client) else {
-            return AT.is_so(false, "a client of this number");
-        };
-        let mut reader = stream;
-        reads_front(self.alloc, &mut reader, wanted)
     }
 
     /// Takes a step.
@@ -208,10 +179,15 @@ impl<B: QueueBook + Drop> Server<B> {
                 Ok(())
             }
             Step::Serves(connections, lines) => self.serve(rt, *connections, lines),
-            Step::ServesUntold(connections) => self.serve_untold(rt, *connections),
+            Step::ServesUntold(connections) => {
+                self.serve_untold(rt, &mut narrow(self.alloc), *connections)
+            }
+            Step::ServesUnflushed(connections) => {
+                self.serve_untold(rt, &mut UnflushedWriter, *connections)
+            }
             Step::Stops(connections, lines, fault) => self.stop(rt, *connections, lines, *fault),
-            Step::Gets(client, wanted) => self.answers(*client, wanted),
-            Step::GetsFront(client, wanted) => self.breaks_off(*client, wanted),
+            Step::Gets(client, wanted) => self.clients.get(*client, wanted),
+            Step::GetsFront(client, wanted) => self.clients.get_front(*client, wanted),
         }
     }
 
@@ -237,43 +213,7 @@ pub(super) fn take_steps<B: DeskBook>(
     server.take_each(rt, steps)
 }
 
-/// Sends these parts.
-fn send<W: Write>(writer: &mut W, parts: &[&[u8]]) -> Result<(), Mismatch> {
-    for part in parts {
-        writer.write_all(part)?;
-    }
-    Ok(())
-}
-
-/// A client gets this, and then the end of its connection.
-pub(super) fn reads<R: Read>(
-    alloc: Global,
-    reader: &mut R,
-    wanted: &[Wanted<'_>],
-) -> Result<(), Mismatch> {
-    let wanted = wanted_bytes(alloc, wanted)?;
-    let mut came = Vec::new(alloc);
-    reader.read_to_end(&mut came)?;
-    AT.same_bytes(wanted.as_slice(), came.as_slice())
-}
-
-/// A client gets a front of this, and then the end of its connection.
-fn reads_front<R: Read>(
-    alloc: Global,
-    reader: &mut R,
-    wanted: &[Wanted<'_>],
-) -> Result<(), Mismatch> {
-    let wanted = wanted_bytes(alloc, wanted)?;
-    let mut came = Vec::new(alloc);
-    reader.read_to_end(&mut came)?;
-    AT.is_so(came.len() < wanted.len(), "an answer that isn't whole")?;
-    AT.is_so(
-        wanted.as_slice().starts_with(came.as_slice()),
-        "a front of the answer",
-    )
-}
-
-/// How a writer fails that has no more room.
+/// How a writer fails that has no more room, or can't flush.
 pub(super) const NO_ROOM: ErrorKind = ErrorKind::Other;
 
 /// A writer in which no line has room: it takes five bytes.

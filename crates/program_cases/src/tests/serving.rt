@@ -3,54 +3,33 @@
 use crate::tests::folder::Asked::{Import, Init, Statement};
 use crate::tests::folder::Step::{Asks, Keeps};
 use crate::tests::folder::{
-    At, DISK, DONE, FILE, Folder, ONLY_MADE, STORE, Step, URI, WITH_AN_ACCOUNT, tell_to,
+    At, DISK, DONE, FILE, Folder, ONLY_MADE, STORE, Step, StepFault, URI, WITH_AN_ACCOUNT, tell_to,
 };
 use crate::tests::listening::free_port;
-use crate::tests::server::{AT, reads};
+use crate::tests::sockets::{AT, Clients, client_at};
 use http_desk::compare::Mismatch;
-use http_desk::connection::Wanted;
 use http_desk::connection::Wanted::Success;
 use http_desk::messages::{GET_UP_TIME, JOB_1, JOB_2, PRINT_JOB};
 use http_desk::requests::{IPP, POST_JOB, POST_UP_TIME};
-use std::alloc::Global;
 use std::io;
-use std::io::{Read, Write};
-use std::net::{Ipv4Addr, Shutdown, SocketAddr, TcpListener, TcpStream};
+use std::io::Write;
+use std::net::{Ipv4Addr, Shutdown, SocketAddr, TcpListener};
 use std::rt::Clock;
 use std::test::Fail;
 use std::time::Duration;
-
-/// The seconds that a client waits for its answer.
-const CLIENT_SECONDS: u64 = 10;
-
-/// The tag of the end of an IPP message's attributes (RFC 8010, section 3.5.1).
-const END_OF_ATTRIBUTES: u8 = 3;
 
 /// An output that has clients: as it is first flushed, steps are taken in the folder of the test, and the clients come one after another, each with what it
 /// sends.
 #[derive(Drop)]
 struct Greeter<'a> {
-    rt: &'a HostRuntime,
     folder: &'a Folder<'a>,
     steps: &'a [Step<'a>],
     sends: &'a [&'a [&'a [u8]]],
     port: u16,
     printed: Vec<u8>,
-    clients: Vec<TcpStream>,
-}
-
-/// A client comes to a port and sends these parts. One that has something tells that it sends no more, and one that has nothing is silent.
-fn client_at(rt: &HostRuntime, port: u16, parts: &[&[u8]]) -> io::Result<TcpStream> {
-    let address = SocketAddr::from((Ipv4Addr::LOCALHOST, port));
-    let mut client = TcpStream::connect(rt, address)?;
-    client.set_read_timeout(Some(Duration::from_secs(CLIENT_SECONDS)))?;
-    for part in parts {
-        client.write_all(part)?;
-    }
-    if !parts.is_empty() {
-        client.shutdown(Shutdown::Write)?;
-    }
-    Ok(client)
+    clients: Clients,
+    /// What came of the steps. A client that can't come is a step behind them.
+    greeted: Result<(), StepFault>,
 }
 
 impl Write for Greeter<'_> {
@@ -65,21 +44,33 @@ impl Write for Greeter<'_> {
         if !self.clients.is_empty() {
             return Ok(());
         }
-        if self.folder.take_each(self.steps).is_err() {
-            return Err(io::Error::other("a step"));
-        }
-        self.greet()
+        self.greeted = self.greet();
+        self.greeted.map_err(|_| io::Error::other("a step"))
     }
 }
 
 impl Greeter<'_> {
-    /// Its clients come.
-    fn greet(&mut self) -> io::Result<()> {
+    /// Takes the steps, and its clients come.
+    fn greet(&mut self) -> Result<(), StepFault> {
+        self.folder.take_each(self.steps)?;
+        match self.add_clients() {
+            Ok(()) => Ok(()),
+            Err(fault) => Err(StepFault {
+                step: self.steps.len(),
+                fault,
+            }),
+        }
+    }
+
+    /// Its clients come. One that has something to send tells that it sends no more, and one that has nothing is silent.
+    fn add_clients(&mut self) -> Result<(), Mismatch> {
+        let address = SocketAddr::from((Ipv4Addr::LOCALHOST, self.port));
         for parts in self.sends {
-            let client = client_at(self.rt, self.port, parts)?;
-            if self.clients.push(client).is_err() {
-                return Err(io::Error::other("memory"));
+            let client = client_at(self.folder.rt(), address, parts)?;
+            if !parts.is_empty() {
+                client.shutdown(Shutdown::Write)?;
             }
+            self.clients.add(client)?;
         }
         Ok(())
     }
@@ -87,54 +78,6 @@ impl Greeter<'_> {
     /// It has got these lines.
     fn has_lines(&self, lines: &str) -> Result<(), Mismatch> {
         AT.same_bytes(lines.as_bytes(), self.printed.as_slice())
-    }
-
-    /// Its clients.
-    fn into_clients(self) -> Clients {
-        let Greeter {
-            rt,
-            folder: _,
-            steps: _,
-            sends: _,
-            port: _,
-            printed: _,
-            clients,
-        } = self;
-        Clients {
-            alloc: rt.alloc(),
-            streams: clients,
-        }
-    }
-}
-
-/// The clients of a server that has ended, in their order.
-#[derive(Drop)]
-struct Clients {
-    alloc: Global,
-    streams: Vec<TcpStream>,
-}
-
-impl Clients {
-    /// The client of this number, from 0, has got this and then the end of its connection.
-    fn get(&self, client: usize, wanted: &[Wanted<'_>]) -> Result<(), Mismatch> {
-        let Some(client) = self.streams.get(client) else {
-            return AT.is_so(false, "a client of this number");
-        };
-        let mut reader = client;
-        reads(self.alloc, &mut reader, wanted)
-    }
-
-    /// The integer that the first client has got, the last attribute of a reply, and then the end of its connection.
-    fn get_integer(&self) -> Result<u32, Mismatch> {
-        let mut came = Vec::new(self.alloc);
-        if let Some(client) = self.streams.first() {
-            let mut reader = client;
-            reader.read_to_end(&mut came)?;
-        }
-        match came.as_slice() {
-            [.., a, b, c, d, END_OF_ATTRIBUTES] => Ok(u32::from_be_bytes([*a, *b, *c, *d])),
-            _ => Err(AT.not("an integer")),
-        }
     }
 }
 
@@ -167,27 +110,29 @@ fn runs<O: Write>(
 /// Such a server ends well. As it listens these steps are taken, and then its clients come, one for each connection, each sends its own, and the server prints
 /// these lines of them.
 fn served(
-    rt: &HostRuntime,
     folder: &Folder<'_>,
     store: At<'_>,
     steps: &[Step<'_>],
     sends: &[&[&[u8]]],
     counts: &str,
-) -> Result<Clients, Mismatch> {
-    let port = free_port(rt)?;
+) -> Result<Clients, Fail> {
+    let alloc = folder.alloc();
+    let port = free_port(folder.rt())?;
     let mut out = Greeter {
-        rt,
         folder,
         steps,
         sends,
         port,
-        printed: Vec::new(rt.alloc()),
-        clients: Vec::new(rt.alloc()),
+        printed: Vec::new(alloc),
+        clients: Clients::new(alloc),
+        greeted: Ok(()),
     };
-    runs(folder, store, (port, sends.len()), &mut out, (0, ""))?;
-    let lines = format!(in rt.alloc(); "listening 127.0.0.1:{port}\n{counts}")?;
+    let ran = runs(folder, store, (port, sends.len()), &mut out, (0, ""));
+    out.greeted?;
+    ran?;
+    let lines = format!(in alloc; "listening 127.0.0.1:{port}\n{counts}")?;
     out.has_lines(lines.as_str())?;
-    Ok(out.into_clients())
+    Ok(out.clients)
 }
 
 /// A client prints.
@@ -195,14 +140,14 @@ const PRINTS: &[&[&[u8]]] = &[&[POST_JOB, PRINT_JOB]];
 
 /// A client of such a server gets the reply to its Print-Job.
 fn serves(
-    rt: &HostRuntime,
     folder: &Folder<'_>,
     store: At<'_>,
     steps: &[Step<'_>],
     reply: &[u8],
-) -> Result<(), Mismatch> {
-    let clients = served(rt, folder, store, steps, PRINTS, "served 1\n")?;
-    clients.get(0, &[Success(IPP, reply)])
+) -> Result<(), Fail> {
+    let clients = served(folder, store, steps, PRINTS, "served 1\n")?;
+    clients.get(0, &[Success(IPP, reply)])?;
+    Ok(())
 }
 
 /// Such a server can't begin: it prints nothing, and leaves this line on standard error.
@@ -214,18 +159,18 @@ fn refuses(folder: &Folder<'_>, store: At<'_>, port: u16, wanted: &str) -> Resul
 
 /// What a server took stands in the store that the next one opens. A store is whole in its one file once its server has ended, so that a copy of that file
 /// alone is served too.
-fn is_served_again(rt: &HostRuntime, folder: &Folder<'_>) -> Result<(), Mismatch> {
-    serves(rt, folder, STORE, &[], JOB_1)?;
+fn is_served_again(folder: &Folder<'_>) -> Result<(), Fail> {
+    serves(folder, STORE, &[], JOB_1)?;
     folder.copy(STORE, FILE)?;
-    serves(rt, folder, STORE, &[], JOB_2)?;
-    serves(rt, folder, FILE, &[], JOB_2)
+    serves(folder, STORE, &[], JOB_2)?;
+    serves(folder, FILE, &[], JOB_2)
 }
 
 #[test]
 fn a_store_that_is_served_again(rt: HostRuntime) -> Result<(), Fail> {
     let folder = Folder::new(&rt, "served")?;
     folder.take_each(ONLY_MADE)?;
-    is_served_again(&rt, &folder)?;
+    is_served_again(&folder)?;
     folder.remove()?;
     Ok(())
 }
@@ -240,9 +185,9 @@ const IN_USE: &[Step<'static>] = &[
 /// Once its server has ended it isn't.
 const AGAIN: &[Step<'static>] = &[Asks(Import(STORE, FILE), (0, "new 0 repeats 1\n", ""))];
 
-fn is_in_use(rt: &HostRuntime, folder: &Folder<'_>) -> Result<(), Fail> {
+fn is_in_use(folder: &Folder<'_>) -> Result<(), Fail> {
     folder.take_each(WITH_AN_ACCOUNT)?;
-    serves(rt, folder, STORE, IN_USE, JOB_1)?;
+    serves(folder, STORE, IN_USE, JOB_1)?;
     folder.take_each(AGAIN)?;
     Ok(())
 }
@@ -250,7 +195,7 @@ fn is_in_use(rt: &HostRuntime, folder: &Folder<'_>) -> Result<(), Fail> {
 #[test]
 fn a_store_in_use(rt: HostRuntime) -> Result<(), Fail> {
     let folder = Folder::new(&rt, "used")?;
-    is_in_use(&rt, &folder)?;
+    is_in_use(&folder)?;
     folder.remove()?;
     Ok(())
 }
@@ -287,10 +232,10 @@ fn a_port_that_another_has(rt: HostRuntime) -> Result<(), Fail> {
 const ASKS_UP_TIME: &[&[&[u8]]] = &[&[POST_UP_TIME, GET_UP_TIME]];
 
 /// A printer is up from the second at which its store is made, the first of its moments.
-fn is_just_up(rt: &HostRuntime, folder: &Folder<'_>) -> Result<(), Fail> {
+fn is_just_up(folder: &Folder<'_>) -> Result<(), Fail> {
     folder.take_each(ONLY_MADE)?;
-    let clients = served(rt, folder, STORE, &[], ASKS_UP_TIME, "served 1\n")?;
-    let seconds = clients.get_integer()?;
+    let clients = served(folder, STORE, &[], ASKS_UP_TIME, "served 1\n")?;
+    let seconds = clients.get_integer(0)?;
     AT.is_so(seconds >= 1 && seconds <= 60, "the seconds since then")?;
     Ok(())
 }
@@ -298,14 +243,14 @@ fn is_just_up(rt: &HostRuntime, folder: &Folder<'_>) -> Result<(), Fail> {
 #[test]
 fn a_store_that_was_just_made(rt: HostRuntime) -> Result<(), Fail> {
     let folder = Folder::new(&rt, "made")?;
-    is_just_up(&rt, &folder)?;
+    is_just_up(&folder)?;
     folder.remove()?;
     Ok(())
 }
 
 /// A client that is silent is served, and gets nothing.
-fn serve_a_silent_client(rt: &HostRuntime, folder: &Folder<'_>) -> Result<(), Fail> {
-    let clients = served(rt, folder, STORE, &[], &[&[]], "served 0\n")?;
+fn serve_a_silent_client(folder: &Folder<'_>) -> Result<(), Fail> {
+    let clients = served(folder, STORE, &[], &[&[]], "served 0\n")?;
     clients.get(0, &[])?;
     Ok(())
 }
@@ -314,7 +259,7 @@ fn serve_a_silent_client(rt: &HostRuntime, folder: &Folder<'_>) -> Result<(), Fa
 fn is_given_up(rt: &HostRuntime, folder: &Folder<'_>) -> Result<(), Fail> {
     folder.take_each(ONLY_MADE)?;
     let began = rt.monotonic()?;
-    serve_a_silent_client(rt, folder)?;
+    serve_a_silent_client(folder)?;
     let waited = rt.monotonic()?.saturating_sub(began);
     AT.is_so(
         waited >= Duration::from_secs(1) && waited < Duration::from_secs(5),
@@ -369,18 +314,19 @@ fn init_other(folder: &Folder<'_>) -> Result<(), Mismatch> {
 }
 
 /// Both clients of its server are told so.
-fn are_told(rt: &HostRuntime, folder: &Folder<'_>) -> Result<(), Mismatch> {
+fn are_told(folder: &Folder<'_>) -> Result<(), Fail> {
     let counts = "served 1\nserved 2\n";
-    let clients = served(rt, folder, STORE, &[], ASK_THE_SETTINGS, counts)?;
+    let clients = served(folder, STORE, &[], ASK_THE_SETTINGS, counts)?;
     clients.get(0, &[Success(IPP, NAMED_OTHER)])?;
-    clients.get(1, &[Success(IPP, JOB_1), Success(IPP, OF_7_PAGES)])
+    clients.get(1, &[Success(IPP, JOB_1), Success(IPP, OF_7_PAGES)])?;
+    Ok(())
 }
 
 #[test]
 fn settings_and_connections_of_the_words(rt: HostRuntime) -> Result<(), Fail> {
     let folder = Folder::new(&rt, "words")?;
     init_other(&folder)?;
-    are_told(&rt, &folder)?;
+    are_told(&folder)?;
     folder.remove()?;
     Ok(())
 }

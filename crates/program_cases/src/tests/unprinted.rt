@@ -5,23 +5,9 @@ use crate::tests::folder::Step::{Asks, Writes};
 use crate::tests::folder::{FILE, Folder, MADE, STORE, Step, tell_to};
 use crate::tests::server::narrow;
 use http_desk::compare::Mismatch;
-use std::io;
+use http_desk::streams::UnflushedWriter;
 use std::io::Write;
 use std::test::Fail;
-
-/// Takes each byte, and can't flush.
-#[derive(Drop)]
-struct UnflushedWriter;
-
-impl Write for UnflushedWriter {
-    fn write(&mut self, buf: &[u8]) -> io::Result<usize> {
-        Ok(buf.len())
-    }
-
-    fn flush(&mut self) -> io::Result<()> {
-        Err(io::Error::other("full"))
-    }
-}
 
 /// The exit status of a command whose output can't be printed, and its line on standard error.
 const UNPRINTED: (u8, &str) = (1, "printd: io\n");
