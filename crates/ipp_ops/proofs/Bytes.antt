@@ -2,6 +2,7 @@
 use Rattle.std.proofs.Common.{◌≡◌, ℕ, List, [], ◌==◌, Bool, true, false, refl, ap, subst, sym, ◌∙◌}
 use Rattle.std.specs.Prelude.{Option, Some, None, MatchBool, if◌then◌else◌}
 use Rattle.std.specs.Bool.{OnFalse, OnTrue}
+use Rattle.std.proofs.lemmas.Bool.{MatchBool-at_true, MatchBool-at_false, OnFalse_from, OnTrue_from}
 use Rattle.ipp_wire.specs.declared.view.Head.{Head}
 use Rattle.ipp_wire.specs.Message.{Group, Message, Spells, head_of}
 use Rattle.ipp_wire.specs.Bare.{bare}
@@ -137,22 +138,6 @@ bare_told b out s now code u one (bare_fault fails) on = fails_told b out _ _ fa
 
 -- ---- what an answer tells
 
-on_false : (P : Type 0) (b : Bool) → (b ≡ false → P) → OnFalse b P
-on_false P true p = tt
-on_false P false p = p refl
-
-on_true : (P : Type 0) (b : Bool) → (b ≡ true → P) → OnTrue b P
-on_true P true p = p refl
-on_true P false p = tt
-
-none_there : (P Q : Type 0) (b : Bool) → b ≡ false → MatchBool b P Q → Q
-none_there P Q true e m = absurd (cc)
-none_there P Q false e m = m
-
-fault_there : (P Q : Type 0) (b : Bool) → b ≡ true → MatchBool b P Q → P
-fault_there P Q true e m = m
-fault_there P Q false e m = absurd (cc)
-
 kept : (fault : Bool) (w : World) (now : ℕ) (b : List ℕ) (new : World) (out : List ℕ) → MatchBool fault (Fails b out × (new ≡ w)) (Answers w now b new out) → is_refusal out ≡ true → new ≡ w
 kept true w now b new out m e = m.1
 kept false w now b new out m e = answer_keeps w now b new out m e
@@ -163,18 +148,18 @@ Answered b s now stood stands before after out = (w : World) → stood w → IsA
 
 pub answered : (b : List ℕ) (s : SettingValues) (now : ℕ) (stood stands : World → Type 0) (before after : World → World → Type 0) (out : List ℕ) → Answered b s now stood stands before after out
     → OnFalse (is_fault out) ((w : World) → stood w → s ≡ w.settings → (new : World) × Answers w now b new out × stands new)
-answered b s now stood stands before after out h = on_false _ (is_fault out) (λ none w st set. let a = h w st in (a.new, none_there _ _ (is_fault out) none (a.brings set), a.world))
+answered b s now stood stands before after out h = OnFalse_from (is_fault out) _ (λ none w st set. let a = h w st in (a.new, MatchBool-at_false _ _ none (a.brings set), a.world))
 
 pub failed : (b : List ℕ) (s : SettingValues) (now : ℕ) (stood stands : World → Type 0) (before after : World → World → Type 0) (out : List ℕ) → Answered b s now stood stands before after out
     → OnTrue (is_fault out) ((w : World) → stood w → s ≡ w.settings → Fails b out × stands w)
-failed b s now stood stands before after out h = on_true _ (is_fault out) (λ fault w st set.
+failed b s now stood stands before after out h = OnTrue_from (is_fault out) _ (λ fault w st set.
     let a = h w st in
-    let f = fault_there _ _ (is_fault out) fault (a.brings set) in
+    let f = MatchBool-at_true _ _ fault (a.brings set) in
     (f.0, subst stands f.1 a.world))
 
 pub refused_keeps : (b : List ℕ) (s : SettingValues) (now : ℕ) (stood stands : World → Type 0) (before after : World → World → Type 0) (out : List ℕ) → Answered b s now stood stands before after out
     → OnTrue (is_refusal out) ((w : World) → stood w → s ≡ w.settings → stands w)
-refused_keeps b s now stood stands before after out h = on_true _ (is_refusal out) (λ refusal w st set. let a = h w st in subst stands (kept (is_fault out) w now b a.new out (a.brings set) refusal) a.world)
+refused_keeps b s now stood stands before after out h = OnTrue_from (is_refusal out) _ (λ refusal w st set. let a = h w st in subst stands (kept (is_fault out) w now b a.new out (a.brings set) refusal) a.world)
 
 -- what the head refuses is told as it is, and never as a fault
 head_tells : (fault : Bool) (b out : List ℕ) (s : SettingValues) (now code : ℕ) → head_refusal (head_of b) ≡ Some code → MatchBool fault (Fails b out) (Spells (reply_of (Refused code) (head_of b) no_rows nothing s now) out) → Spells (bare (head_of b) code) out

@@ -4,13 +4,13 @@ use Rattle.std.specs.Prelude.{Option, Some, None, IfSome, ⊤, All, bytes_eq, co
 use Rattle.std.specs.List.{AllByRecursion, flat_map, list_all}
 use Rattle.std.specs.Option.{option_and_then, option_map_or}
 use Rattle.std.specs.Str.{is_utf8}
-use Rattle.std.proofs.lemmas.Bool.Decides.{nat_tests}
+use Rattle.std.proofs.lemmas.Bool.{and_parts, eqb-true, not-false}
 use Rattle.std.proofs.lemmas.List.Elements.{recursion_from_All}
 use Rattle.ipp_wire.specs.Message.{Value, Attribute, Group, Message, Spells, attribute_bytes, group_bytes, head_bytes, record_bytes, spelling, text_bytes, values_under}
 use Rattle.queue_types.specs.Event.{Event, ask}
 use Rattle.ipp_reply.specs.Unsupported.{Unsupported}
 use Rattle.ipp_reply.specs.declared.operation.Operation.{Operation}
-use Rattle.ipp_reply.specs.declared.operation.Operation.TheVariants.{PrintJob, ValidateJob, CreateJob, SendDocument, CancelJob, GetJobAttributes, GetJobs, GetPrinterAttributes, HoldJob, ReleaseJob, CancelMyJobs}
+use Rattle.ipp_reply.specs.declared.operation.Operation.TheVariants.{PrintJob}
 use Rattle.ipp_request.specs.declared.attribute.OperationAttribute.TheVariants as key
 use Rattle.ipp_request.specs.declared.attribute.Syntax.TheVariants.{UserName}
 use Rattle.ipp_request.specs.Attributes.{knows, row, table}
@@ -19,12 +19,12 @@ use Rattle.ipp_request.specs.Request.{Request, attributes_in, caller, filled, fi
 use Rattle.ipp_request.specs.Unsupported.{is_refused_for, unsupported}
 use Rattle.queue_core.specs.Limits.{is_no_control}
 use Rattle.ipp_request.specs.Values.{are_formed, behind_language, has_shape, is_shaped, is_tagged, text_of}
-use Rattle.ipp_request.proofs.Tests.{and_true, find_none, list_any_false, not_false}
 use Rattle.ipp_ops.specs.declared.check.Check.{Check}
 use Rattle.ipp_ops.specs.Answer.{Asks, refuses, calls, IsVerdictOn, by_head, malformed, request}
 use Rattle.ipp_ops.specs.Caller.{IsName, without_language, with_language, IsCallerBy, absent, empty, named, IsCallerOf}
 use Rattle.ipp_ops.specs.Checks.{applies, checks, fails, refusal, some_fails}
 use Rattle.ipp_ops.specs.Verdict.{Verdict, refused, passed, request_verdict, listed_verdict, checked_verdict}
+use Rattle.ipp_ops.proofs.Tests.{find_none, list_any_false}
 
 -- ---- the bytes of a value are bytes
 
@@ -64,9 +64,6 @@ abbrev ReadsNames : Type 0
 ReadsNames = (bytes name : List ℕ) → ((i : ℕ) → get_or bytes i 0 < 256) → behind_language bytes ≡ Some name
     → (language : List ℕ) × (length language < 2 ^ 16) × (length name < 2 ^ 16) × (bytes ≡ text_bytes language ++ text_bytes name)
 
-same_number : (a b : ℕ) → (a == b) ≡ true → b ≡ a
-same_number a b h = grind (arith, nat_tests)
-
 as_name : (v : Value) (t : List ℕ) → v.tag ≡ 0x42 → text_of v ≡ Some t → IsName v t
 as_name v t e h =
     let P : ℕ → Type 0 = λ tag. (if tag == 0x36 then behind_language v.bytes else Some v.bytes) ≡ Some t in
@@ -79,8 +76,8 @@ as_name_with_language reads v t bytes e h =
     let is = reads v.bytes t (each v.bytes bytes) (subst P e h) in with_language is.0 is.1 is.2 e is.3
 
 by_tag : ReadsNames → (v : Value) (t : List ℕ) → AreBytes v.bytes → text_of v ≡ Some t → (x y : Bool) → (0x42 == v.tag) ≡ x → (0x36 == v.tag) ≡ y → (x || (y || false)) ≡ true → IsName v t
-by_tag reads v t bytes h true y p q tagged = as_name v t (same_number 0x42 v.tag p) h
-by_tag reads v t bytes h false true p q tagged = as_name_with_language reads v t bytes (same_number 0x36 v.tag q) h
+by_tag reads v t bytes h true y p q tagged = as_name v t (sym (eqb-true 0x42 v.tag p)) h
+by_tag reads v t bytes h false true p q tagged = as_name_with_language reads v t bytes (sym (eqb-true 0x36 v.tag q)) h
 by_tag reads v t bytes h false false p q tagged = absurd (cc)
 
 -- ---- the caller by an attribute
@@ -97,18 +94,18 @@ by_value : ReadsNames → (a : Attribute) (v : Value) → a.values ≡ v ∷ [] 
     → IsCallerBy (Some a) (unwrap_or (option_and_then filled t) (codes "anonymous"))
 by_value reads a v one bytes tagged None e shaped = absurd (cc)
 by_value reads a v one bytes tagged (Some t) e shaped =
-    by_text a v t one (by_tag reads v t bytes e (0x42 == v.tag) (0x36 == v.tag) refl refl tagged) (and_true (is_utf8 t) (list_all is_no_control t) shaped).0
+    by_text a v t one (by_tag reads v t bytes e (0x42 == v.tag) (0x36 == v.tag) refl refl tagged) (and_parts (is_utf8 t) (list_all is_no_control t) shaped).0
 
 by_values : ReadsNames → (name : List ℕ) (vs : List Value) → not (are_formed (row key.RequestingUserName) vs) ≡ false → AreBytes (values_under name vs)
     → IsCallerBy (Some (record { name = name; values = vs })) (unwrap_or (option_and_then (λ v. option_and_then filled (text_of v)) (first_value vs)) (codes "anonymous"))
 by_values reads name [] formed bytes = absurd (cc)
 by_values reads name (v ∷ []) formed bytes =
-    let shaped = and_true (is_shaped UserName v) (list_all (is_shaped UserName) []) (not_false (are_formed (row key.RequestingUserName) (v ∷ [])) formed) in
-    let parts = and_true (is_tagged UserName v) (option_map_or (has_shape UserName) (text_of v) false) shaped.0 in
+    let shaped = and_parts (is_shaped UserName v) (list_all (is_shaped UserName) []) (not-false (are_formed (row key.RequestingUserName) (v ∷ [])) formed) in
+    let parts = and_parts (is_tagged UserName v) (option_map_or (has_shape UserName) (text_of v) false) shaped.0 in
     by_value reads (record { name = name; values = v ∷ [] }) v refl (of_value name v bytes) parts.0 (text_of v) refl parts.1
 by_values reads name (v ∷ w ∷ vs) formed bytes =
-    let one = and_true (length (v ∷ w ∷ vs) == 1) (list_all (is_shaped UserName) (v ∷ w ∷ vs)) (not_false (are_formed (row key.RequestingUserName) (v ∷ w ∷ vs)) formed) in
-    let size : 1 ≡ length (v ∷ w ∷ vs) = same_number (length (v ∷ w ∷ vs)) 1 one.0 in absurd (omega arith)
+    let one = and_parts (length (v ∷ w ∷ vs) == 1) (list_all (is_shaped UserName) (v ∷ w ∷ vs)) (not-false (are_formed (row key.RequestingUserName) (v ∷ w ∷ vs)) formed) in
+    let size : length (v ∷ w ∷ vs) ≡ 1 = eqb-true (length (v ∷ w ∷ vs)) 1 one.0 in absurd (omega arith)
 
 by_attribute : ReadsNames → (a : Option Attribute) → option_map_or (λ a. not (are_formed (row key.RequestingUserName) a.values)) a false ≡ false → IfSome a (λ a. AreBytes (attribute_bytes a))
     → IsCallerBy a (unwrap_or (option_and_then (λ v. option_and_then filled (text_of v)) (option_and_then (λ a. first_value a.values) a)) (codes "anonymous"))
@@ -123,16 +120,7 @@ on_known reads false e a formed bytes = absurd (cc)
 
 known_in_all : (o : Operation) → knows o key.RequestingUserName ≡ true
 known_in_all PrintJob = refl
-known_in_all ValidateJob = refl
-known_in_all CreateJob = refl
-known_in_all SendDocument = refl
-known_in_all CancelJob = refl
-known_in_all GetJobAttributes = refl
-known_in_all GetJobs = refl
-known_in_all GetPrinterAttributes = refl
-known_in_all HoldJob = refl
-known_in_all ReleaseJob = refl
-known_in_all CancelMyJobs = refl
+known_in_all _ = refl
 
 -- ---- the caller of a request
 
@@ -163,8 +151,8 @@ first_group false g o e = absurd (cc)
 first_of : (groups : List Group) → groups_begin groups ≡ true → IsFirst groups
 first_of [] h = absurd (cc)
 first_of (g ∷ gs) h =
-    let e = and_true (g.tag == 0x01) (attributes_begin g.attributes) h in
-    record { operation = g; others = gs; first = refl; tag = sym (same_number g.tag 0x01 e.0); attributes = first_group (g.tag == 0x01) g (find (λ g. g.tag == 0x01) gs) e.0 }
+    let e = and_parts (g.tag == 0x01) (attributes_begin g.attributes) h in
+    record { operation = g; others = gs; first = refl; tag = eqb-true g.tag 0x01 e.0; attributes = first_group (g.tag == 0x01) g (find (λ g. g.tag == 0x01) gs) e.0 }
 
 message_named : ReadsNames → (b : List ℕ) (m : Message) → AreBytes b → Spells m b → (o : Operation) → IsFirst m.groups → IsFormed (request_for o m) → IsCallerOf b (caller (request_for o m))
 message_named reads b m bytes s o is formed =

@@ -11,7 +11,7 @@ use Rattle.ipp_wire.specs.Bare.{bare, is_known_version}
 use Rattle.queue_types.specs.declared.document.Format.{Format}
 use Rattle.queue_types.specs.declared.job.Job.{Job}
 use Rattle.queue_types.specs.declared.job.Phase.{Phase}
-use Rattle.queue_types.specs.declared.job.Phase.TheVariants.{Waiting, Running, Stopped, Canceled, Aborted, Completed}
+use Rattle.queue_types.specs.declared.job.Phase.TheVariants.{Waiting, Running, Stopped}
 use Rattle.queue_types.specs.declared.event.Reply.{Reply}
 use Rattle.queue_types.specs.declared.event.Reply.TheVariants.{Refused, Done, Jobs, Printer}
 use Rattle.queue_types.specs.declared.event.Scene.{Scene}
@@ -48,12 +48,7 @@ QuietVerdict (passed caller call rows u) = ⊤
 
 check_quiet : (c : Check) → IsQuiet (code c)
 check_quiet check.Charset = λ h gs. refl
-check_quiet check.Form = λ h gs. refl
-check_quiet check.Length = λ h gs. refl
-check_quiet check.Needed = λ h gs. refl
-check_quiet check.Target = λ h gs. refl
-check_quiet check.Compression = λ h gs. refl
-check_quiet check.Format = λ h gs. refl
+check_quiet _ = λ h gs. refl
 
 past_quiet : (r : Request) (u : Unsupported) (b : Bool) → QuietVerdict (listed_verdict r u b)
 past_quiet r u true = λ h gs. refl
@@ -118,11 +113,7 @@ send_quiet s j format payload last =
 
 hold_quiet : (p : Phase) (s : Scene) (j : Job) → QuietDecision (hold_in p s j)
 hold_quiet Waiting s j = tt
-hold_quiet Running s j = not_possible
-hold_quiet Stopped s j = not_possible
-hold_quiet (Canceled why) s j = not_possible
-hold_quiet Aborted s j = not_possible
-hold_quiet Completed s j = not_possible
+hold_quiet _ s j = not_possible
 
 either_quiet : (hold : Bool) (d e : Decision) → QuietDecision d → QuietDecision e → QuietDecision (if hold then d else e)
 either_quiet true d e p q = p
@@ -132,9 +123,7 @@ release_quiet : (p : Phase) (s : Scene) (j : Job) → QuietDecision (release_in 
 release_quiet Waiting s j = either_quiet j.hold (let_print s j) (answered Done) (test_quiet _ (becomes s (record j { hold = false })) tt) tt
 release_quiet Running s j = tt
 release_quiet Stopped s j = tt
-release_quiet (Canceled why) s j = not_possible
-release_quiet Aborted s j = not_possible
-release_quiet Completed s j = not_possible
+release_quiet _ s j = not_possible
 
 named_quiet : (there : Bool) (d : Decision) → QuietDecision d → QuietDecision (if there then d else refused_row 0x0406)
 named_quiet true d q = q

@@ -10,9 +10,10 @@ use Rattle.std.specs.Cmp.Lexicographic.{same_text}
 use Rattle.std.proofs.lemmas.List.{take-append-drop}
 use Rattle.std.proofs.lemmas.Fmt.{first_decimal, digits_decimal, digits_value-decimal, decimal-digits_value}
 use Rattle.std.proofs.lemmas.Nat.{from_be_bytes-to_be_bytes_2, from_be_bytes-to_be_bytes_4}
-use borrow.Author.Tests.{leb-true}
-use Rattle.ipp_wire.specs.declared.view.Head.{Head}
+use Rattle.std.proofs.lemmas.Bool.{and_parts, leb-true}
+use Rattle.std.proofs.lemmas.Option.{cond_some}
 use Rattle.ipp_wire.specs.Message.{Message, Spells, head_of, spelling}
+use Rattle.ipp_wire.proofs.Spelled.{head_eq}
 use Rattle.ipp_reply.specs.Unsupported.{nothing}
 use Rattle.ipp_reply.specs.declared.operation.Operation.{Operation}
 use Rattle.ipp_ops.specs.Answer.{IsVerdictOn, by_head, malformed, request}
@@ -21,16 +22,8 @@ use Rattle.ipp_request.specs.Request.{IsJobPath, job_in, number_in}
 use Rattle.ipp_request.specs.Values.{is_positive}
 use Rattle.ipp_ops.specs.Verdict.{Verdict, refused, verdict, request_verdict}
 use Rattle.ipp_request.proofs.Numbers.{model}
-use Rattle.ipp_request.proofs.Tests.{and_true}
 
 -- ---- one verdict
-
-head_eq : (h k : Head) → h.major ≡ k.major → h.minor ≡ k.minor → h.code ≡ k.code → h.request_id ≡ k.request_id → h ≡ k
-head_eq h k a b c d =
-    subst (λ (x : ℕ). h ≡ record { major = k.major; minor = k.minor; code = k.code; request_id = x }) d
-    (subst (λ (x : ℕ). h ≡ record { major = k.major; minor = k.minor; code = x; request_id = h.request_id }) c
-    (subst (λ (x : ℕ). h ≡ record { major = k.major; minor = x; code = h.code; request_id = h.request_id }) b
-    (subst (λ (x : ℕ). h ≡ record { major = x; minor = h.minor; code = h.code; request_id = h.request_id }) a refl)))
 
 -- the bytes of a message begin with its head
 head_spelled : (m : Message) (b : List ℕ) → Spells m b → m.head ≡ head_of b
@@ -73,20 +66,16 @@ not_empty : (ds : List ℕ) → is_positive (digits_value 10 ds) ≡ true → 0 
 not_empty [] h = absurd (cc)
 not_empty (d ∷ ds) h = omega arith
 
-chosen : (b : Bool) (v n : ℕ) → (if b then Some v else None) ≡ Some n → (b ≡ true) × (v ≡ n)
-chosen true v n e = (refl, cc)
-chosen false v n e = absurd (cc)
-
 abbrev Spelled : List ℕ → ℕ → Type 0
 Spelled ds n = (1 ≤ n) × (n ≤ 2147483647) × (ds ≡ decimal n)
 
 spelled : (ds : List ℕ) (n : ℕ) → number_in ds ≡ Some n → Spelled ds n
 spelled ds n h =
     let v = digits_value 10 ds in
-    let e = chosen (list_all is_ascii_digit ds && not (starts_with nat_eq ds (codes "0")) && is_positive v) v n h in
-    let f = and_true (list_all is_ascii_digit ds && not (starts_with nat_eq ds (codes "0"))) (is_positive v) e.0 in
-    let g = and_true (list_all is_ascii_digit ds) (not (starts_with nat_eq ds (codes "0"))) f.0 in
-    let within = and_true (nat_le 1 v) (nat_le v 2147483647) f.1 in
+    let e = cond_some (list_all is_ascii_digit ds && not (starts_with nat_eq ds (codes "0")) && is_positive v) v n h in
+    let f = and_parts (list_all is_ascii_digit ds && not (starts_with nat_eq ds (codes "0"))) (is_positive v) e.0 in
+    let g = and_parts (list_all is_ascii_digit ds) (not (starts_with nat_eq ds (codes "0"))) f.0 in
+    let within = and_parts (nat_le 1 v) (nat_le v 2147483647) f.1 in
     let high : v ≤ 2147483647 = leb-true _ _ within.1 in
     let same : decimal v ≡ ds = decimal-digits_value model ds g.0 (not_empty ds f.1) (none_first ds g.1) (omega (arith, high)) in
     subst (λ (x : ℕ). Spelled ds x) e.1 (leb-true _ _ within.0, high, sym same)

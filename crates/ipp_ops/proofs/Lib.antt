@@ -1,4 +1,6 @@
 pub mod Bytes
+pub mod Tests
+pub mod Texts
 pub mod Within
 pub mod Listed
 pub mod Faults

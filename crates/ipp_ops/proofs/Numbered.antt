@@ -4,26 +4,26 @@ use Rattle.std.specs.Prelude.{Option, Some, None, IfSome, All, ⊤, is_some, nat
 use Rattle.std.specs.List.{AllByRecursion, list_all}
 use Rattle.std.specs.Option.{option_and_then, option_map_or}
 use Rattle.std.proofs.lemmas.List.Elements.{All-from_recursion}
-use borrow.Author.Tests.{leb-true}
+use Rattle.std.proofs.lemmas.Bool.{and_parts, leb-true, not-false}
 use Rattle.ipp_wire.specs.Message.{Value, Attribute, Message}
 use Rattle.queue_types.specs.Event.{Call, Event, ask, cancel_my_jobs, on_job}
 use Rattle.queue_core.specs.Limits.{IsPositive}
 use Rattle.ipp_reply.specs.Unsupported.{Unsupported}
 use Rattle.ipp_reply.specs.declared.operation.Operation.{Operation}
-use Rattle.ipp_reply.specs.declared.operation.Operation.TheVariants.{PrintJob, ValidateJob, CreateJob, SendDocument, CancelJob, GetJobAttributes, GetJobs, GetPrinterAttributes, HoldJob, ReleaseJob, CancelMyJobs}
+use Rattle.ipp_reply.specs.declared.operation.Operation.TheVariants.{SendDocument, CancelJob, GetJobAttributes, HoldJob, ReleaseJob, CancelMyJobs}
 use Rattle.ipp_request.specs.declared.attribute.OperationAttribute.TheVariants as key
 use Rattle.ipp_request.specs.Attributes.{is_on_job}
 use Rattle.ipp_request.specs.Reading.{request_by, operation_in, groups_begin}
 use Rattle.ipp_request.specs.Request.{Request, request_for, known, has, bytes_of, job_in, job_of_id, is_printer, is_target, is_job_number, are_job_numbers, target_job}
 use Rattle.ipp_request.specs.Unsupported.{unsupported, is_refused_for}
 use Rattle.ipp_request.specs.Values.{is_positive, number_of}
-use Rattle.ipp_request.proofs.Tests.{and_true, find_none, not_false}
 use Rattle.queue_types.specs.Uri.{path_of}
 use Rattle.ipp_ops.specs.declared.check.Check.{Check}
 use Rattle.ipp_ops.specs.Answer.{Asks, refuses, calls, IsVerdictOn, by_head, malformed, request}
 use Rattle.ipp_ops.specs.Checks.{applies, checks, refusal}
 use Rattle.ipp_ops.specs.Verdict.{Verdict, refused, passed, call_by, request_verdict, listed_verdict, checked_verdict}
 use Rattle.ipp_ops.proofs.Laws.{path_named}
+use Rattle.ipp_ops.proofs.Tests.{find_none}
 
 -- the numbers of the jobs that are to be canceled, where the call has some
 abbrev numbers_in : Call → Option (List ℕ)
@@ -37,7 +37,7 @@ IsNumbered call = IfSome (on_job call) IsPositive × IfSome (numbers_in call) (A
 
 positive_is : (n : ℕ) → is_positive n ≡ true → IsPositive n
 positive_is n h =
-    let e = and_true (nat_le 1 n) (nat_le n 2147483647) h in
+    let e = and_parts (nat_le 1 n) (nat_le n 2147483647) h in
     let high : n ≤ 2147483647 = leb-true _ _ e.1 in
     (leb-true _ _ e.0, omega arith)
 
@@ -47,7 +47,7 @@ number_positive (Some n) h = positive_is n h
 
 values_positive : (vs : List Value) → list_all is_job_number vs ≡ true → AllByRecursion IsPositive (map (λ v. unwrap_or (number_of v.bytes) 0) vs)
 values_positive [] h = tt
-values_positive (v ∷ vs) h = let e = and_true (is_job_number v) (list_all is_job_number vs) h in (number_positive (number_of v.bytes) e.0, values_positive vs e.1)
+values_positive (v ∷ vs) h = let e = and_parts (is_job_number v) (list_all is_job_number vs) h in (number_positive (number_of v.bytes) e.0, values_positive vs e.1)
 
 ids_positive : (a : Option Attribute) → option_map_or (λ a. list_all is_job_number a.values) a true ≡ true → IfSome (option_map (λ a. map (λ v. unwrap_or (number_of v.bytes) 0) a.values) a) (All IsPositive)
 ids_positive None h = tt
@@ -89,17 +89,13 @@ job_positive r h = some_positive (target_job r) h (target_positive r)
 -- ---- the call
 
 call_numbered : (o : Operation) (r : Request) → (if is_on_job o then is_some (target_job r) else is_printer (bytes_of r key.PrinterUri) && are_job_numbers r) ≡ true → IsNumbered (call_by o r)
-call_numbered PrintJob r h = (tt, tt)
-call_numbered ValidateJob r h = (tt, tt)
-call_numbered CreateJob r h = (tt, tt)
 call_numbered SendDocument r h = (job_positive r h, tt)
 call_numbered CancelJob r h = (job_positive r h, tt)
 call_numbered GetJobAttributes r h = (job_positive r h, tt)
-call_numbered GetJobs r h = (tt, tt)
-call_numbered GetPrinterAttributes r h = (tt, tt)
 call_numbered HoldJob r h = (job_positive r h, tt)
 call_numbered ReleaseJob r h = (job_positive r h, tt)
-call_numbered CancelMyJobs r h = (tt, ids_positive (known r key.JobIds) (and_true (is_printer (bytes_of r key.PrinterUri)) (are_job_numbers r) h).1)
+call_numbered CancelMyJobs r h = (tt, ids_positive (known r key.JobIds) (and_parts (is_printer (bytes_of r key.PrinterUri)) (are_job_numbers r) h).1)
+call_numbered _ r h = (tt, tt)
 
 -- ---- the verdict
 
@@ -113,7 +109,7 @@ past_numbered r u false h = call_numbered r.operation r h
 
 with_numbered : (r : Request) (c : Option Check) → refusal r ≡ c → NumberedVerdict (checked_verdict r c)
 with_numbered r (Some c) e = tt
-with_numbered r None e = past_numbered r (unsupported r) (is_refused_for r (unsupported r)) (not_false (is_target r) (find_none (λ c. applies c r) checks e).1.1.1.1.0)
+with_numbered r None e = past_numbered r (unsupported r) (is_refused_for r (unsupported r)) (not-false (is_target r) (find_none (λ c. applies c r) checks e).1.1.1.1.0)
 
 ordered_numbered : (b : Bool) (o : Operation) (m : Message) → NumberedVerdict (request_verdict (if b then Ok (request_for o m) else Err 0x0400))
 ordered_numbered true o m = with_numbered (request_for o m) (refusal (request_for o m)) refl

@@ -6,6 +6,7 @@ use Rattle.std.specs.Cmp.Lexicographic.{same_text}
 use Rattle.std.specs.Fmt.{decimal}
 use Rattle.std.specs.List.{before_first, list_all, position_or_len, prefix_len, starts_with}
 use Rattle.std.specs.Str.{byte}
+use Rattle.std.proofs.lemmas.Bool.{and_from, and_parts}
 use Rattle.std.proofs.lemmas.Bool.Decides.{nat_tests}
 use Rattle.std.proofs.lemmas.Fmt.{digits_decimal}
 use Rattle.std.proofs.lemmas.List.{drop-append-le, take_all}
@@ -15,7 +16,6 @@ use Rattle.queue_types.specs.Uri.{behind_mark, path_of, printer_path}
 use Rattle.queue_core.specs.Limits.{IsPositive}
 use Rattle.ipp_request.specs.Request.{job_in}
 use Rattle.ipp_request.proofs.Numbers.{model}
-use Rattle.ipp_request.proofs.Tests.{and_true}
 use Rattle.ipp_ops.proofs.Laws.{path_found}
 
 abbrev is_slash : ℕ → Bool
@@ -33,23 +33,19 @@ from_slash bs = drop (position_or_len is_slash bs) bs
 
 -- ---- each of a list
 
-both : (a b : Bool) → a ≡ true → b ≡ true → (a && b) ≡ true
-both true b h k = k
-both false b h k = absurd (cc)
-
 all_weaker : (p q : ℕ → Bool) → ((b : ℕ) → p b ≡ true → q b ≡ true) → (bs : List ℕ) → list_all p bs ≡ true → list_all q bs ≡ true
 all_weaker p q weaker [] h = refl
-all_weaker p q weaker (b ∷ bs) h = let e = and_true (p b) (list_all p bs) h in both (q b) _ (weaker b e.0) (all_weaker p q weaker bs e.1)
+all_weaker p q weaker (b ∷ bs) h = let e = and_parts (p b) (list_all p bs) h in and_from (q b) _ (weaker b e.0) (all_weaker p q weaker bs e.1)
 
 all_dropped : (p : ℕ → Bool) (n : ℕ) (bs : List ℕ) → list_all p bs ≡ true → list_all p (drop n bs) ≡ true
 all_dropped p zero bs h = h
 all_dropped p (suc n) [] h = refl
-all_dropped p (suc n) (b ∷ bs) h = all_dropped p n bs (and_true (p b) (list_all p bs) h).1
+all_dropped p (suc n) (b ∷ bs) h = all_dropped p n bs (and_parts (p b) (list_all p bs) h).1
 
 all_behind : (p : ℕ → Bool) (bs : List ℕ) → list_all p bs ≡ true → list_all p (behind_mark bs) ≡ true
 all_behind p [] h = refl
 all_behind p (b ∷ bs) h =
-    let e = (and_true (p b) (list_all p bs) h).1 in
+    let e = (and_parts (p b) (list_all p bs) h).1 in
     elim (starts_with nat_eq (b ∷ bs) (codes "://")) as (λ c. list_all p (cond c (drop 2 bs) (behind_mark bs)) ≡ true) [ true ↦ all_dropped p 2 bs e | false ↦ all_behind p bs e ]
 
 -- ---- a path with more behind it
@@ -88,7 +84,7 @@ slash_more bs more h =
 all_prefix : (p : ℕ → Bool) (bs : List ℕ) → list_all p bs ≡ true → prefix_len p bs ≡ length bs
 all_prefix p [] h = refl
 all_prefix p (b ∷ bs) h =
-    let e = and_true (p b) (list_all p bs) h in
+    let e = and_parts (p b) (list_all p bs) h in
     let rest : 1 + prefix_len p bs ≡ length (b ∷ bs) = omega (arith, all_prefix p bs e.1) in
     ap (λ (c : Bool). cond c (1 + prefix_len p bs) 0) e.0 ∙ rest
 
@@ -104,7 +100,7 @@ path_more uri more h k some =
     let before : path_of uri ≡ from_slash (behind_mark uri) = whole_before (from_slash (behind_mark uri)) (all_from uri h) in
     let slashed : 0 < length (from_slash (behind_mark uri)) = omega (arith, ap length before) in
     let behind : 0 < length (behind_mark uri) = omega (arith, slashed, length-drop (position_or_len is_slash (behind_mark uri)) (behind_mark uri)) in
-    let all : list_all goes_on (uri ++ more) ≡ true = list_all-append goes_on uri more ∙ both (list_all goes_on uri) (list_all goes_on more) h k in
+    let all : list_all goes_on (uri ++ more) ≡ true = list_all-append goes_on uri more ∙ and_from (list_all goes_on uri) (list_all goes_on more) h k in
     whole_before (from_slash (behind_mark (uri ++ more))) (all_from (uri ++ more) all)
     ∙ ap from_slash (mark_more uri more behind)
     ∙ slash_more (behind_mark uri) more slashed
@@ -113,7 +109,7 @@ path_more uri more h k some =
 -- ---- a job's
 
 uri_goes_on : (b : ℕ) → is_uri_byte b ≡ true → goes_on b ≡ true
-uri_goes_on b h = (and_true (nat_le 32 b && nat_le b 126) (goes_on b) h).1
+uri_goes_on b h = (and_parts (nat_le 32 b && nat_le b 126) (goes_on b) h).1
 
 digit_goes_on : (b : ℕ) → is_ascii_digit b ≡ true → goes_on b ≡ true
 digit_goes_on b h = grind (arith, nat_tests)

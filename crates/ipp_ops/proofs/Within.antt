@@ -3,13 +3,13 @@ use Rattle.std.proofs.Common.{◌≡◌, ℕ, ◌≤◌, List, [], ◌∷◌, �
 use Rattle.std.specs.Prelude.{Option, Some, None, codes, unwrap_or, nat_le, IfSome, not, if◌then◌else◌}
 use Rattle.std.specs.Option.{option_map_or}
 use Rattle.std.specs.List.{flat_map}
-use borrow.Author.Tests.{leb-true}
+use Rattle.std.proofs.lemmas.Bool.{and_parts, leb-true}
 use Rattle.ipp_wire.specs.Message.{Value, Attribute, Message, Spells, head_bytes, group_bytes}
 use Rattle.queue_types.specs.Event.{Event, ask, tell, grant}
 use Rattle.queue_types.specs.declared.event.Reply.{Reply}
 use Rattle.queue_core.specs.Limits.{IsOwner, IsJobName, IsNewJob, IsCall, IsEvent, IsReplyTo, IsSoundReply}
 use Rattle.ipp_reply.specs.declared.operation.Operation.{Operation}
-use Rattle.ipp_reply.specs.declared.operation.Operation.TheVariants.{PrintJob, ValidateJob, CreateJob, SendDocument, CancelJob, GetJobAttributes, GetJobs, GetPrinterAttributes, HoldJob, ReleaseJob, CancelMyJobs}
+use Rattle.ipp_reply.specs.declared.operation.Operation.TheVariants.{PrintJob, ValidateJob, CreateJob, SendDocument}
 use Rattle.ipp_reply.specs.Unsupported.{Unsupported}
 use Rattle.ipp_request.specs.declared.attribute.OperationAttribute.TheVariants as key
 use Rattle.ipp_request.specs.declared.attribute.TemplateAttribute.TheVariants as template
@@ -24,8 +24,8 @@ use Rattle.ipp_request.specs.Reading.{groups_begin, request_by}
 use Rattle.ipp_request.specs.Unsupported.{is_refused_for}
 use Rattle.ipp_ops.specs.NewJob.{supported_number, template_number, job_name, new_job}
 use Rattle.ipp_ops.specs.Verdict.{Verdict, passed, call_by, verdict, request_verdict, listed_verdict, checked_verdict, IsWithinLimits}
-use Rattle.ipp_request.proofs.Tests.{and_true, list_any_false, find_none}
-use Rattle.ipp_request.proofs.Texts.{anonymous_owns, untitled_names, owns, names, of_attribute}
+use Rattle.ipp_ops.proofs.Tests.{list_any_false, find_none}
+use Rattle.ipp_ops.proofs.Texts.{anonymous_owns, untitled_names, owns, names, of_attribute}
 
 -- ---- names
 
@@ -58,7 +58,7 @@ job_names r p =
 -- ---- numbers
 
 if_within : (b : Bool) (low high n : ℕ) → is_within low high n ≡ b → IfSome (if b then Some n else None) (λ k. (low ≤ k) × (k ≤ high))
-if_within true low high n e = let w = and_true (nat_le low n) (nat_le n high) e in (leb-true _ _ w.0, leb-true _ _ w.1)
+if_within true low high n e = let w = and_parts (nat_le low n) (nat_le n high) e in (leb-true _ _ w.0, leb-true _ _ w.1)
 if_within false low high n e = tt
 
 number_within : (tagged : Bool) (low high : ℕ) (n : Option ℕ) → IfSome (if tagged && option_map_or (is_within low high) n false then n else None) (λ k. (low ≤ k) × (k ≤ high))
@@ -100,16 +100,10 @@ new_job_fits r p = record {
 
 call_fits : (o : Operation) (r : Request) → ArePassed r → length r.payload ≤ 16777216 → IsCall (call_by o r)
 call_fits PrintJob r p h = (new_job_fits r p, h)
-call_fits CancelJob r p h = tt
-call_fits GetJobAttributes r p h = tt
 call_fits ValidateJob r p h = new_job_fits r p
 call_fits CreateJob r p h = new_job_fits r p
 call_fits SendDocument r p h = h
-call_fits HoldJob r p h = tt
-call_fits ReleaseJob r p h = tt
-call_fits CancelMyJobs r p h = tt
-call_fits GetJobs r p h = tt
-call_fits GetPrinterAttributes r p h = tt
+call_fits _ r p h = tt
 
 past_fits : (r : Request) (u : Unsupported) (b : Bool) → ArePassed r → length r.payload ≤ 16777216 → IsWithinLimits (listed_verdict r u b)
 past_fits r u true p h = tt

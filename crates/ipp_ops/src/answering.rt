@@ -19,7 +19,7 @@ ghost use Rattle.ipp_request.specs.Reading.{head_refusal};
 
 use crate::asking::ask;
 use crate::law::one_verdict;
-use crate::outcome::{Answer, TooShort};
+use crate::outcome::{Answer, BARE_OCTETS, TooShort};
 use crate::verdict::Ask;
 use ipp_reply::{Unsupported, Wanted, reply_message};
 use ipp_request::head_check;
@@ -30,10 +30,19 @@ use queue_types::settings::Settings;
 use queue_types::status::{CLIENT_ERROR_BAD_REQUEST, SERVER_ERROR_TEMPORARY_ERROR};
 use std::alloc::{AllocError, Global};
 
+/// What a request is answered with, beside its bytes and the book.
+#[derive(Clone, Copy)]
+struct Context<'a> {
+    alloc: Global,
+    settings: &'a Settings,
+    /// The moment, 1 to 2,147,483,647.
+    now: u32,
+}
+
 fn bare_answer(head: Head, code: u16) -> Answer
     ensures { Spells (bare head code) (bytes_of result) }
 {
-    let mut out = [0; 72];
+    let mut out = [0; BARE_OCTETS];
     put_fault(&mut out, head, code);
     Answer::Bare(out)
 }
@@ -154,34 +163,32 @@ fn answer_ask<B: QueueBook>(
 
 /// What a request that was read is answered: the reply to it, or a fault and no change.
 fn answer_message<B: QueueBook>(
-    alloc: Global,
+    context: Context<'_>,
     book: &mut B,
-    settings: &Settings,
-    now: u32,
     view: &View<'_>,
 ) -> Result<Vec<u8>, BookFault>
-    requires moment { IsMoment now }
+    requires moment { IsMoment context.now }
     requires message { IsMessage (message_of view.now) }
     requires fits { length view.now.payload.now ≤ 16777216 }
     ensures began { B.is_honest book.new → B.is_honest book.old }
     ensures replies { IfOk result (λ b. IsReplyTo view.now.head b.items) }
     ensures done { B.is_honest book.new → IfOk result (λ b. (w : World) → B.stands book.old w
-        → IsDone (verdict (message_of view.now)) view.now.head settings.now now (B.stands book.new) (B.crash_leaves book.old) (B.crash_leaves book.new) w b.items) }
+        → IsDone (verdict (message_of view.now)) view.now.head context.entry.settings.now context.entry.now (B.stands book.new) (B.crash_leaves book.old) (B.crash_leaves book.new) w b.items) }
     ensures undone { B.is_honest book.new → OnErr result ((w : World) → B.stands book.old w
-        → IsUndone (verdict (message_of view.now)) now (B.stands book.new) (B.crash_leaves book.old) (B.crash_leaves book.new) w) }
+        → IsUndone (verdict (message_of view.now)) context.entry.now (B.stands book.new) (B.crash_leaves book.old) (B.crash_leaves book.new) w) }
     ensures live { B.is_honest book.new → B.is_live book.old → OnOk result (B.is_live book.new) }
     // What the checks refuse, whatever the book is.
-    ensures checked { (code : ℕ) (u : Listed) → verdict (message_of view.now) ≡ refused code u → IfOk result (λ b. Spells (reply_of (Refused code) view.now.head no_rows u settings.now now) b.items) }
+    ensures checked { (code : ℕ) (u : Listed) → verdict (message_of view.now) ≡ refused code u → IfOk result (λ b. Spells (reply_of (Refused code) view.now.head no_rows u context.entry.settings.now context.entry.now) b.items) }
     ensures checked_kept { (code : ℕ) (u : Listed) → verdict (message_of view.now) ≡ refused code u → (w : World) → B.stands book.old w → B.stands book.new w }
 {
-    let context = ReplyContext {
-        alloc,
+    let reply = ReplyContext {
+        alloc: context.alloc,
         head: view.head,
-        settings,
-        now,
+        settings: context.settings,
+        now: context.now,
     };
-    let ask = ask(alloc, view)?;
-    answer_ask(context, book, ask)
+    let ask = ask(context.alloc, view)?;
+    answer_ask(reply, book, ask)
 }
 
 /// The message that bytes with a head spell. What the head alone refuses, without memory, bytes that spell no message, and want of memory
@@ -205,28 +212,26 @@ fn request_in<'a>(alloc: Global, head: Head, body: &'a [u8]) -> Result<View<'a>,
 
 /// What bytes with a head are answered.
 fn answer_headed<B: QueueBook>(
-    alloc: Global,
+    context: Context<'_>,
     book: &mut B,
-    settings: &Settings,
-    now: u32,
     head: Head,
     body: &[u8],
 ) -> Answer
-    requires moment { IsMoment now }
+    requires moment { IsMoment context.now }
     requires fits { length body.now ≤ 16777216 }
     requires head { head ≡ head_of body.now }
     requires long { 8 ≤ length body.now }
     ensures began { B.is_honest book.new → B.is_honest book.old }
     ensures replies { IsReplyTo (head_of body.now) (bytes_of result) }
     ensures answered { B.is_honest book.new → (w : World) → B.stands book.old w
-        → IsAnswered body.now settings.now now (B.stands book.new) (B.crash_leaves book.old) (B.crash_leaves book.new) w (bytes_of result) }
+        → IsAnswered body.now context.entry.settings.now context.entry.now (B.stands book.new) (B.crash_leaves book.old) (B.crash_leaves book.new) w (bytes_of result) }
     ensures live { B.is_honest book.new → B.is_live book.old → is_fault (bytes_of result) ≡ false → B.is_live book.new }
-    ensures checked { (code : ℕ) (u : Listed) → IsVerdictOn body.now (refused code u) → MatchBool (is_fault (bytes_of result)) (Fails body.now (bytes_of result)) (Spells (reply_of (Refused code) (head_of body.now) no_rows u settings.now now) (bytes_of result)) }
+    ensures checked { (code : ℕ) (u : Listed) → IsVerdictOn body.now (refused code u) → MatchBool (is_fault (bytes_of result)) (Fails body.now (bytes_of result)) (Spells (reply_of (Refused code) (head_of body.now) no_rows u context.entry.settings.now context.entry.now) (bytes_of result)) }
     ensures checked_kept { (code : ℕ) (u : Listed) → IsVerdictOn body.now (refused code u) → (w : World) → B.stands book.old w → B.stands book.new w }
 {
     one_verdict();
-    match request_in(alloc, head, body) {
-        Ok(view) => match answer_message(alloc, book, settings, now, &view) {
+    match request_in(context.alloc, head, body) {
+        Ok(view) => match answer_message(context, book, &view) {
             Ok(bytes) => Answer::Whole(bytes),
             Err(_) => bare_answer(head, SERVER_ERROR_TEMPORARY_ERROR),
         },
@@ -282,5 +287,10 @@ pub fn answer<B: QueueBook>(
     let Some(head) = head(body) else {
         return Err(TooShort);
     };
-    Ok(answer_headed(alloc, book, settings, now, head, body))
+    let context = Context {
+        alloc,
+        settings,
+        now,
+    };
+    Ok(answer_headed(context, book, head, body))
 }

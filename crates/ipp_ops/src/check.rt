@@ -16,7 +16,7 @@ use queue_types::status;
 /// the operation of its head, the form of the message, and that its first group begins with the charset and the language. Behind them:
 /// the attributes and values that are not supported.
 #[derive(Clone, Copy, Debug)]
-pub enum Check {
+pub(crate) enum Check {
     /// The charset isn't UTF-8.
     Charset,
     /// A known attribute has a wrong tag, number of values or shape.
@@ -95,7 +95,7 @@ fn has_needed(request: Request<'_, '_>) -> bool
 
 impl Check {
     /// The status code with which it refuses (RFC 8011, appendix B).
-    pub fn code(self) -> u16
+    pub(crate) fn code(self) -> u16
         ensures { result ≡ code self }
     {
         match self {

@@ -3,11 +3,14 @@ ghost use Rattle.std.specs.Prelude.{◌≡◌};
 
 use thiserror::Error;
 
+/// The octets of a bare reply.
+pub(crate) const BARE_OCTETS: usize = 72;
+
 /// The bytes of an answer: a whole reply, or a bare one that took no memory.
 #[derive(Debug, Drop)]
 pub enum Answer {
     Whole(Vec<u8>),
-    Bare([u8; 72]),
+    Bare([u8; BARE_OCTETS]),
 }
 
 impl Answer {

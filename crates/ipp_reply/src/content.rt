@@ -24,7 +24,7 @@ pub(crate) const ENGLISH: &str = "en";
 
 /// What an attribute of a reply says.
 #[derive(Drop)]
-pub enum Content<'a> {
+pub(crate) enum Content<'a> {
     Integer(u32),
     Enum(u32),
     /// A text under its value tag.

@@ -1,6 +1,5 @@
 //! The job attributes of a reply, as a table in order (RFC 8011, section 5.3).
-ghost use Rattle.std.specs.Prelude.{◌≡◌, ◌++◌, ◌∷◌, [], ◌≤◌, ◌^◌, ◌+◌, ◌/◌, IfOk, OnOk, All, filter, length, map};
-ghost use Rattle.std.specs.List.{list_any};
+ghost use Rattle.std.specs.Prelude.{◌≡◌, ◌++◌, ◌∷◌, [], ◌≤◌, ◌^◌, ◌+◌, ◌/◌, IfOk, OnOk, All, length, map};
 ghost use Rattle.ipp_wire.specs.Viewed.{values_of};
 ghost use Rattle.queue_core.specs.Limits.{IsSoundJob};
 ghost use Rattle.ipp_reply.specs.Content.{values_in};
@@ -13,7 +12,7 @@ use crate::wanted::Wanted;
 use ipp_wire::tags::{
     CHARSET, JOB_ATTRIBUTES, KEYWORD, NAME_WITHOUT_LANGUAGE, NATURAL_LANGUAGE, URI,
 };
-use ipp_wire::{Message, ValueView};
+use ipp_wire::{Message, ValueView, plain_attribute};
 use queue_types::job::Job;
 use std::alloc::{AllocError, Global};
 
@@ -63,6 +62,16 @@ pub const JOB_TABLE: [JobAttribute; 19] = [
     JobAttribute::Copies,
     JobAttribute::JobHoldUntil,
 ];
+
+/// What is shown of each job, and with what.
+#[derive(Clone, Copy)]
+pub(crate) struct JobView<'a> {
+    /// The printer's URI, at most 255 octets.
+    pub uri: &'a str,
+    /// The moment of the reply.
+    pub now: u32,
+    pub rows: &'a [JobAttribute],
+}
 
 impl JobAttribute {
     /// The attribute's name.
@@ -147,52 +156,49 @@ impl JobAttribute {
 }
 
 /// The octets of a unit of job-k-octets (RFC 8011, section 5.3.17.1).
-const UNIT: u64 = 1024;
+const OCTETS_PER_K: u64 = 1024;
 
 /// Octets in units of 1,024, rounded up.
 fn kilo_octets(octets: u64) -> u32
     requires { octets ≤ 2 ^ 28 }
     ensures { result ≡ (octets + 1023) / 1024 }
 {
-    ((octets + (UNIT - 1)) / UNIT) as u32
+    ((octets + (OCTETS_PER_K - 1)) / OCTETS_PER_K) as u32
 }
 
-/// Adds the group of a job with these rows.
+/// Adds the group of a job.
 fn put_job(
     alloc: Global,
     message: &mut Message,
-    uri: &str,
-    now: u32,
-    rows: &[JobAttribute],
+    view: JobView<'_>,
     job: &Job,
 ) -> Result<(), AllocError>
-    requires uri { length uri.now ≤ 255 }
+    requires uri { length view.uri.now ≤ 255 }
     requires job { IsSoundJob job.now }
-    ensures { OnOk result (message.new ≡ record message.old { groups = message.old.groups ++ spec.job_group uri.now now rows.now job.now ∷ [] }) }
+    ensures { OnOk result (message.new ≡ record message.old { groups = message.old.groups ++ spec.job_group view.entry.uri.now view.entry.now view.entry.rows.now job.now ∷ [] }) }
 {
+    plain_attribute();
     message.group(JOB_ATTRIBUTES)?;
-    'rows: for row in rows {
-        let content = row.content(alloc, uri, now, job)?;
+    'rows: for row in view.rows {
+        let content = row.content(alloc, view.uri, view.now, job)?;
         put(alloc, message, row.name(), &content)?;
     }
     Ok(())
 }
 
-/// Adds a group for each job, with these rows.
+/// Adds a group for each job.
 pub(crate) fn put_jobs(
     alloc: Global,
     message: &mut Message,
-    uri: &str,
-    now: u32,
-    rows: &[JobAttribute],
+    view: JobView<'_>,
     jobs: &[Job],
 ) -> Result<(), AllocError>
-    requires uri { length uri.now ≤ 255 }
+    requires uri { length view.uri.now ≤ 255 }
     requires jobs { All IsSoundJob jobs.now }
-    ensures { OnOk result (message.new ≡ record message.old { groups = message.old.groups ++ map (spec.job_group uri.now now rows.now) jobs.now }) }
+    ensures { OnOk result (message.new ≡ record message.old { groups = message.old.groups ++ map (spec.job_group view.entry.uri.now view.entry.now view.entry.rows.now) jobs.now }) }
 {
     for job in jobs {
-        put_job(alloc, message, uri, now, rows, job)?;
+        put_job(alloc, message, view, job)?;
     }
     Ok(())
 }

@@ -1,6 +1,5 @@
 //! The printer attributes of a reply, as a table in order (RFC 8011, section 5.4).
-ghost use Rattle.std.specs.Prelude.{◌≡◌, ◌++◌, ◌∷◌, [], IfOk, OnOk, filter};
-ghost use Rattle.std.specs.List.{list_any};
+ghost use Rattle.std.specs.Prelude.{◌≡◌, ◌++◌, ◌∷◌, [], IfOk, OnOk};
 ghost use Rattle.ipp_wire.specs.Viewed.{values_of};
 ghost use Rattle.queue_types.specs.Settings.{AreSettings};
 ghost use Rattle.ipp_reply.specs.Content.{values_in};
@@ -15,7 +14,7 @@ use ipp_wire::tags::{
     CHARSET, KEYWORD, MIME_MEDIA_TYPE, NAME_WITHOUT_LANGUAGE, NATURAL_LANGUAGE, PRINTER_ATTRIBUTES,
     URI,
 };
-use ipp_wire::{Message, ValueView};
+use ipp_wire::{Message, ValueView, plain_attribute};
 use queue_types::document::Format;
 use queue_types::settings::Settings;
 use queue_types::states::PrinterState;
@@ -70,7 +69,7 @@ pub const PRINTER_TABLE: [PrinterAttribute; 19] = [
 
 /// What a printer is: its settings, and its queue at a moment.
 #[derive(Clone, Copy)]
-pub struct PrinterView<'a> {
+pub(crate) struct PrinterView<'a> {
     pub settings: &'a Settings,
     pub now: u32,
     pub state: PrinterState,
@@ -157,6 +156,7 @@ pub(crate) fn put_printer(
     requires { AreSettings printer.settings.now }
     ensures { OnOk result (message.new ≡ record message.old { groups = message.old.groups ++ spec.printer_group (printer_of printer.entry) rows.now ∷ [] }) }
 {
+    plain_attribute();
     message.group(PRINTER_ATTRIBUTES)?;
     'rows: for row in rows {
         let content = row.content(printer);

@@ -11,7 +11,7 @@ ghost use Rattle.ipp_reply.specs.Unsupported.{CanList, unsupported_of};
 ghost use Rattle.ipp_reply.specs.Wanted.{rows_of};
 
 use crate::content::{ENGLISH, UTF_8};
-use crate::job_reply::put_jobs;
+use crate::job_reply::{JobView, put_jobs};
 use crate::printer_reply::{PrinterView, put_printer};
 use crate::unsupported::Unsupported;
 use crate::wanted::Wanted;
@@ -147,14 +147,12 @@ pub fn reply_message(
         }
         Reply::Jobs(jobs) => {
             let mut message = success_message(alloc, head, unsupported)?;
-            put_jobs(
-                alloc,
-                &mut message,
+            let view = JobView {
                 uri,
                 now,
-                wanted.job_rows(),
-                jobs.as_slice(),
-            )?;
+                rows: wanted.job_rows(),
+            };
+            put_jobs(alloc, &mut message, view, jobs.as_slice())?;
             Ok(message)
         }
         Reply::Told { .. } | Reply::NotTold(_) | Reply::Added { .. } | Reply::NotAdded { .. } => {

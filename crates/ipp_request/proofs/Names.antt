@@ -1,9 +1,11 @@
 -- A name with its language, as it is spelled and as it is read.
-use Rattle.std.proofs.Common.{◌≡◌, ◌+◌, ◌≤◌, ◌<◌, ◌^◌, ◌++◌, ◌&&◌, ℕ, zero, suc, List, [], ◌∷◌, Bool, true, false, length, take, drop, get_or, refl, sym, ap, ◌∙◌, arith, take-append-drop, length-drop}
+use Rattle.std.proofs.Common.{◌≡◌, ◌+◌, ◌≤◌, ◌<◌, ◌^◌, ◌++◌, ◌&&◌, ℕ, zero, suc, List, [], ◌∷◌, true, length, take, drop, get_or, refl, sym, ap, ◌∙◌, arith, take-append-drop, length-drop}
 use Rattle.std.specs.Prelude.{Option, Some, None, if◌then◌else◌, nat_le, ◌==◌}
 use Rattle.std.specs.Int.{w16, from_be_bytes, to_be_bytes}
+use Rattle.std.proofs.lemmas.Bool.{and_parts}
 use Rattle.std.proofs.lemmas.Bool.Decides.{nat_tests}
 use Rattle.std.proofs.lemmas.List.{drop_at, length-take-le}
+use Rattle.std.proofs.lemmas.Option.{cond_some}
 use Rattle.std.proofs.lemmas.Nat.{be_bytes_2, from_be_bytes-to_be_bytes_2}
 use Rattle.ipp_wire.specs.Message.{text_bytes}
 use Rattle.ipp_request.specs.Values.{after_text, behind_language}
@@ -32,14 +34,6 @@ last name short =
 pub read : (language name : List ℕ) → length language < 2 ^ 16 → length name < 2 ^ 16 → behind_language (text_bytes language ++ text_bytes name) ≡ Some name
 read language name l n = ap last_text (after language (text_bytes name) l) ∙ last name n
 
-chosen : (b : Bool) (xs name : List ℕ) → (if b then Some xs else None) ≡ Some name → (b ≡ true) × (xs ≡ name)
-chosen true xs name e = (refl, cc)
-chosen false xs name e = absurd (cc)
-
-both : (a b : Bool) → (a && b) ≡ true → (a ≡ true) × (b ≡ true)
-both true b e = (refl, e)
-both false b e = absurd (cc)
-
 sized : (l f : ℕ) → (suc (suc l) == 2 + f) ≡ true → l ≡ f
 sized l f h = grind (arith, nat_tests)
 
@@ -57,8 +51,8 @@ last_spelled : (rest name : List ℕ) → ((i : ℕ) → get_or rest i 0 < 256) 
 last_spelled [] name small e = absurd (cc)
 last_spelled (a ∷ []) name small e = absurd (cc)
 last_spelled (a ∷ b ∷ text) name small e =
-    let p = chosen (nat_le 2 (length (a ∷ b ∷ text)) && length (a ∷ b ∷ text) == 2 + from_be_bytes w16 (a ∷ b ∷ text)) text name e in
-    let q = both (nat_le 2 (length (a ∷ b ∷ text))) (length (a ∷ b ∷ text) == 2 + from_be_bytes w16 (a ∷ b ∷ text)) p.0 in
+    let p = cond_some (nat_le 2 (length (a ∷ b ∷ text)) && length (a ∷ b ∷ text) == 2 + from_be_bytes w16 (a ∷ b ∷ text)) text name e in
+    let q = and_parts (nat_le 2 (length (a ∷ b ∷ text))) (length (a ∷ b ∷ text) == 2 + from_be_bytes w16 (a ∷ b ∷ text)) p.0 in
     let size : length text ≡ from_be_bytes w16 (a ∷ b ∷ []) = sized (length text) (from_be_bytes w16 (a ∷ b ∷ [])) q.1 in
     let front : to_be_bytes w16 (length text) ≡ a ∷ b ∷ [] = be_bytes_2 (a ∷ b ∷ []) (length text) refl (two a b text small) size in
     let bounded = sixteen_bits a b text small in

@@ -5,10 +5,9 @@ use Rattle.std.specs.List.{list_all}
 use Rattle.std.specs.Char.{is_ascii_digit}
 use Rattle.std.specs.Str.Parse.{digits_value, ParsesUnsigned}
 use Rattle.std.proofs.lemmas.Str.Parse.{IsNumeralModel, numerals_by_value, parse_digits}
-use borrow.Author.Tests.{leb-true}
+use Rattle.std.proofs.lemmas.Bool.{and_parts, false_from_ne_true, leb-true}
 use Rattle.ipp_request.specs.Values.{is_positive}
 use Rattle.ipp_request.specs.Request.{number_in}
-use Rattle.ipp_request.proofs.Tests.{and_true}
 
 pub model : IsNumeralModel (λ ds. list_all is_ascii_digit ds ≡ true) (digits_value 10)
 model = numerals_by_value _ (search rules)
@@ -16,13 +15,9 @@ model = numerals_by_value _ (search rules)
 not_small : (bs : List ℕ) → ((0 < length bs) × (digits_value 10 bs < 2 ^ 32) → ⊥) → is_positive (digits_value 10 bs) ≡ true → ⊥
 not_small [] h p = absurd (cc)
 not_small (b ∷ bs) h p =
-    let e = and_true (nat_le 1 (digits_value 10 (b ∷ bs))) (nat_le (digits_value 10 (b ∷ bs)) 2147483647) p in
+    let e = and_parts (nat_le 1 (digits_value 10 (b ∷ bs))) (nat_le (digits_value 10 (b ∷ bs)) 2147483647) p in
     let le : digits_value 10 (b ∷ bs) ≤ 2147483647 = leb-true _ _ e.1 in
     h (omega arith, omega (arith, le))
-
-refused : (b : Bool) → (b ≡ true → ⊥) → b ≡ false
-refused true h = absurd (h refl)
-refused false h = refl
 
 none_chosen : (a b : Bool) (n : ℕ) → b ≡ false → None ≡ (if a && b then Some n else None)
 none_chosen true true n h = absurd (cc)
@@ -32,7 +27,7 @@ none_chosen false b n h = refl
 -- digits that no number of 32 bits has spell no job's number
 pub unparsed : {E : Type 0} (bs : List ℕ) (e : E) → list_all is_ascii_digit bs ≡ true → ParsesUnsigned 32 10 bs (Err e) → None ≡ number_in bs
 unparsed bs e digits parsed =
-    none_chosen _ (is_positive (digits_value 10 bs)) (digits_value 10 bs) (refused (is_positive (digits_value 10 bs)) (not_small bs (parse_digits model 32 bs (Err e) parsed digits)))
+    none_chosen _ (is_positive (digits_value 10 bs)) (digits_value 10 bs) (false_from_ne_true (is_positive (digits_value 10 bs)) (not_small bs (parse_digits model 32 bs (Err e) parsed digits)))
 
 -- what text is chosen
 pub text_chosen : (b : Bool) (t bs : List ℕ) → Some t ≡ (if b then Some bs else None) → t ≡ bs

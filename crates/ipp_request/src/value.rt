@@ -24,11 +24,14 @@ pub fn number(bytes: &[u8]) -> Option<u32>
     }
 }
 
+/// The greatest number of 4 bytes that stands for none below zero.
+const GREATEST_NUMBER: u32 = 2_147_483_647;
+
 /// At least 1, and not one that stands for a number below zero.
 fn is_positive(n: u32) -> bool
     ensures { result ≡ spec.is_positive n }
 {
-    1 <= n && n <= i32::MAX as u32
+    1 <= n && n <= GREATEST_NUMBER
 }
 
 /// The number, where a job may have it: 1 to 2,147,483,647.

@@ -2,7 +2,7 @@ mod Lists
 mod Text
 mod Items
 mod Front
-mod Spelled
+pub mod Spelled
 mod Pieces
 mod Standing
 mod Building

@@ -13,7 +13,7 @@ use Rattle.ipp_wire.proofs.Front.{ends, items_of_runs, groups_lead, open_of_grou
 
 -- ---- the head
 
-head_eq : (h k : Head) → h.major ≡ k.major → h.minor ≡ k.minor → h.code ≡ k.code → h.request_id ≡ k.request_id → h ≡ k
+pub head_eq : (h k : Head) → h.major ≡ k.major → h.minor ≡ k.minor → h.code ≡ k.code → h.request_id ≡ k.request_id → h ≡ k
 head_eq h k a b c d =
     subst (λ (x : ℕ). h ≡ record { major = k.major; minor = k.minor; code = k.code; request_id = x }) d
     (subst (λ (x : ℕ). h ≡ record { major = k.major; minor = k.minor; code = x; request_id = h.request_id }) c

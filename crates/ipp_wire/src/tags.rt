@@ -7,7 +7,7 @@ pub const OPERATION_ATTRIBUTES: u8 = 0x01;
 pub const JOB_ATTRIBUTES: u8 = 0x02;
 
 /// The delimiter that ends the groups (section 3.5.1).
-pub const END_OF_ATTRIBUTES: u8 = 0x03;
+pub(crate) const END_OF_ATTRIBUTES: u8 = 0x03;
 
 /// The delimiter of the printer group (section 3.5.1).
 pub const PRINTER_ATTRIBUTES: u8 = 0x04;
@@ -16,7 +16,7 @@ pub const PRINTER_ATTRIBUTES: u8 = 0x04;
 pub const UNSUPPORTED_ATTRIBUTES: u8 = 0x05;
 
 /// The tags from here on are values', and those below are delimiters (section 3.5.2).
-pub const FIRST_VALUE_TAG: u8 = 0x10;
+pub(crate) const FIRST_VALUE_TAG: u8 = 0x10;
 
 /// The out-of-band value of an unsupported attribute (section 3.5.2).
 pub const UNSUPPORTED: u8 = 0x10;
@@ -34,13 +34,13 @@ pub const BOOLEAN: u8 = 0x22;
 pub const ENUM: u8 = 0x23;
 
 /// The value tag that opens a collection (section 3.1.6).
-pub const BEGIN_COLLECTION: u8 = 0x34;
+pub(crate) const BEGIN_COLLECTION: u8 = 0x34;
 
 /// A name and its language.
 pub const NAME_WITH_LANGUAGE: u8 = 0x36;
 
 /// The value tag that closes a collection (section 3.1.6).
-pub const END_COLLECTION: u8 = 0x37;
+pub(crate) const END_COLLECTION: u8 = 0x37;
 
 /// A name in the language of its message.
 pub const NAME_WITHOUT_LANGUAGE: u8 = 0x42;

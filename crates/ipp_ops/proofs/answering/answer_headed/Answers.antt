@@ -8,13 +8,13 @@ use Rattle.ipp_ops.proofs.answering.answer_headed.Goals as goal
 
 pub returns-in-Ok-answer_message-clause-answered : goal.returns-in-Ok-answer_message-clause-answered
 returns-in-Ok-answer_message-clause-answered g c = λ honest w stands.
-    done_answered c.args.body.now (message_of c.in-Ok.view) c.args.settings.now c.args.now (g.B.QueueBook.stands c.answer_message.new.book) (g.B.QueueBook.crash_leaves c.args.book.now) (g.B.QueueBook.crash_leaves c.answer_message.new.book)
+    done_answered c.args.body.now (message_of c.in-Ok.view) c.args.context.settings.now c.args.context.now (g.B.QueueBook.stands c.answer_message.new.book) (g.B.QueueBook.crash_leaves c.args.book.now) (g.B.QueueBook.crash_leaves c.answer_message.new.book)
     w c.in-Ok-answer_message.bytes.items c.in-Ok.ensures.request (c.in-Ok-answer_message.ensures.done honest w stands)
 
 pub returns-in-Ok-answer_message-clause-checked : goal.returns-in-Ok-answer_message-clause-checked
 returns-in-Ok-answer_message-clause-checked g c = λ code u on.
     let m = message_of c.in-Ok.view in
-    message_told c.args.body.now m c.in-Ok-answer_message.bytes.items c.args.settings.now c.args.now code u c.in-Ok.ensures.request on
+    message_told c.args.body.now m c.in-Ok-answer_message.bytes.items c.args.context.settings.now c.args.context.now code u c.in-Ok.ensures.request on
     (c.in-Ok-answer_message.ensures.checked code u (c.one_verdict.ensures c.args.body.now (verdict m) (refused code u) (request m c.in-Ok.ensures.request.spelled) on))
 
 pub returns-in-Ok-answer_message-clause-checked_kept : goal.returns-in-Ok-answer_message-clause-checked_kept
@@ -27,14 +27,14 @@ returns-in-Ok-answer_message-clause-checked_kept g c = λ code u on.
 pub returns-in-Ok-clause-answered : goal.returns-in-Ok-clause-answered
 returns-in-Ok-clause-answered g c = λ honest w stands.
     let m = message_of c.in-Ok.view in
-    undone_answered c.args.body.now m c.args.settings.now c.args.now (g.B.QueueBook.stands c.answer_message.new.book) (g.B.QueueBook.crash_leaves c.args.book.now) (g.B.QueueBook.crash_leaves c.answer_message.new.book)
+    undone_answered c.args.body.now m c.args.context.settings.now c.args.context.now (g.B.QueueBook.stands c.answer_message.new.book) (g.B.QueueBook.crash_leaves c.args.book.now) (g.B.QueueBook.crash_leaves c.answer_message.new.book)
     w (bytes_of c.bare_answer.result) c.in-Ok.ensures.request
     (request_fails c.args.head c.args.body.now m (bytes_of c.bare_answer.result) c.requires.head c.in-Ok.ensures.request c.bare_answer.ensures)
     (c.in-Err-answer_message.ensures.undone honest w stands)
 
 pub returns-in-Ok-clause-checked : goal.returns-in-Ok-clause-checked
 returns-in-Ok-clause-checked g c = λ code u on.
-    bare_told c.args.body.now (bytes_of c.bare_answer.result) c.args.settings.now c.args.now code u c.one_verdict.ensures
+    bare_told c.args.body.now (bytes_of c.bare_answer.result) c.args.context.settings.now c.args.context.now code u c.one_verdict.ensures
     (request_fails c.args.head c.args.body.now (message_of c.in-Ok.view) (bytes_of c.bare_answer.result) c.requires.head c.in-Ok.ensures.request c.bare_answer.ensures) on
 
 pub returns-in-Ok-clause-checked_kept : goal.returns-in-Ok-clause-checked_kept
@@ -46,7 +46,7 @@ returns-in-Ok-clause-checked_kept g c = λ code u on.
 
 pub returns-clause-answered : goal.returns-clause-answered
 returns-clause-answered g c = λ honest w stands.
-    bare_answered c.args.body.now c.args.settings.now c.args.now (g.B.QueueBook.stands c.args.book.now) (g.B.QueueBook.crash_leaves c.args.book.now) w (bytes_of c.in-Err.answer) c.in-Err.ensures.bare stands
+    bare_answered c.args.body.now c.args.context.settings.now c.args.context.now (g.B.QueueBook.stands c.args.book.now) (g.B.QueueBook.crash_leaves c.args.book.now) w (bytes_of c.in-Err.answer) c.in-Err.ensures.bare stands
 
 pub returns-clause-checked : goal.returns-clause-checked
-returns-clause-checked g c = λ code u on. bare_told c.args.body.now (bytes_of c.in-Err.answer) c.args.settings.now c.args.now code u c.one_verdict.ensures c.in-Err.ensures.bare on
+returns-clause-checked g c = λ code u on. bare_told c.args.body.now (bytes_of c.in-Err.answer) c.args.context.settings.now c.args.context.now code u c.one_verdict.ensures c.in-Err.ensures.bare on

@@ -1,5 +1,6 @@
-use Rattle.std.proofs.Common.{◌≡◌, [], ◌∷◌, Bool, true, false, lit<, refl}
-use Rattle.std.specs.Prelude.{Contains, Option, Some, bytes_eq, cond, find}
+use Rattle.std.proofs.Common.{◌≡◌, [], ◌∷◌, true, lit<, refl}
+use Rattle.std.specs.Prelude.{Contains, Some, bytes_eq, find}
+use Rattle.std.proofs.lemmas.Bool.{cond-true}
 use Rattle.ipp_reply.specs.Operations.{id, operation_of, operations}
 use Rattle.ipp_reply.specs.declared.operation.Operation.{Operation}
 use Rattle.ipp_reply.specs.declared.operation.Operation.TheVariants as operation
@@ -125,97 +126,27 @@ each_format format.PlainText = (6, lit< tt, refl)
 
 found_operation : (x : Operation) → operation_of (id x) ≡ Some x
 found_operation operation.PrintJob = refl
-found_operation operation.ValidateJob = refl
-found_operation operation.CreateJob = refl
-found_operation operation.SendDocument = refl
-found_operation operation.CancelJob = refl
-found_operation operation.GetJobAttributes = refl
-found_operation operation.GetJobs = refl
-found_operation operation.GetPrinterAttributes = refl
-found_operation operation.HoldJob = refl
-found_operation operation.ReleaseJob = refl
-found_operation operation.CancelMyJobs = refl
-
-first : (b : Bool) (k : OperationAttribute) (more : Option OperationAttribute) → b ≡ true → cond b (Some k) more ≡ Some k
-first true k more h = refl
-first false k more h = absurd (cc)
+found_operation _ = refl
 
 found_attribute : (o : Operation) (x : OperationAttribute) → knows o x ≡ true → attribute_named o (row x).name ≡ Some x
-found_attribute o key.AttributesCharset h = first (knows o key.AttributesCharset) key.AttributesCharset _ h
-found_attribute o key.AttributesNaturalLanguage h = first (knows o key.AttributesNaturalLanguage) key.AttributesNaturalLanguage _ h
-found_attribute o key.PrinterUri h = first (knows o key.PrinterUri) key.PrinterUri _ h
-found_attribute o key.JobUri h = first (knows o key.JobUri) key.JobUri _ h
-found_attribute o key.JobId h = first (knows o key.JobId) key.JobId _ h
-found_attribute o key.RequestingUserName h = first (knows o key.RequestingUserName) key.RequestingUserName _ h
-found_attribute o key.JobName h = first (knows o key.JobName) key.JobName _ h
-found_attribute o key.DocumentName h = first (knows o key.DocumentName) key.DocumentName _ h
-found_attribute o key.IppAttributeFidelity h = first (knows o key.IppAttributeFidelity) key.IppAttributeFidelity _ h
-found_attribute o key.Compression h = first (knows o key.Compression) key.Compression _ h
-found_attribute o key.DocumentFormat h = first (knows o key.DocumentFormat) key.DocumentFormat _ h
-found_attribute o key.JobImpressions h = first (knows o key.JobImpressions) key.JobImpressions _ h
-found_attribute o key.RequestedAttributes h = first (knows o key.RequestedAttributes) key.RequestedAttributes _ h
-found_attribute o key.WhichJobs h = first (knows o key.WhichJobs) key.WhichJobs _ h
-found_attribute o key.Limit h = first (knows o key.Limit) key.Limit _ h
-found_attribute o key.MyJobs h = first (knows o key.MyJobs) key.MyJobs _ h
-found_attribute o key.LastDocument h = first (knows o key.LastDocument) key.LastDocument _ h
-found_attribute o key.JobIds h = first (knows o key.JobIds) key.JobIds _ h
-found_attribute o key.JobHoldUntil h = first (knows o key.JobHoldUntil) key.JobHoldUntil _ h
+found_attribute o key.AttributesCharset h = cond-true (knows o key.AttributesCharset) (Some key.AttributesCharset) _ h
+found_attribute o k h = cond-true (knows o k) (Some k) _ h
 
 found_job_attribute : (x : TemplateAttribute) → find (λ a. bytes_eq (template_name a) (template_name x)) template_table ≡ Some x
 found_job_attribute template.Copies = refl
-found_job_attribute template.JobHoldUntil = refl
-found_job_attribute template.JobImpressions = refl
+found_job_attribute _ = refl
 
 selected_job_reply : (x : JobAttribute) → selected_of_job (job_reply_name x ∷ []) ≡ x ∷ []
 selected_job_reply job.JobUri = refl
-selected_job_reply job.JobId = refl
-selected_job_reply job.JobPrinterUri = refl
-selected_job_reply job.JobName = refl
-selected_job_reply job.JobOriginatingUserName = refl
-selected_job_reply job.JobState = refl
-selected_job_reply job.JobStateReasons = refl
-selected_job_reply job.TimeAtCreation = refl
-selected_job_reply job.TimeAtProcessing = refl
-selected_job_reply job.TimeAtCompleted = refl
-selected_job_reply job.JobPrinterUpTime = refl
-selected_job_reply job.AttributesCharset = refl
-selected_job_reply job.AttributesNaturalLanguage = refl
-selected_job_reply job.JobKOctets = refl
-selected_job_reply job.JobImpressions = refl
-selected_job_reply job.JobImpressionsCompleted = refl
-selected_job_reply job.NumberOfDocuments = refl
-selected_job_reply job.Copies = refl
-selected_job_reply job.JobHoldUntil = refl
+selected_job_reply _ = refl
 
 selected_printer_reply : (x : PrinterAttribute) → selected_of_printer (printer_reply_name x ∷ []) ≡ x ∷ []
 selected_printer_reply printer.PrinterUriSupported = refl
-selected_printer_reply printer.UriAuthenticationSupported = refl
-selected_printer_reply printer.UriSecuritySupported = refl
-selected_printer_reply printer.PrinterName = refl
-selected_printer_reply printer.PrinterState = refl
-selected_printer_reply printer.PrinterStateReasons = refl
-selected_printer_reply printer.IppVersionsSupported = refl
-selected_printer_reply printer.OperationsSupported = refl
-selected_printer_reply printer.CharsetConfigured = refl
-selected_printer_reply printer.CharsetSupported = refl
-selected_printer_reply printer.NaturalLanguageConfigured = refl
-selected_printer_reply printer.GeneratedNaturalLanguageSupported = refl
-selected_printer_reply printer.DocumentFormatDefault = refl
-selected_printer_reply printer.DocumentFormatSupported = refl
-selected_printer_reply printer.PrinterIsAcceptingJobs = refl
-selected_printer_reply printer.QueuedJobCount = refl
-selected_printer_reply printer.PdlOverrideSupported = refl
-selected_printer_reply printer.PrinterUpTime = refl
-selected_printer_reply printer.CompressionSupported = refl
+selected_printer_reply _ = refl
 
 found_format : (x : Format) → format_of (format_name x) ≡ Some x
 found_format format.OctetStream = refl
-found_format format.Pdf = refl
-found_format format.Postscript = refl
-found_format format.Jpeg = refl
-found_format format.PwgRaster = refl
-found_format format.Urf = refl
-found_format format.PlainText = refl
+found_format _ = refl
 
 pub returns-clause-operations : goal.returns-clause-operations
 returns-clause-operations c = each_operation

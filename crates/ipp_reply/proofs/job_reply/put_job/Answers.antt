@@ -19,10 +19,10 @@ more m gs f rows i below = ap (λ (x : List Group). let r : Message = record m {
     ∙ ap (λ (x : List Attribute). gs ++ record { tag = 0x02; attributes = x } ∷ []) (sym (map_more f rows i JobUri below)))
 
 pub put-requires-clause-fits : goal.put-requires-clause-fits
-put-requires-clause-fits c = rw (c.name.ensures, c.in_ok-content.ensures) (attribute_fits c.args.uri.now c.args.now c.args.job.now _ c.requires.uri c.requires.job)
+put-requires-clause-fits c = rw (c.name.ensures, c.in_ok-content.ensures) (attribute_fits c.plain_attribute.ensures c.args.view.uri.now c.args.view.now c.args.job.now _ c.requires.uri c.requires.job)
 
 pub put-requires-clause-begun : goal.put-requires-clause-begun
-put-requires-clause-begun c = rw c.rows.invariant (omega (arith, length-append c.args.message.now.groups (record { tag = 0x02; attributes = map (attribute c.args.uri.now c.args.now c.args.job.now) (take c.rows.row-index c.args.rows.now) } ∷ [])))
+put-requires-clause-begun c = rw c.rows.invariant (omega (arith, length-append c.args.message.now.groups (record { tag = 0x02; attributes = map (attribute c.args.view.uri.now c.args.view.now c.args.job.now) (take c.rows.row-index c.args.view.rows.now) } ∷ [])))
 
 pub rows-preserved : goal.rows-preserved
-rows-preserved c = rw (c.in_ok-put.ensures, c.name.ensures, c.in_ok-content.ensures, c.rows.invariant) (more c.args.message.now c.args.message.now.groups (attribute c.args.uri.now c.args.now c.args.job.now) c.args.rows.now c.rows.row-index c.rows-test.true)
+rows-preserved c = rw (c.in_ok-put.ensures, c.name.ensures, c.in_ok-content.ensures, c.rows.invariant) (more c.args.message.now c.args.message.now.groups (attribute c.args.view.uri.now c.args.view.now c.args.job.now) c.args.view.rows.now c.rows.row-index c.rows-test.true)

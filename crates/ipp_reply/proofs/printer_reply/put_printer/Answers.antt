@@ -20,7 +20,7 @@ more m gs f rows i below = ap (λ (x : List Group). let r : Message = record m {
     ∙ ap (λ (x : List Attribute). gs ++ record { tag = 0x04; attributes = x } ∷ []) (sym (map_more f rows i PrinterUriSupported below)))
 
 pub put-requires-clause-fits : goal.put-requires-clause-fits
-put-requires-clause-fits c = rw (c.name.ensures, c.content-content.ensures) (attribute_fits (printer_of c.args.printer) _ c.requires)
+put-requires-clause-fits c = rw (c.name.ensures, c.content-content.ensures) (attribute_fits c.plain_attribute.ensures (printer_of c.args.printer) _ c.requires)
 
 pub put-requires-clause-begun : goal.put-requires-clause-begun
 put-requires-clause-begun c = rw c.rows.invariant (omega (arith, length-append c.args.message.now.groups (record { tag = 0x04; attributes = map (attribute (printer_of c.args.printer)) (take c.rows.row-index c.args.rows.now) } ∷ [])))
