@@ -66,8 +66,7 @@ T_both false b h k = absurd h
 
 less_of : (o : Ordering) → T (is_lt o) → o ≡ Less
 less_of Less h = refl
-less_of Equal h = absurd h
-less_of Greater h = absurd h
+less_of _ h = absurd h
 
 -- the test of a key by its place
 by_place : (a b : List ℕ) (o : Ordering) → text_cmp b a ≡ o → bytes_eq a b ≡ is_eq (ordering_reverse o)

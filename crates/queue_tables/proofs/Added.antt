@@ -1,10 +1,10 @@
 -- The rows that a change adds meet none like them in the tables, and find the row that they tell of.
-use Rattle.std.proofs.Common.{◌≡◌, ◌≤◌, ◌<◌, inl, inr, ℕ, zero, suc, pos, ◌+◌, List, [], ◌∷◌, ◌++◌, map, filter, flat_map, length, fold, take, get_or, Bool, true, false, ◌&&◌, ◌==◌, Option, Some, None, IsSome, IfSome, refl, sym, ap, subst, ◌∙◌, arith, cond, is_eq, Ordering, Less, Equal, Greater, bytes_eq}
+use Rattle.std.proofs.Common.{◌≡◌, ◌≤◌, ◌<◌, inl, inr, ℕ, zero, suc, pos, ◌+◌, List, [], ◌∷◌, ◌++◌, map, filter, flat_map, length, fold, take, get_or, Bool, true, false, ◌&&◌, ◌==◌, Option, Some, None, IsSome, IfSome, refl, sym, ap, subst, ◌∙◌, arith, cond, is_eq, Ordering, Less, Equal, bytes_eq}
 use Rattle.std.specs.Cmp.{both_ways, unsigned_tied}
 use Rattle.std.specs.FinMap.{FinMap, entries, entries_sorted, find, get, get-entries}
 use Rattle.std.specs.Ordering.{eq_by_cmp, nat_cmp, ordering_then}
 use Rattle.std.specs.List.{range_with_len, AllByRecursion as Each}
-use Rattle.std.proofs.lemmas.Bool.{cases_Bool, eq-eqb, eqb-true, ne_eqb, or_parts}
+use Rattle.std.proofs.lemmas.Bool.{and_left, and_right, cases_Bool, eq-eqb, eqb-true, ne_eqb}
 use Rattle.std.proofs.lemmas.List.Elements.{filter-append, recursion_from_All}
 use Rattle.std.proofs.lemmas.List.FromFn.{filter_of_map_range_with_len_more}
 use Rattle.std.proofs.lemmas.Map.Text.{is_eq-slice_cmp}
@@ -32,7 +32,7 @@ use Rattle.queue_tables.specs.Kept.{HasOne}
 use Rattle.queue_tables.specs.Leaving.{KeepsBehind}
 use Rattle.queue_tables.specs.Steps.{AreDistinct, AreReportsKeyed, CanTake, are_numbered, document_count_at, is_granted, is_named, is_numbered, is_piece, with_document_row, with_grants, with_pieces}
 use Rattle.queue_tables.specs.Values.{document_values, grant_values, job_values, number, piece_values, report_values}
-use Rattle.queue_tables.proofs.Documents.{row_of}
+use Rattle.queue_tables.proofs.Documents.{none_in_both, none_of_others, row_of}
 use Rattle.queue_tables.proofs.Entries.{found_rows, row_at}
 use Rattle.queue_tables.proofs.Frees.{account_in, found_account, printed_in, reserved_in}
 use Rattle.queue_tables.proofs.Numbers.{same_number}
@@ -65,20 +65,8 @@ is_that_piece n m k job doc i bytes = rw (test_number job n, test_number doc m, 
 names_grant : (batch account : List ℕ) (g : GrantRow) → is_granted batch account (grant_values g) ≡ (bytes_eq g.batch batch && (bytes_eq g.account account && true))
 names_grant batch account g = rw (test_name g.batch batch, test_name g.account account) refl
 
-first_fails : (a b : Bool) → a ≡ false → (a && b) ≡ false
-first_fails true b e = absurd cc
-first_fails false b e = refl
-
 second_fails : (a b : Bool) → b ≡ false → (a && (b && true)) ≡ false
-second_fails true true e = absurd cc
-second_fails true false e = refl
-second_fails false b e = refl
-
-third_fails : (a b c : Bool) → c ≡ false → (a && (b && (c && true))) ≡ false
-third_fails true true true e = absurd cc
-third_fails true true false e = refl
-third_fails true false c e = refl
-third_fails false b c e = refl
+second_fails a b e = and_right a (b && true) (and_left b true e)
 
 pair_fails : (a b c : Bool) → (a && (b && true)) ≡ false → (a && (b && (c && true))) ≡ false
 pair_fails true true c e = absurd cc
@@ -98,9 +86,6 @@ stricter p q less (r ∷ rs) none = elim (cases_Bool (p r)) [
   | inr fails ↦ rw (less r fails) (stricter p q less rs (rw fails at none))
 ]
 
-none_in_both : (p : Row → Bool) (rs more : List Row) → filter p rs ≡ [] → filter p more ≡ [] → filter p (rs ++ more) ≡ []
-none_in_both p rs more none none_more = filter-append p rs more ∙ ap (λ (ks : List Row). ks ++ filter p more) none ∙ none_more
-
 one_more : (p : Row → Bool) (vs : List Row) (v : Row) → filter p vs ≡ [] → p v ≡ true → HasOne p (vs ++ v ∷ [])
 one_more p vs v none passes = (v, filter-append p vs (v ∷ []) ∙ ap (λ (ks : List Row). ks ++ filter p (v ∷ [])) none ∙ rw passes refl)
 
@@ -110,13 +95,6 @@ pub one_job : (n : ℕ) (j : Job) (w : World) → AreDistinct w.jobs → job_at 
 one_job n j w distinct there = (job_values j, ap (filter (is_numbered n)) (rows_twice w.jobs) ∙ row_at n w.jobs distinct ∙ ap found_rows there)
 
 -- ---- documents with their pieces, by jobs
-
-none_of_others : (f : ℕ → List Document → List Row) (p : Row → Bool) (n : ℕ) → ((m : ℕ) (ds : List Document) → (m == n) ≡ false → filter p (f m ds) ≡ []) → (es : List Entry) → has_number n es ≡ false
-    → filter p (flat_map (λ (e : Entry). f e.row.number e.documents) es) ≡ []
-none_of_others f p n apart [] none = refl
-none_of_others f p n apart (e ∷ es) none =
-    let parts = or_parts (e.row.number == n) (has_number n es) none in
-    none_in_both p (f e.row.number e.documents) (flat_map (λ (e : Entry). f e.row.number e.documents) es) (apart e.row.number e.documents parts.0) (none_of_others f p n apart es parts.1)
 
 none_of_parts : (f : ℕ → List Document → List Row) (p : Row → Bool) (n : ℕ) → ((m : ℕ) (ds : List Document) → (m == n) ≡ false → filter p (f m ds) ≡ []) → (es : List Entry) → AreDistinct es
     → ((ds : List Document) → length ds ≡ document_count_at n es → filter p (f n ds) ≡ []) → filter p (flat_map (λ (e : Entry). f e.row.number e.documents) es) ≡ []
@@ -134,7 +112,7 @@ none_of_parts f p n apart (e ∷ es) distinct here =
 other_documents : (n k m from : ℕ) (ds : List Document) → (m == n) ≡ false → filter (are_numbered n k) (document_rows m from ds) ≡ []
 other_documents n k m from [] apart = refl
 other_documents n k m from (d ∷ ds) apart =
-    rw (numbers_document n k (row_of m from d) ∙ first_fails (m == n) ((from == k) && true) apart) (other_documents n k m (from + 1) ds apart)
+    rw (numbers_document n k (row_of m from d) ∙ and_left (m == n) ((from == k) && true) apart) (other_documents n k m (from + 1) ds apart)
 
 later_documents : (n k from : ℕ) (ds : List Document) → from + length ds ≤ k → filter (are_numbered n k) (document_rows n from ds) ≡ []
 later_documents n k from [] low = refl
@@ -146,7 +124,7 @@ other_pieces : (n k m from : ℕ) (ds : List Document) → (m == n) ≡ false �
 other_pieces n k m from [] apart = refl
 other_pieces n k m from (d ∷ ds) apart =
     none_in_both (are_numbered n k) (piece_rows m from d.bytes) (pieces_from m (from + 1) ds)
-    (none_mapped (are_numbered n k) (λ (i : ℕ). piece_values m from i (piece_at d.bytes i)) (λ i. numbers_piece n k m from i (piece_at d.bytes i) ∙ first_fails (m == n) ((from == k) && true) apart) (range_with_len 0 (pieces_in (length d.bytes))))
+    (none_mapped (are_numbered n k) (λ (i : ℕ). piece_values m from i (piece_at d.bytes i)) (λ i. numbers_piece n k m from i (piece_at d.bytes i) ∙ and_left (m == n) ((from == k) && true) apart) (range_with_len 0 (pieces_in (length d.bytes))))
     (other_pieces n k m (from + 1) ds apart)
 
 later_pieces : (n k from : ℕ) (ds : List Document) → from + length ds ≤ k → filter (are_numbered n k) (pieces_from n from ds) ≡ []
@@ -205,7 +183,7 @@ module _ (job doc : ℕ) (bytes : List ℕ) (k : ℕ) where
   lower_pieces (suc j) low =
       let f : ℕ → Row = λ i. piece_values job doc i (piece_at bytes i) in
       let other : (j == k) ≡ false = ne_eqb j k (λ same. omega (arith, low, same)) in
-      let fails : is_piece job doc k (f j) ≡ false = is_that_piece job doc k job doc j (piece_at bytes j) ∙ third_fails (job == job) (doc == doc) (j == k) other in
+      let fails : is_piece job doc k (f j) ≡ false = is_that_piece job doc k job doc j (piece_at bytes j) ∙ and_right (job == job) ((doc == doc) && ((j == k) && true)) (second_fails (doc == doc) (j == k) other) in
       let next : j + 1 ≡ suc j = omega arith in
       subst (λ i. filter (is_piece job doc k) (map f (range_with_len 0 i)) ≡ []) next
       (filter_of_map_range_with_len_more (is_piece job doc k) f 0 j j (omega arith) ∙ ap (λ (ks : List Row). ks ++ cond (is_piece job doc k (f j)) (f j ∷ []) []) (lower_pieces j (omega (arith, low))) ∙ rw fails refl)
@@ -224,11 +202,9 @@ no_value true x o none = absurd cc
 no_value false x o none = (refl, none)
 
 both_tied : (a b : Ordering) → is_eq (ordering_then a b) ≡ (is_eq a && (is_eq b && true))
-both_tied Less b = refl
 both_tied Equal Less = refl
-both_tied Equal Equal = refl
-both_tied Equal Greater = refl
-both_tied Greater b = refl
+both_tied Equal _ = refl
+both_tied _ b = refl
 
 granted_by_key : (batch account : List ℕ) (e : (List ℕ × List ℕ) × ℕ) → is_granted batch account (grant_values (grant_row e)) ≡ eq_by_cmp grant_cmp (batch, account) e.0
 granted_by_key batch account e =

@@ -32,7 +32,7 @@ use Rattle.sqlite_trees.specs.View.{is_int}
 use Rattle.queue_tables.specs.Plain.{Plain, table_of}
 use Rattle.queue_tables.proofs.PlainQueries.{plain_query, passes, shown_of}
 use Rattle.queue_tables.specs.Kept.{HasRows, replaced}
-use Rattle.queue_tables.proofs.Writing.{inserts, updates, kept_of, sorted_and_shown}
+use Rattle.queue_tables.proofs.Writing.{IsListing, inserts, updates, kept_of, sorted_and_shown}
 use Rattle.queue_tables.proofs.Permuting.{added, changed, passing, kept_is_there, replaced_none, has_at}
 
 not_taken : (b : Bool) → (not b && true) ≡ true → b ≡ false
@@ -46,6 +46,43 @@ none_permuted (x ∷ xs) h = absurd (let e = length_permutation [] (x ∷ xs) h 
 and_true : (b : Bool) → (b && true) ≡ true → b ≡ true
 and_true true e = refl
 and_true false e = absurd cc
+
+-- ---- what WHERE lets through
+
+none_mapped : (cells : Row → Row) (rs : List Row) → map cells rs ≡ [] → rs ≡ []
+none_mapped cells [] e = refl
+none_mapped cells (r ∷ rs) e = absurd cc
+
+one_mapped : (cells : Row → Row) (t : Row) (rs : List Row) → map cells rs ≡ t ∷ [] → (r : Row) × (rs ≡ r ∷ []) × (cells r ≡ t)
+one_mapped cells t (r ∷ []) e = (r, refl, cc)
+one_mapped cells t _ e = absurd cc
+
+module _ {K : Type 0} (cells : Row → Row) (values rows : List Row) (has : HasRows K cells values rows) (p q : Row → Bool) (alike : (r : Row) → p r ≡ q (cells r)) where
+  -- where no value passes, no row does
+  pub none_passing : filter q values ≡ [] → filter p rows ≡ []
+  none_passing none =
+      let found = filter p rows in
+      none_mapped cells found (none_permuted (map cells found) (subst (λ (k : List Row). IsPermutation k (map cells found)) none (passing cells values rows has p q alike)))
+
+  -- where one value passes, one row does, and shows it
+  pub one_passing : (t : Row) → filter q values ≡ t ∷ [] → (r : Row) × (filter p rows ≡ r ∷ []) × (cells r ≡ t)
+  one_passing t one =
+      let found = filter p rows in
+      one_mapped cells t found (one_permutation t (map cells found) (subst (λ (k : List Row). IsPermutation k (map cells found)) one (passing cells values rows has p q alike)))
+
+module _ (tree : ℕ) (terms project : List Term) (params : Row) (rs rows : List Row) (listed : IsListing tree terms project [] params rs rows) where
+  pub none_listed : filter (passes terms params) rs ≡ [] → rows ≡ []
+  none_listed none =
+      let only : kept_of tree terms project [] params rs ≡ [] = ap (map (sorted_and_shown [] project params)) none in
+      listed.shown ∙ ap (map (λ (p : Output). p.1)) (none_permuted listed.ordered (subst (λ (k : List Output). IsPermutation k listed.ordered) only listed.same))
+
+  pub one_listed : (was : Row) → filter (passes terms params) rs ≡ was ∷ [] → rows ≡ shown_of project params was ∷ []
+  one_listed was one =
+      let o : Output = ([], shown_of project params was) in
+      let only : kept_of tree terms project [] params rs ≡ o ∷ [] = rw one refl in
+      listed.shown ∙ ap (map (λ (p : Output). p.1)) (one_permutation o listed.ordered (subst (λ (k : List Output). IsPermutation k listed.ordered) only listed.same))
+
+-- ---- one INSERT, one UPDATE
 
 -- the table has these rows, and each other one is as it was
 pub record Left (K : Type 0) (schema : Schema) (cells : Row → Row) (tree : ℕ) (values : List Row) (old new : State) : Type 0 where
@@ -97,10 +134,7 @@ module _ (schema : Schema) (sql : List ℕ) (at : ℕ) (p : Plain) (terms projec
       let id = id_in (rowid was) in
       let keyed : rowid was ≡ Int id = int_is (rowid was) (has_at (λ (r : Row). is_int (rowid r) ≡ true) (db p.tree) was (rows.keyed tt).ints there) in
       let it = puts was id keyed like in
-      let o : Output = ([], shown_of project params was) in
-      let only : kept_of p.tree terms project [] params (db p.tree) ≡ o ∷ [] = rw alone refl in
-      let ordered = one_permutation o u.1.ordered (subst (λ (k : List Output). IsPermutation k u.1.ordered) only u.1.same) in
-      let given : u.0 ≡ (Int id ∷ put id) ∷ [] = u.1.shown ∙ ap (map (λ (p : Output). p.1)) ordered ∙ ap (λ (r : Row). r ∷ []) it.0 in
+      let given : u.0 ≡ (Int id ∷ put id) ∷ [] = one_listed p.tree terms project params (db p.tree) u.0 u.1 was alone ∙ ap (λ (r : Row). r ∷ []) it.0 in
       let rest = without_rowid id (db p.tree) in
       let fresh0 : are_fresh rest (cast_row (table_of p) (put id) ∷ []) ≡ true
       = subst (λ (rs : List Row). are_fresh (left_by db (edit_of db (table_of p) (ids_of rs) Given 1 rs)) (edit_of db (table_of p) (ids_of rs) Given 1 rs).news ≡ true) given u.2.applies.fresh in
@@ -114,18 +148,11 @@ module _ (schema : Schema) (sql : List ℕ) (at : ℕ) (p : Plain) (terms projec
         others = u.2.applies.tables;
       }
 
-  one_mapped : (t : Row) (rs : List Row) → map cells rs ≡ t ∷ [] → (r : Row) × (rs ≡ r ∷ []) × (cells r ≡ t)
-  one_mapped t [] e = absurd cc
-  one_mapped t (r ∷ []) e = (r, refl, cc)
-  one_mapped t (r ∷ s ∷ more) e = absurd cc
-
   -- UPDATE of the one row that WHERE lets through
   pub updates_row : (old new : State) (params t : Row) (put : ℤ → Row) (count : ℕ) → old.now.schema ≡ schema → ((r : Row) → passes terms params r ≡ q (cells r))
       → Puts params t put → HasRows ⊤ cells values (old.now.trees p.tree) → filter q values ≡ t ∷ [] → Executes sql params old new (Ok count) → Left ⊤ schema cells p.tree (replaced q f values) old new
   updates_row old new params t put count has alike puts rows one h =
-      let found = filter (passes terms params) (old.now.trees p.tree) in
-      let kept = one_permutation t (map cells found) (subst (λ (k : List Row). IsPermutation k (map cells found)) one (passing cells values (old.now.trees p.tree) rows (passes terms params) q alike)) in
-      let was = one_mapped t found kept in
+      let was = one_passing cells values (old.now.trees p.tree) rows (passes terms params) q alike t one in
       updates_was old new params t was.0 put count has puts rows one was.1 was.2 h
 
   -- UPDATE where WHERE lets nothing through
@@ -134,11 +161,7 @@ module _ (schema : Schema) (sql : List ℕ) (at : ℕ) (p : Plain) (terms projec
   updates_none old new params count has alike rows none h =
       let db = old.now.trees in
       let u = updates schema sql at p terms project is plain placed plainly still old new params count has h in
-      let found = filter (passes terms params) (db p.tree) in
-      let kept : map cells found ≡ [] = none_permuted (map cells found) (subst (λ (k : List Row). IsPermutation k (map cells found)) none (passing cells values (db p.tree) rows (passes terms params) q alike)) in
-      let only : kept_of p.tree terms project [] params (db p.tree) ≡ [] = ap (map (sorted_and_shown [] project params)) (none_mapped found kept) in
-      let ordered = none_permuted u.1.ordered (subst (λ (k : List Output). IsPermutation k u.1.ordered) only u.1.same) in
-      let given : u.0 ≡ [] = u.1.shown ∙ ap (map (λ (p : Output). p.1)) ordered in
+      let given : u.0 ≡ [] = none_listed p.tree terms project params (db p.tree) u.0 u.1 (none_passing cells values (db p.tree) rows (passes terms params) q alike none) in
       let after : new.now.trees p.tree ≡ db p.tree = u.2.applies.rows ∙ ap (λ (rs : List Row). edited db (edit_of db (table_of p) (ids_of rs) Given 1 rs)) given in
       record {
         schema_is = u.2.schema_is;
@@ -146,10 +169,6 @@ module _ (schema : Schema) (sql : List ℕ) (at : ℕ) (p : Plain) (terms projec
         rows = subst₂ (HasRows ⊤ cells) (sym (replaced_none q f values none)) (sym after) rows;
         others = u.2.applies.tables;
       }
-    where
-      none_mapped : (rs : List Row) → map cells rs ≡ [] → rs ≡ []
-      none_mapped [] e = refl
-      none_mapped (r ∷ rs) e = absurd cc
 
   length_numbered : (rows sources : List Row) → length (numbered Given rows sources) ≡ length sources
   length_numbered rows [] = refl

@@ -8,7 +8,7 @@ use Rattle.std.proofs.lemmas.List.Sums.{sum_by-cons}
 use Rattle.queue_types.specs.declared.event.FreeRow.{FreeRow}
 use Rattle.queue_types.specs.declared.job.Job.{Job}
 use Rattle.queue_types.specs.declared.job.Phase.{Phase}
-use Rattle.queue_types.specs.declared.job.Phase.TheVariants.{Waiting, Running, Stopped, Canceled, Aborted, Completed}
+use Rattle.queue_types.specs.declared.job.Phase.TheVariants.{Waiting, Running, Stopped}
 use Rattle.queue_types.specs.Job.{owed, estimate, is_live_in}
 use Rattle.queue_core.specs.Limits.{FitsPhase, IsSoundJob}
 use Rattle.queue_core.specs.World.{World, Entry, text_cmp}
@@ -29,9 +29,7 @@ idle_in : (p : Phase) (j : Job) (n : ℕ) → FitsPhase p j → IsTrue (j.hold |
 idle_in Waiting j n fits t = live_idle j.hold j.ended n fits.2 t
 idle_in Running j n fits t = live_idle j.hold j.ended n fits.3 t
 idle_in Stopped j n fits t = live_idle j.hold j.ended n fits.3 t
-idle_in (Canceled why) j n fits t = refl
-idle_in Aborted j n fits t = refl
-idle_in Completed j n fits t = refl
+idle_in _ j n fits t = refl
 
 idle_owes_nothing : (j : Job) → IsSoundJob j → IsIdle j → owed j ≡ 0
 idle_owes_nothing j sound idle = idle_in j.phase j (estimate j - j.count) sound.phase idle.2

@@ -1,5 +1,5 @@
 -- What one CREATE TABLE does.
-use Rattle.std.proofs.Common.{◌≡◌, ◌⊎◌, inl, inr, ℕ, List, [], false, None, Some, slice_get, Ok, Err, Result, sym, ap, subst, ◌∙◌}
+use Rattle.std.proofs.Common.{◌≡◌, ℕ, List, [], false, None, Some, slice_get, Ok, sym, ap, subst, ◌∙◌}
 use Rattle.sqlite.specs.Tree.{Trees}
 use Rattle.sqlite.specs.Table.{Table}
 use Rattle.sqlite.specs.Schema.{Schema}
@@ -14,13 +14,7 @@ use Rattle.sqlite_resolve.specs.Compile.{index_defined_by}
 use Rattle.sqlite_catalog.specs.Change.{indexed}
 use Rattle.sqlite_schema.specs.declared.schema.Index.{Index}
 use Rattle.sqlite.proofs.Callers.{IsPlain, command_of, statement_of, runs_as}
-
-went : {B E R : Type 0} {b : B} {Stops : E → Type 0} → ((stop : E) × Stops stop × (Ok b ≡ Err stop)) ⊎ R → R
-went (inl stopped) = absurd (let e = stopped.2 in cc)
-went (inr on) = on
-
-same_value : {B E : Type 0} {a b : B} → ◌≡◌ {A = Result B E} (Ok a) (Ok b) → a ≡ b
-same_value e = cc
+use Rattle.queue_tables.proofs.Writing.{same_value, went}
 
 pub record Created (schema : Schema) (table : Table) (old new : State) : Type 0 where
   pub schema_is : new.now.schema ≡ created schema table

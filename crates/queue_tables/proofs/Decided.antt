@@ -6,10 +6,10 @@ use Rattle.queue_types.specs.declared.event.Report.{Report}
 use Rattle.queue_types.specs.declared.event.Scene.{Scene}
 use Rattle.queue_types.specs.declared.job.Job.{Job}
 use Rattle.queue_types.specs.declared.job.Phase.{Phase}
-use Rattle.queue_types.specs.declared.job.Phase.TheVariants.{Waiting, Running, Stopped, Canceled, Aborted, Completed}
+use Rattle.queue_types.specs.declared.job.Phase.TheVariants.{Waiting}
 use Rattle.std.specs.List.{list_all}
 use Rattle.queue_core.specs.Book.{IsDecisionOn}
-use Rattle.queue_types.specs.Event.{Call, Decision, Event, ask, tell, grant, print_job, validate_job, create_job, send_document, cancel_job, cancel_my_jobs, hold_job, release_job, get_job_attributes, get_jobs, get_printer_attributes}
+use Rattle.queue_types.specs.Event.{Call, Decision, Event, ask, tell, grant, print_job, validate_job, create_job, send_document, cancel_job, cancel_my_jobs, hold_job, release_job, get_job_attributes}
 use Rattle.queue_core.specs.Grants.{Taken, all_taken, none_taken, take_rows}
 use Rattle.queue_core.specs.Machine.{accepted_where, call_row, decision, grant_row, hold_in, new_refusal, of_own, release_in, report_row, unless_refused, cancel_row, cancel_my_jobs_row, send_in, let_print, all_canceled, are_there, refused, answered, is_cancelable}
 use Rattle.queue_core.specs.Reports.{reported}
@@ -34,19 +34,11 @@ silent_own caller row (j ∷ js) p = silent_if (bytes_eq j.owner caller) (row j)
 
 silent_hold : (p : Phase) (s : Scene) (j : Job) → IsSilent (hold_in p s j)
 silent_hold Waiting s j = refl
-silent_hold Running s j = refl
-silent_hold Stopped s j = refl
-silent_hold (Canceled why) s j = refl
-silent_hold Aborted s j = refl
-silent_hold Completed s j = refl
+silent_hold _ s j = refl
 
 silent_release : (p : Phase) (s : Scene) (j : Job) → IsSilent (release_in p s j)
 silent_release Waiting s j = silent_if j.hold (let_print s j) _ (silent_if _ _ _ refl refl) refl
-silent_release Running s j = refl
-silent_release Stopped s j = refl
-silent_release (Canceled why) s j = refl
-silent_release Aborted s j = refl
-silent_release Completed s j = refl
+silent_release _ s j = refl
 
 silent_my_jobs : (s : Scene) (now : ℕ) (numbers : Option (List ℕ)) → IsSilent (cancel_my_jobs_row s now numbers)
 silent_my_jobs s now (Some numbers) =
@@ -59,13 +51,12 @@ silent_call s now caller (print_job j format payload) = silent_unless (new_refus
 silent_call s now caller (validate_job j) = silent_unless (new_refusal s) _ refl
 silent_call s now caller (create_job j) = silent_unless (new_refusal s) _ refl
 silent_call s now caller (send_document n format payload last) = silent_own caller (λ j. send_in s j format payload last) s.jobs (λ j. silent_if _ _ _ refl refl)
-silent_call s now caller (get_jobs which limit) = refl
-silent_call s now caller get_printer_attributes = refl
 silent_call s now caller (cancel_job n) = silent_own caller (λ j. cancel_row s now j) s.jobs (λ j. silent_if _ _ _ refl refl)
 silent_call s now caller (cancel_my_jobs numbers) = silent_my_jobs s now numbers
 silent_call s now caller (hold_job n) = silent_own caller (λ j. hold_in j.phase s j) s.jobs (λ j. silent_hold j.phase s j)
 silent_call s now caller (release_job n) = silent_own caller (λ j. release_in j.phase s j) s.jobs (λ j. silent_release j.phase s j)
 silent_call s now caller (get_job_attributes n) = silent_own caller (λ j. answered _) s.jobs (λ j. refl)
+silent_call s now caller _ = refl
 
 silent_grant : (t : Taken) → IsSilent (grant_row t)
 silent_grant (all_taken new free repeats) = refl

@@ -1,5 +1,5 @@
 -- One more document of a job.
-use Rattle.std.proofs.Common.{◌≡◌, inl, inr, ℕ, pos, ◌+◌, List, [], ◌∷◌, ◌++◌, map, filter, length, flat_map, fold, ◌≤◌, true, false, ◌==◌, Option, Some, None, refl, sym, ap, subst, subst₂, ◌∙◌, arith}
+use Rattle.std.proofs.Common.{◌≡◌, inl, inr, ℕ, pos, ◌+◌, List, [], ◌∷◌, ◌++◌, map, filter, length, flat_map, fold, ◌≤◌, Bool, true, false, ◌==◌, Option, Some, None, refl, sym, ap, subst, subst₂, ◌∙◌, arith}
 use Rattle.std.specs.FinMap.{entries}
 use Rattle.std.proofs.Common.{sum_by, ℤ}
 use Rattle.queue_types.specs.Job.{owed}
@@ -35,25 +35,35 @@ use Rattle.queue_tables.proofs.Statements.{select_octets, select_octets_is}
 abbrev pub row_of : ℕ → ℕ → Document → DocumentRow
 row_of job doc d = record { job = job; doc = doc; format = d.format; octets = length d.bytes }
 
-all_of_job : (n m from : ℕ) (ds : List Document) → (m == n) ≡ true → length (filter (is_numbered n) (document_rows m from ds)) ≡ length ds
+pub all_of_job : (n m from : ℕ) (ds : List Document) → (m == n) ≡ true → filter (is_numbered n) (document_rows m from ds) ≡ document_rows m from ds
 all_of_job n m from [] same = refl
-all_of_job n m from (d ∷ ds) same = let more = all_of_job n m (from + 1) ds same in rw (numbered_document n (row_of m from d) ∙ same) (omega (arith, more))
+all_of_job n m from (d ∷ ds) same = rw (numbered_document n (row_of m from d) ∙ same) (ap (λ (rs : List Row). document_values (row_of m from d) ∷ rs) (all_of_job n m (from + 1) ds same))
 
-none_of_job : (n m from : ℕ) (ds : List Document) → (m == n) ≡ false → filter (is_numbered n) (document_rows m from ds) ≡ []
+pub count_rows : (job from : ℕ) (ds : List Document) → length (document_rows job from ds) ≡ length ds
+count_rows job from [] = refl
+count_rows job from (d ∷ ds) = let more = count_rows job (from + 1) ds in omega (arith, more)
+
+pub none_of_job : (n m from : ℕ) (ds : List Document) → (m == n) ≡ false → filter (is_numbered n) (document_rows m from ds) ≡ []
 none_of_job n m from [] apart = refl
 none_of_job n m from (d ∷ ds) apart = rw (numbered_document n (row_of m from d) ∙ apart) (none_of_job n m (from + 1) ds apart)
+
+pub none_in_both : (p : Row → Bool) (rs more : List Row) → filter p rs ≡ [] → filter p more ≡ [] → filter p (rs ++ more) ≡ []
+none_in_both p rs more none none_more = filter-append p rs more ∙ ap (λ (ks : List Row). ks ++ filter p more) none ∙ none_more
+
+-- what is made of other jobs' documents doesn't pass
+pub none_of_others : (f : ℕ → List Document → List Row) (p : Row → Bool) (n : ℕ) → ((m : ℕ) (ds : List Document) → (m == n) ≡ false → filter p (f m ds) ≡ []) → (es : List Entry) → has_number n es ≡ false
+    → filter p (flat_map (λ (e : Entry). f e.row.number e.documents) es) ≡ []
+none_of_others f p n apart [] none = refl
+none_of_others f p n apart (e ∷ es) none =
+    let parts = or_parts (e.row.number == n) (has_number n es) none in
+    none_in_both p (f e.row.number e.documents) (flat_map (λ (e : Entry). f e.row.number e.documents) es) (apart e.row.number e.documents parts.0) (none_of_others f p n apart es parts.1)
 
 -- the rows of all documents
 abbrev pub all_documents : List Entry → List Row
 all_documents es = flat_map (λ (e : Entry). document_rows e.row.number 1 e.documents) es
 
-no_rows : (n : ℕ) (es : List Entry) → has_number n es ≡ false → filter (is_numbered n) (all_documents es) ≡ []
-no_rows n [] none = refl
-no_rows n (e ∷ es) none =
-    let parts = or_parts (e.row.number == n) (has_number n es) none in
-    filter-append (is_numbered n) (document_rows e.row.number 1 e.documents) (all_documents es)
-    ∙ ap (λ (rs : List Row). rs ++ filter (is_numbered n) (all_documents es)) (none_of_job n e.row.number 1 e.documents parts.0)
-    ∙ no_rows n es parts.1
+pub no_rows : (n : ℕ) (es : List Entry) → has_number n es ≡ false → filter (is_numbered n) (all_documents es) ≡ []
+no_rows n = none_of_others (λ m ds. document_rows m 1 ds) (is_numbered n) n (λ m ds apart. none_of_job n m 1 ds apart)
 
 pub document_count : (n : ℕ) (es : List Entry) → AreDistinct es → length (filter (is_numbered n) (all_documents es)) ≡ document_count_at n es
 document_count n [] d = refl
@@ -62,7 +72,7 @@ document_count n (e ∷ es) d = elim (cases_Bool (e.row.number == n)) [
       let rest = no_rows n es (subst (λ m. has_number m es ≡ false) (eqb-true e.row.number n same) d.0) in
       let split : filter (is_numbered n) (all_documents (e ∷ es)) ≡ filter (is_numbered n) (document_rows e.row.number 1 e.documents)
       = filter-append (is_numbered n) (document_rows e.row.number 1 e.documents) (all_documents es) ∙ ap (λ (rs : List Row). filter (is_numbered n) (document_rows e.row.number 1 e.documents) ++ rs) rest ∙ append-nil _ in
-      rw same (ap (length {A = Row}) split ∙ all_of_job n e.row.number 1 e.documents same)
+      rw same (ap (length {A = Row}) (split ∙ all_of_job n e.row.number 1 e.documents same) ∙ count_rows e.row.number 1 e.documents)
   | inr apart ↦
       let split : filter (is_numbered n) (all_documents (e ∷ es)) ≡ filter (is_numbered n) (all_documents es)
       = filter-append (is_numbered n) (document_rows e.row.number 1 e.documents) (all_documents es) ∙ ap (λ (rs : List Row). rs ++ filter (is_numbered n) (all_documents es)) (none_of_job n e.row.number 1 e.documents apart) in

@@ -13,6 +13,7 @@ use Rattle.sqlite.specs.Held.{Held, state}
 use Rattle.queue_tables.specs.Content.{Content, Holds, HasContent}
 use Rattle.queue_tables.specs.declared.fault.Fault.{Fault}
 use Rattle.queue_tables.specs.declared.fault.Fault.TheVariants.{Damaged}
+use Rattle.std.proofs.lemmas.Result.{on_ok_weaker}
 pub use Rattle.std.proofs.lemmas.Result.{IfOk-weaker as if_ok}
 
 -- a database with the same schema and rows has the same content
@@ -29,8 +30,7 @@ pub committed_holds : (c : Content) (old new : State) (mode : Bool) → Holds c 
 committed_holds c old new mode h s = same_holds c old new h s.now_is s.is_open
 
 pub on_ok : {A E : Type 0} (r : Result A E) (P Q : Type 0) → (P → Q) → OnOk r P → OnOk r Q
-on_ok (Ok x) P Q then_q p = then_q p
-on_ok (Err e) P Q then_q p = tt
+on_ok r P Q = on_ok_weaker r
 
 -- BEGIN changes no row
 pub begun_holds : {S : Type 0} (g : Ghosts S) (c : Content) (h : Held S) (new : Held S) → new ≡ record h { in_transaction = true } → Holds c (state g h) → Holds c (state g new)

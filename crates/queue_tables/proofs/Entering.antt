@@ -1,7 +1,6 @@
 -- A new row that is alike to none, and whose parents are there, enters its table.
-use Rattle.std.proofs.Common.{◌≡◌, ℕ, ◌/◌, List, [], ◌∷◌, map, filter, length, slice_get, Bool, true, false, not, ◌&&◌, ◌==◌, Some, Err, inl, refl, subst}
+use Rattle.std.proofs.Common.{◌≡◌, ℕ, ◌/◌, List, [], ◌∷◌, filter, length, slice_get, Bool, true, false, not, ◌&&◌, ◌==◌, Some, Err, inl, refl, sym, subst}
 use Rattle.std.specs.List.{list_all, list_any}
-use Rattle.std.specs.List.Sorted.{IsPermutation}
 use Rattle.std.proofs.lemmas.Bool.{and_parts, not-true, false_from_ne_true, eqb-false}
 use Rattle.sqlite.specs.declared.types.Value.{Value}
 use Rattle.sqlite.specs.Order.{Row}
@@ -15,7 +14,7 @@ use Rattle.sqlite.specs.Command.TheVariants.{Insert}
 use Rattle.sqlite.specs.Effect.{value_rows}
 use Rattle.sqlite.specs.Listing.{understood}
 use Rattle.sqlite.specs.State.{State, ExecutesInside}
-use Rattle.sqlite.proofs.Callers.{IsPlain, command_of, one_permutation}
+use Rattle.sqlite.proofs.Callers.{IsPlain, command_of}
 use Rattle.sqlite_trees.specs.Tree.{IsAscending}
 use Rattle.sqlite_schema.specs.declared.schema.Constraint.{Constraint}
 use Rattle.sqlite_schema.specs.declared.schema.Constraint.TheVariants.{PrimaryKey}
@@ -29,8 +28,7 @@ use Rattle.queue_tables.specs.Plain.{Plain, table_of}
 use Rattle.queue_tables.specs.Tables.{book_schema}
 use Rattle.queue_tables.specs.Kept.{HasRows, HasOne}
 use Rattle.queue_tables.specs.Content.{Content, Holds}
-use Rattle.queue_tables.proofs.Permuting.{passing}
-use Rattle.queue_tables.proofs.Changing.{none_permuted}
+use Rattle.queue_tables.proofs.Changing.{none_passing, one_passing}
 use Rattle.queue_tables.proofs.Refused.{told, insert_refused, IsRefusedWrite}
 use Rattle.queue_tables.proofs.Allowed.{CanEnter, never_refused}
 
@@ -52,28 +50,17 @@ book_apart = apart_by book_schema.tables refl
 -- ---- rows by what they show
 
 module _ {K : Type 0} (cells : Row → Row) (values rows : List Row) (has : HasRows K cells values rows) (q test : Row → Bool) (alike : (r : Row) → test r ≡ q (cells r)) where
-  none_mapped : (rs : List Row) → map cells rs ≡ [] → rs ≡ []
-  none_mapped [] e = refl
-  none_mapped (r ∷ rs) e = absurd cc
-
-  some_mapped : (v : Row) (rs : List Row) → map cells rs ≡ v ∷ [] → (r : Row) × Has rs r
-  some_mapped v [] e = absurd cc
-  some_mapped v (r ∷ rs) e = (r, inl refl)
-
   -- no value passes, so no row does
   pub none_like : filter q values ≡ [] → list_any test rows ≡ false
   none_like none =
-      let found = filter test rows in
-      let kept : found ≡ [] = none_mapped found (none_permuted (map cells found) (subst (λ (k : List Row). IsPermutation k (map cells found)) none (passing cells values rows has test q alike))) in
+      let kept = none_passing cells values rows has test q alike none in
       false_from_ne_true _ (λ some. let it = some_has test rows some in subst (λ (rs : List Row). Has rs it.0) kept (has_kept test rows it.0 it.1 it.2))
 
   -- a value passes, so some row does
   pub one_like : HasOne q values → list_any test rows ≡ true
   one_like one =
-      let found = filter test rows in
-      let shown = one_permutation one.0 (map cells found) (subst (λ (k : List Row). IsPermutation k (map cells found)) one.1 (passing cells values rows has test q alike)) in
-      let it = some_mapped one.0 found shown in
-      let there = has_filtered test rows it.0 it.1 in
+      let it = one_passing cells values rows has test q alike one.0 one.1 in
+      let there = has_filtered test rows it.0 (subst (λ (rs : List Row). Has rs it.0) (sym it.1) (inl refl)) in
       some_from test rows it.0 there.0 there.1
 
 -- ---- an INSERT of a row that can enter is not refused

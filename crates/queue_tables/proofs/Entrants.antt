@@ -41,7 +41,7 @@ use Rattle.queue_tables.proofs.Statements.{insert_job_text, insert_job_terms, in
 
 -- ---- jobs, whose number is the rowid
 
-moment_is : (o : Option ℕ) → is_of Integer (moment o) ≡ true
+pub moment_is : (o : Option ℕ) → is_of Integer (moment o) ≡ true
 moment_is None = refl
 moment_is (Some n) = refl
 

@@ -1,11 +1,12 @@
 -- The accounts with their free pages, and the next number.
-use Rattle.std.proofs.Common.{◌≡◌, inl, inr, ℕ, ℤ, pos, ◌+◌, ◌<◌, List, [], ◌∷◌, ◌++◌, map, filter, length, fold, take, get_or, true, Option, Some, None, Ok, refl, sym, ap, subst, ◌∙◌, arith}
+use Rattle.std.proofs.Common.{◌≡◌, inl, inr, ℕ, ℤ, pos, ◌+◌, ◌<◌, List, [], ◌∷◌, ◌++◌, map, filter, length, fold, take, get_or, true, Option, Some, None, Ok, refl, sym, ap, subst, ◌∙◌}
 use Rattle.std.specs.FinMap.{FinMap, entries, get, get-entries, insert, entries_sorted, find, is_sorted}
 use Rattle.std.specs.FinMap.Entries.{below_all}
 use Rattle.std.specs.Cmp.Lexicographic.{nat_list_cmp_total}
 use Rattle.std.proofs.Common.{T, bytes_eq}
 use Rattle.std.proofs.lemmas.Bool.{cases_Bool}
 use Rattle.std.proofs.lemmas.Map.Text.{is_eq-slice_cmp}
+use Rattle.std.proofs.lemmas.List.{nil_from_length}
 use Rattle.std.proofs.lemmas.List.Sums.{fold_more}
 use Rattle.std.specs.List.Sorted.{IsPermutation}
 use Rattle.sqlite.specs.declared.types.Value.{Value}
@@ -67,10 +68,6 @@ pub account_in : (w : World) (name : List ℕ) → filter (is_named name) (conte
 account_in w name =
     account_at name (reserved_in w) (printed_in w) (entries w.free) (entries_sorted w.free) ∙ ap (found_account name (reserved_in w) (printed_in w)) (sym (get-entries w.free name))
 
-empty : {X : Type 0} (xs : List X) → length xs ≡ 0 → xs ≡ []
-empty [] e = refl
-empty (x ∷ xs) e = absurd (omega (arith, e))
-
 lacks : (name : List ℕ) (r p : List ℕ → ℤ) (o : Option ℤ) → found_account name r p o ≡ [] → o ≡ None
 lacks name r p None e = refl
 lacks name r p (Some free) e = absurd cc
@@ -94,7 +91,7 @@ pub lacks_free : (old new : State) (name : List ℕ) (free : ℤ) (count : ℕ) 
     → ExecutesInside 0 update_free_text (free_params name free) old new (Ok count) → (get w.free name ≡ None) × Holds (content_of w) new
 lacks_free old new name free count w has zero h =
     let c = content_of w in
-    let none : filter (is_named name) c.accounts ≡ [] = empty _ (sym (counts_frees old new name free count c has h) ∙ zero) in (
+    let none : filter (is_named name) c.accounts ≡ [] = nil_from_length _ (sym (counts_frees old new name free count c has h) ∙ zero) in (
       lacks name (reserved_in w) (printed_in w) (get w.free name) (sym (account_in w name) ∙ none),
       subst (λ (vs : List Row). Holds (record c { accounts = vs }) new) (replaced_none (is_named name) (free_put free) c.accounts none) (misses_free_row old new name free count c has none h),
     )

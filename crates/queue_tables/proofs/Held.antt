@@ -1,7 +1,8 @@
 -- One table is written, and the others are as they were.
-use Rattle.std.proofs.Common.{◌≡◌, List, IsTrue, sym, subst, arith}
+use Rattle.std.proofs.Common.{◌≡◌, ◌≢◌, ◌==◌, ◌||◌, if◌then◌else◌, ℕ, inl, inr, List, IsTrue, sym, subst}
 use Rattle.std.specs.List.Sorted.{IsPermutation}
-use Rattle.std.specs.Prelude.{⊤}
+use Rattle.std.specs.Prelude.{⊤, T}
+use Rattle.std.proofs.lemmas.Bool.{cases_Bool, eqb-false, eqb-true}
 use Rattle.std.proofs.lemmas.List.Sorted.{IsPermutation-refl, IsPermutation-sym, IsPermutation-trans, IsPermutation-to_front}
 use Rattle.std.proofs.Common.{map, [], ◌∷◌, ◌++◌}
 use Rattle.sqlite.specs.Order.{Row}
@@ -15,117 +16,73 @@ use Rattle.queue_tables.proofs.Changing.{Left}
 moved : {K : Type 0} {view : Row → Row} {values a b : List Row} → b ≡ a → HasRows K view values a → HasRows K view values b
 moved {K} {view} {values} e h = subst (HasRows K view values) (sym e) h
 
-pub holds_meta : (c : Content) (values : List Row) (old new : State) → Holds c old → Left ⊤ book_schema meta_view 0 values old new → IsTrue new.is_open → Holds (record c { meta = values }) new
-holds_meta c values old new has l is_open = record {
-  schema = l.schema_is;
-  sound = l.sound;
-  rows = record {
-    meta = l.rows;
-    jobs = moved (l.others.1.0 (λ e. omega (arith, e))) has.rows.jobs;
-    documents = moved (l.others.1.1.0 (λ e. omega (arith, e))) has.rows.documents;
-    pieces = moved (l.others.1.1.1.0 (λ e. omega (arith, e))) has.rows.pieces;
-    accounts = moved (l.others.1.1.1.1.0 (λ e. omega (arith, e))) has.rows.accounts;
-    grants = moved (l.others.1.1.1.1.1.0 (λ e. omega (arith, e))) has.rows.grants;
-    reports = moved (l.others.1.1.1.1.1.1.0 (λ e. omega (arith, e))) has.rows.reports;
-  };
-  live = is_open;
+-- ---- the table in a tree
+
+-- whether rows of it are put anew, which their rowids tell apart
+abbrev keyed : ℕ → Type 0
+keyed t = T (t == 0 || (t == 1 || t == 6))
+
+abbrev view_of : ℕ → Row → Row
+view_of t =
+    if t == 0 then meta_view else (if t == 1 then job_view else (if t == 2 then document_view else (if t == 4 then piece_view else (if t == 6 then account_view else (if t == 8 then grant_view else report_view)))))
+
+abbrev with_table : ℕ → List Row → Content → Content
+with_table t values c = record {
+  meta = if t == 0 then values else c.meta;
+  jobs = if t == 1 then values else c.jobs;
+  documents = if t == 2 then values else c.documents;
+  pieces = if t == 4 then values else c.pieces;
+  accounts = if t == 6 then values else c.accounts;
+  grants = if t == 8 then values else c.grants;
+  reports = if t == 10 then values else c.reports;
 }
+
+module _ (tree : ℕ) (c : Content) (values : List Row) (old new : State) (has : Holds c old) (l : Left (keyed tree) book_schema (view_of tree) tree values old new) where
+  one_table : (t : ℕ) (had : List Row) → (t ≢ tree → new.now.trees t ≡ old.now.trees t) → HasRows (keyed t) (view_of t) had (old.now.trees t)
+      → HasRows (keyed t) (view_of t) (if tree == t then values else had) (new.now.trees t)
+  one_table t had others rows = elim (cases_Bool (tree == t)) [
+    | inl same ↦ rw same (subst (λ (k : ℕ). HasRows (keyed k) (view_of k) values (new.now.trees k)) (eqb-true tree t same) l.rows)
+    | inr apart ↦ rw apart (moved (others (λ e. eqb-false tree t apart (sym e))) rows)
+  ]
+
+  holds_table : IsTrue new.is_open → Holds (with_table tree values c) new
+  holds_table is_open = record {
+    schema = l.schema_is;
+    sound = l.sound;
+    rows = record {
+      meta = one_table 0 c.meta l.others.0 has.rows.meta;
+      jobs = one_table 1 c.jobs l.others.1.0 has.rows.jobs;
+      documents = one_table 2 c.documents l.others.1.1.0 has.rows.documents;
+      pieces = one_table 4 c.pieces l.others.1.1.1.0 has.rows.pieces;
+      accounts = one_table 6 c.accounts l.others.1.1.1.1.0 has.rows.accounts;
+      grants = one_table 8 c.grants l.others.1.1.1.1.1.0 has.rows.grants;
+      reports = one_table 10 c.reports l.others.1.1.1.1.1.1.0 has.rows.reports;
+    };
+    live = is_open;
+  }
+
+-- ---- each of the tables
+
+pub holds_meta : (c : Content) (values : List Row) (old new : State) → Holds c old → Left ⊤ book_schema meta_view 0 values old new → IsTrue new.is_open → Holds (record c { meta = values }) new
+holds_meta = holds_table 0
 
 pub holds_jobs : (c : Content) (values : List Row) (old new : State) → Holds c old → Left ⊤ book_schema job_view 1 values old new → IsTrue new.is_open → Holds (record c { jobs = values }) new
-holds_jobs c values old new has l is_open = record {
-  schema = l.schema_is;
-  sound = l.sound;
-  rows = record {
-    meta = moved (l.others.0 (λ e. omega (arith, e))) has.rows.meta;
-    jobs = l.rows;
-    documents = moved (l.others.1.1.0 (λ e. omega (arith, e))) has.rows.documents;
-    pieces = moved (l.others.1.1.1.0 (λ e. omega (arith, e))) has.rows.pieces;
-    accounts = moved (l.others.1.1.1.1.0 (λ e. omega (arith, e))) has.rows.accounts;
-    grants = moved (l.others.1.1.1.1.1.0 (λ e. omega (arith, e))) has.rows.grants;
-    reports = moved (l.others.1.1.1.1.1.1.0 (λ e. omega (arith, e))) has.rows.reports;
-  };
-  live = is_open;
-}
+holds_jobs = holds_table 1
 
 pub holds_documents : (c : Content) (values : List Row) (old new : State) → Holds c old → Left ⊥ book_schema document_view 2 values old new → IsTrue new.is_open → Holds (record c { documents = values }) new
-holds_documents c values old new has l is_open = record {
-  schema = l.schema_is;
-  sound = l.sound;
-  rows = record {
-    meta = moved (l.others.0 (λ e. omega (arith, e))) has.rows.meta;
-    jobs = moved (l.others.1.0 (λ e. omega (arith, e))) has.rows.jobs;
-    documents = l.rows;
-    pieces = moved (l.others.1.1.1.0 (λ e. omega (arith, e))) has.rows.pieces;
-    accounts = moved (l.others.1.1.1.1.0 (λ e. omega (arith, e))) has.rows.accounts;
-    grants = moved (l.others.1.1.1.1.1.0 (λ e. omega (arith, e))) has.rows.grants;
-    reports = moved (l.others.1.1.1.1.1.1.0 (λ e. omega (arith, e))) has.rows.reports;
-  };
-  live = is_open;
-}
+holds_documents = holds_table 2
 
 pub holds_pieces : (c : Content) (values : List Row) (old new : State) → Holds c old → Left ⊥ book_schema piece_view 4 values old new → IsTrue new.is_open → Holds (record c { pieces = values }) new
-holds_pieces c values old new has l is_open = record {
-  schema = l.schema_is;
-  sound = l.sound;
-  rows = record {
-    meta = moved (l.others.0 (λ e. omega (arith, e))) has.rows.meta;
-    jobs = moved (l.others.1.0 (λ e. omega (arith, e))) has.rows.jobs;
-    documents = moved (l.others.1.1.0 (λ e. omega (arith, e))) has.rows.documents;
-    pieces = l.rows;
-    accounts = moved (l.others.1.1.1.1.0 (λ e. omega (arith, e))) has.rows.accounts;
-    grants = moved (l.others.1.1.1.1.1.0 (λ e. omega (arith, e))) has.rows.grants;
-    reports = moved (l.others.1.1.1.1.1.1.0 (λ e. omega (arith, e))) has.rows.reports;
-  };
-  live = is_open;
-}
+holds_pieces = holds_table 4
 
 pub holds_accounts : (c : Content) (values : List Row) (old new : State) → Holds c old → Left ⊤ book_schema account_view 6 values old new → IsTrue new.is_open → Holds (record c { accounts = values }) new
-holds_accounts c values old new has l is_open = record {
-  schema = l.schema_is;
-  sound = l.sound;
-  rows = record {
-    meta = moved (l.others.0 (λ e. omega (arith, e))) has.rows.meta;
-    jobs = moved (l.others.1.0 (λ e. omega (arith, e))) has.rows.jobs;
-    documents = moved (l.others.1.1.0 (λ e. omega (arith, e))) has.rows.documents;
-    pieces = moved (l.others.1.1.1.0 (λ e. omega (arith, e))) has.rows.pieces;
-    accounts = l.rows;
-    grants = moved (l.others.1.1.1.1.1.0 (λ e. omega (arith, e))) has.rows.grants;
-    reports = moved (l.others.1.1.1.1.1.1.0 (λ e. omega (arith, e))) has.rows.reports;
-  };
-  live = is_open;
-}
+holds_accounts = holds_table 6
 
 pub holds_grants : (c : Content) (values : List Row) (old new : State) → Holds c old → Left ⊥ book_schema grant_view 8 values old new → IsTrue new.is_open → Holds (record c { grants = values }) new
-holds_grants c values old new has l is_open = record {
-  schema = l.schema_is;
-  sound = l.sound;
-  rows = record {
-    meta = moved (l.others.0 (λ e. omega (arith, e))) has.rows.meta;
-    jobs = moved (l.others.1.0 (λ e. omega (arith, e))) has.rows.jobs;
-    documents = moved (l.others.1.1.0 (λ e. omega (arith, e))) has.rows.documents;
-    pieces = moved (l.others.1.1.1.0 (λ e. omega (arith, e))) has.rows.pieces;
-    accounts = moved (l.others.1.1.1.1.0 (λ e. omega (arith, e))) has.rows.accounts;
-    grants = l.rows;
-    reports = moved (l.others.1.1.1.1.1.1.0 (λ e. omega (arith, e))) has.rows.reports;
-  };
-  live = is_open;
-}
+holds_grants = holds_table 8
 
 pub holds_reports : (c : Content) (values : List Row) (old new : State) → Holds c old → Left ⊥ book_schema report_view 10 values old new → IsTrue new.is_open → Holds (record c { reports = values }) new
-holds_reports c values old new has l is_open = record {
-  schema = l.schema_is;
-  sound = l.sound;
-  rows = record {
-    meta = moved (l.others.0 (λ e. omega (arith, e))) has.rows.meta;
-    jobs = moved (l.others.1.0 (λ e. omega (arith, e))) has.rows.jobs;
-    documents = moved (l.others.1.1.0 (λ e. omega (arith, e))) has.rows.documents;
-    pieces = moved (l.others.1.1.1.0 (λ e. omega (arith, e))) has.rows.pieces;
-    accounts = moved (l.others.1.1.1.1.0 (λ e. omega (arith, e))) has.rows.accounts;
-    grants = moved (l.others.1.1.1.1.1.0 (λ e. omega (arith, e))) has.rows.grants;
-    reports = l.rows;
-  };
-  live = is_open;
-}
+holds_reports = holds_table 10
 
 -- ---- contents that are alike
 

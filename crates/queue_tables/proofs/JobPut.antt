@@ -1,12 +1,12 @@
 -- What the UPDATE and the SELECT of one job do.
 use Rattle.std.proofs.Common.{◌≡◌, ℕ, ℤ, List, [], ◌∷◌, map, filter, drop, length, Bool, Ok, Option, None, Some, refl, sym, ap, subst, ◌∙◌, option_map, slice_get}
 use Rattle.std.specs.List.Sorted.{IsPermutation}
+use Rattle.std.proofs.lemmas.List.{map-id}
 use Rattle.sqlite.specs.declared.types.Value.{Value}
 use Rattle.sqlite.specs.declared.types.Value.TheVariants.{Int, Text as Words}
 use Rattle.sqlite.specs.Order.{Row, column}
 use Rattle.sqlite.specs.Tree.{rowid}
 use Rattle.sqlite.specs.State.{State, ExecutesInside, Shown}
-use Rattle.sqlite.proofs.Callers.{one_permutation}
 use Rattle.queue_types.specs.declared.job.Job.{Job}
 use Rattle.queue_types.specs.declared.job.Phase.{Phase}
 use Rattle.queue_core.specs.World.{World, rows, job_at}
@@ -18,7 +18,8 @@ use Rattle.queue_tables.specs.Steps.{AreDistinct, bare, is_numbered, with_job_an
 use Rattle.queue_tables.proofs.Statements.{update_job_text, update_job_terms, update_job_where, update_job_is, jobs_still, select_job, select_job_is}
 use Rattle.queue_tables.proofs.Rows.{job_stored, cast_job}
 use Rattle.queue_tables.proofs.Held.{holds_jobs}
-use Rattle.queue_tables.proofs.Changing.{updates_row, none_permuted}
+use Rattle.queue_tables.proofs.Changing.{updates_row}
+use Rattle.queue_tables.proofs.Firsts.{exactly, first_none, first_some}
 use Rattle.queue_tables.proofs.Showing.{shows_all, rows_keep}
 use Rattle.queue_tables.proofs.Ending.{unchanged_holds}
 use Rattle.queue_tables.proofs.Entries.{row_at, found_rows}
@@ -50,16 +51,13 @@ reads_job old new n shown_rows c has h = (
   unchanged_holds c old new has (rows_keep select_job select_job_is old new (number n ∷ []) shown_rows has.schema h),
 )
 
-exactly : (o : Option Job) (rs : List Row) → IsPermutation (map (λ (v : Row). v) (found_rows o)) rs → rs ≡ found_rows o
-exactly None rs p = none_permuted rs p
-exactly (Some j) rs p = one_permutation (job_values j) rs p
-
 -- the job of that number, or no row
 pub reads_job_at : (old new : State) (n : ℕ) (shown_rows : List Row) (w : World) → AreDistinct w.jobs → Holds (content_of w) old → Shown select_job.text (number n ∷ []) old new shown_rows
     → (shown_rows ≡ found_rows (job_at n (rows w))) × Holds (content_of w) new
 reads_job_at old new n shown_rows w d has h =
     let it = reads_job old new n shown_rows (content_of w) has h in
-    (exactly (job_at n (rows w)) shown_rows (subst (λ (k : List Row). IsPermutation (map (λ (v : Row). v) k) shown_rows) (ap (filter (is_numbered n)) (rows_twice w.jobs) ∙ row_at n w.jobs d) it.0), it.1)
+    let only = map-id (filter (is_numbered n) (content_of w).jobs) ∙ ap (filter (is_numbered n)) (rows_twice w.jobs) ∙ row_at n w.jobs d in
+    (exactly job_values (job_at n (rows w)) shown_rows (subst (λ (k : List Row). IsPermutation k shown_rows) only it.0), it.1)
 
 -- ---- the job that was read
 
@@ -95,17 +93,14 @@ same_job phases flags j k e documents octets =
     λ x. record { number = n x; owner = o x; name = m x; copies = c x; impressions = i x; hold = h x; incoming = inc x; phase = p x; stopping = s x; count = t x; created = r x; begun = b x; ended = d x; documents = documents x; octets = octets x }
 
 pub found_none : (rs : List Row) (o : Option Job) → slice_get rs 0 ≡ None → rs ≡ found_rows o → None ≡ option_map bare o
-found_none rs None none is = refl
-found_none rs (Some j) none is = absurd (let e : ◌≡◌ {A = Option Row} (Some (job_values j)) None = subst (λ (k : List Row). slice_get k 0 ≡ None) is none in cc)
+found_none rs o none is = sym (ap (option_map bare) (first_none job_values rs o none is))
 
 pub found_some : ((p q : Phase) → phase_number p ≡ phase_number q → why_number p ≡ why_number q → p ≡ q) → ((a b : Bool) → flag_number a ≡ flag_number b → a ≡ b)
     → (rs : List Row) (row : Row) (j : Job) (o : Option Job) → slice_get rs 0 ≡ Some row → (length row ≡ 14 → row ≡ job_values j) → (j.documents ≡ 0) × (j.octets ≡ 0) → rs ≡ found_rows o → Some j ≡ option_map bare o
-found_some phases flags rs row j None some reads plain is = absurd (let e : ◌≡◌ {A = Option Row} None (Some row) = subst (λ (k : List Row). slice_get k 0 ≡ Some row) is some in cc)
-found_some phases flags rs row j (Some k) some reads plain is =
-    let first : ◌≡◌ {A = Option Row} (Some (job_values k)) (Some row) = subst (λ (l : List Row). slice_get l 0 ≡ Some row) is some in
-    let same : row ≡ job_values k = sym (let q : job_values k ≡ row = cc in q) in
-    let read : row ≡ job_values j = reads (ap (length {A = Value}) same) in
-    ap (λ (x : Job). Some x) (same_job phases flags j k (sym read ∙ same) plain.0 plain.1)
+found_some phases flags rs row j o some reads plain is =
+    let it = first_some job_values rs row o some is in
+    let read : row ≡ job_values j = reads (ap (length {A = Value}) it.2) in
+    ap (λ (x : Job). Some x) (same_job phases flags j it.0 (sym read ∙ it.2) plain.0 plain.1) ∙ sym (ap (option_map bare) it.1)
 
 -- ---- what is read of it
 

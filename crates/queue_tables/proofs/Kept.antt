@@ -1,25 +1,18 @@
 -- One more grant, and one more report.
 use Rattle.std.proofs.Common.{◌≡◌, ℕ, ◌+◌, ◌<◌, List, ◌∷◌, length, fold, take, drop, get_or, Some, None, refl, sym, ap, subst, ◌∙◌, arith, drop-cons, suc}
 use Rattle.std.specs.FinMap.{FinMap, get}
-use Rattle.std.specs.Cmp.{IsTotalOrder, then_total, on_total, nat_cmp_total}
-use Rattle.std.specs.Cmp.Lexicographic.{nat_list_cmp_total}
 use Rattle.std.proofs.lemmas.List.Sums.{fold_more}
 use Rattle.sqlite.specs.State.{State}
 use Rattle.queue_types.specs.declared.event.GrantRow.{GrantRow}
 use Rattle.queue_types.specs.declared.event.KeptReport.{KeptReport}
-use Rattle.queue_core.specs.World.{World, AreNew, grant_cmp, report_cmp, put_grant}
+use Rattle.queue_core.specs.World.{World, AreNew, grant_cmp, put_grant}
+use Rattle.queue_core.proofs.Maps.{grant_total, report_total}
 use Rattle.queue_rows.specs.Rows.{grant_row}
 use Rattle.queue_tables.specs.Values.{grant_values, report_values}
 use Rattle.queue_tables.specs.Content.{Holds, content_of}
 use Rattle.queue_tables.specs.Steps.{with_grant, with_grants, with_grant_row, with_report_row, with_kept}
 use Rattle.queue_tables.proofs.Held.{like_holds, same_order}
 use Rattle.queue_tables.proofs.NewEntries.{rows_with}
-
-grant_total : IsTotalOrder grant_cmp
-grant_total = then_total (on_total (λ (p : List ℕ × List ℕ). p.0) nat_list_cmp_total) (on_total (λ (p : List ℕ × List ℕ). p.1) nat_list_cmp_total)
-
-report_total : IsTotalOrder report_cmp
-report_total = then_total (on_total (λ (p : ℕ × ℕ). p.0) nat_cmp_total) (on_total (λ (p : ℕ × ℕ). p.1) nat_cmp_total)
 
 pub grant_added : (g : GrantRow) (w : World) (s : State) → get w.grants (g.batch, g.account) ≡ None → Holds (with_grant_row (grant_values g) (content_of w)) s → Holds (content_of (with_grant g w)) s
 grant_added g w s none has = like_holds (with_grant_row (grant_values g) (content_of w)) (content_of (with_grant g w)) s (record {

@@ -1,5 +1,5 @@
 -- Rows by the number in their first column, or by the name there.
-use Rattle.std.proofs.Common.{◌≡◌, ℕ, ℤ, pos, Bool, true, false, ◌&&◌, ◌==◌, Some, List, refl, ap, subst, ◌∙◌, is_eq, Ordering, Less, Equal, Greater, bytes_eq}
+use Rattle.std.proofs.Common.{◌≡◌, ℕ, ℤ, pos, Bool, true, false, ◌&&◌, ◌==◌, Some, List, refl, ap, subst, ◌∙◌, is_eq, Ordering, Equal, bytes_eq}
 use Rattle.std.specs.Ordering.{int_cmp}
 use Rattle.std.specs.Cmp.{both_ways, tied_itself, int_cmp_total}
 use Rattle.std.proofs.lemmas.Bool.{eqb-true, eq-eqb}
@@ -17,10 +17,9 @@ pub passed : (b : Bool) → (is_true (from_truth (Some b)) && true) ≡ b
 passed true = refl
 passed false = refl
 
-equal_of : (o : Ordering) → is_eq o ≡ true → o ≡ Equal
-equal_of Less e = absurd cc
+pub equal_of : (o : Ordering) → is_eq o ≡ true → o ≡ Equal
 equal_of Equal e = refl
-equal_of Greater e = absurd cc
+equal_of _ e = absurd cc
 
 pub same_number : (m n : ℕ) → is_eq (int_cmp (pos m) (pos n)) ≡ (m == n)
 same_number m n = both_ways (is_eq (int_cmp (pos m) (pos n))) (m == n)

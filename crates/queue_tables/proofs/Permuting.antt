@@ -1,6 +1,7 @@
 -- A table as the rows that it has, in whatever order.
 use Rattle.std.proofs.Common.{◌≡◌, inl, inr, ℤ, List, [], ◌∷◌, ◌++◌, map, length, filter, Bool, true, false, not, ◌||◌, if◌then◌else◌, ◌≤◌, All, refl, sym, ap, subst, ◌∙◌, arith, is_eq, Less, Equal, Greater, Ordering}
 use Rattle.std.specs.Ordering.{match_ordering}
+use Rattle.std.proofs.lemmas.List.{nil_from_length}
 use Rattle.std.proofs.lemmas.List.Elements.{All-cons, All-tail}
 use Rattle.std.proofs.lemmas.Map.Lookups.{exact_signed}
 use Rattle.std.specs.List.Sorted.{IsPermutation}
@@ -18,6 +19,7 @@ use Rattle.sqlite_rules.proofs.TableLemmas.{int_is}
 use Rattle.sqlite_rules.specs.Lists.{Has}
 use Rattle.sqlite_value.proofs.OrderLemmas.{value_cmp_total, value_cmp-Int}
 use Rattle.queue_tables.specs.Kept.{AreKeyed, HasRows, replaced}
+use Rattle.queue_tables.proofs.Numbers.{equal_of}
 
 pub swap_front : {X : Type 0} (x y : X) (zs : List X) → IsPermutation (x ∷ y ∷ zs) (y ∷ x ∷ zs)
 swap_front x y zs = IsPermutation-middle (x ∷ []) y zs
@@ -56,10 +58,6 @@ kept_passes {X} p (y ∷ ys) x one = elim (cases_Bool (p y)) [
 
 -- ---- rowids
 
-empty : {X : Type 0} (xs : List X) → length xs ≤ 0 → xs ≡ []
-empty [] low = refl
-empty (x ∷ xs) low = absurd (omega (arith, low))
-
 -- what passes is kept
 some_kept : {X : Type 0} (p : X → Bool) (xs : List X) (x : X) → Has xs x → p x ≡ true → 1 ≤ length (filter p xs)
 some_kept p [] x there passed = absurd there
@@ -75,7 +73,7 @@ only_one p was [] passed few there = absurd there
 only_one p was (r ∷ rs) passed few (inl same) =
     let here : p r ≡ true = ap p (sym same) ∙ passed in
     let long : length (r ∷ filter p rs) ≤ 1 = rw here at few in
-    rw (here, empty (filter p rs) (omega (arith, long))) (ap (λ (x : Row). x ∷ []) (sym same))
+    rw (here, nil_from_length (filter p rs) (omega (arith, long))) (ap (λ (x : Row). x ∷ []) (sym same))
 only_one p was (r ∷ rs) passed few (inr more) = elim (cases_Bool (p r)) [
   | inl also ↦ absurd (
       let long : length (r ∷ filter p rs) ≤ 1 = rw also at few in
@@ -89,11 +87,6 @@ keyed_permuted xs ys same k = record {
   ints = All-permutation (λ r. is_int (rowid r) ≡ true) xs ys same k.ints;
   apart = λ id. let long = length_permutation (filter (has_rowid id) xs) (filter (has_rowid id) ys) (IsPermutation-filter (has_rowid id) xs ys same) in omega (arith, long, k.apart id);
 }
-
-equal_of : (o : Ordering) → is_eq o ≡ true → o ≡ Equal
-equal_of Less e = absurd cc
-equal_of Equal e = refl
-equal_of Greater e = absurd cc
 
 -- two integers that are equal as rowids
 same_id : (v : Value) (m id : ℤ) → v ≡ Int m → is_eq (value_cmp v (Int id)) ≡ true → m ≡ id
@@ -147,7 +140,7 @@ none_left q t vs rest one same =
     let passed = kept_passes q vs t one in
     let both : IsPermutation (filter q vs) (filter q (t ∷ rest)) = IsPermutation-filter q vs (t ∷ rest) same in
     let long : length (filter q (t ∷ rest)) ≡ length (filter q vs) = length_permutation _ _ both in
-    empty (filter q rest) (let e : length (t ∷ filter q rest) ≡ length (t ∷ []) = subst (λ (k : List Row). length (t ∷ filter q rest) ≡ length k) one (rw passed at long) in omega (arith, e))
+    nil_from_length (filter q rest) (let e : length (t ∷ filter q rest) ≡ length (t ∷ []) = subst (λ (k : List Row). length (t ∷ filter q rest) ≡ length k) one (rw passed at long) in omega (arith, e))
 
 module _ {K : Type 0} (cells : Row → Row) (values rows : List Row) (has : HasRows K cells values rows) where
   -- one more row

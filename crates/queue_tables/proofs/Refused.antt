@@ -24,7 +24,7 @@ use Rattle.sqlite.specs.State.{State, mode_of, store_error, ExecutesInside, Exec
 use Rattle.sqlite.proofs.Callers.{IsPlain, command_of, statement_of, one_step}
 use Rattle.sqlite_resolve.specs.declared.compiled.Compiled.{Compiled}
 use Rattle.sqlite_trees.specs.declared.error.StoreError.{StoreError}
-use Rattle.sqlite_trees.specs.declared.error.StoreError.TheVariants.{OutOfMemory, Io, Corrupt, Full, Broken, Unstorable}
+use Rattle.sqlite_trees.specs.declared.error.StoreError.TheVariants.{OutOfMemory}
 use Rattle.sqlite_schema.specs.declared.program.Program.{Program}
 use Rattle.sqlite_schema.specs.declared.schema.Constraint.{Constraint}
 use Rattle.sqlite_schema.specs.declared.schema.Constraint.TheVariants.{ForeignKey}
@@ -32,7 +32,7 @@ use Rattle.sqlite_schema.specs.declared.schema.Keys.TheVariants.{Enforced}
 use Rattle.sqlite_schema.specs.declared.schema.Among.TheVariants.{All as EachKey}
 use Rattle.sqlite_schema.specs.Rules.{Refers}
 use Rattle.sqlite_rules.specs.declared.error.Refusal.{Refusal}
-use Rattle.sqlite_rules.specs.declared.error.Refusal.TheVariants.{Violates, Mismatch, NoRowid, BadReference, TooDeep}
+use Rattle.sqlite_rules.specs.declared.error.Refusal.TheVariants.{Violates}
 use Rattle.sqlite_rules.specs.Action.{works, Leads, Writes}
 use Rattle.sqlite_rules.specs.Edit.{IsRefused, taken_by}
 use Rattle.sqlite_rules.specs.Calls.{ids_of}
@@ -47,11 +47,7 @@ told rule = SqliteFailure (ConstraintViolation rule)
 
 no_store : (rule : Constraint) (cause : StoreError) → told rule ≡ store_error cause → ⊥
 no_store rule OutOfMemory e = cc
-no_store rule Io e = cc
-no_store rule Corrupt e = cc
-no_store rule Full e = cc
-no_store rule Broken e = cc
-no_store rule Unstorable e = cc
+no_store rule _ e = cc
 
 no_statement : (s : State) (sql : List ℕ) (params : Row) (rule : Constraint) → IsNoStatement s sql params (told rule) → ⊥
 no_statement s sql params rule (inl bad) = let e = bad.2 in cc
@@ -138,10 +134,7 @@ one_refused schema db why edit none (inr (inr went)) = absurd (settled went.2.0 
 
 violates : (rule : Constraint) (why : Refusal) → told rule ≡ edit_error why → why ≡ Violates rule
 violates rule (Violates other) e = cc
-violates rule Mismatch e = absurd cc
-violates rule NoRowid e = absurd cc
-violates rule BadReference e = absurd cc
-violates rule TooDeep e = absurd cc
+violates rule _ e = absurd cc
 
 refusal_of : (rule : Constraint) (why : Option Refusal) → ◌≡◌ {A = Option Error} (Some (told rule)) (option_map edit_error why) → why ≡ Some (Violates rule)
 refusal_of rule None e = absurd cc

@@ -1,26 +1,26 @@
 -- The UPDATEs of the book are never refused.
-use Rattle.std.proofs.Common.{◌≡◌, inl, inr, ℕ, ℤ, ◌+ℤ◌, List, [], ◌∷◌, drop, filter, true, ◌&&◌, Option, Some, None, Err, refl, sym, ap, subst, ◌∙◌}
+use Rattle.std.proofs.Common.{◌≡◌, inl, inr, ℕ, ℤ, ◌+ℤ◌, List, [], ◌∷◌, drop, filter, true, Some, Err, refl, sym, ap, subst, ◌∙◌}
 use Rattle.std.specs.FinMap.{entries, entries_sorted}
 use Rattle.sqlite.specs.declared.types.Value.{Value}
 use Rattle.sqlite.specs.declared.types.Value.TheVariants.{Int}
-use Rattle.sqlite.specs.Kind.TheVariants.{Integer}
 use Rattle.sqlite.specs.Order.{Row, column}
 use Rattle.sqlite.specs.State.{State, ExecutesInside}
 use Rattle.sqlite_schema.specs.declared.schema.Constraint.{Constraint}
-use Rattle.sqlite_schema.specs.Rules.{Obeys, are_typed, are_present, is_of}
+use Rattle.sqlite_schema.specs.Rules.{Obeys, are_typed, are_present}
 use Rattle.sqlite_tied.specs.Compute.{everything}
 use Rattle.queue_types.specs.declared.job.Job.{Job}
 use Rattle.queue_core.specs.World.{World}
 use Rattle.queue_rows.specs.Rows.{meta_row}
 use Rattle.queue_rows.specs.declared.rows.MetaRow.{MetaRow}
 use Rattle.queue_tables.specs.Tables.{book_schema, meta, jobs, accounts}
-use Rattle.queue_tables.specs.Values.{number, moment, meta_values, meta_view, job_values, job_view, account_values, account_view}
+use Rattle.queue_tables.specs.Values.{number, meta_values, meta_view, job_values, job_view, account_values, account_view}
 use Rattle.queue_tables.specs.Content.{Content, Holds, content_of}
 use Rattle.queue_tables.specs.Steps.{CanAdd, is_named, is_numbered}
 use Rattle.queue_tables.proofs.Statements.{update_job_text, update_job_terms, update_job_where, update_job_is, jobs_still, update_sums_text, update_sums_terms, update_sums_where, update_sums_is, update_free_text, update_free_terms, update_free_where, update_free_is, accounts_still, update_next_text, update_next_terms, update_next_where, update_next_is, meta_still}
 use Rattle.queue_tables.proofs.Rows.{job_stored, cast_job}
 use Rattle.queue_tables.proofs.Sums.{anew, cast_account, sums_params, sums_shown, free_params, free_shown}
 use Rattle.queue_tables.proofs.Accounts.{one_account}
+use Rattle.queue_tables.proofs.Entrants.{moment_is}
 use Rattle.queue_tables.proofs.Frees.{next_stored, cast_next, next_shown, next_id, reserved_in, printed_in}
 use Rattle.queue_tables.proofs.Numbers.{numbered_meta}
 use Rattle.queue_tables.proofs.Refused.{told}
@@ -46,14 +46,8 @@ account_keys = record { unique = refl; parents = refl; refers = refl }
 
 -- ---- a job
 
-typed_moments : (b e : Option ℕ) → (is_of Integer (moment b) && (is_of Integer (moment e) && true)) ≡ true
-typed_moments None None = refl
-typed_moments None (Some m) = refl
-typed_moments (Some n) None = refl
-typed_moments (Some n) (Some m) = refl
-
 typed_job : (j : Job) → are_typed (Some 0) 0 jobs.columns (drop 1 (job_stored j)) ≡ true
-typed_job j = typed_moments j.begun j.ended
+typed_job j = rw (moment_is j.begun, moment_is j.ended) refl
 
 pub job_stands : (old new : State) (j was : Job) (c : Content) → filter (is_numbered j.number) c.jobs ≡ job_values was ∷ [] → was.number ≡ j.number → Holds c old → (rule : Constraint)
     → ¬ ExecutesInside 0 update_job_text (job_values j) old new (Err (told rule))

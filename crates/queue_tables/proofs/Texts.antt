@@ -1,11 +1,5 @@
--- What the texts that make the tables mean.
-use Rattle.std.proofs.Common.{◌≡◌, ℕ, List, Ok, codes, refl}
-use Rattle.sqlite.specs.Compile.{table_defined_by}
-use Rattle.sqlite_resolve.specs.Compile.{index_defined_by}
-use Rattle.sqlite_tied.specs.Compute.{everything}
-use Rattle.sqlite.specs.Listing.{understood}
-use Rattle.queue_tables.specs.Plain.{table_of}
-use Rattle.queue_tables.specs.Tables.{meta, jobs, documents, pieces, accounts, grants, reports, by_owner, by_end, by_phase}
+-- The texts that make the tables and their indexes.
+use Rattle.std.proofs.Common.{ℕ, List, codes}
 
 abbrev pub meta_text : List ℕ
 meta_text = codes "CREATE TABLE meta (one INTEGER PRIMARY KEY, schema INTEGER NOT NULL, uri TEXT NOT NULL, name TEXT NOT NULL, estimate INTEGER NOT NULL, epoch INTEGER NOT NULL, next_number INTEGER NOT NULL) STRICT"
@@ -36,45 +30,3 @@ by_end_text = codes "CREATE INDEX jobs_by_end ON jobs (owner, ended)"
 
 abbrev pub by_phase_text : List ℕ
 by_phase_text = codes "CREATE INDEX jobs_by_phase ON jobs (phase, hold, incoming)"
-
--- ---- checks that each text makes the table or the index of the definitions, which nothing cites: a proof that needs one computes it anew
-
-meta_is : table_defined_by meta_text ≡ Ok (table_of meta)
-unfolding understood everything
-meta_is = refl
-
-jobs_is : table_defined_by jobs_text ≡ Ok (record (table_of jobs) { tree = 0 })
-unfolding understood everything
-jobs_is = refl
-
-documents_is : table_defined_by documents_text ≡ Ok (record (table_of documents) { tree = 0 })
-unfolding understood everything
-documents_is = refl
-
-pieces_is : table_defined_by pieces_text ≡ Ok (record (table_of pieces) { tree = 0 })
-unfolding understood everything
-pieces_is = refl
-
-accounts_is : table_defined_by accounts_text ≡ Ok (record (table_of accounts) { tree = 0 })
-unfolding understood everything
-accounts_is = refl
-
-grants_is : table_defined_by grants_text ≡ Ok (record (table_of grants) { tree = 0 })
-unfolding understood everything
-grants_is = refl
-
-reports_is : table_defined_by reports_text ≡ Ok (record (table_of reports) { tree = 0 })
-unfolding understood everything
-reports_is = refl
-
-by_owner_is : index_defined_by (table_of jobs) by_owner_text ≡ Ok (record by_owner { tree = 0 })
-unfolding understood everything
-by_owner_is = refl
-
-by_end_is : index_defined_by (table_of jobs) by_end_text ≡ Ok (record by_end { tree = 0 })
-unfolding understood everything
-by_end_is = refl
-
-by_phase_is : index_defined_by (table_of jobs) by_phase_text ≡ Ok (record by_phase { tree = 0 })
-unfolding understood everything
-by_phase_is = refl

@@ -1,12 +1,10 @@
 -- An UPDATE that leaves the key of its row as it was is never refused.
-use Rattle.std.proofs.Common.{◌≡◌, ◌≢◌, inl, inr, ℕ, ℤ, List, [], ◌∷◌, map, filter, drop, slice_get, Bool, true, Some, Err, refl, ap, subst, ◌∙◌, eq-eqb}
+use Rattle.std.proofs.Common.{◌≡◌, ◌≢◌, inl, inr, ℕ, ℤ, List, [], ◌∷◌, filter, drop, slice_get, Bool, true, Some, Err, refl, ap, subst, ◌∙◌, eq-eqb}
 use Rattle.std.specs.Prelude.{⊤}
-use Rattle.std.specs.List.Sorted.{IsPermutation}
 use Rattle.std.proofs.lemmas.Bool.{cases_eq, and_from, both_ways, not_from_false, ne_eqb}
 use Rattle.sqlite.specs.declared.types.Value.TheVariants.{Int}
 use Rattle.sqlite.specs.Order.{Row}
 use Rattle.sqlite.specs.Term.{Term}
-use Rattle.sqlite.specs.Query.{Output}
 use Rattle.sqlite.specs.Program.{overlay}
 use Rattle.sqlite.specs.Table.{Table}
 use Rattle.sqlite.specs.Cast.{cast_row}
@@ -16,7 +14,7 @@ use Rattle.sqlite.specs.Rowids.TheVariants.{Given}
 use Rattle.sqlite.specs.Tree.{Trees, rowid, with_tree, put_row, without_rowid}
 use Rattle.sqlite.specs.Listing.{understood}
 use Rattle.sqlite.specs.State.{State, ExecutesInside}
-use Rattle.sqlite.proofs.Callers.{IsPlain, command_of, one_permutation}
+use Rattle.sqlite.proofs.Callers.{IsPlain, command_of}
 use Rattle.sqlite_schema.specs.declared.schema.Constraint.{Constraint}
 use Rattle.sqlite_schema.specs.declared.schema.Constraint.TheVariants.{Datatype, NotNull, Check, PrimaryKey, Unique, ForeignKey}
 use Rattle.sqlite_schema.specs.declared.schema.Keys.TheVariants.{Enforced}
@@ -35,9 +33,9 @@ use Rattle.queue_tables.specs.Plain.{Plain, table_of}
 use Rattle.queue_tables.specs.Tables.{book_schema}
 use Rattle.queue_tables.specs.Kept.{HasRows, AreKeyed}
 use Rattle.queue_tables.proofs.PlainQueries.{plain_query, passes, shown_of}
-use Rattle.queue_tables.proofs.Writing.{IsListing, kept_of, sorted_and_shown}
-use Rattle.queue_tables.proofs.Permuting.{passing, kept_is_there, has_at}
-use Rattle.queue_tables.proofs.Changing.{none_permuted}
+use Rattle.queue_tables.proofs.Writing.{IsListing}
+use Rattle.queue_tables.proofs.Permuting.{kept_is_there, has_at}
+use Rattle.queue_tables.proofs.Changing.{none_listed, none_passing, one_listed, one_passing}
 use Rattle.queue_tables.proofs.Refused.{told, IsRefusedWrite, update_refused}
 use Rattle.queue_tables.proofs.Standing.{IsAlike, AreKeys, Renews, is_free, row_renewed, unique_stands, refers_stands}
 
@@ -57,15 +55,12 @@ module _ (p : Plain) (columns : List ℕ) (keys : AreKeys book_schema p.tree col
   idle = record { table = table_of p; gone = []; news = [] }
 
   idle_refused : (rule : Constraint) → IsRefused book_schema Enforced db idle (Violates rule) → ⊥
-  idle_refused Datatype h = cc
-  idle_refused NotNull h = cc
-  idle_refused Check h = cc
-  idle_refused PrimaryKey h = cc
   idle_refused Unique h = h (keeps_same book_schema db (with_tree db p.tree (db p.tree)) (λ t listed. elim (cases_eq t.tree p.tree) [
     | inl same ↦ rw same (put_there db p.tree (db p.tree))
     | inr other ↦ put_elsewhere db p.tree (db p.tree) t.tree other
   ]) Unique (obeys.rules Unique))
   idle_refused ForeignKey h = h
+  idle_refused _ h = cc
 
   idle_refers : (next : Trees) → Applies book_schema Enforced db idle next → Refers EachKey book_schema next
   idle_refers next applies = refers_same EachKey book_schema db next (λ t listed. elim (cases_eq t.tree p.tree) [
@@ -124,22 +119,10 @@ module _ (sql : List ℕ) (at : ℕ) (p : Plain) (terms project : List Term)
       let id = id_in (rowid was) in
       let keyed : rowid was ≡ Int id = int_is (rowid was) (has_at (λ (r : Row). is_int (rowid r) ≡ true) (db p.tree) was (has.keyed tt).ints there) in
       let it = fits was id keyed like in
-      let o : Output = ([], shown_of project params was) in
-      let only : kept_of p.tree terms project [] params (db p.tree) ≡ o ∷ [] = rw alone refl in
-      let ordered = one_permutation o listed.ordered (subst (λ (k : List Output). IsPermutation k listed.ordered) only listed.same) in
-      let given : rows ≡ (Int id ∷ put id) ∷ [] = listed.shown ∙ ap (map (λ (p : Output). p.1)) ordered ∙ ap (λ (r : Row). r ∷ []) it.0 in
+      let given : rows ≡ (Int id ∷ put id) ∷ [] = one_listed p.tree terms project params (db p.tree) rows listed was alone ∙ ap (λ (r : Row). r ∷ []) it.0 in
       let swapped : Row → Edit = λ (n : Row). record { table = table_of p; gone = id ∷ []; news = n ∷ [] } in
       let same : edit_of db (table_of p) (ids_of rows) Given 1 rows ≡ swapped (put id) = ap (λ (rs : List Row). edit_of db (table_of p) (ids_of rs) Given 1 rs) given ∙ ap swapped it.1 in
       swap_stands p columns keys db obeys id was (put id) keyed it.2 (has.keyed tt) there it.3 it.4 it.5 rule (subst (λ (e : Edit). IsRefusedWrite book_schema db e rule) same h)
-
-  one_mapped : (t : Row) (rs : List Row) → map cells rs ≡ t ∷ [] → (r : Row) × (rs ≡ r ∷ []) × (cells r ≡ t)
-  one_mapped t [] e = absurd cc
-  one_mapped t (r ∷ []) e = (r, refl, cc)
-  one_mapped t (r ∷ s ∷ more) e = absurd cc
-
-  none_mapped : (rs : List Row) → map cells rs ≡ [] → rs ≡ []
-  none_mapped [] e = refl
-  none_mapped (r ∷ rs) e = absurd cc
 
   -- UPDATE of the one row that WHERE lets through
   pub update_stands : (old new : State) (params t : Row) (put : ℤ → Row) (rule : Constraint) → old.now.schema ≡ book_schema → Obeys book_schema old.now.trees → ((r : Row) → passes terms params r ≡ q (cells r))
@@ -147,9 +130,7 @@ module _ (sql : List ℕ) (at : ℕ) (p : Plain) (terms project : List Term)
   update_stands old new params t put rule has obeys alike fits rows one h =
       let db = old.now.trees in
       let u = update_refused book_schema sql at p terms project is plain placed plainly still old new params rule has h in
-      let found = filter (passes terms params) (db p.tree) in
-      let kept = one_permutation t (map cells found) (subst (λ (k : List Row). IsPermutation k (map cells found)) one (passing cells values (db p.tree) rows (passes terms params) q alike)) in
-      let was = one_mapped t found kept in
+      let was = one_passing cells values (db p.tree) rows (passes terms params) q alike t one in
       was_stands db params t was.0 put rule obeys fits rows was.1 was.2 u.0 u.1 u.2
 
   -- UPDATE where WHERE lets nothing through
@@ -158,9 +139,5 @@ module _ (sql : List ℕ) (at : ℕ) (p : Plain) (terms project : List Term)
   update_none_stands old new params rule has obeys alike rows none h =
       let db = old.now.trees in
       let u = update_refused book_schema sql at p terms project is plain placed plainly still old new params rule has h in
-      let found = filter (passes terms params) (db p.tree) in
-      let kept : map cells found ≡ [] = none_permuted (map cells found) (subst (λ (k : List Row). IsPermutation k (map cells found)) none (passing cells values (db p.tree) rows (passes terms params) q alike)) in
-      let only : kept_of p.tree terms project [] params (db p.tree) ≡ [] = ap (map (sorted_and_shown [] project params)) (none_mapped found kept) in
-      let ordered = none_permuted u.1.ordered (subst (λ (k : List Output). IsPermutation k u.1.ordered) only u.1.same) in
-      let given : u.0 ≡ [] = u.1.shown ∙ ap (map (λ (p : Output). p.1)) ordered in
+      let given : u.0 ≡ [] = none_listed p.tree terms project params (db p.tree) u.0 u.1 (none_passing cells values (db p.tree) rows (passes terms params) q alike none) in
       idle_stands p columns keys db obeys rule (subst (λ (rs : List Row). IsRefusedWrite book_schema db (edit_of db (table_of p) (ids_of rs) Given 1 rs) rule) given u.2)

@@ -15,7 +15,7 @@ use crate::run::insert;
 use sqlite::{Alter, Transaction, params};
 
 /// The bytes of a full piece.
-const PIECE: usize = queue_rows::pieces::PIECE as usize;
+const PIECE_OCTETS: usize = queue_rows::pieces::PIECE as usize;
 
 /// Adds a piece.
 fn insert_piece<S: Alter>(
@@ -51,10 +51,10 @@ pub(crate) fn insert_pieces<S: Alter>(
     ensures done { HasCleanDisk (state S.Store tx.new.conn.now) → OnOk result ((c : Content) → Holds c (state S.Store tx.old.conn.now) → Holds (with_pieces job doc bytes.now (pieces_in (length bytes.now)) c) (state S.Store tx.new.conn.now)) }
     ensures damaged { DamagedOnlyWhere (state S.Store tx.old.conn.now) (state S.Store tx.new.conn.now) result ((c : Content) → HasOne (are_numbered job doc) c.documents → filter (are_numbered job doc) c.pieces ≡ [] → ¬ HoldsWhileOpen c (state S.Store tx.old.conn.now)) }
 {
-    let count = bytes.len().div_ceil(PIECE);
+    let count = bytes.len().div_ceil(PIECE_OCTETS);
     for k in 0..count {
-        let start = k * PIECE;
-        let end = bytes.len().min(start + PIECE);
+        let start = k * PIECE_OCTETS;
+        let end = bytes.len().min(start + PIECE_OCTETS);
         insert_piece(tx, job, doc, k as u32, &bytes[start..end])?;
     }
     Ok(())
