@@ -10,7 +10,7 @@ use Rattle.queue_core.specs.Limits.{IsMoment, FitsPhase}
 use Rattle.queue_core.specs.Runs.{Follows, is_pair}
 use Rattle.queue_core.specs.Sound.{IsSound}
 use Rattle.queue_types.specs.declared.job.Job.{Job}
-use Rattle.queue_types.specs.declared.job.Phase.TheVariants.{Waiting, Running, Stopped, Canceled, Aborted, Completed}
+use Rattle.queue_types.specs.declared.job.Phase.TheVariants.{Waiting}
 use Rattle.queue_types.specs.declared.event.Scene.{Scene}
 use Rattle.queue_types.specs.declared.event.Reply.TheVariants.{Jobs, Done}
 use Rattle.queue_core.proofs.Own.{Keeps, unchanged, becomes_keeps, own_keeps}
@@ -47,14 +47,11 @@ held_documents hold j is = record {
 
 -- a waiting job moves between pending and pending-held
 waits_on : (hold incoming new : Bool) → (state_in Waiting new incoming ≡ state_in Waiting hold incoming) ⊎ IsTrue (is_pair (state_in Waiting hold incoming) (state_in Waiting new incoming))
-waits_on true true true = inl refl
-waits_on true true false = inl refl
-waits_on true false true = inl refl
 waits_on true false false = inr refl
-waits_on false true true = inl refl
-waits_on false true false = inl refl
 waits_on false false true = inr refl
-waits_on false false false = inl refl
+waits_on true true true = inl refl
+waits_on false true true = inl refl
+waits_on _ _ _ = inl refl
 
 held_follows : (hold : Bool) (j : Job) → j.phase ≡ Waiting → Follows (Some j) (Some (held hold j))
 held_follows hold j is = subst (λ p. (state_in p hold j.incoming ≡ state_in p j.hold j.incoming) ⊎ IsTrue (is_pair (state_in p j.hold j.incoming) (state_in p hold j.incoming))) (sym is) (waits_on j.hold j.incoming hold)
@@ -78,11 +75,7 @@ hold_keeps w caller n sound =
     (λ j rest e own.
     elim j.phase as (λ p. j.phase ≡ p → Keeps w (made_on (hold_in p (cut w (ask caller (hold_job n))) j).change w)) [
       | Waiting ↦ λ is. becomes_keeps w caller (hold_job n) n sound refl j (held true j) rest e own (holds true j) (held_documents true j is) (λ none h. (h.0, h.1, refl)) (held_follows true j is)
-      | Running ↦ λ is. unchanged w sound
-      | Stopped ↦ λ is. unchanged w sound
-      | Canceled why ↦ λ is. unchanged w sound
-      | Aborted ↦ λ is. unchanged w sound
-      | Completed ↦ λ is. unchanged w sound
+      | _ ↦ λ is. unchanged w sound
     ] refl)
 
 -- ---- Release-Job
@@ -110,11 +103,7 @@ module _ (w : World) (caller : List ℕ) (n : ℕ) (sound : IsSound w) where
       (λ j rest e own.
       elim j.phase as (λ p. j.phase ≡ p → Keeps w (made_on (release_in p release_scene j).change w)) [
         | Waiting ↦ λ is. elim j.hold as (λ b. Keeps w (made_on (cond b (let_print release_scene j) (answered Done)).change w)) [ true ↦ let_print_keeps j rest e own is | false ↦ unchanged w sound ]
-        | Running ↦ λ is. unchanged w sound
-        | Stopped ↦ λ is. unchanged w sound
-        | Canceled why ↦ λ is. unchanged w sound
-        | Aborted ↦ λ is. unchanged w sound
-        | Completed ↦ λ is. unchanged w sound
+        | _ ↦ λ is. unchanged w sound
       ] refl)
 
 -- ---- Get-Job-Attributes

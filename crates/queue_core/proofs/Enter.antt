@@ -1,29 +1,20 @@
 -- A new row at the end.
 use Rattle.std.proofs.Common.{◌≡◌, ℕ, ◌+◌, ◌≤◌, ◌<◌, List, [], ◌∷◌, ◌++◌, map, refl, ap, sym, ◌∙◌, arith, subst, inl, Bool, true, false, cond}
-use Rattle.std.specs.Prelude.{Option, Some, None, IsSome, is_some, nat_eq, sum_by}
-use Rattle.std.specs.List.{AllByRecursion as Each}
-use Rattle.std.proofs.lemmas.Bool.Decides.{nat_tests}
-use Rattle.std.proofs.lemmas.List.Sums.{sum_by_push}
-use Rattle.queue_core.specs.World.{World, with_row, add_document}
-use Rattle.queue_types.specs.Event.{NewDocument}
-use Rattle.queue_core.specs.World.{Entry}
-use Rattle.queue_core.specs.Sound.{Rise, IsSound, IsSoundEntry, IsKept, IsGreatestCount, IsIdle, reserved, printed}
-use Rattle.std.specs.Prelude.{IfSome, bytes_eq, ◌&&◌, pos, ℤ, ◌+ℤ◌, ◌^◌}
+use Rattle.std.specs.Prelude.{Option, Some, None, IfSome, IsSome, is_some, bytes_eq, nat_eq, sum_by, ℤ, pos, ◌+ℤ◌, ◌&&◌, ◌^◌}
 use Rattle.std.specs.FinMap.{FinMap, get}
-use Rattle.std.proofs.lemmas.Slice.Eq.{bytes_eq-Decides}
+use Rattle.std.proofs.lemmas.List.Sums.{sum_by_push}
+use Rattle.std.proofs.lemmas.Option.{IfSome_then}
+use Rattle.queue_core.specs.World.{World, Entry, rows, with_row, add_document, live_jobs, text_cmp, granted}
+use Rattle.queue_core.specs.Sound.{Rise, IsSound, IsSoundEntry, IsKept, IsGreatestCount, IsIdle, reserved, printed}
+use Rattle.queue_types.specs.Event.{NewDocument}
 use Rattle.queue_types.specs.Job.{owed, is_live}
-use Rattle.queue_core.specs.World.{rows, live_jobs, text_cmp, granted}
 use Rattle.queue_types.specs.declared.event.KeptReport.{KeptReport}
-use Rattle.std.proofs.Common.{rules}
-use Rattle.queue_core.proofs.Keep.{each-map}
 use Rattle.queue_types.specs.declared.job.Job.{Job}
-use Rattle.queue_core.proofs.Keep.{at}
+use Rattle.queue_core.proofs.Keep.{at, each-map, ne_from_lt, same_key, some_step}
+use Rattle.queue_core.proofs.Ordered.{each-append}
 
 abbrev pub fresh : Job → Entry
 fresh x = record { row = x; documents = [] }
-
-differ : (a b : ℕ) → a < b → nat_eq a b ≡ false
-differ a b h = grind (arith, nat_tests)
 
 -- the last number of a rising list is below the next
 pub first_below : (first next : ℕ) (es : List Entry) → Rise first es next → first ≤ next
@@ -34,7 +25,7 @@ pub with_row_new : (x : Job) (first : ℕ) (es : List Entry) → Rise first es x
 with_row_new x first [] rise = refl
 with_row_new x first (e ∷ es) rise =
     let low = first_below (e.row.number + 1) x.number es rise.1 in
-    ap (λ t. cond t (record e { row = x } ∷ es) (e ∷ with_row es x)) (differ e.row.number x.number (omega arith))
+    ap (λ t. cond t (record e { row = x } ∷ es) (e ∷ with_row es x)) (ne_from_lt e.row.number x.number (omega arith))
     ∙ ap (λ t. e ∷ t) (with_row_new x (e.row.number + 1) es rise.1)
 
 -- a document of the new number goes to the new row alone
@@ -42,17 +33,13 @@ pub with_document_new : (x : Job) (d : NewDocument) (first : ℕ) (es : List Ent
 with_document_new x d first [] same rise = refl
 with_document_new x d first (e ∷ es) same rise =
     let low = first_below (e.row.number + 1) x.number es rise.1 in
-    let here : add_document d e ≡ e = ap (λ t. cond t (record e { documents = e.documents ++ record { format = d.format; bytes = d.bytes } ∷ [] }) e) (differ e.row.number d.job (omega arith)) in
+    let here : add_document d e ≡ e = ap (λ t. cond t (record e { documents = e.documents ++ record { format = d.format; bytes = d.bytes } ∷ [] }) e) (ne_from_lt e.row.number d.job (omega arith)) in
     let rest : map (add_document d) (es ++ fresh x ∷ []) ≡ es ++ add_document d (fresh x) ∷ [] = with_document_new x d (e.row.number + 1) es same rise.1 in
     cc
 
 pub rise-push : (n : Entry) (first : ℕ) (es : List Entry) → Rise first es n.row.number → Rise first (es ++ n ∷ []) (n.row.number + 1)
 rise-push n first [] rise = (rise, omega arith)
 rise-push n first (e ∷ es) rise = (rise.0, rise-push n (e.row.number + 1) es rise.1)
-
-pub each-push : (P : Entry → Type 0) (n : Entry) (es : List Entry) → Each P es → P n → Each P (es ++ n ∷ [])
-each-push P n [] all here = (here, tt)
-each-push P n (e ∷ es) all here = (all.0, each-push P n es all.1 here)
 
 rows-push : (n : Entry) (es : List Entry) → map (λ (e : Entry). e.row) (es ++ n ∷ []) ≡ map (λ (e : Entry). e.row) es ++ n.row ∷ []
 rows-push n [] = refl
@@ -66,18 +53,11 @@ pub none_new : (k first : ℕ) (es : List Entry) → Rise first es k → at k es
 none_new k first [] rise = refl
 none_new k first (e ∷ es) rise =
     let low = first_below (e.row.number + 1) k es rise.1 in
-    ap (λ t. cond t (Some e.row) (at k es)) (differ e.row.number k (omega arith)) ∙ none_new k (e.row.number + 1) es rise.1
-
-some_step : (b : Bool) (y : Job) (o p : Option Job) → (IsSome o → IsSome p) → IsSome (cond b (Some y) o) → IsSome (cond b (Some y) p)
-some_step true y o p f h = refl
-some_step false y o p f h = f h
+    ap (λ t. cond t (Some e.row) (at k es)) (ne_from_lt e.row.number k (omega arith)) ∙ none_new k (e.row.number + 1) es rise.1
 
 pub some-push : (k : ℕ) (n : Entry) (es : List Entry) → IsSome (at k es) → IsSome (at k (es ++ n ∷ []))
 some-push k n [] h = absurd (cc)
 some-push k n (e ∷ es) h = some_step (nat_eq e.row.number k) e.row (at k es) (at k (es ++ n ∷ [])) (some-push k n es) h
-
-same_key : (a b : List ℕ) → bytes_eq a b ≡ true → a ≡ b
-same_key a b e = search (rules, bytes_eq-Decides)
 
 live_add : (b l : Bool) (s : ℕ) → (b ≡ true → s < 100) → s ≤ 100 → s + cond (b && l) 1 0 ≤ 100
 live_add true true s h k = let less = h refl in omega arith
@@ -92,10 +72,6 @@ not_kept : (w : World) (k seq : ℕ) (Q : KeptReport → Type 0) (o : Option Kep
 not_kept w k seq Q None none kept = tt
 not_kept w k seq Q (Some r) none kept = let there : is_some (at k w.jobs) ≡ true = kept.there in let no : is_some (at k w.jobs) ≡ false = ap is_some none in absurd (cc)
 
-if_kept : (P Q : KeptReport → Type 0) (o : Option KeptReport) → ((k : KeptReport) → P k → Q k) → IfSome o P → IfSome o Q
-if_kept P Q None f h = tt
-if_kept P Q (Some k) f h = f k h
-
 abbrev pub with_new : World → FinMap text_cmp ℤ → Entry → World
 with_new w m n = record w { jobs = w.jobs ++ n ∷ []; next = w.next + 1; free = m }
 
@@ -107,14 +83,14 @@ new_row_keeps w m n sound number room entry count owing idle few free =
       settings = sound.settings;
       numbers = subst (λ k. Rise 1 (w.jobs ++ n ∷ []) (k + 1)) number (rise-push n 1 w.jobs rise);
       next = omega arith;
-      entries = each-push IsSoundEntry n w.jobs sound.entries entry;
+      entries = each-append IsSoundEntry w.jobs (n ∷ []) sound.entries (entry, tt);
       live = λ u. subst (λ s. s ≤ 100) (sym (sum-push (λ (k : Job). cond (bytes_eq k.owner u && is_live k) 1 0) n w.jobs)) (live_add (bytes_eq n.row.owner u) (is_live n.row) (live_jobs u (rows w)) (λ e. subst (λ a. live_jobs a (rows w) < 100) (same_key n.row.owner u e) few) (sound.live u));
       grants = sound.grants;
       most = sound.most;
       accounts = λ a. (λ h. (sound.accounts a).0 (ap is_some (sym (free a)) ∙ h), λ h. ap is_some (free a) ∙ (sound.accounts a).1 h);
-      reports = λ k s. if_kept (IsKept w k s) (IsKept (with_new w m n) k s) (get w.reports (k, s)) (λ r p. record { job = p.job; seq = p.seq; there = some-push k n w.jobs p.there; positive = p.positive; count = p.count; total = p.total }) (sound.reports k s);
-      counts = each-push (λ e. IsGreatestCount w e.row) n w.jobs sound.counts (λ seq. not_kept w n.row.number seq _ (get w.reports (n.row.number, seq)) (none_new n.row.number 1 w.jobs rise) (sound.reports n.row.number seq), inl count);
-      idle = each-push (λ e. get m e.row.owner ≡ None → IsIdle e.row) n w.jobs (each-map (λ e. get w.free e.row.owner ≡ None → IsIdle e.row) (λ e. get m e.row.owner ≡ None → IsIdle e.row) w.jobs (λ e p none. p (sym (free e.row.owner) ∙ none)) sound.idle) (λ none. idle);
+      reports = λ k s. IfSome_then (get w.reports (k, s)) (sound.reports k s) (λ r p. record { job = p.job; seq = p.seq; there = some-push k n w.jobs p.there; positive = p.positive; count = p.count; total = p.total });
+      counts = each-append (λ e. IsGreatestCount w e.row) w.jobs (n ∷ []) sound.counts ((λ seq. not_kept w n.row.number seq _ (get w.reports (n.row.number, seq)) (none_new n.row.number 1 w.jobs rise) (sound.reports n.row.number seq), inl count), tt);
+      idle = each-append (λ e. get m e.row.owner ≡ None → IsIdle e.row) w.jobs (n ∷ []) (each-map (λ e. get w.free e.row.owner ≡ None → IsIdle e.row) (λ e. get m e.row.owner ≡ None → IsIdle e.row) w.jobs (λ e p none. p (sym (free e.row.owner) ∙ none)) sound.idle) (λ none. idle, tt);
       balances = λ a.
           let r : reserved a (with_new w m n) ≡ reserved a w = (let sums = sum-push (λ (k : Job). cond (bytes_eq k.owner a) (owed k) 0) n w.jobs in let zero = nothing (bytes_eq n.row.owner a) (owed n.row) owing in omega arith) in
           let p : printed a (with_new w m n) ≡ printed a w = (let sums = sum-push (λ (k : Job). cond (bytes_eq k.owner a) k.count 0) n w.jobs in let zero = nothing (bytes_eq n.row.owner a) n.row.count count in omega arith) in

@@ -1,13 +1,13 @@
 -- The scene of each sound world is fair.
-use Rattle.std.proofs.Common.{◌≡◌, ℕ, suc, ℤ, pos, ◌+ℤ◌, ◌+◌, ◌-◌, ◌*◌, ◌^◌, ◌≤◌, ◌<◌, List, [], ◌∷◌, length, map, arith, Bool, true, false, cond}
-use Rattle.std.specs.Prelude.{Option, Some, None, IfSome, bytes_eq, filter, sum_by, ◌==◌, ◌&&◌}
+use Rattle.std.proofs.Common.{◌≡◌, ℕ, suc, ℤ, pos, ◌+ℤ◌, ◌+◌, ◌-◌, ◌*◌, ◌^◌, ◌≤◌, ◌<◌, List, [], ◌∷◌, length, map, arith, subst, Bool, true, false, cond}
+use Rattle.std.specs.Prelude.{Option, Some, None, All, IfSome, bytes_eq, filter, sum_by, ◌==◌, ◌&&◌}
 use Rattle.std.specs.List.{AllByRecursion as Each}
 use Rattle.std.specs.FinMap.{get}
 use Rattle.std.proofs.lemmas.Int.{ints}
 use Rattle.std.proofs.lemmas.List.Sums.{sum_by-cons}
 use Rattle.std.proofs.lemmas.Nat.{mul-le}
 use Rattle.queue_types.specs.Job.{owed, is_live}
-use Rattle.queue_types.specs.Event.{Event, Call, ask, tell, grant, print_job, validate_job, create_job, send_document, cancel_job, cancel_my_jobs, hold_job, release_job, get_job_attributes, get_jobs, get_printer_attributes}
+use Rattle.queue_types.specs.Event.{Event, Call, ask, tell, grant, send_document, cancel_job, cancel_my_jobs, hold_job, release_job, get_job_attributes, get_jobs, get_printer_attributes}
 use Rattle.queue_core.specs.World.{World, Entry, rows, cut, found_row, owner_row, known_grant, numbered, jobs_for, counts_for, granted}
 use Rattle.queue_core.specs.Limits.{IsFair, IsKnown, IsSoundJob, IsAmount}
 use Rattle.queue_core.specs.Sound.{IsSound, IsSoundEntry, IsKept, Rise, reserved, printed}
@@ -89,17 +89,8 @@ live_few (e ∷ es) =
     omega (arith, sum_by-cons (λ (j : Job). cond (is_live j) 1 0) e.row (map (λ e. e.row) es))
 
 queued_few : (w : World) (call : Call) → length w.jobs < 2 ^ 31 → (counts_for call (rows w)).queued < 2 ^ 31
-queued_few w (print_job j format payload) few = omega arith
-queued_few w (validate_job j) few = omega arith
-queued_few w (create_job j) few = omega arith
-queued_few w (send_document n format payload last) few = omega arith
-queued_few w (cancel_my_jobs numbers) few = omega arith
-queued_few w (hold_job n) few = omega arith
-queued_few w (release_job n) few = omega arith
-queued_few w (cancel_job n) few = omega arith
-queued_few w (get_job_attributes n) few = omega arith
-queued_few w (get_jobs which limit) few = omega arith
 queued_few w get_printer_attributes few = let all = live_few w.jobs in omega arith
+queued_few w _ few = omega arith
 
 each_numbered : (n : ℕ) (w : World) → IsSound w → Each IsSoundJob (numbered n (rows w))
 each_numbered n w sound = each_named (λ j. j.number == n) w.jobs sound.entries
@@ -108,9 +99,6 @@ few_numbered : (n : ℕ) (w : World) → length (numbered n (rows w)) ≤ length
 few_numbered n w = named_few (λ j. j.number == n) w.jobs
 
 jobs_sound : (w : World) (caller : List ℕ) (call : Call) → IsSound w → Each IsSoundJob (jobs_for caller call (rows w))
-jobs_sound w caller (print_job j format payload) sound = tt
-jobs_sound w caller (validate_job j) sound = tt
-jobs_sound w caller (create_job j) sound = tt
 jobs_sound w caller (send_document n format payload last) sound = each_numbered n w sound
 jobs_sound w caller (cancel_my_jobs None) sound = each_named _ w.jobs sound.entries
 jobs_sound w caller (cancel_my_jobs (Some numbers)) sound = each_named _ w.jobs sound.entries
@@ -119,12 +107,9 @@ jobs_sound w caller (release_job n) sound = each_numbered n w sound
 jobs_sound w caller (cancel_job n) sound = each_numbered n w sound
 jobs_sound w caller (get_job_attributes n) sound = each_numbered n w sound
 jobs_sound w caller (get_jobs which limit) sound = each-visible IsSoundJob limit which _ (each_named _ w.jobs sound.entries)
-jobs_sound w caller get_printer_attributes sound = tt
+jobs_sound w caller _ sound = tt
 
 jobs_few : (w : World) (caller : List ℕ) (call : Call) → length (jobs_for caller call (rows w)) ≤ length w.jobs
-jobs_few w caller (print_job j format payload) = omega arith
-jobs_few w caller (validate_job j) = omega arith
-jobs_few w caller (create_job j) = omega arith
 jobs_few w caller (send_document n format payload last) = few_numbered n w
 jobs_few w caller (cancel_my_jobs None) = named_few _ w.jobs
 jobs_few w caller (cancel_my_jobs (Some numbers)) = named_few _ w.jobs
@@ -137,7 +122,7 @@ jobs_few w caller (get_jobs which limit) =
     let shown = few_visible limit which (filter p (rows w)) in
     let own = named_few p w.jobs in
     omega arith
-jobs_few w caller get_printer_attributes = omega arith
+jobs_few w caller _ = omega arith
 
 owner_amounts : (w : World) → IsSound w → (js : List Job) → Each (λ (r : FreeRow). IsAmount r.free) (owner_row w.free js)
 owner_amounts w sound [] = tt
@@ -190,3 +175,7 @@ fair_of w (grant new) sound = record {
   report = tt;
   known = all_of IsKnown _ (each_known w sound new);
 }
+
+-- the first job that an event needs is within its limits
+pub first_sound : (w : World) (e : Event) → IsSound w → (j : Job) (rest : List Job) → (cut w e).jobs ≡ j ∷ rest → IsSoundJob j
+first_sound w e sound j rest is = subst (All IsSoundJob) is (fair_of w e sound).jobs 0 j (omega arith)

@@ -4,10 +4,10 @@ use Rattle.std.specs.Prelude.{Option, Some, None, IfSome, IsSome, is_some, bytes
 use Rattle.std.specs.List.{list_any, AllByRecursion as Each}
 use Rattle.std.specs.FinMap.{FinMap, get, insert, entries, get-insert, contains_key-keys}
 use Rattle.std.specs.Option.{option_or}
-use Rattle.std.specs.Ordering.{is_eq, eq_by_cmp, ordering_then}
-use Rattle.std.specs.declared.cmp.Ordering.{Ordering}
-use Rattle.std.specs.declared.cmp.Ordering.TheVariants.{Less, Equal, Greater}
+use Rattle.std.specs.Ordering.{is_eq, eq_by_cmp}
+use Rattle.std.proofs.lemmas.Bool.{and_parts, both_ways, false_from_ne_true, or_parts}
 use Rattle.std.proofs.lemmas.List.Folds.{find-append}
+use Rattle.std.proofs.lemmas.Option.{IfSome_then}
 use Rattle.std.specs.Cmp.Lexicographic.{nat_list_cmp_total}
 use Rattle.std.proofs.lemmas.Cmp.{nat_list_eq_equiv}
 use Rattle.std.proofs.lemmas.Int.{ints}
@@ -18,16 +18,15 @@ use Rattle.queue_core.specs.World.{World, Entry, made_on, put_free, put_grant, g
 use Rattle.queue_core.specs.Grants.{Taken, all_taken, none_taken, take_rows, row_of, pages_under, pages_to, free_after, add_row, repeated, refused_row, new_row}
 use Rattle.queue_core.specs.Machine.{grant_row}
 use Rattle.queue_core.specs.Limits.{IsGrant, IsGrantRow, IsSoundJob, FitsPhase}
-use Rattle.queue_core.specs.Sound.{IsSound, IsSoundEntry, IsKept, IsIdle, reserved, printed}
+use Rattle.queue_core.specs.Sound.{IsSound, IsSoundEntry, IsIdle, reserved, printed}
 use Rattle.queue_types.specs.declared.event.FreeRow.{FreeRow}
 use Rattle.queue_types.specs.declared.event.GrantRow.{GrantRow}
-use Rattle.queue_types.specs.declared.event.KeptReport.{KeptReport}
 use Rattle.queue_types.specs.declared.job.Job.{Job}
 use Rattle.queue_types.specs.declared.job.Phase.{Phase}
-use Rattle.queue_types.specs.declared.job.Phase.TheVariants.{Waiting, Running, Stopped, Canceled, Aborted, Completed}
+use Rattle.queue_types.specs.declared.job.Phase.TheVariants.{Waiting, Running, Stopped}
 use Rattle.queue_core.proofs.GrantLemmas.{new_takes, pages_to-push}
-use Rattle.queue_core.proofs.Keep.{each-map}
-use Rattle.queue_core.proofs.Maps.{grant_total, is_grant_key, grant_key, own_grant_key, sum-insert}
+use Rattle.queue_core.proofs.Keep.{each-map, no_value}
+use Rattle.queue_core.proofs.Maps.{grant_total, is_grant_key, grant_key, own_grant_key, both_equal, sum-insert}
 use Rattle.queue_core.proofs.Moves.{stays}
 use Rattle.queue_core.proofs.Own.{Keeps, unchanged, same_key}
 use Rattle.queue_core.proofs.Ordered.{each_of}
@@ -61,9 +60,7 @@ idle_owes : (p : Phase) (j : Job) → FitsPhase p j → IsTrue (j.hold || is_som
 idle_owes Waiting j fits idle = held_owes j.hold (estimate j - j.count) j.ended fits.2 idle
 idle_owes Running j fits idle = held_owes j.hold (estimate j - j.count) j.ended fits.3 idle
 idle_owes Stopped j fits idle = held_owes j.hold (estimate j - j.count) j.ended fits.3 idle
-idle_owes (Canceled why) j fits idle = refl
-idle_owes Aborted j fits idle = refl
-idle_owes Completed j fits idle = refl
+idle_owes _ j fits idle = refl
 
 nothing_owed : (j : Job) → IsSoundJob j → IsIdle j → owed j ≡ 0
 nothing_owed j sound idle = idle_owes j.phase j sound.phase idle.2
@@ -86,10 +83,6 @@ none_taken_of w a (e ∷ es) none entries idle =
     ] refl in
     (omega (arith, sum_by-cons (owed_of a) e.row (map (λ e. e.row) es)), omega (arith, sum_by-cons (count_of a) e.row (map (λ e. e.row) es)))
 
-either : (a b : Bool) → (a || b) ≡ false → (a ≡ false) × (b ≡ false)
-either true b e = absurd (cc)
-either false b e = (refl, e)
-
 abbrev Row : Type 0
 Row = (List ℕ × List ℕ) × ℕ
 
@@ -99,27 +92,19 @@ pages_of a e = cond (bytes_eq e.0.1 a) e.1 0
 none_in : (a : List ℕ) (es : List Row) → ((b : List ℕ) → list_any (eq_by_cmp grant_cmp (b, a)) (map (λ e. e.0) es) ≡ false) → sum_by (pages_of a) es ≡ 0
 none_in a [] none = refl
 none_in a (e ∷ es) none =
-    let more = none_in a es (λ b. (either (eq_by_cmp grant_cmp (b, a) e.0) (list_any (eq_by_cmp grant_cmp (b, a)) (map (λ e. e.0) es)) (none b)).1) in
+    let more = none_in a es (λ b. (or_parts (eq_by_cmp grant_cmp (b, a) e.0) (list_any (eq_by_cmp grant_cmp (b, a)) (map (λ e. e.0) es)) (none b)).1) in
     let here : pages_of a e ≡ 0 =
     elim (bytes_eq e.0.1 a) as (λ b. bytes_eq e.0.1 a ≡ b → cond b e.1 0 ≡ 0) [
-      | true ↦ λ is. absurd (let other = (either (eq_by_cmp grant_cmp (e.0.0, a) e.0) (list_any (eq_by_cmp grant_cmp (e.0.0, a)) (map (λ e. e.0) es)) (none e.0.0)).0 in
+      | true ↦ λ is. absurd (let other = (or_parts (eq_by_cmp grant_cmp (e.0.0, a) e.0) (list_any (eq_by_cmp grant_cmp (e.0.0, a)) (map (λ e. e.0) es)) (none e.0.0)).0 in
           let own : eq_by_cmp grant_cmp (e.0.0, a) e.0 ≡ true = ap (λ t. eq_by_cmp grant_cmp (e.0.0, t) e.0) (sym (same_key e.0.1 a is)) ∙ own_grant_key e.0.0 e.0.1 in cc)
       | false ↦ λ is. refl
     ] refl in
     omega (arith, sum_by-cons (pages_of a) e es)
 
-not_there : (o : Option ℕ) → (IsSome o → ⊥) → is_some o ≡ false
-not_there None f = refl
-not_there (Some n) f = absurd (f refl)
-
-no_account : (o : Option ℤ) → o ≡ None → IsSome o → ⊥
-no_account None e some = absurd (cc)
-no_account (Some z) e some = absurd (cc)
-
 -- an account that is not there has no grants
 none_granted : (w : World) (a : List ℕ) → IsSound w → get w.free a ≡ None → granted a w ≡ 0
 none_granted w a sound none =
-    none_in a (entries w.grants) (λ b. sym (contains_key-keys w.grants (b, a)) ∙ not_there (get w.grants (b, a)) (λ some. no_account (get w.free a) none ((sound.accounts a).1 (b, some))))
+    none_in a (entries w.grants) (λ b. sym (contains_key-keys w.grants (b, a)) ∙ false_from_ne_true (is_some (get w.grants (b, a))) (λ some. both_ways (is_some (get w.free a)) (ap is_some none) ((sound.accounts a).1 (b, some))))
 
 -- ---- a grant keeps a world sound
 
@@ -146,10 +131,6 @@ module _ (w : World) (g : GrantRow) (sound : IsSound w) (row : IsGrantRow g) (ne
         | false ↦ λ is. let most = sound.most a in omega arith
       ] refl)
 
-  some_either : (t : Bool) (z : ℤ) (o : Option ℤ) → IsSome o → IsSome (cond t (Some z) o)
-  some_either true z o some = refl
-  some_either false z o some = some
-
   accounts_after : (a : List ℕ) → IsSome (get after.free a) ↔ ((b : List ℕ) × IsSome (get after.grants (b, a)))
   accounts_after a = (
     λ some. elim (bytes_eq a g.account) as (λ t. bytes_eq a g.account ≡ t → (b : List ℕ) × IsSome (get after.grants (b, a))) [
@@ -169,17 +150,12 @@ module _ (w : World) (g : GrantRow) (sound : IsSound w) (row : IsGrantRow g) (ne
       some_grant false o some = some
 
       apart : (b a : List ℕ) → bytes_eq a g.account ≡ false → is_grant_key (b, a) (g.batch, g.account) ≡ false
-      apart b a is = elim (is_grant_key (b, a) (g.batch, g.account)) as (λ t. is_grant_key (b, a) (g.batch, g.account) ≡ t → t ≡ false) [
-        | true ↦ λ key. absurd (let same : bytes_eq a g.account ≡ true = ap (λ x. bytes_eq x g.account) (grant_key b a g.batch g.account key).1 ∙ nat_list_eq_equiv.refl g.account in cc)
-        | false ↦ λ key. refl
-      ] refl
+      apart b a is =
+          false_from_ne_true (is_grant_key (b, a) (g.batch, g.account))
+          (λ key. both_ways (bytes_eq a g.account) is (ap (λ x. bytes_eq x g.account) (grant_key b a g.batch g.account key).1 ∙ nat_list_eq_equiv.refl g.account))
 
   none_before : (a : List ℕ) → get after.free a ≡ None → get w.free a ≡ None
-  none_before a e = behind (bytes_eq a g.account) funds (get w.free a) (sym (got_free w g a) ∙ e)
-    where
-      behind : (t : Bool) (z : ℤ) (o : Option ℤ) → cond t (Some z) o ≡ None → o ≡ None
-      behind true z o e = absurd (cc)
-      behind false z o e = e
+  none_before a e = (no_value (bytes_eq a g.account) funds (get w.free a) (sym (got_free w g a) ∙ e)).1
 
   balance : (o : Option ℤ) (a : List ℕ) → get w.free a ≡ o → pos (granted a w + g.pages) ≡ (unwrap_or o (pos 0) +ℤ pos g.pages) +ℤ pos (reserved a w + printed a w)
   balance None a is =
@@ -214,15 +190,11 @@ module _ (w : World) (g : GrantRow) (sound : IsSound w) (row : IsGrantRow g) (ne
     grants = grants_after;
     most = most_after;
     accounts = accounts_after;
-    reports = λ n s. kept (get w.reports (n, s)) n s (sound.reports n s);
+    reports = λ n s. IfSome_then (get w.reports (n, s)) (sound.reports n s) (λ k p. record { job = p.job; seq = p.seq; there = p.there; positive = p.positive; count = p.count; total = p.total });
     counts = sound.counts;
     idle = each-map (λ e. get w.free e.row.owner ≡ None → IsIdle e.row) (λ e. get after.free e.row.owner ≡ None → IsIdle e.row) w.jobs (λ e f none. f (none_before e.row.owner none)) sound.idle;
     balances = balances_after;
   }
-    where
-      kept : (o : Option KeptReport) (n s : ℕ) → IfSome o (IsKept w n s) → IfSome o (IsKept after n s)
-      kept None n s p = tt
-      kept (Some k) n s p = record { job = p.job; seq = p.seq; there = p.there; positive = p.positive; count = p.count; total = p.total }
 
 -- ---- the rows of an account file
 
@@ -258,12 +230,6 @@ or_none : (o : Option GrantRow) → option_or o None ≡ o
 or_none None = refl
 or_none (Some g) = refl
 
--- two comparisons in turn are equal where both are
-both_equal : (a b : Ordering) → is_eq (ordering_then a b) ≡ (is_eq a && is_eq b)
-both_equal Less b = refl
-both_equal Equal b = refl
-both_equal Greater b = refl
-
 same_test : (b a : List ℕ) (r : GrantRow) → is_grant_key (b, a) (r.batch, r.account) ≡ (bytes_eq r.batch b && bytes_eq r.account a)
 same_test b a r =
     both_equal (text_cmp b r.batch) (text_cmp a r.account)
@@ -274,16 +240,12 @@ joined : (p : Bool) (r : GrantRow) (known : Option ℕ) (o : Option GrantRow) �
 joined true r known o none = let is = none refl in subst (λ k. Some r.pages ≡ cond (is_some k) k (option_map (λ (g : GrantRow). g.pages) (option_or o (Some r)))) (sym is.0) (subst (λ o. Some r.pages ≡ option_map (λ (g : GrantRow). g.pages) (option_or o (Some r))) (sym is.1) refl)
 joined false r known o none = ap (λ o. cond (is_some known) known (option_map (λ (g : GrantRow). g.pages) o)) (sym (or_none o))
 
-parts : (a b : Bool) → (a && b) ≡ true → (a ≡ true) × (b ≡ true)
-parts true b e = (refl, e)
-parts false b e = absurd (cc)
-
 pages_push : (w : World) (new : List GrantRow) (r : GrantRow) (b a : List ℕ) → pages_at w r.batch r.account new ≡ None → cond (is_grant_key (b, a) (r.batch, r.account)) (Some r.pages) (pages_at w b a new) ≡ pages_at w b a (new ++ r ∷ [])
 pages_push w new r b a absent =
     let p = λ (g : GrantRow). bytes_eq g.batch b && bytes_eq g.account a in
     ap (λ t. cond t (Some r.pages) (pages_at w b a new)) (same_test b a r)
     ∙ joined (bytes_eq r.batch b && bytes_eq r.account a) r (get w.grants (b, a)) (find p new)
-    (λ is. let key = parts (bytes_eq r.batch b) (bytes_eq r.account a) is in
+    (λ is. let key = and_parts (bytes_eq r.batch b) (bytes_eq r.account a) is in
     none_either (get w.grants (b, a)) (find p new) (ap (λ y. pages_at w b y new) (sym (same_key r.account a key.1)) ∙ ap (λ x. pages_at w x r.account new) (sym (same_key r.batch b key.0)) ∙ absent))
     ∙ ap (λ o. cond (is_some (get w.grants (b, a))) (get w.grants (b, a)) (option_map (λ (g : GrantRow). g.pages) o)) (sym (find-append p new (r ∷ [])))
 

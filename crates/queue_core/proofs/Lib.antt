@@ -10,6 +10,7 @@ pub mod Ordered
 pub mod Numbers
 pub mod Many
 pub mod Cancel
+pub mod Forms
 pub mod Maps
 pub mod Reported
 pub mod Within

@@ -5,9 +5,10 @@ use Rattle.std.specs.List.{list_all, AllByRecursion as Each}
 use Rattle.std.specs.Option.{option_map_or}
 use Rattle.std.specs.FinMap.{FinMap, get, same_map, slice_cmp-IsAntisymmetric, nat_cmp-IsAntisymmetric}
 use Rattle.std.specs.Cmp.Lexicographic.{nat_list_cmp_total}
-use Rattle.std.proofs.lemmas.Bool.Decides.{nat_tests}
+use Rattle.std.proofs.lemmas.Bool.{and_parts, eqb-true}
 use Rattle.std.proofs.lemmas.Cmp.{nat_list_eq_equiv}
 use Rattle.std.proofs.lemmas.Int.{ints}
+use Rattle.std.proofs.lemmas.List.Elements.{filter_passes}
 use Rattle.queue_core.specs.World.{World, Entry, rows, cut, made_on, with_row, text_cmp, job_at, is_one_of}
 use Rattle.queue_types.specs.Event.{Call, ask, cancel_my_jobs}
 use Rattle.queue_types.specs.Job.{is_live, state_in}
@@ -18,12 +19,12 @@ use Rattle.queue_core.specs.Runs.{Follows, is_pair}
 use Rattle.queue_core.specs.Sound.{IsSound, IsIdle, Rise}
 use Rattle.queue_types.specs.declared.job.Job.{Job}
 use Rattle.queue_types.specs.declared.job.Phase.{Phase}
-use Rattle.queue_types.specs.declared.job.Phase.TheVariants.{Waiting, Running, Stopped, Canceled, Aborted, Completed}
+use Rattle.queue_types.specs.declared.job.Phase.TheVariants.{Waiting, Running, Stopped}
 use Rattle.queue_types.specs.declared.event.Scene.{Scene}
-use Rattle.queue_core.proofs.Keep.{at}
+use Rattle.queue_core.proofs.Keep.{at, each-map, ne_from_lt}
 use Rattle.queue_core.proofs.Moves.{stays, at-with_row}
 use Rattle.queue_core.proofs.Numbers.{filter_whole}
-use Rattle.queue_core.proofs.Ordered.{each-filter}
+use Rattle.queue_core.proofs.Ordered.{each_of, each-filter}
 use Rattle.queue_core.proofs.Orders.{rising-filter}
 use Rattle.queue_core.proofs.Own.{Keeps, unchanged, moved, moved_from, moved_get, same_key, itself}
 use Rattle.queue_core.proofs.Rows.{Replaces, KeepsDocuments, row_keeps, row_entries, rows_of, with_jobs, back, kept_amount}
@@ -34,9 +35,7 @@ pub replaced : (now : ℕ) (j : Job) (p : Phase) → j.phase ≡ p → is_cancel
 replaced now j Waiting is can = record { number = refl; owner = refl; count = refl; live = omega arith }
 replaced now j Running is can = record { number = refl; owner = refl; count = refl; live = omega arith }
 replaced now j Stopped is can = record { number = refl; owner = refl; count = refl; live = omega arith }
-replaced now j (Canceled why) is can = absurd (cc)
-replaced now j Aborted is can = absurd (cc)
-replaced now j Completed is can = absurd (cc)
+replaced now j _ is can = absurd (cc)
 
 -- marked as stopping
 stopping : (now : ℕ) (j : Job) (p : Phase) → j.phase ≡ p → (FitsPhase p j → FitsPhase p (record j { stopping = true })) → KeepsDocuments (record j { stopping = true }) j
@@ -80,17 +79,11 @@ keeps_documents now j Waiting moment is can = record {
 }
 keeps_documents now j Running moment is can = stopping now j Running is (λ f. f)
 keeps_documents now j Stopped moment is can = stopping now j Stopped is (λ f. f)
-keeps_documents now j (Canceled why) moment is can = absurd (cc)
-keeps_documents now j Aborted moment is can = absurd (cc)
-keeps_documents now j Completed moment is can = absurd (cc)
+keeps_documents now j _ moment is can = absurd (cc)
 
 pub stays_idle : (now : ℕ) (j : Job) (p : Phase) → is_cancelable_in p j ≡ true → IsIdle j → IsIdle (canceled_in p now j)
 stays_idle now j Waiting can h = (h.0, h.1, refl)
-stays_idle now j Running can h = h
-stays_idle now j Stopped can h = h
-stays_idle now j (Canceled why) can h = h
-stays_idle now j Aborted can h = h
-stays_idle now j Completed can h = h
+stays_idle now j _ can h = h
 
 waiting_ends : (hold incoming : Bool) → IsTrue (is_pair (state_in Waiting hold incoming) 7)
 waiting_ends true incoming = refl
@@ -101,14 +94,9 @@ pub follows : (now : ℕ) (j : Job) (p : Phase) → j.phase ≡ p → is_cancela
 follows now j Waiting is can = inr (subst (λ p. IsTrue (is_pair (state_in p j.hold j.incoming) 7)) (sym is) (waiting_ends j.hold j.incoming))
 follows now j Running is can = inl refl
 follows now j Stopped is can = inl refl
-follows now j (Canceled why) is can = absurd (cc)
-follows now j Aborted is can = absurd (cc)
-follows now j Completed is can = absurd (cc)
+follows now j _ is can = absurd (cc)
 
 -- ---- the jobs of a rising list
-
-apart : (a b : ℕ) → a < b → nat_eq a b ≡ false
-apart a b h = grind (arith, nat_tests)
 
 rising_above : (e : Entry) (first next : ℕ) (es : List Entry) → e.row.number < first → Rise first es next → Each (λ (k : Job). e.row.number < k.number) (rows_of es)
 rising_above e first next [] low rise = tt
@@ -118,17 +106,13 @@ pub rising : (first next : ℕ) (es : List Entry) → Rise first es next → Are
 rising first next [] rise = tt
 rising first next (e ∷ es) rise = (rising_above e (e.row.number + 1) next es (omega arith) rise.1, rising (e.row.number + 1) next es rise.1)
 
-pub each_map : (P Q : Job → Type 0) (js : List Job) → ((j : Job) → P j → Q j) → Each P js → Each Q js
-each_map P Q [] f each = tt
-each_map P Q (j ∷ js) f each = (f j each.0, each_map P Q js f each.1)
-
 pub each_both : (P Q : Job → Type 0) (js : List Job) → Each P js → Each Q js → Each (λ j. P j × Q j) js
 each_both P Q [] p q = tt
 each_both P Q (j ∷ js) p q = ((p.0, q.0), each_both P Q js p.1 q.1)
 
 behind : (j : Job) (js ks : List Job) → Each (λ k. j.number < k.number) ks → Each (λ k. job_at k.number js ≡ Some k) ks → Each (λ k. job_at k.number (j ∷ js) ≡ Some k) ks
 behind j js [] above each = tt
-behind j js (k ∷ ks) above each = (ap (λ b. cond b (Some j) (job_at k.number js)) (apart j.number k.number above.0) ∙ each.0, behind j js ks above.1 each.1)
+behind j js (k ∷ ks) above each = (ap (λ b. cond b (Some j) (job_at k.number js)) (ne_from_lt j.number k.number above.0) ∙ each.0, behind j js ks above.1 each.1)
 
 -- each stands at its own number
 pub at_its_number : (js : List Job) → AreRising js → Each (λ j. job_at j.number js ≡ Some j) js
@@ -136,11 +120,7 @@ at_its_number [] rising = tt
 at_its_number (j ∷ js) rising = (ap (λ b. cond b (Some j) (job_at j.number js)) (itself j.number), behind j js js rising.0 (at_its_number js rising.1))
 
 pub passed : (p : Job → Bool) (js : List Job) → Each (λ j. p j ≡ true) (filter p js)
-passed p [] = tt
-passed p (j ∷ js) = elim (p j) as (λ b. p j ≡ b → Each (λ k. p k ≡ true) (cond b (j ∷ filter p js) (filter p js))) [
-  | true ↦ λ is. (is, passed p js)
-  | false ↦ λ is. passed p js
-] refl
+passed p js = each_of (λ j. p j ≡ true) (filter p js) (filter_passes p js)
 
 -- ---- what comes back to an account
 
@@ -181,7 +161,7 @@ still_ready : (w : World) (m : FinMap text_cmp ℤ) (before : List Job) (x j : J
 still_ready w m before x j [] same above each = tt
 still_ready w m before x j (k ∷ ks) same above each =
     let here : at k.number (with_row w.jobs x) ≡ Some k =
-    at-with_row k.number x w.jobs ∙ ap (λ b. cond b (Some x) (at k.number w.jobs)) (ap (λ n. nat_eq n k.number) same ∙ apart j.number k.number above.0) ∙ each.0.0 in
+    at-with_row k.number x w.jobs ∙ ap (λ b. cond b (Some x) (at k.number w.jobs)) (ap (λ n. nat_eq n k.number) same ∙ ne_from_lt j.number k.number above.0) ∙ each.0.0 in
     ((here, each.0.1, each.0.2), still_ready w m before x j ks same above.1 each.1)
 
 many_sound : (now : ℕ) (before : List Job) → IsMoment now → (js : List Job) (w : World) (m : FinMap text_cmp ℤ) → IsSound w → AreRising js → Each (IsReady w before) js
@@ -207,9 +187,6 @@ many_sound now before moment (j ∷ js) w m sound rising each free =
     ∙ twice (back x j q) (returned before q (map (canceled now) js)) (get w.free q)
     ∙ ap (option_map (λ f. f +ℤ returned before q (map (canceled now) js))) (sym (got q)))
 
-equal : (a b : ℕ) → nat_eq a b ≡ true → a ≡ b
-equal a b e = grind (arith, nat_tests)
-
 -- rows that each follow what stood at their number
 many_move : (old es : List Entry) (xs : List Job) → ((n : ℕ) → Follows (at n old) (at n es)) → Each (λ x. Follows (at x.number old) (Some x)) xs → (n : ℕ) → Follows (at n old) (at n (fold with_row es xs))
 many_move old es [] before each n = before n
@@ -217,7 +194,7 @@ many_move old es (x ∷ xs) before each n =
     many_move old (with_row es x) xs
     (λ k. subst (Follows (at k old)) (sym (at-with_row k x es))
     (elim (nat_eq x.number k) as (λ t. nat_eq x.number k ≡ t → Follows (at k old) (cond t (Some x) (at k es))) [
-      | true ↦ λ is. subst (λ i. Follows (at i old) (Some x)) (equal x.number k is) each.0
+      | true ↦ λ is. subst (λ i. Follows (at i old) (Some x)) (eqb-true x.number k is) each.0
       | false ↦ λ is. before k
     ] refl))
     each.1 n
@@ -252,13 +229,13 @@ module _ (w : World) (now : ℕ) (caller : List ℕ) (call : Call) (c : Job → 
   ready =
       let here = each-filter (λ j. job_at j.number (rows w) ≡ Some j) is_cancelable asked (each-filter (λ j. job_at j.number (rows w) ≡ Some j) c (rows w) (at_its_number (rows w) in_turn)) in
       let known = each-filter (λ j. job_at j.number asked ≡ Some j) is_cancelable asked (at_its_number asked (rising-filter c (rows w) in_turn)) in
-      each_map (λ j. (job_at j.number (rows w) ≡ Some j) × ((job_at j.number asked ≡ Some j) × (is_cancelable j ≡ true))) (IsReady w asked) able (λ j h. (h.0, h.1.0, h.1.1))
+      each-map (λ j. (job_at j.number (rows w) ≡ Some j) × ((job_at j.number asked ≡ Some j) × (is_cancelable j ≡ true))) (IsReady w asked) able (λ j h. (h.0, h.1.0, h.1.1))
       (each_both (λ j. job_at j.number (rows w) ≡ Some j) (λ j. (job_at j.number asked ≡ Some j) × (is_cancelable j ≡ true)) able here
       (each_both (λ j. job_at j.number asked ≡ Some j) (λ j. is_cancelable j ≡ true) able known (passed is_cancelable asked)))
 
   owned : Each (λ x. x.owner ≡ caller) (map (canceled now) able)
   owned = each_owned now caller able
-      (each_both (λ j. j.owner ≡ caller) (λ j. is_cancelable j ≡ true) able (each-filter (λ j. j.owner ≡ caller) is_cancelable asked (each_map (λ j. c j ≡ true) (λ j. j.owner ≡ caller) asked own (passed c (rows w)))) (passed is_cancelable asked))
+      (each_both (λ j. j.owner ≡ caller) (λ j. is_cancelable j ≡ true) able (each-filter (λ j. j.owner ≡ caller) is_cancelable asked (each-map (λ j. c j ≡ true) (λ j. j.owner ≡ caller) asked own (passed c (rows w)))) (passed is_cancelable asked))
 
   free_moves : (q : List ℕ) → get (moved w.free caller asked (map (canceled now) able)) q ≡ option_map (λ f. f +ℤ returned asked q (map (canceled now) able)) (get w.free q)
   free_moves q =
@@ -277,18 +254,14 @@ module _ (w : World) (now : ℕ) (caller : List ℕ) (call : Call) (c : Job → 
   pub all_keeps : Keeps w (made_on (all_canceled scene now (filter is_cancelable scene.jobs)).change w)
   all_keeps = subst (λ js. Keeps w (with_jobs w (moved w.free caller js (map (canceled now) (filter is_cancelable js))) (fold with_row w.jobs (map (canceled now) (filter is_cancelable js))))) (sym named) able_keeps
 
-pub first_of : (a b : Bool) → (a && b) ≡ true → a ≡ true
-first_of true b e = refl
-first_of false b e = absurd (cc)
-
 pub cancel_my_keeps : (w : World) (now : ℕ) (caller : List ℕ) (numbers : Option (List ℕ)) → IsSound w → IsMoment now → Keeps w (made_on (cancel_my_jobs_row (cut w (ask caller (cancel_my_jobs numbers))) now numbers).change w)
 cancel_my_keeps w now caller None sound moment =
-    all_keeps w now caller (cancel_my_jobs None) (λ j. bytes_eq j.owner caller && is_live j) sound moment refl (λ j is. same_key j.owner caller (first_of (bytes_eq j.owner caller) (is_live j) is))
+    all_keeps w now caller (cancel_my_jobs None) (λ j. bytes_eq j.owner caller && is_live j) sound moment refl (λ j is. same_key j.owner caller (and_parts (bytes_eq j.owner caller) (is_live j) is).0)
 cancel_my_keeps w now caller (Some numbers) sound moment =
     let s : Scene = cut w (ask caller (cancel_my_jobs (Some numbers))) in
     let keeps : Keeps w (made_on (all_canceled s now (filter is_cancelable s.jobs)).change w) =
     all_keeps w now caller (cancel_my_jobs (Some numbers)) (λ j. bytes_eq j.owner caller && is_one_of numbers j) sound moment refl
-    (λ j is. same_key j.owner caller (first_of (bytes_eq j.owner caller) (is_one_of numbers j) is)) in
+    (λ j is. same_key j.owner caller (and_parts (bytes_eq j.owner caller) (is_one_of numbers j) is).0) in
     elim (are_there s.jobs numbers) as (λ b. Keeps w (made_on (cond b (cond (list_all is_cancelable s.jobs) (all_canceled s now s.jobs) (refused 0x0404)) (refused 0x0406)).change w)) [
       | true ↦
           elim (list_all is_cancelable s.jobs) as (λ b. list_all is_cancelable s.jobs ≡ b → Keeps w (made_on (cond b (all_canceled s now s.jobs) (refused 0x0404)).change w)) [

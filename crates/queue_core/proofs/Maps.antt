@@ -1,25 +1,18 @@
 -- The keys of grants and reports.
-use Rattle.std.proofs.Common.{◌≡◌, ℕ, ◌+◌, List, [], ◌∷◌, refl, ap, sym, ◌∙◌, arith, Bool, true, false, cond}
-use Rattle.std.specs.Prelude.{Option, Some, None, sum_by}
+use Rattle.std.proofs.Common.{◌≡◌, ℕ, ◌+◌, List, [], ◌∷◌, refl, ap, sym, ◌∙◌, arith, Bool, true, false, ◌&&◌}
+use Rattle.std.specs.Prelude.{None, sum_by}
 use Rattle.std.specs.FinMap.{FinMap, get, insert, entries, entries-insert, get-entries, find, put}
 use Rattle.std.specs.FinMap.Entries.{by_order}
 use Rattle.std.specs.Ordering.{is_eq, eq_by_cmp, nat_cmp, ordering_then}
 use Rattle.std.specs.declared.cmp.Ordering.{Ordering}
 use Rattle.std.specs.declared.cmp.Ordering.TheVariants.{Less, Equal, Greater}
-use Rattle.std.specs.Cmp.{unsigned_tied, IsTotalOrder, eq_by_cmp_equiv}
-use Rattle.std.specs.Cmp.Lexicographic.{nat_list_cmp_total}
-use Rattle.std.proofs.lemmas.Cmp.{nat_cmp_total, then_total, on_total}
+use Rattle.std.specs.Cmp.{unsigned_tied, eq_by_cmp_equiv}
+use Rattle.std.proofs.lemmas.Bool.{and_parts, eqb-true}
 use Rattle.std.proofs.lemmas.List.Sums.{sum_by-cons}
 use Rattle.std.proofs.lemmas.Map.Text.{is_eq-slice_cmp}
 use Rattle.queue_core.specs.World.{grant_cmp, report_cmp, text_cmp}
-use Rattle.queue_core.proofs.Own.{same_key}
-use Rattle.queue_core.proofs.Moves.{equal}
-
-pub grant_total : IsTotalOrder grant_cmp
-grant_total = then_total (on_total (λ (p : List ℕ × List ℕ). p.0) nat_list_cmp_total) (on_total (λ (p : List ℕ × List ℕ). p.1) nat_list_cmp_total)
-
-pub report_total : IsTotalOrder report_cmp
-report_total = then_total (on_total (λ (p : ℕ × ℕ). p.0) nat_cmp_total) (on_total (λ (p : ℕ × ℕ). p.1) nat_cmp_total)
+pub use Rattle.queue_core.specs.World.{grant_total, report_total}
+use Rattle.queue_core.proofs.Keep.{no_value, same_key}
 
 abbrev pub is_report_key : ℕ × ℕ → ℕ × ℕ → Bool
 is_report_key q k = eq_by_cmp report_cmp q k
@@ -27,10 +20,10 @@ is_report_key q k = eq_by_cmp report_cmp q k
 abbrev pub is_grant_key : List ℕ × List ℕ → List ℕ × List ℕ → Bool
 is_grant_key q k = eq_by_cmp grant_cmp q k
 
-tied : (a b : Ordering) → is_eq (ordering_then a b) ≡ true → (is_eq a ≡ true) × (is_eq b ≡ true)
-tied Less b e = absurd (cc)
-tied Equal b e = (refl, e)
-tied Greater b e = absurd (cc)
+-- two comparisons in turn are equal where both are
+pub both_equal : (a b : Ordering) → is_eq (ordering_then a b) ≡ (is_eq a && is_eq b)
+both_equal Equal b = refl
+both_equal _ b = refl
 
 pub own_report_key : (n s : ℕ) → is_report_key (n, s) (n, s) ≡ true
 own_report_key n s = (eq_by_cmp_equiv report_total).refl (n, s)
@@ -40,17 +33,13 @@ own_grant_key a b = (eq_by_cmp_equiv grant_total).refl (a, b)
 
 pub report_key : (n s m t : ℕ) → is_report_key (n, s) (m, t) ≡ true → (n ≡ m) × (s ≡ t)
 report_key n s m t e =
-    let both = tied (nat_cmp n m) (nat_cmp s t) e in
-    (equal n m (sym (unsigned_tied n m) ∙ both.0), equal s t (sym (unsigned_tied s t) ∙ both.1))
+    let both = and_parts (is_eq (nat_cmp n m)) (is_eq (nat_cmp s t)) (sym (both_equal (nat_cmp n m) (nat_cmp s t)) ∙ e) in
+    (eqb-true n m (sym (unsigned_tied n m) ∙ both.0), eqb-true s t (sym (unsigned_tied s t) ∙ both.1))
 
 pub grant_key : (a b c d : List ℕ) → is_grant_key (a, b) (c, d) ≡ true → (a ≡ c) × (b ≡ d)
 grant_key a b c d e =
-    let both = tied (text_cmp a c) (text_cmp b d) e in
+    let both = and_parts (is_eq (text_cmp a c)) (is_eq (text_cmp b d)) (sym (both_equal (text_cmp a c) (text_cmp b d)) ∙ e) in
     (same_key a c (sym (is_eq-slice_cmp a c) ∙ both.0), same_key b d (sym (is_eq-slice_cmp b d) ∙ both.1))
-
-no_value : (b : Bool) (n : ℕ) (o : Option ℕ) → cond b (Some n) o ≡ None → (b ≡ false) × (o ≡ None)
-no_value true n o e = absurd (cc)
-no_value false n o e = (refl, e)
 
 -- a new key adds its part to a sum
 sum-put : (f : (List ℕ × List ℕ) × ℕ → ℕ) (k : List ℕ × List ℕ) (v : ℕ) (es : List ((List ℕ × List ℕ) × ℕ)) → find grant_cmp k es ≡ None → sum_by f (put grant_cmp k v es) ≡ sum_by f es + f (k, v)

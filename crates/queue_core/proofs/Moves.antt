@@ -2,6 +2,7 @@
 use Rattle.std.proofs.Common.{◌≡◌, ℕ, ℤ, List, [], ◌∷◌, ◌++◌, refl, ap, sym, ◌∙◌, arith, subst, inl, Bool, true, false, cond}
 use Rattle.std.specs.Prelude.{Option, Some, None, nat_eq}
 use Rattle.std.specs.FinMap.{FinMap}
+use Rattle.std.proofs.lemmas.Bool.{eqb-true}
 use Rattle.std.proofs.lemmas.Bool.Decides.{nat_tests}
 use Rattle.queue_core.specs.World.{World, Entry, rows, with_row, job_at, text_cmp}
 use Rattle.queue_core.specs.Runs.{Follows, MovesAlong}
@@ -28,9 +29,6 @@ swap_tests s t x y z =
       | false ↦ λ no. refl
     ]
 
-pub equal : (a b : ℕ) → nat_eq a b ≡ true → a ≡ b
-equal a b e = grind (arith, nat_tests)
-
 not_both : (a b n : ℕ) → nat_eq a b ≡ false → nat_eq a n ≡ true → nat_eq b n ≡ true → ⊥
 not_both a b n e s t = grind (arith, nat_tests)
 
@@ -39,7 +37,7 @@ pub at-with_row : (n : ℕ) (x : Job) (es : List Entry) → at n (with_row es x)
 at-with_row n x [] = refl
 at-with_row n x (e ∷ es) =
     elim (nat_eq e.row.number x.number) as (λ t. nat_eq e.row.number x.number ≡ t → at n (cond t (record e { row = x } ∷ es) (e ∷ with_row es x)) ≡ cond (nat_eq x.number n) (Some x) (cond (nat_eq e.row.number n) (Some e.row) (at n es))) [
-      | true ↦ λ is. shadow (nat_eq x.number n) (Some x) (Some e.row) (at n es) ∙ ap (λ m. cond (nat_eq x.number n) (Some x) (cond (nat_eq m n) (Some e.row) (at n es))) (sym (equal e.row.number x.number is))
+      | true ↦ λ is. shadow (nat_eq x.number n) (Some x) (Some e.row) (at n es) ∙ ap (λ m. cond (nat_eq x.number n) (Some x) (cond (nat_eq m n) (Some e.row) (at n es))) (sym (eqb-true e.row.number x.number is))
       | false ↦ λ is. ap (λ o. cond (nat_eq e.row.number n) (Some e.row) o) (at-with_row n x es) ∙ swap_tests (nat_eq e.row.number n) (nat_eq x.number n) (Some e.row) (Some x) (at n es) (not_both e.row.number x.number n is)
     ] refl
 
@@ -48,7 +46,7 @@ pub row_moves : (w : World) (m : FinMap text_cmp ℤ) (es : List Entry) (x j : J
 row_moves w m es x j same there follows n =
     subst (Follows (at n w.jobs)) (sym (ap (job_at n) same ∙ at-with_row n x w.jobs))
     (elim (nat_eq x.number n) as (λ t. nat_eq x.number n ≡ t → Follows (at n w.jobs) (cond t (Some x) (at n w.jobs))) [
-      | true ↦ λ is. subst (λ o. Follows o (Some x)) (sym (ap (λ k. at k w.jobs) (sym (equal x.number n is)) ∙ there)) follows
+      | true ↦ λ is. subst (λ o. Follows o (Some x)) (sym (ap (λ k. at k w.jobs) (sym (eqb-true x.number n is)) ∙ there)) follows
       | false ↦ λ is. follows_itself (at n w.jobs)
     ] refl)
 

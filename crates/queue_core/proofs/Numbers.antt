@@ -11,7 +11,7 @@ use Rattle.queue_core.specs.Balance.{AreAmounts}
 use Rattle.queue_core.specs.Machine.{canceled, canceled_in, is_cancelable}
 use Rattle.queue_types.specs.declared.job.Job.{Job}
 use Rattle.queue_types.specs.declared.job.Phase.{Phase}
-use Rattle.queue_types.specs.declared.job.Phase.TheVariants.{Waiting, Running, Stopped, Canceled, Aborted, Completed}
+use Rattle.queue_types.specs.declared.job.Phase.TheVariants.{Waiting, Running, Stopped}
 use Rattle.queue_core.proofs.Ordered.{all_of, each_of, each-filter}
 
 -- ---- numbers that were seen
@@ -47,9 +47,7 @@ amounts_in : (now : ℕ) (j : Job) (p : Phase) → AreAmounts j → AreAmounts (
 amounts_in now j Waiting a = record { impressions = a.impressions; copies = a.copies; count = a.count }
 amounts_in now j Running a = record { impressions = a.impressions; copies = a.copies; count = a.count }
 amounts_in now j Stopped a = record { impressions = a.impressions; copies = a.copies; count = a.count }
-amounts_in now j (Canceled why) a = a
-amounts_in now j Aborted a = a
-amounts_in now j Completed a = a
+amounts_in now j _ a = a
 
 each_canceled : (now : ℕ) (js : List Job) → Each AreAmounts js → Each AreAmounts (map (canceled now) js)
 each_canceled now [] each = tt

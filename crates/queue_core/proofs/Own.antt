@@ -1,6 +1,6 @@
 -- A job of the caller's own changes, with the free pages of its account: the world stays sound, and its jobs move along
 -- the allowed pairs.
-use Rattle.std.proofs.Common.{◌≡◌, ℕ, ℤ, pos, ◌+ℤ◌, ◌-ℤ◌, List, [], ◌∷◌, map, refl, ap, sym, ◌∙◌, arith, rules, eq-eqb, subst, true, false, cond}
+use Rattle.std.proofs.Common.{◌≡◌, ℕ, ℤ, pos, ◌+ℤ◌, ◌-ℤ◌, List, [], ◌∷◌, map, refl, ap, sym, ◌∙◌, arith, eq-eqb, subst, true, false, cond}
 use Rattle.std.specs.Prelude.{Option, Some, None, nat_eq, bytes_eq, option_map, filter, fold}
 use Rattle.std.specs.List.{AllByRecursion as Each}
 use Rattle.std.specs.Option.{option_map_or}
@@ -10,7 +10,6 @@ use Rattle.std.proofs.lemmas.Bool.Decides.{nat_tests}
 use Rattle.std.proofs.lemmas.Cmp.{nat_list_eq_equiv}
 use Rattle.std.proofs.lemmas.Int.{ints}
 use Rattle.std.proofs.lemmas.Map.Text.{is_eq-slice_cmp}
-use Rattle.std.proofs.lemmas.Slice.Eq.{bytes_eq-Decides}
 use Rattle.queue_core.specs.World.{World, rows, cut, made_on, text_cmp, put_free, found_row, job_at, with_row, with_document}
 use Rattle.queue_types.specs.Event.{Call, Decision, NewDocument, ask}
 use Rattle.queue_core.specs.Machine.{taken, credited, returned, changed, becomes, refused, of_own}
@@ -19,6 +18,7 @@ use Rattle.queue_core.specs.Sound.{IsSound, IsSoundEntry, IsIdle}
 use Rattle.queue_types.specs.declared.job.Job.{Job}
 use Rattle.queue_types.specs.declared.event.Scene.{Scene}
 use Rattle.queue_core.proofs.Keep.{at}
+pub use Rattle.queue_core.proofs.Keep.{same_key}
 use Rattle.queue_core.proofs.Moves.{stays, row_moves}
 use Rattle.queue_core.proofs.Rows.{Replaces, KeepsDocuments, row_keeps, row_entries, rows_of, with_jobs, back, kept_amount}
 
@@ -42,9 +42,6 @@ pub gives_back : (j x : Job) (rest : List Job) (a : List ℕ) → x.number ≡ j
 gives_back j x rest a e =
     ap (λ t. pos 0 +ℤ cond (bytes_eq x.owner a) (pos (option_map_or taken (cond t (Some j) (job_at x.number rest)) 0) -ℤ pos (taken x)) (pos 0)) (ap (λ n. nat_eq j.number n) e ∙ itself j.number)
     ∙ nothing (back x j a)
-
-pub same_key : (a b : List ℕ) → bytes_eq a b ≡ true → a ≡ b
-same_key a b e = search (rules, bytes_eq-Decides)
 
 -- the accounts after the owner's row has got what comes back
 abbrev pub moved : FinMap text_cmp ℤ → List ℕ → List Job → List Job → FinMap text_cmp ℤ

@@ -1,7 +1,8 @@
 -- Print-Job and Create-Job keep a world sound: a row enters under the next number, and has taken nothing.
-use Rattle.std.proofs.Common.{◌≡◌, ℕ, pos, ◌+ℤ◌, ◌-ℤ◌, ◌+◌, ◌≤◌, ◌<◌, ◌^◌, List, [], ◌∷◌, ◌++◌, length, map, refl, ap, sym, ◌∙◌, arith, subst, eq-eqb, inr, Bool, true, false, cond}
+use Rattle.std.proofs.Common.{◌≡◌, ℕ, pos, ◌+ℤ◌, ◌-ℤ◌, ◌+◌, ◌≤◌, ◌<◌, ◌^◌, List, [], ◌∷◌, ◌++◌, length, map, refl, ap, sym, ◌∙◌, arith, subst, inr, Bool, true, false, cond}
 use Rattle.std.specs.Prelude.{Option, Some, None, IfSome, nat_eq, nat_le, nat_lt, bytes_eq, option_map, unwrap_or}
 use Rattle.std.specs.FinMap.{get}
+use Rattle.std.proofs.lemmas.Bool.{eqb-true}
 use Rattle.std.proofs.lemmas.Bool.Decides.{nat_tests}
 use Rattle.queue_types.specs.Settings.{AreSettings}
 use Rattle.queue_types.specs.Event.{Call, NewJob, NewDocument, ask, print_job, create_job}
@@ -17,8 +18,8 @@ use Rattle.queue_types.specs.declared.event.Scene.{Scene}
 use Rattle.queue_core.proofs.Rows.{kept_amount}
 use Rattle.queue_core.proofs.Enter.{fresh, first_below, with_row_new, with_document_new, with_new, new_row_keeps}
 use Rattle.queue_core.proofs.Moves.{new_moves}
-use Rattle.queue_core.proofs.Own.{Keeps, unchanged, moved, moved_from, same_key}
-use Rattle.queue_core.proofs.Send.{one_fits, no_bytes, one_document}
+use Rattle.queue_core.proofs.Own.{Keeps, unchanged, itself, moved, moved_from, same_key}
+use Rattle.queue_core.proofs.Send.{one_fits, one_document}
 
 -- ---- the new job is within its limits
 
@@ -42,11 +43,11 @@ new_job_sound s now caller incoming j payload settings some room moment owner ne
   begun = tt;
   ended = tt;
   documents = few (nat_eq (length payload) 0);
-  octets = one_fits (nat_eq (length payload) 0) (length payload) fits (no_bytes (length payload));
+  octets = one_fits (nat_eq (length payload) 0) (length payload) fits (eqb-true (length payload) 0);
   phase = (refl, refl, refl, refl);
 }
 
-abbrev refused_by : Bool → Bool → Option ℕ
+abbrev pub refused_by : Bool → Bool → Option ℕ
 refused_by full past = cond full (Some 0x0404) (cond past (Some 0x0506) None)
 
 neither : (full past : Bool) → refused_by full past ≡ None → (full ≡ false) × (past ≡ false)
@@ -66,9 +67,6 @@ not_refused s is =
 abbrev documents : Format → List ℕ → List Document
 documents format [] = []
 documents format (b ∷ bytes) = record { format = format; bytes = b ∷ bytes } ∷ []
-
-itself : (n : ℕ) → nat_eq n n ≡ true
-itself n = eq-eqb n n refl
 
 -- the row and its document stand at the end
 jobs_after : (x : Job) (format : Format) (payload : List ℕ) (es : List Entry) → Rise 1 es x.number → with_document (with_row es x) (new_document x.number format payload) ≡ es ++ record { row = x; documents = documents format payload } ∷ []

@@ -1,9 +1,11 @@
 -- A report keeps a world sound: one job changes, its count is the greatest, and the report is kept.
 use Rattle.std.proofs.Common.{◌≡◌, ℕ, ℤ, ◌+◌, ◌≤◌, ◌<◌, List, [], ◌∷◌, map, refl, ap, sym, ◌∙◌, arith, subst, inl, inr, Bool, true, false, cond}
-use Rattle.std.specs.Prelude.{Option, Some, None, IfSome, IsSome, IsSomeAnd, IsTrue, is_some, nat_eq, nat_le, fold, max, All, ◌⊎◌, ◌||◌}
+use Rattle.std.specs.Prelude.{Option, Some, None, IfSome, IsSome, IsSomeAnd, IsTrue, is_some, nat_eq, nat_le, fold, max, ◌⊎◌, ◌||◌}
 use Rattle.std.specs.List.{AllByRecursion as Each}
 use Rattle.std.specs.FinMap.{FinMap, get, insert, get-insert}
+use Rattle.std.proofs.lemmas.Bool.{both_ways, eqb-false, eqb-true, false_from_ne_true, or_parts}
 use Rattle.std.proofs.lemmas.Bool.Decides.{nat_tests}
+use Rattle.std.proofs.lemmas.Option.{IfSome_then, none-some, same_Some}
 use Rattle.queue_types.specs.Job.{is_live, is_live_in, job_state, state, state_in}
 use Rattle.queue_types.specs.Event.{tell}
 use Rattle.queue_core.specs.World.{World, Entry, rows, cut, made_on, with_row, owner_row, put_free, job_at, report_cmp, text_cmp}
@@ -22,10 +24,10 @@ use Rattle.queue_types.specs.declared.event.Scene.{Scene}
 use Rattle.queue_types.specs.declared.job.Job.{Job}
 use Rattle.queue_types.specs.declared.job.Phase.{Phase}
 use Rattle.queue_types.specs.declared.job.Phase.TheVariants.{Waiting, Running, Stopped, Canceled, Aborted, Completed}
-use Rattle.queue_core.proofs.Keep.{at, each-with_row, some-with_row}
-use Rattle.queue_core.proofs.Fair.{fair_of}
+use Rattle.queue_core.proofs.Keep.{at, each-with_row, ne_from_gt, some-with_row}
+use Rattle.queue_core.proofs.Fair.{first_sound}
 use Rattle.queue_core.proofs.Maps.{report_total, is_report_key, report_key, own_report_key}
-use Rattle.queue_core.proofs.Moves.{row_moves, equal}
+use Rattle.queue_core.proofs.Moves.{row_moves}
 use Rattle.queue_core.proofs.Own.{Keeps, unchanged, first_named, moved, moved_get}
 use Rattle.queue_core.proofs.Rows.{job_keeps}
 
@@ -48,20 +50,12 @@ limit = 100000000
 at_most : (a b : ℕ) → a ≤ limit → b ≤ limit → max a b ≤ limit
 at_most a b h k = omega arith
 
-same_job : (a b : Job) → Some a ≡ Some b → a ≡ b
-same_job a b e = cc
-
 begun_not_idle : (o : Option ℕ) → IsSome o → o ≡ None → ⊥
-begun_not_idle None some none = absurd (cc)
-begun_not_idle (Some n) some none = absurd (cc)
+begun_not_idle o some none = both_ways (is_some o) (ap is_some none) some
 
 held_or_ended : (hold incoming : Bool) (ended : Option ℕ) → (hold || incoming) ≡ false → ended ≡ None → IsTrue (hold || is_some ended) → ⊥
 held_or_ended true incoming ended free none idle = absurd (cc)
 held_or_ended false incoming ended free none idle = let no : is_some ended ≡ false = ap is_some none in absurd (cc)
-
-not_held : (hold incoming : Bool) → (hold || incoming) ≡ false → (hold ≡ false) × (incoming ≡ false)
-not_held true incoming e = absurd (cc)
-not_held false incoming e = (refl, e)
 
 pending : (hold incoming : Bool) → (hold || incoming) ≡ false → IsTrue (is_pair (state_in Waiting hold incoming) 5)
 pending true incoming e = absurd (cc)
@@ -90,8 +84,8 @@ module _ (c now : ℕ) (j : Job) (s : IsSoundJob j) (moment : IsMoment now) (fit
   starts true free is x e = absurd (cc)
   starts false free is x e =
       let waits = subst (λ p. FitsPhase p j) is s.phase in
-      let un = not_held j.hold j.incoming free in
-      subst (λ x. IsReported c x j) (same_job _ x e) (record {
+      let un = or_parts j.hold j.incoming free in
+      subst (λ x. IsReported c x j) (same_Some _ x e) (record {
         number = refl;
         owner = refl;
         documents = refl;
@@ -108,7 +102,7 @@ module _ (c now : ℕ) (j : Job) (s : IsSoundJob j) (moment : IsMoment now) (fit
       → cond (is_live y) 1 0 ≤ cond (is_live_in p) 1 0 → (state y ≡ state_in p j.hold j.incoming) ⊎ IsTrue (is_pair (state_in p j.hold j.incoming) (state y)) → (x : Job) → Some y ≡ Some x → IsReported c x j
   goes p q y is on number owner name copies impressions count created begun ended documents octets phase live follows x e =
       let has = on (subst (λ p. FitsPhase p j) is s.phase) in
-      subst (λ x. IsReported c x j) (same_job y x e) (record {
+      subst (λ x. IsReported c x j) (same_Some y x e) (record {
         number = number;
         owner = owner;
         documents = documents;
@@ -124,7 +118,7 @@ module _ (c now : ℕ) (j : Job) (s : IsSoundJob j) (moment : IsMoment now) (fit
   counts_in : (p : Phase) → j.phase ≡ p → (IsSome j.begun → FitsPhase p j → FitsPhase p (counted c j)) → (b : Bool) → is_some j.begun ≡ b → (x : Job) → cond b (Some (counted c j)) None ≡ Some x → IsReported c x j
   counts_in p is keeps false has x e = absurd (cc)
   counts_in p is keeps true has x e =
-      subst (λ x. IsReported c x j) (same_job (counted c j) x e) (record {
+      subst (λ x. IsReported c x j) (same_Some (counted c j) x e) (record {
         number = refl;
         owner = refl;
         documents = refl;
@@ -144,11 +138,7 @@ module _ (c now : ℕ) (j : Job) (s : IsSoundJob j) (moment : IsMoment now) (fit
   moved_is Stop Running is x e = let has = subst (λ p. FitsPhase p j) is s.phase in goes Running Stopped (record (counted c j) { phase = Stopped }) is (λ f. f) refl refl refl refl refl refl refl refl s.ended refl refl has (omega arith) (inr refl) x e
   moved_is Resume Stopped is x e = let has = subst (λ p. FitsPhase p j) is s.phase in goes Stopped Running (record (counted c j) { phase = Running }) is (λ f. f) refl refl refl refl refl refl refl refl s.ended refl refl has (omega arith) (inr refl) x e
   moved_is Count Waiting is x e = counts_in Waiting is waits_uncounted (is_some j.begun) refl x e
-  moved_is Count Running is x e = counts_in Running is (λ some f. f) (is_some j.begun) refl x e
-  moved_is Count Stopped is x e = counts_in Stopped is (λ some f. f) (is_some j.begun) refl x e
-  moved_is Count (Canceled why) is x e = counts_in (Canceled why) is (λ some f. f) (is_some j.begun) refl x e
-  moved_is Count Aborted is x e = counts_in Aborted is (λ some f. f) (is_some j.begun) refl x e
-  moved_is Count Completed is x e = counts_in Completed is (λ some f. f) (is_some j.begun) refl x e
+  moved_is Count p is x e = counts_in p is (λ some f. f) (is_some j.begun) refl x e
   moved_is Done Running is x e = let has = subst (λ p. FitsPhase p j) is s.phase in goes Running Completed (ended_as Completed now (counted c j)) is (λ f. f) refl refl refl refl refl refl refl refl moment refl refl (has.0, has.1, refl, refl) (omega arith) (inr refl) x e
   moved_is Fail Running is x e = let has = subst (λ p. FitsPhase p j) is s.phase in goes Running Aborted (ended_as Aborted now (counted c j)) is (λ f. f) refl refl refl refl refl refl refl refl moment refl refl (has.0, has.1, refl, refl) (omega arith) (inr refl) x e
   moved_is Fail Stopped is x e = let has = subst (λ p. FitsPhase p j) is s.phase in goes Stopped Aborted (ended_as Aborted now (counted c j)) is (λ f. f) refl refl refl refl refl refl refl refl moment refl refl (has.0, has.1, refl, refl) (omega arith) (inr refl) x e
@@ -166,24 +156,17 @@ others_keep : (P Q : Entry → Type 0) (n first next : ℕ) (es : List Entry) �
 others_keep P Q n first next [] low rise other all = tt
 others_keep P Q n first next (e ∷ es) low rise other all =
     let least = rise.0 in
-    (other e (apart n e.row.number (omega arith)) all.0, others_keep P Q n (e.row.number + 1) next es (omega arith) rise.1 other all.1)
-  where
-    apart : (a b : ℕ) → a < b → nat_eq b a ≡ false
-    apart a b h = grind (arith, nat_tests)
+    (other e (ne_from_gt e.row.number n (omega arith)) all.0, others_keep P Q n (e.row.number + 1) next es (omega arith) rise.1 other all.1)
 
 each-with_row_apart : (P Q : Entry → Type 0) (x j : Job) (first next : ℕ) (es : List Entry) → at x.number es ≡ Some j → Rise first es next → ((e : Entry) → nat_eq e.row.number x.number ≡ false → P e → Q e) → ((e : Entry) → e.row ≡ j → P e → Q (record e { row = x })) → Each P es → Each Q (with_row es x)
 each-with_row_apart P Q x j first next [] there rise other here all = absurd (cc)
 each-with_row_apart P Q x j first next (e ∷ es) there rise other here all =
     elim (nat_eq e.row.number x.number) as (λ t. nat_eq e.row.number x.number ≡ t → cond t (Some e.row) (at x.number es) ≡ Some j → Each Q (cond t (record e { row = x } ∷ es) (e ∷ with_row es x))) [
-      | true ↦ λ is there. (here e (cc) all.0, others_keep P Q x.number (e.row.number + 1) next es (let same = equal e.row.number x.number is in omega arith) rise.1 other all.1)
+      | true ↦ λ is there. (here e (cc) all.0, others_keep P Q x.number (e.row.number + 1) next es (let same = eqb-true e.row.number x.number is in omega arith) rise.1 other all.1)
       | false ↦ λ is there. (other e is all.0, each-with_row_apart P Q x j (e.row.number + 1) next es there rise.1 other here all.1)
     ] refl there
 
 -- ---- the report is kept
-
-if_map : (P Q : KeptReport → Type 0) (o : Option KeptReport) → ((k : KeptReport) → P k → Q k) → IfSome o P → IfSome o Q
-if_map P Q None f h = tt
-if_map P Q (Some k) f h = f k h
 
 module _ (w : World) (now : ℕ) (r : Report) (sound : IsSound w) (moment : IsMoment now) (limits : IsReport r) where
   abbrev scene : Scene
@@ -217,18 +200,11 @@ module _ (w : World) (now : ℕ) (r : Report) (sound : IsSound w) (moment : IsMo
                 count = limits.count;
                 total = is.sound.count;
               }
-          | false ↦ λ same. if_map (IsKept w n s) (IsKept (world_after m x) n s) (get w.reports (n, s)) (λ k p. record { job = p.job; seq = p.seq; there = some-with_row n x j w.jobs there p.there; positive = p.positive; count = p.count; total = p.total }) (sound.reports n s)
+          | false ↦ λ same. IfSome_then (get w.reports (n, s)) (sound.reports n s) (λ k p. record { job = p.job; seq = p.seq; there = some-with_row n x j w.jobs there p.there; positive = p.positive; count = p.count; total = p.total })
         ] refl)
 
     other_key : (n s : ℕ) → nat_eq n r.job ≡ false → is_report_key (n, s) (r.job, r.seq) ≡ false
-    other_key n s apart =
-        elim (is_report_key (n, s) (r.job, r.seq)) as (λ b. is_report_key (n, s) (r.job, r.seq) ≡ b → b ≡ false) [
-          | true ↦ λ same. let e : n ≡ r.job = (report_key n s r.job r.seq same).0 in absurd (differ n r.job e apart)
-          | false ↦ λ same. refl
-        ] refl
-      where
-        differ : (a b : ℕ) → a ≡ b → nat_eq a b ≡ false → ⊥
-        differ a b e f = grind (arith, nat_tests)
+    other_key n s apart = false_from_ne_true (is_report_key (n, s) (r.job, r.seq)) (λ same. eqb-false n r.job apart (report_key n s r.job r.seq same).0)
 
     -- a job of another number keeps its reports
     same_reports : (n s : ℕ) → nat_eq n r.job ≡ false → get (reports_after x) (n, s) ≡ get w.reports (n, s)
@@ -244,10 +220,7 @@ module _ (w : World) (now : ℕ) (r : Report) (sound : IsSound w) (moment : IsMo
     )
 
     raised : (o : Option KeptReport) → IfSome o (λ (t : KeptReport). t.report.count ≤ j.count) → IfSome o (λ (t : KeptReport). t.report.count ≤ x.count)
-    raised o h = let c = is.count in if_map (λ (t : KeptReport). t.report.count ≤ j.count) (λ (t : KeptReport). t.report.count ≤ x.count) o (λ t p. omega arith) h
-
-    no_report : (t : KeptReport) → Some t ≡ None → ⊥
-    no_report t e = absurd (cc)
+    raised o h = let c = is.count in IfSome_then o h (λ t p. omega arith)
 
     is_greater : (c d : ℕ) → nat_le c d ≡ false → x.count ≡ max d c → c ≡ x.count
     is_greater c d e h = let l : d < c = grind (arith, nat_tests) in omega arith
@@ -270,7 +243,7 @@ module _ (w : World) (now : ℕ) (r : Report) (sound : IsSound w) (moment : IsMo
         still seq (Some t) e some same =
             let o : get w.reports (x.number, seq) ≡ Some t = ap (λ i. get w.reports (i, seq)) is.number ∙ e in
             elim (is_report_key (x.number, seq) (r.job, r.seq)) as (λ b. is_report_key (x.number, seq) (r.job, r.seq) ≡ b → IsSomeAnd (get (reports_after x) (x.number, seq)) (λ (t : KeptReport). t.report.count ≡ x.count)) [
-              | true ↦ λ k. let key = report_key x.number seq r.job r.seq k in absurd (no_report t (sym o ∙ ap (λ i. get w.reports (i, seq)) key.0 ∙ ap (λ s. get w.reports (r.job, s)) key.1 ∙ new))
+              | true ↦ λ k. let key = report_key x.number seq r.job r.seq k in absurd (none-some t (sym (sym o ∙ ap (λ i. get w.reports (i, seq)) key.0 ∙ ap (λ s. get w.reports (r.job, s)) key.1 ∙ new)))
               | false ↦ λ k. subst (λ o. IsSomeAnd o (λ (t : KeptReport). t.report.count ≡ x.count)) (sym (got x x.number seq ∙ ap (λ b. cond b (Some (kept_report x)) (get w.reports (x.number, seq))) k ∙ o)) (some ∙ sym same)
             ] refl
 
@@ -312,9 +285,6 @@ module _ (w : World) (now : ℕ) (r : Report) (sound : IsSound w) (moment : IsMo
   found : (j : Job) (rest : List Job) → scene.jobs ≡ j ∷ rest → (job_at r.job (rows w) ≡ Some j) × (j.number ≡ r.job)
   found j rest e = first_named r.job (rows w) j rest e
 
-  job_sound : (j : Job) (rest : List Job) → scene.jobs ≡ j ∷ rest → IsSoundJob j
-  job_sound j rest e = subst (All IsSoundJob) e (fair_of w (tell r) sound).jobs 0 j (omega arith)
-
   accepted_keeps : (j x : Job) (rest : List Job) → scene.jobs ≡ j ∷ rest → get w.reports (r.job, r.seq) ≡ None → IsReported r.count x j → Keeps w (made_on (accepted scene r x).change w)
   accepted_keeps j x rest e new is =
       let here = found j rest e in
@@ -325,7 +295,7 @@ module _ (w : World) (now : ℕ) (r : Report) (sound : IsSound w) (moment : IsMo
 
   taken_keeps : (j : Job) (rest : List Job) → scene.jobs ≡ j ∷ rest → get w.reports (r.job, r.seq) ≡ None → (o : Option Job) → reported r now j ≡ o → Keeps w (made_on (accepted_where scene r o).change w)
   taken_keeps j rest e new None is = unchanged w sound
-  taken_keeps j rest e new (Some x) is = accepted_keeps j x rest e new (reported_is r now j x (job_sound j rest e) moment limits is)
+  taken_keeps j rest e new (Some x) is = accepted_keeps j x rest e new (reported_is r now j x (first_sound w (tell r) sound j rest e) moment limits is)
 
   row_keeps : (js : List Job) → scene.jobs ≡ js → (o : Option KeptReport) → get w.reports (r.job, r.seq) ≡ o → Keeps w (made_on (report_row scene now r js o).change w)
   row_keeps [] e o kept = unchanged w sound

@@ -3,6 +3,7 @@ use Rattle.std.proofs.Common.{◌≡◌, ℕ, ℤ, pos, ◌+ℤ◌, ◌-ℤ◌, 
 use Rattle.std.specs.Prelude.{Option, Some, None, IfSome, IsSomeAnd, is_some, bytes_eq, option_map, sum_by, ◌&&◌, ◌⊎◌}
 use Rattle.std.specs.FinMap.{FinMap, get}
 use Rattle.std.proofs.lemmas.Int.{ints}
+use Rattle.std.proofs.lemmas.Option.{IfSome_then}
 use Rattle.queue_types.specs.Job.{owed, is_live}
 use Rattle.queue_core.specs.World.{World, with_row, text_cmp, report_cmp, job_at, granted}
 use Rattle.queue_core.specs.Machine.{taken}
@@ -39,10 +40,6 @@ back x j a = cond (bytes_eq x.owner a) (pos (taken j) -ℤ pos (taken x)) (pos 0
 
 abbrev pub with_jobs : World → FinMap text_cmp ℤ → List Entry → World
 with_jobs w m es = record w { jobs = es; free = m }
-
-if_map : (P Q : KeptReport → Type 0) (o : Option KeptReport) → ((k : KeptReport) → P k → Q k) → IfSome o P → IfSome o Q
-if_map P Q None f h = tt
-if_map P Q (Some k) f h = f k h
 
 some_map : (f : ℤ → ℤ) (o : Option ℤ) → is_some (option_map f o) ≡ is_some o
 some_map f None = refl
@@ -149,7 +146,7 @@ module _ (w : World) (m : FinMap text_cmp ℤ) (es : List Entry) (x j : Job) (so
 
   pub row_keeps : IsSound (with_jobs w m es)
   row_keeps = job_keeps w m w.reports es x j sound there (record { number = fits.number; owner = fits.owner; live = fits.live }) same entries stays_idle free
-      (λ n s. if_map (IsKept w n s) (IsKept (with_jobs w m es) n s) (get w.reports (n, s)) (λ k p. record { job = p.job; seq = p.seq; there = ap (λ js. is_some (job_at n js)) same ∙ some-with_row n x j w.jobs there p.there; positive = p.positive; count = p.count; total = p.total }) (sound.reports n s))
+      (λ n s. IfSome_then (get w.reports (n, s)) (sound.reports n s) (λ k p. record { job = p.job; seq = p.seq; there = ap (λ js. is_some (job_at n js)) same ∙ some-with_row n x j w.jobs there p.there; positive = p.positive; count = p.count; total = p.total }))
       (each-with_row (λ e. IsGreatestCount w e.row) (λ e. IsGreatestCount w e.row) x j w.jobs there (λ e p. p) count_keeps sound.counts)
 
 -- the entries with x in the place of j are sound, where x keeps its documents

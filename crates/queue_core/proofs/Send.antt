@@ -1,8 +1,10 @@
 -- Send-Document keeps a world sound, and its jobs move along the allowed pairs.
 use Rattle.std.proofs.Common.{◌≡◌, ℕ, suc, ◌+◌, ◌*◌, ◌≤◌, ◌<◌, List, [], ◌∷◌, ◌++◌, length, map, refl, ap, sym, ◌∙◌, arith, subst, inl, inr, Bool, true, false, cond}
-use Rattle.std.specs.Prelude.{Some, All, IsTrue, ◌⊎◌, nat_eq, nat_le, not, sum_by, ◌&&◌}
+use Rattle.std.specs.Prelude.{Some, IsTrue, ◌⊎◌, nat_eq, nat_le, not, sum_by, ◌&&◌}
 use Rattle.std.specs.List.{AllByRecursion as Each}
+use Rattle.std.proofs.lemmas.Bool.{eqb-true}
 use Rattle.std.proofs.lemmas.Bool.Decides.{nat_tests}
+use Rattle.std.proofs.lemmas.List.{length_push}
 use Rattle.std.proofs.lemmas.List.Sums.{sum_by_push}
 use Rattle.queue_core.specs.World.{World, Entry, cut, made_on, with_row, with_document, add_document}
 use Rattle.queue_types.specs.Event.{NewDocument, ask, send_document}
@@ -15,11 +17,12 @@ use Rattle.queue_types.specs.declared.document.Document.{Document}
 use Rattle.queue_types.specs.declared.document.Format.{Format}
 use Rattle.queue_types.specs.declared.job.Job.{Job}
 use Rattle.queue_types.specs.declared.job.Phase.{Phase}
-use Rattle.queue_types.specs.declared.job.Phase.TheVariants.{Waiting, Running, Stopped, Canceled, Aborted, Completed}
+use Rattle.queue_types.specs.declared.job.Phase.TheVariants.{Waiting}
 use Rattle.queue_types.specs.declared.event.Scene.{Scene}
 use Rattle.queue_types.specs.declared.event.Reply.TheVariants.{Jobs}
-use Rattle.queue_core.proofs.Keep.{at}
-use Rattle.queue_core.proofs.Fair.{fair_of}
+use Rattle.queue_core.proofs.Keep.{at, ne_from_gt}
+use Rattle.queue_core.proofs.Fair.{first_sound}
+use Rattle.queue_core.proofs.Ordered.{each-append}
 use Rattle.queue_core.proofs.Own.{Keeps, unchanged, changed_keeps, own_keeps, found_at, itself}
 use Rattle.queue_core.proofs.Rows.{Replaces, row_entries, rows_of}
 
@@ -34,16 +37,9 @@ pub one_fits : (none : Bool) (len : ℕ) → len ≤ 16777216 → (none ≡ true
 one_fits true len new nothing = let zero = nothing refl in omega arith
 one_fits false len new nothing = omega arith
 
-pub no_bytes : (n : ℕ) → nat_eq n 0 ≡ true → n ≡ 0
-no_bytes n e = grind (arith, nat_tests)
-
 open_job : (j : Job) (p : Phase) (payload : List ℕ) (last : Bool) → j.incoming ≡ true → FitsPhase p j → FitsPhase p (sent j payload last)
 open_job j Waiting payload last is fits = fits
-open_job j Running payload last is fits = let no = fits.1 in absurd (cc)
-open_job j Stopped payload last is fits = let no = fits.1 in absurd (cc)
-open_job j (Canceled why) payload last is fits = let no = fits.1 in absurd (cc)
-open_job j Aborted payload last is fits = let no = fits.1 in absurd (cc)
-open_job j Completed payload last is fits = let no = fits.1 in absurd (cc)
+open_job j _ payload last is fits = let no = fits.1 in absurd (cc)
 
 both : (a : Bool) (n : ℕ) → (a && nat_le n 16) ≡ true → (a ≡ true) × (n ≤ 16)
 both true n e = (refl, grind (arith, nat_tests))
@@ -61,7 +57,7 @@ sent_sound j payload last s sendable fits = record {
   begun = s.begun;
   ended = s.ended;
   documents = (both j.incoming (j.documents + document_count payload) sendable).1;
-  octets = octets_fit (nat_eq (length payload) 0) j.octets j.documents (length payload) s.octets fits (no_bytes (length payload));
+  octets = octets_fit (nat_eq (length payload) 0) j.octets j.documents (length payload) s.octets fits (eqb-true (length payload) 0);
   phase = open_job j j.phase payload last (both j.incoming (j.documents + document_count payload) sendable).0 s.phase;
 }
 
@@ -78,18 +74,12 @@ rows-document : (n : ℕ) (format : Format) (payload : List ℕ) (es : List Entr
 rows-document n format [] es = refl
 rows-document n format (b ∷ bytes) es = rows-add (record { job = n; format = format; bytes = b ∷ bytes }) es
 
-other : (a b : ℕ) → b < a → nat_eq a b ≡ false
-other a b h = grind (arith, nat_tests)
-
-equal : (a b : ℕ) → nat_eq a b ≡ true → a ≡ b
-equal a b e = grind (arith, nat_tests)
-
 -- entries of greater numbers get none
 none_added : (d : NewDocument) (first next : ℕ) (es : List Entry) → d.job < first → Rise first es next → map (add_document d) es ≡ es
 none_added d first next [] low rise = refl
 none_added d first next (e ∷ es) low rise =
     let least = rise.0 in
-    let here : add_document d e ≡ e = ap (λ t. cond t (record e { documents = e.documents ++ record { format = d.format; bytes = d.bytes } ∷ [] }) e) (other e.row.number d.job (omega arith)) in
+    let here : add_document d e ≡ e = ap (λ t. cond t (record e { documents = e.documents ++ record { format = d.format; bytes = d.bytes } ∷ [] }) e) (ne_from_gt e.row.number d.job (omega arith)) in
     let rest : map (add_document d) es ≡ es = none_added d (e.row.number + 1) next es (omega arith) rise.1 in
     cc
 
@@ -104,7 +94,7 @@ added x j d first next [] same there rise grows each = absurd (cc)
 added x j d first next (e ∷ es) same there rise grows each =
     elim (nat_eq e.row.number x.number) as (λ t. nat_eq e.row.number x.number ≡ t → cond t (Some e.row) (at x.number es) ≡ Some j → Each IsSoundEntry (map (add_document d) (cond t (record e { row = x } ∷ es) (e ∷ with_row es x)))) [
       | true ↦ λ is there.
-          let n : e.row.number ≡ x.number = equal e.row.number x.number is in
+          let n : e.row.number ≡ x.number = eqb-true e.row.number x.number is in
           let row : e.row ≡ j = cc in
           let here : add_document d (record e { row = x }) ≡ record { row = x; documents = e.documents ++ plain d ∷ [] } = ap (λ t. cond t (record { row = x; documents = e.documents ++ plain d ∷ [] }) (record e { row = x })) (ap (nat_eq x.number) same ∙ itself x.number) in
           let rest : map (add_document d) es ≡ es = none_added d (e.row.number + 1) next es (omega arith) rise.1 in
@@ -113,14 +103,6 @@ added x j d first next (e ∷ es) same there rise grows each =
           let here : add_document d e ≡ e = ap (λ t. cond t (record e { documents = e.documents ++ plain d ∷ [] }) e) (ap (nat_eq e.row.number) same ∙ is) in
           (subst IsSoundEntry (sym here) each.0, added x j d (e.row.number + 1) next es same there rise.1 grows each.1)
     ] refl there
-
-length-push : (ds : List Document) (d : Document) → length (ds ++ d ∷ []) ≡ length ds + 1
-length-push [] d = refl
-length-push (e ∷ ds) d = let more = length-push ds d in omega arith
-
-sizes-push : (ds : List Document) (d : Document) → Each IsSoundDocument ds → IsSoundDocument d → Each IsSoundDocument (ds ++ d ∷ [])
-sizes-push [] d each here = (here, tt)
-sizes-push (e ∷ ds) d each here = (each.0, sizes-push ds d each.1 here)
 
 not_empty : (n : ℕ) → nat_eq (suc n) 0 ≡ false
 not_empty n = grind (arith, nat_tests)
@@ -140,9 +122,9 @@ sent_entries w j format (b ∷ bytes) last sound sendable fits there =
     let octets : j.octets ≡ sum_by (λ d. length d.bytes) e.documents = ap (λ (k : Job). k.octets) (sym r) ∙ s.octets in
     record {
       row = sent_sound j (b ∷ bytes) last (subst IsSoundJob r s.row) sendable fits;
-      documents = omega (arith, length-push e.documents (plain d), documents, one_document b bytes);
+      documents = omega (arith, length_push e.documents (plain d), documents, one_document b bytes);
       octets = omega (arith, sum_by_push (λ (d : Document). length d.bytes) e.documents (plain d), octets);
-      sizes = sizes-push e.documents (plain d) s.sizes (omega arith, fits);
+      sizes = each-append IsSoundDocument e.documents (plain d ∷ []) s.sizes ((omega arith, fits), tt);
     })
     sound.entries
 
@@ -156,18 +138,11 @@ sends_on false false = inr refl
 
 waits_in : (j : Job) (p : Phase) → j.incoming ≡ true → FitsPhase p j → p ≡ Waiting
 waits_in j Waiting is fits = refl
-waits_in j Running is fits = let no = fits.1 in absurd (cc)
-waits_in j Stopped is fits = let no = fits.1 in absurd (cc)
-waits_in j (Canceled why) is fits = let no = fits.1 in absurd (cc)
-waits_in j Aborted is fits = let no = fits.1 in absurd (cc)
-waits_in j Completed is fits = let no = fits.1 in absurd (cc)
+waits_in j _ is fits = let no = fits.1 in absurd (cc)
 
 module _ (w : World) (caller : List ℕ) (n : ℕ) (format : Format) (payload : List ℕ) (last : Bool) (sound : IsSound w) (fits : length payload ≤ 16777216) where
   abbrev scene : Scene
   scene = cut w (ask caller (send_document n format payload last))
-
-  job_sound : (j : Job) (rest : List Job) → scene.jobs ≡ j ∷ rest → IsSoundJob j
-  job_sound j rest e = subst (All IsSoundJob) e (fair_of w (ask caller (send_document n format payload last)) sound).jobs 0 j (omega arith)
 
   replaced : (j : Job) → Replaces (sent j payload last) j
   replaced j = record { number = refl; owner = refl; count = refl; live = omega arith }
@@ -181,7 +156,7 @@ module _ (w : World) (caller : List ℕ) (n : ℕ) (format : Format) (payload : 
   row j rest e own =
       elim (is_sendable j payload) as (λ b. is_sendable j payload ≡ b → Keeps w (made_on (cond b (record { reply = Jobs (sent j payload last ∷ []); change = record (changed scene (sent j payload last ∷ [])) { document = new_document j.number format payload } }) (refused 0x0404)).change w)) [
         | true ↦ λ is.
-            let s = job_sound j rest e in
+            let s = first_sound w (ask caller (send_document n format payload last)) sound j rest e in
             let there = found_at w caller (send_document n format payload last) n sound refl j (sent j payload last) rest e (replaced j) in
             changed_keeps w caller (send_document n format payload last) n sound refl j (sent j payload last) rest (new_document j.number format payload) e own (replaced j)
             (rows-document j.number format payload (with_row w.jobs (sent j payload last))) (sent_entries w j format payload last sound is fits there) (λ none h. h)

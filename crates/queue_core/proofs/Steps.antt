@@ -1,6 +1,6 @@
 -- What a decision makes of a sound world: a sound world again, whose jobs moved along the allowed pairs.
 use Rattle.std.proofs.Common.{◌≡◌, ℕ, List, [], ◌∷◌, refl, sym, ap, ◌∙◌, subst, true, false, cond}
-use Rattle.std.specs.Prelude.{Some, None, Result, Ok, Err, IfOk, Option}
+use Rattle.std.specs.Prelude.{Some, None, Option}
 use Rattle.queue_types.specs.Event.{Event, Decision, ask, tell, grant, print_job, validate_job, create_job, send_document, cancel_job, cancel_my_jobs, hold_job, release_job, get_job_attributes, get_jobs, get_printer_attributes}
 use Rattle.queue_core.specs.World.{World, AreNew, cut, made_on}
 use Rattle.queue_core.specs.Reports.{reported, is_same_report}
@@ -68,7 +68,3 @@ step_new w d sound is = subst (λ (d : Decision). AreNew w.grants d.change.grant
 -- a decision on the scene that was cut from a world is the machine's on it
 pub decided_on : (w : World) (s : Scene) (now : ℕ) (e : Event) (d : Decision) → IsMoment now → IsEvent e → s ≡ cut w e → d ≡ decision s now e → IsDecisionOn w d
 decided_on w s now e d moment within same is = record { now = now; event = e; moment = moment; limits = within; is = is ∙ ap (λ (t : Scene). decision t now e) same }
-
-pub if_ok : {A E : Type 0} (r : Result A E) (P Q : A → Type 0) → ((a : A) → P a → Q a) → IfOk r P → IfOk r Q
-if_ok (Ok a) P Q f h = f a h
-if_ok (Err e) P Q f h = tt

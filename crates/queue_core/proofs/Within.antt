@@ -1,17 +1,16 @@
 -- What the machine decides on a fair scene is within the limits.
 use Rattle.std.proofs.Common.{◌≡◌, ℕ, zero, suc, ◌+◌, ◌≤◌, List, [], ◌∷◌, ◌++◌, length, length-append, map, refl, ap, arith, subst, eq-eqb, Bool, true, false, cond}
-use Rattle.std.specs.List.{list_all, AllByRecursion as Each}
-use Rattle.std.specs.Prelude.{All, IsSome, IfSome, is_some, bytes_eq, filter, Option, Some, None}
-use Rattle.queue_types.specs.Job.{estimate}
-use Rattle.queue_types.specs.Event.{Event, Call, NewJob, NewDocument, Decision, ask, tell, grant, print_job, validate_job, create_job, send_document, cancel_job, cancel_my_jobs, hold_job, release_job, get_job_attributes, get_jobs, get_printer_attributes}
+use Rattle.std.specs.List.{AllByRecursion as Each}
+use Rattle.std.specs.Prelude.{All, IsSome, IfSome, is_some, filter, Option, Some, None}
+use Rattle.queue_types.specs.Event.{Event, Call, NewJob, NewDocument, Decision, ask, tell, grant}
 use Rattle.queue_core.specs.World.{job_at}
+use Rattle.queue_core.specs.Forms.{IsOwn, HasForm, not_possible, not_found, out_of_numbers, done, lists, shows, shows_printer, prints, creates, sends, cancels, cancels_all, holds, releases}
 use Rattle.queue_core.specs.Reports.{reported, is_same_report}
 use Rattle.queue_core.specs.Grants.{repeated, refused_row, new_row, row_of, Taken, all_taken, none_taken, free_after, add_row, take_rows}
-use Rattle.queue_core.specs.Machine.{decision, call_row, refused, becomes, answered, canceled, is_cancelable, cancel_row, are_there, all_canceled, cancel_my_jobs_row, of_own, entered, new_job, new_document, new_refusal, unless_refused, validate_job_row, changed, is_sendable, sent, send_in, hold_in, let_print, has_pages, release_in, accepted, accepted_where, report_row, grant_row}
+use Rattle.queue_core.specs.Machine.{decision, call_row, refused, becomes, answered, canceled, is_cancelable, all_canceled, entered, new_job, new_document, new_refusal, sent, accepted, accepted_where, report_row, grant_row}
 use Rattle.queue_core.specs.Limits.{IsMoment, IsEvent, IsCall, IsOwner, IsNewJob, IsSoundJob, IsFair, IsReport, IsReplyTo, IsSoundReply, IsSoundChange, IsSoundDecision}
 use Rattle.queue_types.specs.declared.document.Format.{Format}
 use Rattle.queue_types.specs.declared.job.Job.{Job}
-use Rattle.queue_types.specs.declared.job.Phase.TheVariants.{Waiting, Running, Stopped, Canceled, Aborted, Completed}
 use Rattle.queue_types.specs.declared.event.FreeRow.{FreeRow}
 use Rattle.queue_types.specs.declared.event.GrantRow.{GrantRow}
 use Rattle.queue_types.specs.declared.event.KeptReport.{KeptReport}
@@ -23,7 +22,7 @@ use Rattle.queue_types.specs.declared.event.ReportRefusal.TheVariants.{NoJob, St
 use Rattle.queue_types.specs.declared.event.Scene.{Scene}
 use Rattle.queue_core.proofs.Cancel.{held, held_documents}
 use Rattle.queue_core.proofs.Many.{keeps_documents, passed, each_both}
-use Rattle.queue_core.proofs.Numbers.{filter_whole}
+use Rattle.queue_core.proofs.Forms.{call_form}
 use Rattle.queue_core.proofs.Ordered.{all_of, each_of, each-filter}
 use Rattle.queue_core.proofs.Print.{new_job_sound, not_refused}
 use Rattle.queue_core.proofs.Reported.{reported_is}
@@ -55,24 +54,7 @@ of_its_job : (x : Job) (format : Format) (payload : List ℕ) → IfSome (new_do
 of_its_job x format [] = tt
 of_its_job x format (b ∷ bytes) = ap (λ t. is_some (cond t (Some x) None)) (eq-eqb x.number x.number refl)
 
--- ---- the rows
-
-entering : (s : Scene) (now : ℕ) (caller : List ℕ) (incoming : Bool) (j : NewJob) (payload : List ℕ) (document : Option NewDocument) → IsFair s → IsMoment now → IsOwner caller → IsNewJob j → length payload ≤ 16777216
-    → IfSome document (λ k. IsSome (job_at k.job (new_job s now caller incoming j payload ∷ [])))
-    → IsAskDecision (unless_refused (new_refusal s) (entered s (new_job s now caller incoming j payload) document))
-entering s now caller incoming j payload document fair moment owner new fits its =
-    elim (new_refusal s) as (λ o. new_refusal s ≡ o → IsAskDecision (unless_refused o (entered s (new_job s now caller incoming j payload) document))) [
-      | None ↦ λ is.
-          let job = new_job_sound s now caller incoming j payload fair.settings fair.next (not_refused s is).1 moment owner new fits in
-          record { reply = one (new_job s now caller incoming j payload) job; change = record { jobs = one (new_job s now caller incoming j payload) job; document = its }; grants = refl }
-      | Some code ↦ λ is. refusing code
-    ] refl
-
-canceling : (s : Scene) (now : ℕ) → IsMoment now → (j : Job) → IsSoundJob j → IsAskDecision (cancel_row s now j)
-canceling s now moment j sound = elim (is_cancelable j) as (λ b. is_cancelable j ≡ b → IsAskDecision (cond b (becomes s (canceled now j)) (refused 0x0404))) [
-  | true ↦ λ can. becoming s (canceled now j) ((keeps_documents now j j.phase moment refl can).sound sound)
-  | false ↦ λ can. refusing 0x0404
-] refl
+-- ---- what a caller asks
 
 each_canceled : (now : ℕ) (js : List Job) → IsMoment now → Each (λ j. IsSoundJob j × (is_cancelable j ≡ true)) js → Each IsSoundJob (map (canceled now) js)
 each_canceled now [] moment each = tt
@@ -89,71 +71,37 @@ canceling_able s now fair moment = record {
   grants = refl;
 }
 
-canceling_mine : (s : Scene) (now : ℕ) (numbers : Option (List ℕ)) → IsFair s → IsMoment now → IsAskDecision (cancel_my_jobs_row s now numbers)
-canceling_mine s now None fair moment = canceling_able s now fair moment
-canceling_mine s now (Some numbers) fair moment =
-    elim (are_there s.jobs numbers) as (λ b. IsAskDecision (cond b (cond (list_all is_cancelable s.jobs) (all_canceled s now s.jobs) (refused 0x0404)) (refused 0x0406))) [
-      | true ↦ elim (list_all is_cancelable s.jobs) as (λ b. list_all is_cancelable s.jobs ≡ b → IsAskDecision (cond b (all_canceled s now s.jobs) (refused 0x0404))) [
-        | true ↦ λ all. subst (λ js. IsAskDecision (all_canceled s now js)) (filter_whole is_cancelable s.jobs all) (canceling_able s now fair moment)
-        | false ↦ λ all. refusing 0x0404
-      ] refl
-      | false ↦ refusing 0x0406
-    ]
+module _ (s : Scene) (now : ℕ) (caller : List ℕ) (fair : IsFair s) (moment : IsMoment now) (owner : IsOwner caller) where
+  entering : (incoming : Bool) (new : NewJob) (payload : List ℕ) (document : Option NewDocument) → new_refusal s ≡ None → IsNewJob new → length payload ≤ 16777216
+      → IfSome document (λ k. IsSome (job_at k.job (new_job s now caller incoming new payload ∷ []))) → IsAskDecision (entered s (new_job s now caller incoming new payload) document)
+  entering incoming new payload document room limits fits its =
+      let x : Job = new_job s now caller incoming new payload in
+      let job = new_job_sound s now caller incoming new payload fair.settings fair.next (not_refused s room).1 moment owner limits fits in
+      record { reply = one x job; change = record { jobs = one x job; document = its }; grants = refl }
 
-owned : (caller : List ℕ) (row : Job → Decision) → ((j : Job) → IsSoundJob j → IsAskDecision (row j)) → (js : List Job) → All IsSoundJob js → IsAskDecision (of_own caller row js)
-owned caller row each [] all = refusing 0x0406
-owned caller row each (j ∷ js) all = elim (bytes_eq j.owner caller) as (λ b. IsAskDecision (cond b (row j) (refused 0x0406))) [ true ↦ each j (all 0 j (omega arith)) | false ↦ refusing 0x0406 ]
+  own_sound : (j : Job) → IsOwn s caller j → IsSoundJob j
+  own_sound j own = subst (All IsSoundJob) own.first fair.jobs 0 j (omega arith)
 
-validating : (s : Scene) → IsAskDecision (validate_job_row s)
-validating s = elim (new_refusal s) as (λ o. IsAskDecision (unless_refused o (answered Done))) [ None ↦ answering Done tt | Some code ↦ refusing code ]
-
-sending : (s : Scene) (format : Format) (payload : List ℕ) (last : Bool) → length payload ≤ 16777216 → (j : Job) → IsSoundJob j → IsAskDecision (send_in s j format payload last)
-sending s format payload last fits j sound =
-    elim (is_sendable j payload) as (λ b. is_sendable j payload ≡ b → IsAskDecision (cond b (record { reply = Jobs (sent j payload last ∷ []); change = record (changed s (sent j payload last ∷ [])) { document = new_document j.number format payload } }) (refused 0x0404))) [
-      | true ↦ λ is. let job = sent_sound j payload last sound is fits in record { reply = one (sent j payload last) job; change = record { jobs = one (sent j payload last) job; document = of_its_job (sent j payload last) format payload }; grants = refl }
-      | false ↦ λ is. refusing 0x0404
-    ] refl
-
-holding : (s : Scene) (j : Job) → IsSoundJob j → IsAskDecision (hold_in j.phase s j)
-holding s j sound = elim j.phase as (λ p. j.phase ≡ p → IsAskDecision (hold_in p s j)) [
-  | Waiting ↦ λ is. becoming s (held true j) ((held_documents true j is).sound sound)
-  | Running ↦ λ is. refusing 0x0404
-  | Stopped ↦ λ is. refusing 0x0404
-  | Canceled why ↦ λ is. refusing 0x0404
-  | Aborted ↦ λ is. refusing 0x0404
-  | Completed ↦ λ is. refusing 0x0404
-] refl
-
-letting : (s : Scene) (j : Job) → j.phase ≡ Waiting → IsSoundJob j → IsAskDecision (let_print s j)
-letting s j is sound = elim (has_pages s.free (estimate j)) as (λ b. IsAskDecision (cond b (becomes s (held false j)) (refused 0x0404))) [ true ↦ becoming s (held false j) ((held_documents false j is).sound sound) | false ↦ refusing 0x0404 ]
-
-releasing : (s : Scene) (j : Job) → IsSoundJob j → IsAskDecision (release_in j.phase s j)
-releasing s j sound = elim j.phase as (λ p. j.phase ≡ p → IsAskDecision (release_in p s j)) [
-  | Waiting ↦ λ is. elim j.hold as (λ b. IsAskDecision (cond b (let_print s j) (answered Done))) [ true ↦ letting s j is sound | false ↦ answering Done tt ]
-  | Running ↦ λ is. answering Done tt
-  | Stopped ↦ λ is. answering Done tt
-  | Canceled why ↦ λ is. refusing 0x0404
-  | Aborted ↦ λ is. refusing 0x0404
-  | Completed ↦ λ is. refusing 0x0404
-] refl
-
-showing : (j : Job) → IsSoundJob j → IsAskDecision (answered (Jobs (j ∷ [])))
-showing j sound = answering (Jobs (j ∷ [])) (one j sound)
-
--- ---- what a caller asks
+  form_within : (call : Call) (d : Decision) → HasForm s now caller call d → IsCall call → IsAskDecision d
+  form_within _ _ (not_possible call) limits = refusing 0x0404
+  form_within _ _ (not_found call) limits = refusing 0x0406
+  form_within _ _ (out_of_numbers call) limits = refusing 0x0506
+  form_within _ _ (done call) limits = answering Done tt
+  form_within _ _ (lists which limit) limits = answering (Jobs s.jobs) fair.jobs
+  form_within _ _ (shows n j own) limits = answering (Jobs (j ∷ [])) (one j (own_sound j own))
+  form_within _ _ shows_printer limits = answering _ fair.queued
+  form_within _ _ (prints new format payload room) limits = entering false new payload (new_document s.next format payload) room limits.0 limits.1 (of_its_job (new_job s now caller false new payload) format payload)
+  form_within _ _ (creates new room) limits = entering true new [] None room limits (omega arith) tt
+  form_within _ _ (sends n format payload last j own can) limits =
+      let job = sent_sound j payload last (own_sound j own) can limits in
+      record { reply = one (sent j payload last) job; change = record { jobs = one (sent j payload last) job; document = of_its_job (sent j payload last) format payload }; grants = refl }
+  form_within _ _ (cancels n j own can) limits = becoming s (canceled now j) ((keeps_documents now j j.phase moment refl can).sound (own_sound j own))
+  form_within _ _ (cancels_all numbers) limits = canceling_able s now fair moment
+  form_within _ _ (holds n j own is) limits = becoming s (held true j) ((held_documents true j is).sound (own_sound j own))
+  form_within _ _ (releases n j own is has) limits = becoming s (held false j) ((held_documents false j is).sound (own_sound j own))
 
 pub ask_within : (s : Scene) (now : ℕ) (caller : List ℕ) (call : Call) → IsFair s → IsMoment now → IsOwner caller × IsCall call → IsAskDecision (call_row s now caller call)
-ask_within s now caller (print_job j format payload) fair moment event = entering s now caller false j payload (new_document s.next format payload) fair moment event.0 event.1.0 event.1.1 (of_its_job (new_job s now caller false j payload) format payload)
-ask_within s now caller (create_job j) fair moment event = entering s now caller true j [] None fair moment event.0 event.1 (omega arith) tt
-ask_within s now caller (send_document n format payload last) fair moment event = owned caller (λ j. send_in s j format payload last) (sending s format payload last event.1) s.jobs fair.jobs
-ask_within s now caller (hold_job n) fair moment event = owned caller (λ j. hold_in j.phase s j) (holding s) s.jobs fair.jobs
-ask_within s now caller (release_job n) fair moment event = owned caller (λ j. release_in j.phase s j) (releasing s) s.jobs fair.jobs
-ask_within s now caller (validate_job j) fair moment event = validating s
-ask_within s now caller (get_jobs which limit) fair moment event = answering (Jobs s.jobs) fair.jobs
-ask_within s now caller get_printer_attributes fair moment event = answering _ fair.queued
-ask_within s now caller (cancel_job n) fair moment event = owned caller (λ j. cancel_row s now j) (canceling s now moment) s.jobs fair.jobs
-ask_within s now caller (cancel_my_jobs numbers) fair moment event = canceling_mine s now numbers fair moment
-ask_within s now caller (get_job_attributes n) fair moment event = owned caller (λ j. answered (Jobs (j ∷ []))) showing s.jobs fair.jobs
+ask_within s now caller call fair moment event = form_within s now caller fair moment event.0 call (call_row s now caller call) (call_form s now caller call) event.1
 
 -- ---- reports
 

@@ -3,7 +3,8 @@ use Rattle.std.specs.Prelude.{◌≡◌, ⊤, ℕ, ℤ, sum_by, List, [], ◌∷
 use Rattle.std.specs.List.{list_any}
 use Rattle.std.specs.declared.cmp.Ordering.{Ordering}
 use Rattle.std.specs.Ordering.{nat_cmp, ordering_then}
-use Rattle.std.specs.Cmp.Lexicographic.{slice_cmp}
+use Rattle.std.specs.Cmp.{IsTotalOrder, nat_cmp_total, on_total, then_total}
+use Rattle.std.specs.Cmp.Lexicographic.{nat_list_cmp_total, slice_cmp}
 use Rattle.std.specs.Coded.{Coded, coded×, coded_list, coded_ℕ, coded_ℤ}
 use Rattle.std.specs.FinMap.{code, FinMap, empty, entries, insert, get}
 use Rattle.queue_types.specs.Settings.{SettingValues}
@@ -34,6 +35,13 @@ grant_cmp a b = ordering_then (text_cmp a.0 b.0) (text_cmp a.1 b.1)
 -- by job, then by sequence number
 abbrev pub report_cmp : ℕ × ℕ → ℕ × ℕ → Ordering
 report_cmp a b = ordering_then (nat_cmp a.0 b.0) (nat_cmp a.1 b.1)
+
+-- both are total orders
+pub grant_total : IsTotalOrder grant_cmp
+grant_total = then_total (on_total (λ (p : List ℕ × List ℕ). p.0) nat_list_cmp_total) (on_total (λ (p : List ℕ × List ℕ). p.1) nat_list_cmp_total)
+
+pub report_total : IsTotalOrder report_cmp
+report_total = then_total (on_total (λ (p : ℕ × ℕ). p.0) nat_cmp_total) (on_total (λ (p : ℕ × ℕ). p.1) nat_cmp_total)
 
 pub record World : Type 0 where
   pub settings : SettingValues

@@ -7,7 +7,7 @@ ghost use Rattle.queue_core.specs.Limits.{IsFair, IsKnown};
 ghost use Rattle.queue_core.specs.Machine.{grant_row};
 ghost use Rattle.queue_core.specs.Tally.{total_of, row_in, rows_after, free_rows_after, taken_at, ArePages, AreTotals, IsEndWithin, IsTallied, IsTalliedAfter};
 
-use crate::outcome::{answer_only, no_change};
+use crate::decision::{answer_only, no_change};
 use queue_types::event::{
     Decision, FreeList, FreeRow, GrantFault, GrantList, GrantRow, KnownGrant, Reply, Scene,
 };
@@ -43,10 +43,7 @@ fn add_key<'a>(
 fn sum_within(total: u32, pages: u32, most: u32) -> Option<u32>
     ensures { result ≡ (if nat_lt most (total + pages) then None else Some (total + pages)) }
 {
-    match total.checked_add(pages) {
-        Some(sum) if sum <= most => Some(sum),
-        _ => None,
-    }
+    total.checked_add(pages).filter(|sum| *sum <= most)
 }
 
 /// Adds a row's pages to the total of its account, and gives the total then; none where that would be more than `most`.

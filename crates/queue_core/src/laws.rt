@@ -3,12 +3,15 @@ ghost use Rattle.std.specs.Prelude.{ℕ, ◌≡◌, ◌+◌, ◌∷◌, ◌++◌
 ghost use Rattle.std.specs.FinMap.{FinMap};
 ghost use Rattle.std.specs.List.{AllByRecursion};
 ghost use Rattle.queue_core.specs.Book.{IsDecisionOn};
-ghost use Rattle.queue_types.specs.Event.{Event, Decision};
+ghost use Rattle.queue_types.specs.Event.{Call, Event, Decision};
+ghost use Rattle.queue_core.specs.Forms.{HasForm};
 ghost use Rattle.queue_core.specs.Grants.{pages_to};
 ghost use Rattle.queue_types.specs.declared.event.GrantRow.{GrantRow};
 ghost use Rattle.queue_core.specs.Limits.{IsFair, IsSoundChange};
+ghost use Rattle.queue_core.specs.Machine.{call_row};
 ghost use Rattle.queue_core.specs.Visible.{in_order};
 ghost use Rattle.queue_core.specs.Order.{IsLive, AreNewestFirst, AreByRank, AreRising};
+ghost use Rattle.queue_types.specs.declared.event.Scene.{Scene};
 ghost use Rattle.queue_types.specs.declared.event.WhichJobs.TheVariants.{NotCompleted, Completed as CompletedJobs};
 ghost use Rattle.queue_types.specs.declared.job.Job.{Job};
 ghost use Rattle.queue_core.specs.Runs.{Place, IsPlace, run, MovesAlong};
@@ -47,6 +50,12 @@ pub fn decisions_are_sound()
 /// The pages that new grants add to an account are those of its rows.
 pub fn new_grants_add_up()
     ensures { (a : List ℕ) (rows : List GrantRow) (m : FinMap grant_cmp ℕ) → AreNew m rows → granted_in a (fold put_grant m rows) ≡ granted_in a m + pages_to a rows }
+{}
+
+/// What is decided on a request is a refusal, an answer alone, or the one change that its call asks for: of a job of the
+/// caller's own where the call is on one, and of a new one where it asks for one and there is room.
+pub fn requests_have_forms()
+    ensures { (s : Scene) (now : ℕ) (caller : List ℕ) (call : Call) → HasForm s now caller call (call_row s now caller call) }
 {}
 
 /// Get-Jobs shows each job that it is about as often as the list has it: 'completed' from the one that ended last,

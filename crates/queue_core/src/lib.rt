@@ -4,12 +4,12 @@
 
 mod balance;
 pub mod book;
+mod decision;
 mod grants;
 pub mod laws;
 pub mod machine;
 mod my_jobs;
 mod names;
-mod outcome;
 mod own_job;
 mod reports;
 pub mod visible;
@@ -19,7 +19,7 @@ pub use balance::numbered_job;
 pub use book::{BookFault, QueueBook, SendCause, SendFault};
 pub use laws::{
     cut_is_fair, decisions_are_sound, empty_is_sound, get_jobs_in_order, new_grants_add_up,
-    run_keeps,
+    requests_have_forms, run_keeps,
 };
 pub use machine::decide;
 pub use my_jobs::number_set;

@@ -1,5 +1,5 @@
 //! What the machine decides on the rows that an event needs.
-ghost use Rattle.std.specs.Prelude.{◌≡◌, [], ◌<◌, ◌^◌, IfOk, IsNone, IsSome, None, option_map};
+ghost use Rattle.std.specs.Prelude.{◌≡◌, [], ◌<◌, ◌^◌, IfOk, IsNone, IsSome, None, false, option_map};
 ghost use Rattle.queue_core.specs.Balance.{AreAmounts};
 ghost use Rattle.queue_types.specs.Event.{event_of, change_of, decision_of, document_of, new_job_of, on_job, call_of};
 ghost use Rattle.queue_core.specs.Limits.{IsMoment, IsEvent, IsCall, IsNewJob, IsFair, IsReplyTo, IsSoundChange};
@@ -9,10 +9,10 @@ ghost use Rattle.queue_core.specs.Sound.{IsSound, Balances};
 ghost use Rattle.queue_core.specs.World.{World, cut, made_on};
 ghost use Rattle.queue_types.specs.declared.event.Reply.TheVariants.{Jobs};
 
+use crate::decision::{answer_only, change_job, one_job, refuse};
 use crate::grants::grant;
 use crate::my_jobs::{cancel_all, cancel_named};
-use crate::outcome::{answer_only, change_job, one_job, refuse};
-use crate::own_job::{cancel, count_of, document_in, hold, own, release, send, show};
+use crate::own_job::{Sent, cancel, count_of, document_in, hold, own, release, send, show};
 use crate::reports::report;
 use queue_types::document::Format;
 use queue_types::event::{Call, Decision, Event, NewDocument, NewJob, QueueCounts, Reply, Scene};
@@ -37,19 +37,26 @@ fn refusal_of_new(scene: &Scene) -> Option<u16>
     None
 }
 
-fn made_job(
+/// What a caller's call is answered with.
+#[derive(Clone, Copy)]
+struct CallContext<'s> {
+    /// Where memory is taken.
     alloc: Global,
-    scene: &Scene,
+    /// The rows that the call needs.
+    scene: &'s Scene,
+    /// The moment, from 1 to 2,147,483,647.
     now: u32,
-    caller: &str,
-    incoming: bool,
-    asked: &NewJob<'_>,
-    payload: &[u8],
-) -> Result<Job, AllocError>
-    ensures { IfOk result (λ k. k ≡ new_job scene.now now caller.now incoming (new_job_of asked.now) payload.now) }
+    /// The requesting user name.
+    caller: &'s str,
+}
+
+/// The new job that the caller asks for, under the scene's next number. It takes no more documents.
+fn made_job(context: CallContext<'_>, asked: &NewJob<'_>, payload: &[u8]) -> Result<Job, AllocError>
+    ensures { IfOk result (λ k. k ≡ new_job context.entry.scene.now context.entry.now context.entry.caller.now false (new_job_of asked.now) payload.now) }
 {
-    let owner = Text::copy_of(alloc, caller)?;
-    let name = Text::copy_of(alloc, asked.name)?;
+    let scene = context.scene;
+    let owner = Text::copy_of(context.alloc, context.caller)?;
+    let name = Text::copy_of(context.alloc, asked.name)?;
     Ok(Job {
         number: scene.next,
         owner,
@@ -57,11 +64,11 @@ fn made_job(
         copies: asked.copies,
         impressions: asked.impressions.unwrap_or(scene.settings.estimate()),
         hold: true,
-        incoming,
+        incoming: false,
         phase: Phase::Waiting,
         stopping: false,
         count: 0,
-        created: now,
+        created: context.now,
         begun: None,
         ended: None,
         documents: count_of(payload),
@@ -89,40 +96,35 @@ fn enter<'a>(
 }
 
 fn print<'a>(
-    alloc: Global,
-    scene: &Scene,
-    now: u32,
-    caller: &str,
+    context: CallContext<'_>,
     new_job: &NewJob<'a>,
     format: Format,
     payload: &'a [u8],
 ) -> Result<Decision<'a>, AllocError>
-    requires fair { IsFair scene.now }
+    requires fair { IsFair context.scene.now }
     requires job { IsNewJob (new_job_of new_job.now) }
-    ensures { IfOk result (λ d. decision_of d ≡ print_job_row scene.now now caller.now (new_job_of new_job.now) format payload.entry.now) }
+    ensures { IfOk result (λ d. decision_of d ≡ print_job_row context.entry.scene.now context.entry.now context.entry.caller.now (new_job_of new_job.now) format payload.entry.now) }
 {
+    let CallContext { alloc, scene, .. } = context;
     if let Some(code) = refusal_of_new(scene) {
         return Ok(refuse(alloc, code));
     }
-    let job = made_job(alloc, scene, now, caller, false, new_job, payload)?;
+    let job = made_job(context, new_job, payload)?;
     enter(alloc, scene, job, document_in(scene.next, format, payload))
 }
 
-fn create<'a>(
-    alloc: Global,
-    scene: &Scene,
-    now: u32,
-    caller: &str,
-    new_job: &NewJob<'a>,
-) -> Result<Decision<'a>, AllocError>
-    requires fair { IsFair scene.now }
+/// The job that enters takes documents from then on.
+fn create<'a>(context: CallContext<'_>, new_job: &NewJob<'a>) -> Result<Decision<'a>, AllocError>
+    requires fair { IsFair context.scene.now }
     requires job { IsNewJob (new_job_of new_job.now) }
-    ensures { IfOk result (λ d. decision_of d ≡ create_job_row scene.now now caller.now (new_job_of new_job.now)) }
+    ensures { IfOk result (λ d. decision_of d ≡ create_job_row context.entry.scene.now context.entry.now context.entry.caller.now (new_job_of new_job.now)) }
 {
+    let CallContext { alloc, scene, .. } = context;
     if let Some(code) = refusal_of_new(scene) {
         return Ok(refuse(alloc, code));
     }
-    let job = made_job(alloc, scene, now, caller, true, new_job, &[])?;
+    let mut job = made_job(context, new_job, &[])?;
+    job.incoming = true;
     enter(alloc, scene, job, None)
 }
 
@@ -171,17 +173,17 @@ fn show_printer<'a>(alloc: Global, scene: &Scene) -> Decision<'a>
 }
 
 /// What the caller's call makes of the one job that it is about, where that is the caller's own.
-fn answer_on_job<'a>(
-    alloc: Global,
-    scene: &Scene,
-    now: u32,
-    caller: &str,
-    call: &Call<'a>,
-) -> Result<Decision<'a>, AllocError>
-    requires fair { IsFair scene.now }
+fn answer_on_job<'a>(context: CallContext<'_>, call: &Call<'a>) -> Result<Decision<'a>, AllocError>
+    requires fair { IsFair context.scene.now }
     requires one { IsSome (on_job (call_of call.now)) }
-    ensures { IfOk result (λ d. decision_of d ≡ call_row scene.now now caller.now (call_of call.now)) }
+    ensures { IfOk result (λ d. decision_of d ≡ call_row context.entry.scene.now context.entry.now context.entry.caller.now (call_of call.now)) }
 {
+    let CallContext {
+        alloc,
+        scene,
+        now,
+        caller,
+    } = context;
     let job = match own(scene, caller) {
         Ok(job) => job,
         Err(code) => return Ok(refuse(alloc, code)),
@@ -192,7 +194,14 @@ fn answer_on_job<'a>(
             payload,
             last,
             ..
-        } => send(alloc, scene, job, *format, payload, *last),
+        } => {
+            let sent = Sent {
+                format: *format,
+                payload: *payload,
+                last: *last,
+            };
+            send(alloc, scene, job, sent)
+        }
         Call::CancelJob { .. } => cancel(alloc, scene, now, job),
         Call::HoldJob { .. } => hold(alloc, scene, job),
         Call::ReleaseJob { .. } => release(alloc, scene, job),
@@ -201,25 +210,25 @@ fn answer_on_job<'a>(
     }
 }
 
-fn answer_call<'a>(
-    alloc: Global,
-    scene: &Scene,
-    now: u32,
-    caller: &str,
-    call: &Call<'a>,
-) -> Result<Decision<'a>, AllocError>
-    requires fair { IsFair scene.now }
+fn answer_call<'a>(context: CallContext<'_>, call: &Call<'a>) -> Result<Decision<'a>, AllocError>
+    requires fair { IsFair context.scene.now }
     requires call { IsCall (call_of call.now) }
-    ensures { IfOk result (λ d. decision_of d ≡ call_row scene.now now caller.now (call_of call.now)) }
+    ensures { IfOk result (λ d. decision_of d ≡ call_row context.entry.scene.now context.entry.now context.entry.caller.now (call_of call.now)) }
 {
+    let CallContext {
+        alloc,
+        scene,
+        now,
+        ..
+    } = context;
     match call {
         Call::PrintJob {
             job,
             format,
             payload,
-        } => print(alloc, scene, now, caller, job, *format, payload),
+        } => print(context, job, *format, payload),
         Call::ValidateJob { .. } => Ok(validate(alloc, scene)),
-        Call::CreateJob { job } => create(alloc, scene, now, caller, job),
+        Call::CreateJob { job } => create(context, job),
         Call::CancelMyJobs {
             jobs: Some(numbers),
         } => { cancel_named(alloc, scene, now, numbers.as_slice()) }
@@ -230,7 +239,7 @@ fn answer_call<'a>(
         | Call::CancelJob { .. }
         | Call::HoldJob { .. }
         | Call::ReleaseJob { .. }
-        | Call::GetJobAttributes { .. } => answer_on_job(alloc, scene, now, caller, call),
+        | Call::GetJobAttributes { .. } => answer_on_job(context, call),
     }
 }
 
@@ -245,7 +254,15 @@ fn decision_on<'a>(
     ensures { IfOk result (λ d. decision_of d ≡ decision scene.now now (event_of event.now)) }
 {
     match event {
-        Event::Ask { caller, call } => answer_call(alloc, scene, now, caller, call),
+        Event::Ask { caller, call } => {
+            let context = CallContext {
+                alloc,
+                scene,
+                now,
+                caller: *caller,
+            };
+            answer_call(context, call)
+        }
         Event::Report(r) => report(alloc, scene, now, *r),
         Event::Grants(rows) => grant(alloc, scene, rows),
     }

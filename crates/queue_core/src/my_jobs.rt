@@ -8,7 +8,7 @@ ghost use Rattle.queue_types.specs.Event.{decision_of};
 ghost use Rattle.queue_core.specs.Limits.{IsFair};
 ghost use Rattle.queue_core.specs.Machine.{all_canceled, are_there, canceled, cancel_my_jobs_row, is_cancelable};
 
-use crate::outcome::{change_jobs, refuse};
+use crate::decision::{change_jobs, refuse};
 use crate::own_job::{can_cancel, canceled_job};
 use queue_types::event::{Decision, Reply, Scene};
 use queue_types::job::Job;

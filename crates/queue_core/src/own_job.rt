@@ -6,7 +6,7 @@ ghost use Rattle.queue_core.specs.Limits.{IsFair, IsSoundJob};
 ghost use Rattle.queue_core.specs.Machine.{refused, answered, canceled, cancel_row, is_cancelable, document_count, has_pages, hold_in, is_sendable, let_print, new_document, of_own, release_in, send_in, sent};
 ghost use Rattle.queue_types.specs.declared.event.Reply.TheVariants.{Jobs};
 
-use crate::outcome::{answer_only, change_job, job_becomes, one_job, refuse};
+use crate::decision::{answer_only, change_job, job_becomes, one_job, refuse};
 use queue_types::document::Format;
 use queue_types::event::{Decision, FreeRow, NewDocument, Reply, Scene};
 use queue_types::job::{Job, Phase, Why};
@@ -179,23 +179,31 @@ fn with_document(job: &Job, payload: &[u8], last: bool) -> Result<Job, AllocErro
     Ok(job)
 }
 
+/// What a Send-Document operation sends to a job.
+#[derive(Clone, Copy)]
+pub(crate) struct Sent<'a> {
+    pub format: Format,
+    /// The document's octets; none where the operation has no document.
+    pub payload: &'a [u8],
+    /// The job takes no more documents after it.
+    pub last: bool,
+}
+
 pub(crate) fn send<'a>(
     alloc: Global,
     scene: &Scene,
     job: &Job,
-    format: Format,
-    payload: &'a [u8],
-    last: bool,
+    sent: Sent<'a>,
 ) -> Result<Decision<'a>, AllocError>
     requires fair { IsFair scene.now }
     requires job { IsSoundJob job.now }
-    ensures { IfOk result (λ d. decision_of d ≡ send_in scene.now job.now format payload.entry.now last) }
+    ensures { IfOk result (λ d. decision_of d ≡ send_in scene.now job.now sent.entry.format sent.entry.payload.now sent.entry.last) }
 {
-    if !takes(job, payload) {
+    if !takes(job, sent.payload) {
         return Ok(refuse(alloc, CLIENT_ERROR_NOT_POSSIBLE));
     }
-    let job = with_document(job, payload, last)?;
-    let document = document_in(job.number, format, payload);
+    let job = with_document(job, sent.payload, sent.last)?;
+    let document = document_in(job.number, sent.format, sent.payload);
     let reply = one_job(alloc, &job)?;
     let mut change = change_job(alloc, scene, job)?;
     change.document = document;

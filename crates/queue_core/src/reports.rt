@@ -6,7 +6,7 @@ ghost use Rattle.queue_core.specs.Limits.{IsFair, IsReport, IsSoundJob};
 ghost use Rattle.queue_core.specs.Machine.{accepted, accepted_where, report_row};
 ghost use Rattle.queue_core.specs.Reports.{counted, ended_as, is_same_report, moved_by, why_halted};
 
-use crate::outcome::{answer_only, change_job};
+use crate::decision::{answer_only, change_job};
 use queue_types::event::{Decision, KeptReport, Kind, Reply, Report, ReportRefusal, Scene};
 use queue_types::job::{Job, Phase, Why};
 use std::alloc::{AllocError, Global};

@@ -38,11 +38,8 @@ fn put_once<W: Write>(out: &mut W, bytes: &[u8]) -> usize
     'tries: for _ in 0..MOST_TRIES {
         match out.write(bytes) {
             Ok(n) => return n,
-            Err(error) => {
-                if error.kind() != ErrorKind::Interrupted {
-                    return 0;
-                }
-            }
+            Err(error) if error.kind() == ErrorKind::Interrupted => {}
+            Err(_) => return 0,
         }
     }
     0

@@ -1,25 +1,24 @@
 -- No document comes but what is sent.
 use Rattle.std.proofs.Common.{◌≡◌, ◌⊎◌, ℕ, List, [], ◌∷◌, ◌++◌, refl, ap, sym, subst, ◌∙◌, inl, inr, Bool, true, false, cond}
 use Rattle.std.specs.Prelude.{Option, Some, None, nat_eq, bytes_eq, option_map, fold}
-use Rattle.std.specs.List.{list_all, AllByRecursion as Each}
+use Rattle.std.specs.List.{AllByRecursion as Each}
 use Rattle.std.specs.Option.{option_map_or}
 use Rattle.std.proofs.lemmas.List.{append-nil}
-use Rattle.queue_types.specs.Event.{Event, Call, Change, Decision, NewDocument, ask, tell, grant, print_job, validate_job, create_job, send_document, cancel_job, cancel_my_jobs, hold_job, release_job, get_job_attributes, get_jobs, get_printer_attributes}
+use Rattle.queue_types.specs.Event.{Event, Call, Change, Decision, NewDocument, ask, tell, grant, print_job, send_document}
 use Rattle.queue_core.specs.World.{World, Entry, rows, cut, made_on, with_row, add_document, with_document}
+use Rattle.queue_core.specs.Forms.{HasForm, prints, sends as sends_form}
 use Rattle.queue_core.specs.Grants.{Taken, all_taken, none_taken, take_rows}
-use Rattle.queue_core.specs.Machine.{step, decision, answered, refused, becomes, changed, entered, new_job, new_document, new_refusal, unless_refused, canceled, is_cancelable, cancel_row, all_canceled, are_there, cancel_my_jobs_row, is_sendable, sent, send_in, hold_in, has_pages, let_print, release_in, report_row, accepted_where, grant_row, of_own}
+use Rattle.queue_core.specs.Machine.{step, decision, call_row, answered, refused, changed, entered, new_job, new_document, new_refusal, unless_refused, is_sendable, sent, send_in, report_row, accepted_where, grant_row, of_own}
 use Rattle.queue_core.specs.Reports.{reported, is_same_report}
-use Rattle.queue_types.specs.Job.{estimate}
 use Rattle.queue_types.specs.declared.document.Document.{Document}
 use Rattle.queue_types.specs.declared.document.Format.{Format}
 use Rattle.queue_types.specs.declared.event.KeptReport.{KeptReport}
 use Rattle.queue_types.specs.declared.event.Report.{Report}
 use Rattle.queue_types.specs.declared.event.ReportRefusal.TheVariants.{Conflict}
-use Rattle.queue_types.specs.declared.event.Reply.TheVariants.{Done, Told, NotTold, Jobs}
+use Rattle.queue_types.specs.declared.event.Reply.TheVariants.{Told, NotTold, Jobs}
 use Rattle.queue_types.specs.declared.event.Scene.{Scene}
 use Rattle.queue_types.specs.declared.job.Job.{Job}
-use Rattle.queue_types.specs.declared.job.Phase.{Phase}
-use Rattle.queue_types.specs.declared.job.Phase.TheVariants.{Waiting, Running, Stopped, Canceled, Aborted, Completed}
+use Rattle.queue_core.proofs.Forms.{call_form}
 use Rattle.queue_laws.specs.Documents.{documents_at, sent_by, sent_in}
 use Rattle.queue_laws.specs.Doing.{entry_at}
 use Rattle.queue_laws.specs.Entering.{documents_of}
@@ -105,6 +104,17 @@ carries : (n m : ℕ) (format : Format) (payload : List ℕ) → carried n (new_
 carries n m format [] = none_either (nat_eq m n)
 carries n m format (b ∷ bytes) = refl
 
+-- a document may come with it
+abbrev has_payload : Call → Bool
+has_payload (print_job j format payload) = true
+has_payload (send_document m format payload last) = true
+has_payload _ = false
+
+form_sends_none : (s : Scene) (now : ℕ) (caller : List ℕ) (call : Call) (d : Decision) → HasForm s now caller call d → has_payload call ≡ false → d.change.document ≡ None
+form_sends_none s now caller _ _ (prints new format payload room) none = absurd (cc)
+form_sends_none s now caller _ _ (sends_form m format payload last j own can) none = absurd (cc)
+form_sends_none s now caller _ _ _ none = refl
+
 module _ (n : ℕ) where
   -- no document, or these for the job of number n
   abbrev Sends : List Document → Decision → Type 0
@@ -118,43 +128,12 @@ module _ (n : ℕ) where
   own_sends ds caller row [] each = inl refl
   own_sends ds caller row (j ∷ js) each = elim (bytes_eq j.owner caller) as (λ b. Sends ds (cond b (row j) (refused 0x0406))) [ true ↦ each.0 | false ↦ inl refl ]
 
-  all_send : (ds : List Document) (row : Job → Decision) (js : List Job) → ((j : Job) → Sends ds (row j)) → Each (λ j. Sends ds (row j)) js
-  all_send ds row [] f = tt
-  all_send ds row (j ∷ js) f = (f j, all_send ds row js f)
-
   module _ (s : Scene) where
     payload_sends : (m : ℕ) (j : Job) (format : Format) (payload : List ℕ) (last : Bool) → j.number ≡ m → Sends (cond (nat_eq m n) (documents_of format payload) []) (send_in s j format payload last)
     payload_sends m j format payload last number =
         elim (is_sendable j payload) as (λ b. Sends (cond (nat_eq m n) (documents_of format payload) []) (cond b (record { reply = Jobs (sent j payload last ∷ []); change = record (changed s (sent j payload last ∷ [])) { document = new_document j.number format payload } }) (refused 0x0404))) [
           | true ↦ inr (carries n j.number format payload ∙ ap (λ m. cond (nat_eq m n) (documents_of format payload) []) number)
           | false ↦ inl refl
-        ]
-
-    cancel_sends : (now : ℕ) (j : Job) → Sends [] (cancel_row s now j)
-    cancel_sends now j = elim (is_cancelable j) as (λ b. Sends [] (cond b (becomes s (canceled now j)) (refused 0x0404))) [ true ↦ inl refl | false ↦ inl refl ]
-
-    cancel_my_sends : (now : ℕ) (numbers : List ℕ) → Sends [] (cancel_my_jobs_row s now (Some numbers))
-    cancel_my_sends now numbers =
-        elim (are_there s.jobs numbers) as (λ b. Sends [] (cond b (cond (list_all is_cancelable s.jobs) (all_canceled s now s.jobs) (refused 0x0404)) (refused 0x0406))) [
-          | true ↦ elim (list_all is_cancelable s.jobs) as (λ b. Sends [] (cond b (all_canceled s now s.jobs) (refused 0x0404))) [ true ↦ inl refl | false ↦ inl refl ]
-          | false ↦ inl refl
-        ]
-
-    hold_sends : (j : Job) (p : Phase) → Sends [] (hold_in p s j)
-    hold_sends j p = elim p as (λ p. Sends [] (hold_in p s j)) [ Waiting ↦ inl refl | Running ↦ inl refl | Stopped ↦ inl refl | Canceled why ↦ inl refl | Aborted ↦ inl refl | Completed ↦ inl refl ]
-
-    let_sends : (j : Job) → Sends [] (let_print s j)
-    let_sends j = elim (has_pages s.free (estimate j)) as (λ b. Sends [] (cond b (becomes s (record j { hold = false })) (refused 0x0404))) [ true ↦ inl refl | false ↦ inl refl ]
-
-    release_sends : (j : Job) (p : Phase) → Sends [] (release_in p s j)
-    release_sends j p =
-        elim p as (λ p. Sends [] (release_in p s j)) [
-          | Waiting ↦ elim j.hold as (λ b. Sends [] (cond b (let_print s j) (answered Done))) [ true ↦ let_sends j | false ↦ inl refl ]
-          | Running ↦ inl refl
-          | Stopped ↦ inl refl
-          | Canceled why ↦ inl refl
-          | Aborted ↦ inl refl
-          | Completed ↦ inl refl
         ]
 
     accepted_sends : (r : Report) (o : Option Job) → Sends [] (accepted_where s r o)
@@ -174,21 +153,12 @@ module _ (n : ℕ) where
   call_sends w now caller (print_job j format payload) =
       let s : Scene = cut w (ask caller (print_job j format payload)) in
       unless_sends (cond (nat_eq w.next n) (documents_of format payload) []) (new_refusal s) (entered s (new_job s now caller false j payload) (new_document s.next format payload)) (inr (carries n w.next format payload))
-  call_sends w now caller (validate_job j) = let s : Scene = cut w (ask caller (validate_job j)) in unless_sends [] (new_refusal s) (answered Done) (inl refl)
-  call_sends w now caller (create_job j) = let s : Scene = cut w (ask caller (create_job j)) in unless_sends [] (new_refusal s) (entered s (new_job s now caller true j []) None) (inl refl)
   call_sends w now caller (send_document m format payload last) =
       let s : Scene = cut w (ask caller (send_document m format payload last)) in
       let ds : List Document = cond (nat_eq m n) (documents_of format payload) [] in
       own_sends ds caller (λ j. send_in s j format payload last) s.jobs
       (each_map (λ j. nat_eq j.number m ≡ true) (λ j. Sends ds (send_in s j format payload last)) s.jobs (λ j is. payload_sends s m j format payload last (equal j.number m is)) (passed (λ j. nat_eq j.number m) (rows w)))
-  call_sends w now caller (get_jobs which limit) = inl refl
-  call_sends w now caller get_printer_attributes = inl refl
-  call_sends w now caller (cancel_job m) = let s : Scene = cut w (ask caller (cancel_job m)) in own_sends [] caller (λ j. cancel_row s now j) s.jobs (all_send [] (λ j. cancel_row s now j) s.jobs (cancel_sends s now))
-  call_sends w now caller (cancel_my_jobs None) = inl refl
-  call_sends w now caller (cancel_my_jobs (Some numbers)) = cancel_my_sends (cut w (ask caller (cancel_my_jobs (Some numbers)))) now numbers
-  call_sends w now caller (hold_job m) = let s : Scene = cut w (ask caller (hold_job m)) in own_sends [] caller (λ j. hold_in j.phase s j) s.jobs (all_send [] (λ j. hold_in j.phase s j) s.jobs (λ j. hold_sends s j j.phase))
-  call_sends w now caller (release_job m) = let s : Scene = cut w (ask caller (release_job m)) in own_sends [] caller (λ j. release_in j.phase s j) s.jobs (all_send [] (λ j. release_in j.phase s j) s.jobs (λ j. release_sends s j j.phase))
-  call_sends w now caller (get_job_attributes m) = let s : Scene = cut w (ask caller (get_job_attributes m)) in own_sends [] caller (λ j. answered (Jobs (j ∷ []))) s.jobs (all_send [] (λ j. answered (Jobs (j ∷ []))) s.jobs (λ j. inl refl))
+  call_sends w now caller call = let s : Scene = cut w (ask caller call) in inl (form_sends_none s now caller call (call_row s now caller call) (call_form s now caller call) refl)
 
   event_sends : (w : World) (now : ℕ) (e : Event) → Sends (sent_in w.next n e) (decision (cut w e) now e)
   event_sends w now (ask caller call) = call_sends w now caller call

@@ -1,0 +1,70 @@
+-- What is decided on a call has one of the forms.
+use Rattle.std.proofs.Common.{◌≡◌, ℕ, List, [], ◌∷◌, refl, subst, Bool, true, false, cond}
+use Rattle.std.specs.Prelude.{Some, None, bytes_eq, nat_le, nat_lt}
+use Rattle.std.specs.List.{list_all}
+use Rattle.queue_types.specs.Job.{estimate}
+use Rattle.queue_types.specs.Event.{Call, Decision, print_job, validate_job, create_job, send_document, cancel_job, cancel_my_jobs, hold_job, release_job, get_job_attributes, get_jobs, get_printer_attributes}
+use Rattle.queue_core.specs.Forms.{IsOwn, HasForm, not_possible, not_found, out_of_numbers, done, lists, shows, shows_printer, prints, creates, sends, cancels, cancels_all, holds, releases}
+use Rattle.queue_core.specs.Machine.{answered, refused, unless_refused, call_row, send_in, is_sendable, is_cancelable, cancel_row, are_there, all_canceled, cancel_my_jobs_row, hold_in, has_pages, let_print, release_in, of_own}
+use Rattle.queue_types.specs.declared.event.Reply.TheVariants.{Done, Jobs}
+use Rattle.queue_types.specs.declared.event.Scene.{Scene}
+use Rattle.queue_types.specs.declared.job.Job.{Job}
+use Rattle.queue_types.specs.declared.job.Phase.{Phase}
+use Rattle.queue_types.specs.declared.job.Phase.TheVariants.{Waiting, Running, Stopped}
+use Rattle.queue_core.proofs.Numbers.{filter_whole}
+use Rattle.queue_core.proofs.Print.{refused_by}
+
+module _ (s : Scene) (now : ℕ) (caller : List ℕ) where
+  unless_form : (call : Call) (full past : Bool) (d : Decision) → (refused_by full past ≡ None → HasForm s now caller call d) → HasForm s now caller call (unless_refused (refused_by full past) d)
+  unless_form call true past d form = not_possible call
+  unless_form call false true d form = out_of_numbers call
+  unless_form call false false d form = form refl
+
+  -- the decision where the test passes
+  where_form : (call : Call) (b : Bool) (d : Decision) → (b ≡ true → HasForm s now caller call d) → HasForm s now caller call (cond b d (refused 0x0404))
+  where_form call true d form = form refl
+  where_form call false d form = not_possible call
+
+  own_form : (call : Call) (row : Job → Decision) → ((j : Job) → IsOwn s caller j → HasForm s now caller call (row j)) → (js : List Job) → s.jobs ≡ js → HasForm s now caller call (of_own caller row js)
+  own_form call row each [] first = not_found call
+  own_form call row each (j ∷ rest) first =
+      elim (bytes_eq j.owner caller) as (λ b. bytes_eq j.owner caller ≡ b → HasForm s now caller call (cond b (row j) (refused 0x0406))) [
+        | true ↦ λ owner. each j (record { rest = rest; first = first; owner = owner })
+        | false ↦ λ owner. not_found call
+      ] refl
+
+  hold_form : (n : ℕ) (j : Job) → IsOwn s caller j → (p : Phase) → j.phase ≡ p → HasForm s now caller (hold_job n) (hold_in p s j)
+  hold_form n j own Waiting is = holds n j own is
+  hold_form n j own _ is = not_possible (hold_job n)
+
+  release_form : (n : ℕ) (j : Job) → IsOwn s caller j → (p : Phase) → j.phase ≡ p → HasForm s now caller (release_job n) (release_in p s j)
+  release_form n j own Waiting is =
+      elim j.hold as (λ b. HasForm s now caller (release_job n) (cond b (let_print s j) (answered Done))) [
+        | true ↦ where_form (release_job n) (has_pages s.free (estimate j)) _ (releases n j own is)
+        | false ↦ done (release_job n)
+      ]
+  release_form n j own Running is = done (release_job n)
+  release_form n j own Stopped is = done (release_job n)
+  release_form n j own _ is = not_possible (release_job n)
+
+  named_form : (numbers : List ℕ) → HasForm s now caller (cancel_my_jobs (Some numbers)) (cancel_my_jobs_row s now (Some numbers))
+  named_form numbers =
+      elim (are_there s.jobs numbers) as (λ b. HasForm s now caller (cancel_my_jobs (Some numbers)) (cond b (cond (list_all is_cancelable s.jobs) (all_canceled s now s.jobs) (refused 0x0404)) (refused 0x0406))) [
+        | true ↦ where_form (cancel_my_jobs (Some numbers)) (list_all is_cancelable s.jobs) (all_canceled s now s.jobs)
+            (λ all. subst (λ js. HasForm s now caller (cancel_my_jobs (Some numbers)) (all_canceled s now js)) (filter_whole is_cancelable s.jobs all) (cancels_all (Some numbers)))
+        | false ↦ not_found (cancel_my_jobs (Some numbers))
+      ]
+
+  pub call_form : (call : Call) → HasForm s now caller call (call_row s now caller call)
+  call_form (print_job j format payload) = unless_form (print_job j format payload) (nat_le 100 s.live) (nat_lt 2147483647 s.next) _ (prints j format payload)
+  call_form (validate_job j) = unless_form (validate_job j) (nat_le 100 s.live) (nat_lt 2147483647 s.next) _ (λ room. done (validate_job j))
+  call_form (create_job j) = unless_form (create_job j) (nat_le 100 s.live) (nat_lt 2147483647 s.next) _ (creates j)
+  call_form (send_document n format payload last) = own_form (send_document n format payload last) (λ j. send_in s j format payload last) (λ j own. where_form (send_document n format payload last) (is_sendable j payload) _ (sends n format payload last j own)) s.jobs refl
+  call_form (cancel_job n) = own_form (cancel_job n) (λ j. cancel_row s now j) (λ j own. where_form (cancel_job n) (is_cancelable j) _ (cancels n j own)) s.jobs refl
+  call_form (cancel_my_jobs None) = cancels_all None
+  call_form (cancel_my_jobs (Some numbers)) = named_form numbers
+  call_form (hold_job n) = own_form (hold_job n) (λ j. hold_in j.phase s j) (λ j own. hold_form n j own j.phase refl) s.jobs refl
+  call_form (release_job n) = own_form (release_job n) (λ j. release_in j.phase s j) (λ j own. release_form n j own j.phase refl) s.jobs refl
+  call_form (get_job_attributes n) = own_form (get_job_attributes n) (λ j. answered (Jobs (j ∷ []))) (shows n) s.jobs refl
+  call_form (get_jobs which limit) = lists which limit
+  call_form get_printer_attributes = shows_printer
