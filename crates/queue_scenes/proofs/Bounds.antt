@@ -1,5 +1,5 @@
 -- What is read of a sound queue is within its bounds.
-use Rattle.std.proofs.Common.{◌≡◌, inl, inr, ℕ, ℤ, pos, ◌+ℤ◌, ◌+◌, Option, None, Some, option_map, IsSomeAnd, ◌<◌, ◌≤◌, ◌^◌, ◌==◌, List, [], ◌∷◌, IfSome, length, refl, sym, subst, arith}
+use Rattle.std.proofs.Common.{◌≡◌, inl, inr, ℕ, ℤ, pos, ◌+ℤ◌, ◌+◌, Option, None, Some, option_map, IsSomeAnd, ◌<◌, ◌≤◌, ◌^◌, ◌==◌, List, [], ◌∷◌, IfSome, length, sym, subst, arith}
 use Rattle.std.specs.FinMap.{get}
 use Rattle.std.specs.List.{AllByRecursion as Each}
 use Rattle.std.proofs.lemmas.Bool.{cases_Bool, eqb-true}
@@ -7,13 +7,10 @@ use Rattle.std.proofs.lemmas.List.{length-map}
 use Rattle.queue_types.specs.Event.{Call, ask, get_printer_attributes, grant}
 use Rattle.queue_types.specs.declared.event.GrantRow.{GrantRow}
 use Rattle.queue_types.specs.declared.job.Job.{Job}
-use Rattle.queue_core.specs.Limits.{IsAmount, IsGrant, IsKnown, IsSoundJob}
+use Rattle.queue_core.specs.Limits.{IsAmount, IsGrant, IsKnown}
 use Rattle.queue_core.specs.Sound.{IsKept, IsSound, Rise, printed, reserved}
 use Rattle.queue_core.specs.World.{Entry, World, granted, jobs_for, known_grant, numbered, queue_counts, rows}
 use Rattle.queue_core.proofs.Fair.{fair_of}
-use Rattle.queue_rows.proofs.Filled.{sound_sized}
-use Rattle.queue_rows.specs.Jobs.{IsJobRow}
-use Rattle.queue_tables.specs.Steps.{bare}
 use Rattle.queue_tables.specs.Accounts.{pages_of}
 use Rattle.queue_tables.specs.declared.account_pages.AccountPages.{AccountPages}
 use Rattle.queue_tables.proofs.Formed.{sums_fit}
@@ -86,8 +83,3 @@ pub report_fits : (w : World) (job seq : ℕ) (k : KeptReport) → IsSound w →
 report_fits w job seq k sound there =
     let it : IsKept w job seq k = subst (λ o. IfSome o (IsKept w job seq)) there (sound.reports job seq) in
     record { count = omega (arith, it.count); total = it.total }
-
--- ---- the row of a job
-
-pub bare_row : (j : Job) → IsSoundJob j → IsJobRow (bare j)
-bare_row j s = record { sound = sound_sized j 0 0 s (omega arith) (omega arith); bare = refl }

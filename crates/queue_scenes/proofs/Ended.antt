@@ -1,13 +1,15 @@
 -- The jobs of an owner that ended, from the last one on.
 use Rattle.std.proofs.Common.{◌≡◌, ◌⊎◌, inl, inr, ℕ, pos, ◌<◌, ◌≤◌, List, [], ◌∷◌, map, filter, take, Bool, true, false, not, ◌&&◌, ◌||◌, ◌==◌, Option, Some, None, refl, sym, ap, subst, ◌∙◌, arith, bytes_eq, nat_lt, Less, Greater, is_gt}
+use mathlib.Core.Bool.{and-true}
 use Rattle.std.specs.Prelude.{IsSome, IfSome}
 use Rattle.std.specs.Ordering.{int_cmp}
 use Rattle.std.specs.Cmp.{int_cmp_is, tied_itself}
 use Rattle.std.specs.List.{AllByRecursion as Each}
 use Rattle.std.specs.List.Sorted.{IsPermutation}
-use Rattle.std.proofs.lemmas.Bool.{cases_Bool, eqb-true, eqb-false}
-use Rattle.std.proofs.lemmas.Bool.Decides.{nat_tests}
+use Rattle.std.proofs.lemmas.Bool.{and_cases, and_parts, cases_Bool, eqb-false, eqb-true, ltb-false, ltb-true, or_cases, or_parts}
 use Rattle.std.proofs.lemmas.Int.{ints}
+use Rattle.std.proofs.lemmas.List.{map-id, take-map}
+use Rattle.std.proofs.lemmas.List.Elements.{All-from_recursion}
 use Rattle.std.proofs.lemmas.List.Sorted.{IsPermutation-refl, IsPermutation-trans, IsPermutation-cons, IsPermutation-map}
 use Rattle.sqlite.specs.declared.types.Value.TheVariants.{Int, Text as Words}
 use Rattle.sqlite.specs.Order.{Row, column}
@@ -23,24 +25,24 @@ use Rattle.sqlite_trees.specs.Tree.{IsAscending}
 use Rattle.sqlite_keyed.proofs.ListLemmas.{all_weaker, all-filter, ascending-map}
 use Rattle.queue_types.specs.declared.job.Job.{Job}
 use Rattle.queue_types.specs.declared.job.Phase.{Phase}
-use Rattle.queue_types.specs.declared.job.Phase.TheVariants.{Waiting, Running, Stopped, Canceled, Aborted, Completed as CompletedPhase}
+use Rattle.queue_types.specs.declared.job.Phase.TheVariants.{Waiting, Running, Stopped}
 use Rattle.queue_types.specs.declared.event.WhichJobs.TheVariants.{Completed}
 use Rattle.queue_types.specs.Job.{is_live, is_live_in}
 use Rattle.queue_core.specs.Limits.{IsMoment, IsSoundJob, FitsPhase}
 use Rattle.queue_core.specs.Sound.{IsSound, IsSoundEntry}
 use Rattle.queue_core.specs.Visible.{by_end, placed, is_newer, visible}
 use Rattle.queue_core.specs.World.{World, Entry, rows, job_at}
-use Rattle.queue_core.proofs.Ordered.{all_of, each-placed, each-visible}
-use Rattle.queue_tables.specs.Content.{Holds, content_of}
+use Rattle.queue_core.proofs.Ordered.{each-placed, each-visible}
 use Rattle.queue_tables.specs.Values.{number, moment, job_values, job_view}
 use Rattle.queue_tables.proofs.Entries.{rows_in}
 use Rattle.queue_tables.proofs.Permuting.{swap_front}
-use Rattle.queue_scenes.specs.Jobs.{AreRowsOf, ShowsJobs}
-use Rattle.queue_scenes.proofs.Lists.{each_row, world_rising, same_rows, taken_rows}
+use Rattle.queue_scenes.specs.Jobs.{AreRowsOf}
+use Rattle.queue_scenes.proofs.Lists.{each_row, world_rising}
 use Rattle.queue_scenes.proofs.Numbers.{AreRising, rising_filter, less_value}
 use Rattle.queue_scenes.proofs.Ordered.{shows_in_order, shows_first}
+use Rattle.queue_scenes.proofs.Selects.{Selects}
 use Rattle.queue_scenes.proofs.Statements.{descending, select_ended, select_ended_is, select_ended_first, select_ended_first_is}
-use Rattle.queue_scenes.proofs.Tests.{names, greater, and_true}
+use Rattle.queue_scenes.proofs.Tests.{where_text_is, where_above}
 
 -- ---- a job that ended has the moment of its end
 
@@ -60,19 +62,20 @@ none_later o none = rw none refl
 
 some_later : (o : Option ℕ) → IsSome o → IfSome o IsMoment → is_true (binary (Compare Gt Binary) (moment o) (Int (pos 0))) ≡ true
 some_later None some within = absurd cc
-some_later (Some n) some within = greater n 0 ∙ later n within.0
+some_later (Some n) some within = where_above n 0 ∙ later n within.0
 
 ended_in : (p : Phase) (j : Job) → FitsPhase p j → IfSome j.ended IsMoment → is_true (binary (Compare Gt Binary) (moment j.ended) (Int (pos 0))) ≡ not (is_live_in p)
 ended_in Waiting j fits within = none_later j.ended fits.2
 ended_in Running j fits within = none_later j.ended fits.3
 ended_in Stopped j fits within = none_later j.ended fits.3
-ended_in (Canceled why) j fits within = some_later j.ended fits.2 within
-ended_in Aborted j fits within = some_later j.ended fits.2 within
-ended_in CompletedPhase j fits within = some_later j.ended fits.2 within
+ended_in _ j fits within = some_later j.ended fits.2 within
 
-ended-row : (name : List ℕ) (j : Job) → IsSoundJob j → is_ended_row name (job_values j) ≡ (bytes_eq j.owner name && not (is_live j))
+abbrev has_ended : List ℕ → Job → Bool
+has_ended name j = bytes_eq j.owner name && not (is_live j)
+
+ended-row : (name : List ℕ) (j : Job) → IsSoundJob j → is_ended_row name (job_values j) ≡ has_ended name j
 unfolding is_ended_row
-ended-row name j sound = rw (names j.owner name, ended_in j.phase j sound.phase sound.ended, and_true _) refl
+ended-row name j sound = rw (where_text_is j.owner name, ended_in j.phase j sound.phase sound.ended, and-true _) refl
 
 some_end : (o : Option ℕ) → IsSome o → (n : ℕ) × (o ≡ Some n)
 some_end None some = absurd cc
@@ -82,30 +85,24 @@ end_in : (p : Phase) (j : Job) → FitsPhase p j → not (is_live_in p) ≡ true
 end_in Waiting j fits over = absurd cc
 end_in Running j fits over = absurd cc
 end_in Stopped j fits over = absurd cc
-end_in (Canceled why) j fits over = fits.2
-end_in Aborted j fits over = fits.2
-end_in CompletedPhase j fits over = fits.2
-
-second : (a b : Bool) → (a && b) ≡ true → b ≡ true
-second true b e = e
-second false b e = absurd cc
+end_in _ j fits over = fits.2
 
 each_sound : (es : List Entry) → Each IsSoundEntry es → Each IsSoundJob (rows_in es)
 each_sound [] all = tt
 each_sound (e ∷ es) all = (all.0.row, each_sound es all.1)
 
-ended_kept : (name : List ℕ) (js : List Job) → Each IsSoundJob js → filter (is_ended_row name) (map job_values js) ≡ map job_values (filter (λ (j : Job). bytes_eq j.owner name && not (is_live j)) js)
+ended_kept : (name : List ℕ) (js : List Job) → Each IsSoundJob js → filter (is_ended_row name) (map job_values js) ≡ map job_values (filter (has_ended name) js)
 ended_kept name [] all = refl
-ended_kept name (j ∷ js) all = elim (cases_Bool (bytes_eq j.owner name && not (is_live j))) [
+ended_kept name (j ∷ js) all = elim (cases_Bool (has_ended name j)) [
   | inl passed ↦ rw (ended-row name j all.0 ∙ passed, passed, ended_kept name js all.1) refl
   | inr failed ↦ rw (ended-row name j all.0 ∙ failed, failed, ended_kept name js all.1) refl
 ]
 
-ends : (name : List ℕ) (js : List Job) → Each IsSoundJob js → Each HasEnd (filter (λ (j : Job). bytes_eq j.owner name && not (is_live j)) js)
+ends : (name : List ℕ) (js : List Job) → Each IsSoundJob js → Each HasEnd (filter (has_ended name) js)
 unfolding HasEnd
 ends name [] all = tt
-ends name (j ∷ js) all = elim (cases_Bool (bytes_eq j.owner name && not (is_live j))) [
-  | inl passed ↦ rw passed (some_end j.ended (end_in j.phase j all.0.phase (second (bytes_eq j.owner name) (not (is_live j)) passed)), ends name js all.1)
+ends name (j ∷ js) all = elim (cases_Bool (has_ended name j)) [
+  | inl passed ↦ rw passed (some_end j.ended (end_in j.phase j all.0.phase (and_parts (bytes_eq j.owner name) (not (is_live j)) passed).1), ends name js all.1)
   | inr failed ↦ rw failed (ends name js all.1)
 ]
 
@@ -125,38 +122,22 @@ keys_less : (ea na eb nb : ℕ) → IsLater ea na eb nb → key_cmp 0 (descendin
 keys_less ea na eb nb (inl less) = rw (less_value eb ea less) refl
 keys_less ea na eb nb (inr h) = rw (h.0, tied_itself value_cmp_total (Int (pos eb)), less_value nb na h.1) refl
 
-less_from : (m n : ℕ) → nat_lt m n ≡ true → m < n
-less_from m n e = grind (arith, nat_tests)
-
-not_less_from : (m n : ℕ) → nat_lt m n ≡ false → n ≤ m
-not_less_from m n e = grind (arith, nat_tests)
-
-either : (a b c : Bool) → (a || (b && c)) ≡ true → (a ≡ true) ⊎ ((b ≡ true) × (c ≡ true))
-either true b c e = inl refl
-either false true c e = inr (refl, e)
-either false false c e = absurd cc
-
-neither : (a b c : Bool) → (a || (b && c)) ≡ false → (a ≡ false) × ((b ≡ false) ⊎ (c ≡ false))
-neither true b c e = absurd cc
-neither false true c e = (refl, inr e)
-neither false false c e = (refl, inl refl)
-
 newer_later : (ea na eb nb : ℕ) → (nat_lt eb ea || (ea == eb && nat_lt nb na)) ≡ true → IsLater ea na eb nb
-newer_later ea na eb nb e = elim (either (nat_lt eb ea) (ea == eb) (nat_lt nb na) e) [
-  | inl less ↦ inl (less_from eb ea less)
-  | inr both ↦ inr (eqb-true ea eb both.0, less_from nb na both.1)
+newer_later ea na eb nb e = elim (or_cases (nat_lt eb ea) (ea == eb && nat_lt nb na) e) [
+  | inl less ↦ inl (ltb-true eb ea less)
+  | inr both ↦ let parts = and_parts (ea == eb) (nat_lt nb na) both in inr (eqb-true ea eb parts.0, ltb-true nb na parts.1)
 ]
 
 older_later : (ea na eb nb : ℕ) → (na ≡ nb → ⊥) → (nat_lt eb ea || (ea == eb && nat_lt nb na)) ≡ false → IsLater eb nb ea na
 older_later ea na eb nb apart e =
-    let parts = neither (nat_lt eb ea) (ea == eb) (nat_lt nb na) e in
-    let at_most : ea ≤ eb = not_less_from eb ea parts.0 in
+    let parts = or_parts (nat_lt eb ea) (ea == eb && nat_lt nb na) e in
+    let at_most : ea ≤ eb = ltb-false eb ea parts.0 in
     elim (cases_Bool (ea == eb)) [
       | inl same ↦
           let is : ea ≡ eb = eqb-true ea eb same in
-          elim (parts.1) [
+          elim (and_cases (ea == eb) (nat_lt nb na) parts.1) [
             | inl other ↦ absurd (let no : true ≡ false = sym same ∙ other in cc)
-            | inr low ↦ let under : na ≤ nb = not_less_from nb na low in inr (sym is, (let ne : (na ≡ nb) → ⊥ = apart in omega (arith, under, ne)))
+            | inr low ↦ let under : na ≤ nb = ltb-false nb na low in inr (sym is, (let ne : (na ≡ nb) → ⊥ = apart in omega (arith, under, ne)))
           ]
       | inr other ↦ let ne : (ea ≡ eb) → ⊥ = eqb-false ea eb other in inl (omega (arith, at_most, ne))
     ]
@@ -211,7 +192,7 @@ by_end_permuted (j ∷ js) = IsPermutation-trans (j ∷ js) (j ∷ by_end js) (p
 -- ---- what the SELECTs show
 
 pub ended_of : List ℕ → World → List Job
-ended_of name w = filter (λ (j : Job). bytes_eq j.owner name && not (is_live j)) (rows w)
+ended_of name w = filter (has_ended name) (rows w)
 
 ended_listed : (name : List ℕ) (w : World) → IsSound w → IsPermutation (filter (is_ended_row name) (map job_values (rows w))) (map job_values (by_end (ended_of name w)))
 unfolding ended_of
@@ -223,26 +204,32 @@ ended_ascends : (name : List ℕ) (w : World) → IsSound w → IsAscending (λ 
 unfolding ended_of
 ended_ascends name w sound =
     ascending-map (λ u v. key_cmp 0 (descending ∷ descending ∷ []) (end_key u) (end_key v) ≡ Less) job_values (by_end (ended_of name w))
-    (by_end_ascends (ended_of name w) (rising_filter (λ (j : Job). bytes_eq j.owner name && not (is_live j)) (rows w) (world_rising w sound)) (ends name (rows w) (each_sound w.jobs sound.entries)))
+    (by_end_ascends (ended_of name w) (rising_filter (has_ended name) (rows w) (world_rising w sound)) (ends name (rows w) (each_sound w.jobs sound.entries)))
 
-pub ended_rows : (name : List ℕ) (limit : Option ℕ) (w : World) → IsSound w → AreRowsOf w (visible name Completed limit (rows w))
+ended_rows : (name : List ℕ) (limit : Option ℕ) (w : World) → IsSound w → AreRowsOf w (visible name Completed limit (rows w))
 ended_rows name limit w sound =
-    all_of (λ (j : Job). job_at j.number (rows w) ≡ Some j) (visible name Completed limit (rows w))
-    (each-visible (λ (j : Job). job_at j.number (rows w) ≡ Some j) limit Completed (filter (λ (j : Job). bytes_eq j.owner name && not (is_live j)) (rows w))
-    (all-filter (λ (j : Job). job_at j.number (rows w) ≡ Some j) (λ (j : Job). bytes_eq j.owner name && not (is_live j)) (rows w) (each_row w sound)))
+    All-from_recursion (λ (j : Job). job_at j.number (rows w) ≡ Some j) (visible name Completed limit (rows w))
+    (each-visible (λ (j : Job). job_at j.number (rows w) ≡ Some j) limit Completed (filter (has_ended name) (rows w))
+    (all-filter (λ (j : Job). job_at j.number (rows w) ≡ Some j) (has_ended name) (rows w) (each_row w sound)))
 
-pub shows_ended : (name : List ℕ) (old : State) (w : World) → IsSound w → Holds (content_of w) old → ShowsJobs select_ended.text (Words name ∷ []) old (visible name Completed None (rows w))
+pub selects_ended : (name : List ℕ) (s : State) → Selects select_ended.text (Words name ∷ []) s (λ w. visible name Completed None (rows w))
 unfolding is_ended_row ended_of
-shows_ended name old w sound has shown_rows h =
-    shows_in_order select_ended (Words name ∷ []) job_view (is_ended_row name) (λ (v : Row). v) end_key (λ r. refl) (λ r. refl) (λ r. refl)
-    select_ended_is old old (map job_values (rows w)) shown_rows (map job_values (by_end (ended_of name w))) has.schema has.rows.jobs
-    (ended_listed name w sound) (ended_ascends name w sound) h
-    ∙ same_rows (map job_values (by_end (ended_of name w)))
+selects_ended name s = record {
+  rows = ended_rows name None;
+  shows = λ w sound has shown_rows h.
+      shows_in_order select_ended (Words name ∷ []) job_view (is_ended_row name) (λ (v : Row). v) end_key (λ r. refl) (λ r. refl) (λ r. refl)
+      select_ended_is s s (map job_values (rows w)) shown_rows (map job_values (by_end (ended_of name w))) has.schema has.rows.jobs
+      (ended_listed name w sound) (ended_ascends name w sound) h
+      ∙ map-id (map job_values (by_end (ended_of name w)));
+}
 
-pub shows_ended_first : (name : List ℕ) (n : ℕ) (old : State) (w : World) → IsSound w → Holds (content_of w) old → ShowsJobs select_ended_first.text (Words name ∷ number n ∷ []) old (visible name Completed (Some n) (rows w))
+pub selects_ended_first : (name : List ℕ) (n : ℕ) (s : State) → Selects select_ended_first.text (Words name ∷ number n ∷ []) s (λ w. visible name Completed (Some n) (rows w))
 unfolding is_ended_row ended_of
-shows_ended_first name n old w sound has shown_rows h =
-    shows_first select_ended_first (Words name ∷ number n ∷ []) job_view (is_ended_row name) (λ (v : Row). v) end_key (λ r. refl) (λ r. refl) (λ r. refl)
-    1 n select_ended_first_is refl old old (map job_values (rows w)) shown_rows (map job_values (by_end (ended_of name w))) has.schema has.rows.jobs
-    (ended_listed name w sound) (ended_ascends name w sound) h
-    ∙ ap (take n) (same_rows (map job_values (by_end (ended_of name w)))) ∙ taken_rows n (by_end (ended_of name w))
+selects_ended_first name n s = record {
+  rows = ended_rows name (Some n);
+  shows = λ w sound has shown_rows h.
+      shows_first select_ended_first (Words name ∷ number n ∷ []) job_view (is_ended_row name) (λ (v : Row). v) end_key (λ r. refl) (λ r. refl) (λ r. refl)
+      1 n select_ended_first_is refl s s (map job_values (rows w)) shown_rows (map job_values (by_end (ended_of name w))) has.schema has.rows.jobs
+      (ended_listed name w sound) (ended_ascends name w sound) h
+      ∙ ap (take n) (map-id (map job_values (by_end (ended_of name w)))) ∙ take-map job_values n (by_end (ended_of name w));
+}

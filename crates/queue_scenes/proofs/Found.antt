@@ -1,12 +1,12 @@
 -- What is found by a key: the next number, an account, a grant, a report.
-use Rattle.std.proofs.Common.{◌≡◌, ℕ, pos, List, [], ◌∷◌, map, filter, Bool, true, ◌&&◌, ◌==◌, get_or, Option, Some, None, refl, sym, ap, ap₂, subst, ◌∙◌, is_eq, Ordering, Less, Equal, Greater, bytes_eq, slice_get}
+use Rattle.std.proofs.Common.{◌≡◌, ℕ, pos, List, [], ◌∷◌, map, filter, Bool, true, ◌&&◌, ◌==◌, get_or, Option, Some, None, refl, sym, ap, ap₂, subst, ◌∙◌, is_eq, Ordering, Equal, bytes_eq, slice_get}
+use mathlib.Core.Bool.{and-true}
 use Rattle.std.specs.FinMap.{get, get-entries, entries, entries_sorted}
 use Rattle.std.specs.Option.{IfSome}
 use Rattle.std.specs.Ordering.{ordering_then, nat_cmp}
-use Rattle.std.specs.Cmp.{both_ways, unsigned_tied}
+use Rattle.std.specs.Cmp.{nat_eq_equiv, unsigned_tied}
 use Rattle.std.specs.List.{AllByRecursion as Each}
 use Rattle.std.specs.List.Sorted.{IsPermutation}
-use Rattle.std.proofs.lemmas.Bool.{eqb-true, eq-eqb}
 use Rattle.std.proofs.lemmas.List.Elements.{recursion_from_All}
 use Rattle.std.proofs.lemmas.Map.Text.{is_eq-slice_cmp}
 use Rattle.sqlite.specs.declared.types.Value.TheVariants.{Int, Text as Words}
@@ -33,7 +33,7 @@ use Rattle.queue_tables.proofs.Showing.{shows_all}
 use Rattle.queue_scenes.specs.Reports.{told_values}
 use Rattle.queue_scenes.proofs.Lookup.{entry_of, found_in, rows_passing, map_alike, exactly}
 use Rattle.queue_scenes.proofs.Statements.{select_next, select_next_is, select_grant, select_grant_is, select_report, select_report_is}
-use Rattle.queue_scenes.proofs.Tests.{equals, names, and_true}
+use Rattle.queue_scenes.proofs.Tests.{where_number_is, where_text_is}
 
 -- ---- the next number
 
@@ -47,12 +47,8 @@ next_shown old new rows w has h =
 -- ---- keys of two columns
 
 then_eq : (r s : Ordering) → is_eq (ordering_then r s) ≡ (is_eq r && is_eq s)
-then_eq Less s = refl
 then_eq Equal s = refl
-then_eq Greater s = refl
-
-other_way : (m n : ℕ) → (m == n) ≡ (n == m)
-other_way m n = both_ways (m == n) (n == m) (λ e. eq-eqb n m (sym (eqb-true m n e))) (λ e. eq-eqb m n (sym (eqb-true n m e)))
+then_eq _ s = refl
 
 -- batch = ?1 AND account = ?2
 pub is_grant_of : List ℕ → List ℕ → Row → Bool
@@ -63,7 +59,7 @@ grant_passes batch account g = bytes_eq g.0.0 batch && bytes_eq g.0.1 account
 
 grant-row : (batch account : List ℕ) (g : (List ℕ × List ℕ) × ℕ) → is_grant_of batch account (grant_values (grant_row g)) ≡ grant_passes batch account g
 unfolding is_grant_of
-grant-row batch account g = rw (names g.0.0 batch, names g.0.1 account, and_true _) refl
+grant-row batch account g = rw (where_text_is g.0.0 batch, where_text_is g.0.1 account, and-true _) refl
 
 grant_by_key : (batch account : List ℕ) (g : (List ℕ × List ℕ) × ℕ) → grant_passes batch account g ≡ is_eq (grant_cmp (batch, account) g.0)
 grant_by_key batch account g =
@@ -104,11 +100,11 @@ report_passes job seq r = (r.0.0 == job) && (r.0.1 == seq)
 
 report-row : (job seq : ℕ) (r : (ℕ × ℕ) × KeptReport) → is_report_of job seq (keyed_values r) ≡ report_passes job seq r
 unfolding is_report_of
-report-row job seq r = rw (equals r.0.0 job, equals r.0.1 seq, and_true _) refl
+report-row job seq r = rw (where_number_is r.0.0 job, where_number_is r.0.1 seq, and-true _) refl
 
 report_by_key : (job seq : ℕ) (r : (ℕ × ℕ) × KeptReport) → report_passes job seq r ≡ is_eq (report_cmp (job, seq) r.0)
 report_by_key job seq r =
-    ap₂ ◌&&◌ (other_way r.0.0 job ∙ sym (unsigned_tied job r.0.0)) (other_way r.0.1 seq ∙ sym (unsigned_tied seq r.0.1)) ∙ sym (then_eq (nat_cmp job r.0.0) (nat_cmp seq r.0.1))
+    ap₂ ◌&&◌ (nat_eq_equiv.symm r.0.0 job ∙ sym (unsigned_tied job r.0.0)) (nat_eq_equiv.symm r.0.1 seq ∙ sym (unsigned_tied seq r.0.1)) ∙ sym (then_eq (nat_cmp job r.0.0) (nat_cmp seq r.0.1))
 
 kept_of_some : (w : World) (n m : ℕ) (o : Option KeptReport) (k : KeptReport) → o ≡ Some k → IfSome o (IsKept w n m) → IsKept w n m k
 kept_of_some w n m o k is kept = subst (λ (p : Option KeptReport). IfSome p (IsKept w n m)) is kept

@@ -5,7 +5,7 @@ use Rattle.std.specs.FinMap.{get, get-entries, entries, entries_sorted}
 use Rattle.std.specs.List.{AllByRecursion as Each}
 use Rattle.std.proofs.lemmas.Bool.{cases_Bool}
 use Rattle.std.proofs.lemmas.Int.{ints}
-use Rattle.std.proofs.lemmas.List.{take_more}
+use Rattle.std.proofs.lemmas.List.{map_more}
 use Rattle.std.proofs.lemmas.List.Elements.{recursion_from_All}
 use Rattle.std.proofs.lemmas.List.Sums.{sum_by-cons}
 use Rattle.queue_core.specs.Sound.{IsSound, reserved, printed}
@@ -77,8 +77,4 @@ module _ (row : GrantRow) (batch account : List ℕ) (batch_is : batch ≡ row.b
 
 pub known_more : (w : World) (rows : List GrantRow) (i : ℕ) (row : GrantRow) → i < length rows → row ≡ get_or rows i row → map (known_grant w) (take i rows) ++ known_grant w row ∷ [] ≡ map (known_grant w) (take (i + 1) rows)
 known_more w rows i row low is =
-    sym (ap (map (known_grant w)) (take_more rows i row low ∙ ap (λ (g : GrantRow). take i rows ++ g ∷ []) (sym is)) ∙ map_push (take i rows) row)
-  where
-    map_push : (gs : List GrantRow) (g : GrantRow) → map (known_grant w) (gs ++ g ∷ []) ≡ map (known_grant w) gs ++ known_grant w g ∷ []
-    map_push [] g = refl
-    map_push (x ∷ gs) g = ap (λ (ks : List KnownGrant). known_grant w x ∷ ks) (map_push gs g)
+    sym (map_more (known_grant w) rows i row low ∙ ap (λ (g : GrantRow). map (known_grant w) (take i rows) ++ known_grant w g ∷ []) (sym is))

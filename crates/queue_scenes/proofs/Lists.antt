@@ -1,28 +1,39 @@
 -- The jobs that SELECTs of all columns show.
-use Rattle.std.proofs.Common.{◌≡◌, inl, inr, ℕ, zero, suc, ◌<◌, List, [], ◌∷◌, map, filter, take, Bool, true, false, ◌&&◌, ◌==◌, Some, refl, ap, subst, ◌∙◌, arith, bytes_eq}
+use Rattle.std.proofs.Common.{◌≡◌, inl, inr, ℕ, ◌<◌, List, [], ◌∷◌, map, filter, take, Bool, true, false, ◌&&◌, ◌==◌, Some, Less, refl, sym, ap, subst, ◌∙◌, arith, bytes_eq}
+use Rattle.std.specs.Prelude.{⊤}
 use Rattle.std.specs.List.{AllByRecursion as Each}
 use Rattle.std.specs.List.Sorted.{IsPermutation}
 use Rattle.std.proofs.lemmas.Bool.{cases_Bool, eqb-true, eq-eqb, ne_eqb, or_parts}
-use Rattle.std.proofs.lemmas.List.Sorted.{IsPermutation-refl}
+use Rattle.std.proofs.lemmas.List.{map-id, take-map}
+use Rattle.std.proofs.lemmas.List.Elements.{All-from_recursion, All-take}
 use Rattle.sqlite.specs.declared.types.Value.TheVariants.{Text as Words}
-use Rattle.sqlite.specs.Order.{Row}
+use Rattle.sqlite.specs.Collation.TheVariants.{Binary}
+use Rattle.sqlite.specs.Order.{Row, column}
 use Rattle.sqlite.specs.State.{State}
-use Rattle.sqlite_keyed.proofs.ListLemmas.{all_both, all-filter}
+use Rattle.sqlite.specs.Term.{eval_all}
+use Rattle.sqlite_keyed.proofs.ListLemmas.{IsPermutation-same, all_both, all-filter}
+use Rattle.sqlite_sql.specs.Query.{key_cmp}
+use Rattle.sqlite_trees.specs.Tree.{IsAscending}
+use Rattle.sqlite_value.specs.Keys.{ascending}
+use Rattle.sqlite_value.specs.declared.keys.Key.{Key}
 use Rattle.queue_types.specs.declared.job.Job.{Job}
 use Rattle.queue_types.specs.Job.{is_live, state}
+use Rattle.queue_core.specs.Shown.{pending_in, pending_jobs}
 use Rattle.queue_core.specs.Sound.{IsSound}
 use Rattle.queue_core.specs.World.{World, Entry, rows, job_at, numbered, has_number}
-use Rattle.queue_core.proofs.Ordered.{all_of}
 use Rattle.queue_tables.specs.Content.{Holds, content_of}
+use Rattle.queue_tables.specs.Kept.{HasRows}
 use Rattle.queue_tables.specs.Steps.{AreDistinct}
 use Rattle.queue_tables.specs.Values.{number, job_values, job_view}
 use Rattle.queue_tables.proofs.Entries.{rows_in, found_rows, distinct_of}
 use Rattle.queue_tables.proofs.JobPut.{reads_job_at}
-use Rattle.queue_tables.proofs.Statements.{select_job}
-use Rattle.queue_scenes.specs.Jobs.{AreRowsOf, ShowsJobs, own_live}
+use Rattle.queue_tables.proofs.PlainQueries.{passes, shown_of}
+use Rattle.queue_tables.proofs.Statements.{IsLimited, IsSelection, Selection, select_job}
+use Rattle.queue_scenes.specs.Jobs.{AreRowsOf, own_live}
 use Rattle.queue_scenes.proofs.Lookup.{rows_passing}
 use Rattle.queue_scenes.proofs.Numbers.{AreRising, rising, rising_filter, numbers_ascend, number_key}
-use Rattle.queue_scenes.proofs.Ordered.{shows_in_order}
+use Rattle.queue_scenes.proofs.Ordered.{shows_first, shows_in_order}
+use Rattle.queue_scenes.proofs.Selects.{Selects}
 use Rattle.queue_scenes.proofs.Statements.{select_own, select_own_is, select_own_live, select_own_live_is, select_pending, select_pending_is}
 use Rattle.queue_scenes.proofs.Tests.{is_own_row, own-row, is_own_live_row, own_live-row, is_pending_row, pending-row}
 
@@ -46,7 +57,7 @@ pub each_row : (w : World) → IsSound w → Each (λ (j : Job). job_at j.number
 each_row w sound = each_found (rows w) (world_rising w sound)
 
 pub filtered_rows : (w : World) → IsSound w → (p : Job → Bool) → AreRowsOf w (filter p (rows w))
-filtered_rows w sound p = all_of (λ (j : Job). job_at j.number (rows w) ≡ Some j) (filter p (rows w)) (all-filter (λ (j : Job). job_at j.number (rows w) ≡ Some j) p (rows w) (each_row w sound))
+filtered_rows w sound p = All-from_recursion (λ (j : Job). job_at j.number (rows w) ≡ Some j) (filter p (rows w)) (all-filter (λ (j : Job). job_at j.number (rows w) ≡ Some j) p (rows w) (each_row w sound))
 
 -- ---- by number
 
@@ -63,51 +74,58 @@ one_of_number n (e ∷ es) d = elim (cases_Bool (e.row.number == n)) [
   | inr apart ↦ rw apart (one_of_number n es d.1)
 ]
 
-pub shows_numbered : (n : ℕ) (old : State) (w : World) → IsSound w → Holds (content_of w) old → ShowsJobs select_job.text (number n ∷ []) old (numbered n (rows w))
-shows_numbered n old w sound has shown_rows h =
-    let distinct = distinct_of 1 w.jobs w.next sound.numbers in
-    (reads_job_at old old n shown_rows w distinct has h).0 ∙ one_of_number n w.jobs distinct
+pub selects_numbered : (n : ℕ) (s : State) → Selects select_job.text (number n ∷ []) s (λ w. numbered n (rows w))
+selects_numbered n s = record {
+  rows = λ w sound. filtered_rows w sound (λ (j : Job). j.number == n);
+  shows = λ w sound has shown_rows h.
+      let distinct = distinct_of 1 w.jobs w.next sound.numbers in
+      (reads_job_at s s n shown_rows w distinct has h).0 ∙ one_of_number n w.jobs distinct;
+}
 
 -- ---- in the order of their numbers
 
-pub same_rows : (vs : List Row) → map (λ (v : Row). v) vs ≡ vs
-same_rows [] = refl
-same_rows (v ∷ vs) = ap (λ (ws : List Row). v ∷ ws) (same_rows vs)
+-- a SELECT of all columns of the jobs that pass its test, by number
+module _ (q : Selection) (tree : q.tree ≡ 1) (params : Row) (test : Row → Bool) (p : Job → Bool) (alike : (r : Row) → passes q.filter params r ≡ test (job_view r)) (shows : (r : Row) → shown_of q.terms params r ≡ job_view r)
+    (keys : (r : Row) → eval_all (map (λ k. k.0) q.order) (params ∷ r ∷ []) ≡ number_key (job_view r)) (order : map (λ k. k.1) q.order ≡ ascending Binary ∷ []) (same : (j : Job) → test (job_values j) ≡ p j) where
+  there : (s : State) (w : World) → Holds (content_of w) s → HasRows ⊤ job_view (map job_values (rows w)) (s.now.trees q.tree)
+  there s w has = subst (λ t. HasRows ⊤ job_view (map job_values (rows w)) (s.now.trees t)) (sym tree) has.rows.jobs
 
-pub taken_rows : (n : ℕ) (js : List Job) → take n (map job_values js) ≡ map job_values (take n js)
-taken_rows zero js = refl
-taken_rows (suc n) [] = refl
-taken_rows (suc n) (j ∷ js) = ap (λ (vs : List Row). job_values j ∷ vs) (taken_rows n js)
+  listed : (w : World) → IsPermutation (filter test (map job_values (rows w))) (map job_values (filter p (rows w)))
+  listed w = IsPermutation-same _ _ (rows_passing job_values test p same (rows w))
 
-pub kept : (q : Row → Bool) (p : Job → Bool) → ((j : Job) → q (job_values j) ≡ p j) → (js : List Job) → IsPermutation (filter q (map job_values js)) (map job_values (filter p js))
-kept q p same js = subst (λ (vs : List Row). IsPermutation (filter q (map job_values js)) vs) (rows_passing job_values q p same js) (IsPermutation-refl (filter q (map job_values js)))
+  ascend : (w : World) → IsSound w → IsAscending (λ u v. key_cmp 0 (map (λ k. k.1) q.order) (number_key u) (number_key v) ≡ Less) (map job_values (filter p (rows w)))
+  ascend w sound =
+      subst (λ (ks : List Key). IsAscending (λ u v. key_cmp 0 ks (number_key u) (number_key v) ≡ Less) (map job_values (filter p (rows w)))) (sym order)
+      (numbers_ascend (filter p (rows w)) (rising_filter p (rows w) (world_rising w sound)))
 
-pub shows_own_live : (name : List ℕ) (old : State) (w : World) → IsSound w → Holds (content_of w) old → ShowsJobs select_own_live.text (Words name ∷ []) old (own_live name (rows w))
+  pub selects_all : IsSelection q → (s : State) → Selects q.text params s (λ w. filter p (rows w))
+  selects_all is s = record {
+    rows = λ w sound. filtered_rows w sound p;
+    shows = λ w sound has shown_rows h.
+        shows_in_order q params job_view test (λ (v : Row). v) number_key alike shows keys
+        is s s (map job_values (rows w)) shown_rows (map job_values (filter p (rows w))) has.schema (there s w has) (listed w) (ascend w sound) h
+        ∙ map-id (map job_values (filter p (rows w)));
+  }
+
+  -- and of the first of them, as many as a parameter says
+  pub selects_first : (at n : ℕ) → IsLimited q at → column params at ≡ number n → (s : State) → Selects q.text params s (λ w. take n (filter p (rows w)))
+  selects_first at n is limit s = record {
+    rows = λ w sound. All-take (λ (j : Job). job_at j.number (rows w) ≡ Some j) n (filter p (rows w)) (filtered_rows w sound p);
+    shows = λ w sound has shown_rows h.
+        shows_first q params job_view test (λ (v : Row). v) number_key alike shows keys
+        at n is limit s s (map job_values (rows w)) shown_rows (map job_values (filter p (rows w))) has.schema (there s w has) (listed w) (ascend w sound) h
+        ∙ ap (take n) (map-id (map job_values (filter p (rows w)))) ∙ take-map job_values n (filter p (rows w));
+  }
+
+pub selects_own_live : (name : List ℕ) (s : State) → Selects select_own_live.text (Words name ∷ []) s (λ w. own_live name (rows w))
 unfolding is_own_live_row
-shows_own_live name old w sound has shown_rows h =
-    let p : Job → Bool = λ j. bytes_eq j.owner name && is_live j in
-    let mine = filter p (rows w) in
-    shows_in_order select_own_live (Words name ∷ []) job_view (is_own_live_row name) (λ (v : Row). v) number_key (λ r. refl) (λ r. refl) (λ r. refl)
-    select_own_live_is old old (map job_values (rows w)) shown_rows (map job_values mine) has.schema has.rows.jobs
-    (kept (is_own_live_row name) p (own_live-row name) (rows w)) (numbers_ascend mine (rising_filter p (rows w) (world_rising w sound))) h
-    ∙ same_rows (map job_values mine)
+selects_own_live name =
+    selects_all select_own_live refl (Words name ∷ []) (is_own_live_row name) (λ j. bytes_eq j.owner name && is_live j) (λ r. refl) (λ r. refl) (λ r. refl) refl (own_live-row name) select_own_live_is
 
-pub shows_own : (name : List ℕ) (old : State) (w : World) → IsSound w → Holds (content_of w) old → ShowsJobs select_own.text (Words name ∷ []) old (filter (λ (j : Job). bytes_eq j.owner name) (rows w))
+pub selects_own : (name : List ℕ) (s : State) → Selects select_own.text (Words name ∷ []) s (λ w. filter (λ (j : Job). bytes_eq j.owner name) (rows w))
 unfolding is_own_row
-shows_own name old w sound has shown_rows h =
-    let p : Job → Bool = λ j. bytes_eq j.owner name in
-    let mine = filter p (rows w) in
-    shows_in_order select_own (Words name ∷ []) job_view (is_own_row name) (λ (v : Row). v) number_key (λ r. refl) (λ r. refl) (λ r. refl)
-    select_own_is old old (map job_values (rows w)) shown_rows (map job_values mine) has.schema has.rows.jobs
-    (kept (is_own_row name) p (own-row name) (rows w)) (numbers_ascend mine (rising_filter p (rows w) (world_rising w sound))) h
-    ∙ same_rows (map job_values mine)
+selects_own name = selects_all select_own refl (Words name ∷ []) (is_own_row name) (λ j. bytes_eq j.owner name) (λ r. refl) (λ r. refl) (λ r. refl) refl (own-row name) select_own_is
 
-pub shows_pending : (old : State) (w : World) → IsSound w → Holds (content_of w) old → ShowsJobs select_pending.text [] old (filter (λ (j : Job). state j == 3) (rows w))
-unfolding is_pending_row
-shows_pending old w sound has shown_rows h =
-    let p : Job → Bool = λ j. state j == 3 in
-    let mine = filter p (rows w) in
-    shows_in_order select_pending [] job_view is_pending_row (λ (v : Row). v) number_key (λ r. refl) (λ r. refl) (λ r. refl)
-    select_pending_is old old (map job_values (rows w)) shown_rows (map job_values mine) has.schema has.rows.jobs
-    (kept is_pending_row p pending-row (rows w)) (numbers_ascend mine (rising_filter p (rows w) (world_rising w sound))) h
-    ∙ same_rows (map job_values mine)
+pub selects_pending : (s : State) → Selects select_pending.text [] s pending_jobs
+unfolding is_pending_row pending_in
+selects_pending = selects_all select_pending refl [] is_pending_row (λ j. state j == 3) (λ r. refl) (λ r. refl) (λ r. refl) refl pending-row select_pending_is

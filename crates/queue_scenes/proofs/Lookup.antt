@@ -1,24 +1,21 @@
 -- The entry of one key among those of a map, and the row of it that a SELECT shows.
-use Rattle.std.proofs.Common.{◌≡◌, inl, inr, List, [], ◌∷◌, map, filter, Bool, true, false, T, Option, Some, None, refl, sym, ap, subst, ◌∙◌, is_eq, is_lt, Ordering, Less, Equal, Greater, slice_get}
+use Rattle.std.proofs.Common.{◌≡◌, inl, inr, List, [], ◌∷◌, map, filter, Bool, false, T, Option, Some, None, refl, sym, ap, subst, ◌∙◌, is_eq, is_lt, Ordering, Less, Equal, slice_get}
 use Rattle.std.specs.List.{AllByRecursion as Each}
 use Rattle.std.specs.List.Sorted.{IsPermutation}
 use Rattle.std.specs.FinMap.{FinMap, get, get-entries, entries, entries_sorted, is_sorted, find}
 use Rattle.std.specs.FinMap.Entries.{below_all}
+use Rattle.std.specs.Cmp.{Equal-is}
 use Rattle.std.proofs.lemmas.Bool.{cases_Bool}
+use Rattle.std.proofs.lemmas.List.Elements.{filter_agree}
 use Rattle.sqlite.specs.Order.{Row}
 use Rattle.sqlite.proofs.Callers.{one_permutation}
+use Rattle.sqlite_keyed.proofs.ListLemmas.{filter-map}
 use Rattle.queue_tables.proofs.Accounts.{T_first, T_second}
 use Rattle.queue_tables.proofs.Changing.{none_permuted}
 
 less_of : (o : Ordering) → T (is_lt o) → is_eq o ≡ false
 less_of Less h = refl
-less_of Equal h = absurd h
-less_of Greater h = absurd h
-
-equal_of : (o : Ordering) → is_eq o ≡ true → o ≡ Equal
-equal_of Less e = absurd cc
-equal_of Equal e = refl
-equal_of Greater e = absurd cc
+less_of _ h = absurd h
 
 -- ---- entries
 
@@ -36,7 +33,7 @@ module _ {K X : Type 0} (cmp : K → K → Ordering) (exact : (a b : K) → cmp 
   found_among [] rise = refl
   found_among (e ∷ es) rise = elim (cases_Bool (is_eq (cmp k e.0))) [
     | inl same ↦
-        let is : k ≡ e.0 = exact k e.0 (equal_of (cmp k e.0) same) in
+        let is : k ≡ e.0 = exact k e.0 ((Equal-is (cmp k e.0)).0 same) in
         let others : filter q es ≡ [] = none_below es (subst (λ (j : K). T (below_all cmp j es)) (sym is) (T_first _ _ rise)) in
         rw (tells e ∙ same, same, others) (ap (λ (j : K). (j, e.1) ∷ []) (sym is))
     | inr apart ↦ rw (tells e ∙ apart, apart) (found_among es (T_second _ _ rise))
@@ -49,11 +46,7 @@ module _ {K X : Type 0} (cmp : K → K → Ordering) (exact : (a b : K) → cmp 
 
 -- the rows that pass are those of the values that pass
 pub rows_passing : {X : Type 0} (row_of : X → Row) (q : Row → Bool) (p : X → Bool) → ((x : X) → q (row_of x) ≡ p x) → (xs : List X) → filter q (map row_of xs) ≡ map row_of (filter p xs)
-rows_passing row_of q p same [] = refl
-rows_passing row_of q p same (x ∷ xs) = elim (cases_Bool (p x)) [
-  | inl passed ↦ rw (same x ∙ passed, passed, rows_passing row_of q p same xs) refl
-  | inr failed ↦ rw (same x ∙ failed, failed, rows_passing row_of q p same xs) refl
-]
+rows_passing row_of q p same xs = filter-map q row_of xs ∙ ap (map row_of) (filter_agree (λ x. q (row_of x)) p same xs)
 
 pub map_alike : {X Y : Type 0} (f g : X → Y) (xs : List X) → Each (λ x. f x ≡ g x) xs → map f xs ≡ map g xs
 map_alike f g [] all = refl

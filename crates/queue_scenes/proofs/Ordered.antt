@@ -1,5 +1,5 @@
 -- What a SELECT shows in the order that it asks for, where that order tells all rows apart.
-use Rattle.std.proofs.Common.{◌≡◌, ℕ, pos, List, [], ◌∷◌, map, filter, take, Bool, sym, ap, subst, ◌∙◌, Less, refl}
+use Rattle.std.proofs.Common.{◌≡◌, ℕ, pos, List, [], ◌∷◌, map, filter, take, Bool, sym, ap, subst, ◌∙◌, Less}
 use Rattle.std.specs.List.Sorted.{IsPermutation, IsSorted}
 use Rattle.std.proofs.lemmas.List.Sorted.{IsPermutation-trans, IsPermutation-sym, IsPermutation-map}
 use Rattle.sqlite.specs.declared.types.Value.TheVariants.{Int, Null}
@@ -10,7 +10,7 @@ use Rattle.sqlite_sql.specs.Query.{key_cmp}
 use Rattle.sqlite_sql.proofs.QueryLemmas.{output_cmp_total}
 use Rattle.sqlite_trees.specs.Tree.{IsAscending}
 use Rattle.sqlite_keyed.proofs.SortLemmas.{sorted_unique}
-use Rattle.sqlite_keyed.proofs.ListLemmas.{ascending-map}
+use Rattle.sqlite_keyed.proofs.ListLemmas.{ascending-map, map-map, map_same}
 use Rattle.sqlite.specs.State.{State, Shown}
 use Rattle.sqlite.proofs.Callers.{reads_as}
 use Rattle.queue_tables.proofs.PlainQueries.{passes, shown_of}
@@ -19,10 +19,6 @@ use Rattle.queue_tables.specs.Tables.{book_schema}
 use Rattle.queue_tables.proofs.Permuting.{passing}
 use Rattle.queue_tables.proofs.Statements.{IsLimited, IsSelection, Selection, query_of}
 use Rattle.queue_tables.proofs.Writing.{reads_rows, kept_of, sorted_and_shown, lists_first}
-
-twice : {A B C : Type 0} (f : A → B) (g : B → C) (h : A → C) → ((x : A) → h x ≡ g (f x)) → (xs : List A) → map h xs ≡ map g (map f xs)
-twice f g h same [] = refl
-twice {A} {B} {C} f g h same (x ∷ xs) = rw (same x, twice f g h same xs) refl
 
 module _ (s : Selection) (params : Row) (cells : Row → Row) (q : Row → Bool) (out key : Row → Row) (alike : (r : Row) → passes s.filter params r ≡ q (cells r)) (shows : (r : Row) → shown_of s.terms params r ≡ out (cells r))
     (keys : (r : Row) → eval_all (map (λ k. k.0) s.order) (params ∷ r ∷ []) ≡ key (cells r)) where
@@ -37,10 +33,9 @@ module _ (s : Selection) (params : Row) (cells : Row → Row) (q : Row → Bool)
   IsInOrder xs = IsAscending (λ a b. key_cmp 0 (map (λ k. k.1) s.order) (key a) (key b) ≡ Less) xs
 
   pairs_of : (rs : List Row) → kept rs ≡ map paired (map cells (filter (passes s.filter params) rs))
-  pairs_of rs = twice cells paired (sorted_and_shown s.order s.terms params) (λ r i. (keys r i, shows r i)) (filter (passes s.filter params) rs)
-
-  seconds : (vs : List Row) → map (λ (o : Output). o.1) (map paired vs) ≡ map out vs
-  seconds vs = sym (twice paired (λ (o : Output). o.1) out (λ v. refl) vs)
+  pairs_of rs =
+      let found = filter (passes s.filter params) rs in
+      map_same (sorted_and_shown s.order s.terms params) (λ r. paired (cells r)) (λ r i. (keys r i, shows r i)) found ∙ sym (map-map paired cells found)
 
   -- the values that WHERE lets through, in the one order that ORDER BY allows
   ordered_are : {K : Type 0} (values rows xs : List Row) (ordered : List Output) → HasRows K cells values rows → IsPermutation (filter q values) xs → IsInOrder xs → IsPermutation (kept rows) ordered
@@ -52,7 +47,7 @@ module _ (s : Selection) (params : Row) (cells : Row → Row) (q : Row → Bool)
       let b : IsPermutation (map paired xs) (map paired found) = IsPermutation-map paired xs found a in
       let c : IsPermutation (map paired xs) ordered = IsPermutation-trans (map paired xs) (map paired found) ordered b (subst (λ (k : List Output). IsPermutation k ordered) (pairs_of rows) same) in
       let strict : IsAscending (λ a b. output_cmp query a b ≡ Less) (map paired xs) = ascending-map (λ a b. output_cmp query a b ≡ Less) paired xs rise in
-      ap (map (λ (o : Output). o.1)) (sorted_unique (output_cmp query) (output_cmp_total query) (map paired xs) ordered strict c sorted) ∙ seconds xs
+      ap (map (λ (o : Output). o.1)) (sorted_unique (output_cmp query) (output_cmp_total query) (map paired xs) ordered strict c sorted) ∙ map-map (λ (o : Output). o.1) paired xs
 
   pub shows_in_order : IsSelection s → {K : Type 0} (old new : State) (values rows xs : List Row) → old.now.schema ≡ book_schema → HasRows K cells values (old.now.trees s.tree) → IsPermutation (filter q values) xs → IsInOrder xs
       → Shown s.text params old new rows → rows ≡ map out xs

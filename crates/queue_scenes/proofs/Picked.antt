@@ -1,13 +1,16 @@
 -- The jobs of given numbers, one number after another.
-use Rattle.std.proofs.Common.{◌≡◌, inl, inr, ℕ, zero, suc, ◌+◌, ◌<◌, List, [], ◌∷◌, ◌++◌, filter, take, length, get_or, Bool, true, false, ◌&&◌, ◌||◌, ◌==◌, refl, sym, ap, ap₂, subst, ◌∙◌, arith, is_eq, Less, Equal, Greater, All}
+use Rattle.std.proofs.Common.{◌≡◌, inl, inr, ℕ, zero, suc, ◌+◌, ◌<◌, List, [], ◌∷◌, ◌++◌, filter, take, length, get_or, Bool, false, ◌&&◌, ◌||◌, ◌==◌, refl, sym, ap, ap₂, subst, ◌∙◌, arith, is_eq, Less, All}
+use mathlib.Core.Bool.{and-false, and-true, or-false}
 use Rattle.std.specs.List.{list_any, AllByRecursion as Each}
 use Rattle.std.specs.List.Sorted.{IsStrictlySortedBy}
-use Rattle.std.specs.Cmp.{both_ways, nat_cmp_is, unsigned_tied}
+use Rattle.std.specs.Cmp.{nat_eq_equiv, unsigned_tied}
 use Rattle.std.specs.Ordering.{nat_cmp}
-use Rattle.std.proofs.lemmas.Bool.{cases_Bool, eqb-true, eq-eqb, ne_eqb, eqb-false}
+use Rattle.std.proofs.lemmas.Bool.{and_right, cases_Bool, eqb-true, ne_eqb}
+use Rattle.std.proofs.lemmas.Cmp.{ranked}
 use Rattle.std.proofs.lemmas.List.{take_more}
-use Rattle.sqlite_keyed.proofs.ListLemmas.{all_weaker}
-use Rattle.queue_core.proofs.Ordered.{all_of, each_of, each-append, each-filter}
+use Rattle.std.proofs.lemmas.List.Elements.{All-append, All-filter}
+use Rattle.std.proofs.lemmas.List.Folds.{list_any-append}
+use Rattle.sqlite_keyed.proofs.ListLemmas.{all_weaker, any_from_none, filter_none}
 use Rattle.queue_core.specs.World.{is_one_of, numbered}
 use Rattle.queue_types.specs.declared.job.Job.{Job}
 use Rattle.queue_scenes.proofs.Numbers.{AreRising}
@@ -17,33 +20,18 @@ has q ns = list_any (λ n. n == q) ns
 
 -- ---- a set's keys
 
-other_way : (m n : ℕ) → (m == n) ≡ (n == m)
-other_way m n = both_ways (m == n) (n == m) (λ e. eq-eqb n m (sym (eqb-true m n e))) (λ e. eq-eqb m n (sym (eqb-true n m e)))
-
 pub has_key : (q : ℕ) (ks : List ℕ) → has q ks ≡ list_any (λ k. is_eq (nat_cmp q k)) ks
 has_key q [] = refl
-has_key q (k ∷ ks) = ap₂ ◌||◌ (other_way k q ∙ sym (unsigned_tied q k)) (has_key q ks)
+has_key q (k ∷ ks) = ap₂ ◌||◌ (nat_eq_equiv.symm k q ∙ sym (unsigned_tied q k)) (has_key q ks)
 
 -- ---- rising numbers
-
-below_of : (m n : ℕ) → nat_cmp m n ≡ Less → m < n
-below_of m n less = elim (cases_Bool (m == n)) [
-  | inl same ↦ absurd (let e : Equal ≡ nat_cmp m n = nat_cmp_is m n Equal (eqb-true m n same) in let no : Equal ≡ Less = e ∙ less in cc)
-  | inr apart ↦ not_above m n less (eqb-false m n apart)
-]
-  where
-    above : (m n : ℕ) → n < m → nat_cmp m n ≡ Less → ⊥
-    above m n low less = let e : Greater ≡ nat_cmp m n = nat_cmp_is m n Greater low in let no : Greater ≡ Less = e ∙ less in absurd cc
-
-    not_above : (m n : ℕ) → nat_cmp m n ≡ Less → (m ≡ n → ⊥) → m < n
-    not_above m n less apart = let no : (n < m) → ⊥ = λ low. above m n low less in omega (arith, no, apart)
 
 -- each of the first numbers is below the next
 pub before_next : (ns : List ℕ) (i k : ℕ) → IsStrictlySortedBy nat_cmp ns → i < length ns → k ≡ get_or ns i k → Each (λ n. n < k) (take i ns)
 unfolding IsStrictlySortedBy
 before_next [] i k rise low is = absurd (omega (arith, low))
 before_next (n ∷ ns) zero k rise low is = tt
-before_next (n ∷ ns) (suc i) k rise low is = (below_of n k (each_at ns i k rise.0 (omega (arith, low)) is), before_next ns i k rise.1 (omega (arith, low)) is)
+before_next (n ∷ ns) (suc i) k rise low is = (ranked n k Less (sym (each_at ns i k rise.0 (omega (arith, low)) is)), before_next ns i k rise.1 (omega (arith, low)) is)
   where
     each_at : (ns : List ℕ) (i k : ℕ) → Each (λ y. nat_cmp n y ≡ Less) ns → i < length ns → k ≡ get_or ns i k → nat_cmp n k ≡ Less
     each_at [] i k all low is = absurd (omega (arith, low))
@@ -53,40 +41,23 @@ before_next (n ∷ ns) (suc i) k rise low is = (below_of n k (each_at ns i k ris
 -- ---- one number more
 
 has_push : (q k : ℕ) (ns : List ℕ) → has q (ns ++ k ∷ []) ≡ (has q ns || k == q)
-has_push q k [] = or_false (k == q)
-  where
-    or_false : (b : Bool) → (b || false) ≡ b
-    or_false true = refl
-    or_false false = refl
-has_push q k (n ∷ ns) = ap (λ (b : Bool). n == q || b) (has_push q k ns) ∙ or_three (n == q) (has q ns) (k == q)
-  where
-    or_three : (a b c : Bool) → (a || (b || c)) ≡ ((a || b) || c)
-    or_three true b c = refl
-    or_three false b c = refl
+has_push q k ns = list_any-append (λ n. n == q) ns (k ∷ []) ∙ ap (λ (b : Bool). has q ns || b) (or-false (k == q))
 
 has_none : (q : ℕ) (ns : List ℕ) → Each (λ n. n < q) ns → has q ns ≡ false
-has_none q [] all = refl
-has_none q (n ∷ ns) all = rw (ne_eqb n q (λ same. let low = all.0 in omega (arith, low, same)), has_none q ns all.1) refl
+has_none q ns all = any_from_none (λ n. n == q) ns (all_weaker (λ n. n < q) (λ n. (n == q) ≡ false) (λ n low. ne_eqb n q (λ same. omega (arith, low, same))) ns all)
 
 pub none_numbered : (k : ℕ) (js : List Job) → Each (λ (j : Job). k < j.number) js → numbered k js ≡ []
-none_numbered k [] high = refl
-none_numbered k (j ∷ js) high = let low = high.0 in rw (ne_eqb j.number k (λ same. omega (arith, low, same))) (none_numbered k js high.1)
+none_numbered k js high =
+    filter_none (λ (j : Job). j.number == k) js (all_weaker (λ (j : Job). k < j.number) (λ (j : Job). (j.number == k) ≡ false) (λ j low. ne_eqb j.number k (λ same. omega (arith, low, same))) js high)
 
 module _ (p : Job → Bool) where
   abbrev pub picked : List ℕ → List Job → List Job
   picked ns js = filter (λ (j : Job). p j && has j.number ns) js
 
   none_picked : (ns : List ℕ) (k : ℕ) (js : List Job) → Each (λ n. n < k) ns → Each (λ (j : Job). k < j.number) js → picked ns js ≡ []
-  none_picked ns k [] all high = refl
-  none_picked ns k (j ∷ js) all high =
-      let low = high.0 in
-      let out : has j.number ns ≡ false = has_none j.number ns (all_weaker (λ n. n < k) (λ n. n < j.number) (λ n l. omega (arith, l, low)) ns all) in
-      let no : (p j && has j.number ns) ≡ false = ap (λ (b : Bool). p j && b) out ∙ and_false (p j) in
-      rw no (none_picked ns k js all high.1)
-    where
-      and_false : (b : Bool) → (b && false) ≡ false
-      and_false true = refl
-      and_false false = refl
+  none_picked ns k js all high =
+      filter_none (λ (j : Job). p j && has j.number ns) js (all_weaker (λ (j : Job). k < j.number) (λ (j : Job). (p j && has j.number ns) ≡ false) (λ j low.
+      and_right (p j) (has j.number ns) (has_none j.number ns (all_weaker (λ n. n < k) (λ n. n < j.number) (λ n l. omega (arith, l, low)) ns all))) js high)
 
   pub picked_more : (ns : List ℕ) (k : ℕ) (js : List Job) → Each (λ n. n < k) ns → AreRising js → picked (ns ++ k ∷ []) js ≡ picked ns js ++ filter p (numbered k js)
   picked_more ns k [] all rise = refl
@@ -98,40 +69,24 @@ module _ (p : Job → Bool) where
             let is : j.number ≡ k = eqb-true j.number k same in
             let high : Each (λ (x : Job). k < x.number) js = subst (λ n. Each (λ (x : Job). n < x.number) js) is rise.0 in
             let out : has j.number ns ≡ false = has_none j.number ns (subst (λ n. Each (λ m. m < n) ns) (sym is) all) in
-            let here : (p j && has j.number (ns ++ k ∷ [])) ≡ p j = both ∙ rw (out, other_way k j.number ∙ same) (and_true (p j)) in
-            let before : (p j && has j.number ns) ≡ false = rw out (and_false (p j)) in
+            let here : (p j && has j.number (ns ++ k ∷ [])) ≡ p j = both ∙ rw (out, nat_eq_equiv.symm k j.number ∙ same) (and-true (p j)) in
+            let before : (p j && has j.number ns) ≡ false = and_right (p j) (has j.number ns) out in
             let rest : picked (ns ++ k ∷ []) js ≡ [] = more ∙ ap₂ ◌++◌ (none_picked ns k js all high) (ap (filter p) (none_numbered k js high)) in
             elim (cases_Bool (p j)) [
               | inl passes ↦ rw (here ∙ passes, before, same, none_picked ns k js all high, passes, none_numbered k js high, rest) refl
               | inr fails ↦ rw (here ∙ fails, before, same, none_picked ns k js all high, fails, none_numbered k js high, rest) refl
             ]
         | inr apart ↦
-            let here : (p j && has j.number (ns ++ k ∷ [])) ≡ (p j && has j.number ns) = both ∙ rw (other_way k j.number ∙ apart) (ap (λ (b : Bool). p j && b) (or_false (has j.number ns))) in
+            let here : (p j && has j.number (ns ++ k ∷ [])) ≡ (p j && has j.number ns) = both ∙ rw (nat_eq_equiv.symm k j.number ∙ apart) (ap (λ (b : Bool). p j && b) (or-false (has j.number ns))) in
             elim (cases_Bool (p j && has j.number ns)) [
               | inl passes ↦ rw (here ∙ passes, passes, apart) (ap (λ (xs : List Job). j ∷ xs) more)
               | inr fails ↦ rw (here ∙ fails, fails, apart) more
             ]
       ]
-    where
-      and_true : (b : Bool) → (b && true) ≡ b
-      and_true true = refl
-      and_true false = refl
-
-      and_false : (b : Bool) → (b && false) ≡ false
-      and_false true = refl
-      and_false false = refl
-
-      or_false : (b : Bool) → (b || false) ≡ b
-      or_false true = refl
-      or_false false = refl
 
   pub picked_none : (js : List Job) → picked [] js ≡ []
   picked_none [] = refl
-  picked_none (j ∷ js) = rw (and_no (p j)) (picked_none js)
-    where
-      and_no : (b : Bool) → (b && false) ≡ false
-      and_no true = refl
-      and_no false = refl
+  picked_none (j ∷ js) = rw (and-false (p j)) (picked_none js)
 
 -- the same numbers pick the same jobs
 pub picked_same : (p : Job → Bool) (ms ns : List ℕ) → ((q : ℕ) → has q ms ≡ has q ns) → (js : List Job) → filter (λ (j : Job). p j && has j.number ms) js ≡ filter (λ (j : Job). p j && is_one_of ns j) js
@@ -160,4 +115,4 @@ taken_more ns i k low is = take_more ns i k low ∙ ap (λ (n : ℕ). take i ns 
 
 -- what all jobs have, those that are added have
 pub all_more : (P : Job → Type 0) (p : Job → Bool) (xs ys : List Job) → All P xs → All P ys → All P (xs ++ filter p ys)
-all_more P p xs ys front back = all_of P (xs ++ filter p ys) (each-append P xs (filter p ys) (each_of P xs front) (each-filter P p ys (each_of P ys back)))
+all_more P p xs ys front back = All-append P xs (filter p ys) front (All-filter p P ys back)

@@ -1,6 +1,8 @@
 -- What WHERE asks of a job's row, by the job.
-use Rattle.std.proofs.Common.{◌≡◌, ℕ, ◌+◌, pos, List, Bool, true, false, ◌&&◌, ◌||◌, ◌==◌, Some, refl, bytes_eq, is_lt, is_gt, nat_le}
+use Rattle.std.proofs.Common.{◌≡◌, ℕ, ◌+◌, pos, List, Bool, true, false, ◌&&◌, ◌||◌, ◌==◌, Some, refl, arith, bytes_eq, is_lt, is_gt, nat_le}
+use mathlib.Core.Bool.{and-true}
 use Rattle.std.specs.Ordering.{int_cmp}
+use Rattle.std.proofs.lemmas.Bool.Decides.{nat_tests}
 use Rattle.std.proofs.lemmas.Map.Text.{is_eq-slice_cmp}
 use Rattle.sqlite.specs.declared.types.Value.TheVariants.{Int, Text as Words}
 use Rattle.sqlite.specs.Order.{Row, column}
@@ -12,7 +14,7 @@ use Rattle.sqlite_sql.specs.declared.ops.CompareOp.TheVariants.{Lt, Eq, Gt}
 use Rattle.sqlite_value.proofs.OrderLemmas.{value_cmp-Int, value_cmp-Text}
 use Rattle.queue_types.specs.declared.job.Job.{Job}
 use Rattle.queue_types.specs.declared.job.Phase.{Phase}
-use Rattle.queue_types.specs.declared.job.Phase.TheVariants.{Waiting, Running, Stopped, Canceled, Aborted, Completed}
+use Rattle.queue_types.specs.declared.job.Phase.TheVariants.{Waiting}
 use Rattle.queue_types.specs.Job.{is_live, is_live_in, is_running, is_running_in, is_stopped, is_stopped_in, state, state_in}
 use Rattle.queue_rows.specs.Codes.{phase_number, flag_number}
 use Rattle.queue_tables.specs.Values.{job_values}
@@ -24,61 +26,40 @@ bare : (b : Bool) → is_true (from_truth (Some b)) ≡ b
 bare true = refl
 bare false = refl
 
-pub and_true : (b : Bool) → (b && true) ≡ b
-and_true true = refl
-and_true false = refl
-
-pub equals : (m n : ℕ) → is_true (binary (Compare Eq Binary) (Int (pos m)) (Int (pos n))) ≡ (m == n)
+pub where_number_is : (m n : ℕ) → is_true (binary (Compare Eq Binary) (Int (pos m)) (Int (pos n))) ≡ (m == n)
 unfolding binary
-equals m n = rw (value_cmp-Int (pos m) (pos n), bare _) (same_number m n)
+where_number_is m n = rw (value_cmp-Int (pos m) (pos n), bare _) (same_number m n)
 
-pub names : (s t : List ℕ) → is_true (binary (Compare Eq Binary) (Words s) (Words t)) ≡ bytes_eq s t
+pub where_text_is : (s t : List ℕ) → is_true (binary (Compare Eq Binary) (Words s) (Words t)) ≡ bytes_eq s t
 unfolding binary
-names s t = rw (value_cmp-Text s t, bare _) (is_eq-slice_cmp s t)
+where_text_is s t = rw (value_cmp-Text s t, bare _) (is_eq-slice_cmp s t)
 
-pub less : (m n : ℕ) → is_true (binary (Compare Lt Binary) (Int (pos m)) (Int (pos n))) ≡ is_lt (int_cmp (pos m) (pos n))
+pub where_below : (m n : ℕ) → is_true (binary (Compare Lt Binary) (Int (pos m)) (Int (pos n))) ≡ is_lt (int_cmp (pos m) (pos n))
 unfolding binary
-less m n = rw (value_cmp-Int (pos m) (pos n), bare _) refl
+where_below m n = rw (value_cmp-Int (pos m) (pos n), bare _) refl
 
-pub greater : (m n : ℕ) → is_true (binary (Compare Gt Binary) (Int (pos m)) (Int (pos n))) ≡ is_gt (int_cmp (pos m) (pos n))
+pub where_above : (m n : ℕ) → is_true (binary (Compare Gt Binary) (Int (pos m)) (Int (pos n))) ≡ is_gt (int_cmp (pos m) (pos n))
 unfolding binary
-greater m n = rw (value_cmp-Int (pos m) (pos n), bare _) refl
+where_above m n = rw (value_cmp-Int (pos m) (pos n), bare _) refl
 
 -- ---- phases
 
 live_by_number : (p : Phase) → is_lt (int_cmp (pos (phase_number p)) (pos 7)) ≡ is_live_in p
 live_by_number Waiting = refl
-live_by_number Running = refl
-live_by_number Stopped = refl
-live_by_number (Canceled why) = refl
-live_by_number Aborted = refl
-live_by_number Completed = refl
+live_by_number _ = refl
 
 running_by_number : (p : Phase) → (phase_number p == 1) ≡ is_running_in p
 running_by_number Waiting = refl
-running_by_number Running = refl
-running_by_number Stopped = refl
-running_by_number (Canceled why) = refl
-running_by_number Aborted = refl
-running_by_number Completed = refl
+running_by_number _ = refl
 
 stopped_by_number : (p : Phase) → (phase_number p == 2) ≡ is_stopped_in p
 stopped_by_number Waiting = refl
-stopped_by_number Running = refl
-stopped_by_number Stopped = refl
-stopped_by_number (Canceled why) = refl
-stopped_by_number Aborted = refl
-stopped_by_number Completed = refl
+stopped_by_number _ = refl
 
 pending_by_numbers : (p : Phase) (h i : Bool) → ((phase_number p == 0) && ((flag_number h == 0) && (flag_number i == 0))) ≡ (state_in p h i == 3)
 pending_by_numbers Waiting true i = refl
 pending_by_numbers Waiting false true = refl
-pending_by_numbers Waiting false false = refl
-pending_by_numbers Running h i = refl
-pending_by_numbers Stopped h i = refl
-pending_by_numbers (Canceled why) h i = refl
-pending_by_numbers Aborted h i = refl
-pending_by_numbers Completed h i = refl
+pending_by_numbers _ _ _ = refl
 
 -- the states of one rank
 abbrev pub is_between : ℕ → ℕ → Job → Bool
@@ -87,57 +68,37 @@ is_between first last j = nat_le first (state j) && nat_le (state j) last
 at_device_by_number : (p : Phase) (h i : Bool) → (is_gt (int_cmp (pos (phase_number p)) (pos 0)) && is_lt (int_cmp (pos (phase_number p)) (pos 7))) ≡ (nat_le 5 (state_in p h i) && nat_le (state_in p h i) 6)
 at_device_by_number Waiting true i = refl
 at_device_by_number Waiting false true = refl
-at_device_by_number Waiting false false = refl
-at_device_by_number Running h i = refl
-at_device_by_number Stopped h i = refl
-at_device_by_number (Canceled why) h i = refl
-at_device_by_number Aborted h i = refl
-at_device_by_number Completed h i = refl
+at_device_by_number _ _ _ = refl
 
-third_by_number : (p : Phase) (h i : Bool) → (state_in p h i == 3) ≡ (nat_le 3 (state_in p h i) && nat_le (state_in p h i) 3)
-third_by_number Waiting true i = refl
-third_by_number Waiting false true = refl
-third_by_number Waiting false false = refl
-third_by_number Running h i = refl
-third_by_number Stopped h i = refl
-third_by_number (Canceled why) h i = refl
-third_by_number Aborted h i = refl
-third_by_number Completed h i = refl
+only_third : (n : ℕ) → (n == 3) ≡ (nat_le 3 n && nat_le n 3)
+only_third n = grind (arith, nat_tests)
 
 flags_added : (h i : Bool) → binary (Arith Add) (Int (pos (flag_number h))) (Int (pos (flag_number i))) ≡ Int (pos (flag_number h + flag_number i))
 unfolding binary
 flags_added true true = refl
-flags_added true false = refl
 flags_added false true = refl
-flags_added false false = refl
+flags_added _ _ = refl
 
 either_by_number : (h i : Bool) → is_gt (int_cmp (pos (flag_number h + flag_number i)) (pos 0)) ≡ (h || i)
 either_by_number true true = refl
-either_by_number true false = refl
 either_by_number false true = refl
-either_by_number false false = refl
+either_by_number _ _ = refl
 
 either_flag : (h i : Bool) → is_true (binary (Compare Gt Binary) (binary (Arith Add) (Int (pos (flag_number h))) (Int (pos (flag_number i)))) (Int (pos 0))) ≡ (h || i)
-either_flag h i = rw (flags_added h i, greater (flag_number h + flag_number i) 0) (either_by_number h i)
+either_flag h i = rw (flags_added h i, where_above (flag_number h + flag_number i) 0) (either_by_number h i)
 
 neither_by_number : (h i : Bool) → ((flag_number h + flag_number i) == 0) ≡ ((flag_number h == 0) && (flag_number i == 0))
 neither_by_number true true = refl
-neither_by_number true false = refl
 neither_by_number false true = refl
-neither_by_number false false = refl
+neither_by_number _ _ = refl
 
 neither_flag : (h i : Bool) → is_true (binary (Compare Eq Binary) (binary (Arith Add) (Int (pos (flag_number h))) (Int (pos (flag_number i)))) (Int (pos 0))) ≡ ((flag_number h == 0) && (flag_number i == 0))
-neither_flag h i = rw (flags_added h i, equals (flag_number h + flag_number i) 0) (neither_by_number h i)
+neither_flag h i = rw (flags_added h i, where_number_is (flag_number h + flag_number i) 0) (neither_by_number h i)
 
 held_by_numbers : (p : Phase) (h i : Bool) → ((phase_number p == 0) && (h || i)) ≡ (nat_le 4 (state_in p h i) && nat_le (state_in p h i) 4)
 held_by_numbers Waiting true i = refl
 held_by_numbers Waiting false true = refl
-held_by_numbers Waiting false false = refl
-held_by_numbers Running h i = refl
-held_by_numbers Stopped h i = refl
-held_by_numbers (Canceled why) h i = refl
-held_by_numbers Aborted h i = refl
-held_by_numbers Completed h i = refl
+held_by_numbers _ _ _ = refl
 
 -- ---- WHERE, on what the row shows
 
@@ -147,7 +108,7 @@ is_running_row v = is_true (binary (Compare Eq Binary) (column v 7) (Int (pos 1)
 
 pub running-row : (j : Job) → is_running_row (job_values j) ≡ is_running j
 unfolding is_running_row
-running-row j = rw (equals (phase_number j.phase) 1, and_true _) (running_by_number j.phase)
+running-row j = rw (where_number_is (phase_number j.phase) 1, and-true _) (running_by_number j.phase)
 
 -- phase = 2
 unfoldable pub is_stopped_row : Row → Bool
@@ -155,7 +116,7 @@ is_stopped_row v = is_true (binary (Compare Eq Binary) (column v 7) (Int (pos 2)
 
 pub stopped-row : (j : Job) → is_stopped_row (job_values j) ≡ is_stopped j
 unfolding is_stopped_row
-stopped-row j = rw (equals (phase_number j.phase) 2, and_true _) (stopped_by_number j.phase)
+stopped-row j = rw (where_number_is (phase_number j.phase) 2, and-true _) (stopped_by_number j.phase)
 
 -- phase < 7
 unfoldable pub is_live_row : Row → Bool
@@ -163,7 +124,7 @@ is_live_row v = is_true (binary (Compare Lt Binary) (column v 7) (Int (pos 7))) 
 
 pub live-row : (j : Job) → is_live_row (job_values j) ≡ is_live j
 unfolding is_live_row
-live-row j = rw (less (phase_number j.phase) 7, and_true _) (live_by_number j.phase)
+live-row j = rw (where_below (phase_number j.phase) 7, and-true _) (live_by_number j.phase)
 
 -- owner = ?1
 unfoldable pub is_own_row : List ℕ → Row → Bool
@@ -171,7 +132,7 @@ is_own_row name v = is_true (binary (Compare Eq Binary) (column v 1) (Words name
 
 pub own-row : (name : List ℕ) (j : Job) → is_own_row name (job_values j) ≡ bytes_eq j.owner name
 unfolding is_own_row
-own-row name j = rw (names j.owner name, and_true _) refl
+own-row name j = rw (where_text_is j.owner name, and-true _) refl
 
 -- owner = ?1 AND phase < 7
 unfoldable pub is_own_live_row : List ℕ → Row → Bool
@@ -179,7 +140,7 @@ is_own_live_row name v = is_true (binary (Compare Eq Binary) (column v 1) (Words
 
 pub own_live-row : (name : List ℕ) (j : Job) → is_own_live_row name (job_values j) ≡ (bytes_eq j.owner name && is_live j)
 unfolding is_own_live_row
-own_live-row name j = rw (names j.owner name, less (phase_number j.phase) 7, and_true _, live_by_number j.phase) refl
+own_live-row name j = rw (where_text_is j.owner name, where_below (phase_number j.phase) 7, and-true _, live_by_number j.phase) refl
 
 -- phase = 0 AND hold = 0 AND incoming = 0
 unfoldable pub is_pending_row : Row → Bool
@@ -187,7 +148,7 @@ is_pending_row v = is_true (binary (Compare Eq Binary) (column v 7) (Int (pos 0)
 
 pub pending-row : (j : Job) → is_pending_row (job_values j) ≡ (state j == 3)
 unfolding is_pending_row
-pending-row j = rw (equals (phase_number j.phase) 0, equals (flag_number j.hold) 0, equals (flag_number j.incoming) 0, and_true _) (pending_by_numbers j.phase j.hold j.incoming)
+pending-row j = rw (where_number_is (phase_number j.phase) 0, where_number_is (flag_number j.hold) 0, where_number_is (flag_number j.incoming) 0, and-true _) (pending_by_numbers j.phase j.hold j.incoming)
 
 -- owner = ?1 AND phase > 0 AND phase < 7
 unfoldable pub is_at_device_row : List ℕ → Row → Bool
@@ -195,7 +156,7 @@ is_at_device_row name v = is_true (binary (Compare Eq Binary) (column v 1) (Word
 
 pub at_device-row : (name : List ℕ) (j : Job) → is_at_device_row name (job_values j) ≡ (bytes_eq j.owner name && is_between 5 6 j)
 unfolding is_at_device_row
-at_device-row name j = rw (names j.owner name, greater (phase_number j.phase) 0, less (phase_number j.phase) 7, and_true _, at_device_by_number j.phase j.hold j.incoming) refl
+at_device-row name j = rw (where_text_is j.owner name, where_above (phase_number j.phase) 0, where_below (phase_number j.phase) 7, and-true _, at_device_by_number j.phase j.hold j.incoming) refl
 
 -- owner = ?1 AND phase = 0 AND hold + incoming = 0
 unfoldable pub is_own_pending_row : List ℕ → Row → Bool
@@ -204,7 +165,7 @@ is_own_pending_row name v = is_true (binary (Compare Eq Binary) (column v 1) (Wo
 pub own_pending-row : (name : List ℕ) (j : Job) → is_own_pending_row name (job_values j) ≡ (bytes_eq j.owner name && is_between 3 3 j)
 unfolding is_own_pending_row
 own_pending-row name j =
-    rw (names j.owner name, equals (phase_number j.phase) 0, neither_flag j.hold j.incoming, and_true _, pending_by_numbers j.phase j.hold j.incoming, third_by_number j.phase j.hold j.incoming) refl
+    rw (where_text_is j.owner name, where_number_is (phase_number j.phase) 0, neither_flag j.hold j.incoming, and-true _, pending_by_numbers j.phase j.hold j.incoming, only_third (state j)) refl
 
 -- owner = ?1 AND phase = 0 AND hold + incoming > 0
 unfoldable pub is_held_row : List ℕ → Row → Bool
@@ -212,4 +173,4 @@ is_held_row name v = is_true (binary (Compare Eq Binary) (column v 1) (Words nam
 
 pub held-row : (name : List ℕ) (j : Job) → is_held_row name (job_values j) ≡ (bytes_eq j.owner name && is_between 4 4 j)
 unfolding is_held_row
-held-row name j = rw (names j.owner name, equals (phase_number j.phase) 0, either_flag j.hold j.incoming, and_true _, held_by_numbers j.phase j.hold j.incoming) refl
+held-row name j = rw (where_text_is j.owner name, where_number_is (phase_number j.phase) 0, either_flag j.hold j.incoming, and-true _, held_by_numbers j.phase j.hold j.incoming) refl

@@ -17,7 +17,7 @@ use sqlite::{Alter, Connection};
 use std::alloc::Global;
 
 /// 2^60 pages: no sum over an account's jobs comes near it.
-const MOST_SUM: i64 = 1_152_921_504_606_846_976;
+const MOST_SUM: i64 = 1 << 60;
 
 /// The free pages of an account. They are damaged where they are out of all bounds.
 pub(crate) fn free_in(pages: AccountPages) -> Result<i64, Fault>

@@ -5,25 +5,19 @@ use Rattle.queue_core.specs.declared.book.SendCause.TheVariants.{Book, Write as 
 use Rattle.queue_shown.specs.Stops.{told_cause}
 use Rattle.queue_shown.specs.declared.send.Stop.{Stop}
 use Rattle.queue_shown.specs.declared.send.Stop.TheVariants.{Tables, Write}
-use Rattle.queue_tables.specs.declared.fault.Fault.TheVariants.{Memory, Disk, Damaged}
+use Rattle.queue_tables.specs.declared.fault.Fault.TheVariants.{Damaged}
 
 -- a stop that a `?` hands on
-pub stop_after : {T : Type 0} (r : Result T Stop) (stop : Stop) (P : Type 0) → IsErrAnd r (λ s. s ≡ stop) → (stop ≡ Tables Damaged → P) → IfErr r (λ s. s ≡ Tables Damaged → P)
-stop_after (Err s) stop P same then = λ damaged. then (sym same ∙ damaged)
-stop_after (Ok x) stop P same then = tt
+pub stop_after : {T : Type 0} (r : Result T Stop) (stop cause : Stop) (P : Type 0) → IsErrAnd r (λ s. s ≡ stop) → (stop ≡ cause → P) → IfErr r (λ s. s ≡ cause → P)
+stop_after (Err s) stop cause P same then = λ is. then (sym same ∙ is)
+stop_after (Ok x) stop cause P same then = tt
 
 -- the cause that is told is damage only where the tables were
 pub damage_told : (stop : Stop) → told_cause stop ≡ Book BookDamaged → stop ≡ Tables Damaged
-damage_told (Tables Memory) told = absurd cc
-damage_told (Tables Disk) told = absurd cc
 damage_told (Tables Damaged) told = refl
-damage_told Write told = absurd cc
+damage_told _ told = absurd cc
 
 -- the writer's fault is told of the writer alone
-pub write_after : {T : Type 0} (r : Result T Stop) (stop : Stop) (P : Type 0) → IsErrAnd r (λ s. s ≡ stop) → (stop ≡ Write → P) → IfErr r (λ s. s ≡ Write → P)
-write_after (Err s) stop P same then = λ unwritten. then (sym same ∙ unwritten)
-write_after (Ok x) stop P same then = tt
-
 pub write_told : (stop : Stop) → told_cause stop ≡ NotWritten → stop ≡ Write
 write_told (Tables fault) told = absurd cc
 write_told Write told = refl

@@ -1,8 +1,7 @@
 -- The rows of one document among those of all.
 use Rattle.std.proofs.Common.{◌≡◌, inl, inr, ℕ, zero, suc, ◌+◌, ◌-◌, ◌<◌, List, [], ◌∷◌, ◌++◌, filter, flat_map, Bool, true, false, ◌&&◌, ◌==◌, nat_lt, if◌then◌else◌, Option, None, Some, slice_get, refl, ap, subst, ◌∙◌, arith, append-nil, pos, is_eq}
 use Rattle.std.specs.Ordering.{int_cmp}
-use Rattle.std.proofs.lemmas.Bool.{cases_Bool, eqb-true, eq-eqb, ne_eqb, or_parts}
-use Rattle.std.proofs.lemmas.Bool.Decides.{nat_tests}
+use Rattle.std.proofs.lemmas.Bool.{and_right, cases_Bool, eqb-true, eq-eqb, ltb-false, ltb-true, ne_eqb, or_parts}
 use Rattle.std.proofs.lemmas.List.Elements.{filter-append}
 use Rattle.sqlite.specs.Ops.{binary, is_true, from_truth}
 use Rattle.sqlite.specs.Order.{Row, column}
@@ -14,7 +13,7 @@ use Rattle.queue_core.specs.World.{Entry, has_number}
 use Rattle.queue_types.specs.declared.document.Document.{Document}
 use Rattle.queue_tables.specs.Values.{number}
 use Rattle.queue_tables.specs.Steps.{AreDistinct}
-use Rattle.queue_tables.proofs.Numbers.{same_number}
+use Rattle.queue_tables.proofs.Numbers.{passed, same_number}
 use Rattle.queue_shown.specs.Fetched.{document_in}
 
 -- ---- WHERE job = ?1 AND doc = ?2
@@ -26,26 +25,10 @@ told : (b : Bool) → is_true (from_truth (Some b)) ≡ b
 told true = refl
 told false = refl
 
-and_true : (a b : Bool) → (a && (b && true)) ≡ (a && b)
-and_true true true = refl
-and_true true false = refl
-and_true false b = refl
-
-positive : (n : ℕ) → nat_lt 0 n ≡ true → 0 < n
-positive n some = grind (arith, nat_tests)
-
-at_zero : (n : ℕ) → nat_lt 0 n ≡ false → n < 1
-at_zero n none = grind (arith, nat_tests)
-
-and_false : (a : Bool) → (a && false) ≡ false
-and_false true = refl
-and_false false = refl
-
 pub of_numbers : (job n m k : ℕ) (rest : Row) → is_of job n (number m ∷ number k ∷ rest) ≡ ((m == job) && (k == n))
 unfolding binary
 of_numbers job n m k rest =
-    rw (value_cmp-Int (pos m) (pos job), value_cmp-Int (pos k) (pos n), told (is_eq (int_cmp (pos m) (pos job))), told (is_eq (int_cmp (pos k) (pos n))), same_number m job, same_number k n)
-    (and_true (m == job) (k == n))
+    rw (value_cmp-Int (pos m) (pos job), value_cmp-Int (pos k) (pos n), told (is_eq (int_cmp (pos m) (pos job))), passed (is_eq (int_cmp (pos k) (pos n))), same_number m job, same_number k n) refl
 
 -- ---- what has rows for each document
 
@@ -76,11 +59,10 @@ module _ (f : ℕ → ℕ → Document → List Row) where
     past m k [] low = refl
     past m k (d ∷ ds) low =
         let apart : (k == n) ≡ false = ne_eqb k n (λ same. omega (arith, low, same)) in
-        passed_by m k d ds (rw apart (and_false (m == job))) (past m (k + 1) ds (omega (arith, low)))
+        passed_by m k d ds (rw apart (and_right (m == job) false refl)) (past m (k + 1) ds (omega (arith, low)))
 
     at_place : (m k i : ℕ) (ds : List Document) → (m == job) ≡ true → k + i ≡ n → filter (is_of job n) (rows_from m k ds) ≡ chosen job n (slice_get ds i)
-    at_place m k zero [] same here = refl
-    at_place m k (suc i) [] same here = refl
+    at_place m k i [] same here = refl
     at_place m k zero (d ∷ ds) same here =
         let at : k ≡ n = omega (arith, here) in
         let is : (k == n) ≡ true = eq-eqb k n at in
@@ -92,8 +74,8 @@ module _ (f : ℕ → ℕ → Document → List Row) where
 
     of_job : (m : ℕ) (ds : List Document) → (m == job) ≡ true → filter (is_of job n) (rows_from m 1 ds) ≡ chosen job n (if nat_lt 0 n then slice_get ds (n - 1) else None)
     of_job m ds same = elim (cases_Bool (nat_lt 0 n)) [
-      | inl some ↦ rw some (let low = positive n some in at_place m 1 (n - 1) ds same (omega (arith, low)))
-      | inr none ↦ rw none (past m 1 ds (at_zero n none))
+      | inl some ↦ rw some (let low = ltb-true 0 n some in at_place m 1 (n - 1) ds same (omega (arith, low)))
+      | inr none ↦ rw none (let high = ltb-false 0 n none in past m 1 ds (omega (arith, high)))
     ]
 
     no_job : (es : List Entry) → has_number job es ≡ false → filter (is_of job n) (all_rows es) ≡ []

@@ -1,5 +1,5 @@
 -- A SELECT in the order of a number that no two of its rows share.
-use Rattle.std.proofs.Common.{◌≡◌, inl, inr, ℕ, pos, ◌+◌, ◌<◌, List, [], ◌∷◌, map, filter, All, Bool, refl, sym, ap, subst, subst₂, ◌∙◌, arith, slice_index_or, nat_cmp, Ordering, Less, Equal, Greater}
+use Rattle.std.proofs.Common.{◌≡◌, inl, inr, ℕ, pos, ◌+◌, ◌<◌, List, [], ◌∷◌, map, filter, All, Bool, refl, sym, ap, subst, subst₂, ◌∙◌, arith, slice_index_or, nat_cmp, Ordering, Equal}
 use Rattle.std.specs.Ordering.{int_cmp, is_lt, ordering_then}
 use Rattle.std.specs.List.Sorted.{IsPermutation, IsSorted}
 use Rattle.std.proofs.lemmas.Bool.{cases_Bool}
@@ -21,9 +21,8 @@ pub nat_int : (a b : ℕ) → int_cmp (pos a) (pos b) ≡ nat_cmp a b
 nat_int a b = grind (arith, ints)
 
 pub then_equal : (o : Ordering) → ordering_then o Equal ≡ o
-then_equal Less = refl
 then_equal Equal = refl
-then_equal Greater = refl
+then_equal _ = refl
 
 -- the number by which a row is sorted
 abbrev pub key : Output → ℕ

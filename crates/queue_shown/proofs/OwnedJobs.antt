@@ -1,10 +1,11 @@
 -- The jobs of an owner, by number, and what the documents of one add up to.
-use Rattle.std.proofs.Common.{◌≡◌, inl, inr, ℕ, pos, ◌+◌, ◌<◌, List, [], ◌∷◌, map, filter, All, Bool, true, false, ◌&&◌, ◌||◌, ◌==◌, nat_lt, Option, None, Some, bytes_eq, refl, sym, ap, subst, ◌∙◌, arith, nat_cmp}
+use Rattle.std.proofs.Common.{◌≡◌, inl, inr, ℕ, pos, ◌+◌, ◌<◌, List, [], ◌∷◌, map, filter, All, Bool, true, false, ◌&&◌, ◌==◌, Option, None, Some, bytes_eq, refl, sym, ap, subst, ◌∙◌, arith, nat_cmp}
 use Rattle.std.specs.List.{AllByRecursion as Each}
 use Rattle.std.specs.List.Sorted.{IsPermutation}
 use Rattle.std.proofs.lemmas.Bool.{cases_Bool, eqb-true, eq-eqb, or_parts}
-use Rattle.std.proofs.lemmas.List.Elements.{All-cons, All-tail}
+use Rattle.std.proofs.lemmas.List.Elements.{All-cons, All-filter, All-from_recursion, filter_agree}
 use Rattle.std.proofs.lemmas.Map.Text.{is_eq-slice_cmp}
+use Rattle.sqlite_trees.proofs.ListLemmas.{filter-map, map-map}
 use Rattle.sqlite_sql.specs.declared.ops.BinaryOp.TheVariants.{Compare}
 use Rattle.sqlite_sql.specs.declared.ops.CompareOp.TheVariants.{Eq}
 use Rattle.sqlite_value.proofs.OrderLemmas.{value_cmp-Int, value_cmp-Text}
@@ -14,7 +15,7 @@ use Rattle.sqlite.specs.Ops.{binary, is_true}
 use Rattle.sqlite.specs.Order.{Row, column}
 use Rattle.sqlite.specs.Query.{Query, Output, output_cmp}
 use Rattle.sqlite.specs.State.{State, Shown}
-use Rattle.queue_types.specs.Job.{owed}
+use Rattle.queue_core.specs.Shown.{charged_to, is_charged}
 use Rattle.queue_core.specs.Sound.{IsSound, Rise}
 use Rattle.queue_core.specs.World.{World, Entry, rows, job_at, has_number}
 use Rattle.queue_types.specs.declared.job.Job.{Job}
@@ -25,7 +26,6 @@ use Rattle.queue_tables.specs.Values.{number, job_values, job_view}
 use Rattle.queue_tables.proofs.Entries.{rows_in}
 use Rattle.queue_tables.proofs.Numbers.{passed}
 use Rattle.queue_tables.proofs.Writing.{reads_rows}
-use Rattle.queue_shown.specs.Pages.{has_pages}
 use Rattle.queue_shown.proofs.Ordered.{nat_int, then_equal, listed_values, in_order}
 use Rattle.queue_shown.proofs.Texts.{select_owned, select_owned_is}
 use Rattle.queue_shown.proofs.Unique.{Rises}
@@ -51,21 +51,15 @@ abbrev sent : Job → Output
 sent j = (number j.number ∷ [], job_values j)
 
 owned_out : (a : List ℕ) (js : List Job) → map out (filter (is_owned a) (map job_values js)) ≡ map sent (filter (owns a) js)
-owned_out a [] = refl
-owned_out a (j ∷ js) = elim (cases_Bool (owns a j)) [
-  | inl own ↦ rw (owned_row a j ∙ own, own) (ap (λ (os : List Output). sent j ∷ os) (owned_out a js))
-  | inr other ↦ rw (owned_row a j ∙ other, other) (owned_out a js)
-]
+owned_out a js =
+    ap (map out) (filter-map (is_owned a) job_values js ∙ ap (map job_values) (filter_agree (λ (j : Job). is_owned a (job_values j)) (owns a) (owned_row a) js))
+    ∙ map-map out job_values (filter (owns a) js)
 
 abbrev query : Query
 query = plain_query 1 select_owned.filter job_terms select_owned.order
 
 by_number : (i j : Job) → output_cmp query (sent i) (sent j) ≡ nat_cmp i.number j.number
 by_number i j = rw (value_cmp-Int (pos i.number) (pos j.number), nat_int i.number j.number) (then_equal (nat_cmp i.number j.number))
-
-shown_rows : (js : List Job) → map (λ (o : Output). o.1) (map sent js) ≡ map job_values js
-shown_rows [] = refl
-shown_rows (j ∷ js) = ap (λ (rs : List Row). job_values j ∷ rs) (shown_rows js)
 
 -- ---- numbers rise
 
@@ -81,21 +75,10 @@ rows_rise : (first : ℕ) (es : List Entry) (next : ℕ) → Rise first es next 
 rows_rise first [] next rise = tt
 rows_rise first (e ∷ es) next rise = (all_above e.row.number (e.row.number + 1) es next (omega arith) rise.1, rows_rise (e.row.number + 1) es next rise.1)
 
-pub each_all : (P : Job → Type 0) (js : List Job) → Each P js → All P js
-each_all P [] each = λ i d small. absurd (omega (arith, small))
-each_all P (j ∷ js) each = All-cons P j js each.0 (each_all P js each.1)
-
-kept_all : (P : Job → Type 0) (p : Job → Bool) (js : List Job) → All P js → All P (filter p js)
-kept_all P p [] all = all
-kept_all P p (j ∷ js) all = elim (cases_Bool (p j)) [
-  | inl through ↦ rw through (All-cons P j (filter p js) (all 0 j (omega arith)) (kept_all P p js (All-tail P j js all)))
-  | inr apart ↦ rw apart (kept_all P p js (All-tail P j js all))
-]
-
 kept_rise : (p : Job → Bool) (js : List Job) → Rises num js → Rises num (filter p js)
 kept_rise p [] rise = tt
 kept_rise p (j ∷ js) rise = elim (cases_Bool (p j)) [
-  | inl through ↦ rw through (kept_all (λ i. num j < num i) p js rise.0, kept_rise p js rise.1)
+  | inl through ↦ rw through (All-filter p (λ i. num j < num i) js rise.0, kept_rise p js rise.1)
   | inr apart ↦ rw apart (kept_rise p js rise.1)
 ]
 
@@ -123,7 +106,7 @@ each_found (e ∷ es) all same distinct = (
 
 pub owned_in : (w : World) (a : List ℕ) → AreDistinct w.jobs → AreRowsOf w (filter (λ j. bytes_eq j.owner a) (rows w))
 owned_in w a distinct =
-    kept_all (λ j. job_at j.number (rows w) ≡ Some j) (owns a) (rows w) (each_all (λ j. job_at j.number (rows w) ≡ Some j) (rows w) (each_found w.jobs (rows w) (λ n j there. there) distinct))
+    All-filter (owns a) (λ j. job_at j.number (rows w) ≡ Some j) (rows w) (All-from_recursion (λ j. job_at j.number (rows w) ≡ Some j) (rows w) (each_found w.jobs (rows w) (λ n j there. there) distinct))
 
 -- ---- the rows that are shown
 
@@ -135,13 +118,13 @@ reads_owned old new a found w sound has h =
     let js = filter (owns a) (rows w) in
     let same : IsPermutation (map sent js) it.0 = subst (λ (t : List Output). IsPermutation t it.0) (owned_out a (rows w)) it.1 in
     let equal : map sent js ≡ it.0 = in_order num sent query (λ j. refl) by_number js it.0 (kept_rise (owns a) (rows w) (rows_rise 1 w.jobs w.next sound.numbers)) same it.2 in
-    it.3 ∙ ap (map (λ (o : Output). o.1)) (sym equal) ∙ shown_rows js
+    it.3 ∙ ap (map (λ (o : Output). o.1)) (sym equal) ∙ map-map (λ (o : Output). o.1) sent js
 
 -- those that are told of
-pub told_owned : (a : List ℕ) (js : List Job) → filter has_pages (filter (λ j. bytes_eq j.owner a) js) ≡ filter (λ j. bytes_eq j.owner a && (nat_lt 0 (owed j) || nat_lt 0 j.count)) js
+pub told_owned : (a : List ℕ) (js : List Job) → filter is_charged (filter (λ j. bytes_eq j.owner a) js) ≡ charged_to a js
 told_owned a [] = refl
 told_owned a (j ∷ js) = elim (cases_Bool (bytes_eq j.owner a)) [
-  | inl own ↦ elim (cases_Bool (has_pages j)) [
+  | inl own ↦ elim (cases_Bool (is_charged j)) [
     | inl told ↦ rw (own, told) (ap (λ (ks : List Job). j ∷ ks) (told_owned a js))
     | inr idle ↦ rw (own, idle) (told_owned a js)
   ]

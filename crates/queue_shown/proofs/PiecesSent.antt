@@ -6,6 +6,7 @@ use Rattle.std.specs.List.Sorted.{IsPermutation}
 use Rattle.std.proofs.Math.Seq.{take-append_seam}
 use Rattle.std.proofs.lemmas.Grind.{flat_map-append}
 use Rattle.std.proofs.lemmas.List.Elements.{All-cons}
+use Rattle.sqlite_trees.proofs.ListLemmas.{map-map}
 use Rattle.sqlite_value.proofs.OrderLemmas.{value_cmp-Int}
 use Rattle.sqlite.specs.declared.types.Value.TheVariants.{Null, Blob}
 use Rattle.sqlite.specs.Order.{Row, column}
@@ -70,10 +71,6 @@ out v = (column v 2 ∷ [], column v 3 ∷ [])
 abbrev sent : List ℕ → ℕ → Output
 sent bytes k = (number k ∷ [], Blob (piece_at bytes k) ∷ [])
 
-out_is : (job n : ℕ) (bytes : List ℕ) (ks : List ℕ) → map out (map (λ k. piece_values job n k (piece_at bytes k)) ks) ≡ map (sent bytes) ks
-out_is job n bytes [] = refl
-out_is job n bytes (k ∷ ks) = ap (λ (os : List Output). sent bytes k ∷ os) (out_is job n bytes ks)
-
 abbrev query : Query
 query = plain_query 4 select_pieces.filter select_pieces.terms select_pieces.order
 
@@ -107,7 +104,7 @@ module _ (s : State) (job n : ℕ) (w : World) (d : Document) (distinct : AreDis
   listing_bytes shown l =
       let it = listed_values 4 select_pieces.filter select_pieces.terms select_pieces.order (number job ∷ number n ∷ []) piece_view (is_of job n) out (λ r. refl) (λ r. refl) (content_of w).pieces (s.now.trees 4) shown has.rows.pieces l in
       let ks = range_with_len 0 (pieces_in (length d.bytes)) in
-      let values : map out (filter (is_of job n) (content_of w).pieces) ≡ map (sent d.bytes) ks = ap (map out) (only job n w d distinct there) ∙ out_is job n d.bytes ks in
+      let values : map out (filter (is_of job n) (content_of w).pieces) ≡ map (sent d.bytes) ks = ap (map out) (only job n w d distinct there) ∙ map-map out (λ k. piece_values job n k (piece_at d.bytes k)) ks in
       let same : IsPermutation (map (sent d.bytes) ks) it.0 = subst (λ (t : List Output). IsPermutation t it.0) values it.1 in
       let equal : map (sent d.bytes) ks ≡ it.0 = in_order (λ (i : ℕ). i) (sent d.bytes) query (λ i. refl) (by_number d.bytes) ks it.0 (counts_up 0 (pieces_in (length d.bytes))) same it.2 in
       ap bytes_of it.3 ∙ ap (λ (os : List Output). bytes_of (map (λ (o : Output). o.1) os)) (sym equal) ∙ sent_bytes d.bytes ks ∙ joined d.bytes

@@ -14,10 +14,6 @@ use Rattle.queue_shown.proofs.Texts.{select_pieces_is}
 pub pieces_plain_in : (schema : Schema) → schema ≡ book_schema → IsPlain (understood schema pieces_select)
 pieces_plain_in schema has = subst (λ (s : Schema). IsPlain (understood s pieces_select)) (sym has) select_pieces_is.shows.plain
 
-pub err_then : {T E : Type 0} (r : Result T E) {P Q : Type 0} → (P → Q) → OnErr r P → OnErr r Q
-err_then (Ok x) then_q p = tt
-err_then (Err e) then_q p = then_q p
-
 pub on_err : {T E : Type 0} (r : Result T E) {P : Type 0} → P → OnErr r P
 on_err (Ok x) p = tt
 on_err (Err e) p = p

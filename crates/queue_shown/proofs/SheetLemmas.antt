@@ -5,7 +5,7 @@ use Rattle.std.proofs.lemmas.Int.{ints}
 use Rattle.std.proofs.lemmas.List.Elements.{filter_more}
 use Rattle.sqlite.specs.Order.{Row}
 use Rattle.sqlite.specs.declared.types.Value.{Value}
-use Rattle.queue_core.specs.Shown.{sheet_of, sheet_jobs}
+use Rattle.queue_core.specs.Shown.{is_charged, sheet_of, sheet_jobs}
 use Rattle.queue_core.specs.Sound.{IsSound, reserved, printed}
 use Rattle.queue_core.specs.World.{World, granted, rows, job_at}
 use Rattle.queue_types.specs.declared.job.Job.{Job}
@@ -19,7 +19,6 @@ use Rattle.queue_tables.proofs.JobPut.{same_job}
 use Rattle.queue_tables.specs.declared.account_pages.AccountPages.{AccountPages}
 use Rattle.queue_tables.specs.Accounts.{pages_of}
 use Rattle.queue_tables.specs.Content.{AreRowsOf}
-use Rattle.queue_shown.specs.Pages.{has_pages}
 
 -- ---- one row
 
@@ -30,14 +29,14 @@ read_bare phases flags row k j reads plain is =
     let read : row ≡ job_values k = reads (ap (length {A = Value}) is) in
     same_job phases flags k j (sym read ∙ is) plain.0 plain.1
 
-pub idle_left : (k j : Job) (xs : List Job) → k ≡ bare j → has_pages k ≡ false → xs ≡ xs ++ (if has_pages j then j ∷ [] else [])
+pub idle_left : (k j : Job) (xs : List Job) → k ≡ bare j → is_charged k ≡ false → xs ≡ xs ++ (if is_charged j then j ∷ [] else [])
 idle_left k j xs is idle =
-    let none : has_pages j ≡ false = ap has_pages (sym is) ∙ idle in
+    let none : is_charged j ≡ false = ap is_charged (sym is) ∙ idle in
     rw none (sym (append-nil xs))
 
-pub told_pushed : (k j new : Job) (xs : List Job) → k ≡ bare j → has_pages k ≡ true → new ≡ j → xs ++ new ∷ [] ≡ xs ++ (if has_pages j then j ∷ [] else [])
+pub told_pushed : (k j new : Job) (xs : List Job) → k ≡ bare j → is_charged k ≡ true → new ≡ j → xs ++ new ∷ [] ≡ xs ++ (if is_charged j then j ∷ [] else [])
 told_pushed k j new xs is told same =
-    let some : has_pages j ≡ true = ap has_pages (sym is) ∙ told in
+    let some : is_charged j ≡ true = ap is_charged (sym is) ∙ told in
     rw some (ap (λ (i : Job). xs ++ i ∷ []) same)
 
 -- ---- one row after another
@@ -50,11 +49,11 @@ nth_job (j ∷ js) (suc k) row low is = nth_job js k row (omega (arith, low)) is
 pub nth_in : (w : World) (js : List Job) (k : ℕ) (j : Job) → k < length js → get_or js k j ≡ j → AreRowsOf w js → job_at j.number (rows w) ≡ Some j
 nth_in w js k j low is all = subst (λ (i : Job). job_at i.number (rows w) ≡ Some i) is (all k j low)
 
-pub told_more : (js : List Job) (k : ℕ) (j : Job) (xs ys : List Job) → k < length js → get_or js k j ≡ j → xs ≡ filter has_pages (take k js) → ys ≡ xs ++ (if has_pages j then j ∷ [] else []) → ys ≡ filter has_pages (take (k + 1) js)
+pub told_more : (js : List Job) (k : ℕ) (j : Job) (xs ys : List Job) → k < length js → get_or js k j ≡ j → xs ≡ filter is_charged (take k js) → ys ≡ xs ++ (if is_charged j then j ∷ [] else []) → ys ≡ filter is_charged (take (k + 1) js)
 told_more js k j xs ys low is front more =
-    more ∙ ap (λ (zs : List Job). zs ++ (if has_pages j then j ∷ [] else [])) front
-    ∙ ap (λ (i : Job). filter has_pages (take k js) ++ (if has_pages i then i ∷ [] else [])) (sym is)
-    ∙ sym (filter_more has_pages js k j low)
+    more ∙ ap (λ (zs : List Job). zs ++ (if is_charged j then j ∷ [] else [])) front
+    ∙ ap (λ (i : Job). filter is_charged (take k js) ++ (if is_charged i then i ∷ [] else [])) (sym is)
+    ∙ sym (filter_more is_charged js k j low)
 
 -- ---- the whole
 

@@ -8,8 +8,7 @@ use Rattle.queue_types.specs.declared.document.Document.{Document}
 use Rattle.queue_shown.specs.Fetched.{document_in, nth_document}
 
 sound_nth : (ds : List Document) (i : ℕ) (d : Document) → Each IsSoundDocument ds → slice_get ds i ≡ Some d → IsSoundDocument d
-sound_nth [] zero d all there = absurd cc
-sound_nth [] (suc i) d all there = absurd cc
+sound_nth [] i d all there = absurd cc
 sound_nth (x ∷ ds) zero d all there = let is : x ≡ d = cc in subst IsSoundDocument is all.0
 sound_nth (x ∷ ds) (suc i) d all there = sound_nth ds i d all.1 there
 

@@ -1,5 +1,5 @@
 -- Two lists with the same elements, both in the order of their keys, are equal where one has no key twice.
-use Rattle.std.proofs.Common.{◌≡◌, ◌⊎◌, inl, inr, ℕ, ◌+◌, ◌<◌, ◌≤◌, ◌==◌, suc, nat_lt, not, List, [], ◌∷◌, filter, count_by, cond, All, Bool, true, false, refl, sym, ap, subst, ◌∙◌, arith}
+use Rattle.std.proofs.Common.{◌≡◌, ◌⊎◌, inl, inr, ℕ, ◌+◌, ◌<◌, ◌≤◌, ◌==◌, suc, not, List, [], ◌∷◌, filter, count_by, cond, All, Bool, true, false, refl, sym, ap, subst, ◌∙◌, arith}
 use Rattle.std.specs.List.Sorted.{IsPermutation, IsSorted, IsNonDecreasingBy}
 use Rattle.std.specs.Ordering.{is_lt, nat_cmp}
 use Rattle.std.specs.Cmp.{nat_cmp_total}
@@ -8,6 +8,7 @@ use Rattle.std.proofs.lemmas.Bool.Decides.{nat_tests}
 use Rattle.std.proofs.lemmas.List.Sums.{sum_by-cons}
 use Rattle.std.proofs.lemmas.List.Sorted.{All-permutation, IsPermutation-sym, sorted_far, ranks_by, length_permutation, sum_by-IsPermutation}
 use Rattle.std.proofs.lemmas.List.Elements.{All-cons, All-tail}
+use Rattle.std.proofs.lemmas.Map.Keys.{ge_from_not_lt}
 use Rattle.sqlite_trees.proofs.ListLemmas.{IsPermutation-filter}
 
 module _ {X : Type 0} (key : X → ℕ) where
@@ -80,12 +81,6 @@ module _ {X : Type 0} (key : X → ℕ) where
   climbs_from (x ∷ xs) h =
       (λ i d low. h 0 (suc i) d (omega arith) (omega (arith, low)), climbs_from xs (λ i j d le low. h (suc i) (suc j) d (omega (arith, le)) (omega (arith, low))))
 
-  not_less : (m n : ℕ) → is_lt (nat_cmp m n) ≡ false → n ≤ m
-  not_less m n h = elim (cases_Bool (nat_lt m n)) [
-    | inl less ↦ absurd (let e = rw less at h in cc)
-    | inr other ↦ grind (arith, nat_tests)
-  ]
-
   -- what ORDER BY gives climbs
   pub climbs : (xs : List X) → IsSorted (λ a b. nat_cmp (key a) (key b)) xs → Climbs xs
-  climbs xs sorted = climbs_from xs (λ i j d le low. not_less _ _ (sorted_far (λ a b. is_lt (nat_cmp (key a) (key b))) (ranks_by nat_cmp_total key) xs sorted i j d le low))
+  climbs xs sorted = climbs_from xs (λ i j d le low. ge_from_not_lt _ _ (sorted_far (λ a b. is_lt (nat_cmp (key a) (key b))) (ranks_by nat_cmp_total key) xs sorted i j d le low))

@@ -2,9 +2,9 @@
 //! an account.
 #![tactic(auto)]
 
-pub mod head;
-pub mod send;
-pub mod sheets;
+mod head;
+mod send;
+mod sheets;
 
 pub use head::document_head;
 pub use send::send_document;

@@ -4,11 +4,10 @@ ghost use Rattle.sqlite.specs.Held.{state};
 ghost use Rattle.sqlite.specs.State.{HasCleanDisk};
 ghost use Rattle.queue_types.specs.Job.{owed};
 ghost use Rattle.queue_core.specs.Limits.{IsSoundJob};
-ghost use Rattle.queue_core.specs.Shown.{sheet_jobs, sheet_of};
+ghost use Rattle.queue_core.specs.Shown.{is_charged, sheet_jobs, sheet_of};
 ghost use Rattle.queue_core.specs.Sound.{IsSound};
 ghost use Rattle.queue_core.specs.World.{World, job_at, rows};
 ghost use Rattle.queue_types.specs.declared.job.Job.{Job as JobValue};
-ghost use Rattle.queue_shown.specs.Pages.{has_pages};
 ghost use Rattle.queue_tables.specs.Content.{AreRowsOf, HoldNoQueue, Holds, content_of};
 ghost use Rattle.queue_tables.specs.Leaving.{LeavesTables};
 ghost use Rattle.queue_tables.specs.Values.{job_values};
@@ -29,7 +28,7 @@ use std::alloc::Global;
 
 /// The job has pages reserved or printed.
 fn is_told(job: &Job) -> bool
-    ensures { result ≡ has_pages job.now }
+    ensures { result ≡ is_charged job.now }
 {
     0 < job.owed() || 0 < job.count
 }
@@ -45,7 +44,7 @@ fn push_told<S: Alter>(
     ensures leaves { LeavesTables (state S.Store conn.old) (state S.Store conn.new) }
     ensures live { HasCleanDisk (state S.Store conn.new) → OnOk result (IsTrue (state S.Store conn.old).is_open → IsTrue (state S.Store conn.new).is_open) }
     ensures damaged { HasCleanDisk (state S.Store conn.new) → IfErr result (λ e. e ≡ Fault.Damaged → (w : World) (j : JobValue) → IsSound w → Holds (content_of w) (state S.Store conn.old) → job_at j.number (rows w) ≡ Some j → row.now ≢ job_values j) }
-    ensures told { HasCleanDisk (state S.Store conn.new) → OnOk result ((w : World) (j : JobValue) → IsSound w → Holds (content_of w) (state S.Store conn.old) → job_at j.number (rows w) ≡ Some j → row.now ≡ job_values j → jobs.new.items ≡ jobs.old.items ++ (if has_pages j then j ∷ [] else [])) }
+    ensures told { HasCleanDisk (state S.Store conn.new) → OnOk result ((w : World) (j : JobValue) → IsSound w → Holds (content_of w) (state S.Store conn.old) → job_at j.number (rows w) ≡ Some j → row.now ≡ job_values j → jobs.new.items ≡ jobs.old.items ++ (if is_charged j then j ∷ [] else [])) }
     ensures sound { OnOk result (All IsSoundJob jobs.old.items → All IsSoundJob jobs.new.items) }
 {
     numbers_tell_names();
@@ -73,7 +72,7 @@ fn jobs_of<S: Alter>(
     ensures leaves { LeavesTables (state S.Store conn.old) (state S.Store conn.new) }
     ensures live { HasCleanDisk (state S.Store conn.new) → OnOk result (IsTrue (state S.Store conn.old).is_open → IsTrue (state S.Store conn.new).is_open) }
     ensures damaged { HasCleanDisk (state S.Store conn.new) → IfErr result (λ e. e ≡ Fault.Damaged → (w : World) (js : List JobValue) → IsSound w → Holds (content_of w) (state S.Store conn.old) → AreRowsOf w js → found.now ≢ map job_values js) }
-    ensures told { HasCleanDisk (state S.Store conn.new) → IfOk result (λ v. (w : World) (js : List JobValue) → IsSound w → Holds (content_of w) (state S.Store conn.old) → AreRowsOf w js → found.now ≡ map job_values js → v.items ≡ filter has_pages js) }
+    ensures told { HasCleanDisk (state S.Store conn.new) → IfOk result (λ v. (w : World) (js : List JobValue) → IsSound w → Holds (content_of w) (state S.Store conn.old) → AreRowsOf w js → found.now ≡ map job_values js → v.items ≡ filter is_charged js) }
     ensures sound { IfOk result (λ v. All IsSoundJob v.items) }
 {
     let mut jobs = Vec::new(alloc);

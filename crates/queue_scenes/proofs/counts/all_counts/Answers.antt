@@ -19,19 +19,16 @@ pub count-requires-3 : goal.count-requires-3
 count-requires-3 g c = record { query = count_queued_is.shows.query }
 
 pub returns-in_err-stopped-clause-leaves : goal.returns-in_err-stopped-clause-leaves
-returns-in_err-stopped-clause-leaves g c = leaves_then (state g.S.Store c.args.conn.now) (state g.S.Store c.count.new.conn) (state g.S.Store c.count-2.new.conn) c.count.ensures.leaves c.count-2.ensures.leaves
+returns-in_err-stopped-clause-leaves g c = leaves_then _ _ _ c.count.ensures.leaves c.count-2.ensures.leaves
 
 pub returns-in_err-queued-clause-leaves : goal.returns-in_err-queued-clause-leaves
-returns-in_err-queued-clause-leaves g c =
-    leaves_three (state g.S.Store c.args.conn.now) (state g.S.Store c.count.new.conn) (state g.S.Store c.count-2.new.conn) (state g.S.Store c.count-3.new.conn) c.count.ensures.leaves c.count-2.ensures.leaves c.count-3.ensures.leaves
+returns-in_err-queued-clause-leaves g c = leaves_three _ _ _ _ c.count.ensures.leaves c.count-2.ensures.leaves c.count-3.ensures.leaves
 
 pub returns-then-queued-clause-leaves : goal.returns-then-queued-clause-leaves
-returns-then-queued-clause-leaves g c =
-    leaves_three (state g.S.Store c.args.conn.now) (state g.S.Store c.count.new.conn) (state g.S.Store c.count-2.new.conn) (state g.S.Store c.count-3.new.conn) c.count.ensures.leaves c.count-2.ensures.leaves c.count-3.ensures.leaves
+returns-then-queued-clause-leaves g c = leaves_three _ _ _ _ c.count.ensures.leaves c.count-2.ensures.leaves c.count-3.ensures.leaves
 
 pub returns-clause-leaves : goal.returns-clause-leaves
-returns-clause-leaves g c =
-    leaves_three (state g.S.Store c.args.conn.now) (state g.S.Store c.count.new.conn) (state g.S.Store c.count-2.new.conn) (state g.S.Store c.count-3.new.conn) c.count.ensures.leaves c.count-2.ensures.leaves c.count-3.ensures.leaves
+returns-clause-leaves g c = leaves_three _ _ _ _ c.count.ensures.leaves c.count-2.ensures.leaves c.count-3.ensures.leaves
 
 pub returns-clause-found : goal.returns-clause-found
 returns-clause-found g c clean w sound has =

@@ -9,10 +9,10 @@ use Rattle.queue_tables.proofs.Columns.{map_err}
 use Rattle.queue_scenes.proofs.grants.known.Goals as goal
 
 pub returns-in_err-found-clause-leaves : goal.returns-in_err-found-clause-leaves
-returns-in_err-found-clause-leaves g c = leaves_then (state g.S.Store c.args.conn.now) (state g.S.Store c.pages_under.new.conn) (state g.S.Store c.find_account.new.conn) c.pages_under.ensures.leaves c.find_account.ensures.leaves
+returns-in_err-found-clause-leaves g c = leaves_then _ _ _ c.pages_under.ensures.leaves c.find_account.ensures.leaves
 
 pub returns-clause-leaves : goal.returns-clause-leaves
-returns-clause-leaves g c = leaves_then (state g.S.Store c.args.conn.now) (state g.S.Store c.pages_under.new.conn) (state g.S.Store c.find_account.new.conn) c.pages_under.ensures.leaves c.find_account.ensures.leaves
+returns-clause-leaves g c = leaves_then _ _ _ c.pages_under.ensures.leaves c.find_account.ensures.leaves
 
 pub returns-clause-found : goal.returns-clause-found
 returns-clause-found g c clean =

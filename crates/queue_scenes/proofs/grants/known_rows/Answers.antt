@@ -1,6 +1,5 @@
 use Rattle.std.proofs.Common.{◌++◌, ◌∷◌, [], List, All, sym, subst, ◌∙◌}
 use Rattle.std.proofs.lemmas.List.Elements.{All-push}
-use Rattle.sqlite.specs.Held.{state}
 use Rattle.queue_core.specs.Limits.{IsKnown}
 use Rattle.queue_types.specs.declared.event.KnownGrant.{KnownGrant}
 use Rattle.queue_tables.specs.Content.{content_of}
@@ -10,17 +9,17 @@ use Rattle.queue_tables.proofs.Ending.{err_after}
 use Rattle.queue_scenes.proofs.grants.known_rows.Goals as goal
 
 pub returns-in_err-known-clause-leaves : goal.returns-in_err-known-clause-leaves
-returns-in_err-known-clause-leaves g c = leaves_then (state g.S.Store c.args.conn.now) (state g.S.Store c.loop-row.conn) (state g.S.Store c.known.new.conn) c.loop-row.invariant.leaves c.known.ensures.leaves
+returns-in_err-known-clause-leaves g c = leaves_then _ _ _ c.loop-row.invariant.leaves c.known.ensures.leaves
 
 pub returns-in_err-push-clause-leaves : goal.returns-in_err-push-clause-leaves
-returns-in_err-push-clause-leaves g c = leaves_then (state g.S.Store c.args.conn.now) (state g.S.Store c.loop-row.conn) (state g.S.Store c.known.new.conn) c.loop-row.invariant.leaves c.known.ensures.leaves
+returns-in_err-push-clause-leaves g c = leaves_then _ _ _ c.loop-row.invariant.leaves c.known.ensures.leaves
 
 pub loop-row-preserved : goal.loop-row-preserved
 loop-row-preserved g c =
     let first = c.loop-row.invariant in
     let made = c.in_ok-known.ensures in
     record {
-      leaves = leaves_then (state g.S.Store c.args.conn.now) (state g.S.Store c.loop-row.conn) (state g.S.Store c.known.new.conn) first.leaves made.leaves;
+      leaves = leaves_then _ _ _ first.leaves made.leaves;
       live = λ clean was. made.live clean;
       within = subst (λ (ks : List KnownGrant). All IsKnown ks) (sym c.in_ok-push.ensures.items) (All-push IsKnown c.loop-row.all.items c.in_ok-known.field-0 first.within made.within);
       found = λ clean w sound has.

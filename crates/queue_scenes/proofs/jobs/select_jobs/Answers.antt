@@ -8,7 +8,7 @@ use Rattle.queue_tables.proofs.Columns.{map_err}
 use Rattle.queue_scenes.proofs.jobs.select_jobs.Goals as goal
 
 pub returns-clause-leaves : goal.returns-clause-leaves
-returns-clause-leaves g c = leaves_then (state g.S.Store c.args.conn.now) (state g.S.Store c.select.new.conn) (state g.S.Store c.whole_jobs.new.conn) c.select.ensures.leaves c.whole_jobs.ensures.leaves
+returns-clause-leaves g c = leaves_then _ _ _ c.select.ensures.leaves c.whole_jobs.ensures.leaves
 
 pub returns-clause-found : goal.returns-clause-found
 returns-clause-found g c clean =

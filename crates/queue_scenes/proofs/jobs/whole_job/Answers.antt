@@ -2,8 +2,7 @@ use Rattle.std.proofs.Common.{◌≡◌, ℕ, Some, sym, subst, ap, rules}
 use Rattle.queue_core.specs.World.{job_at, rows}
 use Rattle.queue_scenes.proofs.Whole.{read_is, sized_is}
 use Rattle.queue_tables.proofs.Ending.{err_after}
-use Rattle.queue_tables.proofs.Formed.{formed_job, sound_job}
-use Rattle.queue_scenes.proofs.Bounds.{bare_row}
+use Rattle.queue_tables.proofs.Formed.{bare_row, formed_job, sound_job}
 use Rattle.queue_rows.specs.Jobs.{IsJobRow}
 use Rattle.queue_types.specs.declared.job.Job.{Job}
 use Rattle.queue_scenes.proofs.jobs.whole_job.Goals as goal

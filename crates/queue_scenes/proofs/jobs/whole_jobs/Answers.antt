@@ -1,7 +1,6 @@
 use Rattle.std.proofs.Common.{◌≡◌, ◌<◌, ◌≤◌, ◌++◌, ◌∷◌, [], List, Some, All, length, map, get_or, sym, ap, subst, ◌∙◌, arith}
 use Rattle.std.proofs.lemmas.List.{length-map, take_all}
 use Rattle.std.proofs.lemmas.List.Elements.{All-push}
-use Rattle.sqlite.specs.Held.{state}
 use Rattle.sqlite.specs.Order.{Row}
 use Rattle.queue_core.specs.Limits.{IsSoundJob}
 use Rattle.queue_core.specs.World.{job_at, rows}
@@ -14,12 +13,10 @@ use Rattle.queue_tables.proofs.Ending.{err_after}
 use Rattle.queue_scenes.proofs.jobs.whole_jobs.Goals as goal
 
 pub returns-in_err-whole_job-clause-leaves : goal.returns-in_err-whole_job-clause-leaves
-returns-in_err-whole_job-clause-leaves g c =
-    leaves_then (state g.S.Store c.args.conn.now) (state g.S.Store c.loop-row.conn) (state g.S.Store c.whole_job.new.conn) c.loop-row.invariant.leaves c.whole_job.ensures.leaves
+returns-in_err-whole_job-clause-leaves g c = leaves_then _ _ _ c.loop-row.invariant.leaves c.whole_job.ensures.leaves
 
 pub returns-in_err-push-clause-leaves : goal.returns-in_err-push-clause-leaves
-returns-in_err-push-clause-leaves g c =
-    leaves_then (state g.S.Store c.args.conn.now) (state g.S.Store c.loop-row.conn) (state g.S.Store c.whole_job.new.conn) c.loop-row.invariant.leaves c.whole_job.ensures.leaves
+returns-in_err-push-clause-leaves g c = leaves_then _ _ _ c.loop-row.invariant.leaves c.whole_job.ensures.leaves
 
 pub loop-row-preserved : goal.loop-row-preserved
 loop-row-preserved g c =
@@ -28,7 +25,7 @@ loop-row-preserved g c =
     let i = c.loop-row.row-index in
     let row = c.row-item.result in
     record {
-      leaves = leaves_then (state g.S.Store c.args.conn.now) (state g.S.Store c.loop-row.conn) (state g.S.Store c.whole_job.new.conn) first.leaves made.leaves;
+      leaves = leaves_then _ _ _ first.leaves made.leaves;
       live = λ clean was. made.live clean;
       sound = subst (λ (js : List Job). All IsSoundJob js) (sym c.in_ok-push.ensures.items) (All-push IsSoundJob c.loop-row.jobs.items c.in_ok-whole_job.field-0 first.sound made.sound);
       found = λ clean w js sound has are same.

@@ -1,11 +1,7 @@
-use Rattle.std.proofs.Common.{◌==◌}
 use Rattle.sqlite.specs.Held.{state}
-use Rattle.queue_core.specs.World.{numbered, rows}
-use Rattle.queue_types.specs.declared.job.Job.{Job}
-use Rattle.queue_tables.proofs.Ending.{if_ok}
 use Rattle.queue_tables.proofs.Statements.{select_job_is}
-use Rattle.queue_scenes.proofs.Lists.{filtered_rows, shows_numbered}
-use Rattle.queue_tables.proofs.Columns.{map_err}
+use Rattle.queue_scenes.proofs.Lists.{selects_numbered}
+use Rattle.queue_scenes.proofs.Selects.{damaged_of, found_of}
 use Rattle.queue_scenes.proofs.jobs.with_number.Goals as goal
 
 pub select_jobs-requires : goal.select_jobs-requires
@@ -13,10 +9,10 @@ select_jobs-requires g c = record { query = select_job_is.shows.query }
 
 pub returns-clause-found : goal.returns-clause-found
 returns-clause-found g c clean =
-    if_ok c.select_jobs.result _ _ (λ v it w sound has. it w (numbered c.args.number (rows w)) sound has (filtered_rows w sound (λ (j : Job). j.number == c.args.number)) (shows_numbered c.args.number (state g.S.Store c.args.conn.now) w sound has))
+    found_of (selects_numbered c.args.number (state g.S.Store c.args.conn.now)) c.select_jobs.result (λ v. v.items)
     (rw (c.params-to_sql.ensures) at (c.select_jobs.ensures.found clean))
 
 pub returns-clause-damaged : goal.returns-clause-damaged
 returns-clause-damaged g c clean =
-    map_err c.select_jobs.result _ _ (λ e it d w sound has. it d w (numbered c.args.number (rows w)) sound has (filtered_rows w sound (λ (j : Job). j.number == c.args.number)) (shows_numbered c.args.number (state g.S.Store c.args.conn.now) w sound has))
+    damaged_of (selects_numbered c.args.number (state g.S.Store c.args.conn.now)) c.select_jobs.result
     (rw (c.params-to_sql.ensures) at (c.select_jobs.ensures.damaged clean))

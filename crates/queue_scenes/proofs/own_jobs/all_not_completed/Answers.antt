@@ -1,16 +1,17 @@
 use Rattle.std.proofs.Common.{◌≡◌, List, All, None, ◌∙◌, ap, sym, subst}
+use Rattle.std.proofs.lemmas.List.Elements.{All-from_recursion, recursion_from_All}
 use Rattle.queue_core.specs.Limits.{IsSoundJob}
 use Rattle.queue_core.specs.Visible.{by_state}
 use Rattle.queue_types.specs.declared.event.WhichJobs.TheVariants.{NotCompleted}
 use Rattle.queue_types.specs.declared.job.Job.{Job}
-use Rattle.queue_core.proofs.Ordered.{all_of, each_of, each-visible}
+use Rattle.queue_core.proofs.Ordered.{each-visible}
 use Rattle.queue_scenes.proofs.own_jobs.all_not_completed.Goals as goal
 
 pub returns-clause-sound : goal.returns-clause-sound
 returns-clause-sound g c =
     let own = c.in_ok-own.own.items in
     let shown : c.in_ok-shown.shown.items ≡ by_state own = c.in_ok-shown.ensures ∙ ap by_state c.as_slice.ensures.value in
-    subst (λ (js : List Job). All IsSoundJob js) (sym shown) (all_of IsSoundJob (by_state own) (each-visible IsSoundJob None NotCompleted own (each_of IsSoundJob own c.in_ok-own.ensures.sound)))
+    subst (λ (js : List Job). All IsSoundJob js) (sym shown) (All-from_recursion IsSoundJob (by_state own) (each-visible IsSoundJob None NotCompleted own (recursion_from_All IsSoundJob own c.in_ok-own.ensures.sound)))
 
 pub returns-clause-found : goal.returns-clause-found
 returns-clause-found g c clean w sound has = c.in_ok-shown.ensures ∙ ap by_state (c.as_slice.ensures.value ∙ c.in_ok-own.ensures.found clean w sound has)

@@ -1,6 +1,5 @@
 use Rattle.std.proofs.Common.{◌≡◌, ◌-◌, ◌∙◌, List, All, ap, length, subst, sym, take}
 use Rattle.std.proofs.lemmas.List.Elements.{All-append}
-use Rattle.sqlite.specs.Held.{state}
 use Rattle.queue_core.specs.Limits.{IsSoundJob}
 use Rattle.queue_core.specs.Visible.{in_states}
 use Rattle.queue_core.specs.World.{rows}
@@ -13,13 +12,13 @@ use Rattle.queue_tables.proofs.Ending.{err_after}
 use Rattle.queue_scenes.proofs.own_jobs.first_not_held.Goals as goal
 
 pub returns-in_err-pending-clause-leaves : goal.returns-in_err-pending-clause-leaves
-returns-in_err-pending-clause-leaves g c = leaves_then (state g.S.Store c.args.conn.now) (state g.S.Store c.first_at_device.new.conn) (state g.S.Store c.first_pending.new.conn) c.first_at_device.ensures.leaves c.first_pending.ensures.leaves
+returns-in_err-pending-clause-leaves g c = leaves_then _ _ _ c.first_at_device.ensures.leaves c.first_pending.ensures.leaves
 
 pub returns-in_err-append-clause-leaves : goal.returns-in_err-append-clause-leaves
-returns-in_err-append-clause-leaves g c = leaves_then (state g.S.Store c.args.conn.now) (state g.S.Store c.first_at_device.new.conn) (state g.S.Store c.first_pending.new.conn) c.first_at_device.ensures.leaves c.first_pending.ensures.leaves
+returns-in_err-append-clause-leaves g c = leaves_then _ _ _ c.first_at_device.ensures.leaves c.first_pending.ensures.leaves
 
 pub returns-clause-leaves : goal.returns-clause-leaves
-returns-clause-leaves g c = leaves_then (state g.S.Store c.args.conn.now) (state g.S.Store c.first_at_device.new.conn) (state g.S.Store c.first_pending.new.conn) c.first_at_device.ensures.leaves c.first_pending.ensures.leaves
+returns-clause-leaves g c = leaves_then _ _ _ c.first_at_device.ensures.leaves c.first_pending.ensures.leaves
 
 pub returns-clause-sound : goal.returns-clause-sound
 returns-clause-sound g c =

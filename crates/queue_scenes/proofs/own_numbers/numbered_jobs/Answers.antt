@@ -1,7 +1,6 @@
 use Rattle.std.proofs.Common.{ap, sym, subst, ◌∙◌, bytes_eq}
 use Rattle.std.specs.List.Sorted.{IsStrictlySortedBy}
 use Rattle.std.specs.Ordering.{nat_cmp}
-use Rattle.sqlite.specs.Held.{state}
 use Rattle.queue_core.specs.World.{rows}
 use Rattle.queue_types.specs.declared.job.Job.{Job}
 use Rattle.queue_tables.specs.Content.{content_of}
@@ -15,8 +14,7 @@ pub owned_of-requires : goal.owned_of-requires
 owned_of-requires g c = subst (IsStrictlySortedBy nat_cmp) (sym c.as_slice-asked.ensures.value) c.in_ok-wanted.ensures.rising
 
 pub returns-then-many-clause-leaves : goal.returns-then-many-clause-leaves
-returns-then-many-clause-leaves g c =
-    leaves_then (state g.S.Store c.args.conn.now) (state g.S.Store c.are_many.new.conn) (state g.S.Store c.picked_of.new.conn) c.are_many.ensures.leaves c.picked_of.ensures.leaves
+returns-then-many-clause-leaves g c = leaves_then _ _ _ c.are_many.ensures.leaves c.picked_of.ensures.leaves
 
 pub returns-then-many-clause-found : goal.returns-then-many-clause-found
 returns-then-many-clause-found g c clean =
@@ -33,8 +31,7 @@ returns-then-many-clause-damaged g c clean =
     (c.picked_of.ensures.damaged clean)
 
 pub returns-clause-leaves : goal.returns-clause-leaves
-returns-clause-leaves g c =
-    leaves_then (state g.S.Store c.args.conn.now) (state g.S.Store c.are_many.new.conn) (state g.S.Store c.owned_of.new.conn) c.are_many.ensures.leaves c.owned_of.ensures.leaves
+returns-clause-leaves g c = leaves_then _ _ _ c.are_many.ensures.leaves c.owned_of.ensures.leaves
 
 pub returns-clause-live : goal.returns-clause-live
 returns-clause-live g c clean was = c.owned_of.ensures.live clean (c.in_ok-many.ensures.live (c.owned_of.ensures.leaves.clean clean) was)

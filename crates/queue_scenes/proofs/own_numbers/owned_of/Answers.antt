@@ -20,12 +20,10 @@ loop-number-init g c = record {
 }
 
 pub returns-in_err-found-clause-leaves : goal.returns-in_err-found-clause-leaves
-returns-in_err-found-clause-leaves g c =
-    leaves_then (state g.S.Store c.args.conn.now) (state g.S.Store c.loop-number.conn) (state g.S.Store c.with_number.new.conn) c.loop-number.invariant.leaves c.with_number.ensures.leaves
+returns-in_err-found-clause-leaves g c = leaves_then _ _ _ c.loop-number.invariant.leaves c.with_number.ensures.leaves
 
 pub returns-in_err-push_owned-clause-leaves : goal.returns-in_err-push_owned-clause-leaves
-returns-in_err-push_owned-clause-leaves g c =
-    leaves_then (state g.S.Store c.args.conn.now) (state g.S.Store c.loop-number.conn) (state g.S.Store c.with_number.new.conn) c.loop-number.invariant.leaves c.with_number.ensures.leaves
+returns-in_err-push_owned-clause-leaves g c = leaves_then _ _ _ c.loop-number.invariant.leaves c.with_number.ensures.leaves
 
 pub loop-number-preserved : goal.loop-number-preserved
 loop-number-preserved g c =
@@ -38,7 +36,7 @@ loop-number-preserved g c =
     let low : c.loop-number.number-index < length c.args.numbers.now = c.loop-number-test.true in
     let at : k ≡ get_or ns i k = get_or_default ns i 0 k low in
     record {
-      leaves = leaves_then (state g.S.Store c.args.conn.now) (state g.S.Store c.loop-number.conn) (state g.S.Store c.with_number.new.conn) first.leaves c.with_number.ensures.leaves;
+      leaves = leaves_then _ _ _ first.leaves c.with_number.ensures.leaves;
       live = λ clean was. found.live clean;
       sound = subst (λ (js : List Job). All IsSoundJob js) (sym c.in_ok-push_owned.ensures) (all_more IsSoundJob p c.loop-number.own.items c.in_ok-found.found.items first.sound found.sound);
       found = λ clean w sound has.

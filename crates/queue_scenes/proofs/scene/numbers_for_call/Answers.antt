@@ -1,21 +1,16 @@
-use Rattle.sqlite.specs.Held.{state}
 use Rattle.queue_tables.specs.Content.{content_of}
 use Rattle.queue_tables.proofs.Leaving.{leaves_then, leaves_three, holds_after}
 use Rattle.queue_tables.proofs.Ending.{err_after}
 use Rattle.queue_scenes.proofs.scene.numbers_for_call.Goals as goal
 
 pub returns-in_err-counts-clause-leaves : goal.returns-in_err-counts-clause-leaves
-returns-in_err-counts-clause-leaves g c = leaves_then (state g.S.Store c.args.conn.now) (state g.S.Store c.live_for_call.new.conn) (state g.S.Store c.counts_for_call.new.conn) c.live_for_call.ensures.leaves c.counts_for_call.ensures.leaves
+returns-in_err-counts-clause-leaves g c = leaves_then _ _ _ c.live_for_call.ensures.leaves c.counts_for_call.ensures.leaves
 
 pub returns-in_err-next-clause-leaves : goal.returns-in_err-next-clause-leaves
-returns-in_err-next-clause-leaves g c =
-    leaves_three (state g.S.Store c.args.conn.now) (state g.S.Store c.live_for_call.new.conn) (state g.S.Store c.counts_for_call.new.conn) (state g.S.Store c.next_number.new.conn)
-    c.live_for_call.ensures.leaves c.counts_for_call.ensures.leaves c.next_number.ensures.leaves
+returns-in_err-next-clause-leaves g c = leaves_three _ _ _ _ c.live_for_call.ensures.leaves c.counts_for_call.ensures.leaves c.next_number.ensures.leaves
 
 pub returns-clause-leaves : goal.returns-clause-leaves
-returns-clause-leaves g c =
-    leaves_three (state g.S.Store c.args.conn.now) (state g.S.Store c.live_for_call.new.conn) (state g.S.Store c.counts_for_call.new.conn) (state g.S.Store c.next_number.new.conn)
-    c.live_for_call.ensures.leaves c.counts_for_call.ensures.leaves c.next_number.ensures.leaves
+returns-clause-leaves g c = leaves_three _ _ _ _ c.live_for_call.ensures.leaves c.counts_for_call.ensures.leaves c.next_number.ensures.leaves
 
 pub returns-clause-found : goal.returns-clause-found
 returns-clause-found g c clean w sound has =

@@ -1,5 +1,4 @@
 use Rattle.std.proofs.Common.{List, All, refl, sym, subst, ◌∙◌, arith}
-use Rattle.sqlite.specs.Held.{state}
 use Rattle.queue_types.specs.Event.{ask, call_of}
 use Rattle.queue_core.specs.Limits.{IsAmount, IsKnown}
 use Rattle.queue_core.specs.World.{cut}
@@ -12,22 +11,16 @@ use Rattle.queue_tables.proofs.Ending.{err_after}
 use Rattle.queue_scenes.proofs.scene.scene_of_call.Goals as goal
 
 pub returns-in_err-free-clause-leaves : goal.returns-in_err-free-clause-leaves
-returns-in_err-free-clause-leaves g c = leaves_then (state g.S.Store c.args.conn.now) (state g.S.Store c.numbers_for_call.new.conn) (state g.S.Store c.free_rows.new.conn) c.numbers_for_call.ensures.leaves c.free_rows.ensures.leaves
+returns-in_err-free-clause-leaves g c = leaves_then _ _ _ c.numbers_for_call.ensures.leaves c.free_rows.ensures.leaves
 
 pub returns-in_err-jobs-clause-leaves : goal.returns-in_err-jobs-clause-leaves
-returns-in_err-jobs-clause-leaves g c =
-    leaves_three (state g.S.Store c.args.conn.now) (state g.S.Store c.numbers_for_call.new.conn) (state g.S.Store c.free_rows.new.conn) (state g.S.Store c.few_concerned.new.conn)
-    c.numbers_for_call.ensures.leaves c.free_rows.ensures.leaves c.few_concerned.ensures.leaves
+returns-in_err-jobs-clause-leaves g c = leaves_three _ _ _ _ c.numbers_for_call.ensures.leaves c.free_rows.ensures.leaves c.few_concerned.ensures.leaves
 
 pub returns-in_err-settings-clause-leaves : goal.returns-in_err-settings-clause-leaves
-returns-in_err-settings-clause-leaves g c =
-    leaves_three (state g.S.Store c.args.conn.now) (state g.S.Store c.numbers_for_call.new.conn) (state g.S.Store c.free_rows.new.conn) (state g.S.Store c.few_concerned.new.conn)
-    c.numbers_for_call.ensures.leaves c.free_rows.ensures.leaves c.few_concerned.ensures.leaves
+returns-in_err-settings-clause-leaves g c = leaves_three _ _ _ _ c.numbers_for_call.ensures.leaves c.free_rows.ensures.leaves c.few_concerned.ensures.leaves
 
 pub returns-clause-leaves : goal.returns-clause-leaves
-returns-clause-leaves g c =
-    leaves_three (state g.S.Store c.args.conn.now) (state g.S.Store c.numbers_for_call.new.conn) (state g.S.Store c.free_rows.new.conn) (state g.S.Store c.few_concerned.new.conn)
-    c.numbers_for_call.ensures.leaves c.free_rows.ensures.leaves c.few_concerned.ensures.leaves
+returns-clause-leaves g c = leaves_three _ _ _ _ c.numbers_for_call.ensures.leaves c.free_rows.ensures.leaves c.few_concerned.ensures.leaves
 
 pub returns-clause-live : goal.returns-clause-live
 returns-clause-live g c clean = c.in_ok-jobs.ensures.live clean (c.in_ok-free.ensures.live (c.few_concerned.ensures.leaves.clean clean))
@@ -63,14 +56,13 @@ returns-clause-found g c clean w sound has settings_are =
 
 pub returns-in_err-free-clause-damaged : goal.returns-in_err-free-clause-damaged
 returns-in_err-free-clause-damaged g c clean = err_after _ c.in_err-free.field-0.0 _ c.from_residual-in_err-free.ensures.1 (λ d.
-    let at_1 = c.free_rows.ensures.leaves.clean clean in
-    none_before c.numbers_for_call.ensures.leaves at_1 (c.in_ok-numbers.ensures.live at_1) (c.in_err-free.ensures.damaged clean d))
+    let first = c.free_rows.ensures.leaves.clean clean in
+    none_before c.numbers_for_call.ensures.leaves first (c.in_ok-numbers.ensures.live first) (c.in_err-free.ensures.damaged clean d))
 
 pub returns-in_err-jobs-clause-damaged : goal.returns-in_err-jobs-clause-damaged
 returns-in_err-jobs-clause-damaged g c clean = err_after _ c.in_err-jobs.field-0.0 _ c.from_residual-in_err-jobs.ensures.1 (λ d.
-    let at_2 = c.few_concerned.ensures.leaves.clean clean in
-    let at_1 = c.free_rows.ensures.leaves.clean at_2 in
-    none_before c.numbers_for_call.ensures.leaves at_1 (c.in_ok-numbers.ensures.live at_1) (none_before c.free_rows.ensures.leaves at_2 (c.in_ok-free.ensures.live at_2) (c.in_err-jobs.ensures.damaged clean d)))
+    let second = c.few_concerned.ensures.leaves.clean clean in
+    none_before (leaves_then _ _ _ c.numbers_for_call.ensures.leaves c.free_rows.ensures.leaves) second (c.in_ok-free.ensures.live second) (c.in_err-jobs.ensures.damaged clean d))
 
 pub returns-in_err-free-clause-opened : goal.returns-in_err-free-clause-opened
 returns-in_err-free-clause-opened g c clean = err_after _ c.in_err-free.field-0.0 _ c.from_residual-in_err-free.ensures.1 (λ d.

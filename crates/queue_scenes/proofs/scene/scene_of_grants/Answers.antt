@@ -1,5 +1,4 @@
 use Rattle.std.proofs.Common.{◌<◌, ◌^◌, List, All, length, refl, sym, subst, ◌∙◌, arith}
-use Rattle.sqlite.specs.Held.{state}
 use Rattle.queue_types.specs.Event.{grant}
 use Rattle.queue_core.specs.Limits.{IsAmount, IsKnown, IsSoundJob}
 use Rattle.queue_core.specs.World.{cut}
@@ -14,13 +13,13 @@ use Rattle.queue_tables.proofs.Ending.{err_after}
 use Rattle.queue_scenes.proofs.scene.scene_of_grants.Goals as goal
 
 pub returns-in_err-known-clause-leaves : goal.returns-in_err-known-clause-leaves
-returns-in_err-known-clause-leaves g c = leaves_then (state g.S.Store c.args.conn.now) (state g.S.Store c.next_number.new.conn) (state g.S.Store c.known_rows.new.conn) c.next_number.ensures.leaves c.known_rows.ensures.leaves
+returns-in_err-known-clause-leaves g c = leaves_then _ _ _ c.next_number.ensures.leaves c.known_rows.ensures.leaves
 
 pub returns-in_err-settings-clause-leaves : goal.returns-in_err-settings-clause-leaves
-returns-in_err-settings-clause-leaves g c = leaves_then (state g.S.Store c.args.conn.now) (state g.S.Store c.next_number.new.conn) (state g.S.Store c.known_rows.new.conn) c.next_number.ensures.leaves c.known_rows.ensures.leaves
+returns-in_err-settings-clause-leaves g c = leaves_then _ _ _ c.next_number.ensures.leaves c.known_rows.ensures.leaves
 
 pub returns-clause-leaves : goal.returns-clause-leaves
-returns-clause-leaves g c = leaves_then (state g.S.Store c.args.conn.now) (state g.S.Store c.next_number.new.conn) (state g.S.Store c.known_rows.new.conn) c.next_number.ensures.leaves c.known_rows.ensures.leaves
+returns-clause-leaves g c = leaves_then _ _ _ c.next_number.ensures.leaves c.known_rows.ensures.leaves
 
 pub returns-clause-live : goal.returns-clause-live
 returns-clause-live g c clean = c.in_ok-known.ensures.live clean (c.in_ok-next.ensures.live (c.known_rows.ensures.leaves.clean clean))
@@ -55,8 +54,8 @@ returns-clause-found g c clean w sound has settings_are =
 
 pub returns-in_err-known-clause-damaged : goal.returns-in_err-known-clause-damaged
 returns-in_err-known-clause-damaged g c clean = err_after _ c.in_err-known.field-0.0 _ c.from_residual-in_err-known.ensures.1 (λ d.
-    let at_1 = c.known_rows.ensures.leaves.clean clean in
-    none_before c.next_number.ensures.leaves at_1 (c.in_ok-next.ensures.live at_1) (c.in_err-known.ensures.damaged clean d))
+    let first = c.known_rows.ensures.leaves.clean clean in
+    none_before c.next_number.ensures.leaves first (c.in_ok-next.ensures.live first) (c.in_err-known.ensures.damaged clean d))
 
 pub returns-in_err-known-clause-opened : goal.returns-in_err-known-clause-opened
 returns-in_err-known-clause-opened g c clean = err_after _ c.in_err-known.field-0.0 _ c.from_residual-in_err-known.ensures.1 (λ d.

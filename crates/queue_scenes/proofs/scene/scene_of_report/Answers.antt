@@ -1,5 +1,4 @@
 use Rattle.std.proofs.Common.{◌<◌, ◌^◌, List, All, length, refl, sym, ap, subst, ◌∙◌, arith}
-use Rattle.sqlite.specs.Held.{state}
 use Rattle.queue_types.specs.Event.{tell}
 use Rattle.queue_core.specs.Limits.{IsAmount, IsKnown, IsSoundJob}
 use Rattle.queue_core.specs.World.{cut, owner_row}
@@ -14,27 +13,19 @@ use Rattle.queue_tables.proofs.Ending.{err_after}
 use Rattle.queue_scenes.proofs.scene.scene_of_report.Goals as goal
 
 pub returns-in_err-report-clause-leaves : goal.returns-in_err-report-clause-leaves
-returns-in_err-report-clause-leaves g c = leaves_then (state g.S.Store c.args.conn.now) (state g.S.Store c.next_number.new.conn) (state g.S.Store c.kept_report.new.conn) c.next_number.ensures.leaves c.kept_report.ensures.leaves
+returns-in_err-report-clause-leaves g c = leaves_then _ _ _ c.next_number.ensures.leaves c.kept_report.ensures.leaves
 
 pub returns-in_err-jobs-clause-leaves : goal.returns-in_err-jobs-clause-leaves
-returns-in_err-jobs-clause-leaves g c =
-    leaves_three (state g.S.Store c.args.conn.now) (state g.S.Store c.next_number.new.conn) (state g.S.Store c.kept_report.new.conn) (state g.S.Store c.job_of_report.new.conn)
-    c.next_number.ensures.leaves c.kept_report.ensures.leaves c.job_of_report.ensures.leaves
+returns-in_err-jobs-clause-leaves g c = leaves_three _ _ _ _ c.next_number.ensures.leaves c.kept_report.ensures.leaves c.job_of_report.ensures.leaves
 
 pub returns-in_err-free-clause-leaves : goal.returns-in_err-free-clause-leaves
-returns-in_err-free-clause-leaves g c =
-    leaves_four (state g.S.Store c.args.conn.now) (state g.S.Store c.next_number.new.conn) (state g.S.Store c.kept_report.new.conn) (state g.S.Store c.job_of_report.new.conn) (state g.S.Store c.owner_rows.new.conn)
-    c.next_number.ensures.leaves c.kept_report.ensures.leaves c.job_of_report.ensures.leaves c.owner_rows.ensures.leaves
+returns-in_err-free-clause-leaves g c = leaves_four _ _ _ _ _ c.next_number.ensures.leaves c.kept_report.ensures.leaves c.job_of_report.ensures.leaves c.owner_rows.ensures.leaves
 
 pub returns-in_err-settings-clause-leaves : goal.returns-in_err-settings-clause-leaves
-returns-in_err-settings-clause-leaves g c =
-    leaves_four (state g.S.Store c.args.conn.now) (state g.S.Store c.next_number.new.conn) (state g.S.Store c.kept_report.new.conn) (state g.S.Store c.job_of_report.new.conn) (state g.S.Store c.owner_rows.new.conn)
-    c.next_number.ensures.leaves c.kept_report.ensures.leaves c.job_of_report.ensures.leaves c.owner_rows.ensures.leaves
+returns-in_err-settings-clause-leaves g c = leaves_four _ _ _ _ _ c.next_number.ensures.leaves c.kept_report.ensures.leaves c.job_of_report.ensures.leaves c.owner_rows.ensures.leaves
 
 pub returns-clause-leaves : goal.returns-clause-leaves
-returns-clause-leaves g c =
-    leaves_four (state g.S.Store c.args.conn.now) (state g.S.Store c.next_number.new.conn) (state g.S.Store c.kept_report.new.conn) (state g.S.Store c.job_of_report.new.conn) (state g.S.Store c.owner_rows.new.conn)
-    c.next_number.ensures.leaves c.kept_report.ensures.leaves c.job_of_report.ensures.leaves c.owner_rows.ensures.leaves
+returns-clause-leaves g c = leaves_four _ _ _ _ _ c.next_number.ensures.leaves c.kept_report.ensures.leaves c.job_of_report.ensures.leaves c.owner_rows.ensures.leaves
 
 pub returns-clause-live : goal.returns-clause-live
 returns-clause-live g c clean = c.in_ok-free.ensures.live clean (c.in_ok-jobs.ensures.live (c.owner_rows.ensures.leaves.clean clean))
@@ -72,21 +63,18 @@ returns-clause-found g c clean w sound has settings_are =
 
 pub returns-in_err-report-clause-damaged : goal.returns-in_err-report-clause-damaged
 returns-in_err-report-clause-damaged g c clean = err_after _ c.in_err-report.field-0.0 _ c.from_residual-in_err-report.ensures.1 (λ d.
-    let at_1 = c.kept_report.ensures.leaves.clean clean in
-    none_before c.next_number.ensures.leaves at_1 (c.in_ok-next.ensures.live at_1) (c.in_err-report.ensures.damaged clean d))
+    let first = c.kept_report.ensures.leaves.clean clean in
+    none_before c.next_number.ensures.leaves first (c.in_ok-next.ensures.live first) (c.in_err-report.ensures.damaged clean d))
 
 pub returns-in_err-jobs-clause-damaged : goal.returns-in_err-jobs-clause-damaged
 returns-in_err-jobs-clause-damaged g c clean = err_after _ c.in_err-jobs.field-0.0 _ c.from_residual-in_err-jobs.ensures.1 (λ d.
-    let at_2 = c.job_of_report.ensures.leaves.clean clean in
-    let at_1 = c.kept_report.ensures.leaves.clean at_2 in
-    none_before c.next_number.ensures.leaves at_1 (c.in_ok-next.ensures.live at_1) (none_before c.kept_report.ensures.leaves at_2 (c.in_ok-report.ensures.live at_2) (c.in_err-jobs.ensures.damaged clean d)))
+    let second = c.job_of_report.ensures.leaves.clean clean in
+    none_before (leaves_then _ _ _ c.next_number.ensures.leaves c.kept_report.ensures.leaves) second (c.in_ok-report.ensures.live second) (c.in_err-jobs.ensures.damaged clean d))
 
 pub returns-in_err-free-clause-damaged : goal.returns-in_err-free-clause-damaged
 returns-in_err-free-clause-damaged g c clean = err_after _ c.in_err-free.field-0.0 _ c.from_residual-in_err-free.ensures.1 (λ d.
-    let at_3 = c.owner_rows.ensures.leaves.clean clean in
-    let at_2 = c.job_of_report.ensures.leaves.clean at_3 in
-    let at_1 = c.kept_report.ensures.leaves.clean at_2 in
-    none_before c.next_number.ensures.leaves at_1 (c.in_ok-next.ensures.live at_1) (none_before c.kept_report.ensures.leaves at_2 (c.in_ok-report.ensures.live at_2) (none_before c.job_of_report.ensures.leaves at_3 (c.in_ok-jobs.ensures.live at_3) (c.in_err-free.ensures.damaged clean d))))
+    let third = c.owner_rows.ensures.leaves.clean clean in
+    none_before (leaves_three _ _ _ _ c.next_number.ensures.leaves c.kept_report.ensures.leaves c.job_of_report.ensures.leaves) third (c.in_ok-jobs.ensures.live third) (c.in_err-free.ensures.damaged clean d))
 
 pub returns-in_err-report-clause-opened : goal.returns-in_err-report-clause-opened
 returns-in_err-report-clause-opened g c clean = err_after _ c.in_err-report.field-0.0 _ c.from_residual-in_err-report.ensures.1 (λ d.

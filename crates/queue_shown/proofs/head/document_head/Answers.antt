@@ -2,7 +2,6 @@ use Rattle.std.proofs.Common.{◌∙◌, sym, ap, rules, option_map}
 use Rattle.std.proofs.lemmas.Result.{IfErr-weaker, IfOk-weaker}
 use Rattle.queue_core.specs.Shown.{head_of}
 use Rattle.queue_tables.specs.Content.{content_of}
-use Rattle.sqlite.specs.Held.{state}
 use Rattle.queue_tables.proofs.Entries.{distinct_of}
 use Rattle.queue_shown.proofs.Fetching.{not_shown, is_shown}
 use Rattle.queue_tables.proofs.Leaving.{holds_after, leaves_then}
@@ -14,7 +13,7 @@ returns-then-not-is_shown-clause-head g c clean w sound has =
     ap (option_map head_of) (sym (not_shown w c.args.job c.args.n c.in_ok-is_shown.is_shown (search rules) told))
 
 pub returns-clause-leaves : goal.returns-clause-leaves
-returns-clause-leaves g c = leaves_then (state g.S.Store c.args.conn.now) (state g.S.Store c.may_fetch.new.conn) (state g.S.Store c.find_head.new.conn) c.may_fetch.ensures.leaves c.find_head.ensures.leaves
+returns-clause-leaves g c = leaves_then _ _ _ c.may_fetch.ensures.leaves c.find_head.ensures.leaves
 
 pub returns-clause-head : goal.returns-clause-head
 returns-clause-head g c clean =

@@ -1,4 +1,5 @@
 use Rattle.std.proofs.Common.{◌≡◌, [], ◌∷◌, IsTrue, arith, rules}
+use Rattle.std.proofs.lemmas.Result.{on_err_weaker}
 use Rattle.sqlite.specs.Given.{HasBegun, HasGiven, IsPlain}
 use Rattle.sqlite.specs.Held.{state}
 use Rattle.sqlite.specs.Listing.{understood}
@@ -11,7 +12,7 @@ use Rattle.queue_tables.proofs.Ending.{on_ok, query_fails}
 use Rattle.queue_shown.specs.Sent.{HasBook, pieces_select}
 use Rattle.queue_shown.specs.declared.send.Stop.TheVariants.{Write}
 use Rattle.queue_shown.proofs.Frames.{failed_opens}
-use Rattle.queue_shown.proofs.Sending.{pieces_plain_in, err_then, same_found, same_sent, same_front}
+use Rattle.queue_shown.proofs.Sending.{pieces_plain_in, same_found, same_sent, same_front}
 use Rattle.queue_tables.proofs.Leaving.{begun_unchanged, query_stays, serves_then, survives_serves}
 use Rattle.queue_tables.proofs.Reading.{left_then, plain_at, still_open}
 use Rattle.queue_shown.proofs.Texts.{select_pieces_is}
@@ -78,7 +79,7 @@ returns-clause-front g c fits clean =
     let late : HasCleanDisk (now g it) = search rules in
     let mid = c.send_rows.ensures.clean late in
     let kept = same g it mid in
-    err_then c.send_rows.result (same_front (params g it) (old g it) (first g it) _ _ _ kept.0.now_is) (c.send_rows.ensures.front late kept.0.is_open (params g it) (given g it fits mid))
+    on_err_weaker c.send_rows.result (same_front (params g it) (old g it) (first g it) _ _ _ kept.0.now_is) (c.send_rows.ensures.front late kept.0.is_open (params g it) (given g it fits mid))
 
 pub returns-clause-left : goal.returns-clause-left
 returns-clause-left g c clean =

@@ -6,7 +6,9 @@ use Rattle.sqlite.specs.Order.{Row}
 use Rattle.sqlite.specs.State.{State, Begins, HasCleanDisk, IsUnchanged}
 use Rattle.sqlite.proofs.Callers.{unchanged_then, given_begin}
 use Rattle.queue_shown.specs.Sent.{pieces_select, bytes_of, piece_bytes}
-use Rattle.queue_shown.proofs.Damage.{stop_after, write_after}
+use Rattle.queue_shown.specs.declared.send.Stop.TheVariants.{Tables, Write}
+use Rattle.queue_tables.specs.declared.fault.Fault.TheVariants.{Damaged}
+use Rattle.queue_shown.proofs.Damage.{stop_after}
 use Rattle.queue_shown.proofs.Writes.{one_more, front_of}
 use Rattle.queue_shown.proofs.Sending.{on_err, front_whole}
 use Rattle.queue_tables.proofs.Leaving.{serves_all, serves_then, survives_serves}
@@ -117,11 +119,11 @@ returns-in_err-put_piece-clause-damaged g c clean live params begun =
     let late : HasCleanDisk (now g it) = search rules in
     let was = c.rows.invariant.3 (earlier g it late) params begun in
     let told = c.in_err-put_piece.ensures.damaged in
-    stop_after _ c.in_err-put_piece.field-0.0 _ c.from_residual-in_err-put_piece.ensures.1 (λ damaged. record { before = was.0; row = c.in-Some.row.now; there = begins g it late live params was.0 was.1; bare = told damaged })
+    stop_after _ c.in_err-put_piece.field-0.0 (Tables Damaged) _ c.from_residual-in_err-put_piece.ensures.1 (λ damaged. record { before = was.0; row = c.in-Some.row.now; there = begins g it late live params was.0 was.1; bare = told damaged })
 
 pub returns-in_err-put_piece-clause-writer_failed : goal.returns-in_err-put_piece-clause-writer_failed
 returns-in_err-put_piece-clause-writer_failed g c clean live =
     let it = (goal.at.returns-in_err-put_piece-clause-writer_failed g c).After-put_piece in
     let late : HasCleanDisk (now g it) = search rules in
     let still = kept g it late live in
-    write_after _ c.in_err-put_piece.field-0.0 _ c.from_residual-in_err-put_piece.ensures.1 (λ unwritten. search (rules, still))
+    stop_after _ c.in_err-put_piece.field-0.0 Write _ c.from_residual-in_err-put_piece.ensures.1 (λ unwritten. search (rules, still))

@@ -1,10 +1,9 @@
 use Rattle.std.proofs.Common.{◌<◌, ◌≤◌, ◌∙◌, ap, length, List, get_or, filter, arith}
 use Rattle.std.proofs.lemmas.List.{length-map, take_all}
-use Rattle.sqlite.specs.Held.{state}
 use Rattle.sqlite.specs.Order.{Row}
+use Rattle.queue_core.specs.Shown.{is_charged}
 use Rattle.queue_tables.specs.Content.{content_of}
 use Rattle.queue_tables.specs.Values.{job_values}
-use Rattle.queue_shown.specs.Pages.{has_pages}
 use Rattle.queue_shown.proofs.SheetLemmas.{nth_job, nth_in, told_more}
 use Rattle.queue_tables.proofs.Ending.{err_after}
 use Rattle.queue_tables.proofs.Leaving.{holds_after, leaves_then}
@@ -14,7 +13,7 @@ pub loop-row-preserved : goal.loop-row-preserved
 loop-row-preserved g c =
     let before = c.loop-row.invariant in
     let step = c.in_ok-push_told.ensures in record {
-      leaves = leaves_then (state g.S.Store c.args.conn.now) (state g.S.Store c.loop-row.conn) (state g.S.Store c.push_told.new.conn) c.loop-row.invariant.leaves c.push_told.ensures.leaves;
+      leaves = leaves_then _ _ _ c.loop-row.invariant.leaves c.push_told.ensures.leaves;
       live = λ clean was_open. step.live clean (before.live (c.push_told.ensures.leaves.clean clean) was_open);
       told = λ clean w js sound has all is.
           let early = c.push_told.ensures.leaves.clean clean in
@@ -26,13 +25,13 @@ loop-row-preserved g c =
     }
 
 pub returns-in_err-push_told-clause-leaves : goal.returns-in_err-push_told-clause-leaves
-returns-in_err-push_told-clause-leaves g c = leaves_then (state g.S.Store c.args.conn.now) (state g.S.Store c.loop-row.conn) (state g.S.Store c.push_told.new.conn) c.loop-row.invariant.leaves c.push_told.ensures.leaves
+returns-in_err-push_told-clause-leaves g c = leaves_then _ _ _ c.loop-row.invariant.leaves c.push_told.ensures.leaves
 
 pub returns-clause-told : goal.returns-clause-told
 returns-clause-told g c clean w js sound has all is =
     let size = ap (length {A = Row}) is in
     let whole : length js ≤ c.loop-row.row-index = (let past = c.loop-row-test.false in omega (arith, past, size, length-map js job_values)) in
-    c.loop-row.invariant.told clean w js sound has all is ∙ ap (filter has_pages) (take_all c.loop-row.row-index js whole)
+    c.loop-row.invariant.told clean w js sound has all is ∙ ap (filter is_charged) (take_all c.loop-row.row-index js whole)
 
 pub returns-in_err-push_told-clause-damaged : goal.returns-in_err-push_told-clause-damaged
 returns-in_err-push_told-clause-damaged g c clean =

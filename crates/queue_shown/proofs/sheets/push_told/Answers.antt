@@ -2,11 +2,11 @@ use Rattle.std.proofs.Common.{◌≡◌, ◌∙◌, ℕ, true, false, [], ◌∷
 use Rattle.std.proofs.lemmas.List.Elements.{All-push}
 use Rattle.sqlite.specs.Held.{state}
 use Rattle.queue_core.specs.Limits.{IsSoundJob}
+use Rattle.queue_core.specs.Shown.{is_charged}
 use Rattle.queue_core.specs.World.{job_at, rows}
 use Rattle.queue_types.specs.declared.job.Job.{Job}
 use Rattle.queue_rows.proofs.Filled.{sound_sized}
 use Rattle.queue_rows.specs.Jobs.{IsJobRow}
-use Rattle.queue_shown.specs.Pages.{has_pages}
 use Rattle.queue_shown.proofs.OwnedJobs.{counted_job}
 use Rattle.queue_shown.proofs.SheetLemmas.{read_bare, idle_left, told_pushed}
 use Rattle.queue_tables.proofs.Ending.{err_after}
@@ -17,13 +17,13 @@ use Rattle.queue_shown.proofs.sheets.push_told.Goals as goal
 pub returns-then-not-is_told-clause-told : goal.returns-then-not-is_told-clause-told
 returns-then-not-is_told-clause-told g c clean w j sound has there is =
     let read = read_bare c.numbers_tell_names.ensures.phases c.numbers_tell_names.ensures.flags c.args.row.now c.in_ok-job.job j c.in_ok-job.ensures.ok c.in_ok-job.ensures.bare is in
-    let idle : has_pages c.in_ok-job.job ≡ false = search rules in
+    let idle : is_charged c.in_ok-job.job ≡ false = search rules in
     idle_left c.in_ok-job.job j c.args.jobs.now.items read idle
 
 pub returns-clause-told : goal.returns-clause-told
 returns-clause-told g c clean w j sound has there is =
     let read = read_bare c.numbers_tell_names.ensures.phases c.numbers_tell_names.ensures.flags c.args.row.now c.in_ok-job.job j c.in_ok-job.ensures.ok c.in_ok-job.ensures.bare is in
-    let told : has_pages c.in_ok-job.job ≡ true = search rules in
+    let told : is_charged c.in_ok-job.job ≡ true = search rules in
     let number : c.in_ok-job.job.number ≡ j.number = ap (λ (k : Job). k.number) read in
     let sizes = c.in_ok-sizes.ensures.found clean w j sound has (subst (λ (n : ℕ). job_at n (rows w) ≡ Some j) (sym number) there) in
     let whole : Job = record c.in_ok-job.job { documents = c.in_ok-sizes.sizes.documents; octets = c.in_ok-sizes.sizes.octets } in

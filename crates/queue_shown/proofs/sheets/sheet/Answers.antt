@@ -1,5 +1,4 @@
 use Rattle.std.proofs.Common.{◌∙◌, sym, refl, rules}
-use Rattle.sqlite.specs.Held.{state}
 use Rattle.queue_tables.specs.Content.{content_of}
 use Rattle.queue_shown.proofs.SheetLemmas.{adds_up, granted_of, no_sheet, whole_sheet}
 use Rattle.queue_tables.proofs.Ending.{err_after}
@@ -10,13 +9,13 @@ pub returns-in_default-clause-sheet : goal.returns-in_default-clause-sheet
 returns-in_default-clause-sheet g c clean w sound has = no_sheet w c.args.account.now (sym c.in_default.is ∙ c.in_ok-found.ensures.found clean w has)
 
 pub returns-in_err-jobs-clause-leaves : goal.returns-in_err-jobs-clause-leaves
-returns-in_err-jobs-clause-leaves g c = leaves_then (state g.S.Store c.args.conn.now) (state g.S.Store c.find_account.new.conn) (state g.S.Store c.told_jobs.new.conn) c.find_account.ensures.leaves c.told_jobs.ensures.leaves
+returns-in_err-jobs-clause-leaves g c = leaves_then _ _ _ c.find_account.ensures.leaves c.told_jobs.ensures.leaves
 
 pub returns-in_err-name-clause-leaves : goal.returns-in_err-name-clause-leaves
-returns-in_err-name-clause-leaves g c = leaves_then (state g.S.Store c.args.conn.now) (state g.S.Store c.find_account.new.conn) (state g.S.Store c.told_jobs.new.conn) c.find_account.ensures.leaves c.told_jobs.ensures.leaves
+returns-in_err-name-clause-leaves g c = leaves_then _ _ _ c.find_account.ensures.leaves c.told_jobs.ensures.leaves
 
 pub returns-clause-leaves : goal.returns-clause-leaves
-returns-clause-leaves g c = leaves_then (state g.S.Store c.args.conn.now) (state g.S.Store c.find_account.new.conn) (state g.S.Store c.told_jobs.new.conn) c.find_account.ensures.leaves c.told_jobs.ensures.leaves
+returns-clause-leaves g c = leaves_then _ _ _ c.find_account.ensures.leaves c.told_jobs.ensures.leaves
 
 pub returns-clause-sheet : goal.returns-clause-sheet
 returns-clause-sheet g c clean w sound has =

@@ -15,10 +15,10 @@ pub select-requires : goal.select-requires
 select-requires g c = record { query = select_owned_is.shows.query }
 
 pub returns-in_err-jobs-clause-leaves : goal.returns-in_err-jobs-clause-leaves
-returns-in_err-jobs-clause-leaves g c = leaves_then (state g.S.Store c.args.conn.now) (state g.S.Store c.select.new.conn) (state g.S.Store c.jobs_of.new.conn) c.select.ensures.leaves c.jobs_of.ensures.leaves
+returns-in_err-jobs-clause-leaves g c = leaves_then _ _ _ c.select.ensures.leaves c.jobs_of.ensures.leaves
 
 pub returns-clause-leaves : goal.returns-clause-leaves
-returns-clause-leaves g c = leaves_then (state g.S.Store c.args.conn.now) (state g.S.Store c.select.new.conn) (state g.S.Store c.jobs_of.new.conn) c.select.ensures.leaves c.jobs_of.ensures.leaves
+returns-clause-leaves g c = leaves_then _ _ _ c.select.ensures.leaves c.jobs_of.ensures.leaves
 
 pub returns-clause-told : goal.returns-clause-told
 returns-clause-told g c clean w sound has =
