@@ -1,44 +1,23 @@
 -- The content of a world is that of its rows.
-use Rattle.std.proofs.Common.{◌≡◌, ℕ, ℤ, pos, ◌+◌, List, [], ◌∷◌, ◌++◌, map, flat_map, length, refl, sym, ap, ◌∙◌, arith}
+use Rattle.std.proofs.Common.{◌≡◌, ℕ, ◌+◌, List, [], ◌∷◌, ◌++◌, map, flat_map, length, refl, sym, ap, ◌∙◌, arith}
 use Rattle.std.specs.List.{range_with_len}
 use Rattle.std.specs.FinMap.{entries}
-use Rattle.std.proofs.lemmas.List.{append_assoc, length-map}
+use Rattle.std.proofs.lemmas.Grind.{flat_map-append}
+use Rattle.std.proofs.lemmas.List.{length-map}
 use Rattle.std.proofs.Common.{length-append}
 use Rattle.sqlite.specs.Order.{Row}
+use Rattle.sqlite_keyed.proofs.ListLemmas.{map-flat_map, map-map}
 use Rattle.queue_types.specs.declared.document.Document.{Document}
 use Rattle.queue_core.specs.World.{World, Entry}
-use Rattle.queue_core.specs.Sound.{reserved, printed}
 use Rattle.queue_rows.specs.Documents.{documents_from}
 use Rattle.queue_rows.specs.Pieces.{pieces_in, pieces_of, piece_of, piece_at, cut_up}
 use Rattle.queue_rows.specs.Rows.{rows_of, bytes_of, bytes_of_entry, document_rows, job_row, account_row, grant_row, report_row}
 use Rattle.queue_rows.specs.declared.rows.DocumentRow.{DocumentRow}
 use Rattle.queue_rows.specs.declared.rows.PieceRow.{PieceRow}
 use Rattle.queue_tables.specs.Content.{content_of, piece_rows, pieces_from}
-use Rattle.queue_tables.specs.Values.{job_values, document_values, piece_values, account_values, grant_values, report_values}
+use Rattle.queue_tables.specs.Values.{job_values, document_values, piece_values, grant_values, report_values}
 use Rattle.queue_load.specs.Content.{content_in, piece_rows_in}
 use Rattle.queue_load.specs.Tells.{account_row_values}
-
-map_twice : {A B C : Type 0} (f : A → B) (g : B → C) (h : A → C) → ((x : A) → h x ≡ g (f x)) → (xs : List A) → map h xs ≡ map g (map f xs)
-map_twice f g h same [] = refl
-map_twice {A} {B} {C} f g h same (x ∷ xs) = ap (λ (c : C). c ∷ map h xs) (same x) ∙ ap (λ (cs : List C). g (f x) ∷ cs) (map_twice f g h same xs)
-
-map_append : {A B : Type 0} (f : A → B) (xs ys : List A) → map f (xs ++ ys) ≡ map f xs ++ map f ys
-map_append f [] ys = refl
-map_append {A} {B} f (x ∷ xs) ys = ap (λ (bs : List B). f x ∷ bs) (map_append f xs ys)
-
-flat_append : {A B : Type 0} (f : A → List B) (xs ys : List A) → flat_map f (xs ++ ys) ≡ flat_map f xs ++ flat_map f ys
-flat_append f [] ys = refl
-flat_append {A} {B} f (x ∷ xs) ys = ap (λ (bs : List B). f x ++ bs) (flat_append f xs ys) ∙ sym (append_assoc (f x) (flat_map f xs) (flat_map f ys))
-
-jobs_are : (es : List Entry) → map job_values (map (λ (e : Entry). e.row) es) ≡ map job_values (map job_row es)
-jobs_are [] = refl
-jobs_are (e ∷ es) = ap (λ (rs : List Row). job_values e.row ∷ rs) (jobs_are es)
-
-documents_are : (es : List Entry) → flat_map (λ (e : Entry). map document_values (documents_from e.row.number 1 e.documents)) es ≡ map document_values (flat_map document_rows es)
-documents_are [] = refl
-documents_are (e ∷ es) =
-    ap (λ (rs : List Row). map document_values (documents_from e.row.number 1 e.documents) ++ rs) (documents_are es)
-    ∙ sym (map_append document_values (documents_from e.row.number 1 e.documents) (flat_map document_rows es))
 
 -- ---- pieces beside their bytes
 
@@ -48,9 +27,8 @@ beside d bytes (k ∷ ks) = ap (λ (rs : List Row). piece_values d.job d.doc k (
 
 beside_append : (ps qs : List PieceRow) (bs cs : List (List ℕ)) → length ps ≡ length bs → piece_rows_in (ps ++ qs) (bs ++ cs) ≡ piece_rows_in ps bs ++ piece_rows_in qs cs
 beside_append [] qs [] cs long = refl
-beside_append [] qs (b ∷ bs) cs long = absurd (omega (arith, long))
-beside_append (p ∷ ps) qs [] cs long = absurd (omega (arith, long))
 beside_append (p ∷ ps) qs (b ∷ bs) cs long = ap (λ (rs : List Row). piece_values p.job p.doc p.piece b ∷ rs) (beside_append ps qs bs cs (omega (arith, long)))
+beside_append _ qs _ cs long = absurd (omega (arith, long))
 
 abbrev row_at : ℕ → ℕ → Document → DocumentRow
 row_at job doc d = record { job = job; doc = doc; format = d.format; octets = length d.bytes }
@@ -84,16 +62,16 @@ pieces_are (e ∷ es) =
     ap (λ (rs : List Row). pieces_from e.row.number 1 e.documents ++ rs) (pieces_are es)
     ∙ ap (λ (rs : List Row). rs ++ piece_rows_in rest (flat_map bytes_of_entry es)) (pieces_from_are e.row.number 1 e.documents)
     ∙ sym (beside_append ps rest (bytes_of_entry e) (flat_map bytes_of_entry es) (long_from e.row.number 1 e.documents))
-    ∙ ap (λ (qs : List PieceRow). piece_rows_in qs (bytes_of_entry e ++ flat_map bytes_of_entry es)) (sym (flat_append pieces_of (documents_from e.row.number 1 e.documents) (flat_map document_rows es)))
+    ∙ ap (λ (qs : List PieceRow). piece_rows_in qs (bytes_of_entry e ++ flat_map bytes_of_entry es)) (sym (flat_map-append pieces_of (documents_from e.row.number 1 e.documents) (flat_map document_rows es)))
 
 -- ---- the whole
 
 pub content_is : (w : World) → content_of w ≡ content_in (rows_of w) (bytes_of w)
 content_is w =
-    let jobs = jobs_are w.jobs in
-    let documents = documents_are w.jobs in
+    let jobs = map-map job_values (λ (e : Entry). e.row) w.jobs ∙ sym (map-map job_values job_row w.jobs) in
+    let documents = sym (map-flat_map document_values document_rows w.jobs) in
     let pieces = pieces_are w.jobs in
-    let accounts = map_twice (account_row w) account_row_values (λ (a : List ℕ × ℤ). account_values a.0 a.1 (pos (reserved a.0 w)) (pos (printed a.0 w))) (λ a. refl) (entries w.free) in
-    let grants = map_twice grant_row grant_values (λ (g : (List ℕ × List ℕ) × ℕ). grant_values (grant_row g)) (λ g. refl) (entries w.grants) in
-    let reports = map_twice report_row report_values (λ (r : (ℕ × ℕ) × _). report_values r.1) (λ r. refl) (entries w.reports) in
+    let accounts = sym (map-map account_row_values (account_row w) (entries w.free)) in
+    let grants = sym (map-map grant_values grant_row (entries w.grants)) in
+    let reports = sym (map-map report_values report_row (entries w.reports)) in
     λ i. record { meta = (content_of w).meta; jobs = jobs i; documents = documents i; pieces = pieces i; accounts = accounts i; grants = grants i; reports = reports i }

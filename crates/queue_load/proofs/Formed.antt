@@ -9,6 +9,7 @@ use Rattle.std.proofs.lemmas.List.Sums.{sum_by-cons}
 use Rattle.std.proofs.lemmas.Slice.Eq.{bytes_eq-Decides}
 use Rattle.std.proofs.lemmas.Str.{IsUtf8-from_ascii}
 use Rattle.sqlite_keyed.proofs.ListLemmas.{all_map, all-flat_map, all_weaker}
+use Rattle.queue_core.specs.Grants.{pages_to}
 use Rattle.queue_core.specs.Limits.{IsOwner, is_batch_byte}
 use Rattle.queue_types.specs.Settings.{is_uri_byte}
 use Rattle.queue_core.specs.Sound.{IsSound, IsSoundDocument, IsSoundEntry}
@@ -18,7 +19,7 @@ use Rattle.queue_types.specs.declared.event.GrantRow.{GrantRow}
 use Rattle.queue_types.specs.declared.event.KeptReport.{KeptReport}
 use Rattle.queue_types.specs.declared.job.Job.{Job}
 use Rattle.queue_rows.specs.Documents.{documents_from}
-use Rattle.queue_rows.specs.Grants.{IsGrantRow, granted_to}
+use Rattle.queue_rows.specs.Grants.{IsGrantRow}
 use Rattle.queue_rows.specs.Jobs.{IsJobRow, has_number}
 use Rattle.queue_rows.specs.Pieces.{piece_of, pieces_in, pieces_of}
 use Rattle.queue_rows.specs.Reports.{IsReportRow}
@@ -82,7 +83,7 @@ same_name : (a b : List ℕ) → bytes_eq a b ≡ true → a ≡ b
 same_name a b e = search (rules, bytes_eq-Decides)
 
 -- an account with pages granted has the name that a grant has
-named : (a : List ℕ) (gs : List GrantRow) → All IsGrantRow gs → 1 ≤ granted_to a gs → IsOwner a
+named : (a : List ℕ) (gs : List GrantRow) → All IsGrantRow gs → 1 ≤ pages_to a gs → IsOwner a
 named a [] all some = absurd (omega (arith, some))
 named a (g ∷ gs) all some =
     let pages = λ (g : GrantRow). cond (bytes_eq g.account a) g.pages 0 in
@@ -94,7 +95,7 @@ named a (g ∷ gs) all some =
           named a gs (All-tail IsGrantRow g gs all) (omega (arith, some, none, all_is))
     ]
 
-pub formed_account : (gs : List GrantRow) → All IsGrantRow gs → (a : AccountRow) → 1 ≤ granted_to a.name gs → IsFormedAccount a
+pub formed_account : (gs : List GrantRow) → All IsGrantRow gs → (a : AccountRow) → 1 ≤ pages_to a.name gs → IsFormedAccount a
 formed_account gs all a some = (named a.name gs all some).utf8
 
 -- ---- reports

@@ -23,17 +23,13 @@ use Rattle.queue_load.specs.Queues.{HasQueue}
 use Rattle.queue_load.specs.Store.{AreTables}
 use Rattle.queue_load.proofs.Contents.{content_is}
 use Rattle.queue_load.proofs.KeyLemmas.{Rises, keyed_by}
-
-bytes_in : Piece → List ℕ
-bytes_in p = p.bytes
+use Rattle.queue_load.proofs.Queues.{bytes_in}
 
 beside_is : (ps : List Piece) → map whole_piece ps ≡ piece_rows_in (map row_of ps) (map bytes_in ps)
-unfolding bytes_in
 beside_is [] = refl
 beside_is (p ∷ ps) = ap (λ (rs : List Row). whole_piece p ∷ rs) (beside_is ps)
 
 long_is : (ps : List Piece) → All IsLong ps → map length (map bytes_in ps) ≡ map length_in (map row_of ps)
-unfolding bytes_in
 long_is [] all = refl
 long_is (p ∷ ps) all =
     let first : length p.bytes ≡ p.row.length = all 0 p (omega arith) in

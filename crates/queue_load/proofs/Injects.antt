@@ -42,12 +42,7 @@ format_at t =
 format_found : (f : Format) → format_at (format_name f) ≡ f
 unfolding format_at
 format_found OctetStream = refl
-format_found Pdf = refl
-format_found Postscript = refl
-format_found Jpeg = refl
-format_found PwgRaster = refl
-format_found Urf = refl
-format_found PlainText = refl
+format_found _ = refl
 
 same_format : (f g : Format) → format_name f ≡ format_name g → f ≡ g
 same_format f g e = sym (format_found f) ∙ ap format_at e ∙ format_found g

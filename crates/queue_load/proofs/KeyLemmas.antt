@@ -1,7 +1,7 @@
 -- Rows that are told apart by their rowids.
 use Rattle.std.proofs.Common.{◌≡◌, inl, inr, ℕ, ℤ, ◌+◌, ◌<◌, ◌≤◌, suc, zero, List, [], ◌∷◌, map, filter, length, All, Bool, true, false, get_or, slice_index_or, refl, sym, ap, subst, ◌∙◌, arith, is_eq, is_lt, Ordering, Less, Equal, Greater}
 use Rattle.std.specs.Ordering.{int_cmp, ordering_reverse}
-use Rattle.std.specs.Cmp.{int_cmp_total, tied_itself}
+use Rattle.std.specs.Cmp.{Equal-is, int_cmp_total, tied_itself}
 use Rattle.std.specs.List.Sorted.{IsPermutation}
 use Rattle.std.proofs.Math.ListN.{get_or-map}
 use Rattle.std.proofs.lemmas.Bool.{cases_Bool}
@@ -12,7 +12,7 @@ use Rattle.std.proofs.lemmas.Map.Lookups.{exact_signed}
 use Rattle.sqlite.specs.Order.{Row, column, value_cmp}
 use Rattle.sqlite.specs.Tree.{rowid, has_rowid}
 use Rattle.sqlite.specs.declared.types.Value.{Value}
-use Rattle.sqlite.specs.declared.types.Value.TheVariants.{Null, Int, Real, Text, Blob}
+use Rattle.sqlite.specs.declared.types.Value.TheVariants.{Int}
 use Rattle.sqlite_trees.proofs.ListLemmas.{IsPermutation-filter}
 use Rattle.sqlite_trees.specs.View.{is_int}
 use Rattle.sqlite_value.proofs.OrderLemmas.{then-Equal, value_cmp-Int}
@@ -27,11 +27,6 @@ use Rattle.queue_load.proofs.Unique.{less_of}
 abbrev pub Rises : {T : Type 0} → (T → ℤ) → List T → Type 0
 Rises id_of [] = Unit {0}
 Rises id_of (x ∷ xs) = All (λ y. int_cmp (id_of x) (id_of y) ≡ Less) xs × Rises id_of xs
-
-equal_of : (o : Ordering) → is_eq o ≡ true → o ≡ Equal
-equal_of Less e = absurd cc
-equal_of Equal e = refl
-equal_of Greater e = absurd cc
 
 pub rises_of : (xs : List RowId) → AreInOrder id_before xs → Rises (λ (x : RowId). x.id) xs
 rises_of [] h = tt
@@ -55,7 +50,7 @@ module _ {T : Type 0} (id_of : T → ℤ) where
   one_tied id [] rise = omega arith
   one_tied id (t ∷ ts) rise = elim (cases_Bool (Tied id t)) [
     | inl here ↦
-        let same : id_of t ≡ id = exact_signed (id_of t) id (equal_of _ here) in
+        let same : id_of t ≡ id = exact_signed (id_of t) id ((Equal-is (int_cmp (id_of t) id)).0 here) in
         let none = none_tied id ts (subst (λ (i : ℤ). All (λ u. int_cmp i (id_of u) ≡ Less) ts) same rise.0) in
         rw (here, none) (omega arith)
     | inr apart ↦ rw apart (one_tied id ts rise.1)
@@ -155,11 +150,8 @@ ids_in_order xs rs are keyed k d low = elim (cases_Bool (id_before (get_or xs k 
 ]
 
 int_in : (v : Value) → is_int v ≡ true → (id : ℤ) × (v ≡ Int id)
-int_in Null h = absurd cc
 int_in (Int n) h = (n, refl)
-int_in (Real x) h = absurd cc
-int_in (Text t) h = absurd cc
-int_in (Blob b) h = absurd cc
+int_in _ h = absurd cc
 
 -- integers are the rowids
 pub ids_are : (rs : List Row) → All (λ r. is_int (rowid r) ≡ true) rs → (xs : List RowId) × (map id_values xs ≡ map id_view rs)

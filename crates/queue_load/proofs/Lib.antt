@@ -1,5 +1,4 @@
 pub mod Loading
-pub mod Results
 pub mod Texts
 pub mod Listing
 pub mod Whole

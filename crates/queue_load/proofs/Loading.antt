@@ -15,9 +15,8 @@ plain_in sql schema plain has = subst (λ (s : Schema). IsPlain (understood s sq
 -- one more row that is told of
 pub tell_more : {T : Type 0} (tells : T → Row → Type 0) (ts : List T) (rs : List Row) (t : T) (r : Row) → Tell tells ts rs → tells t r → Tell tells (ts ++ t ∷ []) (rs ++ r ∷ [])
 tell_more tells [] [] t r told new = (new, tt)
-tell_more tells [] (s ∷ rs) t r told new = absurd told
-tell_more tells (u ∷ ts) [] t r told new = absurd told
 tell_more tells (u ∷ ts) (s ∷ rs) t r told new = (told.0, tell_more tells ts rs t r told.1 new)
+tell_more tells _ _ t r told new = absurd told
 
 -- what a read finds, where the tables were the same
 module _ (sql : List ℕ) (old now : State) (same : now.now ≡ old.now) where

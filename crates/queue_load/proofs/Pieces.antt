@@ -23,13 +23,12 @@ pub record AreWhole (items : List PieceRow) (rows : List Row) : Type 0 where
 
 wholes : (ps : List PieceRow) (rs : List Row) → Tell TellsPiece ps rs → All (λ r. length r ≡ 4) rs → AreWhole ps rs
 wholes [] [] told wide = record { pieces = []; items_are = refl; long = λ i d low. absurd (omega (arith, low)); told = tt }
-wholes [] (r ∷ rs) told wide = absurd told
-wholes (p ∷ ps) [] told wide = absurd told
 wholes (p ∷ ps) (r ∷ rs) told wide =
     let it = told.0 (wide 0 r (omega arith)) in
     let more = wholes ps rs told.1 (All-tail (λ r. length r ≡ 4) r rs wide) in
     let one : Piece = record { row = p; bytes = it.bytes } in
     record { pieces = one ∷ more.pieces; items_are = ap (λ (qs : List PieceRow). p ∷ qs) more.items_are; long = All-cons IsLong one more.pieces it.long more.long; told = (λ len. it.is, more.told) }
+wholes _ _ told wide = absurd told
 
 pub pieces_read : (s : State) (items : List PieceRow) → s.now.schema ≡ book_schema → HasRead TellsPiece pieces_query.sql s items → ArePieces items (s.now.trees 4)
 pieces_read s items has h =

@@ -1,8 +1,9 @@
 -- The rows of a table in the order of their key: there is one such order where no two rows have one key.
-use Rattle.std.proofs.Common.{◌≡◌, ℕ, ◌+◌, ◌<◌, suc, List, [], ◌∷◌, map, take, length, All, Bool, true, false, get_or, refl, sym, ap₂, subst, subst₂, arith, is_lt, Ordering, Less, Equal, Greater}
+use Rattle.std.proofs.Common.{◌≡◌, ℕ, ◌+◌, ◌<◌, suc, zero, List, [], ◌∷◌, map, take, length, All, Bool, true, false, get_or, refl, sym, ap, ap₂, subst, subst₂, ◌∙◌, arith, is_lt, Ordering, Less}
 use Rattle.std.specs.Cmp.{IsTotalOrder}
 use Rattle.std.specs.List.{AllByRecursion as Each, flat_map}
 use Rattle.std.specs.List.Sorted.{IsPermutation, IsSorted}
+use Rattle.std.specs.Ordering.{ordering_reverse}
 use Rattle.std.proofs.lemmas.Cmp.{on_total}
 use Rattle.std.proofs.lemmas.List.{get_or-map, length-map}
 use Rattle.std.proofs.lemmas.List.Elements.{All-head, All-tail}
@@ -18,6 +19,19 @@ use Rattle.queue_load.specs.Loaded.{IsTable, key_cmp}
 pub key_total : (k : ℕ) → IsTotalOrder (key_cmp k)
 key_total k = on_total (take k) row_cmp_total
 
+-- a list that rises is sorted
+module _ {X : Type 0} (R : X → X → Ordering) (total : IsTotalOrder R) where
+  sorted_up : (xs : List X) → IsAscending (λ a b. R a b ≡ Less) xs → IsSorted R xs
+  sorted_up [] up = λ k d low high. absurd (omega (arith, high))
+  sorted_up (x ∷ []) up = λ k d low high. absurd (omega (arith, high))
+  sorted_up (x ∷ y ∷ ys) up = λ k d low high. at (sorted_up (y ∷ ys) up.1) k d high
+    where
+      at : IsSorted R (y ∷ ys) → (k : ℕ) (d : X) → k + 1 < length (x ∷ y ∷ ys) → is_lt (R (get_or (x ∷ y ∷ ys) (k + 1) d) (get_or (x ∷ y ∷ ys) k d)) ≡ false
+      at rest zero d high = ap is_lt (total.antisymm y x ∙ ap ordering_reverse up.0.0)
+      at rest (suc k) d high =
+          let shift : suc (k + 1) ≡ suc k + 1 = omega arith in
+          subst (λ (m : ℕ). is_lt (R (get_or (x ∷ y ∷ ys) m d) (get_or (y ∷ ys) k d)) ≡ false) shift (rest k d (omega arith) (omega (arith, high)))
+
 module _ {T : Type 0} (values : T → Row) (k : ℕ) where
   -- by the first k columns
   abbrev pub Before : T → T → Type 0
@@ -32,7 +46,11 @@ module _ {T : Type 0} (values : T → Row) (k : ℕ) where
       let early = get_or-map values (x ∷ xs) i x d (omega (arith, within)) in
       subst₂ (λ (a b : Row). is_lt (key_cmp k a b) ≡ false) (sym late) (sym early) (sorted i x low within)
 
-  -- rows that rise are those of each table with the same rows
+  -- rows that rise are a table in its order
+  pub table_up : (view : Row → Row) (items : List T) (rows : List Row) → IsAscending Before items → IsPermutation (map values items) (map view rows) → IsTable values view k items rows
+  table_up view items rows up same = record { same = same; sorted = sorted_up (λ a b. key_cmp k (values a) (values b)) (on_total values (key_total k)) items up }
+
+  -- they are those of each table with the same rows
   pub one_order : (view : Row → Row) (rows : List Row) (ws ts : List T) → IsAscending Before ws → IsPermutation (map values ws) (map view rows) → IsTable values view k ts rows → map values ts ≡ map values ws
   one_order view rows ws ts rise holds are =
       sorted_unique (key_cmp k) (key_total k) (map values ws) (map values ts) (ascending-map (λ a b. key_cmp k a b ≡ Less) values ws rise)
@@ -41,19 +59,17 @@ module _ {T : Type 0} (values : T → Row) (k : ℕ) where
 -- values that tell the items
 pub injected : {T : Type 0} (values : T → Row) (P : T → Type 0) → ((a b : T) → P a → P b → values a ≡ values b → a ≡ b) → (xs ys : List T) → All P xs → All P ys → map values xs ≡ map values ys → xs ≡ ys
 injected values P tell [] [] p q e = refl
-injected values P tell [] (y ∷ ys) p q e = absurd cc
-injected values P tell (x ∷ xs) [] p q e = absurd cc
 injected values P tell (x ∷ xs) (y ∷ ys) p q e =
     let first : values x ≡ values y = cc in
     let rest : map values xs ≡ map values ys = cc in
     ap₂ ◌∷◌ (tell x y (All-head P x xs p) (All-head P y ys q) first) (injected values P tell xs ys (All-tail P x xs p) (All-tail P y ys q) rest)
+injected values P tell _ _ p q e = absurd cc
 
 -- ---- lists that rise
 
 pub less_of : (o : Ordering) → is_lt o ≡ true → o ≡ Less
 less_of Less e = refl
-less_of Equal e = absurd cc
-less_of Greater e = absurd cc
+less_of _ e = absurd cc
 
 -- each before the next, so each before all later ones
 pub ascending_of : {X : Type 0} (R : X → X → Ordering) → IsTotalOrder R → (before : X → X → Bool) → ((a b : X) → before a b ≡ true → R a b ≡ Less) → (xs : List X) → AreInOrder before xs → IsAscending (λ a b. R a b ≡ Less) xs

@@ -22,12 +22,11 @@ use Rattle.queue_load.proofs.Texts.{IsWhole, WholeQuery, selection_of}
 pub told_rows : {T : Type 0} (tells : T → Row → Type 0) (values : T → Row) (n : ℕ) → ((t : T) (r : Row) → tells t r → length r ≡ n → r ≡ values t) → (ts : List T) (rs : List Row) → Tell tells ts rs → All (λ r. length r ≡ n) rs
     → rs ≡ map values ts
 told_rows tells values n reads [] [] told wide = refl
-told_rows tells values n reads [] (r ∷ rs) told wide = absurd told
-told_rows tells values n reads (t ∷ ts) [] told wide = absurd told
 told_rows tells values n reads (t ∷ ts) (r ∷ rs) told wide =
     let first : r ≡ values t = reads t r told.0 (wide 0 r (omega arith)) in
     let more : rs ≡ map values ts = told_rows tells values n reads ts rs told.1 (All-tail (λ r. length r ≡ n) r rs wide) in
     subst₂ (λ (a : Row) (as1 : List Row). r ∷ rs ≡ a ∷ as1) first more refl
+told_rows tells values n reads _ _ told wide = absurd told
 
 pub told_all : {T : Type 0} (tells : T → Row → Type 0) (P : T → Type 0) → ((t : T) (r : Row) → tells t r → P t) → (ts : List T) (rs : List Row) → Tell tells ts rs → All P ts
 told_all tells P each [] rs told = λ i d low. absurd (omega (arith, low))

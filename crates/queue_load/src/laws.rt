@@ -5,7 +5,7 @@ ghost use Rattle.queue_core.specs.World.{World};
 ghost use Rattle.queue_load.specs.Content.{HaveRows};
 ghost use Rattle.queue_load.specs.Queues.{HasQueue, IsQueueIn};
 ghost use Rattle.queue_load.specs.Store.{AreTables, IsLoadable};
-ghost use Rattle.queue_rows.specs.Rows.{rows_of, StandForSoundWorlds, Tables};
+ghost use Rattle.queue_rows.specs.Rows.{bytes_of, rows_of, StandForSoundWorlds, Tables};
 ghost use Rattle.queue_tables.specs.Kept.{AreKeyed};
 ghost use Rattle.queue_tables.specs.Tables.{book_schema};
 
@@ -35,3 +35,12 @@ pub fn tables_give_their_queue()
 pub fn sound_rows_are_a_queue()
     ensures { (t : Tables) (d : Database) → d.schema ≡ book_schema → AreTables t d → AreKeyed (d.trees 6) → StandForSoundWorlds t → HasQueue t d }
 {}
+
+/// The rows of a sound queue are the typed rows of the tables that hold it, and two sound queues that the same tables hold have the
+/// same bytes in their pieces.
+pub fn queues_have_their_tables()
+    ensures tables { (w : World) (d : Database) → IsQueueIn w d → AreTables (rows_of w) d }
+    ensures bytes { (v w : World) (d : Database) → IsQueueIn v d → IsQueueIn w d → bytes_of v ≡ bytes_of w }
+{
+    sound_queues_have_sound_rows();
+}

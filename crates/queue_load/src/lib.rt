@@ -1,7 +1,6 @@
 //! The tables of a queue, each read whole as typed rows, a row at a time.
 #![tactic(auto)]
 
-mod forms;
 mod keyed;
 pub mod laws;
 mod load;

@@ -17,7 +17,7 @@ use sqlite::{Alter, Connection, Row, Rows};
 use std::alloc::Global;
 
 /// A row of a table, typed.
-pub trait TableRow: Drop {
+pub(crate) trait TableRow: Drop {
     /// The value tells of the columns.
     ghost tells: { Self → Columns → Type 0 };
 

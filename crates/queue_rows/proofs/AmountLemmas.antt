@@ -33,10 +33,6 @@ pub totals_told : {E X : Type 0} (r : Result (BTreeMap (Bor (List ℕ)) ℕ) E) 
 totals_told (Ok m) tells xs name amount sum told is h = λ q. h name amount told q ∙ is q
 totals_told (Err e) tells xs name amount sum told is h = tt
 
-pub if_ok : {X E : Type 0} (r : Result X E) (P Q : X → Type 0) → ((x : X) → P x → Q x) → IfOk r P → IfOk r Q
-if_ok (Ok x) P Q to h = to x h
-if_ok (Err e) P Q to h = tt
-
 -- ---- jobs in the states 3 to 6
 
 abbrev pub owner_of : Job → List ℕ
@@ -52,10 +48,8 @@ abbrev count_if : Bool → ℕ
 count_if b = cond b 1 0
 
 if_both : (a b : Bool) → live_if a b ≡ count_if (a && b)
-if_both true true = refl
-if_both true false = refl
-if_both false true = refl
-if_both false false = refl
+if_both true b = refl
+if_both false b = refl
 
 pub live_is : (q : List ℕ) (js : List Job) → total owner_of live_of q js ≡ live_jobs q js
 live_is q [] = refl

@@ -17,13 +17,9 @@ abbrev phase_at : ℕ → ℕ → Phase
 phase_at n m = cond (n == 0) Waiting (cond (n == 1) Running (cond (n == 2) Stopped (cond (n == 7) (Canceled (why_at m)) (cond (n == 8) Aborted Completed))))
 
 phase_found : (p : Phase) → phase_at (phase_number p) (why_number p) ≡ p
-phase_found Waiting = refl
-phase_found Running = refl
-phase_found Stopped = refl
 phase_found (Canceled ByUser) = refl
 phase_found (Canceled AtDevice) = refl
-phase_found Aborted = refl
-phase_found Completed = refl
+phase_found _ = refl
 
 pub same_phase : (p q : Phase) → phase_number p ≡ phase_number q → why_number p ≡ why_number q → p ≡ q
 same_phase p q n m = sym (phase_found p) ∙ ap (λ (k : ℕ). phase_at k (why_number p)) n ∙ ap (phase_at (phase_number q)) m ∙ phase_found q
@@ -33,12 +29,7 @@ kind_at n = cond (n == 1) Start (cond (n == 2) Stop (cond (n == 3) Resume (cond 
 
 kind_found : (k : Kind) → kind_at (kind_number k) ≡ k
 kind_found Start = refl
-kind_found Stop = refl
-kind_found Resume = refl
-kind_found Count = refl
-kind_found Done = refl
-kind_found Fail = refl
-kind_found Halt = refl
+kind_found _ = refl
 
 pub same_kind : (k l : Kind) → kind_number k ≡ kind_number l → k ≡ l
 same_kind k l n = sym (kind_found k) ∙ ap kind_at n ∙ kind_found l
@@ -48,12 +39,7 @@ job_state_at n = cond (n == 3) Pending (cond (n == 4) PendingHeld (cond (n == 5)
 
 job_state_found : (s : JobState) → job_state_at (job_state_number s) ≡ s
 job_state_found Pending = refl
-job_state_found PendingHeld = refl
-job_state_found Processing = refl
-job_state_found ProcessingStopped = refl
-job_state_found CanceledState = refl
-job_state_found AbortedState = refl
-job_state_found CompletedState = refl
+job_state_found _ = refl
 
 pub same_job_state : (s t : JobState) → job_state_number s ≡ job_state_number t → s ≡ t
 same_job_state s t n = sym (job_state_found s) ∙ ap job_state_at n ∙ job_state_found t

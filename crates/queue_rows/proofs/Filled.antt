@@ -9,7 +9,7 @@ use Rattle.queue_core.specs.World.{live_jobs}
 use Rattle.queue_core.specs.Limits.{IsSoundJob, FitsPhase}
 use Rattle.queue_types.specs.declared.job.Job.{Job}
 use Rattle.queue_types.specs.declared.job.Phase.{Phase}
-use Rattle.queue_types.specs.declared.job.Phase.TheVariants.{Waiting, Running, Stopped, Canceled, Aborted, Completed}
+use Rattle.queue_types.specs.declared.job.Phase.TheVariants.{Waiting}
 use Rattle.queue_rows.specs.Accounts.{reserved_for, printed_for}
 use Rattle.queue_rows.specs.Documents.{HasSize, next_of, AreGrouped}
 use Rattle.queue_rows.specs.Jobs.{IsJobRow, NumbersRise, has_number}
@@ -71,11 +71,7 @@ printed_filled a js ds = sum_filled (λ (j : Job). if bytes_eq j.owner a then j.
 
 fits_sized : (p : Phase) (j : Job) (n m : ℕ) → FitsPhase p j → FitsPhase p (record j { documents = n; octets = m })
 fits_sized Waiting j n m h = h
-fits_sized Running j n m h = h
-fits_sized Stopped j n m h = h
-fits_sized (Canceled why) j n m h = h
-fits_sized Aborted j n m h = h
-fits_sized Completed j n m h = h
+fits_sized _ j n m h = h
 
 -- with other documents a job is within its limits where these are
 pub sound_sized : (j : Job) (n m : ℕ) → IsSoundJob j → n ≤ 16 → m ≤ n * 16777216 → IsSoundJob (record j { documents = n; octets = m })

@@ -4,12 +4,13 @@ use lib.Dec.{T}
 use Rattle.std.specs.FinMap.{get, entries, from_sorted, is_sorted, get-from_sorted, entries-from_sorted}
 use Rattle.std.specs.FinMap as finmap
 use Rattle.std.specs.Cmp.Lexicographic.{nat_list_cmp_total}
+use Rattle.queue_core.specs.Grants.{pages_to}
 use Rattle.queue_core.specs.World.{text_cmp, grant_cmp, report_cmp}
 use Rattle.queue_types.specs.declared.event.GrantRow.{GrantRow}
 use Rattle.queue_types.specs.declared.event.KeptReport.{KeptReport}
 use Rattle.queue_rows.proofs.Defaults.{no_report, no_grant, no_account}
 use Rattle.queue_rows.specs.Accounts.{account_before, accounts_of}
-use Rattle.queue_rows.specs.Grants.{grant_before, granted_to}
+use Rattle.queue_rows.specs.Grants.{grant_before}
 use Rattle.queue_rows.specs.Order.{AreInOrder}
 use Rattle.queue_rows.specs.Reports.{report_before}
 use Rattle.queue_rows.proofs.WorldOf.{grant_entry, free_entry, report_entry}
@@ -69,7 +70,7 @@ report_there rs h k lt = get-from_sorted report_cmp (map report_entry rs) (repor
 abbrev entry_amount : List ℕ → (List ℕ × List ℕ) × ℕ → ℕ
 entry_amount a g = cond (bytes_eq g.0.1 a) g.1 0
 
-pub granted_told : (gs : List GrantRow) → AreInOrder grant_before gs → (a : List ℕ) → sum_by (entry_amount a) (entries (grants_of gs)) ≡ granted_to a gs
+pub granted_told : (gs : List GrantRow) → AreInOrder grant_before gs → (a : List ℕ) → sum_by (entry_amount a) (entries (grants_of gs)) ≡ pages_to a gs
 granted_told gs h a = ap (sum_by (entry_amount a)) (entries-from_sorted grant_cmp (map grant_entry gs) (grants_sorted gs h)) ∙ sum_over_map (entry_amount a) grant_entry gs
 
 abbrev pub account_in : GrantRow → List ℕ
@@ -89,14 +90,14 @@ one_in a = 1
 abbrev pub HasGrant : List GrantRow → List ℕ → Type 0
 HasGrant gs a = (batch : List ℕ) × IsSome (get (grants_of gs) (batch, a))
 
-pub grant_from_sum : (gs : List GrantRow) → AreInOrder grant_before gs → (a : List ℕ) → 1 ≤ granted_to a gs → HasGrant gs a
+pub grant_from_sum : (gs : List GrantRow) → AreInOrder grant_before gs → (a : List ℕ) → 1 ≤ pages_to a gs → HasGrant gs a
 grant_from_sum gs h a some =
     let row = positive_row account_in pages_in a no_grant gs some in
     let g = get_or gs row.0 no_grant in
     let there : get (grants_of gs) (g.batch, g.account) ≡ Some g.pages = grant_there gs h row.0 row.1 in
     (g.batch, subst (λ (n : List ℕ). IsSome (get (grants_of gs) (g.batch, n))) row.2 (ap is_some there))
 
-pub sum_from_grant : (gs : List GrantRow) → AreInOrder grant_before gs → All (λ g. 1 ≤ g.pages) gs → (a : List ℕ) → HasGrant gs a → 1 ≤ granted_to a gs
+pub sum_from_grant : (gs : List GrantRow) → AreInOrder grant_before gs → All (λ g. 1 ≤ g.pages) gs → (a : List ℕ) → HasGrant gs a → 1 ≤ pages_to a gs
 sum_from_grant gs h pages a has =
     let v = some_of (get (grants_of gs) (has.0, a)) has.1 in
     let row = grant_found gs h (has.0, a) v.0 v.1 in

@@ -41,8 +41,6 @@ formats_in (d ∷ ds) bs = ap (λ (l : List Format). d.format ∷ l) (formats_in
 pub group_rows : (number first : ℕ) (xs : List Document) (ds : List DocumentRow) → map size_of xs ≡ map octets_of ds → map format_of xs ≡ map format_in ds
     → ((k : ℕ) (d : DocumentRow) → k < length ds → (get_or ds k d).job ≡ number) → map doc_of ds ≡ range_with_len first (length ds) → documents_from number first xs ≡ ds
 group_rows number first [] [] s f jobs docs = refl
-group_rows number first [] (d ∷ ds) s f jobs docs = absurd cc
-group_rows number first (x ∷ xs) [] s f jobs docs = absurd cc
 group_rows number first (x ∷ xs) (d ∷ ds) s f jobs docs =
     let size : size_of x ≡ octets_of d = cc in
     let sizes : map size_of xs ≡ map octets_of ds = cc in
@@ -53,6 +51,7 @@ group_rows number first (x ∷ xs) (d ∷ ds) s f jobs docs =
     let later : map doc_of ds ≡ range_with_len (first + 1) (length ds) = cc in
     let rest = group_rows number (first + 1) xs ds sizes formats (λ k e lt. jobs (suc k) e (omega arith)) later in
     λ i. record { job = sym job i; doc = sym doc i; format = format i; octets = size i } ∷ rest i
+group_rows number first _ _ s f jobs docs = absurd cc
 
 pub documents_kept : (js : List Job) (ds : List DocumentRow) (all : List Document) → map size_of all ≡ map octets_of ds → map format_of all ≡ map format_in ds → AreGrouped js ds → flat_map document_rows (entries_in js ds all) ≡ ds
 documents_kept [] ds all s f group = sym group

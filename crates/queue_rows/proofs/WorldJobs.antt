@@ -62,12 +62,11 @@ length_concat (b ∷ bs) = length-append b (concat bs) ∙ ap (λ (n : ℕ). len
 
 pub sum_mapped : {X Y : Type 0} (f : X → ℕ) (g : Y → ℕ) (xs : List X) (ys : List Y) → map f xs ≡ map g ys → sum_by f xs ≡ sum_by g ys
 sum_mapped f g [] [] e = refl
-sum_mapped f g [] (y ∷ ys) e = absurd cc
-sum_mapped f g (x ∷ xs) [] e = absurd cc
 sum_mapped f g (x ∷ xs) (y ∷ ys) e =
     let here : f x ≡ g y = cc in
     let rest : map f xs ≡ map g ys = cc in
     sum_by-cons f x xs ∙ ap (λ (n : ℕ). n + sum_by f xs) here ∙ ap (λ (n : ℕ). g y + n) (sum_mapped f g xs ys rest) ∙ sym (sum_by-cons g y ys)
+sum_mapped f g _ _ e = absurd cc
 
 -- the front of a list that maps to a joined one, and what follows
 pub mapped_front : {X Y Z : Type 0} (f : X → Z) (g : Y → Z) (xs : List X) (as' bs : List Y) → map f xs ≡ map g (as' ++ bs) → (map f (take (length as') xs) ≡ map g as') × (map f (drop (length as') xs) ≡ map g bs)

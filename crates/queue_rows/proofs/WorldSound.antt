@@ -4,6 +4,7 @@ use Rattle.std.specs.List.{AllByRecursion as Each}
 use Rattle.std.specs.FinMap.{get}
 use Rattle.std.proofs.lemmas.Bool.{cases_lt}
 use Rattle.std.proofs.lemmas.List.Elements.{recursion_from_All}
+use Rattle.queue_core.specs.Grants.{pages_to}
 use Rattle.queue_core.specs.Sound.{IsSound, IsKept, IsGreatestCount, IsIdle, reserved, printed}
 use Rattle.queue_core.specs.World.{granted}
 use Rattle.queue_core.specs.Limits.{IsGrant}
@@ -12,7 +13,6 @@ use Rattle.queue_types.specs.declared.event.GrantRow.{GrantRow}
 use Rattle.queue_types.specs.declared.event.KeptReport.{KeptReport}
 use Rattle.queue_types.specs.declared.job.Job.{Job}
 use Rattle.queue_rows.specs.Accounts.{accounts_of, reserved_for, printed_for}
-use Rattle.queue_rows.specs.Grants.{granted_to}
 use Rattle.queue_rows.specs.Jobs.{IsJobRow, NumbersRise, has_number}
 use Rattle.queue_rows.specs.Pieces.{length_in}
 use Rattle.queue_rows.specs.Reports.{greatest}
@@ -43,7 +43,7 @@ account_has gs acs h a = (
   λ there.
       let v = some_of (get (free_of acs) a) there in
       let row = free_found acs h.accounts_order a v.0 v.1 in
-      grant_from_sum gs h.grants_order a (subst (λ (n : List ℕ). 1 ≤ granted_to n gs) row.2 (h.granted row.0 no_account row.1)),
+      grant_from_sum gs h.grants_order a (subst (λ (n : List ℕ). 1 ≤ pages_to n gs) row.2 (h.granted row.0 no_account row.1)),
   λ has.
       let v = some_of (get (grants_of gs) (has.0, a)) has.1 in
       let row = grant_found gs h.grants_order (has.0, a) v.0 v.1 in
@@ -85,8 +85,8 @@ is_greatest w rs js h is j count = (
   ],
 )
 
-pub no_account_no_grant : (gs : List GrantRow) (acs : List AccountRow) → HaveSoundGrants gs acs → (a : List ℕ) → get (free_of acs) a ≡ None → granted_to a gs ≡ 0
-no_account_no_grant gs acs h a none = elim (cases_lt 0 (granted_to a gs)) [
+pub no_account_no_grant : (gs : List GrantRow) (acs : List AccountRow) → HaveSoundGrants gs acs → (a : List ℕ) → get (free_of acs) a ≡ None → pages_to a gs ≡ 0
+no_account_no_grant gs acs h a none = elim (cases_lt 0 (pages_to a gs)) [
   | inl some ↦ absurd (let there : IsSome (get (free_of acs) a) = (account_has gs acs h a).1 (grant_from_sum gs h.grants_order a (omega arith)) in cc (none, there))
   | inr zero' ↦ omega arith
 ]
@@ -103,7 +103,7 @@ sound_world t bs lengths h =
     let sizes : map size_of all ≡ map octets_of ds = sizes_in ds bs (lengths ∙ ap (map length_in) h.tables.jobs.pieces) in
     let each = λ (P : Job → Type 0) (kept : Each P full). each_rows P es (subst (Each P) (sym is) kept) in
     let counts : Each (λ j. j.count ≡ greatest j.number t.reports) full = each_filled (λ j. j.count ≡ greatest j.number t.reports) (λ j ds' e. e) js ds (recursion_from_All _ js h.tables.reports.counts) in
-    let idle : Each (λ j. granted_to j.owner t.grants ≡ 0 → IsIdle j) full = each_filled (λ j. granted_to j.owner t.grants ≡ 0 → IsIdle j) (λ j ds' e. e) js ds (recursion_from_All _ js h.tables.owners.idle) in
+    let idle : Each (λ j. pages_to j.owner t.grants ≡ 0 → IsIdle j) full = each_filled (λ j. pages_to j.owner t.grants ≡ 0 → IsIdle j) (λ j ds' e. e) js ds (recursion_from_All _ js h.tables.owners.idle) in
     record {
       settings = h.meta.settings;
       numbers = rise_from 1 es h.row.next_number (subst (λ (l : List Job). NumbersRise 1 l h.row.next_number) (sym is) (rise_filled 1 js ds h.row.next_number h.tables.jobs.rise));
@@ -120,12 +120,12 @@ sound_world t bs lengths h =
           let row = free_found t.accounts h.tables.grants.accounts_order a v e in
           let x = get_or t.accounts row.0 no_account in
           let b = h.tables.owners.balanced row.0 no_account row.1 in
-          let pages : granted a w ≡ granted_to a t.grants = granted_told t.grants h.tables.grants.grants_order a in
+          let pages : granted a w ≡ pages_to a t.grants = granted_told t.grants h.tables.grants.grants_order a in
           let held : reserved a w ≡ reserved_for a js = ap (reserved_for a) is ∙ reserved_filled a js ds in
           let done : printed a w ≡ printed_for a js = ap (printed_for a) is ∙ printed_filled a js ds in
           let first : reserved_for x.name js ≡ reserved_for a js = ap (λ (n : List ℕ). reserved_for n js) row.2 in
           let second : printed_for x.name js ≡ printed_for a js = ap (λ (n : List ℕ). printed_for n js) row.2 in
-          let third : granted_to x.name t.grants ≡ granted_to a t.grants = ap (λ (n : List ℕ). granted_to n t.grants) row.2 in
+          let third : pages_to x.name t.grants ≡ pages_to a t.grants = ap (λ (n : List ℕ). pages_to n t.grants) row.2 in
           let sums : x.reserved + x.printed ≡ reserved a w + printed a w = omega (arith, b.reserved, b.printed, held, done, first, second) in
           ap pos (pages ∙ sym third) ∙ b.granted ∙ ap (λ (n : ℕ). x.free +ℤ pos n) sums ∙ ap (λ (z : ℤ). z +ℤ pos (reserved a w + printed a w)) row.3);
     }

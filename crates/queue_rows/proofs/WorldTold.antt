@@ -3,6 +3,7 @@ use Rattle.std.proofs.Common.{◌≡◌, inl, inr, ℕ, ℤ, pos, ◌+◌, ◌+�
 use Rattle.std.specs.List.{AllByRecursion as Each}
 use Rattle.std.specs.FinMap.{get}
 use Rattle.std.proofs.lemmas.List.Elements.{All-from_recursion, recursion_from_All, All-from_get_or}
+use Rattle.queue_core.specs.Grants.{pages_to}
 use Rattle.queue_core.specs.Sound.{IsSound, IsKept, IsGreatestCount, IsIdle, reserved, printed}
 use Rattle.queue_core.specs.World.{granted}
 use Rattle.queue_core.specs.Limits.{IsGrant}
@@ -10,7 +11,7 @@ use Rattle.queue_core.specs.World.{World, Entry, live_jobs, job_at}
 use Rattle.queue_types.specs.declared.event.KeptReport.{KeptReport}
 use Rattle.queue_types.specs.declared.job.Job.{Job}
 use Rattle.queue_rows.specs.Accounts.{accounts_of, reserved_for, printed_for, IsBalanced}
-use Rattle.queue_rows.specs.Grants.{IsGrantRow, granted_to}
+use Rattle.queue_rows.specs.Grants.{IsGrantRow}
 use Rattle.queue_rows.specs.Jobs.{IsJobRow, NumbersRise, has_number}
 use Rattle.queue_rows.specs.Meta.{IsSoundMeta}
 use Rattle.queue_rows.specs.Order.{AreInOrder}
@@ -77,9 +78,9 @@ rows_told_sound m t bs lengths only meta h f =
     let pages : All (λ g. 1 ≤ g.pages) t.grants = λ k d lt. (grants k d lt).2 in
     let kept = λ (k : ℕ) (lt : k < length t.reports). let r = get_or t.reports k no_report in
     subst (λ (o : Option KeptReport). IfSome o (IsKept w r.report.job r.report.seq)) (report_there t.reports f.reports k lt) (h.reports r.report.job r.report.seq) in
-    let granted_some = λ (j : Job) (none : granted_to j.owner t.grants ≡ 0). gone (get (free_of t.accounts) j.owner) (λ there. absurd (omega (arith, none, sum_from_grant t.grants f.grants pages j.owner ((h.accounts j.owner).0 there)))) in
+    let granted_some = λ (j : Job) (none : pages_to j.owner t.grants ≡ 0). gone (get (free_of t.accounts) j.owner) (λ there. absurd (omega (arith, none, sum_from_grant t.grants f.grants pages j.owner ((h.accounts j.owner).0 there)))) in
     let counts : Each (λ j. j.count ≡ greatest j.number t.reports) full = each_map (IsGreatestCount w) (λ j. j.count ≡ greatest j.number t.reports) (λ j g. count_is w t.reports f.reports refl j g) full (each (IsGreatestCount w) h.counts) in
-    let idle : Each (λ j. granted_to j.owner t.grants ≡ 0 → IsIdle j) full = each_map (λ j. get (free_of t.accounts) j.owner ≡ None → IsIdle j) (λ j. granted_to j.owner t.grants ≡ 0 → IsIdle j) (λ j g none. g (granted_some j none)) full (each (λ j. get (free_of t.accounts) j.owner ≡ None → IsIdle j) h.idle) in
+    let idle : Each (λ j. pages_to j.owner t.grants ≡ 0 → IsIdle j) full = each_map (λ j. get (free_of t.accounts) j.owner ≡ None → IsIdle j) (λ j. pages_to j.owner t.grants ≡ 0 → IsIdle j) (λ j g none. g (granted_some j none)) full (each (λ j. get (free_of t.accounts) j.owner ≡ None → IsIdle j) h.idle) in
     record {
       row = m;
       only = only;
@@ -101,7 +102,7 @@ rows_told_sound m t bs lengths only meta h f =
           named = All-from_get_or (λ g. 1 ≤ accounts_of g.account t.accounts) t.grants no_grant (λ k lt.
               let g = get_or t.grants k no_grant in
               count_from_free t.accounts f.accounts g.account ((h.accounts g.account).1 (g.batch, ap is_some (grant_there t.grants f.grants k lt))));
-          granted = All-from_get_or (λ a. 1 ≤ granted_to a.name t.grants) t.accounts no_account (λ k lt.
+          granted = All-from_get_or (λ a. 1 ≤ pages_to a.name t.grants) t.accounts no_account (λ k lt.
               let a = get_or t.accounts k no_account in
               sum_from_grant t.grants f.grants pages a.name ((h.accounts a.name).0 (ap is_some (free_there t.accounts f.accounts k lt))));
         };
@@ -115,7 +116,7 @@ rows_told_sound m t bs lengths only meta h f =
         };
         owners = record {
           live = λ caller. subst (λ (n : ℕ). n ≤ 100) (ap (live_jobs caller) is ∙ live_filled caller js ds) (h.live caller);
-          idle = All-from_recursion (λ j. granted_to j.owner t.grants ≡ 0 → IsIdle j) js (each_bare (λ j. granted_to j.owner t.grants ≡ 0 → IsIdle j) (λ j ds' e. e) js ds idle);
+          idle = All-from_recursion (λ j. pages_to j.owner t.grants ≡ 0 → IsIdle j) js (each_bare (λ j. pages_to j.owner t.grants ≡ 0 → IsIdle j) (λ j ds' e. e) js ds idle);
           balanced = All-from_get_or (IsBalanced t.grants js) t.accounts no_account (λ k lt.
               let a = get_or t.accounts k no_account in
               let b : pos (granted a.name w) ≡ a.free +ℤ pos (reserved a.name w + printed a.name w) = subst (λ (o : Option ℤ). IfSome o (λ free. pos (granted a.name w) ≡ free +ℤ pos (reserved a.name w + printed a.name w))) (free_there t.accounts f.accounts k lt) (h.balances a.name) in

@@ -1,11 +1,11 @@
 -- The rows of accounts, and what the other tables say of an account.
 use Rattle.std.specs.Prelude.{◌≡◌, ℕ, pos, ◌+◌, ◌+ℤ◌, List, bytes_eq, sum_by, if◌then◌else◌, Bool}
 use Rattle.std.specs.Ordering.{is_lt}
+use Rattle.queue_core.specs.Grants.{pages_to}
 pub use Rattle.queue_core.specs.Sound.{reserved_for, printed_for}
 use Rattle.queue_core.specs.World.{text_cmp}
 use Rattle.queue_types.specs.declared.event.GrantRow.{GrantRow}
 use Rattle.queue_types.specs.declared.job.Job.{Job}
-use Rattle.queue_rows.specs.Grants.{granted_to}
 use Rattle.queue_rows.specs.declared.rows.AccountRow.{AccountRow}
 
 abbrev pub account_before : AccountRow → AccountRow → Bool
@@ -23,4 +23,4 @@ pub record HasSums (given held done : ℕ) (a : AccountRow) : Type 0 where
 
 -- they are those of its grants and jobs
 abbrev pub IsBalanced : List GrantRow → List Job → AccountRow → Type 0
-IsBalanced gs js a = HasSums (granted_to a.name gs) (reserved_for a.name js) (printed_for a.name js) a
+IsBalanced gs js a = HasSums (pages_to a.name gs) (reserved_for a.name js) (printed_for a.name js) a

@@ -1,7 +1,6 @@
 -- The rows of grants.
 use Rattle.std.specs.Prelude.{Bool}
 use Rattle.std.specs.Ordering.{is_lt}
-pub use Rattle.queue_core.specs.Grants.{pages_to as granted_to}
 pub use Rattle.queue_core.specs.Limits.{IsGrantRow}
 use Rattle.queue_core.specs.World.{grant_cmp}
 use Rattle.queue_types.specs.declared.event.GrantRow.{GrantRow}

@@ -1,6 +1,7 @@
 -- When rows are those of a sound world, clause by clause over the rows alone.
 use Rattle.std.specs.Prelude.{◌≡◌, ℕ, ◌≤◌, ◌^◌, List, [], ◌∷◌, All, IsTrue}
 use Rattle.std.specs.List.{flat_map}
+use Rattle.queue_core.specs.Grants.{pages_to}
 use Rattle.queue_core.specs.Sound.{IsIdle}
 use Rattle.queue_core.specs.World.{live_jobs}
 use Rattle.queue_types.specs.declared.event.GrantRow.{GrantRow}
@@ -8,7 +9,7 @@ use Rattle.queue_types.specs.declared.event.KeptReport.{KeptReport}
 use Rattle.queue_types.specs.declared.job.Job.{Job}
 use Rattle.queue_rows.specs.Accounts.{account_before, accounts_of, IsBalanced}
 use Rattle.queue_rows.specs.Documents.{HasSize, AreGrouped}
-use Rattle.queue_rows.specs.Grants.{IsGrantRow, grant_before, granted_to}
+use Rattle.queue_rows.specs.Grants.{IsGrantRow, grant_before}
 use Rattle.queue_rows.specs.Jobs.{IsJobRow, NumbersRise, has_number}
 use Rattle.queue_rows.specs.Meta.{IsSoundMeta}
 use Rattle.queue_rows.specs.Order.{AreInOrder}
@@ -34,10 +35,10 @@ pub record HaveSoundGrants (gs : List GrantRow) (acs : List AccountRow) : Type 0
   pub grants : All IsGrantRow gs
   pub grants_order : AreInOrder grant_before gs
   pub accounts_order : AreInOrder account_before acs
-  pub most : (a : List ℕ) → granted_to a gs ≤ 1000000000
+  pub most : (a : List ℕ) → pages_to a gs ≤ 1000000000
   -- the accounts are those that have a grant
   pub named : All (λ g. 1 ≤ accounts_of g.account acs) gs
-  pub granted : All (λ a. 1 ≤ granted_to a.name gs) acs
+  pub granted : All (λ a. 1 ≤ pages_to a.name gs) acs
 
 pub record HaveSoundReports (rs : List KeptReport) (js : List Job) : Type 0 where
   pub reports : All IsReportRow rs
@@ -48,7 +49,7 @@ pub record HaveSoundReports (rs : List KeptReport) (js : List Job) : Type 0 wher
 pub record HaveSoundOwners (js : List Job) (gs : List GrantRow) (acs : List AccountRow) : Type 0 where
   pub live : (caller : List ℕ) → live_jobs caller js ≤ 100
   -- without an account nothing prints
-  pub idle : All (λ j. granted_to j.owner gs ≡ 0 → IsIdle j) js
+  pub idle : All (λ j. pages_to j.owner gs ≡ 0 → IsIdle j) js
   pub balanced : All (IsBalanced gs js) acs
 
 -- the tables beside `meta`

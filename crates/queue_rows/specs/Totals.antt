@@ -3,8 +3,8 @@ use Rattle.std.specs.Prelude.{◌≡◌, ℕ, List, sum_by, bytes_eq, unwrap_or,
 use Rattle.std.specs.BTreeMap.{BTreeMap, get_by}
 use Rattle.std.specs.Cmp.Lexicographic.{slice_cmp}
 use Rattle.std.specs.Ordering.{nat_cmp}
+use Rattle.queue_core.specs.Grants.{pages_to}
 use Rattle.queue_types.specs.declared.event.GrantRow.{GrantRow}
-use Rattle.queue_rows.specs.Grants.{granted_to}
 use denote.Ref.{Bor}
 
 -- the sum of the amounts of that name
@@ -21,4 +21,4 @@ TellsAmounts {X} tells name amount = (x : X) (p : Bor (List ℕ) × ℕ) → tel
 
 -- the sums are the pages that were granted to each account
 abbrev pub AreGranted : BTreeMap (Bor (List ℕ)) ℕ → List GrantRow → Type 0
-AreGranted m gs = (q : List ℕ) → total_in m q ≡ granted_to q gs
+AreGranted m gs = (q : List ℕ) → total_in m q ≡ pages_to q gs

@@ -24,10 +24,7 @@ fn is_moment(n: u32) -> bool
 fn is_moment_if_some(moment: Option<u32>) -> bool
     ensures { IsTrue result ↔ IfSome moment IsMoment }
 {
-    match moment {
-        Some(n) => is_moment(n),
-        None => true,
-    }
+    moment.is_none_or(is_moment)
 }
 
 fn fits_waiting(job: &Job) -> bool

@@ -10,7 +10,7 @@ mod documents;
 mod grants;
 pub mod jobs;
 pub mod laws;
-mod meta;
+pub mod meta;
 pub mod order;
 mod owners;
 pub mod pieces;

@@ -8,6 +8,9 @@ use queue_types::job::Job;
 use queue_types::text::Text;
 use std::alloc::Global;
 
+/// The number of the schema of a store's tables.
+pub const SCHEMA: u32 = 1;
+
 /// The one row of the table `meta`.
 #[derive(Debug, Drop)]
 pub struct MetaRow {

@@ -1,5 +1,5 @@
 -- Tables that were adopted, and files that were opened.
-use Rattle.std.proofs.Common.{◌≡◌, ◌<◌, Bool, List, [], ◌∷◌, IsTrue, false, true, not, inl, inr, map, length, refl, sym, ap, subst, ◌∙◌, arith}
+use Rattle.std.proofs.Common.{◌≡◌, ◌<◌, List, [], ◌∷◌, IsTrue, false, inl, inr, map, length, refl, sym, ap, subst, ◌∙◌, arith}
 use Rattle.std.proofs.lemmas.List.Sorted.{length_permutation}
 use Rattle.sqlite.specs.Effect.{Database, IsDatabase}
 use Rattle.sqlite.specs.Files.{AreFoundIn}
@@ -24,11 +24,6 @@ use Rattle.queue_tables.specs.Values.{meta_view}
 use Rattle.queue_store.specs.Kept.{HasWorld, StandsFor, shown_by, without_limit}
 use Rattle.queue_store.specs.Opened.{FitsFile, HasNoTables, HoldsOnly, IsKeptIn}
 use Rattle.queue_store.specs.declared.book.TableBook.{TableBook}
-
--- outside of a transaction, as a test of it says
-pub out_of : (outside inside : Bool) → outside ≡ not inside → IsTrue outside → inside ≡ false
-out_of outside false is out = refl
-out_of outside true is out = absurd (let both = sym out ∙ is in cc)
 
 row_of : (t : Tables) (d : Database) (has : HasQueue t d) → t.meta ≡ meta_row has.world ∷ []
 row_of t d has = sym (ap (λ (u : Tables). u.meta) has.rows)

@@ -5,7 +5,6 @@ pub mod Keeping
 pub mod Lifted
 pub mod Adopting
 pub mod Closing
-pub mod OneQueue
 pub mod Again
 pub mod Refused
 pub mod OneSchema

@@ -5,7 +5,7 @@ use Rattle.std.proofs.lemmas.Fmt.{decimal_injective}
 use Rattle.std.proofs.lemmas.List.{append_cancel_left}
 use Rattle.sqlite.specs.Order.{Row, column}
 use Rattle.sqlite.specs.declared.types.Value.{Value}
-use Rattle.sqlite.specs.declared.types.Value.TheVariants.{Null, Int, Real, Text, Blob}
+use Rattle.sqlite.specs.declared.types.Value.TheVariants.{Null, Int, Text}
 use Rattle.sqlite_catalog.specs.Listing.{AreListed, IsDefined, IsIndexRow, IsSound, IsTableRow, automatic, is_index_row, is_table_row, is_view_row, IsViewRow}
 use Rattle.sqlite_catalog.proofs.StepLemmas.{named_once, same_itself}
 use Rattle.sqlite_resolve.specs.Compile.{table_defined_by}
@@ -22,13 +22,12 @@ use Rattle.queue_tables.specs.Tables.{book_schema}
 zip_once : {A B : Type 0} (R : A → B → Type 0) → ((a : A) (b c : B) → R a b → R a c → b ≡ c) → (xs : List A) (ys zs : List B) → AllZip R xs ys → AllZip R xs zs → ys ≡ zs
 zip_once R once [] [] [] p q = refl
 zip_once R once [] [] (z ∷ zs) p q = absurd q
-zip_once R once [] (y ∷ ys) zs p q = absurd p
-zip_once R once (x ∷ xs) [] zs p q = absurd p
 zip_once R once (x ∷ xs) (y ∷ ys) [] p q = absurd q
 zip_once R once (x ∷ xs) (y ∷ ys) (z ∷ zs) p q =
     let first = once x y z p.0 q.0 in
     let more = zip_once R once xs ys zs p.1 q.1 in
     λ i. first i ∷ more i
+zip_once R once _ _ zs p q = absurd p
 
 zip_none : {A B : Type 0} (R : A → B → Type 0) (xs : List A) (ys : List B) → AllZip R xs [] → AllZip R xs ys → ys ≡ []
 zip_none R [] [] p q = refl
@@ -62,13 +61,11 @@ one_index_by Null table a b tree name p q =
     let keys : Some p.1 ≡ Some q.1 = sym p.2 ∙ ap (slice_get table.uniques) at ∙ q.2 in
     let key : p.1 ≡ q.1 = cc in
     p.3 ∙ (λ i. automatic table (at i) (key i) (tree i)) ∙ sym q.3
-one_index_by (Int n) table a b tree name p q = absurd p
-one_index_by (Real x) table a b tree name p q = absurd p
 one_index_by (Text sql) table a b tree name p q =
     let read : Ok p.0 ≡ Ok q.0 = sym p.1 ∙ q.1 in
     let made : p.0 ≡ q.0 = cc in
     p.2 ∙ (λ i. record (made i) { tree = tree i; table = table.tree }) ∙ sym q.2
-one_index_by (Blob bytes) table a b tree name p q = absurd p
+one_index_by _ table a b tree name p q = absurd p
 
 one_index : (tables : List Table) → IsAscending (λ s t. same_name s.name t.name ≡ false) tables → (row : Row) (a b : Index) → IsIndexRow tables row a → IsIndexRow tables row b → a ≡ b
 one_index tables apart row a b p q =

@@ -17,6 +17,7 @@ ghost use Rattle.queue_tables.specs.declared.fault.Fault.TheVariants.{Damaged};
 use crate::book::TableBook;
 use queue_core::book::BookFault;
 use queue_load::queue::load_queue;
+use queue_rows::meta::settings_of;
 use queue_rows::rows::Rows;
 use queue_tables::fault::Fault;
 use queue_types::settings::{SettingFault, Settings};
@@ -24,20 +25,14 @@ use sqlite::{Alter, Connection};
 use std::alloc::Global;
 
 /// The settings in the row of the book itself. Damaged is told only where they are not within their limits.
-fn settings_of(alloc: Global, rows: &Rows) -> Result<Settings, Fault>
+fn settings_in_rows(alloc: Global, rows: &Rows) -> Result<Settings, Fault>
     ensures ok { IfOk result (λ s. (m : MetaValue) → (tables_in rows.now).meta ≡ m ∷ [] → s ≡ settings_in m) }
     ensures damaged { IfErr result (λ e. e ≡ Damaged → (m : MetaValue) → (tables_in rows.now).meta ≡ m ∷ [] → ¬ AreSettings (settings_in m)) }
 {
     let [meta] = rows.meta.as_slice() else {
         return Err(Fault::Damaged);
     };
-    match Settings::new(
-        alloc,
-        meta.uri.as_str(),
-        meta.name.as_str(),
-        meta.estimate,
-        meta.epoch,
-    ) {
+    match settings_of(alloc, meta) {
         Ok(settings) => Ok(settings),
         Err(SettingFault::Memory) => Err(Fault::Memory),
         Err(SettingFault::Bad) => Err(Fault::Damaged),
@@ -59,7 +54,7 @@ fn settings_in_tables<S: Alter>(alloc: Global, conn: &mut Connection<S>) -> Resu
     // and of this one that they are those of the schema
     let _schema = conn.schema();
     let rows = load_queue(alloc, conn)?;
-    settings_of(alloc, &rows)
+    settings_in_rows(alloc, &rows)
 }
 
 impl<S: Alter> TableBook<S> {

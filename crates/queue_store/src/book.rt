@@ -16,7 +16,7 @@ ghost use Rattle.queue_tables.specs.Tables.{no_schema};
 use crate::create::make_tables;
 use queue_core::book::BookFault;
 use queue_core::empty_is_sound;
-use queue_rows::rows::MetaRow;
+use queue_rows::rows::{MetaRow, SCHEMA};
 use queue_tables::fault::Fault;
 use queue_types::settings::Settings;
 use queue_types::text::Text;
@@ -77,7 +77,7 @@ fn first_row(alloc: Global, settings: &Settings) -> Result<MetaRow, AllocError>
     let name = Text::copy_of(alloc, settings.name())?;
     Ok(MetaRow {
         one: 1,
-        schema: 1,
+        schema: SCHEMA,
         uri,
         name,
         estimate: settings.estimate(),

@@ -11,18 +11,16 @@ ghost use Rattle.queue_store.specs.Closed.{IsKeptAlone};
 ghost use Rattle.queue_store.specs.Crash.{IsKept};
 ghost use Rattle.queue_tables.specs.Tables.{book_schema};
 
-use queue_load::laws::{queues_are_loadable, tables_give_their_queue, tables_have_rows};
-use queue_rows::laws::{rows_tell_the_queue, sound_queues_have_sound_rows};
+use queue_load::laws::{queues_have_their_tables, tables_give_their_queue};
+use queue_rows::laws::rows_tell_the_queue;
 
 /// Two sound queues that the same tables hold are one: nothing of a queue stands beside its tables.
 pub fn tables_hold_one_queue()
     ensures { (v w : World) (d : Database) → IsQueueIn v d → IsQueueIn w d → v ≡ w }
 {
-    tables_have_rows();
-    queues_are_loadable();
+    queues_have_their_tables();
     tables_give_their_queue();
     rows_tell_the_queue();
-    sound_queues_have_sound_rows();
 }
 
 /// Trees that list the tables and indexes of a book list no other schema.

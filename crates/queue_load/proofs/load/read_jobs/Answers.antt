@@ -1,10 +1,10 @@
 use Rattle.std.proofs.Common.{refl}
+use Rattle.std.proofs.lemmas.Result.{IfErr-weaker, IfOk-weaker}
 use Rattle.sqlite.specs.Held.{state}
 use Rattle.queue_tables.specs.Forms.{IsFormedJob}
 use Rattle.queue_tables.specs.Values.{job_values}
 use Rattle.queue_load.specs.Loaded.{IsBare}
 use Rattle.queue_load.specs.Tells.{TellsJob, IsNoJob}
-use Rattle.queue_load.proofs.Results.{if_ok, map_err}
 use Rattle.queue_load.proofs.Texts.{jobs_query, jobs_is}
 use Rattle.queue_load.proofs.Whole.{table_read, table_formless, told_all}
 use Rattle.queue_load.proofs.load.read_jobs.Goals as goal
@@ -16,7 +16,7 @@ pub returns-clause-read : goal.returns-clause-read
 returns-clause-read g c = λ fits clean.
     let first = state g.S.Store c.args.conn.now in
     let schema = fits (c.read_table.ensures.leaves.clean clean) in
-    if_ok c.read_table.result _ _ (λ v has. (
+    IfOk-weaker c.read_table.result _ _ (λ v has. (
       table_read jobs_query jobs_is TellsJob job_values (λ t r told. told.0) (λ a b. refl) first v.items schema has,
       told_all TellsJob IsBare (λ t r told. (told.1, told.2)) v.items has.rows has.told,
     )) (c.read_table.ensures.read fits clean)
@@ -25,4 +25,4 @@ pub returns-clause-formless : goal.returns-clause-formless
 returns-clause-formless g c = λ fits clean.
     let first = state g.S.Store c.args.conn.now in
     let schema = fits (c.read_table.ensures.leaves.clean clean) in
-    map_err c.read_table.result _ _ (λ e told d. table_formless jobs_query jobs_is job_values IsFormedJob IsNoJob (λ r none t f. none t f) first schema (told d)) (c.read_table.ensures.formless fits clean)
+    IfErr-weaker c.read_table.result _ _ (λ e told d. table_formless jobs_query jobs_is job_values IsFormedJob IsNoJob (λ r none t f. none t f) first schema (told d)) (c.read_table.ensures.formless fits clean)

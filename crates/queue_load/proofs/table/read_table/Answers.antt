@@ -1,4 +1,5 @@
 use Rattle.std.proofs.Common.{[], IsTrue, arith, rules}
+use Rattle.std.proofs.lemmas.Result.{IfErr-weaker, IfOk-weaker}
 use Rattle.sqlite.specs.Given.{HasGiven, IsPlain}
 use Rattle.sqlite.specs.Held.{state}
 use Rattle.sqlite.specs.Listing.{understood}
@@ -9,7 +10,6 @@ use Rattle.queue_tables.proofs.Leaving.{begun_unchanged, leaves_all, left_leaves
 use Rattle.queue_tables.proofs.Reading.{left_then, plain_at}
 use Rattle.queue_load.specs.Reads.{HasBook}
 use Rattle.queue_load.proofs.Loading.{plain_in, same_read, same_formless}
-use Rattle.queue_load.proofs.Results.{if_ok, map_err}
 use Rattle.queue_load.proofs.table.read_table.Goals.{After-read_rows}
 use Rattle.queue_load.proofs.table.read_table.Given.{Over}
 use Rattle.queue_load.proofs.table.read_table.Goals as goal
@@ -76,7 +76,7 @@ returns-clause-read g c fits clean =
     let late : HasCleanDisk (now g it) = search rules in
     let mid = c.read_rows.ensures.clean late in
     let was = same g it mid in
-    if_ok c.read_rows.result _ _ (λ v has. same_read c.args.sql.now (old g it) (first g it) was.0.now_is g.T.TableRow.tells v.items has)
+    IfOk-weaker c.read_rows.result _ _ (λ v has. same_read c.args.sql.now (old g it) (first g it) was.0.now_is g.T.TableRow.tells v.items has)
     (c.read_rows.ensures.read late was.0.is_open c.args.sql.now (plain_at c.args.sql.now (old g it).now (first g it).now (plain g it fits mid) was.0.now_is) (given g it fits mid))
 
 pub returns-clause-formless : goal.returns-clause-formless
@@ -85,4 +85,4 @@ returns-clause-formless g c fits clean =
     let late : HasCleanDisk (now g it) = search rules in
     let mid = c.read_rows.ensures.clean late in
     let was = same g it mid in
-    map_err c.read_rows.result _ _ (λ e told d. same_formless c.args.sql.now (old g it) (first g it) was.0.now_is g.T.TableRow.is_formless (told d)) (c.read_rows.ensures.formless late was.0.is_open c.args.sql.now (given g it fits mid))
+    IfErr-weaker c.read_rows.result _ _ (λ e told d. same_formless c.args.sql.now (old g it) (first g it) was.0.now_is g.T.TableRow.is_formless (told d)) (c.read_rows.ensures.formless late was.0.is_open c.args.sql.now (given g it fits mid))

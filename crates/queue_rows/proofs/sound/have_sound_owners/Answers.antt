@@ -1,5 +1,5 @@
 use Rattle.std.proofs.Common.{get_or, sym, ◌∙◌}
-use Rattle.queue_rows.proofs.AmountLemmas.{if_ok}
+use Rattle.std.proofs.lemmas.Result.{IfOk-weaker}
 use Rattle.queue_rows.proofs.sound.have_sound_owners.Goals as goal
 
 pub returns-then-not-others_are_idle : goal.returns-then-not-others_are_idle
@@ -10,7 +10,7 @@ returns-then-not-others_are_idle c = λ gs known. (
 
 pub returns : goal.returns
 returns c =
-    if_ok c.accounts_are_balanced.result _ _ (λ b balanced gs known. (
+    IfOk-weaker c.accounts_are_balanced.result _ _ (λ b balanced gs known. (
       λ t. record {
         live = c.in_ok-live_jobs_fit.ensures.0 (cc (c.if-not-branch.false));
         idle = λ k d lt none. c.others_are_idle.ensures.0 (cc (c.if-not-others_are_idle.false)) k d lt (known (get_or c.args.jobs.now k d).owner ∙ none);

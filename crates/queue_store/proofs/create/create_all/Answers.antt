@@ -1,12 +1,12 @@
+use Rattle.std.proofs.lemmas.Result.{on_ok_weaker}
 use Rattle.sqlite.specs.Held.{state}
 use Rattle.queue_store.specs.New.{no_content}
 use Rattle.queue_store.proofs.Empty.{made_holds}
-use Rattle.queue_store.proofs.Results.{on_ok}
 use Rattle.queue_store.proofs.create.create_all.Goals as goal
 
 pub returns-clause-done : goal.returns-clause-done
 returns-clause-done g c clean =
-    on_ok c.add_meta.result _ _ (λ adds blank.
+    on_ok_weaker c.add_meta.result (λ adds blank.
     let third = c.add_meta.ensures.stays.clean clean in
     let second = c.create_indexes.ensures.stays.clean third in
     let first = c.create_second.ensures.stays.clean second in

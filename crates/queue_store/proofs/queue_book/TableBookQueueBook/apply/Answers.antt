@@ -3,7 +3,7 @@ use Rattle.queue_core.specs.declared.book.BookFault.TheVariants.{Damaged as Book
 use Rattle.queue_types.specs.Event.{decision_of}
 use Rattle.queue_tables.specs.Faults.{told_as}
 use Rattle.queue_tables.specs.declared.fault.Fault.{Fault}
-use Rattle.queue_tables.specs.declared.fault.Fault.TheVariants.{Memory, Disk, Damaged}
+use Rattle.queue_tables.specs.declared.fault.Fault.TheVariants.{Damaged}
 use Rattle.queue_store.proofs.queue_book.TableBookQueueBook.apply.Goals as goal
 
 pub returns-in-Ok-clause-ok : goal.returns-in-Ok-clause-ok
@@ -43,9 +43,8 @@ returns-clause-crash g c honest live w stands =
 
 -- only Damaged is told as Damaged
 told_damaged : (f : Fault) → told_as f ≡ BookDamaged → f ≡ Damaged
-told_damaged Memory e = absurd cc
-told_damaged Disk e = absurd cc
 told_damaged Damaged e = refl
+told_damaged _ e = absurd cc
 
 pub returns-clause-damaged : goal.returns-clause-damaged
 returns-clause-damaged g c honest told w stands =
