@@ -1,13 +1,11 @@
 -- Jobs whose numbers rise are found by few looks.
-use Rattle.std.proofs.Common.{◌≡◌, ℕ, zero, suc, ◌<◌, ◌≤◌, ◌+◌, List, [], ◌∷◌, length, get_or, refl, ap, sym, ◌∙◌, arith, subst, Bool, true, false, cond}
-use Rattle.std.specs.Prelude.{nat_eq, nat_lt, filter, fold}
-use Rattle.std.specs.Bool.{OnFalse, OnTrue}
+use Rattle.std.proofs.Common.{◌≡◌, ℕ, zero, suc, ◌<◌, ◌≤◌, ◌+◌, List, [], ◌∷◌, length, get_or, refl, ap, sym, ◌∙◌, arith, subst, Bool, true, false, cond, eq-eqb}
+use Rattle.std.specs.Prelude.{nat_eq, nat_lt, filter, fold, option_map}
 use Rattle.std.specs.List.{AllByRecursion as Each}
 use Rattle.std.specs.List.Sorted.{IsPartitionedBy}
-use Rattle.std.proofs.Common.{eq-eqb}
-use Rattle.std.proofs.lemmas.Bool.Decides.{nat_tests}
+use Rattle.std.proofs.lemmas.Bool.{eqb-true, lt-ltb, ltb-true, ne_eqb}
+use Rattle.std.proofs.lemmas.List.Elements.{All-from_recursion}
 use Rattle.queue_core.specs.Order.{AreRising}
-use Rattle.std.specs.Prelude.{option_map}
 use Rattle.queue_types.specs.Event.{Change}
 use Rattle.queue_core.specs.Sound.{IsSound, Rise}
 use Rattle.queue_core.specs.World.{made_on, with_document, with_row}
@@ -16,21 +14,11 @@ use Rattle.list_book.proofs.Put.{documents_is, with_rows_of}
 use Rattle.queue_types.specs.declared.job.Job.{Job}
 use Rattle.queue_types.specs.declared.document.KeptDocument.{KeptDocument}
 use Rattle.list_book.specs.Lists.{IsTidy, entries_of, kept_of, put_row, put_rows, with_kept, world_of}
-use Rattle.queue_core.proofs.Ordered.{all_of}
-
-differ : (a b : ℕ) → (a ≡ b → ⊥) → nat_eq a b ≡ false
-differ a b apart = grind (arith, nat_tests)
-
-below : (a b : ℕ) → a < b → nat_lt a b ≡ true
-below a b h = grind (arith, nat_tests)
-
-is_below : (a b : ℕ) → nat_lt a b ≡ true → a < b
-is_below a b h = grind (arith, nat_tests)
 
 -- a job has none of the numbers below its own, and those behind it neither
 each_above : (n : ℕ) (j : Job) (js : List Job) → n ≤ j.number → Each (λ k. j.number < k.number) js → Each (λ k. nat_eq k.number n ≡ false) js
 each_above n j [] h each = tt
-each_above n j (k ∷ js) h each = (differ k.number n (λ same. let more = each.0 in absurd (omega (arith, same, more, h))), each_above n j js h each.1)
+each_above n j (k ∷ js) h each = (ne_eqb k.number n (λ same. let more = each.0 in absurd (omega (arith, same, more, h))), each_above n j js h each.1)
 
 pub filter_each : (same : Job → Bool) (js : List Job) → Each (λ j. same j ≡ false) js → filter same js ≡ []
 filter_each same [] each = refl
@@ -43,8 +31,8 @@ found (j ∷ js) zero n d rising h here =
     ap (λ b. cond b (j ∷ filter (λ k. nat_eq k.number n) js) (filter (λ k. nat_eq k.number n) js)) (eq-eqb _ _ here)
     ∙ ap (λ t. j ∷ t) (filter_each (λ k. nat_eq k.number n) js (each_above n j js (let e = here in omega (arith, e)) rising.0))
 found (j ∷ js) (suc i) n d rising h here =
-    let more = all_of (λ k. j.number < k.number) js rising.0 i d (omega arith) in
-    ap (λ b. cond b (j ∷ filter (λ k. nat_eq k.number n) js) (filter (λ k. nat_eq k.number n) js)) (differ j.number n (λ same. absurd (omega (arith, same, here, more))))
+    let more = All-from_recursion (λ k. j.number < k.number) js rising.0 i d (omega arith) in
+    ap (λ b. cond b (j ∷ filter (λ k. nat_eq k.number n) js) (filter (λ k. nat_eq k.number n) js)) (ne_eqb j.number n (λ same. absurd (omega (arith, same, here, more))))
     ∙ found js i n d rising.1 (omega arith) here
 
 -- those before i have smaller numbers, those from i on none that is smaller, and the one at i another: so none has this number
@@ -53,10 +41,10 @@ pub absent : (js : List Job) (i n : ℕ) (d : Job) → AreRising js → ((k : �
 absent [] i n d rising before behind other = tt
 absent (j ∷ js) zero n d rising before behind other =
     let most = behind 0 j (omega arith) (omega arith) in
-    (differ j.number n (other (omega arith)), each_above n j js most rising.0)
+    (ne_eqb j.number n (other (omega arith)), each_above n j js most rising.0)
 absent (j ∷ js) (suc i) n d rising before behind other =
     let less = before 0 j (omega arith) in (
-      differ j.number n (λ same. absurd (omega (arith, same, less))),
+      ne_eqb j.number n (λ same. absurd (omega (arith, same, less))),
       absent js i n d rising.1 (λ k e h. before (suc k) e (omega arith)) (λ k e l h. behind (suc k) e (omega arith) (omega arith)) (λ h. other (omega arith)),
     )
 
@@ -65,20 +53,14 @@ pub smaller_front : (n : ℕ) (js : List Job) → AreRising js → IsPartitioned
 smaller_front n [] rising a b d le lt e = absurd (omega arith)
 smaller_front n (j ∷ js) rising zero zero d le lt e = e
 smaller_front n (j ∷ js) rising zero (suc b) d le lt e =
-    let more = all_of (λ k. j.number < k.number) js rising.0 b d (omega arith) in
-    let less = is_below (get_or js b d).number n e in
-    below j.number n (omega (arith, more, less))
+    let more = All-from_recursion (λ k. j.number < k.number) js rising.0 b d (omega arith) in
+    let less = ltb-true (get_or js b d).number n e in
+    lt-ltb j.number n (omega (arith, more, less))
 smaller_front n (j ∷ js) rising (suc a) zero d le lt e = absurd (omega arith)
 smaller_front n (j ∷ js) rising (suc a) (suc b) d le lt e = smaller_front n js rising.1 a b d (omega arith) (omega arith) e
 
-pub not_smaller : (a b : ℕ) → nat_lt a b ≡ false → b ≤ a
-not_smaller a b h = grind (arith, nat_tests)
-
-pub smaller : (a b : ℕ) → nat_lt a b ≡ true → a < b
-smaller = is_below
-
-pub unlike : (a b : ℕ) → a < b → nat_eq a b ≡ false
-unlike a b h = differ a b (λ same. absurd (omega (arith, same, h)))
+pub ne_from_lt : (a b : ℕ) → a < b → nat_eq a b ≡ false
+ne_from_lt a b h = ne_eqb a b (λ same. absurd (omega (arith, same, h)))
 
 -- ---- a sound queue's numbers rise, also in the middle of a change
 
@@ -90,14 +72,11 @@ pub rising_rows : (first next : ℕ) (ds : List KeptDocument) (js : List Job) �
 rising_rows first next ds [] rise = tt
 rising_rows first next ds (j ∷ js) rise = (first_of (j.number + 1) next ds js j.number (omega arith) rise.1, rising_rows (j.number + 1) next ds js rise.1)
 
-same_number : (a b : ℕ) → nat_eq a b ≡ true → a ≡ b
-same_number a b e = grind (arith, nat_tests)
-
 kept_above : (n : ℕ) (x : Job) (js : List Job) → Each (λ k. n < k.number) (put_row js x) → Each (λ k. n < k.number) js
 kept_above n x [] = λ each. tt
 kept_above n x (j ∷ js) =
     elim (nat_eq j.number x.number) as (λ t. nat_eq j.number x.number ≡ t → Each (λ k. n < k.number) (cond t (x ∷ js) (j ∷ put_row js x)) → Each (λ k. n < k.number) (j ∷ js)) [
-      | true ↦ λ e each. (subst (λ m. n < m) (sym (same_number _ _ e)) each.0, each.1)
+      | true ↦ λ e each. (subst (λ m. n < m) (sym (eqb-true _ _ e)) each.0, each.1)
       | false ↦ λ e each. (each.0, kept_above n x js each.1)
     ] refl
 
@@ -105,7 +84,7 @@ rose : (x : Job) (js : List Job) → AreRising (put_row js x) → AreRising js
 rose x [] = λ rising. tt
 rose x (j ∷ js) =
     elim (nat_eq j.number x.number) as (λ t. nat_eq j.number x.number ≡ t → AreRising (cond t (x ∷ js) (j ∷ put_row js x)) → AreRising (j ∷ js)) [
-      | true ↦ λ e rising. (subst (λ m. Each (λ k. m < k.number) js) (sym (same_number _ _ e)) rising.0, rising.1)
+      | true ↦ λ e rising. (subst (λ m. Each (λ k. m < k.number) js) (sym (eqb-true _ _ e)) rising.0, rising.1)
       | false ↦ λ e rising. (kept_above j.number x js rising.0, rose x js rising.1)
     ] refl
 
@@ -125,14 +104,6 @@ rising_made l c tidy sound =
 
 pub rising_jobs : (l : Lists) → IsSound (world_of l) → AreRising l.jobs.items
 rising_jobs l sound = rising_rows 1 l.next l.documents.items l.jobs.items sound.numbers
-
-pub when_true : (b : Bool) (P : Type 0) → b ≡ true → OnTrue b P → P
-when_true true P is h = h
-when_true false P is h = cc is
-
-pub when_false : (b : Bool) (P : Type 0) → b ≡ false → OnFalse b P → P
-when_false false P is h = h
-when_false true P is h = cc is
 
 -- where no job is at the place of the number, none has it
 pub nowhere : (js : List Job) (i n : ℕ) → AreRising js → ((k : ℕ) (e : Job) → k < i → (get_or js k e).number < n) → ((k : ℕ) (e : Job) → i ≤ k → k < length js → n ≤ (get_or js k e).number)

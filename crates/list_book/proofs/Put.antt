@@ -1,12 +1,11 @@
 -- Where an item is put, and what the book's lists stand for once it is there.
-use Rattle.std.proofs.Common.{◌≡◌, ℕ, ◌<◌, suc, zero, List, [], ◌∷◌, ◌++◌, length, get_or, map, refl, ap, sym, ◌∙◌, arith, subst, Bool, true, false, cond}
-use Rattle.std.specs.Prelude.{slice_set, fold, IsSome, is_some, Option, Some, None, nat_eq}
+use Rattle.std.proofs.Common.{◌≡◌, ℕ, ◌<◌, suc, zero, List, [], ◌∷◌, ◌++◌, length, get_or, map, refl, ap, sym, ◌∙◌, arith, subst, Bool, true, false, cond, eq-eqb}
+use Rattle.std.specs.Prelude.{slice_set, fold, IsSome, is_some, Option, Some, None, nat_eq, option_map, IfSome, unwrap_or}
+use Rattle.std.proofs.lemmas.Bool.{eqb-true}
 use Rattle.std.proofs.lemmas.Bool.Decides.{nat_tests}
 use Rattle.std.specs.FinMap.{get}
 use Rattle.queue_core.specs.World.{Entry, with_row, with_document, add_document, put_free, put_grant, with_report, made_on, cut, found_row, owner_row, numbered, queue_counts, jobs_for, live_for, counts_for, job_at}
 use Rattle.queue_types.specs.Event.{NewDocument, Change, Call, ask, tell}
-use Rattle.std.proofs.Common.{eq-eqb}
-use Rattle.std.specs.Prelude.{option_map, IfSome, unwrap_or}
 use Rattle.queue_types.specs.declared.event.Scene.{Scene}
 use Rattle.list_book.specs.declared.lists.Lists.{Lists}
 use Rattle.list_book.specs.Lists.{put_by, documents_of, entry_of, entries_of, IsTidy, put_row, put_rows, kept_of, with_kept, world_of, reports_map, HaveSameItems}
@@ -35,9 +34,6 @@ pub rows_of : (ds : List KeptDocument) (js : List Job) → map (λ e. e.row) (en
 rows_of ds [] = refl
 rows_of ds (j ∷ js) = ap (λ t. j ∷ t) (rows_of ds js)
 
-same_number : (a b : ℕ) → nat_eq a b ≡ true → a ≡ b
-same_number a b e = grind (arith, nat_tests)
-
 -- to put a row among the rows is to put it among the entries
 pub with_row_of : (ds : List KeptDocument) (js : List Job) (x : Job) → (job_at x.number js ≡ None → documents_of x.number ds ≡ []) → with_row (entries_of ds js) x ≡ entries_of ds (put_by (λ y. nat_eq y.number x.number) x js)
 with_row_of ds [] x tidy = ap (λ t. record { row = x; documents = t } ∷ []) (sym (tidy refl))
@@ -45,7 +41,7 @@ with_row_of ds (y ∷ js) x tidy =
     elim (nat_eq y.number x.number) as (λ t. nat_eq y.number x.number ≡ t → (cond t (Some y) (job_at x.number js) ≡ None → documents_of x.number ds ≡ [])
     → cond t (record { row = x; documents = documents_of y.number ds } ∷ entries_of ds js) (entry_of ds y ∷ with_row (entries_of ds js) x)
     ≡ entries_of ds (cond t (x ∷ js) (y ∷ put_by (λ z. nat_eq z.number x.number) x js))) [
-      | true ↦ λ e k. ap (λ n. record { row = x; documents = documents_of n ds } ∷ entries_of ds js) (same_number _ _ e)
+      | true ↦ λ e k. ap (λ n. record { row = x; documents = documents_of n ds } ∷ entries_of ds js) (eqb-true _ _ e)
       | false ↦ λ e k. ap (λ t. entry_of ds y ∷ t) (with_row_of ds js x k)
     ] refl tidy
 
@@ -68,7 +64,7 @@ pub job_at-put : (n : ℕ) (x : Job) (js : List Job) → job_at n (put_by (λ y.
 job_at-put n x [] e = refl
 job_at-put n x (y ∷ js) e =
     elim (nat_eq y.number x.number) as (λ t. nat_eq y.number x.number ≡ t → job_at n (cond t (x ∷ js) (y ∷ put_by (λ z. nat_eq z.number x.number) x js)) ≡ None → job_at n (y ∷ js) ≡ None) [
-      | true ↦ λ e h. at_head n x y js (same_number _ _ e) h
+      | true ↦ λ e h. at_head n x y js (eqb-true _ _ e) h
       | false ↦ λ e h. later n y js (put_by (λ z. nat_eq z.number x.number) x js) h (job_at-put n x js)
     ] refl e
 
@@ -85,8 +81,7 @@ with_rows_of ds (x ∷ xs) js tidy =
 pushed : (b c : Bool) (x d : Document) (xs ys : List Document) → ys ≡ cond c (xs ++ d ∷ []) xs → cond b (x ∷ ys) ys ≡ cond c (cond b (x ∷ xs) xs ++ d ∷ []) (cond b (x ∷ xs) xs)
 pushed true true x d xs ys e = ap (λ t. x ∷ t) e
 pushed true false x d xs ys e = ap (λ t. x ∷ t) e
-pushed false true x d xs ys e = e
-pushed false false x d xs ys e = e
+pushed false c x d xs ys e = e
 
 abbrev entry : Job → List Document → Entry
 entry j xs = record { row = j; documents = xs }
@@ -115,7 +110,7 @@ with_document_of ds (j ∷ js) d =
 pub tidy-push : (js : List Job) (ds : List KeptDocument) (d : KeptDocument) → IsTidy js ds → IsSome (job_at d.job js) → IsTidy js (ds ++ d ∷ [])
 tidy-push js ds d tidy there n none =
     documents-push n ds d ∙ elim (nat_eq d.job n) as (λ t. nat_eq d.job n ≡ t → cond t (documents_of n ds ++ d.document ∷ []) (documents_of n ds) ≡ []) [
-      | true ↦ λ e. let same : d.job ≡ n = same_number _ _ e in let bad : is_some (job_at n js) ≡ true = subst (λ m. IsSome (job_at m js)) same there in let worse : is_some (job_at n js) ≡ false = ap is_some none in absurd (cc)
+      | true ↦ λ e. let same : d.job ≡ n = eqb-true _ _ e in let bad : is_some (job_at n js) ≡ true = subst (λ m. IsSome (job_at m js)) same there in let worse : is_some (job_at n js) ≡ false = ap is_some none in absurd (cc)
       | false ↦ λ e. tidy n none
     ] refl
 
@@ -185,7 +180,7 @@ put_keeps : (n : ℕ) (x : Job) (js : List Job) → IsSome (job_at n js) → IsS
 put_keeps n x [] h = absurd (cc)
 put_keeps n x (y ∷ js) h =
     elim (nat_eq y.number x.number) as (λ t. nat_eq y.number x.number ≡ t → IsSome (job_at n (cond t (x ∷ js) (y ∷ put_row js x)))) [
-      | true ↦ λ e. let same : nat_eq y.number n ≡ nat_eq x.number n = ap (λ m. nat_eq m n) (same_number y.number x.number e) in kept (nat_eq x.number n) x y js n (subst (λ b. IsSome (cond b (Some y) (job_at n js))) same h)
+      | true ↦ λ e. let same : nat_eq y.number n ≡ nat_eq x.number n = ap (λ m. nat_eq m n) (eqb-true y.number x.number e) in kept (nat_eq x.number n) x y js n (subst (λ b. IsSome (cond b (Some y) (job_at n js))) same h)
       | false ↦ λ e. passes (nat_eq y.number n) y (job_at n js) (job_at n (put_row js x)) (put_keeps n x js) h
     ] refl
 
@@ -198,7 +193,7 @@ pub job_put : (n : ℕ) (xs js : List Job) → IsSome (job_at n xs) → IsSome (
 job_put n [] js h = absurd (cc)
 job_put n (x ∷ xs) js h =
     elim (nat_eq x.number n) as (λ t. nat_eq x.number n ≡ t → IsSome (cond t (Some x) (job_at n xs)) → IsSome (job_at n (put_rows (put_row js x) xs))) [
-      | true ↦ λ e h. all_keep n xs (put_row js x) (subst (λ m. IsSome (job_at m (put_row js x))) (same_number x.number n e) (put_there x js))
+      | true ↦ λ e h. all_keep n xs (put_row js x) (subst (λ m. IsSome (job_at m (put_row js x))) (eqb-true x.number n e) (put_there x js))
       | false ↦ λ e h. job_put n xs (put_row js x) h
     ] refl h
 

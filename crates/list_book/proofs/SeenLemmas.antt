@@ -1,13 +1,13 @@
 -- What is read of the book's lists is what its world shows.
 use Rattle.std.proofs.Common.{◌≡◌, ℕ, suc, ◌<◌, ◌≤◌, ◌+◌, ◌*◌, ◌^◌, List, [], ◌∷◌, length, map, refl, ap, sym, ◌∙◌, arith, Bool, true, false, cond}
-use Rattle.std.specs.Prelude.{IfSome, nat_eq, nat_lt, ◌&&◌, Option, Some, None, find, filter, option_map, slice_get, ◌-◌}
+use Rattle.std.specs.Prelude.{IfSome, nat_eq, nat_lt, ◌&&◌, Option, Some, None, find, filter, option_map, slice_get, ◌-◌, bytes_eq, sum_by, ℤ}
 use Rattle.std.specs.List.{AllByRecursion as Each}
 use Rattle.std.specs.FinMap.{empty, entries, from_sorted, entries-from_sorted, get, get-empty, get-from_sorted, same_map}
 use Rattle.list_book.proofs.Keyed.{grant_exact, grant_total}
 use Rattle.queue_core.specs.Limits.{IsSoundJob}
 use Rattle.queue_core.specs.Shown.{charged_to, document_at, document_of, is_fetched, sheet_of}
 use Rattle.queue_core.specs.Sound.{IsSound, IsSoundEntry, Rise, printed_for, reserved_for}
-use Rattle.queue_core.specs.World.{World, Entry, grant_cmp, granted_in, known_grant, rows, job_at}
+use Rattle.queue_core.specs.World.{World, Entry, grant_cmp, granted_in, known_grant, rows, job_at, cut, queue_counts}
 use Rattle.queue_types.specs.declared.job.Job.{Job}
 use Rattle.queue_types.specs.declared.document.Document.{Document}
 use Rattle.queue_types.specs.declared.document.KeptDocument.{KeptDocument}
@@ -16,15 +16,13 @@ use Rattle.list_book.specs.declared.lists.Lists.{Lists}
 use Rattle.list_book.specs.Lists.{AreTotals, entry_of, entries_of, nth_of, documents_of, sheet_in, world_of}
 use Rattle.list_book.specs.Tables.{free_map, grants_map, known_in, total_of}
 use Rattle.list_book.proofs.Put.{rows_of}
-use Rattle.std.specs.Prelude.{bytes_eq, sum_by, ℤ}
 use Rattle.std.proofs.lemmas.List.Sums.{sum_by-cons}
-use Rattle.std.proofs.lemmas.Bool.{lt-ltb}
+use Rattle.std.proofs.lemmas.Bool.{cond-true, lt-ltb}
 use Rattle.std.proofs.lemmas.Option.{slice_get-map}
 use Rattle.std.proofs.Math.Nat.{mul-le-mul_left}
 use Rattle.queue_types.specs.Job.{owed, estimate, is_live}
 use Rattle.queue_types.specs.declared.event.Scene.{Scene}
 use Rattle.queue_types.specs.declared.sheet.AccountSheet.{AccountSheet}
-use Rattle.queue_core.specs.World.{cut, queue_counts}
 use Rattle.queue_types.specs.Event.{grant}
 
 -- ---- documents
@@ -64,17 +62,13 @@ documents_are job (k ∷ ks) = one_document (nat_eq k.job job) k _ _ (documents_
 document_behind : (job n : ℕ) (ks : List KeptDocument) → slice_get (documents_of job ks) n ≡ option_map (λ x. x.document) (slice_get (filter (λ x. nat_eq x.job job) ks) n)
 document_behind job n ks = ap (λ ds. slice_get ds n) (documents_are job ks) ∙ slice_get-map (λ x. x.document) (filter (λ x. nat_eq x.job job) ks) n
 
-where_some : {X : Type 0} (b : Bool) (x : Option X) → b ≡ true → x ≡ cond b x None
-where_some true x is = refl
-where_some false x is = absurd (cc)
-
 -- document n is that of the row behind n - 1 rows of its job
 pub nth_is : (job n before : ℕ) (ks : List KeptDocument) (o : Option KeptDocument) → 1 ≤ n → before ≡ n - 1 → o ≡ slice_get (filter (λ x. nat_eq x.job job) ks) before → option_map (λ x. x.document) o ≡ nth_of job n ks
 nth_is job n before ks o some is there =
     ap (option_map (λ x. x.document)) there
     ∙ sym (document_behind job before ks)
     ∙ ap (slice_get (documents_of job ks)) is
-    ∙ where_some (nat_lt 0 n) (slice_get (documents_of job ks) (n - 1)) (lt-ltb 0 n some)
+    ∙ sym (cond-true (nat_lt 0 n) (slice_get (documents_of job ks) (n - 1)) None (lt-ltb 0 n some))
 
 -- ---- limits of a sound world
 

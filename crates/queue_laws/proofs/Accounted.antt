@@ -4,6 +4,7 @@ use Rattle.std.specs.Prelude.{Option, Some, None, IsSome, IfSome, is_some, ◌�
 use Rattle.std.specs.FinMap.{get}
 use Rattle.std.proofs.lemmas.Bool.Decides.{nat_tests}
 use Rattle.std.proofs.lemmas.List.Sums.{sum_by-cons}
+use Rattle.std.proofs.lemmas.Bool.{or_parts}
 use Rattle.queue_types.specs.Job.{owed}
 use Rattle.queue_core.specs.Order.{AreRising}
 use Rattle.queue_core.specs.Shown.{is_charged, sheet_jobs, sheet_of}
@@ -12,8 +13,8 @@ use Rattle.queue_core.specs.World.{World, rows, granted}
 use Rattle.queue_types.specs.declared.job.Job.{Job}
 use Rattle.queue_types.specs.declared.sheet.AccountSheet.{AccountSheet}
 use Rattle.queue_laws.specs.Jobs.{is_owned_by}
-use Rattle.queue_laws.proofs.Base.{left_none, right_none}
-use Rattle.queue_laws.proofs.InOrder.{count_filter, rising, rising_filter}
+use Rattle.queue_laws.proofs.InOrder.{count_filter}
+use Rattle.queue_laws.proofs.Standing.{chosen_rise}
 
 -- ---- lines add up
 
@@ -25,10 +26,10 @@ abbrev AreLeftOut : (Job → ℕ) → Type 0
 AreLeftOut pages = (j : Job) → is_charged j ≡ false → pages j ≡ 0
 
 owed_left_out : AreLeftOut owed
-owed_left_out j e = no_pages (owed j) (left_none (nat_lt 0 (owed j)) (nat_lt 0 j.count) e)
+owed_left_out j e = no_pages (owed j) (or_parts (nat_lt 0 (owed j)) (nat_lt 0 j.count) e).0
 
 count_left_out : AreLeftOut (λ j. j.count)
-count_left_out j e = no_pages j.count (right_none (nat_lt 0 (owed j)) (nat_lt 0 j.count) e)
+count_left_out j e = no_pages j.count (or_parts (nat_lt 0 (owed j)) (nat_lt 0 j.count) e).1
 
 lines_add_up : (a : List ℕ) (pages : Job → ℕ) → AreLeftOut pages → (js : List Job) → sum_by (λ j. cond (bytes_eq j.owner a) (pages j) 0) js ≡ sum_by pages (filter (λ j. bytes_eq j.owner a && is_charged j) js)
 lines_add_up a pages left_out [] = refl
@@ -86,4 +87,4 @@ module _ (w : World) (a : List ℕ) where
     sheet_each p = of_sheet (λ s. count_by p s.jobs ≡ count_by (λ j. is_owned_by a j && is_charged j && p j) (rows w)) w a s (λ free there. count_filter p (λ j. bytes_eq j.owner a && is_charged j) (rows w))
 
     pub sheet_in_order : IsSound w → sheet_of w a ≡ Some s → AreRising s.jobs
-    sheet_in_order sound = of_sheet (λ s. AreRising s.jobs) w a s (λ free there. rising_filter (λ j. bytes_eq j.owner a && is_charged j) (rows w) (rising 1 w.next w.jobs sound.numbers))
+    sheet_in_order sound = of_sheet (λ s. AreRising s.jobs) w a s (λ free there. chosen_rise w sound (λ j. bytes_eq j.owner a && is_charged j))

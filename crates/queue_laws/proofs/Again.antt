@@ -3,17 +3,14 @@ use Rattle.std.proofs.Common.{◌≡◌, ℕ, List, [], ◌∷◌, refl, ap, sym
 use Rattle.std.specs.Prelude.{Option, Some, None, IfSome, is_some, nat_eq, ◌&&◌}
 use Rattle.std.specs.List.{AllByRecursion as Each}
 use Rattle.std.specs.FinMap.{FinMap, get, get-insert}
-use Rattle.queue_types.specs.Event.{Decision, Event, ask, tell, grant}
-use Rattle.queue_core.specs.Grants.{Taken, all_taken, none_taken, take_rows}
+use Rattle.queue_types.specs.Event.{Decision, Event, ask, tell, grant, kind_number}
 use Rattle.queue_types.specs.Job.{job_state}
 use Rattle.queue_core.specs.Limits.{IsMoment, IsReport}
 use Rattle.queue_core.specs.World.{World, rows, cut, made_on, job_at, numbered, report_cmp}
 use Rattle.queue_core.specs.Reports.{is_same_report}
-use Rattle.queue_types.specs.Event.{kind_number}
-use Rattle.queue_core.specs.Machine.{Step, decision, step, answered, report_row, grant_row}
+use Rattle.queue_core.specs.Machine.{Step, decision, step, answered, report_row}
 use Rattle.queue_core.specs.Runs.{Place, IsPlace, after, run}
 use Rattle.queue_core.specs.Sound.{IsSound, IsKept}
-use Rattle.queue_types.specs.declared.event.GrantRow.{GrantRow}
 use Rattle.queue_types.specs.declared.event.KeptReport.{KeptReport}
 use Rattle.queue_types.specs.declared.event.Report.{Report}
 use Rattle.queue_types.specs.declared.event.ReportRefusal.TheVariants.{Conflict}
@@ -23,9 +20,9 @@ use Rattle.queue_types.specs.declared.event.Reply.TheVariants.{Told, NotTold}
 use Rattle.queue_types.specs.declared.job.Job.{Job}
 use Rattle.queue_laws.proofs.Base.{itself}
 use Rattle.queue_laws.proofs.Books.{reports_kept}
-use Rattle.queue_core.proofs.Maps.{report_total, is_report_key}
-use Rattle.queue_laws.proofs.Keys.{own_report_key, report_key}
-use Rattle.queue_laws.proofs.Telling.{declined, known, taken, telling}
+use Rattle.queue_core.proofs.Maps.{report_total, is_report_key, own_report_key, report_key}
+use Rattle.queue_laws.proofs.Telling.{declined, known, taken, telling, told_parts}
+use Rattle.queue_laws.proofs.Filed.{reports_left}
 
 -- under the report's job and sequence number an equal one is kept, with that state and count
 pub record IsKeptAs (kept : FinMap report_cmp KeptReport) (r : Report) (s : JobState) (c : ℕ) : Type 0 where
@@ -40,9 +37,6 @@ same_itself r = ap (λ b. b && nat_eq r.count r.count) (itself (kind_number r.ki
 
 no_reply : (t u : Reply) (A : Type 0) → t ≡ u → (t ≡ u → ⊥) → A
 no_reply t u A e never = absurd (never e)
-
-told_parts : (s : JobState) (c : ℕ) (m : JobState) (n : ℕ) → Told m n ≡ Told s c → (m ≡ s) × (n ≡ c)
-told_parts s c m n e = (cc, cc)
 
 -- a report that is accepted, now or again, is kept afterwards with what it was told
 pub told_kept : (w : World) (now : ℕ) (r : Report) (s : JobState) (c : ℕ) → (step w now (tell r)).reply ≡ Told s c → IsKeptAs (step w now (tell r)).world.reports r s c
@@ -89,18 +83,11 @@ stays_told w now r n m k kept = elim (telling w now r) as (λ _. get (step w now
       ] refl)
 ]
 
-granted_reports : (w : World) (t : Taken) → (made_on (grant_row t).change w).reports ≡ w.reports
-granted_reports w (all_taken new free repeats) = refl
-granted_reports w (none_taken fault row) = refl
-
-pub grant_reports : (w : World) (now : ℕ) (rows : List GrantRow) → (step w now (grant rows)).world.reports ≡ w.reports
-grant_reports w now rows = granted_reports w (take_rows rows _ 1 [] [] 0)
-
 pub stays : (w : World) (now : ℕ) (e : Option Event) (n m : ℕ) (k : KeptReport) → get w.reports (n, m) ≡ Some k → get (after w now e).reports (n, m) ≡ Some k
 stays w now None n m k kept = kept
 stays w now (Some (ask caller call)) n m k kept = ap (λ reports. get reports (n, m)) (reports_kept w now caller call) ∙ kept
 stays w now (Some (tell r)) n m k kept = stays_told w now r n m k kept
-stays w now (Some (grant rows)) n m k kept = ap (λ reports. get reports (n, m)) (grant_reports w now rows) ∙ kept
+stays w now (Some (grant rows)) n m k kept = ap (λ reports. get reports (n, m)) (reports_left w now rows) ∙ kept
 
 pub kept_stays : (w : World) (now : ℕ) (e : Option Event) (r : Report) (s : JobState) (c : ℕ) → IsKeptAs w.reports r s c → IsKeptAs (after w now e).reports r s c
 kept_stays w now e r s c kept = record { report = kept.report; there = stays w now e r.job r.seq kept.report kept.there; same = kept.same; state = kept.state; total = kept.total }

@@ -1,7 +1,7 @@
 -- Places that are alike and differ.
 use Rattle.std.proofs.Common.{◌≡◌, ℕ, ◌+◌, List, refl, ap, sym, ◌∙◌, inr, arith, true, false}
 use Rattle.std.specs.Prelude.{Some, None, nat_eq, bytes_eq, not}
-use Rattle.std.proofs.lemmas.Bool.Decides.{nat_tests}
+use Rattle.std.proofs.lemmas.Bool.{ne_eqb}
 use Rattle.queue_types.specs.Event.{Call, Event, NewJob, ask, print_job}
 use Rattle.queue_core.specs.Machine.{step}
 use Rattle.queue_core.specs.Runs.{Place}
@@ -18,11 +18,8 @@ use Rattle.queue_laws.proofs.Undrawn.{next_kept}
 abbrev asks : ℕ → List ℕ → Call → Place
 asks now caller call = record { now = now; event = Some (ask caller call) }
 
-one_more : (n : ℕ) → nat_eq (n + 1) n ≡ false
-one_more n = grind (arith, nat_tests)
-
 print_draws : (w : World) (now : ℕ) (caller : List ℕ) (j : NewJob) (format : Format) (bytes : List ℕ) → IsSound w → refuses (step w now (ask caller (print_job j format bytes))).reply ≡ false → draws w (asks now caller (print_job j format bytes)) ≡ true
-print_draws w now caller j format bytes sound taken = ap (λ n. not (nat_eq n w.next)) (printed w now caller j format bytes sound taken).next ∙ ap not (one_more w.next)
+print_draws w now caller j format bytes sound taken = ap (λ n. not (nat_eq n w.next)) (printed w now caller j format bytes sound taken).next ∙ ap not (ne_eqb (w.next + 1) w.next (λ same. omega arith))
 
 pub prints_alike : (u bob carol : List ℕ) (w v : World) (now : ℕ) (j k : NewJob) (f g : Format) (b c : List ℕ) → IsSound w → IsSound v → bytes_eq bob u ≡ false → bytes_eq carol u ≡ false
     → refuses (step w now (ask bob (print_job j f b))).reply ≡ false → refuses (step v now (ask carol (print_job k g c))).reply ≡ false → IsAlikePlace u w v (asks now bob (print_job j f b)) (asks now carol (print_job k g c))

@@ -1,22 +1,26 @@
 -- What a caller asks changes that caller's own rows alone.
 use Rattle.std.proofs.Common.{◌≡◌, ℕ, ℤ, ◌<◌, ◌+◌, List, [], ◌∷◌, map, refl, ap, sym, ◌∙◌, arith, subst, inl, inr, Bool, true, false, cond}
 use Rattle.std.specs.Prelude.{Option, Some, None, IfSome, nat_eq, bytes_eq, filter, ◌&&◌}
-use Rattle.std.specs.List.{list_all, AllByRecursion as Each}
+use Rattle.std.specs.List.{AllByRecursion as Each}
 use Rattle.std.specs.FinMap.{get}
-use Rattle.queue_types.specs.Job.{is_live, estimate}
-use Rattle.queue_types.specs.Event.{Change, Call, Decision, NewJob, NewDocument, ask, print_job, validate_job, create_job, send_document, cancel_job, cancel_my_jobs, hold_job, release_job, get_job_attributes, get_jobs, get_printer_attributes}
-use Rattle.queue_core.specs.World.{World, Entry, rows, cut, found_row, job_at, is_one_of}
-use Rattle.queue_core.specs.Machine.{decision, no_change, answered, refused, credited, changed, becomes, entered, new_job, new_document, new_refusal, unless_refused, validate_job_row, canceled, canceled_in, is_cancelable, cancel_row, all_canceled, are_there, cancel_my_jobs_row, is_sendable, sent, send_in, hold_in, has_pages, let_print, release_in, of_own}
+use Rattle.std.proofs.lemmas.Bool.{and_parts, eqb-false}
+use Rattle.queue_types.specs.Job.{is_live}
+use Rattle.queue_types.specs.Event.{Call, Decision, NewJob, NewDocument, ask, print_job, validate_job, create_job, send_document, cancel_job, cancel_my_jobs, hold_job, release_job, get_job_attributes}
+use Rattle.queue_core.specs.World.{World, Entry, rows, cut, found_row, is_one_of}
+use Rattle.queue_core.specs.Machine.{decision, no_change, answered, credited, changed, becomes, entered, new_job, new_document, new_refusal, unless_refused, validate_job_row, canceled, canceled_in, is_cancelable, cancel_row, all_canceled, cancel_my_jobs_row, sent, send_in, hold_in, release_in, of_own}
 use Rattle.queue_core.specs.Sound.{IsSound, Rise}
 use Rattle.queue_types.specs.declared.document.Format.{Format}
 use Rattle.queue_types.specs.declared.job.Job.{Job}
 use Rattle.queue_types.specs.declared.job.Phase.{Phase}
-use Rattle.queue_types.specs.declared.job.Phase.TheVariants.{Waiting, Running, Stopped, Canceled, Aborted, Completed}
+use Rattle.queue_types.specs.declared.job.Phase.TheVariants.{Waiting}
 use Rattle.queue_types.specs.declared.event.FreeRow.{FreeRow}
 use Rattle.queue_types.specs.declared.event.Reply.TheVariants.{Jobs, Done}
 use Rattle.queue_types.specs.declared.event.Scene.{Scene}
-use Rattle.queue_laws.proofs.Base.{at, rows_of, below, differs, equal, same_key, first_named, first_below, itself, passed, each_map, each_both, each_filter, first_of}
+use Rattle.queue_core.proofs.Ordered.{each-filter}
+use Rattle.queue_laws.proofs.Base.{at, equal, same_key, first_named, first_below, passed, each_map, each_both}
 use Rattle.queue_laws.proofs.Callers.{IsBy, IsRowBy, IsNumberOf}
+use Rattle.queue_laws.proofs.Standing.{Stands, all_stand}
+use Rattle.queue_laws.proofs.Rows.{on_own, on_new, on_named, on_send, on_cancel, on_hold, on_release}
 
 -- ---- whose numbers they are
 
@@ -35,24 +39,8 @@ number_of n first next j [] rise there = tt
 number_of n first next j (e ∷ es) rise there =
     elim (nat_eq e.row.number n) as (λ t. nat_eq e.row.number n ≡ t → cond t (Some e.row) (at n es) ≡ Some j → IsNumberOf j.owner n (e ∷ es)) [
       | true ↦ λ is there. let same : e.row ≡ j = cc in (λ number. ap (λ (k : Job). k.owner) same, none_below j.owner n (e.row.number + 1) next es (let here = equal e.row.number n is in omega arith) rise.1)
-      | false ↦ λ is there. (λ number. absurd (differs e.row.number n is number), number_of n (e.row.number + 1) next j es rise.1 there)
+      | false ↦ λ is there. (λ number. absurd (eqb-false e.row.number n is number), number_of n (e.row.number + 1) next j es rise.1 there)
     ] refl there
-
--- each stands at its own number
-behind : (j : Job) (js ks : List Job) → Each (λ k. j.number < k.number) ks → Each (λ k. job_at k.number js ≡ Some k) ks → Each (λ k. job_at k.number (j ∷ js) ≡ Some k) ks
-behind j js [] more each = tt
-behind j js (k ∷ ks) more each = (ap (λ b. cond b (Some j) (job_at k.number js)) (below j.number k.number more.0) ∙ each.0, behind j js ks more.1 each.1)
-
-pub all_above : (n first next : ℕ) (es : List Entry) → n < first → Rise first es next → Each (λ (k : Job). n < k.number) (rows_of es)
-all_above n first next [] low rise = tt
-all_above n first next (e ∷ es) low rise = (let least = rise.0 in omega arith, all_above n (e.row.number + 1) next es (let least = rise.0 in omega arith) rise.1)
-
-pub each_at : (first next : ℕ) (es : List Entry) → Rise first es next → Each (λ (j : Job). at j.number es ≡ Some j) (rows_of es)
-each_at first next [] rise = tt
-each_at first next (e ∷ es) rise = (
-  ap (λ b. cond b (Some e.row) (at e.row.number es)) (itself e.row.number),
-  behind e.row (rows_of es) (rows_of es) (all_above e.row.number (e.row.number + 1) next es (omega arith) rise.1) (each_at (e.row.number + 1) next es rise.1),
-)
 
 -- ---- changes
 
@@ -74,11 +62,7 @@ pub record IsSame (x j : Job) : Type 0 where
 
 pub same_canceled : (now : ℕ) (j : Job) (p : Phase) → IsSame (canceled_in p now j) j
 same_canceled now j Waiting = record { number = refl; owner = refl }
-same_canceled now j Running = record { number = refl; owner = refl }
-same_canceled now j Stopped = record { number = refl; owner = refl }
-same_canceled now j (Canceled why) = record { number = refl; owner = refl }
-same_canceled now j Aborted = record { number = refl; owner = refl }
-same_canceled now j Completed = record { number = refl; owner = refl }
+same_canceled now j _ = record { number = refl; owner = refl }
 
 each_canceled : (caller : List ℕ) (es : List Entry) (now : ℕ) (js : List Job) → Each (λ j. IsRowBy caller es j) js → Each (λ x. IsRowBy caller es x) (map (canceled now) js)
 each_canceled caller es now [] each = tt
@@ -90,33 +74,31 @@ module _ (w : World) (caller : List ℕ) (call : Call) (sound : IsSound w) where
   abbrev scene : Scene
   scene = cut w (ask caller call)
 
-  abbrev By : Change → Type 0
-  By c = IsBy caller w c
+  abbrev By : Decision → Type 0
+  By d = IsBy caller w d.change
 
-  refused_by : (code : ℕ) → By (refused code).change
-  refused_by code = nothing_by caller w
+  nothing : By (answered Done)
+  nothing = nothing_by caller w
 
-  changed_by : (js : List Job) → Each (IsRowBy caller w.jobs) js → By (changed scene js)
+  changed_by : (js : List Job) → Each (IsRowBy caller w.jobs) js → IsBy caller w (changed scene js)
   changed_by js each = record { jobs = each; document = tt; free = credited_by caller scene.jobs js (get w.free caller); grants = refl; report = tt; next = inl refl }
 
   -- ---- a new job
 
-  entered_by : (now : ℕ) (incoming : Bool) (j : NewJob) (payload : List ℕ) (document : Option NewDocument) → IfSome document (λ d. IsNumberOf caller d.job w.jobs) → By (unless_refused (new_refusal scene) (entered scene (new_job scene now caller incoming j payload) document)).change
+  entered_by : (now : ℕ) (incoming : Bool) (j : NewJob) (payload : List ℕ) (document : Option NewDocument) → IfSome document (λ d. IsNumberOf caller d.job w.jobs) → By (unless_refused (new_refusal scene) (entered scene (new_job scene now caller incoming j payload) document))
   entered_by now incoming j payload document number =
-      elim (new_refusal scene) as (λ o. By (unless_refused o (entered scene (new_job scene now caller incoming j payload) document)).change) [
-        | None ↦ record {
-          jobs = ((refl, none_next caller 1 w.next w.jobs sound.numbers), tt);
-          document = number;
-          free = credited_by caller scene.jobs (new_job scene now caller incoming j payload ∷ []) (get w.free caller);
-          grants = refl;
-          report = tt;
-          next = inr refl;
-        }
-        | Some code ↦ nothing_by caller w
-      ]
+      let x : Job = new_job scene now caller incoming j payload in
+      on_new By scene (entered scene x document) (record {
+        jobs = ((refl, none_next caller 1 w.next w.jobs sound.numbers), tt);
+        document = number;
+        free = credited_by caller scene.jobs (x ∷ []) (get w.free caller);
+        grants = refl;
+        report = tt;
+        next = inr refl;
+      }) (λ code. nothing)
 
-  validated_by : By (validate_job_row scene).change
-  validated_by = elim (new_refusal scene) as (λ o. By (unless_refused o (answered Done)).change) [ None ↦ nothing_by caller w | Some code ↦ nothing_by caller w ]
+  validated_by : By (validate_job_row scene)
+  validated_by = on_new By scene (answered Done) nothing (λ code. nothing)
 
   -- ---- a job of the caller's own
 
@@ -127,90 +109,50 @@ module _ (w : World) (caller : List ℕ) (call : Call) (sound : IsSound w) where
         let number : IsNumberOf j.owner n w.jobs = number_of n 1 w.next j w.jobs sound.numbers found.0 in
         (same.owner ∙ own, subst (λ m. IsNumberOf caller m w.jobs) (sym (same.number ∙ found.1)) (subst (λ a. IsNumberOf a n w.jobs) own number))
 
-    becomes_by : (j x : Job) (rest : List Job) → scene.jobs ≡ j ∷ rest → j.owner ≡ caller → IsSame x j → By (becomes scene x).change
+    becomes_by : (j x : Job) (rest : List Job) → scene.jobs ≡ j ∷ rest → j.owner ≡ caller → IsSame x j → By (becomes scene x)
     becomes_by j x rest e own same = changed_by (x ∷ []) (row_by j x rest e own same, tt)
 
-    rows_by : (row : Job → Decision) → ((j : Job) (rest : List Job) → scene.jobs ≡ j ∷ rest → j.owner ≡ caller → By (row j).change) → (js : List Job) → scene.jobs ≡ js → By (of_own caller row js).change
-    rows_by row each [] e = nothing_by caller w
-    rows_by row each (j ∷ rest) e =
-        elim (bytes_eq j.owner caller) as (λ b. bytes_eq j.owner caller ≡ b → By (cond b (row j) (refused 0x0406)).change) [
-          | true ↦ λ own. each j rest e (same_key j.owner caller own)
-          | false ↦ λ own. nothing_by caller w
-        ] refl
+    own_by : (row : Job → Decision) → ((j : Job) (rest : List Job) → scene.jobs ≡ j ∷ rest → j.owner ≡ caller → By (row j)) → By (of_own caller row scene.jobs)
+    own_by row each = on_own By caller row scene.jobs (λ j rest e own. each j rest e (same_key j.owner caller own)) nothing
 
-    own_by : (row : Job → Decision) → ((j : Job) (rest : List Job) → scene.jobs ≡ j ∷ rest → j.owner ≡ caller → By (row j).change) → By (of_own caller row scene.jobs).change
-    own_by row each = rows_by row each scene.jobs refl
+    sent_by : (format : Format) (payload : List ℕ) (last : Bool) → By (of_own caller (λ j. send_in scene j format payload last) scene.jobs)
+    sent_by format payload last = own_by (λ j. send_in scene j format payload last) (λ j rest e own. on_send By scene j format payload last (λ can.
+        let row : IsRowBy caller w.jobs (sent j payload last) = row_by j (sent j payload last) rest e own (record { number = refl; owner = refl }) in
+        record { jobs = (row, tt); document = document_by (λ m. IsNumberOf caller m w.jobs) j.number format payload row.1; free = credited_by caller scene.jobs (sent j payload last ∷ []) (get w.free caller); grants = refl; report = tt; next = inl refl }) nothing)
 
-    sent_by : (format : Format) (payload : List ℕ) (last : Bool) → By (of_own caller (λ j. send_in scene j format payload last) scene.jobs).change
-    sent_by format payload last = own_by (λ j. send_in scene j format payload last) (λ j rest e own.
-        elim (is_sendable j payload) as (λ b. By (cond b (record { reply = Jobs (sent j payload last ∷ []); change = record (changed scene (sent j payload last ∷ [])) { document = new_document j.number format payload } }) (refused 0x0404)).change) [
-          | true ↦
-              let row : IsRowBy caller w.jobs (sent j payload last) = row_by j (sent j payload last) rest e own (record { number = refl; owner = refl }) in
-              record { jobs = (row, tt); document = document_by (λ m. IsNumberOf caller m w.jobs) j.number format payload row.1; free = credited_by caller scene.jobs (sent j payload last ∷ []) (get w.free caller); grants = refl; report = tt; next = inl refl }
-          | false ↦ nothing_by caller w
-        ])
+    canceled_by : (now : ℕ) → By (of_own caller (λ j. cancel_row scene now j) scene.jobs)
+    canceled_by now = own_by (λ j. cancel_row scene now j) (λ j rest e own. on_cancel By scene j now (becomes_by j (canceled now j) rest e own (same_canceled now j j.phase)) nothing)
 
-    canceled_by : (now : ℕ) → By (of_own caller (λ j. cancel_row scene now j) scene.jobs).change
-    canceled_by now = own_by (λ j. cancel_row scene now j) (λ j rest e own.
-        elim (is_cancelable j) as (λ b. By (cond b (becomes scene (canceled now j)) (refused 0x0404)).change) [ true ↦ becomes_by j (canceled now j) rest e own (same_canceled now j j.phase) | false ↦ nothing_by caller w ])
+    held_by : By (of_own caller (λ j. hold_in j.phase scene j) scene.jobs)
+    held_by = own_by (λ j. hold_in j.phase scene j) (λ j rest e own. on_hold By scene j (λ waits. becomes_by j (record j { hold = true }) rest e own (record { number = refl; owner = refl })) nothing)
 
-    held_by : By (of_own caller (λ j. hold_in j.phase scene j) scene.jobs).change
-    held_by = own_by (λ j. hold_in j.phase scene j) (λ j rest e own.
-        elim j.phase as (λ p. By (hold_in p scene j).change) [
-          | Waiting ↦ becomes_by j (record j { hold = true }) rest e own (record { number = refl; owner = refl })
-          | Running ↦ nothing_by caller w
-          | Stopped ↦ nothing_by caller w
-          | Canceled why ↦ nothing_by caller w
-          | Aborted ↦ nothing_by caller w
-          | Completed ↦ nothing_by caller w
-        ])
+    released_by : By (of_own caller (λ j. release_in j.phase scene j) scene.jobs)
+    released_by = own_by (λ j. release_in j.phase scene j) (λ j rest e own. on_release By scene j (λ waits has. becomes_by j (record j { hold = false }) rest e own (record { number = refl; owner = refl })) nothing nothing)
 
-    let_print_by : (j : Job) (rest : List Job) → scene.jobs ≡ j ∷ rest → j.owner ≡ caller → By (let_print scene j).change
-    let_print_by j rest e own = elim (has_pages scene.free (estimate j)) as (λ b. By (cond b (becomes scene (record j { hold = false })) (refused 0x0404)).change) [
-      | true ↦ becomes_by j (record j { hold = false }) rest e own (record { number = refl; owner = refl })
-      | false ↦ nothing_by caller w
-    ]
-
-    released_by : By (of_own caller (λ j. release_in j.phase scene j) scene.jobs).change
-    released_by = own_by (λ j. release_in j.phase scene j) (λ j rest e own.
-        elim j.phase as (λ p. By (release_in p scene j).change) [
-          | Waiting ↦ elim j.hold as (λ b. By (cond b (let_print scene j) (answered Done)).change) [ true ↦ let_print_by j rest e own | false ↦ nothing_by caller w ]
-          | Running ↦ nothing_by caller w
-          | Stopped ↦ nothing_by caller w
-          | Canceled why ↦ nothing_by caller w
-          | Aborted ↦ nothing_by caller w
-          | Completed ↦ nothing_by caller w
-        ])
-
-    shown_by : By (of_own caller (λ j. answered (Jobs (j ∷ []))) scene.jobs).change
-    shown_by = own_by (λ j. answered (Jobs (j ∷ []))) (λ j rest e own. nothing_by caller w)
+    shown_by : By (of_own caller (λ j. answered (Jobs (j ∷ []))) scene.jobs)
+    shown_by = own_by (λ j. answered (Jobs (j ∷ []))) (λ j rest e own. nothing)
 
   -- ---- several of the caller's jobs
 
   module _ (now : ℕ) (c : Job → Bool) (named : scene.jobs ≡ filter c (rows w)) (mine : (j : Job) → c j ≡ true → j.owner ≡ caller) where
     each_here : Each (λ j. IsRowBy caller w.jobs j) (filter c (rows w))
     each_here =
-        let there = each_filter (λ j. job_at j.number (rows w) ≡ Some j) c (rows w) (each_at 1 w.next w.jobs sound.numbers) in
         let own = each_map (λ j. c j ≡ true) (λ j. j.owner ≡ caller) (filter c (rows w)) mine (passed c (rows w)) in
-        each_map (λ j. (job_at j.number (rows w) ≡ Some j) × (j.owner ≡ caller)) (λ j. IsRowBy caller w.jobs j) (filter c (rows w))
+        each_map (λ j. Stands (rows w) j × (j.owner ≡ caller)) (λ j. IsRowBy caller w.jobs j) (filter c (rows w))
         (λ j h. (h.1, subst (λ a. IsNumberOf a j.number w.jobs) h.1 (number_of j.number 1 w.next j w.jobs sound.numbers h.0)))
-        (each_both (λ j. job_at j.number (rows w) ≡ Some j) (λ j. j.owner ≡ caller) (filter c (rows w)) there own)
+        (each_both (Stands (rows w)) (λ j. j.owner ≡ caller) (filter c (rows w)) (all_stand w sound c) own)
 
     each_scene : Each (λ j. IsRowBy caller w.jobs j) scene.jobs
     each_scene = subst (λ js. Each (λ j. IsRowBy caller w.jobs j) js) (sym named) each_here
 
-    all_by : (js : List Job) → Each (λ j. IsRowBy caller w.jobs j) js → By (all_canceled scene now js).change
+    all_by : (js : List Job) → Each (λ j. IsRowBy caller w.jobs j) js → By (all_canceled scene now js)
     all_by js each = changed_by (map (canceled now) js) (each_canceled caller w.jobs now js each)
 
-    all_able_by : By (all_canceled scene now (filter is_cancelable scene.jobs)).change
-    all_able_by = all_by (filter is_cancelable scene.jobs) (each_filter (λ j. IsRowBy caller w.jobs j) is_cancelable scene.jobs each_scene)
+    all_able_by : By (all_canceled scene now (filter is_cancelable scene.jobs))
+    all_able_by = all_by (filter is_cancelable scene.jobs) (each-filter (λ j. IsRowBy caller w.jobs j) is_cancelable scene.jobs each_scene)
 
-    all_named_by : (numbers : List ℕ) → By (cancel_my_jobs_row scene now (Some numbers)).change
-    all_named_by numbers =
-        elim (are_there scene.jobs numbers) as (λ b. By (cond b (cond (list_all is_cancelable scene.jobs) (all_canceled scene now scene.jobs) (refused 0x0404)) (refused 0x0406)).change) [
-          | true ↦ elim (list_all is_cancelable scene.jobs) as (λ b. By (cond b (all_canceled scene now scene.jobs) (refused 0x0404)).change) [ true ↦ all_by scene.jobs each_scene | false ↦ nothing_by caller w ]
-          | false ↦ nothing_by caller w
-        ]
+    all_named_by : (numbers : List ℕ) → By (cancel_my_jobs_row scene now (Some numbers))
+    all_named_by numbers = on_named By scene now numbers (all_by scene.jobs each_scene) (λ code. nothing)
 
 -- ---- each call
 
@@ -220,12 +162,11 @@ asked_by w now caller (validate_job j) sound = validated_by w caller (validate_j
 asked_by w now caller (create_job j) sound = entered_by w caller (create_job j) sound now true j [] None tt
 asked_by w now caller (send_document n format payload last) sound = sent_by w caller (send_document n format payload last) sound n refl format payload last
 asked_by w now caller (cancel_job n) sound = canceled_by w caller (cancel_job n) sound n refl now
-asked_by w now caller (cancel_my_jobs None) sound = all_able_by w caller (cancel_my_jobs None) sound now (λ j. bytes_eq j.owner caller && is_live j) refl (λ j is. same_key j.owner caller (first_of (bytes_eq j.owner caller) (is_live j) is))
+asked_by w now caller (cancel_my_jobs None) sound = all_able_by w caller (cancel_my_jobs None) sound now (λ j. bytes_eq j.owner caller && is_live j) refl (λ j is. same_key j.owner caller (and_parts (bytes_eq j.owner caller) (is_live j) is).0)
 asked_by w now caller (cancel_my_jobs (Some numbers)) sound =
     all_named_by w caller (cancel_my_jobs (Some numbers)) sound now (λ j. bytes_eq j.owner caller && is_one_of numbers j) refl
-    (λ j is. same_key j.owner caller (first_of (bytes_eq j.owner caller) (is_one_of numbers j) is)) numbers
+    (λ j is. same_key j.owner caller (and_parts (bytes_eq j.owner caller) (is_one_of numbers j) is).0) numbers
 asked_by w now caller (hold_job n) sound = held_by w caller (hold_job n) sound n refl
 asked_by w now caller (release_job n) sound = released_by w caller (release_job n) sound n refl
 asked_by w now caller (get_job_attributes n) sound = shown_by w caller (get_job_attributes n) sound n refl
-asked_by w now caller (get_jobs which limit) sound = nothing_by caller w
-asked_by w now caller get_printer_attributes sound = nothing_by caller w
+asked_by w now caller _ sound = nothing_by caller w

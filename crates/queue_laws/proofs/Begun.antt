@@ -1,6 +1,7 @@
 -- What a request leaves of the jobs that the device has, and of those that it has not.
 use Rattle.std.proofs.Common.{◌≡◌, ℕ, ◌≤◌, ◌⊎◌, List, refl, ap, subst, sym, arith, inl, inr, Bool, true, false}
 use Rattle.std.specs.Prelude.{Some}
+use Rattle.std.proofs.lemmas.Bool.{both_ways}
 use Rattle.queue_types.specs.Event.{Call, ask}
 use Rattle.queue_types.specs.Job.{state, state_in}
 use Rattle.queue_core.specs.World.{World}
@@ -9,11 +10,12 @@ use Rattle.queue_core.specs.Machine.{step, sent, canceled_in}
 use Rattle.queue_core.specs.Sound.{IsSound}
 use Rattle.queue_types.specs.declared.job.Job.{Job}
 use Rattle.queue_types.specs.declared.job.Phase.{Phase}
-use Rattle.queue_types.specs.declared.job.Phase.TheVariants.{Waiting, Running, Stopped, Canceled, Aborted, Completed}
+use Rattle.queue_types.specs.declared.job.Phase.TheVariants.{Waiting, Running, Stopped, Canceled}
 use Rattle.queue_types.specs.declared.job.Why.TheVariants.{ByUser}
 use Rattle.queue_laws.specs.Jobs.{IsSameButStopping}
 use Rattle.queue_laws.proofs.Base.{at}
 use Rattle.queue_laws.proofs.Work.{Holds, held_on}
+use Rattle.queue_laws.proofs.OneDone.{few_waiting}
 
 abbrev WaitsOrEnds : Job → Type 0
 WaitsOrEnds x = (state x ≤ 4) ⊎ (x.phase ≡ Canceled ByUser)
@@ -22,13 +24,8 @@ WaitsOrEnds x = (state x ≤ 4) ⊎ (x.phase ≡ Canceled ByUser)
 abbrev IsLeft : Job → Job → Type 0
 IsLeft x j = (5 ≤ state j → IsSameButStopping x j) × (state j ≤ 4 → WaitsOrEnds x) × (7 ≤ state j → x ≡ j) × (j.stopping ≡ true → x.stopping ≡ true)
 
-waits_in : (hold incoming : Bool) → state_in Waiting hold incoming ≤ 4
-waits_in true incoming = omega arith
-waits_in false true = omega arith
-waits_in false false = omega arith
-
 waits : (j : Job) → j.phase ≡ Waiting → state j ≤ 4
-waits j is = subst (λ p. state_in p j.hold j.incoming ≤ 4) (sym is) (waits_in j.hold j.incoming)
+waits j is = subst (λ p. state_in p j.hold j.incoming ≤ 4) (sym is) (few_waiting j.hold j.incoming)
 
 -- it has not begun
 not_begun : (j x : Job) → state j ≤ 4 → WaitsOrEnds x → (j.stopping ≡ true → x.stopping ≡ true) → IsLeft x j
@@ -41,24 +38,15 @@ asked_to_stop j n is few = (λ high. refl, λ low. inl low, λ high. absurd (ome
 nothing_done : (j : Job) → IsLeft j j
 nothing_done j = (λ high. refl, λ low. inl low, λ high. refl, λ marked. marked)
 
-no_document : (A : Type 0) (b : Bool) → b ≡ true → b ≡ false → A
-no_document A b is isnt = absurd (cc)
-
 sent_left : (j : Job) (payload : List ℕ) (last : Bool) (p : Phase) → j.phase ≡ p → FitsPhase p j → j.incoming ≡ true → IsLeft (sent j payload last) j
 sent_left j payload last Waiting is fits incoming = not_begun j (sent j payload last) (waits j is) (inl (waits (sent j payload last) is)) (λ marked. marked)
-sent_left j payload last Running is fits incoming = no_document (IsLeft (sent j payload last) j) j.incoming incoming fits.1
-sent_left j payload last Stopped is fits incoming = no_document (IsLeft (sent j payload last) j) j.incoming incoming fits.1
-sent_left j payload last (Canceled why) is fits incoming = no_document (IsLeft (sent j payload last) j) j.incoming incoming fits.1
-sent_left j payload last Aborted is fits incoming = no_document (IsLeft (sent j payload last) j) j.incoming incoming fits.1
-sent_left j payload last Completed is fits incoming = no_document (IsLeft (sent j payload last) j) j.incoming incoming fits.1
+sent_left j payload last _ is fits incoming = absurd (both_ways j.incoming fits.1 incoming)
 
 canceled_left : (now : ℕ) (j : Job) (p : Phase) → j.phase ≡ p → IsLeft (canceled_in p now j) j
 canceled_left now j Waiting is = not_begun j (canceled_in Waiting now j) (waits j is) (inr refl) (λ marked. marked)
 canceled_left now j Running is = asked_to_stop j 5 (ap (λ p. state_in p j.hold j.incoming) is) (omega arith)
 canceled_left now j Stopped is = asked_to_stop j 6 (ap (λ p. state_in p j.hold j.incoming) is) (omega arith)
-canceled_left now j (Canceled why) is = nothing_done j
-canceled_left now j Aborted is = nothing_done j
-canceled_left now j Completed is = nothing_done j
+canceled_left now j _ is = nothing_done j
 
 left_holds : (caller : List ℕ) (call : Call) → Holds caller call IsLeft
 left_holds caller call = record {

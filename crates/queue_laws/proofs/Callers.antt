@@ -3,9 +3,8 @@ use Rattle.std.proofs.Common.{◌≡◌, ℕ, ℤ, List, [], ◌∷◌, ◌++◌
 use Rattle.std.specs.Prelude.{Option, Some, None, IfSome, IsSome, nat_eq, bytes_eq, fold, ◌||◌, ◌⊎◌, ◌+◌, unwrap_or}
 use Rattle.std.specs.List.{AllByRecursion as Each}
 use Rattle.std.specs.FinMap.{FinMap, get, insert, get-insert}
-use Rattle.std.specs.Cmp.Lexicographic.{nat_list_cmp_total}
-use Rattle.std.proofs.lemmas.Map.Text.{is_eq-slice_cmp}
 use Rattle.std.proofs.lemmas.Cmp.{nat_list_eq_equiv}
+use Rattle.std.proofs.lemmas.Bool.{or_parts}
 use Rattle.queue_types.specs.Event.{Change, NewDocument}
 use Rattle.queue_core.specs.World.{World, Entry, with_row, add_document, with_document, put_free, put_grant, with_report, text_cmp, report_cmp, made_on, has_number}
 use Rattle.queue_laws.specs.Own.{Own, own, own_jobs, reports_of}
@@ -13,9 +12,9 @@ use Rattle.queue_core.specs.Sound.{IsSound, IsKept}
 use Rattle.queue_types.specs.declared.job.Job.{Job}
 use Rattle.queue_types.specs.declared.event.FreeRow.{FreeRow}
 use Rattle.queue_types.specs.declared.event.KeptReport.{KeptReport}
-use Rattle.queue_laws.proofs.Base.{at, fresh, equal, own_key, left_none, right_none}
-use Rattle.queue_core.proofs.Maps.{report_total, is_report_key}
-use Rattle.queue_laws.proofs.Keys.{report_key}
+use Rattle.queue_laws.proofs.Base.{at, fresh, equal, own_key}
+use Rattle.queue_core.proofs.Maps.{report_total, is_report_key, report_key}
+use Rattle.queue_laws.proofs.Funds.{one_row}
 
 -- the jobs of that number are the caller's
 abbrev pub IsNumberOf : List ℕ → ℕ → List Entry → Type 0
@@ -33,10 +32,6 @@ pub record IsBy (caller : List ℕ) (w : World) (c : Change) : Type 0 where
   pub grants : c.grants ≡ []
   pub report : IfSome c.report (λ k. IsNumberOf caller k.report.job w.jobs)
   pub next : (c.next ≡ None) ⊎ (c.next ≡ Some (w.next + 1))
-
-only : (a : Bool) → (a || false) ≡ true → a ≡ true
-only true e = refl
-only false e = absurd (cc)
 
 left : (a b : Bool) → (a || b) ≡ true → b ≡ false → a ≡ true
 left true b e none = refl
@@ -157,18 +152,15 @@ own_rows u (x ∷ xs) es each = own_rows u xs (with_row es x) (rows_stay u x es 
 abbrev pub free_after : List ℕ → Option ℤ → FreeRow → Option ℤ
 free_after u o a = cond (bytes_eq u a.account) (Some a.free) o
 
-one_free : (u : List ℕ) (a : FreeRow) (m : FinMap text_cmp ℤ) → get (put_free m a) u ≡ free_after u (get m u) a
-one_free u a m = get-insert nat_list_cmp_total m a.account a.free u ∙ ap (λ t. cond t (Some a.free) (get m u)) (is_eq-slice_cmp u a.account)
-
 pub own_free : (u : List ℕ) (fs : List FreeRow) (m : FinMap text_cmp ℤ) → get (fold put_free m fs) u ≡ fold (free_after u) (get m u) fs
 own_free u [] m = refl
-own_free u (a ∷ fs) m = own_free u fs (put_free m a) ∙ ap (λ o. fold (free_after u) o fs) (one_free u a m)
+own_free u (a ∷ fs) m = own_free u fs (put_free m a) ∙ ap (λ o. fold (free_after u) o fs) (one_row m a u)
 
 others_free : (u caller : List ℕ) (fs : List FreeRow) (m : FinMap text_cmp ℤ) → bytes_eq caller u ≡ false → Each (λ (a : FreeRow). a.account ≡ caller) fs → get (fold put_free m fs) u ≡ get m u
 others_free u caller [] m other each = refl
 others_free u caller (a ∷ fs) m other each =
     others_free u caller fs (put_free m a) other each.1
-    ∙ one_free u a m
+    ∙ one_row m a u
     ∙ ap (λ t. cond t (Some a.free) (get m u)) (nat_list_eq_equiv.symm u a.account ∙ ap (λ t. bytes_eq t u) each.0 ∙ other)
 
 -- ---- another caller's change
@@ -218,11 +210,11 @@ others_made u caller w c other by =
 -- ---- the caller's own change
 
 has_after : (n : ℕ) (x : Job) (es : List Entry) → has_number n (with_row es x) ≡ true → has_number n es ≡ false → x.number ≡ n
-has_after n x [] has none = equal x.number n (only (nat_eq x.number n) has)
+has_after n x [] has none = equal x.number n (left (nat_eq x.number n) false has refl)
 has_after n x (e ∷ es) has none =
     elim (nat_eq e.row.number x.number) as (λ t. has_number n (cond t (record e { row = x } ∷ es) (e ∷ with_row es x)) ≡ true → x.number ≡ n) [
-      | true ↦ λ has. equal x.number n (left (nat_eq x.number n) (has_number n es) has (right_none (nat_eq e.row.number n) (has_number n es) none))
-      | false ↦ λ has. has_after n x es (right (nat_eq e.row.number n) (has_number n (with_row es x)) has (left_none (nat_eq e.row.number n) (has_number n es) none)) (right_none (nat_eq e.row.number n) (has_number n es) none)
+      | true ↦ λ has. equal x.number n (left (nat_eq x.number n) (has_number n es) has (or_parts (nat_eq e.row.number n) (has_number n es) none).1)
+      | false ↦ λ has. has_after n x es (right (nat_eq e.row.number n) (has_number n (with_row es x)) has (or_parts (nat_eq e.row.number n) (has_number n es) none).0) (or_parts (nat_eq e.row.number n) (has_number n es) none).1
     ] has
 
 has_of : (n : ℕ) (u : List ℕ) (ws : List Entry) (xs : List Job) (es : List Entry) → has_number n (fold with_row es xs) ≡ true → has_number n es ≡ false → Each (IsRowBy u ws) xs → IsNumberOf u n ws

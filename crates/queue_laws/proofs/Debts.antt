@@ -2,29 +2,31 @@
 use Rattle.std.proofs.Common.{◌≡◌, ℕ, ℤ, pos, ◌+ℤ◌, ◌-ℤ◌, ◌-◌, ◌+◌, ◌≤◌, ◌⊎◌, List, [], ◌∷◌, map, refl, ap, sym, ◌∙◌, subst, arith, inl, inr, Bool, true, false, cond}
 use Rattle.std.specs.Prelude.{Option, Some, None, bytes_eq, int_le, ◌≤ℤ◌, filter, fold, option_map, ◌&&◌}
 use Rattle.std.specs.FinMap.{get}
-use Rattle.std.specs.List.{list_all, AllByRecursion as Each}
+use Rattle.std.specs.List.{AllByRecursion as Each}
 use Rattle.std.specs.Option.{option_map_or}
 use Rattle.std.proofs.lemmas.Int.{ints}
+use Rattle.std.proofs.lemmas.Option.{same_Some}
 use Rattle.queue_types.specs.Job.{is_live, estimate, owed}
-use Rattle.queue_types.specs.Event.{Call, Decision, NewJob, NewDocument, ask, print_job, validate_job, create_job, send_document, cancel_job, cancel_my_jobs, hold_job, release_job, get_job_attributes, get_jobs, get_printer_attributes}
+use Rattle.queue_types.specs.Event.{Call, Decision, NewJob, NewDocument, ask, print_job, validate_job, create_job, send_document, cancel_job, cancel_my_jobs, hold_job, release_job, get_job_attributes}
 use Rattle.queue_core.specs.World.{World, rows, cut, made_on, put_free, found_row, job_at, numbered, is_one_of}
-use Rattle.queue_core.specs.Machine.{decision, step, taken, given_back, returned, credited, answered, refused, becomes, changed, entered, new_job, new_document, new_refusal, unless_refused, validate_job_row, canceled, canceled_in, is_cancelable, cancel_row, all_canceled, are_there, cancel_my_jobs_row, is_sendable, sent, send_in, hold_in, has_pages, let_print, release_in, of_own}
+use Rattle.queue_core.specs.Machine.{decision, step, taken, given_back, returned, credited, answered, becomes, entered, new_job, new_document, new_refusal, unless_refused, validate_job_row, canceled, canceled_in, is_cancelable, cancel_row, all_canceled, cancel_my_jobs_row, sent, send_in, hold_in, has_pages, release_in, of_own}
 use Rattle.queue_core.specs.Sound.{IsSound}
 use Rattle.queue_types.specs.declared.document.Format.{Format}
 use Rattle.queue_types.specs.declared.job.Job.{Job}
 use Rattle.queue_types.specs.declared.job.Phase.{Phase}
-use Rattle.queue_types.specs.declared.job.Phase.TheVariants.{Waiting, Running, Stopped, Canceled, Aborted, Completed}
+use Rattle.queue_types.specs.declared.job.Phase.TheVariants.{Waiting}
 use Rattle.queue_types.specs.declared.event.Reply.TheVariants.{Done, Jobs}
 use Rattle.queue_types.specs.declared.event.Scene.{Scene}
-use Rattle.queue_core.proofs.Many.{rising, at_its_number, returned-cons}
+use Rattle.queue_core.proofs.Many.{returned-cons}
 use Rattle.queue_core.proofs.Ordered.{each-filter}
-use Rattle.queue_core.proofs.Orders.{rising-filter}
-use Rattle.queue_core.proofs.Own.{gives_back}
+use Rattle.queue_core.proofs.Own.{gives_back, moved_from}
 use Rattle.queue_core.proofs.Rows.{back}
 use Rattle.queue_laws.proofs.Asked.{same_canceled}
 use Rattle.queue_laws.proofs.Base.{own_key, same_key}
-use Rattle.queue_laws.proofs.Funds.{moved_free}
 use Rattle.queue_laws.proofs.LeftAlone.{account_stays}
+use Rattle.queue_laws.proofs.Entered.{nothing_back}
+use Rattle.queue_laws.proofs.Standing.{Stands, chosen_stand}
+use Rattle.queue_laws.proofs.Rows.{on_own, on_new, on_named, on_send, on_cancel, on_hold, on_release}
 
 -- ---- amounts
 
@@ -37,9 +39,6 @@ at_least a b e = omega (arith, ints)
 
 itself_least : (f g : ℤ) → f ≡ g → OwesNone f g
 itself_least f g e = inl (subst (λ z. f ≤ℤ z) e (omega (arith, ints)))
-
-some_same : (f g : ℤ) → Some f ≡ Some g → f ≡ g
-some_same f g e = cc
 
 gains : (f z : ℤ) → pos 0 ≤ℤ z → f ≤ℤ (f +ℤ z)
 gains f z h = omega (arith, ints)
@@ -59,7 +58,7 @@ covers false live owing count pages f h = omega (arith, ints)
 
 enough : (caller : List ℕ) (o : Option ℤ) (pages : ℕ) (f : ℤ) → o ≡ Some f → has_pages (found_row caller o) pages ≡ true → pos pages ≤ℤ f
 enough caller None pages f is has = absurd (cc)
-enough caller (Some z) pages f is has = subst (λ z. pos pages ≤ℤ z) (some_same z f is) (at_least (pos pages) z has)
+enough caller (Some z) pages f is has = subst (λ z. pos pages ≤ℤ z) (same_Some z f is) (at_least (pos pages) z has)
 
 -- ---- what a job has taken
 
@@ -69,11 +68,7 @@ less_live false owing count = omega arith
 
 canceled_less : (now : ℕ) (j : Job) (p : Phase) → taken (canceled_in p now j) ≤ taken j
 canceled_less now j Waiting = omega arith
-canceled_less now j Running = omega arith
-canceled_less now j Stopped = omega arith
-canceled_less now j (Canceled why) = omega arith
-canceled_less now j Aborted = omega arith
-canceled_less now j Completed = omega arith
+canceled_less now j _ = omega arith
 
 held_less : (j : Job) → taken (record j { hold = true }) ≤ taken j
 held_less j = less_live (is_live j) (owed j) j.count
@@ -83,22 +78,18 @@ module _ (w : World) (caller : List ℕ) where
   LeavesNone d = (f g : ℤ) → get w.free caller ≡ Some f → get (made_on d.change w).free caller ≡ Some g → OwesNone f g
 
   kept : (f g : ℤ) → get w.free caller ≡ Some f → get w.free caller ≡ Some g → OwesNone f g
-  kept f g e h = itself_least f g (some_same f g (sym e ∙ h))
+  kept f g e h = itself_least f g (same_Some f g (sym e ∙ h))
 
   paid : (before js : List Job) → ((f : ℤ) → get w.free caller ≡ Some f → OwesNone f (f +ℤ returned before caller js))
       → (f g : ℤ) → get w.free caller ≡ Some f → get (fold put_free w.free (map (credited before js) (found_row caller (get w.free caller)))) caller ≡ Some g → OwesNone f g
   paid before js each f g e h =
       let now_free : get (fold put_free w.free (map (credited before js) (found_row caller (get w.free caller)))) caller ≡ Some (f +ℤ returned before caller js) =
-      moved_free w.free caller caller before js (get w.free caller) refl
+      moved_from w.free caller caller before js (get w.free caller) refl
       ∙ ap (λ t. cond t (option_map (λ f. f +ℤ returned before caller js) (get w.free caller)) (get w.free caller)) (own_key caller caller refl)
       ∙ ap (option_map (λ f. f +ℤ returned before caller js)) e in
-      subst (OwesNone f) (some_same (f +ℤ returned before caller js) g (sym now_free ∙ h)) (each f e)
+      subst (OwesNone f) (same_Some (f +ℤ returned before caller js) g (sym now_free ∙ h)) (each f e)
 
   -- ---- a new job
-
-  nothing_taken : (b : Bool) → pos 0 +ℤ cond b (pos 0 -ℤ pos 0) (pos 0) ≡ pos 0
-  nothing_taken true = refl
-  nothing_taken false = refl
 
   plus_nothing : (f z : ℤ) → z ≡ pos 0 → OwesNone f (f +ℤ z)
   plus_nothing f z e = inl (omega (arith, ints))
@@ -110,13 +101,10 @@ module _ (w : World) (caller : List ℕ) where
     entered_owes : (now : ℕ) (incoming : Bool) (new : NewJob) (payload : List ℕ) (document : Option NewDocument) → LeavesNone (unless_refused (new_refusal scene) (entered scene (new_job scene now caller incoming new payload) document))
     entered_owes now incoming new payload document =
         let x : Job = new_job scene now caller incoming new payload in
-        elim (new_refusal scene) as (λ o. LeavesNone (unless_refused o (entered scene x document))) [
-          | None ↦ paid scene.jobs (x ∷ []) (λ f e. plus_nothing f (returned scene.jobs caller (x ∷ [])) (ap (λ js. returned js caller (x ∷ [])) none ∙ nothing_taken (bytes_eq caller caller)))
-          | Some code ↦ kept
-        ]
+        on_new LeavesNone scene (entered scene x document) (paid scene.jobs (x ∷ []) (λ f e. plus_nothing f (returned scene.jobs caller (x ∷ [])) (ap (λ js. returned js caller (x ∷ [])) none ∙ nothing_back (bytes_eq caller caller)))) (λ code. kept)
 
   validated_owes : (s : Scene) → LeavesNone (validate_job_row s)
-  validated_owes s = elim (new_refusal s) as (λ o. LeavesNone (unless_refused o (answered Done))) [ None ↦ kept | Some code ↦ kept ]
+  validated_owes s = on_new LeavesNone s (answered Done) kept (λ code. kept)
 
   -- ---- a job of the caller's own
 
@@ -131,68 +119,31 @@ module _ (w : World) (caller : List ℕ) where
     less_owes : (j x : Job) (rest : List Job) → here.jobs ≡ j ∷ rest → x.number ≡ j.number → taken x ≤ taken j → LeavesNone (becomes here x)
     less_owes j x rest e number less = becomes_owes j x rest e number (λ f is. inl (gains f (back x j caller) (no_less (bytes_eq x.owner caller) (taken j) (taken x) less)))
 
-    rows_owe : (row : Job → Decision) → ((j : Job) (rest : List Job) → here.jobs ≡ j ∷ rest → LeavesNone (row j)) → (js : List Job) → here.jobs ≡ js → LeavesNone (of_own caller row js)
-    rows_owe row each [] e = kept
-    rows_owe row each (j ∷ rest) e = elim (bytes_eq j.owner caller) as (λ b. LeavesNone (cond b (row j) (refused 0x0406))) [ true ↦ each j rest e | false ↦ kept ]
-
     own_owes : (row : Job → Decision) → ((j : Job) (rest : List Job) → here.jobs ≡ j ∷ rest → LeavesNone (row j)) → LeavesNone (of_own caller row here.jobs)
-    own_owes row each = rows_owe row each here.jobs refl
+    own_owes row each = on_own LeavesNone caller row here.jobs (λ j rest e own. each j rest e) kept
 
     sent_owes : (format : Format) (payload : List ℕ) (last : Bool) → LeavesNone (of_own caller (λ j. send_in here j format payload last) here.jobs)
-    sent_owes format payload last = own_owes (λ j. send_in here j format payload last) (λ j rest e.
-        elim (is_sendable j payload) as (λ b. LeavesNone (cond b (record { reply = Jobs (sent j payload last ∷ []); change = record (changed here (sent j payload last ∷ [])) { document = new_document j.number format payload } }) (refused 0x0404))) [
-          | true ↦ less_owes j (sent j payload last) rest e refl (omega arith)
-          | false ↦ kept
-        ])
+    sent_owes format payload last = own_owes (λ j. send_in here j format payload last) (λ j rest e. on_send LeavesNone here j format payload last (λ can. less_owes j (sent j payload last) rest e refl (omega arith)) kept)
 
     canceled_owes : (now : ℕ) → LeavesNone (of_own caller (λ j. cancel_row here now j) here.jobs)
-    canceled_owes now = own_owes (λ j. cancel_row here now j) (λ j rest e.
-        elim (is_cancelable j) as (λ b. LeavesNone (cond b (becomes here (canceled now j)) (refused 0x0404))) [
-          | true ↦ less_owes j (canceled now j) rest e (same_canceled now j j.phase).number (canceled_less now j j.phase)
-          | false ↦ kept
-        ])
+    canceled_owes now = own_owes (λ j. cancel_row here now j) (λ j rest e. on_cancel LeavesNone here j now (less_owes j (canceled now j) rest e (same_canceled now j j.phase).number (canceled_less now j j.phase)) kept)
 
     held_owes : LeavesNone (of_own caller (λ j. hold_in j.phase here j) here.jobs)
-    held_owes = own_owes (λ j. hold_in j.phase here j) (λ j rest e.
-        elim j.phase as (λ p. LeavesNone (hold_in p here j)) [
-          | Waiting ↦ less_owes j (record j { hold = true }) rest e refl (held_less j)
-          | Running ↦ kept
-          | Stopped ↦ kept
-          | Canceled why ↦ kept
-          | Aborted ↦ kept
-          | Completed ↦ kept
-        ])
-
-    let_owes : (j : Job) (rest : List Job) → here.jobs ≡ j ∷ rest → LeavesNone (let_print here j)
-    let_owes j rest e =
-        elim (has_pages here.free (estimate j)) as (λ b. has_pages here.free (estimate j) ≡ b → LeavesNone (cond b (becomes here (record j { hold = false })) (refused 0x0404))) [
-          | true ↦ λ has. becomes_owes j (record j { hold = false }) rest e refl (λ f is. inr (covers (bytes_eq j.owner caller) (is_live j) (cond (is_live j) (cond j.hold 0 (estimate j - j.count)) 0) j.count (estimate j) f (enough caller (get w.free caller) (estimate j) f is has)))
-          | false ↦ λ has. kept
-        ] refl
+    held_owes = own_owes (λ j. hold_in j.phase here j) (λ j rest e. on_hold LeavesNone here j (λ waits. less_owes j (record j { hold = true }) rest e refl (held_less j)) kept)
 
     released_owes : LeavesNone (of_own caller (λ j. release_in j.phase here j) here.jobs)
-    released_owes = own_owes (λ j. release_in j.phase here j) (λ j rest e.
-        elim j.phase as (λ p. LeavesNone (release_in p here j)) [
-          | Waiting ↦ elim j.hold as (λ b. LeavesNone (cond b (let_print here j) (answered Done))) [ true ↦ let_owes j rest e | false ↦ kept ]
-          | Running ↦ kept
-          | Stopped ↦ kept
-          | Canceled why ↦ kept
-          | Aborted ↦ kept
-          | Completed ↦ kept
-        ])
+    released_owes = own_owes (λ j. release_in j.phase here j) (λ j rest e. on_release LeavesNone here j (λ waits has.
+        becomes_owes j (record j { hold = false }) rest e refl (λ f is. inr (covers (bytes_eq j.owner caller) (is_live j) (cond (is_live j) (cond j.hold 0 (estimate j - j.count)) 0) j.count (estimate j) f (enough caller (get w.free caller) (estimate j) f is has)))) kept kept)
 
   -- ---- several of the caller's jobs
 
-  abbrev stands : List Job → Job → Type 0
-  stands before j = job_at j.number before ≡ Some j
-
-  one_back : (now : ℕ) (before : List Job) (j : Job) → stands before j → pos 0 ≤ℤ given_back before caller (canceled now j)
+  one_back : (now : ℕ) (before : List Job) (j : Job) → Stands before j → pos 0 ≤ℤ given_back before caller (canceled now j)
   one_back now before j there =
       let x : Job = canceled now j in
       let at_x : job_at x.number before ≡ Some j = ap (λ m. job_at m before) (same_canceled now j j.phase).number ∙ there in
       subst (λ o. pos 0 ≤ℤ cond (bytes_eq x.owner caller) (pos (option_map_or taken o 0) -ℤ pos (taken x)) (pos 0)) (sym at_x) (no_less (bytes_eq x.owner caller) (taken j) (taken x) (canceled_less now j j.phase))
 
-  all_back : (now : ℕ) (before js : List Job) → Each (stands before) js → pos 0 ≤ℤ returned before caller (map (canceled now) js)
+  all_back : (now : ℕ) (before js : List Job) → Each (Stands before) js → pos 0 ≤ℤ returned before caller (map (canceled now) js)
   all_back now before [] each = omega (arith, ints)
   all_back now before (j ∷ js) each =
       subst (λ z. pos 0 ≤ℤ z) (sym (returned-cons before caller (canceled now j) (map (canceled now) js)))
@@ -202,21 +153,17 @@ module _ (w : World) (caller : List ℕ) where
     abbrev of_call : Scene
     of_call = cut w (ask caller call)
 
-    all_stand : Each (stands of_call.jobs) of_call.jobs
-    all_stand = subst (λ js. Each (stands js) js) (sym named) (at_its_number (filter c (rows w)) (rising-filter c (rows w) (rising 1 w.next w.jobs sound.numbers)))
+    all_stand : Each (Stands of_call.jobs) of_call.jobs
+    all_stand = subst (λ js. Each (Stands js) js) (sym named) (chosen_stand w sound c)
 
-    all_owe : (js : List Job) → Each (stands of_call.jobs) js → LeavesNone (all_canceled of_call now js)
+    all_owe : (js : List Job) → Each (Stands of_call.jobs) js → LeavesNone (all_canceled of_call now js)
     all_owe js each = paid of_call.jobs (map (canceled now) js) (λ f is. inl (gains f (returned of_call.jobs caller (map (canceled now) js)) (all_back now of_call.jobs js each)))
 
     able_owe : LeavesNone (cancel_my_jobs_row of_call now None)
-    able_owe = all_owe (filter is_cancelable of_call.jobs) (each-filter (stands of_call.jobs) is_cancelable of_call.jobs all_stand)
+    able_owe = all_owe (filter is_cancelable of_call.jobs) (each-filter (Stands of_call.jobs) is_cancelable of_call.jobs all_stand)
 
     named_owe : (numbers : List ℕ) → LeavesNone (cancel_my_jobs_row of_call now (Some numbers))
-    named_owe numbers =
-        elim (are_there of_call.jobs numbers) as (λ b. LeavesNone (cond b (cond (list_all is_cancelable of_call.jobs) (all_canceled of_call now of_call.jobs) (refused 0x0404)) (refused 0x0406))) [
-          | true ↦ elim (list_all is_cancelable of_call.jobs) as (λ b. LeavesNone (cond b (all_canceled of_call now of_call.jobs) (refused 0x0404))) [ true ↦ all_owe of_call.jobs all_stand | false ↦ kept ]
-          | false ↦ kept
-        ]
+    named_owe numbers = on_named LeavesNone of_call now numbers (all_owe of_call.jobs all_stand) (λ code. kept)
 
 -- ---- each call
 
@@ -231,12 +178,11 @@ asked_owes w now caller (cancel_my_jobs (Some numbers)) sound = named_owe w call
 asked_owes w now caller (hold_job n) sound = held_owes w caller n (hold_job n) refl
 asked_owes w now caller (release_job n) sound = released_owes w caller n (release_job n) refl
 asked_owes w now caller (get_job_attributes n) sound = own_owes w caller n (get_job_attributes n) refl (λ j. answered (Jobs (j ∷ []))) (λ j rest e. kept w caller)
-asked_owes w now caller (get_jobs which limit) sound = kept w caller
-asked_owes w now caller get_printer_attributes sound = kept w caller
+asked_owes w now caller _ sound = kept w caller
 
 pub no_debt : (w : World) (now : ℕ) (caller a : List ℕ) (call : Call) (f g : ℤ) → IsSound w → get w.free a ≡ Some f → get (step w now (ask caller call)).world.free a ≡ Some g → (f ≤ℤ g) ⊎ (pos 0 ≤ℤ g)
 no_debt w now caller a call f g sound before then =
     elim (bytes_eq caller a) as (λ b. bytes_eq caller a ≡ b → OwesNone f g) [
       | true ↦ λ is. let same : caller ≡ a = same_key caller a is in asked_owes w now caller call sound f g (ap (get w.free) same ∙ before) (ap (get (step w now (ask caller call)).world.free) same ∙ then)
-      | false ↦ λ other. itself_least f g (some_same f g (sym before ∙ sym (account_stays w now caller a call sound other) ∙ then))
+      | false ↦ λ other. itself_least f g (same_Some f g (sym before ∙ sym (account_stays w now caller a call sound other) ∙ then))
     ] refl

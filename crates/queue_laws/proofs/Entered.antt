@@ -1,5 +1,5 @@
 -- A new row stands at the end.
-use Rattle.std.proofs.Common.{◌≡◌, ℕ, pos, ◌+ℤ◌, ◌-ℤ◌, ◌+◌, List, [], ◌∷◌, ◌++◌, map, refl, ap, ◌∙◌, arith, Bool, true, false, cond}
+use Rattle.std.proofs.Common.{◌≡◌, ℕ, pos, ◌+ℤ◌, ◌-ℤ◌, List, [], ◌∷◌, ◌++◌, map, refl, ap, ◌∙◌, Bool, true, false, cond}
 use Rattle.std.specs.Prelude.{Option, Some, None, bytes_eq}
 use Rattle.queue_types.specs.Event.{Call, Decision, NewJob, NewDocument, ask, print_job, create_job, validate_job}
 use Rattle.queue_core.specs.World.{World, Entry, cut, made_on, with_row, add_document, with_document}
@@ -10,26 +10,11 @@ use Rattle.queue_types.specs.declared.document.Format.TheVariants.{OctetStream}
 use Rattle.queue_types.specs.declared.event.Reply.TheVariants.{Jobs, Done}
 use Rattle.queue_types.specs.declared.event.Scene.{Scene}
 use Rattle.queue_types.specs.declared.job.Job.{Job}
+use Rattle.queue_core.proofs.Enter.{with_row_new, with_document_new}
 use Rattle.queue_laws.specs.Entering.{Enters, documents_of}
 use Rattle.queue_laws.specs.Replies.{refuses}
-use Rattle.queue_laws.proofs.Base.{fresh, below, itself, first_below}
+use Rattle.queue_laws.proofs.Base.{fresh, itself}
 use Rattle.queue_laws.proofs.Funds.{same_free}
-
-with_row_new : (x : Job) (first : ℕ) (es : List Entry) → Rise first es x.number → with_row es x ≡ es ++ fresh x ∷ []
-with_row_new x first [] rise = refl
-with_row_new x first (e ∷ es) rise =
-    let low = first_below (e.row.number + 1) x.number es rise.1 in
-    ap (λ t. cond t (record e { row = x } ∷ es) (e ∷ with_row es x)) (below e.row.number x.number (omega arith))
-    ∙ ap (λ t. e ∷ t) (with_row_new x (e.row.number + 1) es rise.1)
-
--- a document of the new number goes to the new row alone
-with_document_new : (x : Job) (d : NewDocument) (first : ℕ) (es : List Entry) → d.job ≡ x.number → Rise first es x.number → map (add_document d) (es ++ fresh x ∷ []) ≡ es ++ add_document d (fresh x) ∷ []
-with_document_new x d first [] same rise = refl
-with_document_new x d first (e ∷ es) same rise =
-    let low = first_below (e.row.number + 1) x.number es rise.1 in
-    let here : add_document d e ≡ e = ap (λ t. cond t (record e { documents = e.documents ++ record { format = d.format; bytes = d.bytes } ∷ [] }) e) (below e.row.number d.job (omega arith)) in
-    let rest : map (add_document d) (es ++ fresh x ∷ []) ≡ es ++ add_document d (fresh x) ∷ [] = with_document_new x d (e.row.number + 1) es same rise.1 in
-    cc
 
 jobs_after : (x : Job) (format : Format) (payload : List ℕ) (es : List Entry) → Rise 1 es x.number → with_document (with_row es x) (new_document x.number format payload) ≡ es ++ record { row = x; documents = documents_of format payload } ∷ []
 jobs_after x format [] es rise = with_row_new x 1 es rise
@@ -40,9 +25,9 @@ jobs_after x format (b ∷ bytes) es rise =
     ∙ with_document_new x d 1 es refl rise
     ∙ ap (λ e. es ++ e ∷ []) added
 
-nothing : (b : Bool) → pos 0 +ℤ cond b (pos 0 -ℤ pos 0) (pos 0) ≡ pos 0
-nothing true = refl
-nothing false = refl
+pub nothing_back : (b : Bool) → pos 0 +ℤ cond b (pos 0 -ℤ pos 0) (pos 0) ≡ pos 0
+nothing_back true = refl
+nothing_back false = refl
 
 abbrev by : World → Decision → Step
 by w d = record { world = made_on d.change w; reply = d.reply }
@@ -73,7 +58,7 @@ module _ (w : World) (now : ℕ) (caller : List ℕ) (call : Call) (incoming : B
     impressions = refl;
     created = refl;
     count = refl;
-    accounts = λ a. same_free w.free caller a scene.jobs (x ∷ []) (ap (λ js. returned js caller (x ∷ [])) none ∙ nothing (bytes_eq caller caller));
+    accounts = λ a. same_free w.free caller a scene.jobs (x ∷ []) (ap (λ js. returned js caller (x ∷ [])) none ∙ nothing_back (bytes_eq caller caller));
     reply = refl;
   }
 

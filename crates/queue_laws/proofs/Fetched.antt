@@ -3,6 +3,7 @@ use Rattle.std.proofs.Common.{◌≡◌, ℕ, ◌<◌, ◌+◌, ◌⊎◌, List,
 use Rattle.std.specs.Prelude.{Option, Some, None, nat_eq, nat_lt, ◌-◌, count_by, slice_get, ◌&&◌, ◌||◌}
 use Rattle.std.proofs.lemmas.Bool.Decides.{nat_tests}
 use Rattle.std.proofs.lemmas.Option.{slice_get_past}
+use Rattle.std.proofs.lemmas.Bool.{and_right, cond-false}
 use Rattle.queue_types.specs.Job.{state}
 use Rattle.queue_core.specs.Order.{AreRising}
 use Rattle.queue_core.specs.Shown.{pending_in, pending_jobs, document_of, document_at}
@@ -11,7 +12,8 @@ use Rattle.queue_core.specs.World.{World, Entry, rows}
 use Rattle.queue_types.specs.declared.document.Document.{Document}
 use Rattle.queue_types.specs.declared.job.Job.{Job}
 use Rattle.queue_laws.specs.Doing.{entry_at}
-use Rattle.queue_laws.proofs.InOrder.{count_filter, rising, rising_filter}
+use Rattle.queue_laws.proofs.InOrder.{count_filter}
+use Rattle.queue_laws.proofs.Standing.{chosen_rise}
 
 -- ---- the queue
 
@@ -21,7 +23,7 @@ each_pending w p = count_filter p (λ j. nat_eq (state j) 3) (rows w)
 
 pub pending_rise : (w : World) → IsSound w → AreRising (pending_jobs w)
 unfolding pending_in
-pending_rise w sound = rising_filter (λ j. nat_eq (state j) 3) (rows w) (rising 1 w.next w.jobs sound.numbers)
+pending_rise w sound = chosen_rise w sound (λ j. nat_eq (state j) 3)
 
 -- ---- documents
 
@@ -40,11 +42,7 @@ nowhere true o none = none
 nowhere false o none = refl
 
 no_place : (b : Bool) (place : ℕ) (ds : List Document) → (place ≡ 0) ⊎ (length ds < place) → cond (b && nat_lt 0 place) (slice_get ds (place - 1)) None ≡ None
-no_place b place ds (inl first) = ap (λ n. cond (b && nat_lt 0 n) (slice_get ds (n - 1)) None) first ∙ no_more b (slice_get ds (0 - 1))
-  where
-    no_more : (b : Bool) (o : Option Document) → cond (b && false) o None ≡ None
-    no_more true o = refl
-    no_more false o = refl
+no_place b place ds (inl first) = ap (λ n. cond (b && nat_lt 0 n) (slice_get ds (n - 1)) None) first ∙ cond-false (b && false) (slice_get ds (0 - 1)) None (and_right b false refl)
 no_place b place ds (inr past) = nowhere (b && nat_lt 0 place) (slice_get ds (place - 1)) (slice_get_past ds (place - 1) (omega arith))
 
 module _ (w : World) (n : ℕ) where

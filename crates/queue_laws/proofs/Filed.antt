@@ -27,26 +27,18 @@ made w t = made_on (grant_row t).change w
 
 -- ---- what no file changes
 
-jobs_made : (w : World) (t : Taken) → (made w t).jobs ≡ w.jobs
-jobs_made w (all_taken new free n) = refl
-jobs_made w (none_taken fault row) = refl
-
-next_made : (w : World) (t : Taken) → (made w t).next ≡ w.next
-next_made w (all_taken new free n) = refl
-next_made w (none_taken fault row) = refl
-
-reports_made : (w : World) (t : Taken) → (made w t).reports ≡ w.reports
-reports_made w (all_taken new free n) = refl
-reports_made w (none_taken fault row) = refl
+left_made : (w : World) (t : Taken) → ((made w t).jobs ≡ w.jobs) × ((made w t).next ≡ w.next) × ((made w t).reports ≡ w.reports)
+left_made w (all_taken new free n) = (refl, refl, refl)
+left_made w (none_taken fault row) = (refl, refl, refl)
 
 pub jobs_left : (w : World) (now : ℕ) (file : List GrantRow) → (step w now (grant file)).world.jobs ≡ w.jobs
-jobs_left w now file = jobs_made w (taken_of w file)
+jobs_left w now file = (left_made w (taken_of w file)).0
 
 pub next_left : (w : World) (now : ℕ) (file : List GrantRow) → (step w now (grant file)).world.next ≡ w.next
-next_left w now file = next_made w (taken_of w file)
+next_left w now file = (left_made w (taken_of w file)).1
 
 pub reports_left : (w : World) (now : ℕ) (file : List GrantRow) → (step w now (grant file)).world.reports ≡ w.reports
-reports_left w now file = reports_made w (taken_of w file)
+reports_left w now file = (left_made w (taken_of w file)).2
 
 -- ---- a fact of an accepted file is one of the queue after it
 

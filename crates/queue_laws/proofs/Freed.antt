@@ -1,6 +1,8 @@
 -- A job is held until its owner releases it.
 use Rattle.std.proofs.Common.{◌≡◌, ℕ, ◌≤◌, List, refl, ap, sym, ◌∙◌, arith, Bool, true, false, cond}
 use Rattle.std.specs.Prelude.{Some, nat_eq}
+use Rattle.std.proofs.lemmas.Option.{same_Some}
+use Rattle.std.proofs.lemmas.Bool.{both_ways}
 use Rattle.queue_types.specs.Event.{Event, Call, Decision, ask, tell, grant, release_job}
 use Rattle.queue_types.specs.Job.{state, state_in}
 use Rattle.queue_core.specs.World.{World, rows, cut, made_on}
@@ -9,18 +11,19 @@ use Rattle.queue_core.specs.Sound.{IsSound}
 use Rattle.queue_types.specs.declared.event.Report.{Report}
 use Rattle.queue_types.specs.declared.job.Job.{Job}
 use Rattle.queue_types.specs.declared.job.Phase.{Phase}
-use Rattle.queue_types.specs.declared.job.Phase.TheVariants.{Waiting, Running, Stopped, Canceled, Aborted, Completed}
-use Rattle.queue_laws.proofs.Base.{at, equal, same_key, first_named, named, true_not_false}
+use Rattle.queue_types.specs.declared.job.Phase.TheVariants.{Waiting}
+use Rattle.queue_core.proofs.Moves.{at-with_row}
+use Rattle.queue_laws.proofs.Base.{at, equal, same_key, first_named, named}
 use Rattle.queue_laws.proofs.Filed.{jobs_left}
 use Rattle.queue_laws.proofs.Telling.{declined, known, taken, telling, named_before}
-use Rattle.queue_laws.proofs.Work.{Holds, held_on, at_row, some_same}
+use Rattle.queue_laws.proofs.Work.{Holds, held_on}
 
 -- it is held no more, and did not end
 abbrev IsFreed : Job → Job → Type 0
 IsFreed x j = (j.hold ≡ true) × (x.hold ≡ false) × (state x ≤ 6)
 
 still_held : (A : Type 0) (x j : Job) → x.hold ≡ j.hold → IsFreed x j → A
-still_held A x j same freed = absurd (true_not_false x.hold (same ∙ freed.0) freed.1)
+still_held A x j same freed = absurd (both_ways x.hold freed.1 (same ∙ freed.0))
 
 number_of : (n : ℕ) (w : World) (j : Job) → at n w.jobs ≡ Some j → j.number ≡ n
 number_of n w j there = let found = named n (rows w) j there in (first_named n (rows w) j found.rest found.is).1
@@ -32,18 +35,14 @@ IsReleased caller call x j = IsFreed x j → ask caller call ≡ ask j.owner (re
 
 canceled_freed : (A : Type 0) (now : ℕ) (j : Job) (p : Phase) → IsFreed (canceled_in p now j) j → A
 canceled_freed A now j Waiting freed = let low = freed.2 in absurd (omega arith)
-canceled_freed A now j Running freed = still_held A (canceled_in Running now j) j refl freed
-canceled_freed A now j Stopped freed = still_held A (canceled_in Stopped now j) j refl freed
-canceled_freed A now j (Canceled why) freed = still_held A j j refl freed
-canceled_freed A now j Aborted freed = still_held A j j refl freed
-canceled_freed A now j Completed freed = still_held A j j refl freed
+canceled_freed A now j p freed = still_held A (canceled_in p now j) j refl freed
 
 release_holds : (caller : List ℕ) (call : Call) → Holds caller call (IsReleased caller call)
 release_holds caller call = record {
   same = λ j. still_held _ j j refl;
   sent = λ j payload last sound incoming. still_held _ (sent j payload last) j refl;
   canceled = λ now j. canceled_freed _ now j j.phase;
-  held = λ j is freed. absurd (true_not_false true refl freed.1);
+  held = λ j is freed. absurd (both_ways true freed.1 refl);
   released = λ j by own is freed. (λ i. ask (sym (same_key j.owner caller own) i) (by i));
 }
 
@@ -53,7 +52,7 @@ told_held : (w : World) (now n : ℕ) (r : Report) (j k : Job) → at n w.jobs �
 told_held w now n r j k old then =
     let by : Decision → World = λ d. made_on d.change w in
     let d : Decision = decision (cut w (tell r)) now (tell r) in
-    let stays : at n w.jobs ≡ Some k → k.hold ≡ j.hold = λ e. ap (λ (x : Job). x.hold) (some_same k j (sym e ∙ old)) in
+    let stays : at n w.jobs ≡ Some k → k.hold ≡ j.hold = λ e. ap (λ (x : Job). x.hold) (same_Some k j (sym e ∙ old)) in
     elim (telling w now r) as (λ _. k.hold ≡ j.hold) [
       | declined cause e ↦ stays (sym (ap (λ d. at n (by d).jobs) e) ∙ then)
       | known l kept same e ↦ stays (sym (ap (λ d. at n (by d).jobs) e) ∙ then)
@@ -62,10 +61,10 @@ told_held w now n r j k old then =
             | true ↦ λ is e.
                 let found = named_before w now r d a in
                 let here : r.job ≡ n = sym found.1 ∙ sym (ap (λ (x : Job). x.number) a.moved.0) ∙ equal a.after.number n is in
-                let was : a.before ≡ j = some_same a.before j (sym found.0 ∙ ap (λ m. at m w.jobs) here ∙ old) in
-                ap (λ (x : Job). x.hold) (sym (some_same a.after k e)) ∙ ap (λ (x : Job). x.hold) a.moved.0 ∙ ap (λ (x : Job). x.hold) was
+                let was : a.before ≡ j = same_Some a.before j (sym found.0 ∙ ap (λ m. at m w.jobs) here ∙ old) in
+                ap (λ (x : Job). x.hold) (sym (same_Some a.after k e)) ∙ ap (λ (x : Job). x.hold) a.moved.0 ∙ ap (λ (x : Job). x.hold) was
             | false ↦ λ is e. stays e
-          ] refl (sym (at_row n a.after w.jobs) ∙ sym (ap (λ d. at n (by d).jobs) a.is) ∙ then)
+          ] refl (sym (at-with_row n a.after w.jobs) ∙ sym (ap (λ d. at n (by d).jobs) a.is) ∙ then)
     ]
 
 -- ---- any event
@@ -73,7 +72,7 @@ told_held w now n r j k old then =
 freed_by : (w : World) (now n : ℕ) (e : Event) (j k : Job) → IsSound w → at n w.jobs ≡ Some j → at n (step w now e).world.jobs ≡ Some k → IsFreed k j → e ≡ ask j.owner (release_job n)
 freed_by w now n (ask caller call) j k sound old then freed = held_on (IsReleased caller call) caller call (release_holds caller call) w now n j k sound old then freed ∙ ap (λ m. ask j.owner (release_job m)) (number_of n w j old)
 freed_by w now n (tell r) j k sound old then freed = still_held _ k j (told_held w now n r j k old then) freed
-freed_by w now n (grant file) j k sound old then freed = still_held _ k j (ap (λ (x : Job). x.hold) (some_same k j (sym then ∙ ap (at n) (jobs_left w now file) ∙ old))) freed
+freed_by w now n (grant file) j k sound old then freed = still_held _ k j (ap (λ (x : Job). x.hold) (same_Some k j (sym then ∙ ap (at n) (jobs_left w now file) ∙ old))) freed
 
 pub held_until_released : (w : World) (now n : ℕ) (e : Event) (j k : Job) → IsSound w → at n w.jobs ≡ Some j → j.hold ≡ true → at n (step w now e).world.jobs ≡ Some k → k.hold ≡ false → state k ≤ 6 → e ≡ ask j.owner (release_job n)
 held_until_released w now n e j k sound old held then free low = freed_by w now n e j k sound old then (held, free, low)
@@ -81,11 +80,7 @@ held_until_released w now n e j k sound old held then free low = freed_by w now 
 free_in : (p : Phase) (hold incoming : Bool) → state_in p hold incoming ≡ 3 → hold ≡ false
 free_in Waiting true incoming is = absurd (omega arith)
 free_in Waiting false incoming is = refl
-free_in Running hold incoming is = absurd (omega arith)
-free_in Stopped hold incoming is = absurd (omega arith)
-free_in (Canceled why) hold incoming is = absurd (omega arith)
-free_in Aborted hold incoming is = absurd (omega arith)
-free_in Completed hold incoming is = absurd (omega arith)
+free_in _ hold incoming is = absurd (omega arith)
 
 pub held_until_startable : (w : World) (now n : ℕ) (e : Event) (j k : Job) → IsSound w → at n w.jobs ≡ Some j → j.hold ≡ true → at n (step w now e).world.jobs ≡ Some k → state k ≡ 3 → e ≡ ask j.owner (release_job n)
 held_until_startable w now n e j k sound old held then is = held_until_released w now n e j k sound old held then (free_in k.phase k.hold k.incoming is) (omega arith)

@@ -9,19 +9,11 @@ use Rattle.queue_core.specs.World.{put_free, found_row, text_cmp}
 use Rattle.queue_core.specs.Machine.{credited, returned}
 use Rattle.queue_types.specs.declared.event.FreeRow.{FreeRow}
 use Rattle.queue_types.specs.declared.job.Job.{Job}
+use Rattle.queue_core.proofs.Own.{moved_from}
 use Rattle.queue_laws.proofs.Base.{same_key}
 
 pub one_row : (m : FinMap text_cmp ℤ) (f : FreeRow) (a : List ℕ) → get (put_free m f) a ≡ cond (bytes_eq a f.account) (Some f.free) (get m a)
 one_row m f a = get-insert nat_list_cmp_total m f.account f.free a ∙ ap (λ t. cond t (Some f.free) (get m a)) (is_eq-slice_cmp a f.account)
-
--- one account gets what comes back to it
-pub moved_free : (m : FinMap text_cmp ℤ) (a q : List ℕ) (before js : List Job) (o : Option ℤ) → get m a ≡ o → get (fold put_free m (map (credited before js) (found_row a o))) q ≡ cond (bytes_eq q a) (option_map (λ f. f +ℤ returned before a js) o) (get m q)
-moved_free m a q before js None e =
-    elim (bytes_eq q a) as (λ t. bytes_eq q a ≡ t → get m q ≡ cond t None (get m q)) [
-      | true ↦ λ is. ap (get m) (same_key q a is) ∙ e
-      | false ↦ λ is. refl
-    ] refl
-moved_free m a q before js (Some f) e = one_row m (record { account = a; free = f +ℤ returned before a js }) q
 
 plus_none : (o : Option ℤ) → option_map (λ f. f +ℤ pos 0) o ≡ o
 plus_none None = refl
@@ -30,7 +22,7 @@ plus_none (Some f) = ap Some (omega (arith, ints))
 -- nothing comes back
 pub same_free : (m : FinMap text_cmp ℤ) (a q : List ℕ) (before js : List Job) → returned before a js ≡ pos 0 → get (fold put_free m (map (credited before js) (found_row a (get m a)))) q ≡ get m q
 same_free m a q before js none =
-    moved_free m a q before js (get m a) refl
+    moved_from m a q before js (get m a) refl
     ∙ elim (bytes_eq q a) as (λ t. bytes_eq q a ≡ t → cond t (option_map (λ f. f +ℤ returned before a js) (get m a)) (get m q) ≡ get m q) [
       | true ↦ λ is. ap (λ z. option_map (λ f. f +ℤ z) (get m a)) none ∙ plus_none (get m a) ∙ ap (get m) (sym (same_key q a is))
       | false ↦ λ is. refl
@@ -38,4 +30,4 @@ same_free m a q before js none =
 
 -- another account keeps what it has
 pub others_free : (m : FinMap text_cmp ℤ) (a q : List ℕ) (before js : List Job) → bytes_eq q a ≡ false → get (fold put_free m (map (credited before js) (found_row a (get m a)))) q ≡ get m q
-others_free m a q before js other = moved_free m a q before js (get m a) refl ∙ ap (λ t. cond t (option_map (λ f. f +ℤ returned before a js) (get m a)) (get m q)) other
+others_free m a q before js other = moved_from m a q before js (get m a) refl ∙ ap (λ t. cond t (option_map (λ f. f +ℤ returned before a js) (get m a)) (get m q)) other

@@ -12,9 +12,10 @@ use Rattle.queue_types.specs.declared.job.Job.{Job}
 use Rattle.queue_types.specs.declared.event.FreeRow.{FreeRow}
 use Rattle.queue_types.specs.declared.event.Report.{Report}
 use Rattle.queue_types.specs.declared.event.Scene.{Scene}
+use Rattle.queue_core.proofs.Ordered.{each-filter}
 use Rattle.queue_laws.specs.Own.{Own, own, own_jobs}
 use Rattle.queue_laws.proofs.Asked.{nothing_by, credited_by, number_of}
-use Rattle.queue_laws.proofs.Base.{at, rows_of, same_key, each_filter}
+use Rattle.queue_laws.proofs.Base.{at, rows_of, same_key}
 use Rattle.queue_laws.proofs.Callers.{IsBy, IsNumberOf, own_made, own_made_on, others_made}
 use Rattle.queue_laws.proofs.Seen.{named, own_or_others}
 use Rattle.queue_laws.proofs.Telling.{IsAccepted, declined, known, taken, telling, named_before}
@@ -126,7 +127,7 @@ module _ (u : List ℕ) (w : World) (now : ℕ) (r : Report) (sound : IsSound w)
   ]
 
   each_own : Each (λ (j : Job). j.owner ≡ u) (named r.job (own_jobs u w.jobs))
-  each_own = each_filter (λ (j : Job). j.owner ≡ u) (λ j. nat_eq j.number r.job) (rows_of (own_jobs u w.jobs)) (owners u w.jobs)
+  each_own = each-filter (λ (j : Job). j.owner ≡ u) (λ j. nat_eq j.number r.job) (rows_of (own_jobs u w.jobs)) (owners u w.jobs)
 
   free_of_own : (js : List Job) → Each (λ (j : Job). j.owner ≡ u) js → owner_row w.free js ≡ own_free_row u (own u w) js
   free_of_own [] each = refl

@@ -1,26 +1,27 @@
 -- What Get-Jobs shows, job by job.
-use Rattle.std.proofs.Common.{◌≡◌, ℕ, zero, suc, ◌<◌, ◌≤◌, ◌+◌, List, [], ◌∷◌, refl, ap, sym, ◌∙◌, subst, arith, Bool, true, false, cond}
+use Rattle.std.proofs.Common.{◌≡◌, ℕ, zero, suc, ◌≤◌, ◌+◌, List, [], ◌∷◌, refl, ap, sym, ◌∙◌, subst, arith, Bool, true, false, cond}
 use Rattle.std.specs.Prelude.{Option, Some, None, bytes_eq, filter, take, count_by, not, nat_eq, nat_le, nat_lt, ◌&&◌, ◌||◌}
 use Rattle.std.specs.List.{AllByRecursion as Each}
 use Rattle.std.proofs.lemmas.Bool.Decides.{nat_tests}
 use Rattle.std.proofs.lemmas.List.Sums.{sum_by-cons}
+use Rattle.std.proofs.lemmas.Bool.{and_parts}
 use Rattle.queue_types.specs.Event.{ask, get_jobs}
 use Rattle.queue_types.specs.Job.{is_live_in, state_in}
 use Rattle.queue_core.specs.Machine.{step}
 use Rattle.queue_core.specs.Order.{IsLive, AreNewestFirst, AreByRank, AreRising, is_before}
-use Rattle.queue_core.specs.Sound.{IsSound, Rise}
+use Rattle.queue_core.specs.Sound.{IsSound}
 use Rattle.queue_core.specs.Visible.{in_order, is_among, is_newer, within_limit}
-use Rattle.queue_core.specs.World.{World, Entry, rows}
+use Rattle.queue_core.specs.World.{World, rows}
 use Rattle.queue_types.specs.declared.event.Reply.TheVariants.{Jobs}
 use Rattle.queue_types.specs.declared.event.WhichJobs.{WhichJobs}
 use Rattle.queue_types.specs.declared.event.WhichJobs.TheVariants.{NotCompleted, Completed as CompletedJobs}
 use Rattle.queue_types.specs.declared.job.Job.{Job}
 use Rattle.queue_types.specs.declared.job.Phase.{Phase}
-use Rattle.queue_types.specs.declared.job.Phase.TheVariants.{Waiting, Running, Stopped, Canceled, Aborted, Completed}
+use Rattle.queue_types.specs.declared.job.Phase.TheVariants.{Waiting}
 use Rattle.queue_laws.specs.Jobs.{is_owned_by, is_of_kind}
 use Rattle.queue_laws.specs.Turn.{EndInTurn, IsNoNewer, ended_at}
-use Rattle.queue_laws.proofs.Asked.{all_above}
-use Rattle.queue_laws.proofs.Base.{rows_of, each_map, each_filter, passed, last_of}
+use Rattle.queue_laws.proofs.Base.{each_map, passed}
+use Rattle.queue_laws.proofs.Standing.{chosen_rise}
 
 -- ---- kinds are states
 
@@ -28,21 +29,13 @@ live_is : (p : Phase) (hold incoming : Bool) → is_live_in p ≡ (nat_le 3 (sta
 live_is Waiting true incoming = refl
 live_is Waiting false true = refl
 live_is Waiting false false = refl
-live_is Running hold incoming = refl
-live_is Stopped hold incoming = refl
-live_is (Canceled why) hold incoming = refl
-live_is Aborted hold incoming = refl
-live_is Completed hold incoming = refl
+live_is _ hold incoming = refl
 
 ended_is : (p : Phase) (hold incoming : Bool) → not (is_live_in p) ≡ (nat_le 7 (state_in p hold incoming) && nat_le (state_in p hold incoming) 9)
 ended_is Waiting true incoming = refl
 ended_is Waiting false true = refl
 ended_is Waiting false false = refl
-ended_is Running hold incoming = refl
-ended_is Stopped hold incoming = refl
-ended_is (Canceled why) hold incoming = refl
-ended_is Aborted hold incoming = refl
-ended_is Completed hold incoming = refl
+ended_is _ hold incoming = refl
 
 pub kind_is : (which : WhichJobs) (j : Job) → is_among which j ≡ is_of_kind which j
 kind_is NotCompleted j = live_is j.phase j.hold j.incoming
@@ -61,17 +54,6 @@ count_filter p q (j ∷ js) =
     ∙ sym (sum_by-cons (λ j. cond (q j && p j) 1 0) j js)
 
 -- ---- orders
-
-pub rising : (first next : ℕ) (es : List Entry) → Rise first es next → AreRising (rows_of es)
-rising first next [] rise = tt
-rising first next (e ∷ es) rise = (all_above e.row.number (e.row.number + 1) next es (omega arith) rise.1, rising (e.row.number + 1) next es rise.1)
-
-pub rising_filter : (q : Job → Bool) (js : List Job) → AreRising js → AreRising (filter q js)
-rising_filter q [] rise = tt
-rising_filter q (j ∷ js) rise = elim (q j) as (λ b. AreRising (cond b (j ∷ filter q js) (filter q js))) [
-  | true ↦ (each_filter (λ k. j.number < k.number) q js rise.0, rising_filter q js rise.1)
-  | false ↦ rising_filter q js rise.1
-]
 
 each_take : (P : Job → Type 0) (n : ℕ) (js : List Job) → Each P js → Each P (take n js)
 each_take P zero js each = tt
@@ -117,7 +99,7 @@ chosen w caller which = filter (λ j. bytes_eq j.owner caller && is_among which 
 all_live : (w : World) (caller : List ℕ) → Each IsLive (chosen w caller NotCompleted)
 all_live w caller =
     each_map (λ j. (bytes_eq j.owner caller && is_among NotCompleted j) ≡ true) IsLive (chosen w caller NotCompleted)
-    (λ j is. last_of (bytes_eq j.owner caller) (is_among NotCompleted j) is)
+    (λ j is. (and_parts (bytes_eq j.owner caller) (is_among NotCompleted j) is).1)
     (passed (λ (j : Job). bytes_eq j.owner caller && is_among NotCompleted j) (rows w))
 
 abbrev pub CompletedAll : Type 0
@@ -146,4 +128,4 @@ completed_shown newest w now caller limit js e =
 pub live_shown : ((js : List Job) → AreRising js → AreByRank (in_order NotCompleted js)) → (w : World) (now : ℕ) (caller : List ℕ) (limit : Option ℕ) (js : List Job) → IsSound w → (step w now (ask caller (get_jobs NotCompleted limit))).reply ≡ Jobs js → AreByRank js
 live_shown ranked w now caller limit js sound e =
     let all : List Job = in_order NotCompleted (chosen w caller NotCompleted) in
-    subst AreByRank (shown_same (within_limit limit all) js e) (rank_within limit all (ranked (chosen w caller NotCompleted) (rising_filter (λ j. bytes_eq j.owner caller && is_among NotCompleted j) (rows w) (rising 1 w.next w.jobs sound.numbers))))
+    subst AreByRank (shown_same (within_limit limit all) js e) (rank_within limit all (ranked (chosen w caller NotCompleted) (chosen_rise w sound (λ j. bytes_eq j.owner caller && is_among NotCompleted j))))

@@ -1,5 +1,7 @@
 pub mod Base
 pub mod Keys
+pub mod Standing
+pub mod Rows
 pub mod OneJob
 pub mod Callers
 pub mod Asked
@@ -26,6 +28,7 @@ pub mod InOrder
 pub mod Undrawn
 pub mod AlikePlaces
 pub mod OneLeft
+pub mod OnOne
 pub mod Work
 pub mod Begun
 pub mod OneDone

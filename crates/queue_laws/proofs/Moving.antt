@@ -2,6 +2,7 @@
 use Rattle.std.proofs.Common.{◌≡◌, ℕ, ◌≤◌, ◌⊎◌, List, ◌∷◌, refl, ap, sym, ◌∙◌, arith, Bool, true, false, cond}
 use Rattle.std.specs.Prelude.{Option, Some, None, nat_eq, is_some, max, ◌&&◌}
 use Rattle.std.specs.FinMap.{get}
+use Rattle.std.proofs.lemmas.Bool.{and_right, ne_eqb}
 use Rattle.queue_types.specs.Event.{tell, kind_number}
 use Rattle.queue_types.specs.Job.{job_state, state, state_in}
 use Rattle.queue_core.specs.World.{World, rows, cut}
@@ -22,11 +23,12 @@ use Rattle.queue_types.specs.declared.job.Phase.TheVariants.{Waiting, Running, S
 use Rattle.queue_types.specs.declared.job.Why.TheVariants.{ByUser, AtDevice}
 use Rattle.queue_types.specs.declared.states.JobState.{JobState}
 use Rattle.queue_types.specs.declared.states.JobState.TheVariants.{Processing, ProcessingStopped, Canceled as CanceledState, Aborted as AbortedState, Completed as CompletedState}
+use Rattle.queue_core.proofs.Moves.{at-with_row}
 use Rattle.queue_laws.specs.Reporting.{Becomes}
-use Rattle.queue_laws.proofs.Base.{at, equal, itself, first_named, named, none_named}
+use Rattle.queue_laws.proofs.Base.{at, itself, first_named, named, none_named}
 use Rattle.queue_laws.proofs.OfKind.{starts, stops, resumes, counts, completes, fails, halts, starts_not, stops_not, resumes_not, completes_not, fails_not, halts_not, some_begun, begun_some}
 use Rattle.queue_laws.proofs.OneDone.{by, few_waiting}
-use Rattle.queue_laws.proofs.Work.{at_row, sound_at}
+use Rattle.queue_laws.proofs.Work.{sound_at}
 
 -- ---- kinds and counts
 
@@ -35,22 +37,10 @@ kind_of n = cond (nat_eq n 1) Start (cond (nat_eq n 2) Stop (cond (nat_eq n 3) R
 
 its_kind : (k : Kind) → kind_of (kind_number k) ≡ k
 its_kind Start = refl
-its_kind Stop = refl
-its_kind Resume = refl
-its_kind Count = refl
-its_kind Done = refl
-its_kind Fail = refl
-its_kind Halt = refl
+its_kind _ = refl
 
 same_kind : (a b : Kind) → kind_number a ≡ kind_number b → a ≡ b
 same_kind a b e = sym (its_kind a) ∙ ap kind_of e ∙ its_kind b
-
-unlike : (a b : ℕ) → (a ≡ b → ⊥) → nat_eq a b ≡ false
-unlike a b other = elim (nat_eq a b) as (λ t. nat_eq a b ≡ t → t ≡ false) [ true ↦ λ is. absurd (other (equal a b is)) | false ↦ λ is. refl ] refl
-
-none_both : (b : Bool) → (b && false) ≡ false
-none_both true = refl
-none_both false = refl
 
 -- ---- when a job has begun
 
@@ -58,17 +48,11 @@ begun_in : (p : Phase) (j : Job) → FitsPhase p j → 5 ≤ state_in p j.hold j
 begun_in Waiting j fits high low = let least = few_waiting j.hold j.incoming in absurd (omega arith)
 begun_in Running j fits high low = fits.2
 begun_in Stopped j fits high low = fits.2
-begun_in (Canceled why) j fits high low = absurd (omega arith)
-begun_in Aborted j fits high low = absurd (omega arith)
-begun_in Completed j fits high low = absurd (omega arith)
+begun_in _ j fits high low = absurd (omega arith)
 
 waiting_in : (p : Phase) (j : Job) → FitsPhase p j → state_in p j.hold j.incoming ≤ 4 → j.begun ≡ None
 waiting_in Waiting j fits low = fits.1
-waiting_in Running j fits low = absurd (omega arith)
-waiting_in Stopped j fits low = absurd (omega arith)
-waiting_in (Canceled why) j fits low = absurd (omega arith)
-waiting_in Aborted j fits low = absurd (omega arith)
-waiting_in Completed j fits low = absurd (omega arith)
+waiting_in _ j fits low = absurd (omega arith)
 
 pub printing_begun : (w : World) (n : ℕ) (j : Job) → IsSound w → at n w.jobs ≡ Some j → 5 ≤ state j → state j ≤ 6 → j.begun ≡ None → ⊥
 printing_begun w n j sound there high low = begun_some j.begun (begun_in j.phase j (sound_at n j w.jobs sound.entries there).phase high low)
@@ -102,7 +86,7 @@ module _ (w : World) (now : ℕ) (r : Report) where
     becomes none n x is same in_state =
         let comes = first_step none (Some x) is in
         record {
-          job = ap (λ (s : Step). at r.job s.world.jobs) comes ∙ at_row r.job x w.jobs ∙ ap (λ t. cond t (Some x) (at r.job w.jobs)) (ap (λ m. nat_eq m r.job) (same ∙ number) ∙ itself r.job);
+          job = ap (λ (s : Step). at r.job s.world.jobs) comes ∙ at-with_row r.job x w.jobs ∙ ap (λ t. cond t (Some x) (at r.job w.jobs)) (ap (λ m. nat_eq m r.job) (same ∙ number) ∙ itself r.job);
           state = in_state;
           told = ap (λ (s : Step). s.reply) comes ∙ ap (λ m. Told m x.count) in_state;
         }
@@ -185,10 +169,10 @@ module _ (w : World) (now : ℕ) (r : Report) where
     compared k kept b is = found_step (Some k) kept ∙ ap (λ b. by w (cond b (answered (Told k.state k.total)) (answered (NotTold Conflict)))) is
 
     pub other_kind : (k : KeptReport) → get w.reports (r.job, r.seq) ≡ Some k → (r.kind ≡ k.report.kind → ⊥) → step w now (tell r) ≡ record { world = w; reply = NotTold Conflict }
-    other_kind k kept other = compared k kept false (ap (λ b. b && nat_eq r.count k.report.count) (unlike (kind_number r.kind) (kind_number k.report.kind) (λ e. other (same_kind r.kind k.report.kind e))))
+    other_kind k kept other = compared k kept false (ap (λ b. b && nat_eq r.count k.report.count) (ne_eqb (kind_number r.kind) (kind_number k.report.kind) (λ e. other (same_kind r.kind k.report.kind e))))
 
     pub other_count : (k : KeptReport) → get w.reports (r.job, r.seq) ≡ Some k → (r.count ≡ k.report.count → ⊥) → step w now (tell r) ≡ record { world = w; reply = NotTold Conflict }
-    other_count k kept other = compared k kept false (ap (λ b. nat_eq (kind_number r.kind) (kind_number k.report.kind) && b) (unlike r.count k.report.count other) ∙ none_both (nat_eq (kind_number r.kind) (kind_number k.report.kind)))
+    other_count k kept other = compared k kept false (ap (λ b. nat_eq (kind_number r.kind) (kind_number k.report.kind) && b) (ne_eqb r.count k.report.count other) ∙ and_right (nat_eq (kind_number r.kind) (kind_number k.report.kind)) false refl)
 
     pub same : (k : KeptReport) → get w.reports (r.job, r.seq) ≡ Some k → r.kind ≡ k.report.kind → r.count ≡ k.report.count → step w now (tell r) ≡ record { world = w; reply = Told k.state k.total }
     same k kept kind count = compared k kept true ((λ i. nat_eq (kind_number (kind i)) (kind_number k.report.kind) && nat_eq (count i) k.report.count) ∙ ap (λ b. b && nat_eq k.report.count k.report.count) (itself (kind_number k.report.kind)) ∙ itself k.report.count)

@@ -38,27 +38,18 @@ module _ (now : ℕ) (j : Job) where
 
   pub starts : (p : Phase) → in_phase p ≡ 3 → moved_by Start p now j ≡ Some (record j { phase = Running; begun = Some now })
   starts Waiting is = ap (λ b. cond b None (Some (record j { phase = Running; begun = Some now }))) (pending j.hold j.incoming is)
-  starts Running is = absurd (omega arith)
-  starts Stopped is = absurd (omega arith)
-  starts (Canceled why) is = absurd (omega arith)
-  starts Aborted is = absurd (omega arith)
-  starts Completed is = absurd (omega arith)
+  starts _ is = absurd (omega arith)
 
   pub stops : (p : Phase) → in_phase p ≡ 5 → moved_by Stop p now j ≡ Some (record j { phase = Stopped })
   stops Waiting is = let low = few in absurd (omega arith)
   stops Running is = refl
-  stops Stopped is = absurd (omega arith)
-  stops (Canceled why) is = absurd (omega arith)
-  stops Aborted is = absurd (omega arith)
-  stops Completed is = absurd (omega arith)
+  stops _ is = absurd (omega arith)
 
   pub resumes : (p : Phase) → in_phase p ≡ 6 → moved_by Resume p now j ≡ Some (record j { phase = Running })
   resumes Waiting is = let low = few in absurd (omega arith)
   resumes Running is = absurd (omega arith)
   resumes Stopped is = refl
-  resumes (Canceled why) is = absurd (omega arith)
-  resumes Aborted is = absurd (omega arith)
-  resumes Completed is = absurd (omega arith)
+  resumes _ is = absurd (omega arith)
 
   pub counts : (p : Phase) (b : Bool) → is_some j.begun ≡ b → moved_by Count p now j ≡ cond b (Some j) None
   counts p b is = ap (λ b. cond b (Some j) None) is
@@ -66,60 +57,41 @@ module _ (now : ℕ) (j : Job) where
   pub completes : (p : Phase) → in_phase p ≡ 5 → moved_by Done p now j ≡ Some (ended_as Completed now j)
   completes Waiting is = let low = few in absurd (omega arith)
   completes Running is = refl
-  completes Stopped is = absurd (omega arith)
-  completes (Canceled why) is = absurd (omega arith)
-  completes Aborted is = absurd (omega arith)
-  completes Completed is = absurd (omega arith)
+  completes _ is = absurd (omega arith)
 
   pub fails : (p : Phase) → 5 ≤ in_phase p → in_phase p ≤ 6 → moved_by Fail p now j ≡ Some (ended_as Aborted now j)
   fails Waiting high low = let least = few in absurd (omega arith)
   fails Running high low = refl
   fails Stopped high low = refl
-  fails (Canceled why) high low = absurd (omega arith)
-  fails Aborted high low = absurd (omega arith)
-  fails Completed high low = absurd (omega arith)
+  fails _ high low = absurd (omega arith)
 
   pub halts : (p : Phase) → 5 ≤ in_phase p → in_phase p ≤ 6 → moved_by Halt p now j ≡ Some (ended_as (Canceled (why_halted j.stopping)) now j)
   halts Waiting high low = let least = few in absurd (omega arith)
   halts Running high low = refl
   halts Stopped high low = refl
-  halts (Canceled why) high low = absurd (omega arith)
-  halts Aborted high low = absurd (omega arith)
-  halts Completed high low = absurd (omega arith)
+  halts _ high low = absurd (omega arith)
 
   -- ---- not taken
 
   pub starts_not : (p : Phase) → (in_phase p ≡ 3 → ⊥) → moved_by Start p now j ≡ None
   starts_not Waiting other = ap (λ b. cond b None (Some (record j { phase = Running; begun = Some now }))) (pending_held j.hold j.incoming other)
-  starts_not Running other = refl
-  starts_not Stopped other = refl
-  starts_not (Canceled why) other = refl
-  starts_not Aborted other = refl
-  starts_not Completed other = refl
+  starts_not _ other = refl
 
   pub stops_not : (p : Phase) → (in_phase p ≡ 5 → ⊥) → moved_by Stop p now j ≡ None
   stops_not Waiting other = refl
   stops_not Running other = absurd (other refl)
-  stops_not Stopped other = refl
-  stops_not (Canceled why) other = refl
-  stops_not Aborted other = refl
-  stops_not Completed other = refl
+  stops_not _ other = refl
 
   pub resumes_not : (p : Phase) → (in_phase p ≡ 6 → ⊥) → moved_by Resume p now j ≡ None
   resumes_not Waiting other = refl
   resumes_not Running other = refl
   resumes_not Stopped other = absurd (other refl)
-  resumes_not (Canceled why) other = refl
-  resumes_not Aborted other = refl
-  resumes_not Completed other = refl
+  resumes_not _ other = refl
 
   pub completes_not : (p : Phase) → (in_phase p ≡ 5 → ⊥) → moved_by Done p now j ≡ None
   completes_not Waiting other = refl
   completes_not Running other = absurd (other refl)
-  completes_not Stopped other = refl
-  completes_not (Canceled why) other = refl
-  completes_not Aborted other = refl
-  completes_not Completed other = refl
+  completes_not _ other = refl
 
   neither : (A : Type 0) (n : ℕ) → 5 ≤ n → n ≤ 6 → (n ≤ 4) ⊎ (7 ≤ n) → A
   neither A n high low (inl less) = absurd (omega arith)
@@ -129,14 +101,10 @@ module _ (now : ℕ) (j : Job) where
   fails_not Waiting other = refl
   fails_not Running other = neither _ 5 (omega arith) (omega arith) other
   fails_not Stopped other = neither _ 6 (omega arith) (omega arith) other
-  fails_not (Canceled why) other = refl
-  fails_not Aborted other = refl
-  fails_not Completed other = refl
+  fails_not _ other = refl
 
   pub halts_not : (p : Phase) → (in_phase p ≤ 4) ⊎ (7 ≤ in_phase p) → moved_by Halt p now j ≡ None
   halts_not Waiting other = refl
   halts_not Running other = neither _ 5 (omega arith) (omega arith) other
   halts_not Stopped other = neither _ 6 (omega arith) (omega arith) other
-  halts_not (Canceled why) other = refl
-  halts_not Aborted other = refl
-  halts_not Completed other = refl
+  halts_not _ other = refl

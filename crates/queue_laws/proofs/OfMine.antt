@@ -2,37 +2,36 @@
 use Rattle.std.proofs.Common.{◌≡◌, ℕ, ℤ, pos, ◌+ℤ◌, ◌-ℤ◌, ◌+◌, List, [], ◌∷◌, map, refl, ap, subst, sym, ◌∙◌, arith, Bool, true, false, cond}
 use Rattle.std.specs.Prelude.{Some, None, bytes_eq, nat_le, filter, sum_by, option_map, ◌&&◌}
 use Rattle.std.specs.FinMap.{get}
-use Rattle.std.specs.List.{list_all, AllByRecursion as Each}
+use Rattle.std.specs.List.{AllByRecursion as Each}
 use Rattle.std.specs.Option.{option_map_or}
 use Rattle.std.proofs.lemmas.Int.{ints}
 use Rattle.std.proofs.lemmas.List.Sums.{sum_by-cons}
+use Rattle.std.proofs.lemmas.Bool.{and_parts, le-leb, true≢false}
 use Rattle.queue_types.specs.Event.{Call, Decision, ask, cancel_my_jobs}
 use Rattle.queue_types.specs.Job.{is_live_in, is_live, state, state_in, owed}
 use Rattle.queue_core.specs.World.{World, rows, cut, made_on, job_at, is_one_of}
-use Rattle.queue_core.specs.Machine.{step, taken, given_back, returned, refused, canceled, canceled_in, is_cancelable, is_cancelable_in, all_canceled, are_there}
+use Rattle.queue_core.specs.Machine.{step, taken, given_back, returned, canceled, canceled_in, is_cancelable, is_cancelable_in, all_canceled}
 use Rattle.queue_core.specs.Sound.{IsSound}
-use Rattle.queue_core.proofs.Many.{rising, at_its_number, returned-cons}
-use Rattle.queue_core.proofs.Orders.{rising-filter}
+use Rattle.queue_core.proofs.Many.{returned-cons}
 use Rattle.queue_types.specs.declared.job.Job.{Job}
 use Rattle.queue_types.specs.declared.job.Phase.{Phase}
-use Rattle.queue_types.specs.declared.job.Phase.TheVariants.{Waiting, Running, Stopped, Canceled, Aborted, Completed}
+use Rattle.queue_types.specs.declared.job.Phase.TheVariants.{Waiting, Running, Stopped}
 use Rattle.queue_types.specs.declared.event.Scene.{Scene}
+use Rattle.queue_core.proofs.Ordered.{each-filter}
+use Rattle.queue_core.proofs.Own.{moved_from}
 use Rattle.queue_laws.specs.Doing.{is_among}
 use Rattle.queue_laws.specs.Jobs.{waiting_of}
 use Rattle.queue_laws.specs.Replies.{refuses}
 use Rattle.queue_laws.proofs.Asked.{same_canceled}
-use Rattle.queue_laws.proofs.Base.{each_both, each_filter, each_map, first_of, own_key, passed}
-use Rattle.queue_laws.proofs.Funds.{moved_free}
+use Rattle.queue_laws.proofs.Base.{each_both, each_map, own_key, passed}
 use Rattle.queue_laws.proofs.OfNumber.{both_filters}
 use Rattle.queue_laws.proofs.OfPages.{nothing_owed}
 use Rattle.queue_laws.proofs.OnNamed.{one_of}
+use Rattle.queue_laws.proofs.OneDone.{few_waiting}
+use Rattle.queue_laws.proofs.Standing.{Stands, chosen_stand}
+use Rattle.queue_laws.proofs.Rows.{on_named}
 
 -- ---- one job
-
-waits : (hold incoming : Bool) → nat_le (state_in Waiting hold incoming) 4 ≡ true
-waits true incoming = refl
-waits false true = refl
-waits false false = refl
 
 -- what is set aside for a job that waits
 abbrev freed : Job → ℕ
@@ -45,18 +44,14 @@ none : (n : ℕ) → pos n -ℤ pos n ≡ pos 0
 none n = omega (arith, ints)
 
 amount : (now : ℕ) (j : Job) (p : Phase) → pos (taken j) -ℤ pos (taken (canceled_in p now j)) ≡ pos (cond (nat_le (state_in p j.hold j.incoming) 4) (owed j) 0)
-amount now j Waiting = whole (owed j) j.count ∙ ap (λ t. pos (cond t (owed j) 0)) (sym (waits j.hold j.incoming))
-amount now j Running = none (taken j)
-amount now j Stopped = none (taken j)
-amount now j (Canceled why) = none (taken j)
-amount now j Aborted = none (taken j)
-amount now j Completed = none (taken j)
+amount now j Waiting = whole (owed j) j.count ∙ ap (λ t. pos (cond t (owed j) 0)) (sym (le-leb (state_in Waiting j.hold j.incoming) 4 (few_waiting j.hold j.incoming)))
+amount now j _ = none (taken j)
 
 -- ---- several jobs
 
 module _ (now : ℕ) (caller : List ℕ) (before : List Job) where
   abbrev IsOwn : Job → Type 0
-  IsOwn j = (job_at j.number before ≡ Some j) × (bytes_eq j.owner caller ≡ true)
+  IsOwn j = Stands before j × (bytes_eq j.owner caller ≡ true)
 
   one_back : (j : Job) → IsOwn j → given_back before caller (canceled now j) ≡ pos (freed j)
   one_back j is =
@@ -89,9 +84,7 @@ able : (own : Bool) (p : Phase) (j : Job) (hold incoming : Bool) (owing : ℕ) �
 able true Waiting j hold incoming owing = refl
 able true Running j hold incoming owing = nothing_owed (is_cancelable_in Running j)
 able true Stopped j hold incoming owing = nothing_owed (is_cancelable_in Stopped j)
-able true (Canceled why) j hold incoming owing = refl
-able true Aborted j hold incoming owing = refl
-able true Completed j hold incoming owing = refl
+able true _ j hold incoming owing = refl
 able false p j hold incoming owing = refl
 
 asked : (own low among : Bool) (owing : ℕ) → cond (own && among) (cond low owing 0) 0 ≡ cond ((own && low) && among) owing 0
@@ -113,14 +106,14 @@ module _ (w : World) (now : ℕ) (caller : List ℕ) (free : ℤ) (account : get
     scene = cut w (ask caller call)
 
     all_own : Each (IsOwn now caller scene.jobs) scene.jobs
-    all_own = subst (λ js. Each (IsOwn now caller js) js) (sym chosen) (each_both (λ j. job_at j.number (filter c (rows w)) ≡ Some j) (λ j. bytes_eq j.owner caller ≡ true) (filter c (rows w))
-        (at_its_number (filter c (rows w)) (rising-filter c (rows w) (rising 1 w.next w.jobs sound.numbers)))
+    all_own = subst (λ js. Each (IsOwn now caller js) js) (sym chosen) (each_both (Stands (filter c (rows w))) (λ j. bytes_eq j.owner caller ≡ true) (filter c (rows w))
+        (chosen_stand w sound c)
         (each_map (λ j. c j ≡ true) (λ j. bytes_eq j.owner caller ≡ true) (filter c (rows w)) own (passed c (rows w))))
 
     free_by : (js : List Job) → Each (IsOwn now caller scene.jobs) js → FreeBy (all_canceled scene now js) (sum_by freed js)
     free_by js each =
         let xs : List Job = map (canceled now) js in
-        moved_free w.free caller caller scene.jobs xs (get w.free caller) refl
+        moved_from w.free caller caller scene.jobs xs (get w.free caller) refl
         ∙ ap (λ t. cond t (option_map (λ f. f +ℤ returned scene.jobs caller xs) (get w.free caller)) (get w.free caller)) (own_key caller caller refl)
         ∙ ap (option_map (λ f. f +ℤ returned scene.jobs caller xs)) account
         ∙ ap (λ z. Some (free +ℤ z)) (all_back now caller scene.jobs js each)
@@ -129,8 +122,8 @@ module _ (w : World) (now : ℕ) (caller : List ℕ) (free : ℤ) (account : get
   mine_free =
       let call : Call = cancel_my_jobs None in
       let js : List Job = (cut w (ask caller call)).jobs in
-      let first : (j : Job) → live_own j ≡ true → bytes_eq j.owner caller ≡ true = λ j is. first_of (bytes_eq j.owner caller) (is_live j) is in
-      free_by call live_own refl first (filter is_cancelable js) (each_filter (IsOwn now caller js) is_cancelable js (all_own call live_own refl first))
+      let first : (j : Job) → live_own j ≡ true → bytes_eq j.owner caller ≡ true = λ j is. (and_parts (bytes_eq j.owner caller) (is_live j) is).0 in
+      free_by call live_own refl first (filter is_cancelable js) (each-filter (IsOwn now caller js) is_cancelable js (all_own call live_own refl first))
       ∙ ap (λ n. Some (free +ℤ pos n)) (ap (sum_by freed) (both_filters is_cancelable live_own (rows w))
       ∙ agree (λ j. live_own j && is_cancelable j) (λ j. bytes_eq j.owner caller && nat_le (state j) 4) freed owed (rows w) (λ j. able (bytes_eq j.owner caller) j.phase j j.hold j.incoming (owed j)))
 
@@ -147,9 +140,6 @@ module _ (w : World) (now : ℕ) (caller : List ℕ) (free : ℤ) (account : get
     abbrev FreeUnless : Decision → Type 0
     FreeUnless d = refuses d.reply ≡ false → FreeBy d pages
 
-    declined : (A : Type 0) → true ≡ false → A
-    declined A never = absurd (cc)
-
     same_pages : sum_by freed named.jobs ≡ pages
     same_pages =
         agree is_asked (λ j. (bytes_eq j.owner caller && nat_le (state j) 4) && is_among numbers j.number) freed owed (rows w)
@@ -159,13 +149,9 @@ module _ (w : World) (now : ℕ) (caller : List ℕ) (free : ℤ) (account : get
     all_free : FreeBy (all_canceled named now named.jobs) pages
     all_free =
         let call : Call = cancel_my_jobs (Some numbers) in
-        let first : (j : Job) → is_asked j ≡ true → bytes_eq j.owner caller ≡ true = λ j is. first_of (bytes_eq j.owner caller) (is_one_of numbers j) is in
+        let first : (j : Job) → is_asked j ≡ true → bytes_eq j.owner caller ≡ true = λ j is. (and_parts (bytes_eq j.owner caller) (is_one_of numbers j) is).0 in
         free_by call is_asked refl first named.jobs (all_own call is_asked refl first)
         ∙ ap (λ n. Some (free +ℤ pos n)) same_pages
 
     pub named_free : refuses (step w now (ask caller (cancel_my_jobs (Some numbers)))).reply ≡ false → get (step w now (ask caller (cancel_my_jobs (Some numbers)))).world.free caller ≡ Some (free +ℤ pos pages)
-    named_free =
-        elim (are_there named.jobs numbers) as (λ b. FreeUnless (cond b (cond (list_all is_cancelable named.jobs) (all_canceled named now named.jobs) (refused 0x0404)) (refused 0x0406))) [
-          | true ↦ elim (list_all is_cancelable named.jobs) as (λ b. FreeUnless (cond b (all_canceled named now named.jobs) (refused 0x0404))) [ true ↦ λ taken. all_free | false ↦ declined _ ]
-          | false ↦ declined _
-        ]
+    named_free = on_named FreeUnless named now numbers (λ taken. all_free) (λ code never. absurd (true≢false never))

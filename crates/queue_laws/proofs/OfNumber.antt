@@ -2,21 +2,16 @@
 use Rattle.std.proofs.Common.{◌≡◌, ℕ, ◌+◌, ◌<◌, List, [], ◌∷◌, map, refl, ap, sym, ◌∙◌, arith, Bool, true, false, cond}
 use Rattle.std.specs.Prelude.{Some, None, nat_eq, filter, fold, ◌&&◌, ◌||◌}
 use Rattle.std.specs.List.{list_all, list_any, AllByRecursion as Each}
+use Rattle.std.proofs.lemmas.Bool.{ne_eqb, or_right, and_right}
+use Rattle.std.proofs.lemmas.Option.{same_Some, none-some}
 use Rattle.queue_core.specs.World.{Entry, with_row}
 use Rattle.queue_core.specs.Machine.{canceled}
 use Rattle.queue_core.specs.Sound.{Rise}
 use Rattle.queue_types.specs.declared.job.Job.{Job}
 use Rattle.queue_laws.specs.Doing.{entry_at}
 use Rattle.queue_laws.proofs.Asked.{same_canceled}
-use Rattle.queue_laws.proofs.Base.{at, rows_of, fresh, equal, above}
-use Rattle.queue_laws.proofs.OneDone.{some_same, no_some, with_row_at}
-
-some_none : (A : Type 0) (e : Entry) → Some e ≡ None → A
-some_none A e some = absurd (cc)
-
-or_true : (b : Bool) → true ≡ (b || true)
-or_true true = refl
-or_true false = refl
+use Rattle.queue_laws.proofs.Base.{at, rows_of, fresh, equal}
+use Rattle.queue_laws.proofs.OneDone.{with_row_at}
 
 or_false : (b : Bool) → b ≡ (b || false)
 or_false true = refl
@@ -26,7 +21,7 @@ pub no_row : (n : ℕ) (es : List Entry) → entry_at n es ≡ None → at n es 
 no_row n [] none = refl
 no_row n (f ∷ es) none =
     elim (nat_eq f.row.number n) as (λ t. cond t (Some f) (entry_at n es) ≡ None → cond t (Some f.row) (at n es) ≡ None) [
-      | true ↦ λ none. some_none _ f none
+      | true ↦ λ none. absurd (none-some f (sym none))
       | false ↦ λ none. no_row n es none
     ] none
 
@@ -58,7 +53,7 @@ module _ (now n : ℕ) where
       elim (nat_eq k.number n) as (λ t. nat_eq k.number n ≡ t → entry_at n (fold with_row (with_row es (canceled now k)) (map (canceled now) ks)) ≡ Some (once e (b || (t || list_any is_of ks)))) [
         | true ↦ λ is.
             let put : entry_at n (with_row es (canceled now k)) ≡ Some (once e true) = with_row_at n (canceled now k) es (once e b) ((same_canceled now k k.phase).number ∙ equal k.number n is) before ∙ ap (λ j. Some (record e { row = canceled now j })) (each.0 is) in
-            canceled_at e ks (with_row es (canceled now k)) true each.1 put ∙ ap (λ b. Some (once e b)) (or_true b)
+            canceled_at e ks (with_row es (canceled now k)) true each.1 put ∙ ap (λ b. Some (once e b)) (sym (or_right b true refl))
         | false ↦ λ is. canceled_at e ks (with_row es (canceled now k)) b each.1 (other_row_at n (canceled now k) es (ap (λ m. nat_eq m n) (same_canceled now k k.phase).number ∙ is) ∙ before)
       ] refl
 
@@ -85,12 +80,12 @@ module _ (n next : ℕ) (c : Job → Bool) where
       let least = rise.0 in
       let rest : has (chosen es) ≡ false = none_later (f.row.number + 1) es (omega arith) rise.1 in
       elim (c f.row) as (λ b. has (cond b (f.row ∷ chosen es) (chosen es)) ≡ false) [
-        | true ↦ ap (λ t. t || has (chosen es)) (above f.row.number n (omega arith)) ∙ rest
+        | true ↦ ap (λ t. t || has (chosen es)) (ne_eqb f.row.number n (λ same. omega arith)) ∙ rest
         | false ↦ rest
       ]
 
   pub has_chosen : (first : ℕ) (es : List Entry) (e : Entry) → Rise first es next → entry_at n es ≡ Some e → has (chosen es) ≡ c e.row
-  has_chosen first [] e rise there = no_some _ e there
+  has_chosen first [] e rise there = absurd (none-some e there)
   has_chosen first (f ∷ es) e rise there =
       elim (nat_eq f.row.number n) as (λ t. nat_eq f.row.number n ≡ t → cond t (Some f) (entry_at n es) ≡ Some e → has (cond (c f.row) (f.row ∷ chosen es) (chosen es)) ≡ c e.row) [
         | true ↦ λ is there.
@@ -98,7 +93,7 @@ module _ (n next : ℕ) (c : Job → Bool) where
             elim (c f.row) as (λ b. has (cond b (f.row ∷ chosen es) (chosen es)) ≡ b) [
               | true ↦ ap (λ t. t || has (chosen es)) is
               | false ↦ rest
-            ] ∙ ap (λ (x : Entry). c x.row) (some_same f e there)
+            ] ∙ ap (λ (x : Entry). c x.row) (same_Some f e there)
         | false ↦ λ is there.
             elim (c f.row) as (λ b. has (cond b (f.row ∷ chosen es) (chosen es)) ≡ has (chosen es)) [
               | true ↦ ap (λ t. t || has (chosen es)) is
@@ -108,20 +103,16 @@ module _ (n next : ℕ) (c : Job → Bool) where
 
   -- one of those that are chosen doesn't pass
   pub not_all : (d : Job → Bool) (es : List Entry) (e : Entry) → entry_at n es ≡ Some e → c e.row ≡ true → d e.row ≡ false → list_all d (chosen es) ≡ false
-  not_all d [] e there is isnt = no_some _ e there
+  not_all d [] e there is isnt = absurd (none-some e there)
   not_all d (f ∷ es) e there is isnt =
       elim (nat_eq f.row.number n) as (λ t. cond t (Some f) (entry_at n es) ≡ Some e → list_all d (cond (c f.row) (f.row ∷ chosen es) (chosen es)) ≡ false) [
         | true ↦ λ there.
-            let same : f.row ≡ e.row = ap (λ (x : Entry). x.row) (some_same f e there) in
+            let same : f.row ≡ e.row = ap (λ (x : Entry). x.row) (same_Some f e there) in
             ap (λ b. list_all d (cond b (f.row ∷ chosen es) (chosen es))) (ap c same ∙ is) ∙ ap (λ b. b && list_all d (chosen es)) (ap d same ∙ isnt)
         | false ↦ λ there.
             let rest : list_all d (chosen es) ≡ false = not_all d es e there is isnt in
             elim (c f.row) as (λ b. list_all d (cond b (f.row ∷ chosen es) (chosen es)) ≡ false) [
-              | true ↦ ap (λ b. d f.row && b) rest ∙ never (d f.row)
+              | true ↦ ap (λ b. d f.row && b) rest ∙ and_right (d f.row) false refl
               | false ↦ rest
             ]
       ] there
-    where
-      never : (b : Bool) → (b && false) ≡ false
-      never true = refl
-      never false = refl

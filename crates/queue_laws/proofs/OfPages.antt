@@ -9,17 +9,16 @@ use Rattle.queue_core.specs.World.{World, Entry, rows, cut, made_on, numbered}
 use Rattle.queue_core.specs.Machine.{Step, step, becomes, returned, sent, taken}
 use Rattle.queue_core.specs.Limits.{FitsPhase}
 use Rattle.queue_core.specs.Sound.{IsSound}
-use Rattle.queue_core.proofs.Own.{gives_back}
+use Rattle.queue_core.proofs.Own.{gives_back, moved_from}
 use Rattle.queue_types.specs.declared.document.Format.{Format}
 use Rattle.queue_types.specs.declared.job.Job.{Job}
 use Rattle.queue_types.specs.declared.job.Phase.{Phase}
-use Rattle.queue_types.specs.declared.job.Phase.TheVariants.{Waiting, Running, Stopped, Canceled, Aborted, Completed}
+use Rattle.queue_types.specs.declared.job.Phase.TheVariants.{Waiting, Canceled}
 use Rattle.queue_types.specs.declared.job.Why.TheVariants.{ByUser}
 use Rattle.queue_types.specs.declared.event.Scene.{Scene}
 use Rattle.queue_laws.specs.Doing.{entry_at}
 use Rattle.queue_laws.specs.Entering.{documents_of}
 use Rattle.queue_laws.proofs.Base.{own_key, named}
-use Rattle.queue_laws.proofs.Funds.{moved_free}
 use Rattle.queue_laws.proofs.OneDone.{row_at, sound_entry, is_waiting}
 use Rattle.queue_laws.proofs.OnHold.{waiting_step as hold_step}
 use Rattle.queue_laws.proofs.OnRelease.{enough_step}
@@ -41,26 +40,18 @@ none_back n f = omega (arith, ints)
 pays : (p : Phase) (hold : Bool) (count pages : ℕ) (f : ℤ) → p ≡ Waiting → hold ≡ true → count ≡ 0 → f +ℤ (pos (cond (is_live_in p) (cond hold 0 (pages - count)) 0 + count) -ℤ pos (cond (is_live_in p) (pages - count) 0 + count)) ≡ f -ℤ pos pages
 pays Waiting true count pages f is held none = omega (arith, ints)
 pays Waiting false count pages f is held none = absurd (cc)
-pays Running hold count pages f is held none = absurd (cc)
-pays Stopped hold count pages f is held none = absurd (cc)
-pays (Canceled why) hold count pages f is held none = absurd (cc)
-pays Aborted hold count pages f is held none = absurd (cc)
-pays Completed hold count pages f is held none = absurd (cc)
+pays _ hold count pages f is held none = absurd (cc)
 
 none_printed : (j : Job) (p : Phase) → p ≡ Waiting → FitsPhase p j → j.count ≡ 0
 none_printed j Waiting is fits = fits.0
-none_printed j Running is fits = absurd (cc)
-none_printed j Stopped is fits = absurd (cc)
-none_printed j (Canceled why) is fits = absurd (cc)
-none_printed j Aborted is fits = absurd (cc)
-none_printed j Completed is fits = absurd (cc)
+none_printed j _ is fits = absurd (cc)
 
 module _ (w : World) (now n : ℕ) (caller : List ℕ) (e : Entry) (there : entry_at n w.jobs ≡ Some e) (own : bytes_eq e.row.owner caller ≡ true) (free : ℤ) (account : get w.free caller ≡ Some free) where
   free_after : (call : Call) → (cut w (ask caller call)).jobs ≡ numbered n (rows w) → (x : Job) → x.number ≡ e.row.number → x.owner ≡ e.row.owner → get (made_on (becomes (cut w (ask caller call)) x).change w).free caller ≡ Some (free +ℤ (pos (taken e.row) -ℤ pos (taken x)))
   free_after call jobs x number owner =
       let s : Scene = cut w (ask caller call) in
       let at = named n (rows w) e.row (row_at n w.jobs e there) in
-      moved_free w.free caller caller s.jobs (x ∷ []) (get w.free caller) refl
+      moved_from w.free caller caller s.jobs (x ∷ []) (get w.free caller) refl
       ∙ ap (λ t. cond t (option_map (λ f. f +ℤ returned s.jobs caller (x ∷ [])) (get w.free caller)) (get w.free caller)) (own_key caller caller refl)
       ∙ ap (option_map (λ f. f +ℤ returned s.jobs caller (x ∷ []))) account
       ∙ ap (λ z. Some (free +ℤ z)) (ap (λ js. returned js caller (x ∷ [])) (jobs ∙ at.is) ∙ gives_back e.row x at.rest caller number ∙ ap (λ b. cond b (pos (taken e.row) -ℤ pos (taken x)) (pos 0)) (ap (λ a. bytes_eq a caller) owner ∙ own))

@@ -2,8 +2,8 @@
 use Rattle.std.proofs.Common.{◌≡◌, ℕ, ◌+◌, List, [], ◌∷◌, refl, ap, ◌∙◌, arith, Bool, true, false, cond}
 use Rattle.std.specs.Prelude.{nat_eq, nat_le, nat_lt, count_by, ◌||◌}
 use Rattle.std.specs.List.{list_any}
-use Rattle.std.proofs.lemmas.Bool.Decides.{nat_tests}
 use Rattle.std.proofs.lemmas.List.Sums.{sum_by-cons}
+use Rattle.std.proofs.lemmas.Bool.{lt-ltb}
 use Rattle.queue_types.specs.Event.{ask, get_printer_attributes}
 use Rattle.queue_types.specs.Job.{state, state_in, is_running, is_running_in, is_stopped, is_stopped_in}
 use Rattle.queue_core.specs.Machine.{step}
@@ -12,7 +12,7 @@ use Rattle.queue_types.specs.declared.event.Reply.TheVariants.{Printer}
 use Rattle.queue_types.specs.declared.event.WhichJobs.TheVariants.{NotCompleted}
 use Rattle.queue_types.specs.declared.job.Job.{Job}
 use Rattle.queue_types.specs.declared.job.Phase.{Phase}
-use Rattle.queue_types.specs.declared.job.Phase.TheVariants.{Waiting, Running, Stopped, Canceled, Aborted, Completed}
+use Rattle.queue_types.specs.declared.job.Phase.TheVariants.{Waiting}
 use Rattle.queue_types.specs.declared.states.PrinterState.TheVariants.{Idle, Processing as PrinterProcessing, Stopped as PrinterStopped}
 use Rattle.queue_laws.specs.Jobs.{is_unfinished, printer_state}
 use Rattle.queue_laws.proofs.InOrder.{kind_is}
@@ -21,24 +21,13 @@ running_is : (p : Phase) (hold incoming : Bool) → is_running_in p ≡ nat_eq (
 running_is Waiting true incoming = refl
 running_is Waiting false true = refl
 running_is Waiting false false = refl
-running_is Running hold incoming = refl
-running_is Stopped hold incoming = refl
-running_is (Canceled why) hold incoming = refl
-running_is Aborted hold incoming = refl
-running_is Completed hold incoming = refl
+running_is _ hold incoming = refl
 
 stopped_is : (p : Phase) (hold incoming : Bool) → is_stopped_in p ≡ nat_eq (state_in p hold incoming) 6
 stopped_is Waiting true incoming = refl
 stopped_is Waiting false true = refl
 stopped_is Waiting false false = refl
-stopped_is Running hold incoming = refl
-stopped_is Stopped hold incoming = refl
-stopped_is (Canceled why) hold incoming = refl
-stopped_is Aborted hold incoming = refl
-stopped_is Completed hold incoming = refl
-
-one_more : (n : ℕ) → nat_lt 0 (1 + n) ≡ true
-one_more n = grind (arith, nat_tests)
+stopped_is _ hold incoming = refl
 
 no_more : (n : ℕ) → 0 + n ≡ n
 no_more n = omega arith
@@ -49,7 +38,7 @@ some_is p [] = refl
 some_is p (j ∷ js) =
     ap (nat_lt 0) (sum_by-cons (λ j. cond (p j) 1 0) j js)
     ∙ elim (p j) as (λ b. nat_lt 0 (cond b 1 0 + count_by p js) ≡ (b || list_any p js)) [
-      | true ↦ one_more (count_by p js)
+      | true ↦ lt-ltb 0 (1 + count_by p js) (omega arith)
       | false ↦ ap (nat_lt 0) (no_more (count_by p js)) ∙ some_is p js
     ]
 

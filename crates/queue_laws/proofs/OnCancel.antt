@@ -7,7 +7,7 @@ use Rattle.queue_core.specs.World.{World, Entry, cut}
 use Rattle.queue_core.specs.Machine.{Step, step, becomes, refused, canceled_in, is_cancelable_in, cancel_row}
 use Rattle.queue_types.specs.declared.job.Job.{Job}
 use Rattle.queue_types.specs.declared.job.Phase.{Phase}
-use Rattle.queue_types.specs.declared.job.Phase.TheVariants.{Waiting, Running, Stopped, Canceled, Aborted, Completed}
+use Rattle.queue_types.specs.declared.job.Phase.TheVariants.{Waiting, Running, Stopped, Canceled}
 use Rattle.queue_types.specs.declared.job.Why.TheVariants.{ByUser}
 use Rattle.queue_types.specs.declared.event.Reply.TheVariants.{Refused, Done}
 use Rattle.queue_types.specs.declared.event.Scene.{Scene}
@@ -49,9 +49,7 @@ module _ (w : World) (now n : ℕ) (caller : List ℕ) (e : Entry) (there : entr
         | Waiting ↦ λ high low. let few = few_waiting e.row.hold e.row.incoming in absurd (omega arith)
         | Running ↦ λ high low. refl
         | Stopped ↦ λ high low. refl
-        | Canceled why ↦ λ high low. absurd (omega arith)
-        | Aborted ↦ λ high low. absurd (omega arith)
-        | Completed ↦ λ high low. absurd (omega arith)
+        | _ ↦ λ high low. absurd (omega arith)
       ] high low
       ∙ ap (λ b. by w (by_mark b)) is
 
@@ -70,7 +68,5 @@ module _ (w : World) (now n : ℕ) (caller : List ℕ) (e : Entry) (there : entr
         | Waiting ↦ λ high. let few = few_waiting e.row.hold e.row.incoming in absurd (omega arith)
         | Running ↦ λ high. absurd (omega arith)
         | Stopped ↦ λ high. absurd (omega arith)
-        | Canceled why ↦ λ high. refl
-        | Aborted ↦ λ high. refl
-        | Completed ↦ λ high. refl
+        | _ ↦ λ high. refl
       ] high

@@ -1,17 +1,15 @@
--- What Hold-Job, Release-Job and Cancel-Job make of a job.
+-- What Hold-Job makes of a job.
 use Rattle.std.proofs.Common.{◌≡◌, ℕ, ◌≤◌, List, refl, ap, ◌∙◌, arith, true}
 use Rattle.std.specs.Prelude.{Some, bytes_eq}
 use Rattle.queue_types.specs.Event.{ask, hold_job}
 use Rattle.queue_types.specs.Job.{state, state_in}
 use Rattle.queue_core.specs.World.{World, Entry, cut}
 use Rattle.queue_core.specs.Machine.{Step, step, becomes, hold_in}
-use Rattle.queue_types.specs.declared.job.Phase.TheVariants.{Waiting, Running, Stopped, Canceled, Aborted, Completed}
+use Rattle.queue_types.specs.declared.job.Phase.TheVariants.{Waiting}
 use Rattle.queue_types.specs.declared.event.Reply.TheVariants.{Refused, Done}
 use Rattle.queue_types.specs.declared.event.Scene.{Scene}
 use Rattle.queue_laws.specs.Doing.{entry_at}
 use Rattle.queue_laws.proofs.OneDone.{by, own_step, becomes_at, is_waiting, few_waiting}
-
--- ---- Hold-Job
 
 module _ (w : World) (now n : ℕ) (caller : List ℕ) (e : Entry) (there : entry_at n w.jobs ≡ Some e) (own : bytes_eq e.row.owner caller ≡ true) where
   abbrev hold_scene : Scene
@@ -33,9 +31,5 @@ module _ (w : World) (now n : ℕ) (caller : List ℕ) (e : Entry) (there : entr
   hold_refused high = ap (λ (s : Step). s.reply) hold_step
       ∙ elim e.row.phase as (λ p. 5 ≤ state_in p e.row.hold e.row.incoming → (hold_in p hold_scene e.row).reply ≡ Refused 0x0404) [
         | Waiting ↦ λ high. let low = few_waiting e.row.hold e.row.incoming in absurd (omega arith)
-        | Running ↦ λ high. refl
-        | Stopped ↦ λ high. refl
-        | Canceled why ↦ λ high. refl
-        | Aborted ↦ λ high. refl
-        | Completed ↦ λ high. refl
+        | _ ↦ λ high. refl
       ] high

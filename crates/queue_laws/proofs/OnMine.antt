@@ -1,7 +1,8 @@
 -- What Cancel-My-Jobs makes of each job.
 use Rattle.std.proofs.Common.{◌≡◌, ℕ, List, map, refl, ap, sym, ◌∙◌, Bool, true, false, cond}
 use Rattle.std.specs.Prelude.{Some, None, nat_eq, bytes_eq, filter, fold, ◌&&◌}
-use Rattle.std.specs.List.{AllByRecursion as Each}
+use Rattle.std.proofs.lemmas.Option.{same_Some, none-some}
+use Rattle.std.proofs.lemmas.Bool.{false_from_ne_true}
 use Rattle.queue_types.specs.Event.{Decision, ask, cancel_job, cancel_my_jobs}
 use Rattle.queue_types.specs.Job.{is_live_in, is_live}
 use Rattle.queue_core.specs.World.{World, Entry, rows, cut, with_row}
@@ -9,29 +10,20 @@ use Rattle.queue_core.specs.Machine.{Step, step, becomes, refused, canceled, is_
 use Rattle.queue_core.specs.Sound.{IsSound}
 use Rattle.queue_types.specs.declared.job.Job.{Job}
 use Rattle.queue_types.specs.declared.job.Phase.{Phase}
-use Rattle.queue_types.specs.declared.job.Phase.TheVariants.{Waiting, Running, Stopped, Canceled, Aborted, Completed}
+use Rattle.queue_types.specs.declared.job.Phase.TheVariants.{Waiting}
 use Rattle.queue_types.specs.declared.event.Reply.TheVariants.{Done}
 use Rattle.queue_types.specs.declared.event.Scene.{Scene}
 use Rattle.queue_laws.specs.Doing.{entry_at}
-use Rattle.queue_laws.proofs.Asked.{same_canceled, each_at}
-use Rattle.queue_laws.proofs.Base.{at, equal, each_filter, each_map, none_named}
+use Rattle.queue_laws.proofs.Asked.{same_canceled}
+use Rattle.queue_laws.proofs.Base.{at, equal, each_map, none_named}
 use Rattle.queue_laws.proofs.OneJob.{of_job}
 use Rattle.queue_laws.proofs.OneDone.{by, row_at, becomes_at}
 use Rattle.queue_laws.proofs.OfNumber.{no_row, once, stays_at, canceled_at, both_filters, has_chosen}
-
-job_same : (a b : Job) → Some a ≡ Some b → a ≡ b
-job_same a b e = cc
-
-no_job : (A : Type 0) (k : Job) → None ≡ Some k → A
-no_job A k none = absurd (cc)
+use Rattle.queue_laws.proofs.Standing.{Stands, all_stand}
 
 live_cancelable : (own : Bool) (p : Phase) (j : Job) → ((own && is_live_in p) && is_cancelable_in p j) ≡ (own && is_cancelable_in p j)
 live_cancelable true Waiting j = refl
-live_cancelable true Running j = refl
-live_cancelable true Stopped j = refl
-live_cancelable true (Canceled why) j = refl
-live_cancelable true Aborted j = refl
-live_cancelable true Completed j = refl
+live_cancelable true _ j = refl
 live_cancelable false p j = refl
 
 module _ (w : World) (now : ℕ) (caller : List ℕ) where
@@ -68,31 +60,22 @@ module _ (w : World) (now : ℕ) (caller : List ℕ) where
   -- ---- several of the caller's jobs
 
   module _ (sound : IsSound w) where
-    abbrev pub stands : Job → Type 0
-    stands k = at k.number w.jobs ≡ Some k
-
-    pub all_stand : (c : Job → Bool) → Each stands (filter c (rows w))
-    all_stand c = each_filter stands c (rows w) (each_at 1 w.next w.jobs sound.numbers)
-
     abbrev pub after : List Job → List Entry
     after ks = fold with_row w.jobs (map (canceled now) ks)
 
-    same_row : (n : ℕ) (e : Entry) → entry_at n w.jobs ≡ Some e → (k : Job) → stands k → nat_eq k.number n ≡ true → k ≡ e.row
-    same_row n e there k stand is = job_same k e.row (sym stand ∙ ap (λ m. at m w.jobs) (equal k.number n is) ∙ row_at n w.jobs e there)
+    same_row : (n : ℕ) (e : Entry) → entry_at n w.jobs ≡ Some e → (k : Job) → Stands (rows w) k → nat_eq k.number n ≡ true → k ≡ e.row
+    same_row n e there k stand is = same_Some k e.row (sym stand ∙ ap (λ m. at m w.jobs) (equal k.number n is) ∙ row_at n w.jobs e there)
 
-    not_named : (n : ℕ) → entry_at n w.jobs ≡ None → (k : Job) → stands k → nat_eq k.number n ≡ false
-    not_named n none k stand = elim (nat_eq k.number n) as (λ t. nat_eq k.number n ≡ t → t ≡ false) [
-      | true ↦ λ is. no_job _ k (sym (no_row n w.jobs none) ∙ ap (λ m. at m w.jobs) (sym (equal k.number n is)) ∙ stand)
-      | false ↦ λ is. refl
-    ] refl
+    not_named : (n : ℕ) → entry_at n w.jobs ≡ None → (k : Job) → Stands (rows w) k → nat_eq k.number n ≡ false
+    not_named n none k stand = false_from_ne_true (nat_eq k.number n) (λ is. none-some k (sym (no_row n w.jobs none) ∙ ap (λ m. at m w.jobs) (sym (equal k.number n is)) ∙ stand))
 
     -- where of those that are chosen exactly the caller's cancelable ones have this number
     pub as_one : (n : ℕ) (c : Job → Bool) → ((e : Entry) → entry_at n w.jobs ≡ Some e → c e.row ≡ (bytes_eq e.row.owner caller && is_cancelable e.row)) → entry_at n (after (filter c (rows w))) ≡ entry_at n (one n).world.jobs
     as_one n c same =
         elim (entry_at n w.jobs) as (λ o. entry_at n w.jobs ≡ o → entry_at n (after (filter c (rows w))) ≡ entry_at n (one n).world.jobs) [
-          | None ↦ λ none. stays_at now n (filter c (rows w)) w.jobs (each_map stands (λ k. nat_eq k.number n ≡ false) (filter c (rows w)) (not_named n none) (all_stand c)) ∙ none ∙ sym (none_after n none)
+          | None ↦ λ none. stays_at now n (filter c (rows w)) w.jobs (each_map (Stands (rows w)) (λ k. nat_eq k.number n ≡ false) (filter c (rows w)) (not_named n none) (all_stand w sound c)) ∙ none ∙ sym (none_after n none)
           | Some e ↦ λ there.
-              canceled_at now n e (filter c (rows w)) w.jobs false (each_map stands (λ k. nat_eq k.number n ≡ true → k ≡ e.row) (filter c (rows w)) (same_row n e there) (all_stand c)) there
+              canceled_at now n e (filter c (rows w)) w.jobs false (each_map (Stands (rows w)) (λ k. nat_eq k.number n ≡ true → k ≡ e.row) (filter c (rows w)) (same_row n e there) (all_stand w sound c)) there
               ∙ ap (λ b. Some (once now n e b)) (has_chosen n w.next c 1 w.jobs e sound.numbers there ∙ same e there)
               ∙ sym (one_after n e there)
         ] refl

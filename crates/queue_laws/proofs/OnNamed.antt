@@ -1,7 +1,9 @@
 -- What Cancel-My-Jobs with job numbers makes of each job.
-use Rattle.std.proofs.Common.{◌≡◌, ℕ, List, [], ◌∷◌, refl, ap, subst, sym, arith, ◌∙◌, Bool, true, false, cond}
+use Rattle.std.proofs.Common.{◌≡◌, ℕ, List, [], ◌∷◌, refl, ap, subst, sym, ◌∙◌, Bool, true, false, cond}
 use Rattle.std.specs.Prelude.{Some, None, nat_eq, bytes_eq, ◌&&◌, ◌||◌}
 use Rattle.std.specs.List.{list_all, AllByRecursion as Each}
+use Rattle.std.proofs.lemmas.Bool.{and_parts, both_ways, false_from_ne_true}
+use Rattle.std.proofs.lemmas.Option.{same_Some, none-some}
 use Rattle.queue_types.specs.Event.{Decision, ask, cancel_job, cancel_my_jobs}
 use Rattle.queue_core.specs.World.{World, Entry, rows, cut, is_one_of}
 use Rattle.queue_core.specs.Machine.{Step, step, refused, is_cancelable, all_canceled, are_there}
@@ -12,14 +14,13 @@ use Rattle.queue_types.specs.declared.event.Reply.TheVariants.{Refused, Done}
 use Rattle.queue_types.specs.declared.event.Scene.{Scene}
 use Rattle.queue_laws.specs.Doing.{entry_at, is_among}
 use Rattle.queue_laws.specs.Jobs.{has_job, is_owned_by}
-use Rattle.queue_laws.proofs.Base.{rows_of, equal, each_map, each_both, passed, last_of, true_not_false}
-use Rattle.queue_laws.proofs.OneJob.{are_own}
-use Rattle.queue_laws.proofs.OneDone.{some_same, no_some, by, row_at, number_at}
+use Rattle.queue_laws.proofs.Base.{rows_of, equal, each_map, each_both, passed}
+use Rattle.queue_laws.proofs.OneJob.{are_own, not_possible}
+use Rattle.queue_laws.proofs.OneDone.{by, row_at, number_at}
 use Rattle.queue_laws.proofs.OfNumber.{stays_at, not_all}
-use Rattle.queue_laws.proofs.OnMine.{one, by_tests, one_step, none_step, stands, all_stand, as_one}
-
-job_same : (a b : Job) → Some a ≡ Some b → a ≡ b
-job_same a b e = cc
+use Rattle.queue_laws.proofs.OnMine.{one, by_tests, one_step, none_step, as_one}
+use Rattle.queue_laws.proofs.Standing.{Stands, all_stand}
+use Rattle.queue_laws.proofs.Rows.{on_named}
 
 not_done : (A : Type 0) (r : Reply) (code : ℕ) → r ≡ Refused code → r ≡ Done → A
 not_done A r code refuses done = absurd (cc)
@@ -27,15 +28,8 @@ not_done A r code refuses done = absurd (cc)
 not_refused : (A : Type 0) (r : Reply) (code : ℕ) → r ≡ Done → r ≡ Refused code → A
 not_refused A r code done refuses = absurd (cc)
 
-abbrev code_in : Reply → ℕ
-code_in (Refused code) = code
-code_in _ = 0
-
-two_codes : (m n : ℕ) → m ≡ n → m ≡ 1030 → n ≡ 1028 → ⊥
-two_codes m n e f g = absurd (omega arith)
-
 other_code : (A : Type 0) (r : Reply) → r ≡ Refused 0x0406 → r ≡ Refused 0x0404 → A
-other_code A r there here = absurd (two_codes 0x0406 0x0404 (ap code_in (sym there ∙ here)) refl refl)
+other_code A r there here = absurd (not_possible (sym here ∙ there))
 
 -- ---- numbers
 
@@ -57,10 +51,10 @@ all_pass d (x ∷ xs) each = ap (λ b. b && list_all d xs) each.0 ∙ all_pass d
 
 module _ (caller : List ℕ) where
   has_mine : (m : ℕ) (es : List Entry) (e : Entry) → entry_at m es ≡ Some e → bytes_eq e.row.owner caller ≡ true → has_job caller m (rows_of es) ≡ true
-  has_mine m [] e there own = no_some _ e there
+  has_mine m [] e there own = absurd (none-some e there)
   has_mine m (f ∷ es) e there own =
       elim (nat_eq f.row.number m) as (λ t. cond t (Some f) (entry_at m es) ≡ Some e → ((t && is_owned_by caller f.row) || has_job caller m (rows_of es)) ≡ true) [
-        | true ↦ λ there. ap (λ b. b || has_job caller m (rows_of es)) (ap (λ (x : Entry). bytes_eq x.row.owner caller) (some_same f e there) ∙ own)
+        | true ↦ λ there. ap (λ b. b || has_job caller m (rows_of es)) (ap (λ (x : Entry). bytes_eq x.row.owner caller) (same_Some f e there) ∙ own)
         | false ↦ λ there. has_mine m es e there own
       ] there
 
@@ -113,19 +107,12 @@ module _ (w : World) (now : ℕ) (caller numbers : List ℕ) where
 
   pub named_others_stay : (n : ℕ) → is_among numbers n ≡ false → entry_at n (step w now (ask caller (cancel_my_jobs (Some numbers)))).world.jobs ≡ entry_at n w.jobs
   named_others_stay n isnt =
-      elim (are_there scene.jobs numbers) as (λ b. entry_at n (by w (by_all b (list_all is_cancelable scene.jobs))).world.jobs ≡ entry_at n w.jobs) [
-        | true ↦ elim (list_all is_cancelable scene.jobs) as (λ b. entry_at n (by w (by_all true b)).world.jobs ≡ entry_at n w.jobs) [
-          | true ↦ stays_at now n scene.jobs w.jobs (each_map (λ k. is_asked k ≡ true) (λ k. nat_eq k.number n ≡ false) scene.jobs other (passed is_asked (rows w)))
-          | false ↦ refl
-        ]
-        | false ↦ refl
-      ]
+      on_named (λ d. entry_at n (by w d).world.jobs ≡ entry_at n w.jobs) scene now numbers
+      (stays_at now n scene.jobs w.jobs (each_map (λ k. is_asked k ≡ true) (λ k. nat_eq k.number n ≡ false) scene.jobs other (passed is_asked (rows w))))
+      (λ code. refl)
     where
       other : (k : Job) → is_asked k ≡ true → nat_eq k.number n ≡ false
-      other k asked = elim (nat_eq k.number n) as (λ t. nat_eq k.number n ≡ t → t ≡ false) [
-        | true ↦ λ is. absurd (true_not_false (is_among numbers n) (ap (is_among numbers) (sym (equal k.number n is)) ∙ sym (one_of numbers k) ∙ last_of (bytes_eq k.owner caller) (is_one_of numbers k) asked) isnt)
-        | false ↦ λ is. refl
-      ] refl
+      other k asked = false_from_ne_true (nat_eq k.number n) (λ is. both_ways (is_among numbers n) isnt (ap (is_among numbers) (sym (equal k.number n is)) ∙ sym (one_of numbers k) ∙ (and_parts (bytes_eq k.owner caller) (is_one_of numbers k) asked).1))
 
   pub named_refused : (n : ℕ) → list_all (λ m. has_job caller m (rows w)) numbers ≡ true → is_among numbers n ≡ true → (one w now caller n).reply ≡ Refused 0x0404 → step w now (ask caller (cancel_my_jobs (Some numbers))) ≡ record { world = w; reply = Refused 0x0404 }
   named_refused n mine among refuses =
@@ -140,14 +127,14 @@ module _ (w : World) (now : ℕ) (caller numbers : List ℕ) where
     all_mine : list_all (λ m. has_job caller m (rows w)) numbers ≡ true
     all_mine = all_pass (λ m. has_job caller m (rows w)) numbers (each_map (λ m. (one w now caller m).reply ≡ Done) (λ m. has_job caller m (rows w) ≡ true) numbers (λ m is. let it = is_mine m is in has_mine caller m w.jobs it.entry it.there it.own) done)
 
-    can_each : (k : Job) → stands w now caller sound k × (is_asked k ≡ true) → is_cancelable k ≡ true
+    can_each : (k : Job) → Stands (rows w) k × (is_asked k ≡ true) → is_cancelable k ≡ true
     can_each k h =
-        let it = cancels k.number (sym (one_of numbers k) ∙ last_of (bytes_eq k.owner caller) (is_one_of numbers k) h.1) in
-        let same : k ≡ it.entry.row = job_same k it.entry.row (sym h.0 ∙ row_at k.number w.jobs it.entry it.there) in
+        let it = cancels k.number (sym (one_of numbers k) ∙ (and_parts (bytes_eq k.owner caller) (is_one_of numbers k) h.1).1) in
+        let same : k ≡ it.entry.row = same_Some k it.entry.row (sym h.0 ∙ row_at k.number w.jobs it.entry it.there) in
         ap is_cancelable same ∙ it.can
 
     all_can : list_all is_cancelable scene.jobs ≡ true
-    all_can = all_pass is_cancelable scene.jobs (each_map (λ k. stands w now caller sound k × (is_asked k ≡ true)) (λ k. is_cancelable k ≡ true) scene.jobs can_each (each_both (stands w now caller sound) (λ k. is_asked k ≡ true) scene.jobs (all_stand w now caller sound is_asked) (passed is_asked (rows w))))
+    all_can = all_pass is_cancelable scene.jobs (each_map (λ k. Stands (rows w) k × (is_asked k ≡ true)) (λ k. is_cancelable k ≡ true) scene.jobs can_each (each_both (Stands (rows w)) (λ k. is_asked k ≡ true) scene.jobs (all_stand w sound is_asked) (passed is_asked (rows w))))
 
     all_step : step w now (ask caller (cancel_my_jobs (Some numbers))) ≡ by w (all_canceled scene now scene.jobs)
     all_step = named_step true true (are_own caller numbers (rows w) ∙ all_mine) all_can
@@ -161,6 +148,6 @@ module _ (w : World) (now : ℕ) (caller numbers : List ℕ) where
         tests : (e : Entry) → entry_at n w.jobs ≡ Some e → is_asked e.row ≡ (bytes_eq e.row.owner caller && is_cancelable e.row)
         tests e there =
             let it = cancels n among in
-            let same : it.entry ≡ e = some_same it.entry e (sym it.there ∙ there) in
+            let same : it.entry ≡ e = same_Some it.entry e (sym it.there ∙ there) in
             ap (λ b. bytes_eq e.row.owner caller && b) (one_of numbers e.row ∙ ap (is_among numbers) (number_at n w.jobs e there) ∙ among)
             ∙ ap (λ b. bytes_eq e.row.owner caller && b) (sym it.can ∙ ap (λ (x : Entry). is_cancelable x.row) same)

@@ -7,7 +7,7 @@ use Rattle.queue_types.specs.Event.{ask, release_job}
 use Rattle.queue_types.specs.Job.{state, state_in, estimate}
 use Rattle.queue_core.specs.World.{World, Entry, cut, found_row}
 use Rattle.queue_core.specs.Machine.{Step, step, becomes, refused, answered, has_pages, let_print, release_in}
-use Rattle.queue_types.specs.declared.job.Phase.TheVariants.{Waiting, Running, Stopped, Canceled, Aborted, Completed}
+use Rattle.queue_types.specs.declared.job.Phase.TheVariants.{Waiting, Running, Stopped}
 use Rattle.queue_types.specs.declared.event.Reply.TheVariants.{Refused, Done}
 use Rattle.queue_types.specs.declared.event.Scene.{Scene}
 use Rattle.queue_laws.specs.Doing.{entry_at}
@@ -64,9 +64,7 @@ module _ (w : World) (now n : ℕ) (caller : List ℕ) (e : Entry) (there : entr
         | Waiting ↦ λ high low. let few = few_waiting e.row.hold e.row.incoming in absurd (omega arith)
         | Running ↦ λ high low. refl
         | Stopped ↦ λ high low. refl
-        | Canceled why ↦ λ high low. absurd (omega arith)
-        | Aborted ↦ λ high low. absurd (omega arith)
-        | Completed ↦ λ high low. absurd (omega arith)
+        | _ ↦ λ high low. absurd (omega arith)
       ] high low
 
   pub ended_refused : 7 ≤ state e.row → (step w now (ask caller (release_job n))).reply ≡ Refused 0x0404
@@ -75,7 +73,5 @@ module _ (w : World) (now n : ℕ) (caller : List ℕ) (e : Entry) (there : entr
         | Waiting ↦ λ high. let few = few_waiting e.row.hold e.row.incoming in absurd (omega arith)
         | Running ↦ λ high. absurd (omega arith)
         | Stopped ↦ λ high. absurd (omega arith)
-        | Canceled why ↦ λ high. refl
-        | Aborted ↦ λ high. refl
-        | Completed ↦ λ high. refl
+        | _ ↦ λ high. refl
       ] high

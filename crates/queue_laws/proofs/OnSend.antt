@@ -3,36 +3,34 @@ use Rattle.std.proofs.Common.{◌≡◌, ◌≢◌, ℕ, ◌+◌, ◌<◌, ◌�
 use Rattle.std.specs.Prelude.{Some, bytes_eq, nat_le, length, option_map, ◌&&◌}
 use Rattle.std.proofs.lemmas.Bool.Decides.{nat_tests}
 use Rattle.std.proofs.lemmas.List.{append-nil, length-append}
+use Rattle.std.proofs.lemmas.Bool.{ne_eqb, and_right, false_from_ne_true}
 use Rattle.queue_types.specs.Event.{Decision, NewDocument, ask, send_document}
 use Rattle.queue_types.specs.Job.{state, state_in}
 use Rattle.queue_core.specs.Limits.{FitsPhase}
 use Rattle.queue_core.specs.World.{World, Entry, cut, with_row, add_document, with_document}
-use Rattle.queue_core.specs.Machine.{Step, step, changed, refused, document_count, new_document, is_sendable, sent, send_in}
+use Rattle.queue_core.specs.Machine.{Step, step, refused, document_count, new_document, is_sendable, sent, send_in}
 use Rattle.queue_core.specs.Sound.{IsSound}
 use Rattle.queue_types.specs.declared.document.Format.{Format}
 use Rattle.queue_types.specs.declared.job.Job.{Job}
 use Rattle.queue_types.specs.declared.job.Phase.{Phase}
-use Rattle.queue_types.specs.declared.job.Phase.TheVariants.{Waiting, Running, Stopped, Canceled, Aborted, Completed}
+use Rattle.queue_types.specs.declared.job.Phase.TheVariants.{Waiting}
 use Rattle.queue_types.specs.declared.event.Reply.TheVariants.{Refused, Jobs}
 use Rattle.queue_types.specs.declared.event.Scene.{Scene}
 use Rattle.queue_laws.specs.Doing.{entry_at, sent_to}
 use Rattle.queue_laws.specs.Entering.{documents_of}
-use Rattle.queue_laws.proofs.Base.{above, itself}
+use Rattle.queue_laws.proofs.Base.{itself}
 use Rattle.queue_laws.proofs.OneDone.{by, own_step, number_at, sound_entry, with_row_at, document_at}
+use Rattle.queue_laws.proofs.Rows.{takes}
 
 same_count : (format : Format) (payload : List ℕ) → document_count payload ≡ length (documents_of format payload)
 same_count format [] = refl
-same_count format (b ∷ bytes) = ap (λ t. cond t 0 1) (above (length (b ∷ bytes)) 0 (omega arith))
+same_count format (b ∷ bytes) = ap (λ t. cond t 0 1) (ne_eqb (length (b ∷ bytes)) 0 (λ same. omega arith))
 
 is_most : (m n : ℕ) → m ≡ n → n ≤ 16 → nat_le m 16 ≡ true
 is_most m n is h = grind (arith, nat_tests)
 
 is_more : (m n : ℕ) → m ≡ n → 16 < n → nat_le m 16 ≡ false
 is_more m n is h = grind (arith, nat_tests)
-
-never : (b : Bool) → (b && false) ≡ false
-never true = refl
-never false = refl
 
 pub added : (n : ℕ) (es : List Entry) (e : Entry) (x : Job) (format : Format) (payload : List ℕ) → x.number ≡ n → entry_at n es ≡ Some e → entry_at n (with_document (with_row es x) (new_document x.number format payload)) ≡ Some (record { row = x; documents = e.documents ++ documents_of format payload })
 added n es e x format [] number there = with_row_at n x es e number there ∙ ap (λ ds. Some (record { row = x; documents = ds })) (sym (append-nil e.documents))
@@ -45,11 +43,7 @@ added n es e x format (b ∷ bytes) number there =
 -- a job that is open for documents waits in state 4
 open_state : (j : Job) (p : Phase) → FitsPhase p j → j.incoming ≡ true → state_in p j.hold j.incoming ≡ 4
 open_state j Waiting fits is = ap (state_in Waiting j.hold) is ∙ elim j.hold as (λ b. state_in Waiting b true ≡ 4) [ true ↦ refl | false ↦ refl ]
-open_state j Running fits is = let no = fits.1 in absurd (cc)
-open_state j Stopped fits is = let no = fits.1 in absurd (cc)
-open_state j (Canceled why) fits is = let no = fits.1 in absurd (cc)
-open_state j Aborted fits is = let no = fits.1 in absurd (cc)
-open_state j Completed fits is = let no = fits.1 in absurd (cc)
+open_state j _ fits is = let no = fits.1 in absurd (cc)
 
 module _ (w : World) (now n : ℕ) (caller : List ℕ) (e : Entry) (format : Format) (payload : List ℕ) (last : Bool) (there : entry_at n w.jobs ≡ Some e) (own : bytes_eq e.row.owner caller ≡ true) where
   abbrev scene : Scene
@@ -58,11 +52,11 @@ module _ (w : World) (now n : ℕ) (caller : List ℕ) (e : Entry) (format : For
   abbrev x : Job
   x = sent e.row payload last
 
-  abbrev takes : Decision
-  takes = record { reply = Jobs (x ∷ []); change = record (changed scene (x ∷ [])) { document = new_document e.row.number format payload } }
+  abbrev sends : Decision
+  sends = takes scene e.row format payload last
 
-  send_step : (b : Bool) → is_sendable e.row payload ≡ b → step w now (ask caller (send_document n format payload last)) ≡ by w (cond b takes (refused 0x0404))
-  send_step b is = ap (by w) (own_step w n caller (λ j. send_in scene j format payload last) e there own) ∙ ap (λ b. by w (cond b takes (refused 0x0404))) is
+  send_step : (b : Bool) → is_sendable e.row payload ≡ b → step w now (ask caller (send_document n format payload last)) ≡ by w (cond b sends (refused 0x0404))
+  send_step b is = ap (by w) (own_step w n caller (λ j. send_in scene j format payload last) e there own) ∙ ap (λ b. by w (cond b sends (refused 0x0404))) is
 
   same_row : x ≡ (sent_to e format payload last).row
   same_row = ap (λ k. record x { documents = e.row.documents + k }) (same_count format payload)
@@ -74,7 +68,7 @@ module _ (w : World) (now n : ℕ) (caller : List ℕ) (e : Entry) (format : For
       ∙ ap (λ k. k + length (documents_of format payload)) here.documents
       ∙ sym (length-append e.documents (documents_of format payload))
 
-  pub taken_step : IsSound w → e.row.incoming ≡ true → length (e.documents ++ documents_of format payload) ≤ 16 → step w now (ask caller (send_document n format payload last)) ≡ by w takes
+  pub taken_step : IsSound w → e.row.incoming ≡ true → length (e.documents ++ documents_of format payload) ≤ 16 → step w now (ask caller (send_document n format payload last)) ≡ by w sends
   taken_step sound incoming few = send_step true (ap (λ b. b && nat_le (e.row.documents + document_count payload) 16) incoming ∙ is_most (e.row.documents + document_count payload) (length (e.documents ++ documents_of format payload)) (count_after sound) few)
 
   pub is_added : IsSound w → e.row.incoming ≡ true → length (e.documents ++ documents_of format payload) ≤ 16 → entry_at n (step w now (ask caller (send_document n format payload last))).world.jobs ≡ Some (sent_to e format payload last)
@@ -89,9 +83,9 @@ module _ (w : World) (now n : ℕ) (caller : List ℕ) (e : Entry) (format : For
   closed_refused incoming = ap (λ (s : Step). s.reply) (send_step false (ap (λ b. b && nat_le (e.row.documents + document_count payload) 16) incoming))
 
   pub full_refused : IsSound w → 16 < length (e.documents ++ documents_of format payload) → (step w now (ask caller (send_document n format payload last))).reply ≡ Refused 0x0404
-  full_refused sound many = ap (λ (s : Step). s.reply) (send_step false (ap (λ b. e.row.incoming && b) (is_more (e.row.documents + document_count payload) (length (e.documents ++ documents_of format payload)) (count_after sound) many) ∙ never e.row.incoming))
+  full_refused sound many = ap (λ (s : Step). s.reply) (send_step false (ap (λ b. e.row.incoming && b) (is_more (e.row.documents + document_count payload) (length (e.documents ++ documents_of format payload)) (count_after sound) many) ∙ and_right e.row.incoming false refl))
 
   pub other_state_refused : IsSound w → state e.row ≢ 4 → (step w now (ask caller (send_document n format payload last))).reply ≡ Refused 0x0404
   other_state_refused sound other =
       let here = sound_entry n w.jobs e sound.entries there in
-      closed_refused (elim e.row.incoming as (λ b. e.row.incoming ≡ b → b ≡ false) [ true ↦ λ is. absurd (other (open_state e.row e.row.phase here.row.phase is)) | false ↦ λ is. refl ] refl)
+      closed_refused (false_from_ne_true e.row.incoming (λ is. other (open_state e.row e.row.phase here.row.phase is)))

@@ -1,49 +1,44 @@
 -- What becomes of the one job that an operation is about.
 use Rattle.std.proofs.Common.{◌≡◌, ℕ, ◌≤◌, List, [], ◌∷◌, map, refl, ap, subst, sym, ◌∙◌, arith, Bool, true, false, cond}
-use Rattle.std.specs.Prelude.{Some, None, nat_eq, bytes_eq, option_map}
+use Rattle.std.specs.Prelude.{Some, nat_eq, bytes_eq, option_map}
 use Rattle.std.specs.List.{AllByRecursion as Each}
+use Rattle.std.proofs.lemmas.Option.{same_Some, none-some}
 use Rattle.queue_types.specs.Event.{Decision, NewDocument}
 use Rattle.queue_types.specs.Job.{state, state_in}
 use Rattle.queue_core.specs.World.{World, Entry, rows, made_on, numbered, with_row, add_document}
 use Rattle.queue_core.specs.Machine.{Step, becomes, of_own}
 use Rattle.queue_core.specs.Sound.{IsSoundEntry}
 use Rattle.queue_types.specs.declared.job.Job.{Job}
-use Rattle.queue_types.specs.declared.job.Phase.TheVariants.{Waiting, Running, Stopped, Canceled, Aborted, Completed}
+use Rattle.queue_types.specs.declared.job.Phase.TheVariants.{Waiting}
 use Rattle.queue_types.specs.declared.event.Scene.{Scene}
 use Rattle.queue_laws.specs.Doing.{entry_at}
 use Rattle.queue_laws.proofs.Base.{at, equal, itself}
 use Rattle.queue_laws.proofs.Callers.{document_row}
 use Rattle.queue_laws.proofs.OneJob.{of_job}
 
-pub some_same : (a b : Entry) → Some a ≡ Some b → a ≡ b
-some_same a b e = cc
-
-pub no_some : (A : Type 0) (e : Entry) → None ≡ Some e → A
-no_some A e none = absurd (cc)
-
 -- ---- the job of a number with its documents, and its row
 
 pub row_at : (n : ℕ) (es : List Entry) (e : Entry) → entry_at n es ≡ Some e → at n es ≡ Some e.row
-row_at n [] e there = no_some _ e there
+row_at n [] e there = absurd (none-some e there)
 row_at n (f ∷ es) e there =
     elim (nat_eq f.row.number n) as (λ t. cond t (Some f) (entry_at n es) ≡ Some e → cond t (Some f.row) (at n es) ≡ Some e.row) [
-      | true ↦ λ there. ap (λ (x : Entry). Some x.row) (some_same f e there)
+      | true ↦ λ there. ap (λ (x : Entry). Some x.row) (same_Some f e there)
       | false ↦ λ there. row_at n es e there
     ] there
 
 pub number_at : (n : ℕ) (es : List Entry) (e : Entry) → entry_at n es ≡ Some e → e.row.number ≡ n
-number_at n [] e there = no_some _ e there
+number_at n [] e there = absurd (none-some e there)
 number_at n (f ∷ es) e there =
     elim (nat_eq f.row.number n) as (λ t. nat_eq f.row.number n ≡ t → cond t (Some f) (entry_at n es) ≡ Some e → e.row.number ≡ n) [
-      | true ↦ λ is there. ap (λ (x : Entry). x.row.number) (sym (some_same f e there)) ∙ equal f.row.number n is
+      | true ↦ λ is there. ap (λ (x : Entry). x.row.number) (sym (same_Some f e there)) ∙ equal f.row.number n is
       | false ↦ λ is there. number_at n es e there
     ] refl there
 
 pub sound_entry : (n : ℕ) (es : List Entry) (e : Entry) → Each IsSoundEntry es → entry_at n es ≡ Some e → IsSoundEntry e
-sound_entry n [] e each there = no_some _ e there
+sound_entry n [] e each there = absurd (none-some e there)
 sound_entry n (f ∷ es) e each there =
     elim (nat_eq f.row.number n) as (λ t. cond t (Some f) (entry_at n es) ≡ Some e → IsSoundEntry e) [
-      | true ↦ λ there. subst IsSoundEntry (some_same f e there) each.0
+      | true ↦ λ there. subst IsSoundEntry (same_Some f e there) each.0
       | false ↦ λ there. sound_entry n es e each.1 there
     ] there
 
@@ -53,11 +48,11 @@ put_at : (n : ℕ) (x : Job) (f : Entry) (es : List Entry) → x.number ≡ n �
 put_at n x f es number = ap (λ m. cond (nat_eq m n) (Some (record f { row = x })) (entry_at n es)) number ∙ ap (λ t. cond t (Some (record f { row = x })) (entry_at n es)) (itself n)
 
 pub with_row_at : (n : ℕ) (x : Job) (es : List Entry) (e : Entry) → x.number ≡ n → entry_at n es ≡ Some e → entry_at n (with_row es x) ≡ Some (record e { row = x })
-with_row_at n x [] e number there = no_some _ e there
+with_row_at n x [] e number there = absurd (none-some e there)
 with_row_at n x (f ∷ es) e number there =
     ap (λ m. entry_at n (cond (nat_eq f.row.number m) (record f { row = x } ∷ es) (f ∷ with_row es x))) number
     ∙ elim (nat_eq f.row.number n) as (λ t. nat_eq f.row.number n ≡ t → cond t (Some f) (entry_at n es) ≡ Some e → entry_at n (cond t (record f { row = x } ∷ es) (f ∷ with_row es x)) ≡ Some (record e { row = x })) [
-      | true ↦ λ is there. put_at n x f es number ∙ ap (λ (y : Entry). Some (record y { row = x })) (some_same f e there)
+      | true ↦ λ is there. put_at n x f es number ∙ ap (λ (y : Entry). Some (record y { row = x })) (same_Some f e there)
       | false ↦ λ is there. ap (λ t. cond t (Some f) (entry_at n (with_row es x))) is ∙ with_row_at n x es e number there
     ] refl there
 
@@ -86,11 +81,7 @@ becomes_at w n s e x there same = with_row_at n x w.jobs e (same ∙ number_at n
 pub is_waiting : (j : Job) → state j ≤ 4 → j.phase ≡ Waiting
 is_waiting j low = elim j.phase as (λ p. state_in p j.hold j.incoming ≤ 4 → p ≡ Waiting) [
   | Waiting ↦ λ low. refl
-  | Running ↦ λ low. absurd (omega arith)
-  | Stopped ↦ λ low. absurd (omega arith)
-  | Canceled why ↦ λ low. absurd (omega arith)
-  | Aborted ↦ λ low. absurd (omega arith)
-  | Completed ↦ λ low. absurd (omega arith)
+  | _ ↦ λ low. absurd (omega arith)
 ] low
 
 pub few_waiting : (hold incoming : Bool) → state_in Waiting hold incoming ≤ 4

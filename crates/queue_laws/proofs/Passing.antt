@@ -3,6 +3,7 @@ use Rattle.std.proofs.Common.{◌≡◌, ℕ, ℤ, pos, ◌+ℤ◌, ◌-ℤ◌, 
 use Rattle.std.specs.Prelude.{Some, None, ◌≤ℤ◌, fold, option_map, is_some}
 use Rattle.std.specs.FinMap.{get}
 use Rattle.std.proofs.lemmas.Int.{ints}
+use Rattle.std.proofs.lemmas.Option.{same_Some}
 use Rattle.queue_types.specs.Event.{Decision, tell}
 use Rattle.queue_types.specs.Job.{is_live, is_live_in, estimate, owed}
 use Rattle.queue_core.specs.World.{World, cut, made_on, put_free, owner_row}
@@ -15,14 +16,10 @@ use Rattle.queue_types.specs.declared.event.Reply.TheVariants.{Told, NotTold}
 use Rattle.queue_types.specs.declared.event.Report.{Report}
 use Rattle.queue_types.specs.declared.job.Job.{Job}
 use Rattle.queue_types.specs.declared.job.Phase.{Phase}
-use Rattle.queue_types.specs.declared.job.Phase.TheVariants.{Waiting, Running, Stopped, Canceled, Aborted, Completed}
-use Rattle.queue_core.proofs.Own.{gives_back}
+use Rattle.queue_types.specs.declared.job.Phase.TheVariants.{Waiting, Running, Stopped}
+use Rattle.queue_core.proofs.Own.{gives_back, moved_from}
 use Rattle.queue_laws.proofs.Base.{at, own_key}
-use Rattle.queue_laws.proofs.Funds.{moved_free}
-use Rattle.queue_laws.proofs.Telling.{declined, known, taken as told_of, IsAccepted, telling, named_before, after_at}
-
-some_same : {A : Type 0} (a b : A) → Some a ≡ Some b → a ≡ b
-some_same a b e = cc
+use Rattle.queue_laws.proofs.Telling.{declined, known, taken as told_of, IsAccepted, telling, is_before, is_after}
 
 -- ---- a job that ended stays so
 
@@ -33,16 +30,14 @@ was_live : (p : Phase) (x : Job) → is_live_in p ≡ true → StaysEnded p x
 was_live p x is ended = absurd (cc)
 
 only_counted : (b : Bool) (p : Phase) (x y : Job) → y.phase ≡ p → cond b (Some y) None ≡ Some x → StaysEnded p x
-only_counted true p x y is e ended = ap is_live (sym (some_same y x e)) ∙ ap is_live_in is ∙ ended
+only_counted true p x y is e ended = ap is_live (sym (same_Some y x e)) ∙ ap is_live_in is ∙ ended
 only_counted false p x y is e ended = absurd (cc)
 
 ended_stays : (c now : ℕ) (j x : Job) (k : Kind) (p : Phase) → j.phase ≡ p → moved_by k p now (counted c j) ≡ Some x → StaysEnded p x
 ended_stays c now j x k Waiting is e = was_live Waiting x refl
 ended_stays c now j x k Running is e = was_live Running x refl
 ended_stays c now j x k Stopped is e = was_live Stopped x refl
-ended_stays c now j x Count (Canceled why) is e = only_counted (is_some j.begun) (Canceled why) x (counted c j) is e
-ended_stays c now j x Count Aborted is e = only_counted (is_some j.begun) Aborted x (counted c j) is e
-ended_stays c now j x Count Completed is e = only_counted (is_some j.begun) Completed x (counted c j) is e
+ended_stays c now j x Count p is e = only_counted (is_some j.begun) p x (counted c j) is e
 ended_stays c now j x _ _ is e = absurd (cc)
 
 -- ---- amounts
@@ -94,7 +89,7 @@ module _ (w : World) (now : ℕ) (r : Report) where
     free_then : (f : ℤ) → get w.free j.owner ≡ Some f → get (by (accepted (cut w (tell r)) r x)).free j.owner ≡ Some (f +ℤ (pos (taken j) -ℤ pos (taken x)))
     free_then f there =
         ap (λ js. get (fold put_free w.free (map (credited js (x ∷ [])) (owner_row w.free js))) j.owner) a.jobs
-        ∙ moved_free w.free j.owner j.owner (j ∷ a.rest) (x ∷ []) (get w.free j.owner) refl
+        ∙ moved_from w.free j.owner j.owner (j ∷ a.rest) (x ∷ []) (get w.free j.owner) refl
         ∙ ap (λ t. cond t (option_map (λ f. f +ℤ returned (j ∷ a.rest) j.owner (x ∷ [])) (get w.free j.owner)) (get w.free j.owner)) (own_key j.owner j.owner refl)
         ∙ (λ i. option_map (λ f. f +ℤ taken_back i) (there i))
 
@@ -103,18 +98,18 @@ module _ (w : World) (now : ℕ) (r : Report) where
 
     job_passes : (f g : ℤ) → get w.free j.owner ≡ Some f → get (by d).free j.owner ≡ Some g → f ≤ℤ (g +ℤ pos (x.count - (j.count + owed j)))
     job_passes f g before then =
-        let is : f +ℤ (pos (taken j) -ℤ pos (taken x)) ≡ g = some_same (f +ℤ (pos (taken j) -ℤ pos (taken x))) g (sym (free_then f before) ∙ sym (ap (λ d. get (by d).free j.owner) a.is) ∙ then) in
+        let is : f +ℤ (pos (taken j) -ℤ pos (taken x)) ≡ g = same_Some (f +ℤ (pos (taken j) -ℤ pos (taken x))) g (sym (free_then f before) ∙ sym (ap (λ d. get (by d).free j.owner) a.is) ∙ then) in
         subst (λ g. f ≤ℤ (g +ℤ pos (x.count - (j.count + owed j)))) is
         (subst (λ o. f ≤ℤ ((f +ℤ (pos (taken j) -ℤ pos (o + x.count))) +ℤ pos (x.count - (j.count + owed j)))) (sym owed_then)
         (passes (is_live j) (is_live x) j.hold (estimate j) j.count x.count f (ended_stays r.count now j x r.kind j.phase refl a.came)))
 
   pub report_passes : (j k : Job) (f g : ℤ) → at r.job w.jobs ≡ Some j → at r.job (step w now (tell r)).world.jobs ≡ Some k → get w.free j.owner ≡ Some f → get (step w now (tell r)).world.free j.owner ≡ Some g → f ≤ℤ (g +ℤ pos (k.count - (j.count + owed j)))
   report_passes j k f g old new before then = elim (telling w now r) as (λ _. f ≤ℤ (g +ℤ pos (k.count - (j.count + owed j)))) [
-    | declined cause e ↦ same_passes f g (k.count - (j.count + owed j)) (some_same f g (sym before ∙ sym (ap (λ d. get (by d).free j.owner) e) ∙ then))
-    | known kept is same e ↦ same_passes f g (k.count - (j.count + owed j)) (some_same f g (sym before ∙ sym (ap (λ d. get (by d).free j.owner) e) ∙ then))
+    | declined cause e ↦ same_passes f g (k.count - (j.count + owed j)) (same_Some f g (sym before ∙ sym (ap (λ d. get (by d).free j.owner) e) ∙ then))
+    | known kept is same e ↦ same_passes f g (k.count - (j.count + owed j)) (same_Some f g (sym before ∙ sym (ap (λ d. get (by d).free j.owner) e) ∙ then))
     | told_of a ↦
-        let was : a.before ≡ j = some_same a.before j (sym (named_before w now r d a).0 ∙ old) in
-        let is : a.after ≡ k = some_same a.after k (sym (after_at w now r d a) ∙ sym (ap (λ d. at r.job (by d).jobs) a.is) ∙ new) in
+        let was : a.before ≡ j = is_before w now r d a j old in
+        let is : a.after ≡ k = is_after w now r d a k new in
         subst (λ (k : Job). f ≤ℤ (g +ℤ pos (k.count - (j.count + owed j)))) is
         (subst (λ (j : Job). get w.free j.owner ≡ Some f → get (by d).free j.owner ≡ Some g → f ≤ℤ (g +ℤ pos (a.after.count - (j.count + owed j)))) was (job_passes a f g) before then)
   ]
@@ -126,7 +121,7 @@ module _ (w : World) (now : ℕ) (r : Report) where
 
   none_moves : (j k : Job) (reply : Reply) → d ≡ answered reply → at r.job w.jobs ≡ Some j → at r.job (by d).jobs ≡ Some k → Moves j k
   none_moves j k reply e old new f before =
-      let same : j ≡ k = some_same j k (sym old ∙ sym (ap (λ d. at r.job (by d).jobs) e) ∙ new) in
+      let same : j ≡ k = same_Some j k (sym old ∙ sym (ap (λ d. at r.job (by d).jobs) e) ∙ new) in
       ap (λ d. get (by d).free j.owner) e ∙ before ∙ ap Some (nothing_moves f (taken j) (taken k) (ap taken same))
 
   job_moves : (a : IsAccepted w now r d) → Moves a.before a.after
@@ -137,7 +132,7 @@ module _ (w : World) (now : ℕ) (r : Report) where
     | declined cause e ↦ none_moves j k (NotTold cause) e old new f before
     | known kept is same e ↦ none_moves j k (Told kept.state kept.total) e old new f before
     | told_of a ↦
-        let was : a.before ≡ j = some_same a.before j (sym (named_before w now r d a).0 ∙ old) in
-        let is : a.after ≡ k = some_same a.after k (sym (after_at w now r d a) ∙ sym (ap (λ d. at r.job (by d).jobs) a.is) ∙ new) in
+        let was : a.before ≡ j = is_before w now r d a j old in
+        let is : a.after ≡ k = is_after w now r d a k new in
         subst (λ (k : Job). Moves j k) is (subst (λ (j : Job). Moves j a.after) was (job_moves a)) f before
   ]

@@ -3,6 +3,7 @@ use Rattle.std.proofs.Common.{◌≡◌, ℕ, ◌<◌, ◌+◌, ◌⊎◌, List,
 use Rattle.std.specs.Prelude.{Some, None, nat_eq, bytes_eq, filter, sum_by, not, ◌&&◌}
 use Rattle.std.specs.FinMap.{get}
 use Rattle.std.proofs.lemmas.List.Sums.{sum_by-cons}
+use Rattle.std.proofs.lemmas.Bool.{ne_eqb}
 use Rattle.queue_types.specs.Settings.{SettingValues}
 use Rattle.queue_types.specs.Job.{is_live}
 use Rattle.queue_types.specs.Event.{Call, Decision, Event, ask, print_job, validate_job, create_job, send_document, cancel_job, cancel_my_jobs, hold_job, release_job, get_job_attributes, get_jobs, get_printer_attributes}
@@ -15,7 +16,7 @@ use Rattle.queue_types.specs.declared.event.Reply.TheVariants.{Jobs}
 use Rattle.queue_types.specs.declared.event.Scene.{Scene}
 use Rattle.queue_laws.specs.Alike.{counts_all}
 use Rattle.queue_laws.specs.Own.{Own, own, own_jobs}
-use Rattle.queue_laws.proofs.Base.{equal, above as apart, rows_of}
+use Rattle.queue_laws.proofs.Base.{equal, rows_of}
 
 -- the scene that is cut from what is the caller's own
 abbrev pub seen : SettingValues → Own → List ℕ → Call → Scene
@@ -65,7 +66,7 @@ none_above : (n first next : ℕ) (es : List Entry) → n < first → Rise first
 none_above n first next [] low rise = refl
 none_above n first next (e ∷ es) low rise =
     let least = rise.0 in
-    ap (λ b. cond b (e.row ∷ named n es) (named n es)) (apart e.row.number n (omega arith))
+    ap (λ b. cond b (e.row ∷ named n es) (named n es)) (ne_eqb e.row.number n (λ same. omega arith))
     ∙ none_above n (e.row.number + 1) next es (omega arith) rise.1
 
 -- no own job has a number that no job has

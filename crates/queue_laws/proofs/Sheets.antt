@@ -2,6 +2,7 @@
 use Rattle.std.proofs.Common.{◌≡◌, ℕ, ◌<◌, ◌+◌, List, [], ◌∷◌, refl, ap, sym, ◌∙◌, arith, Bool, true, false, cond}
 use Rattle.std.specs.Prelude.{Some, nat_eq, bytes_eq, filter, find, option_map, sum_by, ◌&&◌, ◌||◌}
 use Rattle.std.proofs.lemmas.List.Sums.{sum_by-cons}
+use Rattle.std.proofs.lemmas.Bool.{ne_eqb}
 use Rattle.queue_types.specs.Job.{state, owed}
 use Rattle.queue_core.specs.Shown.{charged_to, is_charged, pending_in, pending_jobs, document_of, document_at, sheet_jobs, sheet_of}
 use Rattle.queue_core.specs.Sound.{IsSound, Rise, reserved, printed}
@@ -9,7 +10,7 @@ use Rattle.queue_core.specs.World.{World, Entry, rows, granted_in, has_number}
 use Rattle.queue_types.specs.declared.job.Job.{Job}
 use Rattle.queue_laws.specs.Jobs.{is_owned_by, has_job}
 use Rattle.queue_laws.specs.Own.{Own, own, own_jobs}
-use Rattle.queue_laws.proofs.Base.{rows_of, equal, above as apart}
+use Rattle.queue_laws.proofs.Base.{rows_of, equal}
 use Rattle.queue_laws.proofs.Seen.{filter_own}
 
 -- ---- sums and filters over a caller's own jobs
@@ -43,7 +44,7 @@ no_job : (u : List ℕ) (n first next : ℕ) (es : List Entry) → n < first →
 no_job u n first next [] low rise = refl
 no_job u n first next (e ∷ es) low rise =
     let least = rise.0 in
-    ap (λ t. (t && bytes_eq e.row.owner u) || has_job u n (rows_of es)) (apart e.row.number n (omega arith))
+    ap (λ t. (t && bytes_eq e.row.owner u) || has_job u n (rows_of es)) (ne_eqb e.row.number n (λ same. omega arith))
     ∙ no_job u n (e.row.number + 1) next es (omega arith) rise.1
 
 find_own : (u : List ℕ) (n first next : ℕ) (es : List Entry) → Rise first es next → has_job u n (rows_of es) ≡ true → find (λ (e : Entry). nat_eq e.row.number n) es ≡ find (λ (e : Entry). nat_eq e.row.number n) (own_jobs u es)

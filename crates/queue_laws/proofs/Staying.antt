@@ -2,10 +2,12 @@
 use Rattle.std.proofs.Common.{◌≡◌, ◌≢◌, ℕ, ◌+◌, List, [], ◌∷◌, ◌++◌, length, map, refl, ap, sym, subst, ◌∙◌, arith, append_assoc, Bool, true, false, cond}
 use Rattle.std.specs.Prelude.{Option, Some, None, nat_eq, bytes_eq, option_map, fold, ◌||◌}
 use Rattle.std.proofs.lemmas.List.{append-nil}
+use Rattle.std.proofs.lemmas.Bool.{ne_eqb, true≢false}
+use Rattle.std.proofs.lemmas.Option.{same_Some, none-some}
 use Rattle.queue_types.specs.Event.{Event, NewJob, NewDocument, Change, Decision, ask, print_job, send_document}
 use Rattle.queue_types.specs.Job.{state}
 use Rattle.queue_core.specs.World.{World, Entry, rows, cut, made_on, with_row, add_document, with_document}
-use Rattle.queue_core.specs.Machine.{Step, step, decision, refused, changed, new_document, is_sendable, sent, send_in}
+use Rattle.queue_core.specs.Machine.{Step, step, decision, refused, changed, is_sendable, sent, send_in}
 use Rattle.queue_core.specs.Runs.{Place, after, run}
 use Rattle.queue_core.specs.Shown.{document_at}
 use Rattle.queue_core.specs.Sound.{IsSound, Rise}
@@ -18,13 +20,14 @@ use Rattle.queue_laws.specs.Documents.{HasFirst}
 use Rattle.queue_laws.specs.Doing.{entry_at}
 use Rattle.queue_laws.specs.Entering.{Enters, documents_of}
 use Rattle.queue_laws.specs.Replies.{refuses}
-use Rattle.queue_laws.proofs.Base.{below, equal, first_below, itself}
+use Rattle.queue_laws.proofs.Base.{equal, first_below, itself}
 use Rattle.queue_laws.proofs.Entered.{printed}
 use Rattle.queue_laws.proofs.Fetched.{fetched, not_fetched}
 use Rattle.queue_laws.proofs.OfNumber.{other_row_at}
 use Rattle.queue_laws.proofs.OneDone.{by, number_at, row_at, with_row_at, document_at as document_put}
 use Rattle.queue_laws.proofs.OneJob.{of_job}
 use Rattle.queue_laws.proofs.OnSend.{added}
+use Rattle.queue_laws.proofs.Rows.{takes}
 
 pub as_it_is : (n : ℕ) (es : List Entry) (x : Entry) → entry_at n es ≡ Some x → HasFirst n x.documents es
 as_it_is n es x there = record { entry = x; more = []; there = there; documents = sym (append-nil x.documents) }
@@ -69,19 +72,13 @@ module _ (n : ℕ) (first : List Document) where
 
 -- ---- what is fetched
 
-document_same : (a b : Document) → Some a ≡ Some b → a ≡ b
-document_same a b e = cc
-
-no_document : (A : Type 0) (d : Document) → None ≡ Some d → A
-no_document A d none = absurd (cc)
-
 fetched_is : (w : World) (n : ℕ) (before : List Document) (sent d : Document) → HasFirst n (before ++ sent ∷ []) w.jobs → document_at w n (length before + 1) ≡ Some d → d ≡ sent
 fetched_is w n before sent d has is =
     let x : Entry = has.entry in
     let can : Bool = nat_eq (state x.row) 3 || nat_eq (state x.row) 5 || nat_eq (state x.row) 6 in
     elim can as (λ t. can ≡ t → d ≡ sent) [
-      | true ↦ λ yes. document_same d sent (sym is ∙ fetched w n x has.there before has.more sent yes (has.documents ∙ append_assoc before (sent ∷ []) has.more))
-      | false ↦ λ no. no_document _ d (sym (not_fetched w n x has.there (length before + 1) no) ∙ is)
+      | true ↦ λ yes. same_Some d sent (sym is ∙ fetched w n x has.there before has.more sent yes (has.documents ∙ append_assoc before (sent ∷ []) has.more))
+      | false ↦ λ no. absurd (none-some d (sym (not_fetched w n x has.there (length before + 1) no) ∙ is))
     ] refl
 
 -- a payload that is not empty is one document
@@ -100,7 +97,7 @@ last_at : (n first : ℕ) (x : Entry) (es : List Entry) → x.row.number ≡ n �
 last_at n first x [] number rise = ap (λ t. cond t (Some x) None) (ap (λ m. nat_eq m n) number ∙ itself n)
 last_at n first x (e ∷ es) number rise =
     let low = first_below (e.row.number + 1) n es rise.1 in
-    ap (λ t. cond t (Some e) (entry_at n (es ++ x ∷ []))) (below e.row.number n (omega arith)) ∙ last_at n (e.row.number + 1) x es number rise.1
+    ap (λ t. cond t (Some e) (entry_at n (es ++ x ∷ []))) (ne_eqb e.row.number n (λ same. omega arith)) ∙ last_at n (e.row.number + 1) x es number rise.1
 
 told_same : (a b : Job) → Jobs (a ∷ []) ≡ Jobs (b ∷ []) → a ≡ b
 told_same a b e = cc
@@ -123,26 +120,23 @@ module _ (w : World) (now n : ℕ) (caller : List ℕ) (e : Entry) (format : For
   abbrev x : Job
   x = sent e.row payload last
 
-  abbrev takes : Decision
-  takes = record { reply = Jobs (x ∷ []); change = record (changed scene (x ∷ [])) { document = new_document e.row.number format payload } }
+  abbrev sends : Decision
+  sends = takes scene e.row format payload last
 
   abbrev by_tests : Bool → Bool → Step
-  by_tests own can = by w (cond own (cond can takes (refused 0x0404)) (refused 0x0406))
+  by_tests own can = by w (cond own (cond can sends (refused 0x0404)) (refused 0x0406))
 
   abbrev HasIt : Step → Type 0
   HasIt s = refuses s.reply ≡ false → HasFirst n (e.documents ++ documents_of format payload) s.world.jobs
 
-  declined : (A : Type 0) → true ≡ false → A
-  declined A never = absurd (cc)
-
-  taken_has : HasIt (by w takes)
-  taken_has taken = as_it_is n (by w takes).world.jobs (record { row = x; documents = e.documents ++ documents_of format payload }) (added n w.jobs e x format payload (number_at n w.jobs e there) there)
+  taken_has : HasIt (by w sends)
+  taken_has taken = as_it_is n (by w sends).world.jobs (record { row = x; documents = e.documents ++ documents_of format payload }) (added n w.jobs e x format payload (number_at n w.jobs e there) there)
 
   sent_has : HasIt (step w now (ask caller (send_document n format payload last)))
   sent_has = subst HasIt (sym (ap (by w) (of_job caller (rows w) (λ j. send_in scene j format payload last) n e.row (row_at n w.jobs e there) (bytes_eq e.row.owner caller) refl)))
       (elim (bytes_eq e.row.owner caller) as (λ own. HasIt (by_tests own (is_sendable e.row payload))) [
-        | true ↦ elim (is_sendable e.row payload) as (λ can. HasIt (by_tests true can)) [ true ↦ taken_has | false ↦ declined _ ]
-        | false ↦ declined _
+        | true ↦ elim (is_sendable e.row payload) as (λ can. HasIt (by_tests true can)) [ true ↦ taken_has | false ↦ λ never. absurd (true≢false never) ]
+        | false ↦ λ never. absurd (true≢false never)
       ])
 
   pub sent_fetched : (places : List Place) (d : Document) → payload ≢ [] → refuses (step w now (ask caller (send_document n format payload last))).reply ≡ false → document_at (run (step w now (ask caller (send_document n format payload last))).world places) n (length e.documents + 1) ≡ Some d → d ≡ record { format = format; bytes = payload }

@@ -8,7 +8,8 @@ use Rattle.std.proofs.lemmas.Cmp.{nat_list_eq_equiv}
 use Rattle.std.proofs.lemmas.Int.{ints}
 use Rattle.std.proofs.lemmas.List.{length_push}
 use Rattle.std.proofs.lemmas.List.Folds.{find-append, list_any-append}
-use Rattle.std.proofs.lemmas.List.Sums.{fold_push, sum_by_push}
+use Rattle.std.proofs.lemmas.List.Sums.{fold_push}
+use Rattle.std.proofs.lemmas.Bool.{and_parts, or_parts}
 use Rattle.queue_core.specs.World.{World, AreNew, known_grant, put_free, put_grant, grant_cmp}
 use Rattle.queue_core.specs.Grants.{repeated, refused_row, new_row, Taken, all_taken, none_taken, take_rows, add_row, row_of, row_under, pages_under, pages_to, is_too_many, free_after}
 use Rattle.queue_types.specs.declared.event.FreeRow.{FreeRow}
@@ -16,9 +17,10 @@ use Rattle.queue_types.specs.declared.event.GrantFault.TheVariants.{Conflict, To
 use Rattle.queue_types.specs.declared.event.GrantRow.{GrantRow}
 use Rattle.queue_types.specs.declared.event.KnownGrant.{KnownGrant}
 use Rattle.queue_laws.specs.Granting.{is_named, is_account_of}
-use Rattle.queue_laws.proofs.Base.{equal, itself, own_key, same_key, left_none, right_none, first_of, last_of}
+use Rattle.queue_laws.proofs.Base.{equal, itself, own_key, same_key}
 use Rattle.queue_laws.proofs.Funds.{one_row}
 use Rattle.queue_core.proofs.Maps.{grant_total, is_grant_key}
+use Rattle.queue_core.proofs.GrantLemmas.{pages_to-push}
 use Rattle.queue_laws.proofs.Keys.{grant_key}
 
 -- ---- what becomes of one row
@@ -195,13 +197,11 @@ module _ (w : World) where
       ap (λ t. cond t (Some r.pages) (pages_under q (known_grant w q) new)) (grant_key q.batch q.account r.batch r.account)
       ∙ joined (p r) r (get w.grants (q.batch, q.account)) (find p new)
       (λ is.
-      let batch : r.batch ≡ q.batch = same_key r.batch q.batch (first_of (bytes_eq r.batch q.batch) (bytes_eq r.account q.account) is) in
-      let account : r.account ≡ q.account = same_key r.account q.account (last_of (bytes_eq r.batch q.batch) (bytes_eq r.account q.account) is) in
+      let both = and_parts (bytes_eq r.batch q.batch) (bytes_eq r.account q.account) is in
+      let batch : r.batch ≡ q.batch = same_key r.batch q.batch both.0 in
+      let account : r.account ≡ q.account = same_key r.account q.account both.1 in
       none_either (get w.grants (q.batch, q.account)) (find p new) (sym (λ i. cond (is_some (get w.grants (batch i, account i))) (get w.grants (batch i, account i)) (option_map (λ (g : GrantRow). g.pages) (find (key (batch i) (account i)) new))) ∙ absent))
       ∙ ap (λ x. cond (is_some (get w.grants (q.batch, q.account))) (get w.grants (q.batch, q.account)) (option_map (λ (g : GrantRow). g.pages) x)) (sym (find-append p new (r ∷ [])))
-
-  pages_to-push : (new : List GrantRow) (r : GrantRow) (a : List ℕ) → pages_to a (new ++ r ∷ []) ≡ pages_to a new + cond (bytes_eq r.account a) r.pages 0
-  pages_to-push new r a = sum_by_push (λ (g : GrantRow). cond (bytes_eq g.account a) g.pages 0) new r
 
   plain_sum : (n : ℕ) → n ≡ n + 0
   plain_sum n = omega arith
@@ -245,17 +245,17 @@ module _ (w : World) where
   none_new t [] row new free n absent none = none
   none_new t (r ∷ rows) row new free n absent none =
       elim (row_of r (known_grant w r) new) as (λ o. Comes (λ new_after free_rows m. list_any t new_after ≡ false) (add_row o r (known_grant w r) row (take_rows rows (known rows) (row + 1)) new free n)) [
-        | repeated ↦ none_new t rows (row + 1) new free (n + 1) (right_none (t r) (list_any t rows) absent) none
+        | repeated ↦ none_new t rows (row + 1) new free (n + 1) (or_parts (t r) (list_any t rows) absent).1 none
         | refused_row fault ↦ tt
-        | new_row ↦ none_new t rows (row + 1) (new ++ r ∷ []) (free ++ funds r new ∷ []) n (right_none (t r) (list_any t rows) absent) (not_in t new r none (left_none (t r) (list_any t rows) absent))
+        | new_row ↦ none_new t rows (row + 1) (new ++ r ∷ []) (free ++ funds r new ∷ []) n (or_parts (t r) (list_any t rows) absent).1 (not_in t new r none (or_parts (t r) (list_any t rows) absent).0)
       ]
 
   other_puts : (new : List GrantRow) (m : FinMap grant_cmp ℕ) (b a : List ℕ) → is_named b a new ≡ false → get (fold put_grant m new) (b, a) ≡ get m (b, a)
   other_puts [] m b a none = refl
   other_puts (g ∷ new) m b a none =
-      other_puts new (put_grant m g) b a (right_none (key b a g) (is_named b a new) none)
+      other_puts new (put_grant m g) b a (or_parts (key b a g) (is_named b a new) none).1
       ∙ get-insert grant_total m (g.batch, g.account) g.pages (b, a)
-      ∙ ap (λ t. cond t (Some g.pages) (get m (b, a))) (grant_key b a g.batch g.account ∙ left_none (key b a g) (is_named b a new) none)
+      ∙ ap (λ t. cond t (Some g.pages) (get m (b, a))) (grant_key b a g.batch g.account ∙ (or_parts (key b a g) (is_named b a new) none).0)
 
   pub other_grants : (rows : List GrantRow) (b a : List ℕ) → is_named b a rows ≡ false → Comes (λ new free n. get (fold put_grant w.grants new) (b, a) ≡ get w.grants (b, a)) (take_rows rows (known rows) 1 [] [] 0)
   other_grants rows b a absent = one_comes _ _ (take_rows rows (known rows) 1 [] [] 0) (λ new free n none. other_puts new w.grants b a none) (none_new (key b a) rows 1 [] [] 0 absent refl)
@@ -271,9 +271,9 @@ module _ (w : World) where
   none_free [] row new free n a absent before = before
   none_free (r ∷ rows) row new free n a absent before =
       elim (row_of r (known_grant w r) new) as (λ o. Comes (λ new_after free_after m. get (fold put_free w.free free_after) a ≡ get w.free a) (add_row o r (known_grant w r) row (take_rows rows (known rows) (row + 1)) new free n)) [
-        | repeated ↦ none_free rows (row + 1) new free (n + 1) a (right_none (bytes_eq r.account a) (is_account_of a rows) absent) before
+        | repeated ↦ none_free rows (row + 1) new free (n + 1) a (or_parts (bytes_eq r.account a) (is_account_of a rows) absent).1 before
         | refused_row fault ↦ tt
-        | new_row ↦ none_free rows (row + 1) (new ++ r ∷ []) (free ++ funds r new ∷ []) n a (right_none (bytes_eq r.account a) (is_account_of a rows) absent) (same_funds free (funds r new) a before (left_none (bytes_eq r.account a) (is_account_of a rows) absent))
+        | new_row ↦ none_free rows (row + 1) (new ++ r ∷ []) (free ++ funds r new ∷ []) n a (or_parts (bytes_eq r.account a) (is_account_of a rows) absent).1 (same_funds free (funds r new) a before (or_parts (bytes_eq r.account a) (is_account_of a rows) absent).0)
       ]
 
   pub other_accounts : (rows : List GrantRow) (a : List ℕ) → is_account_of a rows ≡ false → Comes (λ new free n. get (fold put_free w.free free) a ≡ get w.free a) (take_rows rows (known rows) 1 [] [] 0)

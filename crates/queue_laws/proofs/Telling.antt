@@ -3,6 +3,7 @@ use Rattle.std.proofs.Common.{◌≡◌, ℕ, List, [], ◌∷◌, map, refl, ap
 use Rattle.std.specs.Prelude.{Option, Some, None, nat_eq, bytes_eq, not, fold, is_some, max, ◌&&◌, ◌||◌}
 use Rattle.std.specs.FinMap.{get, get-insert}
 use Rattle.std.proofs.lemmas.Cmp.{nat_list_eq_equiv}
+use Rattle.std.proofs.lemmas.Option.{same_Some, none-some}
 use Rattle.queue_types.specs.Event.{Decision, tell}
 use Rattle.queue_types.specs.Job.{job_state}
 use Rattle.queue_core.specs.World.{World, Entry, rows, cut, made_on, with_row, put_free, job_at, numbered, owner_row}
@@ -23,8 +24,8 @@ use Rattle.queue_types.specs.declared.states.JobState.{JobState}
 use Rattle.queue_laws.specs.Jobs.{jobs_but}
 use Rattle.queue_laws.specs.Reporting.{IsSameJob, documents_in}
 use Rattle.queue_laws.proofs.Base.{at, fresh, equal, itself, first_named}
-use Rattle.queue_core.proofs.Maps.{report_total}
-use Rattle.queue_laws.proofs.Keys.{own_report_key, report_test}
+use Rattle.queue_core.proofs.Maps.{report_total, own_report_key}
+use Rattle.queue_laws.proofs.Keys.{report_test}
 use Rattle.queue_laws.proofs.Funds.{others_free}
 
 -- ---- the job that comes of it
@@ -32,11 +33,8 @@ use Rattle.queue_laws.proofs.Funds.{others_free}
 abbrev pub IsMoved : ℕ → Job → Job → Type 0
 IsMoved c j x = IsSameJob x j × (x.count ≡ max j.count c)
 
-some_same : (a b : Job) → Some a ≡ Some b → a ≡ b
-some_same a b e = cc
-
 moved : (c : ℕ) (j x y : Job) → Some y ≡ Some x → IsMoved c j y → IsMoved c j x
-moved c j x y e is = subst (IsMoved c j) (some_same y x e) is
+moved c j x y e is = subst (IsMoved c j) (same_Some y x e) is
 
 moved_unless : (b : Bool) (c : ℕ) (j x y : Job) → cond b None (Some y) ≡ Some x → IsMoved c j y → IsMoved c j x
 moved_unless true c j x y e is = absurd (cc)
@@ -50,12 +48,7 @@ moved_is : (c now : ℕ) (j x : Job) (k : Kind) (p : Phase) → moved_by k p now
 moved_is c now j x Start Waiting e = moved_unless (j.hold || j.incoming) c j x (record (counted c j) { phase = Running; begun = Some now }) e (refl, refl)
 moved_is c now j x Stop Running e = moved c j x (record (counted c j) { phase = Stopped }) e (refl, refl)
 moved_is c now j x Resume Stopped e = moved c j x (record (counted c j) { phase = Running }) e (refl, refl)
-moved_is c now j x Count Waiting e = moved_where (is_some j.begun) c j x (counted c j) e (refl, refl)
-moved_is c now j x Count Running e = moved_where (is_some j.begun) c j x (counted c j) e (refl, refl)
-moved_is c now j x Count Stopped e = moved_where (is_some j.begun) c j x (counted c j) e (refl, refl)
-moved_is c now j x Count (Canceled why) e = moved_where (is_some j.begun) c j x (counted c j) e (refl, refl)
-moved_is c now j x Count Aborted e = moved_where (is_some j.begun) c j x (counted c j) e (refl, refl)
-moved_is c now j x Count Completed e = moved_where (is_some j.begun) c j x (counted c j) e (refl, refl)
+moved_is c now j x Count p e = moved_where (is_some j.begun) c j x (counted c j) e (refl, refl)
 moved_is c now j x Done Running e = moved c j x (ended_as Completed now (counted c j)) e (refl, refl)
 moved_is c now j x Fail Running e = moved c j x (ended_as Aborted now (counted c j)) e (refl, refl)
 moved_is c now j x Fail Stopped e = moved c j x (ended_as Aborted now (counted c j)) e (refl, refl)
@@ -100,6 +93,9 @@ module _ (w : World) (now : ℕ) (r : Report) where
   telling = rows_tell (numbered r.job (rows w)) refl (get w.reports (r.job, r.seq)) refl
 
 -- ---- what it changes
+
+pub told_parts : (s : JobState) (c : ℕ) (m : JobState) (n : ℕ) → Told m n ≡ Told s c → (m ≡ s) × (n ≡ c)
+told_parts s c m n e = (cc, cc)
 
 number_of : (x j : Job) → IsSameJob x j → x.number ≡ j.number
 number_of x j same = ap (λ (k : Job). k.number) same
@@ -161,6 +157,12 @@ module _ (w : World) (now : ℕ) (r : Report) where
     pub after_at : at r.job (with_row w.jobs a.after) ≡ Some a.after
     after_at = ap (λ n. at n (with_row w.jobs a.after)) (sym after_number) ∙ row_at a.after w.jobs
 
+    pub is_before : (j : Job) → at r.job w.jobs ≡ Some j → a.before ≡ j
+    is_before j there = same_Some a.before j (sym named_before.0 ∙ there)
+
+    pub is_after : (k : Job) → at r.job (by d).jobs ≡ Some k → a.after ≡ k
+    is_after k there = same_Some a.after k (sym after_at ∙ sym (ap (λ d. at r.job (by d).jobs) a.is) ∙ there)
+
   pub grants_left : new.grants ≡ w.grants
   grants_left = leaves (λ v. v.grants) (λ d a. refl)
 
@@ -174,7 +176,7 @@ module _ (w : World) (now : ℕ) (r : Report) where
   documents_left = leaves (λ v. documents_in v.jobs) (λ d a. documents_row a.after a.before w.jobs (after_there d a))
 
   itself_same : (j k : Job) → Some j ≡ Some k → IsSameJob k j
-  itself_same j k e = subst (λ k. IsSameJob k j) (some_same j k e) refl
+  itself_same j k e = subst (λ k. IsSameJob k j) (same_Some j k e) refl
 
   pub job_left : (j k : Job) → at r.job w.jobs ≡ Some j → at r.job new.jobs ≡ Some k → IsSameJob k j
   job_left j k old then = elim (telling w now r) as (λ _. IsSameJob k j) [
@@ -182,14 +184,14 @@ module _ (w : World) (now : ℕ) (r : Report) where
     | known l kept same e ↦ itself_same j k (sym old ∙ sym (ap (λ d. at r.job (by d).jobs) e) ∙ then)
     | taken a ↦
         let d : Decision = decision (cut w (tell r)) now (tell r) in
-        let was : a.before ≡ j = some_same a.before j (sym (named_before d a).0 ∙ old) in
-        let is : a.after ≡ k = some_same a.after k (sym (after_at d a) ∙ sym (ap (λ d. at r.job (by d).jobs) a.is) ∙ then) in
+        let was : a.before ≡ j = is_before d a j old in
+        let is : a.after ≡ k = is_after d a k then in
         subst (λ j. IsSameJob k j) was (subst (λ k. IsSameJob k a.before) is a.moved.0)
   ]
 
   pub accounts_left : (j : Job) (q : List ℕ) → at r.job w.jobs ≡ Some j → bytes_eq j.owner q ≡ false → get new.free q ≡ get w.free q
   accounts_left j q old other = leaves (λ v. get v.free q) (λ d a.
-      let was : a.before ≡ j = some_same a.before j (sym (named_before d a).0 ∙ old) in
+      let was : a.before ≡ j = is_before d a j old in
       let apart : bytes_eq q a.before.owner ≡ false = nat_list_eq_equiv.symm q a.before.owner ∙ ap (λ (t : Job). bytes_eq t.owner q) was ∙ other in
       ap (λ js. get (fold put_free w.free (map (credited js (a.after ∷ [])) (owner_row w.free js))) q) a.jobs
       ∙ others_free w.free a.before.owner q (a.before ∷ a.rest) (a.after ∷ []) apart)
@@ -207,18 +209,12 @@ module _ (w : World) (now : ℕ) (r : Report) where
   no_reply : (cause : ReportRefusal) (s : JobState) (c : ℕ) (A : Type 0) → NotTold cause ≡ Told s c → A
   no_reply cause s c A e = absurd (cc)
 
-  not_first : (o : Option KeptReport) (k : KeptReport) (A : Type 0) → o ≡ None → o ≡ Some k → A
-  not_first o k A none some = absurd (cc)
-
-  told_parts : (s : JobState) (c : ℕ) (m : JobState) (n : ℕ) → Told m n ≡ Told s c → (m ≡ s) × (n ≡ c)
-  told_parts s c m n e = (cc, cc)
-
   -- of a first report that is accepted, with the state and count that are told
   first_told : (s : JobState) (c : ℕ) (P : Type 0) → get w.reports (r.job, r.seq) ≡ None → (step w now (tell r)).reply ≡ Told s c
       → ((a : IsAccepted w now r (decision (cut w (tell r)) now (tell r))) → job_state a.after ≡ s → a.after.count ≡ c → P) → P
   first_told s c P none told each = elim (telling w now r) as (λ _. P) [
     | declined cause e ↦ no_reply cause s c P (sym (ap (λ (d : Decision). d.reply) e) ∙ told)
-    | known k kept same e ↦ not_first (get w.reports (r.job, r.seq)) k P none kept
+    | known k kept same e ↦ absurd (none-some k (sym none ∙ kept))
     | taken a ↦ (let parts = told_parts s c (job_state a.after) a.after.count (sym (ap (λ (d : Decision). d.reply) a.is) ∙ told) in each a parts.0 parts.1)
   ]
 
@@ -232,11 +228,11 @@ module _ (w : World) (now : ℕ) (r : Report) where
   pub first_state : (s : JobState) (c : ℕ) (k : Job) → get w.reports (r.job, r.seq) ≡ None → (step w now (tell r)).reply ≡ Told s c → at r.job new.jobs ≡ Some k → (s ≡ job_state k) × (c ≡ k.count)
   first_state s c k none told there = first_told s c ((s ≡ job_state k) × (c ≡ k.count)) none told (λ a is_state is_count.
       let d : Decision = decision (cut w (tell r)) now (tell r) in
-      let is : a.after ≡ k = some_same a.after k (sym (after_at d a) ∙ sym (ap (λ d. at r.job (by d).jobs) a.is) ∙ there) in
+      let is : a.after ≡ k = is_after d a k there in
       (sym is_state ∙ ap job_state is, sym is_count ∙ ap (λ (t : Job). t.count) is))
 
   pub first_counted : (s : JobState) (c : ℕ) (j : Job) → get w.reports (r.job, r.seq) ≡ None → (step w now (tell r)).reply ≡ Told s c → at r.job w.jobs ≡ Some j → c ≡ max j.count r.count
   first_counted s c j none told there = first_told s c (c ≡ max j.count r.count) none told (λ a is_state is_count.
       let d : Decision = decision (cut w (tell r)) now (tell r) in
-      let was : a.before ≡ j = some_same a.before j (sym (named_before d a).0 ∙ there) in
+      let was : a.before ≡ j = is_before d a j there in
       sym is_count ∙ a.moved.1 ∙ ap (λ (t : Job). max t.count r.count) was)

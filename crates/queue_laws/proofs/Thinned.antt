@@ -3,11 +3,11 @@ use Rattle.std.proofs.Common.{◌≡◌, ℕ, ◌+◌, List, [], ◌∷◌, ◌+
 use Rattle.std.specs.Prelude.{Option, Some, None, nat_eq, bytes_eq, not, is_some, fold, ◌&&◌, ◌||◌, ⊤}
 use Rattle.std.specs.List.{list_any, AllByRecursion as Each}
 use Rattle.std.specs.FinMap.{FinMap, get}
-use Rattle.queue_types.specs.Event.{Decision, Event, ask, tell, grant}
+use Rattle.std.proofs.lemmas.Bool.{and_parts}
+use Rattle.queue_types.specs.Event.{Decision, Event, ask, tell, grant, kind_number}
 use Rattle.queue_core.specs.Grants.{Taken, all_taken, none_taken, take_rows, add_row, row_of, repeated, refused_row, new_row, free_after}
 use Rattle.queue_core.specs.Machine.{Step, step, grant_row}
 use Rattle.queue_types.specs.Job.{job_state}
-use Rattle.queue_types.specs.Event.{kind_number}
 use Rattle.queue_core.specs.Runs.{Place, IsPlace, after, run}
 use Rattle.queue_core.specs.Sound.{IsSound}
 use Rattle.queue_core.specs.World.{World, made_on, known_grant, put_grant, put_free, report_cmp}
@@ -22,7 +22,7 @@ use Rattle.queue_laws.specs.Granting.{IsGranted}
 use Rattle.queue_laws.specs.Replies.{refuses}
 use Rattle.queue_laws.specs.Thin.{are_equal_reports, are_equal_rows, is_accepted, reports_then, rows_then, thin_rows, thin_place, thin_from, thin, Answered, answered_then, IsAnsweredAgain, AnswerAgain}
 use Rattle.queue_laws.proofs.Again.{IsKeptAs, told_kept, kept_stays, told_again, KeepsSound}
-use Rattle.queue_laws.proofs.Base.{equal, same_key, first_of, last_of, each_map}
+use Rattle.queue_laws.proofs.Base.{equal, same_key, each_map}
 use Rattle.queue_laws.proofs.Filed.{taken_of, file_granted, granted_after}
 use Rattle.queue_laws.proofs.Taking.{known, IsThere, means_repeat, repeat_means, new_means, still_there, now_there}
 use Rattle.queue_laws.proofs.Telling.{declined, known as known_before, taken, telling}
@@ -37,15 +37,14 @@ record AreEqual (a b : Report) : Type 0 where
 
 are_equal : (a b : Report) → are_equal_reports a b ≡ true → AreEqual a b
 are_equal a b e =
-    let count = last_of (nat_eq a.job b.job && nat_eq a.seq b.seq && nat_eq (kind_number a.kind) (kind_number b.kind)) (nat_eq a.count b.count) e in
-    let three = first_of (nat_eq a.job b.job && nat_eq a.seq b.seq && nat_eq (kind_number a.kind) (kind_number b.kind)) (nat_eq a.count b.count) e in
-    let kind = last_of (nat_eq a.job b.job && nat_eq a.seq b.seq) (nat_eq (kind_number a.kind) (kind_number b.kind)) three in
-    let two = first_of (nat_eq a.job b.job && nat_eq a.seq b.seq) (nat_eq (kind_number a.kind) (kind_number b.kind)) three in
+    let four = and_parts (nat_eq a.job b.job && nat_eq a.seq b.seq && nat_eq (kind_number a.kind) (kind_number b.kind)) (nat_eq a.count b.count) e in
+    let three = and_parts (nat_eq a.job b.job && nat_eq a.seq b.seq) (nat_eq (kind_number a.kind) (kind_number b.kind)) four.0 in
+    let two = and_parts (nat_eq a.job b.job) (nat_eq a.seq b.seq) three.0 in
     record {
-      job = equal a.job b.job (first_of (nat_eq a.job b.job) (nat_eq a.seq b.seq) two);
-      seq = equal a.seq b.seq (last_of (nat_eq a.job b.job) (nat_eq a.seq b.seq) two);
-      kind = equal (kind_number a.kind) (kind_number b.kind) kind;
-      count = equal a.count b.count count;
+      job = equal a.job b.job two.0;
+      seq = equal a.seq b.seq two.1;
+      kind = equal (kind_number a.kind) (kind_number b.kind) three.1;
+      count = equal a.count b.count four.1;
     }
 
 kept_equal : (kept : FinMap report_cmp KeptReport) (a b : Report) (s : JobState) (c : ℕ) → are_equal_reports a b ≡ true → IsKeptAs kept a s c → IsKeptAs kept b s c
@@ -141,12 +140,12 @@ module _ (w : World) where
   equal_there new (h ∷ given) g any each =
       elim (are_equal_rows h g) as (λ b. are_equal_rows h g ≡ b → (b || list_any (λ h. are_equal_rows h g) given) ≡ true → IsThere w g new) [
         | true ↦ λ is any.
-            let pages = last_of (bytes_eq h.batch g.batch && bytes_eq h.account g.account) (nat_eq h.pages g.pages) is in
-            let key = first_of (bytes_eq h.batch g.batch && bytes_eq h.account g.account) (nat_eq h.pages g.pages) is in
+            let three = and_parts (bytes_eq h.batch g.batch && bytes_eq h.account g.account) (nat_eq h.pages g.pages) is in
+            let two = and_parts (bytes_eq h.batch g.batch) (bytes_eq h.account g.account) three.0 in
             let one : h ≡ g = λ i. record {
-              batch = same_key h.batch g.batch (first_of (bytes_eq h.batch g.batch) (bytes_eq h.account g.account) key) i;
-              account = same_key h.account g.account (last_of (bytes_eq h.batch g.batch) (bytes_eq h.account g.account) key) i;
-              pages = equal h.pages g.pages pages i;
+              batch = same_key h.batch g.batch two.0 i;
+              account = same_key h.account g.account two.1 i;
+              pages = equal h.pages g.pages three.1 i;
             } in
             subst (λ x. IsThere w x new) one each.0
         | false ↦ λ is any. equal_there new given g any each.1

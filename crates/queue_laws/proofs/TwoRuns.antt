@@ -2,7 +2,7 @@
 use Rattle.std.proofs.Common.{◌≡◌, ℕ, ◌+◌, ◌⊎◌, List, [], ◌∷◌, refl, ap, sym, ◌∙◌, arith, subst, inl, inr, Bool, true, false, cond}
 use Rattle.std.specs.Prelude.{Option, Some, None, IsTrue, is_none, nat_eq, bytes_eq, not, unwrap_or, ◌&&◌, ◌||◌}
 use Rattle.std.specs.List.{AllByRecursion as Each}
-use Rattle.std.proofs.lemmas.Bool.Decides.{nat_tests}
+use Rattle.std.proofs.lemmas.Bool.{or_parts, ne_eqb, not-true, or_left}
 use Rattle.queue_types.specs.Settings.{SettingValues}
 use Rattle.queue_types.specs.Event.{Call, Event, ask, tell, grant}
 use Rattle.queue_core.specs.World.{World, cut, has_number}
@@ -16,7 +16,7 @@ use Rattle.queue_laws.specs.Alike.{own_along, told, told_along, counts_all, is_o
 use Rattle.queue_laws.specs.Own.{Own, own, own_jobs}
 use Rattle.queue_laws.proofs.Again.{KeepsSound}
 use Rattle.queue_laws.proofs.Asked.{asked_by}
-use Rattle.queue_laws.proofs.Base.{same_key, itself, left_none, right_none, either, negated}
+use Rattle.queue_laws.proofs.Base.{same_key, itself}
 use Rattle.queue_laws.proofs.Callers.{others_made, own_made, own_made_on}
 use Rattle.queue_laws.proofs.Filed.{next_left as next_filed}
 use Rattle.queue_laws.proofs.Heard.{heard_others, heard_own, heard_reply, own_heard_on, seen_report}
@@ -26,13 +26,10 @@ use Rattle.queue_laws.proofs.Telling.{next_left as next_told}
 
 -- ---- what is drawn
 
-one_more : (n : ℕ) → nat_eq (n + 1) n ≡ false
-one_more n = grind (arith, nat_tests)
-
 -- a place draws one number or none
 drawn : (o : Option ℕ) (n : ℕ) → (o ≡ None) ⊎ (o ≡ Some (n + 1)) → unwrap_or o n ≡ cond (not (nat_eq (unwrap_or o n) n)) (n + 1) n
 drawn o n (inl is) = subst (λ (o : Option ℕ). unwrap_or o n ≡ cond (not (nat_eq (unwrap_or o n) n)) (n + 1) n) (sym is) (sym (ap (λ b. cond (not b) (n + 1) n) (itself n)))
-drawn o n (inr is) = subst (λ (o : Option ℕ). unwrap_or o n ≡ cond (not (nat_eq (unwrap_or o n) n)) (n + 1) n) (sym is) (sym (ap (λ b. cond (not b) (n + 1) n) (one_more n)))
+drawn o n (inr is) = subst (λ (o : Option ℕ). unwrap_or o n ≡ cond (not (nat_eq (unwrap_or o n) n)) (n + 1) n) (sym is) (sym (ap (λ b. cond (not b) (n + 1) n) (ne_eqb (n + 1) n (λ same. omega arith))))
 
 same_next : (m n : ℕ) → m ≡ n → m ≡ cond (not (nat_eq m n)) (n + 1) n
 same_next m n is = is ∙ sym (ap (λ b. cond (not b) (n + 1) n) (ap (λ t. nat_eq t n) is ∙ itself n))
@@ -57,12 +54,11 @@ with_next o n = record o { next = n }
 others_after : (u : List ℕ) (w : World) (now : ℕ) (o : Option Event) → IsSound w → IsTrue (is_none o || is_others u o) → (own u (after w now o) ≡ with_next (own u w) (after w now o).next) × (told u w now o ≡ None)
 others_after u w now None sound other = (refl, refl)
 others_after u w now (Some (ask caller call)) sound other =
-    let not_u : bytes_eq caller u ≡ false = negated (bytes_eq caller u) other in (
+    let not_u : bytes_eq caller u ≡ false = not-true (bytes_eq caller u) other in (
       others_made u caller w (decision (cut w (ask caller call)) now (ask caller call)).change not_u (asked_by w now caller call sound),
       ap (λ b. cond (b && not (counts_all call)) (Some (step w now (ask caller call)).reply) None) not_u,
     )
-others_after u w now (Some (tell r)) sound other = absurd (cc)
-others_after u w now (Some (grant file)) sound other = absurd (cc)
+others_after u w now _ sound other = absurd (cc)
 
 -- ---- a place of the caller's own
 
@@ -147,9 +143,6 @@ module _ (u : List ℕ) (w v : World) (same : SameFor u w v) where
         told = λ i. cond (has_number r.job (jobs_same i)) (Some (reply i)) None;
       }
 
-  grants_same : w.grants ≡ v.grants
-  grants_same = ap (λ (o : Own). o.grants) same.own
-
   -- an account file on both sides
   file_goes : (now : ℕ) (file : List GrantRow) → Goes u w v (record { now = now; event = Some (grant file) }) (record { now = now; event = Some (grant file) })
   file_goes now file = let both = files_alike u w v now file same.own in record { own = both.0; told = ap Some both.1 }
@@ -172,7 +165,7 @@ module _ (u : List ℕ) (w v : World) (same : SameFor u w v) where
   drawn_alike p q p_others q_others draw =
       elim (is_others u p.event || is_others u q.event) as (λ b. (is_others u p.event || is_others u q.event) ≡ b → draws w p ≡ draws v q) [
         | true ↦ λ is. draw is
-        | false ↦ λ is. draws_none w p (no_event p.event (is_others u p.event) p_others (left_none (is_others u p.event) (is_others u q.event) is)) ∙ sym (draws_none v q (no_event q.event (is_others u q.event) q_others (right_none (is_others u p.event) (is_others u q.event) is)))
+        | false ↦ λ is. draws_none w p (no_event p.event (is_others u p.event) p_others (or_parts (is_others u p.event) (is_others u q.event) is).0) ∙ sym (draws_none v q (no_event q.event (is_others u q.event) q_others (or_parts (is_others u p.event) (is_others u q.event) is).1))
       ] refl
 
   place_goes : (p q : Place) → IsAlikePlace u w v p q → Goes u w v p q
@@ -180,7 +173,7 @@ module _ (u : List ℕ) (w v : World) (same : SameFor u w v) where
       elim alike.event as (λ r. Goes u w v p q) [
         | inl is ↦
             let one : p ≡ q = λ i. record { now = alike.now i; event = is i } in
-            subst (λ r. Goes u w v p r) one (event_goes p.now p.event (λ other. alike.draw (either (is_others u p.event) (is_others u q.event) other) ∙ ap (draws v) (sym one)))
+            subst (λ r. Goes u w v p r) one (event_goes p.now p.event (λ other. alike.draw (or_left (is_others u p.event) (is_others u q.event) other) ∙ ap (draws v) (sym one)))
         | inr others ↦ others_go p q others.0 others.1 (drawn_alike p q others.0 others.1 alike.draw)
       ]
 

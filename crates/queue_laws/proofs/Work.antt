@@ -1,48 +1,32 @@
 -- What a request leaves of the jobs that it changes.
-use Rattle.std.proofs.Common.{◌≡◌, ℕ, ◌+◌, List, [], ◌∷◌, map, refl, ap, sym, ◌∙◌, subst, arith, Bool, true, false, cond}
+use Rattle.std.proofs.Common.{◌≡◌, ℕ, ◌+◌, List, [], ◌∷◌, map, refl, ap, sym, ◌∙◌, subst, Bool, true, false, cond}
 use Rattle.std.specs.Prelude.{Option, Some, None, nat_eq, nat_le, bytes_eq, filter, fold, ◌&&◌}
-use Rattle.std.specs.List.{list_all, AllByRecursion as Each}
-use Rattle.std.proofs.lemmas.Bool.Decides.{nat_tests}
-use Rattle.queue_types.specs.Job.{is_live, estimate}
-use Rattle.queue_types.specs.Event.{Call, Decision, NewDocument, ask, print_job, validate_job, create_job, send_document, cancel_job, cancel_my_jobs, hold_job, release_job, get_job_attributes, get_jobs, get_printer_attributes}
+use Rattle.std.specs.List.{AllByRecursion as Each}
+use Rattle.std.proofs.lemmas.Bool.{and_parts}
+use Rattle.std.proofs.lemmas.Option.{same_Some, none-some}
+use Rattle.queue_types.specs.Job.{is_live}
+use Rattle.queue_types.specs.Event.{Call, Decision, NewDocument, ask, print_job, validate_job, create_job, send_document, cancel_job, cancel_my_jobs, hold_job, release_job, get_job_attributes}
 use Rattle.queue_core.specs.World.{World, Entry, rows, cut, made_on, job_at, numbered, with_row, add_document, with_document, is_one_of}
-use Rattle.queue_core.specs.Machine.{decision, step, document_count, answered, refused, becomes, changed, entered, new_job, new_document, new_refusal, unless_refused, validate_job_row, canceled, canceled_in, is_cancelable, cancel_row, all_canceled, are_there, cancel_my_jobs_row, is_sendable, sent, send_in, hold_in, has_pages, let_print, release_in, of_own}
+use Rattle.queue_core.specs.Machine.{decision, step, document_count, answered, entered, new_job, new_document, new_refusal, unless_refused, validate_job_row, canceled, canceled_in, is_cancelable, cancel_row, cancel_my_jobs_row, sent, send_in, hold_in, release_in, of_own}
 use Rattle.queue_core.specs.Limits.{IsSoundJob}
-use Rattle.queue_core.specs.Sound.{IsSound, IsSoundEntry, Rise}
+use Rattle.queue_core.specs.Sound.{IsSound, IsSoundEntry}
 use Rattle.queue_types.specs.declared.document.Format.{Format}
 use Rattle.queue_types.specs.declared.job.Job.{Job}
 use Rattle.queue_types.specs.declared.job.Phase.{Phase}
-use Rattle.queue_types.specs.declared.job.Phase.TheVariants.{Waiting, Running, Stopped, Canceled, Aborted, Completed}
+use Rattle.queue_types.specs.declared.job.Phase.TheVariants.{Waiting}
 use Rattle.queue_types.specs.declared.event.Reply.TheVariants.{Done, Jobs}
 use Rattle.queue_types.specs.declared.event.Scene.{Scene}
+use Rattle.queue_core.proofs.Moves.{at-with_row}
+use Rattle.queue_core.proofs.Enter.{none_new}
+use Rattle.queue_core.proofs.Ordered.{each-filter}
 use Rattle.queue_laws.specs.Jobs.{IsSameWork}
-use Rattle.queue_laws.proofs.Asked.{each_at, same_canceled}
-use Rattle.queue_laws.proofs.Base.{at, rows_of, equal, below, first_below, first_named, each_filter, first_of}
+use Rattle.queue_laws.proofs.Asked.{same_canceled}
+use Rattle.queue_laws.proofs.Base.{at, rows_of, equal, first_named}
 use Rattle.queue_laws.proofs.Callers.{document_row}
+use Rattle.queue_laws.proofs.Standing.{Stands, all_stand}
+use Rattle.queue_laws.proofs.Rows.{on_own, on_new, on_named, on_send, on_cancel, on_hold, on_release}
 
--- ---- what stands at a number once a row is put
-
-shadow : (t : Bool) (x y z : Option Job) → cond t x z ≡ cond t x (cond t y z)
-shadow true x y z = refl
-shadow false x y z = refl
-
-swapped : (s t : Bool) (x y z : Option Job) → (s ≡ true → t ≡ true → ⊥) → cond s x (cond t y z) ≡ cond t y (cond s x z)
-swapped s t x y z =
-    elim s as (λ s. (s ≡ true → t ≡ true → ⊥) → cond s x (cond t y z) ≡ cond t y (cond s x z)) [
-      | true ↦ λ never. elim t as (λ t. (true ≡ true → t ≡ true → ⊥) → x ≡ cond t y x) [ true ↦ λ never. absurd (never refl refl) | false ↦ λ never. refl ] never
-      | false ↦ λ never. refl
-    ]
-
-not_both : (a b n : ℕ) → nat_eq a b ≡ false → nat_eq a n ≡ true → nat_eq b n ≡ true → ⊥
-not_both a b n e s t = grind (arith, nat_tests)
-
-pub at_row : (n : ℕ) (x : Job) (es : List Entry) → at n (with_row es x) ≡ cond (nat_eq x.number n) (Some x) (at n es)
-at_row n x [] = refl
-at_row n x (e ∷ es) =
-    elim (nat_eq e.row.number x.number) as (λ t. nat_eq e.row.number x.number ≡ t → at n (cond t (record e { row = x } ∷ es) (e ∷ with_row es x)) ≡ cond (nat_eq x.number n) (Some x) (cond (nat_eq e.row.number n) (Some e.row) (at n es))) [
-      | true ↦ λ is. shadow (nat_eq x.number n) (Some x) (Some e.row) (at n es) ∙ ap (λ m. cond (nat_eq x.number n) (Some x) (cond (nat_eq m n) (Some e.row) (at n es))) (sym (equal e.row.number x.number is))
-      | false ↦ λ is. ap (λ o. cond (nat_eq e.row.number n) (Some e.row) o) (at_row n x es) ∙ swapped (nat_eq e.row.number n) (nat_eq x.number n) (Some e.row) (Some x) (at n es) (not_both e.row.number x.number n is)
-    ] refl
+-- ---- rows and documents
 
 rows_document : (d : NewDocument) (es : List Entry) → rows_of (map (add_document d) es) ≡ rows_of es
 rows_document d [] = refl
@@ -52,25 +36,12 @@ rows_documents : (o : Option NewDocument) (es : List Entry) → rows_of (with_do
 rows_documents None es = refl
 rows_documents (Some d) es = rows_document d es
 
-pub some_same : (a b : Job) → Some a ≡ Some b → a ≡ b
-some_same a b e = cc
-
-no_some : (A : Type 0) (o : Option Job) (j : Job) → o ≡ None → o ≡ Some j → A
-no_some A o j none some = absurd (cc)
-
--- no job has the next number
-none_next : (k first : ℕ) (es : List Entry) → Rise first es k → at k es ≡ None
-none_next k first [] rise = refl
-none_next k first (e ∷ es) rise =
-    let low = first_below (e.row.number + 1) k es rise.1 in
-    ap (λ t. cond t (Some e.row) (at k es)) (below e.row.number k (omega arith)) ∙ none_next k (e.row.number + 1) es rise.1
-
 -- the job of a number is within its limits
 pub sound_at : (n : ℕ) (j : Job) (es : List Entry) → Each IsSoundEntry es → at n es ≡ Some j → IsSoundJob j
-sound_at n j [] each there = no_some (IsSoundJob j) None j refl there
+sound_at n j [] each there = absurd (none-some j there)
 sound_at n j (e ∷ es) each there =
     elim (nat_eq e.row.number n) as (λ t. cond t (Some e.row) (at n es) ≡ Some j → IsSoundJob j) [
-      | true ↦ λ there. subst IsSoundJob (some_same e.row j there) each.0.row
+      | true ↦ λ there. subst IsSoundJob (same_Some e.row j there) each.0.row
       | false ↦ λ there. sound_at n j es each.1 there
     ] there
 
@@ -87,11 +58,7 @@ pub record Holds (caller : List ℕ) (call : Call) (R : Job → Job → Type 0) 
 
 canceled_same : (now : ℕ) (j : Job) (p : Phase) → IsSameWork (canceled_in p now j) j
 canceled_same now j Waiting = refl
-canceled_same now j Running = refl
-canceled_same now j Stopped = refl
-canceled_same now j (Canceled why) = refl
-canceled_same now j Aborted = refl
-canceled_same now j Completed = refl
+canceled_same now j _ = refl
 
 work_holds : (caller : List ℕ) (call : Call) → Holds caller call IsSameWork
 work_holds caller call = record {
@@ -113,19 +80,19 @@ module _ (caller : List ℕ) (call : Call) (R : Job → Job → Type 0) (holds :
   AreWork d = Each IsWork d.change.jobs
 
   one_work : (n : ℕ) (j x : Job) → at n w.jobs ≡ Some j → x.number ≡ n → R x j → IsWork x
-  one_work n j x there number same k at_k = subst (R x) (some_same j k (sym there ∙ ap (λ m. at m w.jobs) (sym number) ∙ at_k)) same
+  one_work n j x there number same k at_k = subst (R x) (same_Some j k (sym there ∙ ap (λ m. at m w.jobs) (sym number) ∙ at_k)) same
 
   module _ (n : ℕ) where
     stays_work : (xs : List Job) (es : List Entry) → Each IsWork xs → ((j k : Job) → at n w.jobs ≡ Some j → at n es ≡ Some k → R k j) → (j k : Job) → at n w.jobs ≡ Some j → at n (fold with_row es xs) ≡ Some k → R k j
     stays_work [] es each before = before
     stays_work (x ∷ xs) es each before = stays_work xs (with_row es x) each.1 (λ j k old then.
         elim (nat_eq x.number n) as (λ t. nat_eq x.number n ≡ t → cond t (Some x) (at n es) ≡ Some k → R k j) [
-          | true ↦ λ is e. subst (λ y. R y j) (some_same x k e) (each.0 j (ap (λ m. at m w.jobs) (equal x.number n is) ∙ old))
+          | true ↦ λ is e. subst (λ y. R y j) (same_Some x k e) (each.0 j (ap (λ m. at m w.jobs) (equal x.number n is) ∙ old))
           | false ↦ λ is e. before j k old e
-        ] refl (sym (at_row n x es) ∙ then))
+        ] refl (sym (at-with_row n x es) ∙ then))
 
     first_work : (j k : Job) → at n w.jobs ≡ Some j → at n w.jobs ≡ Some k → R k j
-    first_work j k old then = subst (λ y. R y j) (some_same j k (sym old ∙ then)) (holds.same j)
+    first_work j k old then = subst (λ y. R y j) (same_Some j k (sym old ∙ then)) (holds.same j)
 
     work_left : (d : Decision) → AreWork d → (j k : Job) → at n w.jobs ≡ Some j → at n (made_on d.change w).jobs ≡ Some k → R k j
     work_left d each j k old then = stays_work d.change.jobs w.jobs each first_work j k old (sym (ap (job_at n) (rows_documents d.change.document (fold with_row w.jobs d.change.jobs))) ∙ then)
@@ -133,83 +100,38 @@ module _ (caller : List ℕ) (call : Call) (R : Job → Job → Type 0) (holds :
   -- ---- a new job
 
   entered_work : (s : Scene) (x : Job) (document : Option NewDocument) → x.number ≡ w.next → AreWork (unless_refused (new_refusal s) (entered s x document))
-  entered_work s x document number = elim (new_refusal s) as (λ o. AreWork (unless_refused o (entered s x document))) [
-    | None ↦ (λ j there. no_some (R x j) (at x.number w.jobs) j (ap (λ m. at m w.jobs) number ∙ none_next w.next 1 w.jobs sound.numbers) there, tt)
-    | Some code ↦ tt
-  ]
+  entered_work s x document number = on_new AreWork s (entered s x document) (λ j there. absurd (none-some j (sym (ap (λ m. at m w.jobs) number ∙ none_new w.next 1 w.jobs sound.numbers) ∙ there)), tt) (λ code. tt)
 
   validated_work : (s : Scene) → AreWork (validate_job_row s)
-  validated_work s = elim (new_refusal s) as (λ o. AreWork (unless_refused o (answered Done))) [ None ↦ tt | Some code ↦ tt ]
+  validated_work s = on_new AreWork s (answered Done) tt (λ code. tt)
 
   -- ---- a job of the caller's own
 
-  rows_work : (n : ℕ) (row : Job → Decision) → ((j : Job) → at n w.jobs ≡ Some j → j.number ≡ n → bytes_eq j.owner caller ≡ true → AreWork (row j)) → (js : List Job) → numbered n (rows w) ≡ js → AreWork (of_own caller row js)
-  rows_work n row each [] e = tt
-  rows_work n row each (j ∷ rest) e =
-      let found = first_named n (rows w) j rest e in
-      elim (bytes_eq j.owner caller) as (λ b. bytes_eq j.owner caller ≡ b → AreWork (cond b (row j) (refused 0x0406))) [ true ↦ each j found.0 found.1 | false ↦ λ own. tt ] refl
-
   own_work : (n : ℕ) (row : Job → Decision) → ((j : Job) → at n w.jobs ≡ Some j → j.number ≡ n → bytes_eq j.owner caller ≡ true → AreWork (row j)) → AreWork (of_own caller row (numbered n (rows w)))
-  own_work n row each = rows_work n row each (numbered n (rows w)) refl
+  own_work n row each = on_own AreWork caller row (numbered n (rows w)) (λ j rest e. let found = first_named n (rows w) j rest e in each j found.0 found.1) tt
 
   module _ (n : ℕ) (s : Scene) (j : Job) (there : at n w.jobs ≡ Some j) (number : j.number ≡ n) where
     sent_work : (format : Format) (payload : List ℕ) (last : Bool) → AreWork (send_in s j format payload last)
-    sent_work format payload last =
-        elim (is_sendable j payload) as (λ b. is_sendable j payload ≡ b → AreWork (cond b (record { reply = Jobs (sent j payload last ∷ []); change = record (changed s (sent j payload last ∷ [])) { document = new_document j.number format payload } }) (refused 0x0404))) [
-          | true ↦ λ can. (one_work n j (sent j payload last) there number (holds.sent j payload last (sound_at n j w.jobs sound.entries there) (first_of j.incoming (nat_le (j.documents + document_count payload) 16) can)), tt)
-          | false ↦ λ can. tt
-        ] refl
+    sent_work format payload last = on_send AreWork s j format payload last (λ can.
+        (one_work n j (sent j payload last) there number (holds.sent j payload last (sound_at n j w.jobs sound.entries there) (and_parts j.incoming (nat_le (j.documents + document_count payload) 16) can).0), tt)) tt
 
     canceled_work : (now : ℕ) → AreWork (cancel_row s now j)
-    canceled_work now = elim (is_cancelable j) as (λ b. AreWork (cond b (becomes s (canceled now j)) (refused 0x0404))) [
-      | true ↦ (one_work n j (canceled now j) there ((same_canceled now j j.phase).number ∙ number) (holds.canceled now j), tt)
-      | false ↦ tt
-    ]
+    canceled_work now = on_cancel AreWork s j now (one_work n j (canceled now j) there ((same_canceled now j j.phase).number ∙ number) (holds.canceled now j), tt) tt
 
     held_work : AreWork (hold_in j.phase s j)
-    held_work = elim j.phase as (λ p. j.phase ≡ p → AreWork (hold_in p s j)) [
-      | Waiting ↦ λ is. (one_work n j (record j { hold = true }) there number (holds.held j is), tt)
-      | Running ↦ λ is. tt
-      | Stopped ↦ λ is. tt
-      | Canceled why ↦ λ is. tt
-      | Aborted ↦ λ is. tt
-      | Completed ↦ λ is. tt
-    ] refl
-
-    let_work : call ≡ release_job n → bytes_eq j.owner caller ≡ true → j.phase ≡ Waiting → AreWork (let_print s j)
-    let_work by own is = elim (has_pages s.free (estimate j)) as (λ b. AreWork (cond b (becomes s (record j { hold = false })) (refused 0x0404))) [
-      | true ↦ (one_work n j (record j { hold = false }) there number (holds.released j (by ∙ ap release_job (sym number)) own is), tt)
-      | false ↦ tt
-    ]
+    held_work = on_hold AreWork s j (λ waits. (one_work n j (record j { hold = true }) there number (holds.held j waits), tt)) tt
 
     released_work : call ≡ release_job n → bytes_eq j.owner caller ≡ true → AreWork (release_in j.phase s j)
-    released_work by own = elim j.phase as (λ p. j.phase ≡ p → AreWork (release_in p s j)) [
-      | Waiting ↦ λ is. elim j.hold as (λ b. AreWork (cond b (let_print s j) (answered Done))) [ true ↦ let_work by own is | false ↦ tt ]
-      | Running ↦ λ is. tt
-      | Stopped ↦ λ is. tt
-      | Canceled why ↦ λ is. tt
-      | Aborted ↦ λ is. tt
-      | Completed ↦ λ is. tt
-    ] refl
+    released_work by own = on_release AreWork s j (λ waits has. (one_work n j (record j { hold = false }) there number (holds.released j (by ∙ ap release_job (sym number)) own waits), tt)) tt tt
 
   -- ---- several of the caller's jobs
 
-  abbrev stands : Job → Type 0
-  stands j = at j.number w.jobs ≡ Some j
-
-  all_stand : (c : Job → Bool) → Each stands (filter c (rows w))
-  all_stand c = each_filter stands c (rows w) (each_at 1 w.next w.jobs sound.numbers)
-
-  each_work : (now : ℕ) (js : List Job) → Each stands js → Each IsWork (map (canceled now) js)
+  each_work : (now : ℕ) (js : List Job) → Each (Stands (rows w)) js → Each IsWork (map (canceled now) js)
   each_work now [] each = tt
   each_work now (j ∷ js) each = (one_work j.number j (canceled now j) each.0 (same_canceled now j j.phase).number (holds.canceled now j), each_work now js each.1)
 
-  named_work : (s : Scene) (now : ℕ) (numbers : List ℕ) → Each stands s.jobs → AreWork (cancel_my_jobs_row s now (Some numbers))
-  named_work s now numbers each =
-      elim (are_there s.jobs numbers) as (λ b. AreWork (cond b (cond (list_all is_cancelable s.jobs) (all_canceled s now s.jobs) (refused 0x0404)) (refused 0x0406))) [
-        | true ↦ elim (list_all is_cancelable s.jobs) as (λ b. AreWork (cond b (all_canceled s now s.jobs) (refused 0x0404))) [ true ↦ each_work now s.jobs each | false ↦ tt ]
-        | false ↦ tt
-      ]
+  named_work : (s : Scene) (now : ℕ) (numbers : List ℕ) → Each (Stands (rows w)) s.jobs → AreWork (cancel_my_jobs_row s now (Some numbers))
+  named_work s now numbers each = on_named AreWork s now numbers (each_work now s.jobs each) (λ code. tt)
 
   -- ---- each call
 
@@ -228,8 +150,8 @@ module _ (caller : List ℕ) (call : Call) (R : Job → Job → Type 0) (holds :
       let s : Scene = cut w (ask caller (cancel_job n)) in
       own_work n (λ j. cancel_row s now j) (λ j there number own. canceled_work n s j there number now)
   asked_work now (cancel_my_jobs None) is =
-      each_work now (filter is_cancelable (filter (λ j. bytes_eq j.owner caller && is_live j) (rows w))) (each_filter stands is_cancelable (filter (λ j. bytes_eq j.owner caller && is_live j) (rows w)) (all_stand (λ j. bytes_eq j.owner caller && is_live j)))
-  asked_work now (cancel_my_jobs (Some numbers)) is = named_work (cut w (ask caller (cancel_my_jobs (Some numbers)))) now numbers (all_stand (λ j. bytes_eq j.owner caller && is_one_of numbers j))
+      each_work now (filter is_cancelable (filter (λ j. bytes_eq j.owner caller && is_live j) (rows w))) (each-filter (Stands (rows w)) is_cancelable (filter (λ j. bytes_eq j.owner caller && is_live j) (rows w)) (all_stand w sound (λ j. bytes_eq j.owner caller && is_live j)))
+  asked_work now (cancel_my_jobs (Some numbers)) is = named_work (cut w (ask caller (cancel_my_jobs (Some numbers)))) now numbers (all_stand w sound (λ j. bytes_eq j.owner caller && is_one_of numbers j))
   asked_work now (hold_job n) is =
       let s : Scene = cut w (ask caller (hold_job n)) in
       own_work n (λ j. hold_in j.phase s j) (λ j there number own. held_work n s j there number)
@@ -237,8 +159,7 @@ module _ (caller : List ℕ) (call : Call) (R : Job → Job → Type 0) (holds :
       let s : Scene = cut w (ask caller (release_job n)) in
       own_work n (λ j. release_in j.phase s j) (λ j there number own. released_work n s j there number is own)
   asked_work now (get_job_attributes n) is = own_work n (λ j. answered (Jobs (j ∷ []))) (λ j there number own. tt)
-  asked_work now (get_jobs which limit) is = tt
-  asked_work now get_printer_attributes is = tt
+  asked_work now _ is = tt
 
 -- what holds of each change to a job, a request keeps
 pub held_on : (R : Job → Job → Type 0) (caller : List ℕ) (call : Call) → Holds caller call R → (w : World) (now n : ℕ) (j k : Job) → IsSound w → at n w.jobs ≡ Some j → at n (step w now (ask caller call)).world.jobs ≡ Some k → R k j

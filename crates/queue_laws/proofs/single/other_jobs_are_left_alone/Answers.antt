@@ -1,4 +1,4 @@
-use Rattle.queue_laws.proofs.OneLeft.{others_left}
+use Rattle.queue_laws.proofs.OnOne.{others_left}
 use Rattle.queue_laws.proofs.single.other_jobs_are_left_alone.Goals as goal
 
 pub returns : goal.returns

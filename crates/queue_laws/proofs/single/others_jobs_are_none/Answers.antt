@@ -1,4 +1,5 @@
-use Rattle.queue_laws.proofs.OneJob.{no_job, others_job, own_job, named_others, named_own}
+use Rattle.queue_laws.proofs.OneJob.{named_others, named_own}
+use Rattle.queue_laws.proofs.OnOne.{no_job, others_job, own_job}
 use Rattle.queue_laws.proofs.single.others_jobs_are_none.Goals as goal
 
 pub returns-clause-none : goal.returns-clause-none

@@ -1,0 +1,58 @@
+-- What an operation on one job is answered, and what it leaves.
+use Rattle.std.proofs.Common.{◌≡◌, ℕ, List, [], ◌∷◌, ap, sym, ◌∙◌, true, false}
+use Rattle.std.specs.Prelude.{Some, None, bytes_eq}
+use Rattle.std.proofs.lemmas.Option.{same_Some, none-some}
+use Rattle.queue_types.specs.Event.{Call, Decision, ask, send_document, cancel_job, hold_job, release_job, get_job_attributes, on_job}
+use Rattle.queue_core.specs.World.{World, rows, cut, made_on, job_at, numbered}
+use Rattle.queue_core.specs.Machine.{decision, step, answered, cancel_row, send_in, hold_in, release_in, of_own}
+use Rattle.queue_types.specs.declared.job.Job.{Job}
+use Rattle.queue_types.specs.declared.event.Reply.TheVariants.{Refused, Jobs}
+use Rattle.queue_types.specs.declared.event.Scene.{Scene}
+use Rattle.queue_laws.specs.Jobs.{jobs_but}
+use Rattle.queue_laws.proofs.OneJob.{Finds, finds_sent, finds_canceled, finds_held, finds_released, finds_shown, of_none, of_others, of_callers}
+use Rattle.queue_laws.proofs.OneLeft.{IsOfOne, sent_one, canceled_one, held_one, released_one, own_left}
+
+-- it is decided by a row of the table, on the caller's own job of that number: the row finds the job, and changes it alone
+record IsOnOne (n : ℕ) (caller : List ℕ) (js : List Job) (d : Decision) : Type 0 where
+  row : Job → Decision
+  is : d ≡ of_own caller row (numbered n js)
+  finds : (j : Job) → Finds (row j)
+  one : (j : Job) → j.number ≡ n → IsOfOne n (row j)
+
+module _ (w : World) (now n : ℕ) (caller : List ℕ) where
+  at_number : (m : ℕ) (row : Job → Decision) → Some m ≡ Some n → of_own caller row (numbered m (rows w)) ≡ of_own caller row (numbered n (rows w))
+  at_number m row on = ap (λ k. of_own caller row (numbered k (rows w))) (same_Some m n on)
+
+  on_one : (call : Call) → on_job call ≡ Some n → IsOnOne n caller (rows w) (decision (cut w (ask caller call)) now (ask caller call))
+  on_one (send_document m format payload last) on =
+      let s : Scene = cut w (ask caller (send_document m format payload last)) in
+      let row : Job → Decision = λ j. send_in s j format payload last in
+      record { row = row; is = at_number m row on; finds = λ j. finds_sent s j format payload last; one = λ j is. sent_one n s j is format payload last }
+  on_one (cancel_job m) on =
+      let s : Scene = cut w (ask caller (cancel_job m)) in
+      let row : Job → Decision = λ j. cancel_row s now j in
+      record { row = row; is = at_number m row on; finds = finds_canceled s now; one = λ j is. canceled_one n s j is now }
+  on_one (hold_job m) on =
+      let s : Scene = cut w (ask caller (hold_job m)) in
+      let row : Job → Decision = λ j. hold_in j.phase s j in
+      record { row = row; is = at_number m row on; finds = finds_held s; one = held_one n s }
+  on_one (release_job m) on =
+      let s : Scene = cut w (ask caller (release_job m)) in
+      let row : Job → Decision = λ j. release_in j.phase s j in
+      record { row = row; is = at_number m row on; finds = finds_released s; one = released_one n s }
+  on_one (get_job_attributes m) on =
+      let row : Job → Decision = λ j. answered (Jobs (j ∷ [])) in
+      record { row = row; is = at_number m row on; finds = finds_shown; one = λ j is. (tt, tt) }
+  on_one _ on = absurd (none-some n on)
+
+  pub no_job : (call : Call) → on_job call ≡ Some n → job_at n (rows w) ≡ None → (step w now (ask caller call)).reply ≡ Refused 0x0406
+  no_job call on none = let it = on_one call on in ap (λ (d : Decision). d.reply) it.is ∙ of_none caller (rows w) it.row n none
+
+  pub others_job : (call : Call) (j : Job) → on_job call ≡ Some n → job_at n (rows w) ≡ Some j → bytes_eq j.owner caller ≡ false → (step w now (ask caller call)).reply ≡ Refused 0x0406
+  others_job call j on there other = let it = on_one call on in ap (λ (d : Decision). d.reply) it.is ∙ of_others caller (rows w) it.row n j there other
+
+  pub own_job : (call : Call) (j : Job) → on_job call ≡ Some n → job_at n (rows w) ≡ Some j → bytes_eq j.owner caller ≡ true → (step w now (ask caller call)).reply ≡ Refused 0x0406 → ⊥
+  own_job call j on there own e = let it = on_one call on in of_callers caller (rows w) it.row n j it.finds there own (sym (ap (λ (d : Decision). d.reply) it.is) ∙ e)
+
+  pub others_left : (call : Call) → on_job call ≡ Some n → jobs_but n (step w now (ask caller call)).world.jobs ≡ jobs_but n w.jobs
+  others_left call on = let it = on_one call on in ap (λ (d : Decision). jobs_but n (made_on d.change w).jobs) it.is ∙ own_left w n caller it.row it.one
