@@ -12,7 +12,7 @@ use Rattle.http_head.specs.declared.end.End.TheVariants.{Closed as EndClosed, Cu
 use Rattle.http_head.specs.declared.end.Finish.{Finish}
 use Rattle.http_head.specs.declared.end.Finish.TheVariants.{Closed, Cut, Done, Refused}
 use Rattle.http_head.specs.declared.end.Refusal.{Refusal}
-use Rattle.http_head.specs.declared.end.Refusal.TheVariants.{BadRequest, NotFound, PostAllowed, GetAllowed, LengthRequired, ContentTooLarge, UnsupportedMediaType, HeaderFieldsTooLarge, ServiceUnavailable}
+use Rattle.http_head.specs.declared.end.Refusal.TheVariants.{BadRequest, NotFound, PostAllowed, LengthRequired, ContentTooLarge, UnsupportedMediaType, HeaderFieldsTooLarge, ServiceUnavailable}
 use Rattle.http_head.specs.declared.framing.Framing.{Framing}
 use Rattle.http_head.specs.declared.framing.Framing.TheVariants.{Nothing, Sized, Chunked}
 use Rattle.http_head.specs.declared.target.Target.{Target}
@@ -232,32 +232,12 @@ unavailable_at EndDone = false
 unavailable_at (EndRefused code) = code == 503
 
 unavailable_told : (f : Finish) → is_unavailable f ≡ unavailable_at (end_of f)
-unavailable_told Closed = refl
-unavailable_told Cut = refl
-unavailable_told Done = refl
-unavailable_told (Refused BadRequest) = refl
-unavailable_told (Refused NotFound) = refl
-unavailable_told (Refused PostAllowed) = refl
-unavailable_told (Refused GetAllowed) = refl
-unavailable_told (Refused LengthRequired) = refl
-unavailable_told (Refused ContentTooLarge) = refl
-unavailable_told (Refused UnsupportedMediaType) = refl
-unavailable_told (Refused HeaderFieldsTooLarge) = refl
 unavailable_told (Refused ServiceUnavailable) = refl
+unavailable_told _ = refl
 
 pub same_available : (f g : Finish) → end_of f ≡ end_of g → is_unavailable f ≡ is_unavailable g
 same_available f g e = unavailable_told f ∙ ap unavailable_at e ∙ sym (unavailable_told g)
 
 pub available : (f : Finish) → end_of f ≢ EndRefused 503 → is_unavailable f ≡ false
-available Closed other = refl
-available Cut other = refl
-available Done other = refl
-available (Refused BadRequest) other = refl
-available (Refused NotFound) other = refl
-available (Refused PostAllowed) other = refl
-available (Refused GetAllowed) other = refl
-available (Refused LengthRequired) other = refl
-available (Refused ContentTooLarge) other = refl
-available (Refused UnsupportedMediaType) other = refl
-available (Refused HeaderFieldsTooLarge) other = refl
 available (Refused ServiceUnavailable) other = absurd (other refl)
+available _ other = refl

@@ -7,7 +7,7 @@ use Rattle.queue_types.specs.Event.{Call, Decision, NewDocument, ask, tell, prin
 use Rattle.queue_core.specs.World.{World, cut, put_grant}
 use Rattle.queue_core.specs.Machine.{step, call_row, answered, refused, becomes, changed, entered, new_job, new_document, new_refusal, unless_refused, validate_job_row, canceled, is_cancelable, cancel_row, all_canceled, are_there, cancel_my_jobs_row, is_sendable, sent, send_in, hold_in, has_pages, let_print, release_in, of_own, accepted_where, report_row}
 use Rattle.queue_types.specs.declared.job.Job.{Job}
-use Rattle.queue_types.specs.declared.job.Phase.TheVariants.{Waiting, Running, Stopped, Canceled, Aborted, Completed}
+use Rattle.queue_types.specs.declared.job.Phase.TheVariants.{Waiting}
 use Rattle.queue_types.specs.declared.event.Reply.TheVariants.{Jobs, Done, Told, NotTold}
 use Rattle.queue_types.specs.declared.event.Scene.{Scene}
 use Rattle.queue_types.specs.declared.event.KeptReport.{KeptReport}
@@ -47,21 +47,13 @@ let_grantless s j = elim (has_pages s.free (estimate j)) as (λ b. IsGrantless (
 held_grantless : (s : Scene) (j : Job) → IsGrantless (hold_in j.phase s j)
 held_grantless s j = elim j.phase as (λ p. IsGrantless (hold_in p s j)) [
   | Waiting ↦ refl
-  | Running ↦ refl
-  | Stopped ↦ refl
-  | Canceled why ↦ refl
-  | Aborted ↦ refl
-  | Completed ↦ refl
+  | _ ↦ refl
 ]
 
 released_grantless : (s : Scene) (j : Job) → IsGrantless (release_in j.phase s j)
 released_grantless s j = elim j.phase as (λ p. IsGrantless (release_in p s j)) [
   | Waiting ↦ elim j.hold as (λ b. IsGrantless (cond b (let_print s j) (answered Done))) [ true ↦ let_grantless s j | false ↦ refl ]
-  | Running ↦ refl
-  | Stopped ↦ refl
-  | Canceled why ↦ refl
-  | Aborted ↦ refl
-  | Completed ↦ refl
+  | _ ↦ refl
 ]
 
 named_grantless : (s : Scene) (now : ℕ) (numbers : List ℕ) → IsGrantless (cancel_my_jobs_row s now (Some numbers))

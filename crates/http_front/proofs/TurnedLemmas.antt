@@ -31,7 +31,7 @@ use Rattle.http_front.specs.declared.outcome.Stopped.{Stopped}
 use Rattle.http_front.specs.declared.outcome.Tally.{Tally}
 use Rattle.http_front.specs.declared.outcome.Turned.{Turned}
 use Rattle.http_front.specs.declared.outcome.Turned.TheVariants.{Answered, Ended}
-use Rattle.http_front.proofs.CrashLemmas.{carries_idle, carries_one}
+use Rattle.http_front.proofs.CrashLemmas.{carries_idle, carries_no_turn, carries_one}
 use Rattle.http_front.proofs.WorkedLemmas.{worked_none, worked_one}
 use Rattle.http_wire.proofs.WriteLemmas.{front_after}
 use Rattle.http_front.proofs.WriteLemmas.{front_all}
@@ -224,10 +224,15 @@ stopped_at k w (Some c) v x end fault h b front =
 none_of : (f : Stopped) → f.tally.acted ≡ false → ◌≡◌ {A = ℕ} (if f.tally.acted then 1 else 0) 0
 none_of f a = ap (λ (b : Bool). if b then 1 else 0) a
 
-pub turned_closed : (left : List Turn → Type 0) (now k : ℕ) (w : World) (r s v x : Option (List ℕ)) (end : Finish) (result : Result Turned Stopped) → left []
-    → IfSome r (λ bytes. IsEnd w bytes end (last_response end)) → IsClosed end v x result → IsTurned left now k w w r s v x result
-turned_closed left now k w r s v x end (Ok t) l h c = subst (λ (z : Turned). IsTurned left now k w w r s v x (Ok z)) (sym c.0) (closed_at now k w r v x end h c.1, refl, l)
-turned_closed left now k w r s v x end (Err f) l h c = (worked_none now w w _ refl (none_of f c.0), l, stopped_at k w r v x end f.tally.is_fault h c.1 c.2, tt)
+-- the queue stays, and what a crash leaves beside it
+abbrev pub stays : (World → World → Type 0) → ℕ → World → List Turn → Type 0
+stays leaves now w turns = CarriesAll leaves leaves now turns w w
+
+pub turned_closed : (leaves : World → World → Type 0) (now k : ℕ) (w : World) (r s v x : Option (List ℕ)) (end : Finish) (result : Result Turned Stopped)
+    → IfSome r (λ bytes. IsEnd w bytes end (last_response end)) → IsClosed end v x result → IsTurned (stays leaves now w) now k w w r s v x result
+turned_closed leaves now k w r s v x end (Ok t) h c =
+    subst (λ (z : Turned). IsTurned (stays leaves now w) now k w w r s v x (Ok z)) (sym c.0) (closed_at now k w r v x end h c.1, refl, carries_no_turn leaves now w)
+turned_closed leaves now k w r s v x end (Err f) h c = (worked_none now w w _ refl (none_of f c.0), carries_no_turn leaves now w, stopped_at k w r v x end f.tally.is_fault h c.1 c.2, tt)
 
 pub end_no_head : (w : World) (r : Option (List ℕ)) (end : Finish) → IfSome r (λ bytes. EndsWithoutHead bytes end) → IfSome r (λ bytes. IsEnd w bytes end (last_response end))
 end_no_head w None end h = tt
@@ -246,9 +251,9 @@ unread_at : (k : ℕ) (w : World) (r v : Option (List ℕ)) (fault : Bool) → f
 unread_at k w None v fault b = tt
 unread_at k w (Some bytes) v fault b = ([], subst (λ (p : Bool). IsBegun k w bytes [] [] p) (sym b) nothing, front_all v v [] (Appends-nil v))
 
-pub turned_unread : (left : List Turn → Type 0) (now k : ℕ) (w : World) (r s v : Option (List ℕ)) (f : Stopped) → left [] → f.tally.acted ≡ false → f.tally.is_fault ≡ false
-    → IsTurned left now k w w r s v v (Err f)
-turned_unread left now k w r s v f l a b = (worked_none now w w _ refl (none_of f a), l, unread_at k w r v f.tally.is_fault b, tt)
+pub turned_unread : (leaves : World → World → Type 0) (now k : ℕ) (w : World) (r s v : Option (List ℕ)) (f : Stopped) → f.tally.acted ≡ false → f.tally.is_fault ≡ false
+    → IsTurned (stays leaves now w) now k w w r s v v (Err f)
+turned_unread leaves now k w r s v f a b = (worked_none now w w _ refl (none_of f a), carries_no_turn leaves now w, unread_at k w r v f.tally.is_fault b, tt)
 
 pub body_as : (f : Framing) (raw a b : List ℕ) → IsBody f raw a → b ≡ a → IsBody f raw b
 body_as f raw a b h e = subst (λ (l : List ℕ). IsBody f raw l) (sym e) h

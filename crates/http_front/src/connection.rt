@@ -41,19 +41,19 @@ fn run<R: Read, W: Write, B: QueueBook>(
     book: &mut B,
 ) -> Result<Served, ServeFault>
     requires router { ForSome router (λ r. r.now ≡ routes) }
-    requires moment { IsMoment context.moment }
+    requires moment { IsMoment context.now }
     ensures began { B.is_honest book.new → B.is_honest book.old }
     ensures served { B.is_honest book.new → IfOk result (λ served. (w : World) → B.stands book.old w → context.entry.settings.now ≡ w.settings
         → (u : World) × B.stands book.new u
-        × IsServed (λ turns. CarriesAll (B.crash_leaves book.old) (B.crash_leaves book.new) context.entry.moment turns w u)
-        context.entry.moment w u (left input.old.buffer (R.remaining input.old.reader)) (W.contents writer.old) (W.contents writer.new) served) }
+        × IsServed (λ turns. CarriesAll (B.crash_leaves book.old) (B.crash_leaves book.new) context.entry.now turns w u)
+        context.entry.now w u (left input.old.buffer (R.remaining input.old.reader)) (W.contents writer.old) (W.contents writer.new) served) }
     ensures broken { B.is_honest book.new → IfErr result (λ fault. (w : World) → B.stands book.old w → context.entry.settings.now ≡ w.settings
         → (u : World) × B.stands book.new u
-        × IsStopped (λ turns. CarriesAll (B.crash_leaves book.old) (B.crash_leaves book.new) context.entry.moment turns w u)
-        context.entry.moment w u (left input.old.buffer (R.remaining input.old.reader)) (W.contents writer.old) (W.contents writer.new) fault) }
+        × IsStopped (λ turns. CarriesAll (B.crash_leaves book.old) (B.crash_leaves book.new) context.entry.now turns w u)
+        context.entry.now w u (left input.old.buffer (R.remaining input.old.reader)) (W.contents writer.old) (W.contents writer.new) fault) }
     ensures worked { B.is_honest book.new → (w : World) → B.stands book.old w → context.entry.settings.now ≡ w.settings
-        → (u : World) × B.stands book.new u × (k : Worked most_requests context.entry.moment w u (acted_of result))
-        × CarriesAll (B.crash_leaves book.old) (B.crash_leaves book.new) context.entry.moment k.turns w u × MarksFaults k.turns result }
+        → (u : World) × B.stands book.new u × (k : Worked most_requests context.entry.now w u (acted_of result))
+        × CarriesAll (B.crash_leaves book.old) (B.crash_leaves book.new) context.entry.now k.turns w u × MarksFaults k.turns result }
     ensures never_more { input.new.reads_left ≤ input.old.reads_left }
     ensures few { IfOk result (λ served. served.acted ≤ most_requests) }
     ensures few_stopped { IfErr result (λ fault. fault.acted ≤ most_requests) }
@@ -145,7 +145,7 @@ pub fn serve<R: Read, W: Write, B: QueueBook>(
     let context = Context {
         alloc,
         settings,
-        moment: now,
+        now,
     };
     run(context, table.as_ref(), &mut input, writer, book)
 }

@@ -2,7 +2,8 @@
 ghost use Rattle.std.specs.Prelude.{◌≡◌, false};
 ghost use Rattle.http_front.specs.declared.outcome.ServeCause.TheVariants as causes;
 
-use http_head::end::{End, Finish, Refusal, WriteFault};
+use http_head::end::{End, Finish, Refusal};
+use http_wire::fault::WriteFault;
 use thiserror::Error;
 
 /// What a connection came to.
@@ -44,7 +45,7 @@ pub struct ServeFault {
 
 /// What is counted of a request.
 #[derive(Clone, Copy)]
-pub struct Tally {
+pub(crate) struct Tally {
     /// It was answered as an IPP message or as a line of the device.
     pub acted: bool,
     /// It was answered by a fault.
@@ -66,7 +67,7 @@ impl Tally {
 
 /// A turn that was stopped.
 #[derive(Clone, Copy)]
-pub struct Stopped {
+pub(crate) struct Stopped {
     /// What is counted of its request.
     pub tally: Tally,
     /// What stopped it.
@@ -109,7 +110,7 @@ impl From<WriteFault> for Stopped {
 
 /// What became of a whole request.
 #[derive(Clone, Copy)]
-pub enum Replied {
+pub(crate) enum Replied {
     /// It was answered.
     Answered(Tally),
     /// Nothing was written yet, and this refusal is to be.
@@ -118,7 +119,7 @@ pub enum Replied {
 
 /// What a turn came to.
 #[derive(Clone, Copy)]
-pub enum Turned {
+pub(crate) enum Turned {
     /// A request was answered.
     Answered {
         /// What is counted of it.

@@ -6,14 +6,16 @@ ghost use Rattle.queue_core.specs.Limits.{IsMoment};
 ghost use Rattle.queue_core.specs.World.{World};
 ghost use Rattle.http_front.specs.Crash.{AsksUnlessDeclined};
 ghost use Rattle.http_front.specs.Turned.{IsReplied, IsReplyFaultless};
+ghost use Rattle.http_head.specs.Limits.{content_limit};
 ghost use Rattle.http_head.specs.declared.target.Target.TheVariants.{Ipp, Report, Queue, Document};
 ghost use Rattle.http_wire.specs.Responses.{WritesFront, success_response};
 
 use crate::context::Context;
 use crate::outcome::{Replied, ServeCause, Stopped, Tally};
 use device_lines::{queue_text, report};
-use http_head::end::{Refusal, WriteFault};
+use http_head::end::Refusal;
 use http_head::target::Target;
+use http_wire::fault::WriteFault;
 use http_wire::respond::{send_head, send_success};
 use ipp_ops::{TooShort, answer};
 use queue_core::book::{QueueBook, SendCause};
@@ -25,6 +27,16 @@ const IPP: &str = "application/ipp";
 
 /// The media type of the device's lines.
 const PLAIN_TEXT: &str = "text/plain";
+
+/// A whole request.
+#[derive(Clone, Copy)]
+pub(crate) struct Request<'a> {
+    pub target: Target,
+    /// At most 16,777,216 bytes.
+    pub content: &'a [u8],
+    /// The connection ends after it.
+    pub closes: bool,
+}
 
 /// Writes a whole answer, and tells what is counted of its request, also where writing it is broken off.
 fn send<W: Write>(
@@ -54,22 +66,16 @@ fn reply_ipp<W: Write, B: QueueBook>(
     content: &[u8],
     closes: bool,
 ) -> Result<Replied, Stopped>
-    requires moment { IsMoment context.moment }
-    requires fits { length content.now ≤ 16777216 }
+    requires moment { IsMoment context.now }
+    requires fits { length content.now ≤ content_limit }
     ensures began { B.is_honest book.new → B.is_honest book.old }
     ensures replied { B.is_honest book.new → (w : World) → B.stands book.old w → context.entry.settings.now ≡ w.settings
         → (u : World) × B.stands book.new u
-        × IsReplied context.entry.moment w u Ipp content.now closes (W.contents writer.old) (W.contents writer.new) result
-        × Carries (B.crash_leaves book.old) (B.crash_leaves book.new) (AsksUnlessDeclined Ipp content.now result) context.entry.moment w u }
+        × IsReplied context.entry.now w u Ipp content.now closes (W.contents writer.old) (W.contents writer.new) result
+        × Carries (B.crash_leaves book.old) (B.crash_leaves book.new) (AsksUnlessDeclined Ipp content.now result) context.entry.now w u }
     ensures live { B.is_honest book.new → B.is_live book.old → IsReplyFaultless result → B.is_live book.new }
 {
-    match answer(
-        context.alloc,
-        book,
-        context.settings,
-        context.moment,
-        content,
-    ) {
+    match answer(context.alloc, book, context.settings, context.now, content) {
         Err(TooShort) => Ok(Replied::Declined(Refusal::BadRequest)),
         Ok(a) => {
             let tally = Tally {
@@ -174,23 +180,21 @@ pub(crate) fn reply<W: Write, B: QueueBook>(
     context: Context<'_>,
     writer: &mut W,
     book: &mut B,
-    target: Target,
-    content: &[u8],
-    closes: bool,
+    request: Request<'_>,
 ) -> Result<Replied, Stopped>
-    requires moment { IsMoment context.moment }
-    requires fits { length content.now ≤ 16777216 }
+    requires moment { IsMoment context.now }
+    requires fits { length request.content.now ≤ content_limit }
     ensures began { B.is_honest book.new → B.is_honest book.old }
     ensures replied { B.is_honest book.new → (w : World) → B.stands book.old w → context.entry.settings.now ≡ w.settings
         → (u : World) × B.stands book.new u
-        × IsReplied context.entry.moment w u target content.now closes (W.contents writer.old) (W.contents writer.new) result
-        × Carries (B.crash_leaves book.old) (B.crash_leaves book.new) (AsksUnlessDeclined target content.now result) context.entry.moment w u }
+        × IsReplied context.entry.now w u request.entry.target request.entry.content.now request.entry.closes (W.contents writer.old) (W.contents writer.new) result
+        × Carries (B.crash_leaves book.old) (B.crash_leaves book.new) (AsksUnlessDeclined request.entry.target request.entry.content.now result) context.entry.now w u }
     ensures live { B.is_honest book.new → B.is_live book.old → IsReplyFaultless result → B.is_live book.new }
 {
-    match target {
-        Target::Ipp => reply_ipp(context, writer, book, content, closes),
-        Target::Report => reply_report(writer, book, context.moment, content, closes),
-        Target::Queue => reply_queue(context.alloc, writer, book, closes),
-        Target::Document(numbers) => reply_document(writer, book, numbers, closes),
+    match request.target {
+        Target::Ipp => reply_ipp(context, writer, book, request.content, request.closes),
+        Target::Report => reply_report(writer, book, context.now, request.content, request.closes),
+        Target::Queue => reply_queue(context.alloc, writer, book, request.closes),
+        Target::Document(numbers) => reply_document(writer, book, numbers, request.closes),
     }
 }

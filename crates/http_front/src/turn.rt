@@ -6,6 +6,7 @@ ghost use Rattle.queue_core.specs.Limits.{IsMoment};
 ghost use Rattle.queue_core.specs.World.{World};
 ghost use Rattle.http_head.specs.Framing.{size_of};
 ghost use Rattle.http_head.specs.Left.{left};
+ghost use Rattle.http_head.specs.Limits.{content_limit};
 ghost use Rattle.http_head.specs.Routes.{routes};
 ghost use Rattle.http_front.specs.Crash.{CarriesAll};
 ghost use Rattle.http_front.specs.Turns.{last_request};
@@ -13,15 +14,15 @@ ghost use Rattle.http_front.specs.Turned.{IsClosed, IsPlanned, IsTurnFaultless, 
 
 use crate::context::Context;
 use crate::outcome::{Replied, ServeCause, Stopped, Tally, Turned};
-use crate::reply::reply;
-use http_head::end::{Finish, Refusal, WriteFault};
+use crate::reply::{Request, reply};
+use http_head::end::{Finish, Refusal};
 use http_head::fault::HeadFault;
 use http_head::input::Input;
 use http_head::limits::MOST_REQUESTS;
 use http_head::plan::Plan;
 use http_head::receive::take_head;
 use http_head::routes::Route;
-use http_wire::fault::BodyFault;
+use http_wire::fault::{BodyFault, WriteFault};
 use http_wire::framed::take_framed;
 use http_wire::respond::{send_continue, send_end};
 use matchit::Router;
@@ -44,36 +45,45 @@ fn close_with<W: Write>(writer: &mut W, end: Finish) -> Result<Turned, Stopped>
     }
 }
 
-/// The connection ends after request k, from 0.
-fn closes_after(plan: Plan, k: u32) -> bool
-    ensures { result ≡ (plan.closes || (k == last_request)) }
-{
-    plan.closes || k == LAST_REQUEST
+/// A request's plan, and its number on the connection, from 0.
+#[derive(Clone, Copy)]
+struct NumberedPlan {
+    plan: Plan,
+    k: u32,
 }
 
-/// Answers request k behind a head that passed the checks.
+impl NumberedPlan {
+    /// The connection ends after the request.
+    fn closes(self) -> bool
+        ensures { result ≡ (self.plan.closes || (self.k == last_request)) }
+    {
+        self.plan.closes || self.k == LAST_REQUEST
+    }
+}
+
+/// Answers a request behind a head that passed the checks.
 fn take_planned<R: Read, W: Write, B: QueueBook>(
     context: Context<'_>,
     input: &mut Input<R>,
     writer: &mut W,
     book: &mut B,
-    plan: Plan,
-    k: u32,
+    numbered: NumberedPlan,
 ) -> Result<Turned, Stopped>
-    requires moment { IsMoment context.moment }
-    requires size { size_of plan.framing ≤ 16777216 }
-    requires few { k ≤ last_request }
+    requires moment { IsMoment context.now }
+    requires size { size_of numbered.plan.framing ≤ content_limit }
+    requires few { numbered.k ≤ last_request }
     ensures began { B.is_honest book.new → B.is_honest book.old }
     ensures planned { B.is_honest book.new → (w : World) → B.stands book.old w → context.entry.settings.now ≡ w.settings
         → (u : World) × B.stands book.new u
-        × IsPlanned (λ asks. Carries (B.crash_leaves book.old) (B.crash_leaves book.new) asks context.entry.moment w u)
-        context.entry.moment k w u plan (left input.old.buffer (R.remaining input.old.reader)) (left input.new.buffer (R.remaining input.new.reader))
+        × IsPlanned (λ asks. Carries (B.crash_leaves book.old) (B.crash_leaves book.new) asks context.entry.now w u)
+        context.entry.now numbered.k w u numbered.plan (left input.old.buffer (R.remaining input.old.reader)) (left input.new.buffer (R.remaining input.new.reader))
         (W.contents writer.old) (W.contents writer.new) result }
     ensures never_more { input.new.reads_left ≤ input.old.reads_left }
-    ensures last { ClosesLast k result }
+    ensures last { ClosesLast numbered.k result }
     // what shuts a book is answered as a fault, or breaks a document off
     ensures live { B.is_honest book.new → B.is_live book.old → IsTurnFaultless result → B.is_live book.new }
 {
+    let plan = numbered.plan;
     let invited = send_continue(writer, plan)?;
     let content = match take_framed(context.alloc, input, plan.framing, invited) {
         Ok(content) => content,
@@ -84,15 +94,13 @@ fn take_planned<R: Read, W: Write, B: QueueBook>(
             Finish::Refused(Refusal::ServiceUnavailable),
         ),
     };
-    let closes = closes_after(plan, k);
-    match reply(
-        context,
-        writer,
-        book,
-        plan.target,
-        content.as_slice(),
+    let closes = numbered.closes();
+    let request = Request {
+        target: plan.target,
+        content: content.as_slice(),
         closes,
-    ) {
+    };
+    match reply(context, writer, book, request) {
         Ok(Replied::Answered(tally)) => Ok(Turned::Answered { tally, closes }),
         Ok(Replied::Declined(refusal)) => close_with(writer, Finish::Refused(refusal)),
         Err(stopped) => Err(stopped),
@@ -109,13 +117,13 @@ pub(crate) fn turn<R: Read, W: Write, B: QueueBook>(
     k: u32,
 ) -> Result<Turned, Stopped>
     requires router { ForSome router (λ r. r.now ≡ routes) }
-    requires moment { IsMoment context.moment }
+    requires moment { IsMoment context.now }
     requires few { k ≤ last_request }
     ensures began { B.is_honest book.new → B.is_honest book.old }
     ensures turned { B.is_honest book.new → (w : World) → B.stands book.old w → context.entry.settings.now ≡ w.settings
         → (u : World) × B.stands book.new u
-        × IsTurned (λ turns. CarriesAll (B.crash_leaves book.old) (B.crash_leaves book.new) context.entry.moment turns w u)
-        context.entry.moment k w u (left input.old.buffer (R.remaining input.old.reader)) (left input.new.buffer (R.remaining input.new.reader))
+        × IsTurned (λ turns. CarriesAll (B.crash_leaves book.old) (B.crash_leaves book.new) context.entry.now turns w u)
+        context.entry.now k w u (left input.old.buffer (R.remaining input.old.reader)) (left input.new.buffer (R.remaining input.new.reader))
         (W.contents writer.old) (W.contents writer.new) result }
     ensures never_more { input.new.reads_left ≤ input.old.reads_left }
     ensures last { ClosesLast k result }
@@ -126,7 +134,7 @@ pub(crate) fn turn<R: Read, W: Write, B: QueueBook>(
         return close_with(writer, Finish::Refused(Refusal::ServiceUnavailable));
     };
     match take_head(router, input) {
-        Ok(plan) => take_planned(context, input, writer, book, plan, k),
+        Ok(plan) => take_planned(context, input, writer, book, NumberedPlan { plan, k }),
         Err(HeadFault::Ended(end)) => close_with(writer, end),
         Err(HeadFault::Failed(refusal)) => close_with(writer, Finish::Refused(refusal)),
         Err(HeadFault::Read) => Err(Stopped::by(ServeCause::Read)),

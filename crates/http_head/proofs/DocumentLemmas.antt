@@ -1,38 +1,36 @@
 -- The path of a document, by the numbers of its job and of the document.
 use Rattle.std.proofs.Common.{◌≡◌, ◌≢◌, ◌∙◌, ℕ, ◌+◌, ◌<◌, ◌^◌, List, [], ◌∷◌, ◌++◌, ◌&&◌, Bool, true, false, Option, Some, None, length, take, drop, get_or, refl, sym, ap, arith, append_assoc, length-append, length-drop, decimal}
 use Rattle.std.specs.Prelude.{codes, if◌then◌else◌, not, nat_lt, nat_eq, option_map, ◌==◌}
-use Rattle.std.specs.List.{AllByRecursion as Each, before_first, after_first, position_or_len, list_all, starts_with}
+use Rattle.std.specs.List.{before_first, after_first, position_or_len, list_all, starts_with}
 use Rattle.std.specs.Char.{is_ascii_digit}
 use Rattle.std.specs.Str.{IsAscii, is_utf8}
 use Rattle.std.specs.Str.Parse.{AllDigits, digits_value}
 use Rattle.std.proofs.Math.Seq.{drop-append_seam, take-append_seam}
+use Rattle.std.proofs.lemmas.Bool.{and_parts, ltb-true, ne_eqb}
 use Rattle.std.proofs.lemmas.Bool.Decides.{nat_tests}
 use Rattle.std.proofs.lemmas.Fmt.{IsAscii-decimal, decimal-digits_value, decimal_is_IsNumeral, decimal_nonempty, digits_decimal, digits_value-decimal, first_decimal}
 use Rattle.std.proofs.lemmas.List.Sums.{passes_at_first, split_at_first}
+use Rattle.std.proofs.lemmas.Option.{cond_some}
 use Rattle.std.proofs.lemmas.Str.{IsAscii-append, IsUtf8-from_ascii, is_utf8-from_IsUtf8}
 use Rattle.std.proofs.lemmas.Str.Ascii.{IsAscii-cons, IsAscii-nil}
 use Rattle.std.proofs.lemmas.Str.Parse.{digit_from_value}
-use borrow.Author.Tests.{ltb-true}
-use Rattle.http_head.proofs.FieldLemmas.{and_true, model}
+use Rattle.http_head.proofs.FieldLemmas.{model}
 use Rattle.matchit.specs.Route.{scan}
 use Rattle.matchit.specs.Router.{RouteOf}
 use Rattle.matchit.specs.Seek.{first}
 use Rattle.http_head.proofs.PrefixLemmas.{begins_with, leads_with}
-use Rattle.http_head.proofs.RouteLemmas.{of_document, test_of}
+use Rattle.http_head.proofs.RouteLemmas.{AreInSegment, of_document}
 use Rattle.http_head.specs.Fields.{fits_word, number_in}
 use Rattle.http_head.specs.Routes.{IsSegment, route_of, routes, value_of}
 use Rattle.http_head.specs.Targets.{both, document_prefix, numbers_in, routed, target_of}
 use Rattle.http_head.specs.declared.routes.Route.{Route}
-use Rattle.http_head.specs.declared.routes.Route.TheVariants.{Document as DocumentRoute, Print as PrintRoute, Queue as QueueRoute, Report as ReportRoute}
+use Rattle.http_head.specs.declared.routes.Route.TheVariants.{Document as DocumentRoute}
 use Rattle.http_head.specs.declared.target.Target.TheVariants.{Document}
 
 abbrev is_slash : ℕ → Bool
 is_slash b = b == 47
 
 -- ---- a number
-
-abbrev AreInSegment : List ℕ → Type 0
-AreInSegment s = Each (λ b. (b < 256) × (b ≢ 47)) s
 
 digits_in_segment : (ds : List ℕ) → AllDigits 10 ds → AreInSegment ds
 digits_in_segment [] d = tt
@@ -59,10 +57,6 @@ number_of_decimal n some small =
     let fits : nat_lt n 4294967296 ≡ true = grind (arith, nat_tests) in
     rw (digits, plain, long, value, fits) refl
 
-chosen : (b : Bool) (m n : ℕ) → (if b then Some m else None) ≡ Some n → (b ≡ true) × (m ≡ n)
-chosen true m n h = (refl, cc)
-chosen false m n h = absurd cc
-
 -- what a text is that tells a number
 record Tells (text : List ℕ) (n : ℕ) : Type 0 where
   some : 0 < length text
@@ -70,10 +64,10 @@ record Tells (text : List ℕ) (n : ℕ) : Type 0 where
 
 told : (text : List ℕ) (n : ℕ) → number_in text ≡ Some n → Tells text n
 told text n h =
-    let t = chosen (list_all is_ascii_digit text && not (starts_with nat_eq text (codes "0")) && fits_word text) (digits_value 10 text) n h in
-    let p = and_true (list_all is_ascii_digit text && not (starts_with nat_eq text (codes "0"))) (fits_word text) t.0 in
-    let q = and_true (list_all is_ascii_digit text) (not (starts_with nat_eq text (codes "0"))) p.0 in
-    let r = and_true (nat_lt 0 (length text)) (nat_lt (digits_value 10 text) 4294967296) p.1 in
+    let t = cond_some (list_all is_ascii_digit text && not (starts_with nat_eq text (codes "0")) && fits_word text) (digits_value 10 text) n h in
+    let p = and_parts (list_all is_ascii_digit text && not (starts_with nat_eq text (codes "0"))) (fits_word text) t.0 in
+    let q = and_parts (list_all is_ascii_digit text) (not (starts_with nat_eq text (codes "0"))) p.0 in
+    let r = and_parts (nat_lt 0 (length text)) (nat_lt (digits_value 10 text) 4294967296) p.1 in
     let some = ltb-true _ _ r.0 in
     let small = ltb-true _ _ r.1 in
     record {
@@ -85,7 +79,7 @@ told text n h =
 
 at_slash : (a b : List ℕ) → AreInSegment a → position_or_len is_slash (a ++ 47 ∷ b) ≡ length a
 at_slash [] b is = refl
-at_slash (c ∷ a) b is = let e : (c == 47) ≡ false = test_of c 47 is.0.1 in rw e (omega (arith, at_slash a b is.1))
+at_slash (c ∷ a) b is = let e : (c == 47) ≡ false = ne_eqb c 47 is.0.1 in rw e (omega (arith, at_slash a b is.1))
 
 before_slash : (a b : List ℕ) → AreInSegment a → before_first is_slash (a ++ 47 ∷ b) ≡ a
 before_slash a b is = ap (λ k. take k (a ++ 47 ∷ b)) (at_slash a b is) ∙ take-append_seam a (47 ∷ b)
@@ -128,7 +122,7 @@ numbers_told text job n h =
 
 all_ascii : (bs : List ℕ) → list_all (λ b. nat_lt b 128) bs ≡ true → IsAscii bs
 all_ascii [] h = IsAscii-nil
-all_ascii (b ∷ bs) h = let e = and_true (nat_lt b 128) (list_all (λ c. nat_lt c 128) bs) h in IsAscii-cons b bs (ltb-true _ _ e.0) (all_ascii bs e.1)
+all_ascii (b ∷ bs) h = let e = and_parts (nat_lt b 128) (list_all (λ c. nat_lt c 128) bs) h in IsAscii-cons b bs (ltb-true _ _ e.0) (all_ascii bs e.1)
 
 path_ascii : (job n : ℕ) → job < 2 ^ 32 → n < 2 ^ 32 → IsAscii (codes "/device/document/" ++ decimal job ++ codes "/" ++ decimal n)
 path_ascii job n small small_n =
@@ -153,9 +147,7 @@ document_numbered job n some small some_n small_n =
 
 is_document : Route → Bool
 is_document DocumentRoute = true
-is_document PrintRoute = false
-is_document ReportRoute = false
-is_document QueueRoute = false
+is_document _ = false
 
 abbrev of_document_route : RouteOf Route → Bool
 of_document_route r = is_document r.value
@@ -183,10 +175,8 @@ target_told : (text : Bool) (path : List ℕ) (route : Option Route) (job n : �
     → (route ≡ Some DocumentRoute) × (numbers_in (drop (length document_prefix) path) ≡ Some (job, n))
 target_told false path route job n is = absurd cc
 target_told true path None job n is = absurd cc
-target_told true path (Some PrintRoute) job n is = absurd cc
-target_told true path (Some ReportRoute) job n is = absurd cc
-target_told true path (Some QueueRoute) job n is = absurd cc
 target_told true path (Some DocumentRoute) job n is = (refl, cc)
+target_told true path (Some _) job n is = absurd cc
 
 pub path_told : (path : List ℕ) (job n : ℕ) → routed path ≡ Some (Document (Some (job, n))) → path ≡ codes "/device/document/" ++ decimal job ++ codes "/" ++ decimal n
 path_told path job n is =

@@ -13,7 +13,7 @@ use Rattle.std.proofs.lemmas.Str.Ascii.{IsAscii-nil, IsAscii-cons}
 use Rattle.std.proofs.lemmas.Str.Parse.{IsNumeralModel, numerals_by_value, parse_digits}
 use Rattle.std.proofs.lemmas.Int.Digits.{digits_value_more}
 use Rattle.std.proofs.lemmas.List.Folds.{list_all-map}
-use borrow.Author.Tests.{ltb-true}
+use Rattle.std.proofs.lemmas.Bool.{and_parts, false_from_ne_true, ltb-true}
 use Rattle.std.proofs.lemmas.Bool.Decides.{same_from_decides}
 use Rattle.std.proofs.lemmas.Slice.Eq.{bytes_eq-Decides}
 use Rattle.http_head.specs.Fields.{fits_word, number_in}
@@ -25,16 +25,12 @@ told r a b h = same_from_decides r (bytes_eq a b) h (bytes_eq-Decides a b)
 
 -- ---- numbers
 
-pub and_true : (a b : Bool) → (a && b) ≡ true → (a ≡ true) × (b ≡ true)
-and_true true b h = (refl, h)
-and_true false b h = absurd (cc)
-
 digit_ascii : (b : ℕ) → is_ascii_digit b ≡ true → b < 128
 digit_ascii b h = grind (arith, nat_tests)
 
 digits_ascii : (bs : List ℕ) → list_all is_ascii_digit bs ≡ true → IsAscii bs
 digits_ascii [] h = IsAscii-nil
-digits_ascii (b ∷ bs) h = let e = and_true (is_ascii_digit b) (list_all is_ascii_digit bs) h in IsAscii-cons b bs (digit_ascii b e.0) (digits_ascii bs e.1)
+digits_ascii (b ∷ bs) h = let e = and_parts (is_ascii_digit b) (list_all is_ascii_digit bs) h in IsAscii-cons b bs (digit_ascii b e.0) (digits_ascii bs e.1)
 
 -- digits are text
 pub digits_utf8 : (bs : List ℕ) → list_all is_ascii_digit bs ≡ true → is_utf8 bs ≡ true
@@ -45,12 +41,8 @@ model = numerals_by_value _ (search rules)
 
 not_small : (bs : List ℕ) → ((0 < length bs) × (digits_value 10 bs < 2 ^ 32) → ⊥) → fits_word bs ≡ true → ⊥
 not_small bs h p =
-    let e = and_true (nat_lt 0 (length bs)) (nat_lt (digits_value 10 bs) 4294967296) p in
+    let e = and_parts (nat_lt 0 (length bs)) (nat_lt (digits_value 10 bs) 4294967296) p in
     h (ltb-true _ _ e.0, ltb-true _ _ e.1)
-
-refused : (b : Bool) → (b ≡ true → ⊥) → b ≡ false
-refused true h = absurd (h refl)
-refused false h = refl
 
 none_chosen : (a b : Bool) (n : ℕ) → b ≡ false → None ≡ (if a && b then Some n else None)
 none_chosen true true n h = absurd (cc)
@@ -66,7 +58,7 @@ parsed_is {E = E} bs (Ok n) o digits plain parsed is =
     let fits : nat_lt (digits_value 10 bs) 4294967296 ≡ true = grind (arith, nat_tests, p.0.1) in
     rw (digits, plain, some, fits) (is ∙ ap Some p.1)
 parsed_is bs (Err e) o digits plain parsed is =
-    is ∙ none_chosen _ (fits_word bs) (digits_value 10 bs) (refused (fits_word bs) (not_small bs (parse_digits model 32 bs (Err e) parsed digits)))
+    is ∙ none_chosen _ (fits_word bs) (digits_value 10 bs) (false_from_ne_true (fits_word bs) (not_small bs (parse_digits model 32 bs (Err e) parsed digits)))
 
 -- what text is chosen
 pub text_chosen : (b : Bool) (t bs : List ℕ) → Some t ≡ (if b then Some bs else None) → t ≡ bs
@@ -82,8 +74,8 @@ digit_is b h = grind (arith, nat_tests)
 
 digit_at : (bs : List ℕ) (i : ℕ) → i < length bs → list_all is_ascii_digit bs ≡ true → is_ascii_digit (get_or bs i 0) ≡ true
 digit_at [] i h a = absurd (omega arith)
-digit_at (b ∷ bs) zero h a = (and_true (is_ascii_digit b) (list_all is_ascii_digit bs) a).0
-digit_at (b ∷ bs) (suc i) h a = digit_at bs i (omega arith) (and_true (is_ascii_digit b) (list_all is_ascii_digit bs) a).1
+digit_at (b ∷ bs) zero h a = (and_parts (is_ascii_digit b) (list_all is_ascii_digit bs) a).0
+digit_at (b ∷ bs) (suc i) h a = digit_at bs i (omega arith) (and_parts (is_ascii_digit b) (list_all is_ascii_digit bs) a).1
 
 capped_step : (v n d m : ℕ) → n ≡ min v 16777217 → m ≡ min (n * 10 + d) 16777217 → m ≡ min (v * 10 + d) 16777217
 capped_step v n d m e f = grind (arith, nat_tests)

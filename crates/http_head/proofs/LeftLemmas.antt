@@ -1,10 +1,9 @@
 -- The bytes left of a connection, as a buffer takes them from a reader and gives them on.
-use Rattle.std.proofs.Common.{◌≡◌, Option, ℕ, ◌+◌, ◌-◌, ◌≤◌, List, ◌++◌, None, Some, length, take, drop, slice_range, sym, ap, ◌∙◌, subst, append_assoc, arith, take-append-drop, length-drop}
+use Rattle.std.proofs.Common.{◌≡◌, Option, ℕ, ◌+◌, ◌-◌, ◌≤◌, List, ◌++◌, None, Some, length, take, drop, slice_range, sym, ap, ◌∙◌, append_assoc, arith}
 use Rattle.std.specs.Io.{StartsWith}
-use Rattle.std.specs.Io.KnownBytes.{Consumes, Keeps, Appends}
+use Rattle.std.specs.Io.KnownBytes.{Consumes, Keeps}
 use Rattle.std.proofs.Math.Seq.{take-add, take-append_seam}
 use Rattle.std.proofs.lemmas.List.{drop-take, length-take, take_all}
-use Rattle.std.proofs.KnownBytes.{Appends-trans}
 use Rattle.http_head.specs.Left.{left}
 use lib.Seq.{drop-drop}
 
@@ -13,11 +12,6 @@ pub fill_keeps : (r q : Option (List ℕ)) (come more got : List ℕ) → Consum
 fill_keeps None q come more got p e = tt
 fill_keeps (Some x) None come more got p e = absurd p
 fill_keeps (Some x) (Some y) come more got p e = ap (λ l. l ++ y) e ∙ append_assoc come got y ∙ ap (λ l. come ++ l) (sym p)
-
--- the first n bytes are taken from the buffer
-pub take_consumes : (r : Option (List ℕ)) (come : List ℕ) (n : ℕ) → Consumes (left come r) (left (drop n come) r) (take n come)
-take_consumes None come n = tt
-take_consumes (Some x) come n = ap (λ l. l ++ x) (sym (take-append-drop n come)) ∙ append_assoc (take n come) (drop n come) x
 
 -- what a read puts behind the bytes that were packed
 pub packed_and_read : (old packed read : List ℕ) (start end at n : ℕ) → take at packed ≡ slice_range old start end → take at read ≡ take at packed
@@ -48,19 +42,5 @@ range_drop xs start end n h =
     let e : end - start ≡ n + (end - (start + n)) = omega arith in
     sym (ap (λ k. drop n (take k (drop start xs))) e ∙ drop-take n (end - (start + n)) (drop start xs) ∙ ap (take (end - (start + n))) (drop-drop n start xs))
 
--- one more write behind those before it
-pub put_more : (a b c : Option (List ℕ)) (xs : List ℕ) (at n : ℕ) → Appends a b (take at xs) → Appends b c (take n (drop at xs)) → Appends a c (take (at + n) xs)
-put_more a b c xs at n p q = subst (λ l. Appends a c l) (sym (take-add at n xs)) (Appends-trans a b c _ _ p q)
-
 pub range_length : (xs : List ℕ) (start end : ℕ) → length (slice_range xs start end) ≤ end - start
 range_length xs start end = let e = length-take (end - start) (drop start xs) in omega (arith, e)
-
--- the rest of a slice, as the code takes it
-pub rest_is : (xs : List ℕ) (at : ℕ) → take (length xs - at) (drop at xs) ≡ drop at xs
-rest_is xs at = let e = length-drop at xs in take_all (length xs - at) (drop at xs) (omega (arith, e))
-
-pub rest_length : (xs : List ℕ) (at : ℕ) → length (take (length xs - at) (drop at xs)) ≡ length xs - at
-rest_length xs at = ap length (rest_is xs at) ∙ length-drop at xs
-
-pub put_rest : (a b c : Option (List ℕ)) (xs : List ℕ) (at n : ℕ) → Appends a b (take at xs) → Appends b c (take n (take (length xs - at) (drop at xs))) → Appends a c (take (at + n) xs)
-put_rest a b c xs at n p q = put_more a b c xs at n p (subst (λ l. Appends b c (take n l)) (rest_is xs at) q)

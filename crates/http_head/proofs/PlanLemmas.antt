@@ -1,6 +1,7 @@
 -- The checks of a head in code are those of the table.
 use Rattle.std.proofs.Common.{◌≡◌, ℕ, ◌≤◌, List, [], ◌∷◌, Bool, true, false, ◌&&◌, Option, Some, None, min, refl, sym, ap, ◌∙◌, subst, arith, take, map}
 use Rattle.std.specs.Prelude.{◌||◌, nat_lt, ◌==◌, codes, if◌then◌else◌, option_map, find, Result, Ok, Err, IfOk}
+use Rattle.std.proofs.lemmas.Bool.{ltb-false}
 use Rattle.std.proofs.lemmas.Bool.Decides.{nat_tests}
 use Rattle.httparse.specs.Grammar.{RequestHead}
 use Rattle.httparse.specs.declared.spans.HeaderSpan.{HeaderSpan}
@@ -10,6 +11,7 @@ use Rattle.http_head.specs.Found.{IsHeadAt}
 use Rattle.httparse.specs.declared.spans.Span.{Span}
 use Rattle.http_head.specs.Fields.{values}
 use Rattle.http_head.specs.Framing.{misframed, framing, capped, size_of}
+use Rattle.http_head.specs.Limits.{content_limit}
 use Rattle.http_head.specs.Checks.{Head, head_of, refusal_of, plan_of, checked, rows, unrouted, first_that_applies, is_misframed, framing_of, target_in, is_typed, asks}
 use Rattle.http_head.specs.Planned.{said, IsPlanOf, fields_at}
 use Rattle.http_head.specs.declared.end.Refusal.{Refusal}
@@ -125,26 +127,23 @@ unrouted_some : (b : Bool) → first_that_applies (unrouted b) ≡ None → ⊥
 unrouted_some true e = absurd (cc)
 unrouted_some false e = absurd (cc)
 
-not_over : (n : ℕ) → nat_lt 16777216 n ≡ false → n ≤ 16777216
-not_over n h = grind (arith, nat_tests)
-
-routed_fits : (h : Head) (t : Option Target) → checked h t ≡ None → size_of (framing_of h) ≤ 16777216
+routed_fits : (h : Head) (t : Option Target) → checked h t ≡ None → size_of (framing_of h) ≤ content_limit
 routed_fits h None e = absurd (unrouted_some (is_misframed h) e)
 routed_fits h (Some t) e =
-    not_over (size_of (framing_of h)) (none_applies (rows t (is_misframed h) (framing_of h) h.method (is_typed t h)) e).1.1.1.1.0
+    ltb-false content_limit (size_of (framing_of h)) (none_applies (rows t (is_misframed h) (framing_of h) h.method (is_typed t h)) e).1.1.1.1.0
 
-passed_fits : (h : Head) → refusal_of h ≡ None → size_of (framing_of h) ≤ 16777216
+passed_fits : (h : Head) → refusal_of h ≡ None → size_of (framing_of h) ≤ content_limit
 unfolding refusal_of
 passed_fits h e = routed_fits h (target_in h) e
 
-plan_fits : (h : Head) → refusal_of h ≡ None → size_of (plan_of h).framing ≤ 16777216
+plan_fits : (h : Head) → refusal_of h ≡ None → size_of (plan_of h).framing ≤ content_limit
 unfolding plan_of
 plan_fits h e = passed_fits h e
 
 -- the plan of a head that passes the checks
-plan_fits_of : (h : Head) (plan : Plan) → refusal_of h ≡ None → plan ≡ plan_of h → size_of plan.framing ≤ 16777216
-plan_fits_of h plan passes e = subst (λ (p : Plan). size_of p.framing ≤ 16777216) (sym e) (plan_fits h passes)
+plan_fits_of : (h : Head) (plan : Plan) → refusal_of h ≡ None → plan ≡ plan_of h → size_of plan.framing ≤ content_limit
+plan_fits_of h plan passes e = subst (λ (p : Plan). size_of p.framing ≤ content_limit) (sym e) (plan_fits h passes)
 
-pub fits_by : (h : Head) (result : Result Plan Refusal) → IsPlanOf h result → IfOk result (λ plan. size_of plan.framing ≤ 16777216)
+pub fits_by : (h : Head) (result : Result Plan Refusal) → IsPlanOf h result → IfOk result (λ plan. size_of plan.framing ≤ content_limit)
 fits_by h (Ok plan) p = plan_fits_of h plan p.0 p.1
 fits_by h (Err r) p = tt

@@ -2,24 +2,9 @@
 use Rattle.std.proofs.Common.{◌≡◌, ◌≢◌, ◌∙◌, ◌<◌, ℕ, zero, suc, ◌-◌, List, [], ◌∷◌, ◌++◌, ◌⊎◌, inl, inr, length, drop, Option, None, Some, Bool, true, false, cond, ltb, refl, sym, ap, subst, arith}
 use Rattle.std.specs.Prelude.{◌&&◌, ◌||◌, ◌==◌, not, nat_lt}
 use Rattle.std.proofs.lemmas.Bool.Decides.{nat_tests}
-use borrow.Author.Tests.{ltb-true}
+use Rattle.std.proofs.lemmas.Bool.{and_from, and_parts, cases_Bool, eqb-true, ltb-true, not-true}
 use Rattle.matchit.specs.Rows.{RowsOf, param_token, catch_all_token}
 use Rattle.matchit.specs.Seek.{has_slash, longest_suffix, or_else, own, param_step, same_text, seek, segment, step, with_suffix}
-use Rattle.http_head.proofs.FieldLemmas.{and_true}
-
-no_true : (b : Bool) → not b ≡ true → b ≡ false
-no_true true h = absurd cc
-no_true false h = refl
-
-and_is : (a b : Bool) → a ≡ true → b ≡ true → (a && b) ≡ true
-and_is a b e f = rw (e, f) refl
-
--- a byte is another one, or is not
-same_or_not : (a b : ℕ) → ((a == b) ≡ true) ⊎ ((a == b) ≡ false)
-same_or_not a b = elim (a == b) as (λ v. (v ≡ true) ⊎ (v ≡ false)) [ true ↦ inl refl | false ↦ inr refl ]
-
-same_is : (a b : ℕ) → (a == b) ≡ true → a ≡ b
-same_is a b h = grind (arith, nat_tests)
 
 module _ {K : Type 0} (of_kind : K → Bool) where
   -- ---- rows without a route of the kind
@@ -30,22 +15,22 @@ module _ {K : Type 0} (of_kind : K → Bool) where
 
   free_step : (b : ℕ) (rs : RowsOf K) → is_free rs ≡ true → is_free (step b rs) ≡ true
   free_step b [] h = refl
-  free_step b (([], key) ∷ rs) h = free_step b rs (and_true (not (of_kind key)) (is_free rs) h).1
+  free_step b (([], key) ∷ rs) h = free_step b rs (and_parts (not (of_kind key)) (is_free rs) h).1
   free_step b ((x ∷ t, key) ∷ rs) h =
-      let e = and_true (not (of_kind key)) (is_free rs) h in
+      let e = and_parts (not (of_kind key)) (is_free rs) h in
       let rest = free_step b rs e.1 in
       elim (x == b) as (λ v. is_free (cond v ((t, key) ∷ step b rs) (step b rs)) ≡ true) [
-        | true ↦ and_is (not (of_kind key)) (is_free (step b rs)) e.0 rest
+        | true ↦ and_from (not (of_kind key)) (is_free (step b rs)) e.0 rest
         | false ↦ rest
       ]
 
   free_suffix : (s : List ℕ) (rs : RowsOf K) → is_free rs ≡ true → is_free (with_suffix s rs) ≡ true
   free_suffix s [] h = refl
   free_suffix s ((t, key) ∷ rs) h =
-      let e = and_true (not (of_kind key)) (is_free rs) h in
+      let e = and_parts (not (of_kind key)) (is_free rs) h in
       let rest = free_suffix s rs e.1 in
       elim (same_text (segment t) s) as (λ v. is_free (cond v ((t, key) ∷ with_suffix s rs) (with_suffix s rs)) ≡ true) [
-        | true ↦ and_is (not (of_kind key)) (is_free (with_suffix s rs)) e.0 rest
+        | true ↦ and_from (not (of_kind key)) (is_free (with_suffix s rs)) e.0 rest
         | false ↦ rest
       ]
 
@@ -60,8 +45,8 @@ module _ {K : Type 0} (of_kind : K → Bool) where
 
   free_own : (rs : RowsOf K) (key : K) → is_free rs ≡ true → own rs ≡ Some key → of_kind key ≡ false
   free_own [] key h is = absurd cc
-  free_own (([], k) ∷ rs) key h is = let same : k ≡ key = cc in ap of_kind (sym same) ∙ no_true (of_kind k) (and_true (not (of_kind k)) (is_free rs) h).0
-  free_own ((x ∷ t, k) ∷ rs) key h is = free_own rs key (and_true (not (of_kind k)) (is_free rs) h).1 is
+  free_own (([], k) ∷ rs) key h is = let same : k ≡ key = cc in ap of_kind (sym same) ∙ not-true (of_kind k) (and_parts (not (of_kind k)) (is_free rs) h).0
+  free_own ((x ∷ t, k) ∷ rs) key h is = free_own rs key (and_parts (not (of_kind k)) (is_free rs) h).1 is
 
   either : (o p : Option K) (key : K) → or_else o p ≡ Some key → (o ≡ Some key) ⊎ (p ≡ Some key)
   either None p key is = inr is
@@ -94,19 +79,19 @@ module _ {K : Type 0} (of_kind : K → Bool) where
 
   leads_other : (c b : ℕ) (rs : RowsOf K) → leads c rs ≡ true → b ≢ c → is_free (step b rs) ≡ true
   leads_other c b [] h other = refl
-  leads_other c b (([], key) ∷ rs) h other = leads_other c b rs (and_true (not (of_kind key)) (leads c rs) h).1 other
+  leads_other c b (([], key) ∷ rs) h other = leads_other c b rs (and_parts (not (of_kind key)) (leads c rs) h).1 other
   leads_other c b ((x ∷ t, key) ∷ rs) h other =
-      let e = and_true (x == c || not (of_kind key)) (leads c rs) h in
+      let e = and_parts (x == c || not (of_kind key)) (leads c rs) h in
       let rest = leads_other c b rs e.1 other in
-      elim (same_or_not x b) [
-        | inl same ↦ rw same (and_is (not (of_kind key)) (is_free (step b rs)) (other_row x b c (not (of_kind key)) e.0 same other) rest)
+      elim (cases_Bool (x == b)) [
+        | inl same ↦ rw same (and_from (not (of_kind key)) (is_free (step b rs)) (other_row x b c (not (of_kind key)) e.0 same other) rest)
         | inr differ ↦ rw differ rest
       ]
 
   leads_own : (c : ℕ) (rs : RowsOf K) (key : K) → leads c rs ≡ true → own rs ≡ Some key → of_kind key ≡ false
   leads_own c [] key h is = absurd cc
-  leads_own c (([], k) ∷ rs) key h is = let same : k ≡ key = cc in ap of_kind (sym same) ∙ no_true (of_kind k) (and_true (not (of_kind k)) (leads c rs) h).0
-  leads_own c ((x ∷ t, k) ∷ rs) key h is = leads_own c rs key (and_true (x == c || not (of_kind k)) (leads c rs) h).1 is
+  leads_own c (([], k) ∷ rs) key h is = let same : k ≡ key = cc in ap of_kind (sym same) ∙ not-true (of_kind k) (and_parts (not (of_kind k)) (leads c rs) h).0
+  leads_own c ((x ∷ t, k) ∷ rs) key h is = leads_own c rs key (and_parts (x == c || not (of_kind k)) (leads c rs) h).1 is
 
   never : {A : Type 0} (key : K) → of_kind key ≡ true → of_kind key ≡ false → A
   never key is not_so = absurd (let e : true ≡ false = sym is ∙ not_so in cc)
@@ -120,8 +105,8 @@ module _ {K : Type 0} (of_kind : K → Bool) where
       let no_param = leads_other c param_token rs h (λ e. omega (arith, e)) in
       let no_rest = leads_other c catch_all_token rs h (λ e. omega (arith, e)) in
       elim (either (seek 0 (step b rs) path) (or_else (seek (params.0 - 1) params.1 path) (own (step catch_all_token rs))) key is) [
-        | inl by_byte ↦ elim (same_or_not b c) [
-          | inl same ↦ let e = same_is b c same in (e, subst (λ (a : ℕ). seek 0 (step a rs) path ≡ Some key) e by_byte)
+        | inl by_byte ↦ elim (cases_Bool (b == c)) [
+          | inl same ↦ let e = eqb-true b c same in (e, subst (λ (a : ℕ). seek 0 (step a rs) path ≡ Some key) e by_byte)
           | inr differ ↦ never key kind (free_seek 0 (step b rs) path key (leads_other c b rs h (λ e. grind (arith, nat_tests))) by_byte)
         ]
         | inr other ↦ elim (either (seek (params.0 - 1) params.1 path) (own (step catch_all_token rs)) key other) [
@@ -140,12 +125,12 @@ module _ {K : Type 0} (of_kind : K → Bool) where
   unfolding seek
   begins_with [] path rs key h is kind = refl
   begins_with (c ∷ text) [] rs key h is kind =
-      let p = and_true (nat_lt c 256) (leads c rs && leads_with text (step c rs)) h in
-      let q = and_true (leads c rs) (leads_with text (step c rs)) p.1 in
+      let p = and_parts (nat_lt c 256) (leads c rs && leads_with text (step c rs)) h in
+      let q = and_parts (leads c rs) (leads_with text (step c rs)) p.1 in
       never key kind (leads_own c rs key q.0 is)
   begins_with (c ∷ text) (b ∷ path) rs key h is kind =
-      let p = and_true (nat_lt c 256) (leads c rs && leads_with text (step c rs)) h in
-      let q = and_true (leads c rs) (leads_with text (step c rs)) p.1 in
+      let p = and_parts (nat_lt c 256) (leads c rs && leads_with text (step c rs)) h in
+      let q = and_parts (leads c rs) (leads_with text (step c rs)) p.1 in
       let on = lead_on c b path rs key (ltb-true _ _ p.0) q.0 is kind in
       let rest = begins_with text path (step c rs) key q.1 on.1 kind in
       ap (λ l. b ∷ l) rest ∙ ap (λ a. a ∷ (text ++ drop (length text) path)) on.0

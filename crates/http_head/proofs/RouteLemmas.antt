@@ -3,6 +3,7 @@ use Rattle.std.proofs.Common.{append-nil, append_assoc, length-append, drop, ltb
 use Rattle.std.specs.Prelude.{codes, option_map, ◌&&◌, ◌==◌}
 use Rattle.std.specs.List.{AllByRecursion as Each}
 use Rattle.std.proofs.Math.Seq.{drop-append_seam}
+use Rattle.std.proofs.lemmas.Bool.{and_parts, ne_eqb}
 use Rattle.std.proofs.lemmas.Bool.Decides.{nat_tests}
 use Rattle.matchit.specs.Rows.{RowsOf, param_token, catch_all_token}
 use Rattle.matchit.specs.Seek.{step, or_else, seek, param_step, has_slash, segment, cuts}
@@ -10,26 +11,19 @@ use Rattle.matchit.specs.Route.{scan}
 use Rattle.http_head.specs.Routes.{IsSegment, route_of, routes, value_of}
 use Rattle.http_head.specs.declared.routes.Route.TheVariants.{Document, Print, Queue, Report}
 
-pub test_of : (a b : ℕ) → a ≢ b → (a == b) ≡ false
-test_of a b h = grind (arith, nat_tests)
-
-both : (a b : Bool) → (a && b) ≡ true → (a ≡ true) × (b ≡ true)
-both true b is = (refl, is)
-both false b is = absurd cc
-
 -- ---- segments
 
-abbrev AreInSegment : List ℕ → Type 0
+abbrev pub AreInSegment : List ℕ → Type 0
 AreInSegment s = Each (λ b. (b < 256) × (b ≢ 47)) s
 
 no_slash : (s : List ℕ) → AreInSegment s → has_slash s ≡ false
 no_slash [] is = refl
-no_slash (b ∷ s) is = let e : (b == 47) ≡ false = test_of b 47 is.0.1 in rw e (no_slash s is.1)
+no_slash (b ∷ s) is = let e : (b == 47) ≡ false = ne_eqb b 47 is.0.1 in rw e (no_slash s is.1)
 
 -- a segment and the slash behind it
 segment_is : (s n : List ℕ) → AreInSegment s → segment (s ++ 47 ∷ n) ≡ s ++ 47 ∷ []
 segment_is [] n is = refl
-segment_is (b ∷ s) n is = let e : (b == 47) ≡ false = test_of b 47 is.0.1 in rw e (ap (λ l. b ∷ l) (segment_is s n is.1))
+segment_is (b ∷ s) n is = let e : (b == 47) ≡ false = ne_eqb b 47 is.0.1 in rw e (ap (λ l. b ∷ l) (segment_is s n is.1))
 
 -- a segment with its slash ends with a slash
 cuts_slash : (s : List ℕ) → 0 < length s → cuts (s ++ 47 ∷ []) (47 ∷ []) ≡ true
@@ -90,8 +84,8 @@ module _ {K : Type 0} where
   along : (text path : List ℕ) (rs : RowsOf K) → is_plain text rs ≡ true → seek 0 rs (text ++ path) ≡ seek 0 (behind text rs) path
   along [] path rs is = refl
   along (b ∷ text) path rs is =
-      let p = both (is_none (step param_token rs)) (is_none (step catch_all_token rs) && is_plain text (step b rs)) is in
-      let q = both (is_none (step catch_all_token rs)) (is_plain text (step b rs)) p.1 in
+      let p = and_parts (is_none (step param_token rs)) (is_none (step catch_all_token rs) && is_plain text (step b rs)) is in
+      let q = and_parts (is_none (step catch_all_token rs)) (is_plain text (step b rs)) p.1 in
       one_byte b (text ++ path) rs (none_is (step param_token rs) p.0) (none_is (step catch_all_token rs) q.0) ∙ along text path (step b rs) q.1
 
   -- ---- parameters
@@ -102,7 +96,7 @@ module _ {K : Type 0} where
   skipped (b ∷ front) path rs = skipped front path rs
 
   not_param : (b : ℕ) (rest : List ℕ) (key : K) → b < 256 → step b ((param_token ∷ rest, key) ∷ []) ≡ []
-  not_param b rest key small = let e : (param_token == b) ≡ false = test_of param_token b (λ i. omega arith) in rw e refl
+  not_param b rest key small = let e : (param_token == b) ≡ false = ne_eqb param_token b (λ i. omega arith) in rw e refl
 
   whole : (path : List ℕ) (key : K) → has_slash path ≡ false → param_step (([], key) ∷ []) path ≡ (length path, ([], key) ∷ [])
   unfolding param_step

@@ -3,8 +3,9 @@ ghost use Rattle.std.specs.Prelude.{◌≡◌, ◌+◌, ◌<◌, ◌≤◌, ℕ,
 ghost use Rattle.std.specs.Io.{StartsWith};
 ghost use Rattle.std.specs.Io.KnownBytes.{Consumes, Keeps, IsAtEnd};
 ghost use Rattle.http_head.specs.Left.{left};
+ghost use Rattle.http_head.specs.Limits.{head_limit};
 
-use crate::end::ReadFault;
+use crate::fault::ReadFault;
 use crate::limits::{HEAD_LIMIT, MOST_TRIES};
 use std::io::{ErrorKind, Read};
 use std::marker::Model;
@@ -25,7 +26,7 @@ impl Model for Buffer {
 
     ghost view = { λ b. slice_range b.bytes b.start b.end };
 
-    ghost invariant = { λ b. (b.start ≤ b.end) × (b.end ≤ 16384) };
+    ghost invariant = { λ b. (b.start ≤ b.end) × (b.end ≤ head_limit) };
 }
 
 impl Buffer {
@@ -43,7 +44,7 @@ impl Buffer {
     /// What has come.
     pub fn bytes(&self) -> &[u8]
         ensures value { result.now ≡ self.now }
-        ensures fits { length self.now ≤ 16384 }
+        ensures fits { length self.now ≤ head_limit }
     {
         &self.bytes[self.start..self.end]
     }
@@ -59,12 +60,12 @@ impl Buffer {
     /// Reads once, and answers how many bytes came: none only at the end. There is room, as fewer than 16,384 are held. A read that is
     /// interrupted is tried again.
     pub fn fill<R: Read>(&mut self, reader: &mut R) -> Result<usize, ReadFault>
-        requires { length self.old < 16384 }
+        requires { length self.old < head_limit }
         ensures kept { Keeps (left self.old (R.remaining reader.old)) (left self.new (R.remaining reader.new)) }
         ensures grows { IfOk result (λ n. length self.new ≡ length self.old + n) }
         ensures end { IfOk result (λ n. n ≡ 0 → (self.new ≡ self.old) × IsAtEnd (R.remaining reader.new)) }
         ensures front { StartsWith self.new self.old }
-        ensures fits { length self.new ≤ 16384 }
+        ensures fits { length self.new ≤ head_limit }
     {
         self.end = pack(&mut self.bytes, self.start, self.end);
         self.start = 0;
@@ -107,11 +108,8 @@ fn read_once<R: Read>(reader: &mut R, bytes: &mut [u8]) -> Result<usize, ReadFau
     'tries: for _ in 0..MOST_TRIES {
         match reader.read(bytes) {
             Ok(n) => return Ok(n),
-            Err(error) => {
-                if error.kind() != ErrorKind::Interrupted {
-                    return Err(ReadFault);
-                }
-            }
+            Err(error) if error.kind() == ErrorKind::Interrupted => {}
+            Err(_) => return Err(ReadFault),
         }
     }
     Err(ReadFault)

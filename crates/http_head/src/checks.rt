@@ -7,7 +7,7 @@ ghost use Rattle.http_head.specs.Fields as words;
 ghost use Rattle.http_head.specs.Planned.{fields_at};
 
 use crate::end::Refusal;
-use crate::fields::{before, has_member, same_word, text_at, trimmed, values};
+use crate::fields::{before, has_member, same_word, text_at, values, without_spaces};
 use crate::framing::{Framing, is_there};
 use crate::limits::CONTENT_LIMIT;
 use crate::target::Target;
@@ -16,7 +16,7 @@ use httparse::spans::{HeaderSpan, Span};
 fn is_type(asked: &[u8], value: &[u8]) -> bool
     ensures { result ≡ spec.is_type asked.now value.now }
 {
-    same_word(trimmed(before(b';', value), false), asked)
+    same_word(without_spaces(before(b';', value)), asked)
 }
 
 fn are_types(come: &[u8], types: &[Span], asked: &[u8]) -> bool

@@ -2,8 +2,6 @@
 ghost use Rattle.std.specs.Prelude.{◌≡◌};
 ghost use Rattle.http_head.specs.Ends as spec;
 
-use thiserror::Error;
-
 /// How serving a connection ended.
 #[derive(Clone, Copy, Debug, PartialEq, Eq)]
 pub enum End {
@@ -92,13 +90,3 @@ impl Finish {
         matches!(self, Finish::Refused(Refusal::ServiceUnavailable))
     }
 }
-
-/// A read failed.
-#[derive(Clone, Copy, Debug, Error)]
-#[error("a read failed")]
-pub struct ReadFault;
-
-/// A write failed.
-#[derive(Clone, Copy, Debug, Error)]
-#[error("a write failed")]
-pub struct WriteFault;

@@ -1,9 +1,14 @@
-//! Why there is no request head to answer.
+//! A read that failed, and why there is no request head to answer.
 ghost use Rattle.std.specs.Prelude.{◌≡◌};
 ghost use Rattle.http_head.specs.declared.fault.HeadFault.TheVariants as faults;
 
-use crate::end::{Finish, ReadFault, Refusal};
+use crate::end::{Finish, Refusal};
 use thiserror::Error;
+
+/// A read failed.
+#[derive(Clone, Copy, Debug, Error)]
+#[error("a read failed")]
+pub struct ReadFault;
 
 /// Why there is no request head to answer.
 #[derive(Clone, Copy, Debug, Error)]

@@ -1,5 +1,5 @@
 //! Field lines, and the words in their values (RFC 9110, section 5).
-ghost use Rattle.std.specs.Prelude.{◌≡◌, ◌≤◌, ◌==◌, length, map, not, if◌then◌else◌, Some, None, true, min};
+ghost use Rattle.std.specs.Prelude.{◌≡◌, ◌≤◌, ◌==◌, length, map, not, if◌then◌else◌, Some, None, true, false, min};
 ghost use Rattle.std.specs.List.{before_first, after_first, position, list_all};
 ghost use Rattle.std.specs.Option.{option_copied};
 ghost use Rattle.std.specs.Char.{is_ascii_digit};
@@ -84,17 +84,30 @@ fn end_cut(text: &[u8], tabs: bool) -> &[u8]
     &text[..end]
 }
 
-/// The text without the spaces, and where `tabs` the tabs, at both ends.
-pub(crate) fn trimmed(text: &[u8], tabs: bool) -> &[u8]
+fn trimmed(text: &[u8], tabs: bool) -> &[u8]
     ensures { result.now ≡ spec.trimmed (spec.is_blank tabs) text.now }
 {
     end_cut(front_cut(text, tabs), tabs)
 }
 
+/// The text without the spaces at both ends.
+pub(crate) fn without_spaces(text: &[u8]) -> &[u8]
+    ensures { result.now ≡ spec.trimmed (spec.is_blank false) text.now }
+{
+    trimmed(text, false)
+}
+
+/// The text without the spaces and tabs at both ends (OWS: RFC 9110, section 5.6.3).
+pub(crate) fn without_white_space(text: &[u8]) -> &[u8]
+    ensures { result.now ≡ spec.trimmed (spec.is_blank true) text.now }
+{
+    trimmed(text, true)
+}
+
 fn is_member(member: &[u8], word: &[u8]) -> bool
     ensures { result ≡ spec.same_word (spec.trimmed (spec.is_blank true) member.now) word.now }
 {
-    same_word(trimmed(member, true), word)
+    same_word(without_white_space(member), word)
 }
 
 /// A member of the list that the value is, is that word.

@@ -21,21 +21,21 @@ pub enum Framing {
 
 impl Framing {
     /// The body comes by chunks.
-    pub fn is_chunked(self) -> bool
+    pub(crate) fn is_chunked(self) -> bool
         ensures { result ≡ spec.is_chunked self }
     {
         matches!(self, Framing::Chunked)
     }
 
     /// Neither a length nor chunks are told.
-    pub fn is_untold(self) -> bool
+    pub(crate) fn is_untold(self) -> bool
         ensures { result ≡ spec.is_untold self }
     {
         matches!(self, Framing::Nothing)
     }
 
     /// The length that is told in bytes, or 0.
-    pub fn size(self) -> u32
+    pub(crate) fn size(self) -> u32
         ensures { result ≡ spec.size_of self }
     {
         match self {

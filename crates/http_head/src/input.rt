@@ -3,9 +3,10 @@ ghost use Rattle.std.specs.Prelude.{◌≡◌, ◌+◌, ◌<◌, ◌≤◌, [], 
 ghost use Rattle.std.specs.Io.{StartsWith};
 ghost use Rattle.std.specs.Io.KnownBytes.{Keeps, IsAtEnd};
 ghost use Rattle.http_head.specs.Left.{left};
+ghost use Rattle.http_head.specs.Limits.{head_limit};
 
 use crate::buffer::Buffer;
-use crate::end::ReadFault;
+use crate::fault::ReadFault;
 use crate::limits::{HEAD_LIMIT, MOST_REQUESTS, RAW_LIMIT};
 use std::io::Read;
 
@@ -42,7 +43,7 @@ impl<R: Read> Input<R> {
     /// What has come.
     pub fn bytes(&self) -> &[u8]
         ensures value { result.now ≡ self.now.buffer }
-        ensures fits { length self.now.buffer ≤ 16384 }
+        ensures fits { length self.now.buffer ≤ head_limit }
     {
         self.buffer.bytes()
     }
@@ -58,12 +59,12 @@ impl<R: Read> Input<R> {
     /// Reads once, and answers how many bytes came: none only at the end. There is room, as fewer than 16,384 are held. Past the most
     /// reads of a connection it fails.
     pub fn fill(&mut self) -> Result<usize, ReadFault>
-        requires { length self.old.buffer < 16384 }
+        requires { length self.old.buffer < head_limit }
         ensures kept { Keeps (left self.old.buffer (R.remaining self.old.reader)) (left self.new.buffer (R.remaining self.new.reader)) }
         ensures grows { IfOk result (λ n. length self.new.buffer ≡ length self.old.buffer + n) }
         ensures end { IfOk result (λ n. n ≡ 0 → (self.new.buffer ≡ self.old.buffer) × IsAtEnd (R.remaining self.new.reader)) }
         ensures front { StartsWith self.new.buffer self.old.buffer }
-        ensures fits { length self.new.buffer ≤ 16384 }
+        ensures fits { length self.new.buffer ≤ head_limit }
         ensures counted { IfOk result (λ n. self.new.reads_left + 1 ≡ self.old.reads_left) }
         ensures never_more { self.new.reads_left ≤ self.old.reads_left }
     {

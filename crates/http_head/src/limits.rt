@@ -1,7 +1,7 @@
 //! The limits of a connection and of its requests.
 
 /// The most bytes of a head, with the empty line that ends it.
-pub const HEAD_LIMIT: usize = 16_384;
+pub(crate) const HEAD_LIMIT: usize = 16_384;
 
 /// The most field lines of a head, and of a trailer section.
 pub const MOST_FIELDS: usize = 64;
@@ -10,7 +10,7 @@ pub const MOST_FIELDS: usize = 64;
 pub const CONTENT_LIMIT: u32 = 16_777_216;
 
 /// The most digits of a length that a head tells: as many as the greatest number of 64 bits has.
-pub const MOST_DIGITS: usize = 20;
+pub(crate) const MOST_DIGITS: usize = 20;
 
 /// The most bytes of a chunk line, with its CR LF.
 pub const LINE_LIMIT: usize = 1_024;

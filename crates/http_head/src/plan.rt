@@ -1,6 +1,7 @@
 //! What a request's head asks for.
 ghost use Rattle.std.specs.Prelude.{◌≡◌, ◌≤◌, length, take, IfOk};
 ghost use Rattle.http_head.specs.Framing.{size_of};
+ghost use Rattle.http_head.specs.Limits.{content_limit};
 ghost use Rattle.http_head.specs.Planned.{IsPlanned, IsPlanOf, said};
 ghost use Rattle.http_head.specs.Routes.{routes};
 
@@ -86,7 +87,7 @@ pub(crate) fn plan_at(
 ) -> Result<Plan, Refusal>
     requires { router.now ≡ routes }
     ensures planned { IsPlanned come.now headers.now spans result }
-    ensures fits { IfOk result (λ plan. size_of plan.framing ≤ 16777216) }
+    ensures fits { IfOk result (λ plan. size_of plan.framing ≤ content_limit) }
 {
     plan_said(router, come, headers, spans)
 }

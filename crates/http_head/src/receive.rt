@@ -5,6 +5,7 @@ ghost use Rattle.httparse.specs.Grammar.{RequestHead, ReadsRequest};
 ghost use Rattle.http_head.specs.Fault.{IsHeadFault};
 ghost use Rattle.http_head.specs.Framing.{size_of};
 ghost use Rattle.http_head.specs.Left.{left};
+ghost use Rattle.http_head.specs.Limits.{content_limit};
 ghost use Rattle.http_head.specs.Reads.{MakesNoRead};
 ghost use Rattle.http_head.specs.Received.{TakesPlan};
 ghost use Rattle.http_head.specs.Routes.{routes};
@@ -23,7 +24,7 @@ use std::io::Read;
 pub fn take_head<R: Read>(router: &Router<Route>, input: &mut Input<R>) -> Result<Plan, HeadFault>
     requires { router.now ≡ routes }
     ensures taken { IfOk result (TakesPlan (left input.old.buffer (R.remaining input.old.reader)) (left input.new.buffer (R.remaining input.new.reader))) }
-    ensures fits { IfOk result (λ plan. size_of plan.framing ≤ 16777216) }
+    ensures fits { IfOk result (λ plan. size_of plan.framing ≤ content_limit) }
     ensures kept { OnErr result (Keeps (left input.old.buffer (R.remaining input.old.reader)) (left input.new.buffer (R.remaining input.new.reader))) }
     ensures failed { IfErr result (IsHeadFault (left input.old.buffer (R.remaining input.old.reader))) }
     ensures never_more { input.new.reads_left ≤ input.old.reads_left }

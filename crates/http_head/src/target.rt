@@ -25,7 +25,7 @@ pub enum Target {
 
 impl Target {
     /// It takes POST; else GET.
-    pub fn is_posted(self) -> bool
+    pub(crate) fn is_posted(self) -> bool
         ensures { result ≡ spec.is_posted self }
     {
         match self {
@@ -35,14 +35,14 @@ impl Target {
     }
 
     /// The one method that it allows.
-    pub fn method(self) -> &'static [u8]
+    pub(crate) fn method(self) -> &'static [u8]
         ensures { result.now ≡ spec.method_of self }
     {
         if self.is_posted() { b"POST" } else { b"GET" }
     }
 
     /// The media type of the content that it takes.
-    pub fn media_type(self) -> &'static [u8]
+    pub(crate) fn media_type(self) -> &'static [u8]
         ensures { result.now ≡ spec.media_type_of self }
     {
         match self {

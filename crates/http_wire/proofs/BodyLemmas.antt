@@ -1,13 +1,17 @@
 -- Bytes of a body, as they are taken from the buffer.
-use Rattle.std.proofs.Common.{◌≡◌, Option, ℕ, ◌+◌, ◌≤◌, List, ◌++◌, length, take, drop, ap, ◌∙◌, append_assoc, arith, length-append, length-drop}
-use Rattle.std.specs.Io.KnownBytes.{Keeps}
+use Rattle.std.proofs.Common.{◌≡◌, Option, ℕ, ◌+◌, ◌≤◌, List, ◌++◌, None, Some, length, take, drop, sym, ap, ◌∙◌, append_assoc, arith, length-append, length-drop, take-append-drop}
+use Rattle.std.specs.Io.KnownBytes.{Consumes, Keeps}
 use Rattle.std.proofs.lemmas.List.{length-take-le}
 use Rattle.std.proofs.KnownBytes.{Consumes-trans, Consumes-kept}
 use Rattle.http_wire.specs.Bodies.{TakesMore}
 use Rattle.http_head.specs.Left.{left}
 use Rattle.http_head.specs.Reads.{MakesNoRead}
 use Rattle.http_head.specs.declared.input.Input.{Input}
-use Rattle.http_head.proofs.LeftLemmas.{take_consumes}
+
+-- the first n bytes are taken from the buffer
+take_consumes : (r : Option (List ℕ)) (come : List ℕ) (n : ℕ) → Consumes (left come r) (left (drop n come) r) (take n come)
+take_consumes None come n = tt
+take_consumes (Some x) come n = ap (λ l. l ++ x) (sym (take-append-drop n come)) ∙ append_assoc (take n come) (drop n come) x
 
 -- more of a body was taken from the buffer, once something had come
 pub more_taken : (a b r : Option (List ℕ)) (come before body more : List ℕ) (taken n : ℕ) → TakesMore taken a b before body → Keeps b (left come r) → n ≤ length come → more ≡ body ++ take n come

@@ -7,7 +7,8 @@ ghost use Rattle.http_wire.specs.Bodies.{EndsInLength, TakesMore};
 ghost use Rattle.http_wire.specs.Fault.{IfEnded};
 
 use crate::fault::BodyFault;
-use http_head::end::{Finish, ReadFault};
+use http_head::end::Finish;
+use http_head::fault::ReadFault;
 use http_head::input::Input;
 use std::alloc::Global;
 use std::io::Read;

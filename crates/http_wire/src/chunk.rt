@@ -8,6 +8,7 @@ ghost use Rattle.http_wire.specs.ChunkEnds as ends;
 ghost use Rattle.http_wire.specs.ChunkEnds.{EndsAtLine, EndsAtLineEnd, EndsInChunk};
 ghost use Rattle.http_wire.specs.ChunkParts.{TakesChunk, TakesLine};
 ghost use Rattle.http_head.specs.Left.{left};
+ghost use Rattle.http_head.specs.Limits.{line_limit, raw_limit};
 ghost use Rattle.http_wire.specs.LineEnds.{IsLineEndState};
 ghost use Rattle.http_wire.specs.Fault.{IfEnded};
 
@@ -32,7 +33,7 @@ pub struct Bound {
 pub(crate) fn bound_behind(raw: usize, limit: usize) -> Bound
     ensures value { result ≡ ends.bound_behind raw limit }
     ensures own { result.limit ≤ limit }
-    ensures whole { raw ≤ 67108864 → raw + result.limit ≤ 67108864 }
+    ensures whole { raw ≤ raw_limit → raw + result.limit ≤ raw_limit }
 {
     let room = RAW_LIMIT.saturating_sub(raw);
     if room < limit {
@@ -58,7 +59,7 @@ pub(crate) fn front(bytes: &[u8], n: usize) -> &[u8]
 
 /// A chunk line.
 #[derive(Clone, Copy)]
-pub struct Line {
+pub(crate) struct Line {
     /// How many bytes it has.
     pub len: usize,
     /// The size of the chunk that it tells.
@@ -67,7 +68,7 @@ pub struct Line {
 
 /// Reads until a chunk line stands at the front of the buffer, where it is left.
 fn find_line<R: Read>(input: &mut Input<R>, bound: Bound) -> Result<Line, BodyFault>
-    requires { bound.limit ≤ 1024 }
+    requires { bound.limit ≤ line_limit }
     ensures kept { Keeps (left input.old.buffer (R.remaining input.old.reader)) (left input.new.buffer (R.remaining input.new.reader)) }
     ensures found { IfOk result (λ line. (l : ChunkLine) × IsChunkLineAt input.new.buffer line.len line.size l × (line.len ≤ bound.limit)) }
     ensures ended { IfErr result (λ f. IfEnded f (λ end. IfSome (left input.old.buffer (R.remaining input.old.reader)) (λ bytes. EndsAtLine bound bytes end))) }
@@ -90,7 +91,7 @@ fn find_line<R: Read>(input: &mut Input<R>, bound: Bound) -> Result<Line, BodyFa
 
 /// Takes a chunk line. No byte is read for it once `bound.limit` bytes have come, which is at most 1,024.
 pub(crate) fn take_line<R: Read>(input: &mut Input<R>, bound: Bound) -> Result<Line, BodyFault>
-    requires { bound.limit ≤ 1024 }
+    requires { bound.limit ≤ line_limit }
     ensures taken { IfOk result (λ line. TakesLine bound.limit (left input.old.buffer (R.remaining input.old.reader)) (left input.new.buffer (R.remaining input.new.reader)) line.len line.size) }
     ensures ended { IfErr result (λ f. IfEnded f (λ end. IfSome (left input.old.buffer (R.remaining input.old.reader)) (λ bytes. EndsAtLine bound bytes end))) }
     ensures never_more { input.new.reads_left ≤ input.old.reads_left }
@@ -102,7 +103,7 @@ pub(crate) fn take_line<R: Read>(input: &mut Input<R>, bound: Bound) -> Result<L
 
 /// What bytes say of a CR LF at their front.
 #[derive(Clone, Copy)]
-pub enum LineEndState {
+pub(crate) enum LineEndState {
     /// One stands there.
     Whole,
     /// Bytes behind them may make it one.

@@ -5,6 +5,7 @@ ghost use Rattle.std.specs.Bool.{OnTrue, OnFalse};
 ghost use Rattle.http_wire.specs.ChunkEnds.{EndsInChunks};
 ghost use Rattle.http_wire.specs.ChunkParts.{TakesChunked, TakesToLast};
 ghost use Rattle.http_head.specs.Left.{left};
+ghost use Rattle.http_head.specs.Limits.{content_limit, line_limit, raw_limit};
 ghost use Rattle.http_wire.specs.Fault.{IfEnded};
 
 use crate::chunk::{Line, bound_behind, take_chunk, take_line};
@@ -22,11 +23,11 @@ const CONTENT_LIMIT: usize = limits::CONTENT_LIMIT as usize;
 
 /// Behind so much content and so many raw bytes, the chunk of this line brings the content or the raw bytes past their limit.
 fn is_too_large(content: usize, raw: usize, line: Line) -> bool
-    requires content { content ≤ 16777216 }
-    requires raw { raw ≤ 67108864 }
-    requires line { line.len ≤ 1024 }
-    ensures over { OnTrue result ((16777216 < content + line.size) ⊎ (67108864 < raw + line.len + line.size + 2)) }
-    ensures fits { OnFalse result ((content + line.size ≤ 16777216) × (raw + line.len + line.size + 2 ≤ 67108864)) }
+    requires content { content ≤ content_limit }
+    requires raw { raw ≤ raw_limit }
+    requires line { line.len ≤ line_limit }
+    ensures over { OnTrue result ((content_limit < content + line.size) ⊎ (raw_limit < raw + line.len + line.size + 2)) }
+    ensures fits { OnFalse result ((content + line.size ≤ content_limit) × (raw + line.len + line.size + 2 ≤ raw_limit)) }
 {
     line.size > (CONTENT_LIMIT - content) as u64
         || raw + line.len + line.size as usize + 2 > RAW_LIMIT
@@ -59,7 +60,7 @@ pub(crate) fn take_chunked<R: Read>(
     input: &mut Input<R>,
 ) -> Result<Vec<u8>, BodyFault>
     ensures taken { IfOk result (λ content. TakesChunked (left input.old.buffer (R.remaining input.old.reader)) (left input.new.buffer (R.remaining input.new.reader)) content.items) }
-    ensures fits { IfOk result (λ content. length content.items ≤ 16777216) }
+    ensures fits { IfOk result (λ content. length content.items ≤ content_limit) }
     ensures ended { IfErr result (λ f. IfEnded f (λ end. IfSome (left input.old.buffer (R.remaining input.old.reader)) (λ bytes. EndsInChunks bytes end))) }
     ensures never_more { input.new.reads_left ≤ input.old.reads_left }
 {

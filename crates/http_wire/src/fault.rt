@@ -1,10 +1,16 @@
-//! Why a body is not there.
+//! A write that failed, and why a body is not there.
 ghost use Rattle.std.specs.Prelude.{◌≡◌};
 ghost use Rattle.http_wire.specs.declared.fault.BodyFault.TheVariants as faults;
 
-use http_head::end::{Finish, ReadFault};
+use http_head::end::Finish;
+use http_head::fault::ReadFault;
 use std::alloc::AllocError;
 use thiserror::Error;
+
+/// A write failed.
+#[derive(Clone, Copy, Debug, Error)]
+#[error("a write failed")]
+pub struct WriteFault;
 
 /// Why a body, or a part of it, is not there.
 #[derive(Clone, Copy, Debug, Error)]

@@ -4,6 +4,7 @@ ghost use Rattle.std.specs.Io.KnownBytes.{Consumes};
 ghost use Rattle.http_wire.specs.Bodies.{EndsInBody, IsBody};
 ghost use Rattle.http_head.specs.Framing.{is_chunked, size_of};
 ghost use Rattle.http_head.specs.Left.{left};
+ghost use Rattle.http_head.specs.Limits.{content_limit};
 ghost use Rattle.http_head.specs.Reads.{MakesNoRead};
 ghost use Rattle.http_wire.specs.Fault.{IfEnded};
 
@@ -23,10 +24,10 @@ pub fn take_framed<R: Read>(
     framing: Framing,
     _invited: Invited,
 ) -> Result<Vec<u8>, BodyFault>
-    requires { size_of framing ≤ 16777216 }
+    requires { size_of framing ≤ content_limit }
     ensures taken { IfOk result (λ content. (raw : List ℕ) × IsBody framing raw content.items
         × Consumes (left input.old.buffer (R.remaining input.old.reader)) (left input.new.buffer (R.remaining input.new.reader)) raw) }
-    ensures fits { IfOk result (λ content. length content.items ≤ 16777216) }
+    ensures fits { IfOk result (λ content. length content.items ≤ content_limit) }
     ensures ended { IfErr result (λ f. IfEnded f (λ end. IfSome (left input.old.buffer (R.remaining input.old.reader)) (λ bytes. EndsInBody framing bytes end))) }
     ensures never_more { input.new.reads_left ≤ input.old.reads_left }
     // where none is told, or as many bytes as its length tells have come, no read is made

@@ -3,7 +3,7 @@ ghost use Rattle.std.specs.Prelude.{◌≤◌, ◌++◌, length, take, IfOk, OnO
 ghost use Rattle.std.specs.Io.KnownBytes.{Appends, Keeps};
 ghost use Rattle.http_wire.specs.Responses.{WritesFront};
 
-use http_head::end::WriteFault;
+use crate::fault::WriteFault;
 use http_head::limits::MOST_TRIES;
 use std::io::{ErrorKind, Write};
 
@@ -16,11 +16,8 @@ fn put_once<W: Write>(writer: &mut W, bytes: &[u8]) -> Result<usize, WriteFault>
     'tries: for _ in 0..MOST_TRIES {
         match writer.write(bytes) {
             Ok(n) => return Ok(n),
-            Err(error) => {
-                if error.kind() != ErrorKind::Interrupted {
-                    return Err(WriteFault);
-                }
-            }
+            Err(error) if error.kind() == ErrorKind::Interrupted => {}
+            Err(_) => return Err(WriteFault),
         }
     }
     Err(WriteFault)

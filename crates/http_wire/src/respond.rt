@@ -7,10 +7,11 @@ ghost use Rattle.http_head.specs.Ends.{code_of};
 ghost use Rattle.http_wire.specs.Responses as spec;
 ghost use Rattle.http_wire.specs.Responses.{WritesFront};
 
+use crate::fault::WriteFault;
 use crate::put::{put, put_both};
 use arrayvec::ArrayVec;
 use http::StatusCode;
-use http_head::end::{Finish, Refusal, WriteFault};
+use http_head::end::{Finish, Refusal};
 use http_head::plan::Plan;
 use std::io::Write;
 

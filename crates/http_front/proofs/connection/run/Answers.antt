@@ -21,7 +21,7 @@ turns-init g c = record {
   never_more = omega arith;
   began = λ h. h;
   live = λ h live none. live;
-  ran = λ h w st set. (w, st, ran_none _ _ _ _, carries_no_turn (g.B.QueueBook.crash_leaves c.args.book.now) c.args.context.moment w);
+  ran = λ h w st set. (w, st, ran_none _ _ _ _, carries_no_turn (g.B.QueueBook.crash_leaves c.args.book.now) c.args.context.now w);
 }
 
 pub turns-preserved : goal.turns-preserved
@@ -36,8 +36,8 @@ turns-preserved g c = record {
       (rw c.in-Ok-Answered.field-0-is at (c.in-Ok-Answered.ensures.live h (c.turns.invariant.live (c.turn.ensures.began h) live clear.0))) clear.1;
   ran = λ h w st set.
       let r = c.turns.invariant.ran (c.turn.ensures.began h) w st set in
-      let t = rw c.in-Ok-Answered.field-0-is at (c.in-Ok-Answered.ensures.turned h r.0 r.1 (run_settings c.args.context.settings.now c.turns.k c.args.context.moment w r.0 _ _ _ _ c.turns.acted c.turns.faults r.2 set)) in
-      let on = ran_on (g.B.QueueBook.crash_leaves c.args.book.now) (g.B.QueueBook.crash_leaves c.turns.book) (g.B.QueueBook.crash_leaves c.turn.new.book) c.turns.k c.args.context.moment w r.0 t.0
+      let t = rw c.in-Ok-Answered.field-0-is at (c.in-Ok-Answered.ensures.turned h r.0 r.1 (run_settings c.args.context.settings.now c.turns.k c.args.context.now w r.0 _ _ _ _ c.turns.acted c.turns.faults r.2 set)) in
+      let on = ran_on (g.B.QueueBook.crash_leaves c.args.book.now) (g.B.QueueBook.crash_leaves c.turns.book) (g.B.QueueBook.crash_leaves c.turn.new.book) c.turns.k c.args.context.now w r.0 t.0
       (left c.args.input.now.buffer (g.R.Read.remaining c.args.input.now.reader)) (left c.turns.input.buffer (g.R.Read.remaining c.turns.input.reader)) (left c.turn.new.input.buffer (g.R.Read.remaining c.turn.new.input.reader))
       (g.W.Write.contents c.args.writer.now) (g.W.Write.contents c.turns.writer) (g.W.Write.contents c.turn.new.writer)
       c.turns.acted c.turns.faults c.from-acted.result c.mark-faults.result c.in-Ok-Answered.tally c.in-Ok-Answered.closes
@@ -48,10 +48,10 @@ turns-preserved g c = record {
 pub returns-then-closes-clause-served : goal.returns-then-closes-clause-served
 returns-then-closes-clause-served g c = λ h w st set.
     let r = c.turns.invariant.ran (c.turn.ensures.began h) w st set in
-    let t = rw c.in-Ok-Answered.field-0-is at (c.in-Ok-Answered.ensures.turned h r.0 r.1 (run_settings c.args.context.settings.now c.turns.k c.args.context.moment w r.0 _ _ _ _ c.turns.acted c.turns.faults r.2 set)) in (
+    let t = rw c.in-Ok-Answered.field-0-is at (c.in-Ok-Answered.ensures.turned h r.0 r.1 (run_settings c.args.context.settings.now c.turns.k c.args.context.now w r.0 _ _ _ _ c.turns.acted c.turns.faults r.2 set)) in (
       t.0,
       t.1,
-      served_done (g.B.QueueBook.crash_leaves c.args.book.now) (g.B.QueueBook.crash_leaves c.turns.book) (g.B.QueueBook.crash_leaves c.turn.new.book) c.turns.k c.args.context.moment w r.0 t.0
+      served_done (g.B.QueueBook.crash_leaves c.args.book.now) (g.B.QueueBook.crash_leaves c.turns.book) (g.B.QueueBook.crash_leaves c.turn.new.book) c.turns.k c.args.context.now w r.0 t.0
           (left c.args.input.now.buffer (g.R.Read.remaining c.args.input.now.reader)) (left c.turns.input.buffer (g.R.Read.remaining c.turns.input.reader)) (left c.turn.new.input.buffer (g.R.Read.remaining c.turn.new.input.reader))
           (g.W.Write.contents c.args.writer.now) (g.W.Write.contents c.turns.writer) (g.W.Write.contents c.turn.new.writer)
           c.turns.acted c.turns.faults c.from-acted.result c.mark-faults.result c.in-Ok-Answered.tally c.in-Ok-Answered.closes
@@ -61,12 +61,12 @@ returns-then-closes-clause-served g c = λ h w st set.
 pub returns-in-Ok-Ended-clause-served : goal.returns-in-Ok-Ended-clause-served
 returns-in-Ok-Ended-clause-served g c = λ h w st set.
     let r = c.turns.invariant.ran (c.turn.ensures.began h) w st set in
-    let t = rw c.in-Ok-Ended.field-0-is at (c.in-Ok-Ended.ensures.turned h r.0 r.1 (run_settings c.args.context.settings.now c.turns.k c.args.context.moment w r.0 _ _ _ _ c.turns.acted c.turns.faults r.2 set)) in (
+    let t = rw c.in-Ok-Ended.field-0-is at (c.in-Ok-Ended.ensures.turned h r.0 r.1 (run_settings c.args.context.settings.now c.turns.k c.args.context.now w r.0 _ _ _ _ c.turns.acted c.turns.faults r.2 set)) in (
       t.0,
       t.1,
-      subst (λ (z : End). IsServed (λ turns. CarriesAll (g.B.QueueBook.crash_leaves c.args.book.now) (g.B.QueueBook.crash_leaves c.turn.new.book) c.args.context.moment turns w t.0) c.args.context.moment w t.0 (left c.args.input.now.buffer (g.R.Read.remaining c.args.input.now.reader)) (g.W.Write.contents c.args.writer.now) (g.W.Write.contents c.turn.new.writer)
+      subst (λ (z : End). IsServed (λ turns. CarriesAll (g.B.QueueBook.crash_leaves c.args.book.now) (g.B.QueueBook.crash_leaves c.turn.new.book) c.args.context.now turns w t.0) c.args.context.now w t.0 (left c.args.input.now.buffer (g.R.Read.remaining c.args.input.now.reader)) (g.W.Write.contents c.args.writer.now) (g.W.Write.contents c.turn.new.writer)
           (record { acted = c.turns.acted; faults = c.mark.result; end = z })) (sym c.end.ensures)
-          (served_ended (g.B.QueueBook.crash_leaves c.args.book.now) (g.B.QueueBook.crash_leaves c.turns.book) (g.B.QueueBook.crash_leaves c.turn.new.book) c.turns.k c.args.context.moment w r.0 t.0
+          (served_ended (g.B.QueueBook.crash_leaves c.args.book.now) (g.B.QueueBook.crash_leaves c.turns.book) (g.B.QueueBook.crash_leaves c.turn.new.book) c.turns.k c.args.context.now w r.0 t.0
           (left c.args.input.now.buffer (g.R.Read.remaining c.args.input.now.reader)) (left c.turns.input.buffer (g.R.Read.remaining c.turns.input.reader)) (left c.turn.new.input.buffer (g.R.Read.remaining c.turn.new.input.reader))
           (g.W.Write.contents c.args.writer.now) (g.W.Write.contents c.turns.writer) (g.W.Write.contents c.turn.new.writer)
           c.turns.acted c.turns.faults c.mark.result c.in-Ok-Ended.finish c.turns.invariant.few r.2 r.3 t.2
@@ -76,10 +76,10 @@ returns-in-Ok-Ended-clause-served g c = λ h w st set.
 pub returns-in-Err-clause-broken : goal.returns-in-Err-clause-broken
 returns-in-Err-clause-broken g c = λ h w st set.
     let r = c.turns.invariant.ran (c.turn.ensures.began h) w st set in
-    let t = c.in-Err.ensures.turned h r.0 r.1 (run_settings c.args.context.settings.now c.turns.k c.args.context.moment w r.0 _ _ _ _ c.turns.acted c.turns.faults r.2 set) in (
+    let t = c.in-Err.ensures.turned h r.0 r.1 (run_settings c.args.context.settings.now c.turns.k c.args.context.now w r.0 _ _ _ _ c.turns.acted c.turns.faults r.2 set) in (
       t.0,
       t.1,
-      stopped_at (g.B.QueueBook.crash_leaves c.args.book.now) (g.B.QueueBook.crash_leaves c.turns.book) (g.B.QueueBook.crash_leaves c.turn.new.book) c.turns.k c.args.context.moment w r.0 t.0
+      stopped_at (g.B.QueueBook.crash_leaves c.args.book.now) (g.B.QueueBook.crash_leaves c.turns.book) (g.B.QueueBook.crash_leaves c.turn.new.book) c.turns.k c.args.context.now w r.0 t.0
           (left c.args.input.now.buffer (g.R.Read.remaining c.args.input.now.reader)) (left c.turns.input.buffer (g.R.Read.remaining c.turns.input.reader)) (left c.turn.new.input.buffer (g.R.Read.remaining c.turn.new.input.reader))
           (g.W.Write.contents c.args.writer.now) (g.W.Write.contents c.turns.writer) (g.W.Write.contents c.turn.new.writer)
           c.turns.acted c.turns.faults c.from.result c.mark-in-Err.result c.in-Err.stopped
@@ -89,8 +89,8 @@ returns-in-Err-clause-broken g c = λ h w st set.
 pub returns-then-closes-clause-worked : goal.returns-then-closes-clause-worked
 returns-then-closes-clause-worked g c = λ h w st set.
     let r = c.turns.invariant.ran (c.turn.ensures.began h) w st set in
-    let t = rw c.in-Ok-Answered.field-0-is at (c.in-Ok-Answered.ensures.turned h r.0 r.1 (run_settings c.args.context.settings.now c.turns.k c.args.context.moment w r.0 _ _ _ _ c.turns.acted c.turns.faults r.2 set)) in
-    let all = worked_done (g.B.QueueBook.crash_leaves c.args.book.now) (g.B.QueueBook.crash_leaves c.turns.book) (g.B.QueueBook.crash_leaves c.turn.new.book) c.turns.k c.args.context.moment w r.0 t.0
+    let t = rw c.in-Ok-Answered.field-0-is at (c.in-Ok-Answered.ensures.turned h r.0 r.1 (run_settings c.args.context.settings.now c.turns.k c.args.context.now w r.0 _ _ _ _ c.turns.acted c.turns.faults r.2 set)) in
+    let all = worked_done (g.B.QueueBook.crash_leaves c.args.book.now) (g.B.QueueBook.crash_leaves c.turns.book) (g.B.QueueBook.crash_leaves c.turn.new.book) c.turns.k c.args.context.now w r.0 t.0
     (left c.args.input.now.buffer (g.R.Read.remaining c.args.input.now.reader)) (left c.turns.input.buffer (g.R.Read.remaining c.turns.input.reader)) (left c.turn.new.input.buffer (g.R.Read.remaining c.turn.new.input.reader))
     (g.W.Write.contents c.args.writer.now) (g.W.Write.contents c.turns.writer) (g.W.Write.contents c.turn.new.writer)
     c.turns.acted c.turns.faults c.from-acted.result c.mark-faults.result c.in-Ok-Answered.tally c.in-Ok-Answered.closes
@@ -100,8 +100,8 @@ returns-then-closes-clause-worked g c = λ h w st set.
 pub returns-in-Ok-Ended-clause-worked : goal.returns-in-Ok-Ended-clause-worked
 returns-in-Ok-Ended-clause-worked g c = λ h w st set.
     let r = c.turns.invariant.ran (c.turn.ensures.began h) w st set in
-    let t = rw c.in-Ok-Ended.field-0-is at (c.in-Ok-Ended.ensures.turned h r.0 r.1 (run_settings c.args.context.settings.now c.turns.k c.args.context.moment w r.0 _ _ _ _ c.turns.acted c.turns.faults r.2 set)) in
-    let all = worked_ended (g.B.QueueBook.crash_leaves c.args.book.now) (g.B.QueueBook.crash_leaves c.turns.book) (g.B.QueueBook.crash_leaves c.turn.new.book) c.turns.k c.args.context.moment w r.0 t.0
+    let t = rw c.in-Ok-Ended.field-0-is at (c.in-Ok-Ended.ensures.turned h r.0 r.1 (run_settings c.args.context.settings.now c.turns.k c.args.context.now w r.0 _ _ _ _ c.turns.acted c.turns.faults r.2 set)) in
+    let all = worked_ended (g.B.QueueBook.crash_leaves c.args.book.now) (g.B.QueueBook.crash_leaves c.turns.book) (g.B.QueueBook.crash_leaves c.turn.new.book) c.turns.k c.args.context.now w r.0 t.0
     (left c.args.input.now.buffer (g.R.Read.remaining c.args.input.now.reader)) (left c.turns.input.buffer (g.R.Read.remaining c.turns.input.reader)) (left c.turn.new.input.buffer (g.R.Read.remaining c.turn.new.input.reader))
     (g.W.Write.contents c.args.writer.now) (g.W.Write.contents c.turns.writer) (g.W.Write.contents c.turn.new.writer)
     c.turns.acted c.turns.faults c.mark.result c.in-Ok-Ended.finish c.turns.invariant.few r.2 r.3 t.2
@@ -111,8 +111,8 @@ returns-in-Ok-Ended-clause-worked g c = λ h w st set.
 pub returns-in-Err-clause-worked : goal.returns-in-Err-clause-worked
 returns-in-Err-clause-worked g c = λ h w st set.
     let r = c.turns.invariant.ran (c.turn.ensures.began h) w st set in
-    let t = c.in-Err.ensures.turned h r.0 r.1 (run_settings c.args.context.settings.now c.turns.k c.args.context.moment w r.0 _ _ _ _ c.turns.acted c.turns.faults r.2 set) in
-    let all = worked_stopped (g.B.QueueBook.crash_leaves c.args.book.now) (g.B.QueueBook.crash_leaves c.turns.book) (g.B.QueueBook.crash_leaves c.turn.new.book) c.turns.k c.args.context.moment w r.0 t.0
+    let t = c.in-Err.ensures.turned h r.0 r.1 (run_settings c.args.context.settings.now c.turns.k c.args.context.now w r.0 _ _ _ _ c.turns.acted c.turns.faults r.2 set) in
+    let all = worked_stopped (g.B.QueueBook.crash_leaves c.args.book.now) (g.B.QueueBook.crash_leaves c.turns.book) (g.B.QueueBook.crash_leaves c.turn.new.book) c.turns.k c.args.context.now w r.0 t.0
     (left c.args.input.now.buffer (g.R.Read.remaining c.args.input.now.reader)) (left c.turns.input.buffer (g.R.Read.remaining c.turns.input.reader)) (left c.turn.new.input.buffer (g.R.Read.remaining c.turn.new.input.reader))
     (g.W.Write.contents c.args.writer.now) (g.W.Write.contents c.turns.writer) (g.W.Write.contents c.turn.new.writer)
     c.turns.acted c.turns.faults c.from.result c.mark-in-Err.result c.in-Err.stopped c.turns.invariant.few r.2 r.3 t.2 (counted _ _ c.from.ensures) c.mark-in-Err.ensures.exact in

@@ -15,9 +15,9 @@ invariant-turns g l = record {
   began : g.B.QueueBook.is_honest l.book → g.B.QueueBook.is_honest l.initial.book;
   live : g.B.QueueBook.is_honest l.book → g.B.QueueBook.is_live l.initial.book → l.faults ≡ 0 → g.B.QueueBook.is_live l.book;
   ran : g.B.QueueBook.is_honest l.book → (w : World) → g.B.QueueBook.stands l.initial.book w → l.context.settings.now ≡ w.settings → (u : World) × g.B.QueueBook.stands l.book u
-      × (so_far : RanOn l.k l.context.moment w u (left l.initial.input.buffer (g.R.Read.remaining l.initial.input.reader)) (left l.input.buffer (g.R.Read.remaining l.input.reader))
+      × (so_far : RanOn l.k l.context.now w u (left l.initial.input.buffer (g.R.Read.remaining l.initial.input.reader)) (left l.input.buffer (g.R.Read.remaining l.input.reader))
       (g.W.Write.contents l.initial.writer) (g.W.Write.contents l.writer) l.acted l.faults)
-      × CarriesAll (g.B.QueueBook.crash_leaves l.initial.book) (g.B.QueueBook.crash_leaves l.book) l.context.moment so_far.run.turns w u;
+      × CarriesAll (g.B.QueueBook.crash_leaves l.initial.book) (g.B.QueueBook.crash_leaves l.book) l.context.now so_far.run.turns w u;
 }
 
 abbrev pub decreases-turns : goal.decreases-turns

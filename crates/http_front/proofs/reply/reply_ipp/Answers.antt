@@ -13,7 +13,7 @@ pub returns-in-Err-clause-replied : goal.returns-in-Err-clause-replied
 returns-in-Err-clause-replied g c = λ honest w st set. (
   w,
   c.in-Err.ensures.err w st,
-  replied_declined c.args.context.moment w Ipp c.args.content.now c.args.closes BadRequest _ (inl (refl, c.in-Err.ensures.short.0 (search rules))),
+  replied_declined c.args.context.now w Ipp c.args.content.now c.args.closes BadRequest _ (inl (refl, c.in-Err.ensures.short.0 (search rules))),
   λ v left. (v, c.in-Err.ensures.err_left honest w v left, untaken refl refl),
 )
 
@@ -25,11 +25,11 @@ returns-in-Ok-clause-replied g c = λ honest w st set.
     let x = g.W.Write.contents c.send.new.writer in
     let bytes = success_response (codes "application/ipp") c.bytes.result.now c.args.closes in
     let tally : Tally = record { acted = true; is_fault = c.is_fault.result } in
-    let answer = ipp_answer c.args.context.moment w u c.args.content.now (bytes_of c.in-Ok.a) c.bytes.result.now c.is_fault.result
+    let answer = ipp_answer c.args.context.now w u c.args.content.now (bytes_of c.in-Ok.a) c.bytes.result.now c.is_fault.result
     (headed_of (length c.args.content.now) c.in-Ok.ensures.short.1) (a.1 set) c.is_fault.ensures c.bytes.ensures in
     let sent = sent_of tally v x bytes c.send.result c.send.ensures.ok c.send.ensures.err in (
       u,
       a.2,
-      replied_sent c.args.context.moment w u Ipp c.args.content.now c.args.closes c.is_fault.result tally v x (codes "application/ipp") c.bytes.result.now c.send.result answer refl refl sent,
-      carries_sent (g.B.QueueBook.crash_leaves c.args.book.now) (g.B.QueueBook.crash_leaves c.answer.new.book) c.args.context.moment w u Ipp c.args.content.now tally v x bytes c.send.result sent a.3,
+      replied_sent c.args.context.now w u Ipp c.args.content.now c.args.closes c.is_fault.result tally v x (codes "application/ipp") c.bytes.result.now c.send.result answer refl refl sent,
+      carries_sent (g.B.QueueBook.crash_leaves c.args.book.now) (g.B.QueueBook.crash_leaves c.answer.new.book) c.args.context.now w u Ipp c.args.content.now tally v x bytes c.send.result sent a.3,
     )

@@ -1,8 +1,6 @@
 use Rattle.http_head.specs.Left.{left}
 use Rattle.http_head.specs.declared.end.Finish.TheVariants.{Refused}
 use Rattle.http_head.specs.declared.end.Refusal.TheVariants.{ServiceUnavailable}
-use Rattle.http_front.specs.Crash.{CarriesAll}
-use Rattle.http_front.proofs.CrashLemmas.{carries_no_turn}
 use Rattle.http_front.proofs.TurnedLemmas.{lifted, turned_closed, turned_unread, end_no_head, end_checked, end_unserved}
 use Rattle.http_front.proofs.turn.turn.Goals as goal
 
@@ -11,8 +9,8 @@ returns-in_default-clause-turned g c = λ honest w st set.
     let r = left c.args.input.now.buffer (g.R.Read.remaining c.args.input.now.reader) in (
       w,
       st,
-      turned_closed (λ turns. CarriesAll (g.B.QueueBook.crash_leaves c.args.book.now) (g.B.QueueBook.crash_leaves c.args.book.now) c.args.context.moment turns w w) c.args.context.moment c.args.k w r r (g.W.Write.contents c.args.writer.now) (g.W.Write.contents c.close_with.new.writer) (Refused ServiceUnavailable) c.close_with.result
-          (carries_no_turn (g.B.QueueBook.crash_leaves c.args.book.now) c.args.context.moment w) (end_unserved w r) c.close_with.ensures,
+      turned_closed (g.B.QueueBook.crash_leaves c.args.book.now) c.args.context.now c.args.k w r r (g.W.Write.contents c.args.writer.now) (g.W.Write.contents c.close_with.new.writer) (Refused ServiceUnavailable) c.close_with.result
+          (end_unserved w r) c.close_with.ensures,
     )
 
 pub returns-in-Ok-clause-turned : goal.returns-in-Ok-clause-turned
@@ -20,7 +18,7 @@ returns-in-Ok-clause-turned g c = λ honest w st set.
     let p = c.take_planned.ensures.planned honest w st set in (
       p.0,
       p.1,
-      lifted (g.B.QueueBook.crash_leaves c.args.book.now) (g.B.QueueBook.crash_leaves c.take_planned.new.book) c.args.context.moment c.args.k w p.0 c.in-Ok.plan (left c.args.input.now.buffer (g.R.Read.remaining c.args.input.now.reader)) (left c.take_head.new.input.buffer (g.R.Read.remaining c.take_head.new.input.reader))
+      lifted (g.B.QueueBook.crash_leaves c.args.book.now) (g.B.QueueBook.crash_leaves c.take_planned.new.book) c.args.context.now c.args.k w p.0 c.in-Ok.plan (left c.args.input.now.buffer (g.R.Read.remaining c.args.input.now.reader)) (left c.take_head.new.input.buffer (g.R.Read.remaining c.take_head.new.input.reader))
           (left c.take_planned.new.input.buffer (g.R.Read.remaining c.take_planned.new.input.reader)) (g.W.Write.contents c.args.writer.now) (g.W.Write.contents c.take_planned.new.writer) c.take_planned.result
           c.in-Ok.ensures.taken p.2,
     )
@@ -30,8 +28,8 @@ returns-in-Err-Ended-clause-turned g c = λ honest w st set.
     let r = left c.args.input.now.buffer (g.R.Read.remaining c.args.input.now.reader) in (
       w,
       st,
-      turned_closed (λ turns. CarriesAll (g.B.QueueBook.crash_leaves c.args.book.now) (g.B.QueueBook.crash_leaves c.args.book.now) c.args.context.moment turns w w) c.args.context.moment c.args.k w r (left c.take_head.new.input.buffer (g.R.Read.remaining c.take_head.new.input.reader)) (g.W.Write.contents c.args.writer.now) (g.W.Write.contents c.close_with-in-Err-Ended.new.writer) c.in-Err-Ended.end c.close_with-in-Err-Ended.result
-          (carries_no_turn (g.B.QueueBook.crash_leaves c.args.book.now) c.args.context.moment w) (end_no_head w r c.in-Err-Ended.end (rw c.in-Err-Ended.field-0-is at c.in-Err-Ended.ensures.failed)) c.close_with-in-Err-Ended.ensures,
+      turned_closed (g.B.QueueBook.crash_leaves c.args.book.now) c.args.context.now c.args.k w r (left c.take_head.new.input.buffer (g.R.Read.remaining c.take_head.new.input.reader)) (g.W.Write.contents c.args.writer.now) (g.W.Write.contents c.close_with-in-Err-Ended.new.writer) c.in-Err-Ended.end c.close_with-in-Err-Ended.result
+          (end_no_head w r c.in-Err-Ended.end (rw c.in-Err-Ended.field-0-is at c.in-Err-Ended.ensures.failed)) c.close_with-in-Err-Ended.ensures,
     )
 
 pub returns-in-Err-Failed-clause-turned : goal.returns-in-Err-Failed-clause-turned
@@ -39,14 +37,14 @@ returns-in-Err-Failed-clause-turned g c = λ honest w st set.
     let r = left c.args.input.now.buffer (g.R.Read.remaining c.args.input.now.reader) in (
       w,
       st,
-      turned_closed (λ turns. CarriesAll (g.B.QueueBook.crash_leaves c.args.book.now) (g.B.QueueBook.crash_leaves c.args.book.now) c.args.context.moment turns w w) c.args.context.moment c.args.k w r (left c.take_head.new.input.buffer (g.R.Read.remaining c.take_head.new.input.reader)) (g.W.Write.contents c.args.writer.now) (g.W.Write.contents c.close_with-in-Err-Failed.new.writer) (Refused c.in-Err-Failed.refusal) c.close_with-in-Err-Failed.result
-          (carries_no_turn (g.B.QueueBook.crash_leaves c.args.book.now) c.args.context.moment w) (end_checked w r c.in-Err-Failed.refusal (rw c.in-Err-Failed.field-0-is at c.in-Err-Failed.ensures.failed)) c.close_with-in-Err-Failed.ensures,
+      turned_closed (g.B.QueueBook.crash_leaves c.args.book.now) c.args.context.now c.args.k w r (left c.take_head.new.input.buffer (g.R.Read.remaining c.take_head.new.input.reader)) (g.W.Write.contents c.args.writer.now) (g.W.Write.contents c.close_with-in-Err-Failed.new.writer) (Refused c.in-Err-Failed.refusal) c.close_with-in-Err-Failed.result
+          (end_checked w r c.in-Err-Failed.refusal (rw c.in-Err-Failed.field-0-is at c.in-Err-Failed.ensures.failed)) c.close_with-in-Err-Failed.ensures,
     )
 
 pub returns-in-Err-Read-clause-turned : goal.returns-in-Err-Read-clause-turned
 returns-in-Err-Read-clause-turned g c = λ honest w st set. (
   w,
   st,
-  turned_unread (λ turns. CarriesAll (g.B.QueueBook.crash_leaves c.args.book.now) (g.B.QueueBook.crash_leaves c.args.book.now) c.args.context.moment turns w w) c.args.context.moment c.args.k w (left c.args.input.now.buffer (g.R.Read.remaining c.args.input.now.reader)) (left c.take_head.new.input.buffer (g.R.Read.remaining c.take_head.new.input.reader)) (g.W.Write.contents c.args.writer.now) c.by.result
-      (carries_no_turn (g.B.QueueBook.crash_leaves c.args.book.now) c.args.context.moment w) c.by.ensures.acted c.by.ensures.is_fault,
+  turned_unread (g.B.QueueBook.crash_leaves c.args.book.now) c.args.context.now c.args.k w (left c.args.input.now.buffer (g.R.Read.remaining c.args.input.now.reader)) (left c.take_head.new.input.buffer (g.R.Read.remaining c.take_head.new.input.reader)) (g.W.Write.contents c.args.writer.now) c.by.result
+      c.by.ensures.acted c.by.ensures.is_fault,
 )

@@ -59,8 +59,8 @@ chunks-preserved g c =
     let d = left c.take_chunk.new.input.buffer (g.R.Read.remaining c.take_chunk.new.input.reader) in
     let line : TakesLine c.bound_behind.result.limit b r c.in_ok-line.line.len c.in_ok-line.line.size = search rules in
     let taken : TakesChunk c.in_ok-line.line.size r d c.chunks.content.items c.take_chunk.new.content.items = search rules in
-    let room : length c.chunks.content.items + c.in_ok-line.line.size ≤ 16777216 = search rules in
-    let fits : c.chunks.raw + c.in_ok-line.line.len + c.in_ok-line.line.size + 2 ≤ 67108864 = search rules in
+    let room : length c.chunks.content.items + c.in_ok-line.line.size ≤ content_limit = search rules in
+    let fits : c.chunks.raw + c.in_ok-line.line.len + c.in_ok-line.line.size + 2 ≤ raw_limit = search rules in
     record {
       raw_fits = omega (arith, fits);
       content_fits = let e = ap length taken.after_is in let f = length-append c.chunks.content.items taken.more in omega (arith, e, f, taken.size_is, room);

@@ -1,6 +1,5 @@
 use Rattle.std.proofs.Common.{◌+◌, arith}
-use Rattle.http_head.proofs.LeftLemmas.{put_rest, rest_length}
-use Rattle.http_wire.proofs.WriteLemmas.{front_taken}
+use Rattle.http_wire.proofs.WriteLemmas.{front_taken, put_rest, rest_length}
 use Rattle.http_wire.proofs.put.put.Goals as goal
 
 pub write-preserved : goal.write-preserved
