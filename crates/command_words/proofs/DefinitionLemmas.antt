@@ -1,5 +1,5 @@
 -- A definition with an argument or a subcommand more.
-use Rattle.std.proofs.Common.{◌≡◌, ◌∙◌, ◌||◌, ◌++◌, ◌∷◌, [], false, ap, IfOk, Result, Ok, Err}
+use Rattle.std.proofs.Common.{◌≡◌, ◌∙◌, ◌||◌, ◌++◌, ◌∷◌, [], false, ap}
 use Rattle.clap.specs.Built.{AddsArg, AddsSubcommand}
 use Rattle.clap.specs.Simple.{App, Shape, shape_of, with_rule, with_subcommand}
 use Rattle.clap.specs.Walk.{Rule, rule_of}
@@ -20,7 +20,3 @@ adds_subcommand a s old sub new h is part = record {
   app = h.shape part.globals ∙ (ap (λ (z : App). with_subcommand z (shape_of sub)) is.app ∙ ap (λ (z : App). with_subcommand a z.top) part.app);
   globals = h.globals ∙ (ap (λ b. b || (out-Command sub).has_globals) is.globals ∙ part.globals);
 }
-
-pub if_ok : {X E : Type 0} (P Q : X → Type 0) (r : Result X E) → ((x : X) → P x → Q x) → IfOk r P → IfOk r Q
-if_ok P Q (Ok x) each h = each x h
-if_ok P Q (Err e) each h = tt

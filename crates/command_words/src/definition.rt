@@ -5,7 +5,9 @@ ghost use Rattle.clap.specs.Simple.{App, Shape, with_subcommand};
 ghost use Rattle.clap.specs.Words.{rule_of};
 ghost use Rattle.command_words.specs.CommandLine.{IsApp, IsPart, definition, import_words, init_words, number_rule, office_subcommands, optional_rule, place_rule, program, program_with, replay_words, serve_words, statement_words, store_rule, text_rule, words};
 
-use crate::limits::{CONNECTIONS, ESTIMATE, Limits, PORT, TIMEOUT};
+use crate::limits::{
+    CONNECTIONS, ESTIMATE, NumberOption, PORT, TIMEOUT, USUAL_ESTIMATE, USUAL_TIMEOUT,
+};
 use clap::builder::ValueParser;
 use clap::{Arg, ArgAction, Command as Definition};
 use std::alloc::{AllocError, Global};
@@ -30,34 +32,28 @@ fn text<'a>(alloc: Global, name: &'a str, value: &'a str, help: &'a str) -> Arg<
     place(alloc, name, value, help).long(name)
 }
 
-/// An option whose value is a number within these limits.
-fn number<'a>(
-    alloc: Global,
-    name: &'a str,
-    value: &'a str,
-    help: &'a str,
-    limits: Limits,
-) -> Arg<'a>
-    ensures rule { rule_of result ≡ number_rule name.entry.now limits.least limits.most }
+/// An option whose value is a number within its limits.
+fn number<'a>(alloc: Global, option: NumberOption, value: &'a str, help: &'a str) -> Arg<'a>
+    ensures rule { rule_of result ≡ number_rule option.name.now option.limits.least option.limits.most }
     ensures own { result.global ≡ false }
 {
+    let limits = option.limits;
     let parser = ValueParser::unsigned(u64::from(limits.least), u64::from(limits.most));
-    text(alloc, name, value, help).value_parser(parser)
+    text(alloc, option.name, value, help).value_parser(parser)
 }
 
 /// The same, where the words may leave the option out.
 fn optional<'a>(
     alloc: Global,
-    name: &'a str,
+    option: NumberOption,
     value: &'a str,
     help: &'a str,
-    limits: Limits,
     usual: &'a str,
 ) -> Arg<'a>
-    ensures rule { rule_of result ≡ optional_rule name.entry.now limits.least limits.most usual.entry.now }
+    ensures rule { rule_of result ≡ optional_rule option.name.now option.limits.least option.limits.most usual.entry.now }
     ensures own { result.global ≡ false }
 {
-    number(alloc, name, value, help, limits)
+    number(alloc, option, value, help)
         .required(false)
         .default_value(usual)
 }
@@ -86,7 +82,7 @@ fn init<'a>(alloc: Global) -> Result<Definition<'a>, AllocError>
     on_store(alloc, "init", "Make a new store")?
         .arg(text(alloc, "uri", "URI", uri))?
         .arg(text(alloc, "name", "NAME", name))?
-        .arg(optional(alloc, "estimate", "N", estimate, ESTIMATE, "20"))
+        .arg(optional(alloc, ESTIMATE, "N", estimate, USUAL_ESTIMATE))
 }
 
 fn import<'a>(alloc: Global) -> Result<Definition<'a>, AllocError>
@@ -118,9 +114,9 @@ fn serve<'a>(alloc: Global) -> Result<Definition<'a>, AllocError>
     let connections = "How many connections to serve, one after another";
     let timeout = "How long a connection may be silent";
     on_store(alloc, "serve", "Serve the queue over HTTP")?
-        .arg(number(alloc, "port", "P", port, PORT))?
-        .arg(number(alloc, "connections", "N", connections, CONNECTIONS))?
-        .arg(optional(alloc, "timeout", "SECONDS", timeout, TIMEOUT, "5"))
+        .arg(number(alloc, PORT, "P", port))?
+        .arg(number(alloc, CONNECTIONS, "N", connections))?
+        .arg(optional(alloc, TIMEOUT, "SECONDS", timeout, USUAL_TIMEOUT))
 }
 
 fn replay<'a>(alloc: Global) -> Definition<'a>

@@ -5,7 +5,7 @@ ghost use Rattle.std.specs.Int.NonZero.{non_zero_u32_get};
 ghost use Rattle.clap.specs.Words.{found_of, rows_of};
 ghost use Rattle.command_words.specs.Values.{IsNumberAt, IsInit, IsServe, IsImport, IsStatement, text_at};
 
-use crate::limits::{CONNECTIONS, ESTIMATE, Limits, PORT, TIMEOUT};
+use crate::limits::{CONNECTIONS, ESTIMATE, NumberOption, PORT, TIMEOUT};
 use crate::outcome::{Import, Init, Serve, Statement};
 use clap::ArgMatches;
 use std::num::NonZeroU32;
@@ -17,27 +17,28 @@ fn text_of<'a>(matches: &ArgMatches<'a>, id: &str) -> &'a str
     matches.get_str(id).unwrap_or("")
 }
 
-/// The value of an argument that is a number within these limits. Words with another number are refused before; the least stands for it.
-fn number_of(matches: &ArgMatches<'_>, id: &str, limits: Limits) -> u32
-    requires { limits.least ≤ limits.most }
-    ensures least { limits.least ≤ result }
-    ensures most { result ≤ limits.most }
-    ensures number { IsNumberAt id.now limits.least limits.most (rows_of (found_of matches.now)) result }
+/// The value of an option that takes a number, within its limits. Words with another number are refused before; the least stands for it.
+fn number_of(matches: &ArgMatches<'_>, option: NumberOption) -> u32
+    requires { option.limits.least ≤ option.limits.most }
+    ensures least { option.limits.least ≤ result }
+    ensures most { result ≤ option.limits.most }
+    ensures number { IsNumberAt option.name.now option.limits.least option.limits.most (rows_of (found_of matches.now)) result }
 {
-    match matches.get_one::<u32>(id) {
+    let limits = option.limits;
+    match matches.get_one::<u32>(option.name) {
         Some(number) if limits.least <= number && number <= limits.most => number,
         _ => limits.least,
     }
 }
 
 /// The same, where the least is 1 or more.
-fn non_zero_of(matches: &ArgMatches<'_>, id: &str, limits: Limits) -> NonZeroU32
-    requires least { 1 ≤ limits.least }
-    requires most { limits.least ≤ limits.most }
-    ensures most { non_zero_u32_get result ≤ limits.most }
-    ensures number { IsNumberAt id.now limits.least limits.most (rows_of (found_of matches.now)) (non_zero_u32_get result) }
+fn non_zero_of(matches: &ArgMatches<'_>, option: NumberOption) -> NonZeroU32
+    requires least { 1 ≤ option.limits.least }
+    requires most { option.limits.least ≤ option.limits.most }
+    ensures most { non_zero_u32_get result ≤ option.limits.most }
+    ensures number { IsNumberAt option.name.now option.limits.least option.limits.most (rows_of (found_of matches.now)) (non_zero_u32_get result) }
 {
-    NonZeroU32::new(number_of(matches, id, limits)).unwrap_or(NonZeroU32::MIN)
+    NonZeroU32::new(number_of(matches, option)).unwrap_or(NonZeroU32::MIN)
 }
 
 /// What `init` is asked for.
@@ -48,7 +49,7 @@ pub(crate) fn init_of<'a>(matches: &ArgMatches<'a>) -> Init<'a>
         store: text_of(matches, "store"),
         uri: text_of(matches, "uri"),
         name: text_of(matches, "name"),
-        estimate: number_of(matches, "estimate", ESTIMATE),
+        estimate: number_of(matches, ESTIMATE),
     }
 }
 
@@ -58,9 +59,9 @@ pub(crate) fn serve_of<'a>(matches: &ArgMatches<'a>) -> Serve<'a>
 {
     Serve {
         store: text_of(matches, "store"),
-        port: number_of(matches, "port", PORT) as u16,
-        connections: number_of(matches, "connections", CONNECTIONS),
-        timeout: non_zero_of(matches, "timeout", TIMEOUT),
+        port: number_of(matches, PORT) as u16,
+        connections: number_of(matches, CONNECTIONS),
+        timeout: non_zero_of(matches, TIMEOUT),
     }
 }
 

@@ -6,18 +6,6 @@ use Rattle.clap.specs.declared.error.kind.ErrorKind.TheVariants.{DisplayHelp, Di
 use Rattle.commands.specs.Words.{AreWrong, AskForText}
 
 -- what holds where a call was done, or refused
-pub on_ok : {A E X Y : Type 0} (r : Result A E) → OnOk r X → (X → Y) → OnOk r Y
-on_ok (Ok a) x then_y = then_y x
-on_ok (Err e) x then_y = tt
-
-pub if_ok : {A E : Type 0} (r : Result A E) (P Q : A → Type 0) → IfOk r P → ((a : A) → P a → Q a) → IfOk r Q
-if_ok (Ok a) P Q p then_q = then_q a p
-if_ok (Err e) P Q p then_q = tt
-
-pub if_err : {A E : Type 0} (r : Result A E) (P Q : E → Type 0) → IfErr r P → ((e : E) → P e → Q e) → IfErr r Q
-if_err (Ok a) P Q p then_q = tt
-if_err (Err e) P Q p then_q = then_q e p
-
 pub any_err : {A E : Type 0} (r : Result A E) (Q : E → Type 0) → ((e : E) → Q e) → IfErr r Q
 any_err (Ok a) Q q = tt
 any_err (Err e) Q q = q e

@@ -50,33 +50,20 @@ of_unknown told fault is known = elim known [
 ]
 
 pub of_file : (told : OfficeFault) (why : ImportFault) → fault_of_office told ≡ Import why → told ≡ office.Import why
-of_file office.Memory why e = cc
-of_file office.Disk why e = cc
-of_file office.Damaged why e = cc
-of_file office.NoAccount why e = cc
 of_file (office.Import other) why e = cc
-of_file office.Io why e = cc
+of_file _ why e = cc
 
 pub of_no_account : (told : OfficeFault) → fault_of_office told ≡ NoAccount → told ≡ office.NoAccount
-of_no_account office.Memory e = cc
-of_no_account office.Disk e = cc
-of_no_account office.Damaged e = cc
 of_no_account office.NoAccount e = refl
-of_no_account (office.Import other) e = cc
-of_no_account office.Io e = cc
+of_no_account _ e = cc
 
 pub of_damaged_office : (told : OfficeFault) → fault_of_office told ≡ Damaged → told ≡ office.Damaged
-of_damaged_office office.Memory e = cc
-of_damaged_office office.Disk e = cc
 of_damaged_office office.Damaged e = refl
-of_damaged_office office.NoAccount e = cc
-of_damaged_office (office.Import other) e = cc
-of_damaged_office office.Io e = cc
+of_damaged_office _ e = cc
 
 pub of_damaged_book : (told : BookFault) → fault_of_book told ≡ Damaged → told ≡ book.Damaged
-of_damaged_book book.Memory e = cc
-of_damaged_book book.Disk e = cc
 of_damaged_book book.Damaged e = refl
+of_damaged_book _ e = cc
 
 -- a stream that fails damages nothing
 pub no_damage : (fault : Fault) → IsOfStream fault → fault ≡ Damaged → ⊥

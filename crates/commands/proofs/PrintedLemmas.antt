@@ -13,13 +13,12 @@ use Rattle.replay.specs.Session.{State}
 use Rattle.commands.specs.Printed.{HasPrinted, Prints}
 use Rattle.commands.specs.Refusals.{IsTold, MayBePrintedBy, MayBePrintedOf, MayBeToldBy}
 use Rattle.commands.specs.declared.work.Work.{Work}
-use Rattle.commands.specs.declared.work.Work.TheVariants.{Import, Statement, Serve}
+use Rattle.commands.specs.declared.work.Work.TheVariants.{Import, Serve}
 
 -- what was printed stays as it is where the writer is flushed
 pub prints_kept : (work : Work) (a b c : Option (List ℕ)) → Keeps b c → Prints work a b → Prints work a c
 prints_kept (Import words) a b c kept p = (p.0, Appends-kept a b c _ p.1 kept)
-prints_kept (Statement words) a b c kept p = (p.0, p.1, Appends-kept a b c _ p.2 kept)
-prints_kept (Serve words) a b c kept p = (p.0, p.1, Appends-kept a b c _ p.2 kept)
+prints_kept _ a b c kept p = (p.0, p.1, Appends-kept a b c _ p.2 kept)
 
 -- a replay printed the answers to the lines of its input
 pub replayed : (input : Option (List ℕ)) (status : ℕ) (a b c : Option (List ℕ)) → Keeps b c
@@ -28,9 +27,8 @@ replayed input status a b c kept it = (input, it.0, it.1, it.2, Appends-kept a b
 
 -- work of which nothing is done prints nothing
 pub unprinted : (work : Work) (a : Option (List ℕ)) → MayBePrintedOf work a a
-unprinted (Import words) a = refl
-unprinted (Statement words) a = refl
 unprinted (Serve words) a = inl refl
+unprinted _ a = refl
 
 -- what was told of a command that ended with status 1, and what it has printed
 pub told_of : {E : Type 0} (contents : E → Option (List ℕ)) (old new : E) (asked : Command) (before after : Option (List ℕ)) (left : List ℕ) (outcome : Result ℕ Fault) (status : ℕ)

@@ -31,8 +31,7 @@ is_bad setting.Memory e = cc
 -- a book never tells of a setting
 pub is_no_setting : (told : BookFault) → fault_of_book told ≡ BadSetting → ⊥
 is_no_setting book.Memory e = cc
-is_no_setting book.Disk e = cc
-is_no_setting book.Damaged e = cc
+is_no_setting _ e = cc
 
 -- nor does a stream
 pub is_stream : (fault : Fault) → IsOfStream fault → fault ≡ BadSetting → ⊥

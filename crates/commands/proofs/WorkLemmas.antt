@@ -13,7 +13,7 @@ use Rattle.command_ends.specs.declared.fault.Fault.{Fault}
 use Rattle.commands.specs.Printed.{Prints}
 use Rattle.commands.specs.Work.{AreAny, AreIn, CrashLeaves, HasEnded, IsDone, IsDoneOn, IsImport, IsRefusal, IsRefusedOn, MayBeLeft}
 use Rattle.commands.specs.declared.work.Work.{Work}
-use Rattle.commands.specs.declared.work.Work.TheVariants.{Import, Statement, Serve}
+use Rattle.commands.specs.declared.work.Work.TheVariants.{Import}
 use Rattle.commands.proofs.CrashLemmas.{known_of_all}
 
 -- bytes that were read
@@ -34,13 +34,11 @@ import_of are_read now moment bytes read w u n told = (now, moment, bytes, read,
 module _ (P Q : List ℕ → Type 0) (known : (bytes : List ℕ) → P bytes → Q bytes) where
   done_by : (work : Work) (w u : World) (before after : Option (List ℕ)) → IsDone P work w u before after → IsDone Q work w u before after
   done_by (Import words) w u before after done = (done.0, (done.1.0, done.1.1, done.1.2, known done.1.2 done.1.3, done.1.4), done.2)
-  done_by (Statement words) w u before after done = done
-  done_by (Serve words) w u before after done = done
+  done_by _ w u before after done = done
 
   left_by : (work : Work) (w u x : World) → MayBeLeft P work w u x → MayBeLeft Q work w u x
   left_by (Import words) w u x left = known_of_all _ _ w u x (λ v told. (told.0, (told.1.0, told.1.1, told.1.2, known told.1.2 told.1.3, told.1.4))) left
-  left_by (Statement words) w u x left = left
-  left_by (Serve words) w u x left = left
+  left_by _ w u x left = left
 
   pub done_on_by : {S : Type 0} (store : Ghosts S) (work : Work) (old new : TableBook S) (before after : Option (List ℕ))
       → IsDoneOn store P work old new before after → IsDoneOn store Q work old new before after

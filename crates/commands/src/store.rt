@@ -73,7 +73,8 @@ fn look_at<R: Read + Drop>(alloc: Global, file: R) -> io::Result<Found>
     ensures { IfOk result (λ found. IfSome (R.remaining file) (λ bytes. found ≡ found_in bytes)) }
 {
     let mut front = Vec::new(alloc);
-    file.take(16).read_to_end(&mut front)?;
+    file.take(DATABASE_MARK.len() as u64)
+        .read_to_end(&mut front)?;
     if front.as_slice() == DATABASE_MARK {
         return Ok(Found::Database);
     }

@@ -1,6 +1,6 @@
 -- A line has one reading: each part of it ends at a byte that it doesn't have.
 use Rattle.std.proofs.Common.{◌≡◌, ◌≢◌, ℕ, zero, suc, ◌<◌, ◌^◌, ◌==◌, not, List, [], ◌∷◌, ◌++◌, get_or, if◌then◌else◌, true, refl, sym, ap, ◌∙◌, arith, decimal}
-use Rattle.std.specs.List.{AllPass}
+use Rattle.std.specs.List.{AllPass, list_all}
 use Rattle.std.specs.Str.Parse.{AllDigits}
 use Rattle.std.proofs.lemmas.Bool.Decides.{nat_tests}
 use Rattle.std.proofs.lemmas.List.Sums.{AllPass-from_list_all}
@@ -50,14 +50,12 @@ free_digits x (c ∷ cs) h digits = let low = digit_from_value c digits.0 in fre
 pub free_decimal : (x n : ℕ) → x < 48 → n < 10 ^ 10 → IsFree x (decimal n)
 free_decimal x n h small = free_digits x (decimal n) h (decimal_is_IsNumeral n (omega arith)).0.1
 
+has_no_space : (k : Kind) → list_all (λ b. not (b == 32)) (kind_word k) ≡ true
+has_no_space Start = refl
+has_no_space _ = refl
+
 pub free_word : (k : Kind) → IsFree 32 (kind_word k)
-free_word Start = AllPass-from_list_all (λ b. not (b == 32)) (kind_word Start) refl
-free_word Stop = AllPass-from_list_all (λ b. not (b == 32)) (kind_word Stop) refl
-free_word Resume = AllPass-from_list_all (λ b. not (b == 32)) (kind_word Resume) refl
-free_word Count = AllPass-from_list_all (λ b. not (b == 32)) (kind_word Count) refl
-free_word Done = AllPass-from_list_all (λ b. not (b == 32)) (kind_word Done) refl
-free_word Fail = AllPass-from_list_all (λ b. not (b == 32)) (kind_word Fail) refl
-free_word Halt = AllPass-from_list_all (λ b. not (b == 32)) (kind_word Halt) refl
+free_word k = AllPass-from_list_all (λ b. not (b == 32)) (kind_word k) (has_no_space k)
 
 -- the third letter tells the word
 kind_by : ℕ → Kind
@@ -69,12 +67,7 @@ kind_of word = kind_by (get_or word 2 0)
 told_kind : (k : Kind) → kind_of (kind_word k) ≡ k
 unfolding kind_of kind_by
 told_kind Start = refl
-told_kind Stop = refl
-told_kind Resume = refl
-told_kind Count = refl
-told_kind Done = refl
-told_kind Fail = refl
-told_kind Halt = refl
+told_kind _ = refl
 
 pub one_kind : (j k : Kind) → kind_word j ≡ kind_word k → j ≡ k
 one_kind j k e = sym (told_kind j) ∙ ap kind_of e ∙ told_kind k

@@ -13,18 +13,12 @@ use Rattle.grants_csv.specs.Import.{Adds, Imports, IsRowRefusal, Refuses}
 use Rattle.grants_csv.specs.declared.fault.ImportFault.{ImportFault}
 use Rattle.grants_csv.specs.declared.importing.Imported.{Imported}
 use Rattle.queue_types.specs.declared.event.Reply.{Reply}
-use Rattle.queue_types.specs.declared.event.Reply.TheVariants.{Refused, Done, Jobs, Printer, Told, NotTold, Added, NotAdded}
+use Rattle.queue_types.specs.declared.event.Reply.TheVariants.{NotAdded}
 
 -- a fault refuses whatever the machine replies
 fault_refuses : (r : Reply) (f : ImportFault) → f ≡ fault → Refuses r f
-fault_refuses (Refused code) f e = e
-fault_refuses Done f e = e
-fault_refuses (Jobs js) f e = e
-fault_refuses (Printer state queued accepting) f e = e
-fault_refuses (Told state count) f e = e
-fault_refuses (NotTold refusal) f e = e
-fault_refuses (Added new repeats) f e = e
 fault_refuses (NotAdded why row) f e = inr e
+fault_refuses _ f e = e
 
 unread_by : (w : World) (now : ℕ) (f : ImportFault) (read : Result (List GrantRow) ImportFault) → IsUnlessFault (Err f) read
     → MatchResult read (λ rows. Refuses (step w now (grant rows)).reply f) (λ bad. (f ≡ bad) ⊎ (f ≡ fault))

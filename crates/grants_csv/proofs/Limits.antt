@@ -24,15 +24,11 @@ row_by : (n : ℕ) (b a p : List ℕ) (g : GrantRow) (form : Bool) (pages : Opti
 row_by n b a p g true (Some k) is has e =
     let same : record { batch = b; account = a; pages = k } ≡ g = cc in
     subst IsGrantRow same (grant_limits b a p k is (sym has))
-row_by n b a p g true None is has e = absurd (cc)
-row_by n b a p g false pages is has e = absurd (cc)
+row_by n b a p g _ _ is has e = absurd (cc)
 
 row_limits : (n : ℕ) (fields : List (List ℕ)) (g : GrantRow) → row_of n fields ≡ Ok g → IsGrantRow g
-row_limits n [] g e = absurd (cc)
-row_limits n (b ∷ []) g e = absurd (cc)
-row_limits n (b ∷ a ∷ []) g e = absurd (cc)
 row_limits n (b ∷ a ∷ p ∷ []) g e = row_by n b a p g (has_form (b ∷ a ∷ p ∷ [])) (pages_in p) refl refl e
-row_limits n (b ∷ a ∷ p ∷ q ∷ more) g e = absurd (cc)
+row_limits n _ g e = absurd (cc)
 
 -- ---- all of them
 
@@ -47,8 +43,7 @@ add_rows most (Ok g) (Ok hs) gs one others e =
     let o = others hs refl in
     let few = o.0 in
     subst (AreRows (suc most)) same (omega (arith, few), All-cons IsGrantRow g hs (one g refl) o.1)
-add_rows most (Ok g) (Err f) gs one others e = absurd (cc)
-add_rows most (Err f) rest gs one others e = absurd (cc)
+add_rows most _ _ gs one others e = absurd (cc)
 
 rows_limits : (n : ℕ) (rs : List (List (List ℕ))) (gs : List GrantRow) → rows_from n rs ≡ Ok gs → AreRows (length rs) gs
 unfolding rows_from
@@ -84,10 +79,8 @@ marked_few false a b c rest = omega arith
 
 strip_few : (bytes : List ℕ) → length (strip_bom bytes) ≤ length bytes
 unfolding strip_bom
-strip_few [] = omega arith
-strip_few (a ∷ []) = omega arith
-strip_few (a ∷ b ∷ []) = omega arith
 strip_few (a ∷ b ∷ c ∷ rest) = marked_few (is_bom a b c) a b c rest
+strip_few _ = omega arith
 
 -- ---- a file
 

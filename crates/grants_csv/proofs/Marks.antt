@@ -14,17 +14,13 @@ marked bs h = ap strip_bom (sym (take-append-drop 3 bs) ∙ ap (λ (t : List ℕ
 
 by_bytes : (x y z : Bool) (rest whole : List ℕ) → (x && (y && (z && true))) ≡ false → (if x && y && z then rest else whole) ≡ whole
 by_bytes true true true rest whole h = absurd (cc)
-by_bytes true true false rest whole h = refl
-by_bytes true false z rest whole h = refl
-by_bytes false y z rest whole h = refl
+by_bytes _ _ _ rest whole h = refl
 
 -- nothing is stripped of a text without it
 unmarked : (bs : List ℕ) → pointwise nat_eq (take 3 bs) mark ≡ false → strip_bom bs ≡ bs
 unfolding strip_bom
-unmarked [] h = refl
-unmarked (a ∷ []) h = refl
-unmarked (a ∷ b ∷ []) h = refl
 unmarked (a ∷ b ∷ c ∷ rest) h = by_bytes (nat_eq a 0xEF) (nat_eq b 0xBB) (nat_eq c 0xBF) rest (a ∷ b ∷ c ∷ rest) h
+unmarked _ h = refl
 
 -- the length of what is left, and its limit
 pub stripped_len : (bs : Bor (List ℕ)) (o : Option (Bor (List ℕ)))

@@ -4,8 +4,8 @@ use Rattle.std.specs.Prelude.{Some, None, if◌then◌else◌, nat_le}
 use Rattle.std.specs.List.{list_all}
 use Rattle.std.specs.Char.{is_ascii_digit}
 use Rattle.std.specs.Str.Parse.{digits_value, ParsesUnsigned}
+use Rattle.std.proofs.lemmas.Bool.{leb-true}
 use Rattle.std.proofs.lemmas.Str.Parse.{IsNumeralModel, numerals_by_value, parse_digits}
-use borrow.Author.Tests.{leb-true}
 use Rattle.grants_csv.specs.File.{pages_in}
 
 pub model : IsNumeralModel (λ ds. list_all is_ascii_digit ds ≡ true) (digits_value 10)
@@ -19,8 +19,7 @@ not_small bs some h p =
 
 none_chosen : (a b : Bool) (n : ℕ) → (b ≡ true → ⊥) → None ≡ (if a && b then Some n else None)
 none_chosen true true n h = absurd (h refl)
-none_chosen true false n h = refl
-none_chosen false b n h = refl
+none_chosen _ _ n h = refl
 
 -- digits that no number of 32 bits has are out of range
 pub unparsed : {E : Type 0} (bs : List ℕ) (e : E) → nat_le 1 (length bs) ≡ true → list_all is_ascii_digit bs ≡ true → ParsesUnsigned 32 10 bs (Err e) → None ≡ pages_in bs

@@ -1,6 +1,6 @@
 -- Rows that were read, and those that follow them.
 use Rattle.std.proofs.Common.{◌≡◌, ℕ, zero, suc, ◌<◌, ◌+◌, List, [], ◌∷◌, ◌++◌, Bool, true, false, Option, Some, None, Ok, Err, refl, sym, ap, append_assoc, inl, inr, ◌∙◌, add-one, arith}
-use Rattle.std.specs.Prelude.{Result, if◌then◌else◌, OnOk, IfErr}
+use Rattle.std.specs.Prelude.{Result, if◌then◌else◌}
 use Rattle.std.proofs.lemmas.List.{append-nil}
 use denote.Ref.{Bor}
 use Rattle.csv.specs.Machine.{Read, next_record}
@@ -141,12 +141,3 @@ pub file_good : (b : Reader (Bor (List ℕ))) (fields : List (List ℕ)) (most :
     → (s2 : State) × (left2 : List ℕ) × IsAt b s2 left2 × (rows_under (records_from default_config (most + 1) s left) ≡ rows_from 1 (records_from default_config most s2 left2))
 unfolding records_from
 file_good b fields most s left gives h = rw (add-one most) (header_good b fields (next_record default_config s [] [] left) most gives h)
-
--- a result's fact by another
-pub on_ok : {A E : Type 0} (r : Result A E) (P Q : Type 0) → (P → Q) → OnOk r P → OnOk r Q
-on_ok (Ok x) P Q f h = f h
-on_ok (Err e) P Q f h = h
-
-pub if_err : {A E : Type 0} (r : Result A E) (P Q : E → Type 0) → ((e : E) → P e → Q e) → IfErr r P → IfErr r Q
-if_err (Ok x) P Q f h = h
-if_err (Err e) P Q f h = f e h

@@ -1,16 +1,11 @@
--- What tests that passed or failed say of their parts, and what they choose.
+-- What tests that passed or failed choose.
 use Rattle.std.proofs.Common.{◌≡◌, ℕ, List, Bool, true, false, ◌&&◌, refl}
 use Rattle.std.specs.Prelude.{Option, Some, None, if◌then◌else◌}
-
-pub and_true : (a b : Bool) → (a && b) ≡ true → (a ≡ true) × (b ≡ true)
-and_true true b h = (refl, h)
-and_true false b h = absurd (cc)
 
 -- what one test chose, another that holds chooses
 pub chosen : (a b : Bool) (o : Option (List ℕ)) (bytes : List ℕ) → o ≡ (if a then Some bytes else None) → a ≡ true → b ≡ true → o ≡ (if b then Some bytes else None)
 chosen true true o bytes h ea eb = h
-chosen true false o bytes h ea eb = absurd (cc)
-chosen false b o bytes h ea eb = absurd (cc)
+chosen _ _ o bytes h ea eb = absurd (cc)
 
 -- a text that was chosen is the bytes, and the test holds
 pub chosen_some : (b : Bool) (t bytes : List ℕ) → Some t ≡ (if b then Some bytes else None) → (t ≡ bytes) × (b ≡ true)
@@ -23,5 +18,4 @@ chosen_none false bytes h = refl
 
 pub and_three : (a b c : Bool) → a ≡ true → b ≡ true → c ≡ true → (a && b && c) ≡ true
 and_three true true c ea eb ec = ec
-and_three true false c ea eb ec = absurd (cc)
-and_three false b c ea eb ec = absurd (cc)
+and_three _ _ c ea eb ec = absurd (cc)

@@ -51,7 +51,7 @@ pub fn print_statement<W: Write, B: QueueBook>(
     // over any book, also one that is not honest
     ensures written { OnOk result ((s : Sheet) × (s.account ≡ account.now) × Appends (W.contents writer.old) (W.contents writer.new) (sheet_text s)) }
     ensures told { IfErr result (λ f. ¬ IsOfFile f) }
-    // a stream failed, or nothing was written
+    // a stream failed or there was no memory, or nothing was written
     ensures quiet { IfErr result (λ f. IsOfStream f ⊎ (writer.new ≡ writer.old)) }
 {
     match book.sheet(account)? {

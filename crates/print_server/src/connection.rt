@@ -55,11 +55,8 @@ pub(crate) fn drain<R: Read>(reader: &mut R)
         match reader.read(bytes.as_mut_slice()) {
             Ok(0) => return,
             Ok(_) => {}
-            Err(error) => {
-                if error.kind() != ErrorKind::Interrupted {
-                    return;
-                }
-            }
+            Err(error) if error.kind() == ErrorKind::Interrupted => {}
+            Err(_) => return,
         }
     }
 }

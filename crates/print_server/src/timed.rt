@@ -13,7 +13,7 @@ use std::time::{Duration, Instant};
 ///
 /// What a clock tells no contract knows, so that the time is looked at is tested.
 #[derive(Clone, Copy)]
-pub struct TimedStream<'a, C> {
+pub(crate) struct TimedStream<'a, C> {
     stream: &'a TcpStream,
     /// What its time is told by.
     clock: C,

@@ -1,7 +1,7 @@
 -- How a line grows by the pieces that come, and what an input loses by it.
 use Rattle.std.proofs.Common.{◌≡◌, ℕ, ◌+◌, ◌-◌, ◌≤◌, ◌==◌, min, Bool, true, false, not, ◌||◌, List, [], ◌∷◌, ◌++◌, length, take, drop, slice_range, Option, Some, None, sym, ap, subst, refl, ◌∙◌, append_assoc, append-nil, arith, inl, inr, length-take, length-append}
 use Rattle.std.specs.Prelude.{nat_lt}
-use Rattle.std.specs.Bool.{MatchBool, OnFalse}
+use Rattle.std.specs.Bool.{MatchBool}
 use Rattle.std.specs.Io.KnownBytes.{Consumes, IsAtEnd, prepend_known}
 use Rattle.std.proofs.KnownBytes.{Consumes-trans}
 use Rattle.std.proofs.Math.Seq.{take-append-add}
@@ -74,10 +74,6 @@ piece_taken old r come more bytes piece before is none =
 pub nothing_left : (r : Option (List ℕ)) (come : List ℕ) → come ≡ [] → IsAtEnd r → IsAtEnd (prepend_known come r)
 nothing_left None come none end = tt
 nothing_left (Some rest) come none end = ap (λ l. l ++ rest) none ∙ end
-
-pub on_false : (b : Bool) (P : Type 0) → b ≡ false → OnFalse b P → P
-on_false true P is h = cc is
-on_false false P is h = h
 
 -- ---- a whole line
 

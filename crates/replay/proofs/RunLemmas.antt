@@ -88,14 +88,12 @@ comes are_calls are_files (Grant row) old new answer fits t = file_comes are_fil
 
 -- of a line there are so many bytes that its message fits
 fits_in : (before behind : Option (List ℕ)) (line : Line) → GivesLine before behind line → (request : RequestLine) → Says line.bytes.items request → FitsIn request
-fits_in before behind line gives (Now n) says = tt
-fits_in before behind line gives (Dev text) says = tt
-fits_in before behind line gives (Grant row) says = tt
 fits_in before behind line gives (Ipp digits) says = λ message is.
     let kept = ap length gives.front.0 ∙ length-take 33554436 gives.bytes in
     let whole = ap length says ∙ length-append (codes "ipp ") digits.now in
     let half = length-decoded digits.now message is in
     omega (arith, kept, whole, half)
+fits_in before behind line gives _ says = tt
 
 pub place_of : AreCalls → AreFiles → (before behind : Option (List ℕ)) (line : Line) (old new : State) (answer : List ℕ) → IsMoment old.now
     → GivesLine before behind line → (t : TakesLine line old new answer)
@@ -110,9 +108,7 @@ place_of are_calls are_files before behind line old new answer moment gives t =
 
 moment_kept : (request : RequestLine) (old new : State) (line answer : List ℕ) → Says line request → Takes request old new answer → IsMoment old.now → IsMoment new.now
 moment_kept (Now n) old new line answer says t moment = subst IsMoment (sym t.0) says.0
-moment_kept (Ipp digits) old new line answer says t moment = subst IsMoment (sym t.0) moment
-moment_kept (Dev text) old new line answer says t moment = subst IsMoment (sym t.0) moment
-moment_kept (Grant row) old new line answer says t moment = subst IsMoment (sym t.0) moment
+moment_kept _ old new line answer says t moment = subst IsMoment (sym t.0) moment
 
 -- ---- one line after the other
 

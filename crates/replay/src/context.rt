@@ -7,7 +7,8 @@ use std::alloc::Global;
 
 /// What a line of a replay is answered with, over any book.
 #[derive(Clone, Copy)]
-pub struct Context<'a> {
+pub(crate) struct Context<'a> {
+    /// Where memory is taken.
     pub alloc: Global,
     /// Those of the book's queue.
     pub settings: &'a Settings,

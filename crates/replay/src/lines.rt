@@ -15,17 +15,17 @@ use std::io::{ErrorKind, Read, Write};
 use std::marker::Model;
 
 /// The most bytes of a line that are kept, 33,554,436: what a line with the longest message has, two digits a byte.
-pub const MOST_LINE: usize = b"ipp ".len() + 2 * MOST_BYTES;
+pub(crate) const MOST_LINE: usize = b"ipp ".len() + 2 * MOST_BYTES;
 
 /// How many times an input is read at most. After that it ends as by a read that fails.
-pub const MOST_READS: u32 = u32::MAX;
+pub(crate) const MOST_READS: u32 = u32::MAX;
 
 /// How many bytes a read may give.
 const BUFFER: usize = 65_536;
 
 /// A line without its line feed.
 #[derive(Drop)]
-pub struct Line {
+pub(crate) struct Line {
     /// Its first bytes, at most [`MOST_LINE`].
     pub bytes: Vec<u8>,
     /// Whether it has more bytes than those.
@@ -64,7 +64,7 @@ impl Line {
 
 /// Reads the lines of an input through a buffer of its own, and counts its reads.
 #[derive(Drop)]
-pub struct LineReader {
+pub(crate) struct LineReader {
     buffer: Vec<u8>,
     start: usize,
     end: usize,

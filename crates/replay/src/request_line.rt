@@ -9,7 +9,7 @@ ghost use Rattle.replay.specs.declared.request_line.RequestLine.{RequestLine};
 use queue_types::limits::LAST_MOMENT;
 
 /// A line of a replay that is of one of the forms.
-pub enum RequestLine<'a> {
+pub(crate) enum RequestLine<'a> {
     /// `now N`: requests come at this moment from here on. N is 1 to [`LAST_MOMENT`] in decimal,
     /// without leading zeros.
     Now(u32),

@@ -1,11 +1,12 @@
+use Rattle.std.proofs.lemmas.Result.{IfOk-weaker}
 use Rattle.command_words.specs.CommandLine.{IsPart}
-use Rattle.command_words.proofs.DefinitionLemmas.{adds_argument, if_ok}
+use Rattle.command_words.proofs.DefinitionLemmas.{adds_argument}
 use Rattle.command_words.proofs.definition.init.Goals as goal
 
 pub returns : goal.returns
 returns c =
     let first = adds_argument _ _ _ _ _ c.in_ok-arg.ensures c.in_ok-on_store.ensures c.text.ensures.rule c.text.ensures.own in
     let second = adds_argument _ _ _ _ _ c.in_ok-arg-2.ensures first c.text-2.ensures.rule c.text-2.ensures.own in
-    if_ok _ (IsPart _) c.arg-3.result
+    IfOk-weaker c.arg-3.result _ (IsPart _)
     (λ x h. adds_argument _ _ _ _ x h second c.optional.ensures.rule c.optional.ensures.own)
     c.arg-3.ensures

@@ -1,6 +1,7 @@
 use Rattle.std.proofs.Common.{refl, inl, inr}
+use Rattle.std.proofs.lemmas.Result.{IfErr-weaker, on_ok_weaker}
 use Rattle.queue_store.specs.Kept.{shown_by}
-use Rattle.commands.proofs.EndingLemmas.{any_err, both, both_ok, if_err, on_ok, under}
+use Rattle.commands.proofs.EndingLemmas.{any_err, both, both_ok, under}
 use Rattle.commands.proofs.FaultLemmas.{no_file}
 use Rattle.commands.specs.Work.{AreIn, taken, untaken}
 use Rattle.commands.proofs.WorkLemmas.{import_of, in_read}
@@ -8,7 +9,7 @@ use Rattle.commands.proofs.CrashLemmas.{beside, known_of_all, lasts}
 use Rattle.commands.proofs.office_commands.import_into.Goals as goal
 
 pub returns-clause-taken : goal.returns-clause-taken
-returns-clause-taken g c = λ honest. on_ok c.import_bytes_at.result (both_ok c.import_bytes_at.result _ _ (c.import_bytes_at.ensures.taken honest) (c.import_bytes_at.ensures.live honest)) (λ told w stands.
+returns-clause-taken g c = λ honest. on_ok_weaker c.import_bytes_at.result (λ told w stands.
     let it = told.0 w stands in
     let read = in_read c.args.file c.in_ok-bytes.bytes c.in_ok-bytes.was c.as_slice.result.now c.as_slice.ensures.value in
     let all = import_of (AreIn c.args.file) c.in_ok-now.now c.in_ok-now.ensures.moment c.as_slice.result.now read w it.1 it.0 it.2 in (
@@ -18,10 +19,10 @@ returns-clause-taken g c = λ honest. on_ok c.import_bytes_at.result (both_ok c.
       it.3,
       it.4,
       λ live. (it.1, lasts g.S.Store g.met.S.Store.settled c.import_bytes_at.new.book it.1 honest told.1 it.3, taken (it.0, all) refl),
-    ))
+    )) (both_ok c.import_bytes_at.result _ _ (c.import_bytes_at.ensures.taken honest) (c.import_bytes_at.ensures.live honest))
 
 pub returns-clause-left : goal.returns-clause-left
-returns-clause-left g c = λ honest. if_err c.import_bytes_at.result _ _ (both c.import_bytes_at.result _ _ (c.import_bytes_at.ensures.why honest) (under c.import_bytes_at.result _ _ (c.import_bytes_at.ensures.still_live honest))) (λ fault told w stands.
+returns-clause-left g c = λ honest. IfErr-weaker c.import_bytes_at.result _ _ (λ fault told w stands.
     let read = in_read c.args.file c.in_ok-bytes.bytes c.in_ok-bytes.was c.as_slice.result.now c.as_slice.ensures.value in
     let all = import_of (AreIn c.args.file) c.in_ok-now.now c.in_ok-now.ensures.moment c.as_slice.result.now read w in
     elim (told.0 w stands) [
@@ -43,7 +44,7 @@ returns-clause-left g c = λ honest. if_err c.import_bytes_at.result _ _ (both c
           taken (it.1, all it.2 it.1 it.3) refl,
         ),
       )
-    ])
+    ]) (both c.import_bytes_at.result _ _ (c.import_bytes_at.ensures.why honest) (under c.import_bytes_at.result _ _ (c.import_bytes_at.ensures.still_live honest)))
 
 pub returns-in_err-now-clause-left : goal.returns-in_err-now-clause-left
 returns-in_err-now-clause-left g c = λ honest. any_err c.from_residual.result _ (λ fault w stands. (
@@ -62,13 +63,13 @@ returns-in_err-bytes-clause-left g c = λ honest. any_err c.from_residual-in_err
 ))
 
 pub returns-clause-quiet : goal.returns-clause-quiet
-returns-clause-quiet g c = if_err c.import_bytes_at.result _ _ (both c.import_bytes_at.result _ _ c.import_bytes_at.ensures.told c.import_bytes_at.ensures.quiet) (λ fault it. elim it.0 [
+returns-clause-quiet g c = IfErr-weaker c.import_bytes_at.result _ _ (λ fault it. elim it.0 [
   | inl stream ↦ inl stream
   | inr file ↦ inr (it.1 file.0 file.1)
-])
+]) (both c.import_bytes_at.result _ _ c.import_bytes_at.ensures.told c.import_bytes_at.ensures.quiet)
 
 pub returns-clause-why : goal.returns-clause-why
-returns-clause-why g c = λ honest. if_err c.import_bytes_at.result _ _ (c.import_bytes_at.ensures.why honest) (λ fault told w stands. elim (told w stands) [
+returns-clause-why g c = λ honest. IfErr-weaker c.import_bytes_at.result _ _ (λ fault told w stands. elim (told w stands) [
   | inl file ↦ inr (
     file.0,
     file.1,
@@ -79,7 +80,7 @@ returns-clause-why g c = λ honest. if_err c.import_bytes_at.result _ _ (c.impor
     file.2,
   )
   | inr it ↦ inl it.0
-])
+]) (c.import_bytes_at.ensures.why honest)
 
 pub returns-in_err-now-clause-crash : goal.returns-in_err-now-clause-crash
 returns-in_err-now-clause-crash g c = λ honest live w stands. (w, w, stands, lasts g.S.Store g.met.S.Store.settled c.args.book.now w honest live stands, untaken refl refl)

@@ -1,9 +1,10 @@
 use Rattle.std.proofs.Common.{◌≡◌, ◌≤◌, ◌∙◌, ℕ, [], inl, inr, refl, subst, lit≤, arith}
 use Rattle.std.specs.Io.Buffered.{writer_buffer, writer_contents}
+use Rattle.std.proofs.lemmas.Result.{IfOk-weaker}
 use Rattle.command_ends.specs.declared.fault.Fault.TheVariants.{Memory}
 use Rattle.commands.specs.Printed.{HasPrinted}
 use Rattle.commands.specs.Store.{CanBeMade}
-use Rattle.commands.proofs.EndingLemmas.{asks_nothing, asks_something, asks_text, at_least_one, at_most, at_status, but_one, if_ok}
+use Rattle.commands.proofs.EndingLemmas.{asks_nothing, asks_something, asks_text, at_least_one, at_most, at_status, but_one}
 use Rattle.commands.proofs.PrintedLemmas.{told_of, untold}
 use Rattle.commands.proofs.program.run.Goals as goal
 
@@ -81,7 +82,7 @@ pub returns-in-Err-Words-clause-helped : goal.returns-in-Err-Words-clause-helped
 returns-in-Err-Words-clause-helped g c = λ text.
     let among = rw c.in-Err-Words.field-0-is at c.in-Err-Words.ensures.refused in
     let asks = asks_text _ _ among text in
-    let none = if_ok c.tell_words-told.result _ (λ (own : ℕ). own ≤ 1) c.tell_words-told.ensures.asked (λ own zero. let is : own ≡ 0 = zero asks in omega arith) in
+    let none = IfOk-weaker c.tell_words-told.result _ (λ (own : ℕ). own ≤ 1) (λ own zero. let is : own ≡ 0 = zero asks in omega arith) c.tell_words-told.ensures.asked in
     at_most _ c.tell_words-told.result c.end-in-Err-Words.result 1 c.end-in-Err-Words.ensures.done c.end-in-Err-Words.ensures.refused none (lit≤ tt)
 
 pub returns-in-Ok-clause-told : goal.returns-in-Ok-clause-told
@@ -117,7 +118,7 @@ pub returns-in-Err-Words-clause-unhelped : goal.returns-in-Err-Words-clause-unhe
 returns-in-Err-Words-clause-unhelped g c = λ text one.
     let among = rw c.in-Err-Words.field-0-is at c.in-Err-Words.ensures.refused in
     let asks = asks_text _ _ among text in
-    let none = if_ok c.tell_words-told.result _ (λ (own : ℕ). own ≡ 0) c.tell_words-told.ensures.asked (λ own zero. zero asks) in
+    let none = IfOk-weaker c.tell_words-told.result _ (λ (own : ℕ). own ≡ 0) (λ own zero. zero asks) c.tell_words-told.ensures.asked in
     untold g.E.Write.contents c.args.err.now c.tell_words-told.new.err c.end-in-Err-Words.new.err c.tell_words-told.result c.end-in-Err-Words.result c.end-in-Err-Words.ensures.done
     c.end-in-Err-Words.ensures.told none c.tell_words-told.ensures.told (c.tell_words-told.ensures.err asks) one
 

@@ -1,14 +1,13 @@
 use Rattle.std.proofs.Common.{◌∙◌, [], refl, arith, inl, inr}
 use Rattle.std.proofs.KnownBytes.{Appends-trans}
-use Rattle.std.proofs.lemmas.Result.{err_from_is_err_and}
+use Rattle.std.proofs.lemmas.Result.{err_from_is_err_and, IfErr-weaker, on_ok_weaker}
 use Rattle.print_server.specs.Lines.{listening_line, served_lines}
-use Rattle.commands.proofs.EndingLemmas.{if_err, on_ok}
 use Rattle.commands.proofs.FaultLemmas.{no_damage, of_serve_stream}
 use Rattle.commands.proofs.CrashLemmas.{lasts}
 use Rattle.commands.proofs.serving.serve_book.Goals as goal
 
 pub returns-clause-served : goal.returns-clause-served
-returns-clause-served g c = λ honest. on_ok c.serve_at.result (c.serve_at.ensures.served honest) (λ served w stands.
+returns-clause-served g c = λ honest. on_ok_weaker c.serve_at.result (λ served w stands.
     let same = c.service-service.ensures.settings ∙ c.in_ok-settings.ensures w (c.serve_at.ensures.began honest) stands in
     let end = served w stands same in (
       end.0,
@@ -19,18 +18,18 @@ returns-clause-served g c = λ honest. on_ok c.serve_at.result (c.serve_at.ensur
       Appends-trans (g.W.Write.contents c.args.output.now) (g.W.Write.contents c.tell_port.new.output) (g.W.Write.contents c.serve_at.new.output)
           (listening_line c.args.words.port) (served_lines end.2) c.in_ok-listener.ensures end.5,
       end.6,
-    ))
+    )) (c.serve_at.ensures.served honest)
 
 pub returns-clause-written : goal.returns-clause-written
-returns-clause-written g c = on_ok c.serve_at.result c.serve_at.ensures.written (λ told. (
+returns-clause-written g c = on_ok_weaker c.serve_at.result (λ told. (
   told.0,
   told.1,
   Appends-trans (g.W.Write.contents c.args.output.now) (g.W.Write.contents c.tell_port.new.output) (g.W.Write.contents c.serve_at.new.output)
       (listening_line c.args.words.port) (served_lines told.0) c.in_ok-listener.ensures told.2,
-))
+)) c.serve_at.ensures.written
 
 pub returns-clause-stopped : goal.returns-clause-stopped
-returns-clause-stopped g c = if_err c.serve_at.result _ _ c.serve_at.ensures.stopped (λ fault stopped. elim stopped [
+returns-clause-stopped g c = IfErr-weaker c.serve_at.result _ _ (λ fault stopped. elim stopped [
   | inl stream ↦ inl stream
   | inr told ↦ inr (
     told.0,
@@ -38,10 +37,10 @@ returns-clause-stopped g c = if_err c.serve_at.result _ _ c.serve_at.ensures.sto
     Appends-trans (g.W.Write.contents c.args.output.now) (g.W.Write.contents c.tell_port.new.output) (g.W.Write.contents c.serve_at.new.output)
         (listening_line c.args.words.port) (served_lines told.0) c.in_ok-listener.ensures told.2,
   )
-])
+]) c.serve_at.ensures.stopped
 
 pub returns-clause-err : goal.returns-clause-err
-returns-clause-err g c = λ honest. if_err c.serve_at.result _ _ (c.serve_at.ensures.err honest) (λ fault left w stands.
+returns-clause-err g c = λ honest. IfErr-weaker c.serve_at.result _ _ (λ fault left w stands.
     let it = left w stands (c.service-service.ensures.settings ∙ c.in_ok-settings.ensures w (c.serve_at.ensures.began honest) stands) in (
       it.0,
       it.1,
@@ -56,11 +55,11 @@ returns-clause-err g c = λ honest. if_err c.serve_at.result _ _ (c.serve_at.ens
             )
       ],
       it.6,
-    ))
+    )) (c.serve_at.ensures.err honest)
 
 pub returns-clause-damaged : goal.returns-clause-damaged
-returns-clause-damaged g c = λ honest. if_err c.serve_at.result _ _ (c.serve_at.ensures.damaged honest) (λ fault never is w stands.
-    never is w stands (c.service-service.ensures.settings ∙ c.in_ok-settings.ensures w (c.serve_at.ensures.began honest) stands))
+returns-clause-damaged g c = λ honest. IfErr-weaker c.serve_at.result _ _ (λ fault never is w stands.
+    never is w stands (c.service-service.ensures.settings ∙ c.in_ok-settings.ensures w (c.serve_at.ensures.began honest) stands)) (c.serve_at.ensures.damaged honest)
 
 pub returns-in_err-settings-clause-stopped : goal.returns-in_err-settings-clause-stopped
 returns-in_err-settings-clause-stopped g c =

@@ -1,7 +1,8 @@
 use Rattle.std.proofs.Common.{ap, arith, refl, subst, sym, inl, inr}
+use Rattle.std.proofs.lemmas.Result.{IfErr-weaker, on_ok_weaker}
 use Rattle.commands.specs.Work.{AreIn, HasEnded}
 use Rattle.commands.specs.declared.work.Work.TheVariants.{Import, Statement, Serve}
-use Rattle.commands.proofs.EndingLemmas.{both, both_ok, by_four, if_err, on_ok, or_same}
+use Rattle.commands.proofs.EndingLemmas.{both, both_ok, by_four, or_same}
 use Rattle.commands.proofs.WorkLemmas.{ended}
 use Rattle.commands.proofs.work.work_on.Goals as goal
 
@@ -9,16 +10,16 @@ pub returns-in-Import : goal.returns-in-Import
 returns-in-Import g c =
     subst (λ work. HasEnded g.S.Store (AreIn c.args.file) work c.args.book.now c.import_into.new.book (g.W.Write.contents c.args.output.now) (g.W.Write.contents c.import_into.new.output) c.import_into.result) (sym c.in-Import.is)
     (ended g.S.Store (AreIn c.args.file) (Import c.in-Import.field-0) c.args.book.now c.import_into.new.book (g.W.Write.contents c.args.output.now) (g.W.Write.contents c.import_into.new.output) c.import_into.result c.import_into.ensures.written
-    (λ honest. on_ok c.import_into.result (both_ok c.import_into.result _ _ (c.import_into.ensures.taken honest) (c.import_into.ensures.live honest)) (λ told. record {
+    (λ honest. on_ok_weaker c.import_into.result (λ told. record {
       began = c.import_into.ensures.began honest;
       done = λ w stands. let it = told.0 w stands in (it.1, it.3, (it.0, it.2, it.4), it.5);
       live = λ leaves. told.1;
-    }))
-    (if_err c.import_into.result _ _ (both c.import_into.result _ _ c.import_into.ensures.told c.import_into.ensures.quiet) (λ fault it. record {
+    }) (both_ok c.import_into.result _ _ (c.import_into.ensures.taken honest) (c.import_into.ensures.live honest)))
+    (IfErr-weaker c.import_into.result _ _ (λ fault it. record {
       told = it.0;
       quiet = or_same g.W.Write.contents _ _ it.1;
-    }))
-    (λ honest. if_err c.import_into.result _ _ (both c.import_into.result _ _ (c.import_into.ensures.left honest) (c.import_into.ensures.why honest)) (λ fault told. record {
+    }) (both c.import_into.result _ _ c.import_into.ensures.told c.import_into.ensures.quiet))
+    (λ honest. IfErr-weaker c.import_into.result _ _ (λ fault told. record {
       began = c.import_into.ensures.began honest;
       refused = λ w stands. let it = told.0 w stands in (
         it.0,
@@ -26,13 +27,13 @@ returns-in-Import g c =
         (told.1 w stands, elim it.2 [ inl same ↦ inl (same.0, ap g.W.Write.contents same.1) | inr taken ↦ inr taken ]),
         it.3,
       );
-    })))
+    }) (both c.import_into.result _ _ (c.import_into.ensures.left honest) (c.import_into.ensures.why honest))))
 
 pub returns-in-Statement : goal.returns-in-Statement
 returns-in-Statement g c =
     subst (λ work. HasEnded g.S.Store (AreIn c.args.file) work c.args.book.now c.print_from.new.book (g.W.Write.contents c.args.output.now) (g.W.Write.contents c.print_from.new.output) c.print_from.result) (sym c.in-Statement.is)
     (ended g.S.Store (AreIn c.args.file) (Statement c.in-Statement.words) c.args.book.now c.print_from.new.book (g.W.Write.contents c.args.output.now) (g.W.Write.contents c.print_from.new.output) c.print_from.result c.print_from.ensures.written
-    (λ honest. on_ok c.print_from.result (both_ok c.print_from.result _ _ (c.print_from.ensures.printed honest) (c.print_from.ensures.live honest)) (λ told. record {
+    (λ honest. on_ok_weaker c.print_from.result (λ told. record {
       began = c.print_from.ensures.began honest;
       done = λ w stands. let it = told.0 w stands in (
         w,
@@ -41,11 +42,11 @@ returns-in-Statement g c =
         λ live. (w, c.print_from.ensures.crash honest live w stands, (refl, refl)),
       );
       live = λ leaves. told.1;
-    }))
-    (if_err c.print_from.result _ _ (both c.print_from.result _ _ c.print_from.ensures.told c.print_from.ensures.quiet) (λ fault it. record {
+    }) (both_ok c.print_from.result _ _ (c.print_from.ensures.printed honest) (c.print_from.ensures.live honest)))
+    (IfErr-weaker c.print_from.result _ _ (λ fault it. record {
       told = it.0;
       quiet = or_same g.W.Write.contents _ _ it.1;
-    }))
+    }) (both c.print_from.result _ _ c.print_from.ensures.told c.print_from.ensures.quiet))
     (λ honest. by_four c.print_from.result _ _ _ _ _ (c.print_from.ensures.damaged honest) (c.print_from.ensures.unknown honest) (c.print_from.ensures.known honest) c.print_from.ensures.quiet (λ fault damaged unknown known quiet. record {
       began = c.print_from.ensures.began honest;
       refused = λ w stands. (
@@ -60,7 +61,7 @@ pub returns-in-Serve : goal.returns-in-Serve
 returns-in-Serve g c =
     subst (λ work. HasEnded g.S.Store (AreIn c.args.file) work c.args.book.now c.serve_book.new.book (g.W.Write.contents c.args.output.now) (g.W.Write.contents c.serve_book.new.output) c.serve_book.result) (sym c.in-Serve.is)
     (ended g.S.Store (AreIn c.args.file) (Serve c.in-Serve.words) c.args.book.now c.serve_book.new.book (g.W.Write.contents c.args.output.now) (g.W.Write.contents c.serve_book.new.output) c.serve_book.result c.serve_book.ensures.written
-    (λ honest. on_ok c.serve_book.result (c.serve_book.ensures.served honest) (λ told. record {
+    (λ honest. on_ok_weaker c.serve_book.result (λ told. record {
       began = c.serve_book.ensures.began honest;
       done = λ w stands. let it = told w stands in (
         it.0,
@@ -72,12 +73,12 @@ returns-in-Serve g c =
             (left.0, left.1, (it.2, it.3, omega (arith, is), left.2)),
       );
       live = λ leaves. absurd leaves;
-    }))
-    (if_err c.serve_book.result _ _ (both c.serve_book.result _ _ c.serve_book.ensures.told c.serve_book.ensures.stopped) (λ fault it. record {
+    }) (c.serve_book.ensures.served honest))
+    (IfErr-weaker c.serve_book.result _ _ (λ fault it. record {
       told = it.0;
       quiet = elim it.1 [ inl stream ↦ inl stream | inr told ↦ inr (inr told) ];
-    }))
-    (λ honest. if_err c.serve_book.result _ _ (both c.serve_book.result _ _ (c.serve_book.ensures.err honest) (c.serve_book.ensures.damaged honest)) (λ fault it. record {
+    }) (both c.serve_book.result _ _ c.serve_book.ensures.told c.serve_book.ensures.stopped))
+    (λ honest. IfErr-weaker c.serve_book.result _ _ (λ fault it. record {
       began = c.serve_book.ensures.began honest;
       refused = λ w stands. let left = it.0 w stands in (
         left.0,
@@ -85,4 +86,4 @@ returns-in-Serve g c =
         ((λ is. it.1 is w stands), left.2, left.3, left.4, left.5),
         λ live. let crashed = left.6 live in (crashed.0, crashed.1, (left.2, left.3, left.4, crashed.2)),
       );
-    })))
+    }) (both c.serve_book.result _ _ (c.serve_book.ensures.err honest) (c.serve_book.ensures.damaged honest))))

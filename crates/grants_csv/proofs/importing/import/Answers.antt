@@ -1,10 +1,10 @@
 use Rattle.std.proofs.Common.{Some, refl}
+use Rattle.std.proofs.lemmas.Result.{IfErr-weaker}
 use Rattle.queue_core.specs.Crash.{untaken}
 use Rattle.grants_csv.specs.Import.{Asks}
 use Rattle.grants_csv.proofs.ImportLemmas.{unread_imports, unread_replies, rows_import, rows_event}
 use Rattle.queue_core.specs.Crash.{Carries}
 use Rattle.grants_csv.proofs.Crashes.{rows_taken, rows_left}
-use Rattle.grants_csv.proofs.Rows.{if_err}
 use Rattle.grants_csv.proofs.importing.import.Goals as goal
 
 pub take_rows-requires-clause-limits : goal.take_rows-requires-clause-limits
@@ -46,4 +46,4 @@ pub returns-in_err-rows-clause-replies : goal.returns-in_err-rows-clause-replies
 returns-in_err-rows-clause-replies g c = unread_replies c.args.bytes.now c.in_err-rows.field-0.0 c.from_residual.result c.in_err-rows.ensures.read c.from_residual.ensures.1
 
 pub returns-clause-replies : goal.returns-clause-replies
-returns-clause-replies g c = if_err c.take_rows.result _ _ (λ f h rows has. h) c.take_rows.ensures.replies
+returns-clause-replies g c = IfErr-weaker c.take_rows.result _ _ (λ f h rows has. h) c.take_rows.ensures.replies

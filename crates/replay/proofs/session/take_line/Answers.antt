@@ -1,5 +1,5 @@
-use Rattle.std.proofs.Common.{◌≡◌, ℕ, Bool, true, false, List, [], refl, subst}
-use Rattle.std.specs.Bool.{OnTrue}
+use Rattle.std.proofs.Common.{◌≡◌, ℕ, List, [], refl, subst}
+use Rattle.std.proofs.lemmas.Bool.{OnTrue_at}
 use Rattle.std.proofs.KnownBytes.{Appends-nil}
 use Rattle.replay.specs.RequestLine.{Says}
 use Rattle.replay.specs.Session.{import_line}
@@ -12,10 +12,6 @@ said : (line bytes : List ℕ) (request form : RequestLine) → bytes ≡ line �
 said line bytes request form same is says =
     subst (λ (r : RequestLine). Says line r) is (subst (λ (b : List ℕ). Says b request) same says)
 
-on_true : (b : Bool) (P : Type 0) → b ≡ true → OnTrue b P → P
-on_true true P is h = h
-on_true false P is h = cc is
-
 pub returns-in-Now-clause-taken : goal.returns-in-Now-clause-taken
 returns-in-Now-clause-taken g c =
     let says = said c.args.line.now.bytes.items c.as_slice.result.now c.in-Some.request (Now c.in-Now.moment) c.as_slice.ensures.value c.in-Now.is c.in-Some.ensures.said in
@@ -24,7 +20,7 @@ returns-in-Now-clause-taken g c =
 pub returns-then-branch-clause-taken : goal.returns-then-branch-clause-taken
 returns-then-branch-clause-taken g c =
     let says = said c.args.line.now.bytes.items c.as_slice.result.now c.in-Some.request (Ipp c.in-Ipp.digits) c.as_slice.ensures.value c.in-Ipp.is c.in-Some.ensures.said in
-    λ h w s set. let a = on_true _ _ c.if-branch.true (c.in_ok-answer_digits-in-Ipp.ensures.answered h) w s set in
+    λ h w s set. let a = OnTrue_at c.if-branch.true (c.in_ok-answer_digits-in-Ipp.ensures.answered h) w s set in
     (a.0, a.1, record { whole = c.if-line.false; request = Ipp c.in-Ipp.digits; says = says; takes = (refl, a.2) }, a.3, a.4)
 
 pub returns-in_ok-answer_device-in-Dev-clause-taken : goal.returns-in_ok-answer_device-in-Dev-clause-taken

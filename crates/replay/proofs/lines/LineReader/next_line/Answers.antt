@@ -1,7 +1,8 @@
 use Rattle.std.proofs.Common.{arith, ◌==◌, ◌++◌, ◌∷◌, [], sym, ap, ◌∙◌, append_assoc}
+use Rattle.std.proofs.lemmas.Bool.{OnFalse_at}
 use Rattle.std.proofs.lemmas.Bool.Decides.{when_false, when_true}
 use Rattle.std.proofs.KnownBytes.{Consumes-kept, Keeps-trans}
-use Rattle.replay.proofs.LineLemmas.{come_taken, input_ended, line_ended, nothing_left, on_false, one_line_more, piece_taken}
+use Rattle.replay.proofs.LineLemmas.{come_taken, input_ended, line_ended, nothing_left, one_line_more, piece_taken}
 use Rattle.replay.proofs.lines.LineReader.next_line.Goals as goal
 
 pub returns-then-branch-clause-given : goal.returns-then-branch-clause-given
@@ -16,7 +17,7 @@ returns-then-not-branch-clause-given g c =
     let before = c.pieces.invariant in
     let piece = c.in_ok-take_line.ensures.taken in
     let come = when_false _ _ c.if-branch.false piece.3 in
-    let end = on_false _ _ c.if-not-branch.true c.in_ok-fill.ensures.end in
+    let end = OnFalse_at c.if-not-branch.true c.in_ok-fill.ensures.end in
     let taken = piece_taken _ _ _ _ before.0 piece.0 before.3 come.0 come.1 in
     input_ended _ _ _ (before.0 ++ piece.0) (one_line_more before.0 piece.0 before.1 piece.1)
     (Consumes-kept _ _ _ _ taken c.in_ok-fill.ensures.kept) (nothing_left _ _ end.0 end.1)
