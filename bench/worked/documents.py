@@ -92,7 +92,7 @@ case(
 case(
     "validated with an unknown attribute",
     (
-        request(VALIDATE_JOB, job=MEDIA_COL),
+        request(VALIDATE_JOB, job=MEDIA_COL, payload=b"hi"),
         sized(87, reply(0x0001, unsupported(unknown("media-col")))),
     ),
     (print_job(), taken(1)),

@@ -29,6 +29,7 @@ const FILES_ONE_AFTER_ANOTHER: &[Case<'static>] = &[Case {
             Sheet("bob", (50, 50, 0, 0)),
             Sheet("carol", (20, 20, 0, 0)),
             Grant(FIRST, Ok((0, 3))),
+            Grant(FIRST, Ok((0, 3))),
             Sheet("alice", (30, 30, 0, 0)),
             Sheet("bob", (50, 50, 0, 0)),
             Sheet("carol", (20, 20, 0, 0)),

@@ -107,6 +107,28 @@ fn chunks_past_their_limits(rt: HostRuntime) -> Result<(), Mismatch> {
     refuse_long(rt.alloc(), 400, &[BAD], &CHUNKS_PAST_LIMITS)
 }
 
+/// 65 field lines of a head and of trailers, behind which the input ends.
+#[test]
+fn fields_past_their_number_without_an_end(rt: HostRuntime) -> Result<(), Mismatch> {
+    let alloc = rt.alloc();
+    let head = filled(alloc, QUEUE_LINE, b"a:b\r\n", 65, b"")?;
+    end_behind(
+        alloc,
+        b"",
+        End::Refused(431),
+        &[HEAD_TOO_LARGE],
+        &[head.as_slice()],
+    )?;
+    let trailers = filled(alloc, b"\r\nx\r\n0\r\n", b"a:b\r\n", 65, b"")?;
+    end_behind(
+        alloc,
+        CHUNK,
+        End::Refused(400),
+        &[BAD],
+        &[trailers.as_slice()],
+    )
+}
+
 /// What reads give without end, behind a front, is refused so, and no more than so many bytes behind the front are asked for.
 fn refuse_endless_at<B: DeskBook>(
     alloc: Global,

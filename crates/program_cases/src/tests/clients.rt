@@ -81,7 +81,8 @@ fn a_client_that_has_gone_away(rt: HostRuntime) -> Result<(), Mismatch> {
     Ok(())
 }
 
-/// The answer to its first request meets a closed socket, and its system resets the connection: the requests behind it can't be answered.
+/// The answer to its first request meets a closed socket, and its system resets the connection. Whatever comes of the requests behind it, the
+/// server goes on.
 const RESET: &[Step<'static>] = &[
     GoesAway(&[POST_JOB, PRINT_JOB, GET_QUEUE, GET_QUEUE, GET_QUEUE]),
     SendsLast(&[POST_JOB, PRINT_JOB]),
@@ -119,7 +120,7 @@ fn a_client_that_sends_on_behind_a_refusal(rt: HostRuntime) -> Result<(), Mismat
 }
 
 /// It keeps its side open, and the connection ends behind its last request.
-const ASKED_TO_END: &[Step<'static>] = &[
+pub(super) const ASKED_TO_END: &[Step<'static>] = &[
     Sends(&[b"GET /device/queue HTTP/1.0\r\n\r\n", POST_JOB, PRINT_JOB]),
     Serves(1, "served 0\n"),
     Gets(0, &[Last(TEXT, b"")]),

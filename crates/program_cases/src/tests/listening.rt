@@ -8,6 +8,7 @@ use http_desk::compare::Mismatch;
 use http_desk::connection::Wanted::Success;
 use http_desk::messages::{JOB_1, JOB_2, PRINT_JOB};
 use http_desk::requests::{IPP, POST_JOB};
+use http_desk::streams::UnflushedWriter;
 use print_server::{listen, tell_listening};
 use std::io;
 use std::io::ErrorKind;
@@ -59,7 +60,9 @@ fn a_port_that_is_taken(rt: HostRuntime) -> Result<(), Mismatch> {
 #[test]
 fn a_port_that_cannot_be_told(rt: HostRuntime) -> Result<(), Mismatch> {
     let came = tell_listening(&mut narrow(rt.alloc()), 8631);
-    has_failed(came, NO_ROOM, "a line that can't be written")
+    has_failed(came, NO_ROOM, "a line that can't be written")?;
+    let came = tell_listening(&mut UnflushedWriter, 8631);
+    has_failed(came, NO_ROOM, "a line that can't be flushed")
 }
 
 /// The first of two connections has been served when its line can't be printed so; the second is not taken, and served later.

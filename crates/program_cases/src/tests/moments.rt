@@ -10,6 +10,7 @@ use http_desk::messages::{GET_UP_TIME, UP_FOR_42};
 use http_desk::requests::{IPP, POST_UP_TIME};
 use print_server::present_moment;
 use std::io;
+use std::net::TcpListener;
 use std::rt::Clock;
 use std::time::Duration;
 
@@ -61,4 +62,38 @@ fn is_served_by_the_clock<B: DeskBook>(rt: &HostRuntime) -> Result<(), Mismatch>
 #[test]
 fn the_moment_of_a_connection(rt: HostRuntime) -> Result<(), Mismatch> {
     is_served_by_the_clock::<MemoryBook>(&rt)
+}
+
+/// A clock that takes the next client away as its second is looked at.
+#[derive(Drop)]
+struct TakesAway {
+    listener: TcpListener,
+}
+
+impl Clock for TakesAway {
+    fn monotonic(&self) -> io::Result<Duration> {
+        Ok(Duration::from_secs(41))
+    }
+
+    fn since_1970(&self) -> io::Result<Duration> {
+        let _gone = self.listener.accept()?;
+        Ok(Duration::from_secs(41))
+    }
+}
+
+/// Two clients wait. The server takes the first and then looks at the clock, which takes the second away.
+fn is_looked_at_behind<B: DeskBook>(rt: &HostRuntime) -> Result<(), Mismatch> {
+    let mut server = Server::<B>::new(rt)?;
+    server.add_last_client(rt, &[POST_UP_TIME, GET_UP_TIME])?;
+    server.add_last_client(rt, &[POST_UP_TIME, GET_UP_TIME])?;
+    let clock = TakesAway {
+        listener: server.listener.try_clone()?,
+    };
+    server.serve(&clock, 1, "served 1\n")?;
+    server.take_each(rt, &[Gets(0, &[Success(IPP, UP_FOR_42)])])
+}
+
+#[test]
+fn a_moment_that_is_looked_at_behind_the_client(rt: HostRuntime) -> Result<(), Mismatch> {
+    is_looked_at_behind::<MemoryBook>(&rt)
 }

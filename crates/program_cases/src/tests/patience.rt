@@ -1,6 +1,6 @@
 //! Clients that keep a connection and say nothing, or don't read. Each costs the server its timeout. And connections whose time is over.
 
-use crate::tests::clients::POST_TOO_LARGE;
+use crate::tests::clients::{ASKED_TO_END, POST_TOO_LARGE};
 use crate::tests::server::Step::{Gets, GetsFront, Sends, SendsLast, Serves};
 use crate::tests::server::{Server, Step, take_steps};
 use crate::tests::sockets::AT;
@@ -14,8 +14,9 @@ use http_desk::requests::{GET_DOCUMENT, IPP, OCTETS, POST_JOB, POST_RELEASE};
 use std::alloc::Global;
 use std::cell::Cell;
 use std::io;
-use std::io::Write;
+use std::io::{Read, Write};
 use std::net::TcpStream;
+use std::num::NonZeroU32;
 use std::rt::Clock;
 use std::time::Duration;
 
@@ -151,36 +152,44 @@ impl Clock for Leaps {
     }
 }
 
-/// A client prints while this clock goes, and the server prints this line of it. Another that prints then is served in time, and gets this job.
+/// A client prints while this clock goes, and the server prints this line of it. Then these steps are taken in time; the client is number 0.
 fn prints_by<B: DeskBook>(
     rt: &HostRuntime,
     clock: &Leaps,
     line: &str,
-    job: &[u8],
+    behind: &[Step<'_>],
 ) -> Result<(), Mismatch> {
     let mut server = Server::<B>::new(rt)?;
     server.add_last_client(rt, &[POST_JOB, PRINT_JOB])?;
     server.serve(clock, 1, line)?;
-    server.take_each(
-        rt,
-        &[
-            PRINTS,
-            Serves(1, "served 1\n"),
-            Gets(1, &[Success(IPP, job)]),
-        ],
-    )
+    server.take_each(rt, behind)
 }
+
+/// Its request has acted, and it gets no answer.
+const ACTED: &[Step<'static>] = &[
+    GETS_NOTHING,
+    PRINTS,
+    Serves(1, "served 1\n"),
+    Gets(1, &[Success(IPP, JOB_2)]),
+];
+
+/// Its request was not read.
+const UNREAD: &[Step<'static>] = &[
+    PRINTS,
+    Serves(1, "served 1\n"),
+    Gets(1, &[Success(IPP, JOB_1)]),
+];
 
 /// A connection has a minute in all, 60 timeouts of a second. In its last second the request is still read and acts; then its answer is not written any more.
 #[test]
 fn the_last_second_of_a_connection(rt: HostRuntime) -> Result<(), Mismatch> {
-    prints_by::<MemoryBook>(&rt, &Leaps::by(59), "served 1\n", JOB_2)
+    prints_by::<MemoryBook>(&rt, &Leaps::by(59), "served 1\n", ACTED)
 }
 
 /// Behind it the request is not read any more.
 #[test]
 fn a_connection_whose_time_is_over(rt: HostRuntime) -> Result<(), Mismatch> {
-    prints_by::<MemoryBook>(&rt, &Leaps::by(60), "served 0\n", JOB_1)
+    prints_by::<MemoryBook>(&rt, &Leaps::by(60), "served 0\n", UNREAD)
 }
 
 /// A clock by which a client sends on: at each look at it some bytes more.
@@ -222,4 +231,68 @@ fn a_client_that_sends_without_end(rt: HostRuntime) -> Result<(), Mismatch> {
         reads.checked_sub(seconds) == Some(246),
         "a client that is left",
     )
+}
+
+/// The seconds for which a patient server waits for a client.
+const LONG_PATIENCE: u32 = 40;
+
+/// Behind the end of a connection a client that keeps its side open is waited for a second, however long the timeout.
+fn is_left_soon<B: DeskBook>(rt: &HostRuntime) -> Result<(), Mismatch> {
+    let Some(timeout) = NonZeroU32::new(LONG_PATIENCE) else {
+        return Err(AT.not("a timeout"));
+    };
+    let mut server = Server::<B>::new(rt)?;
+    server.timeout = timeout;
+    let began = rt.monotonic()?;
+    server.take_each(rt, ASKED_TO_END)?;
+    let waited = rt.monotonic()?.saturating_sub(began);
+    let longest = Duration::from_secs(u64::from(LONG_PATIENCE));
+    AT.is_so(waited < longest, "a client that is left before the timeout")
+}
+
+#[test]
+fn a_client_that_stays_behind_the_end(rt: HostRuntime) -> Result<(), Mismatch> {
+    is_left_soon::<MemoryBook>(&rt)
+}
+
+/// A clock by which a client reads on: at each look at it what has come, up to the end where that has come too.
+#[derive(Drop)]
+struct ReadsOn<'a> {
+    client: &'a TcpStream,
+    has_ended: Cell<bool>,
+}
+
+impl Clock for ReadsOn<'_> {
+    fn monotonic(&self) -> io::Result<Duration> {
+        let mut client = self.client;
+        let mut bytes = [0; 4096];
+        for _ in 0..2 {
+            if matches!(client.read(bytes.as_mut_slice()), Ok(0)) {
+                self.has_ended.set(true);
+            }
+        }
+        Ok(Duration::from_secs(0))
+    }
+
+    fn since_1970(&self) -> io::Result<Duration> {
+        Ok(Duration::from_secs(41))
+    }
+}
+
+/// Behind its last answer a client gets the end of the connection while its own side is still open and waited for.
+fn is_told_the_end<B: DeskBook>(rt: &HostRuntime) -> Result<(), Mismatch> {
+    let mut server = Server::<B>::new(rt)?;
+    let client = server.client(rt, &[b"GET /device/queue HTTP/1.0\r\n\r\n"])?;
+    client.set_read_timeout(Some(Duration::from_millis(100)))?;
+    let clock = ReadsOn {
+        client: &client,
+        has_ended: Cell::new(false),
+    };
+    server.serve(&clock, 1, "served 0\n")?;
+    AT.is_so(clock.has_ended.get(), "that no more comes")
+}
+
+#[test]
+fn a_client_that_is_told_the_end(rt: HostRuntime) -> Result<(), Mismatch> {
+    is_told_the_end::<MemoryBook>(&rt)
 }

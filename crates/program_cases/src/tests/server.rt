@@ -1,6 +1,6 @@
 //! A server on a port of the loopback interface with its clients, and what they do in turn.
 
-use crate::tests::sockets::{AT, Clients, client_at};
+use crate::tests::sockets::{AT, Clients, client_at, last_client_at};
 use http_desk::books::DeskBook;
 use http_desk::compare::{Mismatch, no_book};
 use http_desk::connection::Wanted;
@@ -12,11 +12,11 @@ use queue_types::settings::Settings;
 use std::alloc::Global;
 use std::io;
 use std::io::{ErrorKind, Write};
-use std::net::{Shutdown, SocketAddr, TcpListener, TcpStream};
+use std::net::{SocketAddr, TcpListener, TcpStream};
 use std::num::NonZeroU32;
 use std::rt::Clock;
 
-/// The seconds that a server of a test waits for a client.
+/// The seconds that a server of a test waits for a client, unless it is told otherwise.
 const PATIENCE: NonZeroU32 = NonZeroU32::MIN;
 
 /// What is done next.
@@ -54,11 +54,14 @@ fn mismatch_of(stopped: ServerFault) -> Mismatch {
 #[derive(Drop)]
 pub(super) struct Server<B: QueueBook> {
     alloc: Global,
-    listener: TcpListener,
+    /// Where its clients wait.
+    pub(super) listener: TcpListener,
     address: SocketAddr,
     settings: Settings,
     book: B,
     clients: Clients,
+    /// The seconds that it waits for a client.
+    pub(super) timeout: NonZeroU32,
 }
 
 impl<B: DeskBook> Server<B> {
@@ -83,6 +86,7 @@ impl<B: QueueBook + Drop> Server<B> {
             settings,
             book,
             clients: Clients::new(alloc),
+            timeout: PATIENCE,
         })
     }
 
@@ -103,8 +107,7 @@ impl<B: QueueBook + Drop> Server<B> {
         rt: &HostRuntime,
         parts: &[&[u8]],
     ) -> Result<(), Mismatch> {
-        let client = self.client(rt, parts)?;
-        client.shutdown(Shutdown::Write)?;
+        let client = last_client_at(rt, self.address, parts)?;
         self.clients.add(client)
     }
 
@@ -119,7 +122,7 @@ impl<B: QueueBook + Drop> Server<B> {
             alloc: self.alloc,
             listener: &self.listener,
             settings: &self.settings,
-            timeout: PATIENCE,
+            timeout: self.timeout,
         };
         service.serve_connections(clock, out, &mut self.book, connections)
     }

@@ -6,14 +6,14 @@ use crate::tests::folder::{
     At, DISK, DONE, FILE, Folder, ONLY_MADE, STORE, Step, StepFault, URI, WITH_AN_ACCOUNT, tell_to,
 };
 use crate::tests::listening::free_port;
-use crate::tests::sockets::{AT, Clients, client_at};
+use crate::tests::sockets::{AT, Clients, client_at, last_client_at};
 use http_desk::compare::Mismatch;
 use http_desk::connection::Wanted::Success;
 use http_desk::messages::{GET_UP_TIME, JOB_1, JOB_2, PRINT_JOB};
 use http_desk::requests::{IPP, POST_JOB, POST_UP_TIME};
 use std::io;
 use std::io::Write;
-use std::net::{Ipv4Addr, Shutdown, SocketAddr, TcpListener};
+use std::net::{Ipv4Addr, SocketAddr, TcpListener};
 use std::rt::Clock;
 use std::test::Fail;
 use std::time::Duration;
@@ -66,10 +66,11 @@ impl Greeter<'_> {
     fn add_clients(&mut self) -> Result<(), Mismatch> {
         let address = SocketAddr::from((Ipv4Addr::LOCALHOST, self.port));
         for parts in self.sends {
-            let client = client_at(self.folder.rt(), address, parts)?;
-            if !parts.is_empty() {
-                client.shutdown(Shutdown::Write)?;
-            }
+            let client = if parts.is_empty() {
+                client_at(self.folder.rt(), address, parts)?
+            } else {
+                last_client_at(self.folder.rt(), address, parts)?
+            };
             self.clients.add(client)?;
         }
         Ok(())
@@ -81,10 +82,11 @@ impl Greeter<'_> {
     }
 }
 
-/// A server of so many connections over a store, which waits a second for each, prints to a writer, and leaves this status and this line on standard error.
+/// A server of so many connections over a store, which waits so many seconds for each, prints to a writer, and leaves this status and this line on
+/// standard error.
 fn runs<O: Write>(
     folder: &Folder<'_>,
-    store: At<'_>,
+    (store, seconds): (At<'_>, &str),
     (port, connections): (u16, usize),
     out: &mut O,
     wanted: (u8, &str),
@@ -102,7 +104,7 @@ fn runs<O: Write>(
         "--connections",
         connections.as_str(),
         "--timeout",
-        "1",
+        seconds,
     ];
     tell_to(folder.rt(), &words, out, wanted)
 }
@@ -111,7 +113,7 @@ fn runs<O: Write>(
 /// these lines of them.
 fn served(
     folder: &Folder<'_>,
-    store: At<'_>,
+    (store, seconds): (At<'_>, &str),
     steps: &[Step<'_>],
     sends: &[&[&[u8]]],
     counts: &str,
@@ -127,7 +129,13 @@ fn served(
         clients: Clients::new(alloc),
         greeted: Ok(()),
     };
-    let ran = runs(folder, store, (port, sends.len()), &mut out, (0, ""));
+    let ran = runs(
+        folder,
+        (store, seconds),
+        (port, sends.len()),
+        &mut out,
+        (0, ""),
+    );
     out.greeted?;
     ran?;
     let lines = format!(in alloc; "listening 127.0.0.1:{port}\n{counts}")?;
@@ -145,7 +153,7 @@ fn serves(
     steps: &[Step<'_>],
     reply: &[u8],
 ) -> Result<(), Fail> {
-    let clients = served(folder, store, steps, PRINTS, "served 1\n")?;
+    let clients = served(folder, (store, "1"), steps, PRINTS, "served 1\n")?;
     clients.get(0, &[Success(IPP, reply)])?;
     Ok(())
 }
@@ -153,7 +161,7 @@ fn serves(
 /// Such a server can't begin: it prints nothing, and leaves this line on standard error.
 fn refuses(folder: &Folder<'_>, store: At<'_>, port: u16, wanted: &str) -> Result<(), Mismatch> {
     let mut out = Vec::new(folder.alloc());
-    runs(folder, store, (port, 1), &mut out, (1, wanted))?;
+    runs(folder, (store, "1"), (port, 1), &mut out, (1, wanted))?;
     AT.same_bytes(b"", out.as_slice())
 }
 
@@ -234,7 +242,7 @@ const ASKS_UP_TIME: &[&[&[u8]]] = &[&[POST_UP_TIME, GET_UP_TIME]];
 /// A printer is up from the second at which its store is made, the first of its moments.
 fn is_just_up(folder: &Folder<'_>) -> Result<(), Fail> {
     folder.take_each(ONLY_MADE)?;
-    let clients = served(folder, STORE, &[], ASKS_UP_TIME, "served 1\n")?;
+    let clients = served(folder, (STORE, "1"), &[], ASKS_UP_TIME, "served 1\n")?;
     let seconds = clients.get_integer(0)?;
     AT.is_so(seconds >= 1 && seconds <= 60, "the seconds since then")?;
     Ok(())
@@ -250,21 +258,19 @@ fn a_store_that_was_just_made(rt: HostRuntime) -> Result<(), Fail> {
 
 /// A client that is silent is served, and gets nothing.
 fn serve_a_silent_client(folder: &Folder<'_>) -> Result<(), Fail> {
-    let clients = served(folder, STORE, &[], &[&[]], "served 0\n")?;
+    let clients = served(folder, (STORE, "15"), &[], &[&[]], "served 0\n")?;
     clients.get(0, &[])?;
     Ok(())
 }
 
-/// A client that is silent is given up after the second that the words say.
+/// A client that is silent is given up after the fifteen seconds that the words say.
 fn is_given_up(rt: &HostRuntime, folder: &Folder<'_>) -> Result<(), Fail> {
     folder.take_each(ONLY_MADE)?;
     let began = rt.monotonic()?;
     serve_a_silent_client(folder)?;
     let waited = rt.monotonic()?.saturating_sub(began);
-    AT.is_so(
-        waited >= Duration::from_secs(1) && waited < Duration::from_secs(5),
-        "a second",
-    )?;
+    // by ten seconds longer than the default, so that it is the words that are heard, also where a store opens slowly
+    AT.is_so(waited >= Duration::from_secs(15), "fifteen seconds")?;
     Ok(())
 }
 
@@ -316,7 +322,7 @@ fn init_other(folder: &Folder<'_>) -> Result<(), Mismatch> {
 /// Both clients of its server are told so.
 fn are_told(folder: &Folder<'_>) -> Result<(), Fail> {
     let counts = "served 1\nserved 2\n";
-    let clients = served(folder, STORE, &[], ASK_THE_SETTINGS, counts)?;
+    let clients = served(folder, (STORE, "1"), &[], ASK_THE_SETTINGS, counts)?;
     clients.get(0, &[Success(IPP, NAMED_OTHER)])?;
     clients.get(1, &[Success(IPP, JOB_1), Success(IPP, OF_7_PAGES)])?;
     Ok(())

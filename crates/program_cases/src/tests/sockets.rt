@@ -5,7 +5,7 @@ use http_desk::connection::{Wanted, wanted_bytes};
 use std::alloc::{AllocError, Global};
 use std::io;
 use std::io::{Read, Write};
-use std::net::{SocketAddr, TcpStream};
+use std::net::{Shutdown, SocketAddr, TcpStream};
 use std::time::Duration;
 
 /// The seconds that a client waits for an answer that has been sent before it asks.
@@ -31,6 +31,17 @@ pub(super) fn client_at(
     for part in parts {
         client.write_all(part)?;
     }
+    Ok(client)
+}
+
+/// A client that has sent these parts and sends no more.
+pub(super) fn last_client_at(
+    rt: &HostRuntime,
+    address: SocketAddr,
+    parts: &[&[u8]],
+) -> io::Result<TcpStream> {
+    let client = client_at(rt, address, parts)?;
+    client.shutdown(Shutdown::Write)?;
     Ok(client)
 }
 
