@@ -54,7 +54,7 @@ struct NumberedPlan {
 
 impl NumberedPlan {
     /// The connection ends after the request.
-    fn closes(self) -> bool
+    fn closes_after(self) -> bool
         ensures { result ≡ (self.plan.closes || (self.k == last_request)) }
     {
         self.plan.closes || self.k == LAST_REQUEST
@@ -94,7 +94,7 @@ fn take_planned<R: Read, W: Write, B: QueueBook>(
             Finish::Refused(Refusal::ServiceUnavailable),
         ),
     };
-    let closes = numbered.closes();
+    let closes = numbered.closes_after();
     let request = Request {
         target: plan.target,
         content: content.as_slice(),

@@ -70,6 +70,7 @@ pub(crate) struct JobView<'a> {
     pub uri: &'a str,
     /// The moment of the reply.
     pub now: u32,
+    /// The attributes of each group, in order.
     pub rows: &'a [JobAttribute],
 }
 

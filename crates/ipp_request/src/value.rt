@@ -24,7 +24,7 @@ pub fn number(bytes: &[u8]) -> Option<u32>
     }
 }
 
-/// The greatest number of 4 bytes that stands for none below zero.
+/// The greatest number of 4 bytes that doesn't stand for one below zero (RFC 8010, section 3.9).
 const GREATEST_NUMBER: u32 = 2_147_483_647;
 
 /// At least 1, and not one that stands for a number below zero.

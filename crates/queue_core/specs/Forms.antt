@@ -1,4 +1,4 @@
--- The forms of what is decided on a call: the machine's table, from its right side.
+-- What may be decided on a call, read from the decision: a law over the machine's table.
 use Rattle.std.specs.Prelude.{◌≡◌, ℕ, List, [], ◌∷◌, Option, None, Bool, true, false, bytes_eq, filter}
 use Rattle.queue_types.specs.Event.{NewJob, Call, Decision, print_job, create_job, send_document, cancel_job, cancel_my_jobs, hold_job, release_job, get_job_attributes, get_jobs, get_printer_attributes}
 use Rattle.queue_types.specs.Job.{estimate}

@@ -35,7 +35,7 @@ fn check_accounts<S: Alter>(alloc: Global, conn: &mut Connection<S>) -> Result<(
 }
 
 /// The rows of the sound queue that the tables hold. Damaged is told only where they hold none. The tables stay as they were, where the
-/// connection is still open.
+/// connection is still open. Within a transaction it answers Disk, unless a table is missing.
 pub fn load_queue<S: Alter>(alloc: Global, conn: &mut Connection<S>) -> Result<Rows, Fault>
     ensures leaves { LeavesTables (state S.Store conn.old) (state S.Store conn.new) }
     ensures same { HasCleanDisk (state S.Store conn.new) → OnOk result (IsUnchanged (state S.Store conn.old) (state S.Store conn.new)) }

@@ -7,7 +7,7 @@ use crate::rows::{MetaRow, SCHEMA};
 use queue_types::settings::{SettingFault, Settings};
 use std::alloc::{AllocError, Global};
 
-/// The settings in the row. Bad where they are not within their limits.
+/// The settings in the row. Bad exactly where they are not within their limits; its other error is want of memory.
 pub fn settings_of(alloc: Global, row: &MetaRow) -> Result<Settings, SettingFault>
     ensures ok { IfOk result (λ s. s ≡ settings_in row.now) }
     ensures fits { IsOk result → AreSettings (settings_in row.now) }

@@ -16,7 +16,7 @@ pub const SCHEMA: u32 = 1;
 pub struct MetaRow {
     /// The key, always 1.
     pub one: u32,
-    /// The number of the schema, 1.
+    /// The number of the schema, [`SCHEMA`].
     pub schema: u32,
     /// The printer's URI, as are the next three a value of its settings.
     pub uri: Text,

@@ -24,7 +24,7 @@ use queue_types::settings::{SettingFault, Settings};
 use sqlite::{Alter, Connection};
 use std::alloc::Global;
 
-/// The settings in the row of the book itself. Damaged is told only where they are not within their limits.
+/// The settings in the one row of the book itself. Damaged is told only where there isn't just one row, or its settings are not within their limits.
 fn settings_in_rows(alloc: Global, rows: &Rows) -> Result<Settings, Fault>
     ensures ok { IfOk result (λ s. (m : MetaValue) → (tables_in rows.now).meta ≡ m ∷ [] → s ≡ settings_in m) }
     ensures damaged { IfErr result (λ e. e ≡ Damaged → (m : MetaValue) → (tables_in rows.now).meta ≡ m ∷ [] → ¬ AreSettings (settings_in m)) }

@@ -1,4 +1,5 @@
-//! Clients that keep a connection and say nothing, or don't read. Each costs the server its timeout. And connections whose time is over.
+//! Clients that keep a connection and say nothing, or don't read: each costs the server its timeout. Connections whose time is over, and clients that stay
+//! behind the end of theirs.
 
 use crate::tests::clients::{ASKED_TO_END, POST_TOO_LARGE};
 use crate::tests::server::Step::{Gets, GetsFront, Sends, SendsLast, Serves};

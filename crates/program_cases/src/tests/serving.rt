@@ -82,6 +82,9 @@ impl Greeter<'_> {
     }
 }
 
+/// The seconds for which most servers of these tests wait for a client, as the words say it.
+const A_SECOND: &str = "1";
+
 /// A server of so many connections over a store, which waits so many seconds for each, prints to a writer, and leaves this status and this line on
 /// standard error.
 fn runs<O: Write>(
@@ -153,7 +156,7 @@ fn serves(
     steps: &[Step<'_>],
     reply: &[u8],
 ) -> Result<(), Fail> {
-    let clients = served(folder, (store, "1"), steps, PRINTS, "served 1\n")?;
+    let clients = served(folder, (store, A_SECOND), steps, PRINTS, "served 1\n")?;
     clients.get(0, &[Success(IPP, reply)])?;
     Ok(())
 }
@@ -161,7 +164,7 @@ fn serves(
 /// Such a server can't begin: it prints nothing, and leaves this line on standard error.
 fn refuses(folder: &Folder<'_>, store: At<'_>, port: u16, wanted: &str) -> Result<(), Mismatch> {
     let mut out = Vec::new(folder.alloc());
-    runs(folder, (store, "1"), (port, 1), &mut out, (1, wanted))?;
+    runs(folder, (store, A_SECOND), (port, 1), &mut out, (1, wanted))?;
     AT.same_bytes(b"", out.as_slice())
 }
 
@@ -242,7 +245,7 @@ const ASKS_UP_TIME: &[&[&[u8]]] = &[&[POST_UP_TIME, GET_UP_TIME]];
 /// A printer is up from the second at which its store is made, the first of its moments.
 fn is_just_up(folder: &Folder<'_>) -> Result<(), Fail> {
     folder.take_each(ONLY_MADE)?;
-    let clients = served(folder, (STORE, "1"), &[], ASKS_UP_TIME, "served 1\n")?;
+    let clients = served(folder, (STORE, A_SECOND), &[], ASKS_UP_TIME, "served 1\n")?;
     let seconds = clients.get_integer(0)?;
     AT.is_so(seconds >= 1 && seconds <= 60, "the seconds since then")?;
     Ok(())
@@ -269,7 +272,7 @@ fn is_given_up(rt: &HostRuntime, folder: &Folder<'_>) -> Result<(), Fail> {
     let began = rt.monotonic()?;
     serve_a_silent_client(folder)?;
     let waited = rt.monotonic()?.saturating_sub(began);
-    // by ten seconds longer than the default, so that it is the words that are heard, also where a store opens slowly
+    // ten seconds more than the default, so that what a store takes to open doesn't hide that the default was heard
     AT.is_so(waited >= Duration::from_secs(15), "fifteen seconds")?;
     Ok(())
 }
@@ -322,7 +325,7 @@ fn init_other(folder: &Folder<'_>) -> Result<(), Mismatch> {
 /// Both clients of its server are told so.
 fn are_told(folder: &Folder<'_>) -> Result<(), Fail> {
     let counts = "served 1\nserved 2\n";
-    let clients = served(folder, (STORE, "1"), &[], ASK_THE_SETTINGS, counts)?;
+    let clients = served(folder, (STORE, A_SECOND), &[], ASK_THE_SETTINGS, counts)?;
     clients.get(0, &[Success(IPP, NAMED_OTHER)])?;
     clients.get(1, &[Success(IPP, JOB_1), Success(IPP, OF_7_PAGES)])?;
     Ok(())

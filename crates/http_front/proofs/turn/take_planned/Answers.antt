@@ -62,8 +62,8 @@ returns-in-Ok-Answered-clause-planned g c = λ honest w st set.
       t.0,
       t.1,
       planned_answered (λ asks. Carries (g.B.QueueBook.crash_leaves c.args.book.now) (g.B.QueueBook.crash_leaves c.reply.new.book) asks c.args.context.now w t.0) c.args.context.now c.args.numbered.k w t.0 c.args.numbered.plan r s (g.W.Write.contents c.args.writer.now) (g.W.Write.contents c.send_continue.new.writer) (g.W.Write.contents c.reply.new.writer)
-          f.0 c.as_slice.result.now t.2.0 c.in-Ok-Answered.tally c.closes-closes.result c.in_ok-invited.ensures.ok
-          (body_as c.args.numbered.plan.framing f.0 c.in-Ok.content.items c.as_slice.result.now f.1 c.as_slice.ensures.value) f.2 t.2.1 t.2.2 t.2.3 c.closes-closes.ensures t.3,
+          f.0 c.as_slice.result.now t.2.0 c.in-Ok-Answered.tally c.closes_after-closes.result c.in_ok-invited.ensures.ok
+          (body_as c.args.numbered.plan.framing f.0 c.in-Ok.content.items c.as_slice.result.now f.1 c.as_slice.ensures.value) f.2 t.2.1 t.2.2 t.2.3 c.closes_after-closes.ensures t.3,
     )
 
 pub returns-in-Ok-Declined-clause-planned : goal.returns-in-Ok-Declined-clause-planned
@@ -91,8 +91,8 @@ returns-clause-planned g c = λ honest w st set.
       t.0,
       t.1,
       planned_broken (λ asks. Carries (g.B.QueueBook.crash_leaves c.args.book.now) (g.B.QueueBook.crash_leaves c.reply.new.book) asks c.args.context.now w t.0) c.args.context.now c.args.numbered.k w t.0 c.args.numbered.plan r s (g.W.Write.contents c.args.writer.now) (g.W.Write.contents c.send_continue.new.writer) (g.W.Write.contents c.reply.new.writer)
-          f.0 c.as_slice.result.now t.2.0 c.in-Err.stopped c.closes-closes.result c.in_ok-invited.ensures.ok
-          (body_as c.args.numbered.plan.framing f.0 c.in-Ok.content.items c.as_slice.result.now f.1 c.as_slice.ensures.value) f.2 t.2.1 t.2.2 t.2.3 c.closes-closes.ensures t.3,
+          f.0 c.as_slice.result.now t.2.0 c.in-Err.stopped c.closes_after-closes.result c.in_ok-invited.ensures.ok
+          (body_as c.args.numbered.plan.framing f.0 c.in-Ok.content.items c.as_slice.result.now f.1 c.as_slice.ensures.value) f.2 t.2.1 t.2.2 t.2.3 c.closes_after-closes.ensures t.3,
     )
 
 pub returns-in-Ok-Answered-clause-live : goal.returns-in-Ok-Answered-clause-live
