@@ -83,8 +83,11 @@ const POST_9: &[u8] =
 /// What the device is told of a report that was taken.
 const TAKEN: &[u8] = b"\r\n\r\nok ";
 
+/// How many calls are drawn from.
+pub const KINDS: usize = 45;
+
 /// The calls that are drawn.
-pub const ROWS: [Row; 45] = [
+pub static ROWS: [Row; KINDS] = [
     (
         3,
         Call::Message(0x02, ALICE, b"hi"),

@@ -2,7 +2,7 @@
 ghost use Rattle.std.specs.Prelude.{◌<◌};
 ghost use Rattle.queue_core.specs.Limits.{IsMoment};
 
-use crate::tests::calls::{ALL_WEIGHTS, Call, Drawn, LOOKS, LOOKS_AT_JOB, ROWS, stream_of};
+use crate::tests::calls::{ALL_WEIGHTS, Call, Drawn, KINDS, LOOKS, LOOKS_AT_JOB, ROWS, stream_of};
 use grants_csv::{Imported, import};
 use http_desk::books::{DeskBook, MemoryBook};
 use http_desk::compare::{Mismatch, Place};
@@ -306,7 +306,7 @@ fn look_at_all<A: DeskBook, B: DeskBook>(pair: &mut Pair<A, B>) -> Result<(), Mi
 /// From two queues comes the same, and each answer that is looked for.
 fn draw<A: DeskBook, B: DeskBook>(alloc: Global) -> Result<(), Mismatch> {
     let mut pair = Pair::<A, B>::new(alloc)?;
-    let mut counts = [0; ROWS.len()];
+    let mut counts = [0; KINDS];
     draw_calls(&mut pair, &mut counts)?;
     has_each(&pair.place(usize::MAX), &counts)?;
     look_at_all(&mut pair)
