@@ -77,8 +77,11 @@ pub held_by : {old new : State} → LeavesTables old new → HasCleanDisk new �
 held_by {old} {new} leaves clean c has = same_holds c new old has (sym (leaves.same clean has.live)) (leaves.opened clean has.live)
 
 -- tables that hold no queue held none
-pub none_before : {old new : State} → LeavesTables old new → HasCleanDisk new → IsTrue new.is_open → HoldNoQueue new → HoldNoQueue old
-none_before leaves clean live none = λ w sound has. none w sound (holds_after leaves clean (content_of w) has live)
+pub none_before : {old new : State} → LeavesTables old new → HasCleanDisk new → HoldNoQueue new → HoldNoQueue old
+none_before leaves clean hold = record {
+  live = leaves.opened clean hold.live;
+  none = λ w sound has. hold.none w sound (holds_after leaves clean (content_of w) has hold.live);
+}
 
 -- so it is behind a call of the connection
 pub survives_serves : (old new : State) (Commits : Trees → Type 0) → Survives old new Commits → KeepsServing old new

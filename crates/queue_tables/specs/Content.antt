@@ -89,6 +89,7 @@ HoldsWhileOpen c s = IsTrue s.is_open → Holds c s
 abbrev pub AreRowsOf : World → List Job → Type 0
 AreRowsOf w js = All (λ j. job_at j.number (rows w) ≡ Some j) js
 
--- the tables hold no sound queue
-abbrev pub HoldNoQueue : State → Type 0
-HoldNoQueue s = (w : World) → IsSound w → ¬ Holds (content_of w) s
+-- the connection is open, and its tables hold no sound queue
+pub record HoldNoQueue (s : State) : Type 0 where
+  pub live : IsTrue s.is_open
+  pub none : (w : World) → IsSound w → ¬ Holds (content_of w) s

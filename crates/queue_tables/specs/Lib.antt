@@ -9,6 +9,7 @@ pub mod Faults
 pub mod Queries
 pub mod Reads
 pub mod Leaving
+pub mod Telling
 pub mod Refusing
 pub mod Accounts
 pub mod Sizes

@@ -28,11 +28,11 @@ returns-clause-found g c clean w has =
     ap (λ (x : AccountPages). Some x) (pages_are w a some.0 c.in-Some.row.now c.in_ok-pages-in-Some.pages some.2 read.free read.reserved read.printed) ∙ ap (option_map (pages_of w a)) (sym some.1)
 
 pub returns-in_err-pages-in-Some-clause-damaged : goal.returns-in_err-pages-in-Some-clause-damaged
-returns-in_err-pages-in-Some-clause-damaged g c clean = err_after _ c.in_err-pages-in-Some.field-0.0 _ c.from_residual-in_err-pages-in-Some.ensures.1 (λ d w sound has.
-    let a = c.args.account.now in
-    let is = reads_account (state g.S.Store c.args.conn.now) (state g.S.Store c.select.new.conn) a c.in_ok-found.found.items w has (rw (c.params-to_sql.ensures) at (c.in_ok-found.ensures.shown clean)) in
-    let some = first_some (pages_values w a) c.in_ok-found.found.items c.in-Some.row.now (get w.free a) (search rules) is in
-    c.in_err-pages-in-Some.ensures.damaged d some.0 (reserved a w) (printed a w) some.2)
-
-pub returns-in_err-pages-in-Some-clause-opened : goal.returns-in_err-pages-in-Some-clause-opened
-returns-in_err-pages-in-Some-clause-opened g c clean = err_after _ c.in_err-pages-in-Some.field-0.0 _ c.from_residual-in_err-pages-in-Some.ensures.1 (λ d. c.select.ensures.leaves.opened clean (c.in_ok-found.ensures.live clean))
+returns-in_err-pages-in-Some-clause-damaged g c clean = err_after _ c.in_err-pages-in-Some.field-0.0 _ c.from_residual-in_err-pages-in-Some.ensures.1 (λ d. record {
+  live = c.select.ensures.leaves.opened clean (c.in_ok-found.ensures.live clean);
+  none = λ w sound has.
+      let a = c.args.account.now in
+      let is = reads_account (state g.S.Store c.args.conn.now) (state g.S.Store c.select.new.conn) a c.in_ok-found.found.items w has (rw (c.params-to_sql.ensures) at (c.in_ok-found.ensures.shown clean)) in
+      let some = first_some (pages_values w a) c.in_ok-found.found.items c.in-Some.row.now (get w.free a) (search rules) is in
+      c.in_err-pages-in-Some.ensures.damaged d some.0 (reserved a w) (printed a w) some.2;
+})
