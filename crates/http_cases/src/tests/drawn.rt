@@ -2,7 +2,9 @@
 ghost use Rattle.std.specs.Prelude.{◌<◌};
 ghost use Rattle.queue_core.specs.Limits.{IsMoment};
 
-use crate::tests::calls::{ALL_WEIGHTS, Call, Drawn, KINDS, LOOKS, LOOKS_AT_JOB, ROWS, stream_of};
+use crate::tests::calls::{
+    ALL_WEIGHTS, Call, Drawn, KINDS, LOOKS, LOOKS_AT_JOB, ROWS, Row, stream_of,
+};
 use grants_csv::{Imported, import};
 use http_desk::books::{DeskBook, MemoryBook};
 use http_desk::compare::{Mismatch, Place};
@@ -45,10 +47,10 @@ impl Draws {
         (self.state >> 8) % bound
     }
 
-    /// The place of a row.
-    fn row(&mut self) -> usize {
+    /// The place of one of these rows.
+    fn row(&mut self, rows: &[Row]) -> usize {
         let mut rest = self.below(ALL_WEIGHTS);
-        for (place, row) in ROWS.iter().enumerate() {
+        for (place, row) in rows.iter().enumerate() {
             if rest < row.0 {
                 return place;
             }
@@ -232,18 +234,18 @@ fn has_part(bytes: &[u8], part: &[u8]) -> bool {
     part.is_empty() || bytes.windows(part.len()).any(|front| front == part)
 }
 
-/// Draws a call, and counts it where its answer has what is looked for.
+/// Draws one of these calls, and counts it where its answer has what is looked for.
 fn draw_call<A: DeskBook, B: DeskBook>(
     pair: &mut Pair<A, B>,
     draws: &mut Draws,
-    counts: &mut [u32],
+    (rows, counts): (&[Row], &mut [u32]),
     moment: u32,
 ) -> Result<(), Mismatch>
     requires { IsMoment moment }
 {
-    let place = draws.row();
+    let place = draws.row(rows);
     let drawn = draws.drawn(moment);
-    if let (Some((_, call, part, _)), Some(count)) = (ROWS.get(place), counts.get_mut(place)) {
+    if let (Some((_, call, part, _)), Some(count)) = (rows.get(place), counts.get_mut(place)) {
         pair.send(moment, *call, drawn)?;
         if has_part(pair.from_other.as_slice(), part) {
             *count = count.saturating_add(1);
@@ -252,9 +254,10 @@ fn draw_call<A: DeskBook, B: DeskBook>(
     Ok(())
 }
 
-/// Draws all, each at a moment of its own. Account files come between them.
+/// Draws all of these calls, each at a moment of its own. Account files come between them.
 fn draw_calls<A: DeskBook, B: DeskBook>(
     pair: &mut Pair<A, B>,
+    rows: &[Row],
     counts: &mut [u32],
 ) -> Result<(), Mismatch> {
     let mut draws = Draws { state: 10 };
@@ -262,14 +265,14 @@ fn draw_calls<A: DeskBook, B: DeskBook>(
         if moment % UNTIL_GRANT == 1 {
             pair.grant(moment)?;
         }
-        draw_call(pair, &mut draws, counts, moment)?;
+        draw_call(pair, &mut draws, (rows, counts), moment)?;
     }
     Ok(())
 }
 
-/// Each answer that was looked for came.
-fn has_each(place: &Place, counts: &[u32]) -> Result<(), Mismatch> {
-    for (row, count) in ROWS.iter().zip(counts) {
+/// Each answer that was looked for in these rows came.
+fn has_each(place: &Place, rows: &[Row], counts: &[u32]) -> Result<(), Mismatch> {
+    for (row, count) in rows.iter().zip(counts) {
         place.is_so(*count > 0, row.3)?;
     }
     Ok(())
@@ -303,16 +306,16 @@ fn look_at_all<A: DeskBook, B: DeskBook>(pair: &mut Pair<A, B>) -> Result<(), Mi
     pair.compare_pages("bob")
 }
 
-/// From two queues comes the same, and each answer that is looked for.
-fn draw<A: DeskBook, B: DeskBook>(alloc: Global) -> Result<(), Mismatch> {
+/// From two queues comes the same for calls that are drawn from these, and each answer that is looked for.
+fn draw<A: DeskBook, B: DeskBook>(alloc: Global, rows: &[Row]) -> Result<(), Mismatch> {
     let mut pair = Pair::<A, B>::new(alloc)?;
     let mut counts = [0; KINDS];
-    draw_calls(&mut pair, &mut counts)?;
-    has_each(&pair.place(usize::MAX), &counts)?;
+    draw_calls(&mut pair, rows, &mut counts)?;
+    has_each(&pair.place(usize::MAX), rows, &counts)?;
     look_at_all(&mut pair)
 }
 
 #[test]
 fn five_hundred_connections_in_a_row(rt: HostRuntime) -> Result<(), Mismatch> {
-    draw::<ListBook, MemoryBook>(rt.alloc())
+    draw::<ListBook, MemoryBook>(rt.alloc(), &ROWS)
 }

@@ -1,7 +1,7 @@
 //! The moment of a connection.
 
-use crate::tests::server::Server;
-use crate::tests::server::Step::Gets;
+use crate::tests::server::Step::{Gets, SendsLast};
+use crate::tests::server::{Server, Step};
 use crate::tests::sockets::AT;
 use http_desk::books::{DeskBook, MemoryBook};
 use http_desk::compare::Mismatch;
@@ -51,11 +51,27 @@ impl Clock for StandsAt41 {
     }
 }
 
+/// A client asks for the printer's up time.
+const ASKS: Step<'static> = SendsLast(&[POST_UP_TIME, GET_UP_TIME]);
+
+/// The first is told of 42 seconds.
+const IS_TOLD: &[Step<'static>] = &[Gets(0, &[Success(IPP, UP_FOR_42)])];
+
+/// Clients come, a server serves one of them by this clock, and the first is told of 42 seconds.
+fn is_served_by<B: DeskBook, C: Clock>(
+    rt: &HostRuntime,
+    server: &mut Server<B>,
+    clients: &[Step<'_>],
+    clock: &C,
+) -> Result<(), Mismatch> {
+    server.take_each(rt, clients)?;
+    server.serve(clock, 1, "served 1\n")?;
+    server.take_each(rt, IS_TOLD)
+}
+
 fn is_served_by_the_clock<B: DeskBook>(rt: &HostRuntime) -> Result<(), Mismatch> {
     let mut server = Server::<B>::new(rt)?;
-    server.add_last_client(rt, &[POST_UP_TIME, GET_UP_TIME])?;
-    server.serve(&StandsAt41, 1, "served 1\n")?;
-    server.take_each(rt, &[Gets(0, &[Success(IPP, UP_FOR_42)])])
+    is_served_by(rt, &mut server, &[ASKS], &StandsAt41)
 }
 
 /// A printer that was up at second 0 is up for 42 seconds at second 41.
@@ -84,13 +100,10 @@ impl Clock for TakesAway {
 /// Two clients wait. The server takes the first and then looks at the clock, which takes the second away.
 fn is_looked_at_behind<B: DeskBook>(rt: &HostRuntime) -> Result<(), Mismatch> {
     let mut server = Server::<B>::new(rt)?;
-    server.add_last_client(rt, &[POST_UP_TIME, GET_UP_TIME])?;
-    server.add_last_client(rt, &[POST_UP_TIME, GET_UP_TIME])?;
     let clock = TakesAway {
         listener: server.listener.try_clone()?,
     };
-    server.serve(&clock, 1, "served 1\n")?;
-    server.take_each(rt, &[Gets(0, &[Success(IPP, UP_FOR_42)])])
+    is_served_by(rt, &mut server, &[ASKS, ASKS], &clock)
 }
 
 #[test]
