@@ -1,38 +1,39 @@
 -- Places that are alike and differ.
-use Rattle.std.proofs.Common.{◌≡◌, ℕ, ◌+◌, List, refl, ap, sym, ◌∙◌, inr, arith, true, false}
-use Rattle.std.specs.Prelude.{Some, None, nat_eq, bytes_eq, not}
+use Rattle.std.proofs.Common.{◌≡◌, ℕ, ◌+◌, List, refl, ap, sym, ◌∙◌, subst, inr, arith, true, false}
+use Rattle.std.specs.Prelude.{Some, nat_eq, bytes_eq, not}
 use Rattle.std.proofs.lemmas.Bool.{ne_eqb}
-use Rattle.queue_types.specs.Event.{Call, Event, NewJob, ask, print_job}
-use Rattle.queue_core.specs.Machine.{step}
-use Rattle.queue_core.specs.Runs.{Place}
-use Rattle.queue_core.specs.Sound.{IsSound}
+use Rattle.queue_types.specs.Event.{Call, Event, ask}
 use Rattle.queue_core.specs.World.{World}
-use Rattle.queue_types.specs.declared.document.Format.{Format}
-use Rattle.queue_laws.specs.Alike.{IsAlikePlace, draws}
+use Rattle.queue_laws.specs.Alike.{IsAlikePlace, IsOthersPrint, place_of, idle, is_others, draws}
 use Rattle.queue_laws.specs.Calls.{draws_number}
 use Rattle.queue_laws.specs.Replies.{refuses}
+use Rattle.queue_laws.specs.Steps.{after, answer}
 use Rattle.queue_laws.proofs.Base.{itself}
 use Rattle.queue_laws.proofs.Entered.{printed}
 use Rattle.queue_laws.proofs.Undrawn.{next_kept}
 
-abbrev asks : ℕ → List ℕ → Call → Place
-asks now caller call = record { now = now; event = Some (ask caller call) }
+module _ (u : List ℕ) (w : World) (now : ℕ) (e : Event) (print : IsOthersPrint u w now e) where
+  print_draws : draws w (place_of now e) ≡ true
+  print_draws = subst (λ e. refuses (answer w now e) ≡ false → draws w (place_of now e) ≡ true) (sym print.is)
+      (λ taken.
+      ap (λ n. not (nat_eq n w.next)) (printed w now print.caller print.new print.payload.format print.payload.bytes print.sound taken).next
+      ∙ ap not (ne_eqb (w.next + 1) w.next (λ same. omega arith)))
+      print.taken
 
-print_draws : (w : World) (now : ℕ) (caller : List ℕ) (j : NewJob) (format : Format) (bytes : List ℕ) → IsSound w → refuses (step w now (ask caller (print_job j format bytes))).reply ≡ false → draws w (asks now caller (print_job j format bytes)) ≡ true
-print_draws w now caller j format bytes sound taken = ap (λ n. not (nat_eq n w.next)) (printed w now caller j format bytes sound taken).next ∙ ap not (ne_eqb (w.next + 1) w.next (λ same. omega arith))
+  is_anothers : is_others u (Some e) ≡ true
+  is_anothers = ap (λ e. is_others u (Some e)) print.is ∙ ap not print.other
 
-pub prints_alike : (u bob carol : List ℕ) (w v : World) (now : ℕ) (j k : NewJob) (f g : Format) (b c : List ℕ) → IsSound w → IsSound v → bytes_eq bob u ≡ false → bytes_eq carol u ≡ false
-    → refuses (step w now (ask bob (print_job j f b))).reply ≡ false → refuses (step v now (ask carol (print_job k g c))).reply ≡ false → IsAlikePlace u w v (asks now bob (print_job j f b)) (asks now carol (print_job k g c))
-prints_alike u bob carol w v now j k f g b c w_sound v_sound not_bob not_carol w_taken v_taken = record {
+pub prints_alike : (u : List ℕ) (w v : World) (now : ℕ) (e f : Event) → IsOthersPrint u w now e → IsOthersPrint u v now f → IsAlikePlace u w v (place_of now e) (place_of now f)
+prints_alike u w v now e f one other = record {
   now = refl;
-  event = inr (ap not not_bob, ap not not_carol);
-  draw = λ others. print_draws w now bob j f b w_sound w_taken ∙ sym (print_draws v now carol k g c v_sound v_taken);
+  event = inr (is_anothers u w now e one, is_anothers u v now f other);
+  draw = λ others. print_draws u w now e one ∙ sym (print_draws u v now f other);
 }
 
 abbrev pub RefusedStay : Type 0
-RefusedStay = (w : World) (now : ℕ) (e : Event) → refuses (step w now e).reply ≡ true → (step w now e).world ≡ w
+RefusedStay = (w : World) (now : ℕ) (e : Event) → refuses (answer w now e) ≡ true → after w now e ≡ w
 
-pub refused_alike : RefusedStay → (u bob : List ℕ) (w v : World) (now : ℕ) (call : Call) → bytes_eq bob u ≡ false → refuses (step w now (ask bob call)).reply ≡ true → IsAlikePlace u w v (asks now bob call) (record { now = now; event = None })
+pub refused_alike : RefusedStay → (u bob : List ℕ) (w v : World) (now : ℕ) (call : Call) → bytes_eq bob u ≡ false → refuses (answer w now (ask bob call)) ≡ true → IsAlikePlace u w v (place_of now (ask bob call)) (idle now)
 refused_alike stay u bob w v now call not_bob refused = record {
   now = refl;
   event = inr (ap not not_bob, refl);
@@ -41,7 +42,7 @@ refused_alike stay u bob w v now call not_bob refused = record {
       ∙ ap not (itself w.next ∙ sym (itself v.next));
 }
 
-pub undrawn_alike : (u bob : List ℕ) (w v : World) (now : ℕ) (call : Call) → bytes_eq bob u ≡ false → draws_number call ≡ false → IsAlikePlace u w v (asks now bob call) (record { now = now; event = None })
+pub undrawn_alike : (u bob : List ℕ) (w v : World) (now : ℕ) (call : Call) → bytes_eq bob u ≡ false → draws_number call ≡ false → IsAlikePlace u w v (place_of now (ask bob call)) (idle now)
 undrawn_alike u bob w v now call not_bob none = record {
   now = refl;
   event = inr (ap not not_bob, refl);

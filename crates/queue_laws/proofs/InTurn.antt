@@ -15,6 +15,7 @@ use Rattle.queue_types.specs.declared.event.FreeRow.{FreeRow}
 use Rattle.queue_types.specs.declared.event.GrantFault.{GrantFault}
 use Rattle.queue_types.specs.declared.event.GrantRow.{GrantRow}
 use Rattle.queue_types.specs.declared.event.Reply.TheVariants.{Added, NotAdded}
+use Rattle.queue_laws.specs.Steps.{after, answer, unchanged, LeadsTo}
 use Rattle.queue_laws.proofs.Filed.{AddUp, made, made_step, taken_of, no_added, added_parts}
 use Rattle.queue_laws.proofs.Taking.{Comes, IsTaken, known, file_taken}
 use Rattle.queue_laws.proofs.OneRow.{row_with}
@@ -174,10 +175,12 @@ module _ (add_up : AddUp) (w : World) (now : ℕ) (front rest : List GrantRow) w
   pub refused_first : (fault : GrantFault) (n : ℕ) → (step w now (grant front)).reply ≡ NotAdded fault n → step w now (grant (front ++ rest)) ≡ record { world = w; reply = NotAdded fault n }
   refused_first fault n e = in_turn ∙ front_refused w (length front) first second fault n e
 
-  pub refused_then : (added repeats : ℕ) (fault : GrantFault) (n : ℕ) → (step w now (grant front)).reply ≡ Added added repeats → (step (step w now (grant front)).world now (grant rest)).reply ≡ NotAdded fault n
-      → step w now (grant (front ++ rest)) ≡ record { world = w; reply = NotAdded fault (length front + n) }
-  refused_then added repeats fault n d e = in_turn ∙ rest_refused w (length front) first second added repeats fault n d e
+  pub refused_then : (v : World) (added repeats : ℕ) (fault : GrantFault) (n : ℕ) → LeadsTo w now (grant front) v (Added added repeats) → answer v now (grant rest) ≡ NotAdded fault n → step w now (grant (front ++ rest)) ≡ unchanged w (NotAdded fault (length front + n))
+  refused_then v added repeats fault n one two = in_turn ∙ rest_refused w (length front) first second added repeats fault n one.1 (ap (λ v. answer v now (grant rest)) one.0 ∙ two)
 
-  pub taken_then : (added repeats added_then repeats_then : ℕ) → (step w now (grant front)).reply ≡ Added added repeats → (step (step w now (grant front)).world now (grant rest)).reply ≡ Added added_then repeats_then
-      → step w now (grant (front ++ rest)) ≡ record { world = (step (step w now (grant front)).world now (grant rest)).world; reply = Added (added + added_then) (repeats + repeats_then) }
-  taken_then added repeats added_then repeats_then d e = in_turn ∙ both_taken w (length front) first second added repeats added_then repeats_then d e
+  pub taken_then : (v x : World) (added repeats added_then repeats_then : ℕ) → LeadsTo w now (grant front) v (Added added repeats) → LeadsTo v now (grant rest) x (Added added_then repeats_then)
+      → step w now (grant (front ++ rest)) ≡ record { world = x; reply = Added (added + added_then) (repeats + repeats_then) }
+  taken_then v x added repeats added_then repeats_then one two =
+      in_turn
+      ∙ both_taken w (length front) first second added repeats added_then repeats_then one.1 (ap (λ v. answer v now (grant rest)) one.0 ∙ two.1)
+      ∙ ap (λ x. unchanged x (Added (added + added_then) (repeats + repeats_then))) (ap (λ v. after v now (grant rest)) one.0 ∙ two.0)

@@ -1,6 +1,6 @@
 -- What becomes of a report by its kind and its job's state.
 use Rattle.std.proofs.Common.{◌≡◌, ℕ, ◌≤◌, ◌⊎◌, List, ◌∷◌, refl, ap, sym, ◌∙◌, arith, Bool, true, false, cond}
-use Rattle.std.specs.Prelude.{Option, Some, None, nat_eq, is_some, max, ◌&&◌}
+use Rattle.std.specs.Prelude.{Option, Some, None, nat_eq, is_some, ◌&&◌}
 use Rattle.std.specs.FinMap.{get}
 use Rattle.std.proofs.lemmas.Bool.{and_right, ne_eqb}
 use Rattle.queue_types.specs.Event.{tell, kind_number}
@@ -24,7 +24,8 @@ use Rattle.queue_types.specs.declared.job.Why.TheVariants.{ByUser, AtDevice}
 use Rattle.queue_types.specs.declared.states.JobState.{JobState}
 use Rattle.queue_types.specs.declared.states.JobState.TheVariants.{Processing, ProcessingStopped, Canceled as CanceledState, Aborted as AbortedState, Completed as CompletedState}
 use Rattle.queue_core.proofs.Moves.{at-with_row}
-use Rattle.queue_laws.specs.Reporting.{Becomes}
+use Rattle.queue_laws.specs.Jobs.{Waits, HasEnded}
+use Rattle.queue_laws.specs.Reporting.{Becomes, ended_by}
 use Rattle.queue_laws.proofs.Base.{at, itself, first_named, named, none_named}
 use Rattle.queue_laws.proofs.OfKind.{starts, stops, resumes, counts, completes, fails, halts, starts_not, stops_not, resumes_not, completes_not, fails_not, halts_not, some_begun, begun_some}
 use Rattle.queue_laws.proofs.OneDone.{by, few_waiting}
@@ -82,13 +83,14 @@ module _ (w : World) (now : ℕ) (r : Report) where
     number : j.number ≡ r.job
     number = (first_named r.job (rows w) j rest (named r.job (rows w) j there).is).1
 
-    becomes : get w.reports (r.job, r.seq) ≡ None → (n : JobState) (x : Job) → reported r now j ≡ Some x → x.number ≡ j.number → job_state x ≡ n → Becomes r n x (step w now (tell r))
+    becomes : get w.reports (r.job, r.seq) ≡ None → (n : JobState) (x : Job) → reported r now j ≡ Some (counted r.count x) → x.number ≡ j.number → job_state x ≡ n → Becomes r n x (step w now (tell r))
     becomes none n x is same in_state =
-        let comes = first_step none (Some x) is in
+        let y : Job = counted r.count x in
+        let comes = first_step none (Some y) is in
         record {
-          job = ap (λ (s : Step). at r.job s.world.jobs) comes ∙ at-with_row r.job x w.jobs ∙ ap (λ t. cond t (Some x) (at r.job w.jobs)) (ap (λ m. nat_eq m r.job) (same ∙ number) ∙ itself r.job);
+          job = ap (λ (s : Step). at r.job s.world.jobs) comes ∙ at-with_row r.job y w.jobs ∙ ap (λ t. cond t (Some y) (at r.job w.jobs)) (ap (λ m. nat_eq m r.job) (same ∙ number) ∙ itself r.job);
           state = in_state;
-          told = ap (λ (s : Step). s.reply) comes ∙ ap (λ m. Told m x.count) in_state;
+          told = ap (λ (s : Step). s.reply) comes ∙ ap (λ m. Told m y.count) in_state;
         }
 
     refused : get w.reports (r.job, r.seq) ≡ None → reported r now j ≡ None → step w now (tell r) ≡ record { world = w; reply = NotTold State }
@@ -103,31 +105,31 @@ module _ (w : World) (now : ℕ) (r : Report) where
     of_kind k o kind is = ap (λ k. moved_by k j.phase now y) kind ∙ is
 
     module _ (none : get w.reports (r.job, r.seq) ≡ None) where
-      pub started : r.kind ≡ Start → state j ≡ 3 → Becomes r Processing (record j { phase = Running; begun = Some now; count = max j.count r.count }) (step w now (tell r))
-      started kind is = becomes none Processing (record y { phase = Running; begun = Some now }) (of_kind Start _ kind (starts now y j.phase is)) refl refl
+      pub started : r.kind ≡ Start → state j ≡ 3 → Becomes r Processing (record j { phase = Running; begun = Some now }) (step w now (tell r))
+      started kind is = becomes none Processing (record j { phase = Running; begun = Some now }) (of_kind Start _ kind (starts now y j.phase is)) refl refl
 
-      pub stopped : r.kind ≡ Stop → state j ≡ 5 → Becomes r ProcessingStopped (record j { phase = Stopped; count = max j.count r.count }) (step w now (tell r))
-      stopped kind is = becomes none ProcessingStopped (record y { phase = Stopped }) (of_kind Stop _ kind (stops now y j.phase is)) refl refl
+      pub stopped : r.kind ≡ Stop → state j ≡ 5 → Becomes r ProcessingStopped (record j { phase = Stopped }) (step w now (tell r))
+      stopped kind is = becomes none ProcessingStopped (record j { phase = Stopped }) (of_kind Stop _ kind (stops now y j.phase is)) refl refl
 
-      pub resumed : r.kind ≡ Resume → state j ≡ 6 → Becomes r Processing (record j { phase = Running; count = max j.count r.count }) (step w now (tell r))
-      resumed kind is = becomes none Processing (record y { phase = Running }) (of_kind Resume _ kind (resumes now y j.phase is)) refl refl
+      pub resumed : r.kind ≡ Resume → state j ≡ 6 → Becomes r Processing (record j { phase = Running }) (step w now (tell r))
+      resumed kind is = becomes none Processing (record j { phase = Running }) (of_kind Resume _ kind (resumes now y j.phase is)) refl refl
 
-      pub counts_job : r.kind ≡ Count → (j.begun ≡ None → ⊥) → Becomes r (job_state j) (record j { count = max j.count r.count }) (step w now (tell r))
-      counts_job kind began = becomes none (job_state j) y (of_kind Count _ kind (counts now y j.phase true (some_begun j.begun began))) refl refl
+      pub counts_job : r.kind ≡ Count → (j.begun ≡ None → ⊥) → Becomes r (job_state j) j (step w now (tell r))
+      counts_job kind began = becomes none (job_state j) j (of_kind Count _ kind (counts now y j.phase true (some_begun j.begun began))) refl refl
 
-      pub done : r.kind ≡ Done → state j ≡ 5 → Becomes r CompletedState (record j { phase = Completed; stopping = false; ended = Some now; count = max j.count r.count }) (step w now (tell r))
-      done kind is = becomes none CompletedState (ended_as Completed now y) (of_kind Done _ kind (completes now y j.phase is)) refl refl
+      pub done : r.kind ≡ Done → state j ≡ 5 → Becomes r CompletedState (ended_by Completed now j) (step w now (tell r))
+      done kind is = becomes none CompletedState (ended_by Completed now j) (of_kind Done _ kind (completes now y j.phase is)) refl refl
 
-      pub failed : r.kind ≡ Fail → 5 ≤ state j → state j ≤ 6 → Becomes r AbortedState (record j { phase = Aborted; stopping = false; ended = Some now; count = max j.count r.count }) (step w now (tell r))
-      failed kind high low = becomes none AbortedState (ended_as Aborted now y) (of_kind Fail _ kind (fails now y j.phase high low)) refl refl
+      pub failed : r.kind ≡ Fail → 5 ≤ state j → state j ≤ 6 → Becomes r AbortedState (ended_by Aborted now j) (step w now (tell r))
+      failed kind high low = becomes none AbortedState (ended_by Aborted now j) (of_kind Fail _ kind (fails now y j.phase high low)) refl refl
 
-      halted : (b : Bool) → r.kind ≡ Halt → 5 ≤ state j → state j ≤ 6 → j.stopping ≡ b → Becomes r CanceledState (ended_as (Canceled (why_halted b)) now y) (step w now (tell r))
-      halted b kind high low asked = becomes none CanceledState (ended_as (Canceled (why_halted b)) now y) (of_kind Halt _ kind (halts now y j.phase high low) ∙ ap (λ b. Some (ended_as (Canceled (why_halted b)) now y)) asked) refl refl
+      halted : (b : Bool) → r.kind ≡ Halt → 5 ≤ state j → state j ≤ 6 → j.stopping ≡ b → Becomes r CanceledState (ended_by (Canceled (why_halted b)) now j) (step w now (tell r))
+      halted b kind high low asked = becomes none CanceledState (ended_by (Canceled (why_halted b)) now j) (of_kind Halt _ kind (halts now y j.phase high low) ∙ ap (λ b. Some (ended_as (Canceled (why_halted b)) now y)) asked) refl refl
 
-      pub halted_for_user : r.kind ≡ Halt → 5 ≤ state j → state j ≤ 6 → j.stopping ≡ true → Becomes r CanceledState (record j { phase = Canceled ByUser; stopping = false; ended = Some now; count = max j.count r.count }) (step w now (tell r))
+      pub halted_for_user : r.kind ≡ Halt → 5 ≤ state j → state j ≤ 6 → j.stopping ≡ true → Becomes r CanceledState (ended_by (Canceled ByUser) now j) (step w now (tell r))
       halted_for_user = halted true
 
-      pub halted_at_device : r.kind ≡ Halt → 5 ≤ state j → state j ≤ 6 → j.stopping ≡ false → Becomes r CanceledState (record j { phase = Canceled AtDevice; stopping = false; ended = Some now; count = max j.count r.count }) (step w now (tell r))
+      pub halted_at_device : r.kind ≡ Halt → 5 ≤ state j → state j ≤ 6 → j.stopping ≡ false → Becomes r CanceledState (ended_by (Canceled AtDevice) now j) (step w now (tell r))
       halted_at_device = halted false
 
       -- ---- not taken
@@ -150,10 +152,10 @@ module _ (w : World) (now : ℕ) (r : Report) where
       pub undone : r.kind ≡ Done → (state j ≡ 5 → ⊥) → IsRefused
       undone kind other = refused none (of_kind Done None kind (completes_not now y j.phase other))
 
-      pub unfailed : r.kind ≡ Fail → (state j ≤ 4) ⊎ (7 ≤ state j) → IsRefused
+      pub unfailed : r.kind ≡ Fail → Waits j ⊎ HasEnded j → IsRefused
       unfailed kind other = refused none (of_kind Fail None kind (fails_not now y j.phase other))
 
-      pub unhalted : r.kind ≡ Halt → (state j ≤ 4) ⊎ (7 ≤ state j) → IsRefused
+      pub unhalted : r.kind ≡ Halt → Waits j ⊎ HasEnded j → IsRefused
       unhalted kind other = refused none (of_kind Halt None kind (halts_not now y j.phase other))
 
     -- ---- a job that is there

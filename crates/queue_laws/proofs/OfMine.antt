@@ -19,7 +19,7 @@ use Rattle.queue_types.specs.declared.job.Phase.TheVariants.{Waiting, Running, S
 use Rattle.queue_types.specs.declared.event.Scene.{Scene}
 use Rattle.queue_core.proofs.Ordered.{each-filter}
 use Rattle.queue_core.proofs.Own.{moved_from}
-use Rattle.queue_laws.specs.Doing.{is_among}
+use Rattle.queue_laws.specs.Doing.{is_among, waiting_among}
 use Rattle.queue_laws.specs.Jobs.{waiting_of}
 use Rattle.queue_laws.specs.Replies.{refuses}
 use Rattle.queue_laws.proofs.Asked.{same_canceled}
@@ -94,7 +94,7 @@ asked false low among owing = refl
 
 -- ---- the free pages of the caller's account
 
-module _ (w : World) (now : ℕ) (caller : List ℕ) (free : ℤ) (account : get w.free caller ≡ Some free) (sound : IsSound w) where
+module _ (w : World) (now : ℕ) (caller : List ℕ) (free : ℤ) (sound : IsSound w) (account : get w.free caller ≡ Some free) where
   abbrev FreeBy : Decision → ℕ → Type 0
   FreeBy d pages = get (made_on d.change w).free caller ≡ Some (free +ℤ pos pages)
 
@@ -135,7 +135,7 @@ module _ (w : World) (now : ℕ) (caller : List ℕ) (free : ℤ) (account : get
     named = cut w (ask caller (cancel_my_jobs (Some numbers)))
 
     abbrev pages : ℕ
-    pages = sum_by owed (filter (λ j. is_among numbers j.number) (waiting_of caller (rows w)))
+    pages = sum_by owed (waiting_among numbers caller (rows w))
 
     abbrev FreeUnless : Decision → Type 0
     FreeUnless d = refuses d.reply ≡ false → FreeBy d pages

@@ -1,23 +1,24 @@
 -- What an operation on one job takes of its owner's free pages, and gives back.
-use Rattle.std.proofs.Common.{◌≡◌, ℕ, ℤ, pos, ◌+ℤ◌, ◌-ℤ◌, ◌+◌, ◌-◌, ◌≤◌, List, [], ◌∷◌, ◌++◌, refl, ap, ◌∙◌, arith, Bool, true, false, cond}
-use Rattle.std.specs.Prelude.{Some, bytes_eq, length, option_map, ◌≤ℤ◌}
+use Rattle.std.proofs.Common.{◌≡◌, ℕ, ℤ, pos, ◌+ℤ◌, ◌-ℤ◌, ◌+◌, ◌-◌, List, [], ◌∷◌, refl, ap, ◌∙◌, arith, Bool, true, false, cond}
+use Rattle.std.specs.Prelude.{Some, bytes_eq, option_map, ◌≤ℤ◌}
 use Rattle.std.specs.FinMap.{get}
 use Rattle.std.proofs.lemmas.Int.{ints}
 use Rattle.queue_types.specs.Event.{Call, ask, hold_job, release_job, cancel_job, send_document}
-use Rattle.queue_types.specs.Job.{is_live_in, is_live, state, estimate, owed}
+use Rattle.queue_types.specs.Job.{is_live_in, is_live, estimate, owed}
 use Rattle.queue_core.specs.World.{World, Entry, rows, cut, made_on, numbered}
 use Rattle.queue_core.specs.Machine.{Step, step, becomes, returned, sent, taken}
 use Rattle.queue_core.specs.Limits.{FitsPhase}
 use Rattle.queue_core.specs.Sound.{IsSound}
 use Rattle.queue_core.proofs.Own.{gives_back, moved_from}
-use Rattle.queue_types.specs.declared.document.Format.{Format}
+use Rattle.queue_types.specs.declared.document.Document.{Document}
 use Rattle.queue_types.specs.declared.job.Job.{Job}
 use Rattle.queue_types.specs.declared.job.Phase.{Phase}
-use Rattle.queue_types.specs.declared.job.Phase.TheVariants.{Waiting, Canceled}
-use Rattle.queue_types.specs.declared.job.Why.TheVariants.{ByUser}
+use Rattle.queue_types.specs.declared.job.Phase.TheVariants.{Waiting}
 use Rattle.queue_types.specs.declared.event.Scene.{Scene}
-use Rattle.queue_laws.specs.Doing.{entry_at}
-use Rattle.queue_laws.specs.Entering.{documents_of}
+use Rattle.queue_laws.specs.Calls.{sends}
+use Rattle.queue_laws.specs.Doing.{HasOwn, HasHeld, CanTake, canceled_by_user}
+use Rattle.queue_laws.specs.Jobs.{Waits, IsAtDevice}
+use Rattle.queue_laws.specs.Steps.{MovesFree}
 use Rattle.queue_laws.proofs.Base.{own_key, named}
 use Rattle.queue_laws.proofs.OneDone.{row_at, sound_entry, is_waiting}
 use Rattle.queue_laws.proofs.OnHold.{waiting_step as hold_step}
@@ -46,41 +47,41 @@ none_printed : (j : Job) (p : Phase) → p ≡ Waiting → FitsPhase p j → j.c
 none_printed j Waiting is fits = fits.0
 none_printed j _ is fits = absurd (cc)
 
-module _ (w : World) (now n : ℕ) (caller : List ℕ) (e : Entry) (there : entry_at n w.jobs ≡ Some e) (own : bytes_eq e.row.owner caller ≡ true) (free : ℤ) (account : get w.free caller ≡ Some free) where
-  free_after : (call : Call) → (cut w (ask caller call)).jobs ≡ numbered n (rows w) → (x : Job) → x.number ≡ e.row.number → x.owner ≡ e.row.owner → get (made_on (becomes (cut w (ask caller call)) x).change w).free caller ≡ Some (free +ℤ (pos (taken e.row) -ℤ pos (taken x)))
-  free_after call jobs x number owner =
+module _ (w : World) (now n : ℕ) (caller : List ℕ) (e : Entry) (free : ℤ) where
+  free_after : HasOwn caller n e w → get w.free caller ≡ Some free → (call : Call) → (cut w (ask caller call)).jobs ≡ numbered n (rows w) → (x : Job) → x.number ≡ e.row.number → x.owner ≡ e.row.owner → get (made_on (becomes (cut w (ask caller call)) x).change w).free caller ≡ Some (free +ℤ (pos (taken e.row) -ℤ pos (taken x)))
+  free_after own account call jobs x number owner =
       let s : Scene = cut w (ask caller call) in
-      let at = named n (rows w) e.row (row_at n w.jobs e there) in
+      let at = named n (rows w) e.row (row_at n w.jobs e own.there) in
       moved_from w.free caller caller s.jobs (x ∷ []) (get w.free caller) refl
       ∙ ap (λ t. cond t (option_map (λ f. f +ℤ returned s.jobs caller (x ∷ [])) (get w.free caller)) (get w.free caller)) (own_key caller caller refl)
       ∙ ap (option_map (λ f. f +ℤ returned s.jobs caller (x ∷ []))) account
-      ∙ ap (λ z. Some (free +ℤ z)) (ap (λ js. returned js caller (x ∷ [])) (jobs ∙ at.is) ∙ gives_back e.row x at.rest caller number ∙ ap (λ b. cond b (pos (taken e.row) -ℤ pos (taken x)) (pos 0)) (ap (λ a. bytes_eq a caller) owner ∙ own))
+      ∙ ap (λ z. Some (free +ℤ z)) (ap (λ js. returned js caller (x ∷ [])) (jobs ∙ at.is) ∙ gives_back e.row x at.rest caller number ∙ ap (λ b. cond b (pos (taken e.row) -ℤ pos (taken x)) (pos 0)) (ap (λ a. bytes_eq a caller) owner ∙ own.owned))
 
-  pub held_free : state e.row ≤ 4 → get (step w now (ask caller (hold_job n))).world.free caller ≡ Some (free +ℤ pos (owed e.row))
-  held_free low = ap (λ (s : Step). get s.world.free caller) (hold_step w now n caller e there own low)
-      ∙ free_after (hold_job n) refl (record e.row { hold = true }) refl refl
+  pub held_free : HasOwn caller n e w → Waits e.row → MovesFree w caller free (free +ℤ pos (owed e.row)) (step w now (ask caller (hold_job n)))
+  held_free own low account = ap (λ (s : Step). get s.world.free caller) (hold_step w now n caller e own low)
+      ∙ free_after own account (hold_job n) refl (record e.row { hold = true }) refl refl
       ∙ ap (λ k. Some (free +ℤ (pos (taken e.row) -ℤ pos (k + e.row.count)))) (nothing_owed (is_live e.row))
       ∙ ap Some (all_back (owed e.row) e.row.count free)
 
-  pub released_free : IsSound w → state e.row ≤ 4 → e.row.hold ≡ true → pos (estimate e.row) ≤ℤ free → get (step w now (ask caller (release_job n))).world.free caller ≡ Some (free -ℤ pos (estimate e.row))
-  released_free sound low held enough =
-      let here = sound_entry n w.jobs e sound.entries there in
-      let waits = is_waiting e.row low in
-      ap (λ (s : Step). get s.world.free caller) (enough_step w now n caller e there own low held free account enough)
-      ∙ free_after (release_job n) refl (record e.row { hold = false }) refl refl
-      ∙ ap Some (pays e.row.phase e.row.hold e.row.count (estimate e.row) free waits held (none_printed e.row e.row.phase waits here.row.phase))
+  pub released_free : HasHeld caller n e w → IsSound w → pos (estimate e.row) ≤ℤ free → MovesFree w caller free (free -ℤ pos (estimate e.row)) (step w now (ask caller (release_job n)))
+  released_free is sound enough account =
+      let here = sound_entry n w.jobs e sound.entries is.own.there in
+      let waits = is_waiting e.row is.waits in
+      ap (λ (s : Step). get s.world.free caller) (enough_step w now n caller e free is account enough)
+      ∙ free_after is.own account (release_job n) refl (record e.row { hold = false }) refl refl
+      ∙ ap Some (pays e.row.phase e.row.hold e.row.count (estimate e.row) free waits is.held (none_printed e.row e.row.phase waits here.row.phase))
 
-  pub canceled_free : state e.row ≤ 4 → get (step w now (ask caller (cancel_job n))).world.free caller ≡ Some (free +ℤ pos (owed e.row))
-  canceled_free low = ap (λ (s : Step). get s.world.free caller) (cancel_step w now n caller e there own low)
-      ∙ free_after (cancel_job n) refl (record e.row { phase = Canceled ByUser; hold = false; incoming = false; ended = Some now }) refl refl
+  pub canceled_free : HasOwn caller n e w → Waits e.row → MovesFree w caller free (free +ℤ pos (owed e.row)) (step w now (ask caller (cancel_job n)))
+  canceled_free own low account = ap (λ (s : Step). get s.world.free caller) (cancel_step w now n caller e own low)
+      ∙ free_after own account (cancel_job n) refl (canceled_by_user now e.row) refl refl
       ∙ ap Some (all_back (owed e.row) e.row.count free)
 
-  pub stopped_free : 5 ≤ state e.row → state e.row ≤ 6 → e.row.stopping ≡ false → get (step w now (ask caller (cancel_job n))).world.free caller ≡ Some free
-  stopped_free high low mark = ap (λ (s : Step). get s.world.free caller) (begun_step w now n caller e there own high low false mark)
-      ∙ free_after (cancel_job n) refl (record e.row { stopping = true }) refl refl
+  pub stopped_free : HasOwn caller n e w → IsAtDevice e.row → e.row.stopping ≡ false → MovesFree w caller free free (step w now (ask caller (cancel_job n)))
+  stopped_free own at mark account = ap (λ (s : Step). get s.world.free caller) (begun_step w now n caller e own at false mark)
+      ∙ free_after own account (cancel_job n) refl (record e.row { stopping = true }) refl refl
       ∙ ap Some (none_back (taken e.row) free)
 
-  pub sent_free : (format : Format) (payload : List ℕ) (last : Bool) → IsSound w → e.row.incoming ≡ true → length (e.documents ++ documents_of format payload) ≤ 16 → get (step w now (ask caller (send_document n format payload last))).world.free caller ≡ Some free
-  sent_free format payload last sound incoming few = ap (λ (s : Step). get s.world.free caller) (taken_step w now n caller e format payload last there own sound incoming few)
-      ∙ free_after (send_document n format payload last) refl (sent e.row payload last) refl refl
+  pub sent_free : (d : Document) (last : Bool) → HasOwn caller n e w → IsSound w → CanTake e d → MovesFree w caller free free (step w now (sends caller n d last))
+  sent_free d last own sound can account = ap (λ (s : Step). get s.world.free caller) (taken_step w now n caller e d last own sound can)
+      ∙ free_after own account (send_document n d.format d.bytes last) refl (sent e.row d.bytes last) refl refl
       ∙ ap Some (none_back (taken e.row) free)

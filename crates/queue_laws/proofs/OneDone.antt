@@ -1,17 +1,18 @@
 -- What becomes of the one job that an operation is about.
 use Rattle.std.proofs.Common.{◌≡◌, ℕ, ◌≤◌, List, [], ◌∷◌, map, refl, ap, subst, sym, ◌∙◌, arith, Bool, true, false, cond}
-use Rattle.std.specs.Prelude.{Some, nat_eq, bytes_eq, option_map}
+use Rattle.std.specs.Prelude.{Some, nat_eq, option_map}
 use Rattle.std.specs.List.{AllByRecursion as Each}
 use Rattle.std.proofs.lemmas.Option.{same_Some, none-some}
 use Rattle.queue_types.specs.Event.{Decision, NewDocument}
-use Rattle.queue_types.specs.Job.{state, state_in}
+use Rattle.queue_types.specs.Job.{state_in}
 use Rattle.queue_core.specs.World.{World, Entry, rows, made_on, numbered, with_row, add_document}
 use Rattle.queue_core.specs.Machine.{Step, becomes, of_own}
 use Rattle.queue_core.specs.Sound.{IsSoundEntry}
 use Rattle.queue_types.specs.declared.job.Job.{Job}
 use Rattle.queue_types.specs.declared.job.Phase.TheVariants.{Waiting}
 use Rattle.queue_types.specs.declared.event.Scene.{Scene}
-use Rattle.queue_laws.specs.Doing.{entry_at}
+use Rattle.queue_laws.specs.Doing.{entry_at, HasOwn, IsDone}
+use Rattle.queue_laws.specs.Jobs.{Waits}
 use Rattle.queue_laws.proofs.Base.{at, equal, itself}
 use Rattle.queue_laws.proofs.Callers.{document_row}
 use Rattle.queue_laws.proofs.OneJob.{of_job}
@@ -70,15 +71,18 @@ document_at n d (f ∷ es) =
 abbrev pub by : World → Decision → Step
 by w d = record { world = made_on d.change w; reply = d.reply }
 
-pub own_step : (w : World) (n : ℕ) (caller : List ℕ) (row : Job → Decision) (e : Entry) → entry_at n w.jobs ≡ Some e → bytes_eq e.row.owner caller ≡ true → of_own caller row (numbered n (rows w)) ≡ row e.row
-own_step w n caller row e there own = of_job caller (rows w) row n e.row (row_at n w.jobs e there) true own
+pub own_step : (w : World) (n : ℕ) (caller : List ℕ) (row : Job → Decision) (e : Entry) → HasOwn caller n e w → of_own caller row (numbered n (rows w)) ≡ row e.row
+own_step w n caller row e own = of_job caller (rows w) row n e.row (row_at n w.jobs e own.there) true own.owned
 
 pub becomes_at : (w : World) (n : ℕ) (s : Scene) (e : Entry) (x : Job) → entry_at n w.jobs ≡ Some e → x.number ≡ e.row.number → entry_at n (made_on (becomes s x).change w).jobs ≡ Some (record e { row = x })
 becomes_at w n s e x there same = with_row_at n x w.jobs e (same ∙ number_at n w.jobs e there) there
 
+pub done_by : (w : World) (n : ℕ) (s : Scene) (e : Entry) (x : Job) {t : Step} → entry_at n w.jobs ≡ Some e → x.number ≡ e.row.number → t ≡ by w (becomes s x) → IsDone n e x t
+done_by w n s e x there same is = record { job = ap (λ (t : Step). entry_at n t.world.jobs) is ∙ becomes_at w n s e x there same; reply = ap (λ (t : Step). t.reply) is }
+
 -- ---- states and phases
 
-pub is_waiting : (j : Job) → state j ≤ 4 → j.phase ≡ Waiting
+pub is_waiting : (j : Job) → Waits j → j.phase ≡ Waiting
 is_waiting j low = elim j.phase as (λ p. state_in p j.hold j.incoming ≤ 4 → p ≡ Waiting) [
   | Waiting ↦ λ low. refl
   | _ ↦ λ low. absurd (omega arith)

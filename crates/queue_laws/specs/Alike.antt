@@ -1,11 +1,16 @@
 -- What a caller is told, and when two lists of places differ in nothing but what other callers ask.
 use Rattle.std.specs.Prelude.{◌≡◌, List, [], ◌∷◌, Option, Some, None, ⊤, ◌⊎◌, not, is_none, ◌==◌, ◌&&◌, ◌||◌, bytes_eq, ℕ, Bool, true, false, IsTrue, if◌then◌else◌}
-use Rattle.queue_types.specs.Event.{Event, Call, ask, tell, grant, print_job, validate_job, create_job, send_document, cancel_job, cancel_my_jobs, hold_job, release_job, get_job_attributes, get_jobs, get_printer_attributes}
+use Rattle.std.specs.List.{AllByRecursion as Each}
+use Rattle.queue_types.specs.Event.{Event, Call, NewJob, ask, tell, grant, print_job, validate_job, create_job, send_document, cancel_job, cancel_my_jobs, hold_job, release_job, get_job_attributes, get_jobs, get_printer_attributes}
 use Rattle.queue_core.specs.World.{World, has_number}
-use Rattle.queue_core.specs.Machine.{step}
-use Rattle.queue_core.specs.Runs.{Place, after}
+use Rattle.queue_core.specs.Runs.{Place, IsPlace, after}
+use Rattle.queue_core.specs.Sound.{IsSound}
+use Rattle.queue_types.specs.declared.document.Document.{Document}
 use Rattle.queue_types.specs.declared.event.Reply.{Reply}
+use Rattle.queue_laws.specs.Calls.{prints}
 use Rattle.queue_laws.specs.Own.{Own, own, own_jobs}
+use Rattle.queue_laws.specs.Replies.{refuses}
+use Rattle.queue_laws.specs.Steps.{answer}
 
 -- what is the caller's own after each place
 abbrev pub own_along : List ℕ → World → List Place → List Own
@@ -30,9 +35,9 @@ counts_all (get_jobs which limit) = false
 -- the caller's own, and the answer to an account file
 abbrev pub told : List ℕ → World → ℕ → Option Event → Option Reply
 told u w now None = None
-told u w now (Some (ask caller call)) = if bytes_eq caller u && not (counts_all call) then Some (step w now (ask caller call)).reply else None
-told u w now (Some (tell r)) = if has_number r.job (own_jobs u w.jobs) then Some (step w now (tell r)).reply else None
-told u w now (Some (grant file)) = Some (step w now (grant file)).reply
+told u w now (Some (ask caller call)) = if bytes_eq caller u && not (counts_all call) then Some (answer w now (ask caller call)) else None
+told u w now (Some (tell r)) = if has_number r.job (own_jobs u w.jobs) then Some (answer w now (tell r)) else None
+told u w now (Some (grant file)) = Some (answer w now (grant file))
 
 -- what is told at each place
 abbrev pub told_along : List ℕ → World → List Place → List (Option Reply)
@@ -63,3 +68,32 @@ IsAlike u w v [] [] = ⊤
 IsAlike u w v [] (q ∷ qs) = ⊥
 IsAlike u w v (p ∷ ps) [] = ⊥
 IsAlike u w v (p ∷ ps) (q ∷ qs) = IsAlikePlace u w v p q × IsAlike u (after w p.now p.event) (after v q.now q.event) ps qs
+
+abbrev pub ArePlaces : List Place → Type 0
+ArePlaces ps = Each IsPlace ps
+
+-- two runs from one sound queue, alike for u
+pub record AreAlikeRuns (u : List ℕ) (w : World) (ps qs : List Place) : Type 0 where
+  pub sound : IsSound w
+  pub left : ArePlaces ps
+  pub right : ArePlaces qs
+  pub alike : IsAlike u w w ps qs
+
+-- ---- places
+
+abbrev pub place_of : ℕ → Event → Place
+place_of now event = record { now = now; event = Some event }
+
+-- nothing happens
+abbrev pub idle : ℕ → Place
+idle now = record { now = now; event = None }
+
+-- a Print-Job of another than u, in a sound queue, which isn't refused
+pub record IsOthersPrint (u : List ℕ) (w : World) (now : ℕ) (event : Event) : Type 0 where
+  pub sound : IsSound w
+  pub caller : List ℕ
+  pub new : NewJob
+  pub payload : Document
+  pub is : event ≡ prints caller new payload
+  pub other : bytes_eq caller u ≡ false
+  pub taken : refuses (answer w now event) ≡ false

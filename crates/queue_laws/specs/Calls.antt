@@ -1,6 +1,7 @@
 -- What a call asks for.
-use Rattle.std.specs.Prelude.{Bool, true, false}
-use Rattle.queue_types.specs.Event.{Call, print_job, validate_job, create_job, send_document, cancel_job, cancel_my_jobs, hold_job, release_job, get_job_attributes, get_jobs, get_printer_attributes}
+use Rattle.std.specs.Prelude.{ℕ, List, Some, Bool, true, false}
+use Rattle.queue_types.specs.Event.{Event, Call, NewJob, ask, print_job, validate_job, create_job, send_document, cancel_job, cancel_my_jobs, hold_job, release_job, get_job_attributes, get_jobs, get_printer_attributes}
+use Rattle.queue_types.specs.declared.document.Document.{Document}
 
 -- a new job, or whether there may be one
 abbrev pub asks_new_job : Call → Bool
@@ -29,3 +30,17 @@ draws_number (release_job n) = false
 draws_number (get_job_attributes n) = false
 draws_number (get_jobs which limit) = false
 draws_number get_printer_attributes = false
+
+-- ---- requests
+
+-- Print-Job, with a payload and its format
+abbrev pub prints : List ℕ → NewJob → Document → Event
+prints caller new d = ask caller (print_job new d.format d.bytes)
+
+-- Send-Document, likewise, and whether it is the last
+abbrev pub sends : List ℕ → ℕ → Document → Bool → Event
+sends caller n d last = ask caller (send_document n d.format d.bytes last)
+
+-- Cancel-My-Jobs with job numbers
+abbrev pub cancels : List ℕ → List ℕ → Event
+cancels caller numbers = ask caller (cancel_my_jobs (Some numbers))

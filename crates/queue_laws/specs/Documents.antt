@@ -2,7 +2,9 @@
 use Rattle.std.specs.Prelude.{◌≡◌, ℕ, ◌==◌, List, [], ◌++◌, Some, if◌then◌else◌}
 use Rattle.std.specs.Option.{option_map_or}
 use Rattle.queue_types.specs.Event.{Event, Call, ask, tell, grant, print_job, validate_job, create_job, send_document, cancel_job, cancel_my_jobs, hold_job, release_job, get_job_attributes, get_jobs, get_printer_attributes}
-use Rattle.queue_core.specs.World.{Entry}
+use Rattle.queue_core.specs.Runs.{Place, run}
+use Rattle.queue_core.specs.Shown.{document_at}
+use Rattle.queue_core.specs.World.{World, Entry}
 use Rattle.queue_types.specs.declared.document.Document.{Document}
 use Rattle.queue_laws.specs.Doing.{entry_at}
 use Rattle.queue_laws.specs.Entering.{documents_of}
@@ -36,3 +38,7 @@ pub record HasFirst (n : ℕ) (first : List Document) (es : List Entry) : Type 0
   pub more : List Document
   pub there : entry_at n es ≡ Some entry
   pub documents : entry.documents ≡ first ++ more
+
+-- whatever comes after w: where the job's document at that place, from 1, can be fetched, it is d
+abbrev pub IsFetchedAs : World → ℕ → ℕ → Document → Type 0
+IsFetchedAs w n place d = (places : List Place) (x : Document) → document_at (run w places) n place ≡ Some x → x ≡ d

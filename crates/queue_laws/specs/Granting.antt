@@ -1,8 +1,8 @@
 -- What the rows of an account file are about.
-use Rattle.std.specs.Prelude.{◌≡◌, ℕ, List, Bool, Some, ◌&&◌, bytes_eq}
+use Rattle.std.specs.Prelude.{◌≡◌, ℕ, ℤ, pos, List, Bool, Some, ◌&&◌, bytes_eq, unwrap_or}
 use Rattle.std.specs.FinMap.{FinMap, get}
 use Rattle.std.specs.List.{list_any}
-use Rattle.queue_core.specs.World.{grant_cmp}
+use Rattle.queue_core.specs.World.{World, grant_cmp}
 use Rattle.queue_types.specs.declared.event.GrantRow.{GrantRow}
 
 -- the row's pages are granted under its batch to its account
@@ -16,3 +16,7 @@ is_named batch account rows = list_any (λ g. bytes_eq g.batch batch && bytes_eq
 -- a row is for that account
 abbrev pub is_account_of : List ℕ → List GrantRow → Bool
 is_account_of account rows = list_any (λ g. bytes_eq g.account account) rows
+
+-- none without an account
+abbrev pub free_pages : List ℕ → World → ℤ
+free_pages account w = unwrap_or (get w.free account) (pos 0)

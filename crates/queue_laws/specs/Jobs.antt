@@ -1,6 +1,6 @@
 -- Jobs as their owners speak of them (RFC 8011, section 5.3.7).
-use Rattle.std.specs.Prelude.{◌≡◌, ℕ, List, Bool, ◌==◌, ◌&&◌, bytes_eq, count_by, filter, nat_le, not, Option, Some, None, take, if◌then◌else◌}
-use Rattle.std.specs.List.{list_any}
+use Rattle.std.specs.Prelude.{◌≡◌, ◌≤◌, ℕ, List, Bool, ◌==◌, ◌&&◌, ◌||◌, bytes_eq, count_by, filter, nat_le, not, Option, Some, None, take, if◌then◌else◌}
+use Rattle.std.specs.List.{list_all, list_any}
 use Rattle.queue_types.specs.Job.{state}
 use Rattle.queue_core.specs.World.{Entry}
 use Rattle.queue_types.specs.declared.event.WhichJobs.{WhichJobs}
@@ -11,6 +11,22 @@ use Rattle.queue_types.specs.declared.states.PrinterState.TheVariants.{Idle, Pro
 
 abbrev pub is_owned_by : List ℕ → Job → Bool
 is_owned_by caller j = bytes_eq j.owner caller
+
+-- pending and pending-held, states 3 and 4
+abbrev pub Waits : Job → Type 0
+Waits j = state j ≤ 4
+
+-- processing and processing-stopped, states 5 and 6: the device has it
+abbrev pub IsAtDevice : Job → Type 0
+IsAtDevice j = (5 ≤ state j) × (state j ≤ 6)
+
+-- canceled, aborted and completed, states 7 to 9
+abbrev pub HasEnded : Job → Type 0
+HasEnded j = 7 ≤ state j
+
+-- the device may start it or has it: states 3, 5 and 6
+abbrev pub is_for_device : Job → Bool
+is_for_device j = state j == 3 || state j == 5 || state j == 6
 
 -- states 3 to 6
 abbrev pub is_unfinished : Job → Bool
@@ -39,6 +55,10 @@ unfinished_of caller js = count_by (λ j. is_owned_by caller j && is_unfinished 
 -- the caller has a job of that number
 abbrev pub has_job : List ℕ → ℕ → List Job → Bool
 has_job caller n js = list_any (λ j. j.number == n && is_owned_by caller j) js
+
+-- a job of each of these numbers
+abbrev pub has_jobs : List ℕ → List ℕ → List Job → Bool
+has_jobs caller numbers js = list_all (λ n. has_job caller n js) numbers
 
 -- the first so many, where a limit is given
 abbrev pub up_to : Option ℕ → List Job → List Job

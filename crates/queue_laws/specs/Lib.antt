@@ -1,4 +1,5 @@
 pub mod Replies
+pub mod Steps
 pub mod Jobs
 pub mod Turn
 pub mod Calls

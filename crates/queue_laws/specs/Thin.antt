@@ -2,7 +2,6 @@
 use Rattle.std.specs.Prelude.{◌≡◌, ℕ, List, [], ◌∷◌, ◌++◌, Option, Some, None, ⊤, not, ◌==◌, ◌&&◌, bytes_eq, Bool, true, if◌then◌else◌}
 use Rattle.std.specs.List.{list_any, AllByRecursion as Each}
 use Rattle.queue_types.specs.Event.{Event, ask, tell, grant}
-use Rattle.queue_core.specs.Machine.{step}
 use Rattle.queue_types.specs.Event.{kind_number}
 use Rattle.queue_core.specs.Runs.{Place, after}
 use Rattle.queue_core.specs.World.{World}
@@ -10,6 +9,7 @@ use Rattle.queue_types.specs.declared.event.GrantRow.{GrantRow}
 use Rattle.queue_types.specs.declared.event.Report.{Report}
 use Rattle.queue_types.specs.declared.event.Reply.{Reply}
 use Rattle.queue_laws.specs.Replies.{refuses}
+use Rattle.queue_laws.specs.Steps.{answer}
 
 abbrev pub are_equal_reports : Report → Report → Bool
 are_equal_reports a b = a.job == b.job && a.seq == b.seq && kind_number a.kind == kind_number b.kind && a.count == b.count
@@ -19,7 +19,7 @@ are_equal_rows a b = bytes_eq a.batch b.batch && bytes_eq a.account b.account &&
 
 -- the event is not refused
 abbrev pub is_accepted : World → ℕ → Event → Bool
-is_accepted w now e = not (refuses (step w now e).reply)
+is_accepted w now e = not (refuses (answer w now e))
 
 -- ---- what was accepted so far
 
@@ -66,14 +66,14 @@ Answered = Report × Reply
 abbrev pub answered_then : List Answered → World → ℕ → Option Event → List Answered
 answered_then before w now None = before
 answered_then before w now (Some (ask caller call)) = before
-answered_then before w now (Some (tell r)) = if is_accepted w now (tell r) then (r, (step w now (tell r)).reply) ∷ before else before
+answered_then before w now (Some (tell r)) = if is_accepted w now (tell r) then (r, answer w now (tell r)) ∷ before else before
 answered_then before w now (Some (grant file)) = before
 
 -- a report is answered as each equal one was that was accepted before it
 abbrev pub IsAnsweredAgain : List Answered → World → ℕ → Option Event → Type 0
 IsAnsweredAgain before w now None = ⊤
 IsAnsweredAgain before w now (Some (ask caller call)) = ⊤
-IsAnsweredAgain before w now (Some (tell r)) = Each (λ (x : Answered). are_equal_reports x.0 r ≡ true → (step w now (tell r)).reply ≡ x.1) before
+IsAnsweredAgain before w now (Some (tell r)) = Each (λ (x : Answered). are_equal_reports x.0 r ≡ true → answer w now (tell r) ≡ x.1) before
 IsAnsweredAgain before w now (Some (grant file)) = ⊤
 
 abbrev pub AnswerAgain : List Answered → World → List Place → Type 0

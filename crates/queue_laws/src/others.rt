@@ -1,18 +1,16 @@
 //! What others ask is nothing to a caller.
-ghost use Rattle.std.specs.Prelude.{ℕ, ◌≡◌, List, Some, None, bytes_eq, filter, true, false};
-ghost use Rattle.std.specs.List.{AllByRecursion};
-ghost use Rattle.queue_types.specs.Event.{Call, NewJob, ask, print_job};
-ghost use Rattle.queue_core.specs.Machine.{step};
-ghost use Rattle.queue_core.specs.Runs.{Place, IsPlace};
+ghost use Rattle.std.specs.Prelude.{ℕ, ◌≡◌, List, bytes_eq, filter, true, false};
+ghost use Rattle.queue_types.specs.Event.{Event, Call, ask};
+ghost use Rattle.queue_core.specs.Runs.{Place};
 ghost use Rattle.queue_core.specs.Shown.{sheet_of, pending_jobs, document_at};
 ghost use Rattle.queue_core.specs.Sound.{IsSound};
 ghost use Rattle.queue_core.specs.World.{World, rows};
-ghost use Rattle.queue_types.specs.declared.document.Format.{Format};
-ghost use Rattle.queue_laws.specs.Alike.{IsAlikePlace, IsAlike, own_along, told_along};
+ghost use Rattle.queue_laws.specs.Alike.{IsAlikePlace, IsOthersPrint, AreAlikeRuns, place_of, idle, own_along, told_along};
 ghost use Rattle.queue_laws.specs.Calls.{draws_number};
 ghost use Rattle.queue_laws.specs.Jobs.{is_owned_by, has_job};
 ghost use Rattle.queue_laws.specs.Own.{own};
 ghost use Rattle.queue_laws.specs.Replies.{refuses};
+ghost use Rattle.queue_laws.specs.Steps.{answer};
 
 use crate::refusals::refusals_change_nothing;
 use queue_core::run_keeps;
@@ -22,8 +20,8 @@ use queue_core::run_keeps;
 /// leave what is u's own the same after every place, and at every place tell u, the device of u's jobs and the office
 /// the same, the replies to Get-Printer-Attributes aside.
 pub fn run_two()
-    ensures own { (u : List ℕ) (w : World) (ps qs : List Place) → IsSound w → AllByRecursion IsPlace ps → AllByRecursion IsPlace qs → IsAlike u w w ps qs → own_along u w ps ≡ own_along u w qs }
-    ensures told { (u : List ℕ) (w : World) (ps qs : List Place) → IsSound w → AllByRecursion IsPlace ps → AllByRecursion IsPlace qs → IsAlike u w w ps qs → told_along u w ps ≡ told_along u w qs }
+    ensures own { (u : List ℕ) (w : World) (ps qs : List Place) → AreAlikeRuns u w ps qs → own_along u w ps ≡ own_along u w qs }
+    ensures told { (u : List ℕ) (w : World) (ps qs : List Place) → AreAlikeRuns u w ps qs → told_along u w ps ≡ told_along u w qs }
 {
     run_keeps();
 }
@@ -32,9 +30,9 @@ pub fn run_two()
 /// whatever their jobs; and, beside nothing, a request of another that is refused, and one that asks no new job:
 /// each but Print-Job and Create-Job.
 pub fn others_requests_are_alike()
-    ensures printed { (u bob carol : List ℕ) (w v : World) (now : ℕ) (j k : NewJob) (f g : Format) (b c : List ℕ) → IsSound w → IsSound v → bytes_eq bob u ≡ false → bytes_eq carol u ≡ false → refuses (step w now (ask bob (print_job j f b))).reply ≡ false → refuses (step v now (ask carol (print_job k g c))).reply ≡ false → IsAlikePlace u w v (record { now = now; event = Some (ask bob (print_job j f b)) }) (record { now = now; event = Some (ask carol (print_job k g c)) }) }
-    ensures refused { (u bob : List ℕ) (w v : World) (now : ℕ) (call : Call) → bytes_eq bob u ≡ false → refuses (step w now (ask bob call)).reply ≡ true → IsAlikePlace u w v (record { now = now; event = Some (ask bob call) }) (record { now = now; event = None }) }
-    ensures undrawn { (u bob : List ℕ) (w v : World) (now : ℕ) (call : Call) → bytes_eq bob u ≡ false → draws_number call ≡ false → IsAlikePlace u w v (record { now = now; event = Some (ask bob call) }) (record { now = now; event = None }) }
+    ensures printed { (u : List ℕ) (w v : World) (now : ℕ) (event other : Event) → IsOthersPrint u w now event → IsOthersPrint u v now other → IsAlikePlace u w v (place_of now event) (place_of now other) }
+    ensures refused { (u bob : List ℕ) (w v : World) (now : ℕ) (call : Call) → bytes_eq bob u ≡ false → refuses (answer w now (ask bob call)) ≡ true → IsAlikePlace u w v (place_of now (ask bob call)) (idle now) }
+    ensures undrawn { (u bob : List ℕ) (w v : World) (now : ℕ) (call : Call) → bytes_eq bob u ≡ false → draws_number call ≡ false → IsAlikePlace u w v (place_of now (ask bob call)) (idle now) }
 {
     refusals_change_nothing();
 }

@@ -5,7 +5,7 @@ pub returns-clause-front : goal.returns-clause-front
 returns-clause-front c = refused_first c.new_grants_add_up.ensures
 
 pub returns-clause-rest : goal.returns-clause-rest
-returns-clause-rest c = refused_then c.new_grants_add_up.ensures
+returns-clause-rest c w v now n a p gs hs fault = refused_then c.new_grants_add_up.ensures w now gs hs v a p fault n
 
 pub returns-clause-taken : goal.returns-clause-taken
-returns-clause-taken c = taken_then c.new_grants_add_up.ensures
+returns-clause-taken c w v x now a b p q gs hs = taken_then c.new_grants_add_up.ensures w now gs hs v x a p b q

@@ -2,13 +2,13 @@ use Rattle.queue_laws.proofs.Begun.{begun_left, waiting_left, ended_left, marked
 use Rattle.queue_laws.proofs.alone.begun_jobs_are_left_alone.Goals as goal
 
 pub returns-clause-begun : goal.returns-clause-begun
-returns-clause-begun c = begun_left
+returns-clause-begun c w now n caller call j k sound turn high = begun_left w now n caller call j k sound turn.was high turn.is
 
 pub returns-clause-waiting : goal.returns-clause-waiting
-returns-clause-waiting c = waiting_left
+returns-clause-waiting c w now n caller call j k sound turn low = waiting_left w now n caller call j k sound turn.was low turn.is
 
 pub returns-clause-ended : goal.returns-clause-ended
-returns-clause-ended c = ended_left
+returns-clause-ended c w now n caller call j k sound turn high = ended_left w now n caller call j k sound turn.was high turn.is
 
 pub returns-clause-marked : goal.returns-clause-marked
-returns-clause-marked c = marked_left
+returns-clause-marked c w now n caller call j k sound turn mark = marked_left w now n caller call j k sound turn.was mark turn.is

@@ -14,7 +14,7 @@ pub returns-clause-documents : goal.returns-clause-documents
 returns-clause-documents c = documents_left
 
 pub returns-clause-job : goal.returns-clause-job
-returns-clause-job c = job_left
+returns-clause-job c w now r j k turn = job_left w now r j k turn.was turn.is
 
 pub returns-clause-accounts : goal.returns-clause-accounts
 returns-clause-accounts c = accounts_left

@@ -1,11 +1,8 @@
-use Rattle.queue_laws.proofs.OnSend.{is_added, sent_shown, closed_refused, other_state_refused, full_refused}
+use Rattle.queue_laws.proofs.OnSend.{is_added, closed_refused, other_state_refused, full_refused}
 use Rattle.queue_laws.proofs.doing.documents_are_added.Goals as goal
 
 pub returns-clause-added : goal.returns-clause-added
 returns-clause-added c = is_added
-
-pub returns-clause-shown : goal.returns-clause-shown
-returns-clause-shown c = sent_shown
 
 pub returns-clause-closed : goal.returns-clause-closed
 returns-clause-closed c = closed_refused

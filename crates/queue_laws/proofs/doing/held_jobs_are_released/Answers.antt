@@ -1,11 +1,8 @@
-use Rattle.queue_laws.proofs.OnRelease.{is_released, release_done, fewer_refused, none_refused, free_to_print, begun_released, ended_refused}
+use Rattle.queue_laws.proofs.OnRelease.{is_released, fewer_refused, none_refused, free_to_print, begun_released, ended_refused}
 use Rattle.queue_laws.proofs.doing.held_jobs_are_released.Goals as goal
 
 pub returns-clause-released : goal.returns-clause-released
 returns-clause-released c = is_released
-
-pub returns-clause-done : goal.returns-clause-done
-returns-clause-done c = release_done
 
 pub returns-clause-fewer : goal.returns-clause-fewer
 returns-clause-fewer c = fewer_refused

@@ -1,17 +1,11 @@
-use Rattle.queue_laws.proofs.OnCancel.{is_canceled, cancel_done, is_stopping, stop_done, again_refused, ended_refused}
+use Rattle.queue_laws.proofs.OnCancel.{is_canceled, is_stopping, again_refused, ended_refused}
 use Rattle.queue_laws.proofs.doing.jobs_are_canceled.Goals as goal
 
 pub returns-clause-canceled : goal.returns-clause-canceled
 returns-clause-canceled c = is_canceled
 
-pub returns-clause-done : goal.returns-clause-done
-returns-clause-done c = cancel_done
-
 pub returns-clause-stopping : goal.returns-clause-stopping
 returns-clause-stopping c = is_stopping
-
-pub returns-clause-stop_done : goal.returns-clause-stop_done
-returns-clause-stop_done c = stop_done
 
 pub returns-clause-again : goal.returns-clause-again
 returns-clause-again c = again_refused

@@ -18,7 +18,7 @@ pub returns-clause-sent : goal.returns-clause-sent
 returns-clause-sent c = sent_free
 
 pub returns-clause-all : goal.returns-clause-all
-returns-clause-all c w now caller free account sound = mine_free w now caller free account sound
+returns-clause-all c = mine_free
 
 pub returns-clause-named : goal.returns-clause-named
-returns-clause-named c w now caller numbers free account sound = named_free w now caller free account sound numbers
+returns-clause-named c w now caller numbers f sound taken account = named_free w now caller f sound account numbers taken

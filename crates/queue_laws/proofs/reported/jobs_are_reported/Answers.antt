@@ -2,28 +2,28 @@ use Rattle.queue_laws.proofs.Moving.{started, stopped, resumed, counts_job, done
 use Rattle.queue_laws.proofs.reported.jobs_are_reported.Goals as goal
 
 pub returns-clause-started : goal.returns-clause-started
-returns-clause-started c w now r j none there = started w now r j there none
+returns-clause-started c w now r j is = started w now r j is.job is.new is.kind
 
 pub returns-clause-stopped : goal.returns-clause-stopped
-returns-clause-stopped c w now r j none there = stopped w now r j there none
+returns-clause-stopped c w now r j is = stopped w now r j is.job is.new is.kind
 
 pub returns-clause-resumed : goal.returns-clause-resumed
-returns-clause-resumed c w now r j none there = resumed w now r j there none
+returns-clause-resumed c w now r j is = resumed w now r j is.job is.new is.kind
 
 pub returns-clause-counted : goal.returns-clause-counted
-returns-clause-counted c w now r j none there = counts_job w now r j there none
+returns-clause-counted c w now r j is = counts_job w now r j is.job is.new is.kind
 
 pub returns-clause-done : goal.returns-clause-done
-returns-clause-done c w now r j none there = done w now r j there none
+returns-clause-done c w now r j is = done w now r j is.job is.new is.kind
 
 pub returns-clause-failed : goal.returns-clause-failed
-returns-clause-failed c w now r j none there = failed w now r j there none
+returns-clause-failed c w now r j is at = failed w now r j is.job is.new is.kind at.0 at.1
 
 pub returns-clause-halted_for_user : goal.returns-clause-halted_for_user
-returns-clause-halted_for_user c w now r j none there = halted_for_user w now r j there none
+returns-clause-halted_for_user c w now r j is at = halted_for_user w now r j is.job is.new is.kind at.0 at.1
 
 pub returns-clause-halted_at_device : goal.returns-clause-halted_at_device
-returns-clause-halted_at_device c w now r j none there = halted_at_device w now r j there none
+returns-clause-halted_at_device c w now r j is at = halted_at_device w now r j is.job is.new is.kind at.0 at.1
 
 pub returns-clause-begun : goal.returns-clause-begun
-returns-clause-begun c = printing_begun
+returns-clause-begun c w n j sound there at = printing_begun w n j sound there at.0 at.1

@@ -8,10 +8,10 @@ pub returns-clause-job : goal.returns-clause-job
 returns-clause-job c = found
 
 pub returns-clause-other_kind : goal.returns-clause-other_kind
-returns-clause-other_kind c w now r j k kept there = other_kind w now r j there k kept
+returns-clause-other_kind c w now r j k is = other_kind w now r j is.job k is.kept
 
 pub returns-clause-other_count : goal.returns-clause-other_count
-returns-clause-other_count c w now r j k kept there = other_count w now r j there k kept
+returns-clause-other_count c w now r j k is = other_count w now r j is.job k is.kept
 
 pub returns-clause-same : goal.returns-clause-same
-returns-clause-same c w now r j k kept there = same w now r j there k kept
+returns-clause-same c w now r j k is = same w now r j is.job k is.kept
