@@ -28,16 +28,14 @@ use Rattle.sqlite_tied.specs.Compute.{everything}
 use Rattle.sqlite_tied.specs.Listing.{counting}
 use Rattle.queue_types.specs.declared.job.Job.{Job}
 use Rattle.queue_types.specs.Job.{is_live, is_running, is_stopped}
-use Rattle.queue_core.specs.Sound.{IsSound}
-use Rattle.queue_core.specs.World.{World, rows, live_jobs}
-use Rattle.queue_tables.specs.Content.{Holds, content_of}
+use Rattle.queue_core.specs.World.{rows, live_jobs}
 use Rattle.queue_tables.specs.Kept.{HasRows}
 use Rattle.queue_tables.specs.Tables.{book_schema}
 use Rattle.queue_tables.specs.Values.{job_values, job_view}
 use Rattle.queue_tables.proofs.Permuting.{passing}
 use Rattle.queue_tables.proofs.PlainQueries.{passes, plain_query}
 use Rattle.queue_tables.proofs.Statements.{Shows}
-use Rattle.queue_scenes.specs.Counts.{ShowsCount}
+use Rattle.queue_scenes.specs.Counts.{Counts}
 use Rattle.queue_scenes.proofs.Bounds.{jobs_are_few}
 use Rattle.queue_scenes.proofs.Lookup.{rows_passing}
 use Rattle.queue_scenes.proofs.Tests.{is_own_live_row, own_live-row, is_own_row, own-row, is_running_row, running-row, is_stopped_row, stopped-row, is_live_row, live-row}
@@ -162,30 +160,32 @@ module _ (q : Count) (is : IsCount q) where
 -- ---- the jobs of a world
 
 module _ (q : Count) (is : IsCount q) (jobs : q.tree ≡ 1) (params : Row) (let_through : Row → Bool) (p : Job → Bool) (alike : (r : Row) → passes q.filter params r ≡ let_through (job_view r)) (same : (j : Job) → let_through (job_values j) ≡ p j) where
-  counts_jobs : (old : State) (w : World) → IsSound w → Holds (content_of w) old → ShowsCount q.text params old (count_by p (rows w))
-  counts_jobs old w sound has shown_rows h =
-      let js = rows w in
-      let n : length (filter let_through (map job_values js)) ≡ count_by p js = ap (length {A = Row}) (rows_passing job_values let_through p same js) ∙ length-map (filter p js) job_values ∙ length-filter p js in
-      let few : length (filter let_through (map job_values js)) < 2 ^ 31 = omega (arith, n, count_by-le-length p js, jobs_are_few w sound) in
-      let there = subst (λ t. HasRows ⊤ job_view (map job_values js) (old.now.trees t)) (sym jobs) has.rows.jobs in
-      shows_count q is old params job_view let_through (map job_values js) shown_rows has.schema alike there few h ∙ ap (λ m. (Int (pos m) ∷ []) ∷ []) n
+  counts_jobs : (old : State) → Counts q.text params old (λ w. count_by p (rows w))
+  counts_jobs old = record {
+    shows = λ w sound has shown_rows h.
+        let js = rows w in
+        let n : length (filter let_through (map job_values js)) ≡ count_by p js = ap (length {A = Row}) (rows_passing job_values let_through p same js) ∙ length-map (filter p js) job_values ∙ length-filter p js in
+        let few : length (filter let_through (map job_values js)) < 2 ^ 31 = omega (arith, n, count_by-le-length p js, jobs_are_few w sound) in
+        let there = subst (λ t. HasRows ⊤ job_view (map job_values js) (old.now.trees t)) (sym jobs) has.rows.jobs in
+        shows_count q is old params job_view let_through (map job_values js) shown_rows has.schema alike there few h ∙ ap (λ m. (Int (pos m) ∷ []) ∷ []) n;
+  }
 
-pub counts_live : (name : List ℕ) (old : State) (w : World) → IsSound w → Holds (content_of w) old → ShowsCount count_live.text (Words name ∷ []) old (live_jobs name (rows w))
+pub counts_live : (name : List ℕ) (old : State) → Counts count_live.text (Words name ∷ []) old (λ w. live_jobs name (rows w))
 unfolding is_own_live_row
 counts_live name = counts_jobs count_live count_live_is refl (Words name ∷ []) (is_own_live_row name) (λ (j : Job). bytes_eq j.owner name && is_live j) (λ r. refl) (own_live-row name)
 
-pub counts_own : (name : List ℕ) (old : State) (w : World) → IsSound w → Holds (content_of w) old → ShowsCount count_own.text (Words name ∷ []) old (count_by (λ (j : Job). bytes_eq j.owner name) (rows w))
+pub counts_own : (name : List ℕ) (old : State) → Counts count_own.text (Words name ∷ []) old (λ w. count_by (λ (j : Job). bytes_eq j.owner name) (rows w))
 unfolding is_own_row
 counts_own name = counts_jobs count_own count_own_is refl (Words name ∷ []) (is_own_row name) (λ (j : Job). bytes_eq j.owner name) (λ r. refl) (own-row name)
 
-pub counts_running : (old : State) (w : World) → IsSound w → Holds (content_of w) old → ShowsCount count_running.text [] old (count_by is_running (rows w))
+pub counts_running : (old : State) → Counts count_running.text [] old (λ w. count_by is_running (rows w))
 unfolding is_running_row
 counts_running = counts_jobs count_running count_running_is refl [] is_running_row is_running (λ r. refl) running-row
 
-pub counts_stopped : (old : State) (w : World) → IsSound w → Holds (content_of w) old → ShowsCount count_stopped.text [] old (count_by is_stopped (rows w))
+pub counts_stopped : (old : State) → Counts count_stopped.text [] old (λ w. count_by is_stopped (rows w))
 unfolding is_stopped_row
 counts_stopped = counts_jobs count_stopped count_stopped_is refl [] is_stopped_row is_stopped (λ r. refl) stopped-row
 
-pub counts_queued : (old : State) (w : World) → IsSound w → Holds (content_of w) old → ShowsCount count_queued.text [] old (count_by is_live (rows w))
+pub counts_queued : (old : State) → Counts count_queued.text [] old (λ w. count_by is_live (rows w))
 unfolding is_live_row
 counts_queued = counts_jobs count_queued count_queued_is refl [] is_live_row is_live (λ r. refl) live-row

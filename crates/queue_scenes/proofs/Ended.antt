@@ -36,11 +36,11 @@ use Rattle.queue_core.proofs.Ordered.{each-placed, each-visible}
 use Rattle.queue_tables.specs.Values.{number, moment, job_values, job_view}
 use Rattle.queue_tables.proofs.Entries.{rows_in}
 use Rattle.queue_tables.proofs.Permuting.{swap_front}
-use Rattle.queue_scenes.specs.Jobs.{AreRowsOf}
+use Rattle.queue_tables.specs.Content.{AreRowsOf}
+use Rattle.queue_scenes.specs.Jobs.{Selects}
 use Rattle.queue_scenes.proofs.Lists.{each_row, world_rising}
 use Rattle.queue_scenes.proofs.Numbers.{AreRising, rising_filter, less_value}
 use Rattle.queue_scenes.proofs.Ordered.{shows_in_order, shows_first}
-use Rattle.queue_scenes.proofs.Selects.{Selects}
 use Rattle.queue_scenes.proofs.Statements.{descending, select_ended, select_ended_is, select_ended_first, select_ended_first_is}
 use Rattle.queue_scenes.proofs.Tests.{where_text_is, where_above}
 

@@ -37,8 +37,8 @@ use Rattle.queue_scenes.proofs.Tests.{where_number_is, where_text_is}
 
 -- ---- the next number
 
-pub next_shown : (old new : State) (rows : List Row) (w : World) → Holds (content_of w) old → Shown select_next.text [] old new rows → rows ≡ (number w.next ∷ []) ∷ []
-next_shown old new rows w has h =
+pub next_shown : {old : State} {rows : List Row} (new : State) (w : World) → Holds (content_of w) old → Shown select_next.text [] old new rows → rows ≡ (number w.next ∷ []) ∷ []
+next_shown {old} {rows} new w has h =
     let p = shows_all select_next select_next_is
     old new [] meta_view (is_numbered 1) (λ v. column v 6 ∷ []) (content_of w).meta rows has.schema (λ r. refl) (λ r. refl) has.rows.meta h in
     let one : filter (is_numbered 1) (content_of w).meta ≡ meta_values (meta_row w) ∷ [] = rw (numbered_meta (meta_row w) refl) refl in
@@ -72,10 +72,10 @@ one_grant : (k : List ℕ × List ℕ) (o : Option ℕ) → map (λ (v : Row). c
 one_grant k None = refl
 one_grant k (Some pages) = refl
 
-pub grant_shown : (old new : State) (batch account : List ℕ) (rows : List Row) (w : World) → Holds (content_of w) old → Shown select_grant.text (Words batch ∷ Words account ∷ []) old new rows
+pub grant_shown : {old : State} {rows : List Row} (new : State) (batch account : List ℕ) (w : World) → Holds (content_of w) old → Shown select_grant.text (Words batch ∷ Words account ∷ []) old new rows
     → rows ≡ map grant_pages_row (entry_of (batch, account) (get w.grants (batch, account)))
 unfolding is_grant_of
-grant_shown old new batch account rows w has h =
+grant_shown {old} {rows} new batch account w has h =
     let out : Row → Row = λ v. column v 2 ∷ [] in
     let p = shows_all select_grant select_grant_is
     old new (Words batch ∷ Words account ∷ []) grant_view (is_grant_of batch account) out (content_of w).grants rows has.schema (λ r. refl) (λ r. refl) has.rows.grants h in
@@ -124,10 +124,10 @@ one_report : (k : ℕ × ℕ) (o : Option KeptReport) → map (λ (v : Row). col
 one_report k None = refl
 one_report k (Some r) = refl
 
-pub report_shown : (old new : State) (job seq : ℕ) (rows : List Row) (w : World) → IsSound w → Holds (content_of w) old → Shown select_report.text (number job ∷ number seq ∷ []) old new rows
+pub report_shown : {old : State} {rows : List Row} (new : State) (job seq : ℕ) (w : World) → IsSound w → Holds (content_of w) old → Shown select_report.text (number job ∷ number seq ∷ []) old new rows
     → rows ≡ map told_row (entry_of (job, seq) (get w.reports (job, seq)))
 unfolding is_report_of
-report_shown old new job seq rows w sound has h =
+report_shown {old} {rows} new job seq w sound has h =
     let out : Row → Row = λ v. column v 2 ∷ column v 3 ∷ column v 4 ∷ column v 5 ∷ [] in
     let p = shows_all select_report select_report_is
     old new (number job ∷ number seq ∷ []) report_view (is_report_of job seq) out (content_of w).reports rows has.schema (λ r. refl) (λ r. refl) has.rows.reports h in

@@ -1,5 +1,5 @@
 -- What is known of a row of an account file, by the account's row.
-use Rattle.std.proofs.Common.{◌≡◌, inl, inr, ℕ, ℤ, pos, ◌+ℤ◌, ◌+◌, ◌<◌, List, [], ◌∷◌, ◌++◌, map, take, length, get_or, sum_by, Bool, true, false, cond, Option, Some, None, IfSome, Result, Ok, Err, IfOk, refl, sym, ap, subst, ◌∙◌, arith, bytes_eq}
+use Rattle.std.proofs.Common.{◌≡◌, inl, inr, ℕ, ℤ, pos, ◌+ℤ◌, ◌+◌, ◌<◌, List, [], ◌∷◌, ◌++◌, map, take, length, get_or, sum_by, Bool, true, false, cond, Option, Some, None, IfSome, Result, Ok, Err, IfOk, IfErr, IsSomeAnd, IsTrue, refl, sym, ap, subst, ◌∙◌, arith, bytes_eq}
 use Rattle.std.specs.Prelude.{option_map, IsSome, IsNone, is_some}
 use Rattle.std.specs.FinMap.{get, get-entries, entries, entries_sorted}
 use Rattle.std.specs.List.{AllByRecursion as Each}
@@ -8,6 +8,7 @@ use Rattle.std.proofs.lemmas.Int.{ints}
 use Rattle.std.proofs.lemmas.List.{map_more}
 use Rattle.std.proofs.lemmas.List.Elements.{recursion_from_All}
 use Rattle.std.proofs.lemmas.List.Sums.{sum_by-cons}
+use Rattle.sqlite.specs.State.{State, HasCleanDisk}
 use Rattle.queue_core.specs.Sound.{IsSound, reserved, printed}
 use Rattle.queue_core.specs.World.{World, grant_cmp, granted, known_grant}
 use Rattle.queue_types.specs.declared.event.GrantRow.{GrantRow}
@@ -16,8 +17,12 @@ use Rattle.queue_rows.proofs.WorldMaps.{found_there}
 use Rattle.queue_rows.proofs.WorldRows.{grant_total}
 use Rattle.queue_tables.proofs.Accounts.{same_text}
 use Rattle.queue_tables.specs.Accounts.{pages_of}
+use Rattle.queue_tables.specs.Telling.{ReadsQueue}
 use Rattle.queue_tables.specs.declared.account_pages.AccountPages.{AccountPages}
 use Rattle.queue_tables.specs.declared.fault.Fault.{Fault}
+use Rattle.queue_scenes.specs.Accounts.{FitAccount}
+use Rattle.queue_scenes.proofs.Bounds.{found_fits}
+use Rattle.queue_scenes.proofs.Telling.{HaveTold, refuses, tells}
 
 -- ---- an account without a row has no grant
 
@@ -66,12 +71,12 @@ module _ (row : GrantRow) (batch account : List ℕ) (batch_is : batch ≡ row.b
       let c : k.free ≡ get w.free row.account = free_is ∙ ap (option_map (λ (p : AccountPages). p.free)) found_is ∙ free_back w account at ∙ ap (get w.free) account_is in
       λ i. record { pages = a i; granted = b i; free = c i }
 
-  -- what is known of the row, in each world that may be there
-  pub known_is : (MayBe : World → Type 0) → ((w : World) → MayBe w → pages ≡ get w.grants (batch, account)) → ((w : World) → MayBe w → found ≡ option_map (pages_of w account) (get w.free account))
+  -- what is known of the row, once its grant and its account were read
+  pub known_is : {old new : State} → HaveTold old new (λ w. (pages ≡ get w.grants (batch, account)) × (found ≡ option_map (pages_of w account) (get w.free account))) → (HasCleanDisk new → IsTrue new.is_open)
       → (r : Result KnownGrant Fault) → IfOk r (λ k. k.pages ≡ pages) → IfOk r (λ k. k.free ≡ option_map (λ p. p.free) found) → (IsNone found → IfOk r (λ k. k.granted ≡ 0))
-      → IfSome found (λ p. IfOk r (λ k. pos k.granted ≡ p.free +ℤ pos (p.reserved + p.printed))) → IfOk r (λ k. (w : World) → IsSound w → MayBe w → k ≡ known_grant w row)
-  known_is MayBe grants accounts (Ok k) same free_is none sum = λ w sound may. known_as w sound (grants w may) (accounts w may) k same free_is none sum
-  known_is MayBe grants accounts (Err e) same free_is none sum = tt
+      → IfSome found (λ p. IfOk r (λ k. pos k.granted ≡ p.free +ℤ pos (p.reserved + p.printed))) → IfErr r (λ _. IsSomeAnd found (λ p. FitAccount p → ⊥)) → ReadsQueue old new r (λ w k. k ≡ known_grant w row)
+  known_is read live (Ok k) same free_is none sum misfits = tells read (λ w sound is. known_as w sound is.0 is.1 k same free_is none sum)
+  known_is read live (Err e) same free_is none sum misfits = refuses read live (λ d w sound is. found_fits w account sound found is.1 misfits) _ refl
 
 -- ---- one row after another
 

@@ -21,7 +21,7 @@ use Rattle.queue_types.specs.Job.{is_live, state}
 use Rattle.queue_core.specs.Shown.{pending_in, pending_jobs}
 use Rattle.queue_core.specs.Sound.{IsSound}
 use Rattle.queue_core.specs.World.{World, Entry, rows, job_at, numbered, has_number}
-use Rattle.queue_tables.specs.Content.{Holds, content_of}
+use Rattle.queue_tables.specs.Content.{AreRowsOf, Holds, content_of}
 use Rattle.queue_tables.specs.Kept.{HasRows}
 use Rattle.queue_tables.specs.Steps.{AreDistinct}
 use Rattle.queue_tables.specs.Values.{number, job_values, job_view}
@@ -29,11 +29,10 @@ use Rattle.queue_tables.proofs.Entries.{rows_in, found_rows, distinct_of}
 use Rattle.queue_tables.proofs.JobPut.{reads_job_at}
 use Rattle.queue_tables.proofs.PlainQueries.{passes, shown_of}
 use Rattle.queue_tables.proofs.Statements.{IsLimited, IsSelection, Selection, select_job}
-use Rattle.queue_scenes.specs.Jobs.{AreRowsOf, own_live}
+use Rattle.queue_scenes.specs.Jobs.{Selects, own_live}
 use Rattle.queue_scenes.proofs.Lookup.{rows_passing}
 use Rattle.queue_scenes.proofs.Numbers.{AreRising, rising, rising_filter, numbers_ascend, number_key}
 use Rattle.queue_scenes.proofs.Ordered.{shows_first, shows_in_order}
-use Rattle.queue_scenes.proofs.Selects.{Selects}
 use Rattle.queue_scenes.proofs.Statements.{select_own, select_own_is, select_own_live, select_own_live_is, select_pending, select_pending_is}
 use Rattle.queue_scenes.proofs.Tests.{is_own_row, own-row, is_own_live_row, own_live-row, is_pending_row, pending-row}
 

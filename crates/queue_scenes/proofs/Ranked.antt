@@ -12,9 +12,9 @@ use Rattle.queue_types.specs.Job.{is_live, is_live_in, state_in}
 use Rattle.queue_core.specs.Visible.{in_states}
 use Rattle.queue_core.specs.World.{rows}
 use Rattle.queue_tables.specs.Values.{number}
-use Rattle.queue_scenes.specs.Jobs.{AreRowsOf, ShowsJobs, own_live}
+use Rattle.queue_tables.specs.Content.{AreRowsOf}
+use Rattle.queue_scenes.specs.Jobs.{Selects, ShowsJobs, own_live}
 use Rattle.queue_scenes.proofs.Lists.{selects_first}
-use Rattle.queue_scenes.proofs.Selects.{Selects}
 use Rattle.queue_scenes.proofs.Statements.{select_at_device, select_at_device_is, select_own_pending, select_own_pending_is, select_held, select_held_is}
 use Rattle.queue_scenes.proofs.Tests.{is_between, is_at_device_row, at_device-row, is_own_pending_row, own_pending-row, is_held_row, held-row}
 

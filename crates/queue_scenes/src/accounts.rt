@@ -4,9 +4,8 @@ ghost use Rattle.std.specs.FinMap.{get};
 ghost use Rattle.sqlite.specs.Held.{state};
 ghost use Rattle.sqlite.specs.State.{HasCleanDisk};
 ghost use Rattle.queue_core.specs.Limits.{IsAmount};
-ghost use Rattle.queue_core.specs.World.{World, found_row};
-ghost use Rattle.queue_tables.specs.Leaving.{LeavesTables};
-ghost use Rattle.queue_tables.specs.Content.{HoldNoQueue, Holds, content_of};
+ghost use Rattle.queue_core.specs.World.{found_row};
+ghost use Rattle.queue_tables.specs.Telling.{ReadsQueue};
 ghost use Rattle.queue_scenes.specs.Accounts.{FitAccount};
 
 use queue_tables::account_pages::{AccountPages, find_account};
@@ -47,11 +46,9 @@ pub(crate) fn free_rows<S: Alter>(
     conn: &mut Connection<S>,
     name: &str,
 ) -> Result<Vec<FreeRow>, Fault>
-    ensures leaves { LeavesTables (state S.Store conn.old) (state S.Store conn.new) }
+    ensures reads { ReadsQueue (state S.Store conn.old) (state S.Store conn.new) result (λ w rows. rows.items ≡ found_row name.now (get w.free name.now)) }
     ensures live { HasCleanDisk (state S.Store conn.new) → OnOk result (IsTrue (state S.Store conn.new).is_open) }
     ensures within { IfOk result (λ rows. All (λ a. IsAmount a.free) rows.items) }
-    ensures found { HasCleanDisk (state S.Store conn.new) → IfOk result (λ rows. (w : World) → Holds (content_of w) (state S.Store conn.old) → rows.items ≡ found_row name.now (get w.free name.now)) }
-    ensures damaged { HasCleanDisk (state S.Store conn.new) → IfErr result (λ e. e ≡ Fault.Damaged → HoldNoQueue (state S.Store conn.old)) }
 {
     let found = find_account(conn, name)?;
     let mut rows = Vec::new(alloc);

@@ -4,10 +4,8 @@ ghost use Rattle.std.specs.FinMap.{get};
 ghost use Rattle.sqlite.specs.Held.{state};
 ghost use Rattle.sqlite.specs.State.{HasCleanDisk};
 ghost use Rattle.queue_core.specs.Limits.{IsKnown};
-ghost use Rattle.queue_core.specs.Sound.{IsSound};
-ghost use Rattle.queue_core.specs.World.{World, known_grant};
-ghost use Rattle.queue_tables.specs.Leaving.{LeavesTables};
-ghost use Rattle.queue_tables.specs.Content.{HoldNoQueue, Holds, content_of};
+ghost use Rattle.queue_core.specs.World.{known_grant};
+ghost use Rattle.queue_tables.specs.Telling.{ReadsQueue};
 ghost use Rattle.queue_scenes.specs.Accounts.{FitAccount};
 
 use crate::accounts::{free_in, granted_in};
@@ -25,10 +23,8 @@ fn pages_under<S: Alter>(
     batch: &str,
     account: &str,
 ) -> Result<Option<u32>, Fault>
-    ensures leaves { LeavesTables (state S.Store conn.old) (state S.Store conn.new) }
+    ensures reads { ReadsQueue (state S.Store conn.old) (state S.Store conn.new) result (λ w found. found ≡ get w.grants (batch.now, account.now)) }
     ensures live { HasCleanDisk (state S.Store conn.new) → OnOk result (IsTrue (state S.Store conn.new).is_open) }
-    ensures found { HasCleanDisk (state S.Store conn.new) → IfOk result (λ found. (w : World) → Holds (content_of w) (state S.Store conn.old) → found ≡ get w.grants (batch.now, account.now)) }
-    ensures damaged { HasCleanDisk (state S.Store conn.new) → IfErr result (λ e. e ≡ Fault.Damaged → HoldNoQueue (state S.Store conn.old)) }
 {
     let found = select(
         conn,
@@ -72,11 +68,9 @@ fn known_of(pages: Option<u32>, found: Option<AccountPages>) -> Result<KnownGran
 
 /// What is known of the row's batch and account.
 fn known<S: Alter>(conn: &mut Connection<S>, row: &GrantRow) -> Result<KnownGrant, Fault>
-    ensures leaves { LeavesTables (state S.Store conn.old) (state S.Store conn.new) }
+    ensures reads { ReadsQueue (state S.Store conn.old) (state S.Store conn.new) result (λ w k. k ≡ known_grant w row.now) }
     ensures live { HasCleanDisk (state S.Store conn.new) → OnOk result (IsTrue (state S.Store conn.new).is_open) }
     ensures within { IfOk result IsKnown }
-    ensures found { HasCleanDisk (state S.Store conn.new) → IfOk result (λ k. (w : World) → IsSound w → Holds (content_of w) (state S.Store conn.old) → k ≡ known_grant w row.now) }
-    ensures damaged { HasCleanDisk (state S.Store conn.new) → IfErr result (λ e. e ≡ Fault.Damaged → HoldNoQueue (state S.Store conn.old)) }
 {
     let batch = row.batch.as_str();
     let account = row.account.as_str();
@@ -91,11 +85,9 @@ pub(crate) fn known_rows<S: Alter>(
     conn: &mut Connection<S>,
     rows: &[GrantRow],
 ) -> Result<Vec<KnownGrant>, Fault>
-    ensures leaves { LeavesTables (state S.Store conn.old) (state S.Store conn.new) }
+    ensures reads { ReadsQueue (state S.Store conn.old) (state S.Store conn.new) result (λ w v. v.items ≡ map (known_grant w) rows.now) }
     ensures live { HasCleanDisk (state S.Store conn.new) → OnOk result (IsTrue (state S.Store conn.old).is_open → IsTrue (state S.Store conn.new).is_open) }
     ensures within { IfOk result (λ v. All IsKnown v.items) }
-    ensures found { HasCleanDisk (state S.Store conn.new) → IfOk result (λ v. (w : World) → IsSound w → Holds (content_of w) (state S.Store conn.old) → v.items ≡ map (known_grant w) rows.now) }
-    ensures damaged { HasCleanDisk (state S.Store conn.new) → IfErr result (λ e. e ≡ Fault.Damaged → HoldNoQueue (state S.Store conn.old)) }
 {
     let mut all = Vec::new(alloc);
     for row in rows {

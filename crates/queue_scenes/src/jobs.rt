@@ -7,9 +7,10 @@ ghost use Rattle.queue_core.specs.Limits.{IsSoundJob};
 ghost use Rattle.queue_core.specs.Sound.{IsSound};
 ghost use Rattle.queue_core.specs.World.{World, job_at, numbered, rows};
 ghost use Rattle.queue_types.specs.declared.job.Job.{Job as JobValue};
-ghost use Rattle.queue_scenes.specs.Jobs.{AreRowsOf, ShowsJobs};
+ghost use Rattle.queue_scenes.specs.Jobs.{Selects};
 ghost use Rattle.queue_tables.specs.Leaving.{LeavesTables};
-ghost use Rattle.queue_tables.specs.Content.{HoldNoQueue, Holds, content_of};
+ghost use Rattle.queue_tables.specs.Telling.{ReadsQueue};
+ghost use Rattle.queue_tables.specs.Content.{AreRowsOf, Holds, content_of};
 ghost use Rattle.queue_tables.specs.Queries.{IsQueryText};
 ghost use Rattle.queue_tables.specs.Values.{job_values};
 
@@ -74,9 +75,7 @@ pub(crate) fn select_jobs<S: Alter>(
     ensures leaves { LeavesTables (state S.Store conn.old) (state S.Store conn.new) }
     ensures live { HasCleanDisk (state S.Store conn.new) → OnOk result (IsTrue (state S.Store conn.new).is_open) }
     ensures sound { IfOk result (λ v. All IsSoundJob v.items) }
-    ensures found { HasCleanDisk (state S.Store conn.new) → IfOk result (λ v. (w : World) (js : List JobValue) → IsSound w → Holds (content_of w) (state S.Store conn.old) → AreRowsOf w js → ShowsJobs sql.now (bound params.now) (state S.Store conn.old) js → v.items ≡ js) }
-    ensures damaged { HasCleanDisk (state S.Store conn.new) → IfErr result (λ e. e ≡ Fault.Damaged → (w : World) (js : List JobValue) → IsSound w → Holds (content_of w) (state S.Store conn.old) → AreRowsOf w js → ¬ ShowsJobs sql.now (bound params.now) (state S.Store conn.old) js) }
-    ensures opened { HasCleanDisk (state S.Store conn.new) → IfErr result (λ e. e ≡ Fault.Damaged → IsTrue (state S.Store conn.old).is_open) }
+    ensures reads { (jobs : World → List JobValue) → Selects sql.now (bound params.now) (state S.Store conn.old) jobs → ReadsQueue (state S.Store conn.old) (state S.Store conn.new) result (λ w v. v.items ≡ jobs w) }
 {
     let rows = select(conn, sql, params)?;
     whole_jobs(alloc, conn, rows.as_slice())
@@ -88,11 +87,9 @@ pub(crate) fn with_number<S: Alter>(
     conn: &mut Connection<S>,
     number: u32,
 ) -> Result<Vec<Job>, Fault>
-    ensures leaves { LeavesTables (state S.Store conn.old) (state S.Store conn.new) }
+    ensures reads { ReadsQueue (state S.Store conn.old) (state S.Store conn.new) result (λ w v. v.items ≡ numbered number (rows w)) }
     ensures live { HasCleanDisk (state S.Store conn.new) → OnOk result (IsTrue (state S.Store conn.new).is_open) }
     ensures sound { IfOk result (λ v. All IsSoundJob v.items) }
-    ensures found { HasCleanDisk (state S.Store conn.new) → IfOk result (λ v. (w : World) → IsSound w → Holds (content_of w) (state S.Store conn.old) → v.items ≡ numbered number (rows w)) }
-    ensures damaged { HasCleanDisk (state S.Store conn.new) → IfErr result (λ e. e ≡ Fault.Damaged → HoldNoQueue (state S.Store conn.old)) }
 {
     select_jobs(
         alloc,

@@ -7,11 +7,9 @@ ghost use Rattle.std.specs.Ordering.{nat_cmp};
 ghost use Rattle.sqlite.specs.Held.{state};
 ghost use Rattle.sqlite.specs.State.{HasCleanDisk};
 ghost use Rattle.queue_core.specs.Limits.{IsSoundJob};
-ghost use Rattle.queue_core.specs.Sound.{IsSound};
-ghost use Rattle.queue_core.specs.World.{World, is_one_of, rows};
+ghost use Rattle.queue_core.specs.World.{is_one_of, rows};
 ghost use Rattle.queue_types.specs.declared.job.Job.{Job as JobValue};
-ghost use Rattle.queue_tables.specs.Leaving.{LeavesTables};
-ghost use Rattle.queue_tables.specs.Content.{HoldNoQueue, Holds, content_of};
+ghost use Rattle.queue_tables.specs.Telling.{ReadsQueue};
 
 use crate::counts::own_count;
 use crate::jobs::with_number;
@@ -61,11 +59,9 @@ fn owned_of<S: Alter>(
     numbers: &[u32],
 ) -> Result<Vec<Job>, Fault>
     requires { IsStrictlySortedBy nat_cmp numbers.now }
-    ensures leaves { LeavesTables (state S.Store conn.old) (state S.Store conn.new) }
+    ensures reads { ReadsQueue (state S.Store conn.old) (state S.Store conn.new) result (λ w v. v.items ≡ filter (λ (j : JobValue). bytes_eq j.owner owner.now && list_any (λ n. n == j.number) numbers.now) (rows w)) }
     ensures live { HasCleanDisk (state S.Store conn.new) → IsTrue (state S.Store conn.old).is_open → OnOk result (IsTrue (state S.Store conn.new).is_open) }
     ensures sound { IfOk result (λ v. All IsSoundJob v.items) }
-    ensures found { HasCleanDisk (state S.Store conn.new) → IfOk result (λ v. (w : World) → IsSound w → Holds (content_of w) (state S.Store conn.old) → v.items ≡ filter (λ (j : JobValue). bytes_eq j.owner owner.now && list_any (λ n. n == j.number) numbers.now) (rows w)) }
-    ensures damaged { HasCleanDisk (state S.Store conn.new) → IfErr result (λ e. e ≡ Fault.Damaged → HoldNoQueue (state S.Store conn.old)) }
 {
     let mut own = Vec::new(alloc);
     for number in numbers {
@@ -98,11 +94,9 @@ fn picked_of<S: Alter>(
     owner: &str,
     numbers: &[u32],
 ) -> Result<Vec<Job>, Fault>
-    ensures leaves { LeavesTables (state S.Store conn.old) (state S.Store conn.new) }
+    ensures reads { ReadsQueue (state S.Store conn.old) (state S.Store conn.new) result (λ w v. v.items ≡ filter (λ (j : JobValue). bytes_eq j.owner owner.now && list_any (λ n. n == j.number) numbers.now) (rows w)) }
     ensures live { HasCleanDisk (state S.Store conn.new) → OnOk result (IsTrue (state S.Store conn.new).is_open) }
     ensures sound { IfOk result (λ v. All IsSoundJob v.items) }
-    ensures found { HasCleanDisk (state S.Store conn.new) → IfOk result (λ v. (w : World) → IsSound w → Holds (content_of w) (state S.Store conn.old) → v.items ≡ filter (λ (j : JobValue). bytes_eq j.owner owner.now && list_any (λ n. n == j.number) numbers.now) (rows w)) }
-    ensures damaged { HasCleanDisk (state S.Store conn.new) → IfErr result (λ e. e ≡ Fault.Damaged → HoldNoQueue (state S.Store conn.old)) }
 {
     let set = number_set(alloc, numbers)?;
     let own = all_jobs(alloc, conn, owner)?;
@@ -113,10 +107,8 @@ fn picked_of<S: Alter>(
 
 /// There are more than 100 numbers, and more than the owner has jobs.
 fn are_many<S: Alter>(conn: &mut Connection<S>, owner: &str, numbers: &[u32]) -> Result<bool, Fault>
-    ensures leaves { LeavesTables (state S.Store conn.old) (state S.Store conn.new) }
+    ensures reads { ReadsQueue (state S.Store conn.old) (state S.Store conn.new) result (λ w b. IsTrue b ↔ (100 < length numbers.now) × (count_by (λ (j : JobValue). bytes_eq j.owner owner.now) (rows w) < length numbers.now)) }
     ensures live { HasCleanDisk (state S.Store conn.new) → IsTrue (state S.Store conn.old).is_open → OnOk result (IsTrue (state S.Store conn.new).is_open) }
-    ensures many { HasCleanDisk (state S.Store conn.new) → IfOk result (λ b. (w : World) → IsSound w → Holds (content_of w) (state S.Store conn.old)
-        → IsTrue b ↔ (100 < length numbers.now) × (count_by (λ (j : JobValue). bytes_eq j.owner owner.now) (rows w) < length numbers.now)) }
     ensures never { IfErr result (λ e. e ≢ Fault.Damaged) }
 {
     if numbers.len() <= MOST_LIVE_JOBS {
@@ -134,11 +126,9 @@ pub(crate) fn numbered_jobs<S: Alter>(
     owner: &str,
     numbers: &[u32],
 ) -> Result<Vec<Job>, Fault>
-    ensures leaves { LeavesTables (state S.Store conn.old) (state S.Store conn.new) }
+    ensures reads { ReadsQueue (state S.Store conn.old) (state S.Store conn.new) result (λ w v. v.items ≡ filter (λ (j : JobValue). bytes_eq j.owner owner.now && is_one_of numbers.now j) (rows w)) }
     ensures live { HasCleanDisk (state S.Store conn.new) → IsTrue (state S.Store conn.old).is_open → OnOk result (IsTrue (state S.Store conn.new).is_open) }
     ensures sound { IfOk result (λ v. All IsSoundJob v.items) }
-    ensures found { HasCleanDisk (state S.Store conn.new) → IfOk result (λ v. (w : World) → IsSound w → Holds (content_of w) (state S.Store conn.old) → v.items ≡ filter (λ (j : JobValue). bytes_eq j.owner owner.now && is_one_of numbers.now j) (rows w)) }
-    ensures damaged { HasCleanDisk (state S.Store conn.new) → IfErr result (λ e. e ≡ Fault.Damaged → HoldNoQueue (state S.Store conn.old)) }
 {
     let wanted = in_order(alloc, numbers)?;
     let asked = wanted.as_slice();

@@ -1,12 +1,9 @@
 //! The jobs that the device may start.
-ghost use Rattle.std.specs.Prelude.{◌≡◌, IfOk, OnOk, IsTrue, IfErr};
+ghost use Rattle.std.specs.Prelude.{◌≡◌, OnOk, IsTrue};
 ghost use Rattle.sqlite.specs.Held.{state};
 ghost use Rattle.sqlite.specs.State.{HasCleanDisk};
 ghost use Rattle.queue_core.specs.Shown.{pending_jobs};
-ghost use Rattle.queue_core.specs.Sound.{IsSound};
-ghost use Rattle.queue_core.specs.World.{World};
-ghost use Rattle.queue_tables.specs.Content.{HoldNoQueue, Holds, content_of};
-ghost use Rattle.queue_tables.specs.Leaving.{LeavesTables};
+ghost use Rattle.queue_tables.specs.Telling.{ReadsQueue};
 
 use crate::jobs::select_jobs;
 use queue_tables::fault::Fault;
@@ -19,11 +16,8 @@ use std::alloc::Global;
 /// still; and whatever they hold after it, they held before. Damaged is told only where the tables of an open connection
 /// hold no sound queue.
 pub fn pending<S: Alter>(alloc: Global, conn: &mut Connection<S>) -> Result<JobList, Fault>
-    ensures leaves { LeavesTables (state S.Store conn.old) (state S.Store conn.new) }
+    ensures reads { ReadsQueue (state S.Store conn.old) (state S.Store conn.new) result (λ w js. js ≡ pending_jobs w) }
     ensures live { HasCleanDisk (state S.Store conn.new) → OnOk result (IsTrue (state S.Store conn.new).is_open) }
-    ensures shows { HasCleanDisk (state S.Store conn.new) → IfOk result (λ js. (w : World) → IsSound w → Holds (content_of w) (state S.Store conn.old) → js ≡ pending_jobs w) }
-    ensures damaged { HasCleanDisk (state S.Store conn.new) → IfErr result (λ e. e ≡ Fault.Damaged → HoldNoQueue (state S.Store conn.old)) }
-    ensures opened { HasCleanDisk (state S.Store conn.new) → IfErr result (λ e. e ≡ Fault.Damaged → IsTrue (state S.Store conn.old).is_open) }
 {
     let jobs = select_jobs(
         alloc,

@@ -4,11 +4,8 @@ ghost use Rattle.std.specs.FinMap.{get};
 ghost use Rattle.sqlite.specs.Held.{state};
 ghost use Rattle.sqlite.specs.Order.{column};
 ghost use Rattle.sqlite.specs.State.{HasCleanDisk};
-ghost use Rattle.queue_core.specs.Sound.{IsSound};
-ghost use Rattle.queue_core.specs.World.{World};
 ghost use Rattle.queue_rows.specs.Codes.{job_state_number, kind_number};
-ghost use Rattle.queue_tables.specs.Leaving.{LeavesTables};
-ghost use Rattle.queue_tables.specs.Content.{HoldNoQueue, Holds, content_of};
+ghost use Rattle.queue_tables.specs.Telling.{ReadsQueue};
 ghost use Rattle.queue_tables.specs.Values.{number};
 ghost use Rattle.queue_types.specs.declared.event.KeptReport.{KeptReport as KeptValue};
 ghost use Rattle.queue_scenes.specs.Reports.{IsFormedReport, told_values};
@@ -57,11 +54,9 @@ pub(crate) fn kept_report<S: Alter>(
     job: u32,
     seq: u32,
 ) -> Result<Option<KeptReport>, Fault>
-    ensures leaves { LeavesTables (state S.Store conn.old) (state S.Store conn.new) }
+    ensures reads { ReadsQueue (state S.Store conn.old) (state S.Store conn.new) result (λ w found. found ≡ get w.reports (job, seq)) }
     ensures live { HasCleanDisk (state S.Store conn.new) → OnOk result (IsTrue (state S.Store conn.new).is_open) }
     ensures within { IfOk result (λ found. IfSome found (λ k. k.total ≤ 100000000)) }
-    ensures found { HasCleanDisk (state S.Store conn.new) → IfOk result (λ found. (w : World) → IsSound w → Holds (content_of w) (state S.Store conn.old) → found ≡ get w.reports (job, seq)) }
-    ensures damaged { HasCleanDisk (state S.Store conn.new) → IfErr result (λ e. e ≡ Fault.Damaged → HoldNoQueue (state S.Store conn.old)) }
 {
     numbers_tell_names();
     let found = select(

@@ -4,10 +4,9 @@ ghost use Rattle.sqlite.specs.Held.{state};
 ghost use Rattle.sqlite.specs.State.{HasCleanDisk};
 ghost use Rattle.queue_types.specs.Event.{ask, tell, grant, event_of, call_of};
 ghost use Rattle.queue_core.specs.Limits.{IsAmount, IsFair, IsSoundJob};
-ghost use Rattle.queue_core.specs.Sound.{IsSound};
-ghost use Rattle.queue_core.specs.World.{World, cut, counts_for, jobs_for, live_for, numbered, owner_row, queue_counts, rows};
+ghost use Rattle.queue_core.specs.World.{cut, counts_for, jobs_for, live_for, numbered, owner_row, queue_counts, rows};
 ghost use Rattle.queue_tables.specs.Leaving.{LeavesTables};
-ghost use Rattle.queue_tables.specs.Content.{HoldNoQueue, Holds, content_of};
+ghost use Rattle.queue_tables.specs.Telling.{ReadsQueue};
 
 use crate::accounts::free_rows;
 use crate::counts::{all_counts, live_count};
@@ -34,11 +33,9 @@ fn concerned<S: Alter>(
     caller: &str,
     call: &Call<'_>,
 ) -> Result<Vec<Job>, Fault>
-    ensures leaves { LeavesTables (state S.Store conn.old) (state S.Store conn.new) }
+    ensures reads { ReadsQueue (state S.Store conn.old) (state S.Store conn.new) result (λ w v. v.items ≡ jobs_for caller.now (call_of call.now) (rows w)) }
     ensures live { HasCleanDisk (state S.Store conn.new) → IsTrue (state S.Store conn.old).is_open → OnOk result (IsTrue (state S.Store conn.new).is_open) }
     ensures sound { IfOk result (λ v. All IsSoundJob v.items) }
-    ensures found { HasCleanDisk (state S.Store conn.new) → IfOk result (λ v. (w : World) → IsSound w → Holds (content_of w) (state S.Store conn.old) → v.items ≡ jobs_for caller.now (call_of call.now) (rows w)) }
-    ensures damaged { HasCleanDisk (state S.Store conn.new) → IfErr result (λ e. e ≡ Fault.Damaged → HoldNoQueue (state S.Store conn.old)) }
 {
     if let Some(job) = call.job() {
         return with_number(alloc, conn, job);
@@ -67,8 +64,7 @@ fn few_concerned<S: Alter>(
     ensures live { HasCleanDisk (state S.Store conn.new) → IsTrue (state S.Store conn.old).is_open → OnOk result (IsTrue (state S.Store conn.new).is_open) }
     ensures sound { IfOk result (λ js. All IsSoundJob js) }
     ensures few { IfOk result (λ js. length js < 2 ^ 31) }
-    ensures found { HasCleanDisk (state S.Store conn.new) → IfOk result (λ js. (w : World) → IsSound w → Holds (content_of w) (state S.Store conn.old) → js ≡ jobs_for caller.now (call_of call.now) (rows w)) }
-    ensures damaged { HasCleanDisk (state S.Store conn.new) → IfErr result (λ e. e ≡ Fault.Damaged → HoldNoQueue (state S.Store conn.old)) }
+    ensures reads { (HasCleanDisk (state S.Store conn.new) → IsTrue (state S.Store conn.old).is_open) → ReadsQueue (state S.Store conn.old) (state S.Store conn.new) result (λ w js. js ≡ jobs_for caller.now (call_of call.now) (rows w)) }
 {
     let jobs = concerned(alloc, conn, caller, call)?;
     if jobs.len() > LAST_JOB_NUMBER as usize {
@@ -102,9 +98,8 @@ fn live_for_call<S: Alter>(
     caller: &str,
     call: &Call<'_>,
 ) -> Result<usize, Fault>
-    ensures leaves { LeavesTables (state S.Store conn.old) (state S.Store conn.new) }
+    ensures reads { ReadsQueue (state S.Store conn.old) (state S.Store conn.new) result (λ w n. n ≡ live_for caller.now (call_of call.now) (rows w)) }
     ensures live { HasCleanDisk (state S.Store conn.new) → IsTrue (state S.Store conn.old).is_open → OnOk result (IsTrue (state S.Store conn.new).is_open) }
-    ensures found { HasCleanDisk (state S.Store conn.new) → IfOk result (λ n. (w : World) → IsSound w → Holds (content_of w) (state S.Store conn.old) → n ≡ live_for caller.now (call_of call.now) (rows w)) }
     ensures never { IfErr result (λ e. e ≢ Fault.Damaged) }
 {
     match call {
@@ -120,12 +115,9 @@ fn counts_for_call<S: Alter>(
     conn: &mut Connection<S>,
     call: &Call<'_>,
 ) -> Result<QueueCounts, Fault>
-    ensures leaves { LeavesTables (state S.Store conn.old) (state S.Store conn.new) }
+    ensures reads { ReadsQueue (state S.Store conn.old) (state S.Store conn.new) result (λ w c. c ≡ counts_for (call_of call.now) (rows w)) }
     ensures live { HasCleanDisk (state S.Store conn.new) → IsTrue (state S.Store conn.old).is_open → OnOk result (IsTrue (state S.Store conn.new).is_open) }
     ensures few { IfOk result (λ c. c.queued < 2 ^ 31) }
-    ensures found { HasCleanDisk (state S.Store conn.new) → IfOk result (λ c. (w : World) → IsSound w → Holds (content_of w) (state S.Store conn.old) → c ≡ counts_for (call_of call.now) (rows w)) }
-    ensures damaged { HasCleanDisk (state S.Store conn.new) → IfErr result (λ e. e ≡ Fault.Damaged → HoldNoQueue (state S.Store conn.old)) }
-    ensures opened { HasCleanDisk (state S.Store conn.new) → IfErr result (λ e. e ≡ Fault.Damaged → IsTrue (state S.Store conn.old).is_open) }
 {
     match call {
         Call::GetPrinterAttributes => all_counts(conn),
@@ -139,13 +131,10 @@ fn numbers_for_call<S: Alter>(
     caller: &str,
     call: &Call<'_>,
 ) -> Result<Numbers, Fault>
-    ensures leaves { LeavesTables (state S.Store conn.old) (state S.Store conn.new) }
+    ensures reads { ReadsQueue (state S.Store conn.old) (state S.Store conn.new) result (λ w n. (n.live ≡ live_for caller.now (call_of call.now) (rows w)) × (n.counts ≡ counts_for (call_of call.now) (rows w)) × (n.next ≡ w.next)) }
     ensures live { HasCleanDisk (state S.Store conn.new) → OnOk result (IsTrue (state S.Store conn.new).is_open) }
     ensures few { IfOk result (λ n. n.counts.queued < 2 ^ 31) }
     ensures least { IfOk result (λ n. 1 ≤ n.next) }
-    ensures found { HasCleanDisk (state S.Store conn.new) → IfOk result (λ n. (w : World) → IsSound w → Holds (content_of w) (state S.Store conn.old) → (n.live ≡ live_for caller.now (call_of call.now) (rows w)) × (n.counts ≡ counts_for (call_of call.now) (rows w)) × (n.next ≡ w.next)) }
-    ensures damaged { HasCleanDisk (state S.Store conn.new) → IfErr result (λ e. e ≡ Fault.Damaged → HoldNoQueue (state S.Store conn.old)) }
-    ensures opened { HasCleanDisk (state S.Store conn.new) → IfErr result (λ e. e ≡ Fault.Damaged → IsTrue (state S.Store conn.old).is_open) }
 {
     let live = live_for_call(conn, caller, call)?;
     let counts = counts_for_call(conn, call)?;
@@ -161,12 +150,9 @@ fn scene_of_call<S: Alter>(
     caller: &str,
     call: &Call<'_>,
 ) -> Result<Scene, Fault>
-    ensures leaves { LeavesTables (state S.Store conn.old) (state S.Store conn.new) }
+    ensures reads { ReadsQueue (state S.Store conn.old) (state S.Store conn.new) result (λ w s. settings.now ≡ w.settings → s ≡ cut w (ask caller.now (call_of call.now))) }
     ensures live { HasCleanDisk (state S.Store conn.new) → OnOk result (IsTrue (state S.Store conn.new).is_open) }
     ensures fair { IfOk result IsFair }
-    ensures found { HasCleanDisk (state S.Store conn.new) → IfOk result (λ s. (w : World) → IsSound w → Holds (content_of w) (state S.Store conn.old) → settings.now ≡ w.settings → s ≡ cut w (ask caller.now (call_of call.now))) }
-    ensures damaged { HasCleanDisk (state S.Store conn.new) → IfErr result (λ e. e ≡ Fault.Damaged → HoldNoQueue (state S.Store conn.old)) }
-    ensures opened { HasCleanDisk (state S.Store conn.new) → IfErr result (λ e. e ≡ Fault.Damaged → IsTrue (state S.Store conn.old).is_open) }
 {
     let numbers = numbers_for_call(conn, caller, call)?;
     let free = free_rows(alloc, conn, caller)?;
@@ -190,11 +176,9 @@ fn owner_rows<S: Alter>(
     conn: &mut Connection<S>,
     jobs: &[Job],
 ) -> Result<Vec<FreeRow>, Fault>
-    ensures leaves { LeavesTables (state S.Store conn.old) (state S.Store conn.new) }
+    ensures reads { ReadsQueue (state S.Store conn.old) (state S.Store conn.new) result (λ w v. v.items ≡ owner_row w.free jobs.now) }
     ensures live { HasCleanDisk (state S.Store conn.new) → IsTrue (state S.Store conn.old).is_open → OnOk result (IsTrue (state S.Store conn.new).is_open) }
     ensures within { IfOk result (λ v. All (λ a. IsAmount a.free) v.items) }
-    ensures found { HasCleanDisk (state S.Store conn.new) → IfOk result (λ v. (w : World) → Holds (content_of w) (state S.Store conn.old) → v.items ≡ owner_row w.free jobs.now) }
-    ensures damaged { HasCleanDisk (state S.Store conn.new) → IfErr result (λ e. e ≡ Fault.Damaged → HoldNoQueue (state S.Store conn.old)) }
 {
     match jobs {
         [] => Ok(Vec::new(alloc)),
@@ -208,12 +192,10 @@ fn job_of_report<S: Alter>(
     conn: &mut Connection<S>,
     number: u32,
 ) -> Result<Vec<Job>, Fault>
-    ensures leaves { LeavesTables (state S.Store conn.old) (state S.Store conn.new) }
+    ensures reads { ReadsQueue (state S.Store conn.old) (state S.Store conn.new) result (λ w v. v.items ≡ numbered number (rows w)) }
     ensures live { HasCleanDisk (state S.Store conn.new) → OnOk result (IsTrue (state S.Store conn.new).is_open) }
     ensures sound { IfOk result (λ v. All IsSoundJob v.items) }
     ensures few { IfOk result (λ v. length v.items ≤ 1) }
-    ensures found { HasCleanDisk (state S.Store conn.new) → IfOk result (λ v. (w : World) → IsSound w → Holds (content_of w) (state S.Store conn.old) → v.items ≡ numbered number (rows w)) }
-    ensures damaged { HasCleanDisk (state S.Store conn.new) → IfErr result (λ e. e ≡ Fault.Damaged → HoldNoQueue (state S.Store conn.old)) }
 {
     let jobs = with_number(alloc, conn, number)?;
     if jobs.len() > 1 {
@@ -229,12 +211,9 @@ fn scene_of_report<S: Alter>(
     settings: &Settings,
     r: &Report,
 ) -> Result<Scene, Fault>
-    ensures leaves { LeavesTables (state S.Store conn.old) (state S.Store conn.new) }
+    ensures reads { ReadsQueue (state S.Store conn.old) (state S.Store conn.new) result (λ w s. settings.now ≡ w.settings → s ≡ cut w (tell r.now)) }
     ensures live { HasCleanDisk (state S.Store conn.new) → OnOk result (IsTrue (state S.Store conn.new).is_open) }
     ensures fair { IfOk result IsFair }
-    ensures found { HasCleanDisk (state S.Store conn.new) → IfOk result (λ s. (w : World) → IsSound w → Holds (content_of w) (state S.Store conn.old) → settings.now ≡ w.settings → s ≡ cut w (tell r.now)) }
-    ensures damaged { HasCleanDisk (state S.Store conn.new) → IfErr result (λ e. e ≡ Fault.Damaged → HoldNoQueue (state S.Store conn.old)) }
-    ensures opened { HasCleanDisk (state S.Store conn.new) → IfErr result (λ e. e ≡ Fault.Damaged → IsTrue (state S.Store conn.old).is_open) }
 {
     let next = next_number(conn)?;
     let report = kept_report(conn, r.job, r.seq)?;
@@ -260,12 +239,9 @@ fn scene_of_grants<S: Alter>(
     settings: &Settings,
     rows: &[GrantRow],
 ) -> Result<Scene, Fault>
-    ensures leaves { LeavesTables (state S.Store conn.old) (state S.Store conn.new) }
+    ensures reads { ReadsQueue (state S.Store conn.old) (state S.Store conn.new) result (λ w s. settings.now ≡ w.settings → s ≡ cut w (grant rows.now)) }
     ensures live { HasCleanDisk (state S.Store conn.new) → OnOk result (IsTrue (state S.Store conn.new).is_open) }
     ensures fair { IfOk result IsFair }
-    ensures found { HasCleanDisk (state S.Store conn.new) → IfOk result (λ s. (w : World) → IsSound w → Holds (content_of w) (state S.Store conn.old) → settings.now ≡ w.settings → s ≡ cut w (grant rows.now)) }
-    ensures damaged { HasCleanDisk (state S.Store conn.new) → IfErr result (λ e. e ≡ Fault.Damaged → HoldNoQueue (state S.Store conn.old)) }
-    ensures opened { HasCleanDisk (state S.Store conn.new) → IfErr result (λ e. e ≡ Fault.Damaged → IsTrue (state S.Store conn.old).is_open) }
 {
     let next = next_number(conn)?;
     let known = known_rows(alloc, conn, rows)?;
@@ -291,12 +267,9 @@ pub fn scene<S: Alter>(
     settings: &Settings,
     event: &Event<'_>,
 ) -> Result<Scene, Fault>
-    ensures leaves { LeavesTables (state S.Store conn.old) (state S.Store conn.new) }
+    ensures reads { ReadsQueue (state S.Store conn.old) (state S.Store conn.new) result (λ w s. settings.now ≡ w.settings → s ≡ cut w (event_of event.now)) }
     ensures live { HasCleanDisk (state S.Store conn.new) → OnOk result (IsTrue (state S.Store conn.new).is_open) }
     ensures fair { IfOk result IsFair }
-    ensures shows { HasCleanDisk (state S.Store conn.new) → IfOk result (λ s. (w : World) → IsSound w → Holds (content_of w) (state S.Store conn.old) → settings.now ≡ w.settings → s ≡ cut w (event_of event.now)) }
-    ensures damaged { HasCleanDisk (state S.Store conn.new) → IfErr result (λ e. e ≡ Fault.Damaged → HoldNoQueue (state S.Store conn.old)) }
-    ensures opened { HasCleanDisk (state S.Store conn.new) → IfErr result (λ e. e ≡ Fault.Damaged → IsTrue (state S.Store conn.old).is_open) }
 {
     match event {
         Event::Ask { caller, call } => scene_of_call(alloc, conn, settings, caller, call),

@@ -1,12 +1,8 @@
-use Rattle.std.specs.Prelude.{count_by}
-use Rattle.sqlite.specs.Held.{state}
-use Rattle.queue_types.specs.Job.{is_live, is_running, is_stopped}
-use Rattle.queue_core.specs.World.{rows}
-use Rattle.queue_tables.specs.Content.{content_of}
-use Rattle.queue_scenes.proofs.Counting.{count_queued_is, count_running_is, count_stopped_is, counts_queued, counts_running, counts_stopped}
-use Rattle.queue_tables.proofs.Leaving.{leaves_then, leaves_three, holds_after}
+use Rattle.std.proofs.Common.{arith, refl}
 use Rattle.queue_scenes.proofs.Bounds.{queued_fit}
-use Rattle.std.proofs.Common.{arith}
+use Rattle.queue_scenes.proofs.Counting.{count_queued_is, count_running_is, count_stopped_is, counts_queued, counts_running, counts_stopped}
+use Rattle.queue_scenes.proofs.Telling.{fails_behind, refuses, tells, told, told_then}
+use Rattle.queue_tables.proofs.Leaving.{leaves_then}
 use Rattle.queue_scenes.proofs.counts.all_counts.Goals as goal
 
 pub count-requires : goal.count-requires
@@ -18,41 +14,21 @@ count-requires-2 g c = record { query = count_stopped_is.shows.query }
 pub count-requires-3 : goal.count-requires-3
 count-requires-3 g c = record { query = count_queued_is.shows.query }
 
-pub returns-in_err-stopped-clause-leaves : goal.returns-in_err-stopped-clause-leaves
-returns-in_err-stopped-clause-leaves g c = leaves_then _ _ _ c.count.ensures.leaves c.count-2.ensures.leaves
+pub returns-in_err-stopped-clause-reads : goal.returns-in_err-stopped-clause-reads
+returns-in_err-stopped-clause-reads g c = fails_behind c.count.ensures.leaves (c.in_err-stopped.ensures.reads _ (counts_stopped _)) _ c.from_residual-in_err-stopped.ensures.1
 
-pub returns-in_err-queued-clause-leaves : goal.returns-in_err-queued-clause-leaves
-returns-in_err-queued-clause-leaves g c = leaves_three _ _ _ _ c.count.ensures.leaves c.count-2.ensures.leaves c.count-3.ensures.leaves
+pub returns-in_err-queued-clause-reads : goal.returns-in_err-queued-clause-reads
+returns-in_err-queued-clause-reads g c = fails_behind (leaves_then _ _ _ c.count.ensures.leaves c.count-2.ensures.leaves) (c.in_err-queued.ensures.reads _ (counts_queued _)) _ c.from_residual-in_err-queued.ensures.1
 
-pub returns-then-queued-clause-leaves : goal.returns-then-queued-clause-leaves
-returns-then-queued-clause-leaves g c = leaves_three _ _ _ _ c.count.ensures.leaves c.count-2.ensures.leaves c.count-3.ensures.leaves
-
-pub returns-clause-leaves : goal.returns-clause-leaves
-returns-clause-leaves g c = leaves_three _ _ _ _ c.count.ensures.leaves c.count-2.ensures.leaves c.count-3.ensures.leaves
-
-pub returns-clause-found : goal.returns-clause-found
-returns-clause-found g c clean w sound has =
-    let second = c.count-3.ensures.leaves.clean clean in
-    let first = c.count-2.ensures.leaves.clean second in
-    let has_first = holds_after c.count.ensures.leaves first (content_of w) has (c.in_ok-running.ensures.live first) in
-    let has_second = holds_after c.count-2.ensures.leaves second (content_of w) has_first (c.in_ok-stopped.ensures.live second) in
-    let r = c.in_ok-running.ensures.found first (content_of w) (count_by is_running (rows w)) has (counts_running (state g.S.Store c.args.conn.now) w sound has) in
-    let s = c.in_ok-stopped.ensures.found second (content_of w) (count_by is_stopped (rows w)) has_first (counts_stopped (state g.S.Store c.count.new.conn) w sound has_first) in
-    let q = c.in_ok-queued.ensures.found clean (content_of w) (count_by is_live (rows w)) has_second (counts_queued (state g.S.Store c.count-2.new.conn) w sound has_second) in
-    λ i. record { running = r i; stopped = s i; queued = q i }
-
-pub returns-then-queued-clause-damaged : goal.returns-then-queued-clause-damaged
-returns-then-queued-clause-damaged g c clean d w sound has =
-    let second = c.count-3.ensures.leaves.clean clean in
-    let first = c.count-2.ensures.leaves.clean second in
-    let has_first = holds_after c.count.ensures.leaves first (content_of w) has (c.in_ok-running.ensures.live first) in
-    let has_second = holds_after c.count-2.ensures.leaves second (content_of w) has_first (c.in_ok-stopped.ensures.live second) in
-    let q = c.in_ok-queued.ensures.found clean (content_of w) (count_by is_live (rows w)) has_second (counts_queued (state g.S.Store c.count-2.new.conn) w sound has_second) in
+pub returns-then-queued-clause-reads : goal.returns-then-queued-clause-reads
+returns-then-queued-clause-reads g c =
+    let two = told_then (told (c.in_ok-running.ensures.reads _ (counts_running _)) c.in_ok-running.ensures.live) (told (c.in_ok-stopped.ensures.reads _ (counts_stopped _)) c.in_ok-stopped.ensures.live) in
+    refuses (told_then two (told (c.in_ok-queued.ensures.reads _ (counts_queued _)) c.in_ok-queued.ensures.live)) c.in_ok-queued.ensures.live (λ d w sound is.
+    let q = is.1 in
     let few = queued_fit w sound in
-    omega (arith, q, few)
+    omega (arith, q, few)) _ refl
 
-pub returns-then-queued-clause-opened : goal.returns-then-queued-clause-opened
-returns-then-queued-clause-opened g c clean d =
-    let second = c.count-3.ensures.leaves.clean clean in
-    let first = c.count-2.ensures.leaves.clean second in
-    c.count.ensures.leaves.opened first (c.in_ok-running.ensures.live first)
+pub returns-clause-reads : goal.returns-clause-reads
+returns-clause-reads g c =
+    let two = told_then (told (c.in_ok-running.ensures.reads _ (counts_running _)) c.in_ok-running.ensures.live) (told (c.in_ok-stopped.ensures.reads _ (counts_stopped _)) c.in_ok-stopped.ensures.live) in
+    tells (told_then two (told (c.in_ok-queued.ensures.reads _ (counts_queued _)) c.in_ok-queued.ensures.live)) (λ w sound is. λ i. record { running = is.0.0 i; stopped = is.0.1 i; queued = is.1 i })

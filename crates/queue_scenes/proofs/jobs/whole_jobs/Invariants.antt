@@ -5,9 +5,8 @@ use Rattle.queue_core.specs.Limits.{IsSoundJob}
 use Rattle.queue_core.specs.Sound.{IsSound}
 use Rattle.queue_core.specs.World.{World}
 use Rattle.queue_types.specs.declared.job.Job.{Job}
-use Rattle.queue_scenes.specs.Jobs.{AreRowsOf}
 use Rattle.queue_tables.specs.Leaving.{LeavesTables}
-use Rattle.queue_tables.specs.Content.{Holds, content_of}
+use Rattle.queue_tables.specs.Content.{AreRowsOf, Holds, content_of}
 use Rattle.queue_tables.specs.Values.{job_values}
 use Rattle.queue_scenes.proofs.jobs.whole_jobs.Given as goal
 

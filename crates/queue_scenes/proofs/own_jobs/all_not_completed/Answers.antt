@@ -5,6 +5,7 @@ use Rattle.queue_core.specs.Visible.{by_state}
 use Rattle.queue_types.specs.declared.event.WhichJobs.TheVariants.{NotCompleted}
 use Rattle.queue_types.specs.declared.job.Job.{Job}
 use Rattle.queue_core.proofs.Ordered.{each-visible}
+use Rattle.queue_scenes.proofs.Telling.{tells, told}
 use Rattle.queue_scenes.proofs.own_jobs.all_not_completed.Goals as goal
 
 pub returns-clause-sound : goal.returns-clause-sound
@@ -13,5 +14,5 @@ returns-clause-sound g c =
     let shown : c.in_ok-shown.shown.items ≡ by_state own = c.in_ok-shown.ensures ∙ ap by_state c.as_slice.ensures.value in
     subst (λ (js : List Job). All IsSoundJob js) (sym shown) (All-from_recursion IsSoundJob (by_state own) (each-visible IsSoundJob None NotCompleted own (recursion_from_All IsSoundJob own c.in_ok-own.ensures.sound)))
 
-pub returns-clause-found : goal.returns-clause-found
-returns-clause-found g c clean w sound has = c.in_ok-shown.ensures ∙ ap by_state (c.as_slice.ensures.value ∙ c.in_ok-own.ensures.found clean w sound has)
+pub returns-clause-reads : goal.returns-clause-reads
+returns-clause-reads g c = tells (told c.in_ok-own.ensures.reads c.in_ok-own.ensures.live) (λ w sound is. c.in_ok-shown.ensures ∙ ap by_state (c.as_slice.ensures.value ∙ is))

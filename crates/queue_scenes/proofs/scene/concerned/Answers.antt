@@ -1,6 +1,6 @@
 use Rattle.std.proofs.Common.{◌∙◌, rules}
-use Rattle.queue_tables.proofs.Ending.{if_ok}
+use Rattle.queue_scenes.proofs.Telling.{tells_as}
 use Rattle.queue_scenes.proofs.scene.concerned.Goals as goal
 
-pub returns-in-CancelMyJobs-Some-clause-found : goal.returns-in-CancelMyJobs-Some-clause-found
-returns-in-CancelMyJobs-Some-clause-found g c clean = if_ok c.numbered_jobs.result _ _ (λ v found w sound has. found w sound has ∙ search rules) (c.numbered_jobs.ensures.found clean)
+pub returns-in-CancelMyJobs-Some-clause-reads : goal.returns-in-CancelMyJobs-Some-clause-reads
+returns-in-CancelMyJobs-Some-clause-reads g c = tells_as c.numbered_jobs.ensures.reads (λ w sound v is. is ∙ search rules)

@@ -1,8 +1,9 @@
-use Rattle.std.proofs.Common.{◌<◌, ◌^◌, List, All, length, sym, subst, ◌∙◌, arith, ap}
+use Rattle.std.proofs.Common.{◌<◌, ◌^◌, List, All, length, refl, sym, subst, ◌∙◌, arith, ap}
 use Rattle.queue_core.specs.Limits.{IsSoundJob}
 use Rattle.queue_types.specs.declared.job.Job.{Job}
 use Rattle.queue_types.specs.Event.{call_of}
 use Rattle.queue_scenes.proofs.Bounds.{jobs_fit}
+use Rattle.queue_scenes.proofs.Telling.{refuses, tells, told_while}
 use Rattle.queue_scenes.proofs.scene.few_concerned.Goals as goal
 
 pub returns-clause-sound : goal.returns-clause-sound
@@ -11,11 +12,13 @@ returns-clause-sound g c = subst (λ (js : List Job). All IsSoundJob js) (sym c.
 pub returns-clause-few : goal.returns-clause-few
 returns-clause-few g c = subst (λ (js : List Job). length js < 2 ^ 31) (sym c.from_items.ensures) (omega arith)
 
-pub returns-clause-found : goal.returns-clause-found
-returns-clause-found g c clean w sound has = c.from_items.ensures ∙ c.in_ok-jobs.ensures.found clean w sound has
-
-pub returns-then-len-clause-damaged : goal.returns-then-len-clause-damaged
-returns-then-len-clause-damaged g c clean d w sound has =
+pub returns-then-len-clause-reads : goal.returns-then-len-clause-reads
+returns-then-len-clause-reads g c live =
+    let jobs = c.in_ok-jobs.ensures in
+    refuses (told_while jobs.reads jobs.live) (λ clean. jobs.live clean (live clean)) (λ d w sound is.
     let few = jobs_fit w c.args.caller.now (call_of c.args.call.now) sound in
-    let same = ap (length {A = Job}) (c.in_ok-jobs.ensures.found clean w sound has) in
-    omega (arith, few, same)
+    let same = ap (length {A = Job}) is in
+    omega (arith, few, same)) _ refl
+
+pub returns-clause-reads : goal.returns-clause-reads
+returns-clause-reads g c live = tells (told_while c.in_ok-jobs.ensures.reads c.in_ok-jobs.ensures.live) (λ w sound is. c.from_items.ensures ∙ is)

@@ -6,23 +6,12 @@ use Rattle.queue_types.specs.declared.event.FreeRow.{FreeRow}
 use Rattle.queue_types.specs.declared.event.KnownGrant.{KnownGrant}
 use Rattle.queue_types.specs.declared.event.QueueCounts.{QueueCounts}
 use Rattle.queue_types.specs.declared.job.Job.{Job}
-use Rattle.queue_tables.specs.Content.{content_of}
 use Rattle.queue_scenes.proofs.Cut.{same_scene}
-use Rattle.queue_tables.proofs.Leaving.{leaves_then, holds_after, none_before}
-use Rattle.queue_tables.proofs.Ending.{err_after}
+use Rattle.queue_scenes.proofs.Telling.{fails_behind, tells, told, told_then, told_while}
 use Rattle.queue_scenes.proofs.scene.scene_of_grants.Goals as goal
 
-pub returns-in_err-known-clause-leaves : goal.returns-in_err-known-clause-leaves
-returns-in_err-known-clause-leaves g c = leaves_then _ _ _ c.next_number.ensures.leaves c.known_rows.ensures.leaves
-
-pub returns-in_err-settings-clause-leaves : goal.returns-in_err-settings-clause-leaves
-returns-in_err-settings-clause-leaves g c = leaves_then _ _ _ c.next_number.ensures.leaves c.known_rows.ensures.leaves
-
-pub returns-clause-leaves : goal.returns-clause-leaves
-returns-clause-leaves g c = leaves_then _ _ _ c.next_number.ensures.leaves c.known_rows.ensures.leaves
-
 pub returns-clause-live : goal.returns-clause-live
-returns-clause-live g c clean = c.in_ok-known.ensures.live clean (c.in_ok-next.ensures.live (c.known_rows.ensures.leaves.clean clean))
+returns-clause-live g c clean = c.in_ok-known.ensures.live clean (c.in_ok-next.ensures.live (c.known_rows.ensures.reads.leaves.clean clean))
 
 pub returns-clause-fair : goal.returns-clause-fair
 returns-clause-fair g c =
@@ -38,10 +27,11 @@ returns-clause-fair g c =
       known = subst (λ (ks : List KnownGrant). All IsKnown ks) (sym c.from_items-3.ensures) c.in_ok-known.ensures.within;
     }
 
-pub returns-clause-found : goal.returns-clause-found
-returns-clause-found g c clean w sound has settings_are =
-    let first = c.known_rows.ensures.leaves.clean clean in
-    let has_first = holds_after c.next_number.ensures.leaves first (content_of w) has (c.in_ok-next.ensures.live first) in
+pub returns-in_err-known-clause-reads : goal.returns-in_err-known-clause-reads
+returns-in_err-known-clause-reads g c = fails_behind c.next_number.ensures.reads.leaves c.in_err-known.ensures.reads _ c.from_residual-in_err-known.ensures.1
+
+pub returns-clause-reads : goal.returns-clause-reads
+returns-clause-reads g c = tells (told_then (told c.in_ok-next.ensures.reads c.in_ok-next.ensures.live) (told_while c.in_ok-known.ensures.reads c.in_ok-known.ensures.live)) (λ w sound is settings_are.
     same_scene _ (cut w (grant c.args.rows.now))
     (c.in_ok-settings.ensures.same ∙ settings_are)
     (c.from_items.ensures ∙ c.new.ensures.items)
@@ -49,15 +39,5 @@ returns-clause-found g c clean w sound has settings_are =
     refl
     c.no_counts.ensures
     refl
-    (c.from_items-3.ensures ∙ c.in_ok-known.ensures.found clean w sound has_first)
-    (c.in_ok-next.ensures.found first w has)
-
-pub returns-in_err-known-clause-damaged : goal.returns-in_err-known-clause-damaged
-returns-in_err-known-clause-damaged g c clean = err_after _ c.in_err-known.field-0.0 _ c.from_residual-in_err-known.ensures.1 (λ d.
-    let first = c.known_rows.ensures.leaves.clean clean in
-    none_before c.next_number.ensures.leaves first (c.in_ok-next.ensures.live first) (c.in_err-known.ensures.damaged clean d))
-
-pub returns-in_err-known-clause-opened : goal.returns-in_err-known-clause-opened
-returns-in_err-known-clause-opened g c clean = err_after _ c.in_err-known.field-0.0 _ c.from_residual-in_err-known.ensures.1 (λ d.
-    let first = c.known_rows.ensures.leaves.clean clean in
-    c.next_number.ensures.leaves.opened first (c.in_ok-next.ensures.live first))
+    (c.from_items-3.ensures ∙ is.1)
+    is.0)

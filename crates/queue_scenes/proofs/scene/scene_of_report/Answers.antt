@@ -6,29 +6,13 @@ use Rattle.queue_types.specs.declared.event.FreeRow.{FreeRow}
 use Rattle.queue_types.specs.declared.event.KnownGrant.{KnownGrant}
 use Rattle.queue_types.specs.declared.event.QueueCounts.{QueueCounts}
 use Rattle.queue_types.specs.declared.job.Job.{Job}
-use Rattle.queue_tables.specs.Content.{content_of}
 use Rattle.queue_scenes.proofs.Cut.{same_scene}
-use Rattle.queue_tables.proofs.Leaving.{leaves_then, leaves_three, leaves_four, holds_after, none_before}
-use Rattle.queue_tables.proofs.Ending.{err_after}
+use Rattle.queue_scenes.proofs.Telling.{fails_behind, tells, told, told_then, told_while}
+use Rattle.queue_tables.proofs.Leaving.{leaves_then, leaves_three}
 use Rattle.queue_scenes.proofs.scene.scene_of_report.Goals as goal
 
-pub returns-in_err-report-clause-leaves : goal.returns-in_err-report-clause-leaves
-returns-in_err-report-clause-leaves g c = leaves_then _ _ _ c.next_number.ensures.leaves c.kept_report.ensures.leaves
-
-pub returns-in_err-jobs-clause-leaves : goal.returns-in_err-jobs-clause-leaves
-returns-in_err-jobs-clause-leaves g c = leaves_three _ _ _ _ c.next_number.ensures.leaves c.kept_report.ensures.leaves c.job_of_report.ensures.leaves
-
-pub returns-in_err-free-clause-leaves : goal.returns-in_err-free-clause-leaves
-returns-in_err-free-clause-leaves g c = leaves_four _ _ _ _ _ c.next_number.ensures.leaves c.kept_report.ensures.leaves c.job_of_report.ensures.leaves c.owner_rows.ensures.leaves
-
-pub returns-in_err-settings-clause-leaves : goal.returns-in_err-settings-clause-leaves
-returns-in_err-settings-clause-leaves g c = leaves_four _ _ _ _ _ c.next_number.ensures.leaves c.kept_report.ensures.leaves c.job_of_report.ensures.leaves c.owner_rows.ensures.leaves
-
-pub returns-clause-leaves : goal.returns-clause-leaves
-returns-clause-leaves g c = leaves_four _ _ _ _ _ c.next_number.ensures.leaves c.kept_report.ensures.leaves c.job_of_report.ensures.leaves c.owner_rows.ensures.leaves
-
 pub returns-clause-live : goal.returns-clause-live
-returns-clause-live g c clean = c.in_ok-free.ensures.live clean (c.in_ok-jobs.ensures.live (c.owner_rows.ensures.leaves.clean clean))
+returns-clause-live g c clean = c.in_ok-free.ensures.live clean (c.in_ok-jobs.ensures.live (c.owner_rows.ensures.reads.leaves.clean clean))
 
 pub returns-clause-fair : goal.returns-clause-fair
 returns-clause-fair g c = record {
@@ -42,51 +26,27 @@ returns-clause-fair g c = record {
   known = subst (λ (ks : List KnownGrant). All IsKnown ks) (sym (c.from_items-3.ensures ∙ c.new.ensures.items)) (λ k d low. absurd (omega (arith, low)));
 }
 
-pub returns-clause-found : goal.returns-clause-found
-returns-clause-found g c clean w sound has settings_are =
-    let third = c.owner_rows.ensures.leaves.clean clean in
-    let second = c.job_of_report.ensures.leaves.clean third in
-    let first = c.kept_report.ensures.leaves.clean second in
-    let has_first = holds_after c.next_number.ensures.leaves first (content_of w) has (c.in_ok-next.ensures.live first) in
-    let has_second = holds_after c.kept_report.ensures.leaves second (content_of w) has_first (c.in_ok-report.ensures.live second) in
-    let has_third = holds_after c.job_of_report.ensures.leaves third (content_of w) has_second (c.in_ok-jobs.ensures.live third) in
-    let jobs = c.in_ok-jobs.ensures.found third w sound has_second in
+pub returns-in_err-report-clause-reads : goal.returns-in_err-report-clause-reads
+returns-in_err-report-clause-reads g c = fails_behind c.next_number.ensures.reads.leaves c.in_err-report.ensures.reads _ c.from_residual-in_err-report.ensures.1
+
+pub returns-in_err-jobs-clause-reads : goal.returns-in_err-jobs-clause-reads
+returns-in_err-jobs-clause-reads g c = fails_behind (leaves_then _ _ _ c.next_number.ensures.reads.leaves c.kept_report.ensures.reads.leaves) c.in_err-jobs.ensures.reads _ c.from_residual-in_err-jobs.ensures.1
+
+pub returns-in_err-free-clause-reads : goal.returns-in_err-free-clause-reads
+returns-in_err-free-clause-reads g c = fails_behind (leaves_three _ _ _ _ c.next_number.ensures.reads.leaves c.kept_report.ensures.reads.leaves c.job_of_report.ensures.reads.leaves) c.in_err-free.ensures.reads _ c.from_residual-in_err-free.ensures.1
+
+pub returns-clause-reads : goal.returns-clause-reads
+returns-clause-reads g c =
+    let two = told_then (told c.in_ok-next.ensures.reads c.in_ok-next.ensures.live) (told c.in_ok-report.ensures.reads c.in_ok-report.ensures.live) in
+    let three = told_then two (told c.in_ok-jobs.ensures.reads c.in_ok-jobs.ensures.live) in
+    tells (told_then three (told_while c.in_ok-free.ensures.reads c.in_ok-free.ensures.live)) (λ w sound is settings_are.
+    let jobs = is.0.1 in
     same_scene _ (cut w (tell c.args.r.now))
     (c.in_ok-settings.ensures.same ∙ settings_are)
     (c.from_items.ensures ∙ jobs)
-    (c.from_items-2.ensures ∙ c.in_ok-free.ensures.found clean w has_third ∙ ap (owner_row w.free) (c.as_slice.ensures.value ∙ jobs))
+    (c.from_items-2.ensures ∙ is.1 ∙ ap (owner_row w.free) (c.as_slice.ensures.value ∙ jobs))
     refl
     c.no_counts.ensures
-    (c.in_ok-report.ensures.found second w sound has_first)
+    is.0.0.1
     (c.from_items-3.ensures ∙ c.new.ensures.items)
-    (c.in_ok-next.ensures.found first w has)
-
-pub returns-in_err-report-clause-damaged : goal.returns-in_err-report-clause-damaged
-returns-in_err-report-clause-damaged g c clean = err_after _ c.in_err-report.field-0.0 _ c.from_residual-in_err-report.ensures.1 (λ d.
-    let first = c.kept_report.ensures.leaves.clean clean in
-    none_before c.next_number.ensures.leaves first (c.in_ok-next.ensures.live first) (c.in_err-report.ensures.damaged clean d))
-
-pub returns-in_err-jobs-clause-damaged : goal.returns-in_err-jobs-clause-damaged
-returns-in_err-jobs-clause-damaged g c clean = err_after _ c.in_err-jobs.field-0.0 _ c.from_residual-in_err-jobs.ensures.1 (λ d.
-    let second = c.job_of_report.ensures.leaves.clean clean in
-    none_before (leaves_then _ _ _ c.next_number.ensures.leaves c.kept_report.ensures.leaves) second (c.in_ok-report.ensures.live second) (c.in_err-jobs.ensures.damaged clean d))
-
-pub returns-in_err-free-clause-damaged : goal.returns-in_err-free-clause-damaged
-returns-in_err-free-clause-damaged g c clean = err_after _ c.in_err-free.field-0.0 _ c.from_residual-in_err-free.ensures.1 (λ d.
-    let third = c.owner_rows.ensures.leaves.clean clean in
-    none_before (leaves_three _ _ _ _ c.next_number.ensures.leaves c.kept_report.ensures.leaves c.job_of_report.ensures.leaves) third (c.in_ok-jobs.ensures.live third) (c.in_err-free.ensures.damaged clean d))
-
-pub returns-in_err-report-clause-opened : goal.returns-in_err-report-clause-opened
-returns-in_err-report-clause-opened g c clean = err_after _ c.in_err-report.field-0.0 _ c.from_residual-in_err-report.ensures.1 (λ d.
-    let first = c.kept_report.ensures.leaves.clean clean in
-    c.next_number.ensures.leaves.opened first (c.in_ok-next.ensures.live first))
-
-pub returns-in_err-jobs-clause-opened : goal.returns-in_err-jobs-clause-opened
-returns-in_err-jobs-clause-opened g c clean = err_after _ c.in_err-jobs.field-0.0 _ c.from_residual-in_err-jobs.ensures.1 (λ d.
-    let first = c.kept_report.ensures.leaves.clean (c.job_of_report.ensures.leaves.clean clean) in
-    c.next_number.ensures.leaves.opened first (c.in_ok-next.ensures.live first))
-
-pub returns-in_err-free-clause-opened : goal.returns-in_err-free-clause-opened
-returns-in_err-free-clause-opened g c clean = err_after _ c.in_err-free.field-0.0 _ c.from_residual-in_err-free.ensures.1 (λ d.
-    let first = c.kept_report.ensures.leaves.clean (c.job_of_report.ensures.leaves.clean (c.owner_rows.ensures.leaves.clean clean)) in
-    c.next_number.ensures.leaves.opened first (c.in_ok-next.ensures.live first))
+    is.0.0.0)
