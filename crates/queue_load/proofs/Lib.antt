@@ -1,6 +1,7 @@
 pub mod Loading
 pub mod Texts
 pub mod Listing
+pub mod Telling
 pub mod Whole
 pub mod Pieces
 pub mod Contents

@@ -1,5 +1,5 @@
 -- A whole table that was read.
-use Rattle.std.proofs.Common.{◌≡◌, ◌≢◌, ℕ, List, [], ◌∷◌, ◌++◌, map, length, All, refl, sym, ap, subst, subst₂, ◌∙◌, arith, slice_index_or}
+use Rattle.std.proofs.Common.{◌≡◌, ◌≢◌, ℕ, List, [], ◌∷◌, ◌++◌, map, length, All, refl, sym, ap, subst, subst₂, ◌∙◌, arith, slice_index_or, Result, IfOk, IfErr, OnOk}
 use Rattle.std.specs.List.Sorted.{IsPermutation, IsSorted}
 use Rattle.std.proofs.lemmas.List.Elements.{All-cons, All-map, All-tail}
 use Rattle.std.proofs.lemmas.List.Sorted.{All-permutation, IsPermutation-sym}
@@ -8,12 +8,16 @@ use Rattle.sqlite.specs.Order.{Row}
 use Rattle.sqlite.specs.Query.{output_cmp}
 use Rattle.sqlite.specs.Effect.{Reads}
 use Rattle.sqlite.specs.Listing.{understood, reads_listing, IsSourceOf}
-use Rattle.sqlite.specs.State.{State}
+use Rattle.sqlite.specs.State.{State, HasCleanDisk, IsUnchanged}
 use Rattle.sqlite.proofs.Callers.{IsPlain, command_of}
 use Rattle.queue_tables.proofs.PlainQueries.{plain_query, shown_of}
 use Rattle.queue_tables.specs.Tables.{book_schema}
 use Rattle.queue_tables.proofs.Writing.{IsListing, lists, begins_rows}
-use Rattle.queue_load.specs.Reads.{Answers, Tell, HasRead, FindsFormless}
+use Rattle.queue_tables.specs.Leaving.{LeavesTables}
+use Rattle.queue_tables.specs.declared.fault.Fault.{Fault}
+use Rattle.queue_tables.specs.declared.fault.Fault.TheVariants.{Damaged}
+use Rattle.queue_load.specs.Reads.{Answers, HasBook, Tell, HasRead, FindsFormless, ReadsTable}
+use Rattle.queue_load.proofs.Telling.{reads_by}
 use Rattle.queue_load.specs.Loaded.{AreFormedRows, IsTable, key_cmp}
 use Rattle.queue_load.proofs.Listing.{sorted_by, listing_is, typed_sorted, given_is}
 use Rattle.queue_load.proofs.Texts.{IsWhole, WholeQuery, selection_of}
@@ -73,3 +77,13 @@ module _ (q : WholeQuery) (is : IsWhole q) where
       let it = listing_is q.tree q.terms q.order q.keys is.leads (s.now.trees q.tree) ((h.before ++ h.row ∷ []) ++ b.0) b.1 in
       let one = given_is values IsFormed (shown_of q.terms []) (s.now.trees q.tree) h.before b.0 h.row formed.items it.0 formed.are formed.formed in
       never h.row h.formless one.0 one.1 one.2
+
+  -- so it is of what was read
+  pub table_reads : {T V : Type 0} {items : V → List T} (tells : T → Row → Type 0) (values : T → Row) (IsFormed : T → Type 0) (is_formless : Row → Type 0) → ((t : T) (r : Row) → tells t r → length r ≡ q.width → r ≡ values t)
+      → ((a b : T) → output_cmp (plain_query q.tree [] q.terms q.order) (sorted_by q.keys (values a)) (sorted_by q.keys (values b)) ≡ key_cmp q.keys (values a) (values b))
+      → ((r : Row) → is_formless r → (t : T) → IsFormed t → r ≢ values t)
+      → {old new : State} (r : Result V Fault) → LeavesTables old new → (HasCleanDisk new → OnOk r (IsUnchanged old new)) → (HasBook old → HasCleanDisk new → IfOk r (λ v. HasRead tells q.sql old (items v)))
+      → (HasBook old → HasCleanDisk new → IfErr r (λ e. e ≡ Damaged → FindsFormless is_formless q.sql old))
+      → ReadsTable old new r (λ db v. IsTable values (shown_of q.terms []) q.keys (items v) (db q.tree)) (λ db. AreFormedRows IsFormed values (shown_of q.terms []) (db q.tree))
+  table_reads {T} {V} {items} tells values IsFormed is_formless reads ordered never {old} r leaves same read formless =
+      reads_by r leaves same read formless (λ schema v has. table_read tells values reads ordered old (items v) schema has) (λ schema found. table_formless values IsFormed is_formless never old schema found)

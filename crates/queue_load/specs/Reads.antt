@@ -1,7 +1,11 @@
 -- What a read of a whole table finds and leaves.
-use Rattle.std.specs.Prelude.{⊤, ℕ, List, [], ◌∷◌, ◌++◌}
+use Rattle.std.specs.Prelude.{◌≡◌, ⊤, ℕ, List, [], ◌∷◌, ◌++◌, Result, IfOk, IfErr, OnOk}
 use Rattle.sqlite.specs.Order.{Row}
-use Rattle.sqlite.specs.State.{State, Begins}
+use Rattle.sqlite.specs.State.{State, Begins, HasCleanDisk, IsUnchanged}
+use Rattle.sqlite.specs.Tree.{Trees}
+use Rattle.queue_tables.specs.Leaving.{LeavesTables}
+use Rattle.queue_tables.specs.declared.fault.Fault.{Fault}
+use Rattle.queue_tables.specs.declared.fault.Fault.TheVariants.{Damaged}
 pub use Rattle.queue_tables.specs.Reads.{Answers, HasBook, LeavesRows}
 
 -- each of the items tells of the row at its place
@@ -23,3 +27,11 @@ pub record FindsFormless (is_formless : Row → Type 0) (sql : List ℕ) (s : St
   pub row : Row
   pub there : Begins sql [] s (before ++ row ∷ [])
   pub formless : is_formless row
+
+-- the tables stay as they were, and after an Ok so does the connection; where they are those of `create`, an Ok tells the truth of their rows, and Damaged is
+-- told only where these have not their form
+pub record ReadsTable {T : Type 0} (old new : State) (result : Result T Fault) (IsRead : Trees → T → Type 0) (HaveForm : Trees → Type 0) : Type 0 where
+  pub leaves : LeavesTables old new
+  pub same : HasCleanDisk new → OnOk result (IsUnchanged old new)
+  pub read : HasBook old → HasCleanDisk new → IfOk result (IsRead old.now.trees)
+  pub damaged : HasBook old → HasCleanDisk new → IfErr result (λ e. e ≡ Damaged → ¬ HaveForm old.now.trees)

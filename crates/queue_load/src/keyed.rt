@@ -1,13 +1,10 @@
 //! Whether the rows of the accounts are told apart by their rowids, as a change of one of them needs.
-ghost use Rattle.std.specs.Prelude.{◌≡◌, ◌↔◌, IfOk, IfErr, OnOk, IsTrue};
+ghost use Rattle.std.specs.Prelude.{◌↔◌, IsTrue};
 ghost use Rattle.sqlite.specs.Held.{state};
-ghost use Rattle.sqlite.specs.State.{HasCleanDisk, IsUnchanged};
 ghost use Rattle.queue_load.specs.Keyed.{id_values, id_view};
 ghost use Rattle.queue_load.specs.Loaded.{IsTable};
-ghost use Rattle.queue_load.specs.Reads.{HasBook};
+ghost use Rattle.queue_load.specs.Reads.{ReadsTable};
 ghost use Rattle.queue_tables.specs.Kept.{AreKeyed};
-ghost use Rattle.queue_tables.specs.Leaving.{LeavesTables};
-ghost use Rattle.queue_tables.specs.declared.fault.Fault.TheVariants.{Damaged};
 
 use crate::table::read_table;
 use crate::typed::RowId;
@@ -28,10 +25,7 @@ impl Keyed for RowId {
 
 /// The rowids of the accounts, in their order.
 fn read_ids<S: Alter>(alloc: Global, conn: &mut Connection<S>) -> Result<Vec<RowId>, Fault>
-    ensures leaves { LeavesTables (state S.Store conn.old) (state S.Store conn.new) }
-    ensures same { HasCleanDisk (state S.Store conn.new) → OnOk result (IsUnchanged (state S.Store conn.old) (state S.Store conn.new)) }
-    ensures read { HasBook (state S.Store conn.old) → HasCleanDisk (state S.Store conn.new) → IfOk result (λ v. IsTable id_values id_view 1 v.items ((state S.Store conn.old).now.trees 6)) }
-    ensures damaged { HasBook (state S.Store conn.old) → HasCleanDisk (state S.Store conn.new) → IfErr result (λ e. e ≡ Damaged → ¬ AreKeyed ((state S.Store conn.old).now.trees 6)) }
+    ensures reads { ReadsTable (state S.Store conn.old) (state S.Store conn.new) result (λ db v. IsTable id_values id_view 1 v.items (db 6)) (λ db. AreKeyed (db 6)) }
 {
     read_table(alloc, conn, "SELECT rowid FROM accounts ORDER BY rowid")
 }
@@ -41,10 +35,7 @@ pub(crate) fn accounts_are_keyed<S: Alter>(
     alloc: Global,
     conn: &mut Connection<S>,
 ) -> Result<bool, Fault>
-    ensures leaves { LeavesTables (state S.Store conn.old) (state S.Store conn.new) }
-    ensures same { HasCleanDisk (state S.Store conn.new) → OnOk result (IsUnchanged (state S.Store conn.old) (state S.Store conn.new)) }
-    ensures keyed { HasBook (state S.Store conn.old) → HasCleanDisk (state S.Store conn.new) → IfOk result (λ b. IsTrue b ↔ AreKeyed ((state S.Store conn.old).now.trees 6)) }
-    ensures damaged { HasBook (state S.Store conn.old) → HasCleanDisk (state S.Store conn.new) → IfErr result (λ e. e ≡ Damaged → ¬ AreKeyed ((state S.Store conn.old).now.trees 6)) }
+    ensures reads { ReadsTable (state S.Store conn.old) (state S.Store conn.new) result (λ db b. IsTrue b ↔ AreKeyed (db 6)) (λ db. AreKeyed (db 6)) }
 {
     let ids = read_ids(alloc, conn)?;
     Ok(are_in_order(ids.as_slice()))

@@ -1,14 +1,11 @@
 //! The tables, each read whole by one SELECT in the order of its key.
-ghost use Rattle.std.specs.Prelude.{◌≡◌, All, IfOk, IfErr, OnOk};
+ghost use Rattle.std.specs.Prelude.{All};
 ghost use Rattle.sqlite.specs.Held.{state};
-ghost use Rattle.sqlite.specs.State.{HasCleanDisk, IsUnchanged};
 ghost use Rattle.queue_load.specs.Loaded.{AreFormedRows, ArePieces, IsBare, IsFormedWhole, IsTable, whole_piece};
-ghost use Rattle.queue_load.specs.Reads.{HasBook};
+ghost use Rattle.queue_load.specs.Reads.{ReadsTable};
 ghost use Rattle.queue_load.specs.Tells.{account_row_values, IsFormedMeta, IsFormedDocument, IsFormedAccount, IsFormedGrant, IsFormedReport};
 ghost use Rattle.queue_tables.specs.Forms.{IsFormedJob};
-ghost use Rattle.queue_tables.specs.Leaving.{LeavesTables};
 ghost use Rattle.queue_tables.specs.Values.{meta_values, meta_view, job_values, job_view, document_values, document_view, piece_view, account_view, grant_values, grant_view, report_values, report_view};
-ghost use Rattle.queue_tables.specs.declared.fault.Fault.TheVariants.{Damaged};
 
 use crate::table::read_table;
 use queue_rows::rows::{AccountRow, DocumentRow, MetaRow, PieceRow};
@@ -24,10 +21,7 @@ pub(crate) fn read_meta<S: Alter>(
     alloc: Global,
     conn: &mut Connection<S>,
 ) -> Result<Vec<MetaRow>, Fault>
-    ensures leaves { LeavesTables (state S.Store conn.old) (state S.Store conn.new) }
-    ensures same { HasCleanDisk (state S.Store conn.new) → OnOk result (IsUnchanged (state S.Store conn.old) (state S.Store conn.new)) }
-    ensures read { HasBook (state S.Store conn.old) → HasCleanDisk (state S.Store conn.new) → IfOk result (λ v. IsTable meta_values meta_view 1 v.items ((state S.Store conn.old).now.trees 0)) }
-    ensures formless { HasBook (state S.Store conn.old) → HasCleanDisk (state S.Store conn.new) → IfErr result (λ e. e ≡ Damaged → ¬ AreFormedRows IsFormedMeta meta_values meta_view ((state S.Store conn.old).now.trees 0)) }
+    ensures reads { ReadsTable (state S.Store conn.old) (state S.Store conn.new) result (λ db v. IsTable meta_values meta_view 1 v.items (db 0)) (λ db. AreFormedRows IsFormedMeta meta_values meta_view (db 0)) }
 {
     read_table(
         alloc,
@@ -41,10 +35,7 @@ pub(crate) fn read_jobs<S: Alter>(
     alloc: Global,
     conn: &mut Connection<S>,
 ) -> Result<Vec<Job>, Fault>
-    ensures leaves { LeavesTables (state S.Store conn.old) (state S.Store conn.new) }
-    ensures same { HasCleanDisk (state S.Store conn.new) → OnOk result (IsUnchanged (state S.Store conn.old) (state S.Store conn.new)) }
-    ensures read { HasBook (state S.Store conn.old) → HasCleanDisk (state S.Store conn.new) → IfOk result (λ v. IsTable job_values job_view 1 v.items ((state S.Store conn.old).now.trees 1) × All IsBare v.items) }
-    ensures formless { HasBook (state S.Store conn.old) → HasCleanDisk (state S.Store conn.new) → IfErr result (λ e. e ≡ Damaged → ¬ AreFormedRows IsFormedJob job_values job_view ((state S.Store conn.old).now.trees 1)) }
+    ensures reads { ReadsTable (state S.Store conn.old) (state S.Store conn.new) result (λ db v. IsTable job_values job_view 1 v.items (db 1) × All IsBare v.items) (λ db. AreFormedRows IsFormedJob job_values job_view (db 1)) }
 {
     read_table(
         alloc,
@@ -58,10 +49,7 @@ pub(crate) fn read_documents<S: Alter>(
     alloc: Global,
     conn: &mut Connection<S>,
 ) -> Result<Vec<DocumentRow>, Fault>
-    ensures leaves { LeavesTables (state S.Store conn.old) (state S.Store conn.new) }
-    ensures same { HasCleanDisk (state S.Store conn.new) → OnOk result (IsUnchanged (state S.Store conn.old) (state S.Store conn.new)) }
-    ensures read { HasBook (state S.Store conn.old) → HasCleanDisk (state S.Store conn.new) → IfOk result (λ v. IsTable document_values document_view 2 v.items ((state S.Store conn.old).now.trees 2)) }
-    ensures formless { HasBook (state S.Store conn.old) → HasCleanDisk (state S.Store conn.new) → IfErr result (λ e. e ≡ Damaged → ¬ AreFormedRows IsFormedDocument document_values document_view ((state S.Store conn.old).now.trees 2)) }
+    ensures reads { ReadsTable (state S.Store conn.old) (state S.Store conn.new) result (λ db v. IsTable document_values document_view 2 v.items (db 2)) (λ db. AreFormedRows IsFormedDocument document_values document_view (db 2)) }
 {
     read_table(
         alloc,
@@ -76,10 +64,7 @@ pub(crate) fn read_pieces<S: Alter>(
     alloc: Global,
     conn: &mut Connection<S>,
 ) -> Result<Vec<PieceRow>, Fault>
-    ensures leaves { LeavesTables (state S.Store conn.old) (state S.Store conn.new) }
-    ensures same { HasCleanDisk (state S.Store conn.new) → OnOk result (IsUnchanged (state S.Store conn.old) (state S.Store conn.new)) }
-    ensures read { HasBook (state S.Store conn.old) → HasCleanDisk (state S.Store conn.new) → IfOk result (λ v. ArePieces v.items ((state S.Store conn.old).now.trees 4)) }
-    ensures formless { HasBook (state S.Store conn.old) → HasCleanDisk (state S.Store conn.new) → IfErr result (λ e. e ≡ Damaged → ¬ AreFormedRows IsFormedWhole whole_piece piece_view ((state S.Store conn.old).now.trees 4)) }
+    ensures reads { ReadsTable (state S.Store conn.old) (state S.Store conn.new) result (λ db v. ArePieces v.items (db 4)) (λ db. AreFormedRows IsFormedWhole whole_piece piece_view (db 4)) }
 {
     read_table(
         alloc,
@@ -93,10 +78,7 @@ pub(crate) fn read_accounts<S: Alter>(
     alloc: Global,
     conn: &mut Connection<S>,
 ) -> Result<Vec<AccountRow>, Fault>
-    ensures leaves { LeavesTables (state S.Store conn.old) (state S.Store conn.new) }
-    ensures same { HasCleanDisk (state S.Store conn.new) → OnOk result (IsUnchanged (state S.Store conn.old) (state S.Store conn.new)) }
-    ensures read { HasBook (state S.Store conn.old) → HasCleanDisk (state S.Store conn.new) → IfOk result (λ v. IsTable account_row_values account_view 1 v.items ((state S.Store conn.old).now.trees 6)) }
-    ensures formless { HasBook (state S.Store conn.old) → HasCleanDisk (state S.Store conn.new) → IfErr result (λ e. e ≡ Damaged → ¬ AreFormedRows IsFormedAccount account_row_values account_view ((state S.Store conn.old).now.trees 6)) }
+    ensures reads { ReadsTable (state S.Store conn.old) (state S.Store conn.new) result (λ db v. IsTable account_row_values account_view 1 v.items (db 6)) (λ db. AreFormedRows IsFormedAccount account_row_values account_view (db 6)) }
 {
     read_table(
         alloc,
@@ -110,10 +92,7 @@ pub(crate) fn read_grants<S: Alter>(
     alloc: Global,
     conn: &mut Connection<S>,
 ) -> Result<Vec<GrantRow>, Fault>
-    ensures leaves { LeavesTables (state S.Store conn.old) (state S.Store conn.new) }
-    ensures same { HasCleanDisk (state S.Store conn.new) → OnOk result (IsUnchanged (state S.Store conn.old) (state S.Store conn.new)) }
-    ensures read { HasBook (state S.Store conn.old) → HasCleanDisk (state S.Store conn.new) → IfOk result (λ v. IsTable grant_values grant_view 2 v.items ((state S.Store conn.old).now.trees 8)) }
-    ensures formless { HasBook (state S.Store conn.old) → HasCleanDisk (state S.Store conn.new) → IfErr result (λ e. e ≡ Damaged → ¬ AreFormedRows IsFormedGrant grant_values grant_view ((state S.Store conn.old).now.trees 8)) }
+    ensures reads { ReadsTable (state S.Store conn.old) (state S.Store conn.new) result (λ db v. IsTable grant_values grant_view 2 v.items (db 8)) (λ db. AreFormedRows IsFormedGrant grant_values grant_view (db 8)) }
 {
     read_table(
         alloc,
@@ -127,10 +106,7 @@ pub(crate) fn read_reports<S: Alter>(
     alloc: Global,
     conn: &mut Connection<S>,
 ) -> Result<Vec<KeptReport>, Fault>
-    ensures leaves { LeavesTables (state S.Store conn.old) (state S.Store conn.new) }
-    ensures same { HasCleanDisk (state S.Store conn.new) → OnOk result (IsUnchanged (state S.Store conn.old) (state S.Store conn.new)) }
-    ensures read { HasBook (state S.Store conn.old) → HasCleanDisk (state S.Store conn.new) → IfOk result (λ v. IsTable report_values report_view 2 v.items ((state S.Store conn.old).now.trees 10)) }
-    ensures formless { HasBook (state S.Store conn.old) → HasCleanDisk (state S.Store conn.new) → IfErr result (λ e. e ≡ Damaged → ¬ AreFormedRows IsFormedReport report_values report_view ((state S.Store conn.old).now.trees 10)) }
+    ensures reads { ReadsTable (state S.Store conn.old) (state S.Store conn.new) result (λ db v. IsTable report_values report_view 2 v.items (db 10)) (λ db. AreFormedRows IsFormedReport report_values report_view (db 10)) }
 {
     read_table(
         alloc,

@@ -5,7 +5,7 @@ ghost use Rattle.sqlite.specs.State.{HasCleanDisk, IsUnchanged};
 ghost use Rattle.queue_core.specs.World.{World};
 ghost use Rattle.queue_rows.specs.Rows.{tables_in};
 ghost use Rattle.queue_load.specs.Queues.{HasQueue, IsQueueIn};
-ghost use Rattle.queue_load.specs.Reads.{HasBook};
+ghost use Rattle.queue_load.specs.Reads.{ReadsTable};
 ghost use Rattle.queue_load.specs.Store.{FitsIn};
 ghost use Rattle.queue_tables.specs.Kept.{AreKeyed};
 ghost use Rattle.queue_tables.specs.Leaving.{LeavesTables};
@@ -22,10 +22,7 @@ use std::alloc::Global;
 
 /// The accounts have rowids of their own. Damaged is told only where they have not.
 fn check_accounts<S: Alter>(alloc: Global, conn: &mut Connection<S>) -> Result<(), Fault>
-    ensures leaves { LeavesTables (state S.Store conn.old) (state S.Store conn.new) }
-    ensures same { HasCleanDisk (state S.Store conn.new) → OnOk result (IsUnchanged (state S.Store conn.old) (state S.Store conn.new)) }
-    ensures keyed { HasBook (state S.Store conn.old) → HasCleanDisk (state S.Store conn.new) → OnOk result (AreKeyed ((state S.Store conn.old).now.trees 6)) }
-    ensures damaged { HasBook (state S.Store conn.old) → HasCleanDisk (state S.Store conn.new) → IfErr result (λ e. e ≡ Damaged → ¬ AreKeyed ((state S.Store conn.old).now.trees 6)) }
+    ensures reads { ReadsTable (state S.Store conn.old) (state S.Store conn.new) result (λ db u. AreKeyed (db 6)) (λ db. AreKeyed (db 6)) }
 {
     let keyed = accounts_are_keyed(alloc, conn)?;
     if !keyed {

@@ -3,7 +3,7 @@ ghost use Rattle.std.specs.Prelude.{◌≡◌, IfOk, IfErr, OnOk};
 ghost use Rattle.sqlite.specs.Held.{state};
 ghost use Rattle.sqlite.specs.State.{HasCleanDisk, IsUnchanged};
 ghost use Rattle.queue_rows.specs.Rows.{tables_in};
-ghost use Rattle.queue_load.specs.Reads.{HasBook};
+ghost use Rattle.queue_load.specs.Reads.{ReadsTable};
 ghost use Rattle.queue_load.specs.Store.{AreJobTables, AreAccountTables, AreTables, FitsIn, has_all, IsLoadable, HasJobTables, HasAccountTables};
 ghost use Rattle.queue_tables.specs.Leaving.{LeavesTables};
 ghost use Rattle.queue_tables.specs.declared.fault.Fault.TheVariants.{Damaged};
@@ -36,10 +36,7 @@ fn fill_jobs<S: Alter>(
     conn: &mut Connection<S>,
     rows: &mut Rows,
 ) -> Result<(), Fault>
-    ensures leaves { LeavesTables (state S.Store conn.old) (state S.Store conn.new) }
-    ensures same { HasCleanDisk (state S.Store conn.new) → OnOk result (IsUnchanged (state S.Store conn.old) (state S.Store conn.new)) }
-    ensures read { HasBook (state S.Store conn.old) → HasCleanDisk (state S.Store conn.new) → OnOk result (AreJobTables (tables_in rows.new) (state S.Store conn.old).now.trees) }
-    ensures damaged { HasBook (state S.Store conn.old) → HasCleanDisk (state S.Store conn.new) → IfErr result (λ e. e ≡ Damaged → ¬ HasJobTables (state S.Store conn.old).now.trees) }
+    ensures reads { ReadsTable (state S.Store conn.old) (state S.Store conn.new) result (λ db u. AreJobTables (tables_in rows.new) db) HasJobTables }
 {
     rows.meta = read_meta(alloc, conn)?;
     rows.jobs = read_jobs(alloc, conn)?;
@@ -54,11 +51,8 @@ fn fill_accounts<S: Alter>(
     conn: &mut Connection<S>,
     rows: &mut Rows,
 ) -> Result<(), Fault>
-    ensures leaves { LeavesTables (state S.Store conn.old) (state S.Store conn.new) }
-    ensures same { HasCleanDisk (state S.Store conn.new) → OnOk result (IsUnchanged (state S.Store conn.old) (state S.Store conn.new)) }
+    ensures reads { ReadsTable (state S.Store conn.old) (state S.Store conn.new) result (λ db u. AreAccountTables (tables_in rows.new) db) HasAccountTables }
     ensures others { (rows.new.meta ≡ rows.old.meta) × (rows.new.jobs ≡ rows.old.jobs) × (rows.new.documents ≡ rows.old.documents) × (rows.new.pieces ≡ rows.old.pieces) }
-    ensures read { HasBook (state S.Store conn.old) → HasCleanDisk (state S.Store conn.new) → OnOk result (AreAccountTables (tables_in rows.new) (state S.Store conn.old).now.trees) }
-    ensures damaged { HasBook (state S.Store conn.old) → HasCleanDisk (state S.Store conn.new) → IfErr result (λ e. e ≡ Damaged → ¬ HasAccountTables (state S.Store conn.old).now.trees) }
 {
     rows.accounts = read_accounts(alloc, conn)?;
     rows.grants = read_grants(alloc, conn)?;

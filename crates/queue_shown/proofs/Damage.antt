@@ -12,6 +12,11 @@ pub stop_after : {T : Type 0} (r : Result T Stop) (stop cause : Stop) (P : Type 
 stop_after (Err s) stop cause P same then = λ is. then (sym same ∙ is)
 stop_after (Ok x) stop cause P same then = tt
 
+-- what holds at whatever stop
+pub at_stop : {T : Type 0} (r : Result T Stop) (cause : Stop) {P : Type 0} → P → IfErr r (λ s. s ≡ cause → P)
+at_stop (Err s) cause p = λ is. p
+at_stop (Ok x) cause p = tt
+
 -- the cause that is told is damage only where the tables were
 pub damage_told : (stop : Stop) → told_cause stop ≡ Book BookDamaged → stop ≡ Tables Damaged
 damage_told (Tables Damaged) told = refl

@@ -5,14 +5,15 @@ use Rattle.std.proofs.lemmas.Bool.{cases_Bool}
 use Rattle.sqlite.specs.Order.{Row, column}
 use Rattle.sqlite.specs.State.{State, Shown}
 use Rattle.queue_core.specs.Shown.{document_at, document_of, is_fetched}
+use Rattle.queue_core.specs.Sound.{IsSound}
 use Rattle.queue_core.specs.World.{World, Entry, rows, job_at}
 use Rattle.queue_types.specs.declared.document.Document.{Document}
 use Rattle.queue_types.specs.declared.job.Job.{Job}
 use Rattle.queue_tables.specs.Content.{Holds, content_of, document_rows}
-use Rattle.queue_tables.specs.Steps.{AreDistinct, is_numbered}
+use Rattle.queue_tables.specs.Steps.{is_numbered}
 use Rattle.queue_tables.specs.Values.{document_values, document_view, job_view}
 use Rattle.queue_tables.proofs.Documents.{row_of, all_documents}
-use Rattle.queue_tables.proofs.Entries.{rows_in, row_at, found_rows}
+use Rattle.queue_tables.proofs.Entries.{distinct_of, rows_in, row_at, found_rows}
 use Rattle.queue_tables.proofs.Puts.{rows_twice}
 use Rattle.queue_tables.proofs.Showing.{shows_all}
 use Rattle.queue_shown.specs.Fetched.{document_in, is_fetched_job, nth_document, state_values}
@@ -34,13 +35,13 @@ states_for None = refl
 states_for (Some j) = refl
 
 -- the row of the job of that number, or none
-pub reads_state : (old new : State) (job : ℕ) (found : List Row) (w : World) → AreDistinct w.jobs → Holds (content_of w) old → Shown select_state.text (number job ∷ []) old new found
+pub reads_state : (old new : State) (job : ℕ) (found : List Row) (w : World) → IsSound w → Holds (content_of w) old → Shown select_state.text (number job ∷ []) old new found
     → found ≡ rows_for state_values (job_at job (rows w))
-reads_state old new job found w distinct has h =
+reads_state old new job found w sound has h =
     let p = shows_all select_state select_state_is
     old new (number job ∷ []) job_view (is_numbered job) state_out (content_of w).jobs found has.schema (λ r. refl) (λ r. refl) has.rows.jobs h in
     let only : map state_out (filter (is_numbered job) (content_of w).jobs) ≡ rows_for state_values (job_at job (rows w))
-    = ap (map state_out) (ap (filter (is_numbered job)) (rows_twice w.jobs) ∙ row_at job w.jobs distinct) ∙ states_for (job_at job (rows w)) in
+    = ap (map state_out) (ap (filter (is_numbered job)) (rows_twice w.jobs) ∙ row_at job w.jobs (distinct_of 1 w.jobs w.next sound.numbers)) ∙ states_for (job_at job (rows w)) in
     exactly state_values (job_at job (rows w)) found (subst (λ (k : List Row). IsPermutation k found) only p)
 
 -- ---- the row of the document
@@ -67,13 +68,13 @@ heads_for job n None = refl
 heads_for job n (Some d) = refl
 
 -- the row of the document, or none
-pub reads_head : (old new : State) (job n : ℕ) (found : List Row) (w : World) → AreDistinct w.jobs → Holds (content_of w) old → Shown select_head.text (number job ∷ number n ∷ []) old new found
+pub reads_head : (old new : State) (job n : ℕ) (found : List Row) (w : World) → IsSound w → Holds (content_of w) old → Shown select_head.text (number job ∷ number n ∷ []) old new found
     → found ≡ rows_for head_values (document_in w.jobs job n)
-reads_head old new job n found w distinct has h =
+reads_head old new job n found w sound has h =
     let p = shows_all select_head select_head_is
     old new (number job ∷ number n ∷ []) document_view (is_of job n) head_out (content_of w).documents found has.schema (λ r. refl) (λ r. refl) has.rows.documents h in
     let only : map head_out (filter (is_of job n) (content_of w).documents) ≡ rows_for head_values (document_in w.jobs job n)
-    = ap (map head_out) (ap (filter (is_of job n)) (all_are w.jobs) ∙ only_document document_part job n (document_tests job n) w.jobs distinct) ∙ heads_for job n (document_in w.jobs job n) in
+    = ap (map head_out) (ap (filter (is_of job n)) (all_are w.jobs) ∙ only_document document_part job n (document_tests job n) w.jobs (distinct_of 1 w.jobs w.next sound.numbers)) ∙ heads_for job n (document_in w.jobs job n) in
     exactly head_values (document_in w.jobs job n) found (subst (λ (k : List Row). IsPermutation k found) only p)
 
 -- ---- the whole

@@ -1,5 +1,4 @@
 pub mod Texts
-pub mod Frames
 pub mod Unique
 pub mod Ordered
 pub mod DocumentParts
@@ -11,4 +10,5 @@ pub mod OwnedJobs
 pub mod SheetLemmas
 pub mod ShortDocuments
 pub mod Damage
+pub mod Telling
 pub mod PieceRows

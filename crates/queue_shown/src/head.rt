@@ -3,15 +3,13 @@ ghost use Rattle.std.specs.Prelude.{◌≡◌, ◌≢◌, ◌≤◌, IfSome, IfO
 ghost use Rattle.sqlite.specs.Held.{state};
 ghost use Rattle.sqlite.specs.State.{HasCleanDisk};
 ghost use Rattle.queue_core.specs.Shown.{document_at, head_of, is_fetched};
-ghost use Rattle.queue_core.specs.Sound.{IsSound, IsSoundDocument};
-ghost use Rattle.queue_core.specs.World.{World, rows, job_at};
+ghost use Rattle.queue_core.specs.Sound.{IsSoundDocument};
+ghost use Rattle.queue_core.specs.World.{rows, job_at};
 ghost use Rattle.queue_types.specs.declared.document.Document.{Document};
 ghost use Rattle.queue_types.specs.declared.job.Job.{Job as JobValue};
 ghost use Rattle.queue_shown.specs.Fetched.{document_in, is_fetched_job, state_values};
 ghost use Rattle.queue_shown.specs.Heads.{head_values};
-ghost use Rattle.queue_tables.specs.Content.{HoldNoQueue, Holds, content_of};
-ghost use Rattle.queue_tables.specs.Leaving.{LeavesTables};
-ghost use Rattle.queue_tables.specs.Steps.{AreDistinct};
+ghost use Rattle.queue_tables.specs.Telling.{ReadsQueue};
 
 use queue_rows::laws::numbers_tell_names;
 use queue_tables::fault::Fault;
@@ -49,11 +47,8 @@ fn is_fetched_row(row: &Row) -> Result<bool, Fault>
 /// Whether the device may fetch the documents of the job of that number. Damaged is told only where the tables
 /// hold no sound queue.
 fn may_fetch<S: Alter>(conn: &mut Connection<S>, job: u32) -> Result<bool, Fault>
-    ensures leaves { LeavesTables (state S.Store conn.old) (state S.Store conn.new) }
+    ensures reads { ReadsQueue (state S.Store conn.old) (state S.Store conn.new) result (λ w b. b ≡ is_fetched_job (job_at job (rows w))) }
     ensures live { HasCleanDisk (state S.Store conn.new) → OnOk result (IsTrue (state S.Store conn.new).is_open) }
-    ensures damaged { HasCleanDisk (state S.Store conn.new) → IfErr result (λ e. e ≡ Fault.Damaged → HoldNoQueue (state S.Store conn.old)) }
-    ensures told { HasCleanDisk (state S.Store conn.new) → IfOk result (λ b. (w : World) → AreDistinct w.jobs → Holds (content_of w) (state S.Store conn.old) → b ≡ is_fetched_job (job_at job (rows w))) }
-    ensures opened { HasCleanDisk (state S.Store conn.new) → IfErr result (λ e. e ≡ Fault.Damaged → IsTrue (state S.Store conn.old).is_open) }
 {
     let found = select(
         conn,
@@ -87,10 +82,8 @@ fn find_head<S: Alter>(
     job: u32,
     n: u32,
 ) -> Result<Option<DocumentHead>, Fault>
-    ensures leaves { LeavesTables (state S.Store conn.old) (state S.Store conn.new) }
+    ensures reads { ReadsQueue (state S.Store conn.old) (state S.Store conn.new) result (λ w h. h ≡ option_map head_of (document_in w.jobs job n)) }
     ensures live { HasCleanDisk (state S.Store conn.new) → OnOk result (IsTrue (state S.Store conn.new).is_open) }
-    ensures damaged { HasCleanDisk (state S.Store conn.new) → IfErr result (λ e. e ≡ Fault.Damaged → HoldNoQueue (state S.Store conn.old)) }
-    ensures found { HasCleanDisk (state S.Store conn.new) → IfOk result (λ h. (w : World) → AreDistinct w.jobs → Holds (content_of w) (state S.Store conn.old) → h ≡ option_map head_of (document_in w.jobs job n)) }
     ensures within { IfOk result (λ h. IfSome h (λ it. (1 ≤ it.octets) × (it.octets ≤ 16777216))) }
 {
     let found = select(
@@ -115,12 +108,9 @@ pub fn document_head<S: Alter>(
     job: u32,
     n: u32,
 ) -> Result<Option<DocumentHead>, Fault>
-    ensures leaves { LeavesTables (state S.Store conn.old) (state S.Store conn.new) }
+    ensures reads { ReadsQueue (state S.Store conn.old) (state S.Store conn.new) result (λ w h. h ≡ option_map head_of (document_at w job n)) }
     ensures live { HasCleanDisk (state S.Store conn.new) → OnOk result (IsTrue (state S.Store conn.new).is_open) }
-    ensures damaged { HasCleanDisk (state S.Store conn.new) → IfErr result (λ e. e ≡ Fault.Damaged → HoldNoQueue (state S.Store conn.old)) }
-    ensures head { HasCleanDisk (state S.Store conn.new) → IfOk result (λ h. (w : World) → IsSound w → Holds (content_of w) (state S.Store conn.old) → h ≡ option_map head_of (document_at w job n)) }
     ensures within { IfOk result (λ h. IfSome h (λ it. (1 ≤ it.octets) × (it.octets ≤ 16777216))) }
-    ensures opened { HasCleanDisk (state S.Store conn.new) → IfErr result (λ e. e ≡ Fault.Damaged → IsTrue (state S.Store conn.old).is_open) }
 {
     let is_shown = may_fetch(conn, job)?;
     if !is_shown {

@@ -116,7 +116,7 @@ fn send_rows<S: Alter, W: Write>(
     Err(Stop::Tables(Fault::Disk))
 }
 
-/// Writes the pieces of a document in order. Damaged is told only where a row of them shows no bytes.
+/// Writes the pieces of a document in order. Damaged is told only where a row of them shows no bytes, on a connection that was open.
 fn send_pieces<S: Alter, W: Write>(
     conn: &mut Connection<S>,
     job: u32,
@@ -128,12 +128,12 @@ fn send_pieces<S: Alter, W: Write>(
     ensures clean { HasCleanDisk (state S.Store conn.new) → HasCleanDisk (state S.Store conn.old) }
     // a crash leaves nothing but what it left before
     ensures behind { HasCleanDisk (state S.Store conn.new) → (db : Trees) → (state S.Store conn.new).may_leave db → (state S.Store conn.old).may_leave db }
-    ensures opened { HasCleanDisk (state S.Store conn.new) → IsTrue (state S.Store conn.new).is_open → IsTrue (state S.Store conn.old).is_open }
     ensures live { HasCleanDisk (state S.Store conn.new) → OnOk result (IsTrue (state S.Store conn.new).is_open) }
     ensures writer_failed { HasCleanDisk (state S.Store conn.new) → IfErr result (λ stop. stop ≡ Stop.Write → IsTrue (state S.Store conn.new).is_open) }
     ensures sent { HasBook (state S.Store conn.old) → HasCleanDisk (state S.Store conn.new) → OnOk result (HasSent (number job ∷ number doc ∷ []) (state S.Store conn.old) (W.contents out.old) (W.contents out.new) written.new) }
     ensures front { HasBook (state S.Store conn.old) → HasCleanDisk (state S.Store conn.new) → OnErr result (HasSentFront (number job ∷ number doc ∷ []) (state S.Store conn.old) (W.contents out.old) (W.contents out.new) written.new) }
     ensures damaged { HasBook (state S.Store conn.old) → HasCleanDisk (state S.Store conn.new) → IfErr result (λ stop. stop ≡ Stop.Tables Fault.Damaged → FindsNoBlob (number job ∷ number doc ∷ []) (state S.Store conn.old)) }
+    ensures began { HasCleanDisk (state S.Store conn.new) → IfErr result (λ stop. stop ≡ Stop.Tables Fault.Damaged → IsTrue (state S.Store conn.old).is_open) }
     ensures left { HasCleanDisk (state S.Store conn.new) → LeavesRows (state S.Store conn.old) (state S.Store conn.new) }
     ensures mode { (state S.Store conn.old).in_transaction ≡ false → (state S.Store conn.new).in_transaction ≡ false }
     ensures serves { KeepsServing (state S.Store conn.old) (state S.Store conn.new) }

@@ -8,8 +8,9 @@ ghost use Rattle.queue_core.specs.Shown.{is_charged, sheet_jobs, sheet_of};
 ghost use Rattle.queue_core.specs.Sound.{IsSound};
 ghost use Rattle.queue_core.specs.World.{World, job_at, rows};
 ghost use Rattle.queue_types.specs.declared.job.Job.{Job as JobValue};
-ghost use Rattle.queue_tables.specs.Content.{AreRowsOf, HoldNoQueue, Holds, content_of};
+ghost use Rattle.queue_tables.specs.Content.{AreRowsOf, Holds, content_of};
 ghost use Rattle.queue_tables.specs.Leaving.{LeavesTables};
+ghost use Rattle.queue_tables.specs.Telling.{ReadsQueue};
 ghost use Rattle.queue_tables.specs.Values.{job_values};
 
 use queue_rows::jobs::is_job_row;
@@ -89,10 +90,8 @@ fn told_jobs<S: Alter>(
     conn: &mut Connection<S>,
     account: &str,
 ) -> Result<JobList, Fault>
-    ensures leaves { LeavesTables (state S.Store conn.old) (state S.Store conn.new) }
+    ensures reads { ReadsQueue (state S.Store conn.old) (state S.Store conn.new) result (λ w js. js ≡ sheet_jobs w account.now) }
     ensures live { HasCleanDisk (state S.Store conn.new) → OnOk result (IsTrue (state S.Store conn.new).is_open) }
-    ensures damaged { HasCleanDisk (state S.Store conn.new) → IfErr result (λ e. e ≡ Fault.Damaged → HoldNoQueue (state S.Store conn.old)) }
-    ensures told { HasCleanDisk (state S.Store conn.new) → IfOk result (λ js. (w : World) → IsSound w → Holds (content_of w) (state S.Store conn.old) → js ≡ sheet_jobs w account.now) }
     ensures sound { IfOk result (λ js. All IsSoundJob js) }
 {
     let found = select(
@@ -113,12 +112,9 @@ pub fn sheet<S: Alter>(
     conn: &mut Connection<S>,
     account: &str,
 ) -> Result<Option<AccountSheet>, Fault>
-    ensures leaves { LeavesTables (state S.Store conn.old) (state S.Store conn.new) }
+    ensures reads { ReadsQueue (state S.Store conn.old) (state S.Store conn.new) result (λ w s. s ≡ sheet_of w account.now) }
     ensures live { HasCleanDisk (state S.Store conn.new) → OnOk result (IsTrue (state S.Store conn.new).is_open) }
-    ensures damaged { HasCleanDisk (state S.Store conn.new) → IfErr result (λ e. e ≡ Fault.Damaged → HoldNoQueue (state S.Store conn.old)) }
-    ensures sheet { HasCleanDisk (state S.Store conn.new) → IfOk result (λ s. (w : World) → IsSound w → Holds (content_of w) (state S.Store conn.old) → s ≡ sheet_of w account.now) }
     ensures within { IfOk result (λ s. IfSome s (λ it. (it.account ≡ account.now) × (it.granted ≤ 1000000000) × All IsSoundJob it.jobs)) }
-    ensures opened { HasCleanDisk (state S.Store conn.new) → IfErr result (λ e. e ≡ Fault.Damaged → IsTrue (state S.Store conn.old).is_open) }
 {
     let found = find_account(conn, account)?;
     let Some(pages) = found else {

@@ -1,11 +1,11 @@
 use Rattle.std.proofs.Common.{map, refl, subst}
 use Rattle.std.specs.List.Sorted.{IsPermutation}
 use Rattle.std.proofs.lemmas.List.Sorted.{IsPermutation-refl}
-use Rattle.std.proofs.lemmas.Result.{IfErr-weaker, IfOk-weaker}
 use Rattle.sqlite.specs.Held.{state}
 use Rattle.queue_load.specs.Keyed.{TellsId, IsNoId, id_values}
 use Rattle.queue_load.specs.declared.typed.RowId.{RowId}
 use Rattle.queue_load.proofs.KeyLemmas.{ids_are}
+use Rattle.queue_load.proofs.Telling.{reads_by}
 use Rattle.queue_load.proofs.Texts.{rowids_query, rowids_is}
 use Rattle.queue_load.proofs.Whole.{table_read, table_formless}
 use Rattle.queue_load.proofs.keyed.read_ids.Goals as goal
@@ -13,21 +13,19 @@ use Rattle.queue_load.proofs.keyed.read_ids.Goals as goal
 pub read_table-requires : goal.read_table-requires
 read_table-requires g c = record { query = rowids_is.selection.shows.query; plain = rowids_is.selection.shows.plain }
 
-pub returns-clause-read : goal.returns-clause-read
-returns-clause-read g c = λ fits clean.
-    let first = state g.S.Store c.args.conn.now in
-    let schema = fits (c.read_table.ensures.leaves.clean clean) in
-    IfOk-weaker c.read_table.result _ _ (λ v has. table_read rowids_query rowids_is TellsId id_values (λ t r told. told) (λ a b. refl) first v.items schema has) (c.read_table.ensures.read fits clean)
-
 any_id : RowId → Type 0
 any_id x = Unit {0}
 
-pub returns-clause-damaged : goal.returns-clause-damaged
+pub returns : goal.returns
 unfolding any_id
-returns-clause-damaged g c = λ fits clean.
+returns g c =
     let first = state g.S.Store c.args.conn.now in
-    let schema = fits (c.read_table.ensures.leaves.clean clean) in
-    IfErr-weaker c.read_table.result _ _ (λ e told d keyed.
-    let ids = ids_are (first.now.trees 6) keyed.ints in
-    let are = subst (IsPermutation (map id_values ids.0)) ids.1 (IsPermutation-refl (map id_values ids.0)) in
-    table_formless rowids_query rowids_is id_values any_id IsNoId (λ r none t f. none t) first schema (told d) (record { items = ids.0; formed = λ k e low. tt; are = are })) (c.read_table.ensures.formless fits clean)
+    let it = c.read_table.ensures in
+    record {
+      reads = reads_by c.read_table.result it.leaves it.same it.read it.formless
+          (λ schema v has. table_read rowids_query rowids_is TellsId id_values (λ t r told. told) (λ a b. refl) first v.items schema has)
+          (λ schema found keyed.
+          let ids = ids_are (first.now.trees 6) keyed.ints in
+          let are = subst (IsPermutation (map id_values ids.0)) ids.1 (IsPermutation-refl (map id_values ids.0)) in
+          table_formless rowids_query rowids_is id_values any_id IsNoId (λ r none t f. none t) first schema found (record { items = ids.0; formed = λ k e low. tt; are = are }));
+    }

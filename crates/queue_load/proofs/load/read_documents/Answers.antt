@@ -1,23 +1,14 @@
 use Rattle.std.proofs.Common.{refl}
-use Rattle.std.proofs.lemmas.Result.{IfErr-weaker, IfOk-weaker}
-use Rattle.sqlite.specs.Held.{state}
 use Rattle.queue_load.specs.Tells.{TellsDocument, IsNoDocument, IsFormedDocument}
 use Rattle.queue_tables.specs.Values.{document_values}
 use Rattle.queue_load.proofs.Texts.{documents_query, documents_is}
-use Rattle.queue_load.proofs.Whole.{table_read, table_formless}
+use Rattle.queue_load.proofs.Whole.{table_reads}
 use Rattle.queue_load.proofs.load.read_documents.Goals as goal
 
 pub read_table-requires : goal.read_table-requires
 read_table-requires g c = record { query = documents_is.selection.shows.query; plain = documents_is.selection.shows.plain }
 
-pub returns-clause-read : goal.returns-clause-read
-returns-clause-read g c = λ fits clean.
-    let first = state g.S.Store c.args.conn.now in
-    let schema = fits (c.read_table.ensures.leaves.clean clean) in
-    IfOk-weaker c.read_table.result _ _ (λ v has. table_read documents_query documents_is TellsDocument document_values (λ t r told. told) (λ a b. refl) first v.items schema has) (c.read_table.ensures.read fits clean)
-
-pub returns-clause-formless : goal.returns-clause-formless
-returns-clause-formless g c = λ fits clean.
-    let first = state g.S.Store c.args.conn.now in
-    let schema = fits (c.read_table.ensures.leaves.clean clean) in
-    IfErr-weaker c.read_table.result _ _ (λ e told d. table_formless documents_query documents_is document_values IsFormedDocument IsNoDocument (λ r none t f. none t f) first schema (told d)) (c.read_table.ensures.formless fits clean)
+pub returns : goal.returns
+returns g c =
+    let it = c.read_table.ensures in
+    record { reads = table_reads documents_query documents_is TellsDocument document_values IsFormedDocument IsNoDocument (λ t r told. told) (λ a b. refl) (λ r none t f. none t f) c.read_table.result it.leaves it.same it.read it.formless }

@@ -23,16 +23,16 @@ returns-then-not-branch-clause-damaged g c = λ fits clean d w holds.
 pub returns-clause-queue : goal.returns-clause-queue
 returns-clause-queue g c = λ fits clean.
     let first = (state g.S.Store c.args.conn.now).now in
-    let mid_clean = c.check_accounts.ensures.leaves.clean clean in
+    let mid_clean = c.in_ok-check_accounts.ensures.reads.leaves.clean clean in
     let are = c.in_ok-rows.ensures.read fits mid_clean in
     let is = (c.in_ok-rows.ensures.same mid_clean).0.now_is in
     let schema = fits (c.load_rows.ensures.leaves.clean mid_clean) are.tables in
-    let keyed = c.in_ok-check_accounts.ensures.keyed (λ e. ap (λ (d : Database). d.schema) is ∙ schema) clean in
+    let keyed = c.in_ok-check_accounts.ensures.reads.read (λ e. ap (λ (d : Database). d.schema) is ∙ schema) clean in
     let sound : IsTrue c.in_ok-are_sound_rows.field-0 = search rules in
     c.sound_rows_are_a_queue.ensures (tables_in c.in_ok-rows.rows) first schema are (subst (λ (d : Database). AreKeyed (d.trees 6)) is keyed) (c.in_ok-are_sound_rows.ensures.sound sound)
 
 pub returns-in_err-check_accounts-clause-leaves : goal.returns-in_err-check_accounts-clause-leaves
-returns-in_err-check_accounts-clause-leaves g c = leaves_then (state g.S.Store c.args.conn.now) (state g.S.Store c.load_rows.new.conn) (state g.S.Store c.check_accounts.new.conn) c.load_rows.ensures.leaves c.check_accounts.ensures.leaves
+returns-in_err-check_accounts-clause-leaves g c = leaves_then _ _ _ c.load_rows.ensures.leaves c.in_err-check_accounts.ensures.reads.leaves
 
 pub returns-clause-leaves : goal.returns-clause-leaves
-returns-clause-leaves g c = leaves_then (state g.S.Store c.args.conn.now) (state g.S.Store c.load_rows.new.conn) (state g.S.Store c.check_accounts.new.conn) c.load_rows.ensures.leaves c.check_accounts.ensures.leaves
+returns-clause-leaves g c = leaves_then _ _ _ c.load_rows.ensures.leaves c.in_ok-check_accounts.ensures.reads.leaves

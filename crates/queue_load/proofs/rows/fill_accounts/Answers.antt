@@ -1,18 +1,13 @@
-use Rattle.sqlite.specs.Held.{state}
-use Rattle.queue_tables.proofs.Leaving.{leaves_then, leaves_three}
+use Rattle.queue_load.proofs.Telling.{both, hands_on, tells}
 use Rattle.queue_load.proofs.rows.fill_accounts.Goals as goal
 
-pub returns-in_err-rows-2-clause-leaves : goal.returns-in_err-rows-2-clause-leaves
-returns-in_err-rows-2-clause-leaves g c =
-    leaves_then (state g.S.Store c.args.conn.now) (state g.S.Store c.read_accounts.new.conn) (state g.S.Store c.read_grants.new.conn)
-    c.read_accounts.ensures.leaves c.read_grants.ensures.leaves
+pub returns-in_err-rows-2-clause-reads : goal.returns-in_err-rows-2-clause-reads
+returns-in_err-rows-2-clause-reads g c = hands_on _ c.in_err-rows-2.field-0.0 c.from_residual-in_err-rows-2.ensures.1 (both _ c.in_ok-rows.ensures.reads c.in_err-rows-2.ensures.reads) (λ all. all.grants)
 
-pub returns-in_err-rows-3-clause-leaves : goal.returns-in_err-rows-3-clause-leaves
-returns-in_err-rows-3-clause-leaves g c =
-    leaves_three (state g.S.Store c.args.conn.now) (state g.S.Store c.read_accounts.new.conn) (state g.S.Store c.read_grants.new.conn) (state g.S.Store c.read_reports.new.conn)
-    c.read_accounts.ensures.leaves c.read_grants.ensures.leaves c.read_reports.ensures.leaves
+pub returns-in_err-rows-3-clause-reads : goal.returns-in_err-rows-3-clause-reads
+returns-in_err-rows-3-clause-reads g c =
+    hands_on _ c.in_err-rows-3.field-0.0 c.from_residual-in_err-rows-3.ensures.1 (both _ (both _ c.in_ok-rows.ensures.reads c.in_ok-rows-2.ensures.reads) c.in_err-rows-3.ensures.reads) (λ all. all.reports)
 
-pub returns-clause-leaves : goal.returns-clause-leaves
-returns-clause-leaves g c =
-    leaves_three (state g.S.Store c.args.conn.now) (state g.S.Store c.read_accounts.new.conn) (state g.S.Store c.read_grants.new.conn) (state g.S.Store c.read_reports.new.conn)
-    c.read_accounts.ensures.leaves c.read_grants.ensures.leaves c.read_reports.ensures.leaves
+pub returns-clause-reads : goal.returns-clause-reads
+returns-clause-reads g c =
+    tells (both _ (both _ c.in_ok-rows.ensures.reads c.in_ok-rows-2.ensures.reads) c.in_ok-rows-3.ensures.reads) (λ read. record { accounts = read.0.0; grants = read.0.1; reports = read.1 })

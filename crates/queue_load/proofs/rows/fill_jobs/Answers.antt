@@ -1,23 +1,20 @@
-use Rattle.sqlite.specs.Held.{state}
-use Rattle.queue_tables.proofs.Leaving.{leaves_four, leaves_then, leaves_three}
+use Rattle.queue_load.proofs.Telling.{both, hands_on, tells}
 use Rattle.queue_load.proofs.rows.fill_jobs.Goals as goal
 
-pub returns-in_err-rows-2-clause-leaves : goal.returns-in_err-rows-2-clause-leaves
-returns-in_err-rows-2-clause-leaves g c =
-    leaves_then (state g.S.Store c.args.conn.now) (state g.S.Store c.read_meta.new.conn) (state g.S.Store c.read_jobs.new.conn)
-    c.read_meta.ensures.leaves c.read_jobs.ensures.leaves
+pub returns-in_err-rows-2 : goal.returns-in_err-rows-2
+returns-in_err-rows-2 g c = record { reads = hands_on _ c.in_err-rows-2.field-0.0 c.from_residual-in_err-rows-2.ensures.1 (both _ c.in_ok-rows.ensures.reads c.in_err-rows-2.ensures.reads) (λ all. all.jobs) }
 
-pub returns-in_err-rows-3-clause-leaves : goal.returns-in_err-rows-3-clause-leaves
-returns-in_err-rows-3-clause-leaves g c =
-    leaves_three (state g.S.Store c.args.conn.now) (state g.S.Store c.read_meta.new.conn) (state g.S.Store c.read_jobs.new.conn) (state g.S.Store c.read_documents.new.conn)
-    c.read_meta.ensures.leaves c.read_jobs.ensures.leaves c.read_documents.ensures.leaves
+pub returns-in_err-rows-3 : goal.returns-in_err-rows-3
+returns-in_err-rows-3 g c =
+    record { reads = hands_on _ c.in_err-rows-3.field-0.0 c.from_residual-in_err-rows-3.ensures.1 (both _ (both _ c.in_ok-rows.ensures.reads c.in_ok-rows-2.ensures.reads) c.in_err-rows-3.ensures.reads) (λ all. all.documents) }
 
-pub returns-in_err-rows-4-clause-leaves : goal.returns-in_err-rows-4-clause-leaves
-returns-in_err-rows-4-clause-leaves g c =
-    leaves_four (state g.S.Store c.args.conn.now) (state g.S.Store c.read_meta.new.conn) (state g.S.Store c.read_jobs.new.conn) (state g.S.Store c.read_documents.new.conn) (state g.S.Store c.read_pieces.new.conn)
-    c.read_meta.ensures.leaves c.read_jobs.ensures.leaves c.read_documents.ensures.leaves c.read_pieces.ensures.leaves
+pub returns-in_err-rows-4 : goal.returns-in_err-rows-4
+returns-in_err-rows-4 g c =
+    record { reads = hands_on _ c.in_err-rows-4.field-0.0 c.from_residual-in_err-rows-4.ensures.1 (both _ (both _ (both _ c.in_ok-rows.ensures.reads c.in_ok-rows-2.ensures.reads) c.in_ok-rows-3.ensures.reads) c.in_err-rows-4.ensures.reads) (λ all. all.pieces) }
 
-pub returns-clause-leaves : goal.returns-clause-leaves
-returns-clause-leaves g c =
-    leaves_four (state g.S.Store c.args.conn.now) (state g.S.Store c.read_meta.new.conn) (state g.S.Store c.read_jobs.new.conn) (state g.S.Store c.read_documents.new.conn) (state g.S.Store c.read_pieces.new.conn)
-    c.read_meta.ensures.leaves c.read_jobs.ensures.leaves c.read_documents.ensures.leaves c.read_pieces.ensures.leaves
+pub returns : goal.returns
+returns g c =
+    record {
+      reads = tells (both _ (both _ (both _ c.in_ok-rows.ensures.reads c.in_ok-rows-2.ensures.reads) c.in_ok-rows-3.ensures.reads) c.in_ok-rows-4.ensures.reads)
+          (λ read. record { meta = read.0.0.0; jobs = read.0.0.1.0; bare = read.0.0.1.1; documents = read.0.1; pieces = read.1 });
+    }

@@ -37,9 +37,11 @@ returns-in-Err-clause-err g c clean w d sound has there =
     (g.W.Write.contents c.args.out.now) (g.W.Write.contents c.send_pieces.new.out) c.send_pieces.new.written (c.in-Err.ensures.front (λ early. has.schema) clean)
 
 pub returns-in-Err-clause-damaged : goal.returns-in-Err-clause-damaged
-returns-in-Err-clause-damaged g c clean damaged w sound has =
-    let found = c.in-Err.ensures.damaged (λ early. has.schema) clean (damage_told c.in-Err.stop (sym c.cause_of.ensures ∙ damaged)) in
-    none_without (state g.S.Store c.args.conn.now) c.args.job c.args.n w has found
+returns-in-Err-clause-damaged g c clean damaged =
+    let told = damage_told c.in-Err.stop (sym c.cause_of.ensures ∙ damaged) in record {
+      live = c.in-Err.ensures.began clean told;
+      none = λ w sound has. none_without (state g.S.Store c.args.conn.now) c.args.job c.args.n w has (c.in-Err.ensures.damaged (λ early. has.schema) clean told);
+    }
 
 pub returns-in-Err-clause-writer_failed : goal.returns-in-Err-clause-writer_failed
 returns-in-Err-clause-writer_failed g c clean unwritten = c.in-Err.ensures.writer_failed clean (write_told c.in-Err.stop (sym c.cause_of.ensures ∙ unwritten))

@@ -11,7 +11,7 @@ use Rattle.queue_tables.proofs.Columns.{map_err}
 use Rattle.queue_tables.proofs.Ending.{on_ok, query_fails}
 use Rattle.queue_shown.specs.Sent.{HasBook, pieces_select}
 use Rattle.queue_shown.specs.declared.send.Stop.TheVariants.{Write}
-use Rattle.queue_shown.proofs.Frames.{failed_opens}
+use Rattle.queue_shown.proofs.Damage.{at_stop}
 use Rattle.queue_shown.proofs.Sending.{pieces_plain_in, same_found, same_sent, same_front}
 use Rattle.queue_tables.proofs.Leaving.{begun_unchanged, query_stays, serves_then, survives_serves}
 use Rattle.queue_tables.proofs.Reading.{left_then, plain_at, still_open}
@@ -58,12 +58,6 @@ returns-in_err-rows-clause-behind g c =
     query_stays pieces_select (number c.args.job ∷ number c.args.doc ∷ []) (state g.S.Store c.args.conn.now) (state g.S.Store c.query.follows.lender-at-none) select_pieces_is.shows.query
     (rw (c.params-to_sql.ensures, c.params-to_sql-2.ensures) at held.survives)
 
-pub returns-in_err-rows-clause-opened : goal.returns-in_err-rows-clause-opened
-returns-in_err-rows-clause-opened g c clean =
-    let held = rw c.in_err-rows.was at c.query.follows.holds-at-none in
-    failed_opens pieces_select (number c.args.job ∷ number c.args.doc ∷ []) (state g.S.Store c.args.conn.now) (state g.S.Store c.query.follows.lender-at-none) c.in_err-rows.field-0.0
-    (rw (c.params-to_sql.ensures, c.params-to_sql-2.ensures) at (held.err clean))
-
 pub returns-clause-sent : goal.returns-clause-sent
 returns-clause-sent g c fits clean =
     let it = (goal.at.returns-clause-sent g c).After-send_rows in
@@ -97,12 +91,6 @@ returns-clause-behind g c clean db may =
     query_stays pieces_select (params g it) (old g it) (first g it) select_pieces_is.shows.query (rw (c.params-to_sql.ensures, c.params-to_sql-2.ensures) at c.in_ok-rows.ensures.survives)
     (c.send_rows.ensures.clean late) db (c.send_rows.ensures.behind late db last)
 
-pub returns-clause-opened : goal.returns-clause-opened
-returns-clause-opened g c clean =
-    let it = (goal.at.returns-clause-opened g c).After-send_rows in
-    let late : HasCleanDisk (now g it) = search rules in
-    λ shown. (same g it (c.send_rows.ensures.clean late)).0.was_open
-
 pub returns-clause-live : goal.returns-clause-live
 returns-clause-live g c clean =
     let it = (goal.at.returns-clause-live g c).After-send_rows in
@@ -118,6 +106,12 @@ returns-clause-damaged g c fits clean =
     let mid = c.send_rows.ensures.clean late in
     let kept = same g it mid in
     map_err c.send_rows.result _ _ (λ stop told damaged. same_found (params g it) (old g it) (first g it) kept.0.now_is (told damaged)) (c.send_rows.ensures.damaged late kept.0.is_open (params g it) (given g it fits mid))
+
+pub returns-clause-began : goal.returns-clause-began
+returns-clause-began g c clean =
+    let it = (goal.at.returns-clause-began g c).After-send_rows in
+    let late : HasCleanDisk (now g it) = search rules in
+    at_stop c.send_rows.result _ (same g it (c.send_rows.ensures.clean late)).0.was_open
 
 pub returns-clause-writer_failed : goal.returns-clause-writer_failed
 returns-clause-writer_failed g c clean =

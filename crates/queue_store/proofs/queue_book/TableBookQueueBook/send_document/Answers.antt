@@ -23,12 +23,5 @@ returns-clause-err g c honest =
     let is_open = open_with_document old c.args.self.now.settings c.args.job c.args.n began (c.empty_is_sound.ensures c.args.self.now.settings c.estimate-estimate.ensures.limits) c.requires.there in
     IfErr-weaker c.send_document.result _ _ (λ f sends w d stands. sends w d (stands began).sound ((stands began).holds is_open)) (c.send_document.ensures.err honest)
 
-pub returns-clause-damaged : goal.returns-clause-damaged
-returns-clause-damaged g c honest =
-    let old = state g.S.Store c.args.self.now.conn in
-    let began = c.send_document.ensures.leaves.clean honest in
-    let is_open = open_with_document old c.args.self.now.settings c.args.job c.args.n began (c.empty_is_sound.ensures c.args.self.now.settings c.estimate-estimate.ensures.limits) c.requires.there in
-    IfErr-weaker c.send_document.result _ _ (λ f none damaged w stood. let was = stood began in none damaged w was.sound (was.holds is_open)) (c.send_document.ensures.damaged honest)
-
 pub returns-clause-left : goal.returns-clause-left
 returns-clause-left g c honest v w left db may = left db (c.send_document.ensures.leaves.left honest db may)

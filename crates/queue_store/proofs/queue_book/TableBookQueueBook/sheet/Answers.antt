@@ -5,18 +5,18 @@ use Rattle.queue_tables.proofs.Leaving.{held_by}
 use Rattle.queue_store.proofs.queue_book.TableBookQueueBook.sheet.Goals as goal
 
 pub returns-in_err-sheet-clause-kept : goal.returns-in_err-sheet-clause-kept
-returns-in_err-sheet-clause-kept g c w stood = still_keeps (state g.S.Store c.args.self.now.conn) (state g.S.Store c.sheet.new.conn) c.args.self.now.settings w c.sheet.ensures.leaves stood
+returns-in_err-sheet-clause-kept g c w stood = still_keeps (state g.S.Store c.args.self.now.conn) (state g.S.Store c.sheet.new.conn) c.args.self.now.settings w c.in_err-sheet.ensures.reads.leaves stood
 
 pub returns-clause-kept : goal.returns-clause-kept
-returns-clause-kept g c w stood = still_keeps (state g.S.Store c.args.self.now.conn) (state g.S.Store c.sheet.new.conn) c.args.self.now.settings w c.sheet.ensures.leaves stood
+returns-clause-kept g c w stood = still_keeps (state g.S.Store c.args.self.now.conn) (state g.S.Store c.sheet.new.conn) c.args.self.now.settings w c.in_ok-sheet.ensures.reads.leaves stood
 
 pub returns-clause-sheet : goal.returns-clause-sheet
 returns-clause-sheet g c honest w stands =
     let now = stands honest in
-    c.in_ok-sheet.ensures.sheet honest w now.sound (held_by c.sheet.ensures.leaves honest (content_of w) (now.holds (c.in_ok-sheet.ensures.live honest)))
+    c.in_ok-sheet.ensures.reads.found honest w now.sound (held_by c.in_ok-sheet.ensures.reads.leaves honest (content_of w) (now.holds (c.in_ok-sheet.ensures.live honest)))
 
 pub returns-in_err-sheet-clause-left : goal.returns-in_err-sheet-clause-left
-returns-in_err-sheet-clause-left g c honest v w left db may = left db (c.sheet.ensures.leaves.left honest db may)
+returns-in_err-sheet-clause-left g c honest v w left db may = left db (c.in_err-sheet.ensures.reads.leaves.left honest db may)
 
 pub returns-clause-left : goal.returns-clause-left
-returns-clause-left g c honest v w left db may = left db (c.sheet.ensures.leaves.left honest db may)
+returns-clause-left g c honest v w left db may = left db (c.in_ok-sheet.ensures.reads.leaves.left honest db may)
