@@ -4,7 +4,6 @@ use Rattle.std.specs.Io.KnownBytes.{Appends}
 use Rattle.std.proofs.KnownBytes.{Appends-trans}
 use Rattle.std.proofs.lemmas.Grind.{flat_map-append}
 use Rattle.queue_core.specs.Limits.{IsMoment}
-use Rattle.queue_types.specs.Settings.{SettingValues}
 use Rattle.queue_core.specs.World.{World}
 use Rattle.queue_core.specs.declared.book.BookFault.{BookFault}
 use Rattle.queue_core.specs.declared.book.BookFault.TheVariants.{Memory, Disk, Damaged}
@@ -27,9 +26,6 @@ pub grants_after : ((most now : ℕ) (w u : World) (acted : ℕ) → Worked most
     → u.grants ≡ w.grants
 grants_after kept w u [] is = ap (λ (z : World). z.grants) is
 grants_after kept w u (n ∷ rest) h = grants_after kept h.0 u rest h.2 ∙ kept most_requests h.1.now w h.0 n h.1.worked
-
-pub settings_kept : (set : SettingValues) (w u : World) (counts : List ℕ) → AreConnections w counts u → set ≡ w.settings → set ≡ u.settings
-settings_kept set w u counts h is = is ∙ sym (settings_after w u counts h)
 
 abbrev pub one : (now : ℕ) (w u : World) (acted : ℕ) → IsMoment now → Worked most_requests now w u acted → AreConnections w (acted ∷ []) u
 one now w u acted moment worked = (u, record { now = now; moment = moment; worked = worked }, refl)

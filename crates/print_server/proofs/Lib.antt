@@ -1,3 +1,4 @@
 pub mod ConnectionLemmas
 pub mod RunLemmas
 pub mod CrashLemmas
+pub mod ServedLemmas

@@ -1,7 +1,10 @@
 -- What connections, one after another, make of the queue.
 use Rattle.std.specs.Prelude.{◌≡◌, ◌⊎◌, ℕ, List, [], ◌∷◌}
+use Rattle.std.specs.List.{AllByRecursion}
 use Rattle.queue_core.specs.Limits.{IsMoment}
+use Rattle.queue_core.specs.Runs.{IsPlace, Place, run}
 use Rattle.queue_core.specs.World.{World}
+use Rattle.queue_core.specs.declared.book.QueueBook.{Ghosts}
 use Rattle.http_front.specs.Connections.{Worked}
 use Rattle.http_front.specs.Crash.{IsAtMostOneMore as IsAtMostOneMoreIn}
 use Rattle.http_front.specs.Turns.{most_requests}
@@ -16,6 +19,10 @@ pub record IsConnection (w : World) (acted : ℕ) (u : World) : Type 0 where
 abbrev pub AreConnections : World → List ℕ → World → Type 0
 AreConnections w [] u = u ≡ w
 AreConnections w (acted ∷ rest) u = (v : World) × IsConnection w acted v × AreConnections v rest u
+
+-- a run of the machine made u of the world w
+abbrev pub IsRun : World → World → Type 0
+IsRun w u = (places : List Place) × AllByRecursion IsPlace places × (u ≡ run w places)
 
 -- ---- a crash at any moment
 
@@ -32,3 +39,17 @@ IsLeft w counts u are v x = ((u ≡ w) × (x ≡ v)) ⊎ IsAtMostOneMore w count
 -- what a crash leaves beside the queue w, before these connections, comes to what it leaves beside u, after them
 abbrev pub Carries : (World → World → Type 0) → (World → World → Type 0) → (w : World) (counts : List ℕ) (u : World) → AreConnections w counts u → Type 0
 Carries before after w counts u are = (v : World) → before w v → (x : World) × after u x × IsLeft w counts u are v x
+
+-- ---- over a book
+
+-- connections, one after another, over a book that was old before them and is new behind them, and stood for the queue w
+pub record ServedOver {B : Type 0} (book : Ghosts B) (old new : B) (w : World) : Type 0 where
+  -- how many requests of each acted
+  pub counts : List ℕ
+  -- what they made of w
+  pub queue : World
+  pub are : AreConnections w counts queue
+  -- the book stands for it
+  pub stands : book.stands new queue
+  -- what a crash leaves of the book goes with just these connections
+  pub carries : Carries (book.crash_leaves old) (book.crash_leaves new) w counts queue are

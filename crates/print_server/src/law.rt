@@ -1,19 +1,15 @@
 //! What a server's connections are to the machine, and what they leave: laws over the definitions, in functions that do nothing.
 ghost use Rattle.std.specs.Prelude.{◌≡◌, ℕ, List};
-ghost use Rattle.std.specs.List.{AllByRecursion};
-ghost use Rattle.queue_core.specs.Runs.{IsPlace, Place, run};
 ghost use Rattle.queue_core.specs.World.{World};
-ghost use Rattle.print_server.specs.Connections.{AreConnections, IsAtMostOneMore};
+ghost use Rattle.print_server.specs.Connections.{AreConnections, IsAtMostOneMore, IsRun};
 
 use http_front::{connections_are_runs, connections_grant_nothing};
 use queue_core::run_keeps;
 
 /// Whatever clients send, what their connections make of a queue is a run of the machine; and so is what a crash leaves of it, at whatever moment.
 pub fn served_queues_are_runs()
-    ensures served { (w u : World) (counts : List ℕ) → AreConnections w counts u
-        → (ps : List Place) × AllByRecursion IsPlace ps × (u ≡ run w ps) }
-    ensures crash { (w u x : World) (counts : List ℕ) (are : AreConnections w counts u) → IsAtMostOneMore w counts u are x
-        → (ps : List Place) × AllByRecursion IsPlace ps × (x ≡ run w ps) }
+    ensures served { (w u : World) (counts : List ℕ) → AreConnections w counts u → IsRun w u }
+    ensures crash { (w u x : World) (counts : List ℕ) (are : AreConnections w counts u) → IsAtMostOneMore w counts u are x → IsRun w x }
 {
     connections_are_runs();
     run_keeps();

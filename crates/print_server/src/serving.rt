@@ -9,7 +9,7 @@ ghost use Rattle.queue_core.specs.declared.book.BookFault.{BookFault};
 ghost use Rattle.http_front.specs.Connections.{Worked};
 ghost use Rattle.http_front.specs.Crash.{CarriesAll};
 ghost use Rattle.http_front.specs.Turns.{most_requests};
-ghost use Rattle.print_server.specs.Connections.{AreConnections, Carries, IsAtMostOneMore};
+ghost use Rattle.print_server.specs.Connections.{IsAtMostOneMore, ServedOver};
 ghost use Rattle.print_server.specs.Lines.{served_line, served_lines};
 
 use crate::connection::{acted_of, drain, has_fault, is_ended_here};
@@ -203,18 +203,15 @@ impl Service<'_> {
     ) -> Result<Standing, ServerFault>
         ensures began { B.is_honest book.new → B.is_honest book.old }
         ensures ok { B.is_honest book.new → OnOk result ((w : World) → B.stands book.old w → self.entry.settings.now ≡ w.settings
-            → (u : World) × B.stands book.new u × (counts : List ℕ) × (are : AreConnections w counts u) × (length counts ≡ 1)
-            × Appends (O.contents out.old) (O.contents out.new) (served_lines counts)
-            × Carries (B.crash_leaves book.old) (B.crash_leaves book.new) w counts u are) }
+            → (served : ServedOver B.QueueBook book.old book.new w) × (length served.counts ≡ 1)
+            × Appends (O.contents out.old) (O.contents out.new) (served_lines served.counts)) }
         ensures err { B.is_honest book.new → OnErr result ((w : World) → B.stands book.old w → self.entry.settings.now ≡ w.settings
-            → (u : World) × B.stands book.new u × (counts : List ℕ) × (are : AreConnections w counts u) × (length counts ≤ 1)
-            × Carries (B.crash_leaves book.old) (B.crash_leaves book.new) w counts u are) }
+            → (served : ServedOver B.QueueBook book.old book.new w) × (length served.counts ≤ 1)) }
         // where the book ends it, the connection's count was printed
         ensures told { B.is_honest book.new → IfErr result (λ f. (e : BookFault) → f ≡ ServerFault.Book e
             → (w : World) → B.stands book.old w → self.entry.settings.now ≡ w.settings
-            → (u : World) × B.stands book.new u × (counts : List ℕ) × (are : AreConnections w counts u) × (length counts ≡ 1)
-            × Appends (O.contents out.old) (O.contents out.new) (served_lines counts)
-            × Carries (B.crash_leaves book.old) (B.crash_leaves book.new) w counts u are) }
+            → (served : ServedOver B.QueueBook book.old book.new w) × (length served.counts ≡ 1)
+            × Appends (O.contents out.old) (O.contents out.new) (served_lines served.counts)) }
         ensures damaged { B.is_honest book.new → IfErr result (λ f. f ≡ ServerFault.Book BookFault.Damaged
             → (w : World) → B.stands book.old w → self.entry.settings.now ≡ w.settings → ⊥) }
         ensures live { B.is_honest book.new → (before ≡ Standing.Live → B.is_live book.old) → result ≡ Ok Standing.Live → B.is_live book.new }
@@ -249,24 +246,21 @@ impl Service<'_> {
         ensures began { B.is_honest book.new → B.is_honest book.old }
         // every connection was served, and its count printed; a crash leaves what goes with just these connections
         ensures ok { B.is_honest book.new → OnOk result ((w : World) → B.stands book.old w → self.entry.settings.now ≡ w.settings
-            → (u : World) × B.stands book.new u × (counts : List ℕ) × (are : AreConnections w counts u) × (length counts ≡ connections)
-            × Appends (O.contents out.old) (O.contents out.new) (served_lines counts)
-            × Carries (B.crash_leaves book.old) (B.crash_leaves book.new) w counts u are) }
+            → (served : ServedOver B.QueueBook book.old book.new w) × (length served.counts ≡ connections)
+            × Appends (O.contents out.old) (O.contents out.new) (served_lines served.counts)) }
         // some were, and so it does
         ensures err { B.is_honest book.new → OnErr result ((w : World) → B.stands book.old w → self.entry.settings.now ≡ w.settings
-            → (u : World) × B.stands book.new u × (counts : List ℕ) × (are : AreConnections w counts u) × (length counts ≤ connections)
-            × Carries (B.crash_leaves book.old) (B.crash_leaves book.new) w counts u are) }
+            → (served : ServedOver B.QueueBook book.old book.new w) × (length served.counts ≤ connections)) }
         // where the book ends it, every connection's count was printed
         ensures told { B.is_honest book.new → IfErr result (λ f. (e : BookFault) → f ≡ ServerFault.Book e
             → (w : World) → B.stands book.old w → self.entry.settings.now ≡ w.settings
-            → (u : World) × B.stands book.new u × (counts : List ℕ) × (are : AreConnections w counts u) × (length counts ≤ connections)
-            × Appends (O.contents out.old) (O.contents out.new) (served_lines counts)
-            × Carries (B.crash_leaves book.old) (B.crash_leaves book.new) w counts u are) }
+            → (served : ServedOver B.QueueBook book.old book.new w) × (length served.counts ≤ connections)
+            × Appends (O.contents out.old) (O.contents out.new) (served_lines served.counts)) }
         // whatever it answers: a crash at any moment leaves the queue that the book stands for, or what the event of one of these connections' requests
         // makes of it
         ensures crash { B.is_honest book.new → B.is_live book.old → (w : World) → B.stands book.old w → self.entry.settings.now ≡ w.settings
-            → (u x : World) × B.stands book.new u × (counts : List ℕ) × (are : AreConnections w counts u) × (length counts ≤ connections)
-            × B.crash_leaves book.new u x × IsAtMostOneMore w counts u are x }
+            → (served : ServedOver B.QueueBook book.old book.new w) × (length served.counts ≤ connections)
+            × (x : World) × B.crash_leaves book.new served.queue x × IsAtMostOneMore w served.counts served.queue served.are x }
         // an honest book that stands for a queue with the settings is never called damaged
         ensures damaged { B.is_honest book.new → IfErr result (λ f. f ≡ ServerFault.Book BookFault.Damaged
             → (w : World) → B.stands book.old w → self.entry.settings.now ≡ w.settings → ⊥) }

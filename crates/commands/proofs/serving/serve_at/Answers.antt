@@ -21,14 +21,14 @@ returns-in-Err-clause-stopped g c = elim (stopped_by c.in-Err.stopped c.fault_of
 pub returns-in-Ok-clause-served : goal.returns-in-Ok-clause-served
 returns-in-Ok-clause-served g c = λ honest w stands same.
     let it = c.in-Ok.ensures.ok honest w stands same in (
-      it.0,
+      it.0.queue,
+      it.0.stands,
+      it.0.counts,
+      it.0.are,
       it.1,
       it.2,
-      it.3,
-      it.4,
-      it.5,
-      one_more (shown_by g.S.Store c.args.book.now) (shown_by g.S.Store c.serve_connections.new.book) w it.2 it.0 it.3
-          (λ live. lasts g.S.Store g.met.S.Store.settled c.args.book.now w (c.serve_connections.ensures.began honest) live stands) it.6,
+      one_more (shown_by g.S.Store c.args.book.now) (shown_by g.S.Store c.serve_connections.new.book) w it.0.counts it.0.queue it.0.are
+          (λ live. lasts g.S.Store g.met.S.Store.settled c.args.book.now w (c.serve_connections.ensures.began honest) live stands) it.0.carries,
     )
 
 pub returns-in-Err-clause-err : goal.returns-in-Err-clause-err
@@ -36,30 +36,34 @@ returns-in-Err-clause-err g c = λ honest w stands same.
     elim (stopped_by c.in-Err.stopped c.fault_of_server.result (λ error at. (c.fault_of_server.ensures.stream error at).0)) [
       | inl stream ↦
           let it = c.in-Err.ensures.err honest w stands same in (
-            it.0,
+            it.0.queue,
+            it.0.stands,
+            it.0.counts,
+            it.0.are,
             it.1,
-            it.2,
-            it.3,
-            it.4,
             inl stream,
-            one_more (shown_by g.S.Store c.args.book.now) (shown_by g.S.Store c.serve_connections.new.book) w it.2 it.0 it.3
-                (λ live. lasts g.S.Store g.met.S.Store.settled c.args.book.now w (c.serve_connections.ensures.began honest) live stands) it.5,
+            one_more (shown_by g.S.Store c.args.book.now) (shown_by g.S.Store c.serve_connections.new.book) w it.0.counts it.0.queue it.0.are
+                (λ live. lasts g.S.Store g.met.S.Store.settled c.args.book.now w (c.serve_connections.ensures.began honest) live stands) it.0.carries,
           )
       | inr book ↦
           let it = c.in-Err.ensures.told honest book.0 book.1 w stands same in (
-            it.0,
+            it.0.queue,
+            it.0.stands,
+            it.0.counts,
+            it.0.are,
             it.1,
-            it.2,
-            it.3,
-            it.4,
-            inr it.5,
-            one_more (shown_by g.S.Store c.args.book.now) (shown_by g.S.Store c.serve_connections.new.book) w it.2 it.0 it.3
-                (λ live. lasts g.S.Store g.met.S.Store.settled c.args.book.now w (c.serve_connections.ensures.began honest) live stands) it.6,
+            inr it.2,
+            one_more (shown_by g.S.Store c.args.book.now) (shown_by g.S.Store c.serve_connections.new.book) w it.0.counts it.0.queue it.0.are
+                (λ live. lasts g.S.Store g.met.S.Store.settled c.args.book.now w (c.serve_connections.ensures.began honest) live stands) it.0.carries,
           )
     ]
 
 pub returns-in-Ok-clause-crash : goal.returns-in-Ok-clause-crash
-returns-in-Ok-clause-crash g c = c.serve_connections.ensures.crash
+returns-in-Ok-clause-crash g c = λ honest live w stands same.
+    let it = c.serve_connections.ensures.crash honest live w stands same in
+    (it.0.queue, it.2, it.0.stands, it.0.counts, it.0.are, it.1, it.3, it.4)
 
 pub returns-in-Err-clause-crash : goal.returns-in-Err-clause-crash
-returns-in-Err-clause-crash g c = c.serve_connections.ensures.crash
+returns-in-Err-clause-crash g c = λ honest live w stands same.
+    let it = c.serve_connections.ensures.crash honest live w stands same in
+    (it.0.queue, it.2, it.0.stands, it.0.counts, it.0.are, it.1, it.3, it.4)

@@ -1,21 +1,21 @@
 use Rattle.std.proofs.Common.{[], ◌∷◌, ◌++◌, ◌∙◌, Ok, ap, refl, sym, arith, length-append}
 use Rattle.std.proofs.KnownBytes.{Appends-nil}
 use Rattle.std.proofs.lemmas.Result.{err_from_is_err_and}
-use Rattle.print_server.proofs.CrashLemmas.{carries_none, carries_on, left_one}
-use Rattle.print_server.proofs.ConnectionLemmas.{joined, on_err, settings_kept, told_on, told_one}
+use Rattle.print_server.proofs.ConnectionLemmas.{on_err, told_on, told_one}
+use Rattle.print_server.proofs.ServedLemmas.{served_left, served_none, served_on, served_settings}
 use Rattle.print_server.proofs.serving.Service.serve_connections.Goals as goal
 
 pub loop-round-init : goal.loop-round-init
-loop-round-init g c = record { began = λ h. h; served = λ h w st set. (w, st, [], refl, refl, Appends-nil _, carries_none (g.B.QueueBook.crash_leaves c.args.book.now) w); printed = ([], refl, Appends-nil _); live = λ h live is. live }
+loop-round-init g c = record { began = λ h. h; served = λ h w st set. (served_none st, refl, Appends-nil _); printed = ([], refl, Appends-nil _); live = λ h live is. live }
 
 pub loop-round-preserved : goal.loop-round-preserved
 loop-round-preserved g c = record {
   began = λ h. c.loop-round.invariant.began (c.serve_next.ensures.began h);
   served = λ h w st set.
       let r = c.loop-round.invariant.served (c.serve_next.ensures.began h) w st set in
-      let t = c.in_ok-standing.ensures.ok h r.0 r.1 (settings_kept c.args.self.settings.now w r.0 r.2 r.3 set) in
-      let more = length-append r.2 t.2 in
-      (t.0, t.1, r.2 ++ t.2, joined w r.0 t.0 r.2 t.2 r.3 t.3, omega (arith, more, r.4, t.4), told_on _ _ _ r.2 t.2 r.5 t.5, carries_on (g.B.QueueBook.crash_leaves c.args.book.now) (g.B.QueueBook.crash_leaves c.loop-round.book) (g.B.QueueBook.crash_leaves c.serve_next.new.book) w r.0 t.0 r.2 t.2 r.3 t.3 r.6 t.6);
+      let t = c.in_ok-standing.ensures.ok h r.0.queue r.0.stands (served_settings r.0 set) in
+      let more = length-append r.0.counts t.0.counts in
+      (served_on r.0 t.0, omega (arith, more, r.1, t.1), told_on _ _ _ r.0.counts t.0.counts r.2 t.2);
   printed =
       let before = c.loop-round.invariant.printed in
       let next = c.in_ok-standing.ensures.printed in
@@ -31,18 +31,18 @@ returns-clause-live g c = λ h live is. c.loop-round.invariant.live h live (cc i
 pub returns-in_err-standing-clause-err : goal.returns-in_err-standing-clause-err
 returns-in_err-standing-clause-err g c = λ h. on_err c.from_residual.result _ (λ w st set.
     let r = c.loop-round.invariant.served (c.serve_next.ensures.began h) w st set in
-    let t = c.in_err-standing.ensures.err h r.0 r.1 (settings_kept c.args.self.settings.now w r.0 r.2 r.3 set) in
-    let more = length-append r.2 t.2 in
-    (t.0, t.1, r.2 ++ t.2, joined w r.0 t.0 r.2 t.2 r.3 t.3, omega (arith, more, r.4, t.4), carries_on (g.B.QueueBook.crash_leaves c.args.book.now) (g.B.QueueBook.crash_leaves c.loop-round.book) (g.B.QueueBook.crash_leaves c.serve_next.new.book) w r.0 t.0 r.2 t.2 r.3 t.3 r.6 t.5))
+    let t = c.in_err-standing.ensures.err h r.0.queue r.0.stands (served_settings r.0 set) in
+    let more = length-append r.0.counts t.0.counts in
+    (served_on r.0 t.0, omega (arith, more, r.1, t.1)))
 
 pub returns-in_err-standing-clause-told : goal.returns-in_err-standing-clause-told
 returns-in_err-standing-clause-told g c = λ h.
     let p = err_from_is_err_and c.from_residual.result c.from_residual.ensures.1 in
     rw p.1 (λ e is w st set.
     let r = c.loop-round.invariant.served (c.serve_next.ensures.began h) w st set in
-    let t = c.in_err-standing.ensures.told h e (sym p.2 ∙ is) r.0 r.1 (settings_kept c.args.self.settings.now w r.0 r.2 r.3 set) in
-    let more = length-append r.2 t.2 in
-    (t.0, t.1, r.2 ++ t.2, joined w r.0 t.0 r.2 t.2 r.3 t.3, omega (arith, more, r.4, t.4), told_on _ _ _ r.2 t.2 r.5 t.5, carries_on (g.B.QueueBook.crash_leaves c.args.book.now) (g.B.QueueBook.crash_leaves c.loop-round.book) (g.B.QueueBook.crash_leaves c.serve_next.new.book) w r.0 t.0 r.2 t.2 r.3 t.3 r.6 t.6))
+    let t = c.in_err-standing.ensures.told h e (sym p.2 ∙ is) r.0.queue r.0.stands (served_settings r.0 set) in
+    let more = length-append r.0.counts t.0.counts in
+    (served_on r.0 t.0, omega (arith, more, r.1, t.1), told_on _ _ _ r.0.counts t.0.counts r.2 t.2))
 
 pub returns-in_err-standing-clause-stopped : goal.returns-in_err-standing-clause-stopped
 returns-in_err-standing-clause-stopped g c =
@@ -59,7 +59,7 @@ returns-in_err-standing-clause-damaged g c = λ h.
     let p = err_from_is_err_and c.from_residual.result c.from_residual.ensures.1 in
     rw p.1 (λ told w st set.
     let r = c.loop-round.invariant.served (c.serve_next.ensures.began h) w st set in
-    c.in_err-standing.ensures.damaged h (sym p.2 ∙ told) r.0 r.1 (settings_kept c.args.self.settings.now w r.0 r.2 r.3 set))
+    c.in_err-standing.ensures.damaged h (sym p.2 ∙ told) r.0.queue r.0.stands (served_settings r.0 set))
 
 pub returns-clause-printed : goal.returns-clause-printed
 returns-clause-printed g c =
@@ -70,21 +70,21 @@ returns-clause-printed g c =
 pub returns-clause-ok : goal.returns-clause-ok
 returns-clause-ok g c = λ h w st set.
     let r = c.loop-round.invariant.served h w st set in
-    let is = r.4 in
-    (r.0, r.1, r.2, r.3, omega (arith, is), r.5, r.6)
+    let is = r.1 in
+    (r.0, omega (arith, is), r.2)
 
 pub returns-in_err-standing-clause-crash : goal.returns-in_err-standing-clause-crash
 returns-in_err-standing-clause-crash g c = λ h live w st set.
     let r = c.loop-round.invariant.served (c.serve_next.ensures.began h) w st set in
-    let t = c.in_err-standing.ensures.err h r.0 r.1 (settings_kept c.args.self.settings.now w r.0 r.2 r.3 set) in
-    let more = length-append r.2 t.2 in
-    let on = carries_on (g.B.QueueBook.crash_leaves c.args.book.now) (g.B.QueueBook.crash_leaves c.loop-round.book) (g.B.QueueBook.crash_leaves c.serve_next.new.book) w r.0 t.0 r.2 t.2 r.3 t.3 r.6 t.5 in
-    let l = on w (g.met.B.QueueBook.lasts c.args.book.now w w (c.loop-round.invariant.began (c.serve_next.ensures.began h)) live st) in
-    (t.0, l.0, t.1, r.2 ++ t.2, joined w r.0 t.0 r.2 t.2 r.3 t.3, omega (arith, more, r.4, t.4), l.1, left_one w (r.2 ++ t.2) t.0 (joined w r.0 t.0 r.2 t.2 r.3 t.3) l.0 l.2)
+    let t = c.in_err-standing.ensures.err h r.0.queue r.0.stands (served_settings r.0 set) in
+    let more = length-append r.0.counts t.0.counts in
+    let s = served_on r.0 t.0 in
+    let l = served_left s (g.met.B.QueueBook.lasts c.args.book.now w w (c.loop-round.invariant.began (c.serve_next.ensures.began h)) live st) in
+    (s, omega (arith, more, r.1, t.1), l.0, l.1, l.2)
 
 pub returns-clause-crash : goal.returns-clause-crash
 returns-clause-crash g c = λ h live w st set.
     let r = c.loop-round.invariant.served h w st set in
-    let is = r.4 in
-    let l = r.6 w (g.met.B.QueueBook.lasts c.args.book.now w w (c.loop-round.invariant.began h) live st) in
-    (r.0, l.0, r.1, r.2, r.3, omega (arith, is), l.1, left_one w r.2 r.0 r.3 l.0 l.2)
+    let is = r.1 in
+    let l = served_left r.0 (g.met.B.QueueBook.lasts c.args.book.now w w (c.loop-round.invariant.began h) live st) in
+    (r.0, omega (arith, is), l.0, l.1, l.2)
