@@ -1,7 +1,7 @@
 -- The rows that a change adds meet none like them in the tables, and find the row that they tell of.
-use Rattle.std.proofs.Common.{◌≡◌, ◌≤◌, ◌<◌, inl, inr, ℕ, zero, suc, pos, ◌+◌, List, [], ◌∷◌, ◌++◌, map, filter, flat_map, length, fold, take, get_or, Bool, true, false, ◌&&◌, ◌==◌, Option, Some, None, IsSome, IfSome, refl, sym, ap, subst, ◌∙◌, arith, cond, is_eq, Ordering, Less, Equal, bytes_eq}
+use Rattle.std.proofs.Common.{◌≡◌, ◌≤◌, ◌<◌, inl, inr, ℕ, zero, suc, pos, ◌+◌, List, [], ◌∷◌, ◌++◌, map, filter, flat_map, length, take, get_or, Bool, true, false, ◌&&◌, ◌==◌, Option, Some, None, IsSome, IfSome, refl, sym, ap, subst, ◌∙◌, arith, cond, is_eq, Ordering, Less, Equal, bytes_eq}
 use Rattle.std.specs.Cmp.{both_ways, unsigned_tied}
-use Rattle.std.specs.FinMap.{FinMap, entries, entries_sorted, find, get, get-entries}
+use Rattle.std.specs.FinMap.{entries, entries_sorted, find, get, get-entries}
 use Rattle.std.specs.Ordering.{eq_by_cmp, nat_cmp, ordering_then}
 use Rattle.std.specs.List.{range_with_len, AllByRecursion as Each}
 use Rattle.std.proofs.lemmas.Bool.{and_left, and_right, cases_Bool, eq-eqb, eqb-true, ne_eqb}
@@ -12,7 +12,6 @@ use Rattle.sqlite.specs.declared.types.Value.TheVariants.{Text as Words}
 use Rattle.sqlite.specs.Order.{Row}
 use Rattle.sqlite.specs.Ops.{binary, is_true, from_truth}
 use Rattle.sqlite.specs.Collation.TheVariants.{Binary}
-use Rattle.sqlite.specs.State.{State}
 use Rattle.sqlite_sql.specs.declared.ops.BinaryOp.TheVariants.{Compare}
 use Rattle.sqlite_sql.specs.declared.ops.CompareOp.TheVariants.{Eq}
 use Rattle.sqlite_value.proofs.OrderLemmas.{value_cmp-Int, value_cmp-Text}
@@ -21,22 +20,22 @@ use Rattle.queue_types.specs.declared.document.Document.{Document}
 use Rattle.queue_types.specs.declared.event.GrantRow.{GrantRow}
 use Rattle.queue_types.specs.declared.event.KeptReport.{KeptReport}
 use Rattle.queue_types.specs.declared.job.Job.{Job}
-use Rattle.queue_core.specs.World.{World, Entry, AreNew, grant_cmp, has_number, job_at, put_grant, report_cmp, rows, text_cmp}
+use Rattle.queue_core.specs.World.{World, Entry, AreNew, grant_cmp, has_number, job_at, report_cmp, rows, text_cmp}
 use Rattle.queue_core.proofs.Maps.{report_total}
 use Rattle.queue_rows.specs.Pieces.{piece_at, pieces_in}
 use Rattle.queue_rows.specs.Rows.{grant_row}
 use Rattle.queue_rows.specs.declared.rows.DocumentRow.{DocumentRow}
 use Rattle.queue_rows.proofs.WorldMaps.{found_there}
-use Rattle.queue_tables.specs.Content.{Content, Holds, HoldsWhileOpen, content_of, document_rows, piece_rows, pieces_from}
+use Rattle.queue_tables.specs.Content.{Content, content_of, document_rows, piece_rows, pieces_from}
 use Rattle.queue_tables.specs.Kept.{HasOne}
-use Rattle.queue_tables.specs.Leaving.{KeepsBehind}
-use Rattle.queue_tables.specs.Steps.{AreDistinct, AreReportsKeyed, CanTake, are_numbered, document_count_at, is_granted, is_named, is_numbered, is_piece, with_document_row, with_grants, with_pieces}
+use Rattle.queue_tables.specs.Steps.{AreDistinct, AreReportsKeyed, CanGrant, CanKeep, CanTake, are_numbered, document_count_at, is_granted, is_named, is_numbered, is_piece, with_document_row, with_grants, with_pieces}
 use Rattle.queue_tables.specs.Values.{document_values, grant_values, job_values, number, piece_values, report_values}
-use Rattle.queue_tables.proofs.Documents.{none_in_both, none_of_others, row_of}
+use Rattle.queue_tables.proofs.Decisions.{the_one}
+use Rattle.queue_tables.proofs.Documents.{none_in_both, none_of_others, plain_of, row_of}
 use Rattle.queue_tables.proofs.Entries.{found_rows, row_at}
 use Rattle.queue_tables.proofs.Frees.{account_in, found_account, printed_in, reserved_in}
 use Rattle.queue_tables.proofs.Numbers.{same_number}
-use Rattle.queue_tables.proofs.Opened.{open_unless_shut}
+use Rattle.queue_tables.proofs.Kept.{new_at_turn}
 use Rattle.queue_tables.proofs.Puts.{rows_twice, turned}
 
 -- ---- tests by numbers and names
@@ -91,7 +90,7 @@ one_more p vs v none passes = (v, filter-append p vs (v ∷ []) ∙ ap (λ (ks :
 
 -- ---- jobs
 
-pub one_job : (n : ℕ) (j : Job) (w : World) → AreDistinct w.jobs → job_at n (rows w) ≡ Some j → HasOne (is_numbered n) (content_of w).jobs
+one_job : (n : ℕ) (j : Job) (w : World) → AreDistinct w.jobs → job_at n (rows w) ≡ Some j → HasOne (is_numbered n) (content_of w).jobs
 one_job n j w distinct there = (job_values j, ap (filter (is_numbered n)) (rows_twice w.jobs) ∙ row_at n w.jobs distinct ∙ ap found_rows there)
 
 -- ---- documents with their pieces, by jobs
@@ -136,13 +135,13 @@ later_pieces n k from (d ∷ ds) low =
     (later_pieces n k (from + 1) ds (omega (arith, low)))
 
 -- no document of the job has the next number
-pub no_document : (n : ℕ) (w : World) → AreDistinct w.jobs → filter (are_numbered n (document_count_at n w.jobs + 1)) (content_of w).documents ≡ []
+no_document : (n : ℕ) (w : World) → AreDistinct w.jobs → filter (are_numbered n (document_count_at n w.jobs + 1)) (content_of w).documents ≡ []
 no_document n w distinct =
     let k = document_count_at n w.jobs + 1 in
     none_of_parts (λ m ds. document_rows m 1 ds) (are_numbered n k) n (λ m ds apart. other_documents n k m 1 ds apart) w.jobs distinct (λ ds long. later_documents n k 1 ds (omega (arith, long)))
 
 -- and no piece is of such a document
-pub no_piece : (n : ℕ) (w : World) → AreDistinct w.jobs → filter (are_numbered n (document_count_at n w.jobs + 1)) (content_of w).pieces ≡ []
+no_piece : (n : ℕ) (w : World) → AreDistinct w.jobs → filter (are_numbered n (document_count_at n w.jobs + 1)) (content_of w).pieces ≡ []
 no_piece n w distinct =
     let k = document_count_at n w.jobs + 1 in
     none_of_parts (λ m ds. pieces_from m 1 ds) (are_numbered n k) n (λ m ds apart. other_pieces n k m 1 ds apart) w.jobs distinct (λ ds long. later_pieces n k 1 ds (omega (arith, long)))
@@ -152,28 +151,21 @@ no_piece n w distinct =
 numbers_itself : (d : DocumentRow) → are_numbered d.job d.doc (document_values d) ≡ true
 numbers_itself d = numbers_document d.job d.doc d ∙ rw (eq-eqb d.job d.job refl, eq-eqb d.doc d.doc refl) refl
 
-module _ (w : World) (d : NewDocument) (n : ℕ) (old mid : State) (distinct : AreDistinct w.jobs) (takes : CanTake d w) (kept : KeepsBehind old mid)
-    (counted : Holds (content_of w) old → (n ≡ document_count_at d.job w.jobs) × Holds (content_of w) mid) (held : HoldsWhileOpen (content_of w) old) where
-  -- its row isn't refused
-  pub document_enters : ((c : Content) → HasOne (is_numbered d.job) c.jobs → filter (are_numbered d.job (n + 1)) c.documents ≡ [] → HoldsWhileOpen c mid → ⊥) → ⊥
-  document_enters refused =
-      let one = one_job d.job takes.job w distinct takes.there in
-      let is_open = open_unless_shut mid.is_open (λ shut. refused (record (content_of w) { documents = [] }) one refl (λ t. absurd (shut t))) in
-      let it = counted (held (kept.was_open is_open)) in
-      refused (content_of w) one (subst (λ k. filter (are_numbered d.job (k + 1)) (content_of w).documents ≡ []) (sym it.0) (no_document d.job w distinct)) (λ _. it.1)
+module _ (d : NewDocument) (n : ℕ) (w : World) (takes : CanTake d w) (counted : n ≡ document_count_at d.job w.jobs) where
+  unlike_documents : filter (are_numbered d.job (n + 1)) (content_of w).documents ≡ []
+  unlike_documents = subst (λ k. filter (are_numbered d.job (k + 1)) (content_of w).documents ≡ []) (sym counted) (no_document d.job w takes.distinct)
 
-  -- nor are its pieces
-  pub pieces_enter : (row : DocumentRow) (new : State) → row.job ≡ d.job → row.doc ≡ n + 1 → KeepsBehind mid new → (Holds (content_of w) mid → Holds (with_document_row (document_values row) (content_of w)) new)
-      → ((c : Content) → HasOne (are_numbered d.job (n + 1)) c.documents → filter (are_numbered d.job (n + 1)) c.pieces ≡ [] → HoldsWhileOpen c new → ⊥) → ⊥
-  pieces_enter row new of_job numbered later entered refused =
-      let v = document_values row in
-      let passes : are_numbered d.job (n + 1) v ≡ true = subst (λ j. are_numbered j (n + 1) v ≡ true) of_job (subst (λ k. are_numbered row.job k v ≡ true) numbered (numbers_itself row)) in
-      let alone = one_more (are_numbered d.job (n + 1)) [] v refl passes in
-      let is_open = open_unless_shut new.is_open (λ shut. refused (record (content_of w) { documents = v ∷ []; pieces = [] }) alone refl (λ t. absurd (shut t))) in
-      let it = counted (held (kept.was_open (later.was_open is_open))) in
-      let fresh = subst (λ k. filter (are_numbered d.job (k + 1)) (content_of w).documents ≡ []) (sym it.0) (no_document d.job w distinct) in
-      let bare = subst (λ k. filter (are_numbered d.job (k + 1)) (content_of w).pieces ≡ []) (sym it.0) (no_piece d.job w distinct) in
-      refused (with_document_row v (content_of w)) (one_more (are_numbered d.job (n + 1)) (content_of w).documents v fresh passes) bare (λ _. entered it.1)
+  -- its job is there, and no document is like it
+  pub can_add_document : HasOne (is_numbered d.job) (content_of w).jobs × (filter (are_numbered d.job (n + 1)) (content_of w).documents ≡ [])
+  can_add_document = (one_job d.job takes.job w takes.distinct takes.there, unlike_documents)
+
+  -- with its row, it is there, and has no pieces
+  pub can_add_pieces : HasOne (are_numbered d.job (n + 1)) (with_document_row (document_values (row_of d.job (n + 1) (plain_of d))) (content_of w)).documents × (filter (are_numbered d.job (n + 1)) (content_of w).pieces ≡ [])
+  can_add_pieces =
+      let row = row_of d.job (n + 1) (plain_of d) in (
+        one_more (are_numbered d.job (n + 1)) (content_of w).documents (document_values row) unlike_documents (numbers_itself row),
+        subst (λ k. filter (are_numbered d.job (k + 1)) (content_of w).pieces ≡ []) (sym counted) (no_piece d.job w takes.distinct),
+      )
 
 -- ---- its pieces so far
 
@@ -220,24 +212,25 @@ none_granted batch account (e ∷ es) none =
     rw (granted_by_key batch account e ∙ split.0) (none_granted batch account es split.1)
 
 -- nothing is granted yet under the batch and the account
-pub no_grant : (batch account : List ℕ) (w : World) → get w.grants (batch, account) ≡ None → filter (is_granted batch account) (content_of w).grants ≡ []
+no_grant : (batch account : List ℕ) (w : World) → get w.grants (batch, account) ≡ None → filter (is_granted batch account) (content_of w).grants ≡ []
 no_grant batch account w none = none_granted batch account (entries w.grants) (sym (get-entries w.grants (batch, account)) ∙ none)
 
-new_at_turn : (gs : List GrantRow) (k : ℕ) (x : GrantRow) (m : FinMap grant_cmp ℕ) → k < length gs → x ≡ get_or gs k x → AreNew m gs → get (fold put_grant m (take k gs)) (x.batch, x.account) ≡ None
-new_at_turn [] k x m below is new = absurd (omega (arith, below))
-new_at_turn (g ∷ gs) zero x m below is new = subst (λ (y : GrantRow). get m (y.batch, y.account) ≡ None) (sym is) new.0
-new_at_turn (g ∷ gs) (suc k) x m below is new = new_at_turn gs k x (put_grant m g) (omega (arith, below)) is new.1
-
-pub no_grant_yet : (gs : List GrantRow) (k : ℕ) (x : GrantRow) (w : World) → k < length gs → x ≡ get_or gs k x → AreNew w.grants gs → filter (is_granted x.batch x.account) (content_of (with_grants (take k gs) w)).grants ≡ []
+no_grant_yet : (gs : List GrantRow) (k : ℕ) (x : GrantRow) (w : World) → k < length gs → x ≡ get_or gs k x → AreNew w.grants gs → filter (is_granted x.batch x.account) (content_of (with_grants (take k gs) w)).grants ≡ []
 no_grant_yet gs k x w below is new = no_grant x.batch x.account (with_grants (take k gs) w) (new_at_turn gs k x w.grants below is new)
 
 -- an account has its row
-pub has_account : (name : List ℕ) (w : World) → IsSome (get w.free name) → HasOne (is_named name) (content_of w).accounts
+has_account : (name : List ℕ) (w : World) → IsSome (get w.free name) → HasOne (is_named name) (content_of w).accounts
 has_account name w there = at (get w.free name) there (account_in w name)
   where
     at : (o : Option _) → IsSome o → filter (is_named name) (content_of w).accounts ≡ found_account name (reserved_in w) (printed_in w) o → HasOne (is_named name) (content_of w).accounts
     at None some is = absurd cc
     at (Some free) some is = (_, is)
+
+-- a grant's account is there, and nothing is granted yet under its batch and that account, when it is its turn
+pub can_grant_next : (gs : List GrantRow) (k : ℕ) (x : GrantRow) (w : World) → k < length gs → x ≡ get_or gs k x → CanGrant gs w
+    → HasOne (is_named x.account) (content_of (with_grants (take k gs) w)).accounts × (filter (is_granted x.batch x.account) (content_of (with_grants (take k gs) w)).grants ≡ [])
+can_grant_next gs k x w below is can =
+    (has_account x.account w (subst (λ (g : GrantRow). IsSome (get w.free g.account)) (sym is) (can.accounts k x below)), no_grant_yet gs k x w below is can.fresh)
 
 -- ---- reports
 
@@ -265,7 +258,7 @@ none_reported n m (e ∷ es) keyed none =
     rw (numbers_report n m e.1 ∙ by_key ∙ reported_by_key n m e.0 ∙ split.0) (none_reported n m es keyed.1 split.1)
 
 -- where each report is kept under its job and sequence number, none is kept of these
-pub no_report : (n m : ℕ) (w : World) → AreReportsKeyed w → get w.reports (n, m) ≡ None → filter (are_numbered n m) (content_of w).reports ≡ []
+no_report : (n m : ℕ) (w : World) → AreReportsKeyed w → get w.reports (n, m) ≡ None → filter (are_numbered n m) (content_of w).reports ≡ []
 no_report n m w keyed none = none_reported n m (entries w.reports) each (sym (get-entries w.reports (n, m)) ∙ none)
   where
     each : Each (λ (e : (ℕ × ℕ) × KeptReport). IsOfKey e.0 e.1) (entries w.reports)
@@ -273,3 +266,9 @@ no_report n m w keyed none = none_reported n m (entries w.reports) each (sym (ge
         let e = get_or (entries w.reports) k d in
         let there : get w.reports e.0 ≡ Some e.1 = get-entries w.reports e.0 ∙ found_there report_cmp report_total (entries w.reports) k d low (entries_sorted w.reports) in
         subst (λ (o : Option KeptReport). IfSome o (IsOfKey e.0)) there (keyed e.0.0 e.0.1))
+
+-- a report's job is there, and none is like it
+pub can_add_report : (k : KeptReport) (w : World) → CanKeep k w → HasOne (is_numbered k.report.job) (content_of w).jobs × (filter (are_numbered k.report.job k.report.seq) (content_of w).reports ≡ [])
+can_add_report k w can =
+    let job = the_one (job_at k.report.job (rows w)) can.there in
+    (one_job k.report.job job.0 w can.distinct job.1, no_report k.report.job k.report.seq w can.keyed can.fresh)

@@ -1,21 +1,23 @@
 -- The parts of a change, one after another in one transaction, and the worlds that the tables stand for between them.
-use Rattle.std.proofs.Common.{◌≡◌, ◌∙◌, ◌≤◌, ◌^◌, Ok, None, IfSome, IsTrue, fold, length}
+use Rattle.std.proofs.Common.{◌≡◌, Result, Ok, None, IfSome, unwrap_or}
+use Rattle.std.specs.Prelude.{⊤}
 use Rattle.std.specs.FinMap.{get}
-use Rattle.sqlite.specs.State.{State, HasCleanDisk}
+use Rattle.sqlite.specs.State.{State}
 use Rattle.queue_types.specs.Event.{Change, Decision}
 use Rattle.queue_core.specs.Book.{IsDecisionOn}
 use Rattle.queue_core.specs.Limits.{IsSoundChange}
 use Rattle.queue_core.specs.Sound.{IsSound}
-use Rattle.queue_core.specs.World.{World, AreNew, made_on, with_row}
-use Rattle.queue_tables.specs.Content.{Holds, HoldsWhileOpen, content_of}
-use Rattle.queue_tables.specs.Leaving.{KeepsBehind, StaysInside}
-use Rattle.queue_tables.specs.Steps.{AreCovered, AreDistinct, CanTake, IsSummable, with_added, with_frees, with_grants, with_kept, with_puts}
+use Rattle.queue_core.specs.World.{World, AreNew, made_on}
+use Rattle.queue_tables.specs.declared.fault.Fault.{Fault}
+use Rattle.queue_tables.specs.Content.{Content, content_of}
+use Rattle.queue_tables.specs.Making.{Makes, MakesQueue}
+use Rattle.queue_tables.specs.Steps.{AreCovered, CanGrant, CanKeep, CanPut, CanTake, with_added, with_frees, with_grants, with_kept, with_next, with_puts}
 use Rattle.queue_tables.proofs.Covered.{sound_covered}
 use Rattle.queue_tables.proofs.Decided.{new_report}
-use Rattle.queue_tables.proofs.Decisions.{distinct_made, takes_document}
+use Rattle.queue_tables.proofs.Decisions.{formed_entries, have_accounts, jobs_fit, keeps_report, takes_document}
 use Rattle.queue_tables.proofs.Documents.{few_made}
 use Rattle.queue_tables.proofs.Entries.{sound_summable}
-use Rattle.queue_tables.proofs.Opened.{held_then}
+use Rattle.queue_tables.proofs.Making.{made_then, seen_as}
 
 -- the world is sound and so is what the change makes of it, and what it adds is not there yet
 pub record Suits (c : Change) (w : World) : Type 0 where
@@ -26,20 +28,16 @@ pub record Suits (c : Change) (w : World) : Type 0 where
   pub report : IfSome c.report (λ k. get w.reports (k.report.job, k.report.seq) ≡ None)
 
 -- so it is with a decision of the machine, by the laws of decisions
-pub suited : ((w : World) (d : Decision) → IsSound w → IsDecisionOn w d → IsSoundChange d.change) → ((w : World) (d : Decision) → IsSound w → IsDecisionOn w d → IsSound (made_on d.change w))
-    → ((w : World) (d : Decision) → IsSound w → IsDecisionOn w d → AreNew w.grants d.change.grants) → (w : World) (d : Decision) → IsSound w → IsDecisionOn w d → Suits d.change w
-suited within made grants w d sound decided = record { sound = sound; within = within w d sound decided; made = made w d sound decided; grants = grants w d sound decided; report = new_report w d decided }
-
--- where the tables stood for such a world they stand for what is made of it; the transaction goes on, and nothing was committed
-pub record Moves (c : Change) (make : World → World) (old new : State) : Type 0 where
-  pub clean : HasCleanDisk new → HasCleanDisk old
-  pub kept : HasCleanDisk new → IsTrue old.in_transaction → KeepsBehind old new
-  pub inside : HasCleanDisk new → IsTrue old.in_transaction → IsTrue new.in_transaction
-  pub holds : HasCleanDisk new → (w : World) → Suits c w → Holds (content_of w) old → Holds (content_of (make w)) new
-
--- what is held behind it, as long as the connection is open
-pub held_after : {c : Change} {make : World → World} {old new : State} → Moves c make old new → HasCleanDisk new → IsTrue old.in_transaction → (w : World) → Suits c w → HoldsWhileOpen (content_of w) old → HoldsWhileOpen (content_of (make w)) new
-held_after m clean inside w suits held = held_then (m.kept clean inside) (m.holds clean w suits) held
+pub of_decision : {T : Type 0} {old new : State} {r : Result T Fault} {after : World → Content} (d : Decision) → ((w : World) (d : Decision) → IsSound w → IsDecisionOn w d → IsSoundChange d.change)
+    → ((w : World) (d : Decision) → IsSound w → IsDecisionOn w d → IsSound (made_on d.change w)) → ((w : World) (d : Decision) → IsSound w → IsDecisionOn w d → AreNew w.grants d.change.grants)
+    → Makes old new r (Suits d.change) content_of after → Makes old new r (λ w. IsSound w × IsDecisionOn w d) content_of after
+of_decision d within made grants makes = seen_as makes (λ w. w) (λ w it. record {
+  sound = it.0;
+  within = within w d it.0 it.1;
+  made = made w d it.0 it.1;
+  grants = grants w d it.0 it.1;
+  report = new_report w d it.1;
+})
 
 -- ---- each part after those before it
 
@@ -58,37 +56,26 @@ after_grants c w = with_grants c.grants (after_document c w)
 abbrev pub after_report : Change → World → World
 after_report c w = with_kept c.report (after_grants c w)
 
-pub frees_put : {T E : Type 0} {x : T} {old new : State} (c : Change) → StaysInside {T = T} {E = E} old new (Ok x) → (HasCleanDisk new → (w : World) → AreCovered w → Holds (content_of w) old → Holds (content_of (with_frees c.free w)) new) → Moves c (after_frees c) old new
-frees_put c stays done = record { clean = stays.clean; kept = stays.kept; inside = stays.inside; holds = λ clean w suits. done clean w (sound_covered w suits.sound) }
+pub frees_put : {T : Type 0} {old new : State} {r : Result T Fault} (c : Change) → MakesQueue old new r AreCovered (with_frees c.free) → MakesQueue old new r (Suits c) (after_frees c)
+frees_put c made = seen_as made (λ w. w) (λ w suits. sound_covered w suits.sound)
 
-module _ {T E : Type 0} {x : T} {first old new : State} (c : Change) where
-  onward : {before after : World → World} → Moves c before first old → StaysInside {T = T} {E = E} old new (Ok x) → (HasCleanDisk new → (w : World) → Suits c w → Holds (content_of (before w)) old → Holds (content_of (after w)) new) → Moves c after first new
-  onward m stays holds = record {
-    clean = λ clean. m.clean (stays.clean clean);
-    kept = λ clean inside.
-        let front = m.kept (stays.clean clean) inside in
-        let last = stays.kept clean (m.inside (stays.clean clean) inside) in
-        record { was_open = λ t. front.was_open (last.was_open t); committed = λ t. last.committed t ∙ front.committed (last.was_open t); left = λ db may. front.left db (last.left db may) };
-    inside = λ clean inside. stays.inside clean (m.inside (stays.clean clean) inside);
-    holds = λ clean w suits has. holds clean w suits (m.holds (stays.clean clean) w suits has);
-  }
+module _ {S T : Type 0} {first old new : State} {x : S} {r : Result T Fault} (c : Change) where
+  pub jobs_put : MakesQueue {T = S} first old (Ok x) (Suits c) (after_frees c) → MakesQueue old new r (CanPut c.jobs) (with_puts c.jobs) → MakesQueue first new r (Suits c) (after_jobs c)
+  jobs_put yet made = made_then (after_frees c) yet made (λ w suits. record {
+    summable = sound_summable w suits.sound;
+    formed = formed_entries w.jobs suits.sound.entries;
+    amounts = jobs_fit c.jobs suits.within.jobs;
+    few = few_made c w suits.made;
+  })
 
-  pub jobs_put : Moves c (after_frees c) first old → StaysInside {T = T} {E = E} old new (Ok x)
-      → (HasCleanDisk new → (w : World) → IsSummable w.jobs → length (fold with_row w.jobs c.jobs) ≤ 2 ^ 31 → Holds (content_of w) old → IsSummable (fold with_row w.jobs c.jobs) × Holds (content_of (with_puts c.jobs w)) new)
-      → Moves c (after_jobs c) first new
-  jobs_put m stays done = onward m stays (λ clean w suits has. (done clean (after_frees c w) (sound_summable w suits.sound) (few_made c w suits.made) has).1)
+  pub document_added : MakesQueue {T = S} first old (Ok x) (Suits c) (after_jobs c) → MakesQueue old new r (λ w. IfSome c.document (λ d. CanTake d w)) (with_added c.document) → MakesQueue first new r (Suits c) (after_document c)
+  document_added yet made = made_then (after_jobs c) yet made (λ w suits. takes_document c w suits.sound suits.within suits.made)
 
-  pub document_added : Moves c (after_jobs c) first old → StaysInside {T = T} {E = E} old new (Ok x)
-      → (HasCleanDisk new → (w : World) → AreDistinct w.jobs → IfSome c.document (λ d. CanTake d w) → Holds (content_of w) old → Holds (content_of (with_added c.document w)) new)
-      → Moves c (after_document c) first new
-  document_added m stays done = onward m stays (λ clean w suits. done clean (after_jobs c w) (distinct_made c w suits.sound) (takes_document c w suits.within suits.made))
+  pub grants_added : MakesQueue {T = S} first old (Ok x) (Suits c) (after_document c) → MakesQueue old new r (CanGrant c.grants) (with_grants c.grants) → MakesQueue first new r (Suits c) (after_grants c)
+  grants_added yet made = made_then (after_document c) yet made (λ w suits. record { fresh = suits.grants; accounts = have_accounts c w suits.made })
 
-  pub grants_added : Moves c (after_document c) first old → StaysInside {T = T} {E = E} old new (Ok x)
-      → (HasCleanDisk new → (w : World) → AreNew w.grants c.grants → Holds (content_of w) old → Holds (content_of (with_grants c.grants w)) new)
-      → Moves c (after_grants c) first new
-  grants_added m stays done = onward m stays (λ clean w suits. done clean (after_document c w) suits.grants)
+  pub report_kept : MakesQueue {T = S} first old (Ok x) (Suits c) (after_grants c) → MakesQueue old new r (λ w. IfSome c.report (λ k. CanKeep k w)) (with_kept c.report) → MakesQueue first new r (Suits c) (after_report c)
+  report_kept yet made = made_then (after_grants c) yet made (λ w suits. keeps_report c w suits.sound suits.made suits.report)
 
-  pub report_kept : Moves c (after_grants c) first old → StaysInside {T = T} {E = E} old new (Ok x)
-      → (HasCleanDisk new → (w : World) → IfSome c.report (λ k. get w.reports (k.report.job, k.report.seq) ≡ None) → Holds (content_of w) old → Holds (content_of (with_kept c.report w)) new)
-      → Moves c (after_report c) first new
-  report_kept m stays done = onward m stays (λ clean w suits. done clean (after_grants c w) suits.report)
+  pub next_put : MakesQueue {T = S} first old (Ok x) (Suits c) (after_report c) → MakesQueue old new r (λ w. ⊤) (λ w. with_next (unwrap_or c.next w.next) w) → MakesQueue first new r (Suits c) (made_on c)
+  next_put yet made = made_then (after_report c) yet made (λ w suits. tt)

@@ -17,7 +17,7 @@ use Rattle.queue_core.specs.Sound.{IsKept, IsSound, IsSoundDocument, IsSoundEntr
 use Rattle.queue_core.specs.World.{World, Entry, add_document, grant_cmp, job_at, made_on, put_free, put_grant, rows, with_document, with_report, with_row}
 use Rattle.queue_core.proofs.Maps.{grant_total, own_grant_key, own_report_key, report_total}
 use Rattle.queue_tables.specs.Forms.{AreFormed, IsFormedJob}
-use Rattle.queue_tables.specs.Steps.{AreDistinct, AreReportsKeyed, CanTake, document_count_at, with_frees, with_puts}
+use Rattle.queue_tables.specs.Steps.{AreDistinct, AreReportsKeyed, CanKeep, CanTake, document_count_at, with_added, with_frees, with_grants, with_puts}
 use Rattle.queue_tables.proofs.Documents.{plain_of}
 use Rattle.queue_tables.proofs.Entries.{distinct-fold, distinct_of, rows_in}
 use Rattle.queue_tables.proofs.Formed.{formed_job}
@@ -34,7 +34,7 @@ amounts_of_job j sound = record { impressions = sound.impressions; copies = soun
 pub jobs_fit : (js : List Job) → All IsSoundJob js → All (λ j. AreAmounts j × IsFormedJob j) js
 jobs_fit js sound = λ k d below. (amounts_of_job (get_or js k d) (sound k d below), formed_job (get_or js k d) (sound k d below))
 
-pub distinct_made : (c : Change) (w : World) → IsSound w → AreDistinct (fold with_row w.jobs c.jobs)
+distinct_made : (c : Change) (w : World) → IsSound w → AreDistinct (fold with_row w.jobs c.jobs)
 distinct_made c w sound = distinct-fold c.jobs w.jobs (distinct_of 1 w.jobs w.next sound.numbers)
 
 -- ---- a job that is put is there
@@ -95,16 +95,16 @@ the_one None there = absurd cc
 the_one (Some x) there = (x, refl)
 
 -- the job of a change's document takes it, once the change's jobs are put
-pub takes_document : (c : Change) (w : World) → IsSoundChange c → IsSound (made_on c w) → IfSome c.document (λ d. CanTake d (with_puts c.jobs (with_frees c.free w)))
-takes_document c w within made = at c.document within.document made.entries
+pub takes_document : (c : Change) (w : World) → IsSound w → IsSoundChange c → IsSound (made_on c w) → IfSome c.document (λ d. CanTake d (with_puts c.jobs (with_frees c.free w)))
+takes_document c w sound within made = at c.document within.document made.entries
   where
     at : (o : Option NewDocument) → IfSome o (λ d. IsSome (job_at d.job c.jobs)) → Each IsSoundEntry (with_document (fold with_row w.jobs c.jobs) o) → IfSome o (λ d. CanTake d (with_puts c.jobs (with_frees c.free w)))
-    at None there sound = tt
-    at (Some d) there sound =
+    at None there sound_with = tt
+    at (Some d) there sound_with =
         let is_there = put_there d.job c.jobs w.jobs there in
-        let fits = within_limits d (fold with_row w.jobs c.jobs) is_there sound in
+        let fits = within_limits d (fold with_row w.jobs c.jobs) is_there sound_with in
         let one = the_one (job_at d.job (rows_in (fold with_row w.jobs c.jobs))) is_there in
-        record { job = one.0; there = one.1; few = fits.0; short = fits.1 }
+        record { distinct = distinct_made c w sound; job = one.0; there = one.1; few = fits.0; short = fits.1 }
 
 -- ---- the grants
 
@@ -133,24 +133,25 @@ have_accounts c w made = λ k d below.
 
 -- ---- the report
 
-pub keeps_report : (c : Change) (w : World) → IsSound (made_on c w) → IfSome c.report (λ k. get w.reports (k.report.job, k.report.seq) ≡ None)
-    → IfSome c.report (λ k. (get w.reports (k.report.job, k.report.seq) ≡ None) × IsSome (job_at k.report.job (rows (made_on c w))))
-keeps_report c w made new = at c.report made.reports new
+-- each report of a sound world is kept under its job and sequence number
+keyed_reports : (w : World) → IsSound w → AreReportsKeyed w
+keyed_reports w sound = λ job seq. at job seq (get w.reports (job, seq)) (sound.reports job seq)
+  where
+    at : (job seq : ℕ) (o : Option KeptReport) → IfSome o (IsKept w job seq) → IfSome o (λ k. (k.report.job ≡ job) × (k.report.seq ≡ seq))
+    at job seq None kept = tt
+    at job seq (Some k) kept = (kept.job, kept.seq)
+
+-- a change's report can be kept, once its jobs, its document and its grants are put
+pub keeps_report : (c : Change) (w : World) → IsSound w → IsSound (made_on c w) → IfSome c.report (λ k. get w.reports (k.report.job, k.report.seq) ≡ None)
+    → IfSome c.report (λ k. CanKeep k (with_grants c.grants (with_added c.document (with_puts c.jobs (with_frees c.free w)))))
+keeps_report c w sound made new = at c.report made.reports new
   where
     at : (o : Option KeptReport) → ((job seq : ℕ) → IfSome (get (with_report w.reports o) (job, seq)) (IsKept (made_on c w) job seq)) → IfSome o (λ k. get w.reports (k.report.job, k.report.seq) ≡ None)
-        → IfSome o (λ k. (get w.reports (k.report.job, k.report.seq) ≡ None) × IsSome (job_at k.report.job (rows (made_on c w))))
+        → IfSome o (λ k. CanKeep k (with_grants c.grants (with_added c.document (with_puts c.jobs (with_frees c.free w)))))
     at None kept new = tt
     at (Some k) kept new =
         let n = k.report.job in
         let m = k.report.seq in
         let found : get (with_report w.reports (Some k)) (n, m) ≡ Some k = get-insert report_total w.reports (n, m) k (n, m) ∙ ap (λ (b : Bool). cond b (Some k) (get w.reports (n, m))) (own_report_key n m) in
         let it : IsKept (made_on c w) n m k = subst (λ (o : Option KeptReport). IfSome o (IsKept (made_on c w) n m)) found (kept n m) in
-        (new, it.there)
-
--- each report of a sound world is kept under its job and sequence number
-pub keyed_reports : (w : World) → IsSound w → AreReportsKeyed w
-keyed_reports w sound = λ job seq. at job seq (get w.reports (job, seq)) (sound.reports job seq)
-  where
-    at : (job seq : ℕ) (o : Option KeptReport) → IfSome o (IsKept w job seq) → IfSome o (λ k. (k.report.job ≡ job) × (k.report.seq ≡ seq))
-    at job seq None kept = tt
-    at job seq (Some k) kept = (kept.job, kept.seq)
+        record { distinct = distinct_of 1 (made_on c w).jobs (made_on c w).next made.numbers; keyed = keyed_reports w sound; fresh = new; there = it.there }

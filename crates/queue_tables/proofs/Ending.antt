@@ -8,8 +8,6 @@ use Rattle.sqlite.specs.Clock.{timed}
 use Rattle.sqlite_resolve.specs.declared.compiled.Compiled.{Compiled}
 use Rattle.sqlite_schema.specs.declared.command.Returning.{Returning}
 use Rattle.sqlite_trees.specs.View.{doubt}
-use Rattle.sqlite_trees.specs.declared.store.Store.{Ghosts}
-use Rattle.sqlite.specs.Held.{Held, state}
 use Rattle.queue_tables.specs.Content.{Content, Holds, HasContent}
 use Rattle.queue_tables.specs.declared.fault.Fault.{Fault}
 use Rattle.queue_tables.specs.declared.fault.Fault.TheVariants.{Damaged}
@@ -31,10 +29,6 @@ committed_holds c old new mode h s = same_holds c old new h s.now_is s.is_open
 
 pub on_ok : {A E : Type 0} (r : Result A E) (P Q : Type 0) → (P → Q) → OnOk r P → OnOk r Q
 on_ok r P Q = on_ok_weaker r
-
--- BEGIN changes no row
-pub begun_holds : {S : Type 0} (g : Ghosts S) (c : Content) (h : Held S) (new : Held S) → new ≡ record h { in_transaction = true } → Holds c (state g h) → Holds c (state g new)
-begun_holds g c h new e has = subst (λ (k : Held _). Holds c (state g k)) (sym e) (record { schema = has.schema; sound = has.sound; rows = has.rows; live = has.live })
 
 pub clean_before : (old new : State) → doubt old.is_clean ≤ doubt new.is_clean → HasCleanDisk new → HasCleanDisk old
 clean_before old new le clean = omega (arith, le, clean)

@@ -1,5 +1,5 @@
 -- What a put row makes of a world's jobs.
-use Rattle.std.proofs.Common.{◌≡◌, inl, inr, ℕ, ◌+◌, ◌*◌, ◌≤◌, ◌<◌, ◌^◌, List, [], ◌∷◌, ◌++◌, map, filter, length, fold, false, ◌==◌, Option, Some, None, refl, sym, ap, subst, ◌∙◌, arith, sum_by}
+use Rattle.std.proofs.Common.{◌≡◌, inl, inr, ℕ, ◌+◌, ◌*◌, ◌≤◌, ◌<◌, List, [], ◌∷◌, ◌++◌, map, filter, length, fold, false, ◌==◌, Option, Some, None, refl, sym, ap, subst, ◌∙◌, arith, sum_by}
 use Rattle.std.specs.List.{AllByRecursion as Each}
 use Rattle.std.specs.Option.{option_map_or}
 use Rattle.std.proofs.lemmas.Bool.{cases_Bool, eqb-true, ne_eqb, eqb-false, or_parts}
@@ -141,9 +141,6 @@ each-fold P (j ∷ js) es those all = each-fold P js (with_row es j) those.1 (ea
 pub distinct-fold : (js : List Job) (es : List Entry) → AreDistinct es → AreDistinct (fold with_row es js)
 distinct-fold [] es d = d
 distinct-fold (j ∷ js) es d = distinct-fold js (with_row es j) (distinct-with_row j es d)
-
-pub summable-with_row : (j : Job) (es : List Entry) → AreAmounts j → IsSummable es → length (with_row es j) ≤ 2 ^ 31 → IsSummable (with_row es j)
-summable-with_row j es it s few = record { distinct = distinct-with_row j es s.distinct; amounts = each-with_row AreAmounts j es it s.amounts; few = few }
 
 amounts_of : (es : List Entry) → Each IsSoundEntry es → Each (λ e. AreAmounts e.row) es
 amounts_of [] all = tt

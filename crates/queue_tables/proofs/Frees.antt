@@ -118,11 +118,12 @@ adds_new a w s none covered has =
 frees_more : (rows : List FreeRow) (k : ℕ) (x : FreeRow) (w : World) → k < length rows → x ≡ get_or rows k x → with_frees (take (k + 1) rows) w ≡ with_free x (with_frees (take k rows) w)
 frees_more rows k x w below is = ap (λ (m : FinMap text_cmp ℤ). record w { free = m }) (fold_more put_free w.free rows k x below ∙ ap (put_free (fold put_free w.free (take k rows))) (sym is))
 
-pub free_more : (rows : List FreeRow) (k : ℕ) (x : FreeRow) (w : World) (s : State) → k < length rows → x ≡ get_or rows k x → AreCovered (with_frees (take k rows) w)
-    → Holds (content_of (with_free x (with_frees (take k rows) w))) s → AreCovered (with_frees (take (k + 1) rows) w) × Holds (content_of (with_frees (take (k + 1) rows) w)) s
-free_more rows k x w s below is covered has =
-    let same = sym (frees_more rows k x w below is) in
-    (subst AreCovered same (covered_more (with_frees (take k rows) w) x covered), subst (λ (v : World). Holds (content_of v) s) same has)
+pub free_more : (rows : List FreeRow) (k : ℕ) (x : FreeRow) (w : World) (s : State) → k < length rows → x ≡ get_or rows k x → Holds (content_of (with_free x (with_frees (take k rows) w))) s → Holds (content_of (with_frees (take (k + 1) rows) w)) s
+free_more rows k x w s below is has = subst (λ (v : World). Holds (content_of v) s) (sym (frees_more rows k x w below is)) has
+
+pub covered_yet : (rows : List FreeRow) (w : World) → AreCovered w → AreCovered (with_frees rows w)
+covered_yet [] w covered = covered
+covered_yet (x ∷ rows) w covered = covered_yet rows (with_free x w) (covered_more w x covered)
 
 -- ---- the next number
 

@@ -1,5 +1,5 @@
 -- One more grant, and one more report.
-use Rattle.std.proofs.Common.{◌≡◌, ℕ, ◌+◌, ◌<◌, List, ◌∷◌, length, fold, take, drop, get_or, Some, None, refl, sym, ap, subst, ◌∙◌, arith, drop-cons, suc}
+use Rattle.std.proofs.Common.{◌≡◌, ℕ, ◌+◌, ◌<◌, List, [], ◌∷◌, length, fold, take, get_or, Some, None, refl, sym, ap, subst, ◌∙◌, arith, zero, suc}
 use Rattle.std.specs.FinMap.{FinMap, get}
 use Rattle.std.proofs.lemmas.List.Sums.{fold_more}
 use Rattle.sqlite.specs.State.{State}
@@ -38,19 +38,15 @@ report_added k w s none has = like_holds (with_report_row (report_values k) (con
 
 -- ---- one grant after another
 
-new_at : (gs : List GrantRow) (k : ℕ) (x : GrantRow) (m : FinMap grant_cmp ℕ) → k < length gs → x ≡ get_or gs k x → AreNew m (drop k gs) → (get m (x.batch, x.account) ≡ None) × AreNew (put_grant m x) (drop (k + 1) gs)
-new_at gs k x m below is new =
-    let next : suc k ≡ k + 1 = omega arith in
-    let split : drop k gs ≡ x ∷ drop (k + 1) gs = subst (λ (n : ℕ). drop k gs ≡ get_or gs k x ∷ drop n gs) next (drop-cons gs k x below) ∙ ap (λ (y : GrantRow). y ∷ drop (k + 1) gs) (sym is) in
-    subst (AreNew m) split new
+pub new_at_turn : (gs : List GrantRow) (k : ℕ) (x : GrantRow) (m : FinMap grant_cmp ℕ) → k < length gs → x ≡ get_or gs k x → AreNew m gs → get (fold put_grant m (take k gs)) (x.batch, x.account) ≡ None
+new_at_turn [] k x m below is new = absurd (omega (arith, below))
+new_at_turn (g ∷ gs) zero x m below is new = subst (λ (y : GrantRow). get m (y.batch, y.account) ≡ None) (sym is) new.0
+new_at_turn (g ∷ gs) (suc k) x m below is new = new_at_turn gs k x (put_grant m g) (omega (arith, below)) is new.1
 
 grants_more : (gs : List GrantRow) (k : ℕ) (x : GrantRow) (w : World) → k < length gs → x ≡ get_or gs k x → with_grants (take (k + 1) gs) w ≡ with_grant x (with_grants (take k gs) w)
 grants_more gs k x w below is = ap (λ (m : FinMap grant_cmp ℕ). record w { grants = m }) (fold_more put_grant w.grants gs k x below ∙ ap (put_grant (fold put_grant w.grants (take k gs))) (sym is))
 
-pub grant_more : (gs : List GrantRow) (k : ℕ) (x : GrantRow) (w : World) (s : State) → k < length gs → x ≡ get_or gs k x → AreNew (fold put_grant w.grants (take k gs)) (drop k gs)
-    → Holds (with_grant_row (grant_values x) (content_of (with_grants (take k gs) w))) s
-    → AreNew (fold put_grant w.grants (take (k + 1) gs)) (drop (k + 1) gs) × Holds (content_of (with_grants (take (k + 1) gs) w)) s
+pub grant_more : (gs : List GrantRow) (k : ℕ) (x : GrantRow) (w : World) (s : State) → k < length gs → x ≡ get_or gs k x → AreNew w.grants gs → Holds (with_grant_row (grant_values x) (content_of (with_grants (take k gs) w))) s
+    → Holds (content_of (with_grants (take (k + 1) gs) w)) s
 grant_more gs k x w s below is new has =
-    let at = new_at gs k x (fold put_grant w.grants (take k gs)) below is new in
-    let same = sym (grants_more gs k x w below is) in
-    (subst (λ (v : World). AreNew v.grants (drop (k + 1) gs)) same at.1, subst (λ (v : World). Holds (content_of v) s) same (grant_added x (with_grants (take k gs) w) s at.0 has))
+    subst (λ (v : World). Holds (content_of v) s) (sym (grants_more gs k x w below is)) (grant_added x (with_grants (take k gs) w) s (new_at_turn gs k x w.grants below is new) has)

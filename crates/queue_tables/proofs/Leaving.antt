@@ -1,5 +1,5 @@
 -- What a SELECT leaves, whatever it shows.
-use Rattle.std.proofs.Common.{◌≡◌, ◌⊎◌, Bool, true, false, not, arith, List, ℕ, Option, None, Some, IsTrue, Result, Ok, Err, IfOk, IfErr, inl, inr, refl, sym, subst, ◌∙◌}
+use Rattle.std.proofs.Common.{◌≡◌, ◌⊎◌, Bool, true, false, not, arith, List, ℕ, Option, None, Some, IsTrue, Result, Ok, Err, IfOk, IfErr, inl, inr, refl, sym, ◌∙◌}
 use Rattle.sqlite.specs.declared.error.Error.{Error}
 use Rattle.sqlite.specs.Given.{HasBegun}
 use Rattle.sqlite.specs.Held.{Held, state}
@@ -86,15 +86,6 @@ none_before leaves clean hold = record {
 -- so it is behind a call of the connection
 pub survives_serves : (old new : State) (Commits : Trees → Type 0) → Survives old new Commits → KeepsServing old new
 survives_serves old new Commits survives = record { limit = survives.limit; counts = survives.counts; closes = survives.closes }
-
--- a transaction, from its begin to behind its end
-pub transaction_serves : {S : Type 0} (g : Ghosts S) (old begun mid new : Held S) (Commits : Trees → Type 0) → begun ≡ record old { in_transaction = true } → KeepsServing (state g begun) (state g mid) → Survives (state g mid) (state g new) Commits
-    → KeepsServing (state g old) (state g new)
-transaction_serves {S} g old begun mid new Commits is within ended =
-    let last = survives_serves (state g mid) (state g new) Commits ended in
-    let whole = serves_then (state g begun) (state g mid) (state g new) (clean_before (state g mid) (state g new) ended.clean) within last in
-    let it : KeepsServing (state g (record old { in_transaction = true })) (state g new) = subst (λ (h : Held S). KeepsServing (state g h) (state g new)) is whole in
-    record { limit = it.limit; counts = it.counts; closes = it.closes }
 
 -- outside a transaction: nothing is changed, or what was begun is undone
 pub left_leaves : (old new : State) → (IsTrue old.is_open → old.now ≡ old.committed) → (HasCleanDisk new → HasCleanDisk old) → (HasCleanDisk new → (db : Trees) → new.may_leave db → old.may_leave db)

@@ -42,6 +42,9 @@ pub mod Standing
 pub mod Updating
 pub mod Renewing
 pub mod Spared
+pub mod Making
+pub mod Replacing
 pub mod Decisions
 pub mod Added
+pub mod Committing
 mod Chain

@@ -1,22 +1,12 @@
 -- What is held while a connection is open.
-use Rattle.std.proofs.Common.{List, ℕ, Bool, true, false, Err, IsTrue, refl}
+use Rattle.std.proofs.Common.{List, ℕ, Err}
 use Rattle.sqlite.specs.Order.{Row}
 use Rattle.sqlite.specs.State.{State, ExecutesInside}
 use Rattle.sqlite_schema.specs.declared.schema.Constraint.{Constraint}
 use Rattle.queue_tables.specs.Content.{Content, Holds, HoldsWhileOpen}
-use Rattle.queue_tables.specs.Leaving.{KeepsBehind}
 use Rattle.queue_tables.specs.Refusing.{IsRefused}
 use Rattle.queue_tables.proofs.Refused.{told, refused_open}
 
 -- where tables with these rows refuse nothing, they had others
 pub held_others : (sql : List ℕ) (params : Row) (old new : State) (c : Content) → (Holds c old → (rule : Constraint) → ¬ ExecutesInside 0 sql params old new (Err (told rule))) → IsRefused sql params old new → ¬ HoldsWhileOpen c old
 held_others sql params old new c never refused holds = never (holds (refused_open sql params old new refused.rule refused.refused)) refused.rule refused.refused
-
--- what was held is held behind a step of the transaction
-pub held_then : {c d : Content} {old new : State} → KeepsBehind old new → (Holds c old → Holds d new) → HoldsWhileOpen c old → HoldsWhileOpen d new
-held_then kept step held = λ is_open. step (held (kept.was_open is_open))
-
--- what can't be shut is open
-pub open_unless_shut : (b : Bool) → ((IsTrue b → ⊥) → ⊥) → IsTrue b
-open_unless_shut true never = refl
-open_unless_shut false never = absurd (never (λ t. absurd cc))

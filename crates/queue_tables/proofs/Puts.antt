@@ -204,7 +204,7 @@ module _ (j was : Job) (w : World) (s : IsSummable w.jobs) (there : job_at j.num
 
 -- ---- one job after another
 
-pub next_put : (js : List Job) (k : ℕ) (x : Job) (es : List Entry) → k < length js → x ≡ get_or js k x → fold with_row es (take (k + 1) js) ≡ with_row (fold with_row es (take k js)) x
+next_put : (js : List Job) (k : ℕ) (x : Job) (es : List Entry) → k < length js → x ≡ get_or js k x → fold with_row es (take (k + 1) js) ≡ with_row (fold with_row es (take k js)) x
 next_put js k x es below is = fold_more with_row es js k x below ∙ ap (with_row (fold with_row es (take k js))) (sym is)
 
 pub few_yet : (js : List Job) (k : ℕ) (es : List Entry) → length (fold with_row es (take k js)) ≤ length (fold with_row es js)
@@ -212,9 +212,8 @@ few_yet js k es =
     subst (λ (n : List Entry). length (fold with_row es (take k js)) ≤ length n)
     (sym (fold-append with_row es (take k js) (drop k js)) ∙ ap (fold with_row es) (take-append-drop k js)) (length-fold (drop k js) (fold with_row es (take k js)))
 
-pub put_more : (js : List Job) (k : ℕ) (x : Job) (w : World) (s : State) → k < length js → x ≡ get_or js k x
-    → IsSummable (with_row (fold with_row w.jobs (take k js)) x) × Holds (content_of (with_put x (with_puts (take k js) w))) s → IsSummable (fold with_row w.jobs (take (k + 1) js)) × Holds (content_of (with_puts (take (k + 1) js) w)) s
-put_more js k x w s below is it = subst (λ (es : List Entry). IsSummable es × Holds (content_of (record w { jobs = es })) s) (sym (next_put js k x w.jobs below is)) it
+pub put_more : (js : List Job) (k : ℕ) (x : Job) (w : World) (s : State) → k < length js → x ≡ get_or js k x → Holds (content_of (with_put x (with_puts (take k js) w))) s → Holds (content_of (with_puts (take (k + 1) js) w)) s
+put_more js k x w s below is has = subst (λ (es : List Entry). Holds (content_of (record w { jobs = es })) s) (sym (next_put js k x w.jobs below is)) has
 
 pub few_more : (js : List Job) (k : ℕ) (x : Job) (es : List Entry) → k < length js → x ≡ get_or js k x → length (fold with_row es js) ≤ 2147483648 → length (with_row (fold with_row es (take k js)) x) ≤ 2147483648
 few_more js k x es below is few =

@@ -11,5 +11,6 @@ pub mod Reads
 pub mod Leaving
 pub mod Telling
 pub mod Refusing
+pub mod Making
 pub mod Accounts
 pub mod Sizes

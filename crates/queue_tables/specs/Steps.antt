@@ -1,5 +1,5 @@
 -- What single statements make of the rows, and the worlds that the tables show between them. Those need not be sound.
-use Rattle.std.specs.Prelude.{◌≡◌, ◌⊎◌, ℕ, ℤ, ◌+ℤ◌, ◌≤◌, ◌<◌, ◌^◌, List, [], ◌∷◌, ◌++◌, Option, Some, None, IfSome, ⊤, Bool, true, false, ◌==◌, ◌&&◌, length, map, filter, fold, if◌then◌else◌}
+use Rattle.std.specs.Prelude.{◌≡◌, ◌⊎◌, All, IsSome, ℕ, ℤ, ◌+ℤ◌, ◌≤◌, ◌<◌, ◌^◌, List, [], ◌∷◌, ◌++◌, Option, Some, None, IfSome, ⊤, Bool, true, false, ◌==◌, ◌&&◌, length, map, filter, fold, if◌then◌else◌}
 use Rattle.std.specs.List.{range_with_len, AllByRecursion as Each}
 use Rattle.std.specs.FinMap.{get}
 use Rattle.sqlite.specs.declared.types.Value.{Value}
@@ -13,7 +13,7 @@ use Rattle.queue_types.specs.declared.job.Job.{Job}
 use Rattle.queue_types.specs.declared.event.FreeRow.{FreeRow}
 use Rattle.queue_types.specs.declared.event.GrantRow.{GrantRow}
 use Rattle.queue_types.specs.declared.event.KeptReport.{KeptReport}
-use Rattle.queue_core.specs.World.{World, Entry, has_number, job_at, rows, with_row, put_free, put_grant, with_report, with_document}
+use Rattle.queue_core.specs.World.{World, Entry, AreNew, has_number, job_at, rows, with_row, put_free, put_grant, with_report, with_document}
 use Rattle.queue_types.specs.Event.{NewDocument}
 use Rattle.queue_core.specs.Balance.{AreAmounts}
 use Rattle.queue_core.specs.Sound.{reserved, printed}
@@ -21,6 +21,7 @@ use Rattle.queue_rows.specs.Pieces.{piece_at}
 use Rattle.queue_tables.specs.Kept.{replaced}
 use Rattle.queue_tables.specs.Values.{number, job_values, piece_values, account_values}
 use Rattle.queue_tables.specs.Content.{Content}
+use Rattle.queue_tables.specs.Forms.{AreFormed, IsFormedJob}
 
 -- ---- a new row
 
@@ -74,6 +75,12 @@ is_granted batch account v = is_true (binary (Compare Eq Binary) (column v 0) (W
 
 abbrev pub with_job_anew : Job → Content → Content
 with_job_anew j c = record c { jobs = replaced (is_numbered j.number) (λ v. job_values j) c.jobs }
+
+-- one row has the number, and it is a job's
+pub record HasJob (n : ℕ) (c : Content) : Type 0 where
+  pub job : Job
+  pub once : filter (is_numbered n) c.jobs ≡ job_values job ∷ []
+  pub numbered : job.number ≡ n
 
 -- the account has one row
 pub record HasAccount (name : List ℕ) (c : Content) : Type 0 where
@@ -157,9 +164,29 @@ abbrev pub document_count_at : ℕ → List Entry → ℕ
 document_count_at n [] = 0
 document_count_at n (e ∷ es) = if e.row.number == n then length e.documents else document_count_at n es
 
--- its job is there, with fewer than sixteen documents, and it is no longer than one may be
+-- no number stands twice, its job is there, with fewer than sixteen documents, and it is no longer than one may be
 pub record CanTake (d : NewDocument) (w : World) : Type 0 where
+  pub distinct : AreDistinct w.jobs
   pub job : Job
   pub there : job_at d.job (rows w) ≡ Some job
   pub few : document_count_at d.job w.jobs < 16
   pub short : length d.bytes ≤ 16777216
+
+-- the code can hold the rows of the jobs, and their sums stay within 64 bits; and so it is with these jobs put
+pub record CanPut (js : List Job) (w : World) : Type 0 where
+  pub summable : IsSummable w.jobs
+  pub formed : AreFormed w.jobs
+  pub amounts : All (λ j. AreAmounts j × IsFormedJob j) js
+  pub few : length (fold with_row w.jobs js) ≤ 2 ^ 31
+
+-- the accounts of the grants are there, and none of the grants is
+pub record CanGrant (gs : List GrantRow) (w : World) : Type 0 where
+  pub fresh : AreNew w.grants gs
+  pub accounts : All (λ g. IsSome (get w.free g.account)) gs
+
+-- no number stands twice, reports stand under their jobs and sequence numbers, its job is there, and none is kept under its own
+pub record CanKeep (k : KeptReport) (w : World) : Type 0 where
+  pub distinct : AreDistinct w.jobs
+  pub keyed : AreReportsKeyed w
+  pub fresh : get w.reports (k.report.job, k.report.seq) ≡ None
+  pub there : IsSome (job_at k.report.job (rows w))

@@ -1,17 +1,18 @@
 //! The statements on accounts.
-ghost use Rattle.std.specs.Prelude.{◌≡◌, ◌≢◌, OnOk, IfOk, None, pos, filter, []};
+ghost use Rattle.std.specs.Prelude.{◌≡◌, ◌≢◌, IsTrue, OnOk, IfOk, None, pos, filter, []};
 ghost use Rattle.std.specs.FinMap.{get};
 ghost use Rattle.sqlite.specs.State.{HasCleanDisk};
 ghost use Rattle.sqlite.specs.Held.{state};
 ghost use Rattle.queue_core.specs.World.{World};
-ghost use Rattle.queue_tables.specs.Content.{Content, Holds, content_of, HoldsWhileOpen};
+ghost use Rattle.queue_tables.specs.Making.{MakesQueue, MakesRows};
+ghost use Rattle.queue_tables.specs.Content.{Holds, content_of, HoldsWhileOpen};
 ghost use Rattle.queue_tables.specs.Leaving.{StaysInside};
 ghost use Rattle.queue_tables.specs.Steps.{AreCovered, CanAdd, with_account_row, with_free, with_frees, with_sums, is_named};
 ghost use Rattle.queue_tables.specs.Values.{account_values};
 ghost use Rattle.queue_tables.specs.Refusing.{DamagedOnlyWhere};
 
 use crate::fault::Fault;
-use crate::run::{insert, run};
+use crate::run::{insert, run, write};
 use queue_types::event::FreeRow;
 use sqlite::{Alter, Transaction, params};
 
@@ -29,40 +30,35 @@ pub(crate) fn add_to_sums<S: Alter>(
     more: SumChange,
 ) -> Result<(), Fault>
     ensures same_reference { tx.new.conn.ghost_name ≡ tx.old.conn.ghost_name }
-    ensures stays { StaysInside (state S.Store tx.old.conn.now) (state S.Store tx.new.conn.now) result }
-    ensures done { HasCleanDisk (state S.Store tx.new.conn.now) → OnOk result ((c : Content) → Holds c (state S.Store tx.old.conn.now) → CanAdd name.now more.reserved more.printed c → Holds (with_sums name.now more.reserved more.printed c) (state S.Store tx.new.conn.now)) }
-    ensures damaged { DamagedOnlyWhere (state S.Store tx.old.conn.now) (state S.Store tx.new.conn.now) result ((c : Content) → CanAdd name.now more.reserved more.printed c → ¬ HoldsWhileOpen c (state S.Store tx.old.conn.now)) }
+    ensures made { MakesRows (state S.Store tx.old.conn.now) (state S.Store tx.new.conn.now) result (CanAdd name.now more.reserved more.printed) (with_sums name.now more.reserved more.printed) }
 {
     if more.reserved == 0 && more.printed == 0 {
         return Ok(());
     }
-    run(
+    write(
         tx,
         "UPDATE accounts SET reserved = reserved + ?2, printed = printed + ?3 WHERE name = ?1",
         params![name, &more.reserved, &more.printed],
-    )?;
-    Ok(())
+    )
 }
 
 /// Adds an account whose owner has no pages reserved or printed.
 fn insert_account<S: Alter>(tx: &mut Transaction<'_, S>, account: &FreeRow) -> Result<(), Fault>
     ensures same_reference { tx.new.conn.ghost_name ≡ tx.old.conn.ghost_name }
-    ensures stays { StaysInside (state S.Store tx.old.conn.now) (state S.Store tx.new.conn.now) result }
-    ensures done { HasCleanDisk (state S.Store tx.new.conn.now) → OnOk result ((c : Content) → Holds c (state S.Store tx.old.conn.now) → Holds (with_account_row (account_values account.now.account account.now.free (pos 0) (pos 0)) c) (state S.Store tx.new.conn.now)) }
-    ensures damaged { DamagedOnlyWhere (state S.Store tx.old.conn.now) (state S.Store tx.new.conn.now) result ((c : Content) → filter (is_named account.now.account) c.accounts ≡ [] → ¬ HoldsWhileOpen c (state S.Store tx.old.conn.now)) }
+    ensures made { MakesRows (state S.Store tx.old.conn.now) (state S.Store tx.new.conn.now) result (λ c. filter (is_named account.now.account) c.accounts ≡ []) (with_account_row (account_values account.now.account account.now.free (pos 0) (pos 0))) }
 {
     insert(
         tx,
         "INSERT INTO accounts (name, free, reserved, printed) VALUES (?1, ?2, ?3, ?4)",
         params![account.account.as_str(), &account.free, 0i64, 0i64],
-    )?;
-    Ok(())
+    )
 }
 
 /// Puts the free pages of an account, where it is there, and tells how many rows that are.
 fn update_free<S: Alter>(tx: &mut Transaction<'_, S>, account: &FreeRow) -> Result<usize, Fault>
     ensures same_reference { tx.new.conn.ghost_name ≡ tx.old.conn.ghost_name }
     ensures stays { StaysInside (state S.Store tx.old.conn.now) (state S.Store tx.new.conn.now) result }
+    ensures live { HasCleanDisk (state S.Store tx.new.conn.now) → OnOk result (IsTrue (state S.Store tx.new.conn.now).is_open) }
     ensures put { HasCleanDisk (state S.Store tx.new.conn.now) → IfOk result (λ count. (w : World) → Holds (content_of w) (state S.Store tx.old.conn.now) → count ≢ 0 → Holds (content_of (with_free account.now w)) (state S.Store tx.new.conn.now)) }
     ensures lacking { HasCleanDisk (state S.Store tx.new.conn.now) → IfOk result (λ count. (w : World) → Holds (content_of w) (state S.Store tx.old.conn.now) → count ≡ 0 → (get w.free account.now.account ≡ None) × Holds (content_of w) (state S.Store tx.new.conn.now)) }
     ensures damaged { DamagedOnlyWhere (state S.Store tx.old.conn.now) (state S.Store tx.new.conn.now) result ((w : World) → ¬ HoldsWhileOpen (content_of w) (state S.Store tx.old.conn.now)) }
@@ -77,9 +73,7 @@ fn update_free<S: Alter>(tx: &mut Transaction<'_, S>, account: &FreeRow) -> Resu
 /// Puts the free pages of an account, or adds it where it is not there.
 fn put_free<S: Alter>(tx: &mut Transaction<'_, S>, account: &FreeRow) -> Result<(), Fault>
     ensures same_reference { tx.new.conn.ghost_name ≡ tx.old.conn.ghost_name }
-    ensures stays { StaysInside (state S.Store tx.old.conn.now) (state S.Store tx.new.conn.now) result }
-    ensures done { HasCleanDisk (state S.Store tx.new.conn.now) → OnOk result ((w : World) → AreCovered w → Holds (content_of w) (state S.Store tx.old.conn.now) → Holds (content_of (with_free account.now w)) (state S.Store tx.new.conn.now)) }
-    ensures damaged { DamagedOnlyWhere (state S.Store tx.old.conn.now) (state S.Store tx.new.conn.now) result ((w : World) → ¬ HoldsWhileOpen (content_of w) (state S.Store tx.old.conn.now)) }
+    ensures made { MakesQueue (state S.Store tx.old.conn.now) (state S.Store tx.new.conn.now) result AreCovered (with_free account.now) }
 {
     let count = update_free(tx, account)?;
     if count > 0 {
@@ -94,9 +88,7 @@ pub(crate) fn put_frees<S: Alter>(
     accounts: &[FreeRow],
 ) -> Result<(), Fault>
     ensures same_reference { tx.new.conn.ghost_name ≡ tx.old.conn.ghost_name }
-    ensures stays { StaysInside (state S.Store tx.old.conn.now) (state S.Store tx.new.conn.now) result }
-    ensures done { HasCleanDisk (state S.Store tx.new.conn.now) → OnOk result ((w : World) → AreCovered w → Holds (content_of w) (state S.Store tx.old.conn.now) → Holds (content_of (with_frees accounts.now w)) (state S.Store tx.new.conn.now)) }
-    ensures damaged { DamagedOnlyWhere (state S.Store tx.old.conn.now) (state S.Store tx.new.conn.now) result ((w : World) → AreCovered w → ¬ HoldsWhileOpen (content_of w) (state S.Store tx.old.conn.now)) }
+    ensures made { MakesQueue (state S.Store tx.old.conn.now) (state S.Store tx.new.conn.now) result AreCovered (with_frees accounts.now) }
 {
     for account in accounts {
         put_free(tx, account)?;

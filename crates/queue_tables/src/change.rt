@@ -1,16 +1,12 @@
 //! The tables after a decision.
-ghost use Rattle.std.specs.Prelude.{◌≡◌, OnOk, IfSome, None, option_map, unwrap_or, IsSome};
-ghost use Rattle.std.specs.FinMap.{get};
-ghost use Rattle.sqlite.specs.State.{HasCleanDisk};
+ghost use Rattle.std.specs.Prelude.{◌≡◌, IfSome, option_map, unwrap_or, ⊤};
 ghost use Rattle.sqlite.specs.Held.{state};
 ghost use Rattle.queue_core.specs.Book.{IsDecisionOn};
 ghost use Rattle.queue_types.specs.Event.{change_of, decision_of, document_of};
 ghost use Rattle.queue_core.specs.Sound.{IsSound};
-ghost use Rattle.queue_core.specs.World.{World, made_on, job_at, rows};
-ghost use Rattle.queue_tables.specs.Content.{Holds, content_of, HoldsWhileOpen};
-ghost use Rattle.queue_tables.specs.Leaving.{StaysInside};
-ghost use Rattle.queue_tables.specs.Steps.{AreDistinct, AreReportsKeyed, with_added, with_kept, with_next, CanTake};
-ghost use Rattle.queue_tables.specs.Refusing.{DamagedOnlyWhere};
+ghost use Rattle.queue_core.specs.World.{made_on};
+ghost use Rattle.queue_tables.specs.Making.{MakesQueue};
+ghost use Rattle.queue_tables.specs.Steps.{CanKeep, CanTake, with_added, with_kept, with_next};
 
 use crate::account_rows::put_frees;
 use crate::document_rows::put_document;
@@ -30,9 +26,7 @@ fn put_any_document<S: Alter>(
     document: &Option<NewDocument<'_>>,
 ) -> Result<(), Fault>
     ensures same_reference { tx.new.conn.ghost_name ≡ tx.old.conn.ghost_name }
-    ensures stays { StaysInside (state S.Store tx.old.conn.now) (state S.Store tx.new.conn.now) result }
-    ensures done { HasCleanDisk (state S.Store tx.new.conn.now) → OnOk result ((w : World) → AreDistinct w.jobs → IfSome (option_map document_of document.now) (λ d. CanTake d w) → Holds (content_of w) (state S.Store tx.old.conn.now) → Holds (content_of (with_added (option_map document_of document.now) w)) (state S.Store tx.new.conn.now)) }
-    ensures damaged { DamagedOnlyWhere (state S.Store tx.old.conn.now) (state S.Store tx.new.conn.now) result ((w : World) → AreDistinct w.jobs → IfSome (option_map document_of document.now) (λ d. CanTake d w) → ¬ HoldsWhileOpen (content_of w) (state S.Store tx.old.conn.now)) }
+    ensures made { MakesQueue (state S.Store tx.old.conn.now) (state S.Store tx.new.conn.now) result (λ w. IfSome (option_map document_of document.now) (λ d. CanTake d w)) (with_added (option_map document_of document.now)) }
 {
     match document {
         Some(d) => put_document(tx, d),
@@ -46,9 +40,7 @@ fn put_any_report<S: Alter>(
     report: Option<KeptReport>,
 ) -> Result<(), Fault>
     ensures same_reference { tx.new.conn.ghost_name ≡ tx.old.conn.ghost_name }
-    ensures stays { StaysInside (state S.Store tx.old.conn.now) (state S.Store tx.new.conn.now) result }
-    ensures done { HasCleanDisk (state S.Store tx.new.conn.now) → OnOk result ((w : World) → IfSome report (λ k. get w.reports (k.report.job, k.report.seq) ≡ None) → Holds (content_of w) (state S.Store tx.old.conn.now) → Holds (content_of (with_kept report w)) (state S.Store tx.new.conn.now)) }
-    ensures damaged { DamagedOnlyWhere (state S.Store tx.old.conn.now) (state S.Store tx.new.conn.now) result ((w : World) → AreDistinct w.jobs → AreReportsKeyed w → IfSome report (λ k. (get w.reports (k.report.job, k.report.seq) ≡ None) × IsSome (job_at k.report.job (rows w))) → ¬ HoldsWhileOpen (content_of w) (state S.Store tx.old.conn.now)) }
+    ensures made { MakesQueue (state S.Store tx.old.conn.now) (state S.Store tx.new.conn.now) result (λ w. IfSome report (λ k. CanKeep k w)) (with_kept report) }
 {
     match report {
         Some(kept) => insert_report(tx, &kept),
@@ -59,9 +51,7 @@ fn put_any_report<S: Alter>(
 /// Puts the number of the next new job, where there is one.
 fn put_any_next<S: Alter>(tx: &mut Transaction<'_, S>, next: Option<u32>) -> Result<(), Fault>
     ensures same_reference { tx.new.conn.ghost_name ≡ tx.old.conn.ghost_name }
-    ensures stays { StaysInside (state S.Store tx.old.conn.now) (state S.Store tx.new.conn.now) result }
-    ensures done { HasCleanDisk (state S.Store tx.new.conn.now) → OnOk result ((w : World) → Holds (content_of w) (state S.Store tx.old.conn.now) → Holds (content_of (with_next (unwrap_or next w.next) w)) (state S.Store tx.new.conn.now)) }
-    ensures damaged { DamagedOnlyWhere (state S.Store tx.old.conn.now) (state S.Store tx.new.conn.now) result ((w : World) → ¬ HoldsWhileOpen (content_of w) (state S.Store tx.old.conn.now)) }
+    ensures made { MakesQueue (state S.Store tx.old.conn.now) (state S.Store tx.new.conn.now) result (λ w. ⊤) (λ w. with_next (unwrap_or next w.next) w) }
 {
     match next {
         Some(n) => update_next(tx, n),
@@ -76,9 +66,7 @@ pub(crate) fn write_change<S: Alter>(
     decision: &Decision<'_>,
 ) -> Result<(), Fault>
     ensures same_reference { tx.new.conn.ghost_name ≡ tx.old.conn.ghost_name }
-    ensures stays { StaysInside (state S.Store tx.old.conn.now) (state S.Store tx.new.conn.now) result }
-    ensures made { HasCleanDisk (state S.Store tx.new.conn.now) → OnOk result ((w : World) → IsSound w → IsDecisionOn w (decision_of decision.now) → Holds (content_of w) (state S.Store tx.old.conn.now) → Holds (content_of (made_on (change_of decision.now.change) w)) (state S.Store tx.new.conn.now)) }
-    ensures damaged { DamagedOnlyWhere (state S.Store tx.old.conn.now) (state S.Store tx.new.conn.now) result ((w : World) → IsSound w → IsDecisionOn w (decision_of decision.now) → ¬ HoldsWhileOpen (content_of w) (state S.Store tx.old.conn.now)) }
+    ensures made { MakesQueue (state S.Store tx.old.conn.now) (state S.Store tx.new.conn.now) result (λ w. IsSound w × IsDecisionOn w (decision_of decision.now)) (made_on (change_of decision.now.change)) }
 {
     decisions_are_sound();
     put_frees(tx, decision.change.free.as_slice())?;

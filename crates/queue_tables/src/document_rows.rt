@@ -1,15 +1,12 @@
 //! The statements on documents.
-ghost use Rattle.std.specs.Prelude.{◌≡◌, ◌≤◌, ◌<◌, ◌+◌, IfOk, OnOk, Some, length, filter, []};
-ghost use Rattle.sqlite.specs.State.{HasCleanDisk};
+ghost use Rattle.std.specs.Prelude.{◌≡◌, ◌≤◌, ◌<◌, ◌+◌, IfOk, Some, length, filter, []};
 ghost use Rattle.sqlite.specs.Held.{state};
 ghost use Rattle.queue_types.specs.Event.{document_of};
-ghost use Rattle.queue_core.specs.World.{World};
-ghost use Rattle.queue_tables.specs.Content.{Content, Holds, content_of, HoldsWhileOpen};
-ghost use Rattle.queue_tables.specs.Leaving.{StaysInside};
+ghost use Rattle.queue_tables.specs.Making.{MakesQueue, MakesRows};
+ghost use Rattle.queue_tables.specs.Telling.{ReadsQueueInside};
 ghost use Rattle.queue_tables.specs.Steps.{AreDistinct, document_count_at, with_added, with_document_row, CanTake, are_numbered, is_numbered};
 ghost use Rattle.queue_tables.specs.Values.{document_values};
 ghost use Rattle.queue_tables.specs.Kept.{HasOne};
-ghost use Rattle.queue_tables.specs.Refusing.{DamagedOnlyWhere};
 
 use crate::fault::Fault;
 use crate::piece_rows::insert_pieces;
@@ -26,9 +23,7 @@ fn insert_document<S: Alter>(
     document: &DocumentRow,
 ) -> Result<(), Fault>
     ensures same_reference { tx.new.conn.ghost_name ≡ tx.old.conn.ghost_name }
-    ensures stays { StaysInside (state S.Store tx.old.conn.now) (state S.Store tx.new.conn.now) result }
-    ensures done { HasCleanDisk (state S.Store tx.new.conn.now) → OnOk result ((c : Content) → Holds c (state S.Store tx.old.conn.now) → Holds (with_document_row (document_values document.now) c) (state S.Store tx.new.conn.now)) }
-    ensures damaged { DamagedOnlyWhere (state S.Store tx.old.conn.now) (state S.Store tx.new.conn.now) result ((c : Content) → HasOne (is_numbered document.now.job) c.jobs → filter (are_numbered document.now.job document.now.doc) c.documents ≡ [] → ¬ HoldsWhileOpen c (state S.Store tx.old.conn.now)) }
+    ensures made { MakesRows (state S.Store tx.old.conn.now) (state S.Store tx.new.conn.now) result (λ c. HasOne (is_numbered document.now.job) c.jobs × (filter (are_numbered document.now.job document.now.doc) c.documents ≡ [])) (with_document_row (document_values document.now)) }
 {
     insert(
         tx,
@@ -39,18 +34,15 @@ fn insert_document<S: Alter>(
             document.format.name(),
             document.octets
         ],
-    )?;
-    Ok(())
+    )
 }
 
 /// How many documents the job of that number has, where it may have one more. They are damaged where there are as many as a job
 /// may have.
 fn count_documents<S: Alter>(tx: &mut Transaction<'_, S>, job: u32) -> Result<u32, Fault>
     ensures same_reference { tx.new.conn.ghost_name ≡ tx.old.conn.ghost_name }
-    ensures stays { StaysInside (state S.Store tx.old.conn.now) (state S.Store tx.new.conn.now) result }
     ensures few { IfOk result (λ n. n < 16) }
-    ensures counted { HasCleanDisk (state S.Store tx.new.conn.now) → IfOk result (λ n. (w : World) → AreDistinct w.jobs → Holds (content_of w) (state S.Store tx.old.conn.now) → (n ≡ document_count_at job w.jobs) × Holds (content_of w) (state S.Store tx.new.conn.now)) }
-    ensures damaged { DamagedOnlyWhere (state S.Store tx.old.conn.now) (state S.Store tx.new.conn.now) result ((w : World) → AreDistinct w.jobs → document_count_at job w.jobs < 16 → ¬ HoldsWhileOpen (content_of w) (state S.Store tx.old.conn.now)) }
+    ensures reads { ReadsQueueInside (state S.Store tx.old.conn.now) (state S.Store tx.new.conn.now) result (λ w. AreDistinct w.jobs × (document_count_at job w.jobs < 16)) (λ w n. n ≡ document_count_at job w.jobs) }
 {
     let found = select_inside(
         tx,
@@ -72,9 +64,7 @@ fn add_document<S: Alter>(
 ) -> Result<(), Fault>
     requires { length bytes.now ≤ 16777216 }
     ensures same_reference { tx.new.conn.ghost_name ≡ tx.old.conn.ghost_name }
-    ensures stays { StaysInside (state S.Store tx.old.conn.now) (state S.Store tx.new.conn.now) result }
-    ensures done { HasCleanDisk (state S.Store tx.new.conn.now) → OnOk result ((w : World) → AreDistinct w.jobs → CanTake (record { job = job; format = format; bytes = bytes.now }) w → Holds (content_of w) (state S.Store tx.old.conn.now) → Holds (content_of (with_added (Some (record { job = job; format = format; bytes = bytes.now })) w)) (state S.Store tx.new.conn.now)) }
-    ensures damaged { DamagedOnlyWhere (state S.Store tx.old.conn.now) (state S.Store tx.new.conn.now) result ((w : World) → AreDistinct w.jobs → CanTake (record { job = job; format = format; bytes = bytes.now }) w → ¬ HoldsWhileOpen (content_of w) (state S.Store tx.old.conn.now)) }
+    ensures made { MakesQueue (state S.Store tx.old.conn.now) (state S.Store tx.new.conn.now) result (CanTake (record { job = job; format = format; bytes = bytes.now })) (with_added (Some (record { job = job; format = format; bytes = bytes.now }))) }
 {
     let doc = count_documents(tx, job)? + 1;
     let row = DocumentRow {
@@ -93,9 +83,7 @@ pub(crate) fn put_document<S: Alter>(
     document: &NewDocument<'_>,
 ) -> Result<(), Fault>
     ensures same_reference { tx.new.conn.ghost_name ≡ tx.old.conn.ghost_name }
-    ensures stays { StaysInside (state S.Store tx.old.conn.now) (state S.Store tx.new.conn.now) result }
-    ensures done { HasCleanDisk (state S.Store tx.new.conn.now) → OnOk result ((w : World) → AreDistinct w.jobs → CanTake (document_of document.now) w → Holds (content_of w) (state S.Store tx.old.conn.now) → Holds (content_of (with_added (Some (document_of document.now)) w)) (state S.Store tx.new.conn.now)) }
-    ensures damaged { DamagedOnlyWhere (state S.Store tx.old.conn.now) (state S.Store tx.new.conn.now) result ((w : World) → AreDistinct w.jobs → CanTake (document_of document.now) w → ¬ HoldsWhileOpen (content_of w) (state S.Store tx.old.conn.now)) }
+    ensures made { MakesQueue (state S.Store tx.old.conn.now) (state S.Store tx.new.conn.now) result (CanTake (document_of document.now)) (with_added (Some (document_of document.now))) }
 {
     if document.bytes.len() > MOST_DOCUMENT_OCTETS as usize {
         return Err(Fault::Damaged);

@@ -1,20 +1,17 @@
 //! The statements on jobs.
-ghost use Rattle.std.specs.Prelude.{◌≡◌, OnOk, IfOk, IsTrue, filter, option_map, [], ◌∷◌};
-ghost use Rattle.sqlite.specs.State.{HasCleanDisk};
+ghost use Rattle.std.specs.Prelude.{◌≡◌, filter, option_map, []};
 ghost use Rattle.sqlite.specs.Held.{state};
 ghost use Rattle.sqlite.specs.Values.{bound};
-ghost use Rattle.queue_types.specs.declared.job.Job.{Job as JobValue};
-ghost use Rattle.queue_core.specs.World.{World, rows, job_at};
-ghost use Rattle.queue_tables.specs.Content.{Content, Holds, content_of, HoldsWhileOpen};
-ghost use Rattle.queue_tables.specs.Leaving.{StaysInside};
-ghost use Rattle.queue_tables.specs.Steps.{AreDistinct, bare, is_numbered, with_job_anew, with_job_row};
+ghost use Rattle.queue_core.specs.World.{rows, job_at};
+ghost use Rattle.queue_tables.specs.Making.{MakesRows};
+ghost use Rattle.queue_tables.specs.Telling.{ReadsQueueInside};
+ghost use Rattle.queue_tables.specs.Steps.{AreDistinct, HasJob, bare, is_numbered, with_job_anew, with_job_row};
 ghost use Rattle.queue_tables.specs.Values.{job_values};
 ghost use Rattle.queue_tables.specs.Forms.{AreFormed};
-ghost use Rattle.queue_tables.specs.Refusing.{DamagedOnlyWhere};
 
 use crate::fault::Fault;
 use crate::read::read_job;
-use crate::run::{run, select_inside};
+use crate::run::{select_inside, write};
 use crate::with_job_columns;
 use queue_rows::codes::{phase_number_of, why_number_of};
 use queue_rows::laws::numbers_tell_names;
@@ -48,34 +45,28 @@ fn columns_of(job: &Job) -> [ValueRef<'_>; 14]
 /// Adds a job.
 pub(crate) fn insert_job<S: Alter>(tx: &mut Transaction<'_, S>, job: &Job) -> Result<(), Fault>
     ensures same_reference { tx.new.conn.ghost_name ≡ tx.old.conn.ghost_name }
-    ensures stays { StaysInside (state S.Store tx.old.conn.now) (state S.Store tx.new.conn.now) result }
-    ensures done { HasCleanDisk (state S.Store tx.new.conn.now) → OnOk result ((c : Content) → Holds c (state S.Store tx.old.conn.now) → Holds (with_job_row (job_values job.now) c) (state S.Store tx.new.conn.now)) }
-    ensures damaged { DamagedOnlyWhere (state S.Store tx.old.conn.now) (state S.Store tx.new.conn.now) result ((c : Content) → filter (is_numbered job.now.number) c.jobs ≡ [] → ¬ HoldsWhileOpen c (state S.Store tx.old.conn.now)) }
+    ensures made { MakesRows (state S.Store tx.old.conn.now) (state S.Store tx.new.conn.now) result (λ c. filter (is_numbered job.now.number) c.jobs ≡ []) (with_job_row (job_values job.now)) }
 {
-    run(
+    write(
         tx,
         with_job_columns!(
             "INSERT INTO jobs (",
             ") VALUES (?1, ?2, ?3, ?4, ?5, ?6, ?7, ?8, ?9, ?10, ?11, ?12, ?13, ?14)"
         ),
         &columns_of(job),
-    )?;
-    Ok(())
+    )
 }
 
 /// Puts the columns of a job anew.
 pub(crate) fn update_job<S: Alter>(tx: &mut Transaction<'_, S>, job: &Job) -> Result<(), Fault>
     ensures same_reference { tx.new.conn.ghost_name ≡ tx.old.conn.ghost_name }
-    ensures stays { StaysInside (state S.Store tx.old.conn.now) (state S.Store tx.new.conn.now) result }
-    ensures done { HasCleanDisk (state S.Store tx.new.conn.now) → OnOk result ((c : Content) (was : JobValue) → Holds c (state S.Store tx.old.conn.now) → filter (is_numbered job.now.number) c.jobs ≡ job_values was ∷ [] → was.number ≡ job.now.number → Holds (with_job_anew job.now c) (state S.Store tx.new.conn.now)) }
-    ensures damaged { DamagedOnlyWhere (state S.Store tx.old.conn.now) (state S.Store tx.new.conn.now) result ((c : Content) (was : JobValue) → filter (is_numbered job.now.number) c.jobs ≡ job_values was ∷ [] → was.number ≡ job.now.number → ¬ HoldsWhileOpen c (state S.Store tx.old.conn.now)) }
+    ensures made { MakesRows (state S.Store tx.old.conn.now) (state S.Store tx.new.conn.now) result (HasJob job.now.number) (with_job_anew job.now) }
 {
-    run(
+    write(
         tx,
         "UPDATE jobs SET owner = ?2, name = ?3, copies = ?4, impressions = ?5, hold = ?6, incoming = ?7, phase = ?8, why = ?9, stopping = ?10, count = ?11, created = ?12, begun = ?13, ended = ?14 WHERE number = ?1",
         &columns_of(job),
-    )?;
-    Ok(())
+    )
 }
 
 /// The job of that number without its documents, where it is there.
@@ -85,10 +76,7 @@ pub(crate) fn find_job<S: Alter>(
     number: u32,
 ) -> Result<Option<Job>, Fault>
     ensures same_reference { tx.new.conn.ghost_name ≡ tx.old.conn.ghost_name }
-    ensures stays { StaysInside (state S.Store tx.old.conn.now) (state S.Store tx.new.conn.now) result }
-    ensures found { HasCleanDisk (state S.Store tx.new.conn.now) → IfOk result (λ found. (w : World) → AreDistinct w.jobs → Holds (content_of w) (state S.Store tx.old.conn.now) → (found ≡ option_map bare (job_at number (rows w))) × Holds (content_of w) (state S.Store tx.new.conn.now)) }
-    ensures live { HasCleanDisk (state S.Store tx.new.conn.now) → OnOk result (IsTrue (state S.Store tx.new.conn.now).is_open) }
-    ensures damaged { DamagedOnlyWhere (state S.Store tx.old.conn.now) (state S.Store tx.new.conn.now) result ((w : World) → AreDistinct w.jobs → AreFormed w.jobs → ¬ HoldsWhileOpen (content_of w) (state S.Store tx.old.conn.now)) }
+    ensures reads { ReadsQueueInside (state S.Store tx.old.conn.now) (state S.Store tx.new.conn.now) result (λ w. AreDistinct w.jobs × AreFormed w.jobs) (λ w found. found ≡ option_map bare (job_at number (rows w))) }
 {
     numbers_tell_names();
     let found = select_inside(

@@ -1,16 +1,15 @@
 //! The statements on the one row of the book itself.
-ghost use Rattle.std.specs.Prelude.{◌≡◌, OnOk};
+ghost use Rattle.std.specs.Prelude.{◌≡◌, OnOk, ⊤};
 ghost use Rattle.sqlite.specs.State.{HasCleanDisk};
 ghost use Rattle.sqlite.specs.Held.{state};
-ghost use Rattle.queue_core.specs.World.{World};
-ghost use Rattle.queue_tables.specs.Content.{Content, Holds, content_of, HoldsWhileOpen};
+ghost use Rattle.queue_tables.specs.Making.{MakesQueue};
+ghost use Rattle.queue_tables.specs.Content.{Content, Holds};
 ghost use Rattle.queue_tables.specs.Leaving.{StaysInside};
 ghost use Rattle.queue_tables.specs.Steps.{with_meta_row, with_next};
 ghost use Rattle.queue_tables.specs.Values.{meta_values};
-ghost use Rattle.queue_tables.specs.Refusing.{DamagedOnlyWhere};
 
 use crate::fault::Fault;
-use crate::run::run;
+use crate::run::write;
 use queue_rows::rows::MetaRow;
 use sqlite::{Alter, Transaction, params};
 
@@ -20,7 +19,7 @@ pub fn insert_meta<S: Alter>(tx: &mut Transaction<'_, S>, meta: &MetaRow) -> Res
     ensures stays { StaysInside (state S.Store tx.old.conn.now) (state S.Store tx.new.conn.now) result }
     ensures done { HasCleanDisk (state S.Store tx.new.conn.now) → OnOk result ((c : Content) → Holds c (state S.Store tx.old.conn.now) → Holds (with_meta_row (meta_values meta.now) c) (state S.Store tx.new.conn.now)) }
 {
-    run(
+    write(
         tx,
         "INSERT INTO meta (one, schema, uri, name, estimate, epoch, next_number) VALUES (?1, ?2, ?3, ?4, ?5, ?6, ?7)",
         params![
@@ -32,21 +31,17 @@ pub fn insert_meta<S: Alter>(tx: &mut Transaction<'_, S>, meta: &MetaRow) -> Res
             &meta.epoch,
             meta.next_number
         ],
-    )?;
-    Ok(())
+    )
 }
 
 /// Puts the number of the next new job.
 pub(crate) fn update_next<S: Alter>(tx: &mut Transaction<'_, S>, next: u32) -> Result<(), Fault>
     ensures same_reference { tx.new.conn.ghost_name ≡ tx.old.conn.ghost_name }
-    ensures stays { StaysInside (state S.Store tx.old.conn.now) (state S.Store tx.new.conn.now) result }
-    ensures done { HasCleanDisk (state S.Store tx.new.conn.now) → OnOk result ((w : World) → Holds (content_of w) (state S.Store tx.old.conn.now) → Holds (content_of (with_next next w)) (state S.Store tx.new.conn.now)) }
-    ensures damaged { DamagedOnlyWhere (state S.Store tx.old.conn.now) (state S.Store tx.new.conn.now) result ((w : World) → ¬ HoldsWhileOpen (content_of w) (state S.Store tx.old.conn.now)) }
+    ensures made { MakesQueue (state S.Store tx.old.conn.now) (state S.Store tx.new.conn.now) result (λ w. ⊤) (with_next next) }
 {
-    run(
+    write(
         tx,
         "UPDATE meta SET next_number = ?1 WHERE one = 1",
         params![next],
-    )?;
-    Ok(())
+    )
 }

@@ -1,14 +1,11 @@
 //! The statements on pieces of documents.
-ghost use Rattle.std.specs.Prelude.{◌≡◌, ◌≤◌, OnOk, length, filter, []};
-ghost use Rattle.sqlite.specs.State.{HasCleanDisk};
+ghost use Rattle.std.specs.Prelude.{◌≡◌, ◌≤◌, length, filter, []};
 ghost use Rattle.sqlite.specs.Held.{state};
 ghost use Rattle.queue_rows.specs.Pieces.{pieces_in};
-ghost use Rattle.queue_tables.specs.Content.{Content, Holds, HoldsWhileOpen};
-ghost use Rattle.queue_tables.specs.Leaving.{StaysInside};
+ghost use Rattle.queue_tables.specs.Making.{MakesRows};
 ghost use Rattle.queue_tables.specs.Steps.{with_piece_row, with_pieces, are_numbered, is_piece};
 ghost use Rattle.queue_tables.specs.Values.{piece_values};
 ghost use Rattle.queue_tables.specs.Kept.{HasOne};
-ghost use Rattle.queue_tables.specs.Refusing.{DamagedOnlyWhere};
 
 use crate::fault::Fault;
 use crate::run::insert;
@@ -26,16 +23,13 @@ fn insert_piece<S: Alter>(
     bytes: &[u8],
 ) -> Result<(), Fault>
     ensures same_reference { tx.new.conn.ghost_name ≡ tx.old.conn.ghost_name }
-    ensures stays { StaysInside (state S.Store tx.old.conn.now) (state S.Store tx.new.conn.now) result }
-    ensures done { HasCleanDisk (state S.Store tx.new.conn.now) → OnOk result ((c : Content) → Holds c (state S.Store tx.old.conn.now) → Holds (with_piece_row (piece_values job doc piece bytes.now) c) (state S.Store tx.new.conn.now)) }
-    ensures damaged { DamagedOnlyWhere (state S.Store tx.old.conn.now) (state S.Store tx.new.conn.now) result ((c : Content) → HasOne (are_numbered job doc) c.documents → filter (is_piece job doc piece) c.pieces ≡ [] → ¬ HoldsWhileOpen c (state S.Store tx.old.conn.now)) }
+    ensures made { MakesRows (state S.Store tx.old.conn.now) (state S.Store tx.new.conn.now) result (λ c. HasOne (are_numbered job doc) c.documents × (filter (is_piece job doc piece) c.pieces ≡ [])) (with_piece_row (piece_values job doc piece bytes.now)) }
 {
     insert(
         tx,
         "INSERT INTO pieces (job, doc, piece, bytes) VALUES (?1, ?2, ?3, ?4)",
         params![job, doc, piece, bytes],
-    )?;
-    Ok(())
+    )
 }
 
 /// Adds the pieces of a document.
@@ -47,9 +41,7 @@ pub(crate) fn insert_pieces<S: Alter>(
 ) -> Result<(), Fault>
     requires { length bytes.now ≤ 16777216 }
     ensures same_reference { tx.new.conn.ghost_name ≡ tx.old.conn.ghost_name }
-    ensures stays { StaysInside (state S.Store tx.old.conn.now) (state S.Store tx.new.conn.now) result }
-    ensures done { HasCleanDisk (state S.Store tx.new.conn.now) → OnOk result ((c : Content) → Holds c (state S.Store tx.old.conn.now) → Holds (with_pieces job doc bytes.now (pieces_in (length bytes.now)) c) (state S.Store tx.new.conn.now)) }
-    ensures damaged { DamagedOnlyWhere (state S.Store tx.old.conn.now) (state S.Store tx.new.conn.now) result ((c : Content) → HasOne (are_numbered job doc) c.documents → filter (are_numbered job doc) c.pieces ≡ [] → ¬ HoldsWhileOpen c (state S.Store tx.old.conn.now)) }
+    ensures made { MakesRows (state S.Store tx.old.conn.now) (state S.Store tx.new.conn.now) result (λ c. HasOne (are_numbered job doc) c.documents × (filter (are_numbered job doc) c.pieces ≡ [])) (with_pieces job doc bytes.now (pieces_in (length bytes.now))) }
 {
     let count = bytes.len().div_ceil(PIECE_OCTETS);
     for k in 0..count {

@@ -1,15 +1,9 @@
 //! The jobs of a change, with the sums of their accounts.
-ghost use Rattle.std.specs.Prelude.{◌≡◌, ◌≤◌, ◌^◌, OnOk, Some, None, length, fold, All};
-ghost use Rattle.sqlite.specs.State.{HasCleanDisk};
+ghost use Rattle.std.specs.Prelude.{◌≡◌, [], ◌∷◌, Some, None, option_map};
 ghost use Rattle.sqlite.specs.Held.{state};
-ghost use Rattle.queue_core.specs.World.{World, rows, job_at, with_row};
-ghost use Rattle.queue_types.specs.declared.job.Job.{Job as JobValue};
-ghost use Rattle.queue_tables.specs.Content.{Holds, content_of, HoldsWhileOpen};
-ghost use Rattle.queue_tables.specs.Leaving.{StaysInside};
-ghost use Rattle.queue_tables.specs.Steps.{IsSummable, bare, with_put, with_puts};
-ghost use Rattle.queue_tables.specs.Forms.{AreFormed, IsFormedJob};
-ghost use Rattle.queue_core.specs.Balance.{AreAmounts};
-ghost use Rattle.queue_tables.specs.Refusing.{DamagedOnlyWhere};
+ghost use Rattle.queue_core.specs.World.{rows, job_at};
+ghost use Rattle.queue_tables.specs.Making.{MakesQueue};
+ghost use Rattle.queue_tables.specs.Steps.{CanPut, bare, with_put, with_puts};
 
 use crate::account_rows::add_to_sums;
 use crate::fault::Fault;
@@ -22,9 +16,7 @@ use std::alloc::Global;
 /// Adds a job that is not there, and what it takes of its account.
 fn enter_job<S: Alter>(tx: &mut Transaction<'_, S>, job: &Job) -> Result<(), Fault>
     ensures same_reference { tx.new.conn.ghost_name ≡ tx.old.conn.ghost_name }
-    ensures stays { StaysInside (state S.Store tx.old.conn.now) (state S.Store tx.new.conn.now) result }
-    ensures done { HasCleanDisk (state S.Store tx.new.conn.now) → OnOk result ((w : World) → IsSummable w.jobs → job_at job.now.number (rows w) ≡ None → length (with_row w.jobs job.now) ≤ 2 ^ 31 → Holds (content_of w) (state S.Store tx.old.conn.now) → IsSummable (with_row w.jobs job.now) × Holds (content_of (with_put job.now w)) (state S.Store tx.new.conn.now)) }
-    ensures damaged { DamagedOnlyWhere (state S.Store tx.old.conn.now) (state S.Store tx.new.conn.now) result ((w : World) → IsSummable w.jobs → job_at job.now.number (rows w) ≡ None → AreAmounts job.now → ¬ HoldsWhileOpen (content_of w) (state S.Store tx.old.conn.now)) }
+    ensures made { MakesQueue (state S.Store tx.old.conn.now) (state S.Store tx.new.conn.now) result (λ w. CanPut (job.now ∷ []) w × (job_at job.now.number (rows w) ≡ None)) (with_put job.now) }
 {
     let taken = taken_by(job)?;
     insert_job(tx, job)?;
@@ -34,9 +26,7 @@ fn enter_job<S: Alter>(tx: &mut Transaction<'_, S>, job: &Job) -> Result<(), Fau
 /// Puts a job anew that was this before, and what it takes of its account.
 fn replace_job<S: Alter>(tx: &mut Transaction<'_, S>, job: &Job, before: &Job) -> Result<(), Fault>
     ensures same_reference { tx.new.conn.ghost_name ≡ tx.old.conn.ghost_name }
-    ensures stays { StaysInside (state S.Store tx.old.conn.now) (state S.Store tx.new.conn.now) result }
-    ensures done { HasCleanDisk (state S.Store tx.new.conn.now) → OnOk result ((w : World) (was : JobValue) → IsSummable w.jobs → job_at job.now.number (rows w) ≡ Some was → before.now ≡ bare was → length (with_row w.jobs job.now) ≤ 2 ^ 31 → Holds (content_of w) (state S.Store tx.old.conn.now) → IsSummable (with_row w.jobs job.now) × Holds (content_of (with_put job.now w)) (state S.Store tx.new.conn.now)) }
-    ensures damaged { DamagedOnlyWhere (state S.Store tx.old.conn.now) (state S.Store tx.new.conn.now) result ((w : World) (was : JobValue) → IsSummable w.jobs → job_at job.now.number (rows w) ≡ Some was → before.now ≡ bare was → AreAmounts job.now → ¬ HoldsWhileOpen (content_of w) (state S.Store tx.old.conn.now)) }
+    ensures made { MakesQueue (state S.Store tx.old.conn.now) (state S.Store tx.new.conn.now) result (λ w. CanPut (job.now ∷ []) w × (Some before.now ≡ option_map bare (job_at job.now.number (rows w)))) (with_put job.now) }
 {
     let back = returned_by(before)?;
     let taken = taken_by(job)?;
@@ -48,9 +38,7 @@ fn replace_job<S: Alter>(tx: &mut Transaction<'_, S>, job: &Job, before: &Job) -
 /// Puts a job anew, or adds it where there is none of its number.
 fn put_job<S: Alter>(alloc: Global, tx: &mut Transaction<'_, S>, job: &Job) -> Result<(), Fault>
     ensures same_reference { tx.new.conn.ghost_name ≡ tx.old.conn.ghost_name }
-    ensures stays { StaysInside (state S.Store tx.old.conn.now) (state S.Store tx.new.conn.now) result }
-    ensures done { HasCleanDisk (state S.Store tx.new.conn.now) → OnOk result ((w : World) → IsSummable w.jobs → length (with_row w.jobs job.now) ≤ 2 ^ 31 → Holds (content_of w) (state S.Store tx.old.conn.now) → IsSummable (with_row w.jobs job.now) × Holds (content_of (with_put job.now w)) (state S.Store tx.new.conn.now)) }
-    ensures damaged { DamagedOnlyWhere (state S.Store tx.old.conn.now) (state S.Store tx.new.conn.now) result ((w : World) → IsSummable w.jobs → AreFormed w.jobs → AreAmounts job.now → ¬ HoldsWhileOpen (content_of w) (state S.Store tx.old.conn.now)) }
+    ensures made { MakesQueue (state S.Store tx.old.conn.now) (state S.Store tx.new.conn.now) result (CanPut (job.now ∷ [])) (with_put job.now) }
 {
     match find_job(alloc, tx, job.number)? {
         Some(before) => replace_job(tx, job, &before),
@@ -65,9 +53,7 @@ pub(crate) fn put_jobs<S: Alter>(
     jobs: &[Job],
 ) -> Result<(), Fault>
     ensures same_reference { tx.new.conn.ghost_name ≡ tx.old.conn.ghost_name }
-    ensures stays { StaysInside (state S.Store tx.old.conn.now) (state S.Store tx.new.conn.now) result }
-    ensures done { HasCleanDisk (state S.Store tx.new.conn.now) → OnOk result ((w : World) → IsSummable w.jobs → length (fold with_row w.jobs jobs.now) ≤ 2 ^ 31 → Holds (content_of w) (state S.Store tx.old.conn.now) → IsSummable (fold with_row w.jobs jobs.now) × Holds (content_of (with_puts jobs.now w)) (state S.Store tx.new.conn.now)) }
-    ensures damaged { DamagedOnlyWhere (state S.Store tx.old.conn.now) (state S.Store tx.new.conn.now) result ((w : World) → IsSummable w.jobs → AreFormed w.jobs → All (λ j. AreAmounts j × IsFormedJob j) jobs.now → length (fold with_row w.jobs jobs.now) ≤ 2 ^ 31 → ¬ HoldsWhileOpen (content_of w) (state S.Store tx.old.conn.now)) }
+    ensures made { MakesQueue (state S.Store tx.old.conn.now) (state S.Store tx.new.conn.now) result (CanPut jobs.now) (with_puts jobs.now) }
 {
     for job in jobs {
         put_job(alloc, tx, job)?;

@@ -4,6 +4,7 @@ ghost use Rattle.sqlite.specs.State.{ExecutesInside, Shown};
 ghost use Rattle.sqlite.specs.Values.{bound};
 ghost use Rattle.sqlite.specs.State.{HasCleanDisk};
 ghost use Rattle.sqlite.specs.Held.{state};
+ghost use Rattle.queue_tables.specs.Making.{Writes};
 ghost use Rattle.queue_tables.specs.Leaving.{StaysInside};
 ghost use Rattle.queue_tables.specs.Refusing.{DamagedOnlyWhere, IsRefused, IsRefusedByKey};
 
@@ -25,18 +26,32 @@ pub(crate) fn run<S: Alter>(
     tx.execute(sql, params).map_err(fault_of_write)
 }
 
-/// Adds a row to a table whose rowids the store chooses, and tells how many it wrote. It commits nothing.
+/// Runs a statement that shows no rows. It commits nothing.
+pub(crate) fn write<S: Alter>(
+    tx: &mut Transaction<'_, S>,
+    sql: &str,
+    params: &[ValueRef<'_>],
+) -> Result<(), Fault>
+    ensures same_reference { tx.new.conn.ghost_name ≡ tx.old.conn.ghost_name }
+    ensures wrote { Writes sql.now (bound params.now) (state S.Store tx.old.conn.now) (state S.Store tx.new.conn.now) result IsRefused }
+{
+    run(tx, sql, params)?;
+    Ok(())
+}
+
+/// Adds a row to a table whose rowids the store chooses. It commits nothing.
 pub(crate) fn insert<S: Alter>(
     tx: &mut Transaction<'_, S>,
     sql: &str,
     params: &[ValueRef<'_>],
-) -> Result<usize, Fault>
+) -> Result<(), Fault>
     ensures same_reference { tx.new.conn.ghost_name ≡ tx.old.conn.ghost_name }
-    ensures stays { StaysInside (state S.Store tx.old.conn.now) (state S.Store tx.new.conn.now) result }
-    ensures ran { HasCleanDisk (state S.Store tx.new.conn.now) → IfOk result (λ count. ExecutesInside 0 sql.now (bound params.now) (state S.Store tx.old.conn.now) (state S.Store tx.new.conn.now) (Ok count)) }
-    ensures damaged { DamagedOnlyWhere (state S.Store tx.old.conn.now) (state S.Store tx.new.conn.now) result (IsRefusedByKey sql.now (bound params.now) (state S.Store tx.old.conn.now) (state S.Store tx.new.conn.now)) }
+    ensures wrote { Writes sql.now (bound params.now) (state S.Store tx.old.conn.now) (state S.Store tx.new.conn.now) result IsRefusedByKey }
 {
-    tx.execute(sql, params).map_err(fault_of_insert)
+    match tx.execute(sql, params) {
+        Ok(_) => Ok(()),
+        Err(error) => Err(fault_of_insert(error)),
+    }
 }
 
 /// All rows that a query of a transaction shows.

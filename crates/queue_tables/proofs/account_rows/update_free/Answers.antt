@@ -9,6 +9,9 @@ use Rattle.queue_tables.proofs.Renewing.{free_stands}
 use Rattle.queue_tables.proofs.Frees.{puts_free, lacks_free}
 use Rattle.queue_tables.proofs.account_rows.update_free.Goals as goal
 
+pub returns-clause-live : goal.returns-clause-live
+returns-clause-live g c clean = IfOk-weaker c.run.result _ _ (λ count ran. ran.1.is_open) (c.run.ensures.ran clean)
+
 pub returns-clause-put : goal.returns-clause-put
 returns-clause-put g c clean =
     IfOk-weaker c.run.result _ _ (λ count ran w has some. puts_free (state g.S.Store c.args.tx.now.conn.now) (state g.S.Store c.run.new.tx.conn.now) c.args.account.now.account c.args.account.now.free count w has some ran)

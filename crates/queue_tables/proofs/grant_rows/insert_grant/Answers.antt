@@ -1,15 +1,13 @@
 use Rattle.sqlite.specs.Held.{state}
-use Rattle.queue_tables.proofs.Rows.{adds_grant}
-use Rattle.queue_tables.proofs.Ending.{err_after}
 use Rattle.queue_tables.proofs.Entrants.{grant_enters}
+use Rattle.queue_tables.proofs.Making.{made_by}
+use Rattle.queue_tables.proofs.Rows.{adds_grant}
 use Rattle.queue_tables.proofs.grant_rows.insert_grant.Goals as goal
 
-pub returns-clause-done : goal.returns-clause-done
-returns-clause-done g c clean = λ content has.
-    adds_grant (state g.S.Store c.args.tx.now.conn.now) (state g.S.Store c.insert.new.tx.conn.now) c.args.grant.now c.in_ok-insert.field-0 content has
-    (rw (c.params-to_sql.ensures, c.params-to_sql-2.ensures, c.params-to_sql-3.ensures, c.as_str.ensures, c.as_str-2.ensures, c.in_ok-insert.was) at (c.insert.ensures.ran clean))
-
-pub returns-in_err-insert-clause-damaged : goal.returns-in_err-insert-clause-damaged
-returns-in_err-insert-clause-damaged g c clean inside = err_after _ c.in_err-insert.field-0.0 _ c.from_residual.ensures.1 (λ d content one none has.
-    grant_enters (state g.S.Store c.args.tx.now.conn.now) (state g.S.Store c.insert.new.tx.conn.now) c.args.grant.now content has one none
-    (rw (c.params-to_sql.ensures, c.params-to_sql-2.ensures, c.params-to_sql-3.ensures, c.as_str.ensures, c.as_str-2.ensures) at (c.in_err-insert.ensures.damaged clean inside d)))
+pub returns-clause-made : goal.returns-clause-made
+returns-clause-made g c =
+    let old = state g.S.Store c.args.tx.now.conn.now in
+    let new = state g.S.Store c.insert.new.tx.conn.now in
+    made_by (rw (c.params-to_sql.ensures, c.params-to_sql-2.ensures, c.params-to_sql-3.ensures, c.as_str.ensures, c.as_str-2.ensures) at c.insert.ensures.wrote)
+    (λ content can has count ran. adds_grant old new c.args.grant.now count content has ran)
+    (λ content can has refused. grant_enters old new c.args.grant.now content has can.0 can.1 refused)
