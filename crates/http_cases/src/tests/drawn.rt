@@ -234,15 +234,16 @@ fn has_part(bytes: &[u8], part: &[u8]) -> bool {
     part.is_empty() || bytes.windows(part.len()).any(|front| front == part)
 }
 
-/// Draws one of these calls, and counts it where its answer has what is looked for.
+/// Draws a call of a table, and counts it where its answer has what is looked for.
 fn draw_call<A: DeskBook, B: DeskBook>(
     pair: &mut Pair<A, B>,
     draws: &mut Draws,
-    (rows, counts): (&[Row], &mut [u32]),
+    table: (&[Row], &mut [u32]),
     moment: u32,
 ) -> Result<(), Mismatch>
     requires { IsMoment moment }
 {
+    let (rows, counts) = table;
     let place = draws.row(rows);
     let drawn = draws.drawn(moment);
     if let (Some((_, call, part, _)), Some(count)) = (rows.get(place), counts.get_mut(place)) {
