@@ -76,11 +76,11 @@ closes_ends k w (s ∷ front) t rest g c =
 
 pub ends_on : (w : World) (ts : List Turn) (rest : List ℕ) (end : Finish) (last : List ℕ) → EndsAt (world_after w ts) ts rest end last → EndsOn 0 w ts rest end last
 ends_on w ts rest end last (inl h) =
-    let front = h.2.0 in
-    let t = h.2.1 in
+    let front = h.2.front in
+    let t = h.2.last in
     let e : length front ≡ 0 + length front = omega arith in
-    subst (λ (f : Finish). EndsOn 0 w ts rest f last) (sym h.0) (subst (λ (l : List ℕ). EndsOn 0 w ts rest Done l) (sym h.1) (subst (λ (us : List Turn). EndsOn 0 w us rest Done []) (sym h.2.2)
-    (closes_ends 0 w front t rest h.2.3 (subst (λ (n : ℕ). closes_at n t ≡ true) e h.2.4))))
+    subst (λ (f : Finish). EndsOn 0 w ts rest f last) (sym h.0) (subst (λ (l : List ℕ). EndsOn 0 w ts rest Done l) (sym h.1) (subst (λ (us : List Turn). EndsOn 0 w us rest Done []) (sym h.2.turns_are)
+    (closes_ends 0 w front t rest h.2.goes_on (subst (λ (n : ℕ). closes_at n t ≡ true) e h.2.closes))))
 ends_on w ts rest end last (inr h) = goes_ends 0 w ts rest end last h.0 h.1
 
 -- no request is closed and goes on

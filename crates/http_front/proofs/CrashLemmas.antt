@@ -1,5 +1,5 @@
 -- What a crash leaves, from one request to the next.
-use Rattle.std.proofs.Common.{◌≡◌, ◌≤◌, ◌∙◌, ℕ, List, [], ◌∷◌, ◌++◌, Option, Some, IfSome, Result, length, inl, inr, refl, ap, subst, sym, arith}
+use Rattle.std.proofs.Common.{◌≡◌, ◌≤◌, ◌∙◌, ℕ, List, [], ◌∷◌, ◌++◌, Option, Some, IfSome, length, inl, inr, refl, ap, subst, sym, arith}
 use Rattle.std.specs.List.{AllByRecursion as Each}
 use Rattle.queue_types.specs.Event.{Event}
 use Rattle.queue_core.specs.Crash.{Carries, Leaves, broken_off, taken, untaken}
@@ -12,10 +12,8 @@ use Rattle.device_lines.specs.Reports.{Tells, reports, unread}
 use Rattle.http_head.specs.declared.target.Target.{Target}
 use Rattle.http_head.specs.declared.target.Target.TheVariants.{Ipp, Report, Queue, Document}
 use Rattle.http_front.specs.Connections.{AreTurns, world_after}
-use Rattle.http_front.specs.Crash.{AsksIn, AsksUnlessDeclined, CarriesAll, IsAskedIn, IsAtMostOneMore, IsLeft}
+use Rattle.http_front.specs.Crash.{AsksIn, CarriesAll, IsAskedIn, IsAtMostOneMore, IsLeft}
 use Rattle.http_front.specs.Turns.{Turn, plan}
-use Rattle.http_front.specs.declared.outcome.Replied.{Replied}
-use Rattle.http_front.specs.declared.outcome.Stopped.{Stopped}
 use Rattle.http_front.specs.Places.{AsksFor}
 use Rattle.http_front.proofs.GrantLemmas.{asked, told}
 use Rattle.http_front.proofs.PlaceLemmas.{AreCalls, turn_fits}
@@ -26,11 +24,6 @@ carries_none before asks now w = λ v left. (v, left, untaken refl refl)
 
 pub carries_no_turn : (before : World → World → Type 0) (now : ℕ) (w : World) → CarriesAll before before now [] w w
 carries_no_turn before now w = λ v left. (v, left, inl (refl, refl))
-
--- the same of a target by another name
-pub carries_to : (before after : World → World → Type 0) (t z : Target) (content : List ℕ) (result : Result Replied Stopped) (now : ℕ) (w u : World) → t ≡ z
-    → Carries before after (AsksUnlessDeclined z content result) now w u → Carries before after (AsksUnlessDeclined t content result) now w u
-carries_to before after t z content result now w u e c = subst (λ (k : Target). Carries before after (AsksUnlessDeclined k content result) now w u) (sym e) c
 
 -- ---- one request, or none
 

@@ -24,7 +24,7 @@ use Rattle.http_wire.specs.Bodies.{IsBody}
 use Rattle.http_wire.specs.Chunks.{ChunkedBody, IsChunkedBody, chunked_content}
 use Rattle.http_front.specs.Turns.{Turn, plan, IsTurn, IsAnswered}
 use Rattle.http_front.specs.Connections.{AreTurns, world_after}
-use Rattle.http_front.specs.Places.{AsksFor, IsPlaceOf, ArePlacesOf}
+use Rattle.http_front.specs.Places.{AsksFor, IsPlaceOf, IsRunOf}
 
 -- what calls are: the law of requests
 abbrev pub AreCalls : Type 0
@@ -84,16 +84,16 @@ run_on : (w v u : World) (p : Place) (ps : List Place) → v ≡ run w (p ∷ []
 run_on w v u p ps first rest = rest ∙ ap (λ (x : World). run x ps) first
 
 pub turns_places : AreCalls → (now : ℕ) (w : World) (ts : List Turn) → IsMoment now → AreTurns now w ts
-    → (ps : List Place) × ArePlacesOf now w ts ps × Each IsPlace ps × (world_after w ts ≡ run w ps)
-turns_places are now w [] moment a = ([], refl, tt, refl)
+    → IsRunOf now w ts (world_after w ts)
+turns_places are now w [] moment a = ([], tt, tt, refl)
 turns_places are now w (t ∷ ts) moment a =
     let p = turn_place are now w t moment a.0 in
     let ps = turns_places are now t.after ts moment a.1 in
-    (p.0 ∷ ps.0, (p.0, ps.0, refl, p.1, ps.1), (p.2, ps.2), run_on w t.after (world_after t.after ts) p.0 ps.0 p.3 ps.3)
+    (p.0 ∷ ps.0, (p.1, ps.1), (p.2, ps.2), run_on w t.after (world_after t.after ts) p.0 ps.0 p.3 ps.3)
 
 -- those of a connection whose end world has another name
 pub served_places : AreCalls → (now : ℕ) (w u : World) (ts : List Turn) → IsMoment now → AreTurns now w ts → u ≡ world_after w ts
-    → (ps : List Place) × ArePlacesOf now w ts ps × Each IsPlace ps × (u ≡ run w ps)
+    → IsRunOf now w ts u
 served_places are now w u ts moment a e = let ps = turns_places are now w ts moment a in (ps.0, ps.1, ps.2, e ∙ ps.3)
 
 -- ---- lists of places

@@ -18,7 +18,7 @@ use Rattle.http_head.specs.declared.end.Refusal.{Refusal}
 use Rattle.http_head.specs.declared.target.Target.{Target}
 use Rattle.http_head.specs.declared.target.Target.TheVariants.{Ipp, Report, Queue, Document as DocumentTarget}
 use Rattle.http_front.specs.Turns.{IsAnswered, IsIppAnswer, IsReportAnswer, acts_on, document_named}
-use Rattle.http_front.specs.Turned.{IsReplied, IsDeclined}
+use Rattle.http_front.specs.Turned.{IsReplied, IsRepliedOver, IsDeclined}
 use Rattle.http_front.specs.declared.outcome.Replied.{Replied}
 use Rattle.http_front.specs.declared.outcome.Replied.TheVariants.{Answered, Declined}
 use Rattle.http_front.specs.declared.outcome.Stopped.{Stopped}
@@ -32,10 +32,8 @@ pub replied_ok : (now : ℕ) (w u : World) (target : Target) (content : List ℕ
     → IsAnswered now w target content fault kind reply u → Appends v x (success_response kind reply closes) → tally.acted ≡ acts_on target → tally.is_fault ≡ fault
     → IsReplied now w u target content closes v x (Ok (Answered tally))
 replied_ok now w u target content closes fault tally v x kind reply a written acted same = (
-  success_response kind reply closes,
-  record { media_type = kind; reply = reply; answered = subst (λ (b : Bool). IsAnswered now w target content b kind reply u) (sym same) a; bytes_are = refl },
+  record { media_type = kind; reply = reply; answered = subst (λ (b : Bool). IsAnswered now w target content b kind reply u) (sym same) a; acted_is = acted },
   written,
-  acted,
 )
 
 -- an answer of which a front was
@@ -43,10 +41,8 @@ pub replied_err : (now : ℕ) (w u : World) (target : Target) (content : List �
     → IsAnswered now w target content fault kind reply u → WritesFront v x (success_response kind reply closes) → f.tally.acted ≡ acts_on target → f.tally.is_fault ≡ fault
     → IsReplied now w u target content closes v x (Err f)
 replied_err now w u target content closes fault f v x kind reply a written acted same = (
-  success_response kind reply closes,
-  record { media_type = kind; reply = reply; answered = subst (λ (b : Bool). IsAnswered now w target content b kind reply u) (sym same) a; bytes_are = refl },
+  record { media_type = kind; reply = reply; answered = subst (λ (b : Bool). IsAnswered now w target content b kind reply u) (sym same) a; acted_is = acted },
   written,
-  acted,
 )
 
 -- what came of sending a whole answer
@@ -132,6 +128,6 @@ pub queue_answer : (now : ℕ) (w : World) (content reply : List ℕ) → reply 
 queue_answer now w content reply e = record { flag = refl; type_is = refl; reply_is = e; after_is = refl }
 
 -- the same of a target by another name
-pub retarget : (now : ℕ) (w u : World) (t z : Target) (content : List ℕ) (closes : Bool) (v x : Option (List ℕ)) (result : Result Replied Stopped) → t ≡ z
-    → IsReplied now w u z content closes v x result → IsReplied now w u t content closes v x result
-retarget now w u t z content closes v x result e p = subst (λ (k : Target). IsReplied now w u k content closes v x result) (sym e) p
+pub retarget : (before after : World → World → Type 0) (now : ℕ) (w u : World) (t z : Target) (content : List ℕ) (closes : Bool) (v x : Option (List ℕ)) (result : Result Replied Stopped) → t ≡ z
+    → IsRepliedOver before after now w u z content closes v x result → IsRepliedOver before after now w u t content closes v x result
+retarget before after now w u t z content closes v x result e p = subst (λ (k : Target). IsRepliedOver before after now w u k content closes v x result) (sym e) p

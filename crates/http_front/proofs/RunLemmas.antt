@@ -16,7 +16,7 @@ use Rattle.http_head.specs.declared.end.Finish.{Finish}
 use Rattle.http_head.specs.declared.end.Finish.TheVariants.{Done}
 use Rattle.http_front.specs.Turns.{Turn, IsTurn, request_bytes, answer_bytes, acts, closes_at, last_request, most_requests}
 use Rattle.http_front.specs.Ends.{IsEnd, IsBegun}
-use Rattle.http_front.specs.Connections.{AreTurns, GoesOn, EndsAt, Answers, Breaks, Worked, written_for, world_after, bits, flag_of}
+use Rattle.http_front.specs.Connections.{AreTurns, GoesOn, EndsAt, IsServed, IsStopped, Worked, written_for, world_after, bits, flag_of}
 use Rattle.http_front.specs.Crash.{CarriesAll}
 use Rattle.http_front.specs.Turned.{IsTurned, TellsFault}
 use Rattle.http_front.proofs.CrashLemmas.{carries_more}
@@ -96,40 +96,40 @@ ran_more k now w u p r s q v x y acted faults n m t run count is taken written w
 }
 
 -- a request was answered
-abbrev ran_turned : (left : List Turn → Type 0) (k now : ℕ) (w u p : World) (r s q v x y : Option (List ℕ)) (acted faults n m : ℕ) (tally : Tally) (c : Bool)
-    → RanOn k now w u r s v x acted faults → IsTurned left now k u p s q x y (Ok (Answered tally c)) → n ≡ (if tally.acted then 1 else 0) → m ≡ faults + (if tally.is_fault then 2 ^ k else 0)
+abbrev ran_turned : (before after : World → World → Type 0) (k now : ℕ) (w u p : World) (r s q v x y : Option (List ℕ)) (acted faults n m : ℕ) (tally : Tally) (c : Bool)
+    → RanOn k now w u r s v x acted faults → IsTurned before after now k u p s q x y (Ok (Answered tally c)) → n ≡ (if tally.acted then 1 else 0) → m ≡ faults + (if tally.is_fault then 2 ^ k else 0)
     → Ran now w p r q v y (acted + n) m
-ran_turned left k now w u p r s q v x y acted faults n m tally c h turned acted_is faults_are =
-    ran_more k now w u p r s q v x y acted faults n m turned.0 h.run h.count turned.1 turned.5 turned.6 turned.7
-    (acted_is ∙ ap (λ b. if b then 1 else 0) turned.2) (faults_are ∙ ap (λ b. faults + (if b then 2 ^ k else 0)) turned.3)
+ran_turned before after k now w u p r s q v x y acted faults n m tally c h turned acted_is faults_are =
+    ran_more k now w u p r s q v x y acted faults n m turned.turn h.run h.count turned.is turned.taken turned.written turned.world
+    (acted_is ∙ ap (λ b. if b then 1 else 0) turned.acted_is) (faults_are ∙ ap (λ b. faults + (if b then 2 ^ k else 0)) turned.fault_is)
 
 pub ran_on : (before between after : World → World → Type 0) (k now : ℕ) (w u p : World) (r s q v x y : Option (List ℕ)) (acted faults n m : ℕ) (tally : Tally) (c : Bool)
     → (h : RanOn k now w u r s v x acted faults) → CarriesAll before between now h.run.turns w u
-    → IsTurned (λ turns. CarriesAll between after now turns u p) now k u p s q x y (Ok (Answered tally c))
+    → IsTurned between after now k u p s q x y (Ok (Answered tally c))
     → n ≡ (if tally.acted then 1 else 0) → m ≡ faults + (if tally.is_fault then 2 ^ k else 0) → c ≡ false
     → (j : RanOn (k + 1) now w p r q v y (acted + n) m) × CarriesAll before after now j.run.turns w p
 ran_on before between after k now w u p r s q v x y acted faults n m tally c h left turned acted_is faults_are c_is = (
   record {
-    run = ran_turned (λ turns. CarriesAll between after now turns u p) k now w u p r s q v x y acted faults n m tally c h turned acted_is faults_are;
-    count = (let e = length-append h.run.turns (turned.0 ∷ []) in omega (arith, e, h.count));
-    goes_on = goes_more 0 h.run.turns turned.0 h.goes_on
-        (subst (λ j. closes_at j turned.0 ≡ false) (sym h.count ∙ zero_plus (length h.run.turns)) (sym turned.4 ∙ c_is));
+    run = ran_turned between after k now w u p r s q v x y acted faults n m tally c h turned acted_is faults_are;
+    count = (let e = length-append h.run.turns (turned.turn ∷ []) in omega (arith, e, h.count));
+    goes_on = goes_more 0 h.run.turns turned.turn h.goes_on
+        (subst (λ j. closes_at j turned.turn ≡ false) (sym h.count ∙ zero_plus (length h.run.turns)) (sym turned.closes_is ∙ c_is));
   },
-  carries_more before between after now h.run.turns (turned.0 ∷ []) w u p h.run.world left turned.8,
+  carries_more before between after now h.run.turns (turned.turn ∷ []) w u p h.run.world left turned.carries,
 )
 
 -- ---- ends
 
-answers_from : (left : List Turn → Type 0) (now : ℕ) (w u : World) (r s v x y : Option (List ℕ)) (acted faults m : ℕ) (finish : Finish) (run : Ran now w u r s v x acted faults) → left run.turns
+answers_from : (before after : World → World → Type 0) (now : ℕ) (w u : World) (r s v x y : Option (List ℕ)) (acted faults m : ℕ) (finish : Finish) (run : Ran now w u r s v x acted faults) → CarriesAll before after now run.turns w u
     → length run.turns ≤ most_requests → IfSome s (λ rest. (last : List ℕ) × EndsAt u run.turns rest finish last × Appends x y last)
     → m ≡ faults + (if is_unavailable finish then 2 ^ length run.turns else 0)
-    → IfSome r (λ stream. (written : List ℕ) × Appends v y written × (a : Answers now w stream written u acted m (end_of finish)) × left a.turns)
-answers_from left now w u None s v x y acted faults m finish run l few ends faults_are = tt
-answers_from left now w u (Some stream) None v x y acted faults m finish run l few ends faults_are = absurd run.taken
-answers_from left now w u (Some stream) (Some rest) v x y acted faults m finish run l few ends faults_are = (
-  written_for 0 run.turns ++ ends.0,
-  Appends-trans v x y _ _ run.written ends.2,
-  record {
+    → IfSome r (IsServed before after now w u v y (record { acted = acted; faults = m; end = end_of finish }))
+answers_from before after now w u None s v x y acted faults m finish run l few ends faults_are = tt
+answers_from before after now w u (Some stream) None v x y acted faults m finish run l few ends faults_are = absurd run.taken
+answers_from before after now w u (Some stream) (Some rest) v x y acted faults m finish run l few ends faults_are = record {
+  written = written_for 0 run.turns ++ ends.0;
+  appended = Appends-trans v x y _ _ run.written ends.2;
+  answers = record {
     turns = run.turns;
     rest = rest;
     last = ends.0;
@@ -146,9 +146,9 @@ answers_from left now w u (Some stream) (Some rest) v x y acted faults m finish 
     faults_are = faults_are ∙ ap (λ z. z + (if is_unavailable finish then 2 ^ length run.turns else 0)) run.faults_are
         ∙ ap (λ j. bits (map flag_of run.turns) + (if is_unavailable finish then 2 ^ j else 0)) (sym (length-map run.turns flag_of))
         ∙ sym (bits_more (map flag_of run.turns) (is_unavailable finish));
-  },
-  l,
-)
+  };
+  carries = l;
+}
 
 ended_at : (u : World) (s x y : Option (List ℕ)) (end : Finish) (turns : List Turn) → GoesOn 0 turns
     → IfSome s (λ bytes. (last : List ℕ) × IsEnd u bytes end last × Appends x y last)
@@ -164,50 +164,51 @@ carries_ended before between after now turns w u p is h left =
 
 pub served_ended : (before between after : World → World → Type 0) (k now : ℕ) (w u p : World) (r s q v x y : Option (List ℕ)) (acted faults m : ℕ) (end : Finish)
     → k ≤ last_request → (h : RanOn k now w u r s v x acted faults) → CarriesAll before between now h.run.turns w u
-    → IsTurned (λ turns. CarriesAll between after now turns u p) now k u p s q x y (Ok (Ended end))
+    → IsTurned between after now k u p s q x y (Ok (Ended end))
     → m ≡ faults + (if is_unavailable end then 2 ^ k else 0)
-    → IfSome r (λ stream. (written : List ℕ) × Appends v y written × (a : Answers now w stream written p acted m (end_of end)) × CarriesAll before after now a.turns w p)
+    → IfSome r (IsServed before after now w p v y (record { acted = acted; faults = m; end = end_of end }))
 served_ended before between after k now w u p r s q v x y acted faults m end few h left turned faults_are =
-    subst (λ z. IfSome r (λ stream. (written : List ℕ) × Appends v y written × (a : Answers now w stream written z acted m (end_of end)) × CarriesAll before after now a.turns w p)) (sym turned.1)
-    (answers_from (λ turns. CarriesAll before after now turns w p) now w u r s v x y acted faults m end h.run (carries_ended before between after now h.run.turns w u p h.run.world left turned.2)
+    subst (λ (z : World). IfSome r (IsServed before after now w z v y (record { acted = acted; faults = m; end = end_of end }))) (sym turned.1)
+    (answers_from before after now w u r s v x y acted faults m end h.run
+    (carries_ended before between after now h.run.turns w u u h.run.world left (subst (λ (z : World). CarriesAll between after now [] u z) turned.1 turned.2))
     (let e = h.count in omega (arith, e, few)) (ended_at u s x y end h.run.turns h.goes_on turned.0)
     (faults_are ∙ ap (λ j. faults + (if is_unavailable end then 2 ^ j else 0)) (sym h.count)))
 
 closed_at : (u : World) (s y : Option (List ℕ)) (turns front : List Turn) (t : Turn) → turns ≡ front ++ t ∷ [] → GoesOn 0 front → closes_at (length front) t ≡ true
     → IfSome s (λ rest. (last : List ℕ) × EndsAt u turns rest Done last × Appends y y last)
 closed_at u None y turns front t e g c = tt
-closed_at u (Some rest) y turns front t e g c = ([], inl (refl, refl, (front, t, e, g, c)), Appends-nil y)
+closed_at u (Some rest) y turns front t e g c = ([], inl (refl, refl, record { front = front; last = t; turns_are = e; goes_on = g; closes = c }), Appends-nil y)
 
 pub served_done : (before between after : World → World → Type 0) (k now : ℕ) (w u p : World) (r s q v x y : Option (List ℕ)) (acted faults n m : ℕ) (tally : Tally) (c : Bool)
     → k ≤ last_request → (h : RanOn k now w u r s v x acted faults) → CarriesAll before between now h.run.turns w u
-    → IsTurned (λ turns. CarriesAll between after now turns u p) now k u p s q x y (Ok (Answered tally c))
+    → IsTurned between after now k u p s q x y (Ok (Answered tally c))
     → n ≡ (if tally.acted then 1 else 0) → m ≡ faults + (if tally.is_fault then 2 ^ k else 0) → c ≡ true
-    → IfSome r (λ stream. (written : List ℕ) × Appends v y written × (z : Answers now w stream written p (acted + n) m (end_of Done)) × CarriesAll before after now z.turns w p)
+    → IfSome r (IsServed before after now w p v y (record { acted = acted + n; faults = m; end = end_of Done }))
 served_done before between after k now w u p r s q v x y acted faults n m tally c few h left turned acted_is faults_are c_is =
-    let t = turned.0 in
-    let run = ran_turned (λ turns. CarriesAll between after now turns u p) k now w u p r s q v x y acted faults n m tally c h turned acted_is faults_are in
+    let t = turned.turn in
+    let run = ran_turned between after k now w u p r s q v x y acted faults n m tally c h turned acted_is faults_are in
     let e = length-append h.run.turns (t ∷ []) in
-    answers_from (λ turns. CarriesAll before after now turns w p) now w p r q v y y (acted + n) m m Done run (carries_more before between after now h.run.turns (t ∷ []) w u p h.run.world left turned.8)
+    answers_from before after now w p r q v y y (acted + n) m m Done run (carries_more before between after now h.run.turns (t ∷ []) w u p h.run.world left turned.carries)
     (omega (arith, e, h.count, few))
     (closed_at p q y run.turns h.run.turns t refl h.goes_on
-    (subst (λ j. closes_at j t ≡ true) (sym h.count) (sym turned.4 ∙ c_is)))
+    (subst (λ j. closes_at j t ≡ true) (sym h.count) (sym turned.closes_is ∙ c_is)))
     (omega arith)
 
 -- ---- broken off
 
 pub stopped_at : (before between after : World → World → Type 0) (k now : ℕ) (w u p : World) (r s q v x y : Option (List ℕ)) (acted faults n m : ℕ) (f : Stopped) → k ≤ last_request
-    → (h : RanOn k now w u r s v x acted faults) → CarriesAll before between now h.run.turns w u → IsTurned (λ turns. CarriesAll between after now turns u p) now k u p s q x y (Err f)
+    → (h : RanOn k now w u r s v x acted faults) → CarriesAll before between now h.run.turns w u → IsTurned between after now k u p s q x y (Err f)
     → n ≡ (if f.tally.acted then 1 else 0) → m ≡ faults + (if f.tally.is_fault then 2 ^ k else 0)
-    → IfSome r (λ stream. (written : List ℕ) × Appends v y written × (b : Breaks now w stream written p (acted + n) m) × CarriesAll before after now (b.turns ++ b.broken) w p)
+    → IfSome r (IsStopped before after now w p v y (record { acted = acted + n; faults = m; cause = f.cause }))
 stopped_at before between after k now w u p None s q v x y acted faults n m f few h left turned acted_is faults_are = tt
 stopped_at before between after k now w u p (Some stream) None q v x y acted faults n m f few h left turned acted_is faults_are = absurd h.run.taken
 stopped_at before between after k now w u p (Some stream) (Some rest) q v x y acted faults n m f few h left turned acted_is faults_are =
     let turns = h.run.turns in
-    let one = turned.0 in
-    let begun = turned.2 in (
-      written_for 0 turns ++ begun.2.front,
-      Appends-trans v x y (written_for 0 turns) begun.2.front h.run.written begun.2.written,
-      record {
+    let one = turned.one in
+    let begun = turned.begun in record {
+      written = written_for 0 turns ++ begun.2.front;
+      appended = Appends-trans v x y (written_for 0 turns) begun.2.front h.run.written begun.2.written;
+      breaks = record {
         turns = turns;
         rest = rest;
         begun = begun.0;
@@ -228,9 +229,9 @@ stopped_at before between after k now w u p (Some stream) (Some rest) q v x y ac
         faults_are = faults_are ∙ ap (λ z. z + (if f.tally.is_fault then 2 ^ k else 0)) h.run.faults_are
             ∙ ap (λ j. bits (map flag_of turns) + (if f.tally.is_fault then 2 ^ j else 0)) (sym h.count ∙ sym (length-map turns flag_of))
             ∙ sym (bits_more (map flag_of turns) f.tally.is_fault);
-      },
-      carries_more before between after now turns one.turns w u p h.run.world left turned.1,
-    )
+      };
+      carries = carries_more before between after now turns one.turns w u p h.run.world left turned.carries;
+    }
 
 -- ---- whatever the bytes were
 
@@ -261,19 +262,19 @@ stop_mark turns (t ∷ s ∷ ts) k faults m f count is more few tells = absurd (
 
 pub worked_done : (before between after : World → World → Type 0) (k now : ℕ) (w u p : World) (r s q v x y : Option (List ℕ)) (acted faults n m : ℕ) (tally : Tally) (c : Bool)
     → k ≤ last_request → (h : RanOn k now w u r s v x acted faults) → CarriesAll before between now h.run.turns w u
-    → IsTurned (λ turns. CarriesAll between after now turns u p) now k u p s q x y (Ok (Answered tally c))
+    → IsTurned between after now k u p s q x y (Ok (Answered tally c))
     → n ≡ (if tally.acted then 1 else 0) → m ≡ faults + (if tally.is_fault then 2 ^ k else 0)
     → (j : Worked most_requests now w p (acted + n)) × CarriesAll before after now j.turns w p × (m ≡ bits (map flag_of j.turns ++ false ∷ []))
 worked_done before between after k now w u p r s q v x y acted faults n m tally c few h left turned acted_is faults_are =
-    let run = ran_turned (λ turns. CarriesAll between after now turns u p) k now w u p r s q v x y acted faults n m tally c h turned acted_is faults_are in (
-      worked_of most_requests now w p r q v y (acted + n) m run (let e = length-append h.run.turns (turned.0 ∷ []) in omega (arith, e, h.count, few)),
-      carries_more before between after now h.run.turns (turned.0 ∷ []) w u p h.run.world left turned.8,
+    let run = ran_turned between after k now w u p r s q v x y acted faults n m tally c h turned acted_is faults_are in (
+      worked_of most_requests now w p r q v y (acted + n) m run (let e = length-append h.run.turns (turned.turn ∷ []) in omega (arith, e, h.count, few)),
+      carries_more before between after now h.run.turns (turned.turn ∷ []) w u p h.run.world left turned.carries,
       no_mark run.turns m run.faults_are,
     )
 
 pub worked_ended : (before between after : World → World → Type 0) (k now : ℕ) (w u p : World) (r s q v x y : Option (List ℕ)) (acted faults m : ℕ) (end : Finish)
     → k ≤ last_request → (h : RanOn k now w u r s v x acted faults) → CarriesAll before between now h.run.turns w u
-    → IsTurned (λ turns. CarriesAll between after now turns u p) now k u p s q x y (Ok (Ended end)) → m ≡ faults + (if is_unavailable end then 2 ^ k else 0)
+    → IsTurned between after now k u p s q x y (Ok (Ended end)) → m ≡ faults + (if is_unavailable end then 2 ^ k else 0)
     → (j : Worked most_requests now w p acted) × CarriesAll before after now j.turns w p × (m ≡ bits (map flag_of j.turns ++ is_unavailable end ∷ []))
 worked_ended before between after k now w u p r s q v x y acted faults m end few h left turned faults_are =
     subst (λ z. (j : Worked most_requests now w z acted) × CarriesAll before after now j.turns w p × (m ≡ bits (map flag_of j.turns ++ is_unavailable end ∷ []))) (sym turned.1) (
@@ -284,13 +285,13 @@ worked_ended before between after k now w u p r s q v x y acted faults m end few
 
 pub worked_stopped : (before between after : World → World → Type 0) (k now : ℕ) (w u p : World) (r s q v x y : Option (List ℕ)) (acted faults n m : ℕ) (f : Stopped)
     → k ≤ last_request → (h : RanOn k now w u r s v x acted faults) → CarriesAll before between now h.run.turns w u
-    → IsTurned (λ turns. CarriesAll between after now turns u p) now k u p s q x y (Err f) → n ≡ (if f.tally.acted then 1 else 0) → m ≡ faults + (if f.tally.is_fault then 2 ^ k else 0)
+    → IsTurned between after now k u p s q x y (Err f) → n ≡ (if f.tally.acted then 1 else 0) → m ≡ faults + (if f.tally.is_fault then 2 ^ k else 0)
     → (j : Worked most_requests now w p (acted + n)) × CarriesAll before after now j.turns w p × ((last : Bool) × (m ≡ bits (map flag_of j.turns ++ last ∷ [])))
 worked_stopped before between after k now w u p r s q v x y acted faults n m f few h left turned acted_is faults_are = (
   worked_on last_request 1 most_requests now w u p acted (if f.tally.acted then 1 else 0) (acted + n) refl (ap (λ z. acted + z) (sym acted_is))
-      (worked_of last_request now w u r s v x acted faults h.run (let e = h.count in omega (arith, e, few))) turned.0,
-  carries_more before between after now h.run.turns turned.0.turns w u p h.run.world left turned.1,
-  stop_mark h.run.turns turned.0.turns k faults m f.tally.is_fault h.count h.run.faults_are faults_are turned.0.few turned.3,
+      (worked_of last_request now w u r s v x acted faults h.run (let e = h.count in omega (arith, e, few))) turned.one,
+  carries_more before between after now h.run.turns turned.one.turns w u p h.run.world left turned.carries,
+  stop_mark h.run.turns turned.one.turns k faults m f.tally.is_fault h.count h.run.faults_are faults_are turned.one.few turned.fault_is,
 )
 
 -- ---- the router

@@ -1,11 +1,10 @@
 -- The requests of a stream and its end, read twice.
-use Rattle.std.specs.Prelude.{◌≡◌, ◌⊎◌, ℕ, List, [], ◌∷◌}
+use Rattle.std.specs.Prelude.{◌≡◌, ◌⊎◌, ⊤, ℕ, List, [], ◌∷◌}
 use Rattle.httparse.specs.Grammar.{RequestHead}
-use Rattle.http_head.specs.Checks.{head_of, plan_of}
 use Rattle.http_head.specs.Head.{BeginsHead, EndsWithoutHead}
 use Rattle.http_head.specs.declared.end.Finish.{Finish}
 use Rattle.http_wire.specs.Bodies.{EndsInBody}
-use Rattle.http_front.specs.Turns.{Turn}
+use Rattle.http_front.specs.Turns.{Turn, plan_in}
 
 -- one request: its head, and its body as it stands in the stream and its content
 pub record IsSameRequest (s t : Turn) : Type 0 where
@@ -15,12 +14,12 @@ pub record IsSameRequest (s t : Turn) : Type 0 where
 
 -- the same requests, as far as both go
 abbrev pub AreSameRequests : List Turn → List Turn → Type 0
-AreSameRequests [] ts = Unit {0}
-AreSameRequests (s ∷ ss) [] = Unit {0}
+AreSameRequests [] ts = ⊤
+AreSameRequests (s ∷ ss) [] = ⊤
 AreSameRequests (s ∷ ss) (t ∷ ts) = IsSameRequest s t × AreSameRequests ss ts
 
 -- the bytes may end so or so: no head stands there, or one does and no whole body follows it
 abbrev pub MayEndAs : List ℕ → Finish → Finish → Type 0
 MayEndAs bytes f g =
     (EndsWithoutHead bytes f × EndsWithoutHead bytes g)
-    ⊎ ((h : RequestHead) × (rest : List ℕ) × BeginsHead bytes h rest × EndsInBody (plan_of (head_of h)).framing rest f × EndsInBody (plan_of (head_of h)).framing rest g)
+    ⊎ ((h : RequestHead) × (rest : List ℕ) × BeginsHead bytes h rest × EndsInBody (plan_in h).framing rest f × EndsInBody (plan_in h).framing rest g)

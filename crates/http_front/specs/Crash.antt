@@ -22,7 +22,7 @@ AsksUnlessDeclined target content (Err stopped) e = AsksFor target content (Some
 abbrev pub AsksIn : Turn → Event → Type 0
 AsksIn t e = AsksFor (plan t).target t.content (Some e)
 
--- one of these requests, which made u of the queue w, does; and the queue was u before it already
+-- one of these requests, which made u of the queue w, asks for it; and the queue was u before it already
 abbrev pub IsAskedIn : World → List Turn → World → Event → Type 0
 IsAskedIn w [] u e = ⊥
 IsAskedIn w (t ∷ ts) u e = (AsksIn t e × (u ≡ w)) ⊎ IsAskedIn t.after ts u e
@@ -31,8 +31,8 @@ IsAskedIn w (t ∷ ts) u e = (AsksIn t e × (u ≡ w)) ⊎ IsAskedIn t.after ts 
 abbrev pub IsAtMostOneMore : ℕ → World → List Turn → World → World → Type 0
 IsAtMostOneMore now w turns u x = (x ≡ u) ⊎ ((e : Event) × IsAskedIn w turns u e × (x ≡ (step u now e).world))
 
--- behind these requests, which made u of the queue w: nothing was done, and a crash leaves what it left before; or it leaves u, or what the event of
--- one of them makes of u
+-- behind these requests, which made u of the queue w, a crash leaves x: where nothing was done v, which it left before; or u, or what the event of one
+-- of them makes of u
 abbrev pub IsLeft : ℕ → List Turn → World → World → World → World → Type 0
 IsLeft now turns w v u x = ((u ≡ w) × (x ≡ v)) ⊎ IsAtMostOneMore now w turns u x
 

@@ -3,7 +3,7 @@ use Rattle.std.specs.Prelude.{◌≡◌, ◌<◌, Bool, false, ℕ, List, [], �
 use Rattle.httparse.specs.Grammar.{RequestHead}
 use Rattle.queue_core.specs.World.{World}
 use Rattle.http_head.specs.Head.{BeginsHead, EndsWithoutHead}
-use Rattle.http_head.specs.Checks.{head_of, plan_of, refusal_of}
+use Rattle.http_head.specs.Checks.{head_of, refusal_of}
 use Rattle.http_wire.specs.Bodies.{IsBody, EndsInBody}
 use Rattle.http_head.specs.Ends.{is_unavailable}
 use Rattle.http_wire.specs.Responses.{interim_response, refusal_response, last_response}
@@ -13,7 +13,7 @@ use Rattle.http_head.specs.declared.end.Refusal.{Refusal}
 use Rattle.http_head.specs.declared.end.Refusal.TheVariants.{BadRequest, NotFound, ServiceUnavailable}
 use Rattle.http_head.specs.declared.target.Target.{Target}
 use Rattle.http_head.specs.declared.target.Target.TheVariants.{Ipp, Report, Queue, Document as DocumentTarget}
-use Rattle.http_front.specs.Turns.{Turn, document_named, answer_bytes, request_bytes}
+use Rattle.http_front.specs.Turns.{Turn, document_named, answer_bytes, plan_in, request_bytes}
 
 -- a whole request that has no success: a message without room for its head, or a document that isn't there
 abbrev pub Declines : World → Target → List ℕ → Refusal → Type 0
@@ -31,15 +31,15 @@ pub data IsEnd (w : World) (bytes : List ℕ) : Finish → List ℕ → Type 0 w
       → IsEnd w bytes (Refused r) (refusal_response r)
   -- no whole body follows
   in_body : (h : RequestHead) (rest : List ℕ) (end : Finish) → BeginsHead bytes h rest → refusal_of (head_of h) ≡ None
-      → EndsInBody (plan_of (head_of h)).framing rest end → IsEnd w bytes end (interim_response (plan_of (head_of h)) ++ last_response end)
+      → EndsInBody (plan_in h).framing rest end → IsEnd w bytes end (interim_response (plan_in h) ++ last_response end)
   -- a whole request has no success
   declined : (h : RequestHead) (raw content rest : List ℕ) (r : Refusal) → BeginsHead bytes h (raw ++ rest) → refusal_of (head_of h) ≡ None
-      → IsBody (plan_of (head_of h)).framing raw content → Declines w (plan_of (head_of h)).target content r
-      → IsEnd w bytes (Refused r) (interim_response (plan_of (head_of h)) ++ refusal_response r)
+      → IsBody (plan_in h).framing raw content → Declines w (plan_in h).target content r
+      → IsEnd w bytes (Refused r) (interim_response (plan_in h) ++ refusal_response r)
   -- a fault of the server's own, before the head was taken or after it
   unavailable : IsEnd w bytes (Refused ServiceUnavailable) (refusal_response ServiceUnavailable)
   unavailable_later : (h : RequestHead) (rest : List ℕ) → BeginsHead bytes h rest → refusal_of (head_of h) ≡ None
-      → IsEnd w bytes (Refused ServiceUnavailable) (interim_response (plan_of (head_of h)) ++ refusal_response ServiceUnavailable)
+      → IsEnd w bytes (Refused ServiceUnavailable) (interim_response (plan_in h) ++ refusal_response ServiceUnavailable)
 
 -- what may have been begun at these bytes, as request k, when a read, a write or the book failed: what was to be written, the request that it
 -- answers, if one, and whether it tells of a fault
@@ -47,7 +47,7 @@ pub data IsBegun (k : ℕ) (w : World) (bytes : List ℕ) : List ℕ → List Tu
   nothing : IsBegun k w bytes [] [] false
   -- the response before the body
   interim : (h : RequestHead) (rest : List ℕ) → BeginsHead bytes h rest → refusal_of (head_of h) ≡ None
-      → IsBegun k w bytes (interim_response (plan_of (head_of h))) [] false
+      → IsBegun k w bytes (interim_response (plan_in h)) [] false
   -- an answer
   answered : (t : Turn) (rest : List ℕ) → bytes ≡ request_bytes t ++ rest → IsBegun k w bytes (answer_bytes k t) (t ∷ []) t.is_fault
   -- an end

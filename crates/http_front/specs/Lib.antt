@@ -1,5 +1,6 @@
 pub mod Turns
 pub mod Ends
+pub mod Books
 pub mod Connections
 pub mod Turned
 pub mod Places

@@ -27,8 +27,12 @@ pub record Turn : Type 0 where
   pub reply : List ℕ
   pub after : World
 
+-- what is made of a head
+abbrev pub plan_in : RequestHead → Plan
+plan_in h = plan_of (head_of h)
+
 abbrev pub plan : Turn → Plan
-plan t = plan_of (head_of t.head)
+plan t = plan_in t.head
 
 -- the bytes of the request
 abbrev pub request_bytes : Turn → List ℕ
@@ -70,6 +74,7 @@ pub record IsDocumentAnswer (w : World) (n : Option (ℕ × ℕ)) (fault : Bool)
   pub reply_is : reply ≡ document.bytes
   pub after_is : after ≡ w
 
+-- a whole request for this target
 abbrev pub IsAnswered : ℕ → World → Target → List ℕ → Bool → List ℕ → List ℕ → World → Type 0
 IsAnswered now w Ipp content fault media_type reply after = IsIppAnswer now w content fault media_type reply after
 IsAnswered now w Report content fault media_type reply after = IsReportAnswer now w content fault media_type reply after

@@ -1,11 +1,12 @@
 //! A whole connection: its requests one after another, to its end.
-ghost use Rattle.std.specs.Prelude.{◌≡◌, ◌+◌, ◌^◌, ◌<◌, ◌≤◌, IfErr, IfOk, false, if◌then◌else◌};
+ghost use Rattle.std.specs.Prelude.{◌≡◌, ◌+◌, ◌^◌, ◌<◌, ◌≤◌, IfErr, IfOk, IfSome, false, if◌then◌else◌};
 ghost use Rattle.std.specs.Option.{ForSome};
 ghost use Rattle.queue_core.specs.Limits.{IsMoment};
 ghost use Rattle.queue_core.specs.World.{World};
 ghost use Rattle.http_head.specs.Left.{left};
 ghost use Rattle.http_head.specs.Routes.{routes};
-ghost use Rattle.http_front.specs.Connections.{IsFaultless, IsServed, IsStopped, MarksFaults, Worked, acted_of};
+ghost use Rattle.http_front.specs.Books.{ComesTo};
+ghost use Rattle.http_front.specs.Connections.{IsFaultless, IsServed, IsStopped, MarksFaults, Worked, WorkedOver, acted_of};
 ghost use Rattle.http_front.specs.Crash.{CarriesAll, IsAtMostOneMore};
 ghost use Rattle.http_front.specs.Turns.{most_requests};
 
@@ -43,17 +44,15 @@ fn run<R: Read, W: Write, B: QueueBook>(
     requires router { ForSome router (λ r. r.now ≡ routes) }
     requires moment { IsMoment context.now }
     ensures began { B.is_honest book.new → B.is_honest book.old }
-    ensures served { B.is_honest book.new → IfOk result (λ served. (w : World) → B.stands book.old w → context.entry.settings.now ≡ w.settings
-        → (u : World) × B.stands book.new u
-        × IsServed (λ turns. CarriesAll (B.crash_leaves book.old) (B.crash_leaves book.new) context.entry.now turns w u)
-        context.entry.now w u (left input.old.buffer (R.remaining input.old.reader)) (W.contents writer.old) (W.contents writer.new) served) }
-    ensures broken { B.is_honest book.new → IfErr result (λ fault. (w : World) → B.stands book.old w → context.entry.settings.now ≡ w.settings
-        → (u : World) × B.stands book.new u
-        × IsStopped (λ turns. CarriesAll (B.crash_leaves book.old) (B.crash_leaves book.new) context.entry.now turns w u)
-        context.entry.now w u (left input.old.buffer (R.remaining input.old.reader)) (W.contents writer.old) (W.contents writer.new) fault) }
-    ensures worked { B.is_honest book.new → (w : World) → B.stands book.old w → context.entry.settings.now ≡ w.settings
-        → (u : World) × B.stands book.new u × (k : Worked most_requests context.entry.now w u (acted_of result))
-        × CarriesAll (B.crash_leaves book.old) (B.crash_leaves book.new) context.entry.now k.turns w u × MarksFaults k.turns result }
+    ensures served { IfOk result (λ served. ComesTo B.QueueBook book.old book.new context.entry.settings.now (λ w u.
+        IfSome (left input.old.buffer (R.remaining input.old.reader)) (IsServed (B.crash_leaves book.old) (B.crash_leaves book.new)
+        context.entry.now w u (W.contents writer.old) (W.contents writer.new) served))) }
+    ensures broken { IfErr result (λ fault. ComesTo B.QueueBook book.old book.new context.entry.settings.now (λ w u.
+        IfSome (left input.old.buffer (R.remaining input.old.reader)) (IsStopped (B.crash_leaves book.old) (B.crash_leaves book.new)
+        context.entry.now w u (W.contents writer.old) (W.contents writer.new) fault))) }
+    ensures worked { ComesTo B.QueueBook book.old book.new context.entry.settings.now (λ w u.
+        (k : Worked most_requests context.entry.now w u (acted_of result))
+        × CarriesAll (B.crash_leaves book.old) (B.crash_leaves book.new) context.entry.now k.turns w u × MarksFaults k.turns result) }
     ensures never_more { input.new.reads_left ≤ input.old.reads_left }
     ensures few { IfOk result (λ served. served.acted ≤ most_requests) }
     ensures few_stopped { IfErr result (λ fault. fault.acted ≤ most_requests) }
@@ -115,26 +114,22 @@ pub fn serve<R: Read, W: Write, B: QueueBook>(
 ) -> Result<Served, ServeFault>
     requires { IsMoment now }
     ensures began { B.is_honest book.new → B.is_honest book.old }
-    // what was answered, what was written, and what a crash leaves for the requests in those bytes
-    ensures served { B.is_honest book.new → IfOk result (λ served. (w : World) → B.stands book.old w → settings.now ≡ w.settings
-        → (u : World) × B.stands book.new u
-        × IsServed (λ turns. CarriesAll (B.crash_leaves book.old) (B.crash_leaves book.new) now turns w u)
-        now w u (R.remaining reader.old) (W.contents writer.old) (W.contents writer.new) served) }
-    ensures broken { B.is_honest book.new → IfErr result (λ fault. (w : World) → B.stands book.old w → settings.now ≡ w.settings
-        → (u : World) × B.stands book.new u
-        × IsStopped (λ turns. CarriesAll (B.crash_leaves book.old) (B.crash_leaves book.new) now turns w u)
-        now w u (R.remaining reader.old) (W.contents writer.old) (W.contents writer.new) fault) }
-    ensures worked { B.is_honest book.new → (w : World) → B.stands book.old w → settings.now ≡ w.settings
-        → (u : World) × B.stands book.new u × (k : Worked most_requests now w u (acted_of result)) × MarksFaults k.turns result }
+    // where the reader tells its bytes, the requests in them were answered, and a crash leaves what goes with these
+    ensures served { IfOk result (λ served. ComesTo B.QueueBook book.old book.new settings.now (λ w u. IfSome (R.remaining reader.old)
+        (IsServed (B.crash_leaves book.old) (B.crash_leaves book.new) now w u (W.contents writer.old) (W.contents writer.new) served))) }
+    // or their answers were broken off
+    ensures broken { IfErr result (λ fault. ComesTo B.QueueBook book.old book.new settings.now (λ w u. IfSome (R.remaining reader.old)
+        (IsStopped (B.crash_leaves book.old) (B.crash_leaves book.new) now w u (W.contents writer.old) (W.contents writer.new) fault))) }
+    // whatever its bytes were, some requests made the queue what it is, and these were answered by a fault
+    ensures worked { ComesTo B.QueueBook book.old book.new settings.now (λ w u.
+        (k : Worked most_requests now w u (acted_of result)) × MarksFaults k.turns result) }
     // a crash at any moment leaves the queue that the book stands for, or what the event of one of the requests makes of it, before which the queue was
     // that already
-    ensures crash { B.is_honest book.new → B.is_live book.old → (w : World) → B.stands book.old w → settings.now ≡ w.settings
-        → (u x : World) × B.stands book.new u × (k : Worked most_requests now w u (acted_of result))
-        × B.crash_leaves book.new u x × IsAtMostOneMore now w k.turns u x }
+    ensures crash { B.is_live book.old → ComesTo B.QueueBook book.old book.new settings.now (λ w u.
+        (k : Worked most_requests now w u (acted_of result)) × (x : World) × B.crash_leaves book.new u x × IsAtMostOneMore now w k.turns u x) }
     // also over a book that was shut before, where it is known what a crash left then
-    ensures left { B.is_honest book.new → (w : World) → B.stands book.old w → settings.now ≡ w.settings
-        → (u : World) × B.stands book.new u × (k : Worked most_requests now w u (acted_of result))
-        × CarriesAll (B.crash_leaves book.old) (B.crash_leaves book.new) now k.turns w u }
+    ensures left { ComesTo B.QueueBook book.old book.new settings.now (λ w u.
+        WorkedOver (B.crash_leaves book.old) (B.crash_leaves book.new) now w u (acted_of result)) }
     ensures few { IfOk result (λ served. served.acted ≤ most_requests) }
     ensures few_stopped { IfErr result (λ fault. fault.acted ≤ most_requests) }
     // what shuts a book is answered as a fault, or breaks a document off

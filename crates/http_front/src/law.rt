@@ -11,7 +11,7 @@ ghost use Rattle.http_head.specs.declared.end.Finish.{Finish};
 ghost use Rattle.http_front.specs.Connections.{Answers, AreTurns, Breaks, Worked};
 ghost use Rattle.http_front.specs.Conversations.{AreSameRequests, MayEndAs};
 ghost use Rattle.http_front.specs.Crash.{IsAskedIn, IsAtMostOneMore};
-ghost use Rattle.http_front.specs.Places.{ArePlacesOf};
+ghost use Rattle.http_front.specs.Places.{IsRunOf};
 ghost use Rattle.http_front.specs.Turns.{Turn, request_bytes};
 
 use device_lines::one_line_reading;
@@ -23,14 +23,12 @@ use ipp_wire::one_spelling;
 /// the request asks for; or with nothing, where it is refused, only reads, or is answered by a fault.
 pub fn connections_are_runs()
     ensures served { (now : ℕ) (w u : World) (stream written : List ℕ) (acted faults : ℕ) (end : End) → IsMoment now
-        → (a : Answers now w stream written u acted faults end)
-        → (ps : List Place) × ArePlacesOf now w a.turns ps × AllByRecursion IsPlace ps × (u ≡ run w ps) }
+        → (a : Answers now w stream written u acted faults end) → IsRunOf now w a.turns u }
     ensures broken { (now : ℕ) (w u : World) (stream written : List ℕ) (acted faults : ℕ) → IsMoment now
-        → (b : Breaks now w stream written u acted faults)
-        → (ps : List Place) × ArePlacesOf now w (b.turns ++ b.broken) ps × AllByRecursion IsPlace ps × (u ≡ run w ps) }
+        → (b : Breaks now w stream written u acted faults) → IsRunOf now w (b.turns ++ b.broken) u }
     // whatever the bytes were
     ensures worked { (most now : ℕ) (w u : World) (acted : ℕ) → IsMoment now → (k : Worked most now w u acted)
-        → (ps : List Place) × ArePlacesOf now w k.turns ps × AllByRecursion IsPlace ps × (u ≡ run w ps) }
+        → IsRunOf now w k.turns u }
     // what one of the requests asks for is an event within the limits
     ensures events { (now : ℕ) (w u : World) (turns : List Turn) (e : Event) → AreTurns now w turns → IsAskedIn w turns u e → IsEvent e }
     // what a crash leaves beside the queue u: that queue, or what one place more makes of it

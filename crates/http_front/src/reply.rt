@@ -1,11 +1,10 @@
 //! The answer to one whole request.
 ghost use Rattle.std.specs.Prelude.{◌≡◌, ◌≢◌, ◌≤◌, ℕ, List, length, IfErr, IfOk};
 ghost use Rattle.std.specs.Io.KnownBytes.{Appends};
-ghost use Rattle.queue_core.specs.Crash.{Carries};
 ghost use Rattle.queue_core.specs.Limits.{IsMoment};
 ghost use Rattle.queue_core.specs.World.{World};
-ghost use Rattle.http_front.specs.Crash.{AsksUnlessDeclined};
-ghost use Rattle.http_front.specs.Turned.{IsReplied, IsReplyFaultless};
+ghost use Rattle.http_front.specs.Books.{ComesTo};
+ghost use Rattle.http_front.specs.Turned.{IsReplied, IsRepliedOver, IsReplyFaultless};
 ghost use Rattle.http_head.specs.Limits.{content_limit};
 ghost use Rattle.http_head.specs.declared.target.Target.TheVariants.{Ipp, Report, Queue, Document};
 ghost use Rattle.http_wire.specs.Responses.{WritesFront, success_response};
@@ -69,10 +68,9 @@ fn reply_ipp<W: Write, B: QueueBook>(
     requires moment { IsMoment context.now }
     requires fits { length content.now ≤ content_limit }
     ensures began { B.is_honest book.new → B.is_honest book.old }
-    ensures replied { B.is_honest book.new → (w : World) → B.stands book.old w → context.entry.settings.now ≡ w.settings
-        → (u : World) × B.stands book.new u
-        × IsReplied context.entry.now w u Ipp content.now closes (W.contents writer.old) (W.contents writer.new) result
-        × Carries (B.crash_leaves book.old) (B.crash_leaves book.new) (AsksUnlessDeclined Ipp content.now result) context.entry.now w u }
+    ensures replied { ComesTo B.QueueBook book.old book.new context.entry.settings.now (λ w u.
+        IsRepliedOver (B.crash_leaves book.old) (B.crash_leaves book.new) context.entry.now w u Ipp content.now closes
+        (W.contents writer.old) (W.contents writer.new) result) }
     ensures live { B.is_honest book.new → B.is_live book.old → IsReplyFaultless result → B.is_live book.new }
 {
     match answer(context.alloc, book, context.settings, context.now, content) {
@@ -97,10 +95,9 @@ fn reply_report<W: Write, B: QueueBook>(
 ) -> Result<Replied, Stopped>
     requires moment { IsMoment now }
     ensures began { B.is_honest book.new → B.is_honest book.old }
-    ensures replied { B.is_honest book.new → (w : World) → B.stands book.old w
-        → (u : World) × B.stands book.new u
-        × IsReplied now w u Report content.now closes (W.contents writer.old) (W.contents writer.new) result
-        × Carries (B.crash_leaves book.old) (B.crash_leaves book.new) (AsksUnlessDeclined Report content.now result) now w u }
+    ensures replied { B.is_honest book.new → (w : World) → B.stands book.old w → (u : World) × B.stands book.new u
+        × IsRepliedOver (B.crash_leaves book.old) (B.crash_leaves book.new) now w u Report content.now closes
+        (W.contents writer.old) (W.contents writer.new) result }
     ensures live { B.is_honest book.new → B.is_live book.old → IsReplyFaultless result → B.is_live book.new }
 {
     let answer = report(book, now, content);
@@ -185,10 +182,9 @@ pub(crate) fn reply<W: Write, B: QueueBook>(
     requires moment { IsMoment context.now }
     requires fits { length request.content.now ≤ content_limit }
     ensures began { B.is_honest book.new → B.is_honest book.old }
-    ensures replied { B.is_honest book.new → (w : World) → B.stands book.old w → context.entry.settings.now ≡ w.settings
-        → (u : World) × B.stands book.new u
-        × IsReplied context.entry.now w u request.entry.target request.entry.content.now request.entry.closes (W.contents writer.old) (W.contents writer.new) result
-        × Carries (B.crash_leaves book.old) (B.crash_leaves book.new) (AsksUnlessDeclined request.entry.target request.entry.content.now result) context.entry.now w u }
+    ensures replied { ComesTo B.QueueBook book.old book.new context.entry.settings.now (λ w u.
+        IsRepliedOver (B.crash_leaves book.old) (B.crash_leaves book.new) context.entry.now w u request.entry.target request.entry.content.now request.entry.closes
+        (W.contents writer.old) (W.contents writer.new) result) }
     ensures live { B.is_honest book.new → B.is_live book.old → IsReplyFaultless result → B.is_live book.new }
 {
     match request.target {

@@ -1,14 +1,12 @@
 //! One request and its answer.
 ghost use Rattle.std.specs.Prelude.{◌≡◌, ◌≤◌, ◌==◌, ◌||◌};
 ghost use Rattle.std.specs.Option.{ForSome};
-ghost use Rattle.queue_core.specs.Crash.{Carries};
 ghost use Rattle.queue_core.specs.Limits.{IsMoment};
-ghost use Rattle.queue_core.specs.World.{World};
 ghost use Rattle.http_head.specs.Framing.{size_of};
 ghost use Rattle.http_head.specs.Left.{left};
 ghost use Rattle.http_head.specs.Limits.{content_limit};
 ghost use Rattle.http_head.specs.Routes.{routes};
-ghost use Rattle.http_front.specs.Crash.{CarriesAll};
+ghost use Rattle.http_front.specs.Books.{ComesTo};
 ghost use Rattle.http_front.specs.Turns.{last_request};
 ghost use Rattle.http_front.specs.Turned.{IsClosed, IsPlanned, IsTurnFaultless, IsTurned, ClosesLast};
 
@@ -73,11 +71,10 @@ fn take_planned<R: Read, W: Write, B: QueueBook>(
     requires size { size_of numbered.plan.framing ≤ content_limit }
     requires few { numbered.k ≤ last_request }
     ensures began { B.is_honest book.new → B.is_honest book.old }
-    ensures planned { B.is_honest book.new → (w : World) → B.stands book.old w → context.entry.settings.now ≡ w.settings
-        → (u : World) × B.stands book.new u
-        × IsPlanned (λ asks. Carries (B.crash_leaves book.old) (B.crash_leaves book.new) asks context.entry.now w u)
-        context.entry.now numbered.k w u numbered.plan (left input.old.buffer (R.remaining input.old.reader)) (left input.new.buffer (R.remaining input.new.reader))
-        (W.contents writer.old) (W.contents writer.new) result }
+    ensures planned { ComesTo B.QueueBook book.old book.new context.entry.settings.now (λ w u.
+        IsPlanned (B.crash_leaves book.old) (B.crash_leaves book.new) context.entry.now numbered.k w u numbered.plan
+        (left input.old.buffer (R.remaining input.old.reader)) (left input.new.buffer (R.remaining input.new.reader))
+        (W.contents writer.old) (W.contents writer.new) result) }
     ensures never_more { input.new.reads_left ≤ input.old.reads_left }
     ensures last { ClosesLast numbered.k result }
     // what shuts a book is answered as a fault, or breaks a document off
@@ -120,11 +117,10 @@ pub(crate) fn turn<R: Read, W: Write, B: QueueBook>(
     requires moment { IsMoment context.now }
     requires few { k ≤ last_request }
     ensures began { B.is_honest book.new → B.is_honest book.old }
-    ensures turned { B.is_honest book.new → (w : World) → B.stands book.old w → context.entry.settings.now ≡ w.settings
-        → (u : World) × B.stands book.new u
-        × IsTurned (λ turns. CarriesAll (B.crash_leaves book.old) (B.crash_leaves book.new) context.entry.now turns w u)
-        context.entry.now k w u (left input.old.buffer (R.remaining input.old.reader)) (left input.new.buffer (R.remaining input.new.reader))
-        (W.contents writer.old) (W.contents writer.new) result }
+    ensures turned { ComesTo B.QueueBook book.old book.new context.entry.settings.now (λ w u.
+        IsTurned (B.crash_leaves book.old) (B.crash_leaves book.new) context.entry.now k w u
+        (left input.old.buffer (R.remaining input.old.reader)) (left input.new.buffer (R.remaining input.new.reader))
+        (W.contents writer.old) (W.contents writer.new) result) }
     ensures never_more { input.new.reads_left ≤ input.old.reads_left }
     ensures last { ClosesLast k result }
     // what shuts a book is answered as a fault, or breaks a document off

@@ -4,9 +4,7 @@ use Rattle.queue_types.specs.Settings.{SettingValues}
 use Rattle.queue_core.specs.Limits.{IsMoment}
 use Rattle.queue_core.specs.World.{World}
 use Rattle.queue_core.specs.declared.book.QueueBook.{Ghosts}
-use Rattle.http_front.specs.Connections.{Worked}
-use Rattle.http_front.specs.Crash.{CarriesAll}
-use Rattle.http_front.specs.Turns.{most_requests}
+use Rattle.http_front.specs.Connections.{WorkedOver}
 use Rattle.print_server.specs.Connections.{IsAtMostOneMore, ServedOver}
 use Rattle.print_server.proofs.ConnectionLemmas.{joined, one, settings_after}
 use Rattle.print_server.proofs.CrashLemmas.{carries_at, carries_none, carries_on, carries_seen, left_one}
@@ -18,14 +16,14 @@ module _ {B : Type 0} {book : Ghosts B} where
 
   -- one, at its moment
   abbrev pub served_one : {old new : B} {w : World} (now acted : ℕ) → IsMoment now
-      → (u : World) × book.stands new u × (k : Worked most_requests now w u acted) × CarriesAll (book.crash_leaves old) (book.crash_leaves new) now k.turns w u
+      → (u : World) × book.stands new u × WorkedOver (book.crash_leaves old) (book.crash_leaves new) now w u acted
       → ServedOver book old new w
   served_one {old} {new} {w} now acted moment it = record {
     counts = acted ∷ [];
     queue = it.0;
-    are = one now w it.0 acted moment it.2;
+    are = one now w it.0 acted moment it.2.0;
     stands = it.1;
-    carries = carries_at (book.crash_leaves old) (book.crash_leaves new) now w it.0 acted moment it.2 it.3;
+    carries = carries_at (book.crash_leaves old) (book.crash_leaves new) now w it.0 acted moment it.2.0 it.2.1;
   }
 
   -- a look at the book behind them

@@ -6,8 +6,8 @@ ghost use Rattle.std.specs.Io.KnownBytes.{Appends};
 ghost use Rattle.queue_core.specs.Limits.{IsMoment};
 ghost use Rattle.queue_core.specs.World.{World};
 ghost use Rattle.queue_core.specs.declared.book.BookFault.{BookFault};
-ghost use Rattle.http_front.specs.Connections.{Worked};
-ghost use Rattle.http_front.specs.Crash.{CarriesAll};
+ghost use Rattle.http_front.specs.Books.{ComesTo};
+ghost use Rattle.http_front.specs.Connections.{WorkedOver};
 ghost use Rattle.http_front.specs.Turns.{most_requests};
 ghost use Rattle.print_server.specs.Connections.{IsAtMostOneMore, ServedOver};
 ghost use Rattle.print_server.specs.Lines.{served_line, served_lines};
@@ -160,9 +160,8 @@ impl Service<'_> {
     ) -> Outcome
         requires { IsMoment now }
         ensures began { B.is_honest book.new → B.is_honest book.old }
-        ensures worked { B.is_honest book.new → (w : World) → B.stands book.old w → self.entry.settings.now ≡ w.settings
-            → (u : World) × B.stands book.new u × (k : Worked most_requests now w u result.acted)
-            × CarriesAll (B.crash_leaves book.old) (B.crash_leaves book.new) now k.turns w u }
+        ensures worked { ComesTo B.QueueBook book.old book.new self.entry.settings.now (λ w u.
+            WorkedOver (B.crash_leaves book.old) (B.crash_leaves book.new) now w u result.acted) }
         ensures few { result.acted ≤ most_requests }
         ensures live { B.is_honest book.new → B.is_live book.old → result.has_fault ≡ false → B.is_live book.new }
     {

@@ -1,9 +1,8 @@
-use Rattle.std.proofs.Common.{◌≡◌, ℕ, Bool, true, false, ◌∙◌, arith, rules, ap, refl, sym, subst, if◌then◌else◌, ◌+◌, ◌^◌}
+use Rattle.std.proofs.Common.{◌≡◌, ℕ, Bool, true, false, ◌∙◌, arith, rules, ap, refl, sym, subst, if◌then◌else◌, ◌+◌, ◌^◌, IfSome}
 use Rattle.http_head.specs.Left.{left}
 use Rattle.http_head.specs.declared.end.End.{End}
 use Rattle.http_head.specs.declared.end.Finish.TheVariants.{Done}
 use Rattle.http_front.specs.Connections.{IsServed}
-use Rattle.http_front.specs.Crash.{CarriesAll}
 use Rattle.http_front.proofs.CrashLemmas.{carries_no_turn}
 use Rattle.http_front.proofs.RunLemmas.{ran_none, ran_on, run_settings, served_done, served_ended, stopped_at, worked_done, worked_ended, worked_stopped}
 use Rattle.http_front.proofs.connection.run.Goals as goal
@@ -21,7 +20,7 @@ turns-init g c = record {
   never_more = omega arith;
   began = λ h. h;
   live = λ h live none. live;
-  ran = λ h w st set. (w, st, ran_none _ _ _ _, carries_no_turn (g.B.QueueBook.crash_leaves c.args.book.now) c.args.context.now w);
+  ran = λ h w st set. (w, st, (ran_none _ _ _ _, carries_no_turn (g.B.QueueBook.crash_leaves c.args.book.now) c.args.context.now w));
 }
 
 pub turns-preserved : goal.turns-preserved
@@ -36,87 +35,87 @@ turns-preserved g c = record {
       (rw c.in-Ok-Answered.field-0-is at (c.in-Ok-Answered.ensures.live h (c.turns.invariant.live (c.turn.ensures.began h) live clear.0))) clear.1;
   ran = λ h w st set.
       let r = c.turns.invariant.ran (c.turn.ensures.began h) w st set in
-      let t = rw c.in-Ok-Answered.field-0-is at (c.in-Ok-Answered.ensures.turned h r.0 r.1 (run_settings c.args.context.settings.now c.turns.k c.args.context.now w r.0 _ _ _ _ c.turns.acted c.turns.faults r.2 set)) in
+      let t = rw c.in-Ok-Answered.field-0-is at (c.in-Ok-Answered.ensures.turned h r.0 r.1 (run_settings c.args.context.settings.now c.turns.k c.args.context.now w r.0 _ _ _ _ c.turns.acted c.turns.faults r.2.0 set)) in
       let on = ran_on (g.B.QueueBook.crash_leaves c.args.book.now) (g.B.QueueBook.crash_leaves c.turns.book) (g.B.QueueBook.crash_leaves c.turn.new.book) c.turns.k c.args.context.now w r.0 t.0
       (left c.args.input.now.buffer (g.R.Read.remaining c.args.input.now.reader)) (left c.turns.input.buffer (g.R.Read.remaining c.turns.input.reader)) (left c.turn.new.input.buffer (g.R.Read.remaining c.turn.new.input.reader))
       (g.W.Write.contents c.args.writer.now) (g.W.Write.contents c.turns.writer) (g.W.Write.contents c.turn.new.writer)
       c.turns.acted c.turns.faults c.from-acted.result c.mark-faults.result c.in-Ok-Answered.tally c.in-Ok-Answered.closes
-      r.2 r.3 t.2 (counted _ _ c.from-acted.ensures) c.mark-faults.ensures.exact c.if-closes.false in
-      (t.0, t.1, on.0, on.1);
+      r.2.0 r.2.1 t.2 (counted _ _ c.from-acted.ensures) c.mark-faults.ensures.exact c.if-closes.false in
+      (t.0, t.1, on);
 }
 
 pub returns-then-closes-clause-served : goal.returns-then-closes-clause-served
 returns-then-closes-clause-served g c = λ h w st set.
     let r = c.turns.invariant.ran (c.turn.ensures.began h) w st set in
-    let t = rw c.in-Ok-Answered.field-0-is at (c.in-Ok-Answered.ensures.turned h r.0 r.1 (run_settings c.args.context.settings.now c.turns.k c.args.context.now w r.0 _ _ _ _ c.turns.acted c.turns.faults r.2 set)) in (
+    let t = rw c.in-Ok-Answered.field-0-is at (c.in-Ok-Answered.ensures.turned h r.0 r.1 (run_settings c.args.context.settings.now c.turns.k c.args.context.now w r.0 _ _ _ _ c.turns.acted c.turns.faults r.2.0 set)) in (
       t.0,
       t.1,
       served_done (g.B.QueueBook.crash_leaves c.args.book.now) (g.B.QueueBook.crash_leaves c.turns.book) (g.B.QueueBook.crash_leaves c.turn.new.book) c.turns.k c.args.context.now w r.0 t.0
           (left c.args.input.now.buffer (g.R.Read.remaining c.args.input.now.reader)) (left c.turns.input.buffer (g.R.Read.remaining c.turns.input.reader)) (left c.turn.new.input.buffer (g.R.Read.remaining c.turn.new.input.reader))
           (g.W.Write.contents c.args.writer.now) (g.W.Write.contents c.turns.writer) (g.W.Write.contents c.turn.new.writer)
           c.turns.acted c.turns.faults c.from-acted.result c.mark-faults.result c.in-Ok-Answered.tally c.in-Ok-Answered.closes
-          c.turns.invariant.few r.2 r.3 t.2 (counted _ _ c.from-acted.ensures) c.mark-faults.ensures.exact c.if-closes.true,
+          c.turns.invariant.few r.2.0 r.2.1 t.2 (counted _ _ c.from-acted.ensures) c.mark-faults.ensures.exact c.if-closes.true,
     )
 
 pub returns-in-Ok-Ended-clause-served : goal.returns-in-Ok-Ended-clause-served
 returns-in-Ok-Ended-clause-served g c = λ h w st set.
     let r = c.turns.invariant.ran (c.turn.ensures.began h) w st set in
-    let t = rw c.in-Ok-Ended.field-0-is at (c.in-Ok-Ended.ensures.turned h r.0 r.1 (run_settings c.args.context.settings.now c.turns.k c.args.context.now w r.0 _ _ _ _ c.turns.acted c.turns.faults r.2 set)) in (
+    let t = rw c.in-Ok-Ended.field-0-is at (c.in-Ok-Ended.ensures.turned h r.0 r.1 (run_settings c.args.context.settings.now c.turns.k c.args.context.now w r.0 _ _ _ _ c.turns.acted c.turns.faults r.2.0 set)) in (
       t.0,
       t.1,
-      subst (λ (z : End). IsServed (λ turns. CarriesAll (g.B.QueueBook.crash_leaves c.args.book.now) (g.B.QueueBook.crash_leaves c.turn.new.book) c.args.context.now turns w t.0) c.args.context.now w t.0 (left c.args.input.now.buffer (g.R.Read.remaining c.args.input.now.reader)) (g.W.Write.contents c.args.writer.now) (g.W.Write.contents c.turn.new.writer)
-          (record { acted = c.turns.acted; faults = c.mark.result; end = z })) (sym c.end.ensures)
+      subst (λ (z : End). IfSome (left c.args.input.now.buffer (g.R.Read.remaining c.args.input.now.reader)) (IsServed (g.B.QueueBook.crash_leaves c.args.book.now) (g.B.QueueBook.crash_leaves c.turn.new.book) c.args.context.now w t.0
+          (g.W.Write.contents c.args.writer.now) (g.W.Write.contents c.turn.new.writer) (record { acted = c.turns.acted; faults = c.mark.result; end = z }))) (sym c.end.ensures)
           (served_ended (g.B.QueueBook.crash_leaves c.args.book.now) (g.B.QueueBook.crash_leaves c.turns.book) (g.B.QueueBook.crash_leaves c.turn.new.book) c.turns.k c.args.context.now w r.0 t.0
           (left c.args.input.now.buffer (g.R.Read.remaining c.args.input.now.reader)) (left c.turns.input.buffer (g.R.Read.remaining c.turns.input.reader)) (left c.turn.new.input.buffer (g.R.Read.remaining c.turn.new.input.reader))
           (g.W.Write.contents c.args.writer.now) (g.W.Write.contents c.turns.writer) (g.W.Write.contents c.turn.new.writer)
-          c.turns.acted c.turns.faults c.mark.result c.in-Ok-Ended.finish c.turns.invariant.few r.2 r.3 t.2
+          c.turns.acted c.turns.faults c.mark.result c.in-Ok-Ended.finish c.turns.invariant.few r.2.0 r.2.1 t.2
           (c.mark.ensures.exact ∙ ap (λ b. c.turns.faults + (if b then 2 ^ c.turns.k else 0)) c.is_unavailable.ensures)),
     )
 
 pub returns-in-Err-clause-broken : goal.returns-in-Err-clause-broken
 returns-in-Err-clause-broken g c = λ h w st set.
     let r = c.turns.invariant.ran (c.turn.ensures.began h) w st set in
-    let t = c.in-Err.ensures.turned h r.0 r.1 (run_settings c.args.context.settings.now c.turns.k c.args.context.now w r.0 _ _ _ _ c.turns.acted c.turns.faults r.2 set) in (
+    let t = c.in-Err.ensures.turned h r.0 r.1 (run_settings c.args.context.settings.now c.turns.k c.args.context.now w r.0 _ _ _ _ c.turns.acted c.turns.faults r.2.0 set) in (
       t.0,
       t.1,
       stopped_at (g.B.QueueBook.crash_leaves c.args.book.now) (g.B.QueueBook.crash_leaves c.turns.book) (g.B.QueueBook.crash_leaves c.turn.new.book) c.turns.k c.args.context.now w r.0 t.0
           (left c.args.input.now.buffer (g.R.Read.remaining c.args.input.now.reader)) (left c.turns.input.buffer (g.R.Read.remaining c.turns.input.reader)) (left c.turn.new.input.buffer (g.R.Read.remaining c.turn.new.input.reader))
           (g.W.Write.contents c.args.writer.now) (g.W.Write.contents c.turns.writer) (g.W.Write.contents c.turn.new.writer)
           c.turns.acted c.turns.faults c.from.result c.mark-in-Err.result c.in-Err.stopped
-          c.turns.invariant.few r.2 r.3 t.2 (counted _ _ c.from.ensures) c.mark-in-Err.ensures.exact,
+          c.turns.invariant.few r.2.0 r.2.1 t.2 (counted _ _ c.from.ensures) c.mark-in-Err.ensures.exact,
     )
 
 pub returns-then-closes-clause-worked : goal.returns-then-closes-clause-worked
 returns-then-closes-clause-worked g c = λ h w st set.
     let r = c.turns.invariant.ran (c.turn.ensures.began h) w st set in
-    let t = rw c.in-Ok-Answered.field-0-is at (c.in-Ok-Answered.ensures.turned h r.0 r.1 (run_settings c.args.context.settings.now c.turns.k c.args.context.now w r.0 _ _ _ _ c.turns.acted c.turns.faults r.2 set)) in
+    let t = rw c.in-Ok-Answered.field-0-is at (c.in-Ok-Answered.ensures.turned h r.0 r.1 (run_settings c.args.context.settings.now c.turns.k c.args.context.now w r.0 _ _ _ _ c.turns.acted c.turns.faults r.2.0 set)) in
     let all = worked_done (g.B.QueueBook.crash_leaves c.args.book.now) (g.B.QueueBook.crash_leaves c.turns.book) (g.B.QueueBook.crash_leaves c.turn.new.book) c.turns.k c.args.context.now w r.0 t.0
     (left c.args.input.now.buffer (g.R.Read.remaining c.args.input.now.reader)) (left c.turns.input.buffer (g.R.Read.remaining c.turns.input.reader)) (left c.turn.new.input.buffer (g.R.Read.remaining c.turn.new.input.reader))
     (g.W.Write.contents c.args.writer.now) (g.W.Write.contents c.turns.writer) (g.W.Write.contents c.turn.new.writer)
     c.turns.acted c.turns.faults c.from-acted.result c.mark-faults.result c.in-Ok-Answered.tally c.in-Ok-Answered.closes
-    c.turns.invariant.few r.2 r.3 t.2 (counted _ _ c.from-acted.ensures) c.mark-faults.ensures.exact in
-    (t.0, t.1, all.0, all.1, (Done, refl, all.2))
+    c.turns.invariant.few r.2.0 r.2.1 t.2 (counted _ _ c.from-acted.ensures) c.mark-faults.ensures.exact in
+    (t.0, t.1, (all.0, all.1, (Done, refl, all.2)))
 
 pub returns-in-Ok-Ended-clause-worked : goal.returns-in-Ok-Ended-clause-worked
 returns-in-Ok-Ended-clause-worked g c = λ h w st set.
     let r = c.turns.invariant.ran (c.turn.ensures.began h) w st set in
-    let t = rw c.in-Ok-Ended.field-0-is at (c.in-Ok-Ended.ensures.turned h r.0 r.1 (run_settings c.args.context.settings.now c.turns.k c.args.context.now w r.0 _ _ _ _ c.turns.acted c.turns.faults r.2 set)) in
+    let t = rw c.in-Ok-Ended.field-0-is at (c.in-Ok-Ended.ensures.turned h r.0 r.1 (run_settings c.args.context.settings.now c.turns.k c.args.context.now w r.0 _ _ _ _ c.turns.acted c.turns.faults r.2.0 set)) in
     let all = worked_ended (g.B.QueueBook.crash_leaves c.args.book.now) (g.B.QueueBook.crash_leaves c.turns.book) (g.B.QueueBook.crash_leaves c.turn.new.book) c.turns.k c.args.context.now w r.0 t.0
     (left c.args.input.now.buffer (g.R.Read.remaining c.args.input.now.reader)) (left c.turns.input.buffer (g.R.Read.remaining c.turns.input.reader)) (left c.turn.new.input.buffer (g.R.Read.remaining c.turn.new.input.reader))
     (g.W.Write.contents c.args.writer.now) (g.W.Write.contents c.turns.writer) (g.W.Write.contents c.turn.new.writer)
-    c.turns.acted c.turns.faults c.mark.result c.in-Ok-Ended.finish c.turns.invariant.few r.2 r.3 t.2
+    c.turns.acted c.turns.faults c.mark.result c.in-Ok-Ended.finish c.turns.invariant.few r.2.0 r.2.1 t.2
     (c.mark.ensures.exact ∙ ap (λ b. c.turns.faults + (if b then 2 ^ c.turns.k else 0)) c.is_unavailable.ensures) in
-    (t.0, t.1, all.0, all.1, (c.in-Ok-Ended.finish, c.end.ensures, all.2))
+    (t.0, t.1, (all.0, all.1, (c.in-Ok-Ended.finish, c.end.ensures, all.2)))
 
 pub returns-in-Err-clause-worked : goal.returns-in-Err-clause-worked
 returns-in-Err-clause-worked g c = λ h w st set.
     let r = c.turns.invariant.ran (c.turn.ensures.began h) w st set in
-    let t = c.in-Err.ensures.turned h r.0 r.1 (run_settings c.args.context.settings.now c.turns.k c.args.context.now w r.0 _ _ _ _ c.turns.acted c.turns.faults r.2 set) in
+    let t = c.in-Err.ensures.turned h r.0 r.1 (run_settings c.args.context.settings.now c.turns.k c.args.context.now w r.0 _ _ _ _ c.turns.acted c.turns.faults r.2.0 set) in
     let all = worked_stopped (g.B.QueueBook.crash_leaves c.args.book.now) (g.B.QueueBook.crash_leaves c.turns.book) (g.B.QueueBook.crash_leaves c.turn.new.book) c.turns.k c.args.context.now w r.0 t.0
     (left c.args.input.now.buffer (g.R.Read.remaining c.args.input.now.reader)) (left c.turns.input.buffer (g.R.Read.remaining c.turns.input.reader)) (left c.turn.new.input.buffer (g.R.Read.remaining c.turn.new.input.reader))
     (g.W.Write.contents c.args.writer.now) (g.W.Write.contents c.turns.writer) (g.W.Write.contents c.turn.new.writer)
-    c.turns.acted c.turns.faults c.from.result c.mark-in-Err.result c.in-Err.stopped c.turns.invariant.few r.2 r.3 t.2 (counted _ _ c.from.ensures) c.mark-in-Err.ensures.exact in
-    (t.0, t.1, all.0, all.1, all.2)
+    c.turns.acted c.turns.faults c.from.result c.mark-in-Err.result c.in-Err.stopped c.turns.invariant.few r.2.0 r.2.1 t.2 (counted _ _ c.from.ensures) c.mark-in-Err.ensures.exact in
+    (t.0, t.1, all)
 
 pub returns-then-closes-clause-live : goal.returns-then-closes-clause-live
 returns-then-closes-clause-live g c = λ h live none.

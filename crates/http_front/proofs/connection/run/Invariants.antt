@@ -1,6 +1,6 @@
 use Rattle.std.proofs.Common.{◌-◌, ◌^◌, ◌<◌, ◌≤◌, ◌≡◌}
-use Rattle.queue_core.specs.World.{World}
 use Rattle.http_head.specs.Left.{left}
+use Rattle.http_front.specs.Books.{ComesTo}
 use Rattle.http_front.specs.Crash.{CarriesAll}
 use Rattle.http_front.specs.Turns.{last_request, most_requests}
 use Rattle.http_front.proofs.Runs.{RanOn}
@@ -14,10 +14,10 @@ invariant-turns g l = record {
   never_more : l.input.reads_left ≤ l.initial.input.reads_left;
   began : g.B.QueueBook.is_honest l.book → g.B.QueueBook.is_honest l.initial.book;
   live : g.B.QueueBook.is_honest l.book → g.B.QueueBook.is_live l.initial.book → l.faults ≡ 0 → g.B.QueueBook.is_live l.book;
-  ran : g.B.QueueBook.is_honest l.book → (w : World) → g.B.QueueBook.stands l.initial.book w → l.context.settings.now ≡ w.settings → (u : World) × g.B.QueueBook.stands l.book u
-      × (so_far : RanOn l.k l.context.now w u (left l.initial.input.buffer (g.R.Read.remaining l.initial.input.reader)) (left l.input.buffer (g.R.Read.remaining l.input.reader))
+  ran : ComesTo g.B.QueueBook l.initial.book l.book l.context.settings.now (λ w u.
+      (so_far : RanOn l.k l.context.now w u (left l.initial.input.buffer (g.R.Read.remaining l.initial.input.reader)) (left l.input.buffer (g.R.Read.remaining l.input.reader))
       (g.W.Write.contents l.initial.writer) (g.W.Write.contents l.writer) l.acted l.faults)
-      × CarriesAll (g.B.QueueBook.crash_leaves l.initial.book) (g.B.QueueBook.crash_leaves l.book) l.context.now so_far.run.turns w u;
+      × CarriesAll (g.B.QueueBook.crash_leaves l.initial.book) (g.B.QueueBook.crash_leaves l.book) l.context.now so_far.run.turns w u);
 }
 
 abbrev pub decreases-turns : goal.decreases-turns

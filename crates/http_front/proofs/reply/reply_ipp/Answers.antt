@@ -13,8 +13,10 @@ pub returns-in-Err-clause-replied : goal.returns-in-Err-clause-replied
 returns-in-Err-clause-replied g c = λ honest w st set. (
   w,
   c.in-Err.ensures.err w st,
-  replied_declined c.args.context.now w Ipp c.args.content.now c.args.closes BadRequest _ (inl (refl, c.in-Err.ensures.short.0 (search rules))),
-  λ v left. (v, c.in-Err.ensures.err_left honest w v left, untaken refl refl),
+  (
+    replied_declined c.args.context.now w Ipp c.args.content.now c.args.closes BadRequest _ (inl (refl, c.in-Err.ensures.short.0 (search rules))),
+    λ v left. (v, c.in-Err.ensures.err_left honest w v left, untaken refl refl),
+  ),
 )
 
 pub returns-in-Ok-clause-replied : goal.returns-in-Ok-clause-replied
@@ -30,6 +32,8 @@ returns-in-Ok-clause-replied g c = λ honest w st set.
     let sent = sent_of tally v x bytes c.send.result c.send.ensures.ok c.send.ensures.err in (
       u,
       a.2,
-      replied_sent c.args.context.now w u Ipp c.args.content.now c.args.closes c.is_fault.result tally v x (codes "application/ipp") c.bytes.result.now c.send.result answer refl refl sent,
-      carries_sent (g.B.QueueBook.crash_leaves c.args.book.now) (g.B.QueueBook.crash_leaves c.answer.new.book) c.args.context.now w u Ipp c.args.content.now tally v x bytes c.send.result sent a.3,
+      (
+        replied_sent c.args.context.now w u Ipp c.args.content.now c.args.closes c.is_fault.result tally v x (codes "application/ipp") c.bytes.result.now c.send.result answer refl refl sent,
+        carries_sent (g.B.QueueBook.crash_leaves c.args.book.now) (g.B.QueueBook.crash_leaves c.answer.new.book) c.args.context.now w u Ipp c.args.content.now tally v x bytes c.send.result sent a.3,
+      ),
     )

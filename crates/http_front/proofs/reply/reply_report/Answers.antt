@@ -18,6 +18,8 @@ returns-clause-replied g c = λ honest w st.
     let sent = sent_of tally v x bytes c.send.result c.send.ensures.ok c.send.ensures.err in (
       u,
       a.2,
-      replied_sent c.args.now w u Report c.args.content.now c.args.closes c.is_fault.result tally v x (codes "text/plain") c.bytes.result.now c.send.result answer refl refl sent,
-      carries_sent (g.B.QueueBook.crash_leaves c.args.book.now) (g.B.QueueBook.crash_leaves c.report-answer.new.book) c.args.now w u Report c.args.content.now tally v x bytes c.send.result sent a.3,
+      (
+        replied_sent c.args.now w u Report c.args.content.now c.args.closes c.is_fault.result tally v x (codes "text/plain") c.bytes.result.now c.send.result answer refl refl sent,
+        carries_sent (g.B.QueueBook.crash_leaves c.args.book.now) (g.B.QueueBook.crash_leaves c.report-answer.new.book) c.args.now w u Report c.args.content.now tally v x bytes c.send.result sent a.3,
+      ),
     )

@@ -2,7 +2,6 @@ use Rattle.std.proofs.Common.{refl}
 use Rattle.http_head.specs.Left.{left}
 use Rattle.http_head.specs.declared.end.Finish.TheVariants.{Refused}
 use Rattle.http_head.specs.declared.end.Refusal.TheVariants.{ServiceUnavailable}
-use Rattle.queue_core.specs.Crash.{Carries}
 use Rattle.http_front.proofs.CrashLemmas.{carries_none}
 use Rattle.http_front.proofs.TurnedLemmas.{planned_unsaid, planned_unread, planned_closed, planned_answered, planned_broken, end_in_body, end_unavailable, end_declined, body_as, said_on, closed_faultless}
 use Rattle.http_front.proofs.WriteLemmas.{by_write}
@@ -16,9 +15,8 @@ returns-in_err-invited-clause-planned g c = λ honest w st set.
     let x = g.W.Write.contents c.send_continue.new.writer in (
       w,
       st,
-      by_write (λ result. IsPlanned (λ asks. Carries (g.B.QueueBook.crash_leaves c.args.book.now) (g.B.QueueBook.crash_leaves c.args.book.now) asks c.args.context.now w w) c.args.context.now c.args.numbered.k w w c.args.numbered.plan r r v x result) c.from_residual.result c.from_residual.ensures.1
-          (λ f acted fault. planned_unsaid (λ asks. Carries (g.B.QueueBook.crash_leaves c.args.book.now) (g.B.QueueBook.crash_leaves c.args.book.now) asks c.args.context.now w w) c.args.context.now c.args.numbered.k w c.args.numbered.plan r r v x f acted fault c.in_err-invited.ensures.err
-          (carries_none (g.B.QueueBook.crash_leaves c.args.book.now) (λ e. ⊥) c.args.context.now w)),
+      by_write (λ result. IsPlanned (g.B.QueueBook.crash_leaves c.args.book.now) (g.B.QueueBook.crash_leaves c.args.book.now) c.args.context.now c.args.numbered.k w w c.args.numbered.plan r r v x result) c.from_residual.result c.from_residual.ensures.1
+          (λ f acted fault. planned_unsaid (g.B.QueueBook.crash_leaves c.args.book.now) c.args.context.now c.args.numbered.k w c.args.numbered.plan r r v x f acted fault c.in_err-invited.ensures.err),
     )
 
 pub returns-in-Err-Ended-clause-planned : goal.returns-in-Err-Ended-clause-planned
@@ -27,7 +25,7 @@ returns-in-Err-Ended-clause-planned g c = λ honest w st set.
     let s = left c.take_framed.new.input.buffer (g.R.Read.remaining c.take_framed.new.input.reader) in (
       w,
       st,
-      planned_closed (λ asks. Carries (g.B.QueueBook.crash_leaves c.args.book.now) (g.B.QueueBook.crash_leaves c.args.book.now) asks c.args.context.now w w) c.args.context.now c.args.numbered.k w w c.args.numbered.plan r s (g.W.Write.contents c.args.writer.now) (g.W.Write.contents c.send_continue.new.writer) (g.W.Write.contents c.close_with.new.writer) c.in-Err-Ended.end c.close_with.result refl
+      planned_closed (g.B.QueueBook.crash_leaves c.args.book.now) (g.B.QueueBook.crash_leaves c.args.book.now) c.args.context.now c.args.numbered.k w w c.args.numbered.plan r s (g.W.Write.contents c.args.writer.now) (g.W.Write.contents c.send_continue.new.writer) (g.W.Write.contents c.close_with.new.writer) c.in-Err-Ended.end c.close_with.result refl
           (carries_none (g.B.QueueBook.crash_leaves c.args.book.now) (λ e. ⊥) c.args.context.now w)
           (end_in_body w c.args.numbered.plan r c.in-Err-Ended.end (rw c.in-Err-Ended.field-0-is at c.in-Err-Ended.ensures.ended)) c.in_ok-invited.ensures.ok (rw c.in-Err-Ended.field-0-is at c.close_with.ensures),
     )
@@ -38,8 +36,7 @@ returns-in-Err-Read-clause-planned g c = λ honest w st set.
     let s = left c.take_framed.new.input.buffer (g.R.Read.remaining c.take_framed.new.input.reader) in (
       w,
       st,
-      planned_unread (λ asks. Carries (g.B.QueueBook.crash_leaves c.args.book.now) (g.B.QueueBook.crash_leaves c.args.book.now) asks c.args.context.now w w) c.args.context.now c.args.numbered.k w c.args.numbered.plan r s (g.W.Write.contents c.args.writer.now) (g.W.Write.contents c.send_continue.new.writer) c.by.result c.by.ensures.acted c.by.ensures.is_fault c.in_ok-invited.ensures.ok
-          (carries_none (g.B.QueueBook.crash_leaves c.args.book.now) (λ e. ⊥) c.args.context.now w),
+      planned_unread (g.B.QueueBook.crash_leaves c.args.book.now) c.args.context.now c.args.numbered.k w c.args.numbered.plan r s (g.W.Write.contents c.args.writer.now) (g.W.Write.contents c.send_continue.new.writer) c.by.result c.by.ensures.acted c.by.ensures.is_fault c.in_ok-invited.ensures.ok,
     )
 
 pub returns-in-Err-Memory-clause-planned : goal.returns-in-Err-Memory-clause-planned
@@ -48,7 +45,7 @@ returns-in-Err-Memory-clause-planned g c = λ honest w st set.
     let s = left c.take_framed.new.input.buffer (g.R.Read.remaining c.take_framed.new.input.reader) in (
       w,
       st,
-      planned_closed (λ asks. Carries (g.B.QueueBook.crash_leaves c.args.book.now) (g.B.QueueBook.crash_leaves c.args.book.now) asks c.args.context.now w w) c.args.context.now c.args.numbered.k w w c.args.numbered.plan r s (g.W.Write.contents c.args.writer.now) (g.W.Write.contents c.send_continue.new.writer) (g.W.Write.contents c.close_with-in-Err-Memory.new.writer) (Refused ServiceUnavailable) c.close_with-in-Err-Memory.result refl
+      planned_closed (g.B.QueueBook.crash_leaves c.args.book.now) (g.B.QueueBook.crash_leaves c.args.book.now) c.args.context.now c.args.numbered.k w w c.args.numbered.plan r s (g.W.Write.contents c.args.writer.now) (g.W.Write.contents c.send_continue.new.writer) (g.W.Write.contents c.close_with-in-Err-Memory.new.writer) (Refused ServiceUnavailable) c.close_with-in-Err-Memory.result refl
           (carries_none (g.B.QueueBook.crash_leaves c.args.book.now) (λ e. ⊥) c.args.context.now w)
           (end_unavailable w c.args.numbered.plan r) c.in_ok-invited.ensures.ok c.close_with-in-Err-Memory.ensures,
     )
@@ -61,9 +58,16 @@ returns-in-Ok-Answered-clause-planned g c = λ honest w st set.
     let t = rw c.in-Ok-Answered.field-0-is at (c.in-Ok-Answered.ensures.replied honest w st set) in (
       t.0,
       t.1,
-      planned_answered (λ asks. Carries (g.B.QueueBook.crash_leaves c.args.book.now) (g.B.QueueBook.crash_leaves c.reply.new.book) asks c.args.context.now w t.0) c.args.context.now c.args.numbered.k w t.0 c.args.numbered.plan r s (g.W.Write.contents c.args.writer.now) (g.W.Write.contents c.send_continue.new.writer) (g.W.Write.contents c.reply.new.writer)
-          f.0 c.as_slice.result.now t.2.0 c.in-Ok-Answered.tally c.closes_after-closes.result c.in_ok-invited.ensures.ok
-          (body_as c.args.numbered.plan.framing f.0 c.in-Ok.content.items c.as_slice.result.now f.1 c.as_slice.ensures.value) f.2 t.2.1 t.2.2 t.2.3 c.closes_after-closes.ensures t.3,
+      planned_answered (g.B.QueueBook.crash_leaves c.args.book.now) (g.B.QueueBook.crash_leaves c.reply.new.book) c.args.context.now c.args.numbered.k w t.0 c.args.numbered.plan r s (g.W.Write.contents c.args.writer.now) (g.W.Write.contents c.send_continue.new.writer) (g.W.Write.contents c.reply.new.writer) c.in-Ok-Answered.tally c.closes_after-closes.result c.in_ok-invited.ensures.ok
+          (record {
+            raw = f.0;
+            content = c.as_slice.result.now;
+            taken = f.2;
+            body = body_as c.args.numbered.plan.framing f.0 c.in-Ok.content.items c.as_slice.result.now f.1 c.as_slice.ensures.value;
+            reply = t.2.0.0;
+            closes_is = c.closes_after-closes.ensures;
+            carries = t.2.1;
+          }) t.2.0.1,
     )
 
 pub returns-in-Ok-Declined-clause-planned : goal.returns-in-Ok-Declined-clause-planned
@@ -77,9 +81,9 @@ returns-in-Ok-Declined-clause-planned g c = λ honest w st set.
     let z = c.in-Ok-Declined.refusal in (
       t.0,
       t.1,
-      planned_closed (λ asks. Carries (g.B.QueueBook.crash_leaves c.args.book.now) (g.B.QueueBook.crash_leaves c.reply.new.book) asks c.args.context.now w t.0) c.args.context.now c.args.numbered.k w t.0 c.args.numbered.plan r s v m (g.W.Write.contents c.close_with-in-Ok-Declined.new.writer) (Refused z) c.close_with-in-Ok-Declined.result t.2.2 t.3
-          (end_declined w c.args.numbered.plan r s f.0 c.as_slice.result.now z f.2 (body_as c.args.numbered.plan.framing f.0 c.in-Ok.content.items c.as_slice.result.now f.1 c.as_slice.ensures.value) t.2.0)
-          (said_on v (g.W.Write.contents c.send_continue.new.writer) m c.args.numbered.plan c.in_ok-invited.ensures.ok t.2.1) c.close_with-in-Ok-Declined.ensures,
+      planned_closed (g.B.QueueBook.crash_leaves c.args.book.now) (g.B.QueueBook.crash_leaves c.reply.new.book) c.args.context.now c.args.numbered.k w t.0 c.args.numbered.plan r s v m (g.W.Write.contents c.close_with-in-Ok-Declined.new.writer) (Refused z) c.close_with-in-Ok-Declined.result t.2.0.2 t.2.1
+          (end_declined w c.args.numbered.plan r s f.0 c.as_slice.result.now z f.2 (body_as c.args.numbered.plan.framing f.0 c.in-Ok.content.items c.as_slice.result.now f.1 c.as_slice.ensures.value) t.2.0.0)
+          (said_on v (g.W.Write.contents c.send_continue.new.writer) m c.args.numbered.plan c.in_ok-invited.ensures.ok t.2.0.1) c.close_with-in-Ok-Declined.ensures,
     )
 
 pub returns-clause-planned : goal.returns-clause-planned
@@ -90,9 +94,16 @@ returns-clause-planned g c = λ honest w st set.
     let t = c.in-Err.ensures.replied honest w st set in (
       t.0,
       t.1,
-      planned_broken (λ asks. Carries (g.B.QueueBook.crash_leaves c.args.book.now) (g.B.QueueBook.crash_leaves c.reply.new.book) asks c.args.context.now w t.0) c.args.context.now c.args.numbered.k w t.0 c.args.numbered.plan r s (g.W.Write.contents c.args.writer.now) (g.W.Write.contents c.send_continue.new.writer) (g.W.Write.contents c.reply.new.writer)
-          f.0 c.as_slice.result.now t.2.0 c.in-Err.stopped c.closes_after-closes.result c.in_ok-invited.ensures.ok
-          (body_as c.args.numbered.plan.framing f.0 c.in-Ok.content.items c.as_slice.result.now f.1 c.as_slice.ensures.value) f.2 t.2.1 t.2.2 t.2.3 c.closes_after-closes.ensures t.3,
+      planned_broken (g.B.QueueBook.crash_leaves c.args.book.now) (g.B.QueueBook.crash_leaves c.reply.new.book) c.args.context.now c.args.numbered.k w t.0 c.args.numbered.plan r s (g.W.Write.contents c.args.writer.now) (g.W.Write.contents c.send_continue.new.writer) (g.W.Write.contents c.reply.new.writer) c.in-Err.stopped c.closes_after-closes.result c.in_ok-invited.ensures.ok
+          (record {
+            raw = f.0;
+            content = c.as_slice.result.now;
+            taken = f.2;
+            body = body_as c.args.numbered.plan.framing f.0 c.in-Ok.content.items c.as_slice.result.now f.1 c.as_slice.ensures.value;
+            reply = t.2.0.0;
+            closes_is = c.closes_after-closes.ensures;
+            carries = t.2.1;
+          }) t.2.0.1,
     )
 
 pub returns-in-Ok-Answered-clause-live : goal.returns-in-Ok-Answered-clause-live
