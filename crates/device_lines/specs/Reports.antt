@@ -1,4 +1,4 @@
--- What a line of the device brings about: an answer, and the world after it.
+-- What a line of the device brings about: an answer, and the queue after it.
 use Rattle.std.specs.Prelude.{◌≡◌, ◌⊎◌, ◌++◌, ℕ, Bool, List, Option, Some, None, Result, Ok, Err, codes, decimal, bytes_eq, MatchBool}
 use Rattle.queue_types.specs.Event.{Event, tell}
 use Rattle.queue_types.specs.States.{job_state_number}
@@ -53,12 +53,12 @@ pub record IsReplyToReport (job : ℕ) (out : List ℕ) : Type 0 where
 
 -- ---- one line
 
--- a report is one step of the machine; what can't be read leaves the world as it was
+-- out and new are what the reading of a line brings about: a report is one step of the machine, and what can't be read leaves the world
 abbrev pub BringsAbout : Result Report LineFault → World → ℕ → World → List ℕ → Type 0
 BringsAbout (Ok r) old now new out = (new ≡ (step old now (tell r)).world) × AnswersReport r.job (step old now (tell r)).reply out
 BringsAbout (Err fault) old now new out = (new ≡ old) × (out ≡ unread_line fault)
 
--- out is the answer to the line, and new the world after it
+-- out is the answer to the line, and new the queue after it
 pub record IsReported (old : World) (now : ℕ) (line : List ℕ) (new : World) (out : List ℕ) : Type 0 where
   pub reading : Result Report LineFault
   pub reads : Reads line reading
@@ -70,11 +70,11 @@ pub record IsUntaken (line : List ℕ) (out : List ℕ) : Type 0 where
   pub reads : Reads line (Ok report)
   pub text : out ≡ fault_line
 
--- out answers the line at this moment, and new is the world after it; or out tells of a fault, and the world stays
+-- out answers the line at this moment, and new is the queue after it; or out tells of a fault, and the queue stays
 abbrev pub AnswersLine : World → ℕ → List ℕ → World → List ℕ → Type 0
 AnswersLine old now line new out = IsReported old now line new out ⊎ (IsUntaken line out × (new ≡ old))
 
--- the line that tells of a fault is told apart: behind it the world stays, and any other is the answer to the line
+-- the line that tells of a fault is told apart: behind it the queue stays, and any other is the answer to the line
 abbrev pub BringsLine : World → ℕ → List ℕ → World → List ℕ → Type 0
 BringsLine old now line new out = MatchBool (is_fault_line out) (IsUntaken line out × (new ≡ old)) (IsReported old now line new out)
 
@@ -82,3 +82,7 @@ BringsLine old now line new out = MatchBool (is_fault_line out) (IsUntaken line 
 pub data Tells (line : List ℕ) : Option Event → Type 0 where
   reports : (r : Report) → Reads line (Ok r) → Tells line (Some (tell r))
   unread : (f : LineFault) → Reads line (Err f) → Tells line None
+
+-- the events that a line tells: its report, where it is one
+abbrev pub ToldBy : List ℕ → Event → Type 0
+ToldBy line = λ e. Tells line (Some e)

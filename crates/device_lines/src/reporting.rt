@@ -1,14 +1,14 @@
 //! One line of the device, from its bytes to those of its answer.
-ghost use Rattle.std.specs.Prelude.{◌≡◌, ◌⊎◌, Err, Ok, Some, IfOk, OnOk, OnErr, false};
+ghost use Rattle.std.specs.Prelude.{◌≡◌, ◌⊎◌, Err, Ok, IfOk, OnOk, OnErr, false};
 ghost use Rattle.std.specs.Bool.{OnFalse, OnTrue};
 ghost use Rattle.queue_types.specs.Event.{tell};
 ghost use Rattle.queue_types.specs.declared.event.Report.{Report};
-ghost use Rattle.queue_core.specs.Crash.{Leaves};
+ghost use Rattle.queue_core.specs.Crash.{Carries, Leaves};
 ghost use Rattle.queue_core.specs.Limits.{IsMoment, IsReport, IsReportReply};
 ghost use Rattle.queue_core.specs.Machine.{step as step_of};
 ghost use Rattle.queue_core.specs.World.{World};
 ghost use Rattle.device_lines.specs.Lines.{Reads};
-ghost use Rattle.device_lines.specs.Reports.{AnswersLine, AnswersReport, BringsLine, IsReplyToReport, IsReported, IsUntaken, Tells, fault_line, is_fault_line, unread_line};
+ghost use Rattle.device_lines.specs.Reports.{AnswersLine, AnswersReport, BringsLine, IsReplyToReport, IsReported, IsUntaken, ToldBy, fault_line, is_fault_line, unread_line};
 ghost use Rattle.device_lines.specs.declared.line.LineFault.{LineFault};
 
 use crate::line::read_report;
@@ -23,20 +23,22 @@ use queue_types::event::{Event, Reply, Report};
 pub fn report<B: QueueBook>(book: &mut B, now: u32, line: &[u8]) -> ReportAnswer
     requires moment { IsMoment now }
     ensures began { B.is_honest book.new → B.is_honest book.old }
+
+    // What is answered, and what becomes of the queue: a crash at any moment leaves the report, or leaves it out. This is the whole of it: the
+    // next three clauses are read off it.
+    ensures crash { B.is_honest book.new → (w : World) → B.stands book.old w
+        → (after : World) × BringsLine w now line.now after result × B.stands book.new after
+        × Carries (B.crash_leaves book.old) (B.crash_leaves book.new) (ToldBy line.now) now w after }
     ensures answers { B.is_honest book.new → (w : World) → B.stands book.old w
         → (after : World) × AnswersLine w now line.now after result × B.stands book.new after }
     ensures told { B.is_honest book.new → OnFalse (is_fault_line result) ((w : World) → B.stands book.old w
         → (after : World) × IsReported w now line.now after result × B.stands book.new after) }
     ensures failed { B.is_honest book.new → OnTrue (is_fault_line result) ((w : World) → B.stands book.old w
         → IsUntaken line.now result × B.stands book.new w) }
-    // what shuts a book is answered as a fault
+    // What shuts a book is answered as a fault.
     ensures live { B.is_honest book.new → B.is_live book.old → is_fault_line result ≡ false → B.is_live book.new }
-    // a crash at any moment leaves the report, or leaves it out
-    ensures crash { B.is_honest book.new → (w : World) → B.stands book.old w
-        → (after : World) × BringsLine w now line.now after result × B.stands book.new after
-        × ((v : World) → B.crash_leaves book.old w v → (x : World) × B.crash_leaves book.new after x × Leaves (λ e. Tells line.now (Some e)) now w v after x) }
 
-    // on any book, also one that is not honest
+    // These hold on any book, also on one that is not honest.
     ensures unread { (f : LineFault) → Reads line.now (Err f) → (result ≡ unread_line f)
         × ((w : World) → B.stands book.old w → B.stands book.new w) }
     ensures unseen { (f : LineFault) → Reads line.now (Err f) → book.new ≡ book.old }
@@ -65,7 +67,7 @@ fn step<B: QueueBook>(book: &mut B, now: u32, report: Report) -> Result<ReportAn
     ensures err { OnErr result ((w : World) → B.stands book.old w → B.stands book.new w) }
     ensures crash { B.is_honest book.new → OnErr result ((w v : World) → B.stands book.old w → B.crash_leaves book.old w v
         → (x : World) × B.crash_leaves book.new w x × Leaves (λ e. e ≡ tell report) now w v w x) }
-    // on any book, also one that is not honest
+    // On any book, also on one that is not honest.
     ensures replies { IfOk result (λ a. IsReplyToReport report.job a) }
 {
     let decision = book.decide(now, &Event::Report(report))?;

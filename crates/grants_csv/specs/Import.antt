@@ -15,6 +15,7 @@ use Rattle.grants_csv.specs.declared.fault.ImportCause.TheVariants.{Conflict, To
 use Rattle.grants_csv.specs.declared.fault.ImportFault.{ImportFault}
 use Rattle.grants_csv.specs.declared.importing.Imported.{Imported}
 
+-- why the import refuses a row that the machine refuses so
 abbrev pub cause_of : GrantFault → ImportCause
 cause_of refusal.Conflict = Conflict
 cause_of refusal.TooMany = TooMany
@@ -35,8 +36,8 @@ abbrev pub Refuses : Reply → ImportFault → Type 0
 Refuses (NotAdded why row) f = (f ≡ at_row (cause_of why) row) ⊎ (f ≡ fault)
 Refuses _ f = f ≡ fault
 
--- what the import of an account file at this moment says, and the world after it: its rows are taken as one event; or
--- this is why they are not, or a fault, and the world stays
+-- what the import of an account file at this moment says, and the queue after it: its rows are taken as one event; or
+-- this is why they are not, or a fault, and the queue stays
 abbrev pub Imports : World → ℕ → List ℕ → World → Result Imported ImportFault → Type 0
 Imports old now file new (Ok n) = (rows : List GrantRow) × (rows_of file ≡ Ok rows) × Adds (step old now (grant rows)).reply n × (new ≡ (step old now (grant rows)).world)
 Imports old now file new (Err f) = MatchResult (rows_of file) (λ rows. Refuses (step old now (grant rows)).reply f) (λ bad. (f ≡ bad) ⊎ (f ≡ fault)) × (new ≡ old)
@@ -45,3 +46,7 @@ Imports old now file new (Err f) = MatchResult (rows_of file) (λ rows. Refuses 
 pub data Asks (file : List ℕ) : Option Event → Type 0 where
   grants : (rows : List GrantRow) → rows_of file ≡ Ok rows → Asks file (Some (grant rows))
   unread : (f : ImportFault) → rows_of file ≡ Err f → Asks file None
+
+-- the events that a file asks: its rows, where it has some
+abbrev pub AskedBy : List ℕ → Event → Type 0
+AskedBy file = λ e. Asks file (Some e)

@@ -1,7 +1,7 @@
 //! An account file enters a book.
-ghost use Rattle.std.specs.Prelude.{◌≡◌, ◌≢◌, ◌<◌, ◌⊎◌, List, Err, Ok, Some, IfErr, IfOk, OnErr, OnOk, length};
+ghost use Rattle.std.specs.Prelude.{◌≡◌, ◌≢◌, ◌<◌, ◌⊎◌, List, Err, Ok, IfErr, IfOk, OnErr, OnOk, length};
 ghost use Rattle.queue_types.specs.Event.{grant};
-ghost use Rattle.queue_core.specs.Crash.{Leaves};
+ghost use Rattle.queue_core.specs.Crash.{Carries, Leaves};
 ghost use Rattle.queue_core.specs.Limits.{IsEvent, IsMoment};
 ghost use Rattle.queue_core.specs.Machine.{step};
 ghost use Rattle.queue_core.specs.World.{World};
@@ -9,7 +9,7 @@ ghost use Rattle.queue_types.specs.declared.event.GrantRow.{GrantRow};
 ghost use Rattle.grants_csv.specs.Fault.{IsUnlessFault, at_row, fault};
 ghost use Rattle.grants_csv.specs.File.{rows_of};
 ghost use Rattle.grants_csv.specs.declared.fault.ImportCause.TheVariants.{Range};
-ghost use Rattle.grants_csv.specs.Import.{Adds, Asks, Imports, IsRowRefusal, Refuses};
+ghost use Rattle.grants_csv.specs.Import.{Adds, AskedBy, Imports, IsRowRefusal, Refuses};
 
 use crate::fault::{ImportCause, ImportFault};
 use crate::reading::read_grants;
@@ -66,7 +66,7 @@ fn take_rows<B: QueueBook>(
     ensures still_live { B.is_honest book.new → IfErr result (λ f. f ≢ fault → B.is_live book.new) }
     ensures crash { B.is_honest book.new → OnErr result ((w v : World) → B.stands book.old w → B.crash_leaves book.old w v
         → (x : World) × B.crash_leaves book.new w x × Leaves (λ e. e ≡ grant rows.now) now w v w x) }
-    // on any book, also one that is not honest
+    // On any book, also on one that is not honest.
     ensures replies { IfErr result (λ f. (f ≡ fault) ⊎ IsRowRefusal f) }
 {
     let decision = book.decide(now, &Event::Grants(rows))?;
@@ -92,25 +92,27 @@ pub fn import<B: QueueBook>(
 ) -> Result<Imported, ImportFault>
     requires { IsMoment now }
     ensures began { B.is_honest book.new → B.is_honest book.old }
+
+    // What is told, and what becomes of the queue: a crash at any moment leaves all of the rows, or none. This is the whole of it: the next
+    // three clauses are read off it.
+    ensures crash { B.is_honest book.new → (w : World) → B.stands book.old w
+        → (after : World) × Imports w now bytes.now after result × B.stands book.new after
+        × Carries (B.crash_leaves book.old) (B.crash_leaves book.new) (AskedBy bytes.now) now w after }
     ensures imports { B.is_honest book.new → (w : World) → B.stands book.old w
         → (after : World) × Imports w now bytes.now after result × B.stands book.new after }
     ensures added { B.is_honest book.new → IfOk result (λ n. (w : World) → B.stands book.old w
         → (rows : List GrantRow) × (rows_of bytes.now ≡ Ok rows) × Adds (step w now (grant rows)).reply n × B.stands book.new (step w now (grant rows)).world) }
+    ensures refused { B.is_honest book.new → IfErr result (λ f. (rows : List GrantRow) (w : World) → rows_of bytes.now ≡ Ok rows → B.stands book.old w
+        → Refuses (step w now (grant rows)).reply f) }
     ensures live { B.is_honest book.new → OnOk result (B.is_live book.new) }
-    // what shuts a book is told as a fault
+    // What shuts a book is told as a fault.
     ensures still_live { B.is_honest book.new → B.is_live book.old → IfErr result (λ f. f ≢ fault → B.is_live book.new) }
-    // a crash at any moment leaves all of the rows, or none
-    ensures crash { B.is_honest book.new → (w : World) → B.stands book.old w
-        → (after : World) × Imports w now bytes.now after result × B.stands book.new after
-        × ((v : World) → B.crash_leaves book.old w v → (x : World) × B.crash_leaves book.new after x × Leaves (λ e. Asks bytes.now (Some e)) now w v after x) }
 
-    // on any book, also one that is not honest
+    // These hold on any book, also on one that is not honest.
     ensures event { IfOk result (λ n. (rows : List GrantRow) → rows_of bytes.now ≡ Ok rows → IsEvent (grant rows)) }
     ensures size { 16777216 < length bytes.now → result ≡ Err (at_row Range 0) }
     ensures unread { (f : ImportFault) → rows_of bytes.now ≡ Err f → IsUnlessFault result (Err f) }
     ensures replies { IfErr result (λ f. (rows : List GrantRow) → rows_of bytes.now ≡ Ok rows → (f ≡ fault) ⊎ IsRowRefusal f) }
-    ensures refused { B.is_honest book.new → IfErr result (λ f. (rows : List GrantRow) (w : World) → rows_of bytes.now ≡ Ok rows → B.stands book.old w
-        → Refuses (step w now (grant rows)).reply f) }
     ensures err { OnErr result ((w : World) → B.stands book.old w → B.stands book.new w) }
 {
     let rows = read_grants(alloc, bytes)?;

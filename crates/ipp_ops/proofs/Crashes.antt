@@ -1,65 +1,50 @@
 -- What a request leaves of a book, where a crash may come at any moment.
 use Rattle.std.proofs.Common.{◌≡◌, ℕ, List, Result, Ok, Err, Some, refl, subst, sym}
-use Rattle.std.specs.Prelude.{IfOk, OnErr, OnOk}
-use Rattle.ipp_wire.specs.declared.view.Head.{Head}
+use Rattle.std.specs.Prelude.{IfOk, IsErr, OnErr, OnOk, Vec}
 use Rattle.ipp_wire.specs.Message.{Spells}
 use Rattle.queue_types.specs.Event.{Call, Event, ask}
 use Rattle.queue_types.specs.Settings.{SettingValues}
 use Rattle.queue_types.specs.declared.event.Reply.TheVariants.{Refused}
-use Rattle.queue_core.specs.Crash.{Leaves, taken, untaken}
+use Rattle.queue_core.specs.Crash.{Carries, taken, untaken}
 use Rattle.queue_core.specs.Machine.{step}
 use Rattle.queue_core.specs.World.{World}
 use Rattle.queue_core.proofs.Crashes.{Stays, leaves_by}
 use Rattle.ipp_reply.specs.Reply.{reply_of}
 use Rattle.ipp_reply.specs.Unsupported.{Unsupported}
 use Rattle.ipp_reply.specs.Wanted.{Rows, no_rows}
-use Rattle.ipp_ops.specs.Answer.{Asks, IsDone, IsUndone, IsVerdictOn, calls}
+use Rattle.ipp_ops.specs.declared.answering.Context.{Context}
+use Rattle.ipp_ops.specs.Answer.{AskedBy, Asks, BringsOutcome, IsVerdictOn, calls, refusal_to, reply_in}
 use Rattle.ipp_ops.specs.Verdict.{IsPassed, Verdict, passed, refused}
 
 -- ---- a message
 
--- a book that was left alone
-pub untouched : {A E : Type 0} (r : Result A E) (v : Verdict) (now : ℕ) (stands : World → Type 0) (before : World → World → Type 0) → OnErr r ((w : World) → stands w → IsUndone v now stands before before w)
-untouched (Ok n) v now stands before = tt
-untouched (Err f) v now stands before = λ w st. record { world = st; crash = λ x left. (x, left, untaken refl refl) }
+-- a book that stood for the queue w stands for one that r brings, and a crash leaves the verdict done or not done
+abbrev Done : {Z F : Type 0} → Verdict → Context → (World → Type 0) → (World → World → Type 0) → (World → World → Type 0) → World → Result (Vec ℕ Z) F → Type 0
+Done v c stands before after w r = (new : World) × BringsOutcome v c w new r × stands new × Carries before after (IsPassed v) c.now w new
 
-refusal_done : (code : ℕ) (u : Unsupported) (h : Head) (s : SettingValues) (now : ℕ) (stands : World → Type 0) (before : World → World → Type 0) (w : World) (out : List ℕ)
-    → Spells (reply_of (Refused code) h no_rows u s now) out → stands w → IsDone (refused code u) h s now stands before before w out
-refusal_done code u h s now stands before w out spelled st = record {
-  reply = λ set. subst (λ (x : SettingValues). Spells (reply_of (Refused code) h no_rows u x now) out) set spelled;
-  world = st;
-  crash = λ v left. (v, left, untaken refl refl);
-}
+-- a book that was left alone
+pub untouched : {Z F : Type 0} (r : Result (Vec ℕ Z) F) (v : Verdict) (c : Context) (stands : World → Type 0) (before : World → World → Type 0) → IsErr r
+    → (w : World) → stands w → Done v c stands before before w r
+untouched (Ok out) v c stands before failed w st = absurd (cc)
+untouched (Err f) v c stands before failed w st = (w, refl, st, λ v left. (v, left, untaken refl refl))
 
 -- a refused request does nothing
-pub refused_done : {A E : Type 0} (items : A → List ℕ) (r : Result A E) (verdict : Verdict) (code : ℕ) (u : Unsupported) (h : Head) (s : SettingValues) (now : ℕ) (stands : World → Type 0) (before : World → World → Type 0)
-    → refused code u ≡ verdict → IfOk r (λ a. Spells (reply_of (Refused code) h no_rows u s now) (items a))
-    → IfOk r (λ a. (w : World) → stands w → IsDone verdict h s now stands before before w (items a))
-refused_done items (Ok a) verdict code u h s now stands before e spelled =
-    λ w st. subst (λ (z : Verdict). IsDone z h s now stands before before w (items a)) e (refusal_done code u h s now stands before w (items a) spelled st)
-refused_done items (Err f) verdict code u h s now stands before e spelled = tt
+pub refused_done : {Z F : Type 0} (r : Result (Vec ℕ Z) F) (code : ℕ) (u : Unsupported) (c : Context) (stands : World → Type 0) (before : World → World → Type 0)
+    → IfOk r (λ out. Spells (reply_in c (Refused code) no_rows u) out.items) → (w : World) → stands w → Done (refused code u) c stands before before w r
+refused_done (Ok out) code u c stands before spelled w st =
+    (w, (refl, λ set. subst (λ (x : SettingValues). Spells (refusal_to c.head code u x c.now) out.items) set spelled), st, λ v left. (v, left, untaken refl refl))
+refused_done (Err f) code u c stands before spelled w st = (w, refl, st, λ v left. (v, left, untaken refl refl))
 
--- a call that was taken
-pub taken_done : {A E : Type 0} (items : A → List ℕ) (r : Result A E) (verdict : Verdict) (caller : List ℕ) (call : Call) (rows : Rows) (u : Unsupported) (h : Head) (s : SettingValues) (now : ℕ) (stands made : World → Type 0) (before after : World → World → Type 0) (live : Type 0)
-    → passed caller call rows u ≡ verdict
-    → IfOk r (λ a. (w : World) → stands w → s ≡ w.settings → Spells (reply_of (step w now (ask caller call)).reply h rows u w.settings now) (items a))
-    → IfOk r (λ a. (w : World) → stands w → made (step w now (ask caller call)).world) → OnOk r live → ((w v : World) → live → made w → after w v)
-    → IfOk r (λ a. (w : World) → stands w → IsDone verdict h s now made before after w (items a))
-taken_done items (Ok a) verdict caller call rows u h s now stands made before after live e reply world is_live lasts =
-    λ w st. subst (λ (z : Verdict). IsDone z h s now made before after w (items a)) e (record {
-      reply = reply w st;
-      world = world w st;
-      crash = λ v left. ((step w now (ask caller call)).world, lasts _ _ is_live (world w st), taken (ask caller call) refl refl refl);
-    })
-taken_done items (Err f) verdict caller call rows u h s now stands made before after live e reply world is_live lasts = tt
-
--- a call that was not
-pub untaken_undone : {A E : Type 0} (r : Result A E) (verdict : Verdict) (caller : List ℕ) (call : Call) (rows : Rows) (u : Unsupported) (now : ℕ) (stands made : World → Type 0) (before after : World → World → Type 0)
-    → passed caller call rows u ≡ verdict → OnErr r ((w : World) → stands w → made w) → OnErr r (Stays stands before after (λ e. e ≡ ask caller call) now)
-    → OnErr r ((w : World) → stands w → IsUndone verdict now made before after w)
-untaken_undone (Ok a) verdict caller call rows u now stands made before after e world left = tt
-untaken_undone (Err f) verdict caller call rows u now stands made before after e world left =
-    λ w st. subst (λ (z : Verdict). IsUndone z now made before after w) e (record { world = world w st; crash = λ v. left w v st })
+-- a call was taken, or a fault came
+pub passed_done : {Z F : Type 0} (r : Result (Vec ℕ Z) F) (caller : List ℕ) (call : Call) (rows : Rows) (u : Unsupported) (c : Context) (stands made : World → Type 0) (before after : World → World → Type 0) (live : Type 0)
+    → IfOk r (λ out. (w : World) → stands w → Spells (reply_in c (step w c.now (ask caller call)).reply rows u) out.items)
+    → IfOk r (λ out. (w : World) → stands w → made (step w c.now (ask caller call)).world) → OnOk r live → ((w v : World) → live → made w → after w v)
+    → OnErr r ((w : World) → stands w → made w) → OnErr r (Stays stands before after (λ e. e ≡ ask caller call) c.now)
+    → (w : World) → stands w → Done (passed caller call rows u) c made before after w r
+passed_done (Ok out) caller call rows u c stands made before after live reply world is_live lasts kept left w st =
+    let new = (step w c.now (ask caller call)).world in
+    (new, (refl, λ set. subst (λ (x : SettingValues). Spells (reply_of (step w c.now (ask caller call)).reply c.head rows u x c.now) out.items) set (reply w st)), world w st, λ v was. (new, lasts _ _ is_live (world w st), taken (ask caller call) refl refl refl))
+passed_done (Err f) caller call rows u c stands made before after live reply world is_live lasts kept left w st = (w, refl, kept w st, λ v was. left w v st was)
 
 -- ---- the bytes
 
@@ -68,5 +53,5 @@ passed_asks b (refused code u) e on is = absurd is
 passed_asks b (passed caller call rows u) e on is = subst (λ (z : Event). Asks b (Some z)) (sym is) (calls caller call rows u on)
 
 -- what was asked by a message was asked by its bytes
-pub as_asked : (b : List ℕ) (verdict : Verdict) (now : ℕ) (w v u x : World) → IsVerdictOn b verdict → Leaves (IsPassed verdict) now w v u x → Leaves (λ e. Asks b (Some e)) now w v u x
-as_asked b verdict now w v u x on left = leaves_by _ _ now w v u x (λ e is. passed_asks b verdict e on is) left
+pub carries_asked : (b : List ℕ) (verdict : Verdict) (before after : World → World → Type 0) (now : ℕ) (w u : World) → IsVerdictOn b verdict → Carries before after (IsPassed verdict) now w u → Carries before after (AskedBy b) now w u
+carries_asked b verdict before after now w u on carries = λ v was. let l = carries v was in (l.0, l.1, leaves_by _ _ now w v u l.0 (λ e is. passed_asks b verdict e on is) l.2)

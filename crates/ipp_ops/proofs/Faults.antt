@@ -22,7 +22,7 @@ use Rattle.queue_types.specs.Settings.{SettingValues}
 use Rattle.ipp_reply.specs.declared.operation.Operation.{Operation}
 use Rattle.ipp_ops.specs.declared.check.Check.{Check}
 use Rattle.ipp_ops.specs.declared.check.Check.TheVariants as check
-use Rattle.ipp_reply.specs.Wanted.{Rows, job_rows, no_rows, printer_rows}
+use Rattle.ipp_reply.specs.Wanted.{Rows, job_rows, printer_rows}
 use Rattle.ipp_reply.specs.Operations.{operation_of}
 use Rattle.ipp_reply.specs.Unsupported.{Unsupported, is_listed}
 use Rattle.ipp_request.specs.Unsupported.{unsupported}
@@ -34,7 +34,7 @@ use Rattle.ipp_ops.specs.Verdict.{Verdict, passed, refused, verdict, request_ver
 use Rattle.ipp_reply.specs.Reply.{with_groups, unsupported_groups, reply_of}
 use Rattle.ipp_reply.specs.JobReply.{job_group}
 use Rattle.ipp_reply.specs.PrinterReply.{printer_group}
-use Rattle.ipp_ops.specs.Answer.{Answers, IsVerdictOn, by_head, malformed, request, is_fault, is_refusal, outcome}
+use Rattle.ipp_ops.specs.Answer.{Answers, IsVerdictOn, by_head, malformed, request, is_fault, is_refusal, outcome, refusal_to}
 
 -- a reply with this code is no fault
 abbrev IsQuiet : ℕ → Type 0
@@ -180,7 +180,7 @@ pub answer_tells : (w : World) (now : ℕ) (b : List ℕ) (new : World) (out : L
 answer_tells w now b new out a = ap is_fault a.spelled.bytes ∙ outcome_tells a.verdict (head_of b) w now (bytes_quiet b a.verdict a.on_bytes)
 
 -- nor is the reply that tells what refuses them
-pub refusal_tells : (b : List ℕ) (code : ℕ) (u : Unsupported) (s : SettingValues) (now : ℕ) (out : List ℕ) → IsVerdictOn b (refused code u) → Spells (reply_of (Refused code) (head_of b) no_rows u s now) out → is_fault out ≡ false
+pub refusal_tells : (b : List ℕ) (code : ℕ) (u : Unsupported) (s : SettingValues) (now : ℕ) (out : List ℕ) → IsVerdictOn b (refused code u) → Spells (refusal_to (head_of b) code u s now) out → is_fault out ≡ false
 refusal_tells b code u s now out on spelled =
     let quiet : IsQuiet code = bytes_quiet b (refused code u) on in
     ap is_fault spelled.bytes ∙ quiet (head_of b) (if code == 0x040B then unsupported_groups u else [])

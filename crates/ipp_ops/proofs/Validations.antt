@@ -26,7 +26,7 @@ use Rattle.ipp_ops.specs.declared.check.Check.{Check}
 use Rattle.ipp_ops.specs.Answer.{Answers, IsVerdictOn, by_head, malformed, request, outcome}
 use Rattle.ipp_ops.specs.Checks.{code, refusal}
 use Rattle.ipp_ops.specs.NewJob.{new_job, format}
-use Rattle.ipp_ops.specs.Validations.{AreAlike, both_refused, both_passed, without_jobs}
+use Rattle.ipp_ops.specs.Validations.{AreAlike, both_refused, both_passed, bytes_asking, without_jobs}
 use Rattle.ipp_ops.specs.Verdict.{Verdict, refused, verdict, request_verdict, listed_verdict, checked_verdict}
 use Rattle.ipp_ops.proofs.Laws.{one_verdict}
 
@@ -55,9 +55,6 @@ messages_alike : (m : Message) → AreAlike (verdict (asking 0x0002 m)) (verdict
 messages_alike m = by_version (is_known_version m.head) m
 
 -- ---- bytes, alike but for the operation
-
-abbrev bytes_asking : ℕ → ℕ → ℕ → List ℕ → List ℕ
-bytes_asking code major minor rest = major ∷ minor ∷ 0x00 ∷ code ∷ rest
 
 -- with another operation in the bytes there is another in the message
 respelled : (x y : ℕ) → y < 2 ^ 16 → to_be_bytes w16 y ≡ 0x00 ∷ y ∷ [] → (major minor : ℕ) (rest : List ℕ) (m : Message)

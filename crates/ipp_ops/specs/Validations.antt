@@ -1,5 +1,5 @@
 -- How the answer to a Validate-Job stands to the answer to a Print-Job (RFC 8011, section 4.2.3).
-use Rattle.std.specs.Prelude.{ℕ, List, ◌==◌, filter, not}
+use Rattle.std.specs.Prelude.{ℕ, List, ◌∷◌, ◌==◌, filter, not}
 use Rattle.ipp_wire.specs.Message.{Message}
 use Rattle.queue_types.specs.Event.{NewJob, print_job, validate_job}
 use Rattle.queue_types.specs.declared.document.Format.{Format}
@@ -13,6 +13,10 @@ pub data AreAlike : Verdict → Verdict → Type 0 where
   both_refused : (code : ℕ) (u : Unsupported) → AreAlike (refused code u) (refused code u)
   both_passed : (caller : List ℕ) (j : NewJob) (format : Format) (payload : List ℕ) (shown rows : Rows) (u : Unsupported)
       → AreAlike (passed caller (print_job j format payload) shown u) (passed caller (validate_job j) rows u)
+
+-- the bytes of a request: its version, the number of its operation, below 256, in two bytes, and the rest (RFC 8010, section 3.1.1)
+abbrev pub bytes_asking : ℕ → ℕ → ℕ → List ℕ → List ℕ
+bytes_asking code major minor rest = major ∷ minor ∷ 0x00 ∷ code ∷ rest
 
 -- a reply less its job groups
 abbrev pub without_jobs : Message → Message

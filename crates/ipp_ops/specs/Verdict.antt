@@ -51,6 +51,7 @@ is_last r = is_true r LastDocument
 abbrev pub job_ids : Request → Option (List ℕ)
 job_ids r = option_map (λ a. map (λ v. unwrap_or (number_of v.bytes) 0) a.values) (known r JobIds)
 
+-- the call that the operation makes of a request
 abbrev pub call_by : Operation → Request → Call
 call_by PrintJob r = print_job (new_job r) (format r) r.payload
 call_by ValidateJob r = validate_job (new_job r)
@@ -103,15 +104,17 @@ abbrev pub listed_verdict : Request → Unsupported → Bool → Verdict
 listed_verdict r u true = refused 0x040B u
 listed_verdict r u false = passed (caller r) (call r) (rows r) u
 
+-- of a request whose head and groups are in order, by the check that refuses it, if one does
 abbrev pub checked_verdict : Request → Option Check → Verdict
 checked_verdict r (Some c) = refused (code c) nothing
 checked_verdict r None = listed_verdict r (unsupported r) (is_refused_for r (unsupported r))
 
--- the first check that refuses, or else the call
+-- by what its message was read as: a request, or the code of what refuses its head or its groups
 abbrev pub request_verdict : Result Request ℕ → Verdict
 request_verdict (Err code) = refused code nothing
 request_verdict (Ok r) = checked_verdict r (refusal r)
 
+-- what refuses the message first, or else its call
 abbrev pub verdict : Message → Verdict
 verdict m = request_verdict (request_in m)
 

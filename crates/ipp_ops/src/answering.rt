@@ -1,20 +1,18 @@
 //! One request, from its bytes to those of its answer.
-ghost use Rattle.std.specs.Prelude.{◌≡◌, ◌<◌, ◌≤◌, ◌↔◌, None, Some, ℕ, false, length, IfErr, IfOk, IsErr, MatchBool, OnErr, OnOk};
-ghost use Rattle.std.specs.Bool.{OnFalse, OnTrue};
+ghost use Rattle.std.specs.Prelude.{◌≡◌, ◌<◌, ◌≤◌, ◌↔◌, None, Some, ℕ, false, length, IfErr, IfOk, IsErr, OnErr, OnOk};
 ghost use Rattle.ipp_wire.specs.Message.{IsMessage, Spells, head_of};
 ghost use Rattle.ipp_wire.specs.Viewed.{message_of};
 ghost use Rattle.ipp_wire.specs.Bare.{bare};
 ghost use Rattle.queue_types.specs.Event.{event_of};
 ghost use Rattle.queue_types.specs.declared.event.Reply.TheVariants.{Refused};
-ghost use Rattle.queue_core.specs.Crash.{Leaves};
+ghost use Rattle.queue_core.specs.Crash.{Carries, Leaves};
 ghost use Rattle.queue_core.specs.Limits.{IsEvent, IsMoment, IsSoundReply};
 ghost use Rattle.queue_core.specs.Machine.{step as machine_step};
 ghost use Rattle.queue_core.specs.World.{World};
-ghost use Rattle.ipp_reply.specs.Reply.{reply_of};
 ghost use Rattle.ipp_reply.specs.Unsupported.{CanList, Unsupported as Listed, unsupported_of};
 ghost use Rattle.ipp_reply.specs.Wanted.{no_rows, rows_of};
-ghost use Rattle.ipp_ops.specs.Answer.{Answers, Asks, BringsAnswer, Fails, IsAnswered, IsAsk, IsBareAnswer, IsDone, IsFaultless, IsMalformed, IsReplyTo, IsRequestIn, IsUndone, IsVerdictOn, bytes_of, is_fault, is_refusal};
-ghost use Rattle.ipp_ops.specs.Verdict.{IsWithinLimits, ListsAttributes, ask_content, refused, verdict};
+ghost use Rattle.ipp_ops.specs.Answer.{Answers, AskedBy, BringsAnswer, BringsOutcome, BringsReply, Fails, IfFault, IfNoFault, IsAsk, IsBareAnswer, IsFaultless, IsMalformed, IsReplyTo, IsRequestIn, IsVerdictOn, OnRefusal, SpellsUnlessFault, bytes_of, is_fault, refusal_to, reply_in};
+ghost use Rattle.ipp_ops.specs.Verdict.{IsPassed, IsWithinLimits, ListsAttributes, ask_content, refused, verdict};
 ghost use Rattle.ipp_request.specs.Reading.{head_refusal};
 
 use crate::asking::ask;
@@ -30,15 +28,18 @@ use queue_types::settings::Settings;
 use queue_types::status::{CLIENT_ERROR_BAD_REQUEST, SERVER_ERROR_TEMPORARY_ERROR};
 use std::alloc::{AllocError, Global};
 
-/// What a request is answered with, beside its bytes and the book.
+/// What a request is answered with, beside what it asks and the book.
 #[derive(Clone, Copy)]
 struct Context<'a> {
     alloc: Global,
+    /// The request's.
+    head: Head,
     settings: &'a Settings,
     /// The moment, 1 to 2,147,483,647.
     now: u32,
 }
 
+/// The bare reply with this code to a request of this head. It takes no memory.
 fn bare_answer(head: Head, code: u16) -> Answer
     ensures { Spells (bare head code) (bytes_of result) }
 {
@@ -47,27 +48,17 @@ fn bare_answer(head: Head, code: u16) -> Answer
     Answer::Bare(out)
 }
 
-/// What the reply to a request is written with, whatever it tells.
-#[derive(Clone, Copy)]
-struct ReplyContext<'a> {
-    alloc: Global,
-    /// The request's.
-    head: Head,
-    settings: &'a Settings,
-    now: u32,
-}
-
 /// The bytes of the message that is a reply.
 #[tactic(auto, using(crate::proofs::Bytes::each_replies))]
 fn reply_bytes(
-    context: ReplyContext<'_>,
+    context: Context<'_>,
     reply: &Reply,
     wanted: &Wanted,
     unsupported: &Unsupported<'_>,
 ) -> Result<Vec<u8>, AllocError>
     requires sound { IsSoundReply reply.now }
     requires listed { CanList (unsupported_of unsupported.now) }
-    ensures spelled { IfOk result (λ b. Spells (reply_of reply.now context.entry.head (rows_of wanted.now) (unsupported_of unsupported.now) context.entry.settings.now context.entry.now) b.items) }
+    ensures spelled { IfOk result (λ b. Spells (reply_in context.entry reply.now (rows_of wanted.now) (unsupported_of unsupported.now)) b.items) }
     ensures replies { IfOk result (λ b. IsReplyTo context.entry.head b.items) }
 {
     let message = reply_message(
@@ -84,12 +75,12 @@ fn reply_bytes(
 
 /// The bytes of the reply that refuses a request. Want of memory for them is a fault, as of a book.
 fn refusal_bytes(
-    context: ReplyContext<'_>,
+    context: Context<'_>,
     code: u16,
     unsupported: &Unsupported<'_>,
 ) -> Result<Vec<u8>, BookFault>
     requires listed { CanList (unsupported_of unsupported.now) }
-    ensures spelled { IfOk result (λ b. Spells (reply_of (Refused code) context.entry.head no_rows (unsupported_of unsupported.now) context.entry.settings.now context.entry.now) b.items) }
+    ensures spelled { IfOk result (λ b. Spells (reply_in context.entry (Refused code) no_rows (unsupported_of unsupported.now)) b.items) }
     ensures replies { IfOk result (λ b. IsReplyTo context.entry.head b.items) }
 {
     let wanted = Wanted::nothing(context.alloc);
@@ -100,7 +91,7 @@ fn refusal_bytes(
 /// One step of the machine, or a fault and no change: the book is changed last, once the reply's bytes
 /// are there.
 fn take_step<B: QueueBook>(
-    context: ReplyContext<'_>,
+    context: Context<'_>,
     book: &mut B,
     event: &Event<'_>,
     wanted: &Wanted,
@@ -111,8 +102,8 @@ fn take_step<B: QueueBook>(
     requires asked { IsAsk (event_of event.now) }
     requires listed { CanList (unsupported_of unsupported.now) }
     ensures began { B.is_honest book.new → B.is_honest book.old }
-    ensures reply { B.is_honest book.new → IfOk result (λ b. (w : World) → B.stands book.old w → context.entry.settings.now ≡ w.settings
-        → Spells (reply_of (machine_step w context.entry.now (event_of event.now)).reply context.entry.head (rows_of wanted.now) (unsupported_of unsupported.now) w.settings context.entry.now) b.items) }
+    ensures reply { B.is_honest book.new → IfOk result (λ b. (w : World) → B.stands book.old w
+        → Spells (reply_in context.entry (machine_step w context.entry.now (event_of event.now)).reply (rows_of wanted.now) (unsupported_of unsupported.now)) b.items) }
     ensures replies { IfOk result (λ b. IsReplyTo context.entry.head b.items) }
     ensures world { B.is_honest book.new → IfOk result (λ b. (w : World) → B.stands book.old w
         → B.stands book.new (machine_step w context.entry.now (event_of event.now)).world) }
@@ -129,7 +120,7 @@ fn take_step<B: QueueBook>(
 
 /// What a request is answered that asks this: the reply that refuses it, or one step of the machine; or a fault and no change.
 fn answer_ask<B: QueueBook>(
-    context: ReplyContext<'_>,
+    context: Context<'_>,
     book: &mut B,
     ask: Ask<'_>,
 ) -> Result<Vec<u8>, BookFault>
@@ -138,13 +129,13 @@ fn answer_ask<B: QueueBook>(
     requires listed { ListsAttributes (ask_content ask) }
     ensures began { B.is_honest book.new → B.is_honest book.old }
     ensures replies { IfOk result (λ b. IsReplyTo context.entry.head b.items) }
-    ensures done { B.is_honest book.new → IfOk result (λ b. (w : World) → B.stands book.old w
-        → IsDone (ask_content ask.entry) context.entry.head context.entry.settings.now context.entry.now (B.stands book.new) (B.crash_leaves book.old) (B.crash_leaves book.new) w b.items) }
-    ensures undone { B.is_honest book.new → OnErr result ((w : World) → B.stands book.old w
-        → IsUndone (ask_content ask.entry) context.entry.now (B.stands book.new) (B.crash_leaves book.old) (B.crash_leaves book.new) w) }
+    ensures done { B.is_honest book.new → (w : World) → B.stands book.old w
+        → (after : World) × BringsOutcome (ask_content ask.entry) context.entry w after result × B.stands book.new after
+        × Carries (B.crash_leaves book.old) (B.crash_leaves book.new) (IsPassed (ask_content ask.entry)) context.entry.now w after }
     ensures live { B.is_honest book.new → B.is_live book.old → OnOk result (B.is_live book.new) }
     // What the checks refuse, whatever the book is.
-    ensures checked { (code : ℕ) (u : Listed) → ask_content ask.entry ≡ refused code u → IfOk result (λ b. Spells (reply_of (Refused code) context.entry.head no_rows u context.entry.settings.now context.entry.now) b.items) }
+    ensures checked { (code : ℕ) (u : Listed) → ask_content ask.entry ≡ refused code u
+        → IfOk result (λ b. Spells (reply_in context.entry (Refused code) no_rows u) b.items) }
     ensures checked_kept { (code : ℕ) (u : Listed) → ask_content ask.entry ≡ refused code u → (w : World) → B.stands book.old w → B.stands book.new w }
 {
     match ask {
@@ -171,24 +162,18 @@ fn answer_message<B: QueueBook>(
     requires message { IsMessage (message_of view.now) }
     requires fits { length view.now.payload.now ≤ 16777216 }
     ensures began { B.is_honest book.new → B.is_honest book.old }
-    ensures replies { IfOk result (λ b. IsReplyTo view.now.head b.items) }
-    ensures done { B.is_honest book.new → IfOk result (λ b. (w : World) → B.stands book.old w
-        → IsDone (verdict (message_of view.now)) view.now.head context.entry.settings.now context.entry.now (B.stands book.new) (B.crash_leaves book.old) (B.crash_leaves book.new) w b.items) }
-    ensures undone { B.is_honest book.new → OnErr result ((w : World) → B.stands book.old w
-        → IsUndone (verdict (message_of view.now)) context.entry.now (B.stands book.new) (B.crash_leaves book.old) (B.crash_leaves book.new) w) }
+    ensures replies { IfOk result (λ b. IsReplyTo context.entry.head b.items) }
+    ensures done { B.is_honest book.new → (w : World) → B.stands book.old w
+        → (after : World) × BringsOutcome (verdict (message_of view.now)) context.entry w after result × B.stands book.new after
+        × Carries (B.crash_leaves book.old) (B.crash_leaves book.new) (IsPassed (verdict (message_of view.now))) context.entry.now w after }
     ensures live { B.is_honest book.new → B.is_live book.old → OnOk result (B.is_live book.new) }
     // What the checks refuse, whatever the book is.
-    ensures checked { (code : ℕ) (u : Listed) → verdict (message_of view.now) ≡ refused code u → IfOk result (λ b. Spells (reply_of (Refused code) view.now.head no_rows u context.entry.settings.now context.entry.now) b.items) }
+    ensures checked { (code : ℕ) (u : Listed) → verdict (message_of view.now) ≡ refused code u
+        → IfOk result (λ b. Spells (reply_in context.entry (Refused code) no_rows u) b.items) }
     ensures checked_kept { (code : ℕ) (u : Listed) → verdict (message_of view.now) ≡ refused code u → (w : World) → B.stands book.old w → B.stands book.new w }
 {
-    let reply = ReplyContext {
-        alloc: context.alloc,
-        head: view.head,
-        settings: context.settings,
-        now: context.now,
-    };
     let ask = ask(context.alloc, view)?;
-    answer_ask(reply, book, ask)
+    answer_ask(context, book, ask)
 }
 
 /// The message that bytes with a head spell. What the head alone refuses, without memory, bytes that spell no message, and want of memory
@@ -211,29 +196,26 @@ fn request_in<'a>(alloc: Global, head: Head, body: &'a [u8]) -> Result<View<'a>,
 }
 
 /// What bytes with a head are answered.
-fn answer_headed<B: QueueBook>(
-    context: Context<'_>,
-    book: &mut B,
-    head: Head,
-    body: &[u8],
-) -> Answer
+fn answer_headed<B: QueueBook>(context: Context<'_>, book: &mut B, body: &[u8]) -> Answer
     requires moment { IsMoment context.now }
     requires fits { length body.now ≤ 16777216 }
-    requires head { head ≡ head_of body.now }
+    requires head { context.head ≡ head_of body.now }
     requires long { 8 ≤ length body.now }
     ensures began { B.is_honest book.new → B.is_honest book.old }
     ensures replies { IsReplyTo (head_of body.now) (bytes_of result) }
     ensures answered { B.is_honest book.new → (w : World) → B.stands book.old w
-        → IsAnswered body.now context.entry.settings.now context.entry.now (B.stands book.new) (B.crash_leaves book.old) (B.crash_leaves book.new) w (bytes_of result) }
+        → (after : World) × (context.entry.settings.now ≡ w.settings → BringsReply w context.entry.now body.now after (bytes_of result)) × B.stands book.new after
+        × Carries (B.crash_leaves book.old) (B.crash_leaves book.new) (AskedBy body.now) context.entry.now w after }
     ensures live { B.is_honest book.new → B.is_live book.old → is_fault (bytes_of result) ≡ false → B.is_live book.new }
-    ensures checked { (code : ℕ) (u : Listed) → IsVerdictOn body.now (refused code u) → MatchBool (is_fault (bytes_of result)) (Fails body.now (bytes_of result)) (Spells (reply_of (Refused code) (head_of body.now) no_rows u context.entry.settings.now context.entry.now) (bytes_of result)) }
+    ensures checked { (code : ℕ) (u : Listed) → IsVerdictOn body.now (refused code u)
+        → SpellsUnlessFault body.now (refusal_to (head_of body.now) code u context.entry.settings.now context.entry.now) (bytes_of result) }
     ensures checked_kept { (code : ℕ) (u : Listed) → IsVerdictOn body.now (refused code u) → (w : World) → B.stands book.old w → B.stands book.new w }
 {
     one_verdict();
-    match request_in(context.alloc, head, body) {
+    match request_in(context.alloc, context.head, body) {
         Ok(view) => match answer_message(context, book, &view) {
             Ok(bytes) => Answer::Whole(bytes),
-            Err(_) => bare_answer(head, SERVER_ERROR_TEMPORARY_ERROR),
+            Err(_) => bare_answer(context.head, SERVER_ERROR_TEMPORARY_ERROR),
         },
         Err(answer) => answer,
     }
@@ -244,7 +226,7 @@ fn answer_headed<B: QueueBook>(
 /// by the bare reply 0x0505 and changes nothing. What the head alone refuses is answered without memory. What any check refuses
 /// changes nothing, whatever the book is.
 /// Under 8 bytes there is no head to reply to, and nothing happens. The settings have to be those of the book's queue:
-/// with others, the clauses that speak of the book's world promise nothing.
+/// with others, nothing is promised of what a call is answered.
 pub fn answer<B: QueueBook>(
     alloc: Global,
     book: &mut B,
@@ -255,42 +237,49 @@ pub fn answer<B: QueueBook>(
     requires moment { IsMoment now }
     requires fits { length body.now ≤ 16777216 }
     ensures began { B.is_honest book.new → B.is_honest book.old }
-    ensures short { IsErr result ↔ (length body.now < 8) }
-    ensures answered { B.is_honest book.new → IfOk result (λ a. OnFalse (is_fault (bytes_of a))
-        ((w : World) → B.stands book.old w → settings.now ≡ w.settings
-        → (after : World) × Answers w now body.now after (bytes_of a) × B.stands book.new after)) }
 
-    // The code 0x0505 stands for nothing else.
-    ensures failed { B.is_honest book.new → IfOk result (λ a. OnTrue (is_fault (bytes_of a))
-        ((w : World) → B.stands book.old w → settings.now ≡ w.settings → Fails body.now (bytes_of a) × B.stands book.new w)) }
-    ensures refused { B.is_honest book.new → IfOk result (λ a. OnTrue (is_refusal (bytes_of a))
-        ((w : World) → B.stands book.old w → settings.now ≡ w.settings → B.stands book.new w)) }
+    // Under 8 bytes.
+    ensures short { IsErr result ↔ (length body.now < 8) }
+    ensures err { OnErr result ((w : World) → B.stands book.old w → B.stands book.new w) }
+    ensures err_left { B.is_honest book.new → OnErr result ((v w : World) → B.crash_leaves book.old v w → B.crash_leaves book.new v w) }
+
+    // What is answered, and what becomes of the queue.
+    ensures answered { B.is_honest book.new → IfNoFault result (λ out. (w : World) → B.stands book.old w → settings.now ≡ w.settings
+        → (after : World) × Answers w now body.now after out × B.stands book.new after) }
+    // A fault changes nothing, and the code 0x0505 stands for nothing else.
+    ensures failed { B.is_honest book.new → IfFault result (λ out. (w : World) → B.stands book.old w → settings.now ≡ w.settings
+        → Fails body.now out × B.stands book.new w) }
     // What shuts a book is answered as a fault.
     ensures live { B.is_honest book.new → B.is_live book.old → IsFaultless result → B.is_live book.new }
-    // A crash at any moment leaves what the request asks done, or not done.
+    // A refusal, whoever refuses, changes nothing.
+    ensures refused { B.is_honest book.new → OnRefusal result ((w : World) → B.stands book.old w → settings.now ≡ w.settings → B.stands book.new w) }
+    // A crash at any moment leaves what the request asks done, or not done. This is the whole of it: what is answered, failed and refused is
+    // read off it.
     ensures crash { B.is_honest book.new → (w : World) → B.stands book.old w
         → (after : World) × (settings.now ≡ w.settings → BringsAnswer w now body.now after result) × B.stands book.new after
-        × ((v : World) → B.crash_leaves book.old w v → (x : World) × B.crash_leaves book.new after x × Leaves (λ e. Asks body.now (Some e)) now w v after x) }
+        × Carries (B.crash_leaves book.old) (B.crash_leaves book.new) (AskedBy body.now) now w after }
 
     // These hold on any book, also on one that is not honest.
     ensures replies { IfOk result (λ a. IsReplyTo (head_of body.now) (bytes_of a)) }
+    // What the verdict on the bytes refuses, by whichever check, is answered by that refusal or by a fault, and nothing changes.
+    ensures checked { (code : ℕ) (u : Listed) → IsVerdictOn body.now (refused code u)
+        → IfOk result (λ a. SpellsUnlessFault body.now (refusal_to (head_of body.now) code u settings.now now) (bytes_of a)) }
+    ensures checked_kept { (code : ℕ) (u : Listed) → IsVerdictOn body.now (refused code u) → (w : World) → B.stands book.old w → B.stands book.new w }
+    // Two such verdicts: on a head that is refused, before which no fault can come, and on bytes that spell no message.
     ensures head_refused { (code : ℕ) → head_refusal (head_of body.now) ≡ Some code → IfOk result (λ a. Spells (bare (head_of body.now) code) (bytes_of a)) }
     ensures head_refused_kept { (code : ℕ) → head_refusal (head_of body.now) ≡ Some code → (w : World) → B.stands book.old w → B.stands book.new w }
-    ensures malformed { head_refusal (head_of body.now) ≡ None → IsMalformed body.now → IfOk result (λ a. MatchBool (is_fault (bytes_of a)) (Fails body.now (bytes_of a)) (Spells (bare (head_of body.now) 0x0400) (bytes_of a))) }
+    ensures malformed { head_refusal (head_of body.now) ≡ None → IsMalformed body.now
+        → IfOk result (λ a. SpellsUnlessFault body.now (bare (head_of body.now) 0x0400) (bytes_of a)) }
     ensures malformed_kept { IsMalformed body.now → (w : World) → B.stands book.old w → B.stands book.new w }
-    // What the verdict on the bytes refuses, by whichever check, is answered by that refusal or by a fault, and nothing changes.
-    ensures checked { (code : ℕ) (u : Listed) → IsVerdictOn body.now (refused code u) → IfOk result (λ a. MatchBool (is_fault (bytes_of a)) (Fails body.now (bytes_of a)) (Spells (reply_of (Refused code) (head_of body.now) no_rows u settings.now now) (bytes_of a))) }
-    ensures checked_kept { (code : ℕ) (u : Listed) → IsVerdictOn body.now (refused code u) → (w : World) → B.stands book.old w → B.stands book.new w }
-    ensures err { OnErr result ((w : World) → B.stands book.old w → B.stands book.new w) }
-    ensures err_left { B.is_honest book.new → OnErr result ((v w : World) → B.crash_leaves book.old v w → B.crash_leaves book.new v w) }
 {
     let Some(head) = head(body) else {
         return Err(TooShort);
     };
     let context = Context {
         alloc,
+        head,
         settings,
         now,
     };
-    Ok(answer_headed(context, book, head, body))
+    Ok(answer_headed(context, book, body))
 }

@@ -169,7 +169,7 @@ fn passed<'a>(
     request: Request<'_, 'a>,
     unsupported: Unsupported<'a>,
 ) -> Result<Ask<'a>, AllocError>
-    ensures { IfOk result (λ a. ask_content a ≡ passed (caller (request_of request.entry)) (call (request_of request.entry)) (rows (request_of request.entry)) (unsupported_of unsupported.entry)) }
+    ensures { let r = request_of request.entry in IfOk result (λ a. ask_content a ≡ passed (caller r) (call r) (rows r) (unsupported_of unsupported.entry)) }
 {
     let wanted = rows(alloc, request)?;
     Ok(Ask::Call {
@@ -184,7 +184,7 @@ fn passed<'a>(
 /// where an attribute that its operation knows has values that are not supported, or where something of its job group is unsupported and
 /// its ipp-attribute-fidelity is true; else it asks its call. What is unsupported is told in both cases.
 fn listed_verdict<'a>(alloc: Global, request: Request<'_, 'a>) -> Result<Ask<'a>, AllocError>
-    ensures { IfOk result (λ a. ask_content a ≡ listed_verdict (request_of request.entry) (unsupported (request_of request.entry)) (is_refused_for (request_of request.entry) (unsupported (request_of request.entry)))) }
+    ensures { let r = request_of request.entry in IfOk result (λ a. ask_content a ≡ listed_verdict r (unsupported r) (is_refused_for r (unsupported r))) }
 {
     let unsupported = unsupported_in(alloc, request)?;
     if is_refused_for(request, &unsupported) {
@@ -199,7 +199,7 @@ fn listed_verdict<'a>(alloc: Global, request: Request<'_, 'a>) -> Result<Ask<'a>
 /// What a request asks whose head and groups are in order: it is refused by the code of the first check of the table that applies, and
 /// nothing is told of what is unsupported; where none applies, what is unsupported may still refuse it.
 fn checked_verdict<'a>(alloc: Global, request: Request<'_, 'a>) -> Result<Ask<'a>, AllocError>
-    ensures { IfOk result (λ a. ask_content a ≡ checked_verdict (request_of request.entry) (refusal (request_of request.entry))) }
+    ensures { let r = request_of request.entry in IfOk result (λ a. ask_content a ≡ checked_verdict r (refusal r)) }
 {
     match first_refusal(request) {
         Some(check) => Ok(refused(alloc, check.code())),

@@ -16,7 +16,7 @@ ghost use Rattle.ipp_reply.specs.declared.printer_reply.PrinterAttribute.{Printe
 ghost use Rattle.ipp_wire.specs.Message.{Message, Spells};
 ghost use Rattle.ipp_ops.specs.Answer.{Answers, Asks, IsVerdictOn};
 ghost use Rattle.ipp_ops.specs.Caller.{IsCallerOf};
-ghost use Rattle.ipp_ops.specs.Validations.{AreAlike, without_jobs};
+ghost use Rattle.ipp_ops.specs.Validations.{AreAlike, bytes_asking, without_jobs};
 ghost use Rattle.queue_core.specs.World.{World};
 ghost use Rattle.queue_core.specs.Limits.{IsEvent, IsPositive};
 ghost use Rattle.queue_types.specs.Event.{Call, Event, ask, cancel_my_jobs, on_job};
@@ -64,11 +64,13 @@ pub fn callers_are_named_first()
 /// refused with one status code and the same unsupported attributes, or both are about the same job of the same caller. The reply is that to
 /// the Print-Job without its job group, and nothing changes.
 pub fn validations_are_answered_as_prints()
-    ensures asked { (major minor : ℕ) (rest : List ℕ) (print validate : Verdict) → IsVerdictOn (major ∷ minor ∷ 0x00 ∷ 0x02 ∷ rest) print
-        → IsVerdictOn (major ∷ minor ∷ 0x00 ∷ 0x04 ∷ rest) validate → AreAlike print validate }
-    ensures answered { (w printed validated : World) (now major minor : ℕ) (rest print validate : List ℕ) → Answers w now (major ∷ minor ∷ 0x00 ∷ 0x02 ∷ rest) printed print
-        → Answers w now (major ∷ minor ∷ 0x00 ∷ 0x04 ∷ rest) validated validate → (m : Message) × Spells m print × Spells (without_jobs m) validate }
-    ensures kept { (w validated : World) (now major minor : ℕ) (rest validate : List ℕ) → Answers w now (major ∷ minor ∷ 0x00 ∷ 0x04 ∷ rest) validated validate → validated ≡ w }
+    ensures asked { (major minor : ℕ) (rest : List ℕ) (print validate : Verdict)
+        → IsVerdictOn (bytes_asking 0x0002 major minor rest) print → IsVerdictOn (bytes_asking 0x0004 major minor rest) validate → AreAlike print validate }
+    ensures answered { (w printed validated : World) (now major minor : ℕ) (rest print validate : List ℕ)
+        → Answers w now (bytes_asking 0x0002 major minor rest) printed print → Answers w now (bytes_asking 0x0004 major minor rest) validated validate
+        → (m : Message) × Spells m print × Spells (without_jobs m) validate }
+    ensures kept { (w validated : World) (now major minor : ℕ) (rest validate : List ℕ)
+        → Answers w now (bytes_asking 0x0004 major minor rest) validated validate → validated ≡ w }
 {
     one_spelling();
 }

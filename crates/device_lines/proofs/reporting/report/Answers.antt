@@ -1,10 +1,10 @@
-use Rattle.std.proofs.Common.{◌≡◌, refl, subst, Ok, Err, inl, inr}
+use Rattle.std.proofs.Common.{◌≡◌, refl, subst, inl, inr}
 use Rattle.queue_types.specs.Event.{tell}
 use Rattle.queue_types.specs.declared.event.Report.{Report}
 use Rattle.queue_core.specs.Crash.{taken, untaken}
 use Rattle.queue_core.specs.Machine.{step}
 use Rattle.device_lines.specs.Reports.{IsReplyToReport, is_fault_line, reports}
-use Rattle.device_lines.proofs.Crashes.{as_told, fault_brings, match_false, unread_brings}
+use Rattle.device_lines.proofs.Crashes.{as_told, fault_brings, match_false, read_reported, unread_brings, unread_reported}
 use Rattle.device_lines.proofs.Flags.{on_false, on_true}
 use Rattle.device_lines.proofs.Readings.{refused_reads}
 use Rattle.device_lines.proofs.reporting.report.Goals as goal
@@ -12,22 +12,14 @@ use Rattle.device_lines.proofs.reporting.report.Goals as goal
 pub returns-in-Ok-step-clause-answers : goal.returns-in-Ok-step-clause-answers
 returns-in-Ok-step-clause-answers g c = λ honest w stands. (
   (step w c.args.now (tell c.in-Ok.r)).world,
-  inl record {
-    reading = Ok c.in-Ok.r;
-    reads = (c.in-Ok.ensures.ok c.in-Ok.r).0 refl;
-    brings = (refl, c.in-Ok-step.ensures.answer honest w stands);
-  },
+  inl (read_reported w c.args.now c.args.line.now c.in-Ok.r _ ((c.in-Ok.ensures.ok c.in-Ok.r).0 refl) (c.in-Ok-step.ensures.answer honest w stands)),
   c.in-Ok-step.ensures.world honest w stands,
 )
 
 pub returns-in-Ok-step-clause-told : goal.returns-in-Ok-step-clause-told
 returns-in-Ok-step-clause-told g c = λ honest. on_false _ (is_fault_line c.in-Ok-step.answer) (λ w stands. (
   (step w c.args.now (tell c.in-Ok.r)).world,
-  record {
-    reading = Ok c.in-Ok.r;
-    reads = (c.in-Ok.ensures.ok c.in-Ok.r).0 refl;
-    brings = (refl, c.in-Ok-step.ensures.answer honest w stands);
-  },
+  read_reported w c.args.now c.args.line.now c.in-Ok.r _ ((c.in-Ok.ensures.ok c.in-Ok.r).0 refl) (c.in-Ok-step.ensures.answer honest w stands),
   c.in-Ok-step.ensures.world honest w stands,
 ))
 
@@ -58,22 +50,14 @@ returns-in-Err-step-clause-failed g c = λ honest. on_true _ (is_fault_line c.fa
 pub returns-in-Err-clause-answers : goal.returns-in-Err-clause-answers
 returns-in-Err-clause-answers g c = λ honest w stands. (
   w,
-  inl record {
-    reading = Err c.in-Err.fault;
-    reads = refused_reads c.args.line.now c.in-Err.fault c.read_report.result c.in-Err.is c.read_report.ensures.syntax c.read_report.ensures.range;
-    brings = (refl, c.unread.ensures);
-  },
+  inl (unread_reported w c.args.now c.args.line.now c.in-Err.fault c.unread.result (refused_reads c.args.line.now c.in-Err.fault c.read_report.result c.in-Err.is c.read_report.ensures.syntax c.read_report.ensures.range) c.unread.ensures),
   stands,
 )
 
 pub returns-in-Err-clause-told : goal.returns-in-Err-clause-told
 returns-in-Err-clause-told g c = λ honest. on_false _ (is_fault_line c.unread.result) (λ w stands. (
   w,
-  record {
-    reading = Err c.in-Err.fault;
-    reads = refused_reads c.args.line.now c.in-Err.fault c.read_report.result c.in-Err.is c.read_report.ensures.syntax c.read_report.ensures.range;
-    brings = (refl, c.unread.ensures);
-  },
+  unread_reported w c.args.now c.args.line.now c.in-Err.fault c.unread.result (refused_reads c.args.line.now c.in-Err.fault c.read_report.result c.in-Err.is c.read_report.ensures.syntax c.read_report.ensures.range) c.unread.ensures,
   stands,
 ))
 
@@ -83,11 +67,7 @@ returns-in-Ok-step-clause-crash g c = λ honest w stands.
     let reads = (c.in-Ok.ensures.ok c.in-Ok.r).0 refl in
     let after = c.in-Ok-step.ensures.world honest w stands in (
       u,
-      match_false _ _ (is_fault_line c.in-Ok-step.answer) c.in-Ok-step.ensures.quiet record {
-        reading = Ok c.in-Ok.r;
-        reads = reads;
-        brings = (refl, c.in-Ok-step.ensures.answer honest w stands);
-      },
+      match_false _ _ (is_fault_line c.in-Ok-step.answer) c.in-Ok-step.ensures.quiet (read_reported w c.args.now c.args.line.now c.in-Ok.r _ reads (c.in-Ok-step.ensures.answer honest w stands)),
       after,
       λ v left. (u, g.met.B.QueueBook.lasts c.step.new.book u u honest (c.in-Ok-step.ensures.live honest) after, taken (tell c.in-Ok.r) (reports c.in-Ok.r reads) refl refl),
     )
@@ -104,11 +84,7 @@ returns-in-Err-step-clause-crash g c = λ honest w stands.
 pub returns-in-Err-clause-crash : goal.returns-in-Err-clause-crash
 returns-in-Err-clause-crash g c = λ honest w stands. (
   w,
-  unread_brings w c.args.now c.args.line.now c.unread.result c.in-Err.fault (record {
-    reading = Err c.in-Err.fault;
-    reads = refused_reads c.args.line.now c.in-Err.fault c.read_report.result c.in-Err.is c.read_report.ensures.syntax c.read_report.ensures.range;
-    brings = (refl, c.unread.ensures);
-  }) c.unread.ensures,
+  unread_brings w c.args.now c.args.line.now c.unread.result c.in-Err.fault (refused_reads c.args.line.now c.in-Err.fault c.read_report.result c.in-Err.is c.read_report.ensures.syntax c.read_report.ensures.range) c.unread.ensures,
   stands,
   λ v left. (v, left, untaken refl refl),
 )

@@ -26,7 +26,7 @@ returns-clause-refused g c = λ honest.
     (bytes_of c.answer_headed.result) (c.answer_headed.ensures.answered honest)
 
 pub returns-clause-crash : goal.returns-clause-crash
-returns-clause-crash g c = λ honest w stands. let a = c.answer_headed.ensures.answered honest w stands in (a.new, a.brings, a.world, a.crash)
+returns-clause-crash g c = c.answer_headed.ensures.answered
 
 pub returns-clause-head_refused : goal.returns-clause-head_refused
 returns-clause-head_refused g c = head_told c.args.body.now (bytes_of c.answer_headed.result) c.args.settings.now c.args.now c.answer_headed.ensures.checked

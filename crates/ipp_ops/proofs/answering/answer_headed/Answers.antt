@@ -8,13 +8,14 @@ use Rattle.ipp_ops.proofs.answering.answer_headed.Goals as goal
 
 pub returns-in-Ok-answer_message-clause-answered : goal.returns-in-Ok-answer_message-clause-answered
 returns-in-Ok-answer_message-clause-answered g c = λ honest w stands.
-    done_answered c.args.body.now (message_of c.in-Ok.view) c.args.context.settings.now c.args.context.now (g.B.QueueBook.stands c.answer_message.new.book) (g.B.QueueBook.crash_leaves c.args.book.now) (g.B.QueueBook.crash_leaves c.answer_message.new.book)
-    w c.in-Ok-answer_message.bytes.items c.in-Ok.ensures.request (c.in-Ok-answer_message.ensures.done honest w stands)
+    let d = c.in-Ok-answer_message.ensures.done honest w stands in
+    done_answered c.args.context.head c.args.body.now (message_of c.in-Ok.view) c.args.context.settings.now c.args.context.now (g.B.QueueBook.stands c.answer_message.new.book) (g.B.QueueBook.crash_leaves c.args.book.now) (g.B.QueueBook.crash_leaves c.answer_message.new.book)
+    w d.0 c.in-Ok-answer_message.bytes.items c.requires.head c.in-Ok.ensures.request d.1.0 d.1.1 d.2 d.3
 
 pub returns-in-Ok-answer_message-clause-checked : goal.returns-in-Ok-answer_message-clause-checked
 returns-in-Ok-answer_message-clause-checked g c = λ code u on.
     let m = message_of c.in-Ok.view in
-    message_told c.args.body.now m c.in-Ok-answer_message.bytes.items c.args.context.settings.now c.args.context.now code u c.in-Ok.ensures.request on
+    message_told c.args.context.head c.args.body.now c.in-Ok-answer_message.bytes.items c.args.context.settings.now c.args.context.now code u c.requires.head on
     (c.in-Ok-answer_message.ensures.checked code u (c.one_verdict.ensures c.args.body.now (verdict m) (refused code u) (request m c.in-Ok.ensures.request.spelled) on))
 
 pub returns-in-Ok-answer_message-clause-checked_kept : goal.returns-in-Ok-answer_message-clause-checked_kept
@@ -27,15 +28,16 @@ returns-in-Ok-answer_message-clause-checked_kept g c = λ code u on.
 pub returns-in-Ok-clause-answered : goal.returns-in-Ok-clause-answered
 returns-in-Ok-clause-answered g c = λ honest w stands.
     let m = message_of c.in-Ok.view in
+    let d = c.in-Err-answer_message.ensures.done honest w stands in
     undone_answered c.args.body.now m c.args.context.settings.now c.args.context.now (g.B.QueueBook.stands c.answer_message.new.book) (g.B.QueueBook.crash_leaves c.args.book.now) (g.B.QueueBook.crash_leaves c.answer_message.new.book)
-    w (bytes_of c.bare_answer.result) c.in-Ok.ensures.request
-    (request_fails c.args.head c.args.body.now m (bytes_of c.bare_answer.result) c.requires.head c.in-Ok.ensures.request c.bare_answer.ensures)
-    (c.in-Err-answer_message.ensures.undone honest w stands)
+    w d.0 (bytes_of c.bare_answer.result) c.in-Ok.ensures.request
+    (request_fails c.args.context.head c.args.body.now m (bytes_of c.bare_answer.result) c.requires.head c.in-Ok.ensures.request c.bare_answer.ensures)
+    d.1 d.2 d.3
 
 pub returns-in-Ok-clause-checked : goal.returns-in-Ok-clause-checked
 returns-in-Ok-clause-checked g c = λ code u on.
     bare_told c.args.body.now (bytes_of c.bare_answer.result) c.args.context.settings.now c.args.context.now code u c.one_verdict.ensures
-    (request_fails c.args.head c.args.body.now (message_of c.in-Ok.view) (bytes_of c.bare_answer.result) c.requires.head c.in-Ok.ensures.request c.bare_answer.ensures) on
+    (request_fails c.args.context.head c.args.body.now (message_of c.in-Ok.view) (bytes_of c.bare_answer.result) c.requires.head c.in-Ok.ensures.request c.bare_answer.ensures) on
 
 pub returns-in-Ok-clause-checked_kept : goal.returns-in-Ok-clause-checked_kept
 returns-in-Ok-clause-checked_kept g c = λ code u on.
