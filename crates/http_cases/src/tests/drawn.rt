@@ -28,13 +28,14 @@ const UNTIL_NEXT_JOB: u32 = 40;
 /// The last job whose attributes and documents are asked for behind them.
 const LAST_JOB: u32 = 60;
 
-/// Numbers by a linear congruence.
+/// Numbers by a linear congruence, and the rows that are drawn by them.
 #[derive(Drop)]
-struct Draws {
+struct Draws<'a> {
     state: u32,
+    rows: &'a [Row],
 }
 
-impl Draws {
+impl Draws<'_> {
     /// A number below a bound.
     fn below(&mut self, bound: u32) -> u32
         requires { 0 < bound }
@@ -47,10 +48,10 @@ impl Draws {
         (self.state >> 8) % bound
     }
 
-    /// The place of one of these rows.
-    fn row(&mut self, rows: &[Row]) -> usize {
+    /// The place of a row.
+    fn row(&mut self) -> usize {
         let mut rest = self.below(ALL_WEIGHTS);
-        for (place, row) in rows.iter().enumerate() {
+        for (place, row) in self.rows.iter().enumerate() {
             if rest < row.0 {
                 return place;
             }
@@ -234,19 +235,21 @@ fn has_part(bytes: &[u8], part: &[u8]) -> bool {
     part.is_empty() || bytes.windows(part.len()).any(|front| front == part)
 }
 
-/// Draws a call of a table, and counts it where its answer has what is looked for.
+/// Draws a call, and counts it where its answer has what is looked for.
 fn draw_call<A: DeskBook, B: DeskBook>(
     pair: &mut Pair<A, B>,
-    draws: &mut Draws,
-    table: (&[Row], &mut [u32]),
+    draws: &mut Draws<'_>,
+    counts: &mut [u32],
     moment: u32,
 ) -> Result<(), Mismatch>
     requires { IsMoment moment }
 {
-    let (rows, counts) = table;
-    let place = draws.row(rows);
+    let place = draws.row();
     let drawn = draws.drawn(moment);
-    if let (Some((_, call, part, _)), Some(count)) = (rows.get(place), counts.get_mut(place)) {
+    if let (Some((_, call, part, _)), Some(count)) = (
+        draws.rows.get(place),
+        counts.get_mut(place),
+    ) {
         pair.send(moment, *call, drawn)?;
         if has_part(pair.from_other.as_slice(), part) {
             *count = count.saturating_add(1);
@@ -261,12 +264,12 @@ fn draw_calls<A: DeskBook, B: DeskBook>(
     rows: &[Row],
     counts: &mut [u32],
 ) -> Result<(), Mismatch> {
-    let mut draws = Draws { state: 10 };
+    let mut draws = Draws { state: 10, rows };
     for moment in 1..=CALLS {
         if moment % UNTIL_GRANT == 1 {
             pair.grant(moment)?;
         }
-        draw_call(pair, &mut draws, (rows, counts), moment)?;
+        draw_call(pair, &mut draws, counts, moment)?;
     }
     Ok(())
 }
