@@ -1,7 +1,6 @@
 -- A list of arrivals grows by one, and what a run keeps.
 use Rattle.std.proofs.Common.{◌≡◌, ◌∙◌, ℕ, ◌+◌, zero, suc, List, [], ◌∷◌, ◌++◌, Option, None, Some, inl, refl, sym, ap, subst, append_assoc, append-nil, take}
 use Rattle.std.specs.List.{AllByRecursion as Each}
-use Rattle.std.specs.Io.KnownBytes.{Appends}
 use Rattle.std.proofs.KnownBytes.{Appends-nil, Appends-trans}
 use Rattle.std.proofs.Math.Numerals.{add-one}
 use Rattle.queue_types.specs.Event.{Event}
@@ -10,9 +9,11 @@ use Rattle.queue_types.specs.declared.job.Job.{Job}
 use Rattle.queue_core.specs.Runs.{Place, IsPlace, Follows, MovesAlong, after, run}
 use Rattle.queue_core.specs.Sound.{Balances, IsSound}
 use Rattle.queue_core.specs.World.{World, job_at, rows}
-use Rattle.arrivals.specs.Crash.{IsAskedBy, AsksAt, Carries}
-use Rattle.arrivals.specs.History.{AreTaken, History}
-use Rattle.arrivals.specs.Taken.{IsTaken, Takes}
+use Rattle.queue_core.specs.declared.book.QueueBook.{Ghosts}
+use Rattle.arrivals.specs.Books.{AreTakenOver, HistoryOver, IsTakenOver}
+use Rattle.arrivals.specs.Crash.{IsAskedBy, Carries}
+use Rattle.arrivals.specs.History.{AreTaken}
+use Rattle.arrivals.specs.Taken.{Takes}
 use Rattle.arrivals.specs.declared.arrival.Arrival.{Arrival}
 use Rattle.arrivals.specs.declared.arrival.Outcome.{Outcome}
 use Rattle.arrivals.proofs.CrashLemmas.{carries_more, carries_none}
@@ -67,10 +68,10 @@ taken_more w v u (x ∷ xs) (p ∷ os) a o written more ps qs t c = (
   taken_more t.4 v u xs os a o t.1 more t.3 qs t.8 c,
 )
 
-pub more_taken : AreJoined → (held new : World → Type 0) (before between behind : World → World → Type 0) (w : World) (xs : List Arrival) (os : List Outcome) (a : Arrival) (o : Outcome) (v x y : Option (List ℕ))
-    → (t : IsTaken held (Carries before between (IsAskedBy xs os) w) w v x (AreTaken w xs os)) → IsTaken new (Carries between behind (AsksAt a.moment a.what) t.after) t.after x y (Takes a.moment t.after a.what o)
-    → IsTaken new (Carries before behind (IsAskedBy (xs ++ a ∷ []) (os ++ o ∷ [])) w) w v y (AreTaken w (xs ++ a ∷ []) (os ++ o ∷ []))
-more_taken joined held new before between behind w xs os a o v x y t k = record {
+pub more_taken : AreJoined → {B : Type 0} (book : Ghosts B) (old between new : B) (w : World) (xs : List Arrival) (os : List Outcome) (a : Arrival) (o : Outcome) (v x y : Option (List ℕ))
+    → (t : AreTakenOver book old between w xs os v x) → IsTakenOver book between new t.after a.moment a.what o x y
+    → AreTakenOver book old new w (xs ++ a ∷ []) (os ++ o ∷ []) v y
+more_taken joined book old between new w xs os a o v x y t k = record {
   after = k.after;
   stands_after = k.stands_after;
   written = t.written ++ k.written;
@@ -79,12 +80,11 @@ more_taken joined held new before between behind w xs os a o v x y t k = record 
   are = each_append t.places k.places t.are k.are;
   run_is = k.run_is ∙ ap (λ (z : World). run z k.places) t.run_is ∙ sym (joined w t.places k.places);
   comes = taken_more w t.after k.after xs os a o t.written k.written t.places k.places t.comes k.comes;
-  is_left = carries_more before between behind xs os a o t.written t.places w t.after k.after t.comes t.is_left k.is_left;
+  is_left = carries_more (book.crash_leaves old) (book.crash_leaves between) (book.crash_leaves new) xs os a o t.written t.places w t.after k.after t.comes t.is_left k.is_left;
 }
 
-pub none_taken : (held : World → Type 0) (before : World → World → Type 0) (w : World) (os : List Outcome) (v : Option (List ℕ)) → os ≡ [] → held w
-    → IsTaken held (Carries before before (IsAskedBy [] os) w) w v v (AreTaken w [] os)
-none_taken held before w os v e s = record {
+pub none_taken : {B : Type 0} (book : Ghosts B) (b : B) (w : World) (os : List Outcome) (v : Option (List ℕ)) → os ≡ [] → book.stands b w → AreTakenOver book b b w [] os v v
+none_taken book b w os v e s = record {
   after = w;
   stands_after = s;
   written = [];
@@ -93,15 +93,14 @@ none_taken held before w os v e s = record {
   are = tt;
   run_is = refl;
   comes = subst (λ (z : List Outcome). AreTaken w [] z [] [] w) (sym e) (refl, refl, refl);
-  is_left = carries_none before os w;
+  is_left = carries_none (book.crash_leaves b) os w;
 }
 
 -- the same of lists by other names
-pub taken_by : (held : World → Type 0) (before behind : World → World → Type 0) (w : World) (v x : Option (List ℕ)) (xs ys : List Arrival) (os qs : List Outcome) → ys ≡ xs → qs ≡ os
-    → IsTaken held (Carries before behind (IsAskedBy xs os) w) w v x (AreTaken w xs os) → IsTaken held (Carries before behind (IsAskedBy ys qs) w) w v x (AreTaken w ys qs)
-taken_by held before behind w v x xs ys os qs e f t =
-    subst (λ (z : List Arrival). IsTaken held (Carries before behind (IsAskedBy z qs) w) w v x (AreTaken w z qs)) (sym e)
-    (subst (λ (z : List Outcome). IsTaken held (Carries before behind (IsAskedBy xs z) w) w v x (AreTaken w xs z)) (sym f) t)
+pub taken_by : {B : Type 0} (book : Ghosts B) (old new : B) (w : World) (v x : Option (List ℕ)) (xs ys : List Arrival) (os qs : List Outcome) → ys ≡ xs → qs ≡ os
+    → AreTakenOver book old new w xs os v x → AreTakenOver book old new w ys qs v x
+taken_by book old new w v x xs ys os qs e f t =
+    subst (λ (z : List Arrival). AreTakenOver book old new w z qs v x) (sym e) (subst (λ (z : List Outcome). AreTakenOver book old new w xs z v x) (sym f) t)
 
 -- ---- what a run keeps
 
@@ -138,15 +137,14 @@ moves_more sound moves k w ps s h = subst (λ (n : ℕ). MovesAlong (run w (take
 
 -- ---- the whole
 
-pub history_of : KeepsSound → KeepsMoves → KeepsBalances → (held : World → Type 0) (before behind : World → World → Type 0) (w : World) (xs ys : List Arrival) (os : List Outcome) (v x : Option (List ℕ))
-    → xs ≡ ys → IsSound w → IsTaken held (Carries before behind (IsAskedBy xs os) w) w v x (AreTaken w xs os)
-    → (u : World) × held u × (written : List ℕ) × Appends v x written × History w ys os written u × Carries before behind (IsAskedBy ys os) w u
-history_of sound moves balances held before behind w xs ys os v x same s t = (
-  t.after,
-  t.stands_after,
-  t.written,
-  t.appended,
-  record {
+pub history_of : KeepsSound → KeepsMoves → KeepsBalances → {B : Type 0} (book : Ghosts B) (old new : B) (w : World) (xs ys : List Arrival) (os : List Outcome) (v x : Option (List ℕ))
+    → xs ≡ ys → IsSound w → AreTakenOver book old new w xs os v x → HistoryOver book old new w ys os v x
+history_of sound moves balances book old new w xs ys os v x same s t = record {
+  queue = t.after;
+  stands = t.stands_after;
+  written = t.written;
+  appended = t.appended;
+  history = record {
     places = t.places;
     taken = subst (λ (z : List Arrival). AreTaken w z os t.written t.places t.after) same t.comes;
     are = t.are;
@@ -154,9 +152,9 @@ history_of sound moves balances held before behind w xs ys os v x same s t = (
     moves = λ k. moves_more sound moves k w t.places s t.are;
     balances = λ k. balances w (take k t.places) s (each_take k t.places t.are);
     sound = λ k. sound w (take k t.places) s (each_take k t.places t.are);
-  },
-  subst (λ (z : List Arrival). Carries before behind (IsAskedBy z os) w t.after) same t.is_left,
-)
+  };
+  carries = subst (λ (z : List Arrival). Carries (book.crash_leaves old) (book.crash_leaves new) (IsAskedBy z os) w t.after) same t.is_left;
+}
 
 -- ---- the last of a list
 

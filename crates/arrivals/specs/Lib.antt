@@ -1,3 +1,4 @@
 pub mod Taken
 pub mod History
 pub mod Crash
+pub mod Books

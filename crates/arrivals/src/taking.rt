@@ -1,13 +1,12 @@
 //! What reaches a queue is taken, one after another.
-ghost use Rattle.std.specs.Prelude.{◌≡◌, ℕ, All, List, IfOk, OnErr};
+ghost use Rattle.std.specs.Prelude.{◌≡◌, All, IfOk, OnErr};
 ghost use Rattle.std.specs.List.{AllByRecursion};
-ghost use Rattle.std.specs.Io.KnownBytes.{Appends, Keeps};
+ghost use Rattle.std.specs.Io.KnownBytes.{Keeps};
 ghost use Rattle.queue_core.specs.Limits.{IsMoment};
-ghost use Rattle.queue_core.specs.Runs.{IsPlace, Place, run};
 ghost use Rattle.queue_core.specs.World.{World};
-ghost use Rattle.arrivals.specs.Crash.{IsAskedBy, AsksAt, Carries, IsAtMostOneMore, outcomes_of};
-ghost use Rattle.arrivals.specs.History.{History};
-ghost use Rattle.arrivals.specs.Taken.{IsFaultless, IsTaken, Takes};
+ghost use Rattle.arrivals.specs.Books.{HistoryOver, IsTakenOver, LeavesAtMostOneMore};
+ghost use Rattle.arrivals.specs.Crash.{IsAskedBy, outcomes_of};
+ghost use Rattle.arrivals.specs.Taken.{IsFaultless};
 ghost use Rattle.arrivals.specs.declared.arrival.Arrived.TheVariants.{AccountFile, Connection, Line};
 
 use crate::arrival::{Arrival, Arrived, Outcome};
@@ -32,8 +31,7 @@ fn take_connection<W: Write, B: QueueBook>(
     requires { IsMoment now }
     ensures began { B.is_honest book.new → B.is_honest book.old }
     ensures taken { B.is_honest book.new → (w : World) → B.stands book.old w → settings.now ≡ w.settings
-        → IsTaken (B.stands book.new) (Carries (B.crash_leaves book.old) (B.crash_leaves book.new) (AsksAt now (Connection stream.entry)) w)
-        w (W.contents writer.old) (W.contents writer.new) (Takes now w (Connection stream.entry) result) }
+        → IsTakenOver B.QueueBook book.old book.new w now (Connection stream.entry) result (W.contents writer.old) (W.contents writer.new) }
     ensures live { B.is_honest book.new → B.is_live book.old → IsFaultless result → B.is_live book.new }
 {
     connections_are_runs();
@@ -49,8 +47,7 @@ fn take_line<B: QueueBook>(book: &mut B, now: u32, line: &[u8]) -> Outcome
     requires { IsMoment now }
     ensures began { B.is_honest book.new → B.is_honest book.old }
     ensures taken { B.is_honest book.new → (w : World) → B.stands book.old w → (v : _)
-        → IsTaken (B.stands book.new) (Carries (B.crash_leaves book.old) (B.crash_leaves book.new) (AsksAt now (Line line.entry)) w)
-        w v v (Takes now w (Line line.entry) result) }
+        → IsTakenOver B.QueueBook book.old book.new w now (Line line.entry) result v v }
     ensures live { B.is_honest book.new → B.is_live book.old → IsFaultless result → B.is_live book.new }
 {
     lines_are_events();
@@ -62,8 +59,7 @@ fn take_file<B: QueueBook>(alloc: Global, book: &mut B, now: u32, file: &[u8]) -
     requires { IsMoment now }
     ensures began { B.is_honest book.new → B.is_honest book.old }
     ensures taken { B.is_honest book.new → (w : World) → B.stands book.old w → (v : _)
-        → IsTaken (B.stands book.new) (Carries (B.crash_leaves book.old) (B.crash_leaves book.new) (AsksAt now (AccountFile file.entry)) w)
-        w v v (Takes now w (AccountFile file.entry) result) }
+        → IsTakenOver B.QueueBook book.old book.new w now (AccountFile file.entry) result v v }
     ensures live { B.is_honest book.new → B.is_live book.old → IsFaultless result → B.is_live book.new }
 {
     files_are_events();
@@ -84,8 +80,7 @@ fn take<W: Write, B: QueueBook>(
     requires { IsMoment arrival.moment }
     ensures began { B.is_honest book.new → B.is_honest book.old }
     ensures taken { B.is_honest book.new → (w : World) → B.stands book.old w → settings.now ≡ w.settings
-        → IsTaken (B.stands book.new) (Carries (B.crash_leaves book.old) (B.crash_leaves book.new) (AsksAt arrival.entry.moment arrival.entry.what) w)
-        w (W.contents writer.old) (W.contents writer.new) (Takes arrival.entry.moment w arrival.entry.what result) }
+        → IsTakenOver B.QueueBook book.old book.new w arrival.entry.moment arrival.entry.what result (W.contents writer.old) (W.contents writer.new) }
     ensures live { B.is_honest book.new → B.is_live book.old → IsFaultless result → B.is_live book.new }
 {
     match arrival.what {
@@ -110,18 +105,15 @@ pub fn take_all<W: Write, B: QueueBook>(
 ) -> Result<Vec<Outcome>, AllocError>
     requires { All (λ a. IsMoment a.moment) arrivals.now }
     ensures began { B.is_honest book.new → B.is_honest book.old }
-    // the promise of the whole; and what a crash leaves beside the queue u, also where the book was shut before
+    // the promise of the whole
     ensures history { B.is_honest book.new → IfOk result (λ outcomes. (w : World) → B.stands book.old w → settings.now ≡ w.settings
-        → (u : World) × B.stands book.new u × (written : List ℕ) × Appends (W.contents writer.old) (W.contents writer.new) written
-        × History w arrivals.now outcomes.items written u
-        × Carries (B.crash_leaves book.old) (B.crash_leaves book.new) (IsAskedBy arrivals.now outcomes.items) w u) }
+        → HistoryOver B.QueueBook book.old book.new w arrivals.now outcomes.items (W.contents writer.old) (W.contents writer.new)) }
     // what shuts a book is told as a fault, or breaks a document off
     ensures live { B.is_honest book.new → B.is_live book.old → IfOk result (λ outcomes. AllByRecursion IsFaultless outcomes.items → B.is_live book.new) }
     // whatever it answers, a crash at any moment leaves the queue that the machine came to, or the one after one event more, which one of the arrivals
     // asked for at its moment, and before which the queue was that already
     ensures crash { B.is_honest book.new → B.is_live book.old → (w : World) → B.stands book.old w → settings.now ≡ w.settings
-        → (u x : World) × B.stands book.new u × (places : List Place) × AllByRecursion IsPlace places × (u ≡ run w places)
-        × B.crash_leaves book.new u x × IsAtMostOneMore (IsAskedBy arrivals.now (outcomes_of result) w u) u x }
+        → LeavesAtMostOneMore B.QueueBook book.new w (IsAskedBy arrivals.now (outcomes_of result) w) }
     ensures err { OnErr result (book.new ≡ book.old) }
     ensures unwritten { OnErr result (Keeps (W.contents writer.old) (W.contents writer.new)) }
 {

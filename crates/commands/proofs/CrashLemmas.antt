@@ -15,19 +15,31 @@ use Rattle.queue_tables.specs.Content.{IsBookOf, LeavesOneOf}
 use Rattle.grants_csv.specs.Import.{Adds, Asks, grants}
 use Rattle.grants_csv.specs.declared.importing.Imported.{Imported}
 use Rattle.office.specs.Told.{IsTaken}
-use Rattle.print_server.specs.Connections.{AreConnections, Carries, IsAtMostOneMore}
+use Rattle.print_server.specs.Connections.{AreConnections, Carries}
 use Rattle.print_server.proofs.CrashLemmas.{left_one}
-use Rattle.commands.specs.Work.{CrashLeaves, IsAllOrNone, broken_off, taken, untaken}
+use Rattle.commands.specs.Books.{LeavesBeside, ServedOver}
+use Rattle.commands.specs.Work.{IsAllOrNone, IsTakenAt, broken_off, taken, untaken}
 
 -- of an open book a crash leaves the queue that it stands for
 pub lasts : {S : Type 0} (store : Ghosts S) → ((s : S) (db : Trees) → IsTrue (store.view s).is_open → store.recovers s db → db ≡ (store.view s).committed)
     → (b : TableBook S) (w : World) → IsHonest store b → IsTrue (shown_by store b).is_open → StandsFor store b w → LeavesOneOf w w (shown_by store b)
 lasts store settled b w honest live stands = open_lasts w stands (settled (connection_of b).store) honest live
 
--- what connections carry from an open store
-pub one_more : (before after : State) (w : World) (counts : List ℕ) (u : World) (are : AreConnections w counts u) → (IsTrue before.is_open → LeavesOneOf w w before)
-    → Carries (λ (v x : World). LeavesOneOf v x before) (λ (v x : World). LeavesOneOf v x after) w counts u are → CrashLeaves before after u (IsAtMostOneMore w counts u are)
-one_more before after w counts u are last carried = λ live. let left = carried w (last live) in (left.0, left.1, left_one w counts u are left.0 left.2)
+-- connections over a book, and none
+module _ {S : Type 0} (store : Ghosts S) (settled : (s : S) (db : Trees) → IsTrue (store.view s).is_open → store.recovers s db → db ≡ (store.view s).committed) where
+  abbrev pub served_over : (old new : TableBook S) (w : World) → IsHonest store old → StandsFor store old w → (counts : List ℕ) (u : World) (are : AreConnections w counts u)
+      → StandsFor store new u → Carries (λ (v x : World). LeavesOneOf v x (shown_by store old)) (λ (v x : World). LeavesOneOf v x (shown_by store new)) w counts u are
+      → ServedOver store old new w
+  served_over old new w honest stood counts u are stands carried = record {
+    counts = counts;
+    queue = u;
+    are = are;
+    stands = stands;
+    left = λ live. let left = carried w (lasts store settled old w honest live stood) in (left.0, left.1, left_one w counts u are left.0 left.2);
+  }
+
+  abbrev pub none_served : (b : TableBook S) (w : World) → IsHonest store b → StandsFor store b w → ServedOver store b b w
+  none_served b w honest stands = record { counts = []; queue = w; are = refl; stands = stands; left = λ live. (w, lasts store settled b w honest live stands, refl) }
 
 -- rows that are refused change nothing
 added_or_same : (t : Taken) (w : World) → ((n : Imported) × Adds (grant_row t).reply n) ⊎ (made_on (grant_row t).change w ≡ w)
@@ -35,7 +47,7 @@ added_or_same (all_taken new free repeats) w = inl (record { added = _; repeats 
 added_or_same (none_taken fault row) w = inr refl
 
 taken_or_same : (now : ℕ) (w : World) (bytes : List ℕ) (e : Event) → Asks bytes (Some e)
-    → ((n : Imported) × IsTaken now w (step w now e).world bytes n) ⊎ ((step w now e).world ≡ w)
+    → IsTakenAt now bytes w (step w now e).world ⊎ ((step w now e).world ≡ w)
 taken_or_same now w bytes e (grants rows read) = elim (added_or_same (take_rows rows (cut w (grant rows)).known 1 [] [] 0) w) [
   | inl added ↦ inl (added.0, (rows, read, added.1, refl))
   | inr same ↦ inr same
@@ -43,7 +55,7 @@ taken_or_same now w bytes e (grants rows read) = elim (added_or_same (take_rows 
 
 module _ {now : ℕ} {w u x : World} {bytes : List ℕ} where
   -- all of the rows, or none
-  pub all_or_none : Leaves (λ e. Asks bytes (Some e)) now w w u x → IsAllOrNone (λ v. (n : Imported) × IsTaken now w v bytes n) w u x
+  pub all_or_none : Leaves (λ e. Asks bytes (Some e)) now w w u x → IsAllOrNone (IsTakenAt now bytes w) w u x
   all_or_none (left_untaken stays left) = untaken stays (left ∙ sym stays)
   all_or_none (left_taken e asks made left) = elim (taken_or_same now w bytes e asks) [
     | inl all ↦ taken (all.0, subst (λ (v : World). IsTaken now w v bytes all.0) (sym made) all.1) left
@@ -55,7 +67,7 @@ module _ {now : ℕ} {w u x : World} {bytes : List ℕ} where
   ]
 
 -- of a store that stands for w too, a crash leaves w, or another
-pub beside : (all : World → Type 0) (w u x : World) (s : State) → LeavesOneOf u x s → IsAllOrNone all w u x → (y : World) × LeavesOneOf w y s × IsAllOrNone all w w y
+pub beside : (all : World → Type 0) (w u x : World) (s : State) → LeavesOneOf u x s → IsAllOrNone all w u x → LeavesBeside s w (IsAllOrNone all w w)
 beside all w u x s leaves (untaken stays left) = (
   w,
   λ db may. elim (leaves db may) [ inl b ↦ inl (subst (λ (z : World). IsBookOf z db) stays b) | inr b ↦ inl (subst (λ (z : World). IsBookOf z db) (left ∙ stays) b) ],

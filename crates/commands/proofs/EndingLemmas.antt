@@ -36,6 +36,10 @@ handed_on (Err e) (Err f) Q done refused q = let same = refused in subst Q (sym 
 pub or_same : {S W C : Type 0} (contents : W → C) (new old : W) → S ⊎ (new ≡ old) → S ⊎ (contents new ≡ contents old)
 or_same contents new old quiet = elim quiet [ inl s ↦ inl s | inr same ↦ inr (ap contents same) ]
 
+-- words without faults have none
+pub none_among : (faults : Kinds) (kind : ErrorKind) → IsAmong kind faults → faults ≡ [] → ⊥
+none_among faults kind among none = subst (IsAmong kind) none among
+
 -- a fault of wrong words asks for no text
 pub asks_nothing : (faults : Kinds) (kind : ErrorKind) → IsAmong kind faults → AreWrong faults → (kind ≢ DisplayHelp) × (kind ≢ DisplayVersion)
 asks_nothing faults kind among wrong =

@@ -1,17 +1,15 @@
 -- Work on a store, where less is known of what its account file holds.
 use Rattle.std.proofs.Common.{◌≡◌, ℕ, IfErr, IfOk, IsOk, IsTrue, List, OnOk, Option, Result, Ok, Err, Vec, false, true, subst, sym}
-use Rattle.sqlite.specs.State.{State}
 use Rattle.grants_csv.specs.declared.importing.Imported.{Imported}
 use Rattle.office.specs.Told.{IsTaken}
 use Rattle.queue_core.specs.Limits.{IsMoment}
 use Rattle.queue_core.specs.World.{World}
-use Rattle.queue_store.specs.Kept.{IsHonest}
+use Rattle.queue_store.specs.Kept.{IsHonest, StandsFor, shown_by}
 use Rattle.queue_store.specs.declared.book.TableBook.{TableBook}
-use Rattle.queue_tables.specs.Content.{LeavesOneOf}
 use Rattle.sqlite_trees.specs.declared.store.Store.{Ghosts}
 use Rattle.command_ends.specs.declared.fault.Fault.{Fault}
 use Rattle.commands.specs.Printed.{Prints}
-use Rattle.commands.specs.Work.{AreAny, AreIn, CrashLeaves, HasEnded, IsDone, IsDoneOn, IsImport, IsRefusal, IsRefusedOn, MayBeLeft}
+use Rattle.commands.specs.Work.{AreAny, AreIn, HasEnded, IsDone, IsDoneFrom, IsDoneOn, IsImport, IsRefusal, IsRefusedOn, MayBeLeft}
 use Rattle.commands.specs.declared.work.Work.{Work}
 use Rattle.commands.specs.declared.work.Work.TheVariants.{Import}
 use Rattle.commands.proofs.CrashLemmas.{known_of_all}
@@ -28,16 +26,19 @@ known_in (Err error) P p bytes is = absurd is
 -- rows that were taken at a moment
 pub import_of : (are_read : List ℕ → Type 0) (now : ℕ) → IsMoment now → (bytes : List ℕ) → are_read bytes → (w u : World) (n : Imported) → IsTaken now w u bytes n
     → IsImport are_read w u n
-import_of are_read now moment bytes read w u n told = (now, moment, bytes, read, told)
+import_of are_read now moment bytes read w u n told = record { now = now; moment = moment; bytes = bytes; read = read; taken = told }
 
 -- so it is where more is known of what an account file holds than is wanted
 module _ (P Q : List ℕ → Type 0) (known : (bytes : List ℕ) → P bytes → Q bytes) where
+  import_by : (w u : World) (n : Imported) → IsImport P w u n → IsImport Q w u n
+  import_by w u n told = record { now = told.now; moment = told.moment; bytes = told.bytes; read = known told.bytes told.read; taken = told.taken }
+
   done_by : (work : Work) (w u : World) (before after : Option (List ℕ)) → IsDone P work w u before after → IsDone Q work w u before after
-  done_by (Import words) w u before after done = (done.0, (done.1.0, done.1.1, done.1.2, known done.1.2 done.1.3, done.1.4), done.2)
+  done_by (Import words) w u before after done = (done.0, import_by w u done.0 done.1, done.2)
   done_by _ w u before after done = done
 
   left_by : (work : Work) (w u x : World) → MayBeLeft P work w u x → MayBeLeft Q work w u x
-  left_by (Import words) w u x left = known_of_all _ _ w u x (λ v told. (told.0, (told.1.0, told.1.1, told.1.2, known told.1.2 told.1.3, told.1.4))) left
+  left_by (Import words) w u x left = known_of_all _ _ w u x (λ v told. (told.0, import_by w v told.0 told.1)) left
   left_by _ w u x left = left
 
   pub done_on_by : {S : Type 0} (store : Ghosts S) (work : Work) (old new : TableBook S) (before after : Option (List ℕ))
@@ -47,28 +48,23 @@ module _ (P Q : List ℕ → Type 0) (known : (bytes : List ℕ) → P bytes →
     done = λ w stands. let done = it.done w stands in (
       done.0,
       done.1,
-      done_by work w done.0 before after done.2,
-      λ live. let left = done.3 live in (left.0, left.1, left_by work w done.0 left.0 left.2),
+      (done_by work w done.0 before after done.2.0, λ live. let left = done.2.1 live in (left.0, left.1, left_by work w done.0 left.0 left.2)),
     );
     live = it.live;
   }
 
 -- what was done on an open store, and what a crash leaves of it
-module _ (are_read : List ℕ → Type 0) (work : Work) (before after : State) (stands : World → Type 0) (x y : Option (List ℕ)) where
-  pub handed_on_of : (w : World) → IsTrue before.is_open
-      → (u : World) × stands u × IsDone are_read work w u x y × CrashLeaves before after u (MayBeLeft are_read work w u)
-      → (u : World) × stands u × IsDone AreAny work w u x y × (z : World) × LeavesOneOf u z after × MayBeLeft AreAny work w u z
-  handed_on_of w live it =
-      let left = it.3 live in
-      (it.0, it.1, done_by are_read AreAny (λ bytes read. tt) work w it.0 x y it.2, left.0, left.1, left_by are_read AreAny (λ bytes read. tt) work w it.0 left.0 left.2)
-
-  -- so it is of the queue that was kept
-  pub handed_on_kept : (kept stood : World → Type 0) → (w : World) × kept w × stood w → IsTrue before.is_open
-      → ((w : World) → stood w → (u : World) × stands u × IsDone are_read work w u x y × CrashLeaves before after u (MayBeLeft are_read work w u))
-      → (w : World) × kept w × (u : World) × stands u × IsDone AreAny work w u x y × (z : World) × LeavesOneOf u z after × MayBeLeft AreAny work w u z
-  handed_on_kept kept stood at live done =
-      let it = handed_on_of at.0 live (done at.0 at.2) in
-      (at.0, at.1, it.0, it.1, it.2, it.3, it.4, it.5)
+module _ {S : Type 0} (store : Ghosts S) (are_read : List ℕ → Type 0) (work : Work) (old new : TableBook S) (before after : Option (List ℕ)) where
+  pub done_from : IsDoneOn store are_read work old new before after → (w : World) → StandsFor store old w → IsTrue (shown_by store old).is_open
+      → IsDoneFrom store work w new before after
+  done_from it w stands live =
+      let done = it.done w stands in
+      let left = done.2.1 live in record {
+        queue = done.0;
+        stands = done.1;
+        done = done_by are_read AreAny (λ bytes read. tt) work w done.0 before after done.2.0;
+        left = (left.0, left.1, left_by are_read AreAny (λ bytes read. tt) work w done.0 left.0 left.2);
+      }
 
 -- work on a book that ended
 module _ {S A : Type 0} (store : Ghosts S) (are_read : List ℕ → Type 0) (work : Work) (old new : TableBook S) (before after : Option (List ℕ)) where

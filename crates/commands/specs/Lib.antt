@@ -1,3 +1,4 @@
+pub mod Books
 pub mod Found
 pub mod Printed
 pub mod Refusals

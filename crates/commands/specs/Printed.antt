@@ -3,6 +3,7 @@ use Rattle.std.specs.Prelude.{◌≡◌, ◌++◌, ℕ, List, Option, length}
 use Rattle.std.specs.Io.KnownBytes.{Appends, Keeps}
 use Rattle.command_words.specs.declared.outcome.Command.{Command}
 use Rattle.command_words.specs.declared.outcome.Command.TheVariants as command
+use Rattle.command_words.specs.declared.outcome.Serve.{Serve as ServeWords}
 use Rattle.grants_csv.specs.declared.importing.Imported.{Imported}
 use Rattle.office.specs.Told.{import_line}
 use Rattle.page_statements.specs.Statement.{sheet_text}
@@ -14,12 +15,16 @@ use Rattle.replay.specs.Session.{State}
 use Rattle.commands.specs.declared.work.Work.{Work}
 use Rattle.commands.specs.declared.work.Work.TheVariants.{Import, Statement, Serve}
 
+-- what a server tells: the port that it listens on, and of each of its connections how many requests acted
+abbrev pub server_lines : ServeWords → List ℕ → List ℕ
+server_lines words counts = listening_line words.port ++ served_lines counts
+
 -- what was written is the output then, where that was the output before: the line of an account file, of some counts; a statement of
 -- that account; or the line of a server that listens on its port, and one for each of its connections
 abbrev pub Prints : Work → Option (List ℕ) → Option (List ℕ) → Type 0
 Prints (Import words) before after = (n : Imported) × Appends before after (import_line n)
 Prints (Statement words) before after = (s : AccountSheet) × (s.account ≡ words.account.now) × Appends before after (sheet_text s)
-Prints (Serve words) before after = (counts : List ℕ) × (length counts ≡ words.connections) × Appends before after (listening_line words.port ++ served_lines counts)
+Prints (Serve words) before after = (counts : List ℕ) × (length counts ≡ words.connections) × Appends before after (server_lines words counts)
 
 -- a command that ends with this status has printed so: a new store prints nothing, and a replay the answers to the lines of some input
 abbrev pub HasPrinted : Command → ℕ → Option (List ℕ) → Option (List ℕ) → Type 0

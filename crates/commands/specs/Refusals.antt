@@ -1,5 +1,5 @@
 -- What a command that is refused may tell, and what it has printed.
-use Rattle.std.specs.Prelude.{◌≡◌, ◌≤◌, ◌⊎◌, ◌++◌, ⊤, ℕ, [], List, Option, length}
+use Rattle.std.specs.Prelude.{◌≡◌, ◌≤◌, ◌⊎◌, ⊤, ℕ, [], List, Option, length}
 use Rattle.std.specs.Io.KnownBytes.{Appends, Keeps}
 use Rattle.command_ends.specs.Faults.{IsOfStream}
 use Rattle.command_ends.specs.Texts.{Tells}
@@ -9,8 +9,7 @@ use Rattle.command_words.specs.declared.outcome.Command.{Command}
 use Rattle.command_words.specs.declared.outcome.Command.TheVariants as command
 use Rattle.command_words.specs.declared.outcome.Serve.{Serve as ServeWords}
 use Rattle.grants_csv.specs.declared.fault.ImportFault.{ImportFault}
-use Rattle.print_server.specs.Lines.{listening_line, served_lines}
-use Rattle.commands.specs.Printed.{HasPrinted}
+use Rattle.commands.specs.Printed.{HasPrinted, server_lines}
 use Rattle.commands.specs.Store.{IsOfStore}
 use Rattle.commands.specs.declared.work.Work.{Work}
 use Rattle.commands.specs.declared.work.Work.TheVariants.{Import, Statement, Serve}
@@ -55,7 +54,7 @@ MayBeToldBy command.Replay fault = IsOfReplay fault
 
 -- a server has told of its port, and of no more connections than its words ask for
 abbrev pub HasListened : ServeWords → Option (List ℕ) → Option (List ℕ) → Type 0
-HasListened words before after = (counts : List ℕ) × (length counts ≤ words.connections) × Appends before after (listening_line words.port ++ served_lines counts)
+HasListened words before after = (counts : List ℕ) × (length counts ≤ words.connections) × Appends before after (server_lines words counts)
 
 -- what work that isn't done has printed, where no stream failed and there was memory: nothing; but a server may have told of its port and of connections before it was stopped
 abbrev pub MayBePrintedOf : Work → Option (List ℕ) → Option (List ℕ) → Type 0

@@ -1,25 +1,24 @@
 -- What a command does on the book of a store.
-use Rattle.std.specs.Prelude.{◌≡◌, ◌≢◌, ◌≤◌, ◌⊎◌, ◌++◌, ⊤, ℕ, IsTrue, List, Option, Some, None, Result, Ok, Err, Vec, length}
+use Rattle.std.specs.Prelude.{◌≡◌, ◌≢◌, ◌≤◌, ◌⊎◌, ⊤, ℕ, IsTrue, List, Option, Some, None, Result, Ok, Err, Vec, length}
 use Rattle.std.specs.Io.KnownBytes.{Appends}
 use Rattle.command_ends.specs.Faults.{IsOfStream}
 use Rattle.command_ends.specs.declared.fault.Fault.{Fault}
 use Rattle.command_ends.specs.declared.fault.Fault.TheVariants.{Damaged, NoAccount, Import as ByFile}
+use Rattle.command_words.specs.declared.outcome.Serve.{Serve as ServeWords}
 use Rattle.grants_csv.specs.declared.fault.ImportFault.{ImportFault}
 use Rattle.grants_csv.specs.declared.importing.Imported.{Imported}
 use Rattle.office.specs.Told.{AreReadOf, IsRefused, IsTaken, import_line}
 use Rattle.page_statements.specs.Statement.{sheet_text}
 use Rattle.print_server.specs.Connections.{AreConnections, IsAtMostOneMore}
-use Rattle.print_server.specs.Lines.{listening_line, served_lines}
 use Rattle.queue_core.specs.Limits.{IsMoment}
 use Rattle.queue_core.specs.Shown.{sheet_of}
 use Rattle.queue_core.specs.World.{World}
 use Rattle.queue_types.specs.declared.sheet.AccountSheet.{AccountSheet}
 use Rattle.queue_store.specs.Kept.{IsHonest, StandsFor, shown_by}
 use Rattle.queue_store.specs.declared.book.TableBook.{TableBook}
-use Rattle.queue_tables.specs.Content.{LeavesOneOf}
-use Rattle.sqlite.specs.State.{State}
 use Rattle.sqlite_trees.specs.declared.store.Store.{Ghosts}
-use Rattle.commands.specs.Printed.{Prints}
+use Rattle.commands.specs.Books.{LeavesBeside, MakesSafely}
+use Rattle.commands.specs.Printed.{Prints, server_lines}
 use Rattle.commands.specs.Refusals.{IsOfNoAccount, MayBePrintedOf, MayBeToldOf}
 use Rattle.commands.specs.declared.work.Work.{Work}
 use Rattle.commands.specs.declared.work.Work.TheVariants.{Import, Statement, Serve}
@@ -38,30 +37,78 @@ AreIn (Err error) bytes = ⊥
 abbrev pub AreAny : List ℕ → Type 0
 AreAny bytes = ⊤
 
--- at some moment the rows of an account file with such bytes are taken, so many of them new, and this is the queue after it
-abbrev pub IsImport : (List ℕ → Type 0) → World → World → Imported → Type 0
-IsImport are_read w u n = (now : ℕ) × IsMoment now × (bytes : List ℕ) × are_read bytes × IsTaken now w u bytes n
+-- at this moment the rows of an account file with these bytes are taken, and v is the queue after it
+abbrev pub IsTakenAt : ℕ → List ℕ → World → World → Type 0
+IsTakenAt now bytes w v = (n : Imported) × IsTaken now w v bytes n
+
+-- it is the fault of an account file with these bytes, which is refused at this moment
+abbrev pub IsRefusedAt : ℕ → List ℕ → Fault → World → Type 0
+IsRefusedAt now bytes fault w = (told : ImportFault) × (fault ≡ ByFile told) × IsRefused now w bytes told
+
+-- at some moment the rows of an account file with such bytes are taken, so many of them new, and u is the queue after it
+pub record IsImport (are_read : List ℕ → Type 0) (w u : World) (n : Imported) : Type 0 where
+  pub now : ℕ
+  pub moment : IsMoment now
+  pub bytes : List ℕ
+  pub read : are_read bytes
+  pub taken : IsTaken now w u bytes n
+
+-- whatever their number
+abbrev pub HasImport : (List ℕ → Type 0) → World → World → Type 0
+HasImport are_read w u = (n : Imported) × IsImport are_read w u n
+
+-- what became of them is told
+abbrev pub TellsImport : (List ℕ → Type 0) → World → World → Option (List ℕ) → Option (List ℕ) → Type 0
+TellsImport are_read w u before after = (n : Imported) × IsImport are_read w u n × Appends before after (import_line n)
 
 -- it is the fault of an account file with such bytes, which is refused at some moment
-abbrev pub IsOfFile : (List ℕ → Type 0) → Fault → World → Type 0
-IsOfFile are_read fault w = (told : ImportFault) × (fault ≡ ByFile told) × (now : ℕ) × IsMoment now × (bytes : List ℕ) × are_read bytes × IsRefused now w bytes told
+pub record IsOfFile (are_read : List ℕ → Type 0) (fault : Fault) (w : World) : Type 0 where
+  pub now : ℕ
+  pub moment : IsMoment now
+  pub bytes : List ℕ
+  pub read : are_read bytes
+  pub refused : IsRefusedAt now bytes fault w
+
+-- the statement of this account is printed
+abbrev pub PrintsStatement : World → List ℕ → Option (List ℕ) → Option (List ℕ) → Type 0
+PrintsStatement w account before after = (s : AccountSheet) × (sheet_of w account ≡ Some s) × Appends before after (sheet_text s)
 
 -- it made the second queue of the first, and what was written is the output then, where that was the output before:
 -- the rows of an account file are taken, and what became of them is told; the statement of the account is printed, and the
 -- queue stays as it is; so many connections are served, one after the other
 abbrev pub IsDone : (List ℕ → Type 0) → Work → World → World → Option (List ℕ) → Option (List ℕ) → Type 0
-IsDone are_read (Import words) w u before after = (n : Imported) × IsImport are_read w u n × Appends before after (import_line n)
-IsDone are_read (Statement words) w u before after = (u ≡ w) × (s : AccountSheet) × (sheet_of w words.account.now ≡ Some s) × Appends before after (sheet_text s)
-IsDone are_read (Serve words) w u before after = (counts : List ℕ) × AreConnections w counts u × (length counts ≡ words.connections) × Appends before after (listening_line words.port ++ served_lines counts)
+IsDone are_read (Import words) w u before after = TellsImport are_read w u before after
+IsDone are_read (Statement words) w u before after = (u ≡ w) × PrintsStatement w words.account.now before after
+IsDone are_read (Serve words) w u before after =
+    (counts : List ℕ) × AreConnections w counts u × (length counts ≡ words.connections) × Appends before after (server_lines words counts)
 
--- it is refused with this fault, and left the second queue of the first:
--- a stream failed or the account file is refused, and nothing is done, or its rows are taken and a stream failed behind them;
--- the queue stays as it is, and nothing is written but where a stream failed; no more than so many connections are served, and each is told of but where a
--- stream failed
+-- an account file is not taken, or its rows are and what became of them could not be told: a stream failed or the file is refused, and nothing is done;
+-- or a stream failed behind it
+pub record IsNoImport (are_read : List ℕ → Type 0) (fault : Fault) (w u : World) (before after : Option (List ℕ)) : Type 0 where
+  pub why : IsOfStream fault ⊎ IsOfFile are_read fault w
+  pub left : (u ≡ w) × (after ≡ before) ⊎ (IsOfStream fault × HasImport are_read w u)
+
+-- the statement of this account is not printed: the queue stays as it is, and nothing is written but where a stream failed
+pub record IsNoStatement (account : List ℕ) (fault : Fault) (w u : World) (before after : Option (List ℕ)) : Type 0 where
+  pub undamaged : fault ≢ Damaged
+  pub unknown : fault ≡ NoAccount → sheet_of w account ≡ None
+  pub known : sheet_of w account ≡ None → IsOfNoAccount fault
+  pub stays : u ≡ w
+  pub quiet : IsOfStream fault ⊎ (after ≡ before)
+
+-- a server stops: no more than so many connections are served, and each is told of but where a stream failed
+pub record IsStopped (words : ServeWords) (fault : Fault) (w u : World) (before after : Option (List ℕ)) : Type 0 where
+  pub undamaged : fault ≢ Damaged
+  pub counts : List ℕ
+  pub are : AreConnections w counts u
+  pub few : length counts ≤ words.connections
+  pub told : IsOfStream fault ⊎ Appends before after (server_lines words counts)
+
+-- it is refused with this fault, and left the second queue of the first
 abbrev pub IsNotDone : (List ℕ → Type 0) → Work → Fault → World → World → Option (List ℕ) → Option (List ℕ) → Type 0
-IsNotDone are_read (Import words) fault w u before after = (IsOfStream fault ⊎ IsOfFile are_read fault w) × ((u ≡ w) × (after ≡ before) ⊎ (IsOfStream fault × (n : Imported) × IsImport are_read w u n))
-IsNotDone are_read (Statement words) fault w u before after = (fault ≢ Damaged) × (fault ≡ NoAccount → sheet_of w words.account.now ≡ None) × (sheet_of w words.account.now ≡ None → IsOfNoAccount fault) × (u ≡ w) × (IsOfStream fault ⊎ (after ≡ before))
-IsNotDone are_read (Serve words) fault w u before after = (fault ≢ Damaged) × (counts : List ℕ) × AreConnections w counts u × (length counts ≤ words.connections) × (IsOfStream fault ⊎ Appends before after (listening_line words.port ++ served_lines counts))
+IsNotDone are_read (Import words) fault w u before after = IsNoImport are_read fault w u before after
+IsNotDone are_read (Statement words) fault w u before after = IsNoStatement words.account.now fault w u before after
+IsNotDone are_read (Serve words) fault w u before after = IsStopped words fault w u before after
 
 -- of the queue w all of something is taken, or nothing: nothing is, u is w, and a crash leaves u; all is taken in u, and a crash leaves u; or taking it was
 -- broken off, u is w, and a crash leaves u, or x, in which all is taken
@@ -70,17 +117,18 @@ pub data IsAllOrNone (all : World → Type 0) (w u x : World) : Type 0 where
   taken : all u → x ≡ u → IsAllOrNone all w u x
   broken_off : u ≡ w → all x → IsAllOrNone all w u x
 
+-- of the queue w all rows of an account file with such bytes are taken, or none
+abbrev pub IsFileOrNone : (List ℕ → Type 0) → World → World → World → Type 0
+IsFileOrNone are_read w u x = IsAllOrNone (HasImport are_read w) w u x
+
 -- it made u of the queue w, and a crash at any moment leaves u or x:
 -- all rows of an account file are taken, or none; a statement leaves the queue as it is; no more than so many connections are served, and x is u or what
 -- one request of theirs makes of it
 abbrev pub MayBeLeft : (List ℕ → Type 0) → Work → World → World → World → Type 0
-MayBeLeft are_read (Import words) w u x = IsAllOrNone (λ v. (n : Imported) × IsImport are_read w v n) w u x
+MayBeLeft are_read (Import words) w u x = IsFileOrNone are_read w u x
 MayBeLeft are_read (Statement words) w u x = (u ≡ w) × (x ≡ u)
-MayBeLeft are_read (Serve words) w u x = (counts : List ℕ) × (are : AreConnections w counts u) × (length counts ≤ words.connections) × IsAtMostOneMore w counts u are x
-
--- of a store that was open before, a crash at any moment leaves the queue u, or one that may be left beside it
-abbrev pub CrashLeaves : State → State → World → (World → Type 0) → Type 0
-CrashLeaves before after u may_be_left = IsTrue before.is_open → (x : World) × LeavesOneOf u x after × may_be_left x
+MayBeLeft are_read (Serve words) w u x =
+    (counts : List ℕ) × (are : AreConnections w counts u) × (length counts ≤ words.connections) × IsAtMostOneMore w counts u are x
 
 -- it is an account file or a statement, which is no server
 abbrev pub IsBrief : Work → Type 0
@@ -94,21 +142,26 @@ pub record IsRefusal (work : Work) (before after : Option (List ℕ)) (fault : F
   -- a stream failed or there was no memory, or no more was printed than may be
   pub quiet : IsOfStream fault ⊎ MayBePrintedOf work before after
 
+-- of the queue w the work made one for which the book stands now, and a crash at any moment leaves that, or one that may be left beside it
+pub record IsDoneFrom {S : Type 0} (store : Ghosts S) (work : Work) (w : World) (book : TableBook S) (before after : Option (List ℕ)) : Type 0 where
+  pub queue : World
+  pub stands : StandsFor store book queue
+  pub done : IsDone AreAny work w queue before after
+  pub left : LeavesBeside (shown_by store book) queue (MayBeLeft AreAny work w queue)
+
 -- a book, and what was written, before the work and after it
 module _ {S : Type 0} (store : Ghosts S) (are_read : List ℕ → Type 0) (work : Work) (old new : TableBook S) (before after : Option (List ℕ)) where
-  -- the work is done: of the queue w it made u, and a crash at any moment leaves u, or a queue that may be left beside it
+  -- the work is done
   pub record IsDoneOn : Type 0 where
     pub began : IsHonest store old
-    pub done : (w : World) → StandsFor store old w → (u : World) × StandsFor store new u × IsDone are_read work w u before after
-        × CrashLeaves (shown_by store old) (shown_by store new) u (MayBeLeft are_read work w u)
+    pub done : MakesSafely store old new (λ w u. IsDone are_read work w u before after) (MayBeLeft are_read work)
     -- the store is open; of a server no contract says so, as a fault may have shut its store and the look at it behind that have had no memory
     pub live : IsBrief work → IsTrue (shown_by store new).is_open
 
-  -- the work is refused with this fault: of the queue w it left u, and a crash at any moment leaves u, or a queue that may be left beside it
+  -- the work is refused with this fault
   pub record IsRefusedOn (fault : Fault) : Type 0 where
     pub began : IsHonest store old
-    pub refused : (w : World) → StandsFor store old w → (u : World) × StandsFor store new u × IsNotDone are_read work fault w u before after
-        × CrashLeaves (shown_by store old) (shown_by store new) u (MayBeLeft are_read work w u)
+    pub refused : MakesSafely store old new (λ w u. IsNotDone are_read work fault w u before after) (MayBeLeft are_read work)
 
   -- what came of the work: it is done, or refused with a fault; what was printed or is told of it is known of any book, and what became of the book where
   -- it is an honest one

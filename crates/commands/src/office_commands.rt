@@ -1,15 +1,16 @@
 //! What the office asks of a store.
-ghost use Rattle.std.specs.Prelude.{◌≡◌, ◌≢◌, ◌⊎◌, Err, IfErr, IfOk, IsTrue, OnOk, None, Some};
+ghost use Rattle.std.specs.Prelude.{◌≡◌, ◌≢◌, ◌⊎◌, Err, IfErr, IfOk, IsTrue, OnOk, None};
 ghost use Rattle.std.specs.Io.KnownBytes.{Appends};
 ghost use Rattle.command_ends.specs.Faults.{IsOfStream};
 ghost use Rattle.command_ends.specs.declared.fault.Fault.TheVariants.{Damaged, NoAccount, Import as ByFile};
+ghost use Rattle.commands.specs.Books.{LeavesBeside, Makes, MakesSafely};
 ghost use Rattle.commands.specs.Refusals.{IsOfImport, IsOfNoAccount, IsOfStatement};
-ghost use Rattle.commands.specs.Work.{AreIn, CrashLeaves, IsAllOrNone, IsImport, IsOfFile};
+ghost use Rattle.commands.specs.Work.{AreIn, HasImport, IsAllOrNone, IsFileOrNone, IsOfFile, IsRefusedAt, IsTakenAt, PrintsStatement, TellsImport};
 ghost use Rattle.grants_csv.specs.Fault.{fault};
 ghost use Rattle.grants_csv.specs.File.{rows_of};
 ghost use Rattle.grants_csv.specs.declared.fault.ImportFault.{ImportFault};
 ghost use Rattle.grants_csv.specs.declared.importing.Imported.{Imported as ImportedRows};
-ghost use Rattle.office.specs.Told.{IsRefused, IsTaken, import_line};
+ghost use Rattle.office.specs.Told.{IsTaken, import_line};
 ghost use Rattle.page_statements.specs.Statement.{sheet_text};
 ghost use Rattle.queue_core.specs.Limits.{IsMoment};
 ghost use Rattle.queue_core.specs.Shown.{sheet_of};
@@ -49,20 +50,18 @@ fn import_bytes_at<S: Alter, W: Write>(
 ) -> Result<(), Fault>
     requires moment { IsMoment now }
     ensures began { IsHonest S.Store book.new → IsHonest S.Store book.old }
-    ensures taken { IsHonest S.Store book.new → OnOk result ((w : World) → StandsFor S.Store book.old w
-        → (n : ImportedRows) × (u : World) × IsTaken now w u bytes.now n × StandsFor S.Store book.new u
-        × Appends (W.contents output.old) (W.contents output.new) (import_line n)) }
+    ensures taken { IsHonest S.Store book.new → OnOk result (Makes S.Store book.old book.new (λ w u. (n : ImportedRows)
+        × IsTaken now w u bytes.now n × Appends (W.contents output.old) (W.contents output.new) (import_line n))) }
     // the file is refused, or its rows were taken and the output failed
-    ensures why { IsHonest S.Store book.new → IfErr result (λ f. (w : World) → StandsFor S.Store book.old w
-        → ((told : ImportFault) × (f ≡ ByFile told) × IsRefused now w bytes.now told × StandsFor S.Store book.new w × (output.new ≡ output.old))
-        ⊎ (IsOfStream f × (n : ImportedRows) × (u : World) × IsTaken now w u bytes.now n × StandsFor S.Store book.new u)) }
+    ensures why { IsHonest S.Store book.new → IfErr result (λ f. Makes S.Store book.old book.new (λ w u.
+        (IsRefusedAt now bytes.now f w × (u ≡ w) × (output.new ≡ output.old))
+        ⊎ (IsOfStream f × IsTakenAt now bytes.now w u))) }
     ensures live { IsHonest S.Store book.new → OnOk result (IsTrue (shown_by S.Store book.new).is_open) }
     ensures still_live { IsHonest S.Store book.new → IsTrue (shown_by S.Store book.old).is_open
         → IfErr result (λ f. f ≢ ByFile fault → IsTrue (shown_by S.Store book.new).is_open) }
     // whatever it answers: a crash at any moment leaves all of the rows, or none
-    ensures crash { IsHonest S.Store book.new → IsTrue (shown_by S.Store book.old).is_open → (w : World) → StandsFor S.Store book.old w
-        → (u x : World) × StandsFor S.Store book.new u × LeavesOneOf u x (shown_by S.Store book.new)
-        × IsAllOrNone (λ v. (n : ImportedRows) × IsTaken now w v bytes.now n) w u x }
+    ensures crash { IsHonest S.Store book.new → IsTrue (shown_by S.Store book.old).is_open → Makes S.Store book.old book.new (λ w u.
+        LeavesBeside (shown_by S.Store book.new) u (IsAllOrNone (IsTakenAt now bytes.now w) w u)) }
     // over any book, also one that is not honest
     ensures written { OnOk result ((n : ImportedRows) × Appends (W.contents output.old) (W.contents output.new) (import_line n)) }
     ensures unread { (told : ImportFault) → rows_of bytes.now ≡ Err told → (result ≡ Err (ByFile told)) ⊎ (result ≡ Err (ByFile fault)) }
@@ -84,19 +83,15 @@ pub(crate) fn import_into<C: Clock, S: Alter, W: Write>(
     book: &mut TableBook<S>,
 ) -> Result<(), Fault>
     ensures began { IsHonest S.Store book.new → IsHonest S.Store book.old }
-    ensures taken { IsHonest S.Store book.new → OnOk result ((w : World) → StandsFor S.Store book.old w
-        → (n : ImportedRows) × (u : World) × IsImport (AreIn file) w u n × StandsFor S.Store book.new u
-        × Appends (W.contents output.old) (W.contents output.new) (import_line n)
-        × CrashLeaves (shown_by S.Store book.old) (shown_by S.Store book.new) u (IsAllOrNone (λ v. (n : ImportedRows) × IsImport (AreIn file) w v n) w u)) }
-    ensures left { IsHonest S.Store book.new → IfErr result (λ f. (w : World) → StandsFor S.Store book.old w
-        → (u : World) × StandsFor S.Store book.new u × ((u ≡ w) × (output.new ≡ output.old) ⊎ (IsOfStream f × (n : ImportedRows) × IsImport (AreIn file) w u n))
-        × CrashLeaves (shown_by S.Store book.old) (shown_by S.Store book.new) u (IsAllOrNone (λ v. (n : ImportedRows) × IsImport (AreIn file) w v n) w u)) }
+    ensures taken { IsHonest S.Store book.new → OnOk result (MakesSafely S.Store book.old book.new
+        (λ w u. TellsImport (AreIn file) w u (W.contents output.old) (W.contents output.new)) (IsFileOrNone (AreIn file))) }
+    ensures left { IsHonest S.Store book.new → IfErr result (λ f. MakesSafely S.Store book.old book.new
+        (λ w u. (u ≡ w) × (output.new ≡ output.old) ⊎ (IsOfStream f × HasImport (AreIn file) w u)) (IsFileOrNone (AreIn file))) }
     ensures refused { IfErr result (λ f. (told : ImportFault) → f ≡ ByFile told → (w : World) → StandsFor S.Store book.old w → StandsFor S.Store book.new w) }
     ensures live { IsHonest S.Store book.new → OnOk result (IsTrue (shown_by S.Store book.new).is_open) }
     // whatever it answers: a crash at any moment leaves all of the rows, or none
-    ensures crash { IsHonest S.Store book.new → IsTrue (shown_by S.Store book.old).is_open → (w : World) → StandsFor S.Store book.old w
-        → (u x : World) × StandsFor S.Store book.new u × LeavesOneOf u x (shown_by S.Store book.new)
-        × IsAllOrNone (λ v. (n : ImportedRows) × IsImport (AreIn file) w v n) w u x }
+    ensures crash { IsHonest S.Store book.new → IsTrue (shown_by S.Store book.old).is_open → Makes S.Store book.old book.new (λ w u.
+        LeavesBeside (shown_by S.Store book.new) u (IsFileOrNone (AreIn file) w u)) }
     // a stream failed or there was no memory, or nothing was written
     ensures quiet { IfErr result (λ f. IsOfStream f ⊎ (output.new ≡ output.old)) }
     // a stream failed, or the file is refused
@@ -123,7 +118,7 @@ pub(crate) fn print_from<S: Alter, W: Write>(
     ensures crash { IsHonest S.Store book.new → IsTrue (shown_by S.Store book.old).is_open → (w : World) → StandsFor S.Store book.old w
         → LeavesOneOf w w (shown_by S.Store book.new) }
     ensures printed { IsHonest S.Store book.new → OnOk result ((w : World) → StandsFor S.Store book.old w
-        → (s : Sheet) × (sheet_of w account.now ≡ Some s) × Appends (W.contents output.old) (W.contents output.new) (sheet_text s)) }
+        → PrintsStatement w account.now (W.contents output.old) (W.contents output.new)) }
     ensures known { IsHonest S.Store book.new → IfErr result (λ f. (w : World) → StandsFor S.Store book.old w → sheet_of w account.now ≡ None → IsOfNoAccount f) }
     ensures unknown { IsHonest S.Store book.new → IfErr result (λ f. f ≡ NoAccount → (w : World) → StandsFor S.Store book.old w → sheet_of w account.now ≡ None) }
     ensures damaged { IsHonest S.Store book.new → IfErr result (λ f. f ≡ Damaged → (w : World) → ¬ StandsFor S.Store book.old w) }

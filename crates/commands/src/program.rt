@@ -1,19 +1,16 @@
 //! The program: its words, the command that they name and the exit status.
-ghost use Rattle.std.specs.Prelude.{◌≡◌, ◌≤◌, ◌⊎◌, [], IfErr, IfOk, IsSomeAnd, OnOk, map};
+ghost use Rattle.std.specs.Prelude.{◌≡◌, ◌≤◌, ◌⊎◌, [], IfErr, IfOk, OnOk};
 ghost use Rattle.std.specs.Io.Buffered.{writer_buffer, writer_contents};
-ghost use Rattle.clap.specs.Words.{fault_of, subcommand_of};
 ghost use Rattle.command_ends.specs.Faults.{IsOfStream};
 ghost use Rattle.command_ends.specs.Texts.{Tells};
 ghost use Rattle.command_ends.specs.declared.fault.Fault.{Fault as ToldFault};
 ghost use Rattle.command_ends.specs.declared.fault.Fault.TheVariants.{Memory as OfMemory};
-ghost use Rattle.command_words.specs.CommandLine.{definition};
-ghost use Rattle.command_words.specs.Values.{IsCommand};
 ghost use Rattle.command_words.specs.declared.outcome.Command.{Command as NamedCommand};
 ghost use Rattle.command_words.specs.declared.outcome.Init.{Init};
 ghost use Rattle.commands.specs.Printed.{HasPrinted, Prints};
 ghost use Rattle.commands.specs.Refusals.{IsTold, MayBePrintedBy, MayBePrintedOf, MayBeToldBy, MayBeToldOf};
-ghost use Rattle.commands.specs.Store.{CanBeMade, IsOfStore};
-ghost use Rattle.commands.specs.Words.{AreWrong, AskForText};
+ghost use Rattle.commands.specs.Store.{CanBeMade, IsAllowed, IsOfStore};
+ghost use Rattle.commands.specs.Words.{AreWrong, AskForText, Name, faults_of};
 
 use crate::store::{FileBook, make_store};
 use crate::work::{Work, work_at};
@@ -94,25 +91,25 @@ pub fn run<O: Write + Drop, E: Write>(
     out: &mut BufWriter<O>,
     err: &mut E,
 ) -> u8
-    ensures named { fault_of definition (map (λ w. w.now) words.now) ≡ [] → result ≤ 1 }
-    ensures wrong { AreWrong (fault_of definition (map (λ w. w.now) words.now)) → 1 ≤ result }
-    ensures helped { AskForText (fault_of definition (map (λ w. w.now) words.now)) → result ≤ 1 }
+    ensures named { faults_of words.now ≡ [] → result ≤ 1 }
+    ensures wrong { AreWrong (faults_of words.now) → 1 ≤ result }
+    ensures helped { AskForText (faults_of words.now) → result ≤ 1 }
     ensures status { result ≤ 2 }
     ensures silent { result ≡ 0 → err.new ≡ err.old }
     ensures unprinted { result ≡ 2 → out.new ≡ out.old }
     // a command that was done, whatever its files hold: its words allow it, and it has printed what it is to print
-    ensures done { fault_of definition (map (λ w. w.now) words.now) ≡ [] → result ≡ 0 → (c : NamedCommand)
-        × IsSomeAnd (subcommand_of definition (map (λ w. w.now) words.now)) (IsCommand c)
-        × ((words : Init) → c ≡ Command.Init words → CanBeMade words) × HasPrinted c 0 (writer_contents O.contents out.old) (writer_contents O.contents out.new) }
+    ensures done { faults_of words.now ≡ [] → result ≡ 0 → (c : NamedCommand) × Name words.now c × IsAllowed c
+        × HasPrinted c 0 (writer_contents O.contents out.old) (writer_contents O.contents out.new) }
     // what it has printed was handed on, and lies in the buffer no longer
-    ensures handed { fault_of definition (map (λ w. w.now) words.now) ≡ [] → result ≡ 0 → writer_buffer out.new ≡ [] }
+    ensures handed { faults_of words.now ≡ [] → result ≡ 0 → writer_buffer out.new ≡ [] }
     // one that was refused, or for whose words there was no memory
-    ensures told { fault_of definition (map (λ w. w.now) words.now) ≡ [] → result ≡ 1 → (Tells OfMemory (E.contents err.old) (E.contents err.new) × (out.new ≡ out.old))
-        ⊎ ((c : NamedCommand) × IsSomeAnd (subcommand_of definition (map (λ w. w.now) words.now)) (IsCommand c)
-        × IsTold c (E.contents err.old) (E.contents err.new) (writer_contents O.contents out.old) (writer_contents O.contents out.new) (writer_buffer out.new)) }
+    ensures told { faults_of words.now ≡ [] → result ≡ 1
+        → (Tells OfMemory (E.contents err.old) (E.contents err.new) × (out.new ≡ out.old))
+        ⊎ ((c : NamedCommand) × Name words.now c × IsTold c (E.contents err.old) (E.contents err.new)
+        (writer_contents O.contents out.old) (writer_contents O.contents out.new) (writer_buffer out.new)) }
     // words that name no command and ask for no text print nothing; where those that ask for a text aren't told it, a stream failed or there was no memory, and one line says so
-    ensures misnamed { AreWrong (fault_of definition (map (λ w. w.now) words.now)) → out.new ≡ out.old }
-    ensures unhelped { AskForText (fault_of definition (map (λ w. w.now) words.now)) → result ≡ 1
+    ensures misnamed { AreWrong (faults_of words.now) → out.new ≡ out.old }
+    ensures unhelped { AskForText (faults_of words.now) → result ≡ 1
         → (f : ToldFault) × IsOfStream f × Tells f (E.contents err.old) (E.contents err.new) }
 {
     match command(rt.alloc(), words) {

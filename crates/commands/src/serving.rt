@@ -1,20 +1,19 @@
 //! Connections over a store.
 ghost use Rattle.std.specs.IoError.{error_kind};
-ghost use Rattle.std.specs.Prelude.{◌≡◌, ◌↔◌, ◌≤◌, ◌⊎◌, ◌++◌, ℕ, List, IfErr, IsTrue, OnOk, length};
+ghost use Rattle.std.specs.Prelude.{◌≡◌, ◌↔◌, ◌≤◌, ◌⊎◌, ℕ, List, IfErr, IsTrue, OnOk, length};
 ghost use Rattle.std.specs.Io.KnownBytes.{Appends};
 ghost use Rattle.std.specs.declared.io.Error.{Error as StreamError};
 ghost use Rattle.std.specs.declared.io.ErrorKind.TheVariants.{OutOfMemory};
 ghost use Rattle.command_ends.specs.Faults.{IsOfStream, fault_of_book};
 ghost use Rattle.command_ends.specs.declared.fault.Fault.TheVariants.{Damaged, Memory as OfMemory};
+ghost use Rattle.commands.specs.Books.{ServedOver};
+ghost use Rattle.commands.specs.Printed.{server_lines};
 ghost use Rattle.commands.specs.Refusals.{HasListened, IsOfServe};
-ghost use Rattle.commands.specs.Work.{CrashLeaves};
-ghost use Rattle.print_server.specs.Connections.{AreConnections, IsAtMostOneMore};
 ghost use Rattle.print_server.specs.Lines.{listening_line, served_lines};
 ghost use Rattle.print_server.specs.declared.fault.ServerFault.TheVariants.{Book as ByBook, Io as ByStream};
 ghost use Rattle.queue_core.specs.World.{World};
 ghost use Rattle.queue_core.specs.declared.book.BookFault.{BookFault};
 ghost use Rattle.queue_store.specs.Kept.{IsHonest, StandsFor, shown_by};
-ghost use Rattle.queue_tables.specs.Content.{LeavesOneOf};
 
 use command_ends::Fault;
 use command_words::Serve;
@@ -80,23 +79,25 @@ fn serve_at<C: Clock, S: Alter, W: Write>(
 ) -> Result<(), Fault>
     ensures began { IsHonest S.Store book.new → IsHonest S.Store book.old }
     ensures served { IsHonest S.Store book.new → OnOk result ((w : World) → StandsFor S.Store book.old w → service.entry.settings.now ≡ w.settings
-        → (u : World) × StandsFor S.Store book.new u × (counts : List ℕ) × (are : AreConnections w counts u) × (length counts ≡ connections)
-        × Appends (W.contents output.old) (W.contents output.new) (served_lines counts)
-        × CrashLeaves (shown_by S.Store book.old) (shown_by S.Store book.new) u (IsAtMostOneMore w counts u are)) }
+        → (served : ServedOver S.Store book.old book.new w) × (length served.counts ≡ connections)
+        × Appends (W.contents output.old) (W.contents output.new) (served_lines served.counts)) }
+    // no more than so many connections were served, and each was told of, or a stream failed or there was no memory
     ensures err { IsHonest S.Store book.new → IfErr result (λ f. (w : World) → StandsFor S.Store book.old w → service.entry.settings.now ≡ w.settings
-        → (u : World) × StandsFor S.Store book.new u × (counts : List ℕ) × (are : AreConnections w counts u) × (length counts ≤ connections)
-        × (IsOfStream f ⊎ Appends (W.contents output.old) (W.contents output.new) (served_lines counts))
-        × CrashLeaves (shown_by S.Store book.old) (shown_by S.Store book.new) u (IsAtMostOneMore w counts u are)) }
-    // whatever it answers: a crash at any moment leaves the queue that the book stands for, or the one after one of these connections' requests more
-    ensures crash { IsHonest S.Store book.new → IsTrue (shown_by S.Store book.old).is_open → (w : World) → StandsFor S.Store book.old w → service.entry.settings.now ≡ w.settings
-        → (u x : World) × StandsFor S.Store book.new u × (counts : List ℕ) × (are : AreConnections w counts u) × (length counts ≤ connections)
-        × LeavesOneOf u x (shown_by S.Store book.new) × IsAtMostOneMore w counts u are x }
-    ensures damaged { IsHonest S.Store book.new → IfErr result (λ f. f ≡ Damaged → (w : World) → StandsFor S.Store book.old w → service.entry.settings.now ≡ w.settings → ⊥) }
+        → (served : ServedOver S.Store book.old book.new w) × (length served.counts ≤ connections)
+        × (IsOfStream f ⊎ Appends (W.contents output.old) (W.contents output.new) (served_lines served.counts))) }
+    // whatever it answers: a crash at any moment leaves the queue that the book stands for, or the one after one of these connections' requests more, as `left` of
+    // the record says
+    ensures crash { IsHonest S.Store book.new → IsTrue (shown_by S.Store book.old).is_open
+        → (w : World) → StandsFor S.Store book.old w → service.entry.settings.now ≡ w.settings
+        → (served : ServedOver S.Store book.old book.new w) × (length served.counts ≤ connections) }
+    ensures damaged { IsHonest S.Store book.new → IfErr result (λ f. f ≡ Damaged
+        → (w : World) → StandsFor S.Store book.old w → service.entry.settings.now ≡ w.settings → ⊥) }
     ensures told { IfErr result IsOfServe }
     // over any book, also one that is not honest
     ensures stopped { IfErr result (λ f. IsOfStream f
         ⊎ ((counts : List ℕ) × (length counts ≤ connections) × Appends (W.contents output.old) (W.contents output.new) (served_lines counts))) }
-    ensures written { OnOk result ((counts : List ℕ) × (length counts ≡ connections) × Appends (W.contents output.old) (W.contents output.new) (served_lines counts)) }
+    ensures written { OnOk result ((counts : List ℕ) × (length counts ≡ connections)
+        × Appends (W.contents output.old) (W.contents output.new) (served_lines counts)) }
 {
     match service.serve_connections(clock, output, book, connections) {
         Ok(_) => Ok(()),
@@ -115,24 +116,22 @@ pub(crate) fn serve_book<C: Clock, S: Alter, W: Write>(
 ) -> Result<(), Fault>
     ensures began { IsHonest S.Store book.new → IsHonest S.Store book.old }
     ensures served { IsHonest S.Store book.new → OnOk result ((w : World) → StandsFor S.Store book.old w
-        → (u : World) × StandsFor S.Store book.new u × (counts : List ℕ) × (are : AreConnections w counts u) × (length counts ≡ words.entry.connections)
-        × Appends (W.contents output.old) (W.contents output.new) (listening_line words.entry.port ++ served_lines counts)
-        × CrashLeaves (shown_by S.Store book.old) (shown_by S.Store book.new) u (IsAtMostOneMore w counts u are)) }
+        → (served : ServedOver S.Store book.old book.new w) × (length served.counts ≡ words.entry.connections)
+        × Appends (W.contents output.old) (W.contents output.new) (server_lines words.entry served.counts)) }
     // no more than so many connections were served, and each was told of, or a stream failed or there was no memory
     ensures err { IsHonest S.Store book.new → IfErr result (λ f. (w : World) → StandsFor S.Store book.old w
-        → (u : World) × StandsFor S.Store book.new u × (counts : List ℕ) × (are : AreConnections w counts u) × (length counts ≤ words.entry.connections)
-        × (IsOfStream f ⊎ Appends (W.contents output.old) (W.contents output.new) (listening_line words.entry.port ++ served_lines counts))
-        × CrashLeaves (shown_by S.Store book.old) (shown_by S.Store book.new) u (IsAtMostOneMore w counts u are)) }
-    // whatever it answers: a crash at any moment leaves the queue that the book stands for, or the one after one of these connections' requests more
+        → (served : ServedOver S.Store book.old book.new w) × (length served.counts ≤ words.entry.connections)
+        × (IsOfStream f ⊎ Appends (W.contents output.old) (W.contents output.new) (server_lines words.entry served.counts))) }
+    // whatever it answers: a crash at any moment leaves the queue that the book stands for, or the one after one of these connections' requests more, as `left` of
+    // the record says
     ensures crash { IsHonest S.Store book.new → IsTrue (shown_by S.Store book.old).is_open → (w : World) → StandsFor S.Store book.old w
-        → (u x : World) × StandsFor S.Store book.new u × (counts : List ℕ) × (are : AreConnections w counts u) × (length counts ≤ words.entry.connections)
-        × LeavesOneOf u x (shown_by S.Store book.new) × IsAtMostOneMore w counts u are x }
+        → (served : ServedOver S.Store book.old book.new w) × (length served.counts ≤ words.entry.connections) }
     ensures damaged { IsHonest S.Store book.new → IfErr result (λ f. f ≡ Damaged → (w : World) → ¬ StandsFor S.Store book.old w) }
     ensures told { IfErr result IsOfServe }
     // over any book, also one that is not honest
     ensures stopped { IfErr result (λ f. IsOfStream f ⊎ HasListened words.entry (W.contents output.old) (W.contents output.new)) }
     ensures written { OnOk result ((counts : List ℕ) × (length counts ≡ words.entry.connections)
-        × Appends (W.contents output.old) (W.contents output.new) (listening_line words.entry.port ++ served_lines counts)) }
+        × Appends (W.contents output.old) (W.contents output.new) (server_lines words.entry counts)) }
 {
     let settings = book.settings()?;
     let listener = tell_port(listener, output, words.port)?;

@@ -4,14 +4,13 @@ ghost use Rattle.sqlite.specs.Files.{over_files};
 ghost use Rattle.sqlite_wal.specs.Files.{image_at};
 ghost use Rattle.queue_core.specs.World.{World};
 ghost use Rattle.queue_store.specs.Crash.{IsKept};
-ghost use Rattle.queue_store.specs.Kept.{IsHonest, StandsFor, shown_by};
+ghost use Rattle.queue_store.specs.Kept.{IsHonest, shown_by};
 ghost use Rattle.queue_store.specs.Opened.{FitsFile, IsKeptIn};
-ghost use Rattle.queue_tables.specs.Content.{LeavesOneOf};
 ghost use Rattle.command_ends.specs.Faults.{IsOfStream};
 ghost use Rattle.commands.specs.Store.{IsOfStore};
 ghost use Rattle.commands.specs.Printed.{Prints};
 ghost use Rattle.commands.specs.Refusals.{MayBePrintedOf, MayBeToldOf};
-ghost use Rattle.commands.specs.Work.{AreAny, AreIn, AreReadIn, HasEnded, IsBrief, IsDone, IsDoneOn, IsRefusal, MayBeLeft, store_of};
+ghost use Rattle.commands.specs.Work.{AreIn, AreReadIn, HasEnded, IsBrief, IsDoneFrom, IsDoneOn, IsRefusal, store_of};
 
 use crate::office_commands::{import_into, print_from};
 use crate::serving::serve_book;
@@ -142,13 +141,11 @@ pub(crate) fn work_at<S: Start, W: Write>(
     start: S,
 ) -> Result<FileBook<S>, Fault>
     ensures done { FitsFile (image_at S.Start) → IfOk result (λ b. IsHonest over_files b
-        → (w : World) × IsKeptIn (image_at S.Start) w × (u : World) × StandsFor over_files b u
-        × IsDone AreAny work.entry w u (W.contents output.old) (W.contents output.new)
-        × (x : World) × LeavesOneOf u x (shown_by over_files b) × MayBeLeft AreAny work.entry w u x) }
+        → (w : World) × IsKeptIn (image_at S.Start) w
+        × IsDoneFrom over_files work.entry w b (W.contents output.old) (W.contents output.new)) }
     // files that keep a queue, as a store leaves them: the work is done on that queue
     ensures again { (w : World) → IsKept (image_at S.Start) w → IfOk result (λ b. IsHonest over_files b
-        → (u : World) × StandsFor over_files b u × IsDone AreAny work.entry w u (W.contents output.old) (W.contents output.new)
-        × (x : World) × LeavesOneOf u x (shown_by over_files b) × MayBeLeft AreAny work.entry w u x) }
+        → IsDoneFrom over_files work.entry w b (W.contents output.old) (W.contents output.new)) }
     // the store is open; of a server no contract says so, as a fault may have shut its store and the look at it behind that have had no memory
     ensures live { IfOk result (λ b. IsHonest over_files b → IsBrief work.entry → IsTrue (shown_by over_files b).is_open) }
     // over any store, also one that is not honest

@@ -19,8 +19,8 @@ use Rattle.grants_csv.specs.Import.{Asks as AsksOfFile, Imports, grants}
 use Rattle.grants_csv.specs.declared.fault.ImportFault.{ImportFault}
 use Rattle.grants_csv.specs.declared.importing.Imported.{Imported}
 use Rattle.replay.specs.Line.{GivesLine}
-use Rattle.replay.specs.Places.{ArePlacesIn, ArePlacesOf, AsksFor, IsPlaceOf, TellsOfNothing}
-use Rattle.replay.specs.Replay.{Replays, Taken, TakesLine, broken, none, one_more, whole}
+use Rattle.replay.specs.Places.{ArePlacesOf, AsksFor, IsPlaceOf, IsRun, TellsOfNothing}
+use Rattle.replay.specs.Replay.{Replays, Taken, TakesLine, TakesNext, broken, none, one_more, whole}
 use Rattle.replay.specs.RequestLine.{Says}
 use Rattle.replay.specs.Session.{AnswersMessage, IsReply, State, Takes, file_of, import_line, reply_line}
 use Rattle.replay.specs.declared.lines.Line.{Line}
@@ -139,21 +139,22 @@ places_of are_calls are_files joined {begin = begin} moment (one_more count text
     (r.0 ++ p.0 ∷ [], (r.0, p.0, refl, r.1, p.1), each_more r.0 p.0 r.2 p.2, run_more joined begin.queue old.queue new.queue r.0 p.0 r.3 p.3)
 
 pub places_in : AreCalls → AreFiles → AreJoined → {input : Option (List ℕ)} {begin : State} {status : ℕ} {text : List ℕ} {last : State}
-    → IsMoment begin.now → (r : Replays input begin status text last)
-    → (ps : List Place) × ArePlacesIn r ps × Each IsPlace ps × (last.queue ≡ run begin.queue ps)
-places_in are_calls are_files joined moment (whole count text left last taken end) = places_of are_calls are_files joined moment taken
-places_in are_calls are_files joined moment (broken count text before behind last line taken gives bad) = places_of are_calls are_files joined moment taken
+    → IsMoment begin.now → (r : Replays input begin status text last) → IsRun r
+places_in are_calls are_files joined moment (whole count text left last taken end) =
+    let r = places_of are_calls are_files joined moment taken in
+    record { places = r.0; lines = r.1; are = r.2; run_is = r.3 }
+places_in are_calls are_files joined moment (broken count text before behind last line taken gives bad) =
+    let r = places_of are_calls are_files joined moment taken in
+    record { places = r.0; lines = r.1; are = r.2; run_is = r.3 }
 
 -- ---- what lines keep
 
 pub moves_along : AreCalls → AreFiles → AreJoined
     → ((w : World) (ps : List Place) (p : Place) → IsSound w → Each IsPlace ps → IsPlace p → MovesAlong (run w ps) (run w (ps ++ p ∷ [])))
-    → (input before behind : Option (List ℕ)) (begin old new : State) (count : ℕ) (text answer : List ℕ) (line : Line)
-    → IsMoment begin.now → IsSound begin.queue → Taken input begin count text before old → GivesLine before behind line → TakesLine line old new answer
-    → MovesAlong old.queue new.queue
-moves_along are_calls are_files joined moves input before behind begin old new count text answer line moment sound taken gives takes =
-    let r = places_of are_calls are_files joined moment taken in
-    let p = place_of are_calls are_files before behind line old new answer (moment_after moment taken) gives takes in
+    → (input : Option (List ℕ)) (begin old new : State) → IsMoment begin.now → IsSound begin.queue → TakesNext input begin old new → MovesAlong old.queue new.queue
+moves_along are_calls are_files joined moves input begin old new moment sound next =
+    let r = places_of are_calls are_files joined moment next.taken in
+    let p = place_of are_calls are_files next.before next.after next.line old new next.answer (moment_after moment next.taken) next.gives next.takes in
     let e = run_more joined begin.queue old.queue new.queue r.0 p.0 r.3 p.3 in
     subst (λ (z : World). MovesAlong z new.queue) (sym r.3)
     (subst (λ (z : World). MovesAlong (run begin.queue r.0) z) (sym e) (moves begin.queue r.0 p.0 sound r.2 p.2))

@@ -1,3 +1,4 @@
+pub mod Books
 pub mod Faults
 pub mod Line
 pub mod Places

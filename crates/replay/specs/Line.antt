@@ -1,5 +1,5 @@
 -- What a line of an input is.
-use Rattle.std.specs.Prelude.{◌≡◌, ◌<◌, ◌==◌, ◌⊎◌, ℕ, List, [], ◌∷◌, ◌++◌, Option, length, nat_lt, not, take}
+use Rattle.std.specs.Prelude.{◌≡◌, ◌<◌, ◌==◌, ◌⊎◌, ℕ, Bool, List, [], ◌∷◌, ◌++◌, MatchBool, Option, length, nat_lt, not, take}
 use Rattle.std.specs.Io.KnownBytes.{Consumes, IsAtEnd}
 use Rattle.std.specs.List.{AllPass}
 use Rattle.replay.specs.declared.lines.Line.{Line}
@@ -17,6 +17,14 @@ ConsumesLine old new bytes =
 abbrev pub IsFrontOf : List ℕ → Line → Type 0
 IsFrontOf bytes line =
     (line.bytes.items ≡ take 33554436 bytes) × (line.is_cut ≡ nat_lt 33554436 (length bytes))
+
+-- the line gets this piece at its end, as far as it is kept
+abbrev pub Lengthens : List ℕ → Line → Line → Type 0
+Lengthens piece old new = (bytes : List ℕ) → IsFrontOf bytes old → IsFrontOf (bytes ++ piece) new
+
+-- what has come of the input loses this piece, with the line feed behind it where that has come
+abbrev pub LosesPiece : Bool → List ℕ → List ℕ → List ℕ → Type 0
+LosesPiece is_ended piece old new = MatchBool is_ended (old ≡ piece ++ 10 ∷ new) ((old ≡ piece) × (new ≡ []))
 
 -- what is left of an input loses its first line, which is given
 pub record GivesLine (old new : Option (List ℕ)) (line : Line) : Type 0 where

@@ -1,7 +1,8 @@
 -- What the lines of a replay are to the machine: places of a run.
 use Rattle.std.specs.Prelude.{◌≡◌, ◌⊎◌, ℕ, List, [], ◌∷◌, ◌++◌, Option, None, Ok, Err, codes}
+use Rattle.std.specs.List.{AllByRecursion}
 use Rattle.queue_types.specs.Event.{Event}
-use Rattle.queue_core.specs.Runs.{Place, after}
+use Rattle.queue_core.specs.Runs.{IsPlace, Place, after, run}
 use Rattle.device_lines.specs.Reports.{Tells, fault_line}
 use Rattle.grants_csv.specs.Import.{Asks as AsksOfFile}
 use Rattle.grants_csv.specs.declared.fault.ImportFault.{ImportFault}
@@ -47,3 +48,10 @@ abbrev pub ArePlacesIn : {input : Option (List ℕ)} {begin : State} {status : �
     → Replays input begin status text last → List Place → Type 0
 ArePlacesIn (whole count text left last taken end) places = ArePlacesOf taken places
 ArePlacesIn (broken count text before after last line taken gives bad) places = ArePlacesOf taken places
+
+-- the lines of a replay are places of a run of the machine, which made its last queue of the first
+pub record IsRun {input : Option (List ℕ)} {begin : State} {status : ℕ} {text : List ℕ} {last : State} (r : Replays input begin status text last) : Type 0 where
+  pub places : List Place
+  pub lines : ArePlacesIn r places
+  pub are : AllByRecursion IsPlace places
+  pub run_is : last.queue ≡ run begin.queue places

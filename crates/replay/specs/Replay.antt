@@ -37,6 +37,18 @@ pub data Taken (input : Option (List ℕ)) (begin : State) : ℕ → List ℕ �
       → Taken input begin count text before old → GivesLine before after line → TakesLine line old new answer
       → Taken input begin (count + 1) (text ++ answer) after new
 
+-- behind some lines that were taken the next line of the input takes old to new
+pub record TakesNext (input : Option (List ℕ)) (begin old new : State) : Type 0 where
+  pub count : ℕ
+  pub text : List ℕ
+  pub before : Option (List ℕ)
+  pub taken : Taken input begin count text before old
+  pub after : Option (List ℕ)
+  pub line : Line
+  pub gives : GivesLine before after line
+  pub answer : List ℕ
+  pub takes : TakesLine line old new answer
+
 -- `bad line K`, where lines count from 1
 abbrev pub bad_line : ℕ → List ℕ
 bad_line number = codes "bad line " ++ decimal number ++ 10 ∷ []

@@ -36,6 +36,10 @@ AnswersMessage old now message new text =
     ((out : List ℕ) × IsReply old now message new out × (text ≡ reply_line out))
     ⊎ ((length message < 8) × (new ≡ old) × (text ≡ codes "ipp short" ++ 10 ∷ []))
 
+-- the digits stand for a message, and the text answers it
+abbrev pub AnswersDigits : World → ℕ → List ℕ → World → List ℕ → Type 0
+AnswersDigits old now digits new text = (message : List ℕ) × (decode_of digits ≡ Ok message) × AnswersMessage old now message new text
+
 -- the account file with this one row
 abbrev pub file_of : List ℕ → List ℕ
 file_of row = codes "batch,account,pages\n" ++ row ++ 10 ∷ []
@@ -45,14 +49,16 @@ abbrev pub import_line : Result Imported ImportFault → List ℕ
 import_line (Ok n) = codes "grant new " ++ decimal n.added ++ codes " repeats " ++ decimal n.repeats ++ 10 ∷ []
 import_line (Err f) = codes "grant refused " ++ decimal (code_of f.cause) ++ 10 ∷ []
 
+-- the text tells what became of the account file at this moment
+abbrev pub AnswersFile : World → ℕ → List ℕ → World → List ℕ → Type 0
+AnswersFile old now file new text = (answer : Result Imported ImportFault) × Imports old now file new answer × (text ≡ import_line answer)
+
 -- `now N` sets the moment and has no answer; the others are answered at the moment that was set last
 abbrev pub Takes : RequestLine → State → State → List ℕ → Type 0
 Takes (Now n) old new text = (new.now ≡ n) × (new.queue ≡ old.queue) × (text ≡ [])
-Takes (Ipp digits) old new text = (new.now ≡ old.now)
-    × ((message : List ℕ) × (decode_of digits.now ≡ Ok message) × AnswersMessage old.queue old.now message new.queue text)
+Takes (Ipp digits) old new text = (new.now ≡ old.now) × AnswersDigits old.queue old.now digits.now new.queue text
 Takes (Dev line) old new text = (new.now ≡ old.now) × AnswersLine old.queue old.now (line.now ++ 10 ∷ []) new.queue text
-Takes (Grant row) old new text = (new.now ≡ old.now)
-    × ((answer : Result Imported ImportFault) × Imports old.queue old.now (file_of row.now) new.queue answer × (text ≡ import_line answer))
+Takes (Grant row) old new text = (new.now ≡ old.now) × AnswersFile old.queue old.now (file_of row.now) new.queue text
 
 -- the digits stand for no message of at most 16,777,216 bytes
 abbrev pub IsNoMessage : List ℕ → Type 0

@@ -1,15 +1,12 @@
 //! What replays are to the machine: a law over the definitions, in a function that does nothing.
-ghost use Rattle.std.specs.Prelude.{◌≡◌, ℕ, List, Option};
-ghost use Rattle.std.specs.List.{AllByRecursion};
+ghost use Rattle.std.specs.Prelude.{ℕ, List, Option};
 ghost use Rattle.queue_core.specs.Limits.{IsMoment};
-ghost use Rattle.queue_core.specs.Runs.{IsPlace, MovesAlong, Place, run};
+ghost use Rattle.queue_core.specs.Runs.{MovesAlong};
 ghost use Rattle.queue_core.specs.Sound.{Balances, IsSound};
 ghost use Rattle.queue_core.specs.World.{empty_queue};
-ghost use Rattle.replay.specs.Line.{GivesLine};
-ghost use Rattle.replay.specs.Places.{ArePlacesIn};
-ghost use Rattle.replay.specs.Replay.{Replays, Taken, TakesLine, settings};
+ghost use Rattle.replay.specs.Places.{IsRun};
+ghost use Rattle.replay.specs.Replay.{Replays, Taken, TakesNext, settings};
 ghost use Rattle.replay.specs.Session.{State};
-ghost use Rattle.replay.specs.declared.lines.Line.{Line};
 
 use grants_csv::files_are_events;
 use ipp_ops::calls_are_events;
@@ -21,11 +18,9 @@ use queue_core::{empty_is_sound, run_keeps};
 /// granted are those that are free, reserved and printed.
 pub fn replays_are_runs()
     ensures runs { (input : Option (List ℕ)) (begin last : State) (status : ℕ) (text : List ℕ) → IsMoment begin.now
-        → (r : Replays input begin status text last)
-        → (ps : List Place) × ArePlacesIn r ps × AllByRecursion IsPlace ps × (last.queue ≡ run begin.queue ps) }
-    ensures moves { (input before behind : Option (List ℕ)) (begin old new : State) (count : ℕ) (text answer : List ℕ) (line : Line)
-        → IsMoment begin.now → IsSound begin.queue → Taken input begin count text before old → GivesLine before behind line → TakesLine line old new answer
-        → MovesAlong old.queue new.queue }
+        → (r : Replays input begin status text last) → IsRun r }
+    ensures moves { (input : Option (List ℕ)) (begin old new : State) → IsMoment begin.now → IsSound begin.queue
+        → TakesNext input begin old new → MovesAlong old.queue new.queue }
     ensures balances { (input left : Option (List ℕ)) (begin last : State) (count : ℕ) (text : List ℕ)
         → IsMoment begin.now → IsSound begin.queue → Taken input begin count text left last → Balances last.queue }
     ensures empty { IsSound (empty_queue settings) }

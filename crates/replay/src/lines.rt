@@ -4,7 +4,7 @@ ghost use Rattle.std.specs.Prelude.{◌≡◌, ◌+◌, ◌<◌, ◌≤◌, ◌+
 ghost use Rattle.std.specs.Bool.{MatchBool, OnFalse};
 ghost use Rattle.std.specs.Io.KnownBytes.{Consumes, IsAtEnd, Keeps};
 ghost use Rattle.replay.specs.Faults.{IsOfStream};
-ghost use Rattle.replay.specs.Line.{GivesLine, IsFrontOf, IsOneLine};
+ghost use Rattle.replay.specs.Line.{GivesLine, IsFrontOf, IsOneLine, Lengthens, LosesPiece};
 ghost use Rattle.replay.specs.Unread.{left};
 
 use crate::fault::Fault;
@@ -52,7 +52,7 @@ impl Line {
 
     /// Adds a piece at the end, as far as it is kept.
     fn push(&mut self, piece: &[u8]) -> Result<(), AllocError>
-        ensures { OnOk result ((bytes : List ℕ) → IsFrontOf bytes self.old → IsFrontOf (bytes ++ piece.now) self.new) }
+        ensures { OnOk result (Lengthens piece.now self.old self.new) }
     {
         let room = MOST_LINE.saturating_sub(self.bytes.len());
         let kept = piece.len().min(room);
@@ -127,9 +127,7 @@ impl LineReader {
     /// Moves what has come of a line to the line, and says whether its line feed has come.
     fn take_line(&mut self, line: &mut Line) -> Result<bool, AllocError>
         ensures taken { IfOk result (λ is_ended. (piece : List ℕ) × IsOneLine piece
-            × ((bytes : List ℕ) → IsFrontOf bytes line.old → IsFrontOf (bytes ++ piece) line.new)
-            × MatchBool is_ended (self.old.come ≡ piece ++ 10 ∷ self.new.come)
-            ((self.old.come ≡ piece) × (self.new.come ≡ []))) }
+            × Lengthens piece line.old line.new × LosesPiece is_ended piece self.old.come self.new.come) }
         ensures reads { (self.new.reads ≡ self.old.reads) × (self.new.reads ≤ 4294967295) }
     {
         let come = &self.buffer.as_slice()[self.start..self.end];

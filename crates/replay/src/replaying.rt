@@ -1,11 +1,12 @@
 //! A replay over any book: requests that stand on lines, and the lines that answer them.
 
-ghost use Rattle.std.specs.Prelude.{◌≡◌, ◌≤◌, ℕ, List, IfErr, IfOk, OnOk};
+ghost use Rattle.std.specs.Prelude.{◌≡◌, ◌≤◌, IfErr, IfOk, OnOk};
 ghost use Rattle.std.specs.Io.KnownBytes.{Appends};
 ghost use Rattle.queue_core.specs.World.{World};
+ghost use Rattle.replay.specs.Books.{HasReplayed};
 ghost use Rattle.replay.specs.Faults.{IsOfStream};
-ghost use Rattle.replay.specs.Replay.{Replays, bad_line, first};
-ghost use Rattle.replay.specs.Session.{State, state};
+ghost use Rattle.replay.specs.Replay.{bad_line, first};
+ghost use Rattle.replay.specs.Session.{state};
 ghost use Rattle.replay.specs.Unread.{left};
 
 use crate::context::Context;
@@ -34,8 +35,7 @@ pub fn replay_over<R: Read, W: Write, B: QueueBook>(
     ensures began { B.is_honest book.new → B.is_honest book.old }
     ensures status { IfOk result (λ status. status ≤ 1) }
     ensures answered { B.is_honest book.new → IfOk result (λ status. (w : World) → B.stands book.old w → settings.now ≡ w.settings
-        → (last : State) × (text : List ℕ) × Replays (R.remaining input.old) (first w) status text last × B.stands book.new last.queue
-        × Appends (W.contents output.old) (W.contents output.new) text) }
+        → HasReplayed (R.remaining input.old) (first w) status (B.stands book.new) (W.contents output.old) (W.contents output.new)) }
     ensures failed { IfErr result IsOfStream }
 {
     let mut lines = LineReader::new(alloc)?;
@@ -60,8 +60,8 @@ fn answer_lines<R: Read, W: Write, B: QueueBook>(
     ensures began { B.is_honest book.new → B.is_honest book.old }
     ensures status { IfOk result (λ status. status ≤ 1) }
     ensures answered { B.is_honest book.new → IfOk result (λ status. (w : World) → B.stands book.old w → first.entry.settings.now ≡ w.settings
-        → (last : State) × (text : List ℕ) × Replays (left lines.old (R.remaining input.old)) (state first.entry.now w) status text last × B.stands book.new last.queue
-        × Appends (W.contents output.old) (W.contents output.new) text) }
+        → HasReplayed (left lines.old (R.remaining input.old)) (state first.entry.now w) status (B.stands book.new)
+        (W.contents output.old) (W.contents output.new)) }
     ensures failed { IfErr result IsOfStream }
 {
     let mut now = first.now;

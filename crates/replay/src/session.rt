@@ -1,21 +1,18 @@
 //! What a line of a replay asks is done, over any book, and answered.
 
-ghost use Rattle.std.specs.Prelude.{◌≡◌, ◌<◌, ◌≤◌, ◌++◌, ◌∷◌, [], ℕ, List, Result, Ok, IfErr, IfOk, IfNone, IfSome, OnErr, OnOk, codes, length};
+ghost use Rattle.std.specs.Prelude.{◌≡◌, ◌<◌, ◌≤◌, ◌++◌, ◌∷◌, [], Ok, IfErr, IfOk, IfNone, IfSome, OnErr, OnOk, codes, length};
 ghost use Rattle.std.specs.Fmt.{decimal};
 ghost use Rattle.std.specs.Bool.{OnFalse, OnTrue};
 ghost use Rattle.std.specs.Io.KnownBytes.{Appends};
-ghost use Rattle.hex.specs.Hex.{decode_of};
 ghost use Rattle.device_lines.specs.Reports.{AnswersLine};
 ghost use Rattle.grants_csv.specs.Fault.{code_of};
-ghost use Rattle.grants_csv.specs.Import.{Imports};
-ghost use Rattle.grants_csv.specs.declared.fault.ImportFault.{ImportFault};
-ghost use Rattle.grants_csv.specs.declared.importing.Imported.{Imported};
 ghost use Rattle.ipp_ops.specs.Answer.{bytes_of};
 ghost use Rattle.queue_core.specs.Limits.{IsMoment};
 ghost use Rattle.queue_core.specs.World.{World};
+ghost use Rattle.replay.specs.Books.{AnswersEach, AnswersEachWith};
 ghost use Rattle.replay.specs.Faults.{IsOfStream};
 ghost use Rattle.replay.specs.Replay.{IsBadLine, TakesLine};
-ghost use Rattle.replay.specs.Session.{AnswersMessage, IsNoMessage, IsReply, file_of, import_line, state};
+ghost use Rattle.replay.specs.Session.{AnswersDigits, AnswersFile, AnswersMessage, IsNoMessage, IsReply, file_of, import_line, state};
 
 use crate::context::Context;
 use crate::fault::Fault;
@@ -39,9 +36,9 @@ pub(crate) fn take_line<B: QueueBook, W: Write>(
 ) -> Result<Option<u32>, Fault>
     ensures began { B.is_honest book.new → B.is_honest book.old }
     ensures moment { IfOk result (λ next. IfSome next IsMoment) }
-    ensures taken { B.is_honest book.new → IfOk result (λ next. IfSome next (λ moment. (w : World) → B.stands book.old w → context.entry.settings.now ≡ w.settings
-        → (u : World) × (text : List ℕ) × TakesLine line.now (state context.entry.now w) (state moment u) text
-        × B.stands book.new u × Appends (W.contents output.old) (W.contents output.new) text)) }
+    ensures taken { B.is_honest book.new → IfOk result (λ next. IfSome next (λ moment.
+        AnswersEachWith B.QueueBook W.contents book.old book.new output.old output.new context.entry.settings.now
+        (λ w u text. TakesLine line.now (state context.entry.now w) (state moment u) text))) }
     ensures bad { IfOk result (λ next. IfNone next (IsBadLine line.now × (book.new ≡ book.old) × (output.new ≡ output.old))) }
     ensures failed { IfErr result IsOfStream }
 {
@@ -79,9 +76,9 @@ fn answer_digits<B: QueueBook, W: Write>(
     output: &mut W,
 ) -> Result<bool, Fault>
     ensures began { B.is_honest book.new → B.is_honest book.old }
-    ensures answered { B.is_honest book.new → IfOk result (λ is_message. OnTrue is_message ((w : World) → B.stands book.old w → context.entry.settings.now ≡ w.settings
-        → (u : World) × (text : List ℕ) × ((message : List ℕ) × (decode_of digits.now ≡ Ok message) × AnswersMessage w context.entry.now message u text)
-        × B.stands book.new u × Appends (W.contents output.old) (W.contents output.new) text)) }
+    ensures answered { B.is_honest book.new → IfOk result (λ is_message. OnTrue is_message
+        (AnswersEachWith B.QueueBook W.contents book.old book.new output.old output.new context.entry.settings.now
+        (λ w u text. AnswersDigits w context.entry.now digits.now u text))) }
     ensures refused { IfOk result (λ is_message. OnFalse is_message (IsNoMessage digits.now × (book.new ≡ book.old) × (output.new ≡ output.old))) }
     ensures failed { IfErr result IsOfStream }
 {
@@ -104,9 +101,9 @@ fn answer_message<B: QueueBook, W: Write>(
 ) -> Result<(), Fault>
     requires { length message.now ≤ 16777216 }
     ensures began { B.is_honest book.new → B.is_honest book.old }
-    ensures answered { B.is_honest book.new → OnOk result ((w : World) → B.stands book.old w → context.entry.settings.now ≡ w.settings
-        → (u : World) × (text : List ℕ) × AnswersMessage w context.entry.now message.now u text
-        × B.stands book.new u × Appends (W.contents output.old) (W.contents output.new) text) }
+    ensures answered { B.is_honest book.new → OnOk result
+        (AnswersEachWith B.QueueBook W.contents book.old book.new output.old output.new context.entry.settings.now
+        (λ w u text. AnswersMessage w context.entry.now message.now u text)) }
     ensures failed { IfErr result IsOfStream }
 {
     match answered(context, book, message) {
@@ -143,9 +140,9 @@ fn answer_device<B: QueueBook, W: Write>(
     output: &mut W,
 ) -> Result<(), Fault>
     ensures began { B.is_honest book.new → B.is_honest book.old }
-    ensures answered { B.is_honest book.new → OnOk result ((w : World) → B.stands book.old w
-        → (u : World) × (out : List ℕ) × AnswersLine w context.entry.now (text.now ++ 10 ∷ []) u out
-        × B.stands book.new u × Appends (W.contents output.old) (W.contents output.new) out) }
+    ensures answered { B.is_honest book.new → OnOk result
+        (AnswersEach B.QueueBook W.contents book.old book.new output.old output.new
+        (λ w u out. AnswersLine w context.entry.now (text.now ++ 10 ∷ []) u out)) }
     ensures failed { IfErr result IsOfStream }
 {
     let line = ended_line(context.alloc, text)?;
@@ -162,9 +159,9 @@ fn import_row<B: QueueBook, W: Write>(
     output: &mut W,
 ) -> Result<(), Fault>
     ensures began { B.is_honest book.new → B.is_honest book.old }
-    ensures answered { B.is_honest book.new → OnOk result ((w : World) → B.stands book.old w
-        → (u : World) × (answer : Result Imported ImportFault) × Imports w context.entry.now (file_of row.now) u answer
-        × B.stands book.new u × Appends (W.contents output.old) (W.contents output.new) (import_line answer)) }
+    ensures answered { B.is_honest book.new → OnOk result
+        (AnswersEach B.QueueBook W.contents book.old book.new output.old output.new
+        (λ w u text. AnswersFile w context.entry.now (file_of row.now) u text)) }
     ensures failed { IfErr result IsOfStream }
 {
     let file = account_file(context.alloc, row)?;

@@ -14,7 +14,7 @@ loop-arrival-init g c = record {
   count = omega (arith, ap length c.in_ok-outcomes.ensures.items);
   room = c.in_ok-outcomes.ensures.capacity;
   live = λ honest live all. live;
-  taken = λ honest w s set. none_taken (g.B.QueueBook.stands c.args.book.now) (g.B.QueueBook.crash_leaves c.args.book.now) w c.in_ok-outcomes.outcomes.items (g.W.Write.contents c.args.writer.now) c.in_ok-outcomes.ensures.items s;
+  taken = λ honest w s set. none_taken g.B.QueueBook c.args.book.now w c.in_ok-outcomes.outcomes.items (g.W.Write.contents c.args.writer.now) c.in_ok-outcomes.ensures.items s;
 }
 
 -- past the end of a list
@@ -36,14 +36,14 @@ loop-arrival-preserved g c = record {
       let k = c.take-outcome.ensures.taken honest t.after t.stands_after (settings_after c.args.settings.now w t.after t.places t.run_is set) in
       let x = g.W.Write.contents c.args.writer.now in
       let z = g.W.Write.contents c.take-outcome.new.writer in
-      taken_by (g.B.QueueBook.stands c.take-outcome.new.book) (g.B.QueueBook.crash_leaves c.args.book.now) (g.B.QueueBook.crash_leaves c.take-outcome.new.book) w x z (take i arrivals ++ get_or arrivals i blank ∷ []) (take (i + 1) arrivals)
+      taken_by g.B.QueueBook c.args.book.now c.take-outcome.new.book w x z (take i arrivals ++ get_or arrivals i blank ∷ []) (take (i + 1) arrivals)
       (c.loop-arrival.outcomes.items ++ c.take-outcome.result ∷ []) c.push_reserved.new.self.items (take_more arrivals i blank c.loop-arrival-test.true) c.push_reserved.ensures.items
-      (more_taken c.run_keeps.ensures.joined (g.B.QueueBook.stands c.loop-arrival.book) (g.B.QueueBook.stands c.take-outcome.new.book) (g.B.QueueBook.crash_leaves c.args.book.now) (g.B.QueueBook.crash_leaves c.loop-arrival.book) (g.B.QueueBook.crash_leaves c.take-outcome.new.book) w (take i arrivals) c.loop-arrival.outcomes.items (get_or arrivals i blank)
+      (more_taken c.run_keeps.ensures.joined g.B.QueueBook c.args.book.now c.loop-arrival.book c.take-outcome.new.book w (take i arrivals) c.loop-arrival.outcomes.items (get_or arrivals i blank)
       c.take-outcome.result x (g.W.Write.contents c.loop-arrival.writer) z t k);
 }
 
 pub returns-clause-history : goal.returns-clause-history
-returns-clause-history g c = λ honest w s set. history_of c.run_keeps.ensures.sound c.run_keeps.ensures.moves c.run_keeps.ensures.balances (g.B.QueueBook.stands c.loop-arrival.book) (g.B.QueueBook.crash_leaves c.args.book.now) (g.B.QueueBook.crash_leaves c.loop-arrival.book) w
+returns-clause-history g c = λ honest w s set. history_of c.run_keeps.ensures.sound c.run_keeps.ensures.moves c.run_keeps.ensures.balances g.B.QueueBook c.args.book.now c.loop-arrival.book w
     (take c.loop-arrival.arrival-index c.args.arrivals.now) c.args.arrivals.now c.loop-arrival.outcomes.items (g.W.Write.contents c.args.writer.now) (g.W.Write.contents c.loop-arrival.writer)
     (take_all c.loop-arrival.arrival-index c.args.arrivals.now c.loop-arrival-test.false)
     (g.met.B.QueueBook.sound c.args.book.now w (c.loop-arrival.invariant.began honest) s)
@@ -53,17 +53,18 @@ pub returns-clause-crash : goal.returns-clause-crash
 returns-clause-crash g c = λ honest live w s set.
     let was = c.loop-arrival.invariant.began honest in
     let t = c.loop-arrival.invariant.taken honest w s set in
-    let l = t.is_left w (g.met.B.QueueBook.lasts c.args.book.now w w was live s) in (
-      t.after,
-      l.0,
-      t.stands_after,
-      t.places,
-      t.are,
-      t.run_is,
-      l.1,
-      subst (λ (xs : List Arrival). IsAtMostOneMore (IsAskedBy xs c.loop-arrival.outcomes.items w t.after) t.after l.0) (take_all c.loop-arrival.arrival-index c.args.arrivals.now c.loop-arrival-test.false)
-          (left_one (IsAskedBy (take c.loop-arrival.arrival-index c.args.arrivals.now) c.loop-arrival.outcomes.items w t.after) w t.after l.0 l.2),
-    )
+    let l = t.is_left w (g.met.B.QueueBook.lasts c.args.book.now w w was live s) in record {
+      queue = t.after;
+      stands = t.stands_after;
+      places = t.places;
+      are = t.are;
+      run_is = t.run_is;
+      left = l.0;
+      leaves = l.1;
+      one_more = subst (λ (xs : List Arrival). IsAtMostOneMore (IsAskedBy xs c.loop-arrival.outcomes.items w t.after) t.after l.0) (take_all c.loop-arrival.arrival-index c.args.arrivals.now c.loop-arrival-test.false)
+          (left_one (IsAskedBy (take c.loop-arrival.arrival-index c.args.arrivals.now) c.loop-arrival.outcomes.items w t.after) w t.after l.0 l.2);
+    }
 
 pub returns-in_err-outcomes-clause-crash : goal.returns-in_err-outcomes-clause-crash
-returns-in_err-outcomes-clause-crash g c = λ honest live w s set. (w, w, s, [], tt, refl, g.met.B.QueueBook.lasts c.args.book.now w w honest live s, inl refl)
+returns-in_err-outcomes-clause-crash g c = λ honest live w s set.
+    record { queue = w; stands = s; places = []; are = tt; run_is = refl; left = w; leaves = g.met.B.QueueBook.lasts c.args.book.now w w honest live s; one_more = inl refl }

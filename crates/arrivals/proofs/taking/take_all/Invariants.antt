@@ -2,9 +2,8 @@ use Rattle.std.proofs.Common.{◌≡◌, ◌≤◌, length, take}
 use Rattle.std.specs.List.{AllByRecursion}
 use Rattle.std.specs.Prelude.{vec_capacity}
 use Rattle.queue_core.specs.World.{World}
-use Rattle.arrivals.specs.Crash.{IsAskedBy, Carries}
-use Rattle.arrivals.specs.History.{AreTaken}
-use Rattle.arrivals.specs.Taken.{IsFaultless, IsTaken}
+use Rattle.arrivals.specs.Books.{AreTakenOver}
+use Rattle.arrivals.specs.Taken.{IsFaultless}
 use Rattle.arrivals.proofs.taking.take_all.Given as goal
 
 -- those before the index are taken, and there is room for the outcomes of all
@@ -15,6 +14,5 @@ invariant-loop-arrival g l = record {
   room : length l.arrivals ≤ vec_capacity l.outcomes;
   live : g.B.QueueBook.is_honest l.book → g.B.QueueBook.is_live l.fn.book → AllByRecursion IsFaultless l.outcomes.items → g.B.QueueBook.is_live l.book;
   taken : g.B.QueueBook.is_honest l.book → (w : World) → g.B.QueueBook.stands l.fn.book w → l.fn.settings ≡ w.settings
-      → IsTaken (g.B.QueueBook.stands l.book) (Carries (g.B.QueueBook.crash_leaves l.fn.book) (g.B.QueueBook.crash_leaves l.book) (IsAskedBy (take l.arrival-index l.arrivals) l.outcomes.items) w)
-      w (g.W.Write.contents l.fn.writer) (g.W.Write.contents l.writer) (AreTaken w (take l.arrival-index l.arrivals) l.outcomes.items);
+      → AreTakenOver g.B.QueueBook l.fn.book l.book w (take l.arrival-index l.arrivals) l.outcomes.items (g.W.Write.contents l.fn.writer) (g.W.Write.contents l.writer);
 }

@@ -1,6 +1,7 @@
-use Rattle.std.proofs.Common.{refl, inl, inr}
+use Rattle.std.proofs.Common.{refl, subst, inl, inr}
 use Rattle.std.proofs.lemmas.Result.{IfErr-weaker, on_ok_weaker}
-use Rattle.queue_store.specs.Kept.{shown_by}
+use Rattle.queue_core.specs.World.{World}
+use Rattle.queue_store.specs.Kept.{StandsFor, shown_by}
 use Rattle.commands.proofs.EndingLemmas.{any_err, both, both_ok, under}
 use Rattle.commands.proofs.FaultLemmas.{no_file}
 use Rattle.commands.specs.Work.{AreIn, taken, untaken}
@@ -12,36 +13,41 @@ pub returns-clause-taken : goal.returns-clause-taken
 returns-clause-taken g c = λ honest. on_ok_weaker c.import_bytes_at.result (λ told w stands.
     let it = told.0 w stands in
     let read = in_read c.args.file c.in_ok-bytes.bytes c.in_ok-bytes.was c.as_slice.result.now c.as_slice.ensures.value in
-    let all = import_of (AreIn c.args.file) c.in_ok-now.now c.in_ok-now.ensures.moment c.as_slice.result.now read w it.1 it.0 it.2 in (
+    let all = import_of (AreIn c.args.file) c.in_ok-now.now c.in_ok-now.ensures.moment c.as_slice.result.now read w it.0 it.2.0 it.2.1 in (
       it.0,
       it.1,
-      all,
-      it.3,
-      it.4,
-      λ live. (it.1, lasts g.S.Store g.met.S.Store.settled c.import_bytes_at.new.book it.1 honest told.1 it.3, taken (it.0, all) refl),
+      (
+        (it.2.0, all, it.2.2),
+        λ live. (it.0, lasts g.S.Store g.met.S.Store.settled c.import_bytes_at.new.book it.0 honest told.1 it.1, taken (it.2.0, all) refl),
+      ),
     )) (both_ok c.import_bytes_at.result _ _ (c.import_bytes_at.ensures.taken honest) (c.import_bytes_at.ensures.live honest))
 
 pub returns-clause-left : goal.returns-clause-left
 returns-clause-left g c = λ honest. IfErr-weaker c.import_bytes_at.result _ _ (λ fault told w stands.
     let read = in_read c.args.file c.in_ok-bytes.bytes c.in_ok-bytes.was c.as_slice.result.now c.as_slice.ensures.value in
     let all = import_of (AreIn c.args.file) c.in_ok-now.now c.in_ok-now.ensures.moment c.as_slice.result.now read w in
-    elim (told.0 w stands) [
+    let end = told.0 w stands in
+    elim end.2 [
       | inl file ↦ (
         w,
-        file.3,
-        inl (refl, file.4),
-        λ live.
-            let it = c.import_bytes_at.ensures.crash honest live w stands in
-            beside _ w it.0 it.1 (shown_by g.S.Store c.import_bytes_at.new.book) it.3 (known_of_all _ _ w it.0 it.1 (λ v told. (told.0, all v told.0 told.1)) it.4),
+        subst (λ (z : World). StandsFor g.S.Store c.import_bytes_at.new.book z) file.1 end.1,
+        (
+          inl (refl, file.2),
+          λ live.
+              let it = c.import_bytes_at.ensures.crash honest live w stands in
+              beside _ w it.0 it.2.0 (shown_by g.S.Store c.import_bytes_at.new.book) it.2.1 (known_of_all _ _ w it.0 it.2.0 (λ v told. (told.0, all v told.0 told.1)) it.2.2),
+        ),
       )
       | inr it ↦ (
-        it.2,
-        it.4,
-        inr (it.0, it.1, all it.2 it.1 it.3),
-        λ live. (
-          it.2,
-          lasts g.S.Store g.met.S.Store.settled c.import_bytes_at.new.book it.2 honest (told.1 live (no_file fault _ it.0)) it.4,
-          taken (it.1, all it.2 it.1 it.3) refl,
+        end.0,
+        end.1,
+        (
+          inr (it.0, (it.1.0, all end.0 it.1.0 it.1.1)),
+          λ live. (
+            end.0,
+            lasts g.S.Store g.met.S.Store.settled c.import_bytes_at.new.book end.0 honest (told.1 live (no_file fault _ it.0)) end.1,
+            taken (it.1.0, all end.0 it.1.0 it.1.1) refl,
+          ),
         ),
       )
     ]) (both c.import_bytes_at.result _ _ (c.import_bytes_at.ensures.why honest) (under c.import_bytes_at.result _ _ (c.import_bytes_at.ensures.still_live honest)))
@@ -50,16 +56,14 @@ pub returns-in_err-now-clause-left : goal.returns-in_err-now-clause-left
 returns-in_err-now-clause-left g c = λ honest. any_err c.from_residual.result _ (λ fault w stands. (
   w,
   stands,
-  inl (refl, refl),
-  λ live. (w, lasts g.S.Store g.met.S.Store.settled c.args.book.now w honest live stands, untaken refl refl),
+  (inl (refl, refl), λ live. (w, lasts g.S.Store g.met.S.Store.settled c.args.book.now w honest live stands, untaken refl refl)),
 ))
 
 pub returns-in_err-bytes-clause-left : goal.returns-in_err-bytes-clause-left
 returns-in_err-bytes-clause-left g c = λ honest. any_err c.from_residual-in_err-bytes.result _ (λ fault w stands. (
   w,
   stands,
-  inl (refl, refl),
-  λ live. (w, lasts g.S.Store g.met.S.Store.settled c.args.book.now w honest live stands, untaken refl refl),
+  (inl (refl, refl), λ live. (w, lasts g.S.Store g.met.S.Store.settled c.args.book.now w honest live stands, untaken refl refl)),
 ))
 
 pub returns-clause-quiet : goal.returns-clause-quiet
@@ -69,28 +73,26 @@ returns-clause-quiet g c = IfErr-weaker c.import_bytes_at.result _ _ (λ fault i
 ]) (both c.import_bytes_at.result _ _ c.import_bytes_at.ensures.told c.import_bytes_at.ensures.quiet)
 
 pub returns-clause-why : goal.returns-clause-why
-returns-clause-why g c = λ honest. IfErr-weaker c.import_bytes_at.result _ _ (λ fault told w stands. elim (told w stands) [
-  | inl file ↦ inr (
-    file.0,
-    file.1,
-    c.in_ok-now.now,
-    c.in_ok-now.ensures.moment,
-    c.as_slice.result.now,
-    in_read c.args.file c.in_ok-bytes.bytes c.in_ok-bytes.was c.as_slice.result.now c.as_slice.ensures.value,
-    file.2,
-  )
+returns-clause-why g c = λ honest. IfErr-weaker c.import_bytes_at.result _ _ (λ fault told w stands. elim (told w stands).2 [
+  | inl file ↦ inr (record {
+    now = c.in_ok-now.now;
+    moment = c.in_ok-now.ensures.moment;
+    bytes = c.as_slice.result.now;
+    read = in_read c.args.file c.in_ok-bytes.bytes c.in_ok-bytes.was c.as_slice.result.now c.as_slice.ensures.value;
+    refused = file.0;
+  })
   | inr it ↦ inl it.0
 ]) (c.import_bytes_at.ensures.why honest)
 
 pub returns-in_err-now-clause-crash : goal.returns-in_err-now-clause-crash
-returns-in_err-now-clause-crash g c = λ honest live w stands. (w, w, stands, lasts g.S.Store g.met.S.Store.settled c.args.book.now w honest live stands, untaken refl refl)
+returns-in_err-now-clause-crash g c = λ honest live w stands. (w, stands, (w, lasts g.S.Store g.met.S.Store.settled c.args.book.now w honest live stands, untaken refl refl))
 
 pub returns-in_err-bytes-clause-crash : goal.returns-in_err-bytes-clause-crash
-returns-in_err-bytes-clause-crash g c = λ honest live w stands. (w, w, stands, lasts g.S.Store g.met.S.Store.settled c.args.book.now w honest live stands, untaken refl refl)
+returns-in_err-bytes-clause-crash g c = λ honest live w stands. (w, stands, (w, lasts g.S.Store g.met.S.Store.settled c.args.book.now w honest live stands, untaken refl refl))
 
 pub returns-clause-crash : goal.returns-clause-crash
 returns-clause-crash g c = λ honest live w stands.
     let it = c.import_bytes_at.ensures.crash honest live w stands in
     let read = in_read c.args.file c.in_ok-bytes.bytes c.in_ok-bytes.was c.as_slice.result.now c.as_slice.ensures.value in
     let all = import_of (AreIn c.args.file) c.in_ok-now.now c.in_ok-now.ensures.moment c.as_slice.result.now read w in
-    (it.0, it.1, it.2, it.3, known_of_all _ _ w it.0 it.1 (λ v told. (told.0, all v told.0 told.1)) it.4)
+    (it.0, it.1, (it.2.0, it.2.1, known_of_all _ _ w it.0 it.2.0 (λ v told. (told.0, all v told.0 told.1)) it.2.2))

@@ -4,7 +4,7 @@ use Rattle.std.proofs.lemmas.Result.{IfOk-weaker}
 use Rattle.command_ends.specs.declared.fault.Fault.TheVariants.{Memory}
 use Rattle.commands.specs.Printed.{HasPrinted}
 use Rattle.commands.specs.Store.{CanBeMade}
-use Rattle.commands.proofs.EndingLemmas.{asks_nothing, asks_something, asks_text, at_least_one, at_most, at_status, but_one}
+use Rattle.commands.proofs.EndingLemmas.{asks_nothing, asks_something, asks_text, at_least_one, at_most, at_status, but_one, none_among}
 use Rattle.commands.proofs.PrintedLemmas.{told_of, untold}
 use Rattle.commands.proofs.program.run.Goals as goal
 
@@ -29,12 +29,12 @@ returns-in-Ok-clause-handed g c = λ none zero.
 pub returns-in-Err-Words-clause-handed : goal.returns-in-Err-Words-clause-handed
 returns-in-Err-Words-clause-handed g c = λ none zero.
     let among = rw c.in-Err-Words.field-0-is at c.in-Err-Words.ensures.refused in
-    absurd (rw none at among)
+    absurd (none_among _ _ among none)
 
 pub returns-in-Err-Words-clause-done : goal.returns-in-Err-Words-clause-done
 returns-in-Err-Words-clause-done g c = λ none zero.
     let among = rw c.in-Err-Words.field-0-is at c.in-Err-Words.ensures.refused in
-    absurd (rw none at among)
+    absurd (none_among _ _ among none)
 
 pub returns-in-Ok-clause-wrong : goal.returns-in-Ok-clause-wrong
 returns-in-Ok-clause-wrong g c = λ wrong. absurd (wrong.0 c.in-Ok.ensures.taken)
@@ -46,7 +46,7 @@ returns-in-Ok-clause-status g c =
 pub returns-in-Err-Words-clause-named : goal.returns-in-Err-Words-clause-named
 returns-in-Err-Words-clause-named g c = λ none.
     let among = rw c.in-Err-Words.field-0-is at c.in-Err-Words.ensures.refused in
-    absurd (rw none at among)
+    absurd (none_among _ _ among none)
 
 pub returns-in-Err-Words-clause-wrong : goal.returns-in-Err-Words-clause-wrong
 returns-in-Err-Words-clause-wrong g c = λ wrong.
@@ -97,7 +97,7 @@ returns-in-Ok-clause-told g c = λ none one. inr (
 pub returns-in-Err-Words-clause-told : goal.returns-in-Err-Words-clause-told
 returns-in-Err-Words-clause-told g c = λ none one.
     let among = rw c.in-Err-Words.field-0-is at c.in-Err-Words.ensures.refused in
-    absurd (rw none at among)
+    absurd (none_among _ _ among none)
 
 pub returns-in-Err-Memory-clause-told : goal.returns-in-Err-Memory-clause-told
 returns-in-Err-Memory-clause-told g c = λ none one. inl (c.end-in-Err-Memory.ensures.told, refl)

@@ -1,6 +1,5 @@
 use Rattle.std.proofs.Common.{inl, inr}
-use Rattle.queue_store.specs.Kept.{shown_by}
-use Rattle.commands.proofs.CrashLemmas.{lasts, one_more}
+use Rattle.commands.proofs.CrashLemmas.{served_over}
 use Rattle.commands.proofs.FaultLemmas.{of_damaged_server, of_server, stopped_by}
 use Rattle.commands.proofs.serving.serve_at.Goals as goal
 
@@ -21,14 +20,9 @@ returns-in-Err-clause-stopped g c = elim (stopped_by c.in-Err.stopped c.fault_of
 pub returns-in-Ok-clause-served : goal.returns-in-Ok-clause-served
 returns-in-Ok-clause-served g c = λ honest w stands same.
     let it = c.in-Ok.ensures.ok honest w stands same in (
-      it.0.queue,
-      it.0.stands,
-      it.0.counts,
-      it.0.are,
+      served_over g.S.Store g.met.S.Store.settled c.args.book.now c.serve_connections.new.book w (c.serve_connections.ensures.began honest) stands it.0.counts it.0.queue it.0.are it.0.stands it.0.carries,
       it.1,
       it.2,
-      one_more (shown_by g.S.Store c.args.book.now) (shown_by g.S.Store c.serve_connections.new.book) w it.0.counts it.0.queue it.0.are
-          (λ live. lasts g.S.Store g.met.S.Store.settled c.args.book.now w (c.serve_connections.ensures.began honest) live stands) it.0.carries,
     )
 
 pub returns-in-Err-clause-err : goal.returns-in-Err-clause-err
@@ -36,34 +30,28 @@ returns-in-Err-clause-err g c = λ honest w stands same.
     elim (stopped_by c.in-Err.stopped c.fault_of_server.result (λ error at. (c.fault_of_server.ensures.stream error at).0)) [
       | inl stream ↦
           let it = c.in-Err.ensures.err honest w stands same in (
-            it.0.queue,
-            it.0.stands,
-            it.0.counts,
-            it.0.are,
+            served_over g.S.Store g.met.S.Store.settled c.args.book.now c.serve_connections.new.book w (c.serve_connections.ensures.began honest) stands it.0.counts it.0.queue it.0.are it.0.stands it.0.carries,
             it.1,
             inl stream,
-            one_more (shown_by g.S.Store c.args.book.now) (shown_by g.S.Store c.serve_connections.new.book) w it.0.counts it.0.queue it.0.are
-                (λ live. lasts g.S.Store g.met.S.Store.settled c.args.book.now w (c.serve_connections.ensures.began honest) live stands) it.0.carries,
           )
       | inr book ↦
           let it = c.in-Err.ensures.told honest book.0 book.1 w stands same in (
-            it.0.queue,
-            it.0.stands,
-            it.0.counts,
-            it.0.are,
+            served_over g.S.Store g.met.S.Store.settled c.args.book.now c.serve_connections.new.book w (c.serve_connections.ensures.began honest) stands it.0.counts it.0.queue it.0.are it.0.stands it.0.carries,
             it.1,
             inr it.2,
-            one_more (shown_by g.S.Store c.args.book.now) (shown_by g.S.Store c.serve_connections.new.book) w it.0.counts it.0.queue it.0.are
-                (λ live. lasts g.S.Store g.met.S.Store.settled c.args.book.now w (c.serve_connections.ensures.began honest) live stands) it.0.carries,
           )
     ]
 
 pub returns-in-Ok-clause-crash : goal.returns-in-Ok-clause-crash
 returns-in-Ok-clause-crash g c = λ honest live w stands same.
-    let it = c.serve_connections.ensures.crash honest live w stands same in
-    (it.0.queue, it.2, it.0.stands, it.0.counts, it.0.are, it.1, it.3, it.4)
+    let it = c.serve_connections.ensures.crash honest live w stands same in (
+      served_over g.S.Store g.met.S.Store.settled c.args.book.now c.serve_connections.new.book w (c.serve_connections.ensures.began honest) stands it.0.counts it.0.queue it.0.are it.0.stands it.0.carries,
+      it.1,
+    )
 
 pub returns-in-Err-clause-crash : goal.returns-in-Err-clause-crash
 returns-in-Err-clause-crash g c = λ honest live w stands same.
-    let it = c.serve_connections.ensures.crash honest live w stands same in
-    (it.0.queue, it.2, it.0.stands, it.0.counts, it.0.are, it.1, it.3, it.4)
+    let it = c.serve_connections.ensures.crash honest live w stands same in (
+      served_over g.S.Store g.met.S.Store.settled c.args.book.now c.serve_connections.new.book w (c.serve_connections.ensures.began honest) stands it.0.counts it.0.queue it.0.are it.0.stands it.0.carries,
+      it.1,
+    )

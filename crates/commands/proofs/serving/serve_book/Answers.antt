@@ -1,9 +1,9 @@
-use Rattle.std.proofs.Common.{◌∙◌, [], refl, arith, inl, inr}
+use Rattle.std.proofs.Common.{◌∙◌, arith, inl, inr}
 use Rattle.std.proofs.KnownBytes.{Appends-trans}
 use Rattle.std.proofs.lemmas.Result.{err_from_is_err_and, IfErr-weaker, on_ok_weaker}
 use Rattle.print_server.specs.Lines.{listening_line, served_lines}
 use Rattle.commands.proofs.FaultLemmas.{no_damage, of_serve_stream}
-use Rattle.commands.proofs.CrashLemmas.{lasts}
+use Rattle.commands.proofs.CrashLemmas.{none_served}
 use Rattle.commands.proofs.serving.serve_book.Goals as goal
 
 pub returns-clause-served : goal.returns-clause-served
@@ -12,12 +12,8 @@ returns-clause-served g c = λ honest. on_ok_weaker c.serve_at.result (λ served
     let end = served w stands same in (
       end.0,
       end.1,
-      end.2,
-      end.3,
-      end.4,
       Appends-trans (g.W.Write.contents c.args.output.now) (g.W.Write.contents c.tell_port.new.output) (g.W.Write.contents c.serve_at.new.output)
-          (listening_line c.args.words.port) (served_lines end.2) c.in_ok-listener.ensures end.5,
-      end.6,
+          (listening_line c.args.words.port) (served_lines end.0.counts) c.in_ok-listener.ensures end.2,
     )) (c.serve_at.ensures.served honest)
 
 pub returns-clause-written : goal.returns-clause-written
@@ -44,17 +40,13 @@ returns-clause-err g c = λ honest. IfErr-weaker c.serve_at.result _ _ (λ fault
     let it = left w stands (c.service-service.ensures.settings ∙ c.in_ok-settings.ensures w (c.serve_at.ensures.began honest) stands) in (
       it.0,
       it.1,
-      it.2,
-      it.3,
-      it.4,
-      elim it.5 [
+      elim it.2 [
         | inl stream ↦ inl stream
         | inr told ↦ inr (
             Appends-trans (g.W.Write.contents c.args.output.now) (g.W.Write.contents c.tell_port.new.output) (g.W.Write.contents c.serve_at.new.output)
-            (listening_line c.args.words.port) (served_lines it.2) c.in_ok-listener.ensures told
+            (listening_line c.args.words.port) (served_lines it.0.counts) c.in_ok-listener.ensures told
             )
       ],
-      it.6,
     )) (c.serve_at.ensures.err honest)
 
 pub returns-clause-damaged : goal.returns-clause-damaged
@@ -74,12 +66,12 @@ returns-in_err-listener-clause-stopped g c =
 pub returns-in_err-settings-clause-err : goal.returns-in_err-settings-clause-err
 returns-in_err-settings-clause-err g c = λ honest.
     let p = err_from_is_err_and c.from_residual.result c.from_residual.ensures.1 in
-    rw p.1 (λ w stands. (w, stands, [], refl, omega arith, inl (inl p.2), λ live. (w, lasts g.S.Store g.met.S.Store.settled c.args.book.now w honest live stands, refl)))
+    rw p.1 (λ w stands. (none_served g.S.Store g.met.S.Store.settled c.args.book.now w honest stands, omega arith, inl (inl p.2)))
 
 pub returns-in_err-listener-clause-err : goal.returns-in_err-listener-clause-err
 returns-in_err-listener-clause-err g c = λ honest.
     let p = err_from_is_err_and c.from_residual-in_err-listener.result c.from_residual-in_err-listener.ensures.1 in
-    rw p.1 (λ w stands. (w, stands, [], refl, omega arith, inl p.2.0, λ live. (w, lasts g.S.Store g.met.S.Store.settled c.args.book.now w honest live stands, refl)))
+    rw p.1 (λ w stands. (none_served g.S.Store g.met.S.Store.settled c.args.book.now w honest stands, omega arith, inl p.2.0))
 
 pub returns-in_err-listener-clause-damaged : goal.returns-in_err-listener-clause-damaged
 returns-in_err-listener-clause-damaged g c = λ honest.
@@ -92,10 +84,10 @@ returns-in_err-listener-clause-told g c =
     rw p.1 (of_serve_stream _ p.2.0)
 
 pub returns-in_err-settings-clause-crash : goal.returns-in_err-settings-clause-crash
-returns-in_err-settings-clause-crash g c = λ honest live w stands. (w, w, stands, [], refl, omega arith, lasts g.S.Store g.met.S.Store.settled c.args.book.now w honest live stands, refl)
+returns-in_err-settings-clause-crash g c = λ honest live w stands. (none_served g.S.Store g.met.S.Store.settled c.args.book.now w honest stands, omega arith)
 
 pub returns-in_err-listener-clause-crash : goal.returns-in_err-listener-clause-crash
-returns-in_err-listener-clause-crash g c = λ honest live w stands. (w, w, stands, [], refl, omega arith, lasts g.S.Store g.met.S.Store.settled c.args.book.now w honest live stands, refl)
+returns-in_err-listener-clause-crash g c = λ honest live w stands. (none_served g.S.Store g.met.S.Store.settled c.args.book.now w honest stands, omega arith)
 
 pub returns-clause-crash : goal.returns-clause-crash
 returns-clause-crash g c = λ honest live w stands.

@@ -1,23 +1,21 @@
 use Rattle.std.proofs.Common.{inr}
 use Rattle.std.proofs.lemmas.Result.{IfErr-weaker, IfOk-weaker}
 use Rattle.sqlite.specs.Files.{over_files}
-use Rattle.queue_store.specs.Kept.{StandsFor, shown_by}
 use Rattle.commands.proofs.EndingLemmas.{any_err}
 use Rattle.commands.proofs.PrintedLemmas.{unprinted}
-use Rattle.commands.proofs.WorkLemmas.{handed_on_kept, handed_on_of}
+use Rattle.commands.proofs.WorkLemmas.{done_from}
 use Rattle.commands.proofs.work.work_at.Goals as goal
 
 pub returns-clause-done : goal.returns-clause-done
 returns-clause-done g c = λ fits. IfOk-weaker c.work_over.result _ _ (λ b is honest.
     let done = is honest in
-    handed_on_kept _ c.args.work (shown_by over_files c.in_ok-book.book) (shown_by over_files b) (StandsFor over_files b) _ _ _ (StandsFor over_files c.in_ok-book.book)
-    (c.in_ok-book.ensures.kept fits done.began) (c.in_ok-book.ensures.live fits done.began) done.done) c.work_over.ensures.done
+    let at = c.in_ok-book.ensures.kept fits done.began in
+    (at.0, at.1, done_from over_files _ _ _ _ _ _ done at.0 at.2 (c.in_ok-book.ensures.live fits done.began))) c.work_over.ensures.done
 
 pub returns-clause-again : goal.returns-clause-again
 returns-clause-again g c = λ w kept. IfOk-weaker c.work_over.result _ _ (λ b is honest.
     let done = is honest in
-    handed_on_of _ c.args.work (shown_by over_files c.in_ok-book.book) (shown_by over_files b) (StandsFor over_files b) _ _ w
-    (c.in_ok-book.ensures.again_live w kept done.began) (done.done w (c.in_ok-book.ensures.again w kept))) c.work_over.ensures.done
+    done_from over_files _ _ _ _ _ _ done w (c.in_ok-book.ensures.again w kept) (c.in_ok-book.ensures.again_live w kept done.began)) c.work_over.ensures.done
 
 pub returns-clause-live : goal.returns-clause-live
 returns-clause-live g c = IfOk-weaker c.work_over.result _ _ (λ b is honest. (is honest).live) c.work_over.ensures.done

@@ -12,7 +12,7 @@ returns-in-Import g c =
     (ended g.S.Store (AreIn c.args.file) (Import c.in-Import.field-0) c.args.book.now c.import_into.new.book (g.W.Write.contents c.args.output.now) (g.W.Write.contents c.import_into.new.output) c.import_into.result c.import_into.ensures.written
     (λ honest. on_ok_weaker c.import_into.result (λ told. record {
       began = c.import_into.ensures.began honest;
-      done = λ w stands. let it = told.0 w stands in (it.1, it.3, (it.0, it.2, it.4), it.5);
+      done = told.0;
       live = λ leaves. told.1;
     }) (both_ok c.import_into.result _ _ (c.import_into.ensures.taken honest) (c.import_into.ensures.live honest)))
     (IfErr-weaker c.import_into.result _ _ (λ fault it. record {
@@ -24,8 +24,7 @@ returns-in-Import g c =
       refused = λ w stands. let it = told.0 w stands in (
         it.0,
         it.1,
-        (told.1 w stands, elim it.2 [ inl same ↦ inl (same.0, ap g.W.Write.contents same.1) | inr taken ↦ inr taken ]),
-        it.3,
+        (record { why = told.1 w stands; left = elim it.2.0 [ inl same ↦ inl (same.0, ap g.W.Write.contents same.1) | inr taken ↦ inr taken ] }, it.2.1),
       );
     }) (both c.import_into.result _ _ (c.import_into.ensures.left honest) (c.import_into.ensures.why honest))))
 
@@ -38,8 +37,7 @@ returns-in-Statement g c =
       done = λ w stands. let it = told.0 w stands in (
         w,
         c.print_from.ensures.kept w stands,
-        (refl, it.0, it.1, it.2),
-        λ live. (w, c.print_from.ensures.crash honest live w stands, (refl, refl)),
+        ((refl, it), λ live. (w, c.print_from.ensures.crash honest live w stands, (refl, refl))),
       );
       live = λ leaves. told.1;
     }) (both_ok c.print_from.result _ _ (c.print_from.ensures.printed honest) (c.print_from.ensures.live honest)))
@@ -52,8 +50,10 @@ returns-in-Statement g c =
       refused = λ w stands. (
         w,
         c.print_from.ensures.kept w stands,
-        ((λ is. damaged is w stands), (λ is. unknown is w stands), (λ none. known w stands none), refl, or_same g.W.Write.contents _ _ quiet),
-        λ live. (w, c.print_from.ensures.crash honest live w stands, (refl, refl)),
+        (
+          record { undamaged = λ is. damaged is w stands; unknown = λ is. unknown is w stands; known = λ none. known w stands none; stays = refl; quiet = or_same g.W.Write.contents _ _ quiet },
+          λ live. (w, c.print_from.ensures.crash honest live w stands, (refl, refl)),
+        ),
       );
     })))
 
@@ -64,13 +64,15 @@ returns-in-Serve g c =
     (λ honest. on_ok_weaker c.serve_book.result (λ told. record {
       began = c.serve_book.ensures.began honest;
       done = λ w stands. let it = told w stands in (
-        it.0,
-        it.1,
-        (it.2, it.3, it.4, it.5),
-        λ live.
-            let left = it.6 live in
-            let is = it.4 in
-            (left.0, left.1, (it.2, it.3, omega (arith, is), left.2)),
+        it.0.queue,
+        it.0.stands,
+        (
+          (it.0.counts, it.0.are, it.1, it.2),
+          λ live.
+              let left = it.0.left live in
+              let is = it.1 in
+              (left.0, left.1, (it.0.counts, it.0.are, omega (arith, is), left.2)),
+        ),
       );
       live = λ leaves. absurd leaves;
     }) (c.serve_book.ensures.served honest))
@@ -80,10 +82,12 @@ returns-in-Serve g c =
     }) (both c.serve_book.result _ _ c.serve_book.ensures.told c.serve_book.ensures.stopped))
     (λ honest. IfErr-weaker c.serve_book.result _ _ (λ fault it. record {
       began = c.serve_book.ensures.began honest;
-      refused = λ w stands. let left = it.0 w stands in (
-        left.0,
-        left.1,
-        ((λ is. it.1 is w stands), left.2, left.3, left.4, left.5),
-        λ live. let crashed = left.6 live in (crashed.0, crashed.1, (left.2, left.3, left.4, crashed.2)),
+      refused = λ w stands. let end = it.0 w stands in (
+        end.0.queue,
+        end.0.stands,
+        (
+          record { undamaged = λ is. it.1 is w stands; counts = end.0.counts; are = end.0.are; few = end.1; told = end.2 },
+          λ live. let left = end.0.left live in (left.0, left.1, (end.0.counts, end.0.are, end.1, left.2)),
+        ),
       );
     }) (both c.serve_book.result _ _ (c.serve_book.ensures.err honest) (c.serve_book.ensures.damaged honest))))

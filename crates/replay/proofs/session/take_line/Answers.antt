@@ -2,7 +2,6 @@ use Rattle.std.proofs.Common.{◌≡◌, ℕ, List, [], refl, subst}
 use Rattle.std.proofs.lemmas.Bool.{OnTrue_at}
 use Rattle.std.proofs.KnownBytes.{Appends-nil}
 use Rattle.replay.specs.RequestLine.{Says}
-use Rattle.replay.specs.Session.{import_line}
 use Rattle.replay.specs.declared.request_line.RequestLine.{RequestLine}
 use Rattle.replay.specs.declared.request_line.RequestLine.TheVariants.{Now, Ipp, Dev, Grant}
 use Rattle.replay.proofs.session.take_line.Goals as goal
@@ -33,4 +32,4 @@ pub returns-in_ok-import_row-in-Grant-clause-taken : goal.returns-in_ok-import_r
 returns-in_ok-import_row-in-Grant-clause-taken g c =
     let says = said c.args.line.now.bytes.items c.as_slice.result.now c.in-Some.request (Grant c.in-Grant.row) c.as_slice.ensures.value c.in-Grant.is c.in-Some.ensures.said in
     λ h w s set. let a = c.in_ok-import_row-in-Grant.ensures.answered h w s in
-    (a.0, import_line a.1, record { whole = c.if-line.false; request = Grant c.in-Grant.row; says = says; takes = (refl, (a.1, a.2, refl)) }, a.3, a.4)
+    (a.0, a.1, record { whole = c.if-line.false; request = Grant c.in-Grant.row; says = says; takes = (refl, a.2) }, a.3, a.4)

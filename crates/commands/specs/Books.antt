@@ -1,0 +1,38 @@
+-- What is made of a store's book, and what a crash leaves of it.
+use Rattle.std.specs.Prelude.{ℕ, IsTrue, List}
+use Rattle.print_server.specs.Connections.{AreConnections, IsAtMostOneMore}
+use Rattle.queue_core.specs.World.{World}
+use Rattle.queue_store.specs.Kept.{StandsFor, shown_by}
+use Rattle.queue_store.specs.declared.book.TableBook.{TableBook}
+use Rattle.queue_tables.specs.Content.{LeavesOneOf}
+use Rattle.sqlite.specs.State.{State}
+use Rattle.sqlite_trees.specs.declared.store.Store.{Ghosts}
+
+-- a crash at any moment leaves of the store the queue u, or one that may be left beside it
+abbrev pub LeavesBeside : State → World → (World → Type 0) → Type 0
+LeavesBeside after u may_be_left = (x : World) × LeavesOneOf u x after × may_be_left x
+
+-- so it is of a store that was open before
+abbrev pub CrashLeaves : State → State → World → (World → Type 0) → Type 0
+CrashLeaves before after u may_be_left = IsTrue before.is_open → LeavesBeside after u may_be_left
+
+-- a book that was old before, and is new behind
+module _ {S : Type 0} (store : Ghosts S) (old new : TableBook S) where
+  -- of each queue w that it stood for it stands for a queue u now, and so it is of the two
+  abbrev pub Makes : (World → World → Type 0) → Type 0
+  Makes so = (w : World) → StandsFor store old w → (u : World) × StandsFor store new u × so w u
+
+  -- moreover a crash at any moment leaves u, or a queue that may be left beside it
+  abbrev pub MakesSafely : (World → World → Type 0) → (World → World → World → Type 0) → Type 0
+  MakesSafely so may_be_left = Makes (λ w u. so w u × CrashLeaves (shown_by store old) (shown_by store new) u (may_be_left w u))
+
+  -- connections, one after another, over a book that stood for the queue w
+  pub record ServedOver (w : World) : Type 0 where
+    -- how many requests of each acted
+    pub counts : List ℕ
+    -- what they made of w
+    pub queue : World
+    pub are : AreConnections w counts queue
+    pub stands : StandsFor store new queue
+    -- a crash at any moment leaves it, or what the event of one of their requests makes of it
+    pub left : CrashLeaves (shown_by store old) (shown_by store new) queue (IsAtMostOneMore w counts queue are)
