@@ -22,7 +22,7 @@ use Rattle.queue_tables.specs.declared.account_pages.AccountPages.{AccountPages}
 use Rattle.queue_tables.specs.declared.fault.Fault.{Fault}
 use Rattle.queue_scenes.specs.Accounts.{FitAccount}
 use Rattle.queue_scenes.proofs.Bounds.{found_fits}
-use Rattle.queue_scenes.proofs.Telling.{HaveTold, refuses, tells}
+use Rattle.queue_tables.proofs.Telling.{HaveTold, refuses, tells}
 
 -- ---- an account without a row has no grant
 

@@ -4,7 +4,6 @@ pub mod Tests
 pub mod Lookup
 pub mod Found
 pub mod Numbers
-pub mod Telling
 pub mod Whole
 pub mod Lists
 pub mod Counting

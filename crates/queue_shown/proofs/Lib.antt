@@ -10,5 +10,4 @@ pub mod OwnedJobs
 pub mod SheetLemmas
 pub mod ShortDocuments
 pub mod Damage
-pub mod Telling
 pub mod PieceRows

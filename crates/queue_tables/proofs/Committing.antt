@@ -57,9 +57,9 @@ module _ (old mid new : State) (Can : World → Type 0) (make : World → World)
       ]
 
   -- what was written is committed
-  pub committed : {T U : Type 0} {x : T} (y : U) → MakesQueue begun mid (Ok x) Can make → (HasCleanDisk new → Shows mid new mid.now mid.now false) → Survives mid new (λ db. db ≡ mid.now.trees) → new.in_transaction ≡ false
+  pub committed : {T U : Type 0} {x : T} (y : U) → MakesQueue begun mid (Ok x) Can make → (HasCleanDisk new → Shows mid new mid.now mid.now false) → Survives mid new (λ db. db ≡ mid.now.trees)
       → CommitsQueue old new (Ok y) Can make
-  committed y made shown survives ended = record {
+  committed y made shown survives = record {
     clean = λ clean. made.stays.clean (clean_before mid new survives.clean clean);
     opened = λ clean live. (made.stays.kept (clean_before mid new survives.clean clean) refl).was_open (shown clean).was_open;
     live = λ clean. (shown clean).is_open;
@@ -69,17 +69,16 @@ module _ (old mid new : State) (Can : World → Type 0) (make : World → World)
     still_settled = λ clean. tt;
     crash = leaves (λ db. db ≡ mid.now.trees) made.stays survives (λ early w can has db now. subst (IsBookOf (make w)) (sym now) (book_of (make w) mid (sound w can).1 (made.done early w can has)));
     damaged = λ clean. tt;
-    ended = ended;
     serves = serves (λ db. db ≡ mid.now.trees) made.stays survives;
   }
 
   -- what was written, or a part of it, is undone
   pub undone : {T U : Type 0} {r : Result T Fault} (Commits : Trees → Type 0) → StaysInside begun mid r → Survives mid new Commits
       → (HasCleanDisk mid → (w : World) → Can w → Holds (content_of w) begun → (db : Trees) → Commits db → IsBookOf (make w) db)
-      → (HasCleanDisk new → IsRolledBack mid new) → new.in_transaction ≡ false
+      → (HasCleanDisk new → IsRolledBack mid new)
       → (q : Result U Fault) (e : Fault) → IsErrAnd q (λ f. f ≡ e) → (HasCleanDisk mid → HasCleanDisk new → e ≡ Damaged → (w : World) → Can w → HoldsWhileOpen (content_of w) begun → ⊥) → CommitsQueue old new q Can make
-  undone Commits stays survives written back ended (Ok y) e same never = absurd same
-  undone Commits stays survives written back ended (Err f) e same never =
+  undone Commits stays survives written back (Ok y) e same never = absurd same
+  undone Commits stays survives written back (Err f) e same never =
       let opened : HasCleanDisk new → IsTrue new.is_open → IsTrue old.is_open = λ clean live. (stays.kept (clean_before mid new survives.clean clean) refl).was_open ((back clean).was_open live) in
       let committed_is = λ (clean : HasCleanDisk new) (live : IsTrue new.is_open). (stays.kept (clean_before mid new survives.clean clean) refl).committed ((back clean).was_open live) in
       record {
@@ -92,19 +91,18 @@ module _ (old mid new : State) (Can : World → Type 0) (make : World → World)
         still_settled = λ clean same live. ((back clean).undone live).0 ∙ sym ((back clean).undone live).1;
         crash = leaves Commits stays survives written;
         damaged = λ clean d w can held. never (clean_before mid new survives.clean clean) clean (sym same ∙ d) w can (λ live. has_begun (content_of w) (held live));
-        ended = ended;
         serves = serves Commits stays survives;
       }
 
   -- the commit failed
-  pub failed : {T U : Type 0} {x : T} {why : Error} → MakesQueue begun mid (Ok x) Can make → (HasCleanDisk new → FailsToCommit mid new why) → Survives mid new (λ db. db ≡ mid.now.trees) → new.in_transaction ≡ false
+  pub failed : {T U : Type 0} {x : T} {why : Error} → MakesQueue begun mid (Ok x) Can make → (HasCleanDisk new → FailsToCommit mid new why) → Survives mid new (λ db. db ≡ mid.now.trees)
       → (e : Fault) → e ≡ write_fault why → CommitsQueue {T = U} old new (Err e) Can make
-  failed {why = why} made fails survives ended e told =
+  failed {why = why} made fails survives e told =
       undone (λ db. db ≡ mid.now.trees) made.stays survives (λ early w can has db now. subst (IsBookOf (make w)) (sym now) (book_of (make w) mid (sound w can).1 (made.done early w can has)))
-      (λ clean. (failure why (made.stays.inside (clean_before mid new survives.clean clean) refl) (fails clean)).1) ended (Err e) e refl
+      (λ clean. (failure why (made.stays.inside (clean_before mid new survives.clean clean) refl) (fails clean)).1) (Err e) e refl
       (λ early clean d w can held. (failure why (made.stays.inside early refl) (fails clean)).0 (sym told ∙ d))
 
   -- an error of what writes
-  pub refused : {T U : Type 0} {e : Fault} → MakesQueue {T = T} begun mid (Err e) Can make → (HasCleanDisk new → IsRolledBack mid new) → Survives mid new (λ _. ⊥) → new.in_transaction ≡ false
+  pub refused : {T U : Type 0} {e : Fault} → MakesQueue {T = T} begun mid (Err e) Can make → (HasCleanDisk new → IsRolledBack mid new) → Survives mid new (λ _. ⊥)
       → (q : Result U Fault) → IsErrAnd q (λ f. f ≡ e) → CommitsQueue old new q Can make
-  refused {e = e} made back survives ended q same = undone (λ _. ⊥) made.stays survives (λ early w can has db never. absurd never) back ended q e same (λ early clean d. made.damaged early refl d)
+  refused {e = e} made back survives q same = undone (λ _. ⊥) made.stays survives (λ early w can has db never. absurd never) back q e same (λ early clean d. made.damaged early refl d)

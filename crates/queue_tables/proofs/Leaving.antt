@@ -53,12 +53,6 @@ leaves_then a b c first last = record {
   serves = serves_then a b c last.clean first.serves last.serves;
 }
 
-pub leaves_three : (a b c d : State) → LeavesTables a b → LeavesTables b c → LeavesTables c d → LeavesTables a d
-leaves_three a b c d first next last = leaves_then a c d (leaves_then a b c first next) last
-
-pub leaves_four : (a b c d e : State) → LeavesTables a b → LeavesTables b c → LeavesTables c d → LeavesTables d e → LeavesTables a e
-leaves_four a b c d e first second third last = leaves_then a d e (leaves_three a b c d first second third) last
-
 -- where rows are shown, the connection is open
 pub shown_live : (sql : List ℕ) (params : Row) (old new : State) (rows : List Row) → Shown sql params old new rows → IsTrue new.is_open
 unfolding Shown

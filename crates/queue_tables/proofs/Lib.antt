@@ -47,4 +47,5 @@ pub mod Replacing
 pub mod Decisions
 pub mod Added
 pub mod Committing
+pub mod Telling
 mod Chain

@@ -1,5 +1,5 @@
 -- What a function of a transaction makes of the rows in the tables, and what a transaction of its own leaves.
-use Rattle.std.specs.Prelude.{◌≡◌, ℕ, false, List, Result, Ok, OnOk, OnErr, IfErr, IsTrue}
+use Rattle.std.specs.Prelude.{◌≡◌, ℕ, List, Result, Ok, OnOk, OnErr, IfErr, IsTrue}
 use Rattle.sqlite.specs.Order.{Row}
 use Rattle.sqlite.specs.State.{State, HasCleanDisk, ExecutesInside}
 use Rattle.queue_core.specs.World.{World}
@@ -30,7 +30,7 @@ MakesRows old new result Can make = Makes old new result Can (λ c. c) make
 abbrev pub MakesQueue : {T : Type 0} → State → State → Result T Fault → (World → Type 0) → (World → World) → Type 0
 MakesQueue old new result Can make = Makes old new result Can content_of (λ w. content_of (make w))
 
--- Over a connection outside of any transaction: an Ok has committed what it makes of the queue in the tables, if that is one of which it can be made.
+-- In a transaction of its own: an Ok has committed what it makes of the queue in the tables, if that is one of which it can be made.
 -- After an error they hold what they held. A crash then leaves the queue from before, or the one that was to be made.
 pub record CommitsQueue {T : Type 0} (old new : State) (result : Result T Fault) (Can : World → Type 0) (make : World → World) : Type 0 where
   pub clean : HasCleanDisk new → HasCleanDisk old
@@ -42,5 +42,4 @@ pub record CommitsQueue {T : Type 0} (old new : State) (result : Result T Fault)
   pub still_settled : HasCleanDisk new → OnErr result (old.now ≡ old.committed → IsTrue new.is_open → new.now ≡ new.committed)
   pub crash : HasCleanDisk new → (w : World) → Can w → Holds (content_of w) old → old.now ≡ old.committed → LeavesOneOf w (make w) new
   pub damaged : HasCleanDisk new → IfErr result (λ e. e ≡ Damaged → (w : World) → Can w → ¬ HoldsWhileOpen (content_of w) old)
-  pub ended : new.in_transaction ≡ false
   pub serves : KeepsServing old new

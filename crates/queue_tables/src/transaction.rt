@@ -1,13 +1,10 @@
 //! A decision in one transaction.
-ghost use Rattle.std.specs.Prelude.{◌≡◌, OnOk, OnErr, IsTrue, IfErr, Err, false};
-ghost use Rattle.sqlite.specs.State.{HasCleanDisk};
+ghost use Rattle.std.specs.Prelude.{◌≡◌, IsTrue, Err, false};
 ghost use Rattle.sqlite.specs.Held.{state};
 ghost use Rattle.queue_core.specs.Book.{IsDecisionOn};
 ghost use Rattle.queue_types.specs.Event.{change_of, decision_of};
 ghost use Rattle.queue_core.specs.Sound.{IsSound};
-ghost use Rattle.queue_core.specs.World.{World, made_on};
-ghost use Rattle.queue_tables.specs.Content.{Holds, LeavesOneOf, content_of, HoldsWhileOpen};
-ghost use Rattle.queue_tables.specs.Leaving.{KeepsServing};
+ghost use Rattle.queue_core.specs.World.{made_on};
 ghost use Rattle.queue_tables.specs.Making.{CommitsQueue};
 
 use crate::change::write_change;
@@ -26,6 +23,7 @@ fn make_outside<S: Alter>(
     requires outside { (state S.Store conn.old).in_transaction ≡ false }
     requires none_open { IsTrue (state S.Store conn.old).is_open → (state S.Store conn.old).now ≡ (state S.Store conn.old).committed }
     ensures commits { CommitsQueue (state S.Store conn.old) (state S.Store conn.new) result (λ w. IsSound w × IsDecisionOn w (decision_of decision.now)) (made_on (change_of decision.now.change)) }
+    ensures ended { (state S.Store conn.new).in_transaction ≡ false }
 {
     decisions_are_sound();
     let mut tx = conn.transaction();
@@ -47,18 +45,9 @@ pub fn make<S: Alter>(
     conn: &mut Connection<S>,
     decision: &Decision<'_>,
 ) -> Result<(), Fault>
-    ensures clean { HasCleanDisk (state S.Store conn.new) → HasCleanDisk (state S.Store conn.old) }
-    ensures opened { HasCleanDisk (state S.Store conn.new) → IsTrue (state S.Store conn.new).is_open → IsTrue (state S.Store conn.old).is_open }
-    ensures live { HasCleanDisk (state S.Store conn.new) → OnOk result (IsTrue (state S.Store conn.new).is_open) }
-    ensures made { HasCleanDisk (state S.Store conn.new) → OnOk result ((w : World) → IsSound w → IsDecisionOn w (decision_of decision.now) → Holds (content_of w) (state S.Store conn.old) → Holds (content_of (made_on (change_of decision.now.change) w)) (state S.Store conn.new)) }
-    ensures refused { HasCleanDisk (state S.Store conn.new) → OnErr result ((w : World) → Holds (content_of w) (state S.Store conn.old) → IsTrue (state S.Store conn.new).is_open → Holds (content_of w) (state S.Store conn.new)) }
-    ensures settled { HasCleanDisk (state S.Store conn.new) → OnOk result ((state S.Store conn.new).now ≡ (state S.Store conn.new).committed) }
-    ensures still_settled { HasCleanDisk (state S.Store conn.new) → OnErr result ((state S.Store conn.old).now ≡ (state S.Store conn.old).committed → IsTrue (state S.Store conn.new).is_open → (state S.Store conn.new).now ≡ (state S.Store conn.new).committed) }
-    ensures crash { HasCleanDisk (state S.Store conn.new) → (w : World) → IsSound w → IsDecisionOn w (decision_of decision.now) → Holds (content_of w) (state S.Store conn.old) → (state S.Store conn.old).now ≡ (state S.Store conn.old).committed → LeavesOneOf w (made_on (change_of decision.now.change) w) (state S.Store conn.new) }
+    ensures commits { CommitsQueue (state S.Store conn.old) (state S.Store conn.new) result (λ w. IsSound w × IsDecisionOn w (decision_of decision.now)) (made_on (change_of decision.now.change)) }
     ensures inside { IsTrue (state S.Store conn.old).in_transaction → (result ≡ Err Fault.Disk) × (conn.new ≡ conn.old) }
     ensures mode { (state S.Store conn.new).in_transaction ≡ (state S.Store conn.old).in_transaction }
-    ensures serves { KeepsServing (state S.Store conn.old) (state S.Store conn.new) }
-    ensures damaged { HasCleanDisk (state S.Store conn.new) → IfErr result (λ e. e ≡ Fault.Damaged → (w : World) → IsSound w → IsDecisionOn w (decision_of decision.now) → ¬ HoldsWhileOpen (content_of w) (state S.Store conn.old)) }
 {
     if !conn.is_autocommit() {
         return Err(Fault::Disk);

@@ -1,7 +1,7 @@
 use Rattle.std.proofs.Common.{arith, refl}
 use Rattle.queue_scenes.proofs.Bounds.{queued_fit}
 use Rattle.queue_scenes.proofs.Counting.{count_queued_is, count_running_is, count_stopped_is, counts_queued, counts_running, counts_stopped}
-use Rattle.queue_scenes.proofs.Telling.{fails_behind, refuses, tells, told, told_then}
+use Rattle.queue_tables.proofs.Telling.{fails_behind, refuses, tells, told, told_then}
 use Rattle.queue_tables.proofs.Leaving.{leaves_then}
 use Rattle.queue_scenes.proofs.counts.all_counts.Goals as goal
 

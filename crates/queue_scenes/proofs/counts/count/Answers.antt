@@ -1,7 +1,7 @@
 use Rattle.std.proofs.Common.{rules}
 use Rattle.sqlite.specs.Held.{state}
 use Rattle.sqlite.specs.Values.{bound}
-use Rattle.queue_scenes.proofs.Telling.{tells, told_by}
+use Rattle.queue_tables.proofs.Telling.{tells, told_by}
 use Rattle.queue_tables.proofs.Leaving.{shown_still}
 use Rattle.queue_scenes.proofs.counts.count.Goals as goal
 

@@ -5,7 +5,7 @@ use Rattle.queue_core.specs.Limits.{IsKnown}
 use Rattle.queue_core.specs.World.{known_grant}
 use Rattle.queue_types.specs.declared.event.KnownGrant.{KnownGrant}
 use Rattle.queue_scenes.proofs.Known.{known_more}
-use Rattle.queue_scenes.proofs.Telling.{fails_behind, tells, told, told_as, told_then}
+use Rattle.queue_tables.proofs.Telling.{fails_behind, tells, told, told_as, told_then}
 use Rattle.queue_scenes.proofs.grants.known_rows.Goals as goal
 
 pub loop-row-preserved : goal.loop-row-preserved

@@ -2,7 +2,7 @@ use Rattle.std.proofs.Common.{◌≡◌, Some, ap, sym, rules, ◌∙◌, ◌<�
 use Rattle.std.specs.FinMap.{get}
 use Rattle.queue_scenes.proofs.Found.{grant_shown, grant_pages_row}
 use Rattle.queue_scenes.proofs.Lookup.{none_found, some_found}
-use Rattle.queue_scenes.proofs.Telling.{refuses, tells, told_by}
+use Rattle.queue_tables.proofs.Telling.{refuses, tells, told_by}
 use Rattle.queue_scenes.proofs.Statements.{select_grant_is}
 use Rattle.sqlite.specs.Order.{Row, column}
 use Rattle.queue_scenes.proofs.Bounds.{grant_fits}

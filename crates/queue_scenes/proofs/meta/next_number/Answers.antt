@@ -4,7 +4,7 @@ use Rattle.queue_tables.specs.Values.{number}
 use Rattle.queue_scenes.proofs.Bounds.{next_fits}
 use Rattle.queue_scenes.proofs.Found.{next_shown, first_is}
 use Rattle.queue_scenes.proofs.Statements.{select_next_is}
-use Rattle.queue_scenes.proofs.Telling.{refuses, tells, told_by}
+use Rattle.queue_tables.proofs.Telling.{refuses, tells, told_by}
 use Rattle.queue_scenes.proofs.meta.next_number.Goals as goal
 
 pub select-requires : goal.select-requires

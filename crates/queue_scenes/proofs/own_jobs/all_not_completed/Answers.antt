@@ -5,7 +5,7 @@ use Rattle.queue_core.specs.Visible.{by_state}
 use Rattle.queue_types.specs.declared.event.WhichJobs.TheVariants.{NotCompleted}
 use Rattle.queue_types.specs.declared.job.Job.{Job}
 use Rattle.queue_core.proofs.Ordered.{each-visible}
-use Rattle.queue_scenes.proofs.Telling.{tells, told}
+use Rattle.queue_tables.proofs.Telling.{tells, told}
 use Rattle.queue_scenes.proofs.own_jobs.all_not_completed.Goals as goal
 
 pub returns-clause-sound : goal.returns-clause-sound

@@ -6,7 +6,7 @@ use Rattle.queue_core.specs.World.{rows}
 use Rattle.queue_types.specs.declared.job.Job.{Job}
 use Rattle.queue_scenes.specs.Jobs.{own_live}
 use Rattle.queue_scenes.proofs.Ranked.{first_of_two}
-use Rattle.queue_scenes.proofs.Telling.{fails_behind, tells, told, told_then}
+use Rattle.queue_tables.proofs.Telling.{fails_behind, tells, told, told_then}
 use Rattle.queue_scenes.proofs.own_jobs.first_not_completed.Goals as goal
 
 pub returns-clause-sound : goal.returns-clause-sound

@@ -4,7 +4,7 @@ use Rattle.std.specs.Ordering.{nat_cmp}
 use Rattle.queue_core.specs.World.{rows}
 use Rattle.queue_types.specs.declared.job.Job.{Job}
 use Rattle.queue_scenes.proofs.Picked.{has, picked_same}
-use Rattle.queue_scenes.proofs.Telling.{tells_as, tells_behind, told_while}
+use Rattle.queue_tables.proofs.Telling.{tells_as, tells_behind, told_while}
 use Rattle.queue_scenes.proofs.own_numbers.numbered_jobs.Goals as goal
 
 pub owned_of-requires : goal.owned_of-requires

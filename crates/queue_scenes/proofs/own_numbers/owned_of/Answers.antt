@@ -5,7 +5,7 @@ use Rattle.queue_core.specs.World.{rows}
 use Rattle.queue_types.specs.declared.job.Job.{Job}
 use Rattle.queue_scenes.proofs.Lists.{world_rising}
 use Rattle.queue_scenes.proofs.Picked.{all_more, before_next, picked, picked_more, picked_none, taken_more}
-use Rattle.queue_scenes.proofs.Telling.{fails_behind, tells, told, told_as, told_then, told_yet}
+use Rattle.queue_tables.proofs.Telling.{fails_behind, tells, told, told_as, told_then, told_yet}
 use Rattle.queue_scenes.proofs.own_numbers.owned_of.Goals as goal
 
 pub loop-number-init : goal.loop-number-init

@@ -4,7 +4,7 @@ use Rattle.sqlite.specs.Held.{state}
 use Rattle.queue_core.specs.Limits.{IsSoundJob}
 use Rattle.queue_core.specs.World.{rows}
 use Rattle.queue_types.specs.declared.job.Job.{Job}
-use Rattle.queue_scenes.proofs.Telling.{HaveTold}
+use Rattle.queue_tables.proofs.Telling.{HaveTold}
 use Rattle.queue_scenes.proofs.own_numbers.owned_of.Given as goal
 
 abbrev pub invariant-loop-number : goal.invariant-loop-number

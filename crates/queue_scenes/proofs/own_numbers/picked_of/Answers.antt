@@ -5,7 +5,7 @@ use Rattle.queue_core.specs.Limits.{IsSoundJob}
 use Rattle.queue_core.specs.World.{rows}
 use Rattle.queue_types.specs.declared.job.Job.{Job}
 use Rattle.queue_scenes.proofs.Picked.{all_more, picked_among}
-use Rattle.queue_scenes.proofs.Telling.{tells, told}
+use Rattle.queue_tables.proofs.Telling.{tells, told}
 use Rattle.queue_scenes.proofs.own_numbers.picked_of.Goals as goal
 
 pub returns-clause-sound : goal.returns-clause-sound

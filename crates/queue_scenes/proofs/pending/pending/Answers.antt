@@ -1,6 +1,6 @@
 use Rattle.std.proofs.Common.{◌∙◌}
 use Rattle.queue_scenes.proofs.Lists.{selects_pending}
-use Rattle.queue_scenes.proofs.Telling.{fails_behind, tells, told}
+use Rattle.queue_tables.proofs.Telling.{fails_behind, tells, told}
 use Rattle.queue_scenes.proofs.Statements.{select_pending_is}
 use Rattle.queue_tables.proofs.Leaving.{leaves_all}
 use Rattle.queue_scenes.proofs.pending.pending.Goals as goal

@@ -6,7 +6,7 @@ use Rattle.queue_scenes.proofs.Found.{report_shown, report_keyed, told_row}
 use Rattle.queue_scenes.proofs.Lookup.{none_found, some_found}
 use Rattle.queue_scenes.proofs.Statements.{select_report_is}
 use Rattle.queue_scenes.proofs.Told.{same_report}
-use Rattle.queue_scenes.proofs.Telling.{refuses, tells, told_by}
+use Rattle.queue_tables.proofs.Telling.{refuses, tells, told_by}
 use Rattle.queue_scenes.proofs.Bounds.{report_fits}
 use Rattle.queue_scenes.proofs.reports.kept_report.Goals as goal
 

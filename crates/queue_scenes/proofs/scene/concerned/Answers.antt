@@ -1,5 +1,5 @@
 use Rattle.std.proofs.Common.{◌∙◌, rules}
-use Rattle.queue_scenes.proofs.Telling.{tells_as}
+use Rattle.queue_tables.proofs.Telling.{tells_as}
 use Rattle.queue_scenes.proofs.scene.concerned.Goals as goal
 
 pub returns-in-CancelMyJobs-Some-clause-reads : goal.returns-in-CancelMyJobs-Some-clause-reads

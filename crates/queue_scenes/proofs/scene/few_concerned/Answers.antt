@@ -3,7 +3,7 @@ use Rattle.queue_core.specs.Limits.{IsSoundJob}
 use Rattle.queue_types.specs.declared.job.Job.{Job}
 use Rattle.queue_types.specs.Event.{call_of}
 use Rattle.queue_scenes.proofs.Bounds.{jobs_fit}
-use Rattle.queue_scenes.proofs.Telling.{refuses, tells, told_while}
+use Rattle.queue_tables.proofs.Telling.{refuses, tells, told_while}
 use Rattle.queue_scenes.proofs.scene.few_concerned.Goals as goal
 
 pub returns-clause-sound : goal.returns-clause-sound

@@ -1,5 +1,5 @@
 use Rattle.queue_tables.proofs.Leaving.{leaves_then}
-use Rattle.queue_scenes.proofs.Telling.{fails_behind, tells, told, told_then, told_while}
+use Rattle.queue_tables.proofs.Telling.{fails_behind, tells, told, told_then, told_while}
 use Rattle.queue_scenes.proofs.scene.numbers_for_call.Goals as goal
 
 pub returns-in_err-counts-clause-reads : goal.returns-in_err-counts-clause-reads

@@ -5,7 +5,7 @@ use Rattle.queue_core.specs.World.{cut}
 use Rattle.queue_types.specs.declared.event.FreeRow.{FreeRow}
 use Rattle.queue_types.specs.declared.event.KnownGrant.{KnownGrant}
 use Rattle.queue_scenes.proofs.Cut.{same_scene}
-use Rattle.queue_scenes.proofs.Telling.{fails_behind, tells, told, told_then, told_while}
+use Rattle.queue_tables.proofs.Telling.{fails_behind, tells, told, told_then, told_while}
 use Rattle.queue_tables.proofs.Leaving.{leaves_then}
 use Rattle.queue_scenes.proofs.scene.scene_of_call.Goals as goal
 

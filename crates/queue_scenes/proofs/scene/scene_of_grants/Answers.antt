@@ -7,7 +7,7 @@ use Rattle.queue_types.specs.declared.event.KnownGrant.{KnownGrant}
 use Rattle.queue_types.specs.declared.event.QueueCounts.{QueueCounts}
 use Rattle.queue_types.specs.declared.job.Job.{Job}
 use Rattle.queue_scenes.proofs.Cut.{same_scene}
-use Rattle.queue_scenes.proofs.Telling.{fails_behind, tells, told, told_then, told_while}
+use Rattle.queue_tables.proofs.Telling.{fails_behind, tells, told, told_then, told_while}
 use Rattle.queue_scenes.proofs.scene.scene_of_grants.Goals as goal
 
 pub returns-clause-live : goal.returns-clause-live

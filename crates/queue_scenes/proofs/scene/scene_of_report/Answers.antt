@@ -7,8 +7,8 @@ use Rattle.queue_types.specs.declared.event.KnownGrant.{KnownGrant}
 use Rattle.queue_types.specs.declared.event.QueueCounts.{QueueCounts}
 use Rattle.queue_types.specs.declared.job.Job.{Job}
 use Rattle.queue_scenes.proofs.Cut.{same_scene}
-use Rattle.queue_scenes.proofs.Telling.{fails_behind, tells, told, told_then, told_while}
-use Rattle.queue_tables.proofs.Leaving.{leaves_then, leaves_three}
+use Rattle.queue_tables.proofs.Telling.{fails_behind, tells, told, told_then, told_while}
+use Rattle.queue_tables.proofs.Leaving.{leaves_then}
 use Rattle.queue_scenes.proofs.scene.scene_of_report.Goals as goal
 
 pub returns-clause-live : goal.returns-clause-live
@@ -33,7 +33,7 @@ pub returns-in_err-jobs-clause-reads : goal.returns-in_err-jobs-clause-reads
 returns-in_err-jobs-clause-reads g c = fails_behind (leaves_then _ _ _ c.next_number.ensures.reads.leaves c.kept_report.ensures.reads.leaves) c.in_err-jobs.ensures.reads _ c.from_residual-in_err-jobs.ensures.1
 
 pub returns-in_err-free-clause-reads : goal.returns-in_err-free-clause-reads
-returns-in_err-free-clause-reads g c = fails_behind (leaves_three _ _ _ _ c.next_number.ensures.reads.leaves c.kept_report.ensures.reads.leaves c.job_of_report.ensures.reads.leaves) c.in_err-free.ensures.reads _ c.from_residual-in_err-free.ensures.1
+returns-in_err-free-clause-reads g c = fails_behind (leaves_then _ _ _ (leaves_then _ _ _ c.next_number.ensures.reads.leaves c.kept_report.ensures.reads.leaves) c.job_of_report.ensures.reads.leaves) c.in_err-free.ensures.reads _ c.from_residual-in_err-free.ensures.1
 
 pub returns-clause-reads : goal.returns-clause-reads
 returns-clause-reads g c =

@@ -1,10 +1,9 @@
 use Rattle.std.proofs.Common.{◌∙◌, sym, ap, rules}
 use Rattle.std.proofs.lemmas.Result.{IfErr-weaker, IfOk-weaker}
-use Rattle.sqlite.specs.Held.{state}
 use Rattle.queue_core.specs.World.{rows, job_at}
 use Rattle.queue_shown.specs.Fetched.{is_fetched_job, state_values}
 use Rattle.queue_shown.proofs.Fetching.{reads_state}
-use Rattle.queue_shown.proofs.Telling.{makes}
+use Rattle.queue_tables.proofs.Telling.{makes_of, tells, told_as, told_by}
 use Rattle.queue_tables.proofs.Firsts.{first_none, first_some}
 use Rattle.queue_shown.proofs.Texts.{select_state_is}
 use Rattle.queue_shown.proofs.head.may_fetch.Goals as goal
@@ -13,18 +12,13 @@ pub select-requires : goal.select-requires
 select-requires g c = record { query = select_state_is.shows.query }
 
 pub returns-in-None-clause-reads : goal.returns-in-None-clause-reads
-returns-in-None-clause-reads g c = record {
-  leaves = c.select.ensures.leaves;
-  found = λ clean w sound has.
-      let is = reads_state (state g.S.Store c.args.conn.now) (state g.S.Store c.select.new.conn) c.args.job c.in_ok-found.found.items w sound has (rw (c.params-to_sql.ensures) at (c.in_ok-found.ensures.shown clean)) in
-      ap is_fetched_job (sym (first_none state_values c.in_ok-found.found.items (job_at c.args.job (rows w)) (search rules) is));
-  damaged = λ clean. tt;
-}
+returns-in-None-clause-reads g c = tells (told_by c.select.ensures.leaves c.in_ok-found.ensures.live (rw (c.params-to_sql.ensures) at (c.in_ok-found.ensures.shown)) (λ w sound has h. reads_state _ _ c.args.job _ w sound has h)) (λ w sound is.
+    ap is_fetched_job (sym (first_none state_values c.in_ok-found.found.items (job_at c.args.job (rows w)) (search rules) is)))
 
 pub returns-clause-reads : goal.returns-clause-reads
 returns-clause-reads g c =
-    makes c.is_fetched_row.result c.select.ensures.leaves c.in_ok-found.ensures.live (λ clean w sound has.
-    let is = reads_state (state g.S.Store c.args.conn.now) (state g.S.Store c.select.new.conn) c.args.job c.in_ok-found.found.items w sound has (rw (c.params-to_sql.ensures) at (c.in_ok-found.ensures.shown clean)) in
-    first_some state_values c.in_ok-found.found.items c.in-Some.row.now (job_at c.args.job (rows w)) (search rules) is)
-    (IfOk-weaker c.is_fetched_row.result _ _ (λ b told w some. told some.0 some.2 ∙ ap is_fetched_job (sym some.1)) c.is_fetched_row.ensures.told)
-    (IfErr-weaker c.is_fetched_row.result _ _ (λ e told d w some. told d some.0 some.2) c.is_fetched_row.ensures.damaged)
+    makes_of (told_as (told_by c.select.ensures.leaves c.in_ok-found.ensures.live (rw (c.params-to_sql.ensures) at (c.in_ok-found.ensures.shown)) (λ w sound has h. reads_state _ _ c.args.job _ w sound has h)) (λ w sound is.
+    first_some state_values c.in_ok-found.found.items c.in-Some.row.now (job_at c.args.job (rows w)) (search rules) is))
+    c.in_ok-found.ensures.live c.is_fetched_row.result
+    (IfOk-weaker c.is_fetched_row.result _ _ (λ b told w sound some. told some.0 some.2 ∙ ap is_fetched_job (sym some.1)) c.is_fetched_row.ensures.told)
+    (IfErr-weaker c.is_fetched_row.result _ _ (λ e told d w sound some. told d some.0 some.2) c.is_fetched_row.ensures.damaged)

@@ -6,7 +6,7 @@ use Rattle.queue_types.specs.declared.job.Job.{Job}
 use Rattle.queue_tables.specs.Content.{content_of}
 use Rattle.queue_tables.proofs.Entries.{distinct_of}
 use Rattle.queue_shown.proofs.OwnedJobs.{reads_owned, owned_in, told_owned}
-use Rattle.queue_shown.proofs.Telling.{hands_on}
+use Rattle.queue_tables.proofs.Telling.{hands_on}
 use Rattle.queue_shown.proofs.Texts.{select_owned_is}
 use Rattle.queue_tables.proofs.Leaving.{holds_after, leaves_then}
 use Rattle.queue_shown.proofs.sheets.told_jobs.Goals as goal
@@ -32,7 +32,7 @@ returns-clause-sound g c = subst (λ (js : List Job). All IsSoundJob js) (sym c.
 
 pub returns-in_err-jobs-clause-reads : goal.returns-in_err-jobs-clause-reads
 returns-in_err-jobs-clause-reads g c =
-    hands_on _ c.in_err-jobs.field-0.0 c.from_residual-in_err-jobs.ensures.1 (leaves_then _ _ _ c.select.ensures.leaves c.jobs_of.ensures.leaves) (λ clean d.
+    hands_on (leaves_then _ _ _ c.select.ensures.leaves c.jobs_of.ensures.leaves) (λ clean d.
     let a = c.args.account.now in
     let early = c.jobs_of.ensures.leaves.clean clean in record {
       live = c.select.ensures.leaves.opened early (c.in_ok-found.ensures.live early);
@@ -41,4 +41,4 @@ returns-in_err-jobs-clause-reads g c =
           let mid = holds_after c.select.ensures.leaves early (content_of w) has (c.in_ok-found.ensures.live early) in
           let js = filter (λ j. bytes_eq j.owner a) (rows w) in
           c.in_err-jobs.ensures.damaged clean d w js sound mid (owned_in w a (distinct_of 1 w.jobs w.next sound.numbers)) (c.as_slice.ensures.value ∙ shown);
-    })
+    }) _ c.from_residual-in_err-jobs.ensures.1

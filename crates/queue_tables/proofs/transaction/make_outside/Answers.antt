@@ -9,7 +9,8 @@ returns-in_err-write_change g c =
     let made = rw c.transaction-tx.ensures.begun at c.in_err-write_change.ensures.made in
     record {
       commits = rw tie (refused _ _ _ _ _ c.requires.none_open (g.met.S.Store.settled c.args.conn.now.store) (λ w can. (can.0, c.decisions_are_sound.ensures.made w (decision_of c.args.decision.now) can.0 can.1))
-          made c.drop-tx.ensures.undone c.drop-tx.ensures.survives c.drop-tx.ensures.ended _ c.from_residual.ensures.1);
+          made c.drop-tx.ensures.undone c.drop-tx.ensures.survives _ c.from_residual.ensures.1);
+      ended = rw tie c.drop-tx.ensures.ended;
     }
 
 pub returns-in-Ok : goal.returns-in-Ok
@@ -18,7 +19,8 @@ returns-in-Ok g c =
     let made = rw c.transaction-tx.ensures.begun at c.in_ok-write_change.ensures.made in
     record {
       commits = rw tie (committed _ _ _ _ _ c.requires.none_open (g.met.S.Store.settled c.args.conn.now.store) (λ w can. (can.0, c.decisions_are_sound.ensures.made w (decision_of c.args.decision.now) can.0 can.1))
-          _ made (λ clean. (c.in-Ok.ensures.ok clean).1) c.commit.ensures.survives c.commit.ensures.ended);
+          _ made (λ clean. (c.in-Ok.ensures.ok clean).1) c.commit.ensures.survives);
+      ended = rw tie c.commit.ensures.ended;
     }
 
 pub returns-in-Err : goal.returns-in-Err
@@ -27,5 +29,6 @@ returns-in-Err g c =
     let made = rw c.transaction-tx.ensures.begun at c.in_ok-write_change.ensures.made in
     record {
       commits = rw tie (failed _ _ _ _ _ c.requires.none_open (g.met.S.Store.settled c.args.conn.now.store) (λ w can. (can.0, c.decisions_are_sound.ensures.made w (decision_of c.args.decision.now) can.0 can.1))
-          made c.in-Err.ensures.err c.commit.ensures.survives c.commit.ensures.ended c.fault_of_write.result c.fault_of_write.ensures);
+          made c.in-Err.ensures.err c.commit.ensures.survives c.fault_of_write.result c.fault_of_write.ensures);
+      ended = rw tie c.commit.ensures.ended;
     }

@@ -8,38 +8,38 @@ use Rattle.queue_store.proofs.queue_book.TableBookQueueBook.apply.Goals as goal
 
 pub returns-in-Ok-clause-ok : goal.returns-in-Ok-clause-ok
 returns-in-Ok-clause-ok g c w stands honest =
-    let was = stands (c.make.ensures.clean honest) in
-    let decided = c.requires.decided w (c.make.ensures.clean honest) stands in
+    let was = stands (c.make.ensures.commits.clean honest) in
+    let decided = c.requires.decided w (c.make.ensures.commits.clean honest) stands in
     record {
       sound = c.decisions_are_sound.ensures.made w (decision_of c.args.decision) was.sound decided;
       settings_are = was.settings_are;
-      holds = λ is_open. c.in-Ok.ensures.made honest w was.sound decided (was.holds (c.make.ensures.opened honest is_open));
-      settled = λ is_open. c.in-Ok.ensures.settled honest;
-      outside = λ is_open. c.make.ensures.mode ∙ was.outside (c.make.ensures.opened honest is_open);
-      unlimited = λ is_open. c.make.ensures.serves.limit ∙ was.unlimited (c.make.ensures.opened honest is_open);
+      holds = λ is_open. c.in-Ok.ensures.commits.made honest w (was.sound, decided) (was.holds (c.make.ensures.commits.opened honest is_open));
+      settled = λ is_open. c.in-Ok.ensures.commits.settled honest;
+      outside = λ is_open. c.make.ensures.mode ∙ was.outside (c.make.ensures.commits.opened honest is_open);
+      unlimited = λ is_open. c.make.ensures.commits.serves.limit ∙ was.unlimited (c.make.ensures.commits.opened honest is_open);
     }
 
 pub returns-clause-err : goal.returns-clause-err
 returns-clause-err g c w stood honest =
-    let was = stood (c.make.ensures.clean honest) in
+    let was = stood (c.make.ensures.commits.clean honest) in
     record {
       sound = was.sound;
       settings_are = was.settings_are;
-      holds = λ is_open. c.in-Err.ensures.refused honest w (was.holds (c.make.ensures.opened honest is_open)) is_open;
-      settled = λ is_open. c.in-Err.ensures.still_settled honest (was.settled (c.make.ensures.opened honest is_open)) is_open;
-      outside = λ is_open. c.make.ensures.mode ∙ was.outside (c.make.ensures.opened honest is_open);
-      unlimited = λ is_open. c.make.ensures.serves.limit ∙ was.unlimited (c.make.ensures.opened honest is_open);
+      holds = λ is_open. c.in-Err.ensures.commits.refused honest w (was.holds (c.make.ensures.commits.opened honest is_open)) is_open;
+      settled = λ is_open. c.in-Err.ensures.commits.still_settled honest (was.settled (c.make.ensures.commits.opened honest is_open)) is_open;
+      outside = λ is_open. c.make.ensures.mode ∙ was.outside (c.make.ensures.commits.opened honest is_open);
+      unlimited = λ is_open. c.make.ensures.commits.serves.limit ∙ was.unlimited (c.make.ensures.commits.opened honest is_open);
     }
 
 pub returns-in-Ok-clause-crash : goal.returns-in-Ok-clause-crash
 returns-in-Ok-clause-crash g c honest live w stands =
-    let was = stands (c.make.ensures.clean honest) in
-    c.make.ensures.crash honest w was.sound (c.requires.decided w (c.make.ensures.clean honest) stands) (was.holds live) (was.settled live)
+    let was = stands (c.make.ensures.commits.clean honest) in
+    c.make.ensures.commits.crash honest w (was.sound, c.requires.decided w (c.make.ensures.commits.clean honest) stands) (was.holds live) (was.settled live)
 
 pub returns-clause-crash : goal.returns-clause-crash
 returns-clause-crash g c honest live w stands =
-    let was = stands (c.make.ensures.clean honest) in
-    c.make.ensures.crash honest w was.sound (c.requires.decided w (c.make.ensures.clean honest) stands) (was.holds live) (was.settled live)
+    let was = stands (c.make.ensures.commits.clean honest) in
+    c.make.ensures.commits.crash honest w (was.sound, c.requires.decided w (c.make.ensures.commits.clean honest) stands) (was.holds live) (was.settled live)
 
 -- only Damaged is told as Damaged
 told_damaged : (f : Fault) → told_as f ≡ BookDamaged → f ≡ Damaged
@@ -48,7 +48,7 @@ told_damaged _ e = absurd cc
 
 pub returns-clause-damaged : goal.returns-clause-damaged
 returns-clause-damaged g c honest told w stands =
-    let began = c.make.ensures.clean honest in
+    let began = c.make.ensures.commits.clean honest in
     let was = stands began in
     let decided = c.requires.decided w began stands in
-    c.in-Err.ensures.damaged honest (told_damaged c.in-Err.fault (sym c.from.ensures ∙ told)) w was.sound decided was.holds
+    c.in-Err.ensures.commits.damaged honest (told_damaged c.in-Err.fault (sym c.from.ensures ∙ told)) w (was.sound, decided) was.holds

@@ -1,9 +1,9 @@
 -- What calls tell that only read, one after another.
-use Rattle.std.proofs.Common.{◌≡◌, IsTrue, Result, Ok, Err, IsErrAnd, sym, ◌∙◌}
+use Rattle.std.proofs.Common.{◌≡◌, IsTrue, Result, Ok, Err, IfOk, IfErr, IsErrAnd, refl, sym, ◌∙◌}
 use Rattle.sqlite.specs.State.{State, HasCleanDisk}
 use Rattle.queue_core.specs.Sound.{IsSound}
 use Rattle.queue_core.specs.World.{World}
-use Rattle.queue_tables.specs.Content.{Holds, content_of}
+use Rattle.queue_tables.specs.Content.{HoldNoQueue, Holds, content_of}
 use Rattle.queue_tables.specs.Leaving.{LeavesTables}
 use Rattle.queue_tables.specs.Telling.{ReadsQueue}
 use Rattle.queue_tables.specs.declared.fault.Fault.{Fault}
@@ -74,21 +74,25 @@ tells_behind {a = a} {b} {c} {r = r} before last = record {
 
 -- ---- errors
 
--- what they told is true of no sound queue
+-- an error that a `?` hands on
+pub hands_on : {T : Type 0} {old new : State} {e : Fault} {IsTold : World → T → Type 0} → LeavesTables old new → (HasCleanDisk new → e ≡ Damaged → HoldNoQueue old) → (r : Result T Fault) → IsErrAnd r (λ f. f ≡ e) → ReadsQueue old new r IsTold
+hands_on leaves damaged (Ok x) same = absurd same
+hands_on leaves damaged (Err f) same = record { leaves = leaves; found = λ clean. tt; damaged = λ clean d. damaged clean (sym same ∙ d) }
+
+-- what was told before is true of no sound queue
 pub refuses : {T : Type 0} {old new : State} {e : Fault} {P : World → Type 0} {IsTold : World → T → Type 0} → HaveTold old new P → (HasCleanDisk new → IsTrue new.is_open) → (e ≡ Damaged → (w : World) → IsSound w → P w → ⊥) → (r : Result T Fault) → IsErrAnd r (λ f. f ≡ e)
     → ReadsQueue old new r IsTold
-refuses before live never (Ok x) same = absurd same
-refuses before live never (Err f) same = record {
-  leaves = before.leaves;
-  found = λ clean. tt;
-  damaged = λ clean d. record { live = before.leaves.opened clean (live clean); none = λ w sound has. never (sym same ∙ d) w sound (before.found clean w sound has) };
-}
+refuses before live never =
+    hands_on before.leaves (λ clean d. record { live = before.leaves.opened clean (live clean); none = λ w sound has. never d w sound (before.found clean w sound has) })
 
 -- an error of a call that only reads, behind others
 pub fails_behind : {T U : Type 0} {a b c : State} {e : Fault} {Q : World → T → Type 0} {R : World → U → Type 0} → LeavesTables a b → ReadsQueue b c (Err e) Q → (r : Result U Fault) → IsErrAnd r (λ f. f ≡ e) → ReadsQueue a c r R
-fails_behind before last (Ok x) same = absurd same
-fails_behind {a = a} {b} {c} before last (Err f) same = record {
-  leaves = leaves_then a b c before last.leaves;
-  found = λ clean. tt;
-  damaged = λ clean d. none_before before (last.leaves.clean clean) (last.damaged clean (sym same ∙ d));
-}
+fails_behind {a = a} {b} {c} before last = hands_on (leaves_then a b c before last.leaves) (λ clean d. none_before before (last.leaves.clean clean) (last.damaged clean d))
+
+-- ---- either
+
+-- what a function without a connection makes of what was told
+pub makes_of : {T : Type 0} {old new : State} {P : World → Type 0} {IsTold : World → T → Type 0} → HaveTold old new P → (HasCleanDisk new → IsTrue new.is_open) → (r : Result T Fault) → IfOk r (λ x. (w : World) → IsSound w → P w → IsTold w x)
+    → IfErr r (λ e. e ≡ Damaged → (w : World) → IsSound w → P w → ⊥) → ReadsQueue old new r IsTold
+makes_of before live (Ok x) ok err = tells before ok
+makes_of before live (Err e) ok err = refuses before live err (Err e) refl
