@@ -16,7 +16,7 @@ use Rattle.queue_types.specs.declared.job.Phase.{Phase}
 use Rattle.queue_types.specs.declared.job.Phase.TheVariants.{Waiting}
 use Rattle.queue_types.specs.declared.event.Scene.{Scene}
 use Rattle.queue_laws.specs.Calls.{sends}
-use Rattle.queue_laws.specs.Doing.{HasOwn, HasHeld, CanTake, canceled_by_user}
+use Rattle.queue_laws.specs.Doing.{HasOwn, HasHeld, IsOpenFor, canceled_by_user}
 use Rattle.queue_laws.specs.Jobs.{Waits, IsAtDevice}
 use Rattle.queue_laws.specs.Steps.{MovesFree}
 use Rattle.queue_laws.proofs.Base.{own_key, named}
@@ -81,7 +81,7 @@ module _ (w : World) (now n : ℕ) (caller : List ℕ) (e : Entry) (free : ℤ) 
       ∙ free_after own account (cancel_job n) refl (record e.row { stopping = true }) refl refl
       ∙ ap Some (none_back (taken e.row) free)
 
-  pub sent_free : (d : Document) (last : Bool) → HasOwn caller n e w → IsSound w → CanTake e d → MovesFree w caller free free (step w now (sends caller n d last))
+  pub sent_free : (d : Document) (last : Bool) → HasOwn caller n e w → IsSound w → IsOpenFor e d → MovesFree w caller free free (step w now (sends caller n d last))
   sent_free d last own sound can account = ap (λ (s : Step). get s.world.free caller) (taken_step w now n caller e d last own sound can)
       ∙ free_after own account (send_document n d.format d.bytes last) refl (sent e.row d.bytes last) refl refl
       ∙ ap Some (none_back (taken e.row) free)

@@ -18,7 +18,7 @@ use Rattle.queue_types.specs.declared.job.Phase.TheVariants.{Waiting}
 use Rattle.queue_types.specs.declared.event.Reply.TheVariants.{Jobs}
 use Rattle.queue_types.specs.declared.event.Scene.{Scene}
 use Rattle.queue_laws.specs.Calls.{sends}
-use Rattle.queue_laws.specs.Doing.{entry_at, HasOwn, CanTake, IsSent, documents_with, sent_to}
+use Rattle.queue_laws.specs.Doing.{entry_at, HasOwn, IsOpenFor, IsSent, documents_with, sent_to}
 use Rattle.queue_laws.specs.Entering.{documents_of}
 use Rattle.queue_laws.specs.Steps.{not_possible}
 use Rattle.queue_laws.proofs.Base.{itself}
@@ -71,10 +71,10 @@ module _ (w : World) (now n : ℕ) (caller : List ℕ) (e : Entry) (d : Document
       ∙ ap (λ k. k + length (documents_of d.format d.bytes)) here.documents
       ∙ sym (length-append e.documents (documents_of d.format d.bytes))
 
-  pub taken_step : IsSound w → CanTake e d → step w now (sends caller n d last) ≡ by w takes_it
+  pub taken_step : IsSound w → IsOpenFor e d → step w now (sends caller n d last) ≡ by w takes_it
   taken_step sound can = send_step true (ap (λ b. b && nat_le (e.row.documents + document_count d.bytes) 16) can.incoming ∙ is_most (e.row.documents + document_count d.bytes) (length (documents_with e d)) (count_after sound) can.few)
 
-  pub is_added : IsSound w → CanTake e d → IsSent n (sent_to e d last) (step w now (sends caller n d last))
+  pub is_added : IsSound w → IsOpenFor e d → IsSent n (sent_to e d last) (step w now (sends caller n d last))
   is_added sound can = record {
     job =
         ap (λ (s : Step). entry_at n s.world.jobs) (taken_step sound can)

@@ -3,7 +3,7 @@ use Rattle.std.specs.Prelude.{◌≡◌, List, [], ◌∷◌, Option, Some, None
 use Rattle.std.specs.List.{AllByRecursion as Each}
 use Rattle.queue_types.specs.Event.{Event, Call, NewJob, ask, tell, grant, print_job, validate_job, create_job, send_document, cancel_job, cancel_my_jobs, hold_job, release_job, get_job_attributes, get_jobs, get_printer_attributes}
 use Rattle.queue_core.specs.World.{World, has_number}
-use Rattle.queue_core.specs.Runs.{Place, IsPlace, after}
+use Rattle.queue_core.specs.Runs.{Place, IsPlace, after as after_place}
 use Rattle.queue_core.specs.Sound.{IsSound}
 use Rattle.queue_types.specs.declared.document.Document.{Document}
 use Rattle.queue_types.specs.declared.event.Reply.{Reply}
@@ -15,7 +15,7 @@ use Rattle.queue_laws.specs.Steps.{answer}
 -- what is the caller's own after each place
 abbrev pub own_along : List ℕ → World → List Place → List Own
 own_along u w [] = []
-own_along u w (p ∷ ps) = own u (after w p.now p.event) ∷ own_along u (after w p.now p.event) ps
+own_along u w (p ∷ ps) = own u (after_place w p.now p.event) ∷ own_along u (after_place w p.now p.event) ps
 
 -- Get-Printer-Attributes counts everybody's jobs
 abbrev pub counts_all : Call → Bool
@@ -42,7 +42,7 @@ told u w now (Some (grant file)) = Some (answer w now (grant file))
 -- what is told at each place
 abbrev pub told_along : List ℕ → World → List Place → List (Option Reply)
 told_along u w [] = []
-told_along u w (p ∷ ps) = told u w p.now p.event ∷ told_along u (after w p.now p.event) ps
+told_along u w (p ∷ ps) = told u w p.now p.event ∷ told_along u (after_place w p.now p.event) ps
 
 -- a request of a caller other than u
 abbrev pub is_others : List ℕ → Option Event → Bool
@@ -53,7 +53,7 @@ is_others u (Some (grant file)) = false
 
 -- a job number is drawn
 abbrev pub draws : World → Place → Bool
-draws w p = not ((after w p.now p.event).next == w.next)
+draws w p = not ((after_place w p.now p.event).next == w.next)
 
 -- the places have one moment and one event, or each a request of a caller other than u or nothing;
 -- and where others ask, a number is drawn at both or at neither
@@ -67,8 +67,9 @@ abbrev pub IsAlike : List ℕ → World → World → List Place → List Place 
 IsAlike u w v [] [] = ⊤
 IsAlike u w v [] (q ∷ qs) = ⊥
 IsAlike u w v (p ∷ ps) [] = ⊥
-IsAlike u w v (p ∷ ps) (q ∷ qs) = IsAlikePlace u w v p q × IsAlike u (after w p.now p.event) (after v q.now q.event) ps qs
+IsAlike u w v (p ∷ ps) (q ∷ qs) = IsAlikePlace u w v p q × IsAlike u (after_place w p.now p.event) (after_place v q.now q.event) ps qs
 
+-- each is a moment, with an event or nothing, within their limits
 abbrev pub ArePlaces : List Place → Type 0
 ArePlaces ps = Each IsPlace ps
 

@@ -46,7 +46,7 @@ abbrev pub documents_with : Entry → Document → List Document
 documents_with e d = e.documents ++ documents_of d.format d.bytes
 
 -- the job is open for documents, and has at most 16 with this one
-pub record CanTake (e : Entry) (d : Document) : Type 0 where
+pub record IsOpenFor (e : Entry) (d : Document) : Type 0 where
   pub incoming : e.row.incoming ≡ true
   pub few : length (documents_with e d) ≤ 16
 

@@ -17,6 +17,6 @@ is_named batch account rows = list_any (λ g. bytes_eq g.batch batch && bytes_eq
 abbrev pub is_account_of : List ℕ → List GrantRow → Bool
 is_account_of account rows = list_any (λ g. bytes_eq g.account account) rows
 
--- none without an account
+-- the account's free pages, 0 where it is not there
 abbrev pub free_pages : List ℕ → World → ℤ
 free_pages account w = unwrap_or (get w.free account) (pos 0)

@@ -56,7 +56,7 @@ unfinished_of caller js = count_by (λ j. is_owned_by caller j && is_unfinished 
 abbrev pub has_job : List ℕ → ℕ → List Job → Bool
 has_job caller n js = list_any (λ j. j.number == n && is_owned_by caller j) js
 
--- a job of each of these numbers
+-- the caller has a job of each of these numbers
 abbrev pub has_jobs : List ℕ → List ℕ → List Job → Bool
 has_jobs caller numbers js = list_all (λ n. has_job caller n js) numbers
 

@@ -32,11 +32,11 @@ LeadsTo w now event v reply = (after w now event ≡ v) × (answer w now event �
 abbrev pub IfAccepted : World → ℕ → Event → (Step → Type 0) → Type 0
 IfAccepted w now event P = refuses (answer w now event) ≡ false → P (step w now event)
 
--- by the event the job of number n turns from j into k
+-- the job of number n is j before the event, and k after it
 pub record Turns (w : World) (now : ℕ) (event : Event) (n : ℕ) (j k : Job) : Type 0 where
   pub was : job_at n (rows w) ≡ Some j
   pub is : job_at n (rows (after w now event)) ≡ Some k
 
--- where the account has so many free pages in w, it has so many after the step
+-- where the account has `before` free pages in w, it has `then` after the step
 abbrev pub MovesFree : World → List ℕ → ℤ → ℤ → Step → Type 0
 MovesFree w account before then s = get w.free account ≡ Some before → get s.world.free account ≡ Some then

@@ -3,7 +3,7 @@ use Rattle.std.specs.Prelude.{◌≡◌, ℕ, List, [], ◌∷◌, ◌++◌, Opt
 use Rattle.std.specs.List.{list_any, AllByRecursion as Each}
 use Rattle.queue_types.specs.Event.{Event, ask, tell, grant}
 use Rattle.queue_types.specs.Event.{kind_number}
-use Rattle.queue_core.specs.Runs.{Place, after}
+use Rattle.queue_core.specs.Runs.{Place, after as after_place}
 use Rattle.queue_core.specs.World.{World}
 use Rattle.queue_types.specs.declared.event.GrantRow.{GrantRow}
 use Rattle.queue_types.specs.declared.event.Report.{Report}
@@ -51,7 +51,7 @@ thin_place kept given w now (Some (grant file)) = record { now = now; event = So
 
 abbrev pub thin_from : List Report → List GrantRow → World → List Place → List Place
 thin_from kept given w [] = []
-thin_from kept given w (p ∷ ps) = thin_place kept given w p.now p.event ++ thin_from (reports_then kept w p.now p.event) (rows_then given w p.now p.event) (after w p.now p.event) ps
+thin_from kept given w (p ∷ ps) = thin_place kept given w p.now p.event ++ thin_from (reports_then kept w p.now p.event) (rows_then given w p.now p.event) (after_place w p.now p.event) ps
 
 -- without each report and each row of a file that equals one accepted before it in the run from w
 abbrev pub thin : World → List Place → List Place
@@ -78,4 +78,4 @@ IsAnsweredAgain before w now (Some (grant file)) = ⊤
 
 abbrev pub AnswerAgain : List Answered → World → List Place → Type 0
 AnswerAgain before w [] = ⊤
-AnswerAgain before w (p ∷ ps) = IsAnsweredAgain before w p.now p.event × AnswerAgain (answered_then before w p.now p.event) (after w p.now p.event) ps
+AnswerAgain before w (p ∷ ps) = IsAnsweredAgain before w p.now p.event × AnswerAgain (answered_then before w p.now p.event) (after_place w p.now p.event) ps

@@ -40,7 +40,7 @@ pub fn grants_count_once()
 /// A file that was accepted is all repeats whenever it comes again, whatever happened in between, and changes
 /// nothing then.
 pub fn repeated_files_change_nothing()
-    ensures { (w v : World) (now later a p : ℕ) (file : List GrantRow) (ps : List Place) → LeadsTo w now (grant file) v (Added a p) → step (run v ps) later (grant file) ≡ unchanged (run v ps) (Added 0 (length file)) }
+    ensures { (w v : World) (now later added repeats : ℕ) (file : List GrantRow) (ps : List Place) → LeadsTo w now (grant file) v (Added added repeats) → step (run v ps) later (grant file) ≡ unchanged (run v ps) (Added 0 (length file)) }
 {}
 
 /// What a file of one row does. Where its pages are granted already to its account under its batch it is a repeat, and
@@ -60,8 +60,8 @@ pub fn one_row_is_taken()
 /// do.
 pub fn files_are_taken_in_order()
     ensures front { (w : World) (now : ℕ) (gs hs : List GrantRow) (fault : GrantFault) (n : ℕ) → answer w now (grant gs) ≡ NotAdded fault n → step w now (grant (gs ++ hs)) ≡ unchanged w (NotAdded fault n) }
-    ensures rest { (w v : World) (now n a p : ℕ) (gs hs : List GrantRow) (fault : GrantFault) → LeadsTo w now (grant gs) v (Added a p) → answer v now (grant hs) ≡ NotAdded fault n → step w now (grant (gs ++ hs)) ≡ unchanged w (NotAdded fault (length gs + n)) }
-    ensures taken { (w v x : World) (now a b p q : ℕ) (gs hs : List GrantRow) → LeadsTo w now (grant gs) v (Added a p) → LeadsTo v now (grant hs) x (Added b q) → step w now (grant (gs ++ hs)) ≡ record { world = x; reply = Added (a + b) (p + q) } }
+    ensures rest { (w v : World) (now n added repeats : ℕ) (gs hs : List GrantRow) (fault : GrantFault) → LeadsTo w now (grant gs) v (Added added repeats) → answer v now (grant hs) ≡ NotAdded fault n → step w now (grant (gs ++ hs)) ≡ unchanged w (NotAdded fault (length gs + n)) }
+    ensures taken { (w v x : World) (now added more repeats again : ℕ) (gs hs : List GrantRow) → LeadsTo w now (grant gs) v (Added added repeats) → LeadsTo v now (grant hs) x (Added more again) → step w now (grant (gs ++ hs)) ≡ record { world = x; reply = Added (added + more) (repeats + again) } }
 {
     new_grants_add_up();
 }

@@ -9,7 +9,7 @@ ghost use Rattle.queue_core.specs.Sound.{IsSound};
 ghost use Rattle.queue_types.specs.declared.document.Document.{Document};
 ghost use Rattle.queue_types.specs.declared.event.Reply.TheVariants.{Refused, Done};
 ghost use Rattle.queue_laws.specs.Calls.{sends, cancels};
-ghost use Rattle.queue_laws.specs.Doing.{HasOwn, HasHeld, IsDone, CanTake, IsSent, IsSameAt, AreCancelable, canceled_by_user, documents_with, sent_to, is_among, waiting_among};
+ghost use Rattle.queue_laws.specs.Doing.{HasOwn, HasHeld, IsDone, IsOpenFor, IsSent, IsSameAt, AreCancelable, canceled_by_user, documents_with, sent_to, is_among, waiting_among};
 ghost use Rattle.queue_laws.specs.Jobs.{Waits, IsAtDevice, HasEnded, has_jobs, waiting_of};
 ghost use Rattle.queue_laws.specs.Steps.{after, answer, unchanged, not_possible, IfAccepted, MovesFree};
 
@@ -48,7 +48,7 @@ pub fn jobs_are_canceled()
 /// Where the job isn't open, as in each state but 4, or would have more than 16, client-error-not-possible, and nothing
 /// changes.
 pub fn documents_are_added()
-    ensures added { (w : World) (now n : ℕ) (u : List ℕ) (e : Entry) (d : Document) (last : Bool) → HasOwn u n e w → IsSound w → CanTake e d → IsSent n (sent_to e d last) (step w now (sends u n d last)) }
+    ensures added { (w : World) (now n : ℕ) (u : List ℕ) (e : Entry) (d : Document) (last : Bool) → HasOwn u n e w → IsSound w → IsOpenFor e d → IsSent n (sent_to e d last) (step w now (sends u n d last)) }
     ensures closed { (w : World) (now n : ℕ) (u : List ℕ) (e : Entry) (d : Document) (last : Bool) → HasOwn u n e w → e.row.incoming ≡ false → step w now (sends u n d last) ≡ not_possible w }
     ensures elsewhere { (w : World) (now n : ℕ) (u : List ℕ) (e : Entry) (d : Document) (last : Bool) → HasOwn u n e w → IsSound w → state e.row ≢ 4 → step w now (sends u n d last) ≡ not_possible w }
     ensures full { (w : World) (now n : ℕ) (u : List ℕ) (e : Entry) (d : Document) (last : Bool) → HasOwn u n e w → IsSound w → 16 < length (documents_with e d) → step w now (sends u n d last) ≡ not_possible w }
@@ -80,7 +80,7 @@ pub fn pages_are_set_aside()
     ensures released { (w : World) (now n : ℕ) (u : List ℕ) (e : Entry) (f : ℤ) → HasHeld u n e w → IsSound w → pos (estimate e.row) ≤ℤ f → MovesFree w u f (f -ℤ pos (estimate e.row)) (step w now (ask u (release_job n))) }
     ensures canceled { (w : World) (now n : ℕ) (u : List ℕ) (e : Entry) (f : ℤ) → HasOwn u n e w → Waits e.row → MovesFree w u f (f +ℤ pos (owed e.row)) (step w now (ask u (cancel_job n))) }
     ensures stopping { (w : World) (now n : ℕ) (u : List ℕ) (e : Entry) (f : ℤ) → HasOwn u n e w → IsAtDevice e.row → e.row.stopping ≡ false → MovesFree w u f f (step w now (ask u (cancel_job n))) }
-    ensures sent { (w : World) (now n : ℕ) (u : List ℕ) (e : Entry) (f : ℤ) (d : Document) (last : Bool) → HasOwn u n e w → IsSound w → CanTake e d → MovesFree w u f f (step w now (sends u n d last)) }
+    ensures sent { (w : World) (now n : ℕ) (u : List ℕ) (e : Entry) (f : ℤ) (d : Document) (last : Bool) → HasOwn u n e w → IsSound w → IsOpenFor e d → MovesFree w u f f (step w now (sends u n d last)) }
     ensures all { (w : World) (now : ℕ) (u : List ℕ) (f : ℤ) → IsSound w → MovesFree w u f (f +ℤ pos (sum_by owed (waiting_of u (rows w)))) (step w now (ask u (cancel_my_jobs None))) }
     ensures named { (w : World) (now : ℕ) (u numbers : List ℕ) (f : ℤ) → IsSound w → IfAccepted w now (cancels u numbers) (MovesFree w u f (f +ℤ pos (sum_by owed (waiting_among numbers u (rows w))))) }
 {}

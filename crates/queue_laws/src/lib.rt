@@ -4,9 +4,10 @@
 //! it, the pages granted to an account, set aside and printed in it, the number of a report's kind, and the order in
 //! [`own_jobs_are_shown`], which is the machine's; [`own_jobs_are_in_order`] says that order in words of its own.
 //!
-//! In the clauses `w` is a queue, `now` a moment, `u` the caller, `n` a job's number, `e` a job with its documents, `j` and
-//! `k` are jobs without them, `d` is a document, or a payload with its format, `r` a report, and `f` and `g` are free pages.
-//! The words that they use are defined in `specs`, in a line or two each: those of all laws in `Steps` (what an event leaves
+//! In the clauses `w`, `v` and `x` are queues, `now` is a moment, `u` the caller, `n` a job's number, `e` a job with its documents,
+//! `j` and `k` are jobs without them, `d` is a document, or a payload with its format, `r` a report, `b` a batch, `a` an account,
+//! `ps` are places of a run, and `f` and `g` free pages; in what account files do, `g` is a row, and `gs` and `hs` are lists of rows.
+//! The words that they use are defined in `specs`, most in a line or two: those of all laws in `Steps` (what an event leaves
 //! and what it is answered) and `Jobs` (states and owners).
 #![tactic(auto)]
 

@@ -64,6 +64,7 @@ fn few_concerned<S: Alter>(
     ensures live { HasCleanDisk (state S.Store conn.new) → IsTrue (state S.Store conn.old).is_open → OnOk result (IsTrue (state S.Store conn.new).is_open) }
     ensures sound { IfOk result (λ js. All IsSoundJob js) }
     ensures few { IfOk result (λ js. length js < 2 ^ 31) }
+    // a call that speaks of no job reads nothing, so only its caller knows that the connection was open
     ensures reads { (HasCleanDisk (state S.Store conn.new) → IsTrue (state S.Store conn.old).is_open) → ReadsQueue (state S.Store conn.old) (state S.Store conn.new) result (λ w js. js ≡ jobs_for caller.now (call_of call.now) (rows w)) }
 {
     let jobs = concerned(alloc, conn, caller, call)?;

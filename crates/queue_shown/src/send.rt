@@ -133,7 +133,7 @@ fn send_pieces<S: Alter, W: Write>(
     ensures sent { HasBook (state S.Store conn.old) → HasCleanDisk (state S.Store conn.new) → OnOk result (HasSent (number job ∷ number doc ∷ []) (state S.Store conn.old) (W.contents out.old) (W.contents out.new) written.new) }
     ensures front { HasBook (state S.Store conn.old) → HasCleanDisk (state S.Store conn.new) → OnErr result (HasSentFront (number job ∷ number doc ∷ []) (state S.Store conn.old) (W.contents out.old) (W.contents out.new) written.new) }
     ensures damaged { HasBook (state S.Store conn.old) → HasCleanDisk (state S.Store conn.new) → IfErr result (λ stop. stop ≡ Stop.Tables Fault.Damaged → FindsNoBlob (number job ∷ number doc ∷ []) (state S.Store conn.old)) }
-    ensures began { HasCleanDisk (state S.Store conn.new) → IfErr result (λ stop. stop ≡ Stop.Tables Fault.Damaged → IsTrue (state S.Store conn.old).is_open) }
+    ensures was_open { HasCleanDisk (state S.Store conn.new) → IfErr result (λ stop. stop ≡ Stop.Tables Fault.Damaged → IsTrue (state S.Store conn.old).is_open) }
     ensures left { HasCleanDisk (state S.Store conn.new) → LeavesRows (state S.Store conn.old) (state S.Store conn.new) }
     ensures mode { (state S.Store conn.old).in_transaction ≡ false → (state S.Store conn.new).in_transaction ≡ false }
     ensures serves { KeepsServing (state S.Store conn.old) (state S.Store conn.new) }

@@ -15,8 +15,8 @@ pub record Writes {T : Type 0} (sql : List ℕ) (params : Row) (old new : State)
   pub ran : HasCleanDisk new → OnOk result ((count : ℕ) × ExecutesInside 0 sql params old new (Ok count))
   pub damaged : DamagedOnlyWhere old new result (IsRefusedSo sql params old new)
 
--- of each x of which it can be made, and whose rows the tables held before, they hold the rows after an Ok; Damaged is told only over an open
--- connection whose tables hold the rows of no such x
+-- for each x of which it can be made: where the tables held its rows before, they hold its rows after once the answer is Ok; and Damaged is
+-- told only where the connection was open and they did not hold its rows before
 pub record Makes {A T : Type 0} (old new : State) (result : Result T Fault) (Can : A → Type 0) (before after : A → Content) : Type 0 where
   pub stays : StaysInside old new result
   pub done : HasCleanDisk new → OnOk result ((x : A) → Can x → Holds (before x) old → Holds (after x) new)
@@ -30,8 +30,10 @@ MakesRows old new result Can make = Makes old new result Can (λ c. c) make
 abbrev pub MakesQueue : {T : Type 0} → State → State → Result T Fault → (World → Type 0) → (World → World) → Type 0
 MakesQueue old new result Can make = Makes old new result Can content_of (λ w. content_of (make w))
 
--- In a transaction of its own: an Ok has committed what it makes of the queue in the tables, if that is one of which it can be made.
--- After an error they hold what they held. A crash then leaves the queue from before, or the one that was to be made.
+-- In a transaction of its own, on a disk that returned what was written. Of each queue in the tables of which it can be made, an Ok has made
+-- what is to be made, and committed it. After an error the tables hold what they held, and committed if it was, while the connection is open;
+-- Damaged is told of no such queue that open tables hold. Whatever the answer, where what they held was committed, a crash leaves such a
+-- queue, or what was to be made of it.
 pub record CommitsQueue {T : Type 0} (old new : State) (result : Result T Fault) (Can : World → Type 0) (make : World → World) : Type 0 where
   pub clean : HasCleanDisk new → HasCleanDisk old
   pub opened : HasCleanDisk new → IsTrue new.is_open → IsTrue old.is_open

@@ -164,7 +164,7 @@ abbrev pub document_count_at : ℕ → List Entry → ℕ
 document_count_at n [] = 0
 document_count_at n (e ∷ es) = if e.row.number == n then length e.documents else document_count_at n es
 
--- no number stands twice, its job is there, with fewer than sixteen documents, and it is no longer than one may be
+-- the document can be added: no job number stands twice, its job is there, with fewer than sixteen documents, and it is no longer than one may be
 pub record CanTake (d : NewDocument) (w : World) : Type 0 where
   pub distinct : AreDistinct w.jobs
   pub job : Job
@@ -184,7 +184,8 @@ pub record CanGrant (gs : List GrantRow) (w : World) : Type 0 where
   pub fresh : AreNew w.grants gs
   pub accounts : All (λ g. IsSome (get w.free g.account)) gs
 
--- no number stands twice, reports stand under their jobs and sequence numbers, its job is there, and none is kept under its own
+-- the report can be kept: no job number stands twice, reports stand under their jobs and sequence numbers, its job is there, and none is kept
+-- under its own
 pub record CanKeep (k : KeptReport) (w : World) : Type 0 where
   pub distinct : AreDistinct w.jobs
   pub keyed : AreReportsKeyed w

@@ -39,7 +39,7 @@ returns-in-Err-clause-err g c clean w d sound has there =
 pub returns-in-Err-clause-damaged : goal.returns-in-Err-clause-damaged
 returns-in-Err-clause-damaged g c clean damaged =
     let told = damage_told c.in-Err.stop (sym c.cause_of.ensures ∙ damaged) in record {
-      live = c.in-Err.ensures.began clean told;
+      live = c.in-Err.ensures.was_open clean told;
       none = λ w sound has. none_without (state g.S.Store c.args.conn.now) c.args.job c.args.n w has (c.in-Err.ensures.damaged (λ early. has.schema) clean told);
     }
 

@@ -107,9 +107,9 @@ returns-clause-damaged g c fits clean =
     let kept = same g it mid in
     map_err c.send_rows.result _ _ (λ stop told damaged. same_found (params g it) (old g it) (first g it) kept.0.now_is (told damaged)) (c.send_rows.ensures.damaged late kept.0.is_open (params g it) (given g it fits mid))
 
-pub returns-clause-began : goal.returns-clause-began
-returns-clause-began g c clean =
-    let it = (goal.at.returns-clause-began g c).After-send_rows in
+pub returns-clause-was_open : goal.returns-clause-was_open
+returns-clause-was_open g c clean =
+    let it = (goal.at.returns-clause-was_open g c).After-send_rows in
     let late : HasCleanDisk (now g it) = search rules in
     at_stop c.send_rows.result _ (same g it (c.send_rows.ensures.clean late)).0.was_open
 
