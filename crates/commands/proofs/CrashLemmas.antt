@@ -17,7 +17,7 @@ use Rattle.grants_csv.specs.declared.importing.Imported.{Imported}
 use Rattle.office.specs.Told.{IsTaken}
 use Rattle.print_server.specs.Connections.{AreConnections, Carries}
 use Rattle.print_server.proofs.CrashLemmas.{left_one}
-use Rattle.commands.specs.Books.{LeavesBeside, ServedOver}
+use Rattle.commands.specs.Books.{LeavesBeside, StoreServed}
 use Rattle.commands.specs.Work.{IsAllOrNone, IsTakenAt, broken_off, taken, untaken}
 
 -- of an open book a crash leaves the queue that it stands for
@@ -29,7 +29,7 @@ lasts store settled b w honest live stands = open_lasts w stands (settled (conne
 module _ {S : Type 0} (store : Ghosts S) (settled : (s : S) (db : Trees) → IsTrue (store.view s).is_open → store.recovers s db → db ≡ (store.view s).committed) where
   abbrev pub served_over : (old new : TableBook S) (w : World) → IsHonest store old → StandsFor store old w → (counts : List ℕ) (u : World) (are : AreConnections w counts u)
       → StandsFor store new u → Carries (λ (v x : World). LeavesOneOf v x (shown_by store old)) (λ (v x : World). LeavesOneOf v x (shown_by store new)) w counts u are
-      → ServedOver store old new w
+      → StoreServed store old new w
   served_over old new w honest stood counts u are stands carried = record {
     counts = counts;
     queue = u;
@@ -38,7 +38,7 @@ module _ {S : Type 0} (store : Ghosts S) (settled : (s : S) (db : Trees) → IsT
     left = λ live. let left = carried w (lasts store settled old w honest live stood) in (left.0, left.1, left_one w counts u are left.0 left.2);
   }
 
-  abbrev pub none_served : (b : TableBook S) (w : World) → IsHonest store b → StandsFor store b w → ServedOver store b b w
+  abbrev pub none_served : (b : TableBook S) (w : World) → IsHonest store b → StandsFor store b w → StoreServed store b b w
   none_served b w honest stands = record { counts = []; queue = w; are = refl; stands = stands; left = λ live. (w, lasts store settled b w honest live stands, refl) }
 
 -- rows that are refused change nothing

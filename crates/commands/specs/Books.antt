@@ -22,17 +22,17 @@ module _ {S : Type 0} (store : Ghosts S) (old new : TableBook S) where
   abbrev pub Makes : (World → World → Type 0) → Type 0
   Makes so = (w : World) → StandsFor store old w → (u : World) × StandsFor store new u × so w u
 
-  -- moreover a crash at any moment leaves u, or a queue that may be left beside it
+  -- moreover, of a store that was open before, a crash at any moment leaves u, or a queue that may be left beside it
   abbrev pub MakesSafely : (World → World → Type 0) → (World → World → World → Type 0) → Type 0
   MakesSafely so may_be_left = Makes (λ w u. so w u × CrashLeaves (shown_by store old) (shown_by store new) u (may_be_left w u))
 
   -- connections, one after another, over a book that stood for the queue w
-  pub record ServedOver (w : World) : Type 0 where
+  pub record StoreServed (w : World) : Type 0 where
     -- how many requests of each acted
     pub counts : List ℕ
     -- what they made of w
     pub queue : World
     pub are : AreConnections w counts queue
     pub stands : StandsFor store new queue
-    -- a crash at any moment leaves it, or what the event of one of their requests makes of it
+    -- of a store that was open before, a crash at any moment leaves it, or what the event of one of their requests makes of it
     pub left : CrashLeaves (shown_by store old) (shown_by store new) queue (IsAtMostOneMore w counts queue are)

@@ -13,8 +13,8 @@ abbrev pub faults_of : List (Bor (List ℕ)) → Kinds
 faults_of words = fault_of definition (map (λ w. w.now) words)
 
 -- these words name the command
-abbrev pub Name : List (Bor (List ℕ)) → Command → Type 0
-Name words command = IsSomeAnd (subcommand_of definition (map (λ w. w.now) words)) (IsCommand command)
+abbrev pub NameCommand : List (Bor (List ℕ)) → Command → Type 0
+NameCommand words command = IsSomeAnd (subcommand_of definition (map (λ w. w.now) words)) (IsCommand command)
 
 -- words with these faults name no command, and ask for no text
 abbrev pub AreWrong : Kinds → Type 0

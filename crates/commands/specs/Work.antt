@@ -97,7 +97,7 @@ pub record IsNoStatement (account : List ℕ) (fault : Fault) (w u : World) (bef
   pub quiet : IsOfStream fault ⊎ (after ≡ before)
 
 -- a server stops: no more than so many connections are served, and each is told of but where a stream failed
-pub record IsStopped (words : ServeWords) (fault : Fault) (w u : World) (before after : Option (List ℕ)) : Type 0 where
+pub record IsNoService (words : ServeWords) (fault : Fault) (w u : World) (before after : Option (List ℕ)) : Type 0 where
   pub undamaged : fault ≢ Damaged
   pub counts : List ℕ
   pub are : AreConnections w counts u
@@ -108,7 +108,7 @@ pub record IsStopped (words : ServeWords) (fault : Fault) (w u : World) (before 
 abbrev pub IsNotDone : (List ℕ → Type 0) → Work → Fault → World → World → Option (List ℕ) → Option (List ℕ) → Type 0
 IsNotDone are_read (Import words) fault w u before after = IsNoImport are_read fault w u before after
 IsNotDone are_read (Statement words) fault w u before after = IsNoStatement words.account.now fault w u before after
-IsNotDone are_read (Serve words) fault w u before after = IsStopped words fault w u before after
+IsNotDone are_read (Serve words) fault w u before after = IsNoService words fault w u before after
 
 -- of the queue w all of something is taken, or nothing: nothing is, u is w, and a crash leaves u; all is taken in u, and a crash leaves u; or taking it was
 -- broken off, u is w, and a crash leaves u, or x, in which all is taken

@@ -10,7 +10,7 @@ ghost use Rattle.command_words.specs.declared.outcome.Init.{Init};
 ghost use Rattle.commands.specs.Printed.{HasPrinted, Prints};
 ghost use Rattle.commands.specs.Refusals.{IsTold, MayBePrintedBy, MayBePrintedOf, MayBeToldBy, MayBeToldOf};
 ghost use Rattle.commands.specs.Store.{CanBeMade, IsAllowed, IsOfStore};
-ghost use Rattle.commands.specs.Words.{AreWrong, AskForText, Name, faults_of};
+ghost use Rattle.commands.specs.Words.{AreWrong, AskForText, NameCommand, faults_of};
 
 use crate::store::{FileBook, make_store};
 use crate::work::{Work, work_at};
@@ -98,14 +98,14 @@ pub fn run<O: Write + Drop, E: Write>(
     ensures silent { result ≡ 0 → err.new ≡ err.old }
     ensures unprinted { result ≡ 2 → out.new ≡ out.old }
     // a command that was done, whatever its files hold: its words allow it, and it has printed what it is to print
-    ensures done { faults_of words.now ≡ [] → result ≡ 0 → (c : NamedCommand) × Name words.now c × IsAllowed c
+    ensures done { faults_of words.now ≡ [] → result ≡ 0 → (c : NamedCommand) × NameCommand words.now c × IsAllowed c
         × HasPrinted c 0 (writer_contents O.contents out.old) (writer_contents O.contents out.new) }
     // what it has printed was handed on, and lies in the buffer no longer
     ensures handed { faults_of words.now ≡ [] → result ≡ 0 → writer_buffer out.new ≡ [] }
     // one that was refused, or for whose words there was no memory
     ensures told { faults_of words.now ≡ [] → result ≡ 1
         → (Tells OfMemory (E.contents err.old) (E.contents err.new) × (out.new ≡ out.old))
-        ⊎ ((c : NamedCommand) × Name words.now c × IsTold c (E.contents err.old) (E.contents err.new)
+        ⊎ ((c : NamedCommand) × NameCommand words.now c × IsTold c (E.contents err.old) (E.contents err.new)
         (writer_contents O.contents out.old) (writer_contents O.contents out.new) (writer_buffer out.new)) }
     // words that name no command and ask for no text print nothing; where those that ask for a text aren't told it, a stream failed or there was no memory, and one line says so
     ensures misnamed { AreWrong (faults_of words.now) → out.new ≡ out.old }

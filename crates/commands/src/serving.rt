@@ -6,7 +6,7 @@ ghost use Rattle.std.specs.declared.io.Error.{Error as StreamError};
 ghost use Rattle.std.specs.declared.io.ErrorKind.TheVariants.{OutOfMemory};
 ghost use Rattle.command_ends.specs.Faults.{IsOfStream, fault_of_book};
 ghost use Rattle.command_ends.specs.declared.fault.Fault.TheVariants.{Damaged, Memory as OfMemory};
-ghost use Rattle.commands.specs.Books.{ServedOver};
+ghost use Rattle.commands.specs.Books.{StoreServed};
 ghost use Rattle.commands.specs.Printed.{server_lines};
 ghost use Rattle.commands.specs.Refusals.{HasListened, IsOfServe};
 ghost use Rattle.print_server.specs.Lines.{listening_line, served_lines};
@@ -79,17 +79,17 @@ fn serve_at<C: Clock, S: Alter, W: Write>(
 ) -> Result<(), Fault>
     ensures began { IsHonest S.Store book.new → IsHonest S.Store book.old }
     ensures served { IsHonest S.Store book.new → OnOk result ((w : World) → StandsFor S.Store book.old w → service.entry.settings.now ≡ w.settings
-        → (served : ServedOver S.Store book.old book.new w) × (length served.counts ≡ connections)
+        → (served : StoreServed S.Store book.old book.new w) × (length served.counts ≡ connections)
         × Appends (W.contents output.old) (W.contents output.new) (served_lines served.counts)) }
     // no more than so many connections were served, and each was told of, or a stream failed or there was no memory
     ensures err { IsHonest S.Store book.new → IfErr result (λ f. (w : World) → StandsFor S.Store book.old w → service.entry.settings.now ≡ w.settings
-        → (served : ServedOver S.Store book.old book.new w) × (length served.counts ≤ connections)
+        → (served : StoreServed S.Store book.old book.new w) × (length served.counts ≤ connections)
         × (IsOfStream f ⊎ Appends (W.contents output.old) (W.contents output.new) (served_lines served.counts))) }
     // whatever it answers: a crash at any moment leaves the queue that the book stands for, or the one after one of these connections' requests more, as `left` of
     // the record says
     ensures crash { IsHonest S.Store book.new → IsTrue (shown_by S.Store book.old).is_open
         → (w : World) → StandsFor S.Store book.old w → service.entry.settings.now ≡ w.settings
-        → (served : ServedOver S.Store book.old book.new w) × (length served.counts ≤ connections) }
+        → (served : StoreServed S.Store book.old book.new w) × (length served.counts ≤ connections) }
     ensures damaged { IsHonest S.Store book.new → IfErr result (λ f. f ≡ Damaged
         → (w : World) → StandsFor S.Store book.old w → service.entry.settings.now ≡ w.settings → ⊥) }
     ensures told { IfErr result IsOfServe }
@@ -116,16 +116,16 @@ pub(crate) fn serve_book<C: Clock, S: Alter, W: Write>(
 ) -> Result<(), Fault>
     ensures began { IsHonest S.Store book.new → IsHonest S.Store book.old }
     ensures served { IsHonest S.Store book.new → OnOk result ((w : World) → StandsFor S.Store book.old w
-        → (served : ServedOver S.Store book.old book.new w) × (length served.counts ≡ words.entry.connections)
+        → (served : StoreServed S.Store book.old book.new w) × (length served.counts ≡ words.entry.connections)
         × Appends (W.contents output.old) (W.contents output.new) (server_lines words.entry served.counts)) }
     // no more than so many connections were served, and each was told of, or a stream failed or there was no memory
     ensures err { IsHonest S.Store book.new → IfErr result (λ f. (w : World) → StandsFor S.Store book.old w
-        → (served : ServedOver S.Store book.old book.new w) × (length served.counts ≤ words.entry.connections)
+        → (served : StoreServed S.Store book.old book.new w) × (length served.counts ≤ words.entry.connections)
         × (IsOfStream f ⊎ Appends (W.contents output.old) (W.contents output.new) (server_lines words.entry served.counts))) }
     // whatever it answers: a crash at any moment leaves the queue that the book stands for, or the one after one of these connections' requests more, as `left` of
     // the record says
     ensures crash { IsHonest S.Store book.new → IsTrue (shown_by S.Store book.old).is_open → (w : World) → StandsFor S.Store book.old w
-        → (served : ServedOver S.Store book.old book.new w) × (length served.counts ≤ words.entry.connections) }
+        → (served : StoreServed S.Store book.old book.new w) × (length served.counts ≤ words.entry.connections) }
     ensures damaged { IsHonest S.Store book.new → IfErr result (λ f. f ≡ Damaged → (w : World) → ¬ StandsFor S.Store book.old w) }
     ensures told { IfErr result IsOfServe }
     // over any book, also one that is not honest

@@ -53,7 +53,7 @@ pub record IsReplyToReport (job : ℕ) (out : List ℕ) : Type 0 where
 
 -- ---- one line
 
--- out and new are what the reading of a line brings about: a report is one step of the machine, and what can't be read leaves the world
+-- out and new are what the reading of a line brings about: a report is one step of the machine, and what can't be read leaves the world as it was
 abbrev pub BringsAbout : Result Report LineFault → World → ℕ → World → List ℕ → Type 0
 BringsAbout (Ok r) old now new out = (new ≡ (step old now (tell r)).world) × AnswersReport r.job (step old now (tell r)).reply out
 BringsAbout (Err fault) old now new out = (new ≡ old) × (out ≡ unread_line fault)

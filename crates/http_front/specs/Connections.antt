@@ -57,7 +57,7 @@ flag_of t = t.is_fault
 abbrev pub EndsAt : World → List Turn → List ℕ → Finish → List ℕ → Type 0
 EndsAt w turns rest end last = ((end ≡ Done) × (last ≡ []) × HasClosed turns) ⊎ (GoesOn 0 turns × IsEnd w rest end last)
 
--- the answers to a stream: so the bytes of a connection that ended were answered and written, and made u of the world w
+-- the answers to the stream of a connection that ended: what was written, and the world u that its requests made of w
 pub record Answers (now : ℕ) (w : World) (stream written : List ℕ) (u : World) (acted faults : ℕ) (end : End) : Type 0 where
   -- the requests that were answered, and the bytes behind them
   pub turns : List Turn

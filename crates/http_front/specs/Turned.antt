@@ -26,7 +26,7 @@ use Rattle.http_front.specs.declared.outcome.Stopped.{Stopped}
 
 -- ---- a whole request
 
--- it is answered in the queue w, which comes to u, under this media type and by this content
+-- it is answered in the queue w, which comes to u: under this media type, by this reply
 pub record IsReply (now : ℕ) (w u : World) (target : Target) (content : List ℕ) (acted fault : Bool) : Type 0 where
   pub media_type : List ℕ
   pub reply : List ℕ

@@ -27,7 +27,7 @@ pub record Turn : Type 0 where
   pub reply : List ℕ
   pub after : World
 
--- what is made of a head
+-- the plan of a request with this head
 abbrev pub plan_in : RequestHead → Plan
 plan_in h = plan_of (head_of h)
 

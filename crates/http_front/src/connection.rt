@@ -103,7 +103,7 @@ fn run<R: Read, W: Write, B: QueueBook>(
 /// It flushes nothing: what is written has to reach the client by itself, as through a socket.
 ///
 /// Of a reader that does not tell its bytes, as a socket, this is known: the queue is what at most 32 requests, answered one after
-/// another, made of it; so many of them acted, and these were answered by a fault.
+/// another, made of it; so many of them acted, and the bits of the faults tell which of them a fault answered.
 pub fn serve<R: Read, W: Write, B: QueueBook>(
     alloc: Global,
     reader: &mut R,
@@ -120,7 +120,7 @@ pub fn serve<R: Read, W: Write, B: QueueBook>(
     // or their answers were broken off
     ensures broken { IfErr result (λ fault. ComesTo B.QueueBook book.old book.new settings.now (λ w u. IfSome (R.remaining reader.old)
         (IsStopped (B.crash_leaves book.old) (B.crash_leaves book.new) now w u (W.contents writer.old) (W.contents writer.new) fault))) }
-    // whatever its bytes were, some requests made the queue what it is, and these were answered by a fault
+    // whatever its bytes were, some requests made the queue what it is, and the bits of the faults tell which of them a fault answered
     ensures worked { ComesTo B.QueueBook book.old book.new settings.now (λ w u.
         (k : Worked most_requests now w u (acted_of result)) × MarksFaults k.turns result) }
     // a crash at any moment leaves the queue that the book stands for, or what the event of one of the requests makes of it, before which the queue was

@@ -226,7 +226,7 @@ fn answer_headed<B: QueueBook>(context: Context<'_>, book: &mut B, body: &[u8]) 
 /// by the bare reply 0x0505 and changes nothing. What the head alone refuses is answered without memory. What any check refuses
 /// changes nothing, whatever the book is.
 /// Under 8 bytes there is no head to reply to, and nothing happens. The settings have to be those of the book's queue:
-/// with others, nothing is promised of what a call is answered.
+/// with others, of what a call is answered nothing is promised but that it is a reply to its request (`replies`).
 pub fn answer<B: QueueBook>(
     alloc: Global,
     book: &mut B,

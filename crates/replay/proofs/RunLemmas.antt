@@ -19,7 +19,7 @@ use Rattle.grants_csv.specs.Import.{Asks as AsksOfFile, Imports, grants}
 use Rattle.grants_csv.specs.declared.fault.ImportFault.{ImportFault}
 use Rattle.grants_csv.specs.declared.importing.Imported.{Imported}
 use Rattle.replay.specs.Line.{GivesLine}
-use Rattle.replay.specs.Places.{ArePlacesOf, AsksFor, IsPlaceOf, IsRun, TellsOfNothing}
+use Rattle.replay.specs.Places.{ArePlacesOf, AsksFor, IsPlaceOf, IsRunOf, TellsOfNothing}
 use Rattle.replay.specs.Replay.{Replays, Taken, TakesLine, TakesNext, broken, none, one_more, whole}
 use Rattle.replay.specs.RequestLine.{Says}
 use Rattle.replay.specs.Session.{AnswersMessage, IsReply, State, Takes, file_of, import_line, reply_line}
@@ -139,7 +139,7 @@ places_of are_calls are_files joined {begin = begin} moment (one_more count text
     (r.0 ++ p.0 ∷ [], (r.0, p.0, refl, r.1, p.1), each_more r.0 p.0 r.2 p.2, run_more joined begin.queue old.queue new.queue r.0 p.0 r.3 p.3)
 
 pub places_in : AreCalls → AreFiles → AreJoined → {input : Option (List ℕ)} {begin : State} {status : ℕ} {text : List ℕ} {last : State}
-    → IsMoment begin.now → (r : Replays input begin status text last) → IsRun r
+    → IsMoment begin.now → (r : Replays input begin status text last) → IsRunOf r
 places_in are_calls are_files joined moment (whole count text left last taken end) =
     let r = places_of are_calls are_files joined moment taken in
     record { places = r.0; lines = r.1; are = r.2; run_is = r.3 }

@@ -22,7 +22,7 @@ IsFrontOf bytes line =
 abbrev pub Lengthens : List ℕ → Line → Line → Type 0
 Lengthens piece old new = (bytes : List ℕ) → IsFrontOf bytes old → IsFrontOf (bytes ++ piece) new
 
--- what has come of the input loses this piece, with the line feed behind it where that has come
+-- what has come of the input loses this piece with the line feed behind it; or, where none has come, the piece is all of it
 abbrev pub LosesPiece : Bool → List ℕ → List ℕ → List ℕ → Type 0
 LosesPiece is_ended piece old new = MatchBool is_ended (old ≡ piece ++ 10 ∷ new) ((old ≡ piece) × (new ≡ []))
 

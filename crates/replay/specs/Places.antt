@@ -50,7 +50,7 @@ ArePlacesIn (whole count text left last taken end) places = ArePlacesOf taken pl
 ArePlacesIn (broken count text before after last line taken gives bad) places = ArePlacesOf taken places
 
 -- the lines of a replay are places of a run of the machine, which made its last queue of the first
-pub record IsRun {input : Option (List ℕ)} {begin : State} {status : ℕ} {text : List ℕ} {last : State} (r : Replays input begin status text last) : Type 0 where
+pub record IsRunOf {input : Option (List ℕ)} {begin : State} {status : ℕ} {text : List ℕ} {last : State} (r : Replays input begin status text last) : Type 0 where
   pub places : List Place
   pub lines : ArePlacesIn r places
   pub are : AllByRecursion IsPlace places

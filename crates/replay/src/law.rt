@@ -4,7 +4,7 @@ ghost use Rattle.queue_core.specs.Limits.{IsMoment};
 ghost use Rattle.queue_core.specs.Runs.{MovesAlong};
 ghost use Rattle.queue_core.specs.Sound.{Balances, IsSound};
 ghost use Rattle.queue_core.specs.World.{empty_queue};
-ghost use Rattle.replay.specs.Places.{IsRun};
+ghost use Rattle.replay.specs.Places.{IsRunOf};
 ghost use Rattle.replay.specs.Replay.{Replays, Taken, TakesNext, settings};
 ghost use Rattle.replay.specs.Session.{State};
 
@@ -18,7 +18,7 @@ use queue_core::{empty_is_sound, run_keeps};
 /// granted are those that are free, reserved and printed.
 pub fn replays_are_runs()
     ensures runs { (input : Option (List ℕ)) (begin last : State) (status : ℕ) (text : List ℕ) → IsMoment begin.now
-        → (r : Replays input begin status text last) → IsRun r }
+        → (r : Replays input begin status text last) → IsRunOf r }
     ensures moves { (input : Option (List ℕ)) (begin old new : State) → IsMoment begin.now → IsSound begin.queue
         → TakesNext input begin old new → MovesAlong old.queue new.queue }
     ensures balances { (input left : Option (List ℕ)) (begin last : State) (count : ℕ) (text : List ℕ)
