@@ -1,6 +1,11 @@
-//! Print queues in four books alike: in lists, in tables in memory, in tables that are closed and adopted before every
-//! step, and in tables in a file. It has tests alone.
+//! Print queues in books of every kind, and in the stores that keep them. It has tests alone.
 #![tactic(auto)]
 
 #[cfg(test)]
-mod tests;
+mod desk;
+#[cfg(test)]
+mod rows;
+#[cfg(test)]
+mod shelves;
+#[cfg(test)]
+mod stores;

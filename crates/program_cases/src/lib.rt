@@ -1,10 +1,10 @@
-//! What the program does beside its queue: the commands on stores in files, by their words, with what they print and the files that
-//! they leave; the server over sockets of the loopback interface, with clients that print, go away, say nothing, sit idle and
-//! don't read; and replays over streams. It has tests alone.
-//!
-//! There is one thread: a client connects and writes before it is served, and reads what it got once that has ended. What clients and
-//! the server do in turn is data: the steps of a test.
+//! Whole HTTP connections to a print queue, by their bytes (`connections`), and what the program does beside its queue (`program`). What they
+//! share stands in `desk`. It has tests alone.
 #![tactic(auto)]
 
 #[cfg(test)]
-mod tests;
+mod connections;
+#[cfg(test)]
+mod desk;
+#[cfg(test)]
+mod program;

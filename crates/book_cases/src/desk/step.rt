@@ -1,0 +1,74 @@
+//! The steps of a test.
+
+use crate::desk::request::{JobsWanted, Request};
+
+/// What comes of an account file: how many rows are new and how many repeats, or a code and its row.
+pub(crate) type Outcome = Result<(u32, u32), (u8, u32)>;
+
+/// The pages of an account that are granted, free, reserved and printed.
+pub(super) type Pages = (u64, i64, u64, u64);
+
+/// What a step asks, or looks at, and what is wanted of it.
+#[derive(Clone, Copy)]
+pub(crate) enum Step<'a> {
+    /// The steps behind it come at this moment. Those before the first such step come at moment 1.
+    Now(u32),
+    /// An account file of these rows behind its header, and what comes of it.
+    Grant(&'a [u8], Outcome),
+    /// A line that is no row of an account file. A file of it is refused, and so is a file of a row and of it.
+    NoRow(&'a [u8]),
+    /// A whole account file, and what comes of it.
+    File(&'a [u8], Outcome),
+    /// An account file of so many rows of 1,000,000 pages each for alice, of batches `b1` and on, and of these rows
+    /// behind them, and what comes of it.
+    Millions(u32, &'a [u8], Outcome),
+    /// A line of the device, and its answer, both without their line feeds.
+    Dev(&'a str, &'a str),
+    /// A caller's request, and the status code of the reply.
+    Ask(&'a str, Request<'a>, u16),
+    /// A caller's request so many times, and the status code of each reply.
+    AskTimes(u32, &'a str, Request<'a>, u16),
+    /// A caller's job has this state, with these reasons.
+    Look(&'a str, u32, u8, &'a [&'a str]),
+    /// A caller's Get-Jobs lists the jobs of these numbers, in this order.
+    Jobs(&'a str, JobsWanted, &'a [u32]),
+    /// An account has so many pages granted, free, reserved and printed.
+    Sheet(&'a str, Pages),
+    /// There is no such account.
+    NoSheet(&'a str),
+    /// An account's statement.
+    Statement(&'a str, &'a str),
+    /// The device's queue.
+    Queue(&'a str),
+    /// How many bytes the document of a job has that the device may fetch.
+    Document(u32, u32, Option<u64>),
+    /// The bytes of the document of a job, as the device fetches them.
+    Fetch(u32, u32, &'a [u8]),
+    /// The document of a job is fetched to a writer that has room for so many bytes and then fails, and takes this front.
+    Cut(u32, u32, usize, &'a [u8]),
+}
+
+impl Step<'_> {
+    /// It looks at the queue, and changes nothing of it.
+    pub(crate) fn only_looks(self) -> bool {
+        match self {
+            Step::Look(..)
+            | Step::Jobs(..)
+            | Step::Sheet(..)
+            | Step::NoSheet(_)
+            | Step::Statement(..)
+            | Step::Queue(_)
+            | Step::Document(..)
+            | Step::Fetch(..)
+            | Step::Cut(..) => true,
+            Step::Now(_)
+            | Step::Grant(..)
+            | Step::NoRow(_)
+            | Step::File(..)
+            | Step::Millions(..)
+            | Step::Dev(..)
+            | Step::Ask(..)
+            | Step::AskTimes(..) => false,
+        }
+    }
+}

@@ -1,0 +1,13 @@
+//! Rows of steps, each in an empty queue of its own, over every book: in lists, in tables in memory, in tables that are
+//! closed and adopted before every step, and in tables in a file.
+
+mod accounts;
+mod bad_rows;
+mod device;
+mod files;
+mod great_files;
+mod job_numbers;
+mod lists_of_jobs;
+mod sending;
+mod stops;
+mod two_accounts;

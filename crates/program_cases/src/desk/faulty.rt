@@ -1,0 +1,82 @@
+//! A book that can't do what it is asked.
+
+use queue_core::book::{BookFault, QueueBook, SendFault};
+use queue_types::document::DocumentHead;
+use queue_types::event::{Decision, Event};
+use queue_types::job::JobList;
+use queue_types::sheet::AccountSheet;
+use std::io::Write;
+
+/// A book that takes no change, as one whose disk is full or fails, and sends of any document the byte `h` alone, as of one that begins so.
+#[derive(Drop)]
+pub(crate) struct FaultyBook<B> {
+    /// What it reads from, where it can be read.
+    pub(crate) inner: B,
+    /// Why it can't be read, if it can't: neither events, jobs, heads of documents nor sheets. What it sends of a document is told apart.
+    pub(crate) unread: Option<BookFault>,
+    /// Why no event can be decided, if none can; the rest can be read.
+    pub(crate) undecided: Option<BookFault>,
+    /// What it tells of a document behind the first byte.
+    pub(crate) sent: Result<u64, SendFault>,
+}
+
+impl<B> FaultyBook<B> {
+    /// It can be read.
+    fn check(&self) -> Result<(), BookFault> {
+        match self.unread {
+            Some(fault) => Err(fault),
+            None => Ok(()),
+        }
+    }
+}
+
+impl<B: QueueBook> QueueBook for FaultyBook<B> {
+    ghost stands = { λ b w. ⊥ };
+
+    ghost is_honest = { λ b. ⊥ };
+
+    ghost is_live = { λ b. ⊥ };
+
+    ghost crash_leaves = { λ b v w. ⊥ };
+
+    ghost sound = { λ b w h s. absurd h };
+
+    ghost lasts = { λ b w v h live s. absurd h };
+
+    fn decide<'a>(&mut self, now: u32, e: &Event<'a>) -> Result<Decision<'a>, BookFault> {
+        self.check()?;
+        match self.undecided {
+            Some(fault) => Err(fault),
+            None => self.inner.decide(now, e),
+        }
+    }
+
+    fn apply(&mut self, _d: Decision<'_>) -> Result<(), BookFault> {
+        Err(BookFault::Disk)
+    }
+
+    fn pending(&mut self) -> Result<JobList, BookFault> {
+        self.check()?;
+        self.inner.pending()
+    }
+
+    fn document_head(&mut self, job: u32, n: u32) -> Result<Option<DocumentHead>, BookFault> {
+        self.check()?;
+        self.inner.document_head(job, n)
+    }
+
+    fn send_document<W: Write>(
+        &mut self,
+        _job: u32,
+        _n: u32,
+        out: &mut W,
+    ) -> Result<u64, SendFault> {
+        let _taken = out.write(b"h");
+        self.sent
+    }
+
+    fn sheet(&mut self, account: &str) -> Result<Option<AccountSheet>, BookFault> {
+        self.check()?;
+        self.inner.sheet(account)
+    }
+}
