@@ -1,23 +1,22 @@
 -- What a crash leaves, from one thing to the next.
-use Rattle.std.proofs.Common.{◌≡◌, ◌∙◌, ℕ, Bool, Bor, List, [], ◌∷◌, ◌++◌, inl, inr, length, refl, sym, ap, subst, append_assoc, append-nil}
-use Rattle.std.specs.List.{flat_map}
-use Rattle.std.proofs.lemmas.Grind.{flat_map-append}
+use Rattle.std.proofs.Common.{◌≡◌, ◌∙◌, ℕ, Bor, List, [], ◌∷◌, ◌++◌, inl, inr, refl, sym, ap, subst}
 use Rattle.queue_types.specs.Event.{Event}
 use Rattle.queue_core.specs.Crash.{Carries as CarriesOne, Leaves, broken_off, taken, untaken}
 use Rattle.queue_core.specs.Limits.{IsEvent, IsMoment}
 use Rattle.queue_core.specs.Machine.{step}
 use Rattle.queue_core.specs.Runs.{Place}
 use Rattle.queue_core.specs.World.{World}
-use Rattle.http_head.specs.declared.end.End.{End}
-use Rattle.http_front.specs.Connections.{Answers, AreTurns, Breaks, world_after}
+use Rattle.http_front.specs.Connections.{Answers, AreTurns, Breaks}
 use Rattle.http_front.specs.Crash.{CarriesAll, IsAskedIn, IsLeft as IsLeftOn}
-use Rattle.http_front.specs.Ends.{IsBegun, nothing, interim, answered, ended}
-use Rattle.http_front.specs.Turns.{Turn, request_bytes}
+use Rattle.http_front.specs.Turns.{Turn}
+use Rattle.http_front.specs.declared.outcome.ServeFault.{ServeFault}
+use Rattle.http_front.specs.declared.outcome.Served.{Served as Service}
 use Rattle.arrivals.specs.Crash.{IsAskedBy, AsksAt, AsksFor, Carries, IsAtMostOneMore, IsLeft}
 use Rattle.arrivals.specs.History.{AreTaken}
 use Rattle.arrivals.specs.declared.arrival.Arrival.{Arrival}
 use Rattle.arrivals.specs.declared.arrival.Arrived.TheVariants.{Connection}
 use Rattle.arrivals.specs.declared.arrival.Outcome.{Outcome}
+use Rattle.arrivals.specs.declared.arrival.Outcome.TheVariants.{Broken, Served}
 
 -- ---- from one thing to the next
 
@@ -38,8 +37,8 @@ asked_first (x ∷ xs) (p ∷ os) a o w u now e (inl h) = inl h
 asked_first (x ∷ xs) (p ∷ os) a o w u now e (inr h) = inr (h.0, h.1, h.2, h.3, asked_first xs os a o h.0 u now e h.4)
 
 asked_last : (xs : List Arrival) (os : List Outcome) (a : Arrival) (o : Outcome) (written : List ℕ) (places : List Place) (w u p : World) (now : ℕ) (e : Event)
-    → AreTaken w xs os written places u → AsksAt a.moment a.what u p now e → IsAskedBy (xs ++ a ∷ []) (os ++ o ∷ []) w p now e
-asked_last [] [] a o written places w u p now e t h = inl (subst (λ (z : World). AsksAt a.moment a.what z p now e) t.2 h)
+    → AreTaken w xs os written places u → AsksAt a.moment a.what o u p now e → IsAskedBy (xs ++ a ∷ []) (os ++ o ∷ []) w p now e
+asked_last [] [] a o written places w u p now e t h = inl (subst (λ (z : World). AsksAt a.moment a.what o z p now e) t.2 h)
 asked_last [] (q ∷ os) a o written places w u p now e t h = absurd t
 asked_last (x ∷ xs) [] a o written places w u p now e t h = absurd t
 asked_last (x ∷ xs) (q ∷ os) a o written places w u p now e t h = inr (t.4, t.0, t.2, t.7, asked_last xs os a o t.1 t.3 t.4 u p now e t.8 h)
@@ -51,7 +50,7 @@ left_longer xs os a o w v u x (inr (inl e)) = inr (inl e)
 left_longer xs os a o w v u x (inr (inr h)) = inr (inr (h.0, h.1, asked_first xs os a o w u h.0 h.1 h.2, h.3, h.4))
 
 left_more : (xs : List Arrival) (os : List Outcome) (a : Arrival) (o : Outcome) (written : List ℕ) (places : List Place) (w v u x p y : World) → AreTaken w xs os written places u
-    → IsLeft (IsAskedBy xs os w u) w v u x → IsLeft (AsksAt a.moment a.what u p) u x p y → IsLeft (IsAskedBy (xs ++ a ∷ []) (os ++ o ∷ []) w p) w v p y
+    → IsLeft (IsAskedBy xs os w u) w v u x → IsLeft (AsksAt a.moment a.what o u p) u x p y → IsLeft (IsAskedBy (xs ++ a ∷ []) (os ++ o ∷ []) w p) w v p y
 left_more xs os a o written places w v u x p y t h (inl e) =
     left_longer xs os a o w v p y (subst (λ (z : World). IsLeft (IsAskedBy xs os w z) w v z y) (sym e.0) (subst (λ (z : World). IsLeft (IsAskedBy xs os w u) w v u z) (sym e.1) h))
 left_more xs os a o written places w v u x p y t h (inr (inl e)) = inr (inl e)
@@ -59,7 +58,7 @@ left_more xs os a o written places w v u x p y t h (inr (inr m)) = inr (inr (m.0
 
 -- one thing more
 pub carries_more : (before between after : World → World → Type 0) (xs : List Arrival) (os : List Outcome) (a : Arrival) (o : Outcome) (written : List ℕ) (places : List Place) (w u p : World)
-    → AreTaken w xs os written places u → Carries before between (IsAskedBy xs os) w u → Carries between after (AsksAt a.moment a.what) u p
+    → AreTaken w xs os written places u → Carries before between (IsAskedBy xs os) w u → Carries between after (AsksAt a.moment a.what o) u p
     → Carries before after (IsAskedBy (xs ++ a ∷ []) (os ++ o ∷ [])) w p
 carries_more before between after xs os a o written places w u p t h c = λ v left.
     let r = h v left in
@@ -82,13 +81,6 @@ carries_one before after asks now w u within moment c = λ v left. let l = c v l
 
 -- ---- a connection
 
--- the request whose answer was begun stands in the bytes behind the others
-begun_behind : (k : ℕ) (w : World) (bytes begun : List ℕ) (broken : List Turn) (fault : Bool) → IsBegun k w bytes begun broken fault → (rest : List ℕ) × (bytes ≡ flat_map request_bytes broken ++ rest)
-begun_behind k w bytes _ _ _ nothing = (bytes, refl)
-begun_behind k w bytes _ _ _ (interim h rest b p) = (bytes, refl)
-begun_behind k w bytes _ _ _ (answered t rest e) = (rest, e ∙ ap (λ (l : List ℕ). l ++ rest) (sym (append-nil (request_bytes t))))
-begun_behind k w bytes _ _ _ (ended end last e) = (bytes, refl)
-
 -- what requests ask for is within the limits: the law of connections
 abbrev pub AreEvents : Type 0
 AreEvents = (now : ℕ) (w u : World) (turns : List Turn) (e : Event) → AreTurns now w turns → IsAskedIn w turns u e → IsEvent e
@@ -99,23 +91,16 @@ left_at asks now turns w v u x asked moment (inl e) = inl e
 left_at asks now turns w v u x asked moment (inr (inl e)) = inr (inl e)
 left_at asks now turns w v u x asked moment (inr (inr h)) = let a = asked h.0 h.1 in inr (inr (now, h.0, (refl, a.0), (moment, a.1), h.2))
 
--- the requests with which the stream begins
-carries_at : AreEvents → (before after : World → World → Type 0) (now : ℕ) (turns : List Turn) (stream : Bor (List ℕ)) (rest : List ℕ) (w u : World) → IsMoment now → AreTurns now w turns
-    → stream.now ≡ flat_map request_bytes turns ++ rest → CarriesAll before after now turns w u → Carries before after (AsksAt now (Connection stream)) w u
-carries_at events before after now turns stream rest w u moment are is c = λ v left.
+-- one that was served
+pub carries_served : AreEvents → (before after : World → World → Type 0) (now : ℕ) (stream : Bor (List ℕ)) (written : List ℕ) (w u : World) (s : Service) → IsMoment now
+    → (a : Answers now w stream.now written u s.acted s.faults s.end) → CarriesAll before after now a.turns w u → Carries before after (AsksAt now (Connection stream) (Served s)) w u
+carries_served events before after now stream written w u s moment a c = λ v left.
     let l = c v left in
-    (l.0, l.1, left_at (AsksFor now (Connection stream) w u) now turns w v u l.0 (λ e asked. ((turns, rest, is, are, asked), events now w u turns e are asked)) moment l.2)
-
--- a connection that was served
-pub carries_served : AreEvents → (before after : World → World → Type 0) (now : ℕ) (stream : Bor (List ℕ)) (written : List ℕ) (w u : World) (acted faults : ℕ) (end : End) → IsMoment now
-    → (a : Answers now w stream.now written u acted faults end) → CarriesAll before after now a.turns w u → Carries before after (AsksAt now (Connection stream)) w u
-carries_served events before after now stream written w u acted faults end moment a c = carries_at events before after now a.turns stream a.rest w u moment a.are a.stream_is c
+    (l.0, l.1, left_at (AsksFor now (Connection stream) (Served s) w u) now a.turns w v u l.0 (λ e asked. ((written, u, a, asked), events now w u a.turns e a.are asked)) moment l.2)
 
 -- one that was broken off
-pub carries_broken : AreEvents → (before after : World → World → Type 0) (now : ℕ) (stream : Bor (List ℕ)) (written : List ℕ) (w u : World) (acted faults : ℕ) → IsMoment now
-    → (b : Breaks now w stream.now written u acted faults) → CarriesAll before after now (b.turns ++ b.broken) w u → Carries before after (AsksAt now (Connection stream)) w u
-carries_broken events before after now stream written w u acted faults moment b c =
-    let r = begun_behind (length b.turns) (world_after w b.turns) b.rest b.begun b.broken b.fault_last b.begins in
-    carries_at events before after now (b.turns ++ b.broken) stream r.0 w u moment b.are
-    (b.stream_is ∙ ap (λ (l : List ℕ). flat_map request_bytes b.turns ++ l) r.1 ∙ sym (append_assoc (flat_map request_bytes b.turns) (flat_map request_bytes b.broken) r.0)
-    ∙ ap (λ (l : List ℕ). l ++ r.0) (sym (flat_map-append request_bytes b.turns b.broken))) c
+pub carries_broken : AreEvents → (before after : World → World → Type 0) (now : ℕ) (stream : Bor (List ℕ)) (written : List ℕ) (w u : World) (f : ServeFault) → IsMoment now
+    → (b : Breaks now w stream.now written u f.acted f.faults) → CarriesAll before after now (b.turns ++ b.broken) w u → Carries before after (AsksAt now (Connection stream) (Broken f)) w u
+carries_broken events before after now stream written w u f moment b c = λ v left.
+    let l = c v left in
+    (l.0, l.1, left_at (AsksFor now (Connection stream) (Broken f) w u) now (b.turns ++ b.broken) w v u l.0 (λ e asked. ((written, u, b, asked), events now w u (b.turns ++ b.broken) e b.are asked)) moment l.2)

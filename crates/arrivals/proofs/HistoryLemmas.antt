@@ -10,10 +10,10 @@ use Rattle.queue_core.specs.Runs.{Place, IsPlace, Follows, MovesAlong, after, ru
 use Rattle.queue_core.specs.Sound.{Balances, IsSound}
 use Rattle.queue_core.specs.World.{World, job_at, rows}
 use Rattle.queue_core.specs.declared.book.QueueBook.{Ghosts}
-use Rattle.arrivals.specs.Books.{AreTakenOver, HistoryOver, IsTakenOver}
+use Rattle.arrivals.specs.Books.{HistoryOver, IsTakenOver}
 use Rattle.arrivals.specs.Crash.{IsAskedBy, Carries}
 use Rattle.arrivals.specs.History.{AreTaken}
-use Rattle.arrivals.specs.Taken.{Takes}
+use Rattle.arrivals.specs.Taken.{IsTaken, Takes}
 use Rattle.arrivals.specs.declared.arrival.Arrival.{Arrival}
 use Rattle.arrivals.specs.declared.arrival.Outcome.{Outcome}
 use Rattle.arrivals.proofs.CrashLemmas.{carries_more, carries_none}
@@ -30,6 +30,13 @@ run_settings w (p ∷ ps) = run_settings (after w p.now p.event) ps ∙ after_se
 
 pub settings_after : (set : SettingValues) (w u : World) (ps : List Place) → u ≡ run w ps → set ≡ w.settings → set ≡ u.settings
 settings_after set w u ps e f = f ∙ sym (run_settings w ps) ∙ ap (λ (x : World). x.settings) (sym e)
+
+-- ---- what is taken so far
+
+-- These reached a book that was old before them and is new behind them, one after another, and came to these outcomes; the book stood for the queue w.
+abbrev pub AreTakenOver : {B : Type 0} (book : Ghosts B) (old new : B) (w : World) → List Arrival → List Outcome → (before after : Option (List ℕ)) → Type 0
+AreTakenOver book old new w arrivals outcomes before after =
+    IsTaken (book.stands new) (Carries (book.crash_leaves old) (book.crash_leaves new) (IsAskedBy arrivals outcomes) w) w before after (AreTaken w arrivals outcomes)
 
 -- ---- one more at the end
 

@@ -7,7 +7,7 @@ use Rattle.queue_core.specs.Runs.{Place, IsPlace, run}
 use Rattle.queue_core.specs.World.{World}
 use Rattle.queue_core.specs.declared.book.QueueBook.{Ghosts}
 use Rattle.arrivals.specs.Crash.{AsksAt, Carries, IsAskedBy, IsAtMostOneMore}
-use Rattle.arrivals.specs.History.{AreTaken, History}
+use Rattle.arrivals.specs.History.{History}
 use Rattle.arrivals.specs.Taken.{IsTaken, Takes}
 use Rattle.arrivals.specs.declared.arrival.Arrival.{Arrival}
 use Rattle.arrivals.specs.declared.arrival.Arrived.{Arrived}
@@ -18,14 +18,9 @@ module _ {B : Type 0} (book : Ghosts B) (old new : B) (w : World) where
   -- one thing reached it at this moment and came to this outcome
   abbrev pub IsTakenOver : ℕ → Arrived → Outcome → (before after : Option (List ℕ)) → Type 0
   IsTakenOver now what outcome before after =
-      IsTaken (book.stands new) (Carries (book.crash_leaves old) (book.crash_leaves new) (AsksAt now what) w) w before after (Takes now w what outcome)
+      IsTaken (book.stands new) (Carries (book.crash_leaves old) (book.crash_leaves new) (AsksAt now what outcome) w) w before after (Takes now w what outcome)
 
-  -- these reached it, one after another, and came to these outcomes
-  abbrev pub AreTakenOver : List Arrival → List Outcome → (before after : Option (List ℕ)) → Type 0
-  AreTakenOver arrivals outcomes before after =
-      IsTaken (book.stands new) (Carries (book.crash_leaves old) (book.crash_leaves new) (IsAskedBy arrivals outcomes) w) w before after (AreTaken w arrivals outcomes)
-
-  -- and that is the promise of the whole
+  -- these reached it, one after another, and came to these outcomes: the promise of the whole
   pub record HistoryOver (arrivals : List Arrival) (outcomes : List Outcome) (before after : Option (List ℕ)) : Type 0 where
     -- the queue for which the book stands now
     pub queue : World

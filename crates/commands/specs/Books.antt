@@ -1,10 +1,11 @@
 -- What is made of a store's book, and what a crash leaves of it.
-use Rattle.std.specs.Prelude.{ℕ, IsTrue, List}
+use Rattle.std.specs.Prelude.{◌≡◌, ℕ, IsTrue, List}
 use Rattle.print_server.specs.Connections.{AreConnections, IsAtMostOneMore}
 use Rattle.queue_core.specs.World.{World}
 use Rattle.queue_store.specs.Kept.{StandsFor, shown_by}
 use Rattle.queue_store.specs.declared.book.TableBook.{TableBook}
 use Rattle.queue_tables.specs.Content.{LeavesOneOf}
+use Rattle.queue_types.specs.Settings.{SettingValues}
 use Rattle.sqlite.specs.State.{State}
 use Rattle.sqlite_trees.specs.declared.store.Store.{Ghosts}
 
@@ -36,3 +37,11 @@ module _ {S : Type 0} (store : Ghosts S) (old new : TableBook S) where
     pub stands : StandsFor store new queue
     -- of a store that was open before, a crash at any moment leaves it, or what the event of one of their requests makes of it
     pub left : CrashLeaves (shown_by store old) (shown_by store new) queue (IsAtMostOneMore w counts queue are)
+
+  -- of each queue that the book stood for: connections, one after another, whose counts are so
+  abbrev pub Serves : (List ℕ → Type 0) → Type 0
+  Serves so = (w : World) → StandsFor store old w → (served : StoreServed w) × so served.counts
+
+  -- the same, of each queue with these settings
+  abbrev pub ServesWith : SettingValues → (List ℕ → Type 0) → Type 0
+  ServesWith settings so = (w : World) → StandsFor store old w → settings ≡ w.settings → (served : StoreServed w) × so served.counts

@@ -83,15 +83,13 @@ pub(crate) fn import_into<C: Clock, S: Alter, W: Write>(
     book: &mut TableBook<S>,
 ) -> Result<(), Fault>
     ensures began { IsHonest S.Store book.new → IsHonest S.Store book.old }
+    // these two: whatever it answers, a crash at any moment leaves all of the rows, or none, as `IsFileOrNone` says
     ensures taken { IsHonest S.Store book.new → OnOk result (MakesSafely S.Store book.old book.new
         (λ w u. TellsImport (AreIn file) w u (W.contents output.old) (W.contents output.new)) (IsFileOrNone (AreIn file))) }
     ensures left { IsHonest S.Store book.new → IfErr result (λ f. MakesSafely S.Store book.old book.new
         (λ w u. (u ≡ w) × (output.new ≡ output.old) ⊎ (IsOfStream f × HasImport (AreIn file) w u)) (IsFileOrNone (AreIn file))) }
     ensures refused { IfErr result (λ f. (told : ImportFault) → f ≡ ByFile told → (w : World) → StandsFor S.Store book.old w → StandsFor S.Store book.new w) }
     ensures live { IsHonest S.Store book.new → OnOk result (IsTrue (shown_by S.Store book.new).is_open) }
-    // whatever it answers: a crash at any moment leaves all of the rows, or none
-    ensures crash { IsHonest S.Store book.new → IsTrue (shown_by S.Store book.old).is_open → Makes S.Store book.old book.new (λ w u.
-        LeavesBeside (shown_by S.Store book.new) u (IsFileOrNone (AreIn file) w u)) }
     // a stream failed or there was no memory, or nothing was written
     ensures quiet { IfErr result (λ f. IsOfStream f ⊎ (output.new ≡ output.old)) }
     // a stream failed, or the file is refused

@@ -1,21 +1,22 @@
 //! The program: its words, the command that they name and the exit status.
 ghost use Rattle.std.specs.Prelude.{◌≡◌, ◌≤◌, ◌⊎◌, [], IfErr, IfOk, OnOk};
 ghost use Rattle.std.specs.Io.Buffered.{writer_buffer, writer_contents};
+ghost use Rattle.std.specs.Io.KnownBytes.{Keeps};
 ghost use Rattle.command_ends.specs.Faults.{IsOfStream};
 ghost use Rattle.command_ends.specs.Texts.{Tells};
 ghost use Rattle.command_ends.specs.declared.fault.Fault.{Fault as ToldFault};
 ghost use Rattle.command_ends.specs.declared.fault.Fault.TheVariants.{Memory as OfMemory};
 ghost use Rattle.command_words.specs.declared.outcome.Command.{Command as NamedCommand};
-ghost use Rattle.command_words.specs.declared.outcome.Init.{Init};
+ghost use Rattle.command_words.specs.declared.outcome.Init.{Init as InitWords};
 ghost use Rattle.commands.specs.Printed.{HasPrinted, Prints};
-ghost use Rattle.commands.specs.Refusals.{IsTold, MayBePrintedBy, MayBePrintedOf, MayBeToldBy, MayBeToldOf};
+ghost use Rattle.commands.specs.Refusals.{IsOfInit, IsOfReplay, IsTold, MayBePrintedBy, MayBePrintedOf, MayBeToldBy, MayBeToldOf};
 ghost use Rattle.commands.specs.Store.{CanBeMade, IsAllowed, IsOfStore};
 ghost use Rattle.commands.specs.Words.{AreWrong, AskForText, NameCommand, faults_of};
 
 use crate::store::{FileBook, make_store};
 use crate::work::{Work, work_at};
 use command_ends::{Fault, end, tell_words};
-use command_words::{Command, CommandFault, command};
+use command_words::{Command, CommandFault, Init, command};
 use replay_in_memory::replay;
 use sqlite_std_file::Unknown;
 use std::io::{BufWriter, Input, Write};
@@ -27,6 +28,26 @@ fn close(book: FileBook<Unknown>) {
     if let Err((_fault, store)) = book.close_files() {
         let _files = store.close();
     }
+}
+
+/// Makes the store that the words ask for, closes it and flushes what is printed, and gives the exit status.
+fn do_init<O: Write + Drop>(
+    rt: &HostRuntime,
+    words: Init<'_>,
+    out: &mut BufWriter<O>,
+) -> Result<u8, Fault>
+    ensures status { IfOk result (λ status. status ≡ 0) }
+    // whatever its files hold
+    ensures made { OnOk result (CanBeMade words.entry) }
+    ensures printed { OnOk result (Keeps (writer_contents O.contents out.old) (writer_contents O.contents out.new)) }
+    ensures handed { OnOk result (writer_buffer out.new ≡ []) }
+    ensures told { IfErr result IsOfInit }
+    // a stream failed or there was no memory, or nothing was printed
+    ensures quiet { IfErr result (λ f. IsOfStream f ⊎ (writer_contents O.contents out.new ≡ writer_contents O.contents out.old)) }
+{
+    close(make_store(rt, words, Unknown)?);
+    out.flush()?;
+    Ok(0)
 }
 
 /// Does the work on the store that is at its path, closes the store and flushes what is printed, and gives the exit status.
@@ -47,6 +68,18 @@ fn do_work<O: Write + Drop>(
     Ok(0)
 }
 
+/// Answers the lines of the program's input over a new queue in memory, flushes the answers, and gives the exit status.
+fn do_replay<O: Write + Drop>(rt: &HostRuntime, out: &mut BufWriter<O>) -> Result<u8, Fault>
+    ensures status { IfOk result (λ status. status ≤ 1) }
+    ensures printed { IfOk result (λ status. HasPrinted Command.Replay status (writer_contents O.contents out.old) (writer_contents O.contents out.new)) }
+    ensures handed { OnOk result (writer_buffer out.new ≡ []) }
+    ensures told { IfErr result IsOfReplay }
+{
+    let status = replay(rt.alloc(), &mut rt.reader(), out)?;
+    out.flush()?;
+    Ok(status)
+}
+
 /// Does what a command asks, flushes what is printed, and gives the exit status.
 fn do_command<O: Write + Drop>(
     rt: &HostRuntime,
@@ -59,24 +92,16 @@ fn do_command<O: Write + Drop>(
     // a stream failed or there was no memory, or no more was printed than may be
     ensures quiet { IfErr result (λ f. IsOfStream f ⊎ MayBePrintedBy command.entry (writer_contents O.contents out.old) (writer_contents O.contents out.new)) }
     // whatever its files hold
-    ensures made { (words : Init) → command.entry ≡ Command.Init words → OnOk result (CanBeMade words) }
+    ensures made { (words : InitWords) → command.entry ≡ Command.Init words → OnOk result (CanBeMade words) }
     ensures printed { IfOk result (λ status. HasPrinted command.entry status (writer_contents O.contents out.old) (writer_contents O.contents out.new)) }
     ensures handed { OnOk result (writer_buffer out.new ≡ []) }
 {
     match command {
-        Command::Init(words) => {
-            close(make_store(rt, words, Unknown)?);
-            out.flush()?;
-            Ok(0)
-        }
+        Command::Init(words) => do_init(rt, words, out),
         Command::Import(words) => do_work(rt, Work::Import(words), out),
         Command::Statement(words) => do_work(rt, Work::Statement(words), out),
         Command::Serve(words) => do_work(rt, Work::Serve(words), out),
-        Command::Replay => {
-            let status = replay(rt.alloc(), &mut rt.reader(), out)?;
-            out.flush()?;
-            Ok(status)
-        }
+        Command::Replay => do_replay(rt, out),
     }
 }
 

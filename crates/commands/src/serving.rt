@@ -1,19 +1,19 @@
 //! Connections over a store.
 ghost use Rattle.std.specs.IoError.{error_kind};
-ghost use Rattle.std.specs.Prelude.{◌≡◌, ◌↔◌, ◌≤◌, ◌⊎◌, ℕ, List, IfErr, IsTrue, OnOk, length};
+ghost use Rattle.std.specs.Prelude.{◌≡◌, ◌↔◌, ◌≤◌, ◌⊎◌, ℕ, List, IfErr, OnOk, length};
 ghost use Rattle.std.specs.Io.KnownBytes.{Appends};
 ghost use Rattle.std.specs.declared.io.Error.{Error as StreamError};
 ghost use Rattle.std.specs.declared.io.ErrorKind.TheVariants.{OutOfMemory};
 ghost use Rattle.command_ends.specs.Faults.{IsOfStream, fault_of_book};
 ghost use Rattle.command_ends.specs.declared.fault.Fault.TheVariants.{Damaged, Memory as OfMemory};
-ghost use Rattle.commands.specs.Books.{StoreServed};
+ghost use Rattle.commands.specs.Books.{Serves, ServesWith};
 ghost use Rattle.commands.specs.Printed.{server_lines};
 ghost use Rattle.commands.specs.Refusals.{HasListened, IsOfServe};
 ghost use Rattle.print_server.specs.Lines.{listening_line, served_lines};
 ghost use Rattle.print_server.specs.declared.fault.ServerFault.TheVariants.{Book as ByBook, Io as ByStream};
 ghost use Rattle.queue_core.specs.World.{World};
 ghost use Rattle.queue_core.specs.declared.book.BookFault.{BookFault};
-ghost use Rattle.queue_store.specs.Kept.{IsHonest, StandsFor, shown_by};
+ghost use Rattle.queue_store.specs.Kept.{IsHonest, StandsFor};
 
 use command_ends::Fault;
 use command_words::Serve;
@@ -78,18 +78,13 @@ fn serve_at<C: Clock, S: Alter, W: Write>(
     book: &mut TableBook<S>,
 ) -> Result<(), Fault>
     ensures began { IsHonest S.Store book.new → IsHonest S.Store book.old }
-    ensures served { IsHonest S.Store book.new → OnOk result ((w : World) → StandsFor S.Store book.old w → service.entry.settings.now ≡ w.settings
-        → (served : StoreServed S.Store book.old book.new w) × (length served.counts ≡ connections)
-        × Appends (W.contents output.old) (W.contents output.new) (served_lines served.counts)) }
+    // these two: whatever it answers, a crash at any moment leaves the queue that the book stands for, or the one after one of these connections' requests
+    // more, as `left` of `StoreServed` says
+    ensures served { IsHonest S.Store book.new → OnOk result (ServesWith S.Store book.old book.new service.entry.settings.now
+        (λ counts. (length counts ≡ connections) × Appends (W.contents output.old) (W.contents output.new) (served_lines counts))) }
     // no more than so many connections were served, and each was told of, or a stream failed or there was no memory
-    ensures err { IsHonest S.Store book.new → IfErr result (λ f. (w : World) → StandsFor S.Store book.old w → service.entry.settings.now ≡ w.settings
-        → (served : StoreServed S.Store book.old book.new w) × (length served.counts ≤ connections)
-        × (IsOfStream f ⊎ Appends (W.contents output.old) (W.contents output.new) (served_lines served.counts))) }
-    // whatever it answers: a crash at any moment leaves the queue that the book stands for, or the one after one of these connections' requests more, as `left` of
-    // the record says
-    ensures crash { IsHonest S.Store book.new → IsTrue (shown_by S.Store book.old).is_open
-        → (w : World) → StandsFor S.Store book.old w → service.entry.settings.now ≡ w.settings
-        → (served : StoreServed S.Store book.old book.new w) × (length served.counts ≤ connections) }
+    ensures err { IsHonest S.Store book.new → IfErr result (λ f. ServesWith S.Store book.old book.new service.entry.settings.now
+        (λ counts. (length counts ≤ connections) × (IsOfStream f ⊎ Appends (W.contents output.old) (W.contents output.new) (served_lines counts)))) }
     ensures damaged { IsHonest S.Store book.new → IfErr result (λ f. f ≡ Damaged
         → (w : World) → StandsFor S.Store book.old w → service.entry.settings.now ≡ w.settings → ⊥) }
     ensures told { IfErr result IsOfServe }
@@ -115,17 +110,13 @@ pub(crate) fn serve_book<C: Clock, S: Alter, W: Write>(
     book: &mut TableBook<S>,
 ) -> Result<(), Fault>
     ensures began { IsHonest S.Store book.new → IsHonest S.Store book.old }
-    ensures served { IsHonest S.Store book.new → OnOk result ((w : World) → StandsFor S.Store book.old w
-        → (served : StoreServed S.Store book.old book.new w) × (length served.counts ≡ words.entry.connections)
-        × Appends (W.contents output.old) (W.contents output.new) (server_lines words.entry served.counts)) }
+    // these two: whatever it answers, a crash at any moment leaves the queue that the book stands for, or the one after one of these connections' requests
+    // more, as `left` of `StoreServed` says
+    ensures served { IsHonest S.Store book.new → OnOk result (Serves S.Store book.old book.new
+        (λ counts. (length counts ≡ words.entry.connections) × Appends (W.contents output.old) (W.contents output.new) (server_lines words.entry counts))) }
     // no more than so many connections were served, and each was told of, or a stream failed or there was no memory
-    ensures err { IsHonest S.Store book.new → IfErr result (λ f. (w : World) → StandsFor S.Store book.old w
-        → (served : StoreServed S.Store book.old book.new w) × (length served.counts ≤ words.entry.connections)
-        × (IsOfStream f ⊎ Appends (W.contents output.old) (W.contents output.new) (server_lines words.entry served.counts))) }
-    // whatever it answers: a crash at any moment leaves the queue that the book stands for, or the one after one of these connections' requests more, as `left` of
-    // the record says
-    ensures crash { IsHonest S.Store book.new → IsTrue (shown_by S.Store book.old).is_open → (w : World) → StandsFor S.Store book.old w
-        → (served : StoreServed S.Store book.old book.new w) × (length served.counts ≤ words.entry.connections) }
+    ensures err { IsHonest S.Store book.new → IfErr result (λ f. Serves S.Store book.old book.new
+        (λ counts. (length counts ≤ words.entry.connections) × (IsOfStream f ⊎ Appends (W.contents output.old) (W.contents output.new) (server_lines words.entry counts)))) }
     ensures damaged { IsHonest S.Store book.new → IfErr result (λ f. f ≡ Damaged → (w : World) → ¬ StandsFor S.Store book.old w) }
     ensures told { IfErr result IsOfServe }
     // over any book, also one that is not honest

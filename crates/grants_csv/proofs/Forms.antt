@@ -1,14 +1,16 @@
 -- Records that are of a row's form, and those that aren't.
-use Rattle.std.proofs.Common.{◌≡◌, ℕ, List, [], ◌∷◌, Bool, true, false, ◌&&◌, length, refl, arith}
-use Rattle.std.specs.Prelude.{Some, None, nat_le, if◌then◌else◌}
+use Rattle.std.proofs.Common.{◌≡◌, ℕ, suc, List, [], ◌∷◌, Bool, true, false, ◌&&◌, length, refl, ap, arith}
+use Rattle.std.specs.Prelude.{Some, None, bytes_eq, codes, nat_eq, nat_le, if◌then◌else◌}
 use Rattle.std.specs.List.{list_all}
+use Rattle.std.specs.Option.{option_map_or}
 use Rattle.std.specs.Str.{is_utf8}
 use Rattle.std.specs.Str.Parse.{digits_value}
 use Rattle.std.proofs.lemmas.Bool.{and_parts, leb-true}
+use Rattle.std.proofs.lemmas.Bool.Decides.{nat_tests}
 use Rattle.std.proofs.lemmas.Str.{IsUtf8-from_is_utf8}
 use Rattle.csv.specs.Records.{field_at}
 use Rattle.queue_core.specs.Limits.{IsGrant, is_batch_byte, is_no_control}
-use Rattle.grants_csv.specs.File.{has_form, is_account, is_batch, is_number, pages_in}
+use Rattle.grants_csv.specs.File.{has_form, is_header, is_account, is_batch, is_number, pages_in}
 use Rattle.grants_csv.proofs.Tests.{and_three}
 
 first_bad : (a b c : Bool) → a ≡ false → (a && b && c) ≡ false
@@ -88,3 +90,18 @@ grant_limits b a p n form pages =
       rw v.1 (leb-true _ _ r.0),
       rw v.1 (leb-true _ _ r.1),
     )
+
+-- ---- the header
+
+-- the field at that place is the name
+abbrev pub is_name : List (List ℕ) → ℕ → List ℕ → Bool
+is_name fs i name = option_map_or (λ f. bytes_eq f name) (field_at fs i) false
+
+not_three : (n : ℕ) → false ≡ nat_eq (suc (suc (suc (suc n)))) 3
+not_three n = grind (arith, nat_tests)
+
+pub header_is : (fs : List (List ℕ)) → is_header fs ≡ (nat_eq (length fs) 3 && is_name fs 0 (codes "batch") && is_name fs 1 (codes "account") && is_name fs 2 (codes "pages"))
+unfolding field_at
+header_is (b ∷ a ∷ p ∷ []) = refl
+header_is (b ∷ a ∷ p ∷ q ∷ rest) = ap (λ t. t && bytes_eq b (codes "batch") && bytes_eq a (codes "account") && bytes_eq p (codes "pages")) (not_three (length rest))
+header_is _ = refl

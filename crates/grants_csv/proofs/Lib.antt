@@ -7,3 +7,4 @@ pub mod Rows
 pub mod ImportLemmas
 pub mod Crashes
 pub mod Limits
+pub mod Stated

@@ -2,12 +2,10 @@
 -- as `csv` reads them by default, and a byte order mark at the front is no part of the first.
 use Rattle.std.specs.Prelude.{ℕ, ◌+◌, ◌==◌, ◌&&◌, List, [], ◌∷◌, Bool, false, not, nat_le, nat_lt, length, codes, bytes_eq, Option, Some, None, Result, Ok, Err, if◌then◌else◌}
 use Rattle.std.specs.List.{list_all}
-use Rattle.std.specs.Option.{option_map_or}
 use Rattle.std.specs.Char.{is_ascii_digit}
 use Rattle.std.specs.Str.{is_utf8}
 use Rattle.std.specs.Str.Parse.{digits_value}
 use Rattle.csv.specs.Reading.{default_config, records, strip_bom}
-use Rattle.csv.specs.Records.{field_at}
 use Rattle.queue_core.specs.Limits.{is_batch_byte, is_no_control}
 use Rattle.queue_types.specs.declared.event.GrantRow.{GrantRow}
 use Rattle.grants_csv.specs.Fault.{at_row}
@@ -64,12 +62,10 @@ unfoldable pub rows_from : ℕ → List (List (List ℕ)) → Result (List Grant
 rows_from n [] = Ok []
 rows_from n (r ∷ rest) = add_row (row_of n r) (rows_from (n + 1) rest)
 
-abbrev pub has_field : List (List ℕ) → ℕ → List ℕ → Bool
-has_field fields i name = option_map_or (λ f. bytes_eq f name) (field_at fields i) false
-
 -- the record `batch,account,pages`
 abbrev pub is_header : List (List ℕ) → Bool
-is_header fields = (length fields == 3) && has_field fields 0 (codes "batch") && has_field fields 1 (codes "account") && has_field fields 2 (codes "pages")
+is_header (batch ∷ account ∷ pages ∷ []) = bytes_eq batch (codes "batch") && bytes_eq account (codes "account") && bytes_eq pages (codes "pages")
+is_header _ = false
 
 abbrev pub rows_under : List (List (List ℕ)) → Result (List GrantRow) ImportFault
 rows_under [] = Err (at_row Header 0)

@@ -10,5 +10,5 @@ mod row;
 
 pub use fault::{ImportCause, ImportFault};
 pub use importing::{Imported, import};
-pub use law::files_are_events;
+pub use law::{files_are_events, grants_have_rows};
 pub use reading::{MOST_FILE_BYTES, read_grants};

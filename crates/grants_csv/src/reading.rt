@@ -1,13 +1,14 @@
 //! The grants of an account file.
-ghost use Rattle.std.specs.Prelude.{◌≡◌, ◌≤◌, ◌<◌, ◌+◌, ℕ, List, [], All, Ok, Err, IfOk, IfErr, OnOk, length};
+ghost use Rattle.std.specs.Prelude.{◌≡◌, ◌≤◌, ◌<◌, ◌+◌, ℕ, List, [], All, Ok, Err, IfOk, IfErr, OnOk, bytes_eq, false, length};
+ghost use Rattle.std.specs.Option.{option_map_or};
 ghost use Rattle.csv.specs.Machine.{next_record as next_of};
 ghost use Rattle.csv.specs.Reading.{default_config, records_from, strip_bom};
-ghost use Rattle.csv.specs.Records.{fields_of};
+ghost use Rattle.csv.specs.Records.{field_at, fields_of};
 ghost use Rattle.csv.specs.declared.parser.State.{State};
 ghost use Rattle.csv.specs.declared.parser.State.TheVariants as st;
 ghost use Rattle.queue_core.specs.Limits.{IsGrantRow};
 ghost use Rattle.grants_csv.specs.Fault.{IsUnlessFault, at_row, fault};
-ghost use Rattle.grants_csv.specs.File.{has_field, is_header, rows_from, rows_of, rows_under};
+ghost use Rattle.grants_csv.specs.File.{is_header, rows_from, rows_of, rows_under};
 ghost use Rattle.grants_csv.specs.declared.fault.ImportCause.TheVariants.{Range};
 ghost use Rattle.grants_csv.specs.Records.{Gives, IsAt};
 
@@ -39,11 +40,12 @@ fn next_record(rdr: &mut Reader<&[u8]>, fields: &mut ByteRecord) -> Result<bool,
 }
 
 fn has_field(fields: &ByteRecord, i: usize, name: &[u8]) -> bool
-    ensures { result ≡ has_field (fields_of fields.now) i name.now }
+    ensures { result ≡ option_map_or (λ f. bytes_eq f name.now) (field_at (fields_of fields.now) i) false }
 {
     fields.get(i) == Some(name)
 }
 
+#[tactic(auto, using(crate::proofs::Forms::header_is))]
 fn is_header(fields: &ByteRecord) -> bool
     ensures { result ≡ is_header (fields_of fields.now) }
 {

@@ -1,6 +1,7 @@
 -- What requests leave, where a crash may come at any moment.
 use Rattle.std.specs.Prelude.{◌≡◌, ◌⊎◌, ℕ, List, [], ◌∷◌, Some, Result, Ok, Err}
 use Rattle.queue_types.specs.Event.{Event}
+use Rattle.queue_core.specs.Crash.{CarriesBy, IsLeftOr}
 use Rattle.queue_core.specs.Machine.{step}
 use Rattle.queue_core.specs.World.{World}
 use Rattle.http_head.specs.declared.target.Target.{Target}
@@ -34,8 +35,8 @@ IsAtMostOneMore now w turns u x = (x ≡ u) ⊎ ((e : Event) × IsAskedIn w turn
 -- behind these requests, which made u of the queue w, a crash leaves x: where nothing was done v, which it left before; or u, or what the event of one
 -- of them makes of u
 abbrev pub IsLeft : ℕ → List Turn → World → World → World → World → Type 0
-IsLeft now turns w v u x = ((u ≡ w) × (x ≡ v)) ⊎ IsAtMostOneMore now w turns u x
+IsLeft now turns w v u x = IsLeftOr (IsAtMostOneMore now w turns u) w v u x
 
 -- what a crash leaves beside w, before these requests, comes to what it leaves beside u, after them
 abbrev pub CarriesAll : (World → World → Type 0) → (World → World → Type 0) → ℕ → List Turn → World → World → Type 0
-CarriesAll before after now turns w u = (v : World) → before w v → (x : World) × after u x × IsLeft now turns w v u x
+CarriesAll before after now turns w u = CarriesBy before after (λ v x. IsLeft now turns w v u x) w u

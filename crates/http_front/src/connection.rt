@@ -3,7 +3,7 @@ ghost use Rattle.std.specs.Prelude.{◌≡◌, ◌+◌, ◌^◌, ◌<◌, ◌≤
 ghost use Rattle.std.specs.Option.{ForSome};
 ghost use Rattle.queue_core.specs.Limits.{IsMoment};
 ghost use Rattle.queue_core.specs.World.{World};
-ghost use Rattle.http_head.specs.Left.{left};
+ghost use Rattle.http_head.specs.Reads.{bytes_left};
 ghost use Rattle.http_head.specs.Routes.{routes};
 ghost use Rattle.http_front.specs.Books.{ComesTo};
 ghost use Rattle.http_front.specs.Connections.{IsFaultless, IsServed, IsStopped, MarksFaults, Worked, WorkedOver, acted_of};
@@ -45,10 +45,10 @@ fn run<R: Read, W: Write, B: QueueBook>(
     requires moment { IsMoment context.now }
     ensures began { B.is_honest book.new → B.is_honest book.old }
     ensures served { IfOk result (λ served. ComesTo B.QueueBook book.old book.new context.entry.settings.now (λ w u.
-        IfSome (left input.old.buffer (R.remaining input.old.reader)) (IsServed (B.crash_leaves book.old) (B.crash_leaves book.new)
+        IfSome (bytes_left R.Read input.old) (IsServed (B.crash_leaves book.old) (B.crash_leaves book.new)
         context.entry.now w u (W.contents writer.old) (W.contents writer.new) served))) }
     ensures broken { IfErr result (λ fault. ComesTo B.QueueBook book.old book.new context.entry.settings.now (λ w u.
-        IfSome (left input.old.buffer (R.remaining input.old.reader)) (IsStopped (B.crash_leaves book.old) (B.crash_leaves book.new)
+        IfSome (bytes_left R.Read input.old) (IsStopped (B.crash_leaves book.old) (B.crash_leaves book.new)
         context.entry.now w u (W.contents writer.old) (W.contents writer.new) fault))) }
     ensures worked { ComesTo B.QueueBook book.old book.new context.entry.settings.now (λ w u.
         (k : Worked most_requests context.entry.now w u (acted_of result))

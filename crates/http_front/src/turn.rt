@@ -3,7 +3,7 @@ ghost use Rattle.std.specs.Prelude.{◌≡◌, ◌≤◌, ◌==◌, ◌||◌};
 ghost use Rattle.std.specs.Option.{ForSome};
 ghost use Rattle.queue_core.specs.Limits.{IsMoment};
 ghost use Rattle.http_head.specs.Framing.{size_of};
-ghost use Rattle.http_head.specs.Left.{left};
+ghost use Rattle.http_head.specs.Reads.{bytes_left};
 ghost use Rattle.http_head.specs.Limits.{content_limit};
 ghost use Rattle.http_head.specs.Routes.{routes};
 ghost use Rattle.http_front.specs.Books.{ComesTo};
@@ -73,7 +73,7 @@ fn take_planned<R: Read, W: Write, B: QueueBook>(
     ensures began { B.is_honest book.new → B.is_honest book.old }
     ensures planned { ComesTo B.QueueBook book.old book.new context.entry.settings.now (λ w u.
         IsPlanned (B.crash_leaves book.old) (B.crash_leaves book.new) context.entry.now numbered.k w u numbered.plan
-        (left input.old.buffer (R.remaining input.old.reader)) (left input.new.buffer (R.remaining input.new.reader))
+        (bytes_left R.Read input.old) (bytes_left R.Read input.new)
         (W.contents writer.old) (W.contents writer.new) result) }
     ensures never_more { input.new.reads_left ≤ input.old.reads_left }
     ensures last { ClosesLast numbered.k result }
@@ -119,7 +119,7 @@ pub(crate) fn turn<R: Read, W: Write, B: QueueBook>(
     ensures began { B.is_honest book.new → B.is_honest book.old }
     ensures turned { ComesTo B.QueueBook book.old book.new context.entry.settings.now (λ w u.
         IsTurned (B.crash_leaves book.old) (B.crash_leaves book.new) context.entry.now k w u
-        (left input.old.buffer (R.remaining input.old.reader)) (left input.new.buffer (R.remaining input.new.reader))
+        (bytes_left R.Read input.old) (bytes_left R.Read input.new)
         (W.contents writer.old) (W.contents writer.new) result) }
     ensures never_more { input.new.reads_left ≤ input.old.reads_left }
     ensures last { ClosesLast k result }

@@ -45,7 +45,7 @@ impl Framing {
     }
 }
 
-/// There is a value.
+/// There is a value. It has a name, so that what is said of it speaks of the values and not of how many they are.
 pub(crate) fn is_there(values: &[Span]) -> bool
     ensures { result ≡ spec.is_there values.now }
 {
@@ -88,7 +88,7 @@ fn all_same(come: &[u8], lengths: &[Span]) -> bool
     are_as(come, first_text(come, lengths), lengths)
 }
 
-/// Both are there, or the transfer codings are not chunked alone, or the lengths are not one number.
+/// Both are there, or the transfer codings are not chunked alone, or the lengths are not digits, or differ in their texts.
 pub(crate) fn is_misframed(come: &[u8], codings: &[Span], lengths: &[Span]) -> bool
     ensures { result ≡ spec.misframed (map (span_bytes come.now) codings.now) (map (span_bytes come.now) lengths.now) }
 {

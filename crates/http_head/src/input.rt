@@ -2,7 +2,7 @@
 ghost use Rattle.std.specs.Prelude.{◌≡◌, ◌+◌, ◌<◌, ◌≤◌, [], length, drop, IfOk};
 ghost use Rattle.std.specs.Io.{StartsWith};
 ghost use Rattle.std.specs.Io.KnownBytes.{Keeps, IsAtEnd};
-ghost use Rattle.http_head.specs.Left.{left};
+ghost use Rattle.http_head.specs.Reads.{bytes_left};
 ghost use Rattle.http_head.specs.Limits.{head_limit};
 
 use crate::buffer::Buffer;
@@ -60,7 +60,7 @@ impl<R: Read> Input<R> {
     /// reads of a connection it fails.
     pub fn fill(&mut self) -> Result<usize, ReadFault>
         requires { length self.old.buffer < head_limit }
-        ensures kept { Keeps (left self.old.buffer (R.remaining self.old.reader)) (left self.new.buffer (R.remaining self.new.reader)) }
+        ensures kept { Keeps (bytes_left R.Read self.old) (bytes_left R.Read self.new) }
         ensures grows { IfOk result (λ n. length self.new.buffer ≡ length self.old.buffer + n) }
         ensures end { IfOk result (λ n. n ≡ 0 → (self.new.buffer ≡ self.old.buffer) × IsAtEnd (R.remaining self.new.reader)) }
         ensures front { StartsWith self.new.buffer self.old.buffer }

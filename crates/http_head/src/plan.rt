@@ -78,7 +78,8 @@ fn plan_said(
     })
 }
 
-/// The plan of the head at the front of what has come, or the first check that applies to it.
+/// The plan of the head at the front of what has come, or the first check that applies to it. It is [`plan_said`] with what follows from its
+/// one clause, so that this is not proved at each of its ways out.
 pub(crate) fn plan_at(
     router: &Router<Route>,
     come: &[u8],

@@ -4,9 +4,8 @@ ghost use Rattle.std.specs.Io.KnownBytes.{Keeps};
 ghost use Rattle.httparse.specs.Grammar.{RequestHead, ReadsRequest};
 ghost use Rattle.http_head.specs.Fault.{IsHeadFault};
 ghost use Rattle.http_head.specs.Framing.{size_of};
-ghost use Rattle.http_head.specs.Left.{left};
 ghost use Rattle.http_head.specs.Limits.{content_limit};
-ghost use Rattle.http_head.specs.Reads.{MakesNoRead};
+ghost use Rattle.http_head.specs.Reads.{MakesNoRead, bytes_left};
 ghost use Rattle.http_head.specs.Received.{TakesPlan};
 ghost use Rattle.http_head.specs.Routes.{routes};
 
@@ -23,10 +22,10 @@ use std::io::Read;
 /// Takes the next head, and answers what it asks for. A head that a check refuses is not taken.
 pub fn take_head<R: Read>(router: &Router<Route>, input: &mut Input<R>) -> Result<Plan, HeadFault>
     requires { router.now ≡ routes }
-    ensures taken { IfOk result (TakesPlan (left input.old.buffer (R.remaining input.old.reader)) (left input.new.buffer (R.remaining input.new.reader))) }
+    ensures taken { IfOk result (TakesPlan (bytes_left R.Read input.old) (bytes_left R.Read input.new)) }
     ensures fits { IfOk result (λ plan. size_of plan.framing ≤ content_limit) }
-    ensures kept { OnErr result (Keeps (left input.old.buffer (R.remaining input.old.reader)) (left input.new.buffer (R.remaining input.new.reader))) }
-    ensures failed { IfErr result (IsHeadFault (left input.old.buffer (R.remaining input.old.reader))) }
+    ensures kept { OnErr result (Keeps (bytes_left R.Read input.old) (bytes_left R.Read input.new)) }
+    ensures failed { IfErr result (IsHeadFault (bytes_left R.Read input.old)) }
     ensures never_more { input.new.reads_left ≤ input.old.reads_left }
     // where a head has come, no read is made
     ensures unread { (h : RequestHead) (rest : List ℕ) → ReadsRequest input.old.buffer h rest → MakesNoRead input.old input.new }

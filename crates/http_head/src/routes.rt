@@ -28,7 +28,7 @@ fn add(router: &mut Router<Route>, routes: &[(&str, Route)]) -> Result<(), Inser
     Ok(())
 }
 
-/// The router of the server.
+/// The router of the server. The one error is want of memory, [`InsertError::OutOfMemory`]: no two of its routes conflict.
 pub fn router(alloc: Global) -> Result<Router<Route>, InsertError>
     ensures { IfOk result (λ r. r ≡ spec.routes) }
 {

@@ -10,12 +10,20 @@ use Rattle.httparse.specs.Grammar.{ChunkLine, print_chunk_line, chunk_size, prin
 use Rattle.http_head.specs.Limits.{content_limit, raw_limit, line_limit, trailer_limit}
 use Rattle.http_wire.specs.Chunks.{Chunk, IsChunk, AreChunks, IsShortLine, chunks_bytes, chunks_content, chunk_bytes, content_of, chunked_bytes, chunked_content}
 use Rattle.http_wire.specs.ChunkEnds.{BeginsWithChunks, EndsAtLine, EndsAtTrailers, EndsAtLineEnd, EndsInChunk, EndsInChunks, IsPastLimits, at_line, too_large, in_chunk, at_trailers, bound_behind}
-use Rattle.http_wire.specs.ChunkParts.{TakesLine, TakesChunks, TakesToLast, TakesTrailers, TakesChunked}
+use Rattle.http_wire.specs.ChunkParts.{TakesLine, TakesToLast, TakesTrailers, TakesChunked}
 use Rattle.http_head.specs.declared.end.Finish.{Finish}
 use Rattle.http_head.specs.declared.end.Finish.TheVariants.{Closed, Cut, Done, Refused}
 use Rattle.http_head.specs.declared.end.Refusal.TheVariants.{ContentTooLarge}
 
 -- ---- chunks that were taken
+
+-- chunks: this is their content, and so many bytes they have
+pub record TakesChunks (old new : Option (List ℕ)) (raw : ℕ) (content : List ℕ) : Type 0 where
+  pub chunks : List Chunk
+  pub are : AreChunks chunks
+  pub taken : Consumes old new (chunks_bytes chunks)
+  pub raw_is : raw ≡ length (chunks_bytes chunks)
+  pub content_is : content ≡ chunks_content chunks
 
 pub chunks_none : (a : Option (List ℕ)) (content : List ℕ) → content ≡ [] → TakesChunks a a 0 content
 unfolding chunks_bytes chunks_content

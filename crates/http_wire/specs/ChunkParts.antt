@@ -28,14 +28,6 @@ pub record TakesChunk (size : ℕ) (old new : Option (List ℕ)) (before after :
 
 -- ---- the chunks
 
--- chunks: this is their content, and so many bytes they have
-pub record TakesChunks (old new : Option (List ℕ)) (raw : ℕ) (content : List ℕ) : Type 0 where
-  pub chunks : List Chunk
-  pub are : AreChunks chunks
-  pub taken : Consumes old new (chunks_bytes chunks)
-  pub raw_is : raw ≡ length (chunks_bytes chunks)
-  pub content_is : content ≡ chunks_content chunks
-
 -- chunks and the line of the last chunk
 pub record TakesToLast (old new : Option (List ℕ)) (raw : ℕ) (content : List ℕ) : Type 0 where
   pub chunks : List Chunk

@@ -1,8 +1,7 @@
 //! A body whose length is told.
 ghost use Rattle.std.specs.Prelude.{◌≡◌, ◌<◌, ◌≤◌, [], length, true, false, IfErr, IfOk, IfSome, OnOk};
 ghost use Rattle.std.specs.Io.KnownBytes.{Consumes, Keeps, IsAtEnd};
-ghost use Rattle.http_head.specs.Left.{left};
-ghost use Rattle.http_head.specs.Reads.{MakesNoRead};
+ghost use Rattle.http_head.specs.Reads.{MakesNoRead, bytes_left};
 ghost use Rattle.http_wire.specs.Bodies.{EndsInLength, TakesMore};
 ghost use Rattle.http_wire.specs.Fault.{IfEnded};
 
@@ -15,7 +14,7 @@ use std::io::Read;
 
 /// Reads where nothing has come, and says whether something has come now: nothing only at the input's end.
 pub(crate) fn await_bytes<R: Read>(input: &mut Input<R>) -> Result<bool, ReadFault>
-    ensures kept { Keeps (left input.old.buffer (R.remaining input.old.reader)) (left input.new.buffer (R.remaining input.new.reader)) }
+    ensures kept { Keeps (bytes_left R.Read input.old) (bytes_left R.Read input.new) }
     ensures there { IfOk result (λ some. some ≡ true → 0 < length input.new.buffer) }
     ensures none { IfOk result (λ some. some ≡ false → (input.new.buffer ≡ []) × IsAtEnd (R.remaining input.new.reader)) }
     ensures never_more { input.new.reads_left ≤ input.old.reads_left }
@@ -33,8 +32,8 @@ pub(crate) fn take_more<R: Read>(
     content: &mut Vec<u8>,
     n: usize,
 ) -> Result<(), BodyFault>
-    ensures whole { OnOk result (TakesMore n (left input.old.buffer (R.remaining input.old.reader)) (left input.new.buffer (R.remaining input.new.reader)) content.old.items content.new.items) }
-    ensures cut { IfErr result (λ f. IfEnded f (λ end. IfSome (left input.old.buffer (R.remaining input.old.reader)) (λ bytes. EndsInLength n bytes end))) }
+    ensures whole { OnOk result (TakesMore n (bytes_left R.Read input.old) (bytes_left R.Read input.new) content.old.items content.new.items) }
+    ensures cut { IfErr result (λ f. IfEnded f (λ end. IfSome (bytes_left R.Read input.old) (λ bytes. EndsInLength n bytes end))) }
     ensures never_more { input.new.reads_left ≤ input.old.reads_left }
     // where they have come, no read is made
     ensures unread { n ≤ length input.old.buffer → MakesNoRead input.old input.new }
@@ -52,20 +51,20 @@ pub(crate) fn take_more<R: Read>(
     Ok(())
 }
 
-/// Takes the next n bytes. Where fewer are left, the input was cut.
+/// Takes the next n bytes, in memory that is taken for all of them before the first is read. Where fewer are left, the input was cut.
 pub(crate) fn take_body<R: Read>(
     alloc: Global,
     input: &mut Input<R>,
     n: usize,
 ) -> Result<Vec<u8>, BodyFault>
     ensures whole { IfOk result (λ body. (length body.items ≡ n)
-        × Consumes (left input.old.buffer (R.remaining input.old.reader)) (left input.new.buffer (R.remaining input.new.reader)) body.items) }
-    ensures cut { IfErr result (λ f. IfEnded f (λ end. IfSome (left input.old.buffer (R.remaining input.old.reader)) (λ bytes. EndsInLength n bytes end))) }
+        × Consumes (bytes_left R.Read input.old) (bytes_left R.Read input.new) body.items) }
+    ensures cut { IfErr result (λ f. IfEnded f (λ end. IfSome (bytes_left R.Read input.old) (λ bytes. EndsInLength n bytes end))) }
     ensures never_more { input.new.reads_left ≤ input.old.reads_left }
     // where they have come, no read is made
     ensures unread { n ≤ length input.old.buffer → MakesNoRead input.old input.new }
 {
-    let mut content = Vec::new(alloc);
+    let mut content = Vec::with_capacity(alloc, n)?;
     take_more(input, &mut content, n)?;
     Ok(content)
 }

@@ -7,7 +7,7 @@ ghost use Rattle.httparse.specs.Spans.{IsChunkLineAt};
 ghost use Rattle.http_wire.specs.ChunkEnds as ends;
 ghost use Rattle.http_wire.specs.ChunkEnds.{EndsAtLine, EndsAtLineEnd, EndsInChunk};
 ghost use Rattle.http_wire.specs.ChunkParts.{TakesChunk, TakesLine};
-ghost use Rattle.http_head.specs.Left.{left};
+ghost use Rattle.http_head.specs.Reads.{bytes_left};
 ghost use Rattle.http_head.specs.Limits.{line_limit, raw_limit};
 ghost use Rattle.http_wire.specs.LineEnds.{IsLineEndState};
 ghost use Rattle.http_wire.specs.Fault.{IfEnded};
@@ -69,9 +69,9 @@ pub(crate) struct Line {
 /// Reads until a chunk line stands at the front of the buffer, where it is left.
 fn find_line<R: Read>(input: &mut Input<R>, bound: Bound) -> Result<Line, BodyFault>
     requires { bound.limit ≤ line_limit }
-    ensures kept { Keeps (left input.old.buffer (R.remaining input.old.reader)) (left input.new.buffer (R.remaining input.new.reader)) }
+    ensures kept { Keeps (bytes_left R.Read input.old) (bytes_left R.Read input.new) }
     ensures found { IfOk result (λ line. (l : ChunkLine) × IsChunkLineAt input.new.buffer line.len line.size l × (line.len ≤ bound.limit)) }
-    ensures ended { IfErr result (λ f. IfEnded f (λ end. IfSome (left input.old.buffer (R.remaining input.old.reader)) (λ bytes. EndsAtLine bound bytes end))) }
+    ensures ended { IfErr result (λ f. IfEnded f (λ end. IfSome (bytes_left R.Read input.old) (λ bytes. EndsAtLine bound bytes end))) }
     ensures never_more { input.new.reads_left ≤ input.old.reads_left }
 {
     'fill: loop {
@@ -92,8 +92,8 @@ fn find_line<R: Read>(input: &mut Input<R>, bound: Bound) -> Result<Line, BodyFa
 /// Takes a chunk line. No byte is read for it once `bound.limit` bytes have come, which is at most 1,024.
 pub(crate) fn take_line<R: Read>(input: &mut Input<R>, bound: Bound) -> Result<Line, BodyFault>
     requires { bound.limit ≤ line_limit }
-    ensures taken { IfOk result (λ line. TakesLine bound.limit (left input.old.buffer (R.remaining input.old.reader)) (left input.new.buffer (R.remaining input.new.reader)) line.len line.size) }
-    ensures ended { IfErr result (λ f. IfEnded f (λ end. IfSome (left input.old.buffer (R.remaining input.old.reader)) (λ bytes. EndsAtLine bound bytes end))) }
+    ensures taken { IfOk result (λ line. TakesLine bound.limit (bytes_left R.Read input.old) (bytes_left R.Read input.new) line.len line.size) }
+    ensures ended { IfErr result (λ f. IfEnded f (λ end. IfSome (bytes_left R.Read input.old) (λ bytes. EndsAtLine bound bytes end))) }
     ensures never_more { input.new.reads_left ≤ input.old.reads_left }
 {
     let line = find_line(input, bound)?;
@@ -124,8 +124,8 @@ fn line_end_in(bytes: &[u8]) -> LineEndState
 
 /// Takes the CR LF behind a chunk's content.
 fn take_line_end<R: Read>(input: &mut Input<R>) -> Result<(), BodyFault>
-    ensures taken { OnOk result (Consumes (left input.old.buffer (R.remaining input.old.reader)) (left input.new.buffer (R.remaining input.new.reader)) crlf_bytes) }
-    ensures ended { IfErr result (λ f. IfEnded f (λ end. IfSome (left input.old.buffer (R.remaining input.old.reader)) (λ bytes. EndsAtLineEnd bytes end))) }
+    ensures taken { OnOk result (Consumes (bytes_left R.Read input.old) (bytes_left R.Read input.new) crlf_bytes) }
+    ensures ended { IfErr result (λ f. IfEnded f (λ end. IfSome (bytes_left R.Read input.old) (λ bytes. EndsAtLineEnd bytes end))) }
     ensures never_more { input.new.reads_left ≤ input.old.reads_left }
 {
     'fill: loop {
@@ -151,8 +151,8 @@ pub(crate) fn take_chunk<R: Read>(
     content: &mut Vec<u8>,
     size: usize,
 ) -> Result<(), BodyFault>
-    ensures taken { OnOk result (TakesChunk size (left input.old.buffer (R.remaining input.old.reader)) (left input.new.buffer (R.remaining input.new.reader)) content.old.items content.new.items) }
-    ensures ended { IfErr result (λ f. IfEnded f (λ end. IfSome (left input.old.buffer (R.remaining input.old.reader)) (λ bytes. EndsInChunk size bytes end))) }
+    ensures taken { OnOk result (TakesChunk size (bytes_left R.Read input.old) (bytes_left R.Read input.new) content.old.items content.new.items) }
+    ensures ended { IfErr result (λ f. IfEnded f (λ end. IfSome (bytes_left R.Read input.old) (λ bytes. EndsInChunk size bytes end))) }
     ensures never_more { input.new.reads_left ≤ input.old.reads_left }
 {
     take_more(input, content, size)?;

@@ -4,7 +4,7 @@ ghost use Rattle.std.specs.Prelude.{◌≡◌, ◌+◌, ◌<◌, ◌≤◌, ◌�
 ghost use Rattle.std.specs.Bool.{OnTrue, OnFalse};
 ghost use Rattle.http_wire.specs.ChunkEnds.{EndsInChunks};
 ghost use Rattle.http_wire.specs.ChunkParts.{TakesChunked, TakesToLast};
-ghost use Rattle.http_head.specs.Left.{left};
+ghost use Rattle.http_head.specs.Reads.{bytes_left};
 ghost use Rattle.http_head.specs.Limits.{content_limit, line_limit, raw_limit};
 ghost use Rattle.http_wire.specs.Fault.{IfEnded};
 
@@ -36,8 +36,8 @@ fn is_too_large(content: usize, raw: usize, line: Line) -> bool
 /// Takes the chunks and the line of the last one, adds up their content, and answers how many bytes they have.
 fn take_chunks<R: Read>(input: &mut Input<R>, content: &mut Vec<u8>) -> Result<usize, BodyFault>
     requires { content.old.items ≡ [] }
-    ensures taken { IfOk result (λ raw. TakesToLast (left input.old.buffer (R.remaining input.old.reader)) (left input.new.buffer (R.remaining input.new.reader)) raw content.new.items) }
-    ensures ended { IfErr result (λ f. IfEnded f (λ end. IfSome (left input.old.buffer (R.remaining input.old.reader)) (λ bytes. EndsInChunks bytes end))) }
+    ensures taken { IfOk result (λ raw. TakesToLast (bytes_left R.Read input.old) (bytes_left R.Read input.new) raw content.new.items) }
+    ensures ended { IfErr result (λ f. IfEnded f (λ end. IfSome (bytes_left R.Read input.old) (λ bytes. EndsInChunks bytes end))) }
     ensures never_more { input.new.reads_left ≤ input.old.reads_left }
 {
     let mut raw: usize = 0;
@@ -59,9 +59,9 @@ pub(crate) fn take_chunked<R: Read>(
     alloc: Global,
     input: &mut Input<R>,
 ) -> Result<Vec<u8>, BodyFault>
-    ensures taken { IfOk result (λ content. TakesChunked (left input.old.buffer (R.remaining input.old.reader)) (left input.new.buffer (R.remaining input.new.reader)) content.items) }
+    ensures taken { IfOk result (λ content. TakesChunked (bytes_left R.Read input.old) (bytes_left R.Read input.new) content.items) }
     ensures fits { IfOk result (λ content. length content.items ≤ content_limit) }
-    ensures ended { IfErr result (λ f. IfEnded f (λ end. IfSome (left input.old.buffer (R.remaining input.old.reader)) (λ bytes. EndsInChunks bytes end))) }
+    ensures ended { IfErr result (λ f. IfEnded f (λ end. IfSome (bytes_left R.Read input.old) (λ bytes. EndsInChunks bytes end))) }
     ensures never_more { input.new.reads_left ≤ input.old.reads_left }
 {
     let mut content = Vec::new(alloc);

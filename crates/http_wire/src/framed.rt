@@ -3,9 +3,8 @@ ghost use Rattle.std.specs.Prelude.{◌≡◌, ◌≤◌, ℕ, List, false, leng
 ghost use Rattle.std.specs.Io.KnownBytes.{Consumes};
 ghost use Rattle.http_wire.specs.Bodies.{EndsInBody, IsBody};
 ghost use Rattle.http_head.specs.Framing.{is_chunked, size_of};
-ghost use Rattle.http_head.specs.Left.{left};
 ghost use Rattle.http_head.specs.Limits.{content_limit};
-ghost use Rattle.http_head.specs.Reads.{MakesNoRead};
+ghost use Rattle.http_head.specs.Reads.{MakesNoRead, bytes_left};
 ghost use Rattle.http_wire.specs.Fault.{IfEnded};
 
 use crate::body::take_body;
@@ -26,9 +25,9 @@ pub fn take_framed<R: Read>(
 ) -> Result<Vec<u8>, BodyFault>
     requires { size_of framing ≤ content_limit }
     ensures taken { IfOk result (λ content. (raw : List ℕ) × IsBody framing raw content.items
-        × Consumes (left input.old.buffer (R.remaining input.old.reader)) (left input.new.buffer (R.remaining input.new.reader)) raw) }
+        × Consumes (bytes_left R.Read input.old) (bytes_left R.Read input.new) raw) }
     ensures fits { IfOk result (λ content. length content.items ≤ content_limit) }
-    ensures ended { IfErr result (λ f. IfEnded f (λ end. IfSome (left input.old.buffer (R.remaining input.old.reader)) (λ bytes. EndsInBody framing bytes end))) }
+    ensures ended { IfErr result (λ f. IfEnded f (λ end. IfSome (bytes_left R.Read input.old) (λ bytes. EndsInBody framing bytes end))) }
     ensures never_more { input.new.reads_left ≤ input.old.reads_left }
     // where none is told, or as many bytes as its length tells have come, no read is made
     ensures unread { is_chunked framing ≡ false → size_of framing ≤ length input.old.buffer → MakesNoRead input.old input.new }

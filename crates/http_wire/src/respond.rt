@@ -69,7 +69,7 @@ fn allow_line(refusal: Refusal) -> &'static str
     }
 }
 
-/// The reason phrase of a refusal's status.
+/// The reason phrase of a refusal's status. It is [`phrase_text`] with what follows from its value: that it fits a head.
 fn phrase_of(refusal: Refusal) -> &'static str
     ensures value { result.now ≡ unwrap_or (reason_phrase (code_of refusal)) [] }
     ensures short { length result.now ≤ 40 }

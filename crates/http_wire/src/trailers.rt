@@ -3,7 +3,7 @@ ghost use Rattle.std.specs.Prelude.{◌≤◌, IfErr, IfOk, IfSome, OnOk};
 ghost use Rattle.std.specs.Io.KnownBytes.{Keeps};
 ghost use Rattle.http_wire.specs.ChunkEnds.{EndsAtTrailers};
 ghost use Rattle.http_wire.specs.ChunkParts.{AreTrailersAt, TakesTrailers};
-ghost use Rattle.http_head.specs.Left.{left};
+ghost use Rattle.http_head.specs.Reads.{bytes_left};
 ghost use Rattle.http_head.specs.Limits.{trailer_limit};
 ghost use Rattle.http_wire.specs.Fault.{IfEnded};
 
@@ -19,9 +19,9 @@ use std::io::Read;
 /// Reads until a trailer section stands at the front of the buffer, where it is left, and answers how many bytes it has.
 fn find_trailers<R: Read>(input: &mut Input<R>, bound: Bound) -> Result<usize, BodyFault>
     requires { bound.limit ≤ trailer_limit }
-    ensures kept { Keeps (left input.old.buffer (R.remaining input.old.reader)) (left input.new.buffer (R.remaining input.new.reader)) }
+    ensures kept { Keeps (bytes_left R.Read input.old) (bytes_left R.Read input.new) }
     ensures found { IfOk result (λ len. AreTrailersAt input.new.buffer len × (len ≤ bound.limit)) }
-    ensures ended { IfErr result (λ f. IfEnded f (λ end. IfSome (left input.old.buffer (R.remaining input.old.reader)) (λ bytes. EndsAtTrailers bound bytes end))) }
+    ensures ended { IfErr result (λ f. IfEnded f (λ end. IfSome (bytes_left R.Read input.old) (λ bytes. EndsAtTrailers bound bytes end))) }
     ensures never_more { input.new.reads_left ≤ input.old.reads_left }
 {
     let mut headers = [EMPTY_HEADER_SPAN; MOST_FIELDS];
@@ -43,8 +43,8 @@ fn find_trailers<R: Read>(input: &mut Input<R>, bound: Bound) -> Result<usize, B
 /// Takes a trailer section. No byte is read for it once `bound.limit` bytes have come, which is at most 16,384.
 pub(crate) fn take_trailers<R: Read>(input: &mut Input<R>, bound: Bound) -> Result<(), BodyFault>
     requires { bound.limit ≤ trailer_limit }
-    ensures taken { OnOk result (TakesTrailers bound.limit (left input.old.buffer (R.remaining input.old.reader)) (left input.new.buffer (R.remaining input.new.reader))) }
-    ensures ended { IfErr result (λ f. IfEnded f (λ end. IfSome (left input.old.buffer (R.remaining input.old.reader)) (λ bytes. EndsAtTrailers bound bytes end))) }
+    ensures taken { OnOk result (TakesTrailers bound.limit (bytes_left R.Read input.old) (bytes_left R.Read input.new)) }
+    ensures ended { IfErr result (λ f. IfEnded f (λ end. IfSome (bytes_left R.Read input.old) (λ bytes. EndsAtTrailers bound bytes end))) }
     ensures never_more { input.new.reads_left ≤ input.old.reads_left }
 {
     let len = find_trailers(input, bound)?;

@@ -6,6 +6,7 @@ use Rattle.std.proofs.lemmas.Bool.{MatchBool-at_true, MatchBool-at_false, OnFals
 use Rattle.ipp_wire.specs.declared.view.Head.{Head}
 use Rattle.ipp_wire.specs.Message.{Group, Message, Spells, head_of}
 use Rattle.ipp_wire.specs.Bare.{bare}
+use Rattle.ipp_wire.specs.Fault.{IsMalformed}
 use Rattle.queue_types.specs.Settings.{SettingValues}
 use Rattle.queue_core.specs.Crash.{Carries, untaken}
 use Rattle.queue_core.specs.World.{World}
@@ -14,7 +15,7 @@ use Rattle.queue_types.specs.declared.event.Reply.TheVariants.{Refused, Done, Jo
 use Rattle.ipp_reply.specs.Unsupported.{Unsupported, nothing}
 use Rattle.ipp_reply.specs.Wanted.{Rows}
 use Rattle.ipp_reply.specs.Reply.{reply_of, with_groups}
-use Rattle.ipp_ops.specs.Answer.{IsReplyTo, Answers, AskedBy, BringsReply, Fails, IsBareAnswer, IsMalformed, IsRequestIn, IsVerdictOn, SpellsUnlessFault, bare_fault, bare_refusal, by_head, malformed, request, is_fault, is_refusal, outcome, refusal_to}
+use Rattle.ipp_ops.specs.Answer.{IsReplyTo, Answers, AskedBy, BringsReply, Fails, IsBareAnswer, IsRequestIn, IsVerdictOn, SpellsUnlessFault, bare_fault, bare_refusal, by_head, malformed, request, is_fault, is_refusal, outcome, refusal_to}
 use Rattle.ipp_ops.specs.Verdict.{IsPassed, Verdict, refused, verdict}
 use Rattle.ipp_request.specs.Reading.{head_refusal}
 use Rattle.ipp_ops.proofs.Crashes.{carries_asked}

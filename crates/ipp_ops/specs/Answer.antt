@@ -4,6 +4,7 @@ use Rattle.std.specs.Bool.{OnFalse, OnTrue}
 use Rattle.ipp_wire.specs.declared.view.Head.{Head}
 use Rattle.ipp_wire.specs.Message.{Group, Message, Spells, head_of}
 use Rattle.ipp_wire.specs.Bare.{bare}
+use Rattle.ipp_wire.specs.Fault.{IsMalformed}
 use Rattle.queue_types.specs.Event.{Event, Call, ask}
 use Rattle.queue_types.specs.Settings.{SettingValues}
 use Rattle.queue_core.specs.World.{World}
@@ -26,10 +27,6 @@ use Rattle.ipp_reply.specs.Wanted.{Rows, no_rows}
 abbrev pub IsAsk : Event → Type 0
 IsAsk (ask caller call) = ⊤
 IsAsk _ = ⊥
-
--- the bytes spell no message
-abbrev pub IsMalformed : List ℕ → Type 0
-IsMalformed b = (m : Message) → Spells m b → ⊥
 
 -- the verdict on bytes, 8 or more: what refuses their head; or 0x0400, where they spell no message; or the verdict on the message that
 -- they spell

@@ -3,6 +3,7 @@ ghost use Rattle.std.specs.Prelude.{◌≡◌, ◌<◌, ◌≤◌, ◌↔◌, No
 ghost use Rattle.ipp_wire.specs.Message.{IsMessage, Spells, head_of};
 ghost use Rattle.ipp_wire.specs.Viewed.{message_of};
 ghost use Rattle.ipp_wire.specs.Bare.{bare};
+ghost use Rattle.ipp_wire.specs.Fault.{IsMalformed};
 ghost use Rattle.queue_types.specs.Event.{event_of};
 ghost use Rattle.queue_types.specs.declared.event.Reply.TheVariants.{Refused};
 ghost use Rattle.queue_core.specs.Crash.{Carries, Leaves};
@@ -11,7 +12,7 @@ ghost use Rattle.queue_core.specs.Machine.{step as machine_step};
 ghost use Rattle.queue_core.specs.World.{World};
 ghost use Rattle.ipp_reply.specs.Unsupported.{CanList, Unsupported as Listed, unsupported_of};
 ghost use Rattle.ipp_reply.specs.Wanted.{no_rows, rows_of};
-ghost use Rattle.ipp_ops.specs.Answer.{Answers, AskedBy, BringsAnswer, BringsOutcome, BringsReply, Fails, IfFault, IfNoFault, IsAsk, IsBareAnswer, IsFaultless, IsMalformed, IsReplyTo, IsRequestIn, IsVerdictOn, OnRefusal, SpellsUnlessFault, bytes_of, is_fault, refusal_to, reply_in};
+ghost use Rattle.ipp_ops.specs.Answer.{Answers, AskedBy, BringsAnswer, BringsOutcome, BringsReply, Fails, IfFault, IfNoFault, IsAsk, IsBareAnswer, IsFaultless, IsReplyTo, IsRequestIn, IsVerdictOn, OnRefusal, SpellsUnlessFault, bytes_of, is_fault, refusal_to, reply_in};
 ghost use Rattle.ipp_ops.specs.Verdict.{IsPassed, IsWithinLimits, ListsAttributes, ask_content, refused, verdict};
 ghost use Rattle.ipp_request.specs.Reading.{head_refusal};
 
@@ -156,23 +157,25 @@ fn answer_ask<B: QueueBook>(
 fn answer_message<B: QueueBook>(
     context: Context<'_>,
     book: &mut B,
-    view: &View<'_>,
+    view: View<'_>,
 ) -> Result<Vec<u8>, BookFault>
     requires moment { IsMoment context.now }
-    requires message { IsMessage (message_of view.now) }
-    requires fits { length view.now.payload.now ≤ 16777216 }
+    requires message { IsMessage (message_of view) }
+    requires fits { length view.payload.now ≤ 16777216 }
     ensures began { B.is_honest book.new → B.is_honest book.old }
     ensures replies { IfOk result (λ b. IsReplyTo context.entry.head b.items) }
     ensures done { B.is_honest book.new → (w : World) → B.stands book.old w
-        → (after : World) × BringsOutcome (verdict (message_of view.now)) context.entry w after result × B.stands book.new after
-        × Carries (B.crash_leaves book.old) (B.crash_leaves book.new) (IsPassed (verdict (message_of view.now))) context.entry.now w after }
+        → (after : World) × BringsOutcome (verdict (message_of view.entry)) context.entry w after result × B.stands book.new after
+        × Carries (B.crash_leaves book.old) (B.crash_leaves book.new) (IsPassed (verdict (message_of view.entry))) context.entry.now w after }
     ensures live { B.is_honest book.new → B.is_live book.old → OnOk result (B.is_live book.new) }
     // What the checks refuse, whatever the book is.
-    ensures checked { (code : ℕ) (u : Listed) → verdict (message_of view.now) ≡ refused code u
+    ensures checked { (code : ℕ) (u : Listed) → verdict (message_of view.entry) ≡ refused code u
         → IfOk result (λ b. Spells (reply_in context.entry (Refused code) no_rows u) b.items) }
-    ensures checked_kept { (code : ℕ) (u : Listed) → verdict (message_of view.now) ≡ refused code u → (w : World) → B.stands book.old w → B.stands book.new w }
+    ensures checked_kept { (code : ℕ) (u : Listed) → verdict (message_of view.entry) ≡ refused code u → (w : World) → B.stands book.old w → B.stands book.new w }
 {
-    let ask = ask(context.alloc, view)?;
+    let ask = ask(context.alloc, &view)?;
+    // What is asked borrows of the bytes alone: the groups that were read are let go before the reply is made.
+    drop(view);
     answer_ask(context, book, ask)
 }
 
@@ -213,7 +216,7 @@ fn answer_headed<B: QueueBook>(context: Context<'_>, book: &mut B, body: &[u8]) 
 {
     one_verdict();
     match request_in(context.alloc, context.head, body) {
-        Ok(view) => match answer_message(context, book, &view) {
+        Ok(view) => match answer_message(context, book, view) {
             Ok(bytes) => Answer::Whole(bytes),
             Err(_) => bare_answer(context.head, SERVER_ERROR_TEMPORARY_ERROR),
         },

@@ -1,6 +1,7 @@
 -- What each row of the printer's table says may stand in a message.
-use Rattle.std.proofs.Common.{ℕ, ◌<◌, ◌^◌, List, [], ◌∷◌, length, refl, arith, lit<}
+use Rattle.std.proofs.Common.{ℕ, ◌<◌, ◌^◌, List, length, refl, arith, lit<}
 use Rattle.std.specs.Prelude.{codes}
+use Rattle.std.specs.Int.{w32, to_be_bytes}
 use Rattle.ipp_wire.specs.Message.{Attribute, IsAttribute, IsPlain, IsPlainAttribute}
 use Rattle.queue_types.specs.Settings.{AreSettings}
 use Rattle.ipp_reply.specs.declared.printer_reply.PrinterAttribute.{PrinterAttribute}
@@ -14,8 +15,8 @@ keyword_fits word short = plain 0x44 word refl short
 media_fits : (word : List ℕ) → length word < 2 ^ 15 → IsPlain (record { tag = 0x49; bytes = word })
 media_fits word short = plain 0x49 word refl short
 
-id_fits : (n : ℕ) → IsPlain (record { tag = 0x23; bytes = 0 ∷ 0 ∷ 0 ∷ n ∷ [] })
-id_fits n = plain 0x23 (0 ∷ 0 ∷ 0 ∷ n ∷ []) refl (lit< tt)
+id_fits : (n : ℕ) → IsPlain (record { tag = 0x23; bytes = to_be_bytes w32 n })
+id_fits n = plain 0x23 (to_be_bytes w32 n) refl (lit< tt)
 
 values_fit : (p : Printer) (a : PrinterAttribute) → AreSettings p.settings → ArePlain (values_of p a)
 values_fit p PrinterUriSupported s = one 0x45 _ refl (omega (arith, s.uri_fits))

@@ -14,7 +14,7 @@ use Rattle.queue_types.specs.Job.{reasons}
 use Rattle.queue_core.specs.Limits.{IsSoundJob}
 use Rattle.ipp_reply.specs.declared.job_reply.JobAttribute.{JobAttribute}
 use Rattle.ipp_reply.specs.declared.job_reply.JobAttribute.TheVariants.{JobUri, JobPrinterUri, JobName, JobOriginatingUserName, JobStateReasons, TimeAtProcessing, TimeAtCompleted, JobHoldUntil}
-use Rattle.ipp_reply.specs.JobReply.{name_of, values_of, attribute, keyword, keywords, reason_word, reason_words, moment}
+use Rattle.ipp_reply.specs.JobReply.{name_of, values_of, attribute, texts, reason_word, reason_words, moment}
 
 -- a value tag that is no bracket of a collection
 abbrev pub is_plain_tag : ℕ → Bool
@@ -48,14 +48,14 @@ reason_short : (r : Reason) → length (reason_word r) < 2 ^ 15
 reason_short NoReason = lit< tt
 reason_short _ = lit< tt
 
-word_fits : (r : Reason) → IsPlain (keyword (reason_word r))
+word_fits : (r : Reason) → IsPlain (record { tag = 0x44; bytes = reason_word r })
 word_fits r = plain 0x44 (reason_word r) refl (reason_short r)
 
-words_fit : (first : Reason) (second : Option Reason) → ArePlain (keywords (reason_word first ∷ map reason_word (option_to_list second)))
+words_fit : (first : Reason) (second : Option Reason) → ArePlain (texts 0x44 (reason_word first ∷ map reason_word (option_to_list second)))
 words_fit first None = record { some = lit< tt; all = (word_fits first, tt) }
 words_fit first (Some r) = record { some = lit< tt; all = (word_fits first, (word_fits r, tt)) }
 
-reasons_fit : (r : Reasons) → ArePlain (keywords (reason_words r))
+reasons_fit : (r : Reasons) → ArePlain (texts 0x44 (reason_words r))
 reasons_fit r = words_fit r.first r.second
 
 moment_fits : (m : Option ℕ) → ArePlain (moment m)

@@ -18,17 +18,15 @@ use Rattle.ipp_reply.specs.declared.job_reply.JobAttribute.TheVariants.{JobUri, 
 abbrev pub text : ℕ → List ℕ → List Value
 text tag bytes = record { tag = tag; bytes = bytes } ∷ []
 
+-- several texts under one value tag
+abbrev pub texts : ℕ → List (List ℕ) → List Value
+texts tag words = map (λ word. record { tag = tag; bytes = word }) words
+
 abbrev pub integer : ℕ → List Value
 integer n = record { tag = 0x21; bytes = to_be_bytes w32 n } ∷ []
 
 abbrev pub enumerated : ℕ → List Value
 enumerated n = record { tag = 0x23; bytes = to_be_bytes w32 n } ∷ []
-
-abbrev pub keyword : List ℕ → Value
-keyword word = record { tag = 0x44; bytes = word }
-
-abbrev pub keywords : List (List ℕ) → List Value
-keywords ws = map keyword ws
 
 -- a moment, or no-value where there is none
 abbrev pub moment : Option ℕ → List Value
@@ -86,7 +84,7 @@ values_of uri now j JobPrinterUri = text 0x45 uri
 values_of uri now j JobName = text 0x42 j.name
 values_of uri now j JobOriginatingUserName = text 0x42 j.owner
 values_of uri now j JobState = enumerated (state j)
-values_of uri now j JobStateReasons = keywords (reason_words (reasons j))
+values_of uri now j JobStateReasons = texts 0x44 (reason_words (reasons j))
 values_of uri now j TimeAtCreation = integer j.created
 values_of uri now j TimeAtProcessing = moment j.begun
 values_of uri now j TimeAtCompleted = moment j.ended

@@ -1,6 +1,6 @@
 -- The printer attributes of a reply, as a table in order (RFC 8011, section 5.4).
 use Rattle.std.specs.Prelude.{ℕ, List, [], ◌∷◌, Bool, ◌||◌, map, filter, codes, bytes_eq, if◌then◌else◌}
-use Rattle.std.specs.List.{list_any}
+use Rattle.std.specs.List.{flat_map, list_any}
 use Rattle.ipp_wire.specs.Message.{Value, Attribute, Group}
 use Rattle.queue_types.specs.Settings.{SettingValues}
 use Rattle.queue_types.specs.States.{printer_state_number}
@@ -9,7 +9,7 @@ use Rattle.ipp_reply.specs.declared.printer_reply.PrinterAttribute.{PrinterAttri
 use Rattle.ipp_reply.specs.declared.printer_reply.PrinterAttribute.TheVariants.{PrinterUriSupported, UriAuthenticationSupported, UriSecuritySupported, PrinterName, PrinterState, PrinterStateReasons, IppVersionsSupported, OperationsSupported, CharsetConfigured, CharsetSupported, NaturalLanguageConfigured, GeneratedNaturalLanguageSupported, DocumentFormatDefault, DocumentFormatSupported, PrinterIsAcceptingJobs, QueuedJobCount, PdlOverrideSupported, PrinterUpTime, CompressionSupported}
 use Rattle.ipp_reply.specs.Operations.{id, operations}
 use Rattle.queue_types.specs.Formats.{format_name, formats}
-use Rattle.ipp_reply.specs.JobReply.{text, integer, enumerated}
+use Rattle.ipp_reply.specs.JobReply.{text, texts, integer, enumerated}
 
 -- what a printer is: its settings, and its queue at a moment
 pub record Printer : Type 0 where
@@ -21,16 +21,12 @@ pub record Printer : Type 0 where
 
 -- ---- values
 
--- several texts under one value tag
-abbrev pub texts : ℕ → List (List ℕ) → List Value
-texts tag words = map (λ word. record { tag = tag; bytes = word }) words
-
 abbrev pub truth : Bool → List Value
 truth b = record { tag = 0x22; bytes = (if b then 1 else 0) ∷ [] } ∷ []
 
 -- the ids of the operations that a request's head may have
 abbrev pub operation_ids : List Value
-operation_ids = map (λ o. record { tag = 0x23; bytes = 0 ∷ 0 ∷ 0 ∷ id o ∷ [] }) operations
+operation_ids = flat_map (λ o. enumerated (id o)) operations
 
 -- ---- the table: name, values
 

@@ -23,9 +23,13 @@ unsupported_groups u = if is_listed u then record { tag = 0x05; attributes = u.o
 abbrev pub success : Unsupported → ℕ
 success u = if is_listed u then 0x0001 else 0x0000
 
--- a refusal shows what is unsupported only where that is its reason, and a success the jobs or the printer too
+-- a refusal shows what is unsupported only where that is its reason
+abbrev pub refusal : Head → ℕ → Unsupported → Message
+refusal h code u = with_groups (bare h code) (if code == 0x040B then unsupported_groups u else [])
+
+-- a success shows it too, and the jobs or the printer
 abbrev pub reply_of : Reply → Head → Rows → Unsupported → SettingValues → ℕ → Message
-reply_of (Refused code) h rows u s now = with_groups (bare h code) (if code == 0x040B then unsupported_groups u else [])
+reply_of (Refused code) h rows u s now = refusal h code u
 reply_of Done h rows u s now = with_groups (bare h (success u)) (unsupported_groups u)
 reply_of (Jobs js) h rows u s now = with_groups (bare h (success u)) (unsupported_groups u ++ map (job_group s.uri now (job_rows rows)) js)
 reply_of (Printer state queued accepting) h rows u s now = with_groups (bare h (success u)) (unsupported_groups u ++ printer_group (record { settings = s; now = now; state = state; queued = queued; accepting = accepting }) (printer_rows rows) ∷ [])

@@ -1,5 +1,6 @@
 //! The values of a reply's attribute, before they are put into a message.
-ghost use Rattle.std.specs.Prelude.{◌≡◌, ◌∷◌, ◌<◌, [], IfOk, OnOk, length, map};
+ghost use Rattle.std.specs.Prelude.{◌≡◌, ◌<◌, IfOk, OnOk, length, map};
+ghost use Rattle.std.specs.Int.{w32, to_be_bytes};
 ghost use Rattle.ipp_wire.specs.Viewed.{value_of, values_of};
 ghost use Rattle.ipp_reply.specs.Operations.{id, operations};
 ghost use Rattle.ipp_wire.specs.Message.{IsAttribute};
@@ -7,7 +8,7 @@ ghost use Rattle.ipp_wire.specs.Owned.{add_attribute};
 ghost use Rattle.ipp_reply.specs.Content.{values_in};
 ghost use Rattle.queue_types.specs.Formats.{format_name, formats};
 ghost use Rattle.ipp_reply.specs.JobReply as spec;
-ghost use Rattle.ipp_reply.specs.PrinterReply.{operation_ids as spec_ids, texts as spec_texts};
+ghost use Rattle.ipp_reply.specs.PrinterReply.{operation_ids};
 
 use crate::operation::{OPERATIONS, Operation};
 use ipp_wire::tags::{BOOLEAN, ENUM, INTEGER, KEYWORD, MIME_MEDIA_TYPE, NO_VALUE};
@@ -83,7 +84,7 @@ fn text_views<'a>(
     tag: u8,
     texts: &[&'a str],
 ) -> Result<Vec<ValueView<'a>>, AllocError>
-    ensures { IfOk result (λ v. values_of v.items ≡ spec_texts tag (map (λ t. t.now) texts.now)) }
+    ensures { IfOk result (λ v. values_of v.items ≡ spec.texts tag (map (λ t. t.now) texts.now)) }
 {
     let mut views = Vec::with_capacity(alloc, texts.len())?;
     for text in texts {
@@ -103,13 +104,13 @@ fn format_names(alloc: Global) -> Result<Vec<&'static str>, AllocError>
 }
 
 fn id_bytes(operation: Operation) -> [u8; 4]
-    ensures { result ≡ 0 ∷ 0 ∷ 0 ∷ id operation ∷ [] }
+    ensures { result ≡ to_be_bytes w32 (id operation) }
 {
     u32::from(operation.id()).to_be_bytes()
 }
 
 fn operation_ids(alloc: Global) -> Result<Vec<[u8; 4]>, AllocError>
-    ensures { IfOk result (λ v. v.items ≡ map (λ o. 0 ∷ 0 ∷ 0 ∷ id o ∷ []) operations) }
+    ensures { IfOk result (λ v. v.items ≡ map (λ o. to_be_bytes w32 (id o)) operations) }
 {
     let mut ids = Vec::with_capacity(alloc, OPERATIONS.len())?;
     for operation in &OPERATIONS {
@@ -149,8 +150,8 @@ fn put_texts(
     texts: &[&str],
 ) -> Result<(), AllocError>
     requires begun { 0 < length message.old.groups }
-    requires fits { IsAttribute (record { name = name.now; values = spec_texts tag (map (λ t. t.now) texts.now) }) }
-    ensures { OnOk result (message.new ≡ record message.old { groups = add_attribute (record { name = name.now; values = spec_texts tag (map (λ t. t.now) texts.now) }) message.old.groups }) }
+    requires fits { IsAttribute (record { name = name.now; values = spec.texts tag (map (λ t. t.now) texts.now) }) }
+    ensures { OnOk result (message.new ≡ record message.old { groups = add_attribute (record { name = name.now; values = spec.texts tag (map (λ t. t.now) texts.now) }) message.old.groups }) }
 {
     let values = text_views(alloc, tag, texts)?;
     message.attribute(name.as_bytes(), values.as_slice())
@@ -159,8 +160,8 @@ fn put_texts(
 /// Adds an attribute with the names of the document formats.
 fn put_format_names(alloc: Global, message: &mut Message, name: &str) -> Result<(), AllocError>
     requires begun { 0 < length message.old.groups }
-    requires fits { IsAttribute (record { name = name.now; values = spec_texts 0x49 (map format_name formats) }) }
-    ensures { OnOk result (message.new ≡ record message.old { groups = add_attribute (record { name = name.now; values = spec_texts 0x49 (map format_name formats) }) message.old.groups }) }
+    requires fits { IsAttribute (record { name = name.now; values = spec.texts 0x49 (map format_name formats) }) }
+    ensures { OnOk result (message.new ≡ record message.old { groups = add_attribute (record { name = name.now; values = spec.texts 0x49 (map format_name formats) }) message.old.groups }) }
 {
     let names = format_names(alloc)?;
     put_texts(alloc, message, name, MIME_MEDIA_TYPE, names.as_slice())
@@ -169,8 +170,8 @@ fn put_format_names(alloc: Global, message: &mut Message, name: &str) -> Result<
 /// Adds an attribute with the ids of the operations.
 fn put_operation_ids(alloc: Global, message: &mut Message, name: &str) -> Result<(), AllocError>
     requires begun { 0 < length message.old.groups }
-    requires fits { IsAttribute (record { name = name.now; values = spec_ids }) }
-    ensures { OnOk result (message.new ≡ record message.old { groups = add_attribute (record { name = name.now; values = spec_ids }) message.old.groups }) }
+    requires fits { IsAttribute (record { name = name.now; values = operation_ids }) }
+    ensures { OnOk result (message.new ≡ record message.old { groups = add_attribute (record { name = name.now; values = operation_ids }) message.old.groups }) }
 {
     let ids = operation_ids(alloc)?;
     let values = enum_views(alloc, ids.as_slice())?;
@@ -180,8 +181,8 @@ fn put_operation_ids(alloc: Global, message: &mut Message, name: &str) -> Result
 /// Adds an attribute with one reason or two.
 fn put_reasons(message: &mut Message, name: &str, reasons: &Reasons) -> Result<(), AllocError>
     requires begun { 0 < length message.old.groups }
-    requires fits { IsAttribute (record { name = name.now; values = spec.keywords (spec.reason_words reasons.now) }) }
-    ensures { OnOk result (message.new ≡ record message.old { groups = add_attribute (record { name = name.now; values = spec.keywords (spec.reason_words reasons.now) }) message.old.groups }) }
+    requires fits { IsAttribute (record { name = name.now; values = spec.texts 0x44 (spec.reason_words reasons.now) }) }
+    ensures { OnOk result (message.new ≡ record message.old { groups = add_attribute (record { name = name.now; values = spec.texts 0x44 (spec.reason_words reasons.now) }) message.old.groups }) }
 {
     let first = keyword(reasons.first);
     match reasons.second {

@@ -1,12 +1,12 @@
 //! The reply to a request as a message.
-ghost use Rattle.std.specs.Prelude.{◌≡◌, ◌==◌, ◌<◌, [], IfOk, OnOk, fold, length, if◌then◌else◌};
+ghost use Rattle.std.specs.Prelude.{◌≡◌, ◌<◌, IfOk, OnOk, fold, length};
 ghost use Rattle.std.specs.List.{AllByRecursion};
 ghost use Rattle.ipp_wire.specs.Bare.{bare};
 ghost use Rattle.ipp_wire.specs.Message.{IsAttribute};
 ghost use Rattle.ipp_wire.specs.Owned.{add_attribute};
 ghost use Rattle.ipp_wire.specs.Viewed.{attributes_of};
 ghost use Rattle.queue_core.specs.Limits.{IsSoundReply};
-ghost use Rattle.ipp_reply.specs.Reply.{reply_of, success, unsupported_groups, with_groups};
+ghost use Rattle.ipp_reply.specs.Reply.{refusal, reply_of, success, unsupported_groups, with_groups};
 ghost use Rattle.ipp_reply.specs.Unsupported.{CanList, unsupported_of};
 ghost use Rattle.ipp_reply.specs.Wanted.{rows_of};
 
@@ -80,7 +80,7 @@ fn refusal_message(
     unsupported: &Unsupported<'_>,
 ) -> Result<Message, AllocError>
     requires { CanList (unsupported_of unsupported.now) }
-    ensures { IfOk result (λ m. m ≡ with_groups (bare head code) (if code == 0x040B then unsupported_groups (unsupported_of unsupported.now) else [])) }
+    ensures { IfOk result (λ m. m ≡ refusal head code (unsupported_of unsupported.now)) }
 {
     let mut message = bare_message(alloc, head, code)?;
     if code != CLIENT_ERROR_ATTRIBUTES_OR_VALUES_NOT_SUPPORTED {

@@ -55,7 +55,7 @@ value_of r k = option_and_then (λ a. first_value a.values) (known r k)
 abbrev pub bytes_of : Request → OperationAttribute → List ℕ
 bytes_of r k = option_map_or (λ v. v.bytes) (value_of r k) []
 
--- it is a boolean, and true
+-- its first value is the byte 1: true, where it is a boolean
 abbrev pub is_true : Request → OperationAttribute → Bool
 is_true r k = bytes_eq (bytes_of r k) (1 ∷ [])
 

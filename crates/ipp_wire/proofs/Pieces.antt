@@ -1,6 +1,6 @@
 -- The steps of the readers.
 use Rattle.std.proofs.Common.{◌≡◌, ◌≢◌, ℕ, suc, ◌+◌, ◌<◌, inl, inr, List, [], ◌∷◌, ◌++◌, length, refl, sym, ap, subst, ◌∙◌, append_assoc, arith}
-use Rattle.std.specs.List.{flat_map}
+use Rattle.std.specs.List.{flat_map, AllByRecursion}
 use Rattle.std.proofs.lemmas.List.{append-nil, take_all, take-append-le, length_push}
 use Rattle.std.proofs.lemmas.Bool.{cases_lt}
 use Rattle.std.proofs.lemmas.List.Concat.{flat_map-append}
@@ -10,12 +10,18 @@ use Rattle.ipp_wire.proofs.Front.{open_of_groups}
 use Rattle.ipp_wire.specs.Message.{Value, Attribute, IsValue, record_bytes, values_under, attribute_bytes, opens, closes, opened, closed, IsNested, IsOpenAttribute, IsAttribute, Group, IsGroup, IsOpenGroup, IsDelimiter, group_bytes}
 use Rattle.ipp_wire.specs.declared.fault.ReadFault.{ReadFault}
 use Rattle.ipp_wire.specs.declared.fault.ReadFault.TheVariants.{Memory, Stuck}
-use Rattle.ipp_wire.specs.Reading.{Place, outside, inside, grouped, IsNestedAt, depth_past, NoRecord, NoFurther, NoNamed, ReadRecord, ReadAttribute, ReadValues, depth_of, Stops, AttributeStuck, AttributesStuck, GroupsStuck, OnStuck, ReadAttributes, ReadGroups, place_in, place_of, delimiter, named, further, May, item_bytes}
+use Rattle.ipp_wire.specs.Reading.{Place, outside, inside, grouped, IsNestedAt, depth_past, NoRecord, NoFurther, NoNamed, ReadRecord, ReadAttribute, depth_of, Stops, AttributeStuck, AttributesStuck, GroupsStuck, OnStuck, ReadAttributes, place_in, place_of, delimiter, named, further, May, item_bytes}
 
 pub no_record_further : (d : ℕ) (b : List ℕ) → NoRecord b → NoFurther (inside d) b
 no_record_further d b none v rest may = none [] v rest (omega arith) may.0
 
 -- ---- values
+
+-- the values so far of an attribute at the front of the bytes, and what is left
+pub record ReadValues (bytes name : List ℕ) (vs : List Value) (depth : ℕ) (rest : List ℕ) : Type 0 where
+  pub fits : IsOpenAttribute (record { name = name; values = vs })
+  pub counted : depth + closed vs ≡ opened vs
+  pub parts : bytes ≡ values_under name vs ++ rest
 
 opened-push : (vs : List Value) (v : Value) → opened (vs ++ v ∷ []) ≡ opened vs + opens v
 opened-push vs v = let a = sum_by-append opens vs (v ∷ []) in let b : opened (v ∷ []) ≡ opens v + 0 = sum_by-cons opens v [] in omega (arith, a, b)
@@ -85,6 +91,13 @@ attributes_fault Memory bytes attrs rest r h = tt
 attributes_fault (Stuck left) bytes attrs rest r h = attributes_stuck bytes attrs rest left r h
 
 -- ---- groups
+
+-- groups at the front of the bytes, and what is left
+pub record ReadGroups (bytes : List ℕ) (gs : List Group) (rest : List ℕ) : Type 0 where
+  pub fits : AllByRecursion IsGroup gs
+  pub parts : bytes ≡ flat_map group_bytes gs ++ rest
+  pub no_further : NoFurther (place_of outside gs) rest
+  pub no_named : NoNamed (place_of outside gs) rest
 
 pub one_more_group : (bytes : List ℕ) (gs : List Group) (tag : ℕ) (attrs : List Attribute) (rest mid after : List ℕ) → ReadGroups bytes gs rest → IsDelimiter tag → rest ≡ tag ∷ mid → ReadAttributes mid attrs after → NoNamed (place_in grouped attrs) after → ReadGroups bytes (gs ++ record { tag = tag; attributes = attrs } ∷ []) after
 one_more_group bytes gs tag attrs rest mid after r d e inner none =

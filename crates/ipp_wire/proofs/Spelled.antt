@@ -6,9 +6,9 @@ use Rattle.std.proofs.lemmas.List.{append-nil, take_at, length-take-le, take-app
 use Rattle.std.proofs.lemmas.Nat.{from_be_bytes-to_be_bytes_2, from_be_bytes-to_be_bytes_4}
 use Rattle.ipp_wire.specs.declared.view.Head.{Head}
 use Rattle.ipp_wire.specs.Message.{Attribute, Group, Message, IsAttribute, IsGroup, IsOpenGroup, AllButLast, group_bytes, head_bytes, spelling, IsHead, IsMessage, Spells, IsOpenFront, IsStuck}
-use Rattle.ipp_wire.specs.Reading.{Item, delimiter, named, further, item_bytes, items_bytes, items_of, outside, IsWhole, Halts, Stops, place_of, GroupsStuck}
+use Rattle.ipp_wire.specs.Reading.{Item, delimiter, named, further, item_bytes, outside, IsWhole, Halts, Stops, place_of, GroupsStuck}
 use Rattle.ipp_wire.proofs.Text.{append_apart}
-use Rattle.ipp_wire.proofs.Items.{IsItem, compare, groups_bytes, groups_one, IsValuedGroup}
+use Rattle.ipp_wire.proofs.Items.{IsItem, items_bytes, items_of, compare, groups_bytes, groups_one, IsValuedGroup}
 use Rattle.ipp_wire.proofs.Front.{ends, items_of_runs, groups_lead, open_of_groups, whole_of, no_longer, stops_there}
 
 -- ---- the head

@@ -1,10 +1,10 @@
 -- What the readers of the parts of a message find at the front of bytes. A message is also a row of
 -- items, and the place in the row says which item may come next.
-use Rattle.std.specs.Prelude.{◌≡◌, ℕ, ◌+◌, ◌-◌, ◌<◌, ◌≤◌, ◌≢◌, ◌^◌, List, [], ◌∷◌, ◌++◌, length, map}
+use Rattle.std.specs.Prelude.{◌≡◌, ℕ, ◌+◌, ◌-◌, ◌<◌, ◌≤◌, ◌≢◌, ◌^◌, List, [], ◌∷◌, ◌++◌, length}
 use Rattle.std.specs.List.{flat_map, AllByRecursion}
 use Rattle.ipp_wire.specs.declared.fault.ReadFault.{ReadFault}
 use Rattle.ipp_wire.specs.declared.fault.ReadFault.TheVariants.{Memory, Stuck}
-use Rattle.ipp_wire.specs.Message.{Value, Attribute, Group, IsValue, IsDelimiter, record_bytes, values_under, attribute_bytes, group_bytes, opens, closes, opened, closed, IsOpenAttribute, IsAttribute, IsGroup, IsOpenGroup, AllButLast}
+use Rattle.ipp_wire.specs.Message.{Value, Attribute, Group, IsValue, IsDelimiter, record_bytes, attribute_bytes, group_bytes, opens, closes, opened, closed, IsOpenAttribute, IsAttribute, IsGroup, IsOpenGroup, AllButLast}
 
 -- a delimiter, a named value, or a further value
 pub data Item : Type 0 where
@@ -16,9 +16,6 @@ abbrev pub item_bytes : Item → List ℕ
 item_bytes (delimiter tag) = tag ∷ []
 item_bytes (named name v) = record_bytes name v
 item_bytes (further v) = record_bytes [] v
-
-abbrev pub items_bytes : List Item → List ℕ
-items_bytes is = flat_map item_bytes is
 
 -- before the first delimiter, right after one, or in an attribute with so many collections open
 pub data Place : Type 0 where
@@ -54,14 +51,6 @@ May outside (further v) = ⊥
 May grouped (further v) = ⊥
 May (inside depth) (further v) = IsValue v × IsNestedAt depth v
 
--- the place after the item
-abbrev pub after : Place → Item → Place
-after place (delimiter tag) = grouped
-after place (named name v) = inside (depth_past 0 v)
-after outside (further v) = outside
-after grouped (further v) = grouped
-after (inside depth) (further v) = inside (depth_past depth v)
-
 -- no item that may come next stands at the front
 abbrev pub Halts : Place → List ℕ → Type 0
 Halts place bytes = (i : Item) (rest : List ℕ) → May place i → bytes ≢ item_bytes i ++ rest
@@ -77,21 +66,6 @@ place_in place (a ∷ attrs) = place_in (inside (depth_of a)) attrs
 abbrev pub place_of : Place → List Group → Place
 place_of place [] = place
 place_of place (g ∷ gs) = place_of (place_in grouped g.attributes) gs
-
--- ---- the items of a message
-
-abbrev pub items_of_values : List ℕ → List Value → List Item
-items_of_values name [] = []
-items_of_values name (v ∷ vs) = named name v ∷ map further vs
-
-abbrev pub items_of_attribute : Attribute → List Item
-items_of_attribute a = items_of_values a.name a.values
-
-abbrev pub items_of_group : Group → List Item
-items_of_group g = delimiter g.tag ∷ flat_map items_of_attribute g.attributes
-
-abbrev pub items_of : List Group → List Item
-items_of gs = flat_map items_of_group gs
 
 -- neither an item nor the end of the groups stands at the front
 pub record Stops (place : Place) (bytes : List ℕ) : Type 0 where
@@ -110,12 +84,6 @@ pub record ReadRecord (bytes name : List ℕ) (v : Value) (rest : List ℕ) : Ty
 abbrev pub NoRecord : List ℕ → Type 0
 NoRecord bytes = (name : List ℕ) (v : Value) (rest : List ℕ) → length name < 2 ^ 15 → IsValue v
     → bytes ≢ record_bytes name v ++ rest
-
--- the values so far of an attribute at the front of the bytes, and what is left
-pub record ReadValues (bytes name : List ℕ) (vs : List Value) (depth : ℕ) (rest : List ℕ) : Type 0 where
-  pub fits : IsOpenAttribute (record { name = name; values = vs })
-  pub counted : depth + closed vs ≡ opened vs
-  pub parts : bytes ≡ values_under name vs ++ rest
 
 -- no further value that may come next stands at the front
 abbrev pub NoFurther : Place → List ℕ → Type 0
@@ -138,13 +106,6 @@ pub record ReadAttributes (bytes : List ℕ) (attrs : List Attribute) (rest : Li
   pub fits : AllByRecursion IsAttribute attrs
   pub parts : bytes ≡ flat_map attribute_bytes attrs ++ rest
   pub last : NoFurther (place_in grouped attrs) rest
-
--- groups at the front of the bytes, and what is left
-pub record ReadGroups (bytes : List ℕ) (gs : List Group) (rest : List ℕ) : Type 0 where
-  pub fits : AllByRecursion IsGroup gs
-  pub parts : bytes ≡ flat_map group_bytes gs ++ rest
-  pub no_further : NoFurther (place_of outside gs) rest
-  pub no_named : NoNamed (place_of outside gs) rest
 
 -- after an attribute whose collections aren't closed nothing may come next, with so many bytes left
 pub record AttributeStuck (bytes : List ℕ) (left : ℕ) : Type 0 where

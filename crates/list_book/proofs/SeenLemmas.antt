@@ -5,7 +5,7 @@ use Rattle.std.specs.List.{AllByRecursion as Each}
 use Rattle.std.specs.FinMap.{empty, entries, from_sorted, entries-from_sorted, get, get-empty, get-from_sorted, same_map}
 use Rattle.list_book.proofs.Keyed.{grant_exact, grant_total}
 use Rattle.queue_core.specs.Limits.{IsSoundJob}
-use Rattle.queue_core.specs.Shown.{charged_to, document_at, document_of, is_fetched, sheet_of}
+use Rattle.queue_core.specs.Shown.{charged_to, document_at, document_of, may_be_fetched, sheet_of}
 use Rattle.queue_core.specs.Sound.{IsSound, IsSoundEntry, Rise, printed_for, reserved_for}
 use Rattle.queue_core.specs.World.{World, Entry, grant_cmp, granted_in, known_grant, rows, job_at, cut, queue_counts}
 use Rattle.queue_types.specs.declared.job.Job.{Job}
@@ -46,9 +46,9 @@ both false b x y = refl
 pub no_job : (l : Lists) (job n : ℕ) → None ≡ job_at job l.jobs.items → None ≡ document_at (world_of l) job n
 no_job l job n none = ap (λ o. document_of (option_map (entry_of l.documents.items) o) n) none ∙ sym (document_is l job n)
 
-pub fetched : (l : Lists) (j : Job) (job n : ℕ) → Some j ≡ job_at job l.jobs.items → cond (is_fetched j) (nth_of j.number n l.documents.items) None ≡ document_at (world_of l) job n
+pub fetched : (l : Lists) (j : Job) (job n : ℕ) → Some j ≡ job_at job l.jobs.items → cond (may_be_fetched j) (nth_of j.number n l.documents.items) None ≡ document_at (world_of l) job n
 fetched l j job n there =
-    sym (both (is_fetched j) (nat_lt 0 n) (slice_get (documents_of j.number l.documents.items) (n - 1)) None)
+    sym (both (may_be_fetched j) (nat_lt 0 n) (slice_get (documents_of j.number l.documents.items) (n - 1)) None)
     ∙ ap (λ o. document_of (option_map (entry_of l.documents.items) o) n) there ∙ sym (document_is l job n)
 
 one_document : (b : Bool) (k : KeptDocument) (ds : List Document) (ks : List KeptDocument) → ds ≡ map (λ x. x.document) ks → cond b (k.document ∷ ds) ds ≡ map (λ x. x.document) (cond b (k ∷ ks) ks)

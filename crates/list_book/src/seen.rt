@@ -2,7 +2,7 @@
 ghost use Rattle.std.specs.Prelude.{◌≡◌, ◌==◌, IfOk, filter, option_map};
 ghost use Rattle.std.specs.Option.{option_copied};
 ghost use Rattle.queue_types.specs.Job.{state};
-ghost use Rattle.queue_core.specs.Shown.{document_at, head_of, is_fetched};
+ghost use Rattle.queue_core.specs.Shown.{document_at, head_of, may_be_fetched};
 ghost use Rattle.list_book.specs.Lists.{nth_of, world_of};
 
 use crate::lists::Lists;
@@ -26,8 +26,8 @@ pub(crate) fn pending(alloc: Global, jobs: &[Job]) -> Result<Vec<Job>, AllocErro
 }
 
 /// The device may fetch the job's documents.
-fn is_fetched(job: &Job) -> bool
-    ensures { result ≡ is_fetched job.now }
+fn may_be_fetched(job: &Job) -> bool
+    ensures { result ≡ may_be_fetched job.now }
 {
     matches!(
         job.state(),
@@ -54,7 +54,7 @@ pub(crate) fn document(lists: &Lists, job: u32, n: u32) -> Option<&Document>
     let Some(found) = numbered_job(lists.jobs.as_slice(), job) else {
         return None;
     };
-    if is_fetched(found) {
+    if may_be_fetched(found) {
         nth_document(lists.documents.as_slice(), found.number, n)
     } else {
         None

@@ -1,6 +1,7 @@
 -- What connections, one after another, make of the queue.
 use Rattle.std.specs.Prelude.{◌≡◌, ◌⊎◌, ℕ, List, [], ◌∷◌}
 use Rattle.std.specs.List.{AllByRecursion}
+use Rattle.queue_core.specs.Crash.{CarriesBy, IsLeftOr}
 use Rattle.queue_core.specs.Limits.{IsMoment}
 use Rattle.queue_core.specs.Runs.{IsPlace, Place, run}
 use Rattle.queue_core.specs.World.{World}
@@ -34,11 +35,11 @@ IsAtMostOneMore w (acted ∷ rest) u are x = IsAtMostOneMoreIn are.1.now w are.1
 -- behind these connections, which made u of the queue w: nothing was done, and a crash leaves v, as before; or it leaves u, or what the
 -- event of one of their requests makes of u
 abbrev pub IsLeft : (w : World) (counts : List ℕ) (u : World) → AreConnections w counts u → World → World → Type 0
-IsLeft w counts u are v x = ((u ≡ w) × (x ≡ v)) ⊎ IsAtMostOneMore w counts u are x
+IsLeft w counts u are v x = IsLeftOr (IsAtMostOneMore w counts u are) w v u x
 
 -- what a crash leaves beside the queue w, before these connections, comes to what it leaves beside u, after them
 abbrev pub Carries : (World → World → Type 0) → (World → World → Type 0) → (w : World) (counts : List ℕ) (u : World) → AreConnections w counts u → Type 0
-Carries before after w counts u are = (v : World) → before w v → (x : World) × after u x × IsLeft w counts u are v x
+Carries before after w counts u are = CarriesBy before after (IsLeft w counts u are) w u
 
 -- ---- over a book
 

@@ -191,6 +191,30 @@ impl Service<'_> {
         }
     }
 
+    /// Takes the next connection, serves it at the moment when it was taken, and prints `served ACTED`.
+    fn take_next<C: Clock, O: Write, B: QueueBook>(
+        self,
+        clock: &C,
+        out: &mut O,
+        book: &mut B,
+    ) -> io::Result<Outcome>
+        ensures began { B.is_honest book.new → B.is_honest book.old }
+        ensures ok { B.is_honest book.new → OnOk result ((w : World) → B.stands book.old w → self.entry.settings.now ≡ w.settings
+            → (served : ServedOver B.QueueBook book.old book.new w) × (length served.counts ≡ 1)
+            × Appends (O.contents out.old) (O.contents out.new) (served_lines served.counts)) }
+        ensures err { B.is_honest book.new → OnErr result ((w : World) → B.stands book.old w → self.entry.settings.now ≡ w.settings
+            → (served : ServedOver B.QueueBook book.old book.new w) × (length served.counts ≤ 1)) }
+        ensures live { B.is_honest book.new → B.is_live book.old → IfOk result (λ outcome. outcome.has_fault ≡ false → B.is_live book.new) }
+        // over any book, also one that is not honest
+        ensures printed { IfOk result (λ outcome. Appends (O.contents out.old) (O.contents out.new) (served_line outcome.acted)) }
+    {
+        let stream = next_stream(self.listener)?;
+        let now = present_moment(clock, self.settings.epoch())?;
+        let outcome = self.serve_stream(clock, stream, book, now);
+        tell_served(out, outcome.acted)?;
+        Ok(outcome)
+    }
+
     /// Takes the next connection, serves it at the moment when it was taken, and prints `served ACTED`. Where a request met a fault, or one had
     /// met one before and the book wasn't seen since, the book is looked at.
     fn serve_next<C: Clock, O: Write, B: QueueBook>(
@@ -220,11 +244,8 @@ impl Service<'_> {
         ensures stopped { IfErr result (λ f. (e : BookFault) → f ≡ ServerFault.Book e
             → (acted : ℕ) × Appends (O.contents out.old) (O.contents out.new) (served_line acted)) }
     {
-        let stream = next_stream(self.listener)?;
-        let now = present_moment(clock, self.settings.epoch())?;
-        let served = self.serve_stream(clock, stream, book, now);
-        tell_served(out, served.acted)?;
-        match before.behind(served.has_fault) {
+        let outcome = self.take_next(clock, out, book)?;
+        match before.behind(outcome.has_fault) {
             Standing::Live => Ok(Standing::Live),
             Standing::Unseen => Ok(check_book(book)?),
         }

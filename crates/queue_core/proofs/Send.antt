@@ -9,7 +9,7 @@ use Rattle.std.proofs.lemmas.List.Sums.{sum_by_push}
 use Rattle.queue_core.specs.World.{World, Entry, cut, made_on, with_row, with_document, add_document}
 use Rattle.queue_types.specs.Event.{NewDocument, ask, send_document}
 use Rattle.queue_types.specs.Job.{state_in}
-use Rattle.queue_core.specs.Machine.{changed, refused, document_count, new_document, is_sendable, sent, send_in, of_own}
+use Rattle.queue_core.specs.Machine.{refused, document_count, new_document, is_sendable, sent, document_sent, send_in, of_own}
 use Rattle.queue_core.specs.Limits.{IsSoundJob, FitsPhase}
 use Rattle.queue_core.specs.Runs.{Follows, is_pair}
 use Rattle.queue_core.specs.Sound.{IsSound, IsSoundEntry, IsSoundDocument, Rise}
@@ -19,7 +19,6 @@ use Rattle.queue_types.specs.declared.job.Job.{Job}
 use Rattle.queue_types.specs.declared.job.Phase.{Phase}
 use Rattle.queue_types.specs.declared.job.Phase.TheVariants.{Waiting}
 use Rattle.queue_types.specs.declared.event.Scene.{Scene}
-use Rattle.queue_types.specs.declared.event.Reply.TheVariants.{Jobs}
 use Rattle.queue_core.proofs.Keep.{at, ne_from_gt}
 use Rattle.queue_core.proofs.Fair.{first_sound}
 use Rattle.queue_core.proofs.Ordered.{each-append}
@@ -154,7 +153,7 @@ module _ (w : World) (caller : List ℕ) (n : ℕ) (format : Format) (payload : 
 
   row : (j : Job) (rest : List Job) → scene.jobs ≡ j ∷ rest → j.owner ≡ caller → Keeps w (made_on (send_in scene j format payload last).change w)
   row j rest e own =
-      elim (is_sendable j payload) as (λ b. is_sendable j payload ≡ b → Keeps w (made_on (cond b (record { reply = Jobs (sent j payload last ∷ []); change = record (changed scene (sent j payload last ∷ [])) { document = new_document j.number format payload } }) (refused 0x0404)).change w)) [
+      elim (is_sendable j payload) as (λ b. is_sendable j payload ≡ b → Keeps w (made_on (cond b (document_sent scene j format payload last) (refused 0x0404)).change w)) [
         | true ↦ λ is.
             let s = first_sound w (ask caller (send_document n format payload last)) sound j rest e in
             let there = found_at w caller (send_document n format payload last) n sound refl j (sent j payload last) rest e (replaced j) in

@@ -5,7 +5,7 @@ use Rattle.queue_types.specs.Event.{Event, Decision, ask, tell, grant, print_job
 use Rattle.queue_core.specs.World.{World, AreNew, cut, made_on}
 use Rattle.queue_core.specs.Reports.{reported, is_same_report}
 use Rattle.queue_core.specs.Machine.{decision, accepted_where, answered, report_row, new_refusal, unless_refused, validate_job_row}
-use Rattle.queue_core.specs.Limits.{IsMoment, IsEvent, IsSoundDecision}
+use Rattle.queue_core.specs.Limits.{IsMoment, IsEvent}
 use Rattle.queue_core.specs.Sound.{IsSound}
 use Rattle.queue_core.specs.Book.{IsDecisionOn}
 use Rattle.queue_types.specs.declared.event.Reply.TheVariants.{Done, Told, NotTold}
@@ -22,7 +22,7 @@ use Rattle.queue_core.proofs.Send.{send_keeps}
 use Rattle.queue_core.proofs.Print.{print_keeps, create_keeps}
 use Rattle.queue_core.proofs.Granted.{grants_keep, grants_new}
 use Rattle.queue_core.proofs.Reported.{tell_keeps}
-use Rattle.queue_core.proofs.Within.{ask_within, decision_within}
+use Rattle.queue_core.proofs.Within.{IsSoundDecision, ask_within, decision_within}
 
 validate_keeps : (w : World) (s : Scene) → IsSound w → Keeps w (made_on (validate_job_row s).change w)
 validate_keeps w s sound = elim (new_refusal s) as (λ o. Keeps w (made_on (unless_refused o (answered Done)).change w)) [ None ↦ unchanged w sound | Some code ↦ unchanged w sound ]

@@ -8,7 +8,7 @@ use Rattle.queue_core.specs.Forms.{IsOwn, HasForm, not_possible, not_found, out_
 use Rattle.queue_core.specs.Reports.{reported, is_same_report}
 use Rattle.queue_core.specs.Grants.{repeated, refused_row, new_row, row_of, Taken, all_taken, none_taken, free_after, add_row, take_rows}
 use Rattle.queue_core.specs.Machine.{decision, call_row, refused, becomes, answered, canceled, is_cancelable, all_canceled, entered, new_job, new_document, new_refusal, sent, accepted, accepted_where, report_row, grant_row}
-use Rattle.queue_core.specs.Limits.{IsMoment, IsEvent, IsCall, IsOwner, IsNewJob, IsSoundJob, IsFair, IsReport, IsReplyTo, IsSoundReply, IsSoundChange, IsSoundDecision}
+use Rattle.queue_core.specs.Limits.{IsMoment, IsEvent, IsCall, IsOwner, IsNewJob, IsSoundJob, IsFair, IsReport, IsReplyTo, IsSoundReply, IsSoundChange}
 use Rattle.queue_types.specs.declared.document.Format.{Format}
 use Rattle.queue_types.specs.declared.job.Job.{Job}
 use Rattle.queue_types.specs.declared.event.FreeRow.{FreeRow}
@@ -102,6 +102,11 @@ module _ (s : Scene) (now : ℕ) (caller : List ℕ) (fair : IsFair s) (moment :
 
 pub ask_within : (s : Scene) (now : ℕ) (caller : List ℕ) (call : Call) → IsFair s → IsMoment now → IsOwner caller × IsCall call → IsAskDecision (call_row s now caller call)
 ask_within s now caller call fair moment event = form_within s now caller fair moment event.0 call (call_row s now caller call) (call_form s now caller call) event.1
+
+-- a decision on that event within the limits
+pub record IsSoundDecision (e : Event) (d : Decision) : Type 0 where
+  pub reply : IsReplyTo e d.reply
+  pub change : IsSoundChange d.change
 
 -- ---- reports
 

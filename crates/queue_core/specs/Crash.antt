@@ -1,8 +1,18 @@
--- What a request leaves of a book, where a crash may come at any moment.
-use Rattle.std.specs.Prelude.{◌≡◌, ℕ}
+-- What is left of a book, where a crash may come at any moment.
+use Rattle.std.specs.Prelude.{◌≡◌, ◌⊎◌, ℕ}
 use Rattle.queue_types.specs.Event.{Event}
 use Rattle.queue_core.specs.Machine.{step}
 use Rattle.queue_core.specs.World.{World}
+
+-- what a crash leaves beside the queue w, before something is asked of the book, comes to what it leaves beside u, after it, as `left` has it
+abbrev pub CarriesBy : (before after : World → World → Type 0) (left : World → World → Type 0) → World → World → Type 0
+CarriesBy before after left w u = (v : World) → before w v → (x : World) × after u x × left v x
+
+-- nothing was done, and a crash leaves what it left before, which is v; or it leaves what `more` says
+abbrev pub IsLeftOr : (more : World → Type 0) → World → World → World → World → Type 0
+IsLeftOr more w v u x = ((u ≡ w) × (x ≡ v)) ⊎ more x
+
+-- ---- one request
 
 -- From the queue w, beside which a crash leaves v, to the queue u, beside which it leaves x. The request did nothing; or its event was
 -- taken, and a crash leaves just that; or taking it was broken off, and a crash leaves the queue from before it or the one after it.
@@ -11,6 +21,6 @@ pub data Leaves (asks : Event → Type 0) (now : ℕ) (w v u x : World) : Type 0
   taken : (e : Event) → asks e → u ≡ (step w now e).world → x ≡ u → Leaves asks now w v u x
   broken_off : (e : Event) → asks e → u ≡ w → x ≡ (step w now e).world → Leaves asks now w v u x
 
--- what a crash leaves beside the queue w, before a request, comes to what it leaves beside u, after it
+-- before a request, and after it
 abbrev pub Carries : (World → World → Type 0) → (World → World → Type 0) → (Event → Type 0) → ℕ → World → World → Type 0
-Carries before after asks now w u = (v : World) → before w v → (x : World) × after u x × Leaves asks now w v u x
+Carries before after asks now w u = CarriesBy before after (λ v x. Leaves asks now w v u x) w u

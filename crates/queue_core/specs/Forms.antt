@@ -2,7 +2,7 @@
 use Rattle.std.specs.Prelude.{◌≡◌, ℕ, List, [], ◌∷◌, Option, None, Bool, true, false, bytes_eq, filter}
 use Rattle.queue_types.specs.Event.{NewJob, Call, Decision, print_job, create_job, send_document, cancel_job, cancel_my_jobs, hold_job, release_job, get_job_attributes, get_jobs, get_printer_attributes}
 use Rattle.queue_types.specs.Job.{estimate}
-use Rattle.queue_core.specs.Machine.{answered, refused, becomes, changed, entered, new_job, new_document, new_refusal, printer_row, is_sendable, sent, is_cancelable, canceled, all_canceled, has_pages}
+use Rattle.queue_core.specs.Machine.{answered, refused, becomes, entered, new_job, new_document, new_refusal, printer_row, is_sendable, document_sent, is_cancelable, canceled, all_canceled, has_pages}
 use Rattle.queue_types.specs.declared.document.Format.{Format}
 use Rattle.queue_types.specs.declared.event.Reply.TheVariants.{Done, Jobs}
 use Rattle.queue_types.specs.declared.event.Scene.{Scene}
@@ -27,8 +27,7 @@ pub data HasForm (s : Scene) (now : ℕ) (caller : List ℕ) : Call → Decision
   shows_printer : HasForm s now caller get_printer_attributes (printer_row s)
   prints : (new : NewJob) (format : Format) (payload : List ℕ) → new_refusal s ≡ None → HasForm s now caller (print_job new format payload) (entered s (new_job s now caller false new payload) (new_document s.next format payload))
   creates : (new : NewJob) → new_refusal s ≡ None → HasForm s now caller (create_job new) (entered s (new_job s now caller true new []) None)
-  sends : (n : ℕ) (format : Format) (payload : List ℕ) (last : Bool) (j : Job) → IsOwn s caller j → is_sendable j payload ≡ true
-      → HasForm s now caller (send_document n format payload last) (record { reply = Jobs (sent j payload last ∷ []); change = record (changed s (sent j payload last ∷ [])) { document = new_document j.number format payload } })
+  sends : (n : ℕ) (format : Format) (payload : List ℕ) (last : Bool) (j : Job) → IsOwn s caller j → is_sendable j payload ≡ true → HasForm s now caller (send_document n format payload last) (document_sent s j format payload last)
   cancels : (n : ℕ) (j : Job) → IsOwn s caller j → is_cancelable j ≡ true → HasForm s now caller (cancel_job n) (becomes s (canceled now j))
   cancels_all : (numbers : Option (List ℕ)) → HasForm s now caller (cancel_my_jobs numbers) (all_canceled s now (filter is_cancelable s.jobs))
   holds : (n : ℕ) (j : Job) → IsOwn s caller j → j.phase ≡ Waiting → HasForm s now caller (hold_job n) (becomes s (record j { hold = true }))

@@ -3,7 +3,7 @@ use Rattle.std.specs.Prelude.{◌≡◌, ℕ, ℤ, pos, neg_ℤ, ◌≤ℤ◌, �
 use Rattle.std.specs.List.{list_all}
 use Rattle.std.specs.Str.{IsUtf8}
 use Rattle.queue_types.specs.Settings.{AreSettings}
-use Rattle.queue_types.specs.Event.{Event, Call, NewJob, Change, Decision, ask, tell, grant, print_job, validate_job, create_job, send_document, cancel_job, cancel_my_jobs, hold_job, release_job, get_job_attributes, get_jobs, get_printer_attributes}
+use Rattle.queue_types.specs.Event.{Event, Call, NewJob, Change, ask, tell, grant, print_job, validate_job, create_job, send_document, cancel_job, cancel_my_jobs, hold_job, release_job, get_job_attributes, get_jobs, get_printer_attributes}
 use Rattle.queue_core.specs.World.{job_at}
 use Rattle.queue_types.specs.declared.job.Job.{Job}
 use Rattle.queue_types.specs.declared.job.Phase.{Phase}
@@ -165,8 +165,3 @@ IsReplyTo (grant new) r = IsGrantReply r
 pub record IsSoundChange (c : Change) : Type 0 where
   pub jobs : All IsSoundJob c.jobs
   pub document : IfSome c.document (λ k. IsSome (job_at k.job c.jobs))
-
--- a decision on that event within the limits
-pub record IsSoundDecision (e : Event) (d : Decision) : Type 0 where
-  pub reply : IsReplyTo e d.reply
-  pub change : IsSoundChange d.change

@@ -32,7 +32,7 @@ answered r = record { reply = r; change = no_change }
 abbrev pub refused : ℕ → Decision
 refused code = answered (Refused code)
 
--- ---- the balance: no row of the table speaks of free pages, but by this rule
+-- ---- the balance: as jobs change, free pages move by this rule alone (new grants add theirs in `grant_row`)
 
 -- the pages that a job has taken from free: those that are set aside and those that are printed
 abbrev pub taken : Job → ℕ
@@ -177,11 +177,15 @@ is_sendable j payload = j.incoming && nat_le (j.documents + document_count paylo
 abbrev pub sent : Job → List ℕ → Bool → Job
 sent j payload last = record j { documents = j.documents + document_count payload; octets = j.octets + length payload; incoming = not last }
 
-abbrev pub send_in : Scene → Job → Format → List ℕ → Bool → Decision
-send_in s j format payload last = if is_sendable j payload then record {
+-- the job takes the payload, and is answered
+abbrev pub document_sent : Scene → Job → Format → List ℕ → Bool → Decision
+document_sent s j format payload last = record {
   reply = Jobs (sent j payload last ∷ []);
   change = record (changed s (sent j payload last ∷ [])) { document = new_document j.number format payload };
-} else refused 0x0404
+}
+
+abbrev pub send_in : Scene → Job → Format → List ℕ → Bool → Decision
+send_in s j format payload last = if is_sendable j payload then document_sent s j format payload last else refused 0x0404
 
 -- ---- Hold-Job and Release-Job (RFC 8011, sections 4.3.5 and 4.3.6)
 

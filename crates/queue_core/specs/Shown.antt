@@ -17,13 +17,13 @@ abbrev pub pending_jobs : World → List Job
 pending_jobs w = pending_in (rows w)
 
 -- the device may fetch the job's documents: it is pending, processing or processing-stopped (RFC 8011, section 5.3.7)
-abbrev pub is_fetched : Job → Bool
-is_fetched j = state j == 3 || state j == 5 || state j == 6
+abbrev pub may_be_fetched : Job → Bool
+may_be_fetched j = state j == 3 || state j == 5 || state j == 6
 
 -- document n, from 1, of a job whose documents the device may fetch
 abbrev pub document_of : Option Entry → ℕ → Option Document
 document_of None n = None
-document_of (Some e) n = if is_fetched e.row && nat_lt 0 n then slice_get e.documents (n - 1) else None
+document_of (Some e) n = if may_be_fetched e.row && nat_lt 0 n then slice_get e.documents (n - 1) else None
 
 unfoldable pub document_at : World → ℕ → ℕ → Option Document
 document_at w job n = document_of (find (λ (e : Entry). e.row.number == job) w.jobs) n

@@ -12,7 +12,7 @@ use Rattle.queue_core.specs.Sound.{IsSound, reserved, printed}
 use Rattle.queue_core.specs.World.{World, rows, granted}
 use Rattle.queue_types.specs.declared.job.Job.{Job}
 use Rattle.queue_types.specs.declared.sheet.AccountSheet.{AccountSheet}
-use Rattle.queue_laws.specs.Jobs.{is_owned_by}
+use Rattle.queue_laws.specs.Jobs.{is_owned_by, takes_pages}
 use Rattle.queue_laws.proofs.InOrder.{count_filter}
 use Rattle.queue_laws.proofs.Standing.{chosen_rise}
 
@@ -83,8 +83,8 @@ module _ (w : World) (a : List ℕ) where
     pub sheet_printed : sheet_of w a ≡ Some s → s.printed ≡ sum_by (λ j. j.count) s.jobs
     sheet_printed = of_sheet (λ s. s.printed ≡ sum_by (λ j. j.count) s.jobs) w a s (λ free there. lines_add_up a (λ j. j.count) count_left_out (rows w))
 
-    pub sheet_each : (p : Job → Bool) → sheet_of w a ≡ Some s → count_by p s.jobs ≡ count_by (λ j. is_owned_by a j && is_charged j && p j) (rows w)
-    sheet_each p = of_sheet (λ s. count_by p s.jobs ≡ count_by (λ j. is_owned_by a j && is_charged j && p j) (rows w)) w a s (λ free there. count_filter p (λ j. bytes_eq j.owner a && is_charged j) (rows w))
+    pub sheet_each : (p : Job → Bool) → sheet_of w a ≡ Some s → count_by p s.jobs ≡ count_by (λ j. is_owned_by a j && takes_pages j && p j) (rows w)
+    sheet_each p = of_sheet (λ s. count_by p s.jobs ≡ count_by (λ j. is_owned_by a j && takes_pages j && p j) (rows w)) w a s (λ free there. count_filter p (λ j. bytes_eq j.owner a && is_charged j) (rows w))
 
     pub sheet_in_order : IsSound w → sheet_of w a ≡ Some s → AreRising s.jobs
     sheet_in_order sound = of_sheet (λ s. AreRising s.jobs) w a s (λ free there. chosen_rise w sound (λ j. bytes_eq j.owner a && is_charged j))

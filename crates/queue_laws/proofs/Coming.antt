@@ -8,14 +8,14 @@ use Rattle.queue_types.specs.Event.{Event, Call, Change, Decision, NewDocument, 
 use Rattle.queue_core.specs.World.{World, Entry, rows, cut, made_on, with_row, add_document, with_document}
 use Rattle.queue_core.specs.Forms.{HasForm, prints, sends as sends_form}
 use Rattle.queue_core.specs.Grants.{Taken, all_taken, none_taken, take_rows}
-use Rattle.queue_core.specs.Machine.{step, decision, call_row, answered, refused, changed, entered, new_job, new_document, new_refusal, unless_refused, is_sendable, sent, send_in, report_row, accepted_where, grant_row, of_own}
+use Rattle.queue_core.specs.Machine.{step, decision, call_row, answered, refused, entered, new_job, new_document, new_refusal, unless_refused, is_sendable, document_sent, send_in, report_row, accepted_where, grant_row, of_own}
 use Rattle.queue_core.specs.Reports.{reported, is_same_report}
 use Rattle.queue_types.specs.declared.document.Document.{Document}
 use Rattle.queue_types.specs.declared.document.Format.{Format}
 use Rattle.queue_types.specs.declared.event.KeptReport.{KeptReport}
 use Rattle.queue_types.specs.declared.event.Report.{Report}
 use Rattle.queue_types.specs.declared.event.ReportRefusal.TheVariants.{Conflict}
-use Rattle.queue_types.specs.declared.event.Reply.TheVariants.{Told, NotTold, Jobs}
+use Rattle.queue_types.specs.declared.event.Reply.TheVariants.{Told, NotTold}
 use Rattle.queue_types.specs.declared.event.Scene.{Scene}
 use Rattle.queue_types.specs.declared.job.Job.{Job}
 use Rattle.queue_core.proofs.Forms.{call_form}
@@ -131,7 +131,7 @@ module _ (n : ℕ) where
   module _ (s : Scene) where
     payload_sends : (m : ℕ) (j : Job) (format : Format) (payload : List ℕ) (last : Bool) → j.number ≡ m → Sends (cond (nat_eq m n) (documents_of format payload) []) (send_in s j format payload last)
     payload_sends m j format payload last number =
-        elim (is_sendable j payload) as (λ b. Sends (cond (nat_eq m n) (documents_of format payload) []) (cond b (record { reply = Jobs (sent j payload last ∷ []); change = record (changed s (sent j payload last ∷ [])) { document = new_document j.number format payload } }) (refused 0x0404))) [
+        elim (is_sendable j payload) as (λ b. Sends (cond (nat_eq m n) (documents_of format payload) []) (cond b (document_sent s j format payload last) (refused 0x0404))) [
           | true ↦ inr (carries n j.number format payload ∙ ap (λ m. cond (nat_eq m n) (documents_of format payload) []) number)
           | false ↦ inl refl
         ]

@@ -8,7 +8,7 @@ use Rattle.queue_types.specs.Event.{Decision, NewDocument}
 use Rattle.queue_types.specs.Job.{state, state_in}
 use Rattle.queue_core.specs.Limits.{FitsPhase}
 use Rattle.queue_core.specs.World.{World, Entry, cut, with_row, add_document, with_document}
-use Rattle.queue_core.specs.Machine.{Step, step, refused, document_count, new_document, is_sendable, sent, send_in}
+use Rattle.queue_core.specs.Machine.{Step, step, refused, document_count, new_document, is_sendable, sent, document_sent, send_in}
 use Rattle.queue_core.specs.Sound.{IsSound}
 use Rattle.queue_types.specs.declared.document.Document.{Document}
 use Rattle.queue_types.specs.declared.document.Format.{Format}
@@ -23,7 +23,6 @@ use Rattle.queue_laws.specs.Entering.{documents_of}
 use Rattle.queue_laws.specs.Steps.{not_possible}
 use Rattle.queue_laws.proofs.Base.{itself}
 use Rattle.queue_laws.proofs.OneDone.{by, own_step, number_at, sound_entry, with_row_at, document_at}
-use Rattle.queue_laws.proofs.Rows.{takes}
 
 same_count : (format : Format) (payload : List ℕ) → document_count payload ≡ length (documents_of format payload)
 same_count format [] = refl
@@ -56,7 +55,7 @@ module _ (w : World) (now n : ℕ) (caller : List ℕ) (e : Entry) (d : Document
   x = sent e.row d.bytes last
 
   abbrev takes_it : Decision
-  takes_it = takes scene e.row d.format d.bytes last
+  takes_it = document_sent scene e.row d.format d.bytes last
 
   send_step : (b : Bool) → is_sendable e.row d.bytes ≡ b → step w now (sends caller n d last) ≡ by w (cond b takes_it (refused 0x0404))
   send_step b is = ap (by w) (own_step w n caller (λ j. send_in scene j d.format d.bytes last) e own) ∙ ap (λ b. by w (cond b takes_it (refused 0x0404))) is

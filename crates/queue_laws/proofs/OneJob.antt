@@ -5,7 +5,7 @@ use Rattle.std.specs.List.{list_all, list_any, AllByRecursion as Each}
 use Rattle.std.proofs.lemmas.Bool.{and_right, or_right}
 use Rattle.queue_types.specs.Event.{Decision, ask, cancel_my_jobs, get_job_attributes}
 use Rattle.queue_core.specs.World.{World, rows, cut, job_at, numbered, is_one_of}
-use Rattle.queue_core.specs.Machine.{step, answered, refused, becomes, canceled, is_cancelable, cancel_row, all_canceled, sent, send_in, hold_in, release_in, of_own}
+use Rattle.queue_core.specs.Machine.{step, answered, refused, becomes, canceled, is_cancelable, cancel_row, all_canceled, sent, document_sent, send_in, hold_in, release_in, of_own}
 use Rattle.queue_types.specs.declared.document.Format.{Format}
 use Rattle.queue_types.specs.declared.job.Job.{Job}
 use Rattle.queue_types.specs.declared.event.Reply.{Reply}
@@ -13,7 +13,7 @@ use Rattle.queue_types.specs.declared.event.Reply.TheVariants.{Refused, Done, Jo
 use Rattle.queue_types.specs.declared.event.Scene.{Scene}
 use Rattle.queue_laws.specs.Jobs.{has_job}
 use Rattle.queue_laws.proofs.Base.{equal, itself, none_named, named, each_map}
-use Rattle.queue_laws.proofs.Rows.{takes, on_send, on_cancel, on_hold, on_release}
+use Rattle.queue_laws.proofs.Rows.{on_send, on_cancel, on_hold, on_release}
 
 abbrev code_in : Reply → ℕ
 code_in (Refused code) = code
@@ -38,7 +38,7 @@ shown d js is e = cc
 -- ---- each row of the table
 
 pub finds_sent : (s : Scene) (j : Job) (format : Format) (payload : List ℕ) (last : Bool) → Finds (send_in s j format payload last)
-finds_sent s j format payload last = on_send Finds s j format payload last (λ can. shown (takes s j format payload last) (sent j payload last ∷ []) refl) not_possible
+finds_sent s j format payload last = on_send Finds s j format payload last (λ can. shown (document_sent s j format payload last) (sent j payload last ∷ []) refl) not_possible
 
 pub finds_canceled : (s : Scene) (now : ℕ) (j : Job) → Finds (cancel_row s now j)
 finds_canceled s now j = on_cancel Finds s j now (done (becomes s (canceled now j)) refl) not_possible

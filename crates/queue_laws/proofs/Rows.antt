@@ -4,16 +4,12 @@ use Rattle.std.specs.Prelude.{Some, None, bytes_eq}
 use Rattle.std.specs.List.{list_all}
 use Rattle.queue_types.specs.Job.{estimate}
 use Rattle.queue_types.specs.Event.{Decision}
-use Rattle.queue_core.specs.Machine.{answered, refused, becomes, changed, new_document, new_refusal, unless_refused, canceled, is_cancelable, cancel_row, all_canceled, are_there, cancel_my_jobs_row, is_sendable, sent, send_in, hold_in, has_pages, let_print, release_in, of_own}
+use Rattle.queue_core.specs.Machine.{answered, refused, becomes, new_refusal, unless_refused, canceled, is_cancelable, cancel_row, all_canceled, are_there, cancel_my_jobs_row, is_sendable, document_sent, send_in, hold_in, has_pages, let_print, release_in, of_own}
 use Rattle.queue_types.specs.declared.document.Format.{Format}
 use Rattle.queue_types.specs.declared.job.Job.{Job}
 use Rattle.queue_types.specs.declared.job.Phase.TheVariants.{Waiting, Running, Stopped}
-use Rattle.queue_types.specs.declared.event.Reply.TheVariants.{Done, Jobs}
+use Rattle.queue_types.specs.declared.event.Reply.TheVariants.{Done}
 use Rattle.queue_types.specs.declared.event.Scene.{Scene}
-
--- the job takes the document
-abbrev pub takes : Scene → Job → Format → List ℕ → Bool → Decision
-takes s j format payload last = record { reply = Jobs (sent j payload last ∷ []); change = record (changed s (sent j payload last ∷ [])) { document = new_document j.number format payload } }
 
 module _ (P : Decision → Type 0) where
   -- the caller's own job, or none
@@ -33,8 +29,8 @@ module _ (P : Decision → Type 0) where
         ]
 
     module _ (j : Job) where
-      pub on_send : (format : Format) (payload : List ℕ) (last : Bool) → (is_sendable j payload ≡ true → P (takes s j format payload last)) → P (refused 0x0404) → P (send_in s j format payload last)
-      on_send format payload last taken refusal = elim (is_sendable j payload) as (λ b. is_sendable j payload ≡ b → P (cond b (takes s j format payload last) (refused 0x0404))) [ true ↦ taken | false ↦ λ never. refusal ] refl
+      pub on_send : (format : Format) (payload : List ℕ) (last : Bool) → (is_sendable j payload ≡ true → P (document_sent s j format payload last)) → P (refused 0x0404) → P (send_in s j format payload last)
+      on_send format payload last taken refusal = elim (is_sendable j payload) as (λ b. is_sendable j payload ≡ b → P (cond b (document_sent s j format payload last) (refused 0x0404))) [ true ↦ taken | false ↦ λ never. refusal ] refl
 
       pub on_cancel : (now : ℕ) → P (becomes s (canceled now j)) → P (refused 0x0404) → P (cancel_row s now j)
       on_cancel now ends refusal = elim (is_cancelable j) as (λ b. P (cond b (becomes s (canceled now j)) (refused 0x0404))) [ true ↦ ends | false ↦ refusal ]

@@ -7,7 +7,7 @@ use Rattle.std.proofs.lemmas.Option.{same_Some, none-some}
 use Rattle.queue_types.specs.Event.{Event, NewJob, NewDocument, Change, Decision, ask, print_job, send_document}
 use Rattle.queue_types.specs.Job.{state}
 use Rattle.queue_core.specs.World.{World, Entry, rows, cut, made_on, with_row, add_document, with_document}
-use Rattle.queue_core.specs.Machine.{Step, step, decision, refused, changed, is_sendable, sent, send_in}
+use Rattle.queue_core.specs.Machine.{Step, step, decision, refused, changed, is_sendable, sent, document_sent, send_in}
 use Rattle.queue_core.specs.Runs.{Place, after, run}
 use Rattle.queue_core.specs.Shown.{document_at}
 use Rattle.queue_core.specs.Sound.{IsSound, Rise}
@@ -27,7 +27,6 @@ use Rattle.queue_laws.proofs.OfNumber.{other_row_at}
 use Rattle.queue_laws.proofs.OneDone.{by, number_at, row_at, with_row_at, document_at as document_put}
 use Rattle.queue_laws.proofs.OneJob.{of_job}
 use Rattle.queue_laws.proofs.OnSend.{added}
-use Rattle.queue_laws.proofs.Rows.{takes}
 
 pub as_it_is : (n : ℕ) (es : List Entry) (x : Entry) → entry_at n es ≡ Some x → HasFirst n x.documents es
 as_it_is n es x there = record { entry = x; more = []; there = there; documents = sym (append-nil x.documents) }
@@ -121,7 +120,7 @@ module _ (w : World) (now n : ℕ) (caller : List ℕ) (e : Entry) (format : For
   x = sent e.row payload last
 
   abbrev sends : Decision
-  sends = takes scene e.row format payload last
+  sends = document_sent scene e.row format payload last
 
   abbrev by_tests : Bool → Bool → Step
   by_tests own can = by w (cond own (cond can sends (refused 0x0404)) (refused 0x0406))

@@ -1,7 +1,7 @@
 -- Jobs as their owners speak of them (RFC 8011, section 5.3.7).
-use Rattle.std.specs.Prelude.{◌≡◌, ◌≤◌, ℕ, List, Bool, ◌==◌, ◌&&◌, ◌||◌, bytes_eq, count_by, filter, nat_le, not, Option, Some, None, take, if◌then◌else◌}
+use Rattle.std.specs.Prelude.{◌≡◌, ◌≤◌, ℕ, List, Bool, ◌==◌, ◌&&◌, ◌||◌, bytes_eq, count_by, filter, nat_le, nat_lt, not, Option, Some, None, take, if◌then◌else◌}
 use Rattle.std.specs.List.{list_all, list_any}
-use Rattle.queue_types.specs.Job.{state}
+use Rattle.queue_types.specs.Job.{state, owed}
 use Rattle.queue_core.specs.World.{Entry}
 use Rattle.queue_types.specs.declared.event.WhichJobs.{WhichJobs}
 use Rattle.queue_types.specs.declared.event.WhichJobs.TheVariants.{NotCompleted, Completed}
@@ -39,6 +39,10 @@ is_finished j = nat_le 7 (state j) && nat_le (state j) 9
 abbrev pub is_of_kind : WhichJobs → Job → Bool
 is_of_kind NotCompleted j = is_unfinished j
 is_of_kind Completed j = is_finished j
+
+-- pages are set aside for it, or were printed of it
+abbrev pub takes_pages : Job → Bool
+takes_pages j = nat_lt 0 (owed j) || nat_lt 0 j.count
 
 -- the caller's own of that kind, of all jobs
 abbrev pub own_of_kind : List ℕ → WhichJobs → List Job → List Job

@@ -1,4 +1,5 @@
 pub mod Loading
+pub mod RowByRow
 pub mod Texts
 pub mod Listing
 pub mod Telling

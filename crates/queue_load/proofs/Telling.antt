@@ -10,7 +10,7 @@ use Rattle.queue_tables.specs.Tables.{book_schema}
 use Rattle.queue_tables.specs.declared.fault.Fault.{Fault}
 use Rattle.queue_tables.specs.declared.fault.Fault.TheVariants.{Damaged}
 use Rattle.queue_tables.proofs.Ending.{on_ok}
-use Rattle.queue_tables.proofs.Leaving.{leaves_then}
+use Rattle.queue_tables.proofs.Leaving.{leaves_all, leaves_then}
 use Rattle.queue_load.specs.Reads.{HasBook, ReadsTable}
 
 -- what rows that were read, or a formless one of them, say of a table
@@ -23,6 +23,11 @@ reads_by r leaves same read bad ok err = record {
   read = λ fits clean. IfOk-weaker r _ _ (ok (fits (leaves.clean clean))) (read fits clean);
   damaged = λ fits clean. IfErr-weaker r _ _ (λ e told d. err (fits (leaves.clean clean)) (told d)) (bad fits clean);
 }
+
+-- nothing was read
+pub reads_none : {T : Type 0} {s : State} {IsRead : Trees → T → Type 0} {HaveForm : Trees → Type 0} (r : Result T Fault) (e : Fault) → IsErrAnd r (λ f. f ≡ e) → (e ≡ Damaged → ¬ HaveForm s.now.trees) → ReadsTable s s r IsRead HaveForm
+reads_none (Ok x) e same bad = absurd same
+reads_none (Err f) e same bad = record { leaves = leaves_all _; same = λ clean. tt; read = λ fits clean. tt; damaged = λ fits clean d. bad (sym same ∙ d) }
 
 -- what an Ok makes of what was read
 pub tells : {T U : Type 0} {old new : State} {x : T} {y : U} {IsRead : Trees → T → Type 0} {IsTold : Trees → U → Type 0} {Formed HaveForm : Trees → Type 0}

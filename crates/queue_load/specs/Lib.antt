@@ -1,4 +1,5 @@
 pub mod Reads
+pub mod RowByRow
 pub mod Tells
 pub mod Loaded
 pub mod Content

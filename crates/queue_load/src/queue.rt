@@ -3,7 +3,7 @@ ghost use Rattle.std.specs.Prelude.{◌≡◌, IfOk, IfErr, OnOk};
 ghost use Rattle.sqlite.specs.Held.{state};
 ghost use Rattle.sqlite.specs.State.{HasCleanDisk, IsUnchanged};
 ghost use Rattle.queue_core.specs.World.{World};
-ghost use Rattle.queue_rows.specs.Rows.{tables_in};
+ghost use Rattle.queue_rows.specs.Rows.{StandForNoSoundWorld, StandForSoundWorlds, tables_in};
 ghost use Rattle.queue_load.specs.Queues.{HasQueue, IsQueueIn};
 ghost use Rattle.queue_load.specs.Reads.{ReadsTable};
 ghost use Rattle.queue_load.specs.Store.{FitsIn};
@@ -31,6 +31,16 @@ fn check_accounts<S: Alter>(alloc: Global, conn: &mut Connection<S>) -> Result<(
     Ok(())
 }
 
+/// The rows are those of a sound queue, and the accounts have rowids of their own. Damaged is told only where it is not so.
+fn check_rows<S: Alter>(alloc: Global, conn: &mut Connection<S>, rows: &Rows) -> Result<(), Fault>
+    ensures reads { ReadsTable (state S.Store conn.old) (state S.Store conn.new) result (λ db u. StandForSoundWorlds (tables_in rows.now) × AreKeyed (db 6)) (λ db. (¬ StandForNoSoundWorld (tables_in rows.now)) × AreKeyed (db 6)) }
+{
+    if !are_sound_rows(alloc, rows)? {
+        return Err(Fault::Damaged);
+    }
+    check_accounts(alloc, conn)
+}
+
 /// The rows of the sound queue that the tables hold. Damaged is told only where they hold none. The tables stay as they were, where the
 /// connection is still open. Within a transaction it answers Disk, unless a table is missing.
 pub fn load_queue<S: Alter>(alloc: Global, conn: &mut Connection<S>) -> Result<Rows, Fault>
@@ -43,9 +53,6 @@ pub fn load_queue<S: Alter>(alloc: Global, conn: &mut Connection<S>) -> Result<R
     tables_give_their_queue();
     sound_rows_are_a_queue();
     let rows = load_rows(alloc, conn)?;
-    if !are_sound_rows(alloc, &rows)? {
-        return Err(Fault::Damaged);
-    }
-    check_accounts(alloc, conn)?;
+    check_rows(alloc, conn, &rows)?;
     Ok(rows)
 }

@@ -1,13 +1,13 @@
 //! A whole table, read a row at a time.
-ghost use Rattle.std.specs.Prelude.{◌≡◌, ◌≢◌, ℕ, List, [], false, IfOk, IfErr, OnOk, IsTrue};
-ghost use Rattle.sqlite.specs.Given.{IsPlain, HasGiven};
+ghost use Rattle.std.specs.Prelude.{◌≡◌, ◌≢◌, IfOk, IfErr, OnOk};
+ghost use Rattle.sqlite.specs.Given.{IsPlain};
 ghost use Rattle.sqlite.specs.Held.{state};
 ghost use Rattle.sqlite.specs.Listing.{understood};
 ghost use Rattle.sqlite.specs.Order.{Row as Columns};
 ghost use Rattle.sqlite.specs.State.{HasCleanDisk, IsUnchanged};
-ghost use Rattle.sqlite.specs.Tree.{Trees};
-ghost use Rattle.queue_load.specs.Reads.{FindsFormless, HasBook, HasRead, LeavesRows};
-ghost use Rattle.queue_tables.specs.Leaving.{KeepsServing, LeavesTables};
+ghost use Rattle.queue_load.specs.Reads.{FindsFormless, HasBook, HasRead};
+ghost use Rattle.queue_load.specs.RowByRow.{ReadsNext, ReadsRows};
+ghost use Rattle.queue_tables.specs.Leaving.{LeavesTables};
 ghost use Rattle.queue_tables.specs.Queries.{IsQueryText};
 ghost use Rattle.queue_tables.specs.Tables.{book_schema};
 ghost use Rattle.queue_tables.specs.declared.fault.Fault.TheVariants.{Damaged, Disk};
@@ -31,25 +31,28 @@ pub(crate) trait TableRow: Drop {
         ensures never { IfErr result (λ e. e ≢ Disk) };
 }
 
+/// The value of the next row, or None where there is none. Damaged is told only where it is formless.
+fn read_next<S: Alter, T: TableRow>(alloc: Global, rows: &mut Rows<S>) -> Result<Option<T>, Fault>
+    ensures same_reference { rows.new.conn.ghost_name ≡ rows.old.conn.ghost_name }
+    ensures reads { ReadsNext S.Store rows.old.conn.now rows.new.conn.now result T.tells T.is_formless }
+{
+    let Some(row) = rows.next()? else {
+        return Ok(None);
+    };
+    Ok(Some(T::read(alloc, row)?))
+}
+
 /// The rows of a query that stands before its first. Damaged is told only where one of them is formless.
 fn read_rows<S: Alter, T: TableRow>(alloc: Global, rows: &mut Rows<S>) -> Result<Vec<T>, Fault>
     ensures same_reference { rows.new.conn.ghost_name ≡ rows.old.conn.ghost_name }
-    ensures clean { HasCleanDisk (state S.Store rows.new.conn.now) → HasCleanDisk (state S.Store rows.old.conn.now) }
-    // a crash leaves nothing but what it left before
-    ensures behind { HasCleanDisk (state S.Store rows.new.conn.now) → (db : Trees) → (state S.Store rows.new.conn.now).may_leave db → (state S.Store rows.old.conn.now).may_leave db }
-    ensures read { HasCleanDisk (state S.Store rows.new.conn.now) → IsTrue (state S.Store rows.old.conn.now).is_open → (sql : List ℕ) → IsPlain (understood (state S.Store rows.old.conn.now).now.schema sql) → HasGiven S.Store sql [] rows.old.conn.now [] → IfOk result (λ v. HasRead T.tells sql (state S.Store rows.old.conn.now) v.items) }
-    ensures formless { HasCleanDisk (state S.Store rows.new.conn.now) → IsTrue (state S.Store rows.old.conn.now).is_open → (sql : List ℕ) → HasGiven S.Store sql [] rows.old.conn.now [] → IfErr result (λ e. e ≡ Damaged → FindsFormless T.is_formless sql (state S.Store rows.old.conn.now)) }
-    ensures same { HasCleanDisk (state S.Store rows.new.conn.now) → IsTrue (state S.Store rows.old.conn.now).is_open → OnOk result (IsUnchanged (state S.Store rows.old.conn.now) (state S.Store rows.new.conn.now)) }
-    ensures left { HasCleanDisk (state S.Store rows.new.conn.now) → IsTrue (state S.Store rows.old.conn.now).is_open → LeavesRows (state S.Store rows.old.conn.now) (state S.Store rows.new.conn.now) }
-    ensures mode { (state S.Store rows.old.conn.now).in_transaction ≡ false → (state S.Store rows.new.conn.now).in_transaction ≡ false }
-    ensures serves { KeepsServing (state S.Store rows.old.conn.now) (state S.Store rows.new.conn.now) }
+    ensures reads { ReadsRows S.Store rows.old.conn.now rows.new.conn.now result T.tells T.is_formless }
 {
     let mut items = Vec::new(alloc);
     'rows: for _ in 0..u64::MAX {
-        let Some(row) = rows.next()? else {
+        let Some(item) = read_next(alloc, rows)? else {
             return Ok(items);
         };
-        items.push(T::read(alloc, row)?)?;
+        items.push(item)?;
     }
     Err(Fault::Disk)
 }

@@ -1,9 +1,8 @@
 //! The sums of what rows tell of their accounts or owners.
 ghost use Rattle.std.specs.Prelude.{◌≡◌, ℕ, List, IfOk};
-ghost use Rattle.queue_core.specs.Grants.{pages_to};
 ghost use Rattle.queue_core.specs.World.{live_jobs};
 ghost use Rattle.queue_rows.specs.Accounts.{accounts_of, reserved_for, printed_for};
-ghost use Rattle.queue_rows.specs.Totals.{total_in};
+ghost use Rattle.queue_rows.specs.Totals.{AreGranted, total_in};
 
 use crate::rows::AccountRow;
 use crate::totals::totals;
@@ -17,7 +16,7 @@ pub(crate) fn granted_totals<'a>(
     alloc: Global,
     grants: &'a [GrantRow],
 ) -> Result<BTreeMap<&'a str, u128>, AllocError>
-    ensures { IfOk result (λ m. (q : List ℕ) → total_in m q ≡ pages_to q grants.now) }
+    ensures { IfOk result (λ m. AreGranted m grants.now) }
 {
     totals(alloc, grants, |grant| {
         (grant.account.as_str(), u64::from(grant.pages))

@@ -1,16 +1,11 @@
 -- What is told of a document that is not sent: when damage, and when the writer's fault.
-use Rattle.std.proofs.Common.{◌≡◌, Ok, Err, Result, IsErrAnd, IfErr, refl, sym, ◌∙◌}
+use Rattle.std.proofs.Common.{◌≡◌, Ok, Err, Result, IfErr, refl}
 use Rattle.queue_core.specs.declared.book.BookFault.TheVariants.{Damaged as BookDamaged}
 use Rattle.queue_core.specs.declared.book.SendCause.TheVariants.{Book, Write as NotWritten}
 use Rattle.queue_shown.specs.Stops.{told_cause}
 use Rattle.queue_shown.specs.declared.send.Stop.{Stop}
 use Rattle.queue_shown.specs.declared.send.Stop.TheVariants.{Tables, Write}
 use Rattle.queue_tables.specs.declared.fault.Fault.TheVariants.{Damaged}
-
--- a stop that a `?` hands on
-pub stop_after : {T : Type 0} (r : Result T Stop) (stop cause : Stop) (P : Type 0) → IsErrAnd r (λ s. s ≡ stop) → (stop ≡ cause → P) → IfErr r (λ s. s ≡ cause → P)
-stop_after (Err s) stop cause P same then = λ is. then (sym same ∙ is)
-stop_after (Ok x) stop cause P same then = tt
 
 -- what holds at whatever stop
 pub at_stop : {T : Type 0} (r : Result T Stop) (cause : Stop) {P : Type 0} → P → IfErr r (λ s. s ≡ cause → P)

@@ -4,7 +4,7 @@ use Rattle.std.specs.List.Sorted.{IsPermutation}
 use Rattle.std.proofs.lemmas.Bool.{cases_Bool}
 use Rattle.sqlite.specs.Order.{Row, column}
 use Rattle.sqlite.specs.State.{State, Shown}
-use Rattle.queue_core.specs.Shown.{document_at, document_of, is_fetched}
+use Rattle.queue_core.specs.Shown.{document_at, document_of, may_be_fetched}
 use Rattle.queue_core.specs.Sound.{IsSound}
 use Rattle.queue_core.specs.World.{World, Entry, rows, job_at}
 use Rattle.queue_types.specs.declared.document.Document.{Document}
@@ -81,7 +81,7 @@ reads_head old new job n found w sound has h =
 
 shown_if : (o : Option Entry) (n : ℕ) → document_of o n ≡ (if is_fetched_job (option_map (λ (e : Entry). e.row) o) then nth_document o n else None)
 shown_if None n = refl
-shown_if (Some e) n = at (is_fetched e.row) (nat_lt 0 n) (slice_get e.documents (n - 1))
+shown_if (Some e) n = at (may_be_fetched e.row) (nat_lt 0 n) (slice_get e.documents (n - 1))
   where
     at : (a b : Bool) (o : Option Document) → (if a && b then o else None) ≡ (if a then (if b then o else None) else None)
     at true b o = refl

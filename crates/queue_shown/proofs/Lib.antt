@@ -5,6 +5,7 @@ pub mod DocumentParts
 pub mod Fetching
 pub mod Writes
 pub mod Sending
+pub mod RowByRow
 pub mod PiecesSent
 pub mod OwnedJobs
 pub mod SheetLemmas

@@ -1,5 +1,5 @@
 -- A document on its way out.
-use Rattle.std.proofs.Common.{◌≡◌, inl, inr, ℕ, List, [], ◌∷◌, ◌⊎◌, ◌++◌, length, Option, Ok, Err, Result, OnErr, sym, subst, append-nil}
+use Rattle.std.proofs.Common.{◌≡◌, inl, inr, ℕ, List, [], ◌∷◌, ◌⊎◌, ◌++◌, length, Option, sym, subst, append-nil}
 use Rattle.std.specs.Io.KnownBytes.{Appends}
 use Rattle.sqlite.specs.Order.{Row}
 use Rattle.sqlite_schema.specs.declared.schema.Schema.{Schema}
@@ -13,10 +13,6 @@ use Rattle.queue_shown.proofs.Texts.{select_pieces_is}
 
 pub pieces_plain_in : (schema : Schema) → schema ≡ book_schema → IsPlain (understood schema pieces_select)
 pieces_plain_in schema has = subst (λ (s : Schema). IsPlain (understood s pieces_select)) (sym has) select_pieces_is.shows.plain
-
-pub on_err : {T E : Type 0} (r : Result T E) {P : Type 0} → P → OnErr r P
-on_err (Ok x) p = tt
-on_err (Err e) p = p
 
 -- whole pieces so far
 pub front_whole : (params : Row) (s : State) (a b : Option (List ℕ)) (rows : List Row) (n : ℕ) → Begins pieces_select params s rows → Appends a b (bytes_of rows) → n ≡ length (bytes_of rows) → HasSentFront params s a b n

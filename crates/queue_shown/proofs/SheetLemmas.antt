@@ -1,9 +1,10 @@
 -- The sheet of an account, job by job.
-use Rattle.std.proofs.Common.{◌≡◌, ◌≢◌, ℕ, ℤ, pos, ◌+ℤ◌, zero, suc, ◌+◌, ◌<◌, ◌≤◌, ◌^◌, List, [], ◌∷◌, ◌++◌, map, filter, length, take, get_or, Bool, true, false, if◌then◌else◌, Option, None, Some, IfSome, option_map, refl, sym, ap, subst, ◌∙◌, arith, append-nil}
+use Rattle.std.proofs.Common.{◌≡◌, ◌≢◌, ℕ, ℤ, pos, ◌+ℤ◌, zero, suc, ◌+◌, ◌<◌, ◌≤◌, ◌^◌, List, [], ◌∷◌, ◌++◌, map, filter, length, take, get_or, Bool, true, false, if◌then◌else◌, Option, None, Some, IfSome, option_map, Result, Ok, Err, IsErrAnd, refl, sym, ap, subst, ◌∙◌, arith, append-nil}
 use Rattle.std.specs.FinMap.{get}
 use Rattle.std.proofs.lemmas.Int.{ints}
 use Rattle.std.proofs.lemmas.List.Elements.{filter_more}
 use Rattle.sqlite.specs.Order.{Row}
+use Rattle.sqlite.specs.State.{State, HasCleanDisk}
 use Rattle.sqlite.specs.declared.types.Value.{Value}
 use Rattle.queue_core.specs.Shown.{is_charged, sheet_of, sheet_jobs}
 use Rattle.queue_core.specs.Sound.{IsSound, reserved, printed}
@@ -18,7 +19,11 @@ use Rattle.queue_tables.proofs.Formed.{sums_fit}
 use Rattle.queue_tables.proofs.JobPut.{same_job}
 use Rattle.queue_tables.specs.declared.account_pages.AccountPages.{AccountPages}
 use Rattle.queue_tables.specs.Accounts.{pages_of}
-use Rattle.queue_tables.specs.Content.{AreRowsOf}
+use Rattle.queue_tables.specs.Content.{AreRowsOf, Holds, content_of}
+use Rattle.queue_tables.specs.Leaving.{LeavesTables}
+use Rattle.queue_tables.specs.declared.fault.Fault.{Fault}
+use Rattle.queue_tables.specs.declared.fault.Fault.TheVariants.{Damaged}
+use Rattle.queue_shown.specs.Sheets.{TellsJobOf}
 
 -- ---- one row
 
@@ -29,15 +34,37 @@ read_bare phases flags row k j reads plain is =
     let read : row ≡ job_values k = reads (ap (length {A = Value}) is) in
     same_job phases flags k j (sym read ∙ is) plain.0 plain.1
 
-pub idle_left : (k j : Job) (xs : List Job) → k ≡ bare j → is_charged k ≡ false → xs ≡ xs ++ (if is_charged j then j ∷ [] else [])
-idle_left k j xs is idle =
+pub idle_none : (k j : Job) → k ≡ bare j → is_charged k ≡ false → None ≡ (if is_charged j then Some j else None)
+idle_none k j is idle =
     let none : is_charged j ≡ false = ap is_charged (sym is) ∙ idle in
-    rw none (sym (append-nil xs))
+    rw none refl
 
-pub told_pushed : (k j new : Job) (xs : List Job) → k ≡ bare j → is_charged k ≡ true → new ≡ j → xs ++ new ∷ [] ≡ xs ++ (if is_charged j then j ∷ [] else [])
-told_pushed k j new xs is told same =
+pub charged_some : (k j new : Job) → k ≡ bare j → is_charged k ≡ true → new ≡ j → Some new ≡ (if is_charged j then Some j else None)
+charged_some k j new is told same =
     let some : is_charged j ≡ true = ap is_charged (sym is) ∙ told in
-    rw some (ap (λ (i : Job). xs ++ i ∷ []) same)
+    rw some (ap (λ (i : Job). Some i) same)
+
+pub none_pushed : (j : Job) (xs : List Job) → None ≡ (if is_charged j then Some j else None) → xs ≡ xs ++ (if is_charged j then j ∷ [] else [])
+none_pushed j xs = at (is_charged j)
+  where
+    at : (b : Bool) → None ≡ (if b then Some j else None) → xs ≡ xs ++ (if b then j ∷ [] else [])
+    at true none = absurd cc
+    at false none = sym (append-nil xs)
+
+pub some_pushed : (k j : Job) (xs ys : List Job) → Some k ≡ (if is_charged j then Some j else None) → ys ≡ xs ++ k ∷ [] → ys ≡ xs ++ (if is_charged j then j ∷ [] else [])
+some_pushed k j xs ys some pushed = at (is_charged j) some
+  where
+    at : (b : Bool) → Some k ≡ (if b then Some j else None) → ys ≡ xs ++ (if b then j ∷ [] else [])
+    at true it =
+        let same : k ≡ j = cc in
+        pushed ∙ ap (λ (i : Job). xs ++ i ∷ []) same
+    at false it = absurd cc
+
+-- an error that a `?` hands on
+pub not_told : {T : Type 0} {old new : State} {row : Row} {IsTold : Job → T → Type 0} (r : Result T Fault) (e : Fault) → IsErrAnd r (λ f. f ≡ e) → LeavesTables old new
+    → (HasCleanDisk new → e ≡ Damaged → (w : World) (j : Job) → IsSound w → Holds (content_of w) old → job_at j.number (rows w) ≡ Some j → row ≢ job_values j) → TellsJobOf old new r row IsTold
+not_told (Ok x) e same leaves damaged = absurd same
+not_told (Err f) e same leaves damaged = record { leaves = leaves; live = λ clean. tt; damaged = λ clean d. damaged clean (sym same ∙ d); told = λ clean. tt }
 
 -- ---- one row after another
 

@@ -2,7 +2,7 @@
 use Rattle.std.specs.Prelude.{ℕ, ◌-◌, ◌==◌, Bool, false, nat_lt, List, [], ◌∷◌, Option, Some, None, find, slice_get, if◌then◌else◌}
 use Rattle.std.specs.Option.{option_map_or}
 use Rattle.sqlite.specs.Order.{Row}
-use Rattle.queue_core.specs.Shown.{is_fetched}
+use Rattle.queue_core.specs.Shown.{may_be_fetched}
 use Rattle.queue_core.specs.World.{Entry}
 use Rattle.queue_types.specs.declared.job.Job.{Job}
 use Rattle.queue_types.specs.declared.document.Document.{Document}
@@ -11,7 +11,7 @@ use Rattle.queue_tables.specs.Values.{number, truth}
 
 -- there is such a job
 abbrev pub is_fetched_job : Option Job → Bool
-is_fetched_job o = option_map_or is_fetched o false
+is_fetched_job o = option_map_or may_be_fetched o false
 
 -- the columns from which the state of a job comes
 abbrev pub state_values : Job → Row

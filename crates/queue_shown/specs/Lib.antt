@@ -1,4 +1,6 @@
 pub mod Fetched
 pub mod Heads
 pub mod Sent
+pub mod Sending
 pub mod Stops
+pub mod Sheets

@@ -2,7 +2,7 @@
 ghost use Rattle.std.specs.Prelude.{◌≡◌, ◌≢◌, ◌≤◌, IfSome, IfOk, IfErr, OnOk, IsTrue, option_map};
 ghost use Rattle.sqlite.specs.Held.{state};
 ghost use Rattle.sqlite.specs.State.{HasCleanDisk};
-ghost use Rattle.queue_core.specs.Shown.{document_at, head_of, is_fetched};
+ghost use Rattle.queue_core.specs.Shown.{document_at, head_of, may_be_fetched};
 ghost use Rattle.queue_core.specs.Sound.{IsSoundDocument};
 ghost use Rattle.queue_core.specs.World.{rows, job_at};
 ghost use Rattle.queue_types.specs.declared.document.Document.{Document};
@@ -22,7 +22,7 @@ use sqlite::{Alter, Connection, Row, params};
 
 /// Whether the device may fetch the documents of a job in that phase.
 fn is_open_in(phase: Phase, hold: bool, incoming: bool) -> bool
-    ensures { (j : JobValue) → j.phase ≡ phase → j.hold ≡ hold → j.incoming ≡ incoming → result ≡ is_fetched j }
+    ensures { (j : JobValue) → j.phase ≡ phase → j.hold ≡ hold → j.incoming ≡ incoming → result ≡ may_be_fetched j }
 {
     match phase {
         Phase::Waiting => !hold && !incoming,
@@ -34,7 +34,7 @@ fn is_open_in(phase: Phase, hold: bool, incoming: bool) -> bool
 /// Whether the device may fetch the documents of the job of those columns. Damaged is told only where they are
 /// no job's.
 fn is_fetched_row(row: &Row) -> Result<bool, Fault>
-    ensures told { IfOk result (λ b. (j : JobValue) → row.now ≡ state_values j → b ≡ is_fetched j) }
+    ensures told { IfOk result (λ b. (j : JobValue) → row.now ≡ state_values j → b ≡ may_be_fetched j) }
     ensures damaged { IfErr result (λ e. e ≡ Fault.Damaged → (j : JobValue) → row.now ≢ state_values j) }
 {
     numbers_tell_names();

@@ -1,20 +1,17 @@
 //! A document, written a piece at a time while its rows borrow the connection.
-ghost use Rattle.std.specs.Prelude.{◌≡◌, ◌+◌, ◌<◌, ◌≤◌, ◌^◌, ℕ, [], ◌∷◌, Some, false, length, take, IfOk, IfErr, OnOk, OnErr, IsTrue};
+ghost use Rattle.std.specs.Prelude.{◌≡◌, ◌+◌, ◌<◌, ◌≤◌, ◌^◌, ℕ, [], ◌∷◌, Some, length, take, IfOk, IfErr, OnOk, OnErr, IsTrue};
 ghost use Rattle.std.specs.Io.KnownBytes.{Appends};
-ghost use Rattle.sqlite.specs.Given.{HasGiven, IsPlain};
 ghost use Rattle.sqlite.specs.Held.{state};
-ghost use Rattle.sqlite.specs.Listing.{understood};
-ghost use Rattle.sqlite.specs.Order.{Row as Columns};
-ghost use Rattle.sqlite.specs.State.{HasCleanDisk, IsUnchanged};
-ghost use Rattle.sqlite.specs.Tree.{Trees};
+ghost use Rattle.sqlite.specs.State.{HasCleanDisk};
 ghost use Rattle.queue_core.specs.Shown.{document_at};
 ghost use Rattle.queue_core.specs.Sound.{IsSound};
 ghost use Rattle.queue_core.specs.World.{World};
 ghost use Rattle.queue_types.specs.declared.document.Document.{Document};
-ghost use Rattle.queue_shown.specs.Sent.{FindsNoBlob, HasBook, HasSent, HasSentFront, LeavesRows, ShowsNoBlob, piece_bytes, pieces_select};
+ghost use Rattle.queue_shown.specs.Sending.{SendsPieces, SendsRows};
+ghost use Rattle.queue_shown.specs.Sent.{ShowsNoBlob, piece_bytes};
 ghost use Rattle.queue_shown.specs.Stops.{told_cause};
 ghost use Rattle.queue_tables.specs.Content.{HoldNoQueue, Holds, content_of};
-ghost use Rattle.queue_tables.specs.Leaving.{KeepsServing, LeavesTables};
+ghost use Rattle.queue_tables.specs.Leaving.{LeavesTables};
 ghost use Rattle.queue_tables.specs.Values.{number};
 
 use queue_core::{BookFault, SendCause, SendFault, put_whole};
@@ -95,17 +92,7 @@ fn send_rows<S: Alter, W: Write>(
 ) -> Result<(), Stop>
     requires { written.old ≡ 0 }
     ensures same_reference { rows.new.conn.ghost_name ≡ rows.old.conn.ghost_name }
-    ensures clean { HasCleanDisk (state S.Store rows.new.conn.now) → HasCleanDisk (state S.Store rows.old.conn.now) }
-    // a crash leaves nothing but what it left before
-    ensures behind { HasCleanDisk (state S.Store rows.new.conn.now) → (db : Trees) → (state S.Store rows.new.conn.now).may_leave db → (state S.Store rows.old.conn.now).may_leave db }
-    ensures sent { HasCleanDisk (state S.Store rows.new.conn.now) → IsTrue (state S.Store rows.old.conn.now).is_open → (params : Columns) → IsPlain (understood (state S.Store rows.old.conn.now).now.schema pieces_select) → HasGiven S.Store pieces_select params rows.old.conn.now [] → OnOk result (HasSent params (state S.Store rows.old.conn.now) (W.contents out.old) (W.contents out.new) written.new) }
-    ensures front { HasCleanDisk (state S.Store rows.new.conn.now) → IsTrue (state S.Store rows.old.conn.now).is_open → (params : Columns) → HasGiven S.Store pieces_select params rows.old.conn.now [] → OnErr result (HasSentFront params (state S.Store rows.old.conn.now) (W.contents out.old) (W.contents out.new) written.new) }
-    ensures damaged { HasCleanDisk (state S.Store rows.new.conn.now) → IsTrue (state S.Store rows.old.conn.now).is_open → (params : Columns) → HasGiven S.Store pieces_select params rows.old.conn.now [] → IfErr result (λ stop. stop ≡ Stop.Tables Fault.Damaged → FindsNoBlob params (state S.Store rows.old.conn.now)) }
-    ensures same { HasCleanDisk (state S.Store rows.new.conn.now) → IsTrue (state S.Store rows.old.conn.now).is_open → OnOk result (IsUnchanged (state S.Store rows.old.conn.now) (state S.Store rows.new.conn.now)) }
-    ensures writer_failed { HasCleanDisk (state S.Store rows.new.conn.now) → IsTrue (state S.Store rows.old.conn.now).is_open → IfErr result (λ stop. stop ≡ Stop.Write → IsUnchanged (state S.Store rows.old.conn.now) (state S.Store rows.new.conn.now)) }
-    ensures left { HasCleanDisk (state S.Store rows.new.conn.now) → IsTrue (state S.Store rows.old.conn.now).is_open → LeavesRows (state S.Store rows.old.conn.now) (state S.Store rows.new.conn.now) }
-    ensures mode { (state S.Store rows.old.conn.now).in_transaction ≡ false → (state S.Store rows.new.conn.now).in_transaction ≡ false }
-    ensures serves { KeepsServing (state S.Store rows.old.conn.now) (state S.Store rows.new.conn.now) }
+    ensures sends { SendsRows S.Store rows.old.conn.now rows.new.conn.now result (W.contents out.old) (W.contents out.new) written.new }
 {
     'rows: for _ in 0..u64::MAX {
         let Some(row) = rows.next()? else {
@@ -125,18 +112,7 @@ fn send_pieces<S: Alter, W: Write>(
     written: &mut u64,
 ) -> Result<(), Stop>
     requires { written.old ≡ 0 }
-    ensures clean { HasCleanDisk (state S.Store conn.new) → HasCleanDisk (state S.Store conn.old) }
-    // a crash leaves nothing but what it left before
-    ensures behind { HasCleanDisk (state S.Store conn.new) → (db : Trees) → (state S.Store conn.new).may_leave db → (state S.Store conn.old).may_leave db }
-    ensures live { HasCleanDisk (state S.Store conn.new) → OnOk result (IsTrue (state S.Store conn.new).is_open) }
-    ensures writer_failed { HasCleanDisk (state S.Store conn.new) → IfErr result (λ stop. stop ≡ Stop.Write → IsTrue (state S.Store conn.new).is_open) }
-    ensures sent { HasBook (state S.Store conn.old) → HasCleanDisk (state S.Store conn.new) → OnOk result (HasSent (number job ∷ number doc ∷ []) (state S.Store conn.old) (W.contents out.old) (W.contents out.new) written.new) }
-    ensures front { HasBook (state S.Store conn.old) → HasCleanDisk (state S.Store conn.new) → OnErr result (HasSentFront (number job ∷ number doc ∷ []) (state S.Store conn.old) (W.contents out.old) (W.contents out.new) written.new) }
-    ensures damaged { HasBook (state S.Store conn.old) → HasCleanDisk (state S.Store conn.new) → IfErr result (λ stop. stop ≡ Stop.Tables Fault.Damaged → FindsNoBlob (number job ∷ number doc ∷ []) (state S.Store conn.old)) }
-    ensures was_open { HasCleanDisk (state S.Store conn.new) → IfErr result (λ stop. stop ≡ Stop.Tables Fault.Damaged → IsTrue (state S.Store conn.old).is_open) }
-    ensures left { HasCleanDisk (state S.Store conn.new) → LeavesRows (state S.Store conn.old) (state S.Store conn.new) }
-    ensures mode { (state S.Store conn.old).in_transaction ≡ false → (state S.Store conn.new).in_transaction ≡ false }
-    ensures serves { KeepsServing (state S.Store conn.old) (state S.Store conn.new) }
+    ensures sends { SendsPieces (state S.Store conn.old) (state S.Store conn.new) result (number job ∷ number doc ∷ []) (W.contents out.old) (W.contents out.new) written.new }
 {
     let mut rows = conn.query(
         "SELECT bytes FROM pieces WHERE job = ?1 AND doc = ?2 ORDER BY piece",

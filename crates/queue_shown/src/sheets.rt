@@ -1,15 +1,18 @@
 //! What the office is told of an account.
-ghost use Rattle.std.specs.Prelude.{◌≡◌, ◌≢◌, ◌≤◌, List, [], ◌∷◌, ◌++◌, Some, All, IfSome, IfOk, IfErr, OnOk, IsTrue, filter, if◌then◌else◌, map};
+ghost use Rattle.std.specs.Prelude.{◌≡◌, ◌≢◌, ◌≤◌, List, [], ◌∷◌, ◌++◌, Some, None, All, IfSome, IfOk, IfErr, OnOk, IsTrue, filter, if◌then◌else◌, map};
 ghost use Rattle.sqlite.specs.Held.{state};
 ghost use Rattle.sqlite.specs.State.{HasCleanDisk};
 ghost use Rattle.queue_types.specs.Job.{owed};
 ghost use Rattle.queue_core.specs.Limits.{IsSoundJob};
 ghost use Rattle.queue_core.specs.Shown.{is_charged, sheet_jobs, sheet_of};
 ghost use Rattle.queue_core.specs.Sound.{IsSound};
-ghost use Rattle.queue_core.specs.World.{World, job_at, rows};
+ghost use Rattle.queue_core.specs.World.{World};
+ghost use Rattle.queue_rows.specs.Jobs.{IsJobRow};
+ghost use Rattle.queue_shown.specs.Sheets.{TellsJobOf};
 ghost use Rattle.queue_types.specs.declared.job.Job.{Job as JobValue};
 ghost use Rattle.queue_tables.specs.Content.{AreRowsOf, Holds, content_of};
 ghost use Rattle.queue_tables.specs.Leaving.{LeavesTables};
+ghost use Rattle.queue_tables.specs.Steps.{bare};
 ghost use Rattle.queue_tables.specs.Telling.{ReadsQueue};
 ghost use Rattle.queue_tables.specs.Values.{job_values};
 
@@ -34,31 +37,54 @@ fn is_told(job: &Job) -> bool
     0 < job.owed() || 0 < job.count
 }
 
-/// Adds the job of that row where it has pages reserved or printed. It is damaged where it is not within a job's limits;
-/// Damaged is told only where the tables hold no sound queue with a job of that row.
+/// The job of a row, without its documents. It is damaged where it is not within a job's limits; Damaged is told only where the row is of no such job.
+fn row_job(alloc: Global, row: &Row) -> Result<Job, Fault>
+    ensures sound { IfOk result IsJobRow }
+    ensures read { IfOk result (λ k. (j : JobValue) → row.now ≡ job_values j → k ≡ bare j) }
+    ensures damaged { IfErr result (λ e. e ≡ Fault.Damaged → (j : JobValue) → IsSoundJob j → row.now ≢ job_values j) }
+{
+    numbers_tell_names();
+    let job = read_job(alloc, row)?;
+    if !is_job_row(&job) {
+        return Err(Fault::Damaged);
+    }
+    Ok(job)
+}
+
+/// The job of that row where it has pages reserved or printed. Damaged is told only where the tables hold no sound queue
+/// with a job of that row.
+fn told_job<S: Alter>(
+    alloc: Global,
+    conn: &mut Connection<S>,
+    row: &Row,
+) -> Result<Option<Job>, Fault>
+    ensures reads { TellsJobOf (state S.Store conn.old) (state S.Store conn.new) result row.now (λ j o. o ≡ (if is_charged j then Some j else None)) }
+    ensures sound { IfOk result (λ o. IfSome o IsSoundJob) }
+{
+    let mut job = row_job(alloc, row)?;
+    if !is_told(&job) {
+        return Ok(None);
+    }
+    let sizes = sizes_of(conn, job.number)?;
+    job.documents = sizes.documents;
+    job.octets = sizes.octets;
+    Ok(Some(job))
+}
+
+/// Adds the job of that row where it has pages reserved or printed. Damaged is told only where the tables hold no sound queue
+/// with a job of that row.
 fn push_told<S: Alter>(
     alloc: Global,
     conn: &mut Connection<S>,
     row: &Row,
     jobs: &mut Vec<Job>,
 ) -> Result<(), Fault>
-    ensures leaves { LeavesTables (state S.Store conn.old) (state S.Store conn.new) }
-    ensures live { HasCleanDisk (state S.Store conn.new) → OnOk result (IsTrue (state S.Store conn.old).is_open → IsTrue (state S.Store conn.new).is_open) }
-    ensures damaged { HasCleanDisk (state S.Store conn.new) → IfErr result (λ e. e ≡ Fault.Damaged → (w : World) (j : JobValue) → IsSound w → Holds (content_of w) (state S.Store conn.old) → job_at j.number (rows w) ≡ Some j → row.now ≢ job_values j) }
-    ensures told { HasCleanDisk (state S.Store conn.new) → OnOk result ((w : World) (j : JobValue) → IsSound w → Holds (content_of w) (state S.Store conn.old) → job_at j.number (rows w) ≡ Some j → row.now ≡ job_values j → jobs.new.items ≡ jobs.old.items ++ (if is_charged j then j ∷ [] else [])) }
+    ensures reads { TellsJobOf (state S.Store conn.old) (state S.Store conn.new) result row.now (λ j u. jobs.new.items ≡ jobs.old.items ++ (if is_charged j then j ∷ [] else [])) }
     ensures sound { OnOk result (All IsSoundJob jobs.old.items → All IsSoundJob jobs.new.items) }
 {
-    numbers_tell_names();
-    let mut job = read_job(alloc, row)?;
-    if !is_job_row(&job) {
-        return Err(Fault::Damaged);
-    }
-    if !is_told(&job) {
+    let Some(job) = told_job(alloc, conn, row)? else {
         return Ok(());
-    }
-    let sizes = sizes_of(conn, job.number)?;
-    job.documents = sizes.documents;
-    job.octets = sizes.octets;
+    };
     jobs.push(job)?;
     Ok(())
 }

@@ -1,5 +1,5 @@
 -- A transaction of its own, from its begin to behind its end.
-use Rattle.std.proofs.Common.{◌≡◌, ◌∙◌, false, true, inl, inr, IsErrAnd, IsTrue, Ok, Err, Result, ap, refl, subst, sym}
+use Rattle.std.proofs.Common.{◌≡◌, ◌∙◌, false, true, inl, inr, IfErr, IsErrAnd, IsTrue, MatchResult, OnOk, Ok, Err, Result, ap, refl, subst, sym}
 use Rattle.sqlite.specs.Effect.{Database}
 use Rattle.sqlite.specs.declared.error.Error.{Error}
 use Rattle.sqlite.specs.Steps.{FailsToCommit}
@@ -57,7 +57,7 @@ module _ (old mid new : State) (Can : World → Type 0) (make : World → World)
       ]
 
   -- what was written is committed
-  pub committed : {T U : Type 0} {x : T} (y : U) → MakesQueue begun mid (Ok x) Can make → (HasCleanDisk new → Shows mid new mid.now mid.now false) → Survives mid new (λ db. db ≡ mid.now.trees)
+  committed : {T U : Type 0} {x : T} (y : U) → MakesQueue begun mid (Ok x) Can make → (HasCleanDisk new → Shows mid new mid.now mid.now false) → Survives mid new (λ db. db ≡ mid.now.trees)
       → CommitsQueue old new (Ok y) Can make
   committed y made shown survives = record {
     clean = λ clean. made.stays.clean (clean_before mid new survives.clean clean);
@@ -95,7 +95,7 @@ module _ (old mid new : State) (Can : World → Type 0) (make : World → World)
       }
 
   -- the commit failed
-  pub failed : {T U : Type 0} {x : T} {why : Error} → MakesQueue begun mid (Ok x) Can make → (HasCleanDisk new → FailsToCommit mid new why) → Survives mid new (λ db. db ≡ mid.now.trees)
+  failed : {T U : Type 0} {x : T} {why : Error} → MakesQueue begun mid (Ok x) Can make → (HasCleanDisk new → FailsToCommit mid new why) → Survives mid new (λ db. db ≡ mid.now.trees)
       → (e : Fault) → e ≡ write_fault why → CommitsQueue {T = U} old new (Err e) Can make
   failed {why = why} made fails survives e told =
       undone (λ db. db ≡ mid.now.trees) made.stays survives (λ early w can has db now. subst (IsBookOf (make w)) (sym now) (book_of (make w) mid (sound w can).1 (made.done early w can has)))
@@ -106,3 +106,10 @@ module _ (old mid new : State) (Can : World → Type 0) (make : World → World)
   pub refused : {T U : Type 0} {e : Fault} → MakesQueue {T = T} begun mid (Err e) Can make → (HasCleanDisk new → IsRolledBack mid new) → Survives mid new (λ _. ⊥)
       → (q : Result U Fault) → IsErrAnd q (λ f. f ≡ e) → CommitsQueue old new q Can make
   refused {e = e} made back survives q same = undone (λ _. ⊥) made.stays survives (λ early w can has db never. absurd never) back q e same (λ early clean d. made.damaged early refl d)
+
+  -- the commit, whose error is told as one of a statement that writes
+  pub ended : {T U : Type 0} {x : T} (q : Result U Error) (r : Result U Fault) → MakesQueue {T = T} begun mid (Ok x) Can make → (HasCleanDisk new → OnOk q (Shows mid new mid.now mid.now false)) → (HasCleanDisk new → IfErr q (FailsToCommit mid new))
+      → Survives mid new (λ db. db ≡ mid.now.trees) → MatchResult q (λ y. r ≡ Ok y) (λ e. IsErrAnd r (λ f. f ≡ write_fault e)) → CommitsQueue old new r Can make
+  ended (Ok y) r made shown fails survives told = subst (λ (k : Result _ Fault). CommitsQueue old new k Can make) (sym told) (committed y made shown survives)
+  ended (Err why) (Ok y) made shown fails survives told = absurd told
+  ended (Err why) (Err f) made shown fails survives told = failed made fails survives f told

@@ -10,9 +10,12 @@ use Rattle.queue_core.proofs.Maps.{grant_total, report_total}
 use Rattle.queue_rows.specs.Rows.{grant_row}
 use Rattle.queue_tables.specs.Values.{grant_values, report_values}
 use Rattle.queue_tables.specs.Content.{Holds, content_of}
-use Rattle.queue_tables.specs.Steps.{with_grant, with_grants, with_grant_row, with_report_row, with_kept}
+use Rattle.queue_tables.specs.Steps.{with_grants, with_grant_row, with_report_row, with_kept}
 use Rattle.queue_tables.proofs.Held.{like_holds, same_order}
 use Rattle.queue_tables.proofs.NewEntries.{rows_with}
+
+abbrev with_grant : GrantRow → World → World
+with_grant g w = record w { grants = put_grant w.grants g }
 
 pub grant_added : (g : GrantRow) (w : World) (s : State) → get w.grants (g.batch, g.account) ≡ None → Holds (with_grant_row (grant_values g) (content_of w)) s → Holds (content_of (with_grant g w)) s
 grant_added g w s none has = like_holds (with_grant_row (grant_values g) (content_of w)) (content_of (with_grant g w)) s (record {

@@ -140,9 +140,6 @@ with_free a w = record w { free = put_free w.free a }
 abbrev pub with_frees : List FreeRow → World → World
 with_frees rows w = record w { free = fold put_free w.free rows }
 
-abbrev pub with_grant : GrantRow → World → World
-with_grant g w = record w { grants = put_grant w.grants g }
-
 abbrev pub with_grants : List GrantRow → World → World
 with_grants gs w = record w { grants = fold put_grant w.grants gs }
 

@@ -40,8 +40,13 @@ pub fn text(alloc: Global, row: &Row, at: usize) -> Result<Text, Fault>
     ensures err { IfErr result (λ e. e ≡ Fault.Damaged → at < length row.now → (t : List ℕ) → IsUtf8 t → column row.now at ≢ Words t) }
     ensures never { IfErr result (λ e. e ≢ Fault.Disk) }
 {
-    let text: String = value(row, at)?;
-    let text = Text::copy_of(alloc, text.as_str())?;
+    let Ok(ValueRef::Text(bytes)) = row.get_ref(at) else {
+        return Err(Fault::Damaged);
+    };
+    let Ok(text) = str::from_utf8(bytes) else {
+        return Err(Fault::Damaged);
+    };
+    let text = Text::copy_of(alloc, text)?;
     Ok(text)
 }
 
@@ -98,7 +103,7 @@ pub fn format(row: &Row, at: usize) -> Result<Format, Fault>
     Format::of_name(text).ok_or(Fault::Damaged)
 }
 
-/// A moment, or NULL where there is none.
+/// A moment, or NULL where there is none: `value`, with clauses that speak of the moment.
 pub fn moment_at(row: &Row, at: usize) -> Result<Option<u32>, Fault>
     ensures ok { IfOk result (λ o. column row.now at ≡ moment o) }
     ensures err { IfErr result (λ e. e ≡ Fault.Damaged → at < length row.now → (o : Option ℕ) → IfSome o (λ n. n < 2 ^ 32) → column row.now at ≢ moment o) }

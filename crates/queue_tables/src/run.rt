@@ -48,10 +48,8 @@ pub(crate) fn insert<S: Alter>(
     ensures same_reference { tx.new.conn.ghost_name ≡ tx.old.conn.ghost_name }
     ensures wrote { Writes sql.now (bound params.now) (state S.Store tx.old.conn.now) (state S.Store tx.new.conn.now) result IsRefusedByKey }
 {
-    match tx.execute(sql, params) {
-        Ok(_) => Ok(()),
-        Err(error) => Err(fault_of_insert(error)),
-    }
+    tx.execute(sql, params).map_err(fault_of_insert)?;
+    Ok(())
 }
 
 /// All rows that a query of a transaction shows.

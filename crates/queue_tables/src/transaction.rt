@@ -28,10 +28,7 @@ fn make_outside<S: Alter>(
     decisions_are_sound();
     let mut tx = conn.transaction();
     write_change(alloc, &mut tx, decision)?;
-    match tx.commit() {
-        Ok(()) => Ok(()),
-        Err(e) => Err(fault_of_write(e)),
-    }
+    tx.commit().map_err(fault_of_write)
 }
 
 /// Makes a decision of the machine on the world that the tables stand for: all of its change in one

@@ -56,7 +56,7 @@ reply_comes are digits old new message out answer is fits (inr f) e = (None, inr
 
 message_comes : AreCalls → (digits : Bor (List ℕ)) (old new : State) (message answer : List ℕ) → decode_of digits.now ≡ Ok message → length message ≤ 16777216
     → AnswersMessage old.queue old.now message new.queue answer → ComesTo (Ipp digits) old new answer
-message_comes are digits old new message answer is fits (inl a) = reply_comes are digits old new message a.0 answer is fits a.1 a.2
+message_comes are digits old new message answer is fits (inl a) = reply_comes are digits old new message a.1 answer is fits a.2 a.3
 message_comes are digits old new message answer is fits (inr f) = (None, inr (refl, inl f.2), tt, f.1)
 
 report_comes : (line : Bor (List ℕ)) (old new : State) (answer : List ℕ) (r : Result Report LineFault) → Reads (line.now ++ 10 ∷ []) r

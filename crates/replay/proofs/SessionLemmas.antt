@@ -1,7 +1,8 @@
 -- What a line of a replay makes of a queue, by what each call on its book says.
-use Rattle.std.proofs.Common.{◌≡◌, ℕ, Bool, true, false, List, [], ◌∷◌, ◌++◌, Result, Ok, Err, inl, inr, refl, ap}
-use Rattle.std.specs.Prelude.{IfOk}
+use Rattle.std.proofs.Common.{◌≡◌, ◌<◌, ◌≤◌, ℕ, Bool, true, false, List, [], ◌∷◌, ◌++◌, length, Result, Ok, Err, inl, inr, refl, ap}
+use Rattle.std.specs.Prelude.{IfOk, IsErr, OnOk}
 use Rattle.std.specs.Bool.{OnFalse, OnTrue}
+use Rattle.std.proofs.lemmas.Bool.{cases_lt, false≢true}
 use Rattle.device_lines.specs.Reports.{AnswersLine, BringsAbout}
 use Rattle.device_lines.specs.declared.line.LineFault.{LineFault}
 use Rattle.grants_csv.specs.Import.{Imports}
@@ -30,7 +31,7 @@ reply_settings now w u message out (inl a) = outcome_settings now w u message a.
 reply_settings now w u message out (inr f) = ap (λ (z : World). z.settings) f.1
 
 message_settings : (now : ℕ) (w u : World) (message text : List ℕ) → AnswersMessage w now message u text → u.settings ≡ w.settings
-message_settings now w u message text (inl a) = reply_settings now w u message a.0 a.1
+message_settings now w u message text (inl a) = reply_settings now w u message a.1 a.2
 message_settings now w u message text (inr f) = ap (λ (z : World). z.settings) f.1
 
 report_settings : (now : ℕ) (w u : World) (out : List ℕ) (r : Result Report LineFault) → BringsAbout r w now u out → u.settings ≡ w.settings
@@ -52,6 +53,14 @@ takes_settings (Dev line) old new text t = line_settings old.now old.queue new.q
 takes_settings (Grant row) old new text t = import_settings old.now old.queue new.queue (file_of row.now) t.1.0 t.1.1
 
 -- ---- a message
+
+-- one that has a reply has 8 bytes, where each shorter one is refused
+pub headed : (message : List ℕ) (r : Result Answer TooShort) → (length message < 8 → IsErr r) → OnOk r (8 ≤ length message)
+headed message (Err short) under = tt
+headed message (Ok reply) under = elim (cases_lt (length message) 8) [
+  | inl few ↦ absurd (false≢true (under few))
+  | inr many ↦ many
+]
 
 reply_by : (old new : World → Type 0) (now : ℕ) (set : SettingValues) (message out : List ℕ) (b : Bool)
     → OnFalse b ((w : World) → old w → set ≡ w.settings → (after : World) × Answers w now message after out × new after)

@@ -1,5 +1,5 @@
 -- What a line of a replay brings about, and the text that answers it.
-use Rattle.std.specs.Prelude.{◌≡◌, ◌<◌, ◌⊎◌, ℕ, List, [], ◌∷◌, ◌++◌, Result, Ok, Err, IsErr, IsOkAnd, codes, length}
+use Rattle.std.specs.Prelude.{◌≡◌, ◌<◌, ◌≤◌, ◌⊎◌, ℕ, List, [], ◌∷◌, ◌++◌, Result, Ok, Err, IsErr, IsOkAnd, codes, length}
 use Rattle.std.specs.Fmt.{decimal}
 use Rattle.device_lines.specs.Reports.{AnswersLine}
 use Rattle.grants_csv.specs.Fault.{code_of}
@@ -30,10 +30,11 @@ IsReply old now message new out = Answers old now message new out ⊎ (Fails mes
 abbrev pub reply_line : List ℕ → List ℕ
 reply_line out = codes "ipp " ++ encode_lower out ++ 10 ∷ []
 
--- the text answers the message at this moment: it has the reply, or says that the message is too short for one
+-- the text answers the message at this moment: it has the reply to a message with a head, which has 8 bytes (RFC 8010, section 3.1.1),
+-- or says that the message is too short for one
 abbrev pub AnswersMessage : World → ℕ → List ℕ → World → List ℕ → Type 0
 AnswersMessage old now message new text =
-    ((out : List ℕ) × IsReply old now message new out × (text ≡ reply_line out))
+    ((8 ≤ length message) × (out : List ℕ) × IsReply old now message new out × (text ≡ reply_line out))
     ⊎ ((length message < 8) × (new ≡ old) × (text ≡ codes "ipp short" ++ 10 ∷ []))
 
 -- the digits stand for a message, and the text answers it

@@ -1,7 +1,7 @@
 //! A replay over any book: requests that stand on lines, and the lines that answer them.
 
-ghost use Rattle.std.specs.Prelude.{◌≡◌, ◌≤◌, IfErr, IfOk, OnOk};
-ghost use Rattle.std.specs.Io.KnownBytes.{Appends};
+ghost use Rattle.std.specs.Prelude.{◌≡◌, ◌≤◌, IfErr, IfOk};
+ghost use Rattle.std.specs.Io.KnownBytes.{Appends, Keeps};
 ghost use Rattle.queue_core.specs.World.{World};
 ghost use Rattle.replay.specs.Books.{HasReplayed};
 ghost use Rattle.replay.specs.Faults.{IsOfStream};
@@ -67,26 +67,31 @@ fn answer_lines<R: Read, W: Write, B: QueueBook>(
     let mut now = first.now;
     for number in 1..u64::MAX {
         if !lines.next_line(input, output, line)? {
-            output.flush()?;
-            return Ok(0);
+            return end(output);
         }
         match take_line(first.at(now), book, line, output)? {
             Some(next) => now = next,
-            None => {
-                tell_bad_line(output, number)?;
-                return Ok(1);
-            }
+            None => return end_at_bad_line(output, number),
         }
     }
     Err(Fault::Io)
 }
 
-/// Writes which line is bad, at once.
-fn tell_bad_line<W: Write>(output: &mut W, number: u64) -> Result<(), Fault>
-    ensures told { OnOk result (Appends (W.contents output.old) (W.contents output.new) (bad_line number)) }
+/// Ends a replay all of whose lines are answered: flushes what was written, and gives the exit status, 0.
+fn end<W: Write>(output: &mut W) -> Result<u8, Fault>
+    ensures ended { IfOk result (λ status. (status ≡ 0) × Keeps (W.contents output.old) (W.contents output.new)) }
+    ensures failed { IfErr result IsOfStream }
+{
+    output.flush()?;
+    Ok(0)
+}
+
+/// Ends a replay at a bad line: writes which line it is, at once, and gives the exit status, 1.
+fn end_at_bad_line<W: Write>(output: &mut W, number: u64) -> Result<u8, Fault>
+    ensures ended { IfOk result (λ status. (status ≡ 1) × Appends (W.contents output.old) (W.contents output.new) (bad_line number)) }
     ensures failed { IfErr result IsOfStream }
 {
     writeln!(output, "bad line {number}")?;
     output.flush()?;
-    Ok(())
+    Ok(1)
 }

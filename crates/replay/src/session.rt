@@ -127,6 +127,7 @@ fn answered<B: QueueBook>(
     ensures began { B.is_honest book.new → B.is_honest book.old }
     ensures reply { B.is_honest book.new → IfOk result (λ reply. (w : World) → B.stands book.old w → context.entry.settings.now ≡ w.settings
         → (u : World) × IsReply w context.entry.now message.now u (bytes_of reply) × B.stands book.new u) }
+    ensures headed { OnOk result (8 ≤ length message.now) }
     ensures short { OnErr result ((length message.now < 8) × ((w : World) → B.stands book.old w → B.stands book.new w)) }
 {
     answer(context.alloc, book, context.settings, context.now, message)

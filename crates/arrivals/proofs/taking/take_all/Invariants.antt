@@ -2,8 +2,8 @@ use Rattle.std.proofs.Common.{◌≡◌, ◌≤◌, length, take}
 use Rattle.std.specs.List.{AllByRecursion}
 use Rattle.std.specs.Prelude.{vec_capacity}
 use Rattle.queue_core.specs.World.{World}
-use Rattle.arrivals.specs.Books.{AreTakenOver}
 use Rattle.arrivals.specs.Taken.{IsFaultless}
+use Rattle.arrivals.proofs.HistoryLemmas.{AreTakenOver}
 use Rattle.arrivals.proofs.taking.take_all.Given as goal
 
 -- those before the index are taken, and there is room for the outcomes of all

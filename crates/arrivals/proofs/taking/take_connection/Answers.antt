@@ -14,7 +14,7 @@ returns-in-Ok-clause-taken g c = λ honest w s set.
       run_is = p.3;
       comes = (a.2.answers, p.1);
       is_left = carries_served c.connections_are_runs.ensures.events (g.B.QueueBook.crash_leaves c.args.book.now) (g.B.QueueBook.crash_leaves c.serve.new.book) c.args.now c.args.stream a.2.written w a.0
-          c.in-Ok.served.acted c.in-Ok.served.faults c.in-Ok.served.end c.requires a.2.answers a.2.carries;
+          c.in-Ok.served c.requires a.2.answers a.2.carries;
     }
 
 pub returns-in-Err-clause-taken : goal.returns-in-Err-clause-taken
@@ -30,5 +30,5 @@ returns-in-Err-clause-taken g c = λ honest w s set.
       run_is = p.3;
       comes = (a.2.breaks, p.1);
       is_left = carries_broken c.connections_are_runs.ensures.events (g.B.QueueBook.crash_leaves c.args.book.now) (g.B.QueueBook.crash_leaves c.serve.new.book) c.args.now c.args.stream a.2.written w a.0
-          c.in-Err.fault.acted c.in-Err.fault.faults c.requires a.2.breaks a.2.carries;
+          c.in-Err.fault c.requires a.2.breaks a.2.carries;
     }

@@ -83,16 +83,3 @@ returns-clause-why g c = λ honest. IfErr-weaker c.import_bytes_at.result _ _ (�
   })
   | inr it ↦ inl it.0
 ]) (c.import_bytes_at.ensures.why honest)
-
-pub returns-in_err-now-clause-crash : goal.returns-in_err-now-clause-crash
-returns-in_err-now-clause-crash g c = λ honest live w stands. (w, stands, (w, lasts g.S.Store g.met.S.Store.settled c.args.book.now w honest live stands, untaken refl refl))
-
-pub returns-in_err-bytes-clause-crash : goal.returns-in_err-bytes-clause-crash
-returns-in_err-bytes-clause-crash g c = λ honest live w stands. (w, stands, (w, lasts g.S.Store g.met.S.Store.settled c.args.book.now w honest live stands, untaken refl refl))
-
-pub returns-clause-crash : goal.returns-clause-crash
-returns-clause-crash g c = λ honest live w stands.
-    let it = c.import_bytes_at.ensures.crash honest live w stands in
-    let read = in_read c.args.file c.in_ok-bytes.bytes c.in_ok-bytes.was c.as_slice.result.now c.as_slice.ensures.value in
-    let all = import_of (AreIn c.args.file) c.in_ok-now.now c.in_ok-now.ensures.moment c.as_slice.result.now read w in
-    (it.0, it.1, (it.2.0, it.2.1, known_of_all _ _ w it.0 it.2.0 (λ v told. (told.0, all v told.0 told.1)) it.2.2))

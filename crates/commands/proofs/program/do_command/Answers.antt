@@ -1,17 +1,34 @@
-use Rattle.std.proofs.Common.{◌≡◌, subst, sym}
+use Rattle.std.proofs.Common.{◌≡◌, ◌⊎◌, IfErr, IfOk, OnOk, inr, subst, sym}
+use Rattle.std.proofs.lemmas.Result.{IfOk-weaker}
 use Rattle.std.specs.Io.Buffered.{writer_contents}
+use Rattle.command_ends.specs.Faults.{IsOfStream}
 use Rattle.command_words.specs.declared.outcome.Command.{Command}
+use Rattle.command_words.specs.declared.outcome.Init.{Init}
 use Rattle.commands.specs.Printed.{HasPrinted}
+use Rattle.commands.specs.Refusals.{MayBePrintedBy, MayBeToldBy}
 use Rattle.commands.specs.Store.{CanBeMade}
-use Rattle.commands.proofs.PrintedLemmas.{replayed}
+use Rattle.commands.proofs.EndingLemmas.{any_err}
 use Rattle.commands.proofs.program.do_command.Goals as goal
 
-pub returns-in_ok-flush-in-Init-clause-made : goal.returns-in_ok-flush-in-Init-clause-made
-returns-in_ok-flush-in-Init-clause-made g c = λ words is.
+pub returns-in-Init-clause-made : goal.returns-in-Init-clause-made
+returns-in-Init-clause-made g c = λ words is.
     let same : c.in-Init.words ≡ words = cc in
-    subst CanBeMade same (c.in_ok-make_store-in-Init.ensures.named, c.in_ok-make_store-in-Init.ensures.fits)
+    subst (λ (z : Init). OnOk c.do_init.result (CanBeMade z)) same c.do_init.ensures.made
 
-pub returns-in_ok-flush-in-Replay-clause-printed : goal.returns-in_ok-flush-in-Replay-clause-printed
-returns-in_ok-flush-in-Replay-clause-printed g c =
-    subst (λ (z : Command). HasPrinted z c.in_ok-status-in-Replay.status (writer_contents g.O.Write.contents c.args.out.now) (writer_contents g.O.Write.contents c.flush-in-Replay.new.self)) (sym c.in-Replay.is)
-    (replayed _ _ _ _ _ c.flush-in-Replay.ensures.bytes c.in_ok-status-in-Replay.ensures.answered)
+-- ---- a replay
+
+pub returns-in-Replay-clause-replayed : goal.returns-in-Replay-clause-replayed
+returns-in-Replay-clause-replayed g c = IfOk-weaker c.do_replay.result _ _ (λ status few one. c.in-Replay.is) c.do_replay.ensures.status
+
+pub returns-in-Replay-clause-told : goal.returns-in-Replay-clause-told
+returns-in-Replay-clause-told g c = subst (λ (z : Command). IfErr c.do_replay.result (MayBeToldBy z)) (sym c.in-Replay.is) c.do_replay.ensures.told
+
+pub returns-in-Replay-clause-quiet : goal.returns-in-Replay-clause-quiet
+returns-in-Replay-clause-quiet g c =
+    subst (λ (z : Command). IfErr c.do_replay.result (λ f. IsOfStream f ⊎ MayBePrintedBy z (writer_contents g.O.Write.contents c.args.out.now) (writer_contents g.O.Write.contents c.do_replay.new.out))) (sym c.in-Replay.is)
+    (any_err c.do_replay.result _ (λ f. inr tt))
+
+pub returns-in-Replay-clause-printed : goal.returns-in-Replay-clause-printed
+returns-in-Replay-clause-printed g c =
+    subst (λ (z : Command). IfOk c.do_replay.result (λ status. HasPrinted z status (writer_contents g.O.Write.contents c.args.out.now) (writer_contents g.O.Write.contents c.do_replay.new.out))) (sym c.in-Replay.is)
+    c.do_replay.ensures.printed

@@ -21,8 +21,7 @@ pub returns-in-Ok-clause-served : goal.returns-in-Ok-clause-served
 returns-in-Ok-clause-served g c = λ honest w stands same.
     let it = c.in-Ok.ensures.ok honest w stands same in (
       served_over g.S.Store g.met.S.Store.settled c.args.book.now c.serve_connections.new.book w (c.serve_connections.ensures.began honest) stands it.0.counts it.0.queue it.0.are it.0.stands it.0.carries,
-      it.1,
-      it.2,
+      (it.1, it.2),
     )
 
 pub returns-in-Err-clause-err : goal.returns-in-Err-clause-err
@@ -31,27 +30,11 @@ returns-in-Err-clause-err g c = λ honest w stands same.
       | inl stream ↦
           let it = c.in-Err.ensures.err honest w stands same in (
             served_over g.S.Store g.met.S.Store.settled c.args.book.now c.serve_connections.new.book w (c.serve_connections.ensures.began honest) stands it.0.counts it.0.queue it.0.are it.0.stands it.0.carries,
-            it.1,
-            inl stream,
+            (it.1, inl stream),
           )
       | inr book ↦
           let it = c.in-Err.ensures.told honest book.0 book.1 w stands same in (
             served_over g.S.Store g.met.S.Store.settled c.args.book.now c.serve_connections.new.book w (c.serve_connections.ensures.began honest) stands it.0.counts it.0.queue it.0.are it.0.stands it.0.carries,
-            it.1,
-            inr it.2,
+            (it.1, inr it.2),
           )
     ]
-
-pub returns-in-Ok-clause-crash : goal.returns-in-Ok-clause-crash
-returns-in-Ok-clause-crash g c = λ honest live w stands same.
-    let it = c.serve_connections.ensures.crash honest live w stands same in (
-      served_over g.S.Store g.met.S.Store.settled c.args.book.now c.serve_connections.new.book w (c.serve_connections.ensures.began honest) stands it.0.counts it.0.queue it.0.are it.0.stands it.0.carries,
-      it.1,
-    )
-
-pub returns-in-Err-clause-crash : goal.returns-in-Err-clause-crash
-returns-in-Err-clause-crash g c = λ honest live w stands same.
-    let it = c.serve_connections.ensures.crash honest live w stands same in (
-      served_over g.S.Store g.met.S.Store.settled c.args.book.now c.serve_connections.new.book w (c.serve_connections.ensures.began honest) stands it.0.counts it.0.queue it.0.are it.0.stands it.0.carries,
-      it.1,
-    )

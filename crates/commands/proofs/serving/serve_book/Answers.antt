@@ -11,9 +11,11 @@ returns-clause-served g c = λ honest. on_ok_weaker c.serve_at.result (λ served
     let same = c.service-service.ensures.settings ∙ c.in_ok-settings.ensures w (c.serve_at.ensures.began honest) stands in
     let end = served w stands same in (
       end.0,
-      end.1,
-      Appends-trans (g.W.Write.contents c.args.output.now) (g.W.Write.contents c.tell_port.new.output) (g.W.Write.contents c.serve_at.new.output)
-          (listening_line c.args.words.port) (served_lines end.0.counts) c.in_ok-listener.ensures end.2,
+      (
+        end.1.0,
+        Appends-trans (g.W.Write.contents c.args.output.now) (g.W.Write.contents c.tell_port.new.output) (g.W.Write.contents c.serve_at.new.output)
+            (listening_line c.args.words.port) (served_lines end.0.counts) c.in_ok-listener.ensures end.1.1,
+      ),
     )) (c.serve_at.ensures.served honest)
 
 pub returns-clause-written : goal.returns-clause-written
@@ -39,14 +41,16 @@ pub returns-clause-err : goal.returns-clause-err
 returns-clause-err g c = λ honest. IfErr-weaker c.serve_at.result _ _ (λ fault left w stands.
     let it = left w stands (c.service-service.ensures.settings ∙ c.in_ok-settings.ensures w (c.serve_at.ensures.began honest) stands) in (
       it.0,
-      it.1,
-      elim it.2 [
-        | inl stream ↦ inl stream
-        | inr told ↦ inr (
-            Appends-trans (g.W.Write.contents c.args.output.now) (g.W.Write.contents c.tell_port.new.output) (g.W.Write.contents c.serve_at.new.output)
-            (listening_line c.args.words.port) (served_lines it.0.counts) c.in_ok-listener.ensures told
-            )
-      ],
+      (
+        it.1.0,
+        elim it.1.1 [
+          | inl stream ↦ inl stream
+          | inr told ↦ inr (
+              Appends-trans (g.W.Write.contents c.args.output.now) (g.W.Write.contents c.tell_port.new.output) (g.W.Write.contents c.serve_at.new.output)
+              (listening_line c.args.words.port) (served_lines it.0.counts) c.in_ok-listener.ensures told
+              )
+        ],
+      ),
     )) (c.serve_at.ensures.err honest)
 
 pub returns-clause-damaged : goal.returns-clause-damaged
@@ -66,12 +70,12 @@ returns-in_err-listener-clause-stopped g c =
 pub returns-in_err-settings-clause-err : goal.returns-in_err-settings-clause-err
 returns-in_err-settings-clause-err g c = λ honest.
     let p = err_from_is_err_and c.from_residual.result c.from_residual.ensures.1 in
-    rw p.1 (λ w stands. (none_served g.S.Store g.met.S.Store.settled c.args.book.now w honest stands, omega arith, inl (inl p.2)))
+    rw p.1 (λ w stands. (none_served g.S.Store g.met.S.Store.settled c.args.book.now w honest stands, (omega arith, inl (inl p.2))))
 
 pub returns-in_err-listener-clause-err : goal.returns-in_err-listener-clause-err
 returns-in_err-listener-clause-err g c = λ honest.
     let p = err_from_is_err_and c.from_residual-in_err-listener.result c.from_residual-in_err-listener.ensures.1 in
-    rw p.1 (λ w stands. (none_served g.S.Store g.met.S.Store.settled c.args.book.now w honest stands, omega arith, inl p.2.0))
+    rw p.1 (λ w stands. (none_served g.S.Store g.met.S.Store.settled c.args.book.now w honest stands, (omega arith, inl p.2.0)))
 
 pub returns-in_err-listener-clause-damaged : goal.returns-in_err-listener-clause-damaged
 returns-in_err-listener-clause-damaged g c = λ honest.
@@ -82,13 +86,3 @@ pub returns-in_err-listener-clause-told : goal.returns-in_err-listener-clause-to
 returns-in_err-listener-clause-told g c =
     let p = err_from_is_err_and c.from_residual-in_err-listener.result c.from_residual-in_err-listener.ensures.1 in
     rw p.1 (of_serve_stream _ p.2.0)
-
-pub returns-in_err-settings-clause-crash : goal.returns-in_err-settings-clause-crash
-returns-in_err-settings-clause-crash g c = λ honest live w stands. (none_served g.S.Store g.met.S.Store.settled c.args.book.now w honest stands, omega arith)
-
-pub returns-in_err-listener-clause-crash : goal.returns-in_err-listener-clause-crash
-returns-in_err-listener-clause-crash g c = λ honest live w stands. (none_served g.S.Store g.met.S.Store.settled c.args.book.now w honest stands, omega arith)
-
-pub returns-clause-crash : goal.returns-clause-crash
-returns-clause-crash g c = λ honest live w stands.
-    c.serve_at.ensures.crash honest live w stands (c.service-service.ensures.settings ∙ c.in_ok-settings.ensures w (c.serve_at.ensures.began honest) stands)

@@ -67,10 +67,10 @@ returns-in-Serve g c =
         it.0.queue,
         it.0.stands,
         (
-          (it.0.counts, it.0.are, it.1, it.2),
+          (it.0.counts, it.0.are, it.1.0, it.1.1),
           λ live.
               let left = it.0.left live in
-              let is = it.1 in
+              let is = it.1.0 in
               (left.0, left.1, (it.0.counts, it.0.are, omega (arith, is), left.2)),
         ),
       );
@@ -86,8 +86,8 @@ returns-in-Serve g c =
         end.0.queue,
         end.0.stands,
         (
-          record { undamaged = λ is. it.1 is w stands; counts = end.0.counts; are = end.0.are; few = end.1; told = end.2 },
-          λ live. let left = end.0.left live in (left.0, left.1, (end.0.counts, end.0.are, end.1, left.2)),
+          record { undamaged = λ is. it.1 is w stands; counts = end.0.counts; are = end.0.are; few = end.1.0; told = end.1.1 },
+          λ live. let left = end.0.left live in (left.0, left.1, (end.0.counts, end.0.are, end.1.0, left.2)),
         ),
       );
     }) (both c.serve_book.result _ _ (c.serve_book.ensures.err honest) (c.serve_book.ensures.damaged honest))))

@@ -1,5 +1,5 @@
 use Rattle.std.proofs.Common.{◌≡◌, ℕ, Bool, true, false, ◌∙◌, arith, rules, ap, refl, sym, subst, if◌then◌else◌, ◌+◌, ◌^◌, IfSome}
-use Rattle.http_head.specs.Left.{left}
+use Rattle.http_head.specs.Reads.{bytes_left}
 use Rattle.http_head.specs.declared.end.End.{End}
 use Rattle.http_head.specs.declared.end.Finish.TheVariants.{Done}
 use Rattle.http_front.specs.Connections.{IsServed}
@@ -37,7 +37,7 @@ turns-preserved g c = record {
       let r = c.turns.invariant.ran (c.turn.ensures.began h) w st set in
       let t = rw c.in-Ok-Answered.field-0-is at (c.in-Ok-Answered.ensures.turned h r.0 r.1 (run_settings c.args.context.settings.now c.turns.k c.args.context.now w r.0 _ _ _ _ c.turns.acted c.turns.faults r.2.0 set)) in
       let on = ran_on (g.B.QueueBook.crash_leaves c.args.book.now) (g.B.QueueBook.crash_leaves c.turns.book) (g.B.QueueBook.crash_leaves c.turn.new.book) c.turns.k c.args.context.now w r.0 t.0
-      (left c.args.input.now.buffer (g.R.Read.remaining c.args.input.now.reader)) (left c.turns.input.buffer (g.R.Read.remaining c.turns.input.reader)) (left c.turn.new.input.buffer (g.R.Read.remaining c.turn.new.input.reader))
+      (bytes_left g.R.Read c.args.input.now) (bytes_left g.R.Read c.turns.input) (bytes_left g.R.Read c.turn.new.input)
       (g.W.Write.contents c.args.writer.now) (g.W.Write.contents c.turns.writer) (g.W.Write.contents c.turn.new.writer)
       c.turns.acted c.turns.faults c.from-acted.result c.mark-faults.result c.in-Ok-Answered.tally c.in-Ok-Answered.closes
       r.2.0 r.2.1 t.2 (counted _ _ c.from-acted.ensures) c.mark-faults.ensures.exact c.if-closes.false in
@@ -51,7 +51,7 @@ returns-then-closes-clause-served g c = λ h w st set.
       t.0,
       t.1,
       served_done (g.B.QueueBook.crash_leaves c.args.book.now) (g.B.QueueBook.crash_leaves c.turns.book) (g.B.QueueBook.crash_leaves c.turn.new.book) c.turns.k c.args.context.now w r.0 t.0
-          (left c.args.input.now.buffer (g.R.Read.remaining c.args.input.now.reader)) (left c.turns.input.buffer (g.R.Read.remaining c.turns.input.reader)) (left c.turn.new.input.buffer (g.R.Read.remaining c.turn.new.input.reader))
+          (bytes_left g.R.Read c.args.input.now) (bytes_left g.R.Read c.turns.input) (bytes_left g.R.Read c.turn.new.input)
           (g.W.Write.contents c.args.writer.now) (g.W.Write.contents c.turns.writer) (g.W.Write.contents c.turn.new.writer)
           c.turns.acted c.turns.faults c.from-acted.result c.mark-faults.result c.in-Ok-Answered.tally c.in-Ok-Answered.closes
           c.turns.invariant.few r.2.0 r.2.1 t.2 (counted _ _ c.from-acted.ensures) c.mark-faults.ensures.exact c.if-closes.true,
@@ -63,10 +63,10 @@ returns-in-Ok-Ended-clause-served g c = λ h w st set.
     let t = rw c.in-Ok-Ended.field-0-is at (c.in-Ok-Ended.ensures.turned h r.0 r.1 (run_settings c.args.context.settings.now c.turns.k c.args.context.now w r.0 _ _ _ _ c.turns.acted c.turns.faults r.2.0 set)) in (
       t.0,
       t.1,
-      subst (λ (z : End). IfSome (left c.args.input.now.buffer (g.R.Read.remaining c.args.input.now.reader)) (IsServed (g.B.QueueBook.crash_leaves c.args.book.now) (g.B.QueueBook.crash_leaves c.turn.new.book) c.args.context.now w t.0
+      subst (λ (z : End). IfSome (bytes_left g.R.Read c.args.input.now) (IsServed (g.B.QueueBook.crash_leaves c.args.book.now) (g.B.QueueBook.crash_leaves c.turn.new.book) c.args.context.now w t.0
           (g.W.Write.contents c.args.writer.now) (g.W.Write.contents c.turn.new.writer) (record { acted = c.turns.acted; faults = c.mark.result; end = z }))) (sym c.end.ensures)
           (served_ended (g.B.QueueBook.crash_leaves c.args.book.now) (g.B.QueueBook.crash_leaves c.turns.book) (g.B.QueueBook.crash_leaves c.turn.new.book) c.turns.k c.args.context.now w r.0 t.0
-          (left c.args.input.now.buffer (g.R.Read.remaining c.args.input.now.reader)) (left c.turns.input.buffer (g.R.Read.remaining c.turns.input.reader)) (left c.turn.new.input.buffer (g.R.Read.remaining c.turn.new.input.reader))
+          (bytes_left g.R.Read c.args.input.now) (bytes_left g.R.Read c.turns.input) (bytes_left g.R.Read c.turn.new.input)
           (g.W.Write.contents c.args.writer.now) (g.W.Write.contents c.turns.writer) (g.W.Write.contents c.turn.new.writer)
           c.turns.acted c.turns.faults c.mark.result c.in-Ok-Ended.finish c.turns.invariant.few r.2.0 r.2.1 t.2
           (c.mark.ensures.exact ∙ ap (λ b. c.turns.faults + (if b then 2 ^ c.turns.k else 0)) c.is_unavailable.ensures)),
@@ -79,7 +79,7 @@ returns-in-Err-clause-broken g c = λ h w st set.
       t.0,
       t.1,
       stopped_at (g.B.QueueBook.crash_leaves c.args.book.now) (g.B.QueueBook.crash_leaves c.turns.book) (g.B.QueueBook.crash_leaves c.turn.new.book) c.turns.k c.args.context.now w r.0 t.0
-          (left c.args.input.now.buffer (g.R.Read.remaining c.args.input.now.reader)) (left c.turns.input.buffer (g.R.Read.remaining c.turns.input.reader)) (left c.turn.new.input.buffer (g.R.Read.remaining c.turn.new.input.reader))
+          (bytes_left g.R.Read c.args.input.now) (bytes_left g.R.Read c.turns.input) (bytes_left g.R.Read c.turn.new.input)
           (g.W.Write.contents c.args.writer.now) (g.W.Write.contents c.turns.writer) (g.W.Write.contents c.turn.new.writer)
           c.turns.acted c.turns.faults c.from.result c.mark-in-Err.result c.in-Err.stopped
           c.turns.invariant.few r.2.0 r.2.1 t.2 (counted _ _ c.from.ensures) c.mark-in-Err.ensures.exact,
@@ -90,7 +90,7 @@ returns-then-closes-clause-worked g c = λ h w st set.
     let r = c.turns.invariant.ran (c.turn.ensures.began h) w st set in
     let t = rw c.in-Ok-Answered.field-0-is at (c.in-Ok-Answered.ensures.turned h r.0 r.1 (run_settings c.args.context.settings.now c.turns.k c.args.context.now w r.0 _ _ _ _ c.turns.acted c.turns.faults r.2.0 set)) in
     let all = worked_done (g.B.QueueBook.crash_leaves c.args.book.now) (g.B.QueueBook.crash_leaves c.turns.book) (g.B.QueueBook.crash_leaves c.turn.new.book) c.turns.k c.args.context.now w r.0 t.0
-    (left c.args.input.now.buffer (g.R.Read.remaining c.args.input.now.reader)) (left c.turns.input.buffer (g.R.Read.remaining c.turns.input.reader)) (left c.turn.new.input.buffer (g.R.Read.remaining c.turn.new.input.reader))
+    (bytes_left g.R.Read c.args.input.now) (bytes_left g.R.Read c.turns.input) (bytes_left g.R.Read c.turn.new.input)
     (g.W.Write.contents c.args.writer.now) (g.W.Write.contents c.turns.writer) (g.W.Write.contents c.turn.new.writer)
     c.turns.acted c.turns.faults c.from-acted.result c.mark-faults.result c.in-Ok-Answered.tally c.in-Ok-Answered.closes
     c.turns.invariant.few r.2.0 r.2.1 t.2 (counted _ _ c.from-acted.ensures) c.mark-faults.ensures.exact in
@@ -101,7 +101,7 @@ returns-in-Ok-Ended-clause-worked g c = λ h w st set.
     let r = c.turns.invariant.ran (c.turn.ensures.began h) w st set in
     let t = rw c.in-Ok-Ended.field-0-is at (c.in-Ok-Ended.ensures.turned h r.0 r.1 (run_settings c.args.context.settings.now c.turns.k c.args.context.now w r.0 _ _ _ _ c.turns.acted c.turns.faults r.2.0 set)) in
     let all = worked_ended (g.B.QueueBook.crash_leaves c.args.book.now) (g.B.QueueBook.crash_leaves c.turns.book) (g.B.QueueBook.crash_leaves c.turn.new.book) c.turns.k c.args.context.now w r.0 t.0
-    (left c.args.input.now.buffer (g.R.Read.remaining c.args.input.now.reader)) (left c.turns.input.buffer (g.R.Read.remaining c.turns.input.reader)) (left c.turn.new.input.buffer (g.R.Read.remaining c.turn.new.input.reader))
+    (bytes_left g.R.Read c.args.input.now) (bytes_left g.R.Read c.turns.input) (bytes_left g.R.Read c.turn.new.input)
     (g.W.Write.contents c.args.writer.now) (g.W.Write.contents c.turns.writer) (g.W.Write.contents c.turn.new.writer)
     c.turns.acted c.turns.faults c.mark.result c.in-Ok-Ended.finish c.turns.invariant.few r.2.0 r.2.1 t.2
     (c.mark.ensures.exact ∙ ap (λ b. c.turns.faults + (if b then 2 ^ c.turns.k else 0)) c.is_unavailable.ensures) in
@@ -112,7 +112,7 @@ returns-in-Err-clause-worked g c = λ h w st set.
     let r = c.turns.invariant.ran (c.turn.ensures.began h) w st set in
     let t = c.in-Err.ensures.turned h r.0 r.1 (run_settings c.args.context.settings.now c.turns.k c.args.context.now w r.0 _ _ _ _ c.turns.acted c.turns.faults r.2.0 set) in
     let all = worked_stopped (g.B.QueueBook.crash_leaves c.args.book.now) (g.B.QueueBook.crash_leaves c.turns.book) (g.B.QueueBook.crash_leaves c.turn.new.book) c.turns.k c.args.context.now w r.0 t.0
-    (left c.args.input.now.buffer (g.R.Read.remaining c.args.input.now.reader)) (left c.turns.input.buffer (g.R.Read.remaining c.turns.input.reader)) (left c.turn.new.input.buffer (g.R.Read.remaining c.turn.new.input.reader))
+    (bytes_left g.R.Read c.args.input.now) (bytes_left g.R.Read c.turns.input) (bytes_left g.R.Read c.turn.new.input)
     (g.W.Write.contents c.args.writer.now) (g.W.Write.contents c.turns.writer) (g.W.Write.contents c.turn.new.writer)
     c.turns.acted c.turns.faults c.from.result c.mark-in-Err.result c.in-Err.stopped c.turns.invariant.few r.2.0 r.2.1 t.2 (counted _ _ c.from.ensures) c.mark-in-Err.ensures.exact in
     (t.0, t.1, all)

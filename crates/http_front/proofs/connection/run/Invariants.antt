@@ -1,5 +1,5 @@
 use Rattle.std.proofs.Common.{◌-◌, ◌^◌, ◌<◌, ◌≤◌, ◌≡◌}
-use Rattle.http_head.specs.Left.{left}
+use Rattle.http_head.specs.Reads.{bytes_left}
 use Rattle.http_front.specs.Books.{ComesTo}
 use Rattle.http_front.specs.Crash.{CarriesAll}
 use Rattle.http_front.specs.Turns.{last_request, most_requests}
@@ -15,7 +15,7 @@ invariant-turns g l = record {
   began : g.B.QueueBook.is_honest l.book → g.B.QueueBook.is_honest l.initial.book;
   live : g.B.QueueBook.is_honest l.book → g.B.QueueBook.is_live l.initial.book → l.faults ≡ 0 → g.B.QueueBook.is_live l.book;
   ran : ComesTo g.B.QueueBook l.initial.book l.book l.context.settings.now (λ w u.
-      (so_far : RanOn l.k l.context.now w u (left l.initial.input.buffer (g.R.Read.remaining l.initial.input.reader)) (left l.input.buffer (g.R.Read.remaining l.input.reader))
+      (so_far : RanOn l.k l.context.now w u (bytes_left g.R.Read l.initial.input) (bytes_left g.R.Read l.input)
       (g.W.Write.contents l.initial.writer) (g.W.Write.contents l.writer) l.acted l.faults)
       × CarriesAll (g.B.QueueBook.crash_leaves l.initial.book) (g.B.QueueBook.crash_leaves l.book) l.context.now so_far.run.turns w u);
 }

@@ -1,5 +1,5 @@
 use Rattle.std.proofs.Common.{refl}
-use Rattle.http_head.specs.Left.{left}
+use Rattle.http_head.specs.Reads.{bytes_left}
 use Rattle.http_head.specs.declared.end.Finish.TheVariants.{Refused}
 use Rattle.http_head.specs.declared.end.Refusal.TheVariants.{ServiceUnavailable}
 use Rattle.http_front.proofs.CrashLemmas.{carries_none}
@@ -10,7 +10,7 @@ use Rattle.http_front.proofs.turn.take_planned.Goals as goal
 
 pub returns-in_err-invited-clause-planned : goal.returns-in_err-invited-clause-planned
 returns-in_err-invited-clause-planned g c = λ honest w st set.
-    let r = left c.args.input.now.buffer (g.R.Read.remaining c.args.input.now.reader) in
+    let r = bytes_left g.R.Read c.args.input.now in
     let v = g.W.Write.contents c.args.writer.now in
     let x = g.W.Write.contents c.send_continue.new.writer in (
       w,
@@ -21,8 +21,8 @@ returns-in_err-invited-clause-planned g c = λ honest w st set.
 
 pub returns-in-Err-Ended-clause-planned : goal.returns-in-Err-Ended-clause-planned
 returns-in-Err-Ended-clause-planned g c = λ honest w st set.
-    let r = left c.args.input.now.buffer (g.R.Read.remaining c.args.input.now.reader) in
-    let s = left c.take_framed.new.input.buffer (g.R.Read.remaining c.take_framed.new.input.reader) in (
+    let r = bytes_left g.R.Read c.args.input.now in
+    let s = bytes_left g.R.Read c.take_framed.new.input in (
       w,
       st,
       planned_closed (g.B.QueueBook.crash_leaves c.args.book.now) (g.B.QueueBook.crash_leaves c.args.book.now) c.args.context.now c.args.numbered.k w w c.args.numbered.plan r s (g.W.Write.contents c.args.writer.now) (g.W.Write.contents c.send_continue.new.writer) (g.W.Write.contents c.close_with.new.writer) c.in-Err-Ended.end c.close_with.result refl
@@ -32,8 +32,8 @@ returns-in-Err-Ended-clause-planned g c = λ honest w st set.
 
 pub returns-in-Err-Read-clause-planned : goal.returns-in-Err-Read-clause-planned
 returns-in-Err-Read-clause-planned g c = λ honest w st set.
-    let r = left c.args.input.now.buffer (g.R.Read.remaining c.args.input.now.reader) in
-    let s = left c.take_framed.new.input.buffer (g.R.Read.remaining c.take_framed.new.input.reader) in (
+    let r = bytes_left g.R.Read c.args.input.now in
+    let s = bytes_left g.R.Read c.take_framed.new.input in (
       w,
       st,
       planned_unread (g.B.QueueBook.crash_leaves c.args.book.now) c.args.context.now c.args.numbered.k w c.args.numbered.plan r s (g.W.Write.contents c.args.writer.now) (g.W.Write.contents c.send_continue.new.writer) c.by.result c.by.ensures.acted c.by.ensures.is_fault c.in_ok-invited.ensures.ok,
@@ -41,8 +41,8 @@ returns-in-Err-Read-clause-planned g c = λ honest w st set.
 
 pub returns-in-Err-Memory-clause-planned : goal.returns-in-Err-Memory-clause-planned
 returns-in-Err-Memory-clause-planned g c = λ honest w st set.
-    let r = left c.args.input.now.buffer (g.R.Read.remaining c.args.input.now.reader) in
-    let s = left c.take_framed.new.input.buffer (g.R.Read.remaining c.take_framed.new.input.reader) in (
+    let r = bytes_left g.R.Read c.args.input.now in
+    let s = bytes_left g.R.Read c.take_framed.new.input in (
       w,
       st,
       planned_closed (g.B.QueueBook.crash_leaves c.args.book.now) (g.B.QueueBook.crash_leaves c.args.book.now) c.args.context.now c.args.numbered.k w w c.args.numbered.plan r s (g.W.Write.contents c.args.writer.now) (g.W.Write.contents c.send_continue.new.writer) (g.W.Write.contents c.close_with-in-Err-Memory.new.writer) (Refused ServiceUnavailable) c.close_with-in-Err-Memory.result refl
@@ -52,8 +52,8 @@ returns-in-Err-Memory-clause-planned g c = λ honest w st set.
 
 pub returns-in-Ok-Answered-clause-planned : goal.returns-in-Ok-Answered-clause-planned
 returns-in-Ok-Answered-clause-planned g c = λ honest w st set.
-    let r = left c.args.input.now.buffer (g.R.Read.remaining c.args.input.now.reader) in
-    let s = left c.take_framed.new.input.buffer (g.R.Read.remaining c.take_framed.new.input.reader) in
+    let r = bytes_left g.R.Read c.args.input.now in
+    let s = bytes_left g.R.Read c.take_framed.new.input in
     let f = c.in-Ok.ensures.taken in
     let t = rw c.in-Ok-Answered.field-0-is at (c.in-Ok-Answered.ensures.replied honest w st set) in (
       t.0,
@@ -72,8 +72,8 @@ returns-in-Ok-Answered-clause-planned g c = λ honest w st set.
 
 pub returns-in-Ok-Declined-clause-planned : goal.returns-in-Ok-Declined-clause-planned
 returns-in-Ok-Declined-clause-planned g c = λ honest w st set.
-    let r = left c.args.input.now.buffer (g.R.Read.remaining c.args.input.now.reader) in
-    let s = left c.take_framed.new.input.buffer (g.R.Read.remaining c.take_framed.new.input.reader) in
+    let r = bytes_left g.R.Read c.args.input.now in
+    let s = bytes_left g.R.Read c.take_framed.new.input in
     let v = g.W.Write.contents c.args.writer.now in
     let m = g.W.Write.contents c.reply.new.writer in
     let f = c.in-Ok.ensures.taken in
@@ -88,8 +88,8 @@ returns-in-Ok-Declined-clause-planned g c = λ honest w st set.
 
 pub returns-clause-planned : goal.returns-clause-planned
 returns-clause-planned g c = λ honest w st set.
-    let r = left c.args.input.now.buffer (g.R.Read.remaining c.args.input.now.reader) in
-    let s = left c.take_framed.new.input.buffer (g.R.Read.remaining c.take_framed.new.input.reader) in
+    let r = bytes_left g.R.Read c.args.input.now in
+    let s = bytes_left g.R.Read c.take_framed.new.input in
     let f = c.in-Ok.ensures.taken in
     let t = c.in-Err.ensures.replied honest w st set in (
       t.0,

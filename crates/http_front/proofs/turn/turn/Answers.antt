@@ -1,4 +1,4 @@
-use Rattle.http_head.specs.Left.{left}
+use Rattle.http_head.specs.Reads.{bytes_left}
 use Rattle.http_head.specs.declared.end.Finish.TheVariants.{Refused}
 use Rattle.http_head.specs.declared.end.Refusal.TheVariants.{ServiceUnavailable}
 use Rattle.http_front.proofs.TurnedLemmas.{lifted, turned_closed, turned_unread, end_no_head, end_checked, end_unserved}
@@ -6,7 +6,7 @@ use Rattle.http_front.proofs.turn.turn.Goals as goal
 
 pub returns-in_default-clause-turned : goal.returns-in_default-clause-turned
 returns-in_default-clause-turned g c = λ honest w st set.
-    let r = left c.args.input.now.buffer (g.R.Read.remaining c.args.input.now.reader) in (
+    let r = bytes_left g.R.Read c.args.input.now in (
       w,
       st,
       turned_closed (g.B.QueueBook.crash_leaves c.args.book.now) c.args.context.now c.args.k w r r (g.W.Write.contents c.args.writer.now) (g.W.Write.contents c.close_with.new.writer) (Refused ServiceUnavailable) c.close_with.result
@@ -18,26 +18,26 @@ returns-in-Ok-clause-turned g c = λ honest w st set.
     let p = c.take_planned.ensures.planned honest w st set in (
       p.0,
       p.1,
-      lifted (g.B.QueueBook.crash_leaves c.args.book.now) (g.B.QueueBook.crash_leaves c.take_planned.new.book) c.args.context.now c.args.k w p.0 c.in-Ok.plan (left c.args.input.now.buffer (g.R.Read.remaining c.args.input.now.reader)) (left c.take_head.new.input.buffer (g.R.Read.remaining c.take_head.new.input.reader))
-          (left c.take_planned.new.input.buffer (g.R.Read.remaining c.take_planned.new.input.reader)) (g.W.Write.contents c.args.writer.now) (g.W.Write.contents c.take_planned.new.writer) c.take_planned.result
+      lifted (g.B.QueueBook.crash_leaves c.args.book.now) (g.B.QueueBook.crash_leaves c.take_planned.new.book) c.args.context.now c.args.k w p.0 c.in-Ok.plan (bytes_left g.R.Read c.args.input.now) (bytes_left g.R.Read c.take_head.new.input)
+          (bytes_left g.R.Read c.take_planned.new.input) (g.W.Write.contents c.args.writer.now) (g.W.Write.contents c.take_planned.new.writer) c.take_planned.result
           c.in-Ok.ensures.taken p.2,
     )
 
 pub returns-in-Err-Ended-clause-turned : goal.returns-in-Err-Ended-clause-turned
 returns-in-Err-Ended-clause-turned g c = λ honest w st set.
-    let r = left c.args.input.now.buffer (g.R.Read.remaining c.args.input.now.reader) in (
+    let r = bytes_left g.R.Read c.args.input.now in (
       w,
       st,
-      turned_closed (g.B.QueueBook.crash_leaves c.args.book.now) c.args.context.now c.args.k w r (left c.take_head.new.input.buffer (g.R.Read.remaining c.take_head.new.input.reader)) (g.W.Write.contents c.args.writer.now) (g.W.Write.contents c.close_with-in-Err-Ended.new.writer) c.in-Err-Ended.end c.close_with-in-Err-Ended.result
+      turned_closed (g.B.QueueBook.crash_leaves c.args.book.now) c.args.context.now c.args.k w r (bytes_left g.R.Read c.take_head.new.input) (g.W.Write.contents c.args.writer.now) (g.W.Write.contents c.close_with-in-Err-Ended.new.writer) c.in-Err-Ended.end c.close_with-in-Err-Ended.result
           (end_no_head w r c.in-Err-Ended.end (rw c.in-Err-Ended.field-0-is at c.in-Err-Ended.ensures.failed)) c.close_with-in-Err-Ended.ensures,
     )
 
 pub returns-in-Err-Failed-clause-turned : goal.returns-in-Err-Failed-clause-turned
 returns-in-Err-Failed-clause-turned g c = λ honest w st set.
-    let r = left c.args.input.now.buffer (g.R.Read.remaining c.args.input.now.reader) in (
+    let r = bytes_left g.R.Read c.args.input.now in (
       w,
       st,
-      turned_closed (g.B.QueueBook.crash_leaves c.args.book.now) c.args.context.now c.args.k w r (left c.take_head.new.input.buffer (g.R.Read.remaining c.take_head.new.input.reader)) (g.W.Write.contents c.args.writer.now) (g.W.Write.contents c.close_with-in-Err-Failed.new.writer) (Refused c.in-Err-Failed.refusal) c.close_with-in-Err-Failed.result
+      turned_closed (g.B.QueueBook.crash_leaves c.args.book.now) c.args.context.now c.args.k w r (bytes_left g.R.Read c.take_head.new.input) (g.W.Write.contents c.args.writer.now) (g.W.Write.contents c.close_with-in-Err-Failed.new.writer) (Refused c.in-Err-Failed.refusal) c.close_with-in-Err-Failed.result
           (end_checked w r c.in-Err-Failed.refusal (rw c.in-Err-Failed.field-0-is at c.in-Err-Failed.ensures.failed)) c.close_with-in-Err-Failed.ensures,
     )
 
@@ -45,6 +45,6 @@ pub returns-in-Err-Read-clause-turned : goal.returns-in-Err-Read-clause-turned
 returns-in-Err-Read-clause-turned g c = λ honest w st set. (
   w,
   st,
-  turned_unread (g.B.QueueBook.crash_leaves c.args.book.now) c.args.context.now c.args.k w (left c.args.input.now.buffer (g.R.Read.remaining c.args.input.now.reader)) (left c.take_head.new.input.buffer (g.R.Read.remaining c.take_head.new.input.reader)) (g.W.Write.contents c.args.writer.now) c.by.result
+  turned_unread (g.B.QueueBook.crash_leaves c.args.book.now) c.args.context.now c.args.k w (bytes_left g.R.Read c.args.input.now) (bytes_left g.R.Read c.take_head.new.input) (g.W.Write.contents c.args.writer.now) c.by.result
       c.by.ensures.acted c.by.ensures.is_fault,
 )

@@ -1,12 +1,12 @@
 use Rattle.std.proofs.Common.{◌≡◌, ◌-◌, ◌≤◌, ℕ, List, length}
 use Rattle.std.specs.Io.KnownBytes.{Keeps}
 use Rattle.httparse.specs.Grammar.{RequestHead, ReadsRequest}
-use Rattle.http_head.specs.Left.{left}
+use Rattle.http_head.specs.Reads.{bytes_left}
 use Rattle.http_head.proofs.head.find_head.Given as goal
 
 abbrev pub invariant-fill : goal.invariant-fill
 invariant-fill g l = record {
-  kept : Keeps (left l.initial.input.buffer (g.R.Read.remaining l.initial.input.reader)) (left l.input.buffer (g.R.Read.remaining l.input.reader));
+  kept : Keeps (bytes_left g.R.Read l.initial.input) (bytes_left g.R.Read l.input);
   never_more : l.input.reads_left ≤ l.initial.input.reads_left;
   unread : (h : RequestHead) (rest : List ℕ) → ReadsRequest l.initial.input.buffer h rest → l.input ≡ l.initial.input;
 }

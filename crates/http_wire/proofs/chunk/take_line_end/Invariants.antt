@@ -1,11 +1,11 @@
 use Rattle.std.proofs.Common.{◌-◌, ◌≤◌, length}
 use Rattle.std.specs.Io.KnownBytes.{Keeps}
-use Rattle.http_head.specs.Left.{left}
+use Rattle.http_head.specs.Reads.{bytes_left}
 use Rattle.http_wire.proofs.chunk.take_line_end.Given as goal
 
 abbrev pub invariant-fill : goal.invariant-fill
 invariant-fill g l = record {
-  kept : Keeps (left l.initial.input.buffer (g.R.Read.remaining l.initial.input.reader)) (left l.input.buffer (g.R.Read.remaining l.input.reader));
+  kept : Keeps (bytes_left g.R.Read l.initial.input) (bytes_left g.R.Read l.input);
   never_more : l.input.reads_left ≤ l.initial.input.reads_left;
 }
 

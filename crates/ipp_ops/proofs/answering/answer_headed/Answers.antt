@@ -25,8 +25,8 @@ returns-in-Ok-answer_message-clause-checked_kept g c = λ code u on.
 
 -- ---- a fault came
 
-pub returns-in-Ok-clause-answered : goal.returns-in-Ok-clause-answered
-returns-in-Ok-clause-answered g c = λ honest w stands.
+pub returns-in-Err-answer_message-clause-answered : goal.returns-in-Err-answer_message-clause-answered
+returns-in-Err-answer_message-clause-answered g c = λ honest w stands.
     let m = message_of c.in-Ok.view in
     let d = c.in-Err-answer_message.ensures.done honest w stands in
     undone_answered c.args.body.now m c.args.context.settings.now c.args.context.now (g.B.QueueBook.stands c.answer_message.new.book) (g.B.QueueBook.crash_leaves c.args.book.now) (g.B.QueueBook.crash_leaves c.answer_message.new.book)
@@ -34,21 +34,21 @@ returns-in-Ok-clause-answered g c = λ honest w stands.
     (request_fails c.args.context.head c.args.body.now m (bytes_of c.bare_answer.result) c.requires.head c.in-Ok.ensures.request c.bare_answer.ensures)
     d.1 d.2 d.3
 
-pub returns-in-Ok-clause-checked : goal.returns-in-Ok-clause-checked
-returns-in-Ok-clause-checked g c = λ code u on.
+pub returns-in-Err-answer_message-clause-checked : goal.returns-in-Err-answer_message-clause-checked
+returns-in-Err-answer_message-clause-checked g c = λ code u on.
     bare_told c.args.body.now (bytes_of c.bare_answer.result) c.args.context.settings.now c.args.context.now code u c.one_verdict.ensures
     (request_fails c.args.context.head c.args.body.now (message_of c.in-Ok.view) (bytes_of c.bare_answer.result) c.requires.head c.in-Ok.ensures.request c.bare_answer.ensures) on
 
-pub returns-in-Ok-clause-checked_kept : goal.returns-in-Ok-clause-checked_kept
-returns-in-Ok-clause-checked_kept g c = λ code u on.
+pub returns-in-Err-answer_message-clause-checked_kept : goal.returns-in-Err-answer_message-clause-checked_kept
+returns-in-Err-answer_message-clause-checked_kept g c = λ code u on.
     let m = message_of c.in-Ok.view in
     c.answer_message.ensures.checked_kept code u (c.one_verdict.ensures c.args.body.now (verdict m) (refused code u) (request m c.in-Ok.ensures.request.spelled) on)
 
 -- ---- no message was read
 
-pub returns-clause-answered : goal.returns-clause-answered
-returns-clause-answered g c = λ honest w stands.
+pub returns-in-Err-clause-answered : goal.returns-in-Err-clause-answered
+returns-in-Err-clause-answered g c = λ honest w stands.
     bare_answered c.args.body.now c.args.context.settings.now c.args.context.now (g.B.QueueBook.stands c.args.book.now) (g.B.QueueBook.crash_leaves c.args.book.now) w (bytes_of c.in-Err.answer) c.in-Err.ensures.bare stands
 
-pub returns-clause-checked : goal.returns-clause-checked
-returns-clause-checked g c = λ code u on. bare_told c.args.body.now (bytes_of c.in-Err.answer) c.args.context.settings.now c.args.context.now code u c.one_verdict.ensures c.in-Err.ensures.bare on
+pub returns-in-Err-clause-checked : goal.returns-in-Err-clause-checked
+returns-in-Err-clause-checked g c = λ code u on. bare_told c.args.body.now (bytes_of c.in-Err.answer) c.args.context.settings.now c.args.context.now code u c.one_verdict.ensures c.in-Err.ensures.bare on

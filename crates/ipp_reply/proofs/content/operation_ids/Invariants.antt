@@ -1,4 +1,5 @@
-use Rattle.std.proofs.Common.{◌≡◌, ◌∷◌, [], length, take}
+use Rattle.std.proofs.Common.{◌≡◌, length, take}
+use Rattle.std.specs.Int.{w32, to_be_bytes}
 use Rattle.std.specs.Prelude.{map, vec_capacity, vec_len}
 use Rattle.ipp_reply.specs.Operations.{id, operations}
 use Rattle.ipp_reply.proofs.content.operation_ids.Given as goal
@@ -8,5 +9,5 @@ abbrev pub invariant-loop-operation : goal.invariant-loop-operation
 invariant-loop-operation l = record {
   count : vec_len l.ids ≡ l.operation-index;
   room : vec_capacity l.ids ≡ length operations;
-  put : l.ids.items ≡ map (λ o. 0 ∷ 0 ∷ 0 ∷ id o ∷ []) (take l.operation-index operations);
+  put : l.ids.items ≡ map (λ o. to_be_bytes w32 (id o)) (take l.operation-index operations);
 }

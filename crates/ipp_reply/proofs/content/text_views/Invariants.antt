@@ -1,7 +1,7 @@
 use Rattle.std.proofs.Common.{◌≡◌, length, take}
 use Rattle.std.specs.Prelude.{map, vec_capacity, vec_len}
 use Rattle.ipp_wire.specs.Viewed.{values_of}
-use Rattle.ipp_reply.specs.PrinterReply.{texts}
+use Rattle.ipp_reply.specs.JobReply.{texts}
 use Rattle.ipp_reply.proofs.content.text_views.Given as goal
 
 -- there is room for all

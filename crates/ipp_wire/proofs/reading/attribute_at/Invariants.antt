@@ -1,7 +1,7 @@
 use Rattle.std.proofs.Common.{◌≡◌, ℕ, ◌≤◌, ◌<◌, length}
 use Rattle.ipp_wire.specs.Viewed.{values_of}
-use Rattle.ipp_wire.specs.Reading.{ReadValues}
 use Rattle.ipp_wire.specs.Places.{byte_add, end_of, ValuesStand}
+use Rattle.ipp_wire.proofs.Pieces.{ReadValues}
 use Rattle.ipp_wire.proofs.reading.attribute_at.Given as goal
 
 abbrev pub invariant-values : goal.invariant-values

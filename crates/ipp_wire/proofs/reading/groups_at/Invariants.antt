@@ -1,7 +1,7 @@
 use Rattle.std.proofs.Common.{◌≡◌, length}
 use Rattle.ipp_wire.specs.Viewed.{groups_of}
-use Rattle.ipp_wire.specs.Reading.{ReadGroups}
 use Rattle.ipp_wire.specs.Places.{end_of, GroupsStand}
+use Rattle.ipp_wire.proofs.Pieces.{ReadGroups}
 use Rattle.ipp_wire.proofs.reading.groups_at.Given as goal
 
 abbrev pub invariant-groups : goal.invariant-groups

@@ -3,10 +3,9 @@ use Rattle.std.proofs.Common.{◌≡◌, sym, subst}
 use Rattle.std.specs.Prelude.{IfOk}
 use Rattle.std.proofs.lemmas.Result.{IfOk-weaker}
 use Rattle.queue_types.specs.Event.{Decision, event_of, decision_of}
-use Rattle.queue_core.specs.Limits.{IsSoundDecision}
 use Rattle.queue_core.specs.Machine.{decision}
 use Rattle.queue_core.proofs.Steps.{step_keeps, decided_on}
-use Rattle.queue_core.proofs.Within.{decision_within}
+use Rattle.queue_core.proofs.Within.{IsSoundDecision, decision_within}
 use Rattle.queue_core.proofs.machine.decide.Goals as goal
 use Rattle.queue_core.proofs.machine.decide.Goals.{After-decision_on}
 

@@ -1,7 +1,7 @@
-use Rattle.std.proofs.Common.{◌≡◌, IsTrue, false, rules, sym, ap, subst, ◌∙◌}
+use Rattle.std.proofs.Common.{◌≡◌, sym, ap, subst, ◌∙◌}
 use Rattle.sqlite.specs.Effect.{Database}
 use Rattle.sqlite.specs.Held.{state}
-use Rattle.queue_rows.specs.Rows.{tables_in}
+use Rattle.queue_rows.specs.Rows.{rows_of, tables_in}
 use Rattle.queue_tables.specs.Kept.{AreKeyed}
 use Rattle.queue_tables.proofs.Leaving.{leaves_then}
 use Rattle.queue_tables.proofs.Ending.{err_after}
@@ -13,26 +13,32 @@ returns-in_err-rows-clause-damaged g c = λ fits clean.
     let told = c.in_err-rows.ensures.damaged fits clean in
     err_after _ c.in_err-rows.field-0.0 _ c.from_residual.ensures.1 (λ d w holds. told d (c.queues_are_loadable.ensures w first holds))
 
-pub returns-then-not-branch-clause-damaged : goal.returns-then-not-branch-clause-damaged
-returns-then-not-branch-clause-damaged g c = λ fits clean d w holds.
+pub returns-in_err-check_rows-clause-damaged : goal.returns-in_err-check_rows-clause-damaged
+returns-in_err-check_rows-clause-damaged g c = λ fits clean.
     let first = (state g.S.Store c.args.conn.now).now in
-    let are = c.in_ok-rows.ensures.read fits clean in
-    let unsound : c.in_ok-are_sound_rows.field-0 ≡ false = search rules in
-    c.in_ok-are_sound_rows.ensures.damaged unsound w holds.sound (sym (c.tables_give_their_queue.ensures w first (tables_in c.in_ok-rows.rows) holds are))
+    let reads = c.in_err-check_rows.ensures.reads in
+    let mid_clean = reads.leaves.clean clean in
+    let are = c.in_ok-rows.ensures.read fits mid_clean in
+    let is = (c.in_ok-rows.ensures.same mid_clean).0.now_is in
+    let schema = fits (c.load_rows.ensures.leaves.clean mid_clean) are.tables in
+    let told = reads.damaged (λ e. ap (λ (d : Database). d.schema) is ∙ schema) clean in
+    err_after _ c.in_err-check_rows.field-0.0 _ c.from_residual-in_err-check_rows.ensures.1 (λ d w holds.
+    let their : tables_in c.in_ok-rows.rows ≡ rows_of w = c.tables_give_their_queue.ensures w first (tables_in c.in_ok-rows.rows) holds are in
+    told d ((λ none. none w holds.sound (sym their)), subst (λ (d : Database). AreKeyed (d.trees 6)) (sym is) (holds.rows.accounts.keyed tt)))
 
 pub returns-clause-queue : goal.returns-clause-queue
 returns-clause-queue g c = λ fits clean.
     let first = (state g.S.Store c.args.conn.now).now in
-    let mid_clean = c.in_ok-check_accounts.ensures.reads.leaves.clean clean in
+    let reads = c.in_ok-check_rows.ensures.reads in
+    let mid_clean = reads.leaves.clean clean in
     let are = c.in_ok-rows.ensures.read fits mid_clean in
     let is = (c.in_ok-rows.ensures.same mid_clean).0.now_is in
     let schema = fits (c.load_rows.ensures.leaves.clean mid_clean) are.tables in
-    let keyed = c.in_ok-check_accounts.ensures.reads.read (λ e. ap (λ (d : Database). d.schema) is ∙ schema) clean in
-    let sound : IsTrue c.in_ok-are_sound_rows.field-0 = search rules in
-    c.sound_rows_are_a_queue.ensures (tables_in c.in_ok-rows.rows) first schema are (subst (λ (d : Database). AreKeyed (d.trees 6)) is keyed) (c.in_ok-are_sound_rows.ensures.sound sound)
+    let sound = reads.read (λ e. ap (λ (d : Database). d.schema) is ∙ schema) clean in
+    c.sound_rows_are_a_queue.ensures (tables_in c.in_ok-rows.rows) first schema are (subst (λ (d : Database). AreKeyed (d.trees 6)) is sound.1) sound.0
 
-pub returns-in_err-check_accounts-clause-leaves : goal.returns-in_err-check_accounts-clause-leaves
-returns-in_err-check_accounts-clause-leaves g c = leaves_then _ _ _ c.load_rows.ensures.leaves c.in_err-check_accounts.ensures.reads.leaves
+pub returns-in_err-check_rows-clause-leaves : goal.returns-in_err-check_rows-clause-leaves
+returns-in_err-check_rows-clause-leaves g c = leaves_then _ _ _ c.load_rows.ensures.leaves c.in_err-check_rows.ensures.reads.leaves
 
 pub returns-clause-leaves : goal.returns-clause-leaves
-returns-clause-leaves g c = leaves_then _ _ _ c.load_rows.ensures.leaves c.in_ok-check_accounts.ensures.reads.leaves
+returns-clause-leaves g c = leaves_then _ _ _ c.load_rows.ensures.leaves c.in_ok-check_rows.ensures.reads.leaves

@@ -13,19 +13,19 @@ pub loop-row-preserved : goal.loop-row-preserved
 loop-row-preserved g c =
     let before = c.loop-row.invariant in
     let step = c.in_ok-push_told.ensures in record {
-      leaves = leaves_then _ _ _ c.loop-row.invariant.leaves c.push_told.ensures.leaves;
-      live = λ clean was_open. step.live clean (before.live (c.push_told.ensures.leaves.clean clean) was_open);
+      leaves = leaves_then _ _ _ c.loop-row.invariant.leaves c.push_told.ensures.reads.leaves;
+      live = λ clean was_open. step.reads.live clean (before.live (c.push_told.ensures.reads.leaves.clean clean) was_open);
       told = λ clean w js sound has all is.
-          let early = c.push_told.ensures.leaves.clean clean in
+          let early = c.push_told.ensures.reads.leaves.clean clean in
           let low : c.loop-row.row-index < length js = (let below = c.loop-row-test.true in let size = ap (length {A = Row}) is in omega (arith, below, size, length-map js job_values)) in
           let here = nth_job js c.loop-row.row-index c.row-item.result low (c.row-item.is ∙ ap (λ (rs : List Row). get_or rs c.loop-row.row-index c.row-item.result) is) in
           let mid = holds_after before.leaves early (content_of w) has (before.live early has.live) in
-          told_more js c.loop-row.row-index here.0 _ _ low here.2 (before.told early w js sound has all is) (step.told clean w here.0 sound mid (nth_in w js c.loop-row.row-index here.0 low here.2 all) here.1);
+          told_more js c.loop-row.row-index here.0 _ _ low here.2 (before.told early w js sound has all is) (step.reads.told clean w here.0 sound mid (nth_in w js c.loop-row.row-index here.0 low here.2 all) here.1);
       sound = step.sound before.sound;
     }
 
 pub returns-in_err-push_told-clause-leaves : goal.returns-in_err-push_told-clause-leaves
-returns-in_err-push_told-clause-leaves g c = leaves_then _ _ _ c.loop-row.invariant.leaves c.push_told.ensures.leaves
+returns-in_err-push_told-clause-leaves g c = leaves_then _ _ _ c.loop-row.invariant.leaves c.push_told.ensures.reads.leaves
 
 pub returns-clause-told : goal.returns-clause-told
 returns-clause-told g c clean w js sound has all is =
@@ -37,8 +37,8 @@ pub returns-in_err-push_told-clause-damaged : goal.returns-in_err-push_told-clau
 returns-in_err-push_told-clause-damaged g c clean =
     err_after _ c.in_err-push_told.field-0.0 _ c.from_residual.ensures.1 (λ damaged w js sound has all is.
     let before = c.loop-row.invariant in
-    let early = c.push_told.ensures.leaves.clean clean in
+    let early = c.push_told.ensures.reads.leaves.clean clean in
     let low : c.loop-row.row-index < length js = (let below = c.loop-row-test.true in let size = ap (length {A = Row}) is in omega (arith, below, size, length-map js job_values)) in
     let here = nth_job js c.loop-row.row-index c.row-item.result low (c.row-item.is ∙ ap (λ (rs : List Row). get_or rs c.loop-row.row-index c.row-item.result) is) in
     let mid = holds_after before.leaves early (content_of w) has (before.live early has.live) in
-    c.in_err-push_told.ensures.damaged clean damaged w here.0 sound mid (nth_in w js c.loop-row.row-index here.0 low here.2 all) here.1)
+    c.in_err-push_told.ensures.reads.damaged clean damaged w here.0 sound mid (nth_in w js c.loop-row.row-index here.0 low here.2 all) here.1)

@@ -1,6 +1,7 @@
 use Rattle.std.proofs.Common.{rules, ◌≡◌}
+use Rattle.std.proofs.lemmas.Result.{on_ok_weaker}
 use Rattle.queue_types.specs.Event.{decision_of}
-use Rattle.queue_tables.proofs.Committing.{committed, failed, refused}
+use Rattle.queue_tables.proofs.Committing.{ended, refused}
 use Rattle.queue_tables.proofs.transaction.make_outside.Goals as goal
 
 pub returns-in_err-write_change : goal.returns-in_err-write_change
@@ -13,22 +14,12 @@ returns-in_err-write_change g c =
       ended = rw tie c.drop-tx.ensures.ended;
     }
 
-pub returns-in-Ok : goal.returns-in-Ok
-returns-in-Ok g c =
+pub returns : goal.returns
+returns g c =
     let tie : c.conn-2-1.given.0 ≡ c.commit.new.self.0 = search rules in
     let made = rw c.transaction-tx.ensures.begun at c.in_ok-write_change.ensures.made in
     record {
-      commits = rw tie (committed _ _ _ _ _ c.requires.none_open (g.met.S.Store.settled c.args.conn.now.store) (λ w can. (can.0, c.decisions_are_sound.ensures.made w (decision_of c.args.decision.now) can.0 can.1))
-          _ made (λ clean. (c.in-Ok.ensures.ok clean).1) c.commit.ensures.survives);
-      ended = rw tie c.commit.ensures.ended;
-    }
-
-pub returns-in-Err : goal.returns-in-Err
-returns-in-Err g c =
-    let tie : c.conn-2-1.given.0 ≡ c.commit.new.self.0 = search rules in
-    let made = rw c.transaction-tx.ensures.begun at c.in_ok-write_change.ensures.made in
-    record {
-      commits = rw tie (failed _ _ _ _ _ c.requires.none_open (g.met.S.Store.settled c.args.conn.now.store) (λ w can. (can.0, c.decisions_are_sound.ensures.made w (decision_of c.args.decision.now) can.0 can.1))
-          made c.in-Err.ensures.err c.commit.ensures.survives c.fault_of_write.result c.fault_of_write.ensures);
+      commits = rw tie (ended _ _ _ _ _ c.requires.none_open (g.met.S.Store.settled c.args.conn.now.store) (λ w can. (can.0, c.decisions_are_sound.ensures.made w (decision_of c.args.decision.now) can.0 can.1))
+          c.commit.result c.map_err.result made (λ clean. on_ok_weaker c.commit.result (λ shown. shown.1) (c.commit.ensures.ok clean)) c.commit.ensures.err c.commit.ensures.survives c.map_err.ensures.cases);
       ended = rw tie c.commit.ensures.ended;
     }

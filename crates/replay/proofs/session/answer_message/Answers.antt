@@ -15,7 +15,7 @@ returns-in_ok-write_all-in-Ok-2-clause-answered g c = λ h w s set.
     let hex : Appends (contents c.write_all.new.self) (contents c.put_hex.new.writer) (encode_lower out) = rw (← c.bytes.ensures) c.in_ok-put_hex-in-Ok.ensures in (
       a.0,
       reply_line out,
-      inl (out, a.1, refl),
+      inl (c.in-Ok.ensures.headed, out, a.1, refl),
       a.2,
       Appends-trans _ _ _ (codes "ipp ") (encode_lower out ++ 10 ∷ []) c.in_ok-write_all-in-Ok.ensures.bytes
           (Appends-trans _ _ _ (encode_lower out) (10 ∷ []) hex c.in_ok-write_all-in-Ok-2.ensures.bytes),
