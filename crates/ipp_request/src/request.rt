@@ -170,7 +170,7 @@ impl<'v, 'a: 'v> Request<'v, 'a> {
         }
     }
 
-    /// It is a boolean, and true.
+    /// Its first value is the byte 1, which is a boolean that is true (RFC 8010, section 3.9).
     pub fn is_true(self, attribute: OperationAttribute) -> bool
         ensures { result ≡ spec.is_true (request_of self.entry) attribute }
     {

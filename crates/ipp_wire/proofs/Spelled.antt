@@ -6,6 +6,7 @@ use Rattle.std.proofs.lemmas.List.{append-nil, take_at, length-take-le, take-app
 use Rattle.std.proofs.lemmas.Nat.{from_be_bytes-to_be_bytes_2, from_be_bytes-to_be_bytes_4}
 use Rattle.ipp_wire.specs.declared.view.Head.{Head}
 use Rattle.ipp_wire.specs.Message.{Attribute, Group, Message, IsAttribute, IsGroup, IsOpenGroup, AllButLast, group_bytes, head_bytes, spelling, IsHead, IsMessage, Spells, IsOpenFront, IsStuck}
+use Rattle.ipp_wire.specs.Fault.{IsMalformed}
 use Rattle.ipp_wire.specs.Reading.{Item, delimiter, named, further, item_bytes, outside, IsWhole, Halts, Stops, place_of, GroupsStuck}
 use Rattle.ipp_wire.proofs.Text.{append_apart}
 use Rattle.ipp_wire.proofs.Items.{IsItem, items_bytes, items_of, compare, groups_bytes, groups_one, IsValuedGroup}
@@ -121,7 +122,7 @@ is_stuck b at h gs rest ih fits e halts len =
       longest = longest;
     }
 
-pub spells_none : (b : List ℕ) (h : Head) (gs : List Group) (rest : List ℕ) → IsHead h → AllButLast IsGroup IsOpenGroup gs → b ≡ head_bytes h ++ (flat_map group_bytes gs ++ rest) → Stops (place_of outside gs) rest → (m : Message) → Spells m b → ⊥
+pub spells_none : (b : List ℕ) (h : Head) (gs : List Group) (rest : List ℕ) → IsHead h → AllButLast IsGroup IsOpenGroup gs → b ≡ head_bytes h ++ (flat_map group_bytes gs ++ rest) → Stops (place_of outside gs) rest → IsMalformed b
 spells_none b h gs rest ih fits e stops m spells =
     let whole : head_bytes h ++ (flat_map group_bytes gs ++ rest) ≡ head_bytes m.head ++ (flat_map group_bytes m.groups ++ 3 ∷ m.payload) = sym e ∙ spells.bytes ∙ append_assoc (head_bytes m.head) (flat_map group_bytes m.groups) (3 ∷ m.payload) in
     let heads = head_one h m.head (flat_map group_bytes gs ++ rest) (flat_map group_bytes m.groups ++ 3 ∷ m.payload) ih spells.message.head whole in
@@ -143,7 +144,7 @@ spells_none b h gs rest ih fits e stops m spells =
     ]
 
 -- what the groups behind the head say of all of the bytes
-pub stuck_behind : (b : List ℕ) (h : Head) (left : ℕ) → IsHead h → 8 ≤ length b → b ≡ head_bytes h ++ drop 8 b → GroupsStuck (drop 8 b) left → IsStuck b (length b - left) × ((m : Message) → Spells m b → ⊥)
+pub stuck_behind : (b : List ℕ) (h : Head) (left : ℕ) → IsHead h → 8 ≤ length b → b ≡ head_bytes h ++ drop 8 b → GroupsStuck (drop 8 b) left → IsStuck b (length b - left) × IsMalformed b
 stuck_behind b h left ih long e s =
     let parts : b ≡ head_bytes h ++ (flat_map group_bytes s.groups ++ s.rest) = e ∙ ap (λ (x : List ℕ). head_bytes h ++ x) s.parts in
     let whole : length b ≡ length (flat_map group_bytes s.groups) + length s.rest + 8 = omega (arith, ap length parts, length-append (head_bytes h) (flat_map group_bytes s.groups ++ s.rest), length-append (flat_map group_bytes s.groups) s.rest) in

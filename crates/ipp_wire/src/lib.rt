@@ -11,7 +11,7 @@ mod reading;
 pub mod tags;
 mod view;
 
-pub use bare::{is_known_version, put_fault, reply_head};
+pub use bare::{BARE_OCTETS, is_known_version, put_fault, reply_head};
 pub use law::{one_spelling, plain_attribute};
 pub use message::{Message, write};
 pub use reading::{head, read};

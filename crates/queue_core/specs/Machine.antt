@@ -32,7 +32,7 @@ answered r = record { reply = r; change = no_change }
 abbrev pub refused : ℕ → Decision
 refused code = answered (Refused code)
 
--- ---- the balance: as jobs change, free pages move by this rule alone (new grants add theirs in `grant_row`)
+-- ---- the balance: as jobs change, free pages move by this rule alone (new grants add theirs: `free_after` in Grants)
 
 -- the pages that a job has taken from free: those that are set aside and those that are printed
 abbrev pub taken : Job → ℕ

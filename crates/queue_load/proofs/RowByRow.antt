@@ -1,5 +1,5 @@
 -- A query whose rows are read one at a time: each step, and the whole.
-use Rattle.std.proofs.Common.{◌≡◌, ◌≢◌, inl, inr, ℕ, false, List, [], ◌∷◌, ◌++◌, Option, Some, None, Result, Ok, Err, IsErrAnd, IsTrue, Vec, refl, sym, ◌∙◌, arith}
+use Rattle.std.proofs.Common.{◌≡◌, ◌≢◌, inl, inr, ℕ, false, List, [], ◌∷◌, ◌++◌, Option, Some, None, Result, Ok, Err, IsErrAnd, IsTrue, Vec, sym, ◌∙◌}
 use Rattle.std.specs.Borrow.{Bor}
 use Rattle.sqlite.specs.declared.error.Error.{Error}
 use Rattle.sqlite.specs.declared.error.Error.TheVariants.{SqliteFailure}
@@ -9,7 +9,7 @@ use Rattle.sqlite.specs.Given.{HasGiven}
 use Rattle.sqlite.specs.Held.{Held, state}
 use Rattle.sqlite.specs.Next.{HasMoved}
 use Rattle.sqlite.specs.Order.{Row}
-use Rattle.sqlite.specs.State.{State, HasCleanDisk, IsUnchanged, Survives}
+use Rattle.sqlite.specs.State.{HasCleanDisk, IsUnchanged, Survives}
 use Rattle.sqlite.proofs.Callers.{given_begin, unchanged_then}
 use Rattle.sqlite.proofs.StateLemmas.{survives_then}
 use Rattle.sqlite_trees.specs.declared.store.Store.{Ghosts}
@@ -17,6 +17,7 @@ use Rattle.queue_tables.specs.Faults.{read_fault}
 use Rattle.queue_tables.specs.declared.fault.Fault.{Fault}
 use Rattle.queue_tables.specs.declared.fault.Fault.TheVariants.{Damaged, Disk, Memory}
 use Rattle.queue_tables.proofs.Ending.{clean_before}
+use Rattle.queue_tables.proofs.Leaving.{survives_all}
 use Rattle.queue_tables.proofs.Reading.{answers_at, begins_at, left_then, plain_at, unchanged_open}
 use Rattle.queue_load.specs.Reads.{Tell}
 use Rattle.queue_load.specs.RowByRow.{ReadsNext, ReadsRows}
@@ -82,16 +83,6 @@ module _ {S T : Type 0} (g : Ghosts S) (tells : T → Row → Type 0) (is_formle
   }
 
 -- ---- all rows
-
-survives_all : (s : State) → Survives s s (λ _. ⊥)
-survives_all s = record {
-  clean = omega arith;
-  shield = λ shielded. shielded;
-  counts = omega arith;
-  limit = refl;
-  closes = λ clean live. inl live;
-  crash = λ clean db may. inl may;
-}
 
 -- the items tell of the rows that were given, over tables that stayed as they were
 pub record HasReadFront {S T Z : Type 0} (g : Ghosts S) (tells : T → Row → Type 0) (old new : Held S) (v : Vec T Z) : Type 0 where

@@ -133,8 +133,8 @@ fn have_sound_tables(alloc: Global, rows: &Rows, next: u32) -> Result<bool, Allo
     have_sound_owners(alloc, jobs, accounts, &granted)
 }
 
-/// Each clause over the rows is kept. This is a function of its own since what `are_sound_rows` promises of worlds then follows
-/// once, and not at each way out.
+/// Each clause over the rows is kept.
+// a function of its own, since what `are_sound_rows` promises of worlds then follows once, and not at each way out
 fn keep_each_clause(alloc: Global, rows: &Rows) -> Result<bool, AllocError>
     ensures { IfOk result (λ b. IsTrue b ↔ AreSoundRows (tables_in rows.now)) }
 {

@@ -16,7 +16,7 @@ use Rattle.queue_tables.proofs.Documents.{row_of, all_documents}
 use Rattle.queue_tables.proofs.Entries.{distinct_of, rows_in, row_at, found_rows}
 use Rattle.queue_tables.proofs.Puts.{rows_twice}
 use Rattle.queue_tables.proofs.Showing.{shows_all}
-use Rattle.queue_shown.specs.Fetched.{document_in, is_fetched_job, nth_document, state_values}
+use Rattle.queue_shown.specs.Fetched.{document_in, job_may_be_fetched, nth_document, state_values}
 use Rattle.queue_shown.specs.Heads.{head_values}
 use Rattle.queue_shown.proofs.DocumentParts.{is_of, of_numbers, rows_from, all_rows, chosen, only_document}
 use Rattle.queue_tables.proofs.Firsts.{rows_for, exactly}
@@ -79,7 +79,7 @@ reads_head old new job n found w sound has h =
 
 -- ---- the whole
 
-shown_if : (o : Option Entry) (n : ℕ) → document_of o n ≡ (if is_fetched_job (option_map (λ (e : Entry). e.row) o) then nth_document o n else None)
+shown_if : (o : Option Entry) (n : ℕ) → document_of o n ≡ (if job_may_be_fetched (option_map (λ (e : Entry). e.row) o) then nth_document o n else None)
 shown_if None n = refl
 shown_if (Some e) n = at (may_be_fetched e.row) (nat_lt 0 n) (slice_get e.documents (n - 1))
   where
@@ -95,14 +95,14 @@ row_found job (e ∷ es) = elim (cases_Bool (e.row.number == job)) [
 ]
 
 -- a document is shown where its job may be fetched, and is then the one of that number
-pub shown_document : (w : World) (job n : ℕ) → document_at w job n ≡ (if is_fetched_job (job_at job (rows w)) then document_in w.jobs job n else None)
+pub shown_document : (w : World) (job n : ℕ) → document_at w job n ≡ (if job_may_be_fetched (job_at job (rows w)) then document_in w.jobs job n else None)
 unfolding document_at
 shown_document w job n =
     shown_if (find (λ (e : Entry). e.row.number == job) w.jobs) n
-    ∙ ap (λ (o : Option Job). if is_fetched_job o then document_in w.jobs job n else None) (sym (row_found job w.jobs))
+    ∙ ap (λ (o : Option Job). if job_may_be_fetched o then document_in w.jobs job n else None) (sym (row_found job w.jobs))
 
-pub not_shown : (w : World) (job n : ℕ) (b : Bool) → b ≡ false → b ≡ is_fetched_job (job_at job (rows w)) → document_at w job n ≡ None
+pub not_shown : (w : World) (job n : ℕ) (b : Bool) → b ≡ false → b ≡ job_may_be_fetched (job_at job (rows w)) → document_at w job n ≡ None
 not_shown w job n b none is = shown_document w job n ∙ ap (λ (c : Bool). if c then document_in w.jobs job n else None) (sym is ∙ none)
 
-pub is_shown : (w : World) (job n : ℕ) (b : Bool) → b ≡ true → b ≡ is_fetched_job (job_at job (rows w)) → document_at w job n ≡ document_in w.jobs job n
+pub is_shown : (w : World) (job n : ℕ) (b : Bool) → b ≡ true → b ≡ job_may_be_fetched (job_at job (rows w)) → document_at w job n ≡ document_in w.jobs job n
 is_shown w job n b some is = shown_document w job n ∙ ap (λ (c : Bool). if c then document_in w.jobs job n else None) (sym is ∙ some)

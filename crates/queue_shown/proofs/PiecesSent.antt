@@ -26,7 +26,7 @@ use Rattle.queue_tables.specs.Steps.{AreDistinct}
 use Rattle.queue_tables.specs.Tables.{book_schema}
 use Rattle.queue_tables.specs.Values.{number, piece_values, piece_view}
 use Rattle.queue_tables.proofs.Writing.{IsListing, lists, begins_rows}
-use Rattle.queue_shown.specs.Fetched.{document_in, is_fetched_job}
+use Rattle.queue_shown.specs.Fetched.{document_in, job_may_be_fetched}
 use Rattle.queue_shown.specs.Sent.{pieces_select, piece_bytes, bytes_of, Answers, HasSent, HasSentFront}
 use Rattle.queue_shown.proofs.DocumentParts.{is_of, of_numbers, rows_from, all_rows, chosen, only_document}
 use Rattle.queue_shown.proofs.Fetching.{shown_document}
@@ -142,7 +142,7 @@ module _ (s : State) (job n : ℕ) (w : World) (d : Document) (distinct : AreDis
 
 -- a document that is shown is the one of that number
 pub there_shown : (w : World) (job n : ℕ) (d : Document) → document_at w job n ≡ Some d → document_in w.jobs job n ≡ Some d
-there_shown w job n d there = at (is_fetched_job (job_at job (rows w))) (sym (shown_document w job n) ∙ there)
+there_shown w job n d there = at (job_may_be_fetched (job_at job (rows w))) (sym (shown_document w job n) ∙ there)
   where
     at : (b : Bool) → (if b then document_in w.jobs job n else None) ≡ Some d → document_in w.jobs job n ≡ Some d
     at true e = e

@@ -22,7 +22,7 @@ use Rattle.queue_tables.specs.Faults.{read_fault}
 use Rattle.queue_tables.specs.declared.fault.Fault.TheVariants.{Damaged, Disk}
 use Rattle.queue_tables.proofs.Columns.{map_err}
 use Rattle.queue_tables.proofs.Ending.{clean_before, on_ok, query_fails}
-use Rattle.queue_tables.proofs.Leaving.{begun_unchanged}
+use Rattle.queue_tables.proofs.Leaving.{begun_unchanged, survives_all}
 use Rattle.queue_tables.proofs.Queries.{query_never_commits}
 use Rattle.queue_tables.proofs.Reading.{answers_at, begins_at, left_then, plain_at, still_open, unchanged_open}
 use Rattle.queue_shown.specs.Sending.{SendsPieces, SendsRows}
@@ -39,16 +39,6 @@ not_damaged (SqliteFailure OutOfMemory) stop is told = cc
 not_damaged _ stop is told = cc
 
 -- ---- the rows
-
-survives_all : (s : State) → Survives s s (λ _. ⊥)
-survives_all s = record {
-  clean = omega arith;
-  shield = λ shielded. shielded;
-  counts = omega arith;
-  limit = refl;
-  closes = λ clean live. inl live;
-  crash = λ clean db may. inl may;
-}
 
 -- where it commits nothing, a crash leaves nothing but what it left before
 pub leaves_behind : {old new : State} → Survives old new (λ _. ⊥) → HasCleanDisk new → (db : Trees) → new.may_leave db → old.may_leave db

@@ -10,8 +10,8 @@ use Rattle.queue_rows.specs.Codes.{phase_number, why_number}
 use Rattle.queue_tables.specs.Values.{number, truth}
 
 -- there is such a job
-abbrev pub is_fetched_job : Option Job → Bool
-is_fetched_job o = option_map_or may_be_fetched o false
+abbrev pub job_may_be_fetched : Option Job → Bool
+job_may_be_fetched o = option_map_or may_be_fetched o false
 
 -- the columns from which the state of a job comes
 abbrev pub state_values : Job → Row

@@ -7,7 +7,7 @@ ghost use Rattle.queue_core.specs.Sound.{IsSoundDocument};
 ghost use Rattle.queue_core.specs.World.{rows, job_at};
 ghost use Rattle.queue_types.specs.declared.document.Document.{Document};
 ghost use Rattle.queue_types.specs.declared.job.Job.{Job as JobValue};
-ghost use Rattle.queue_shown.specs.Fetched.{document_in, is_fetched_job, state_values};
+ghost use Rattle.queue_shown.specs.Fetched.{document_in, job_may_be_fetched, state_values};
 ghost use Rattle.queue_shown.specs.Heads.{head_values};
 ghost use Rattle.queue_tables.specs.Telling.{ReadsQueue};
 
@@ -21,7 +21,7 @@ use queue_types::limits::MOST_DOCUMENT_OCTETS;
 use sqlite::{Alter, Connection, Row, params};
 
 /// Whether the device may fetch the documents of a job in that phase.
-fn is_open_in(phase: Phase, hold: bool, incoming: bool) -> bool
+fn may_be_fetched_in(phase: Phase, hold: bool, incoming: bool) -> bool
     ensures { (j : JobValue) → j.phase ≡ phase → j.hold ≡ hold → j.incoming ≡ incoming → result ≡ may_be_fetched j }
 {
     match phase {
@@ -33,7 +33,7 @@ fn is_open_in(phase: Phase, hold: bool, incoming: bool) -> bool
 
 /// Whether the device may fetch the documents of the job of those columns. Damaged is told only where they are
 /// no job's.
-fn is_fetched_row(row: &Row) -> Result<bool, Fault>
+fn row_may_be_fetched(row: &Row) -> Result<bool, Fault>
     ensures told { IfOk result (λ b. (j : JobValue) → row.now ≡ state_values j → b ≡ may_be_fetched j) }
     ensures damaged { IfErr result (λ e. e ≡ Fault.Damaged → (j : JobValue) → row.now ≢ state_values j) }
 {
@@ -41,13 +41,13 @@ fn is_fetched_row(row: &Row) -> Result<bool, Fault>
     let hold = flag(row, 0)?;
     let incoming = flag(row, 1)?;
     let phase = phase(row, 2, 3)?;
-    Ok(is_open_in(phase, hold, incoming))
+    Ok(may_be_fetched_in(phase, hold, incoming))
 }
 
 /// Whether the device may fetch the documents of the job of that number. Damaged is told only where the tables
 /// hold no sound queue.
 fn may_fetch<S: Alter>(conn: &mut Connection<S>, job: u32) -> Result<bool, Fault>
-    ensures reads { ReadsQueue (state S.Store conn.old) (state S.Store conn.new) result (λ w b. b ≡ is_fetched_job (job_at job (rows w))) }
+    ensures reads { ReadsQueue (state S.Store conn.old) (state S.Store conn.new) result (λ w b. b ≡ job_may_be_fetched (job_at job (rows w))) }
     ensures live { HasCleanDisk (state S.Store conn.new) → OnOk result (IsTrue (state S.Store conn.new).is_open) }
 {
     let found = select(
@@ -57,7 +57,7 @@ fn may_fetch<S: Alter>(conn: &mut Connection<S>, job: u32) -> Result<bool, Fault
     )?;
     match found.first() {
         None => Ok(false),
-        Some(row) => is_fetched_row(row),
+        Some(row) => row_may_be_fetched(row),
     }
 }
 
@@ -100,8 +100,8 @@ fn find_head<S: Alter>(
     }
 }
 
-/// The format and the length of document n, counted from 1, of a job in state 3, 5 or 6: 1 to 16,777,216 bytes. It writes nothing:
-/// the tables stay as they were, where the connection is still open. Within a transaction it answers Disk. Damaged
+/// The format and the length, 1 to 16,777,216 bytes, of document n, counted from 1, of a job in state 3, 5 or 6; None where the job has not so many,
+/// is in another state or isn't there. It writes nothing: the tables stay as they were, where the connection is still open. Within a transaction it answers Disk. Damaged
 /// is told only where the tables hold no sound queue.
 pub fn document_head<S: Alter>(
     conn: &mut Connection<S>,

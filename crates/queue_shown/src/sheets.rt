@@ -31,7 +31,7 @@ use sqlite::{Alter, Connection, Row, params};
 use std::alloc::Global;
 
 /// The job has pages reserved or printed.
-fn is_told(job: &Job) -> bool
+fn is_charged(job: &Job) -> bool
     ensures { result ≡ is_charged job.now }
 {
     0 < job.owed() || 0 < job.count
@@ -53,7 +53,7 @@ fn row_job(alloc: Global, row: &Row) -> Result<Job, Fault>
 
 /// The job of that row where it has pages reserved or printed. Damaged is told only where the tables hold no sound queue
 /// with a job of that row.
-fn told_job<S: Alter>(
+fn charged_job<S: Alter>(
     alloc: Global,
     conn: &mut Connection<S>,
     row: &Row,
@@ -62,7 +62,7 @@ fn told_job<S: Alter>(
     ensures sound { IfOk result (λ o. IfSome o IsSoundJob) }
 {
     let mut job = row_job(alloc, row)?;
-    if !is_told(&job) {
+    if !is_charged(&job) {
         return Ok(None);
     }
     let sizes = sizes_of(conn, job.number)?;
@@ -73,7 +73,7 @@ fn told_job<S: Alter>(
 
 /// Adds the job of that row where it has pages reserved or printed. Damaged is told only where the tables hold no sound queue
 /// with a job of that row.
-fn push_told<S: Alter>(
+fn push_charged<S: Alter>(
     alloc: Global,
     conn: &mut Connection<S>,
     row: &Row,
@@ -82,7 +82,7 @@ fn push_told<S: Alter>(
     ensures reads { TellsJobOf (state S.Store conn.old) (state S.Store conn.new) result row.now (λ j u. jobs.new.items ≡ jobs.old.items ++ (if is_charged j then j ∷ [] else [])) }
     ensures sound { OnOk result (All IsSoundJob jobs.old.items → All IsSoundJob jobs.new.items) }
 {
-    let Some(job) = told_job(alloc, conn, row)? else {
+    let Some(job) = charged_job(alloc, conn, row)? else {
         return Ok(());
     };
     jobs.push(job)?;
@@ -104,14 +104,14 @@ fn jobs_of<S: Alter>(
 {
     let mut jobs = Vec::new(alloc);
     for row in found {
-        push_told(alloc, conn, row, &mut jobs)?;
+        push_charged(alloc, conn, row, &mut jobs)?;
     }
     Ok(jobs)
 }
 
 /// The jobs of an account that have pages reserved or printed, by number. Damaged is told only where the tables hold
 /// no sound queue.
-fn told_jobs<S: Alter>(
+fn charged_jobs<S: Alter>(
     alloc: Global,
     conn: &mut Connection<S>,
     account: &str,
@@ -147,7 +147,7 @@ pub fn sheet<S: Alter>(
         return Ok(None);
     };
     let granted = pages.granted()?;
-    let jobs = told_jobs(alloc, conn, account)?;
+    let jobs = charged_jobs(alloc, conn, account)?;
     let name = Text::copy_of(alloc, account)?;
     Ok(Some(AccountSheet {
         account: name,

@@ -20,6 +20,16 @@ use Rattle.queue_tables.specs.Leaving.{KeepsServing, LeavesTables}
 pub serves_all : (s : State) → KeepsServing s s
 serves_all s = record { limit = refl; counts = omega arith; closes = λ clean live. inl live }
 
+pub survives_all : (s : State) → Survives s s (λ _. ⊥)
+survives_all s = record {
+  clean = omega arith;
+  shield = λ shielded. shielded;
+  counts = omega arith;
+  limit = refl;
+  closes = λ clean live. inl live;
+  crash = λ clean db may. inl may;
+}
+
 pub leaves_all : (s : State) → LeavesTables s s
 leaves_all s = record {
   clean = λ clean. clean;

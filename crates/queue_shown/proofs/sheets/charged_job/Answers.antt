@@ -8,14 +8,14 @@ use Rattle.queue_shown.proofs.OwnedJobs.{counted_job}
 use Rattle.queue_shown.proofs.SheetLemmas.{charged_some, idle_none, not_told}
 use Rattle.queue_tables.proofs.Formed.{sound_job}
 use Rattle.queue_tables.proofs.Leaving.{leaves_all}
-use Rattle.queue_shown.proofs.sheets.told_job.Goals as goal
+use Rattle.queue_shown.proofs.sheets.charged_job.Goals as goal
 
 pub returns-in_err-job-clause-reads : goal.returns-in_err-job-clause-reads
 returns-in_err-job-clause-reads g c = not_told _ c.in_err-job.field-0.0 c.from_residual.ensures.1 (leaves_all (state g.S.Store c.args.conn.now)) (λ clean damaged w j sound has there is.
     c.in_err-job.ensures.damaged damaged j (sound_job j.number w j sound there) is)
 
-pub returns-then-not-is_told-clause-reads : goal.returns-then-not-is_told-clause-reads
-returns-then-not-is_told-clause-reads g c =
+pub returns-then-not-is_charged-clause-reads : goal.returns-then-not-is_charged-clause-reads
+returns-then-not-is_charged-clause-reads g c =
     let idle : is_charged c.in_ok-job.job ≡ false = search rules in
     record {
       leaves = leaves_all (state g.S.Store c.args.conn.now);

@@ -9,7 +9,7 @@ use Rattle.queue_shown.proofs.OwnedJobs.{reads_owned, owned_in, told_owned}
 use Rattle.queue_tables.proofs.Telling.{hands_on}
 use Rattle.queue_shown.proofs.Texts.{select_owned_is}
 use Rattle.queue_tables.proofs.Leaving.{holds_after, leaves_then}
-use Rattle.queue_shown.proofs.sheets.told_jobs.Goals as goal
+use Rattle.queue_shown.proofs.sheets.charged_jobs.Goals as goal
 
 pub select-requires : goal.select-requires
 select-requires g c = record { query = select_owned_is.shows.query }

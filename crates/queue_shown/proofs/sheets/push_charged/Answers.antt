@@ -4,10 +4,10 @@ use Rattle.queue_core.specs.Limits.{IsSoundJob}
 use Rattle.queue_types.specs.declared.job.Job.{Job}
 use Rattle.queue_tables.specs.declared.fault.Fault.TheVariants.{Memory}
 use Rattle.queue_shown.proofs.SheetLemmas.{none_pushed, not_told, some_pushed}
-use Rattle.queue_shown.proofs.sheets.push_told.Goals as goal
+use Rattle.queue_shown.proofs.sheets.push_charged.Goals as goal
 
 pub returns-in_err-job-clause-reads : goal.returns-in_err-job-clause-reads
-returns-in_err-job-clause-reads g c = not_told _ c.in_err-job.field-0.0 c.from_residual.ensures.1 c.told_job.ensures.reads.leaves c.in_err-job.ensures.reads.damaged
+returns-in_err-job-clause-reads g c = not_told _ c.in_err-job.field-0.0 c.from_residual.ensures.1 c.charged_job.ensures.reads.leaves c.in_err-job.ensures.reads.damaged
 
 pub returns-in_default-clause-reads : goal.returns-in_default-clause-reads
 returns-in_default-clause-reads g c =
@@ -20,7 +20,7 @@ returns-in_default-clause-reads g c =
     }
 
 pub returns-in_err-push-clause-reads : goal.returns-in_err-push-clause-reads
-returns-in_err-push-clause-reads g c = not_told _ Memory c.from_residual-in_err-push.ensures.1 c.told_job.ensures.reads.leaves (λ clean damaged. absurd cc)
+returns-in_err-push-clause-reads g c = not_told _ Memory c.from_residual-in_err-push.ensures.1 c.charged_job.ensures.reads.leaves (λ clean damaged. absurd cc)
 
 pub returns-clause-reads : goal.returns-clause-reads
 returns-clause-reads g c =
