@@ -8,3 +8,4 @@ pub mod Closing
 pub mod Again
 pub mod Refused
 pub mod OneSchema
+pub mod Unharmed

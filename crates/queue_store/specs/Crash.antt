@@ -1,8 +1,13 @@
 -- What a crash leaves of the files of a book.
-use Rattle.std.specs.Prelude.{◌⊎◌}
+use Rattle.std.specs.Prelude.{◌≡◌, ◌⊎◌, false}
 use Rattle.sqlite.specs.Files.{HoldsDatabase, image_of}
+use Rattle.sqlite.specs.declared.file.Leftover.{Leftover}
+use Rattle.sqlite.specs.declared.file.Leftover.TheVariants as left
 use Rattle.sqlite_disk.specs.declared.Disk.{Ghosts}
 use Rattle.sqlite_disk.specs.declared.Files.{Files}
+use Rattle.sqlite_pool.specs.Stored.{is_summed}
+use Rattle.sqlite_store.specs.FileStore.{recovers}
+use Rattle.sqlite_store.specs.Unopened.{state_of}
 use Rattle.sqlite_trees.specs.Tree.{Trees}
 use Rattle.sqlite_wal.specs.Files.{outcomes}
 use Rattle.sqlite_wal.specs.Recovery.{Image}
@@ -23,3 +28,14 @@ pub record KeepTogether {D : Type 0} (g : Ghosts D) (files : Files D) (w : World
 -- whatever a crash leaves of the files holds this queue or that one
 abbrev pub KeepOneOf : {D : Type 0} → Ghosts D → Files D → World → World → Type 0
 KeepOneOf g files v w = (image : Image) → outcomes g files.log files.db image → ∥ (IsKept image v ⊎ IsKept image w) ∥₁
+
+-- the pages of the database that the files hold don't end in sums, as those that SQLite's cksumvfs writes
+abbrev pub HaveNoSums : Image → Type 0
+HaveNoSums image = (db : Trees) (held : HoldsDatabase image db) → is_summed held.0 ≡ false
+
+-- Whatever a crash leaves of what is left of files, which held the first image, holds this queue. Of files that were being recovered
+-- the kit says so of pages without sums alone, since it doesn't say that pages which end in sums were taken as such.
+abbrev pub StillKeeps : {D : Type 0} {g : Ghosts D} → Image → Leftover D g → World → Type 0
+StillKeeps {D} {g} first (left.Files files) w = (image : Image) → outcomes g files.log files.db image → IsKept image w
+StillKeeps first (left.Unopened files) w = HaveNoSums first → (image : Image) → (state_of files).may_leave image → IsKept image w
+StillKeeps first (left.Store store) w = (db : Trees) → recovers store db → IsBookOf w db

@@ -1,7 +1,7 @@
 //! A book from a file.
-ghost use Rattle.std.specs.Prelude.{◌≡◌, ◌≢◌, codes, Err, IfErr, IfOk, IsErrAnd, IsTrue};
+ghost use Rattle.std.specs.Prelude.{◌≡◌, ◌≢◌, codes, Err, IfErr, IfOk, IfSome, IsErrAnd, IsTrue};
 ghost use Rattle.sqlite.specs.Closing.{IsCopied};
-ghost use Rattle.sqlite.specs.Files.{HoldsDatabase, IsOpened, file_state, over_files};
+ghost use Rattle.sqlite.specs.Files.{HoldsDatabase, IsCleanLeft, IsOpened, file_state, over_files};
 ghost use Rattle.sqlite.specs.Start.{FindsIn};
 ghost use Rattle.sqlite.specs.State.{HasCleanDisk};
 ghost use Rattle.sqlite_trees.specs.Tree.{Trees};
@@ -13,7 +13,7 @@ ghost use Rattle.queue_core.specs.World.{World, empty_queue};
 ghost use Rattle.queue_load.specs.Queues.{IsQueueIn};
 ghost use Rattle.queue_load.specs.Store.{FitsIn};
 ghost use Rattle.queue_store.specs.Closed.{KeepAlone, LeavesNoMore};
-ghost use Rattle.queue_store.specs.Crash.{IsKept, KeepOneOf, KeepTogether};
+ghost use Rattle.queue_store.specs.Crash.{IsKept, KeepOneOf, KeepTogether, StillKeeps};
 ghost use Rattle.queue_store.specs.Kept.{IsHonest, StandsFor, StandsForOne, shown_by, without_limit};
 ghost use Rattle.queue_store.specs.Opened.{FitsFile, HasNoTables, IsFaultless, IsKeptIn, open_fault};
 ghost use Rattle.queue_tables.specs.Content.{LeavesOneOf};
@@ -73,6 +73,7 @@ fn connect_or_left<S: Start>(
     ensures opened { IfOk result (λ c. HasCleanDisk (file_state c) → IsOpened c) }
     ensures found { IfOk result (λ c. HasCleanDisk (file_state c) → FindsIn (image_at S.Start) (file_state c)) }
     ensures damaged { (w : World) → IsKept (image_at S.Start) w → IfErr result (λ e. IsFaultless e.1 → e.0 ≢ BookFault.Damaged) }
+    ensures unharmed { (w : World) → IsKept (image_at S.Start) w → IfErr result (λ e. IfSome e.1 (λ left. IsCleanLeft left → StillKeeps (image_at S.Start) left w)) }
     ensures memory { path.now ≡ codes ":memory:" → IsErrAnd result (λ e. e.0 ≡ BookFault.Disk) }
 {
     match Connection::open_from(rt, path, false, start) {
@@ -106,6 +107,7 @@ fn adopt_in_files<D: Disk + Drop>(
     ensures kept { IfOk result (λ b. LeavesTables (without_limit (file_state conn)) (shown_by over_files b)) }
     ensures clean { IfErr result (λ e. IsClean (over_files.view e.1) → HasCleanDisk (file_state conn)) }
     ensures damaged { FitsIn (file_state conn) → IfErr result (λ e. IsClean (over_files.view e.1) → e.0 ≡ BookFault.Damaged → (w : World) → ¬ IsQueueIn w (file_state conn).now) }
+    ensures left { IfErr result (λ e. IsClean (over_files.view e.1) → LeavesNoMore (file_state conn) e.1) }
 {
     TableBook::adopt_or_store(alloc, conn)
 }
@@ -180,7 +182,8 @@ impl<S: Start> TableBook<FileStore<FileFrom<S>>> {
     /// told also where they can't be opened or are in use, Damaged also where they are no database. A path without a
     /// file gets an empty one, which is Damaged. Files that keep a queue, with their log or without, are found as it. An
     /// error hands back what is left of the files, where they were opened: where this tells of no disk that lied or
-    /// failed, files that keep a queue are not told to be Damaged.
+    /// failed, files that keep a queue are not told to be Damaged. Where no disk lied, such files keep it
+    /// behind the error too; of files that were being recovered that is said where their pages have no sums.
     pub fn open_or_left(
         rt: &HostRuntime,
         path: &str,
@@ -191,6 +194,7 @@ impl<S: Start> TableBook<FileStore<FileFrom<S>>> {
         ensures again { (w : World) → IsKept (image_at S.Start) w → IfOk result (λ b. StandsFor over_files b w) }
         ensures live { (w : World) → IsKept (image_at S.Start) w → IfOk result (λ b. IsHonest over_files b → IsTrue (shown_by over_files b).is_open) }
         ensures damaged { (w : World) → IsKept (image_at S.Start) w → IfErr result (λ e. IsFaultless e.1 → e.0 ≢ BookFault.Damaged) }
+        ensures unharmed { (w : World) → IsKept (image_at S.Start) w → IfErr result (λ e. IfSome e.1 (λ left. IsCleanLeft left → StillKeeps (image_at S.Start) left w)) }
         ensures memory { path.now ≡ codes ":memory:" → IsErrAnd result (λ e. e.0 ≡ BookFault.Disk) }
     {
         tables_hold_one_queue();
