@@ -14,6 +14,7 @@ use Rattle.http_front.specs.declared.outcome.Served.{Served as Service}
 use Rattle.arrivals.specs.Crash.{IsAskedBy, AsksAt, AsksFor, Carries, IsAtMostOneMore, IsLeft}
 use Rattle.arrivals.specs.History.{AreTaken}
 use Rattle.arrivals.specs.declared.arrival.Arrival.{Arrival}
+use Rattle.arrivals.specs.declared.arrival.Arrived.{Arrived}
 use Rattle.arrivals.specs.declared.arrival.Arrived.TheVariants.{Connection}
 use Rattle.arrivals.specs.declared.arrival.Outcome.{Outcome}
 use Rattle.arrivals.specs.declared.arrival.Outcome.TheVariants.{Broken, Served}
@@ -67,17 +68,19 @@ carries_more before between after xs os a o written places w u p t h c = λ v le
 
 -- ---- one event
 
-left_by : (asks : Event → Type 0) (now : ℕ) (w v u x : World) → ((e : Event) → asks e → IsEvent e) → IsMoment now → Leaves asks now w v u x
-    → IsLeft (λ at e. (at ≡ now) × (asks e × (u ≡ w))) w v u x
-left_by asks now w v u x within moment (untaken p q) = inl (p, q)
-left_by asks now w v u x within moment (taken e is p q) = inr (inl q)
-left_by asks now w v u x within moment (broken_off e is p q) =
-    inr (inr (now, e, (refl, (is, p)), (moment, within e is), q ∙ ap (λ (z : World). (step z now e).world) (sym p)))
+left_by : (asks : Event → Type 0) (failed : Type 0) (asked : Event → Type 0) (now : ℕ) (w v u x : World) → ((e : Event) → asks e → IsEvent e)
+    → ((e : Event) → asks e → failed → u ≡ w → asked e) → IsMoment now → Leaves asks failed now w v u x → IsLeft (λ at e. (at ≡ now) × asked e) w v u x
+left_by asks failed asked now w v u x within told_so moment (untaken p q) = inl (p, q)
+left_by asks failed asked now w v u x within told_so moment (taken e is p q) = inr (inl q)
+left_by asks failed asked now w v u x within told_so moment (broken_off e is told p q) =
+    inr (inr (now, e, (refl, told_so e is told p), (moment, within e is), q ∙ ap (λ (z : World). (step z now e).world) (sym p)))
 
 -- what asks for one event
-pub carries_one : (before after : World → World → Type 0) (asks : Event → Type 0) (now : ℕ) (w u : World) → ((e : Event) → asks e → IsEvent e) → IsMoment now
-    → CarriesOne before after asks now w u → Carries before after (λ z y at e. (at ≡ now) × (asks e × (y ≡ z))) w u
-carries_one before after asks now w u within moment c = λ v left. let l = c v left in (l.0, l.1, left_by asks now w v u l.0 within moment l.2)
+pub carries_one : (before after : World → World → Type 0) (asks : Event → Type 0) (failed : Type 0) (now : ℕ) (what : Arrived) (o : Outcome) (w u : World) → ((e : Event) → asks e → IsEvent e)
+    → ((e : Event) → asks e → failed → u ≡ w → AsksFor now what o w u e) → IsMoment now → CarriesOne before after asks failed now w u → Carries before after (AsksAt now what o) w u
+carries_one before after asks failed now what o w u within told_so moment c = λ v left.
+    let l = c v left in
+    (l.0, l.1, left_by asks failed (AsksFor now what o w u) now w v u l.0 within told_so moment l.2)
 
 -- ---- a connection
 

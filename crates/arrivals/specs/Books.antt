@@ -34,7 +34,7 @@ module _ {B : Type 0} (book : Ghosts B) (old new : B) (w : World) where
     pub carries : Carries (book.crash_leaves old) (book.crash_leaves new) (IsAskedBy arrivals outcomes) w queue
 
 -- a crash at any moment leaves of a book, which is new behind what was taken and stood for the queue w before: the queue that the machine came to, or the one
--- after one event more, which was asked for at its moment, and before which the queue was that already
+-- after one event more, which was asked for at its moment, of which a fault was told, and before which the queue was that already
 pub record LeavesAtMostOneMore {B : Type 0} (book : Ghosts B) (new : B) (w : World) (is_asked : World → ℕ → Event → Type 0) : Type 0 where
   -- the queue for which the book stands now, and the places of the machine's run to it
   pub queue : World

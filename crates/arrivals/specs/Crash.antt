@@ -1,11 +1,12 @@
 -- What a crash leaves of a book, at whatever moment it comes.
-use Rattle.std.specs.Prelude.{◌≡◌, ◌⊎◌, ℕ, List, [], ◌∷◌, ◌++◌, Some, Result, Ok, Err, Vec}
+use Rattle.std.specs.Prelude.{◌≡◌, ◌⊎◌, true, ℕ, List, [], ◌∷◌, ◌++◌, Some, Result, Ok, Err, Vec}
 use Rattle.queue_types.specs.Event.{Event}
 use Rattle.queue_core.specs.Crash.{CarriesBy, IsLeftOr}
 use Rattle.queue_core.specs.Machine.{step}
 use Rattle.queue_core.specs.Runs.{Place, IsPlace}
 use Rattle.queue_core.specs.World.{World}
-use Rattle.device_lines.specs.Reports.{Tells}
+use Rattle.device_lines.specs.Reports.{Tells, is_fault_line}
+use Rattle.grants_csv.specs.Fault.{fault}
 use Rattle.grants_csv.specs.Import.{Asks}
 use Rattle.http_front.specs.Connections.{Answers, Breaks}
 use Rattle.http_front.specs.Crash.{IsAskedIn}
@@ -14,26 +15,27 @@ use Rattle.arrivals.specs.declared.arrival.Arrival.{Arrival}
 use Rattle.arrivals.specs.declared.arrival.Arrived.{Arrived}
 use Rattle.arrivals.specs.declared.arrival.Arrived.TheVariants.{Connection, Line, AccountFile}
 use Rattle.arrivals.specs.declared.arrival.Outcome.{Outcome}
-use Rattle.arrivals.specs.declared.arrival.Outcome.TheVariants.{Served, Broken}
+use Rattle.arrivals.specs.declared.arrival.Outcome.TheVariants.{Served, Broken, Told, Refused}
 
--- ---- what is asked for, where the queue was u before it already
+-- ---- what is asked for and told as a fault, where the queue was u before it already
 
--- What reached the queue w at this moment, and came to this outcome, asks for the event: a line, a file, or one of the requests of a connection that were
--- answered one after another, with the one whose answer was broken off.
+-- What reached the queue w at this moment, and came to this outcome, asks for the event, and a fault was told of it: of a line, of a file, or of one of the
+-- requests of a connection that were answered one after another, with the one whose answer was broken off.
 abbrev pub AsksFor : ℕ → Arrived → Outcome → World → World → Event → Type 0
 AsksFor now (Connection stream) (Served s) w u e =
     (written : List ℕ) × (after : World) × (a : Answers now w stream.now written after s.acted s.faults s.end) × IsAskedIn w a.turns u e
 AsksFor now (Connection stream) (Broken f) w u e =
     (written : List ℕ) × (after : World) × (b : Breaks now w stream.now written after f.acted f.faults) × IsAskedIn w (b.turns ++ b.broken) u e
-AsksFor now (Connection stream) _ w u e = ⊥
-AsksFor now (Line line) o w u e = Tells line.now (Some e) × (u ≡ w)
-AsksFor now (AccountFile file) o w u e = Asks file.now (Some e) × (u ≡ w)
+AsksFor now (Line line) (Told out) w u e = Tells line.now (Some e) × (is_fault_line out ≡ true) × (u ≡ w)
+AsksFor now (AccountFile file) (Refused f) w u e = Asks file.now (Some e) × (f ≡ fault) × (u ≡ w)
+AsksFor now _ _ w u e = ⊥
 
 -- it does so at its own moment
 abbrev pub AsksAt : ℕ → Arrived → Outcome → World → World → ℕ → Event → Type 0
 AsksAt moment what o w u now e = (now ≡ moment) × AsksFor moment what o w u e
 
--- one of the arrivals, which came to these outcomes, asks for the event at this moment, in the queue to which those before it brought w
+-- one of the arrivals, which came to these outcomes, asks for the event at this moment, and a fault was told of it, in the queue to which those before it
+-- brought w
 abbrev pub IsAskedBy : List Arrival → List Outcome → World → World → ℕ → Event → Type 0
 IsAskedBy [] os w u now e = ⊥
 IsAskedBy (a ∷ later) [] w u now e = ⊥

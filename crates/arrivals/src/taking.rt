@@ -111,7 +111,7 @@ pub fn take_all<W: Write, B: QueueBook>(
     // what shuts a book is told as a fault, or breaks a document off
     ensures live { B.is_honest book.new → B.is_live book.old → IfOk result (λ outcomes. AllByRecursion IsFaultless outcomes.items → B.is_live book.new) }
     // whatever it answers, a crash at any moment leaves the queue that the machine came to, or the one after one event more, which one of the arrivals
-    // asked for at its moment, and before which the queue was that already
+    // asked for at its moment, of which a fault was told, and before which the queue was that already
     ensures crash { B.is_honest book.new → B.is_live book.old → (w : World) → B.stands book.old w → settings.now ≡ w.settings
         → LeavesAtMostOneMore B.QueueBook book.new w (IsAskedBy arrivals.now (outcomes_of result) w) }
     ensures err { OnErr result (book.new ≡ book.old) }

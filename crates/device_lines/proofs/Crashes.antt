@@ -12,10 +12,11 @@ use Rattle.device_lines.specs.Reports.{AnswersReport, BringsLine, IsReported, Is
 use Rattle.device_lines.specs.declared.line.LineFault.{LineFault}
 use Rattle.device_lines.specs.declared.line.LineFault.TheVariants.{Syntax, Range}
 
--- what was asked by a report was asked by its line
-pub as_told : (line : List ℕ) (r : Report) (now : ℕ) (w v u x : World) → Reads line (Ok r) → Leaves (λ e. e ≡ tell r) now w v u x
-    → Leaves (ToldBy line) now w v u x
-as_told line r now w v u x reads left = leaves_by _ _ now w v u x (λ e is. subst (λ (z : Event). Tells line (Some z)) (sym is) (reports r reads)) left
+-- what was asked by a report was asked by its line, and a fault was told
+pub as_told : {failed : Type 0} (line out : List ℕ) (r : Report) (now : ℕ) (w v u x : World) → Reads line (Ok r) → out ≡ fault_line → Leaves (λ e. e ≡ tell r) failed now w v u x
+    → Leaves (ToldBy line) (is_fault_line out ≡ true) now w v u x
+as_told line out r now w v u x reads text left =
+    leaves_by _ _ _ _ now w v u x (λ e is. subst (λ (z : Event). Tells line (Some z)) (sym is) (reports r reads)) (λ err. ap is_fault_line text) left
 
 pub match_false : (P Q : Type 0) (b : Bool) → b ≡ false → Q → MatchBool b P Q
 match_false P Q true e q = absurd (cc)

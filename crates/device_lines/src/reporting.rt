@@ -1,5 +1,5 @@
 //! One line of the device, from its bytes to those of its answer.
-ghost use Rattle.std.specs.Prelude.{◌≡◌, ◌⊎◌, Err, Ok, IfOk, OnOk, OnErr, false};
+ghost use Rattle.std.specs.Prelude.{◌≡◌, ◌⊎◌, Err, Ok, IfOk, IsErr, OnOk, OnErr, false, true};
 ghost use Rattle.std.specs.Bool.{OnFalse, OnTrue};
 ghost use Rattle.queue_types.specs.Event.{tell};
 ghost use Rattle.queue_types.specs.declared.event.Report.{Report};
@@ -24,11 +24,11 @@ pub fn report<B: QueueBook>(book: &mut B, now: u32, line: &[u8]) -> ReportAnswer
     requires moment { IsMoment now }
     ensures began { B.is_honest book.new → B.is_honest book.old }
 
-    // What is answered, and what becomes of the queue: a crash at any moment leaves the report, or leaves it out. This is the whole of it: the
-    // next three clauses are read off it.
+    // What is answered, and what becomes of the queue: a crash at any moment leaves the report, or leaves it out; which of the two is open only behind a
+    // fault. This is the whole of it: the next three clauses are read off it.
     ensures crash { B.is_honest book.new → (w : World) → B.stands book.old w
         → (after : World) × BringsLine w now line.now after result × B.stands book.new after
-        × Carries (B.crash_leaves book.old) (B.crash_leaves book.new) (ToldBy line.now) now w after }
+        × Carries (B.crash_leaves book.old) (B.crash_leaves book.new) (ToldBy line.now) (is_fault_line result ≡ true) now w after }
     ensures answers { B.is_honest book.new → (w : World) → B.stands book.old w
         → (after : World) × AnswersLine w now line.now after result × B.stands book.new after }
     ensures told { B.is_honest book.new → OnFalse (is_fault_line result) ((w : World) → B.stands book.old w
@@ -66,7 +66,7 @@ fn step<B: QueueBook>(book: &mut B, now: u32, report: Report) -> Result<ReportAn
     ensures live { B.is_honest book.new → OnOk result (B.is_live book.new) }
     ensures err { OnErr result ((w : World) → B.stands book.old w → B.stands book.new w) }
     ensures crash { B.is_honest book.new → OnErr result ((w v : World) → B.stands book.old w → B.crash_leaves book.old w v
-        → (x : World) × B.crash_leaves book.new w x × Leaves (λ e. e ≡ tell report) now w v w x) }
+        → (x : World) × B.crash_leaves book.new w x × Leaves (λ e. e ≡ tell report) (IsErr result) now w v w x) }
     // On any book, also on one that is not honest.
     ensures replies { IfOk result (λ a. IsReplyToReport report.job a) }
 {

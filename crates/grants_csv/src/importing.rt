@@ -65,7 +65,7 @@ fn take_rows<B: QueueBook>(
     ensures live { B.is_honest book.new → OnOk result (B.is_live book.new) }
     ensures still_live { B.is_honest book.new → IfErr result (λ f. f ≢ fault → B.is_live book.new) }
     ensures crash { B.is_honest book.new → OnErr result ((w v : World) → B.stands book.old w → B.crash_leaves book.old w v
-        → (x : World) × B.crash_leaves book.new w x × Leaves (λ e. e ≡ grant rows.now) now w v w x) }
+        → (x : World) × B.crash_leaves book.new w x × Leaves (λ e. e ≡ grant rows.now) (result ≡ Err fault) now w v w x) }
     // On any book, also on one that is not honest.
     ensures replies { IfErr result (λ f. (f ≡ fault) ⊎ IsRowRefusal f) }
 {
@@ -93,11 +93,11 @@ pub fn import<B: QueueBook>(
     requires { IsMoment now }
     ensures began { B.is_honest book.new → B.is_honest book.old }
 
-    // What is told, and what becomes of the queue: a crash at any moment leaves all of the rows, or none. This is the whole of it: the next
-    // three clauses are read off it.
+    // What is told, and what becomes of the queue: a crash at any moment leaves all of the rows, or none; which of the two is open only behind a fault. This
+    // is the whole of it: the next three clauses are read off it.
     ensures crash { B.is_honest book.new → (w : World) → B.stands book.old w
         → (after : World) × Imports w now bytes.now after result × B.stands book.new after
-        × Carries (B.crash_leaves book.old) (B.crash_leaves book.new) (AskedBy bytes.now) now w after }
+        × Carries (B.crash_leaves book.old) (B.crash_leaves book.new) (AskedBy bytes.now) (result ≡ Err fault) now w after }
     ensures imports { B.is_honest book.new → (w : World) → B.stands book.old w
         → (after : World) × Imports w now bytes.now after result × B.stands book.new after }
     ensures added { B.is_honest book.new → IfOk result (λ n. (w : World) → B.stands book.old w

@@ -1,5 +1,5 @@
 -- What a crash leaves, from one request to the next.
-use Rattle.std.proofs.Common.{◌≡◌, ◌≤◌, ◌∙◌, ℕ, List, [], ◌∷◌, ◌++◌, Option, Some, IfSome, length, inl, inr, refl, ap, subst, sym, arith}
+use Rattle.std.proofs.Common.{◌≡◌, ◌≤◌, ◌∙◌, true, ℕ, List, [], ◌∷◌, ◌++◌, Option, Some, IfSome, length, inl, inr, refl, ap, subst, sym, arith}
 use Rattle.std.specs.List.{AllByRecursion as Each}
 use Rattle.queue_types.specs.Event.{Event}
 use Rattle.queue_core.specs.Crash.{Carries, Leaves, broken_off, taken, untaken}
@@ -13,13 +13,13 @@ use Rattle.http_head.specs.declared.target.Target.{Target}
 use Rattle.http_head.specs.declared.target.Target.TheVariants.{Ipp, Report, Queue, Document}
 use Rattle.http_front.specs.Connections.{AreTurns, world_after}
 use Rattle.http_front.specs.Crash.{AsksIn, CarriesAll, IsAskedIn, IsAtMostOneMore, IsLeft}
-use Rattle.http_front.specs.Turns.{Turn, plan}
+use Rattle.http_front.specs.Turns.{IsTurn, Turn, plan}
 use Rattle.http_front.specs.Places.{AsksFor}
 use Rattle.http_front.proofs.GrantLemmas.{asked, told}
 use Rattle.http_front.proofs.PlaceLemmas.{AreCalls, turn_fits}
 
 -- where nothing is done, all stays
-pub carries_none : (before : World → World → Type 0) (asks : Event → Type 0) (now : ℕ) (w : World) → Carries before before asks now w w
+pub carries_none : {failed : Type 0} (before : World → World → Type 0) (asks : Event → Type 0) (now : ℕ) (w : World) → Carries before before asks failed now w w
 carries_none before asks now w = λ v left. (v, left, untaken refl refl)
 
 pub carries_no_turn : (before : World → World → Type 0) (now : ℕ) (w : World) → CarriesAll before before now [] w w
@@ -27,21 +27,21 @@ carries_no_turn before now w = λ v left. (v, left, inl (refl, refl))
 
 -- ---- one request, or none
 
-left_idle : (now : ℕ) (w v u x : World) → Leaves (λ e. ⊥) now w v u x → IsLeft now [] w v u x
+left_idle : (now : ℕ) (w v u x : World) → Leaves (λ e. ⊥) ⊥ now w v u x → IsLeft now [] w v u x
 left_idle now w v u x (untaken p q) = inl (p, q)
 left_idle now w v u x (taken e asks p q) = absurd asks
-left_idle now w v u x (broken_off e asks p q) = absurd asks
+left_idle now w v u x (broken_off e asks failed p q) = absurd asks
 
 -- what was declined asked for nothing
-pub carries_idle : (before after : World → World → Type 0) (now : ℕ) (w u : World) → Carries before after (λ e. ⊥) now w u → CarriesAll before after now [] w u
+pub carries_idle : (before after : World → World → Type 0) (now : ℕ) (w u : World) → Carries before after (λ e. ⊥) ⊥ now w u → CarriesAll before after now [] w u
 carries_idle before after now w u c = λ v left. let l = c v left in (l.0, l.1, left_idle now w v u l.0 l.2)
 
-left_by : (now : ℕ) (t : Turn) (w v u x : World) → Leaves (AsksIn t) now w v u x → IsLeft now (t ∷ []) w v u x
+left_by : (now : ℕ) (t : Turn) (w v u x : World) → Leaves (AsksIn t) (t.is_fault ≡ true) now w v u x → IsLeft now (t ∷ []) w v u x
 left_by now t w v u x (untaken p q) = inl (p, q)
 left_by now t w v u x (taken e asks p q) = inr (inl q)
-left_by now t w v u x (broken_off e asks p q) = inr (inr (e, inl (asks, p), subst (λ (z : World). x ≡ (step z now e).world) (sym p) q))
+left_by now t w v u x (broken_off e asks failed p q) = inr (inr (e, inl (asks, failed, p), subst (λ (z : World). x ≡ (step z now e).world) (sym p) q))
 
-pub carries_one : (before after : World → World → Type 0) (now : ℕ) (t : Turn) (w u : World) → Carries before after (AsksIn t) now w u → CarriesAll before after now (t ∷ []) w u
+pub carries_one : (before after : World → World → Type 0) (now : ℕ) (t : Turn) (w u : World) → Carries before after (AsksIn t) (t.is_fault ≡ true) now w u → CarriesAll before after now (t ∷ []) w u
 carries_one before after now t w u c = λ v left. let l = c v left in (l.0, l.1, left_by now t w v u l.0 l.2)
 
 -- ---- requests one after another
@@ -90,9 +90,12 @@ target_event are Report content o fits asks = line_event content o asks
 target_event are Queue content o fits asks = subst (λ (z : Option Event). IfSome z IsEvent) (sym asks) tt
 target_event are (Document n) content o fits asks = subst (λ (z : Option Event). IfSome z IsEvent) (sym asks) tt
 
+pub turn_event : AreCalls → (now : ℕ) (w : World) (t : Turn) (e : Event) → IsTurn now w t → AsksIn t e → IsEvent e
+turn_event are now w t e is asks = target_event are (plan t).target t.content (Some e) (turn_fits now w t is) asks
+
 pub turns_event : AreCalls → (now : ℕ) (w u : World) (ts : List Turn) (e : Event) → AreTurns now w ts → IsAskedIn w ts u e → IsEvent e
 turns_event are now w u [] e a asks = absurd asks
-turns_event are now w u (t ∷ ts) e a (inl asks) = target_event are (plan t).target t.content (Some e) (turn_fits now w t a.0) asks.0
+turns_event are now w u (t ∷ ts) e a (inl asks) = turn_event are now w t e a.0 asks.0
 turns_event are now w u (t ∷ ts) e a (inr asks) = turns_event are now t.after u ts e a.1 asks
 
 pub left_places : AreCalls → (now : ℕ) (w u x : World) (ts : List Turn) → IsMoment now → AreTurns now w ts → IsAtMostOneMore now w ts u x

@@ -5,7 +5,7 @@ use Rattle.std.specs.List.{list_all}
 use Rattle.queue_types.specs.Job.{estimate}
 use Rattle.queue_types.specs.Event.{Call, Decision, NewDocument, ask, tell, print_job, validate_job, create_job, send_document, cancel_job, cancel_my_jobs, hold_job, release_job, get_job_attributes, get_jobs, get_printer_attributes}
 use Rattle.queue_core.specs.World.{World, cut, put_grant}
-use Rattle.queue_core.specs.Machine.{step, call_row, answered, refused, becomes, changed, entered, new_job, new_document, new_refusal, unless_refused, validate_job_row, canceled, is_cancelable, cancel_row, all_canceled, are_there, cancel_my_jobs_row, is_sendable, sent, send_in, hold_in, has_pages, let_print, release_in, of_own, accepted_where, report_row}
+use Rattle.queue_core.specs.Machine.{step, call_row, answered, refused, becomes, entered, new_job, new_document, new_refusal, unless_refused, validate_job_row, canceled, is_cancelable, cancel_row, all_canceled, are_there, cancel_my_jobs_row, is_sendable, document_sent, send_in, hold_in, has_pages, let_print, release_in, of_own, accepted_where, report_row}
 use Rattle.queue_types.specs.declared.job.Job.{Job}
 use Rattle.queue_types.specs.declared.job.Phase.TheVariants.{Waiting}
 use Rattle.queue_types.specs.declared.event.Reply.TheVariants.{Jobs, Done, Told, NotTold}
@@ -68,7 +68,7 @@ row_grantless s now caller (print_job j format payload) = enters_grantless s (ne
 row_grantless s now caller (validate_job j) = valid_grantless s
 row_grantless s now caller (create_job j) = enters_grantless s (new_job s now caller true j []) None
 row_grantless s now caller (send_document n format payload last) = own_grantless caller (λ j. send_in s j format payload last) s.jobs (λ j.
-    elim (is_sendable j payload) as (λ b. IsGrantless (cond b (record { reply = Jobs (sent j payload last ∷ []); change = record (changed s (sent j payload last ∷ [])) { document = new_document j.number format payload } }) (refused 0x0404))) [ true ↦ refl | false ↦ refl ])
+    elim (is_sendable j payload) as (λ b. IsGrantless (cond b (document_sent s j format payload last) (refused 0x0404))) [ true ↦ refl | false ↦ refl ])
 row_grantless s now caller (cancel_job n) = own_grantless caller (λ j. cancel_row s now j) s.jobs (λ j. elim (is_cancelable j) as (λ b. IsGrantless (cond b (becomes s (canceled now j)) (refused 0x0404))) [ true ↦ refl | false ↦ refl ])
 row_grantless s now caller (cancel_my_jobs None) = refl
 row_grantless s now caller (cancel_my_jobs (Some numbers)) = named_grantless s now numbers

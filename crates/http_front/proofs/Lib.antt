@@ -1,4 +1,5 @@
 pub mod WriteLemmas
+pub mod FailedReadLemmas
 pub mod ReplyLemmas
 pub mod TurnedLemmas
 pub mod Runs

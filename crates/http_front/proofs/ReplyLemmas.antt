@@ -23,9 +23,10 @@ use Rattle.http_front.specs.declared.outcome.Replied.{Replied}
 use Rattle.http_front.specs.declared.outcome.Replied.TheVariants.{Answered, Declined}
 use Rattle.http_front.specs.declared.outcome.Stopped.{Stopped}
 use Rattle.http_front.specs.declared.outcome.Tally.{Tally}
-use Rattle.http_front.specs.Crash.{AsksUnlessDeclined}
+use Rattle.http_front.specs.Crash.{AsksUnlessDeclined, FailsUnlessDeclined}
 use Rattle.http_front.specs.Places.{AsksFor}
 use Rattle.queue_core.specs.Crash.{Carries}
+use Rattle.queue_core.proofs.Crashes.{carries_by}
 
 -- an answer that was written
 pub replied_ok : (now : ℕ) (w u : World) (target : Target) (content : List ℕ) (closes fault : Bool) (tally : Tally) (v x : Option (List ℕ)) (kind reply : List ℕ)
@@ -63,11 +64,15 @@ replied_sent now w u target content closes fault tally v x kind reply (Ok r) a a
 replied_sent now w u target content closes fault tally v x kind reply (Err f) a acted same sent =
     replied_err now w u target content closes fault f v x kind reply a sent.1 (ap (λ (z : Tally). z.acted) sent.0 ∙ acted) (ap (λ (z : Tally). z.is_fault) sent.0 ∙ same)
 
--- its request was not declined
-pub carries_sent : (before after : World → World → Type 0) (now : ℕ) (w u : World) (target : Target) (content : List ℕ) (tally : Tally) (v x : Option (List ℕ)) (bytes : List ℕ) (result : Result Replied Stopped)
-    → IsSent tally v x bytes result → Carries before after (λ e. AsksFor target content (Some e)) now w u → Carries before after (AsksUnlessDeclined target content result) now w u
-carries_sent before after now w u target content tally v x bytes (Ok r) sent c = subst (λ (z : Replied). Carries before after (AsksUnlessDeclined target content (Ok z)) now w u) (sym sent.0) c
-carries_sent before after now w u target content tally v x bytes (Err f) sent c = c
+-- its request was not declined, and a fault answers it where that is told
+pub carries_sent : (before after : World → World → Type 0) (failed : Type 0) (now : ℕ) (w u : World) (target : Target) (content : List ℕ) (tally : Tally) (v x : Option (List ℕ)) (bytes : List ℕ) (result : Result Replied Stopped)
+    → IsSent tally v x bytes result → (failed → tally.is_fault ≡ true) → Carries before after (λ e. AsksFor target content (Some e)) failed now w u
+    → Carries before after (AsksUnlessDeclined target content result) (FailsUnlessDeclined result) now w u
+carries_sent before after failed now w u target content tally v x bytes (Ok r) sent told c =
+    subst (λ (z : Replied). Carries before after (AsksUnlessDeclined target content (Ok z)) (FailsUnlessDeclined (Ok z)) now w u) (sym sent.0)
+    (carries_by before after _ _ failed (tally.is_fault ≡ true) now w u (λ e asks. asks) told c)
+carries_sent before after failed now w u target content tally v x bytes (Err f) sent told c =
+    carries_by before after _ _ failed (f.tally.is_fault ≡ true) now w u (λ e asks. asks) (λ is. ap (λ (z : Tally). z.is_fault) sent.0 ∙ told is) c
 
 -- nothing was written
 pub replied_declined : (now : ℕ) (w : World) (target : Target) (content : List ℕ) (closes : Bool) (r : Refusal) (v : Option (List ℕ))

@@ -51,7 +51,7 @@ pub planned_unread : (leaves : World → World → Type 0) (now k : ℕ) (w : Wo
 planned_unread leaves now k w plan r s v x f a b h = planned_unsaid leaves now k w plan r s v x f a b (front_all v x (interim_response plan) h)
 
 pub planned_closed : (before after : World → World → Type 0) (now k : ℕ) (w u : World) (plan : Plan) (r s v m x : Option (List ℕ)) (end : Finish) (result : Result Turned Stopped) → u ≡ w
-    → Carries before after (λ e. ⊥) now w u → IfSome r (λ bytes. IsPlanEnd w plan bytes end) → Appends v m (interim_response plan) → IsClosed end m x result → IsPlanned before after now k w u plan r s v x result
+    → Carries before after (λ e. ⊥) ⊥ now w u → IfSome r (λ bytes. IsPlanEnd w plan bytes end) → Appends v m (interim_response plan) → IsClosed end m x result → IsPlanned before after now k w u plan r s v x result
 planned_closed before after now k w u plan r s v m x end (Ok t) same left h a c =
     subst (λ (z : Turned). IsPlanned before after now k w u plan r s v x (Ok z)) (sym c.0) (h, Appends-trans v m x (interim_response plan) (last_response end) a c.1, same, left)
 planned_closed before after now k w u plan r s v m x end (Err f) same left h a c = (

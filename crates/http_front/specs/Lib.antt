@@ -6,3 +6,4 @@ pub mod Turned
 pub mod Places
 pub mod Crash
 pub mod Conversations
+pub mod FailedReads

@@ -10,7 +10,7 @@ use Rattle.http_head.specs.declared.target.Target.{Target}
 use Rattle.http_head.specs.declared.target.Target.TheVariants.{Ipp, Report, Queue, Document as DocumentTarget}
 use Rattle.http_front.specs.Turns.{Turn, plan}
 
--- what a request asks of the machine: its event, or nothing where it is refused or only reads
+-- what a request asks of the machine: its event, or nothing where a check refuses it or it is a GET
 abbrev pub AsksFor : Target → List ℕ → Option Event → Type 0
 AsksFor Ipp content e = Asks content e
 AsksFor Report content e = Tells content e

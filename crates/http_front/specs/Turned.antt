@@ -1,5 +1,5 @@
 -- What the parts of one turn leave: of the bytes, of what is written, and of the queue; over a book beside which a crash left `before` the part, and leaves `after` it.
-use Rattle.std.specs.Prelude.{◌≡◌, ◌≢◌, ◌<◌, ◌⊎◌, ◌==◌, ◌||◌, Bool, false, ℕ, List, [], ◌∷◌, ◌++◌, Option, Some, IfSome, Result, Ok, Err, if◌then◌else◌, ⊤}
+use Rattle.std.specs.Prelude.{◌≡◌, ◌≢◌, ◌<◌, ◌⊎◌, ◌==◌, ◌||◌, Bool, true, false, ℕ, List, [], ◌∷◌, ◌++◌, Option, Some, IfSome, Result, Ok, Err, if◌then◌else◌, ⊤}
 use Rattle.std.specs.Io.KnownBytes.{Appends, Consumes}
 use Rattle.queue_core.specs.Crash.{Carries}
 use Rattle.queue_core.specs.World.{World}
@@ -16,7 +16,7 @@ use Rattle.http_front.specs.Places.{AsksFor}
 use Rattle.http_front.specs.Turns.{Turn, IsTurn, IsAnswered, acts, acts_on, closes_at, last_request, answer_bytes, request_bytes}
 use Rattle.http_front.specs.Ends.{Declines, IsEnd, IsBegun}
 use Rattle.http_front.specs.Connections.{Worked}
-use Rattle.http_front.specs.Crash.{AsksUnlessDeclined, CarriesAll}
+use Rattle.http_front.specs.Crash.{AsksUnlessDeclined, CarriesAll, FailsUnlessDeclined}
 use Rattle.http_front.specs.declared.outcome.Replied.{Replied}
 use Rattle.http_front.specs.declared.outcome.Replied.TheVariants.{Answered as ReplyAnswered, Declined as ReplyDeclined}
 use Rattle.http_front.specs.declared.outcome.Turned.{Turned}
@@ -48,7 +48,7 @@ IsReplied now w u target content closes v x (Err f) =
 -- and a crash leaves what goes with its event, unless it is to be declined
 abbrev pub IsRepliedOver : (before after : World → World → Type 0) → ℕ → World → World → Target → List ℕ → Bool → Option (List ℕ) → Option (List ℕ) → Result Replied Stopped → Type 0
 IsRepliedOver before after now w u target content closes v x result =
-    IsReplied now w u target content closes v x result × Carries before after (AsksUnlessDeclined target content result) now w u
+    IsReplied now w u target content closes v x result × Carries before after (AsksUnlessDeclined target content result) (FailsUnlessDeclined result) now w u
 
 -- ---- an end
 
@@ -74,17 +74,17 @@ pub record IsPlanTurn (before after : World → World → Type 0) (now k : ℕ) 
   pub body : IsBody plan.framing raw content
   pub reply : IsReply now w u plan.target content acted fault
   pub closes_is : closes ≡ (plan.closes || (k == last_request))
-  pub carries : Carries before after (λ e. AsksFor plan.target content (Some e)) now w u
+  pub carries : Carries before after (λ e. AsksFor plan.target content (Some e)) (fault ≡ true) now w u
 
 -- what may have been begun behind a head with that plan; whether the request acted, and whether a fault was told
 pub data IsPlanBegun (before after : World → World → Type 0) (now k : ℕ) (w u : World) (plan : Plan) (r s : Option (List ℕ)) : List ℕ → Bool → Bool → Type 0 where
   -- the response before the body
-  interim : u ≡ w → Carries before after (λ e. ⊥) now w u → IsPlanBegun before after now k w u plan r s (interim_response plan) false false
+  interim : u ≡ w → Carries before after (λ e. ⊥) ⊥ now w u → IsPlanBegun before after now k w u plan r s (interim_response plan) false false
   -- an answer
   answered : (acted fault closes : Bool) (t : IsPlanTurn before after now k w u plan r s acted fault closes)
       → IsPlanBegun before after now k w u plan r s (interim_response plan ++ success_response t.reply.media_type t.reply.reply closes) acted fault
   -- an end
-  ended : (end : Finish) → IfSome r (λ bytes. IsPlanEnd w plan bytes end) → u ≡ w → Carries before after (λ e. ⊥) now w u
+  ended : (end : Finish) → IfSome r (λ bytes. IsPlanEnd w plan bytes end) → u ≡ w → Carries before after (λ e. ⊥) ⊥ now w u
       → IsPlanBegun before after now k w u plan r s (interim_response plan ++ last_response end) false (is_unavailable end)
 
 -- what a turn leaves behind its head: it took the bytes that are left from r to s, the writer's from v to x, and the queue from w to u
@@ -94,7 +94,7 @@ IsPlanned before after now k w u plan r s v x (Ok (Answered tally closes)) =
     (t : IsPlanTurn before after now k w u plan r s tally.acted tally.is_fault closes)
     × Appends v x (interim_response plan ++ success_response t.reply.media_type t.reply.reply closes)
 IsPlanned before after now k w u plan r s v x (Ok (Ended end)) =
-    IfSome r (λ bytes. IsPlanEnd w plan bytes end) × Appends v x (interim_response plan ++ last_response end) × (u ≡ w) × Carries before after (λ e. ⊥) now w u
+    IfSome r (λ bytes. IsPlanEnd w plan bytes end) × Appends v x (interim_response plan ++ last_response end) × (u ≡ w) × Carries before after (λ e. ⊥) ⊥ now w u
 IsPlanned before after now k w u plan r s v x (Err f) =
     (begun : List ℕ) × IsPlanBegun before after now k w u plan r s begun f.tally.acted f.tally.is_fault × WritesFront v x begun
 

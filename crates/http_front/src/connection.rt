@@ -123,8 +123,8 @@ pub fn serve<R: Read, W: Write, B: QueueBook>(
     // whatever its bytes were, some requests made the queue what it is, and the bits of the faults tell which of them a fault answered
     ensures worked { ComesTo B.QueueBook book.old book.new settings.now (λ w u.
         (k : Worked most_requests now w u (acted_of result)) × MarksFaults k.turns result) }
-    // a crash at any moment leaves the queue that the book stands for, or what the event of one of the requests makes of it, before which the queue was
-    // that already
+    // a crash at any moment leaves the queue that the book stands for, or what the event of one of the requests makes of it, which was answered by a fault,
+    // and before which the queue was that already
     ensures crash { B.is_live book.old → ComesTo B.QueueBook book.old book.new settings.now (λ w u.
         (k : Worked most_requests now w u (acted_of result)) × (x : World) × B.crash_leaves book.new u x × IsAtMostOneMore now w k.turns u x) }
     // also over a book that was shut before, where it is known what a crash left then

@@ -10,9 +10,9 @@ ghost use Rattle.http_head.specs.declared.end.End.TheVariants.{Refused};
 ghost use Rattle.http_head.specs.declared.end.Finish.{Finish};
 ghost use Rattle.http_front.specs.Connections.{Answers, AreTurns, Breaks, Worked};
 ghost use Rattle.http_front.specs.Conversations.{AreSameRequests, MayEndAs};
-ghost use Rattle.http_front.specs.Crash.{IsAskedIn, IsAtMostOneMore};
+ghost use Rattle.http_front.specs.Crash.{AsksIn, IsAskedIn, IsAtMostOneMore};
 ghost use Rattle.http_front.specs.Places.{IsRunOf};
-ghost use Rattle.http_front.specs.Turns.{Turn, request_bytes};
+ghost use Rattle.http_front.specs.Turns.{IsTurn, Turn, request_bytes};
 
 use device_lines::one_line_reading;
 use http_wire::one_reading;
@@ -20,7 +20,7 @@ use ipp_ops::{calls_are_events, one_verdict};
 use ipp_wire::one_spelling;
 
 /// What a connection makes of a queue is a run of the machine: each of its requests is a place of the run, at the connection's moment, with the event that
-/// the request asks for; or with nothing, where it is refused, only reads, or is answered by a fault.
+/// the request asks for; or with nothing, where a check refuses it, where it is a GET, or where a fault answers it.
 pub fn connections_are_runs()
     ensures served { (now : ℕ) (w u : World) (stream written : List ℕ) (acted faults : ℕ) (end : End) → IsMoment now
         → (a : Answers now w stream written u acted faults end) → IsRunOf now w a.turns u }
@@ -29,7 +29,9 @@ pub fn connections_are_runs()
     // whatever the bytes were
     ensures worked { (most now : ℕ) (w u : World) (acted : ℕ) → IsMoment now → (k : Worked most now w u acted)
         → IsRunOf now w k.turns u }
-    // what one of the requests asks for is an event within the limits
+    // what a request asks for is an event within the limits
+    ensures asked { (now : ℕ) (w : World) (t : Turn) (e : Event) → IsTurn now w t → AsksIn t e → IsEvent e }
+    // and so is what a crash may leave done of one of them
     ensures events { (now : ℕ) (w u : World) (turns : List Turn) (e : Event) → AreTurns now w turns → IsAskedIn w turns u e → IsEvent e }
     // what a crash leaves beside the queue u: that queue, or what one place more makes of it
     ensures crash { (now : ℕ) (w u x : World) (turns : List Turn) → IsMoment now → AreTurns now w turns → IsAtMostOneMore now w turns u x

@@ -50,6 +50,7 @@ fn send<W: Write>(
         × Appends (W.contents writer.old) (W.contents writer.new) (success_response media_type.now content.now closes)) }
     ensures err { IfErr result (λ stopped. (stopped.tally ≡ tally)
         × WritesFront (W.contents writer.old) (W.contents writer.new) (success_response media_type.now content.now closes)) }
+    ensures no_read_failed { IfErr result (λ f. f.cause ≢ ServeCause.Read) }
 {
     match send_success(writer, media_type, content, closes) {
         Ok(()) => Ok(Replied::Answered(tally)),
@@ -72,6 +73,7 @@ fn reply_ipp<W: Write, B: QueueBook>(
         IsRepliedOver (B.crash_leaves book.old) (B.crash_leaves book.new) context.entry.now w u Ipp content.now closes
         (W.contents writer.old) (W.contents writer.new) result) }
     ensures live { B.is_honest book.new → B.is_live book.old → IsReplyFaultless result → B.is_live book.new }
+    ensures no_read_failed { IfErr result (λ f. f.cause ≢ ServeCause.Read) }
 {
     match answer(context.alloc, book, context.settings, context.now, content) {
         Err(TooShort) => Ok(Replied::Declined(Refusal::BadRequest)),
@@ -99,6 +101,7 @@ fn reply_report<W: Write, B: QueueBook>(
         × IsRepliedOver (B.crash_leaves book.old) (B.crash_leaves book.new) now w u Report content.now closes
         (W.contents writer.old) (W.contents writer.new) result }
     ensures live { B.is_honest book.new → B.is_live book.old → IsReplyFaultless result → B.is_live book.new }
+    ensures no_read_failed { IfErr result (λ f. f.cause ≢ ServeCause.Read) }
 {
     let answer = report(book, now, content);
     let tally = Tally {
@@ -121,6 +124,7 @@ fn reply_queue<W: Write, B: QueueBook>(
     ensures replied { B.is_honest book.new → (w : World) → B.stands book.old w → (now : ℕ) (content : List ℕ)
         → IsReplied now w w Queue content closes (W.contents writer.old) (W.contents writer.new) result }
     ensures live { B.is_honest book.new → B.is_live book.old → IsReplyFaultless result → B.is_live book.new }
+    ensures no_read_failed { IfErr result (λ f. f.cause ≢ ServeCause.Read) }
 {
     let Ok(jobs) = book.pending() else {
         return Ok(Replied::Declined(Refusal::ServiceUnavailable));
@@ -134,6 +138,7 @@ fn reply_queue<W: Write, B: QueueBook>(
 fn cause_of(cause: SendCause) -> ServeCause
     ensures book { result ≢ ServeCause.Book → cause ≡ SendCause.Write }
     ensures write { cause ≡ SendCause.Write → result ≡ ServeCause.Write }
+    ensures no_read_failed { result ≢ ServeCause.Read }
 {
     match cause {
         SendCause::Book(_) => ServeCause::Book,
@@ -154,6 +159,7 @@ fn reply_document<W: Write, B: QueueBook>(
     ensures replied { B.is_honest book.new → (w : World) → B.stands book.old w → (now : ℕ) (content : List ℕ)
         → IsReplied now w w (Document numbers) content closes (W.contents writer.old) (W.contents writer.new) result }
     ensures live { B.is_honest book.new → B.is_live book.old → IsReplyFaultless result → B.is_live book.new }
+    ensures no_read_failed { IfErr result (λ f. f.cause ≢ ServeCause.Read) }
 {
     let Some((job, n)) = numbers else {
         return Ok(Replied::Declined(Refusal::NotFound));
@@ -186,6 +192,7 @@ pub(crate) fn reply<W: Write, B: QueueBook>(
         IsRepliedOver (B.crash_leaves book.old) (B.crash_leaves book.new) context.entry.now w u request.entry.target request.entry.content.now request.entry.closes
         (W.contents writer.old) (W.contents writer.new) result) }
     ensures live { B.is_honest book.new → B.is_live book.old → IsReplyFaultless result → B.is_live book.new }
+    ensures no_read_failed { IfErr result (λ f. f.cause ≢ ServeCause.Read) }
 {
     match request.target {
         Target::Ipp => reply_ipp(context, writer, book, request.content, request.closes),

@@ -1,13 +1,16 @@
 //! One request and its answer.
-ghost use Rattle.std.specs.Prelude.{◌≡◌, ◌≤◌, ◌==◌, ◌||◌};
+ghost use Rattle.std.specs.Prelude.{◌≡◌, ◌≢◌, ◌≤◌, ◌==◌, ◌||◌, IfErr};
+ghost use Rattle.std.specs.Io.KnownBytes.{Appends};
 ghost use Rattle.std.specs.Option.{ForSome};
 ghost use Rattle.queue_core.specs.Limits.{IsMoment};
 ghost use Rattle.http_head.specs.Framing.{size_of};
 ghost use Rattle.http_head.specs.Reads.{bytes_left};
 ghost use Rattle.http_head.specs.Limits.{content_limit};
 ghost use Rattle.http_head.specs.Routes.{routes};
+ghost use Rattle.http_wire.specs.Responses.{interim_response};
 ghost use Rattle.http_front.specs.Books.{ComesTo};
 ghost use Rattle.http_front.specs.Turns.{last_request};
+ghost use Rattle.http_front.specs.FailedReads.{FailsToRead};
 ghost use Rattle.http_front.specs.Turned.{IsClosed, IsPlanned, IsTurnFaultless, IsTurned, ClosesLast};
 
 use crate::context::Context;
@@ -32,7 +35,8 @@ const LAST_REQUEST: u32 = MOST_REQUESTS - 1;
 
 /// Writes what an end has for a response.
 fn close_with<W: Write>(writer: &mut W, end: Finish) -> Result<Turned, Stopped>
-    ensures { IsClosed end (W.contents writer.old) (W.contents writer.new) result }
+    ensures closed { IsClosed end (W.contents writer.old) (W.contents writer.new) result }
+    ensures no_read_failed { IfErr result (λ f. f.cause ≢ ServeCause.Read) }
 {
     match send_end(writer, end) {
         Ok(()) => Ok(Turned::Ended(end)),
@@ -55,7 +59,7 @@ impl NumberedPlan {
     fn closes_after(self) -> bool
         ensures { result ≡ (self.plan.closes || (self.k == last_request)) }
     {
-        self.plan.closes || self.k == LAST_REQUEST
+        self.plan.closes() || self.k == LAST_REQUEST
     }
 }
 
@@ -77,12 +81,15 @@ fn take_planned<R: Read, W: Write, B: QueueBook>(
         (W.contents writer.old) (W.contents writer.new) result) }
     ensures never_more { input.new.reads_left ≤ input.old.reads_left }
     ensures last { ClosesLast numbered.k result }
+    // a read that fails behind a head comes behind the whole leave to send the body
+    ensures invited { IfErr result (λ f. f.cause ≡ ServeCause.Read
+        → Appends (W.contents writer.old) (W.contents writer.new) (interim_response numbered.plan)) }
     // what shuts a book is answered as a fault, or breaks a document off
     ensures live { B.is_honest book.new → B.is_live book.old → IsTurnFaultless result → B.is_live book.new }
 {
     let plan = numbered.plan;
     let invited = send_continue(writer, plan)?;
-    let content = match take_framed(context.alloc, input, plan.framing, invited) {
+    let content = match take_framed(context.alloc, input, invited) {
         Ok(content) => content,
         Err(BodyFault::Ended(end)) => return close_with(writer, end),
         Err(BodyFault::Read) => return Err(Stopped::by(ServeCause::Read)),
@@ -93,7 +100,7 @@ fn take_planned<R: Read, W: Write, B: QueueBook>(
     };
     let closes = numbered.closes_after();
     let request = Request {
-        target: plan.target,
+        target: plan.target(),
         content: content.as_slice(),
         closes,
     };
@@ -123,6 +130,9 @@ pub(crate) fn turn<R: Read, W: Write, B: QueueBook>(
         (W.contents writer.old) (W.contents writer.new) result) }
     ensures never_more { input.new.reads_left ≤ input.old.reads_left }
     ensures last { ClosesLast k result }
+    // a read that fails comes before a head is taken, or behind the whole leave to send the body
+    ensures invited { IfErr result (λ f. f.cause ≡ ServeCause.Read
+        → FailsToRead (bytes_left R.Read input.old) (bytes_left R.Read input.new) (W.contents writer.old) (W.contents writer.new)) }
     // what shuts a book is answered as a fault, or breaks a document off
     ensures live { B.is_honest book.new → B.is_live book.old → IsTurnFaultless result → B.is_live book.new }
 {

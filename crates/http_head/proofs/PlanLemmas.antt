@@ -15,19 +15,14 @@ use Rattle.http_head.specs.Limits.{content_limit}
 use Rattle.http_head.specs.Checks.{Head, head_of, refusal_of, plan_of, checked, rows, unrouted, first_that_applies, is_misframed, framing_of, target_in, is_typed, asks}
 use Rattle.http_head.specs.Planned.{said, IsPlanOf, fields_at}
 use Rattle.http_head.specs.declared.end.Refusal.{Refusal}
-use Rattle.http_head.specs.declared.end.Refusal.TheVariants.{BadRequest, NotFound}
 use Rattle.http_head.specs.declared.plan.Plan.{Plan}
 use Rattle.http_head.specs.declared.target.Target.{Target}
 use Rattle.http_head.specs.declared.framing.Framing.{Framing}
 use Rattle.http_head.specs.declared.framing.Framing.TheVariants.{Nothing, Sized, Chunked}
 
-pub refused_unrouted : (h : Head) (m : Bool) (t : Option Target) → t ≡ target_in h → t ≡ None → m ≡ is_misframed h → m ≡ true → refusal_of h ≡ Some BadRequest
+pub refused_unrouted : (h : Head) (m : Bool) (t : Option Target) (r : Refusal) → t ≡ target_in h → t ≡ None → m ≡ is_misframed h → Some r ≡ first_that_applies (unrouted m) → refusal_of h ≡ Some r
 unfolding refusal_of
-refused_unrouted h m t t_is none m_is yes_it_is = ap (checked h) (sym t_is ∙ none) ∙ ap (λ b. first_that_applies (unrouted b)) (sym m_is ∙ yes_it_is)
-
-pub not_found : (h : Head) (m : Bool) (t : Option Target) → t ≡ target_in h → t ≡ None → m ≡ is_misframed h → m ≡ false → refusal_of h ≡ Some NotFound
-unfolding refusal_of
-not_found h m t t_is none m_is it_is_not = ap (checked h) (sym t_is ∙ none) ∙ ap (λ b. first_that_applies (unrouted b)) (sym m_is ∙ it_is_not)
+refused_unrouted h m t r t_is none m_is r_is = ap (checked h) (sym t_is ∙ none) ∙ ap (λ b. first_that_applies (unrouted b)) (sym m_is) ∙ sym r_is
 
 some_size : (n : ℕ) → nat_lt 0 (min n 16777217) ≡ nat_lt 0 n
 some_size n = grind (arith, nat_tests)

@@ -8,6 +8,7 @@ pub mod Routes
 pub mod Fields
 pub mod Targets
 pub mod Framing
+pub mod Plan
 pub mod Checks
 pub mod Planned
 pub mod Received

@@ -1,5 +1,5 @@
 //! The checks of a request's head, in their order.
-ghost use Rattle.std.specs.Prelude.{◌≡◌, ◌≤◌, length, codes, find};
+ghost use Rattle.std.specs.Prelude.{◌≡◌, ◌≤◌, Some, length, codes, find};
 ghost use Rattle.std.specs.List.{list_all, list_any};
 ghost use Rattle.httparse.specs.Spans.{span_bytes};
 ghost use Rattle.http_head.specs.Checks as spec;
@@ -72,6 +72,17 @@ fn first_that_applies(rows: &[(bool, Refusal)]) -> Option<Refusal>
 {
     let (_, refusal) = first_row(rows)?;
     Some(refusal)
+}
+
+/// The first check that applies to a request without a route.
+pub(crate) fn unrouted_refusal(misframed: bool) -> Refusal
+    ensures { Some result ≡ spec.first_that_applies (spec.unrouted misframed) }
+{
+    if misframed {
+        Refusal::BadRequest
+    } else {
+        Refusal::NotFound
+    }
 }
 
 /// The first check that applies to a request with a route.

@@ -45,7 +45,8 @@ impl Framing {
     }
 }
 
-/// There is a value. It has a name, so that what is said of it speaks of the values and not of how many they are.
+/// There is a value.
+// a function of its own, so that what is said of it speaks of the values and not of how many they are
 pub(crate) fn is_there(values: &[Span]) -> bool
     ensures { result ≡ spec.is_there values.now }
 {

@@ -5,7 +5,7 @@ ghost use Rattle.http_head.specs.Limits.{content_limit};
 ghost use Rattle.http_head.specs.Planned.{IsPlanned, IsPlanOf, said};
 ghost use Rattle.http_head.specs.Routes.{routes};
 
-use crate::checks::{asks_for, is_typed, routed_refusal};
+use crate::checks::{asks_for, is_typed, routed_refusal, unrouted_refusal};
 use crate::end::Refusal;
 use crate::fields::{text_at, values};
 use crate::framing::{Framing, framing_told, is_misframed};
@@ -14,18 +14,55 @@ use crate::routes::Route;
 use crate::target::{Target, path_of, routed};
 use httparse::spans::{HeaderSpan, RequestSpans};
 use matchit::Router;
+use std::marker::Model;
 
-/// What a head that passes the checks asks for.
+/// What a head that passes the checks asks for. Only [`crate::receive::take_head`] makes one, and nothing changes it.
 #[derive(Clone, Copy)]
 pub struct Plan {
+    target: Target,
+    framing: Framing,
+    expects: bool,
+    closes: bool,
+}
+
+impl Model for Plan {
+    ghost use Rattle.http_head.specs.Plan.{PlanValues};
+
+    ghost Value = { PlanValues };
+
+    ghost view = { λ p. record { target = p.target; framing = p.framing; expects = p.expects; closes = p.closes } };
+
+    ghost inverse = { λ p. record { target = p.target; framing = p.framing; expects = p.expects; closes = p.closes } };
+}
+
+impl Plan {
     /// What the request is about.
-    pub target: Target,
+    pub fn target(self) -> Target
+        ensures { result ≡ self.target }
+    {
+        self.target
+    }
+
     /// How its body is framed.
-    pub framing: Framing,
+    pub fn framing(self) -> Framing
+        ensures { result ≡ self.framing }
+    {
+        self.framing
+    }
+
     /// `100 Continue` is expected (RFC 9110, section 10.1.1).
-    pub expects: bool,
+    pub fn expects(self) -> bool
+        ensures { result ≡ self.expects }
+    {
+        self.expects
+    }
+
     /// The connection ends after it (RFC 9112, section 9.6).
-    pub closes: bool,
+    pub fn closes(self) -> bool
+        ensures { result ≡ self.closes }
+    {
+        self.closes
+    }
 }
 
 fn first_of(headers: &[HeaderSpan; MOST_FIELDS], n: usize) -> &[HeaderSpan]
@@ -50,11 +87,7 @@ fn plan_said(
     let lengths = values(come, fields, b"content-length");
     let misframed = is_misframed(come, codings.as_slice(), lengths.as_slice());
     let Some(target) = routed(router, path_of(text_at(come, spans.path))) else {
-        return Err(if misframed {
-            Refusal::BadRequest
-        } else {
-            Refusal::NotFound
-        });
+        return Err(unrouted_refusal(misframed));
     };
     let framing = framing_told(come, codings.as_slice(), lengths.as_slice());
     let typed = is_typed(target.media_type(), come, fields);
@@ -78,8 +111,8 @@ fn plan_said(
     })
 }
 
-/// The plan of the head at the front of what has come, or the first check that applies to it. It is [`plan_said`] with what follows from its
-/// one clause, so that this is not proved at each of its ways out.
+/// The plan of the head at the front of what has come, or the first check that applies to it.
+// plan_said with what follows from its one clause, so that this is not proved at each of its ways out
 pub(crate) fn plan_at(
     router: &Router<Route>,
     come: &[u8],

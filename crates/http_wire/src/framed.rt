@@ -20,19 +20,18 @@ use std::io::Read;
 pub fn take_framed<R: Read>(
     alloc: Global,
     input: &mut Input<R>,
-    framing: Framing,
-    _invited: Invited,
+    invited: Invited,
 ) -> Result<Vec<u8>, BodyFault>
-    requires { size_of framing ≤ content_limit }
-    ensures taken { IfOk result (λ content. (raw : List ℕ) × IsBody framing raw content.items
+    requires { size_of invited ≤ content_limit }
+    ensures taken { IfOk result (λ content. (raw : List ℕ) × IsBody invited raw content.items
         × Consumes (bytes_left R.Read input.old) (bytes_left R.Read input.new) raw) }
     ensures fits { IfOk result (λ content. length content.items ≤ content_limit) }
-    ensures ended { IfErr result (λ f. IfEnded f (λ end. IfSome (bytes_left R.Read input.old) (λ bytes. EndsInBody framing bytes end))) }
+    ensures ended { IfErr result (λ f. IfEnded f (λ end. IfSome (bytes_left R.Read input.old) (λ bytes. EndsInBody invited bytes end))) }
     ensures never_more { input.new.reads_left ≤ input.old.reads_left }
     // where none is told, or as many bytes as its length tells have come, no read is made
-    ensures unread { is_chunked framing ≡ false → size_of framing ≤ length input.old.buffer → MakesNoRead input.old input.new }
+    ensures unread { is_chunked invited ≡ false → size_of invited ≤ length input.old.buffer → MakesNoRead input.old input.new }
 {
-    match framing {
+    match invited.framing() {
         Framing::Nothing => Ok(Vec::new(alloc)),
         Framing::Sized(n) => take_body(alloc, input, n as usize),
         Framing::Chunked => take_chunked(alloc, input),

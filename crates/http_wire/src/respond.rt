@@ -1,5 +1,5 @@
 //! Responses (RFC 9112, section 4). A head is put together in a fixed array, so that no memory is taken.
-ghost use Rattle.std.specs.Prelude.{◌≡◌, ◌+◌, ◌≤◌, ◌++◌, length, OnOk, OnErr, unwrap_or, []};
+ghost use Rattle.std.specs.Prelude.{◌≡◌, ◌+◌, ◌≤◌, ◌++◌, length, IfOk, OnOk, OnErr, unwrap_or, []};
 ghost use Rattle.std.specs.Io.KnownBytes.{Appends};
 ghost use Rattle.arrayvec.specs.ArrayVec.{array_vec_len};
 ghost use Rattle.http.specs.StatusCode.{reason_phrase};
@@ -12,8 +12,10 @@ use crate::put::{put, put_both};
 use arrayvec::ArrayVec;
 use http::StatusCode;
 use http_head::end::{Finish, Refusal};
+use http_head::framing::Framing;
 use http_head::plan::Plan;
 use std::io::Write;
+use std::marker::Model;
 
 /// The room for a head, in bytes.
 const HEAD_CAPACITY: usize = 256;
@@ -69,7 +71,8 @@ fn allow_line(refusal: Refusal) -> &'static str
     }
 }
 
-/// The reason phrase of a refusal's status. It is [`phrase_text`] with what follows from its value: that it fits a head.
+/// The reason phrase of a refusal's status.
+// phrase_text with what follows from its value: that it fits a head
 fn phrase_of(refusal: Refusal) -> &'static str
     ensures value { result.now ≡ unwrap_or (reason_phrase (code_of refusal)) [] }
     ensures short { length result.now ≤ 40 }
@@ -106,24 +109,47 @@ fn refusal_response(refusal: Refusal) -> ArrayVec<u8, HEAD_CAPACITY>
 fn interim_response(plan: Plan) -> &'static [u8]
     ensures { result.now ≡ spec.interim_response plan }
 {
-    if plan.expects {
+    if plan.expects() {
         b"HTTP/1.1 100 Continue\r\n\r\n"
     } else {
         b""
     }
 }
 
-/// The client has been told to send its content, where it waits for that. Only [`send_continue`] makes one.
+/// The leave to take the body of a request, whose client has been told to send it, where it waits for that. Only [`send_continue`] makes one.
+/// Contracts see it as the framing of that body.
 #[derive(Drop)]
-pub struct Invited(());
+pub struct Invited {
+    framing: Framing,
+}
 
-/// Writes `100 Continue` (RFC 9110, section 15.2.1) where the request expects it. What it answers is the leave to take the content.
+impl Model for Invited {
+    ghost use Rattle.http_head.specs.declared.framing.Framing.{Framing};
+
+    ghost Value = { Framing };
+
+    ghost view = { λ i. i.framing };
+}
+
+impl Invited {
+    /// How the body is framed.
+    pub(crate) fn framing(self) -> Framing
+        ensures { result ≡ self }
+    {
+        self.framing
+    }
+}
+
+/// Writes `100 Continue` (RFC 9110, section 15.2.1) where the request expects it. What it answers is the leave to take the body of this plan.
 pub fn send_continue<W: Write>(writer: &mut W, plan: Plan) -> Result<Invited, WriteFault>
     ensures ok { OnOk result (Appends (W.contents writer.old) (W.contents writer.new) (spec.interim_response plan)) }
     ensures err { OnErr result (WritesFront (W.contents writer.old) (W.contents writer.new) (spec.interim_response plan)) }
+    ensures leave { IfOk result (λ invited. invited ≡ plan.framing) }
 {
     put(writer, interim_response(plan))?;
-    Ok(Invited(()))
+    Ok(Invited {
+        framing: plan.framing(),
+    })
 }
 
 /// Writes the head of a success, behind which its content of so many bytes is to follow. Its media type has at most 64 bytes.

@@ -2,7 +2,7 @@
 use Rattle.std.proofs.Common.{◌≡◌, ℕ, List, [], ◌==◌, Bool, true, false, refl, ap, subst, sym, ◌∙◌}
 use Rattle.std.specs.Prelude.{Option, Some, None, MatchBool, if◌then◌else◌}
 use Rattle.std.specs.Bool.{OnFalse, OnTrue}
-use Rattle.std.proofs.lemmas.Bool.{MatchBool-at_true, MatchBool-at_false, OnFalse_from, OnTrue_from}
+use Rattle.std.proofs.lemmas.Bool.{MatchBool-at_true, MatchBool-at_false, OnFalse_from, OnTrue_from, false≢true}
 use Rattle.ipp_wire.specs.declared.view.Head.{Head}
 use Rattle.ipp_wire.specs.Message.{Group, Message, Spells, head_of}
 use Rattle.ipp_wire.specs.Bare.{bare}
@@ -46,8 +46,8 @@ pub malformed_refused : (h : Head) (b : List ℕ) (out : List ℕ) → h ≡ hea
 malformed_refused h b out e found unspelled spelled = bare_refusal 0x0400 (malformed (ap head_refusal (sym e) ∙ sym found) unspelled) (bare_of h b 0x0400 out e spelled)
 
 -- where a fault came
-pub request_fails : (h : Head) (b : List ℕ) (m : Message) (out : List ℕ) → h ≡ head_of b → IsRequestIn b m → Spells (bare h 0x0505) out → IsBareAnswer b out
-request_fails h b m out e is spelled = bare_fault (record { supported = is.supported; spelled = bare_of h b 0x0505 out e spelled })
+pub request_fails : (h : Head) (b : List ℕ) (m : Message) (out : List ℕ) → h ≡ head_of b → IsRequestIn b m → Spells (bare h 0x0505) out → Fails b out
+request_fails h b m out e is spelled = record { supported = is.supported; spelled = bare_of h b 0x0505 out e spelled }
 
 -- ---- a fault or none
 
@@ -72,19 +72,23 @@ bare_brings w now b out (bare_fault fails) = fails_told b out _ _ fails (fails, 
 
 -- ---- a book and the answer
 
--- a book that stood for the queue w stands for one that out brings, and a crash leaves what the bytes ask done or not done
+-- a book that stood for the queue w stands for one that out brings, and a crash leaves what the bytes ask done or not done, which is open only where out tells of a fault
 abbrev Answered : List ℕ → SettingValues → ℕ → (World → Type 0) → (World → World → Type 0) → (World → World → Type 0) → World → List ℕ → Type 0
-Answered b s now stands before after w out = (new : World) × (s ≡ w.settings → BringsReply w now b new out) × stands new × Carries before after (AskedBy b) now w new
+Answered b s now stands before after w out = (new : World) × (s ≡ w.settings → BringsReply w now b new out) × stands new × Carries before after (AskedBy b) (is_fault out ≡ true) now w new
 
 -- it was left alone
 pub bare_answered : (b : List ℕ) (s : SettingValues) (now : ℕ) (stands : World → Type 0) (before : World → World → Type 0) (w : World) (out : List ℕ) → IsBareAnswer b out → stands w → Answered b s now stands before before w out
 bare_answered b s now stands before w out bare st = (w, λ set. bare_brings w now b out bare, st, λ v left. (v, left, untaken refl refl))
 
 -- a fault came
-pub undone_answered : (b : List ℕ) (m : Message) (s : SettingValues) (now : ℕ) (stands : World → Type 0) (before after : World → World → Type 0) (w new : World) (out : List ℕ)
-    → IsRequestIn b m → IsBareAnswer b out → new ≡ w → stands new → Carries before after (IsPassed (verdict m)) now w new → Answered b s now stands before after w out
-undone_answered b m s now stands before after w new out is bare same st carries =
-    (new, λ set. subst (λ (u : World). BringsReply w now b u out) (sym same) (bare_brings w now b out bare), st, carries_asked b (verdict m) before after now w new (request m is.spelled) carries)
+pub undone_answered : {failed : Type 0} (b : List ℕ) (m : Message) (s : SettingValues) (now : ℕ) (stands : World → Type 0) (before after : World → World → Type 0) (w new : World) (out : List ℕ)
+    → IsRequestIn b m → Fails b out → new ≡ w → stands new → Carries before after (IsPassed (verdict m)) failed now w new → Answered b s now stands before after w out
+undone_answered b m s now stands before after w new out is fails same st carries = (
+  new,
+  λ set. subst (λ (u : World). BringsReply w now b u out) (sym same) (bare_brings w now b out (bare_fault fails)),
+  st,
+  carries_asked b (verdict m) _ (is_fault out ≡ true) before after now w new (request m is.spelled) (λ err. ap is_fault fails.spelled.bytes) carries,
+)
 
 message_answers : (h : Head) (m : Message) (b out : List ℕ) (w new : World) (now : ℕ) → h ≡ head_of b → IsRequestIn b m → new ≡ (outcome (verdict m) h w now).world → Spells (outcome (verdict m) h w now).reply out → Answers w now b new out
 message_answers h m b out w new now e is made spelled = record {
@@ -97,9 +101,13 @@ message_answers h m b out w new now e is made spelled = record {
 -- the message was done
 pub done_answered : (h : Head) (b : List ℕ) (m : Message) (s : SettingValues) (now : ℕ) (stands : World → Type 0) (before after : World → World → Type 0) (w new : World) (out : List ℕ)
     → h ≡ head_of b → IsRequestIn b m → new ≡ (outcome (verdict m) h w now).world → (s ≡ w.settings → Spells (outcome (verdict m) h w now).reply out)
-    → stands new → Carries before after (IsPassed (verdict m)) now w new → Answered b s now stands before after w out
-done_answered h b m s now stands before after w new out e is made reply st carries =
-    (new, λ set. answer_brings w now b new out (message_answers h m b out w new now e is made (reply set)), st, carries_asked b (verdict m) before after now w new (request m is.spelled) carries)
+    → stands new → Carries before after (IsPassed (verdict m)) (false ≡ true) now w new → Answered b s now stands before after w out
+done_answered h b m s now stands before after w new out e is made reply st carries = (
+  new,
+  λ set. answer_brings w now b new out (message_answers h m b out w new now e is made (reply set)),
+  st,
+  carries_asked b (verdict m) (false ≡ true) (is_fault out ≡ true) before after now w new (request m is.spelled) (λ err. absurd (false≢true err)) carries,
+)
 
 -- ---- what refuses the bytes
 

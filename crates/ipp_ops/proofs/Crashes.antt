@@ -8,7 +8,7 @@ use Rattle.queue_types.specs.declared.event.Reply.TheVariants.{Refused}
 use Rattle.queue_core.specs.Crash.{Carries, taken, untaken}
 use Rattle.queue_core.specs.Machine.{step}
 use Rattle.queue_core.specs.World.{World}
-use Rattle.queue_core.proofs.Crashes.{Stays, leaves_by}
+use Rattle.queue_core.proofs.Crashes.{Stays, carries_by}
 use Rattle.ipp_reply.specs.Reply.{reply_of}
 use Rattle.ipp_reply.specs.Unsupported.{Unsupported}
 use Rattle.ipp_reply.specs.Wanted.{Rows, no_rows}
@@ -18,9 +18,9 @@ use Rattle.ipp_ops.specs.Verdict.{IsPassed, Verdict, passed, refused}
 
 -- ---- a message
 
--- a book that stood for the queue w stands for one that r brings, and a crash leaves the verdict done or not done
+-- a book that stood for the queue w stands for one that r brings, and a crash leaves the verdict done or not done, which is open only where r is a fault
 abbrev Done : {Z F : Type 0} → Verdict → Context → (World → Type 0) → (World → World → Type 0) → (World → World → Type 0) → World → Result (Vec ℕ Z) F → Type 0
-Done v c stands before after w r = (new : World) × BringsOutcome v c w new r × stands new × Carries before after (IsPassed v) c.now w new
+Done v c stands before after w r = (new : World) × BringsOutcome v c w new r × stands new × Carries before after (IsPassed v) (IsErr r) c.now w new
 
 -- a book that was left alone
 pub untouched : {Z F : Type 0} (r : Result (Vec ℕ Z) F) (v : Verdict) (c : Context) (stands : World → Type 0) (before : World → World → Type 0) → IsErr r
@@ -39,7 +39,7 @@ refused_done (Err f) code u c stands before spelled w st = (w, refl, st, λ v le
 pub passed_done : {Z F : Type 0} (r : Result (Vec ℕ Z) F) (caller : List ℕ) (call : Call) (rows : Rows) (u : Unsupported) (c : Context) (stands made : World → Type 0) (before after : World → World → Type 0) (live : Type 0)
     → IfOk r (λ out. (w : World) → stands w → Spells (reply_in c (step w c.now (ask caller call)).reply rows u) out.items)
     → IfOk r (λ out. (w : World) → stands w → made (step w c.now (ask caller call)).world) → OnOk r live → ((w v : World) → live → made w → after w v)
-    → OnErr r ((w : World) → stands w → made w) → OnErr r (Stays stands before after (λ e. e ≡ ask caller call) c.now)
+    → OnErr r ((w : World) → stands w → made w) → OnErr r (Stays stands before after (λ e. e ≡ ask caller call) (IsErr r) c.now)
     → (w : World) → stands w → Done (passed caller call rows u) c made before after w r
 passed_done (Ok out) caller call rows u c stands made before after live reply world is_live lasts kept left w st =
     let new = (step w c.now (ask caller call)).world in
@@ -53,5 +53,6 @@ passed_asks b (refused code u) e on is = absurd is
 passed_asks b (passed caller call rows u) e on is = subst (λ (z : Event). Asks b (Some z)) (sym is) (calls caller call rows u on)
 
 -- what was asked by a message was asked by its bytes
-pub carries_asked : (b : List ℕ) (verdict : Verdict) (before after : World → World → Type 0) (now : ℕ) (w u : World) → IsVerdictOn b verdict → Carries before after (IsPassed verdict) now w u → Carries before after (AskedBy b) now w u
-carries_asked b verdict before after now w u on carries = λ v was. let l = carries v was in (l.0, l.1, leaves_by _ _ now w v u l.0 (λ e is. passed_asks b verdict e on is) l.2)
+pub carries_asked : (b : List ℕ) (verdict : Verdict) (failed told : Type 0) (before after : World → World → Type 0) (now : ℕ) (w u : World) → IsVerdictOn b verdict → (failed → told)
+    → Carries before after (IsPassed verdict) failed now w u → Carries before after (AskedBy b) told now w u
+carries_asked b verdict failed told before after now w u on tells carries = carries_by before after (IsPassed verdict) (AskedBy b) failed told now w u (λ e is. passed_asks b verdict e on is) tells carries

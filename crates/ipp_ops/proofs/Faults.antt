@@ -16,7 +16,7 @@ use Rattle.queue_types.specs.declared.event.Reply.{Reply}
 use Rattle.queue_types.specs.declared.event.Reply.TheVariants.{Refused, Done, Jobs, Printer}
 use Rattle.queue_types.specs.declared.event.Scene.{Scene}
 use Rattle.queue_types.specs.Event.{Call, Change, Decision, ask, print_job, validate_job, create_job, send_document, cancel_job, cancel_my_jobs, hold_job, release_job, get_job_attributes, get_jobs, get_printer_attributes}
-use Rattle.queue_core.specs.Machine.{call_row, cancel_row, canceled, is_cancelable, all_canceled, are_there, cancel_my_jobs_row, hold_in, let_print, release_in, is_sendable, sent, send_in, becomes, changed, of_own, entered, answered, new_job, new_document, unless_refused, no_change, refused as refused_row}
+use Rattle.queue_core.specs.Machine.{call_row, cancel_row, canceled, is_cancelable, all_canceled, are_there, cancel_my_jobs_row, hold_in, let_print, release_in, is_sendable, document_sent, send_in, becomes, of_own, entered, answered, new_job, new_document, unless_refused, no_change, refused as refused_row}
 use Rattle.queue_core.specs.World.{World, cut, made_on}
 use Rattle.queue_types.specs.Settings.{SettingValues}
 use Rattle.ipp_reply.specs.declared.operation.Operation.{Operation}
@@ -109,7 +109,7 @@ test_quiet false d q = not_possible
 
 send_quiet : (s : Scene) (j : Job) (format : Format) (payload : List ℕ) (last : Bool) → QuietDecision (send_in s j format payload last)
 send_quiet s j format payload last =
-    test_quiet (is_sendable j payload) (record { reply = Jobs (sent j payload last ∷ []); change = record (changed s (sent j payload last ∷ [])) { document = new_document j.number format payload } }) tt
+    test_quiet (is_sendable j payload) (document_sent s j format payload last) tt
 
 hold_quiet : (p : Phase) (s : Scene) (j : Job) → QuietDecision (hold_in p s j)
 hold_quiet Waiting s j = tt

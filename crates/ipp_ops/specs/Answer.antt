@@ -1,5 +1,5 @@
 -- What the bytes of a request bring about: a reply, and the queue after it.
-use Rattle.std.specs.Prelude.{◌≡◌, ◌∷◌, ◌==◌, ◌&&◌, ⊤, ℕ, Bool, false, nat_le, List, Option, Some, None, Result, Ok, Err, Vec, IfOk, MatchBool}
+use Rattle.std.specs.Prelude.{◌≡◌, ◌∷◌, ◌==◌, ◌&&◌, ⊤, ℕ, Bool, true, false, nat_le, List, Option, Some, None, Result, Ok, Err, Vec, IfOk, MatchBool}
 use Rattle.std.specs.Bool.{OnFalse, OnTrue}
 use Rattle.ipp_wire.specs.declared.view.Head.{Head}
 use Rattle.ipp_wire.specs.Message.{Group, Message, Spells, head_of}
@@ -76,6 +76,11 @@ OnRefusal r holds = IfOk r (λ a. OnTrue (is_refusal (bytes_of a)) holds)
 abbrev pub IsFaultless : Result Answer TooShort → Type 0
 IsFaultless (Ok answer) = is_fault (bytes_of answer) ≡ false
 IsFaultless (Err short) = ⊤
+
+-- the answer tells of a fault
+abbrev pub TellsFault : Result Answer TooShort → Type 0
+TellsFault (Ok answer) = is_fault (bytes_of answer) ≡ true
+TellsFault (Err short) = ⊥
 
 -- ---- what is answered
 

@@ -1,5 +1,5 @@
 //! One request, from its bytes to those of its answer.
-ghost use Rattle.std.specs.Prelude.{◌≡◌, ◌<◌, ◌≤◌, ◌↔◌, None, Some, ℕ, false, length, IfErr, IfOk, IsErr, OnErr, OnOk};
+ghost use Rattle.std.specs.Prelude.{◌≡◌, ◌<◌, ◌≤◌, ◌↔◌, None, Some, ℕ, false, true, length, IfErr, IfOk, IsErr, OnErr, OnOk};
 ghost use Rattle.ipp_wire.specs.Message.{IsMessage, Spells, head_of};
 ghost use Rattle.ipp_wire.specs.Viewed.{message_of};
 ghost use Rattle.ipp_wire.specs.Bare.{bare};
@@ -12,17 +12,17 @@ ghost use Rattle.queue_core.specs.Machine.{step as machine_step};
 ghost use Rattle.queue_core.specs.World.{World};
 ghost use Rattle.ipp_reply.specs.Unsupported.{CanList, Unsupported as Listed, unsupported_of};
 ghost use Rattle.ipp_reply.specs.Wanted.{no_rows, rows_of};
-ghost use Rattle.ipp_ops.specs.Answer.{Answers, AskedBy, BringsAnswer, BringsOutcome, BringsReply, Fails, IfFault, IfNoFault, IsAsk, IsBareAnswer, IsFaultless, IsReplyTo, IsRequestIn, IsVerdictOn, OnRefusal, SpellsUnlessFault, bytes_of, is_fault, refusal_to, reply_in};
+ghost use Rattle.ipp_ops.specs.Answer.{Answers, AskedBy, BringsAnswer, BringsOutcome, BringsReply, Fails, IfFault, IfNoFault, IsAsk, IsBareAnswer, IsFaultless, IsReplyTo, IsRequestIn, IsVerdictOn, OnRefusal, SpellsUnlessFault, TellsFault, bytes_of, is_fault, refusal_to, reply_in};
 ghost use Rattle.ipp_ops.specs.Verdict.{IsPassed, IsWithinLimits, ListsAttributes, ask_content, refused, verdict};
 ghost use Rattle.ipp_request.specs.Reading.{head_refusal};
 
 use crate::asking::ask;
 use crate::law::one_verdict;
-use crate::outcome::{Answer, BARE_OCTETS, TooShort};
+use crate::outcome::{Answer, TooShort};
 use crate::verdict::Ask;
 use ipp_reply::{Unsupported, Wanted, reply_message};
 use ipp_request::head_check;
-use ipp_wire::{Head, View, WireFault, head, put_fault, read, write};
+use ipp_wire::{BARE_OCTETS, Head, View, WireFault, head, put_fault, read, write};
 use queue_core::book::{BookFault, QueueBook};
 use queue_types::event::{Event, Reply};
 use queue_types::settings::Settings;
@@ -111,7 +111,7 @@ fn take_step<B: QueueBook>(
     ensures err { OnErr result ((w : World) → B.stands book.old w → B.stands book.new w) }
     ensures live { B.is_honest book.new → OnOk result (B.is_live book.new) }
     ensures crash { B.is_honest book.new → OnErr result ((w v : World) → B.stands book.old w → B.crash_leaves book.old w v
-        → (x : World) × B.crash_leaves book.new w x × Leaves (λ e. e ≡ event_of event.now) context.entry.now w v w x) }
+        → (x : World) × B.crash_leaves book.new w x × Leaves (λ e. e ≡ event_of event.now) (IsErr result) context.entry.now w v w x) }
 {
     let decision = book.decide(context.now, event)?;
     let bytes = reply_bytes(context, &decision.reply, wanted, unsupported)?;
@@ -132,7 +132,7 @@ fn answer_ask<B: QueueBook>(
     ensures replies { IfOk result (λ b. IsReplyTo context.entry.head b.items) }
     ensures done { B.is_honest book.new → (w : World) → B.stands book.old w
         → (after : World) × BringsOutcome (ask_content ask.entry) context.entry w after result × B.stands book.new after
-        × Carries (B.crash_leaves book.old) (B.crash_leaves book.new) (IsPassed (ask_content ask.entry)) context.entry.now w after }
+        × Carries (B.crash_leaves book.old) (B.crash_leaves book.new) (IsPassed (ask_content ask.entry)) (IsErr result) context.entry.now w after }
     ensures live { B.is_honest book.new → B.is_live book.old → OnOk result (B.is_live book.new) }
     // What the checks refuse, whatever the book is.
     ensures checked { (code : ℕ) (u : Listed) → ask_content ask.entry ≡ refused code u
@@ -166,7 +166,7 @@ fn answer_message<B: QueueBook>(
     ensures replies { IfOk result (λ b. IsReplyTo context.entry.head b.items) }
     ensures done { B.is_honest book.new → (w : World) → B.stands book.old w
         → (after : World) × BringsOutcome (verdict (message_of view.entry)) context.entry w after result × B.stands book.new after
-        × Carries (B.crash_leaves book.old) (B.crash_leaves book.new) (IsPassed (verdict (message_of view.entry))) context.entry.now w after }
+        × Carries (B.crash_leaves book.old) (B.crash_leaves book.new) (IsPassed (verdict (message_of view.entry))) (IsErr result) context.entry.now w after }
     ensures live { B.is_honest book.new → B.is_live book.old → OnOk result (B.is_live book.new) }
     // What the checks refuse, whatever the book is.
     ensures checked { (code : ℕ) (u : Listed) → verdict (message_of view.entry) ≡ refused code u
@@ -208,7 +208,7 @@ fn answer_headed<B: QueueBook>(context: Context<'_>, book: &mut B, body: &[u8]) 
     ensures replies { IsReplyTo (head_of body.now) (bytes_of result) }
     ensures answered { B.is_honest book.new → (w : World) → B.stands book.old w
         → (after : World) × (context.entry.settings.now ≡ w.settings → BringsReply w context.entry.now body.now after (bytes_of result)) × B.stands book.new after
-        × Carries (B.crash_leaves book.old) (B.crash_leaves book.new) (AskedBy body.now) context.entry.now w after }
+        × Carries (B.crash_leaves book.old) (B.crash_leaves book.new) (AskedBy body.now) (is_fault (bytes_of result) ≡ true) context.entry.now w after }
     ensures live { B.is_honest book.new → B.is_live book.old → is_fault (bytes_of result) ≡ false → B.is_live book.new }
     ensures checked { (code : ℕ) (u : Listed) → IsVerdictOn body.now (refused code u)
         → SpellsUnlessFault body.now (refusal_to (head_of body.now) code u context.entry.settings.now context.entry.now) (bytes_of result) }
@@ -256,11 +256,11 @@ pub fn answer<B: QueueBook>(
     ensures live { B.is_honest book.new → B.is_live book.old → IsFaultless result → B.is_live book.new }
     // A refusal, whoever refuses, changes nothing.
     ensures refused { B.is_honest book.new → OnRefusal result ((w : World) → B.stands book.old w → settings.now ≡ w.settings → B.stands book.new w) }
-    // A crash at any moment leaves what the request asks done, or not done. This is the whole of it: what is answered, failed and refused is
-    // read off it.
+    // A crash at any moment leaves what the request asks done, or not done; which of the two is open only behind a fault. This is the whole of it:
+    // what is answered, failed and refused is read off it.
     ensures crash { B.is_honest book.new → (w : World) → B.stands book.old w
         → (after : World) × (settings.now ≡ w.settings → BringsAnswer w now body.now after result) × B.stands book.new after
-        × Carries (B.crash_leaves book.old) (B.crash_leaves book.new) (AskedBy body.now) now w after }
+        × Carries (B.crash_leaves book.old) (B.crash_leaves book.new) (AskedBy body.now) (TellsFault result) now w after }
 
     // These hold on any book, also on one that is not honest.
     ensures replies { IfOk result (λ a. IsReplyTo (head_of body.now) (bytes_of a)) }

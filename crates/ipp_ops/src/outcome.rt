@@ -1,10 +1,8 @@
 //! The bytes of an answer.
 ghost use Rattle.std.specs.Prelude.{◌≡◌};
 
+use ipp_wire::BARE_OCTETS;
 use thiserror::Error;
-
-/// The octets of a bare reply.
-pub(crate) const BARE_OCTETS: usize = 72;
 
 /// The bytes of an answer: a whole reply, or a bare one that took no memory.
 #[derive(Debug, Drop)]

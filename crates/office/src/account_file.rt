@@ -5,12 +5,12 @@ ghost use Rattle.std.specs.Io.KnownBytes.{Appends};
 ghost use Rattle.std.specs.Option.{IfSome};
 ghost use Rattle.grants_csv.specs.Fault.{fault};
 ghost use Rattle.grants_csv.specs.File.{rows_of};
-ghost use Rattle.grants_csv.specs.Import.{Asks};
+ghost use Rattle.grants_csv.specs.Import.{AskedBy};
 ghost use Rattle.grants_csv.specs.declared.fault.ImportFault.{ImportFault};
 ghost use Rattle.grants_csv.specs.declared.importing.Imported.{Imported as ImportedRows};
 ghost use Rattle.office.specs.Faults.{IsOfFile, IsOfStream};
 ghost use Rattle.office.specs.Told.{AreReadOf, IsRefused, IsTaken, import_line};
-ghost use Rattle.queue_core.specs.Crash.{Leaves};
+ghost use Rattle.queue_core.specs.Crash.{Carries};
 ghost use Rattle.queue_core.specs.Limits.{IsMoment};
 ghost use Rattle.queue_core.specs.World.{World};
 
@@ -73,10 +73,9 @@ pub fn import_bytes<W: Write, B: QueueBook>(
         ⊎ (IsOfStream f × (n : ImportedRows) × (u : World) × IsTaken now w u bytes.now n × B.stands book.new u)) }
     ensures live { B.is_honest book.new → OnOk result (B.is_live book.new) }
     ensures still_live { B.is_honest book.new → B.is_live book.old → IfErr result (λ f. f ≢ Import fault → B.is_live book.new) }
-    // a crash at any moment leaves all of the rows, or none
+    // a crash at any moment leaves all of the rows, or none; which of the two is open only behind a fault
     ensures crash { B.is_honest book.new → (w : World) → B.stands book.old w
-        → (u : World) × B.stands book.new u
-        × ((v : World) → B.crash_leaves book.old w v → (x : World) × B.crash_leaves book.new u x × Leaves (λ e. Asks bytes.now (Some e)) now w v u x) }
+        → (u : World) × B.stands book.new u × Carries (B.crash_leaves book.old) (B.crash_leaves book.new) (AskedBy bytes.now) (result ≡ Err (Import fault)) now w u }
     // over any book, also one that is not honest
     ensures written { OnOk result ((n : ImportedRows) × Appends (W.contents writer.old) (W.contents writer.new) (import_line n)) }
     ensures unread { (told : ImportFault) → rows_of bytes.now ≡ Err told → (result ≡ Err (Import told)) ⊎ (result ≡ Err (Import fault)) }

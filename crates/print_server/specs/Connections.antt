@@ -27,13 +27,14 @@ IsRun w u = (places : List Place) × AllByRecursion IsPlace places × (u ≡ run
 
 -- ---- a crash at any moment
 
--- x is the queue u, which these connections made of w, or what the event that one of their requests asked for makes of u at its moment
+-- x is the queue u, which these connections made of w, or what the event that one of their requests asked for, which was answered by a fault, makes of u at
+-- its moment
 abbrev pub IsAtMostOneMore : (w : World) (counts : List ℕ) (u : World) → AreConnections w counts u → World → Type 0
 IsAtMostOneMore w [] u are x = x ≡ u
 IsAtMostOneMore w (acted ∷ rest) u are x = IsAtMostOneMoreIn are.1.now w are.1.worked.turns u x ⊎ IsAtMostOneMore are.0 rest u are.2 x
 
 -- behind these connections, which made u of the queue w: nothing was done, and a crash leaves v, as before; or it leaves u, or what the
--- event of one of their requests makes of u
+-- event of one of their requests, which was answered by a fault, makes of u
 abbrev pub IsLeft : (w : World) (counts : List ℕ) (u : World) → AreConnections w counts u → World → World → Type 0
 IsLeft w counts u are v x = IsLeftOr (IsAtMostOneMore w counts u are) w v u x
 

@@ -192,7 +192,7 @@ impl Service<'_> {
     }
 
     /// Takes the next connection, serves it at the moment when it was taken, and prints `served ACTED`.
-    fn take_next<C: Clock, O: Write, B: QueueBook>(
+    fn serve_one<C: Clock, O: Write, B: QueueBook>(
         self,
         clock: &C,
         out: &mut O,
@@ -244,7 +244,7 @@ impl Service<'_> {
         ensures stopped { IfErr result (λ f. (e : BookFault) → f ≡ ServerFault.Book e
             → (acted : ℕ) × Appends (O.contents out.old) (O.contents out.new) (served_line acted)) }
     {
-        let outcome = self.take_next(clock, out, book)?;
+        let outcome = self.serve_one(clock, out, book)?;
         match before.behind(outcome.has_fault) {
             Standing::Live => Ok(Standing::Live),
             Standing::Unseen => Ok(check_book(book)?),
@@ -276,8 +276,8 @@ impl Service<'_> {
             → (w : World) → B.stands book.old w → self.entry.settings.now ≡ w.settings
             → (served : ServedOver B.QueueBook book.old book.new w) × (length served.counts ≤ connections)
             × Appends (O.contents out.old) (O.contents out.new) (served_lines served.counts)) }
-        // whatever it answers: a crash at any moment leaves the queue that the book stands for, or what the event of one of these connections' requests
-        // makes of it
+        // whatever it answers: a crash at any moment leaves the queue that the book stands for, or what the event of one of these connections' requests,
+        // which was answered by a fault, makes of it
         ensures crash { B.is_honest book.new → B.is_live book.old → (w : World) → B.stands book.old w → self.entry.settings.now ≡ w.settings
             → (served : ServedOver B.QueueBook book.old book.new w) × (length served.counts ≤ connections)
             × (x : World) × B.crash_leaves book.new served.queue x × IsAtMostOneMore w served.counts served.queue served.are x }

@@ -8,19 +8,20 @@ use Rattle.queue_core.specs.World.{World}
 abbrev pub CarriesBy : (before after : World → World → Type 0) (left : World → World → Type 0) → World → World → Type 0
 CarriesBy before after left w u = (v : World) → before w v → (x : World) × after u x × left v x
 
--- nothing was done, and a crash leaves what it left before, which is v; or it leaves what `more` says
+-- the queue is as it was and a crash leaves what it left before, which is v; or what it leaves is what `more` says
 abbrev pub IsLeftOr : (more : World → Type 0) → World → World → World → World → Type 0
 IsLeftOr more w v u x = ((u ≡ w) × (x ≡ v)) ⊎ more x
 
 -- ---- one request
 
 -- From the queue w, beside which a crash leaves v, to the queue u, beside which it leaves x. The request did nothing; or its event was
--- taken, and a crash leaves just that; or taking it was broken off, and a crash leaves the queue from before it or the one after it.
-pub data Leaves (asks : Event → Type 0) (now : ℕ) (w v u x : World) : Type 0 where
-  untaken : u ≡ w → x ≡ v → Leaves asks now w v u x
-  taken : (e : Event) → asks e → u ≡ (step w now e).world → x ≡ u → Leaves asks now w v u x
-  broken_off : (e : Event) → asks e → u ≡ w → x ≡ (step w now e).world → Leaves asks now w v u x
+-- taken, and a crash leaves just that; or taking it was broken off and a fault was told of it, which is what `failed` says, and a crash leaves the queue
+-- from before it or the one after it.
+pub data Leaves (asks : Event → Type 0) (failed : Type 0) (now : ℕ) (w v u x : World) : Type 0 where
+  untaken : u ≡ w → x ≡ v → Leaves asks failed now w v u x
+  taken : (e : Event) → asks e → u ≡ (step w now e).world → x ≡ u → Leaves asks failed now w v u x
+  broken_off : (e : Event) → asks e → failed → u ≡ w → x ≡ (step w now e).world → Leaves asks failed now w v u x
 
 -- before a request, and after it
-abbrev pub Carries : (World → World → Type 0) → (World → World → Type 0) → (Event → Type 0) → ℕ → World → World → Type 0
-Carries before after asks now w u = CarriesBy before after (λ v x. Leaves asks now w v u x) w u
+abbrev pub Carries : (World → World → Type 0) → (World → World → Type 0) → (Event → Type 0) → (failed : Type 0) → ℕ → World → World → Type 0
+Carries before after asks failed now w u = CarriesBy before after (λ v x. Leaves asks failed now w v u x) w u

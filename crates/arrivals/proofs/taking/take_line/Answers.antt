@@ -12,4 +12,5 @@ returns-clause-taken g c = λ honest w s v.
     let a = c.report.ensures.crash honest w s in
     line_taken c.lines_are_events.ensures.within c.lines_are_events.ensures.done (g.B.QueueBook.stands c.report.new.book) (Carries (g.B.QueueBook.crash_leaves c.args.book.now) (g.B.QueueBook.crash_leaves c.report.new.book) (AsksAt c.args.now (Line c.args.line) (Told c.report.result)) w)
     c.args.now c.args.line c.report.result w a.0 (is_fault_line c.report.result) refl c.requires a.1 a.2
-    (carries_one (g.B.QueueBook.crash_leaves c.args.book.now) (g.B.QueueBook.crash_leaves c.report.new.book) (λ e. Tells c.args.line.now (Some e)) c.args.now w a.0 (λ e. c.lines_are_events.ensures.within c.args.line.now (Some e)) c.requires a.3) v
+    (carries_one (g.B.QueueBook.crash_leaves c.args.book.now) (g.B.QueueBook.crash_leaves c.report.new.book) (λ e. Tells c.args.line.now (Some e)) _ c.args.now (Line c.args.line) (Told c.report.result) w a.0
+    (λ e. c.lines_are_events.ensures.within c.args.line.now (Some e)) (λ e asks told stays. (asks, told, stays)) c.requires a.3) v

@@ -78,7 +78,7 @@ returns-in-Err-step-clause-crash g c = λ honest w stands.
       w,
       fault_brings w c.args.now c.args.line.now c.fault.result (record { report = c.in-Ok.r; reads = reads; text = c.fault.ensures }) c.fault.ensures,
       c.in-Err-step.ensures.err w stands,
-      λ v left. let l = c.in-Err-step.ensures.crash honest w v stands left in (l.0, l.1, as_told c.args.line.now c.in-Ok.r c.args.now w v w l.0 reads l.2),
+      λ v left. let l = c.in-Err-step.ensures.crash honest w v stands left in (l.0, l.1, as_told c.args.line.now c.fault.result c.in-Ok.r c.args.now w v w l.0 reads c.fault.ensures l.2),
     )
 
 pub returns-in-Err-clause-crash : goal.returns-in-Err-clause-crash

@@ -1,5 +1,5 @@
 use Rattle.std.proofs.Common.{◌++◌}
-use Rattle.http_front.proofs.CrashLemmas.{left_places, turns_event}
+use Rattle.http_front.proofs.CrashLemmas.{left_places, turn_event, turns_event}
 use Rattle.http_front.proofs.PlaceLemmas.{served_places}
 use Rattle.http_front.proofs.law.connections_are_runs.Goals as goal
 
@@ -11,6 +11,9 @@ returns-clause-broken c = λ now w u stream written acted faults moment b. serve
 
 pub returns-clause-worked : goal.returns-clause-worked
 returns-clause-worked c = λ most now w u acted moment k. served_places c.calls_are_events.ensures now w u k.turns moment k.are k.world
+
+pub returns-clause-asked : goal.returns-clause-asked
+returns-clause-asked c = turn_event c.calls_are_events.ensures
 
 pub returns-clause-events : goal.returns-clause-events
 returns-clause-events c = turns_event c.calls_are_events.ensures

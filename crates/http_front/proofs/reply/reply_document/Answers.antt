@@ -10,6 +10,7 @@ use Rattle.http_wire.proofs.WriteLemmas.{front_taken, front_part, front_after}
 use Rattle.http_front.proofs.WriteLemmas.{by_write}
 use Rattle.http_front.specs.Turned.{IsReplied}
 use Rattle.http_front.proofs.ReplyLemmas.{no_number, at_number, there_of, none_there, document_answer, line_is, replied_ok, replied_err, replied_declined}
+use Rattle.http_front.proofs.FailedReadLemmas.{failed_by_write}
 use Rattle.http_front.proofs.reply.reply_document.Goals as goal
 
 pub returns-in_default-clause-replied : goal.returns-in_default-clause-replied
@@ -66,3 +67,6 @@ returns-in-Err-send_document-clause-replied g c = λ honest w st now content.
     (front_after v m x (success_head (format_name d.format) (length d.bytes) c.args.closes) d.bytes (subst (λ (l : List ℕ). Appends v m l) line c.in_ok-send_head.ensures.ok)
     (front_taken m x d.bytes c.in-Err-send_document.fault.written sent.1))
     c.by-in-Err-send_document.ensures.acted c.by-in-Err-send_document.ensures.is_fault
+
+pub returns-in_err-send_head-clause-no_read_failed : goal.returns-in_err-send_head-clause-no_read_failed
+returns-in_err-send_head-clause-no_read_failed g c = failed_by_write c.from_residual.result c.from_residual.ensures.1

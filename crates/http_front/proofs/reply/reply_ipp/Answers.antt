@@ -1,4 +1,4 @@
-use Rattle.std.proofs.Common.{refl, inl, length, rules}
+use Rattle.std.proofs.Common.{◌∙◌, refl, inl, length, rules}
 use Rattle.std.specs.Prelude.{codes, true}
 use Rattle.queue_core.specs.Crash.{untaken}
 use Rattle.ipp_ops.specs.Answer.{bytes_of}
@@ -34,6 +34,6 @@ returns-in-Ok-clause-replied g c = λ honest w st set.
       a.2,
       (
         replied_sent c.args.context.now w u Ipp c.args.content.now c.args.closes c.is_fault.result tally v x (codes "application/ipp") c.bytes.result.now c.send.result answer refl refl sent,
-        carries_sent (g.B.QueueBook.crash_leaves c.args.book.now) (g.B.QueueBook.crash_leaves c.answer.new.book) c.args.context.now w u Ipp c.args.content.now tally v x bytes c.send.result sent a.3,
+        carries_sent (g.B.QueueBook.crash_leaves c.args.book.now) (g.B.QueueBook.crash_leaves c.answer.new.book) _ c.args.context.now w u Ipp c.args.content.now tally v x bytes c.send.result sent (λ is. c.is_fault.ensures ∙ is) a.3,
       ),
     )

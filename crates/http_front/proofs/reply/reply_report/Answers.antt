@@ -1,4 +1,4 @@
-use Rattle.std.proofs.Common.{refl}
+use Rattle.std.proofs.Common.{◌∙◌, refl}
 use Rattle.std.specs.Prelude.{codes, true}
 use Rattle.http_wire.specs.Responses.{success_response}
 use Rattle.http_head.specs.declared.target.Target.TheVariants.{Report}
@@ -20,6 +20,6 @@ returns-clause-replied g c = λ honest w st.
       a.2,
       (
         replied_sent c.args.now w u Report c.args.content.now c.args.closes c.is_fault.result tally v x (codes "text/plain") c.bytes.result.now c.send.result answer refl refl sent,
-        carries_sent (g.B.QueueBook.crash_leaves c.args.book.now) (g.B.QueueBook.crash_leaves c.report-answer.new.book) c.args.now w u Report c.args.content.now tally v x bytes c.send.result sent a.3,
+        carries_sent (g.B.QueueBook.crash_leaves c.args.book.now) (g.B.QueueBook.crash_leaves c.report-answer.new.book) _ c.args.now w u Report c.args.content.now tally v x bytes c.send.result sent (λ is. c.is_fault.ensures ∙ is) a.3,
       ),
     )

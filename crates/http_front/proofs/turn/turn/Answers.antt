@@ -1,7 +1,10 @@
+use Rattle.std.proofs.Common.{inl}
+use Rattle.std.proofs.KnownBytes.{Appends-nil}
 use Rattle.http_head.specs.Reads.{bytes_left}
 use Rattle.http_head.specs.declared.end.Finish.TheVariants.{Refused}
 use Rattle.http_head.specs.declared.end.Refusal.TheVariants.{ServiceUnavailable}
 use Rattle.http_front.proofs.TurnedLemmas.{lifted, turned_closed, turned_unread, end_no_head, end_checked, end_unserved}
+use Rattle.http_front.proofs.FailedReadLemmas.{unless_read, failed_behind}
 use Rattle.http_front.proofs.turn.turn.Goals as goal
 
 pub returns-in_default-clause-turned : goal.returns-in_default-clause-turned
@@ -10,7 +13,7 @@ returns-in_default-clause-turned g c = λ honest w st set.
       w,
       st,
       turned_closed (g.B.QueueBook.crash_leaves c.args.book.now) c.args.context.now c.args.k w r r (g.W.Write.contents c.args.writer.now) (g.W.Write.contents c.close_with.new.writer) (Refused ServiceUnavailable) c.close_with.result
-          (end_unserved w r) c.close_with.ensures,
+          (end_unserved w r) c.close_with.ensures.closed,
     )
 
 pub returns-in-Ok-clause-turned : goal.returns-in-Ok-clause-turned
@@ -29,7 +32,7 @@ returns-in-Err-Ended-clause-turned g c = λ honest w st set.
       w,
       st,
       turned_closed (g.B.QueueBook.crash_leaves c.args.book.now) c.args.context.now c.args.k w r (bytes_left g.R.Read c.take_head.new.input) (g.W.Write.contents c.args.writer.now) (g.W.Write.contents c.close_with-in-Err-Ended.new.writer) c.in-Err-Ended.end c.close_with-in-Err-Ended.result
-          (end_no_head w r c.in-Err-Ended.end (rw c.in-Err-Ended.field-0-is at c.in-Err-Ended.ensures.failed)) c.close_with-in-Err-Ended.ensures,
+          (end_no_head w r c.in-Err-Ended.end (rw c.in-Err-Ended.field-0-is at c.in-Err-Ended.ensures.failed)) c.close_with-in-Err-Ended.ensures.closed,
     )
 
 pub returns-in-Err-Failed-clause-turned : goal.returns-in-Err-Failed-clause-turned
@@ -38,7 +41,7 @@ returns-in-Err-Failed-clause-turned g c = λ honest w st set.
       w,
       st,
       turned_closed (g.B.QueueBook.crash_leaves c.args.book.now) c.args.context.now c.args.k w r (bytes_left g.R.Read c.take_head.new.input) (g.W.Write.contents c.args.writer.now) (g.W.Write.contents c.close_with-in-Err-Failed.new.writer) (Refused c.in-Err-Failed.refusal) c.close_with-in-Err-Failed.result
-          (end_checked w r c.in-Err-Failed.refusal (rw c.in-Err-Failed.field-0-is at c.in-Err-Failed.ensures.failed)) c.close_with-in-Err-Failed.ensures,
+          (end_checked w r c.in-Err-Failed.refusal (rw c.in-Err-Failed.field-0-is at c.in-Err-Failed.ensures.failed)) c.close_with-in-Err-Failed.ensures.closed,
     )
 
 pub returns-in-Err-Read-clause-turned : goal.returns-in-Err-Read-clause-turned
@@ -48,3 +51,20 @@ returns-in-Err-Read-clause-turned g c = λ honest w st set. (
   turned_unread (g.B.QueueBook.crash_leaves c.args.book.now) c.args.context.now c.args.k w (bytes_left g.R.Read c.args.input.now) (bytes_left g.R.Read c.take_head.new.input) (g.W.Write.contents c.args.writer.now) c.by.result
       c.by.ensures.acted c.by.ensures.is_fault,
 )
+
+pub returns-in_default-clause-invited : goal.returns-in_default-clause-invited
+returns-in_default-clause-invited g c = unless_read _ c.close_with.result c.close_with.ensures.no_read_failed
+
+pub returns-in-Ok-clause-invited : goal.returns-in-Ok-clause-invited
+returns-in-Ok-clause-invited g c =
+    failed_behind c.take_planned.result (bytes_left g.R.Read c.args.input.now) (bytes_left g.R.Read c.take_planned.new.input) (g.W.Write.contents c.args.writer.now) (g.W.Write.contents c.take_planned.new.writer)
+    (bytes_left g.R.Read c.take_head.new.input) c.in-Ok.plan c.in-Ok.ensures.taken c.take_planned.ensures.invited
+
+pub returns-in-Err-Ended-clause-invited : goal.returns-in-Err-Ended-clause-invited
+returns-in-Err-Ended-clause-invited g c = unless_read _ c.close_with-in-Err-Ended.result c.close_with-in-Err-Ended.ensures.no_read_failed
+
+pub returns-in-Err-Failed-clause-invited : goal.returns-in-Err-Failed-clause-invited
+returns-in-Err-Failed-clause-invited g c = unless_read _ c.close_with-in-Err-Failed.result c.close_with-in-Err-Failed.ensures.no_read_failed
+
+pub returns-in-Err-Read-clause-invited : goal.returns-in-Err-Read-clause-invited
+returns-in-Err-Read-clause-invited g c = λ _. inl (c.in-Err-Read.ensures.kept, Appends-nil (g.W.Write.contents c.args.writer.now))

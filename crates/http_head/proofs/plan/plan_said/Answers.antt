@@ -6,28 +6,18 @@ use Rattle.http_head.specs.Fields.{values, has_member}
 use Rattle.http_head.specs.Targets.{routed, path_of, media_type_of}
 use Rattle.http_head.specs.Checks.{codings, lengths, are_typed}
 use Rattle.http_head.specs.Planned.{said, fields_at}
-use Rattle.http_head.proofs.PlanLemmas.{refused_unrouted, not_found, refused_routed, planned, values_said, misframed_said, framing_said}
+use Rattle.http_head.proofs.PlanLemmas.{refused_unrouted, refused_routed, planned, values_said, misframed_said, framing_said}
 use Rattle.http_head.proofs.plan.plan_said.Goals as goal
 
-pub returns-then-misframed : goal.returns-then-misframed
-returns-then-misframed c =
+pub returns-in_default : goal.returns-in_default
+returns-in_default c =
     let come = c.args.come.now in
     let h = said come c.args.headers.now c.args.spans in
     let fields = c.first_of-fields.ensures.value in
     let C : map (span_bytes come) c.as_slice.result.now ≡ codings h = values_said come c.args.headers.now _ c.args.spans.headers (codes "transfer-encoding") _ _ c.as_slice.ensures.value c.values-codings.ensures fields in
     let L : map (span_bytes come) c.as_slice-2.result.now ≡ lengths h = values_said come c.args.headers.now _ c.args.spans.headers (codes "content-length") _ _ c.as_slice-2.ensures.value c.values-lengths.ensures fields in
-    refused_unrouted h c.is_misframed-misframed.result c.routed.result (c.routed.ensures ∙ ap routed (c.path_of.ensures ∙ ap path_of c.text_at.ensures)) (search rules)
-    (misframed_said _ _ _ _ _ c.is_misframed-misframed.ensures C L) (search rules)
-
-pub returns-else-misframed : goal.returns-else-misframed
-returns-else-misframed c =
-    let come = c.args.come.now in
-    let h = said come c.args.headers.now c.args.spans in
-    let fields = c.first_of-fields.ensures.value in
-    let C : map (span_bytes come) c.as_slice.result.now ≡ codings h = values_said come c.args.headers.now _ c.args.spans.headers (codes "transfer-encoding") _ _ c.as_slice.ensures.value c.values-codings.ensures fields in
-    let L : map (span_bytes come) c.as_slice-2.result.now ≡ lengths h = values_said come c.args.headers.now _ c.args.spans.headers (codes "content-length") _ _ c.as_slice-2.ensures.value c.values-lengths.ensures fields in
-    not_found h c.is_misframed-misframed.result c.routed.result (c.routed.ensures ∙ ap routed (c.path_of.ensures ∙ ap path_of c.text_at.ensures)) (search rules)
-    (misframed_said _ _ _ _ _ c.is_misframed-misframed.ensures C L) (search rules)
+    refused_unrouted h c.is_misframed-misframed.result c.routed.result c.unrouted_refusal.result (c.routed.ensures ∙ ap routed (c.path_of.ensures ∙ ap path_of c.text_at.ensures)) (search rules)
+    (misframed_said _ _ _ _ _ c.is_misframed-misframed.ensures C L) c.unrouted_refusal.ensures
 
 pub returns-in-Some-routed_refusal : goal.returns-in-Some-routed_refusal
 returns-in-Some-routed_refusal c =

@@ -1,5 +1,5 @@
 use Rattle.ipp_wire.specs.Viewed.{message_of}
-use Rattle.ipp_ops.specs.Answer.{bytes_of, request}
+use Rattle.ipp_ops.specs.Answer.{bare_fault, bytes_of, request}
 use Rattle.ipp_ops.specs.Verdict.{refused, verdict}
 use Rattle.ipp_ops.proofs.Bytes.{bare_answered, bare_told, done_answered, message_told, request_fails, undone_answered}
 use Rattle.ipp_ops.proofs.answering.answer_headed.Goals as goal
@@ -37,7 +37,7 @@ returns-in-Err-answer_message-clause-answered g c = λ honest w stands.
 pub returns-in-Err-answer_message-clause-checked : goal.returns-in-Err-answer_message-clause-checked
 returns-in-Err-answer_message-clause-checked g c = λ code u on.
     bare_told c.args.body.now (bytes_of c.bare_answer.result) c.args.context.settings.now c.args.context.now code u c.one_verdict.ensures
-    (request_fails c.args.context.head c.args.body.now (message_of c.in-Ok.view) (bytes_of c.bare_answer.result) c.requires.head c.in-Ok.ensures.request c.bare_answer.ensures) on
+    (bare_fault (request_fails c.args.context.head c.args.body.now (message_of c.in-Ok.view) (bytes_of c.bare_answer.result) c.requires.head c.in-Ok.ensures.request c.bare_answer.ensures)) on
 
 pub returns-in-Err-answer_message-clause-checked_kept : goal.returns-in-Err-answer_message-clause-checked_kept
 returns-in-Err-answer_message-clause-checked_kept g c = λ code u on.

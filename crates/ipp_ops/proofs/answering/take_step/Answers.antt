@@ -20,17 +20,17 @@ apply-requires g c = record {
 }
 
 pub returns-in_err-decision-clause-crash : goal.returns-in_err-decision-clause-crash
-returns-in_err-decision-clause-crash g c = λ honest. on_err _ (g.B.QueueBook.stands c.args.book.now) (g.B.QueueBook.crash_leaves c.args.book.now) (g.B.QueueBook.crash_leaves c.decide.new.self) (λ e. e ≡ event_of c.args.event.now) c.args.context.now
+returns-in_err-decision-clause-crash g c = λ honest. on_err _ (g.B.QueueBook.stands c.args.book.now) (g.B.QueueBook.crash_leaves c.args.book.now) (g.B.QueueBook.crash_leaves c.decide.new.self) (λ e. e ≡ event_of c.args.event.now) _ c.args.context.now
     (λ w v stands left. (v, c.decide.ensures.left honest w v left, untaken refl refl))
 
 pub returns-in_err-bytes-clause-crash : goal.returns-in_err-bytes-clause-crash
-returns-in_err-bytes-clause-crash g c = λ honest. on_err _ (g.B.QueueBook.stands c.args.book.now) (g.B.QueueBook.crash_leaves c.args.book.now) (g.B.QueueBook.crash_leaves c.decide.new.self) (λ e. e ≡ event_of c.args.event.now) c.args.context.now
+returns-in_err-bytes-clause-crash g c = λ honest. on_err _ (g.B.QueueBook.stands c.args.book.now) (g.B.QueueBook.crash_leaves c.args.book.now) (g.B.QueueBook.crash_leaves c.decide.new.self) (λ e. e ≡ event_of c.args.event.now) _ c.args.context.now
     (λ w v stands left. (v, c.decide.ensures.left honest w v left, untaken refl refl))
 
 pub returns-in_err-apply-clause-crash : goal.returns-in_err-apply-clause-crash
-returns-in_err-apply-clause-crash g c = λ honest. on_err _ (g.B.QueueBook.stands c.args.book.now) (g.B.QueueBook.crash_leaves c.args.book.now) (g.B.QueueBook.crash_leaves c.apply.new.self) (λ e. e ≡ event_of c.args.event.now) c.args.context.now
+returns-in_err-apply-clause-crash g c = λ honest. on_err _ (g.B.QueueBook.stands c.args.book.now) (g.B.QueueBook.crash_leaves c.args.book.now) (g.B.QueueBook.crash_leaves c.apply.new.self) (λ e. e ≡ event_of c.args.event.now) _ c.args.context.now
     (λ w v stands left.
     let began = c.apply.ensures.began honest in
     let kept = c.decide.ensures.kept w stands in
-    broken (g.B.QueueBook.crash_leaves c.apply.new.self w) c.args.context.now w v (event_of c.args.event.now) _ (c.in_ok-decision.ensures.decides began w kept)
+    broken (g.B.QueueBook.crash_leaves c.apply.new.self w) _ c.args.context.now w v (event_of c.args.event.now) _ c.from_residual-in_err-apply.ensures.0 (c.in_ok-decision.ensures.decides began w kept)
     (c.apply.ensures.crash honest (c.in_ok-decision.ensures.live began) w kept))

@@ -1,7 +1,7 @@
 use Rattle.std.proofs.Common.{refl, arith}
 use Rattle.print_server.proofs.ConnectionLemmas.{on_err, told_one}
 use Rattle.print_server.proofs.ServedLemmas.{served_none, served_one}
-use Rattle.print_server.proofs.serving.Service.take_next.Goals as goal
+use Rattle.print_server.proofs.serving.Service.serve_one.Goals as goal
 
 pub returns-in_err-stream-clause-err : goal.returns-in_err-stream-clause-err
 returns-in_err-stream-clause-err g c = λ h. on_err c.from_residual.result _ (λ w st set. (served_none st, omega arith))
