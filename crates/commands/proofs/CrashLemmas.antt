@@ -53,15 +53,15 @@ taken_or_same now w bytes e (grants rows read) = elim (added_or_same (take_rows 
   | inr same ↦ inr same
 ]
 
-module _ {now : ℕ} {w u x : World} {bytes : List ℕ} where
+module _ {failed : Type 0} {now : ℕ} {w u x : World} {bytes : List ℕ} where
   -- all of the rows, or none
-  pub all_or_none : Leaves (λ e. Asks bytes (Some e)) now w w u x → IsAllOrNone (IsTakenAt now bytes w) w u x
+  pub all_or_none : Leaves (λ e. Asks bytes (Some e)) failed now w w u x → IsAllOrNone (IsTakenAt now bytes w) w u x
   all_or_none (left_untaken stays left) = untaken stays (left ∙ sym stays)
   all_or_none (left_taken e asks made left) = elim (taken_or_same now w bytes e asks) [
     | inl all ↦ taken (all.0, subst (λ (v : World). IsTaken now w v bytes all.0) (sym made) all.1) left
     | inr same ↦ untaken (made ∙ same) left
   ]
-  all_or_none (left_off e asks stays left) = elim (taken_or_same now w bytes e asks) [
+  all_or_none (left_off e asks told stays left) = elim (taken_or_same now w bytes e asks) [
     | inl all ↦ broken_off stays (all.0, subst (λ (v : World). IsTaken now w v bytes all.0) (sym left) all.1)
     | inr same ↦ untaken stays (left ∙ same ∙ sym stays)
   ]

@@ -1,5 +1,5 @@
 -- How a call ended, and the exit status of a program whose words are read.
-use Rattle.std.proofs.Common.{◌≡◌, ◌≢◌, ◌≤◌, ◌⊎◌, ℕ, [], Result, Ok, Err, IfOk, IfErr, IsErrOf, IsOk, OnOk, ap, refl, subst, sym, arith, true, false, inl, inr}
+use Rattle.std.proofs.Common.{◌≡◌, ◌≢◌, ◌≤◌, ◌⊎◌, ℕ, [], Result, Ok, Err, IfOk, IfErr, IsErrAnd, IsOk, OnOk, ap, refl, subst, sym, arith, true, false, inl, inr}
 use Rattle.clap.specs.Kinds.{IsAmong, Kinds}
 use Rattle.clap.specs.declared.error.kind.ErrorKind.{ErrorKind}
 use Rattle.clap.specs.declared.error.kind.ErrorKind.TheVariants.{DisplayHelp, DisplayVersion}
@@ -18,6 +18,10 @@ pub both_ok : {A E : Type 0} (r : Result A E) (X Y : Type 0) → OnOk r X → On
 both_ok (Ok a) X Y x y = (x, y)
 both_ok (Err e) X Y x y = tt
 
+pub all_ok : {A E : Type 0} (r : Result A E) (P Q : A → Type 0) → IfOk r P → IfOk r Q → IfOk r (λ a. P a × Q a)
+all_ok (Ok a) P Q p q = (p, q)
+all_ok (Err e) P Q p q = tt
+
 pub under : {A E : Type 0} (r : Result A E) (X : Type 0) (P : E → Type 0) → (X → IfErr r P) → IfErr r (λ e. X → P e)
 under (Ok a) X P p = tt
 under (Err e) X P p = p
@@ -26,11 +30,12 @@ pub by_four : {A E : Type 0} (r : Result A E) (P Q R S T : E → Type 0) → IfE
 by_four (Ok a) P Q R S T p q r s then_t = tt
 by_four (Err e) P Q R S T p q r s then_t = then_t e p q r s
 
--- what a call is refused with is handed on
-pub handed_on : {A B E : Type 0} (r : Result A E) (s : Result B E) (Q : E → Type 0) → IfOk r (λ a. IsOk s) → IfErr r (λ e. IsErrOf s e) → IfErr r Q → IfErr s Q
+-- what a call is refused with is handed on, beside what is given back
+pub handed_on : {A B E X : Type 0} (r : Result A E) (s : Result B (E × X)) (Q : E → Type 0) → IfOk r (λ a. IsOk s) → IfErr r (λ e. IsErrAnd s (λ told. told.0 ≡ e)) → IfErr r Q
+    → IfErr s (λ told. Q told.0)
 handed_on r (Ok b) Q done refused q = tt
 handed_on (Ok a) (Err f) Q done refused q = absurd (let no : false ≡ true = done in cc)
-handed_on (Err e) (Err f) Q done refused q = let same = refused in subst Q (sym cc) q
+handed_on (Err e) (Err f) Q done refused q = subst Q (sym refused) q
 
 -- a writer that stays as it was keeps what it holds
 pub or_same : {S W C : Type 0} (contents : W → C) (new old : W) → S ⊎ (new ≡ old) → S ⊎ (contents new ≡ contents old)

@@ -1,5 +1,5 @@
 -- What a command printed, a writer that is flushed behind it, and what was told of a refusal.
-use Rattle.std.proofs.Common.{◌≡◌, ◌∙◌, ◌⊎◌, ℕ, [], IfErr, IfOk, List, OnOk, Option, Result, Ok, Err, arith, inl, inr, refl, subst, sym}
+use Rattle.std.proofs.Common.{◌≡◌, ◌∙◌, ◌⊎◌, ℕ, [], IfErr, IfOk, List, OnOk, Option, Result, Ok, Err, arith, inl, inr, subst, sym}
 use Rattle.std.specs.Io.KnownBytes.{Appends, Keeps}
 use Rattle.std.proofs.KnownBytes.{Appends-kept, Keeps-refl}
 use Rattle.command_ends.specs.Faults.{IsOfStream}
@@ -11,9 +11,9 @@ use Rattle.queue_core.specs.World.{empty_queue}
 use Rattle.replay.specs.Replay.{Replays, first, settings}
 use Rattle.replay.specs.Session.{State}
 use Rattle.commands.specs.Printed.{HasPrinted, Prints}
-use Rattle.commands.specs.Refusals.{IsTold, MayBePrintedBy, MayBePrintedOf, MayBeToldBy}
+use Rattle.commands.specs.Refusals.{IsTold, MayBePrintedBy, MayBeToldBy}
 use Rattle.commands.specs.declared.work.Work.{Work}
-use Rattle.commands.specs.declared.work.Work.TheVariants.{Import, Serve}
+use Rattle.commands.specs.declared.work.Work.TheVariants.{Import}
 
 -- what was printed stays as it is where the writer is flushed
 pub prints_kept : (work : Work) (a b c : Option (List ℕ)) → Keeps b c → Prints work a b → Prints work a c
@@ -24,11 +24,6 @@ prints_kept _ a b c kept p = (p.0, p.1, Appends-kept a b c _ p.2 kept)
 pub replayed : (input : Option (List ℕ)) (status : ℕ) (a b c : Option (List ℕ)) → Keeps b c
     → (last : State) × (text : List ℕ) × Replays input (first (empty_queue settings)) status text last × Appends a b text → HasPrinted Replay status a c
 replayed input status a b c kept it = (input, it.0, it.1, it.2, Appends-kept a b c _ it.3 kept)
-
--- work of which nothing is done prints nothing
-pub unprinted : (work : Work) (a : Option (List ℕ)) → MayBePrintedOf work a a
-unprinted (Serve words) a = inl refl
-unprinted _ a = refl
 
 -- what was told of a command that ended with status 1, and what it has printed
 pub told_of : {E : Type 0} (contents : E → Option (List ℕ)) (old new : E) (asked : Command) (before after : Option (List ℕ)) (left : List ℕ) (outcome : Result ℕ Fault) (status : ℕ)

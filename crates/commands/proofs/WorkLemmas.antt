@@ -1,15 +1,23 @@
 -- Work on a store, where less is known of what its account file holds.
-use Rattle.std.proofs.Common.{◌≡◌, ℕ, IfErr, IfOk, IsOk, IsTrue, List, OnOk, Option, Result, Ok, Err, Vec, false, true, subst, sym}
+use Rattle.std.proofs.Common.{◌≡◌, ℕ, IfErr, IfOk, IsErrAnd, IsOk, IsTrue, List, OnOk, Option, Result, Ok, Err, Vec, false, true, inl, inr, subst, sym}
 use Rattle.grants_csv.specs.declared.importing.Imported.{Imported}
 use Rattle.office.specs.Told.{IsTaken}
 use Rattle.queue_core.specs.Limits.{IsMoment}
 use Rattle.queue_core.specs.World.{World}
+use Rattle.queue_store.specs.Closed.{KeepAlone}
+use Rattle.queue_store.specs.Crash.{KeepOneOf}
 use Rattle.queue_store.specs.Kept.{IsHonest, StandsFor, shown_by}
 use Rattle.queue_store.specs.declared.book.TableBook.{TableBook}
+use Rattle.queue_tables.specs.Content.{LeavesOneOf}
+use Rattle.sqlite.specs.Files.{over_files}
+use Rattle.sqlite_disk.specs.declared.Disk as disk
+use Rattle.sqlite_disk.specs.declared.Files.{Files}
+use Rattle.sqlite_store.specs.declared.store.FileStore.{FileStore}
 use Rattle.sqlite_trees.specs.declared.store.Store.{Ghosts}
+use Rattle.sqlite_wal.specs.Reads.{AreClean}
 use Rattle.command_ends.specs.declared.fault.Fault.{Fault}
 use Rattle.commands.specs.Printed.{Prints}
-use Rattle.commands.specs.Work.{AreAny, AreIn, HasEnded, IsDone, IsDoneFrom, IsDoneOn, IsImport, IsRefusal, IsRefusedOn, MayBeLeft}
+use Rattle.commands.specs.Work.{AreAny, AreIn, HasEnded, IsDone, IsDoneFrom, IsDoneOn, IsImport, IsKeptFrom, IsNotDone, IsOfFile, IsRefusal, IsRefusedFrom, IsRefusedOn, MayBeLeft}
 use Rattle.commands.specs.declared.work.Work.{Work}
 use Rattle.commands.specs.declared.work.Work.TheVariants.{Import}
 use Rattle.commands.proofs.CrashLemmas.{known_of_all}
@@ -37,6 +45,16 @@ module _ (P Q : List ℕ → Type 0) (known : (bytes : List ℕ) → P bytes →
   done_by (Import words) w u before after done = (done.0, import_by w u done.0 done.1, done.2)
   done_by _ w u before after done = done
 
+  of_file_by : (fault : Fault) (w : World) → IsOfFile P fault w → IsOfFile Q fault w
+  of_file_by fault w it = record { now = it.now; moment = it.moment; bytes = it.bytes; read = known it.bytes it.read; refused = it.refused }
+
+  not_done_by : (work : Work) (fault : Fault) (w u : World) (before after : Option (List ℕ)) → IsNotDone P work fault w u before after → IsNotDone Q work fault w u before after
+  not_done_by (Import words) fault w u before after it = record {
+    why = elim it.why [ inl stream ↦ inl stream | inr file ↦ inr (of_file_by fault w file) ];
+    left = elim it.left [ inl same ↦ inl same | inr taken ↦ inr (taken.0, (taken.1.0, import_by w u taken.1.0 taken.1.1)) ];
+  }
+  not_done_by _ fault w u before after it = it
+
   left_by : (work : Work) (w u x : World) → MayBeLeft P work w u x → MayBeLeft Q work w u x
   left_by (Import words) w u x left = known_of_all _ _ w u x (λ v told. (told.0, import_by w v told.0 told.1)) left
   left_by _ w u x left = left
@@ -53,6 +71,27 @@ module _ (P Q : List ℕ → Type 0) (known : (bytes : List ℕ) → P bytes →
     live = it.live;
   }
 
+  -- work on a book in files that is refused, and the files that are given back
+  pub refused_from : {D : Type 0} {g : disk.Ghosts D} (work : Work) (old new : TableBook (FileStore D g)) (before after : Option (List ℕ)) (fault : Fault) (files : Files D)
+      → ((v x : World) → LeavesOneOf v x (shown_by over_files new) → KeepOneOf g files v x) → IsRefusedOn over_files P work old new before after fault
+      → IsTrue (shown_by over_files old).is_open → (w : World) → StandsFor over_files old w → IsRefusedFrom g Q work w files before after fault
+  refused_from work old new before after fault files crash it live w stands =
+      let end = it.refused w stands in
+      let left = end.2.1 live in record {
+        queue = end.0;
+        refused = not_done_by work fault w end.0 before after end.2.0;
+        left = (left.0, crash end.0 left.0 left.1, left_by work w end.0 left.0 left.2);
+      }
+
+-- so it is whatever the account file holds
+pub refused_any : {D : Type 0} {g : disk.Ghosts D} (are_read : List ℕ → Type 0) (work : Work) (w : World) (files : Files D) (before after : Option (List ℕ)) (fault : Fault)
+    → IsRefusedFrom g are_read work w files before after fault → IsRefusedFrom g AreAny work w files before after fault
+refused_any are_read work w files before after fault it = record {
+  queue = it.queue;
+  refused = not_done_by are_read AreAny (λ bytes read. tt) work fault w it.queue before after it.refused;
+  left = (it.left.0, it.left.1, left_by are_read AreAny (λ bytes read. tt) work w it.queue it.left.0 it.left.2);
+}
+
 -- what was done on an open store, and what a crash leaves of it
 module _ {S : Type 0} (store : Ghosts S) (are_read : List ℕ → Type 0) (work : Work) (old new : TableBook S) (before after : Option (List ℕ)) where
   pub done_from : IsDoneOn store are_read work old new before after → (w : World) → StandsFor store old w → IsTrue (shown_by store old).is_open
@@ -65,6 +104,11 @@ module _ {S : Type 0} (store : Ghosts S) (are_read : List ℕ → Type 0) (work 
         done = done_by are_read AreAny (λ bytes read. tt) work w done.0 before after done.2.0;
         left = (left.0, left.1, left_by are_read AreAny (λ bytes read. tt) work w done.0 left.0 left.2);
       }
+
+-- what was done, where these files keep alone what the book stands for
+pub kept_from : {D : Type 0} {g : disk.Ghosts D} (work : Work) (w : World) (book : TableBook (FileStore D g)) (before after : Option (List ℕ)) (files : Files D)
+    → IsDoneFrom over_files work w book before after → ((u : World) → StandsFor over_files book u → KeepAlone g files u) → IsKeptFrom g work w files before after
+kept_from work w book before after files it alone = record { queue = it.queue; done = it.done; kept = alone it.queue it.stands }
 
 -- work on a book that ended
 module _ {S A : Type 0} (store : Ghosts S) (are_read : List ℕ → Type 0) (work : Work) (old new : TableBook S) (before after : Option (List ℕ)) where
@@ -85,3 +129,13 @@ module _ {S A : Type 0} (store : Ghosts S) (are_read : List ℕ → Type 0) (wor
   pub ended_err : (r : Result A Fault) → HasEnded store are_read work old new before after r → IfErr r (IsRefusal work before after)
   ended_err (Ok a) done = tt
   ended_err (Err fault) refused = refused.0
+
+-- of work that ended with files given back, it was refused with the fault that is told
+pub refused_on : {D A B : Type 0} {g : disk.Ghosts D} (are_read : List ℕ → Type 0) (work : Work) (old new : TableBook (FileStore D g)) (before after : Option (List ℕ))
+    (r : Result A Fault) (s : Result B (Fault × Files D)) → IfOk r (λ a. IsOk s) → IfErr r (λ fault. IsErrAnd s (λ told. told.0 ≡ fault))
+    → HasEnded over_files are_read work old new before after r → IfErr s (λ told. AreClean g told.1.log told.1.db → IsHonest over_files new)
+    → IfErr s (λ told. AreClean g told.1.log told.1.db → IsRefusedOn over_files are_read work old new before after told.0)
+refused_on are_read work old new before after r (Ok b) done refused ended honest = tt
+refused_on are_read work old new before after (Ok a) (Err told) done refused ended honest = absurd (let no : false ≡ true = done in cc)
+refused_on are_read work old new before after (Err fault) (Err told) done refused ended honest =
+    λ clean. subst (IsRefusedOn over_files are_read work old new before after) (sym refused) (ended.1 (honest clean))

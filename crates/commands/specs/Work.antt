@@ -14,10 +14,13 @@ use Rattle.queue_core.specs.Limits.{IsMoment}
 use Rattle.queue_core.specs.Shown.{sheet_of}
 use Rattle.queue_core.specs.World.{World}
 use Rattle.queue_types.specs.declared.sheet.AccountSheet.{AccountSheet}
+use Rattle.queue_store.specs.Closed.{KeepAlone}
 use Rattle.queue_store.specs.Kept.{IsHonest, StandsFor, shown_by}
 use Rattle.queue_store.specs.declared.book.TableBook.{TableBook}
+use Rattle.sqlite_disk.specs.declared.Disk as disk
+use Rattle.sqlite_disk.specs.declared.Files.{Files}
 use Rattle.sqlite_trees.specs.declared.store.Store.{Ghosts}
-use Rattle.commands.specs.Books.{LeavesBeside, MakesSafely}
+use Rattle.commands.specs.Books.{KeepBeside, LeavesBeside, MakesSafely}
 use Rattle.commands.specs.Printed.{Prints, server_lines}
 use Rattle.commands.specs.Refusals.{IsOfNoAccount, MayBePrintedOf, MayBeToldOf}
 use Rattle.commands.specs.declared.work.Work.{Work}
@@ -123,7 +126,7 @@ IsFileOrNone are_read w u x = IsAllOrNone (HasImport are_read w) w u x
 
 -- it made u of the queue w, and a crash at any moment leaves u or x:
 -- all rows of an account file are taken, or none; a statement leaves the queue as it is; no more than so many connections are served, and x is u or what
--- one request of theirs makes of it
+-- one request of theirs, which a fault answered, makes of it
 abbrev pub MayBeLeft : (List ℕ → Type 0) → Work → World → World → World → Type 0
 MayBeLeft are_read (Import words) w u x = IsFileOrNone are_read w u x
 MayBeLeft are_read (Statement words) w u x = (u ≡ w) × (x ≡ u)
@@ -148,6 +151,18 @@ pub record IsDoneFrom {S : Type 0} (store : Ghosts S) (work : Work) (w : World) 
   pub stands : StandsFor store book queue
   pub done : IsDone AreAny work w queue before after
   pub left : LeavesBeside (shown_by store book) queue (MayBeLeft AreAny work w queue)
+
+-- of the queue w the work made one that these files keep, and the database file keeps it without its log too
+pub record IsKeptFrom {D : Type 0} (g : disk.Ghosts D) (work : Work) (w : World) (files : Files D) (before after : Option (List ℕ)) : Type 0 where
+  pub queue : World
+  pub done : IsDone AreAny work w queue before after
+  pub kept : KeepAlone g files queue
+
+-- of the queue w the refused work left one, and whatever a crash leaves of the files that are given back keeps that, or one that may be left beside it
+pub record IsRefusedFrom {D : Type 0} (g : disk.Ghosts D) (are_read : List ℕ → Type 0) (work : Work) (w : World) (files : Files D) (before after : Option (List ℕ)) (fault : Fault) : Type 0 where
+  pub queue : World
+  pub refused : IsNotDone are_read work fault w queue before after
+  pub left : KeepBeside g files queue (MayBeLeft are_read work w queue)
 
 -- a book, and what was written, before the work and after it
 module _ {S : Type 0} (store : Ghosts S) (are_read : List ℕ → Type 0) (work : Work) (old new : TableBook S) (before after : Option (List ℕ)) where

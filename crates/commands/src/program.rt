@@ -13,22 +13,14 @@ ghost use Rattle.commands.specs.Refusals.{IsOfInit, IsOfReplay, IsTold, MayBePri
 ghost use Rattle.commands.specs.Store.{CanBeMade, IsAllowed, IsOfStore};
 ghost use Rattle.commands.specs.Words.{AreWrong, AskForText, NameCommand, faults_of};
 
-use crate::store::{FileBook, make_store};
-use crate::work::{Work, work_at};
+use crate::store::make_and_close;
+use crate::work::{Work, work_and_close};
 use command_ends::{Fault, end, tell_words};
 use command_words::{Command, CommandFault, Init, command};
 use replay_in_memory::replay;
 use sqlite_std_file::Unknown;
 use std::io::{BufWriter, Input, Write};
 use std::rt::HostRuntime;
-
-/// Closes the store of a command that was done, so that its file alone keeps all of it. Where that fails nothing is lost and nothing is told: what was
-/// done is in the log.
-fn close(book: FileBook<Unknown>) {
-    if let Err((_fault, store)) = book.close_files() {
-        let _files = store.close();
-    }
-}
 
 /// Makes the store that the words ask for, closes it and flushes what is printed, and gives the exit status.
 fn do_init<O: Write + Drop>(
@@ -45,7 +37,8 @@ fn do_init<O: Write + Drop>(
     // a stream failed or there was no memory, or nothing was printed
     ensures quiet { IfErr result (λ f. IsOfStream f ⊎ (writer_contents O.contents out.new ≡ writer_contents O.contents out.old)) }
 {
-    close(make_store(rt, words, Unknown)?);
+    // what it gives back is let go here, before the flush
+    let _ = make_and_close(rt, words, Unknown)?;
     out.flush()?;
     Ok(0)
 }
@@ -63,7 +56,8 @@ fn do_work<O: Write + Drop>(
     // a stream failed or there was no memory, or nothing was printed; a server may have told of its port and of connections
     ensures quiet { IfErr result (λ f. IsOfStream f ⊎ MayBePrintedOf work.entry (writer_contents O.contents out.old) (writer_contents O.contents out.new)) }
 {
-    close(work_at(rt, work, out, Unknown)?);
+    // what it gives back is let go here, before the flush
+    let _ = work_and_close(rt, work, out, Unknown)?;
     out.flush()?;
     Ok(0)
 }

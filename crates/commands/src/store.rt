@@ -1,18 +1,22 @@
 //! The store at a path: a new one, or one that is there.
 ghost use Rattle.std.specs.IoError.{error_kind};
-ghost use Rattle.std.specs.Prelude.{◌≡◌, ◌≢◌, ◌⊎◌, ◌↔◌, ℤ, Err, IfErr, IfOk, IsErrOf, IsOk, IsTrue, false};
+ghost use Rattle.std.specs.Prelude.{◌≡◌, ◌≢◌, ◌⊎◌, ◌↔◌, ℤ, Err, IfErr, IfOk, IsErrAnd, IsOk, IsTrue, OnOk, false};
 ghost use Rattle.std.specs.Option.{IfSome};
 ghost use Rattle.sqlite.specs.Files.{over_files};
 ghost use Rattle.sqlite_wal.specs.Files.{image_at};
+ghost use Rattle.sqlite_wal.specs.Reads.{AreClean};
 ghost use Rattle.queue_types.specs.Settings.{AreSettings};
 ghost use Rattle.queue_core.specs.World.{World, empty_queue};
-ghost use Rattle.queue_store.specs.Crash.{IsKept};
+ghost use Rattle.queue_store.specs.Closed.{KeepAlone, LeavesNoMore};
+ghost use Rattle.queue_store.specs.Crash.{IsKept, KeepOneOf};
 ghost use Rattle.queue_store.specs.Kept.{IsHonest, StandsFor, shown_by};
 ghost use Rattle.queue_store.specs.Opened.{FitsFile, HasNoTables, IsKeptIn};
+ghost use Rattle.queue_tables.specs.Content.{LeavesOneOf};
 ghost use Rattle.commands.specs.Store as spec;
 ghost use Rattle.command_ends.specs.Faults.{IsOfStream};
+ghost use Rattle.commands.specs.Books.{IfClosed};
 ghost use Rattle.commands.specs.Refusals.{IsOfInit};
-ghost use Rattle.commands.specs.Store.{IsOfPath, IsOfStore, settings_of};
+ghost use Rattle.commands.specs.Store.{CanBeMade, IsOfPath, IsOfStore, settings_of};
 ghost use Rattle.commands.specs.Found.{found_in};
 ghost use Rattle.std.specs.declared.io.ErrorKind.TheVariants.{OutOfMemory};
 ghost use Rattle.command_ends.specs.declared.fault.Fault.TheVariants.{BadSetting, Disk as OfDisk, Memory as OfMemory};
@@ -21,7 +25,7 @@ use command_ends::Fault;
 use command_words::Init;
 use queue_store::TableBook;
 use queue_types::settings::Settings;
-use sqlite_disk::Disk;
+use sqlite_disk::{Disk, Files};
 use sqlite_std_file::{FileFrom, Start};
 use sqlite_store::FileStore;
 use std::alloc::Global;
@@ -34,21 +38,37 @@ use std::{fs, io};
 /// A book in the tables of a file. `S` stands for what the file and its log hold as they are opened.
 pub(crate) type FileBook<S> = TableBook<FileStore<FileFrom<S>>>;
 
-/// The book that a command was done over. It is let go where the command was not done.
+/// The files of a store that was closed, or the store where its log could not be copied.
+pub(crate) type Closed<D> = Result<Files<D>, FileStore<D>>;
+
+/// The book that a command was done over. Where the command was not done its files are given back as they are, without reading or writing: what a crash
+/// leaves of them is what it leaves of the book.
 pub(crate) fn left<D: Disk + Drop>(
     book: TableBook<FileStore<D>>,
     done: Result<(), Fault>,
-) -> Result<TableBook<FileStore<D>>, Fault>
+) -> Result<TableBook<FileStore<D>>, (Fault, Files<D>)>
     ensures same { IfOk result (λ b. (b ≡ book) × IsOk done) }
     ensures done { IfOk done (λ nothing. IsOk result) }
-    ensures refused { IfErr done (λ fault. IsErrOf result fault) }
+    ensures refused { IfErr done (λ fault. IsErrAnd result (λ e. e.0 ≡ fault)) }
+    ensures honest { IfErr result (λ e. AreClean D.Disk e.1.log e.1.db → IsHonest over_files book) }
+    ensures crash { IfErr result (λ e. AreClean D.Disk e.1.log e.1.db → (v w : World) → LeavesOneOf v w (shown_by over_files book) → KeepOneOf D.Disk e.1 v w) }
 {
     match done {
         Ok(()) => Ok(book),
-        Err(fault) => {
-            let _files = book.into_files();
-            Err(fault)
-        }
+        Err(fault) => Err((fault, book.into_files())),
+    }
+}
+
+/// Closes the store of a command that was done, so that its file alone keeps all of it. Where that fails nothing is lost and nothing is told: the store
+/// is given back, with what was done in its log.
+pub(crate) fn close<D: Disk + Drop>(book: TableBook<FileStore<D>>) -> Closed<D>
+    ensures honest { IfOk result (λ files. AreClean D.Disk files.log files.db → IsHonest over_files book) }
+    ensures copied { IfOk result (λ files. AreClean D.Disk files.log files.db → (w : World) → StandsFor over_files book w → KeepAlone D.Disk files w) }
+    ensures crash { IfErr result (LeavesNoMore (shown_by over_files book)) }
+{
+    match book.close_files() {
+        Ok(files) => Ok(files),
+        Err((_fault, store)) => Err(store),
     }
 }
 
@@ -173,11 +193,7 @@ fn ready_path(rt: &HostRuntime, path: &str) -> Result<(), Fault>
 /// Makes a store with these settings, whose epoch is the present second, in files that hold no tables: it stands for the empty queue. A setting that is not within its limits
 /// makes no file. Damaged is told where a store is there, or a file that is no database; Disk where another program's database is, or the path is no
 /// file's name to SQLite. One whose making was cut short is made anew.
-pub(crate) fn make_store<S: Start>(
-    rt: &HostRuntime,
-    words: Init<'_>,
-    start: S,
-) -> Result<FileBook<S>, Fault>
+fn make_store<S: Start>(rt: &HostRuntime, words: Init<'_>, start: S) -> Result<FileBook<S>, Fault>
     ensures named { IfOk result (λ b. IsTrue (spec.is_file_name words.entry.store.now)) }
     ensures blank { IfOk result (λ b. IsHonest over_files b → HasNoTables (image_at S.Start)) }
     ensures made { IfOk result (λ b. (epoch : ℤ) × StandsFor over_files b (empty_queue (settings_of words.entry epoch))) }
@@ -191,6 +207,21 @@ pub(crate) fn make_store<S: Start>(
     ready_path(rt, words.store)?;
     let book = TableBook::create_from(rt, words.store, settings, start)?;
     Ok(book)
+}
+
+/// Makes a store as [`make_store`] does and closes it: its file alone keeps the empty queue. Where its log could not be copied the store is given back.
+pub(crate) fn make_and_close<S: Start>(
+    rt: &HostRuntime,
+    words: Init<'_>,
+    start: S,
+) -> Result<Closed<FileFrom<S>>, Fault>
+    ensures kept { IfClosed ⟦<FileFrom<S> as Disk>⟧ result (λ files. (epoch : ℤ) × KeepAlone ⟦<FileFrom<S> as Disk>⟧ files (empty_queue (settings_of words.entry epoch))) }
+    ensures blank { IfClosed ⟦<FileFrom<S> as Disk>⟧ result (λ files. HasNoTables (image_at S.Start)) }
+    ensures made { OnOk result (CanBeMade words.entry) }
+    ensures told { IfErr result IsOfInit }
+{
+    let book = make_store(rt, words, start)?;
+    Ok(close(book))
 }
 
 // ---- a store that is there

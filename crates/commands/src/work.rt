@@ -1,31 +1,32 @@
 //! What a command does on the store that is at a path.
-ghost use Rattle.std.specs.Prelude.{◌≡◌, ◌⊎◌, IfErr, IfOk, IsTrue, OnOk};
+ghost use Rattle.std.specs.Prelude.{◌≡◌, ◌⊎◌, IfErr, IfNone, IfOk, IsTrue, OnOk};
 ghost use Rattle.sqlite.specs.Files.{over_files};
 ghost use Rattle.sqlite_wal.specs.Files.{image_at};
+ghost use Rattle.sqlite_wal.specs.Reads.{AreClean};
 ghost use Rattle.queue_core.specs.World.{World};
 ghost use Rattle.queue_store.specs.Crash.{IsKept};
-ghost use Rattle.queue_store.specs.Kept.{IsHonest, shown_by};
+ghost use Rattle.queue_store.specs.Kept.{IsHonest, StandsFor, shown_by};
 ghost use Rattle.queue_store.specs.Opened.{FitsFile, IsKeptIn};
 ghost use Rattle.command_ends.specs.Faults.{IsOfStream};
+ghost use Rattle.commands.specs.Books.{IfClosed, IfGivenBack};
 ghost use Rattle.commands.specs.Store.{IsOfStore};
 ghost use Rattle.commands.specs.Printed.{Prints};
 ghost use Rattle.commands.specs.Refusals.{MayBePrintedOf, MayBeToldOf};
-ghost use Rattle.commands.specs.Work.{AreIn, AreReadIn, HasEnded, IsBrief, IsDoneFrom, IsDoneOn, IsRefusal, store_of};
+ghost use Rattle.commands.specs.Work.{AreAny, AreIn, AreReadIn, HasEnded, IsBrief, IsDoneFrom, IsDoneOn, IsKeptFrom, IsRefusal, IsRefusedFrom, store_of};
 
 use crate::office_commands::{import_into, print_from};
 use crate::serving::serve_book;
-use crate::store::{FileBook, left, open_store};
+use crate::store::{Closed, FileBook, close, left, open_store};
 use command_ends::Fault;
 use command_words::{Import, Serve, Statement};
 use office::read_account_file;
 use print_server::listen;
 use queue_store::TableBook;
 use sqlite::Alter;
-use sqlite_disk::Disk;
-use sqlite_std_file::Start;
+use sqlite_disk::{Disk, Files};
+use sqlite_std_file::{FileFrom, Start};
 use sqlite_store::FileStore;
 use std::alloc::Global;
-use std::fs::Files;
 use std::io::{ErrorKind, Read, Write};
 use std::net::{Net, TcpListener};
 use std::rt::{Clock, HostRuntime};
@@ -55,7 +56,7 @@ impl<'a> Work<'a> {
     }
 
     /// Opens its account file. Work that has none finds none. That it is the file at the path no contract says.
-    fn account_file<R: Files>(self, files: &R) -> io::Result<R::File> {
+    fn account_file<R: fs::Files>(self, files: &R) -> io::Result<R::File> {
         match self {
             Work::Import(words) => fs::open(files, words.file),
             Work::Statement(_) | Work::Serve(_) => Err(ErrorKind::NotFound.into()),
@@ -112,7 +113,7 @@ fn work_in<C: Clock, D: Disk + Drop, W: Write>(
     work_on(alloc, clock, work, file, listener, output, book)
 }
 
-/// Reads the account file, does the work on a book in files, and gives the book back; one on which it was not done is let go.
+/// Reads the account file, does the work on a book in files, and gives the book back, or the files of one on which it was not done.
 fn work_over<C: Clock, F: Read + Drop, D: Disk + Drop, W: Write>(
     alloc: Global,
     clock: &C,
@@ -121,25 +122,29 @@ fn work_over<C: Clock, F: Read + Drop, D: Disk + Drop, W: Write>(
     listener: io::Result<TcpListener>,
     output: &mut W,
     mut book: TableBook<FileStore<D>>,
-) -> Result<TableBook<FileStore<D>>, Fault>
+) -> Result<TableBook<FileStore<D>>, (Fault, Files<D>)>
     ensures done { IfOk result (λ b. IsHonest over_files b
         → IsDoneOn over_files (AreReadIn F.remaining file) work.entry book b (W.contents output.old) (W.contents output.new)) }
     ensures printed { OnOk result (Prints work.entry (W.contents output.old) (W.contents output.new)) }
-    ensures told { IfErr result (IsRefusal work.entry (W.contents output.old) (W.contents output.new)) }
+    ensures told { IfErr result (λ e. IsRefusal work.entry (W.contents output.old) (W.contents output.new) e.0) }
+    ensures began { IfErr result (λ e. AreClean D.Disk e.1.log e.1.db → IsHonest over_files book) }
+    ensures refused { IfErr result (λ e. AreClean D.Disk e.1.log e.1.db → IsTrue (shown_by over_files book).is_open → (w : World) → StandsFor over_files book w
+        → IsRefusedFrom D.Disk (AreReadIn F.remaining file) work.entry w e.1 (W.contents output.old) (W.contents output.new) e.0) }
 {
     let bytes = read_opened(alloc, file);
     let done = work_in(alloc, clock, work, bytes, listener, output, &mut book);
     left(book, done)
 }
 
-/// Does the work on the store that is at its path, and gives the book, which is not closed yet. What is done on the open store is done behind
+/// Does the work on the store that is at its path, and gives the book, which is not closed yet, or the files of one on which it was not done; there are
+/// none where no store was opened. What is done on the open store is done behind
 /// [`work_over`], which has memory, a clock, and no way to a file or a port but the store and the account file or port that is opened here.
-pub(crate) fn work_at<S: Start, W: Write>(
+fn work_at<S: Start, W: Write>(
     rt: &HostRuntime,
     work: Work<'_>,
     output: &mut W,
     start: S,
-) -> Result<FileBook<S>, Fault>
+) -> Result<FileBook<S>, (Fault, Option<Files<FileFrom<S>>>)>
     ensures done { FitsFile (image_at S.Start) → IfOk result (λ b. IsHonest over_files b
         → (w : World) × IsKeptIn (image_at S.Start) w
         × IsDoneFrom over_files work.entry w b (W.contents output.old) (W.contents output.new)) }
@@ -151,11 +156,47 @@ pub(crate) fn work_at<S: Start, W: Write>(
     // over any store, also one that is not honest
     ensures printed { OnOk result (Prints work.entry (W.contents output.old) (W.contents output.new)) }
     // a stream failed or there was no memory, or nothing was printed; a server may have told of its port and of connections
+    ensures quiet { IfErr result (λ e. IsOfStream e.0 ⊎ MayBePrintedOf work.entry (W.contents output.old) (W.contents output.new)) }
+    ensures told { IfErr result (λ e. IsOfStore e.0 ⊎ MayBeToldOf work.entry e.0) }
+    ensures unopened { IfErr result (λ e. IfNone e.1 (IsOfStore e.0 × (output.new ≡ output.old))) }
+    // where it is refused on a store that was opened: what it left of the queue that the files kept
+    ensures refused { FitsFile (image_at S.Start) → IfGivenBack ⟦<FileFrom<S> as Disk>⟧ result (λ fault files. (w : World) × IsKeptIn (image_at S.Start) w
+        × IsRefusedFrom ⟦<FileFrom<S> as Disk>⟧ AreAny work.entry w files (W.contents output.old) (W.contents output.new) fault) }
+    ensures refused_again { (w : World) → IsKept (image_at S.Start) w → IfGivenBack ⟦<FileFrom<S> as Disk>⟧ result (λ fault files.
+        IsRefusedFrom ⟦<FileFrom<S> as Disk>⟧ AreAny work.entry w files (W.contents output.old) (W.contents output.new) fault) }
+{
+    match open_store(rt, work.store(), start) {
+        Ok(book) => {
+            let file = work.account_file(rt);
+            let listener = work.listener(rt);
+            match work_over(rt.alloc(), rt, work, file, listener, output, book) {
+                Ok(book) => Ok(book),
+                Err((fault, files)) => Err((fault, Some(files))),
+            }
+        }
+        Err(fault) => Err((fault, None)),
+    }
+}
+
+/// Does the work as [`work_at`] does, and closes the store: its file alone keeps the queue that the work made. Where its log could not be copied the
+/// store is given back. The files of a refused command are let go.
+pub(crate) fn work_and_close<S: Start, W: Write>(
+    rt: &HostRuntime,
+    work: Work<'_>,
+    output: &mut W,
+    start: S,
+) -> Result<Closed<FileFrom<S>>, Fault>
+    ensures kept { FitsFile (image_at S.Start) → IfClosed ⟦<FileFrom<S> as Disk>⟧ result (λ files. (w : World) × IsKeptIn (image_at S.Start) w
+        × IsKeptFrom ⟦<FileFrom<S> as Disk>⟧ work.entry w files (W.contents output.old) (W.contents output.new)) }
+    // files that keep a queue, as a store leaves them: the work is done on that queue
+    ensures again { (w : World) → IsKept (image_at S.Start) w → IfClosed ⟦<FileFrom<S> as Disk>⟧ result (λ files.
+        IsKeptFrom ⟦<FileFrom<S> as Disk>⟧ work.entry w files (W.contents output.old) (W.contents output.new)) }
+    ensures printed { OnOk result (Prints work.entry (W.contents output.old) (W.contents output.new)) }
     ensures quiet { IfErr result (λ f. IsOfStream f ⊎ MayBePrintedOf work.entry (W.contents output.old) (W.contents output.new)) }
     ensures told { IfErr result (λ f. IsOfStore f ⊎ MayBeToldOf work.entry f) }
 {
-    let book = open_store(rt, work.store(), start)?;
-    let file = work.account_file(rt);
-    let listener = work.listener(rt);
-    work_over(rt.alloc(), rt, work, file, listener, output, book)
+    match work_at(rt, work, output, start) {
+        Ok(book) => Ok(close(book)),
+        Err((fault, _left)) => Err(fault),
+    }
 }
