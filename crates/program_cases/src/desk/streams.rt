@@ -115,6 +115,28 @@ impl Write for UnflushedWriter {
     }
 }
 
+/// Takes each byte, and flushes so many times.
+#[derive(Drop)]
+pub(crate) struct FlushedWriter {
+    pub(crate) left: u32,
+}
+
+impl Write for FlushedWriter {
+    fn write(&mut self, buf: &[u8]) -> io::Result<usize> {
+        Ok(buf.len())
+    }
+
+    fn flush(&mut self) -> io::Result<()> {
+        match self.left.checked_sub(1) {
+            Some(left) => {
+                self.left = left;
+                Ok(())
+            }
+            None => Err(io::Error::other("full")),
+        }
+    }
+}
+
 /// Gives some bytes, and then fails.
 #[derive(Drop)]
 pub(crate) struct BrokenReader<'a> {

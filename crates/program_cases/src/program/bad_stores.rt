@@ -4,9 +4,10 @@ use crate::desk::books::GRANT;
 use crate::program::folder::Asked::{Import, Init, Statement};
 use crate::program::folder::Step::{Asks, Keeps, Lacks, Writes};
 use crate::program::folder::{
-    At, DAMAGED, DISK, FILE, Folder, STORE, Step, StepFault, URI, WITH_AN_ACCOUNT, take_steps,
-    take_steps_for_nothing,
+    At, DAMAGED, DISK, FILE, Folder, IMPORTED, NO_ACCOUNT, ONLY_MADE, STORE, Step, StepFault, URI,
+    take_steps, take_steps_for_nothing,
 };
+use std::alloc::{AllocError, Global};
 use std::test::Fail;
 
 /// The bytes of other files than stores.
@@ -64,6 +65,61 @@ fn bytes_of_no_store(rt: HostRuntime) -> Result<(), Fail> {
     Ok(())
 }
 
+/// The file of the store's log.
+const LOG: At<'static> = At::In("store-wal");
+
+/// What lies beside such a file in place of its log stays as it was too.
+const WITH_A_LOG: &[Step<'static>] = &[
+    Writes(STORE, b"S"),
+    Writes(LOG, b"log"),
+    Keeps(LOG, Statement(STORE, "alice"), DAMAGED),
+    Keeps(LOG, Import(STORE, STORE), DAMAGED),
+    Keeps(LOG, Init(STORE, URI, "release"), DAMAGED),
+];
+
+#[test]
+fn a_log_beside_no_store(rt: HostRuntime) -> Result<(), Fail> {
+    take_steps(&rt, "log", WITH_A_LOG)
+}
+
+/// A database of 1,024 bytes that SQLite 3.40 made by `CREATE TABLE note (x)` in pages of 512: some bytes, and so many zeros behind them.
+const NOTES: &[(&[u8], usize)] = &[
+    (
+        b"SQLite format 3\0\x02\0\x01\x01\0@  \0\0\0\x01\0\0\0\x02\0\0\0\0\0\0\0\0\0\0\0\x01\0\0\0\x04\0\0\0\0\0\0\0\0\0\0\0\x01",
+        35,
+    ),
+    (b"\x01\0.c\x01\r\0\0\0\x01\x01\xd5\0\x01\xd5", 359),
+    (
+        b")\x01\x06\x17\x15\x15\x017tablenotenote\x02CREATE TABLE note (x)\r\0\0\0\0\x02",
+        506,
+    ),
+];
+
+/// Its bytes.
+fn notes(alloc: Global) -> Result<Vec<u8>, AllocError> {
+    let mut bytes = Vec::new(alloc);
+    for (piece, zeros) in NOTES {
+        bytes.extend_from_slice(*piece)?;
+        for _zero in 0..*zeros {
+            bytes.push(0)?;
+        }
+    }
+    Ok(bytes)
+}
+
+/// Another program's database is no store, and none is made in it: it stays as it was.
+#[test]
+fn a_database_of_another_program(rt: HostRuntime) -> Result<(), Fail> {
+    let bytes = notes(rt.alloc())?;
+    let steps = [
+        Writes(STORE, bytes.as_slice()),
+        Keeps(STORE, Init(STORE, URI, "release"), DISK),
+        Keeps(STORE, Statement(STORE, "alice"), DAMAGED),
+    ];
+    take_steps(&rt, "notes", &steps)?;
+    Ok(())
+}
+
 const CUT: At<'static> = At::In("cut");
 
 /// The first bytes of a store, so many of 8 parts, are no store.
@@ -79,9 +135,12 @@ fn refuse_fronts(folder: &Folder<'_>) -> Result<(), Fail> {
 /// A copy of a store takes what the store has taken.
 const COPIED: &[Step<'static>] = &[Asks(Import(CUT, FILE), (0, "new 0 repeats 1\n", ""))];
 
-/// A store is whole in its one file once its command has ended: all of its bytes are a store, and no front of them is.
+/// A store is whole in its one file once its command has ended, `init` and `import`: all of its bytes are a store, and no front of them is.
 fn is_whole_alone(folder: &Folder<'_>) -> Result<(), Fail> {
-    folder.take_each(WITH_AN_ACCOUNT)?;
+    folder.take_each(ONLY_MADE)?;
+    folder.copy(STORE, CUT)?;
+    folder.take_each(&[Asks(Statement(CUT, "alice"), NO_ACCOUNT)])?;
+    folder.take_each(&[IMPORTED])?;
     refuse_fronts(folder)?;
     folder.copy(STORE, CUT)?;
     folder.take_each(COPIED)?;

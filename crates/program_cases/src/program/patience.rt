@@ -3,7 +3,7 @@
 
 use crate::desk::books::{DeskBook, MemoryBook};
 use crate::desk::compare::Mismatch;
-use crate::desk::connection::Wanted::Success;
+use crate::desk::connection::Wanted::{Continue, Success};
 use crate::desk::connection::closed;
 use crate::desk::jobs::{PRINTED, RELEASED};
 use crate::desk::messages::{JOB_1, JOB_2, JOB_3, PRINT_JOB, PRINT_JOB_BEGUN, RELEASE_JOB};
@@ -62,6 +62,24 @@ fn a_client_that_is_silent_in_a_body(rt: HostRuntime) -> Result<(), Mismatch> {
     take_steps::<MemoryBook>(&rt, SILENT_IN_A_BODY)
 }
 
+/// A head with a length, whose client sends no body before it is told to.
+const WAITS_FOR_LEAVE: &[u8] =
+    b"POST /ipp/print HTTP/1.1\r\nExpect: 100-continue\r\nContent-Type: application/ipp\r\nContent-Length: 145\r\n\r\n";
+
+/// It gets its leave although it sends no body.
+const SILENT_BEHIND_ITS_LEAVE: &[Step<'static>] = &[
+    Sends(&[WAITS_FOR_LEAVE]),
+    PRINTS,
+    SERVES_BOTH,
+    GETS_ITS_JOB,
+    Gets(0, &[Continue]),
+];
+
+#[test]
+fn a_client_that_is_silent_behind_its_leave(rt: HostRuntime) -> Result<(), Mismatch> {
+    take_steps::<MemoryBook>(&rt, SILENT_BEHIND_ITS_LEAVE)
+}
+
 /// It sits on its connection while another prints, and once its time is over it prints again by a new one.
 const IDLE: &[Step<'static>] = &[
     Sends(&[POST_JOB, PRINT_JOB]),
@@ -104,13 +122,38 @@ const NOT_READ: &[Step<'static>] = &[
     Gets(1, &[Success(IPP, JOB_2)]),
 ];
 
-/// The server leaves it so, and it gets a front of this document.
+/// Has a server wait so many seconds for a read or a write.
+fn waits<B: DeskBook>(server: &mut Server<B>, seconds: u32) -> Result<(), Mismatch> {
+    let Some(timeout) = NonZeroU32::new(seconds) else {
+        return Err(AT.not("a timeout"));
+    };
+    server.timeout = timeout;
+    Ok(())
+}
+
+/// How long a server takes for these steps.
+fn time_of<B: DeskBook>(
+    rt: &HostRuntime,
+    server: &mut Server<B>,
+    steps: &[Step<'_>],
+) -> Result<Duration, Mismatch> {
+    let began = rt.monotonic()?;
+    server.take_each(rt, steps)?;
+    Ok(rt.monotonic()?.saturating_sub(began))
+}
+
+/// The server waits for it the three seconds of its timeout and leaves it so, and it gets a front of this document.
 fn leaves_it<B: DeskBook>(
     rt: &HostRuntime,
     server: &mut Server<B>,
     document: &[u8],
 ) -> Result<(), Mismatch> {
-    server.take_each(rt, NOT_READ)?;
+    waits(server, 3)?;
+    let waited = time_of(rt, server, NOT_READ)?;
+    AT.is_so(
+        waited >= Duration::from_secs(3),
+        "a client that is waited for",
+    )?;
     server.take_each(rt, &[GetsFront(0, &[Success(OCTETS, document)])])
 }
 
@@ -243,29 +286,15 @@ fn a_client_that_sends_without_end(rt: HostRuntime) -> Result<(), Mismatch> {
     )
 }
 
-/// The seconds for which a patient server waits for a client.
-const LONG_PATIENCE: u32 = 40;
-
-/// A client asks a server for the end and keeps its side open: so long it is served.
-fn time_of_the_end<B: DeskBook>(
-    rt: &HostRuntime,
-    server: &mut Server<B>,
-) -> Result<Duration, Mismatch> {
-    let began = rt.monotonic()?;
-    server.take_each(rt, ASKED_TO_END)?;
-    Ok(rt.monotonic()?.saturating_sub(began))
-}
-
 /// Behind the end of a connection a client that keeps its side open is waited for a second, however long the timeout.
 fn is_left_soon<B: DeskBook>(rt: &HostRuntime) -> Result<(), Mismatch> {
-    let Some(timeout) = NonZeroU32::new(LONG_PATIENCE) else {
-        return Err(AT.not("a timeout"));
-    };
     let mut server = Server::<B>::new(rt)?;
-    server.timeout = timeout;
-    let waited = time_of_the_end(rt, &mut server)?;
-    let longest = Duration::from_secs(u64::from(LONG_PATIENCE));
-    AT.is_so(waited < longest, "a client that is left before the timeout")
+    waits(&mut server, 40)?;
+    let waited = time_of(rt, &mut server, ASKED_TO_END)?;
+    AT.is_so(
+        waited >= Duration::from_secs(1) && waited < Duration::from_secs(20),
+        "a second for the client",
+    )
 }
 
 #[test]
@@ -321,4 +350,56 @@ fn is_told_the_end<B: DeskBook>(rt: &HostRuntime) -> Result<(), Mismatch> {
 #[test]
 fn a_client_that_is_told_the_end(rt: HostRuntime) -> Result<(), Mismatch> {
     is_told_the_end::<MemoryBook>(&rt)
+}
+
+/// What tells a client to send its body.
+const LEAVE: [u8; 25] = *b"HTTP/1.1 100 Continue\r\n\r\n";
+
+/// A clock by which a client that waits for its leave sends the body: at the look at it at which it has its leave.
+#[derive(Drop)]
+struct SendsWhenTold<'a> {
+    client: &'a TcpStream,
+    is_told: Cell<bool>,
+}
+
+impl Clock for SendsWhenTold<'_> {
+    fn monotonic(&self) -> io::Result<Duration> {
+        let mut client = self.client;
+        let mut bytes = [0; 25];
+        if matches!(client.read(bytes.as_mut_slice()), Ok(25)) && bytes == LEAVE {
+            client.write_all(PRINT_JOB)?;
+            self.is_told.set(true);
+        }
+        Ok(Duration::from_secs(0))
+    }
+
+    fn since_1970(&self) -> io::Result<Duration> {
+        Ok(Duration::from_secs(41))
+    }
+}
+
+/// This client is told to send its body while it is served, and its job is printed.
+fn prints_when_told<B: DeskBook>(
+    server: &mut Server<B>,
+    client: &TcpStream,
+) -> Result<(), Mismatch> {
+    client.set_read_timeout(Some(Duration::from_millis(100)))?;
+    let clock = SendsWhenTold {
+        client,
+        is_told: Cell::new(false),
+    };
+    server.serve(&clock, 1, "served 1\n")?;
+    AT.is_so(clock.is_told.get(), "a client that is told to send")
+}
+
+/// A client that sends no body before it is told to is told before the body is waited for.
+fn waits_for_leave<B: DeskBook>(rt: &HostRuntime) -> Result<(), Mismatch> {
+    let mut server = Server::<B>::new(rt)?;
+    let client = server.client(rt, &[WAITS_FOR_LEAVE])?;
+    prints_when_told(&mut server, &client)
+}
+
+#[test]
+fn a_client_that_waits_for_its_leave(rt: HostRuntime) -> Result<(), Mismatch> {
+    waits_for_leave::<MemoryBook>(&rt)
 }

@@ -1,6 +1,8 @@
 //! Replays over streams that fail, text of bytes, and examples that are not answered as they are to be.
 
-use crate::desk::streams::{BrokenReader, BrokenWriter, UnflushedWriter};
+use crate::desk::streams::{
+    BrokenReader, BrokenWriter, FlushedWriter, SlowReader, UnflushedWriter,
+};
 use replay::{Fault, HexFault, put_hex, read_hex};
 use replay_examples::run_cases;
 use replay_in_memory::replay;
@@ -34,6 +36,19 @@ fn output_that_is_flushed_first(rt: HostRuntime) {
         Err(Fault::Io)
     );
     assert_eq!(rt; input, b"ipp 00\n".as_slice());
+}
+
+/// It is flushed before each read: where the second flush can't be, there is no second read.
+#[test]
+fn output_that_is_flushed_again(rt: HostRuntime) {
+    let mut input = SlowReader {
+        rest: b"ipp 00\nipp 00\n",
+        most: 7,
+        reads: 0,
+    };
+    let mut output = FlushedWriter { left: 1 };
+    assert_eq!(rt; replay(rt.alloc(), &mut input, &mut output), Err(Fault::Io));
+    assert_eq!(rt; input.reads, 1);
 }
 
 /// The digits stand for these bytes.
