@@ -24,6 +24,8 @@ pub mod Heard
 pub mod Shared
 pub mod TwoRuns
 pub mod Thinned
+pub mod Once
+pub mod GoesOn
 pub mod InOrder
 pub mod Undrawn
 pub mod AlikePlaces

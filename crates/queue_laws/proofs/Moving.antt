@@ -40,7 +40,7 @@ its_kind : (k : Kind) → kind_of (kind_number k) ≡ k
 its_kind Start = refl
 its_kind _ = refl
 
-same_kind : (a b : Kind) → kind_number a ≡ kind_number b → a ≡ b
+pub same_kind : (a b : Kind) → kind_number a ≡ kind_number b → a ≡ b
 same_kind a b e = sym (its_kind a) ∙ ap kind_of e ∙ its_kind b
 
 -- ---- when a job has begun

@@ -1,7 +1,7 @@
 -- A run and the run without repeats end in one world, and repeats are answered as before.
 use Rattle.std.proofs.Common.{◌≡◌, ℕ, ◌+◌, List, [], ◌∷◌, ◌++◌, length, refl, ap, sym, ◌∙◌, subst, Bool, true, false, cond}
 use Rattle.std.specs.Prelude.{Option, Some, None, nat_eq, bytes_eq, not, is_some, fold, ◌&&◌, ◌||◌, ⊤}
-use Rattle.std.specs.List.{list_any, AllByRecursion as Each}
+use Rattle.std.specs.List.{AllByRecursion as Each}
 use Rattle.std.specs.FinMap.{FinMap, get}
 use Rattle.std.proofs.lemmas.Bool.{and_parts}
 use Rattle.queue_types.specs.Event.{Decision, Event, ask, tell, grant, kind_number}
@@ -20,7 +20,7 @@ use Rattle.queue_types.specs.declared.states.JobState.{JobState}
 use Rattle.queue_types.specs.declared.event.Reply.TheVariants.{Told, Added}
 use Rattle.queue_laws.specs.Granting.{IsGranted}
 use Rattle.queue_laws.specs.Replies.{refuses}
-use Rattle.queue_laws.specs.Thin.{are_equal_reports, are_equal_rows, is_accepted, reports_then, rows_then, thin_rows, thin_place, thin_from, thin, Answered, answered_then, IsAnsweredAgain, AnswerAgain}
+use Rattle.queue_laws.specs.Thin.{are_equal_reports, are_equal_rows, has_report, has_row, is_accepted, reports_then, rows_then, thin_rows, thin_place, thin_from, thin, Answered, answered_then, IsAnsweredAgain, AnswerAgain}
 use Rattle.queue_laws.proofs.Again.{IsKeptAs, told_kept, kept_stays, told_again, KeepsSound}
 use Rattle.queue_laws.proofs.Base.{equal, same_key, each_map}
 use Rattle.queue_laws.proofs.Filed.{taken_of, file_granted, granted_after}
@@ -29,13 +29,13 @@ use Rattle.queue_laws.proofs.Telling.{declined, known as known_before, taken, te
 
 -- ---- equal reports
 
-record AreEqual (a b : Report) : Type 0 where
-  job : a.job ≡ b.job
-  seq : a.seq ≡ b.seq
-  kind : kind_number a.kind ≡ kind_number b.kind
-  count : a.count ≡ b.count
+pub record AreEqual (a b : Report) : Type 0 where
+  pub job : a.job ≡ b.job
+  pub seq : a.seq ≡ b.seq
+  pub kind : kind_number a.kind ≡ kind_number b.kind
+  pub count : a.count ≡ b.count
 
-are_equal : (a b : Report) → are_equal_reports a b ≡ true → AreEqual a b
+pub are_equal : (a b : Report) → are_equal_reports a b ≡ true → AreEqual a b
 are_equal a b e =
     let four = and_parts (nat_eq a.job b.job && nat_eq a.seq b.seq && nat_eq (kind_number a.kind) (kind_number b.kind)) (nat_eq a.count b.count) e in
     let three = and_parts (nat_eq a.job b.job && nat_eq a.seq b.seq) (nat_eq (kind_number a.kind) (kind_number b.kind)) four.0 in
@@ -84,15 +84,15 @@ added_by : (t : Taken) → not (refuses (grant_row t).reply) ≡ true → IsAdde
 added_by (all_taken new free n) e = record { added = length new; repeats = n; is = refl }
 added_by (none_taken fault row) e = absurd (cc)
 
-record IsKeptNow (w : World) (r : Report) : Type 0 where
+pub record IsKeptNow (w : World) (r : Report) : Type 0 where
   state : JobState
   count : ℕ
   kept : IsKeptAs w.reports r state count
 
 -- the reports and rows that were accepted stay
-record Holds (kept : List Report) (given : List GrantRow) (w : World) : Type 0 where
-  reports : Each (IsKeptNow w) kept
-  rows : Each (IsGranted w.grants) given
+pub record Holds (kept : List Report) (given : List GrantRow) (w : World) : Type 0 where
+  pub reports : Each (IsKeptNow w) kept
+  pub rows : Each (IsGranted w.grants) given
 
 reports_hold : (w : World) (now : ℕ) (o : Option Event) (kept : List Report) → Each (IsKeptNow w) kept → Each (IsKeptNow (after w now o)) kept
 reports_hold w now o kept each = each_map (IsKeptNow w) (IsKeptNow (after w now o)) kept (λ r k. record { state = k.state; count = k.count; kept = kept_stays w now o r k.state k.count k.kept }) each
@@ -100,7 +100,7 @@ reports_hold w now o kept each = each_map (IsKeptNow w) (IsKeptNow (after w now 
 rows_hold : (w : World) (now : ℕ) (o : Option Event) (given : List GrantRow) → Each (IsGranted w.grants) given → Each (IsGranted (after w now o).grants) given
 rows_hold w now o given each = each_map (IsGranted w.grants) (IsGranted (after w now o).grants) given (granted_after w now o) each
 
-each_append : (P : GrantRow → Type 0) (xs ys : List GrantRow) → Each P xs → Each P ys → Each P (xs ++ ys)
+pub each_append : {A : Type 0} (P : A → Type 0) (xs ys : List A) → Each P xs → Each P ys → Each P (xs ++ ys)
 each_append P [] ys a b = b
 each_append P (x ∷ xs) ys a b = (a.0, each_append P xs ys a.1 b)
 
@@ -126,6 +126,9 @@ then_rows given w now (Some (grant file)) each =
       | false ↦ λ is. all
     ] refl
 
+pub then_holds : (kept : List Report) (given : List GrantRow) (w : World) (now : ℕ) (o : Option Event) → Holds kept given w → Holds (reports_then kept w now o) (rows_then given w now o) (after w now o)
+then_holds kept given w now o holds = record { reports = then_reports kept w now o holds.reports; rows = then_rows given w now o holds.rows }
+
 -- ---- a file without rows that are there makes the same of the world
 
 abbrev TakesSame : Taken → Taken → Type 0
@@ -134,20 +137,23 @@ TakesSame (all_taken new free n) (none_taken fault row) = ⊥
 TakesSame (none_taken fault row) (all_taken new free n) = ⊥
 TakesSame (none_taken fault row) (none_taken other place) = ⊤
 
+pub equal_rows : (h g : GrantRow) → are_equal_rows h g ≡ true → h ≡ g
+equal_rows h g is =
+    let three = and_parts (bytes_eq h.batch g.batch && bytes_eq h.account g.account) (nat_eq h.pages g.pages) is in
+    let two = and_parts (bytes_eq h.batch g.batch) (bytes_eq h.account g.account) three.0 in
+    λ i. record {
+      batch = same_key h.batch g.batch two.0 i;
+      account = same_key h.account g.account two.1 i;
+      pages = equal h.pages g.pages three.1 i;
+    }
+
 module _ (w : World) where
-  equal_there : (new given : List GrantRow) (g : GrantRow) → list_any (λ h. are_equal_rows h g) given ≡ true → Each (λ h. IsThere w h new) given → IsThere w g new
+  equal_there : (new given : List GrantRow) (g : GrantRow) → has_row g given ≡ true → Each (λ h. IsThere w h new) given → IsThere w g new
   equal_there new [] g any each = absurd (cc)
   equal_there new (h ∷ given) g any each =
-      elim (are_equal_rows h g) as (λ b. are_equal_rows h g ≡ b → (b || list_any (λ h. are_equal_rows h g) given) ≡ true → IsThere w g new) [
+      elim (are_equal_rows h g) as (λ b. are_equal_rows h g ≡ b → (b || has_row g given) ≡ true → IsThere w g new) [
         | true ↦ λ is any.
-            let three = and_parts (bytes_eq h.batch g.batch && bytes_eq h.account g.account) (nat_eq h.pages g.pages) is in
-            let two = and_parts (bytes_eq h.batch g.batch) (bytes_eq h.account g.account) three.0 in
-            let one : h ≡ g = λ i. record {
-              batch = same_key h.batch g.batch two.0 i;
-              account = same_key h.account g.account two.1 i;
-              pages = equal h.pages g.pages three.1 i;
-            } in
-            subst (λ x. IsThere w x new) one each.0
+            subst (λ x. IsThere w x new) (equal_rows h g is) each.0
         | false ↦ λ is any. equal_there new given g any each.1
       ] refl any
 
@@ -164,7 +170,7 @@ module _ (w : World) where
   thin_takes accepted (g ∷ file) given row other new free n m each =
       let k = known_grant w g in
       let next : List GrantRow = cond accepted (g ∷ given) given in
-      elim (list_any (λ h. are_equal_rows h g) given) as (λ b. list_any (λ h. are_equal_rows h g) given ≡ b
+      elim (has_row g given) as (λ b. has_row g given ≡ b
       → TakesSame (add_row (row_of g (known_grant w g) new) g (known_grant w g) row (take_rows file (known w file) (row + 1)) new free n)
       (take_rows (cond b (thin_rows accepted given file) (g ∷ thin_rows accepted next file)) (known w (cond b (thin_rows accepted given file) (g ∷ thin_rows accepted next file))) other new free m)) [
         | true ↦ λ any.
@@ -188,19 +194,30 @@ module _ (w : World) where
   same_made (none_taken fault row) (all_taken new free n) same = absurd same
   same_made (none_taken fault row) (none_taken other place) same = refl
 
+  same_accepted : (s t : Taken) → TakesSame s t → not (refuses (grant_row s).reply) ≡ not (refuses (grant_row t).reply)
+  same_accepted (all_taken new free n) (all_taken also freed m) same = refl
+  same_accepted (all_taken new free n) (none_taken fault row) same = absurd same
+  same_accepted (none_taken fault row) (all_taken new free n) same = absurd same
+  same_accepted (none_taken fault row) (none_taken other place) same = refl
+
   given_there : (given : List GrantRow) → Each (IsGranted w.grants) given → Each (λ h. IsThere w h []) given
   given_there given each = each_map (IsGranted w.grants) (λ h. IsThere w h []) given (λ h there. ap (λ (o : Option ℕ). cond (is_some o) o None) there) each
 
-  thin_file : (accepted : Bool) (file given : List GrantRow) (now : ℕ) → Each (IsGranted w.grants) given → (step w now (grant file)).world ≡ (step w now (grant (thin_rows accepted given file))).world
+  pub thin_file : (accepted : Bool) (file given : List GrantRow) (now : ℕ) → Each (IsGranted w.grants) given → (step w now (grant file)).world ≡ (step w now (grant (thin_rows accepted given file))).world
   thin_file accepted file given now each =
       same_made (taken_of w file) (taken_of w (thin_rows accepted given file)) (thin_takes accepted file given 1 1 [] [] 0 0 (given_there given each))
 
+  -- a file is accepted where it is without them
+  pub thin_accepted : (accepted : Bool) (file given : List GrantRow) (now : ℕ) → Each (IsGranted w.grants) given → is_accepted w now (grant file) ≡ is_accepted w now (grant (thin_rows accepted given file))
+  thin_accepted accepted file given now each =
+      same_accepted (taken_of w file) (taken_of w (thin_rows accepted given file)) (thin_takes accepted file given 1 1 [] [] 0 0 (given_there given each))
+
 -- ---- without repeats
 
-report_stays : (w : World) (now : ℕ) (r : Report) (kept : List Report) → IsSound w → list_any (λ s. are_equal_reports s r) kept ≡ true → Each (IsKeptNow w) kept → (step w now (tell r)).world ≡ w
+pub report_stays : (w : World) (now : ℕ) (r : Report) (kept : List Report) → IsSound w → has_report r kept ≡ true → Each (IsKeptNow w) kept → (step w now (tell r)).world ≡ w
 report_stays w now r [] sound any each = absurd (cc)
 report_stays w now r (s ∷ kept) sound any each =
-    elim (are_equal_reports s r) as (λ b. are_equal_reports s r ≡ b → (b || list_any (λ s. are_equal_reports s r) kept) ≡ true → (step w now (tell r)).world ≡ w) [
+    elim (are_equal_reports s r) as (λ b. are_equal_reports s r ≡ b → (b || has_report r kept) ≡ true → (step w now (tell r)).world ≡ w) [
       | true ↦ λ is any. (let k = each.0 in ap (λ (t : Step). t.world) (told_again w now r k.state k.count sound (kept_equal w.reports s r k.state k.count is k.kept)))
       | false ↦ λ is any. report_stays w now r kept sound any each.1
     ] refl any
@@ -209,7 +226,7 @@ thin_here : (kept : List Report) (given : List GrantRow) (w : World) (now : ℕ)
 thin_here kept given w now None ps sound holds = refl
 thin_here kept given w now (Some (ask caller call)) ps sound holds = refl
 thin_here kept given w now (Some (tell r)) ps sound holds =
-    elim (list_any (λ s. are_equal_reports s r) kept) as (λ b. list_any (λ s. are_equal_reports s r) kept ≡ b → run w (cond b [] (record { now = now; event = Some (tell r) } ∷ []) ++ ps) ≡ run (step w now (tell r)).world ps) [
+    elim (has_report r kept) as (λ b. has_report r kept ≡ b → run w (cond b [] (record { now = now; event = Some (tell r) } ∷ []) ++ ps) ≡ run (step w now (tell r)).world ps) [
       | true ↦ λ any. ap (λ v. run v ps) (sym (report_stays w now r kept sound any holds.reports))
       | false ↦ λ any. refl
     ] refl
@@ -220,7 +237,7 @@ thin_all keeps [] kept given w sound places holds = refl
 thin_all keeps (p ∷ ps) kept given w sound places holds =
     thin_here kept given w p.now p.event (thin_from (reports_then kept w p.now p.event) (rows_then given w p.now p.event) (after w p.now p.event) ps) sound holds
     ∙ thin_all keeps ps (reports_then kept w p.now p.event) (rows_then given w p.now p.event) (after w p.now p.event) (keeps w (p ∷ []) sound (places.0, tt)) places.1
-    (record { reports = then_reports kept w p.now p.event holds.reports; rows = then_rows given w p.now p.event holds.rows })
+    (then_holds kept given w p.now p.event holds)
 
 -- the run without repeats ends in the same world
 pub thin_run : KeepsSound → (w : World) (ps : List Place) → IsSound w → Each IsPlace ps → run w (thin w ps) ≡ run w ps

@@ -9,5 +9,6 @@ pub mod Reporting
 pub mod Granting
 pub mod Alike
 pub mod Thin
+pub mod Before
 pub mod Doing
 pub mod Documents

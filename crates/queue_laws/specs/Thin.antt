@@ -17,6 +17,14 @@ are_equal_reports a b = a.job == b.job && a.seq == b.seq && kind_number a.kind =
 abbrev pub are_equal_rows : GrantRow → GrantRow → Bool
 are_equal_rows a b = bytes_eq a.batch b.batch && bytes_eq a.account b.account && a.pages == b.pages
 
+-- one of these reports equals r
+abbrev pub has_report : Report → List Report → Bool
+has_report r kept = list_any (λ s. are_equal_reports s r) kept
+
+-- one of these rows equals g
+abbrev pub has_row : GrantRow → List GrantRow → Bool
+has_row g rows = list_any (λ h. are_equal_rows h g) rows
+
 -- the event is not refused
 abbrev pub is_accepted : World → ℕ → Event → Bool
 is_accepted w now e = not (refuses (answer w now e))
@@ -40,13 +48,13 @@ rows_then given w now (Some (grant file)) = if is_accepted w now (grant file) th
 -- the rows of a file that equal none of those accepted before and, where the file is accepted, none before them in it
 abbrev pub thin_rows : Bool → List GrantRow → List GrantRow → List GrantRow
 thin_rows accepted given [] = []
-thin_rows accepted given (g ∷ file) = if list_any (λ h. are_equal_rows h g) given then thin_rows accepted given file else g ∷ thin_rows accepted (if accepted then g ∷ given else given) file
+thin_rows accepted given (g ∷ file) = if has_row g given then thin_rows accepted given file else g ∷ thin_rows accepted (if accepted then g ∷ given else given) file
 
 -- the place without what equals an accepted report or row; a file without rows stays
 abbrev pub thin_place : List Report → List GrantRow → World → ℕ → Option Event → List Place
 thin_place kept given w now None = record { now = now; event = None } ∷ []
 thin_place kept given w now (Some (ask caller call)) = record { now = now; event = Some (ask caller call) } ∷ []
-thin_place kept given w now (Some (tell r)) = if list_any (λ s. are_equal_reports s r) kept then [] else record { now = now; event = Some (tell r) } ∷ []
+thin_place kept given w now (Some (tell r)) = if has_report r kept then [] else record { now = now; event = Some (tell r) } ∷ []
 thin_place kept given w now (Some (grant file)) = record { now = now; event = Some (grant (thin_rows (is_accepted w now (grant file)) given file)) } ∷ []
 
 abbrev pub thin_from : List Report → List GrantRow → World → List Place → List Place

@@ -53,7 +53,7 @@ pub use held::jobs_are_held_until_released;
 pub use limits::hundred_own_jobs_are_most;
 pub use others::{others_requests_are_alike, own_is_what_is_shown, run_two};
 pub use refusals::refusals_change_nothing;
-pub use repeats::run_thin;
+pub use repeats::{repeats_alone_are_left_out, run_thin, thin_runs_have_no_repeats};
 pub use reported::{jobs_are_reported, reports_are_compared, reports_are_out_of_state};
 pub use showing::{own_job_is_shown, own_jobs_are_in_order, own_jobs_are_shown, printer_is_shown};
 pub use single::{other_jobs_are_left_alone, others_jobs_are_none};
