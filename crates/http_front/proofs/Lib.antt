@@ -2,6 +2,7 @@ pub mod WriteLemmas
 pub mod FailedReadLemmas
 pub mod ReplyLemmas
 pub mod TurnedLemmas
+pub mod FramedLemmas
 pub mod Runs
 pub mod WorkedLemmas
 pub mod RunLemmas

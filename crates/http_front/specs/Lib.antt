@@ -7,3 +7,4 @@ pub mod Places
 pub mod Crash
 pub mod Conversations
 pub mod FailedReads
+pub mod Framed

@@ -8,6 +8,7 @@ ghost use Rattle.http_head.specs.Routes.{routes};
 ghost use Rattle.http_front.specs.Books.{ComesTo};
 ghost use Rattle.http_front.specs.Connections.{IsFaultless, IsServed, IsStopped, MarksFaults, Worked, WorkedOver, acted_of};
 ghost use Rattle.http_front.specs.Crash.{CarriesAll, IsAtMostOneMore};
+ghost use Rattle.http_front.specs.Framed.{AreFramed};
 ghost use Rattle.http_front.specs.Turns.{most_requests};
 
 use crate::context::Context;
@@ -58,6 +59,8 @@ fn run<R: Read, W: Write, B: QueueBook>(
     ensures few_stopped { IfErr result (λ fault. fault.acted ≤ most_requests) }
     // what shuts a book is answered as a fault, or breaks a document off
     ensures live { B.is_honest book.new → B.is_live book.old → IsFaultless result → B.is_live book.new }
+    // over any book, also one that is not honest: each response has as many bytes of content as its head tells
+    ensures framed { IfOk result (λ served. AreFramed (W.contents writer.old) (W.contents writer.new)) }
 {
     let mut acted = 0;
     let mut faults = 0;
@@ -134,6 +137,8 @@ pub fn serve<R: Read, W: Write, B: QueueBook>(
     ensures few_stopped { IfErr result (λ fault. fault.acted ≤ most_requests) }
     // what shuts a book is answered as a fault, or breaks a document off
     ensures live { B.is_honest book.new → B.is_live book.old → IsFaultless result → B.is_live book.new }
+    // over any book, also one that is not honest: each response has as many bytes of content as its head tells
+    ensures framed { IfOk result (λ served. AreFramed (W.contents writer.old) (W.contents writer.new)) }
 {
     let mut input = Input::new(reader);
     let table = router(alloc).ok();

@@ -4,6 +4,7 @@ ghost use Rattle.std.specs.Io.KnownBytes.{Appends};
 ghost use Rattle.queue_core.specs.Limits.{IsMoment};
 ghost use Rattle.queue_core.specs.World.{World};
 ghost use Rattle.http_front.specs.Books.{ComesTo};
+ghost use Rattle.http_front.specs.Framed.{IsFramed};
 ghost use Rattle.http_front.specs.Turned.{IsReplied, IsRepliedOver, IsReplyFaultless};
 ghost use Rattle.http_head.specs.Limits.{content_limit};
 ghost use Rattle.http_head.specs.declared.target.Target.TheVariants.{Ipp, Report, Queue, Document};
@@ -74,6 +75,8 @@ fn reply_ipp<W: Write, B: QueueBook>(
         (W.contents writer.old) (W.contents writer.new) result) }
     ensures live { B.is_honest book.new → B.is_live book.old → IsReplyFaultless result → B.is_live book.new }
     ensures no_read_failed { IfErr result (λ f. f.cause ≢ ServeCause.Read) }
+    // over any book, also one that is not honest
+    ensures framed { IfOk result (λ replied. IsFramed closes (W.contents writer.old) (W.contents writer.new) replied) }
 {
     match answer(context.alloc, book, context.settings, context.now, content) {
         Err(TooShort) => Ok(Replied::Declined(Refusal::BadRequest)),
@@ -102,6 +105,8 @@ fn reply_report<W: Write, B: QueueBook>(
         (W.contents writer.old) (W.contents writer.new) result }
     ensures live { B.is_honest book.new → B.is_live book.old → IsReplyFaultless result → B.is_live book.new }
     ensures no_read_failed { IfErr result (λ f. f.cause ≢ ServeCause.Read) }
+    // over any book, also one that is not honest
+    ensures framed { IfOk result (λ replied. IsFramed closes (W.contents writer.old) (W.contents writer.new) replied) }
 {
     let answer = report(book, now, content);
     let tally = Tally {
@@ -125,6 +130,8 @@ fn reply_queue<W: Write, B: QueueBook>(
         → IsReplied now w w Queue content closes (W.contents writer.old) (W.contents writer.new) result }
     ensures live { B.is_honest book.new → B.is_live book.old → IsReplyFaultless result → B.is_live book.new }
     ensures no_read_failed { IfErr result (λ f. f.cause ≢ ServeCause.Read) }
+    // over any book, also one that is not honest
+    ensures framed { IfOk result (λ replied. IsFramed closes (W.contents writer.old) (W.contents writer.new) replied) }
 {
     let Ok(jobs) = book.pending() else {
         return Ok(Replied::Declined(Refusal::ServiceUnavailable));
@@ -160,6 +167,8 @@ fn reply_document<W: Write, B: QueueBook>(
         → IsReplied now w w (Document numbers) content closes (W.contents writer.old) (W.contents writer.new) result }
     ensures live { B.is_honest book.new → B.is_live book.old → IsReplyFaultless result → B.is_live book.new }
     ensures no_read_failed { IfErr result (λ f. f.cause ≢ ServeCause.Read) }
+    // over any book, also one that is not honest
+    ensures framed { IfOk result (λ replied. IsFramed closes (W.contents writer.old) (W.contents writer.new) replied) }
 {
     let Some((job, n)) = numbers else {
         return Ok(Replied::Declined(Refusal::NotFound));
@@ -193,6 +202,8 @@ pub(crate) fn reply<W: Write, B: QueueBook>(
         (W.contents writer.old) (W.contents writer.new) result) }
     ensures live { B.is_honest book.new → B.is_live book.old → IsReplyFaultless result → B.is_live book.new }
     ensures no_read_failed { IfErr result (λ f. f.cause ≢ ServeCause.Read) }
+    // over any book, also one that is not honest
+    ensures framed { IfOk result (λ replied. IsFramed request.entry.closes (W.contents writer.old) (W.contents writer.new) replied) }
 {
     match request.target {
         Target::Ipp => reply_ipp(context, writer, book, request.content, request.closes),

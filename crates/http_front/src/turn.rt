@@ -1,5 +1,5 @@
 //! One request and its answer.
-ghost use Rattle.std.specs.Prelude.{◌≡◌, ◌≢◌, ◌≤◌, ◌==◌, ◌||◌, IfErr};
+ghost use Rattle.std.specs.Prelude.{◌≡◌, ◌≢◌, ◌≤◌, ◌==◌, ◌||◌, IfErr, IfOk};
 ghost use Rattle.std.specs.Io.KnownBytes.{Appends};
 ghost use Rattle.std.specs.Option.{ForSome};
 ghost use Rattle.queue_core.specs.Limits.{IsMoment};
@@ -11,6 +11,7 @@ ghost use Rattle.http_wire.specs.Responses.{interim_response};
 ghost use Rattle.http_front.specs.Books.{ComesTo};
 ghost use Rattle.http_front.specs.Turns.{last_request};
 ghost use Rattle.http_front.specs.FailedReads.{FailsToRead};
+ghost use Rattle.http_front.specs.Framed.{IsTurnFramed};
 ghost use Rattle.http_front.specs.Turned.{IsClosed, IsPlanned, IsTurnFaultless, IsTurned, ClosesLast};
 
 use crate::context::Context;
@@ -86,6 +87,8 @@ fn take_planned<R: Read, W: Write, B: QueueBook>(
         → Appends (W.contents writer.old) (W.contents writer.new) (interim_response numbered.plan)) }
     // what shuts a book is answered as a fault, or breaks a document off
     ensures live { B.is_honest book.new → B.is_live book.old → IsTurnFaultless result → B.is_live book.new }
+    // over any book, also one that is not honest
+    ensures framed { IfOk result (λ turned. IsTurnFramed (W.contents writer.old) (W.contents writer.new) turned) }
 {
     let plan = numbered.plan;
     let invited = send_continue(writer, plan)?;
@@ -135,6 +138,8 @@ pub(crate) fn turn<R: Read, W: Write, B: QueueBook>(
         → FailsToRead (bytes_left R.Read input.old) (bytes_left R.Read input.new) (W.contents writer.old) (W.contents writer.new)) }
     // what shuts a book is answered as a fault, or breaks a document off
     ensures live { B.is_honest book.new → B.is_live book.old → IsTurnFaultless result → B.is_live book.new }
+    // over any book, also one that is not honest
+    ensures framed { IfOk result (λ turned. IsTurnFramed (W.contents writer.old) (W.contents writer.new) turned) }
 {
     let Some(router) = router else {
         return close_with(writer, Finish::Refused(Refusal::ServiceUnavailable));
@@ -142,7 +147,7 @@ pub(crate) fn turn<R: Read, W: Write, B: QueueBook>(
     match take_head(router, input) {
         Ok(plan) => take_planned(context, input, writer, book, NumberedPlan { plan, k }),
         Err(HeadFault::Ended(end)) => close_with(writer, end),
-        Err(HeadFault::Failed(refusal)) => close_with(writer, Finish::Refused(refusal)),
+        Err(HeadFault::Refused(refusal)) => close_with(writer, Finish::Refused(refusal)),
         Err(HeadFault::Read) => Err(Stopped::by(ServeCause::Read)),
     }
 }

@@ -1,12 +1,13 @@
 -- The words of a head, as the code reads them.
 use Rattle.std.proofs.Common.{◌≡◌, ◌+◌, ◌-◌, ◌*◌, ◌<◌, ℕ, List, [], ◌∷◌, ◌&&◌, Bool, true, false, length, ◌^◌, take, map, min, refl, sym, ap, ◌∙◌, arith, get_or, IsTrue, ◌↔◌}
-use Rattle.std.specs.Prelude.{bytes_eq, codes, if◌then◌else◌, ◌||◌, nat_eq, nat_lt, Option, Some, None, Result, Ok, Err}
+use Rattle.std.specs.Prelude.{◌==◌, not, bytes_eq, codes, if◌then◌else◌, ◌||◌, nat_eq, nat_lt, Option, Some, None, Result, Ok, Err}
 use Rattle.std.specs.List.{list_all, list_any, starts_with}
 use Rattle.std.specs.Result.{result_ok}
 use Rattle.std.specs.Char.{is_ascii_digit, digit_value}
 use Rattle.std.specs.Str.{IsAscii, is_utf8}
 use Rattle.std.specs.Str.Parse.{digits_value, ParsesUnsigned}
 use Rattle.std.proofs.Common.{rules, zero, suc}
+use Rattle.std.proofs.Math.Dec.{eqb-suc-zero}
 use Rattle.std.proofs.lemmas.Bool.Decides.{nat_tests}
 use Rattle.std.proofs.lemmas.Str.{IsUtf8-from_ascii, is_utf8-from_IsUtf8}
 use Rattle.std.proofs.lemmas.Str.Ascii.{IsAscii-nil, IsAscii-cons}
@@ -100,10 +101,10 @@ all_same_is r f xs text h e = h ∙ all_over (λ other. bytes_eq other text) f x
 
 -- ---- phrases
 
--- there is a value, whatever each is
-pub there-map : {X : Type 0} (f : X → List ℕ) (xs : List X) → is_there (map f xs) ≡ is_there xs
+-- there is a value where they are not empty, whatever each is
+pub there-map : {X : Type 0} (f : X → List ℕ) (xs : List X) → is_there (map f xs) ≡ not (length xs == 0)
 there-map f [] = refl
-there-map f (x ∷ xs) = refl
+there-map f (x ∷ xs) = sym (ap not (eqb-suc-zero (length xs)))
 
 and_and : (a b c : Bool) → ((a && b) && c) ≡ (a && b && c)
 and_and true b c = refl

@@ -1,5 +1,5 @@
 //! The checks of a request's head, in their order.
-ghost use Rattle.std.specs.Prelude.{◌≡◌, ◌≤◌, Some, length, codes, find};
+ghost use Rattle.std.specs.Prelude.{◌≡◌, ◌≤◌, Some, length, codes};
 ghost use Rattle.std.specs.List.{list_all, list_any};
 ghost use Rattle.httparse.specs.Spans.{span_bytes};
 ghost use Rattle.http_head.specs.Checks as spec;
@@ -8,7 +8,7 @@ ghost use Rattle.http_head.specs.Planned.{fields_at};
 
 use crate::end::Refusal;
 use crate::fields::{before, has_member, same_word, text_at, values, without_spaces};
-use crate::framing::{Framing, is_there};
+use crate::framing::Framing;
 use crate::limits::CONTENT_LIMIT;
 use crate::target::Target;
 use httparse::spans::{HeaderSpan, Span};
@@ -42,7 +42,7 @@ pub(crate) fn is_typed(asked: &[u8], come: &[u8], fields: &[HeaderSpan]) -> bool
     let types = values(come, fields, b"content-type");
     let codings = values(come, fields, b"content-encoding");
     // As in `is_misframed`, no branches.
-    is_there(types.as_slice())
+    !types.is_empty()
         & are_types(come, types.as_slice(), asked)
         & are_identity(come, codings.as_slice())
 }
@@ -61,17 +61,12 @@ pub(crate) fn asks_for(come: &[u8], fields: &[HeaderSpan], name: &[u8], word: &[
     any_has(come, values(come, fields, name).as_slice(), word)
 }
 
-fn first_row(rows: &[(bool, Refusal)]) -> Option<(bool, Refusal)>
-    ensures { result ≡ find (λ row. row.0) rows.now }
-{
-    rows.iter().copied().find(|row| row.0)
-}
-
 fn first_that_applies(rows: &[(bool, Refusal)]) -> Option<Refusal>
     ensures { result ≡ spec.first_that_applies rows.now }
 {
-    let (_, refusal) = first_row(rows)?;
-    Some(refusal)
+    rows.iter()
+        .find(|(applies, _)| *applies)
+        .map(|(_, refusal)| *refusal)
 }
 
 /// The first check that applies to a request without a route.

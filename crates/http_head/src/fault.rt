@@ -18,7 +18,7 @@ pub enum HeadFault {
     Ended(Finish),
     /// A head stands there, and a check refuses it.
     #[error("a check refuses the request")]
-    Failed(Refusal),
+    Refused(Refusal),
     /// A read failed.
     #[error("a read failed")]
     Read,
@@ -33,9 +33,9 @@ impl From<ReadFault> for HeadFault {
 }
 
 impl From<Refusal> for HeadFault {
-    ghost from_gives = { λ refusal fault. fault ≡ faults.Failed refusal };
+    ghost from_gives = { λ refusal fault. fault ≡ faults.Refused refusal };
 
     fn from(refusal: Refusal) -> HeadFault {
-        HeadFault::Failed(refusal)
+        HeadFault::Refused(refusal)
     }
 }

@@ -45,14 +45,6 @@ impl Framing {
     }
 }
 
-/// There is a value.
-// a function of its own, so that what is said of it speaks of the values and not of how many they are
-pub(crate) fn is_there(values: &[Span]) -> bool
-    ensures { result ≡ spec.is_there values.now }
-{
-    !values.is_empty()
-}
-
 fn is_chunked_alone(come: &[u8], codings: &[Span]) -> bool
     ensures { result ≡ spec.is_chunked_alone (map (span_bytes come.now) codings.now) }
 {
@@ -93,8 +85,8 @@ fn all_same(come: &[u8], lengths: &[Span]) -> bool
 pub(crate) fn is_misframed(come: &[u8], codings: &[Span], lengths: &[Span]) -> bool
     ensures { result ≡ spec.misframed (map (span_bytes come.now) codings.now) (map (span_bytes come.now) lengths.now) }
 {
-    let coded = is_there(codings);
-    let told = is_there(lengths);
+    let coded = !codings.is_empty();
+    let told = !lengths.is_empty();
     let chunked = is_chunked_alone(come, codings);
     let digits = are_digits(come, lengths);
     let same = all_same(come, lengths);
@@ -107,11 +99,9 @@ pub(crate) fn framing_told(come: &[u8], codings: &[Span], lengths: &[Span]) -> F
     ensures { spec.misframed (map (span_bytes come.now) codings.now) (map (span_bytes come.now) lengths.now) ≡ false
         → result ≡ spec.capped (spec.framing (map (span_bytes come.now) codings.now) (map (span_bytes come.now) lengths.now)) }
 {
-    if is_there(codings) {
-        return Framing::Chunked;
-    }
-    match lengths {
-        [] => Framing::Nothing,
-        [first, ..] => Framing::Sized(capped_number(text_at(come, *first))),
+    match (codings, lengths) {
+        ([_, ..], _) => Framing::Chunked,
+        ([], [first, ..]) => Framing::Sized(capped_number(text_at(come, *first))),
+        ([], []) => Framing::Nothing,
     }
 }

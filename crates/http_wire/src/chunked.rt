@@ -13,13 +13,9 @@ use crate::fault::BodyFault;
 use crate::trailers::take_trailers;
 use http_head::end::{Finish, Refusal};
 use http_head::input::Input;
-use http_head::limits;
-use http_head::limits::{LINE_LIMIT, RAW_LIMIT, TRAILER_LIMIT};
+use http_head::limits::{CONTENT_LIMIT, LINE_LIMIT, RAW_LIMIT, TRAILER_LIMIT};
 use std::alloc::Global;
 use std::io::Read;
-
-/// The most bytes of a body's content.
-const CONTENT_LIMIT: usize = limits::CONTENT_LIMIT as usize;
 
 /// Behind so much content and so many raw bytes, the chunk of this line brings the content or the raw bytes past their limit.
 fn is_too_large(content: usize, raw: usize, line: Line) -> bool
@@ -29,7 +25,7 @@ fn is_too_large(content: usize, raw: usize, line: Line) -> bool
     ensures over { OnTrue result ((content_limit < content + line.size) ⊎ (raw_limit < raw + line.len + line.size + 2)) }
     ensures fits { OnFalse result ((content + line.size ≤ content_limit) × (raw + line.len + line.size + 2 ≤ raw_limit)) }
 {
-    line.size > (CONTENT_LIMIT - content) as u64
+    line.size > u64::from(CONTENT_LIMIT) - content as u64
         || raw + line.len + line.size as usize + 2 > RAW_LIMIT
 }
 

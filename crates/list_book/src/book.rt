@@ -1,5 +1,5 @@
 //! The book in lists, which keeps a queue in memory.
-ghost use Rattle.std.specs.Prelude.{◌≡◌, ◌≤◌, ⊤, IfOk, IfErr, IfSome, IsSome, OnOk, OnErr, Some, length, option_map, take};
+ghost use Rattle.std.specs.Prelude.{◌≡◌, ◌≤◌, ⊤, ℕ, List, IfOk, IfErr, IfSome, IsSome, OnOk, OnErr, Some, length, option_map, take};
 ghost use Rattle.std.specs.Io.KnownBytes.{Appends};
 ghost use Rattle.queue_core.specs.Book.{IsContent, IsDecisionOn};
 ghost use Rattle.queue_types.specs.Event.{event_of, change_of, decision_of};
@@ -176,12 +176,13 @@ impl QueueBook for ListBook {
         ensures live { ⊤ → OnOk result ⊤ }
         ensures opened { ⊤ → ⊤ → ⊤ }
         ensures writer_failed { ⊤ → IfErr result (λ f. f.cause ≡ ByWriter → ⊤) }
+        ensures counted { IfOk result (λ sent. (bytes : List ℕ) × (length bytes ≡ sent) × Appends (W.contents out.old) (W.contents out.new) bytes) }
         ensures fault { IfErr result (λ f. f.cause ≡ ByWriter) }
     {
-        match seen::document(&self.lists, job, n) {
-            Some(d) => send(out, d.bytes.as_slice()),
-            None => Ok(0),
-        }
+        let Some(d) = seen::document(&self.lists, job, n) else {
+            return Ok(0);
+        };
+        send(out, d.bytes.as_slice())
     }
 
     fn sheet(&mut self, account: &str) -> Result<Option<AccountSheet>, BookFault>

@@ -8,5 +8,6 @@ pub record AreAmounts (j : Job) : Type 0 where
   pub copies : j.copies ≤ 999
   pub count : j.count ≤ 100000000
 
-abbrev pub IsBelow : ℕ → ℤ → Type 0
-IsBelow n z = (neg_ℤ (pos n) ≤ℤ z) × (z ≤ℤ pos n)
+-- from −n to n
+abbrev pub IsWithin : ℕ → ℤ → Type 0
+IsWithin n z = (neg_ℤ (pos n) ≤ℤ z) × (z ≤ℤ pos n)

@@ -1,9 +1,10 @@
 -- The limits of rows, events and replies.
-use Rattle.std.specs.Prelude.{◌≡◌, ℕ, ℤ, pos, neg_ℤ, ◌≤ℤ◌, ◌^◌, ◌*◌, ◌+◌, ◌≤◌, ◌<◌, List, None, All, ⊤, IsSome, IfSome, length, ◌==◌, ◌&&◌, ◌||◌, Bool, false, IsTrue, not, nat_le}
+use Rattle.std.specs.Prelude.{◌≡◌, ℕ, ℤ, ◌^◌, ◌*◌, ◌+◌, ◌≤◌, ◌<◌, List, None, All, ⊤, IsSome, IfSome, length, ◌==◌, ◌&&◌, ◌||◌, Bool, false, IsTrue, not, nat_le}
 use Rattle.std.specs.List.{list_all}
 use Rattle.std.specs.Str.{IsUtf8}
 use Rattle.queue_types.specs.Settings.{AreSettings}
 use Rattle.queue_types.specs.Event.{Event, Call, NewJob, Change, ask, tell, grant, print_job, validate_job, create_job, send_document, cancel_job, cancel_my_jobs, hold_job, release_job, get_job_attributes, get_jobs, get_printer_attributes}
+use Rattle.queue_core.specs.Balance.{IsWithin}
 use Rattle.queue_core.specs.World.{job_at}
 use Rattle.queue_types.specs.declared.job.Job.{Job}
 use Rattle.queue_types.specs.declared.job.Phase.{Phase}
@@ -114,7 +115,7 @@ IsEvent (grant new) = (length new ≤ 16777216) × All IsGrantRow new
 
 -- pages of an account that a sum over jobs can't take past 64 bits
 abbrev pub IsAmount : ℤ → Type 0
-IsAmount z = (neg_ℤ (pos (2 ^ 60)) ≤ℤ z) × (z ≤ℤ pos (2 ^ 60))
+IsAmount = IsWithin (2 ^ 60)
 
 -- what a sound world gives of an account file's row
 pub record IsKnown (k : KnownGrant) : Type 0 where

@@ -6,7 +6,7 @@ ghost use Rattle.queue_types.specs.Job.{owed};
 ghost use Rattle.queue_core.specs.Limits.{IsAmount};
 ghost use Rattle.queue_core.specs.Machine.{credited, returned, taken, given_back};
 ghost use Rattle.queue_core.specs.World.{job_at};
-ghost use Rattle.queue_core.specs.Balance.{AreAmounts, IsBelow};
+ghost use Rattle.queue_core.specs.Balance.{AreAmounts, IsWithin};
 
 use queue_types::event::FreeRow;
 use queue_types::job::Job;
@@ -33,7 +33,7 @@ fn given_back_by(before: &[Job], job: &Job, account: &str) -> i64
     requires before { All AreAmounts before.now }
     requires job { AreAmounts job.now }
     ensures exact { result ≡ given_back before.now account.now job.now }
-    ensures bound { IsBelow (2 ^ 28) result }
+    ensures bound { IsWithin (2 ^ 28) result }
 {
     if job.owner.as_str() != account {
         return 0;
@@ -51,7 +51,7 @@ fn returned_to(before: &[Job], after: &[Job], account: &str) -> i64
     requires after { All AreAmounts after.now }
     requires few { length after.now < 2 ^ 31 }
     ensures exact { result ≡ returned before.now account.now after.now }
-    ensures bound { IsBelow (2 ^ 59) result }
+    ensures bound { IsWithin (2 ^ 59) result }
 {
     let mut back: i64 = 0;
     for job in after {

@@ -4,7 +4,7 @@
 //! the call ends; a call that ends honest began so. A refused call leaves what the book stands for. No call on an
 //! honest book that stands for a queue is told Damaged. A book that an error has shut answers nothing but faults.
 //! A crash, at whatever moment, leaves the queue from before a call or the one after it, and nothing between.
-ghost use Rattle.std.specs.Prelude.{◌≡◌, ◌≤◌, Some, IfErr, IfOk, IfSome, IsSome, OnOk, OnErr, length, option_map, take};
+ghost use Rattle.std.specs.Prelude.{◌≡◌, ◌≤◌, ℕ, List, Some, IfErr, IfOk, IfSome, IsSome, OnOk, OnErr, length, option_map, take};
 ghost use Rattle.std.specs.Io.KnownBytes.{Appends};
 ghost use Rattle.queue_core.specs.Book.{IsDecisionOn};
 ghost use Rattle.queue_types.specs.Event.{event_of, change_of, decision_of};
@@ -142,7 +142,9 @@ pub trait QueueBook {
         ensures live { is_honest self.new → OnOk result (is_live self.new) }
         ensures opened { is_honest self.new → is_live self.new → is_live self.old }
         // a writer that fails shuts no book
-        ensures writer_failed { is_honest self.new → IfErr result (λ f. f.cause ≡ SendCause.Write → is_live self.new) };
+        ensures writer_failed { is_honest self.new → IfErr result (λ f. f.cause ≡ SendCause.Write → is_live self.new) }
+        // on any book, also one that is not honest
+        ensures counted { IfOk result (λ sent. (bytes : List ℕ) × (length bytes ≡ sent) × Appends (W.contents out.old) (W.contents out.new) bytes) };
 
     /// What is told of an account, where it is there.
     fn sheet(&mut self, account: &str) -> Result<Option<AccountSheet>, BookFault>

@@ -3,6 +3,7 @@ use Rattle.std.proofs.Common.{◌≡◌, ◌≢◌, inl, inr, ℕ, ◌+◌, ◌�
 use Rattle.std.specs.Borrow.{Bor}
 use Rattle.std.specs.Io.KnownBytes.{Appends}
 use Rattle.std.proofs.KnownBytes.{Appends-nil, Appends-trans}
+use Rattle.std.proofs.lemmas.List.{length-take-le}
 use Rattle.std.proofs.lemmas.Result.{on_err_weaker}
 use Rattle.sqlite.specs.declared.error.Error.{Error}
 use Rattle.sqlite.specs.declared.error.Error.TheVariants.{SqliteFailure}
@@ -26,13 +27,13 @@ use Rattle.queue_tables.proofs.Leaving.{begun_unchanged, survives_all}
 use Rattle.queue_tables.proofs.Queries.{query_never_commits}
 use Rattle.queue_tables.proofs.Reading.{answers_at, begins_at, left_then, plain_at, still_open, unchanged_open}
 use Rattle.queue_shown.specs.Sending.{SendsPieces, SendsRows}
-use Rattle.queue_shown.specs.Sent.{HasBook, ShowsNoBlob, bytes_of, piece_bytes, pieces_select}
+use Rattle.queue_shown.specs.Sent.{HasBook, HasWritten, ShowsNoBlob, bytes_of, piece_bytes, pieces_select}
 use Rattle.queue_shown.specs.declared.send.Stop.{Stop}
 use Rattle.queue_shown.specs.declared.send.Stop.TheVariants.{Tables}
 use Rattle.queue_shown.proofs.Damage.{at_stop}
 use Rattle.queue_shown.proofs.Sending.{front_whole, pieces_plain_in, same_found, same_front, same_sent}
 use Rattle.queue_shown.proofs.Texts.{select_pieces_is}
-use Rattle.queue_shown.proofs.Writes.{front_of, one_more}
+use Rattle.queue_shown.proofs.Writes.{front_of, one_more, written_on}
 
 not_damaged : (e : Error) (stop : Stop) → stop ≡ Tables (read_fault e) → stop ≢ Tables Damaged
 not_damaged (SqliteFailure OutOfMemory) stop is told = cc
@@ -50,6 +51,7 @@ pub record HasSentRows {S : Type 0} (g : Ghosts S) (old new : Held S) (before af
   pub mode : old.in_transaction ≡ false → new.in_transaction ≡ false
   pub same : HasCleanDisk (state g new) → IsTrue (state g old).is_open → IsUnchanged (state g old) (state g new)
   pub sent : HasCleanDisk (state g new) → (params : Row) → HasGiven g pieces_select params old [] → (given : List Row) × HasGiven g pieces_select params new given × Appends before after (bytes_of given) × (written ≡ length (bytes_of given))
+  pub counted : HasWritten before after written
 
 pub none_sent : {S : Type 0} (g : Ghosts S) (h : Held S) (a : Option (List ℕ)) (k : ℕ) → k ≡ 0 → HasSentRows g h h a a k
 none_sent g h a k none = record {
@@ -57,6 +59,7 @@ none_sent g h a k none = record {
   mode = λ outside. outside;
   same = λ clean live. unchanged_open (state g h) live;
   sent = λ clean params given. ([], given, Appends-nil a, none);
+  counted = ([], sym none, Appends-nil a);
 }
 
 module _ {S : Type 0} (g : Ghosts S) (first : Held S) (at : Rows S g) (a b : Option (List ℕ)) (k : ℕ) (so : HasSentRows g first at.conn.now a b k) where
@@ -76,6 +79,7 @@ module _ {S : Type 0} (g : Ghosts S) (first : Held S) (at : Rows S g) (a b : Opt
         let was = so.sent clean params begun in
         front_whole params (state g first) a b was.0 k (begun_at clean live params was.0 was.1) was.2 was.3;
     damaged = λ clean live params begun told. absurd cc;
+    counted = so.counted;
   }
 
   module _ (now : Rows S g) where
@@ -99,6 +103,7 @@ module _ {S : Type 0} (g : Ghosts S) (first : Held S) (at : Rows S g) (a b : Opt
           let was = so.sent (earlier moved.survives clean) params begun in
           front_whole params (state g first) a b was.0 k (begun_at (earlier moved.survives clean) live params was.0 was.1) was.2 was.3;
       damaged = λ clean live params begun told. absurd (not_damaged e stop is told);
+      counted = so.counted;
     }
 
     -- all were sent
@@ -119,6 +124,7 @@ module _ {S : Type 0} (g : Ghosts S) (first : Held S) (at : Rows S g) (a b : Opt
           };
       front = λ clean live params begun. tt;
       damaged = λ clean live params begun. tt;
+      counted = so.counted;
     }
       where
         kept : HasCleanDisk (state g now.conn.now) → IsTrue (state g first).is_open → IsUnchanged (state g first) (state g now.conn.now)
@@ -145,6 +151,7 @@ module _ {S : Type 0} (g : Ghosts S) (first : Held S) (at : Rows S g) (a b : Opt
               rw (one_more was.0 row.now) (Appends-trans _ _ _ _ _ was.2 whole.0),
               rw (one_more was.0 row.now) (omega (arith, length-append (bytes_of was.0) (piece_bytes row.now), was.3, whole.1)),
             );
+        counted = written_on a b c k (length (piece_bytes row.now)) written (piece_bytes row.now) so.counted refl whole.0 whole.1;
       }
 
       -- which is not sent whole
@@ -164,6 +171,7 @@ module _ {S : Type 0} (g : Ghosts S) (first : Held S) (at : Rows S g) (a b : Opt
         damaged = λ clean live params begun told.
             let was = so.sent (earlier moved.survives clean) params begun in
             record { before = was.0; row = row.now; there = begins clean live params was.0 was.1; bare = bare (sym is ∙ told) };
+        counted = written_on a b c k part.0 written (take part.0 (piece_bytes row.now)) so.counted (length-take-le part.0 (piece_bytes row.now) part.1) part.2 part.3;
       }
 
 -- ---- the query and its rows
@@ -185,6 +193,7 @@ module _ {S T : Type 0} (g : Ghosts S) (params : Row) (old : Held S) (r : Result
         front = λ fits clean. record { bytes = []; appends = Appends-nil a; count = none; front = inl refl };
         damaged = λ fits clean told. absurd (not_damaged e stop is told);
         was_open = λ clean told. absurd (not_damaged e stop is told);
+        counted = ([], sym none, Appends-nil a);
       }
 
   -- what its rows are sent as
@@ -200,6 +209,7 @@ module _ {S T : Type 0} (g : Ghosts S) (params : Row) (old : Held S) (r : Result
     front = λ fits clean. on_err_weaker r (same_front params (state g old) (state g first) a b written (same clean).0.now_is) (sends.front clean (live clean) params (given fits clean));
     damaged = λ fits clean. map_err r _ _ (λ stop told damaged. same_found params (state g old) (state g first) (same clean).0.now_is (told damaged)) (sends.damaged clean (live clean) params (given fits clean));
     was_open = λ clean. at_stop r (Tables Damaged) (same clean).0.was_open;
+    counted = sends.counted;
   }
     where
       mid : HasCleanDisk (state g new) → HasCleanDisk (state g first)

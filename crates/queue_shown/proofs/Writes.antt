@@ -6,11 +6,15 @@ use Rattle.std.proofs.lemmas.Grind.{flat_map-append}
 use Rattle.std.proofs.KnownBytes.{Appends-trans}
 use Rattle.sqlite.specs.Order.{Row}
 use Rattle.sqlite.specs.State.{State, Begins}
-use Rattle.queue_shown.specs.Sent.{piece_bytes, bytes_of, pieces_select, HasSentFront}
+use Rattle.queue_shown.specs.Sent.{piece_bytes, bytes_of, pieces_select, HasSentFront, HasWritten}
 
 -- one more piece
 pub one_more : (rows : List Row) (row : Row) → bytes_of (rows ++ row ∷ []) ≡ bytes_of rows ++ piece_bytes row
 one_more rows row = flat_map-append piece_bytes rows (row ∷ []) ∙ ap (λ (l : List ℕ). bytes_of rows ++ l) (append-nil (piece_bytes row))
+
+-- n more bytes behind k
+pub written_on : (a b c : Option (List ℕ)) (k n written : ℕ) (bytes : List ℕ) → HasWritten a b k → length bytes ≡ n → Appends b c bytes → written ≡ k + n → HasWritten a c written
+written_on a b c k n written bytes before long q w = (before.0 ++ bytes, omega (arith, length-append before.0 bytes, before.1, long, w), Appends-trans a b c before.0 bytes before.2 q)
 
 -- some of one more piece
 pub front_of : (params : Row) (s : State) (a b c : Option (List ℕ)) (rows : List Row) (row : Row) (k n written : ℕ) → Begins pieces_select params s (rows ++ row ∷ []) → Appends a b (bytes_of rows) → k ≡ length (bytes_of rows)

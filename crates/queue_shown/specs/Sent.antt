@@ -24,6 +24,10 @@ bytes_of rows = flat_map piece_bytes rows
 abbrev pub pieces_select : List ℕ
 pieces_select = codes "SELECT bytes FROM pieces WHERE job = ?1 AND doc = ?2 ORDER BY piece"
 
+-- n bytes were written
+abbrev pub HasWritten : Option (List ℕ) → Option (List ℕ) → ℕ → Type 0
+HasWritten before after n = (bytes : List ℕ) × (length bytes ≡ n) × Appends before after bytes
+
 -- all rows of the answer were written
 pub record HasSent (params : Row) (s : State) (before after : Option (List ℕ)) (n : ℕ) : Type 0 where
   pub rows : List Row

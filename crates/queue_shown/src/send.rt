@@ -8,7 +8,7 @@ ghost use Rattle.queue_core.specs.Sound.{IsSound};
 ghost use Rattle.queue_core.specs.World.{World};
 ghost use Rattle.queue_types.specs.declared.document.Document.{Document};
 ghost use Rattle.queue_shown.specs.Sending.{SendsPieces, SendsRows};
-ghost use Rattle.queue_shown.specs.Sent.{ShowsNoBlob, piece_bytes};
+ghost use Rattle.queue_shown.specs.Sent.{HasWritten, ShowsNoBlob, piece_bytes};
 ghost use Rattle.queue_shown.specs.Stops.{told_cause};
 ghost use Rattle.queue_tables.specs.Content.{HoldNoQueue, Holds, content_of};
 ghost use Rattle.queue_tables.specs.Leaving.{LeavesTables};
@@ -139,6 +139,8 @@ pub fn send_document<S: Alter, W: Write>(
     ensures damaged { HasCleanDisk (state S.Store conn.new) → IfErr result (λ f. f.cause ≡ SendCause.Book BookFault.Damaged → HoldNoQueue (state S.Store conn.old)) }
     ensures ok { HasCleanDisk (state S.Store conn.new) → IfOk result (λ sent. (w : World) (d : Document) → IsSound w → Holds (content_of w) (state S.Store conn.old) → document_at w job n ≡ Some d → (sent ≡ length d.bytes) × Appends (W.contents out.old) (W.contents out.new) d.bytes) }
     ensures err { HasCleanDisk (state S.Store conn.new) → IfErr result (λ f. (w : World) (d : Document) → IsSound w → Holds (content_of w) (state S.Store conn.old) → document_at w job n ≡ Some d → (f.written ≤ length d.bytes) × Appends (W.contents out.old) (W.contents out.new) (take f.written d.bytes)) }
+    // whatever the rows and the disk give
+    ensures counted { IfOk result (λ sent. HasWritten (W.contents out.old) (W.contents out.new) sent) }
 {
     if !conn.is_autocommit() {
         return Err(SendFault {

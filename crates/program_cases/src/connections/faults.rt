@@ -26,7 +26,7 @@ fn released<B: DeskBook>(alloc: Global) -> Result<B, Mismatch> {
 }
 
 /// How a book fails: why it can't be read, if it can't, and what it tells of a document behind its first byte.
-type Failure = (Option<BookFault>, Result<u64, SendFault>);
+type Failure = (Option<BookFault>, Result<(), SendFault>);
 
 /// A stream to such a book, which fails so from then on, is served so, with these bytes as its answers.
 fn serve_faulty<B: DeskBook>(
@@ -61,7 +61,7 @@ fn serve_faulty_over_both(
 }
 
 /// A fault is told of a document behind its first byte.
-const FAULTY: Result<u64, SendFault> = Err(SendFault {
+const FAULTY: Result<(), SendFault> = Err(SendFault {
     written: 1,
     cause: SendCause::Book(BookFault::Disk),
 });
@@ -153,7 +153,7 @@ fn a_document_that_cannot_be_read(rt: HostRuntime) -> Result<(), Mismatch> {
 
 /// A document that is broken off behind its first byte, of which the book tells this, ends the connection: the request behind it is
 /// not answered.
-fn break_off(alloc: Global, sent: Result<u64, SendFault>) -> Result<(), Mismatch> {
+fn break_off(alloc: Global, sent: Result<(), SendFault>) -> Result<(), Mismatch> {
     let stream = joined(alloc, &[GET_DOCUMENT, GET_DOCUMENT])?;
     let answer = wanted_bytes(alloc, &[Success(OCTETS, b"hi")])?;
     let front = answer.as_slice().strip_suffix(b"i").unwrap_or(b"");
@@ -169,5 +169,5 @@ fn a_document_that_fails(rt: HostRuntime) -> Result<(), Mismatch> {
 /// The head of the answer has told 2 octets, and the book is content with 1.
 #[test]
 fn a_document_that_is_too_short(rt: HostRuntime) -> Result<(), Mismatch> {
-    break_off(rt.alloc(), Ok(1))
+    break_off(rt.alloc(), Ok(()))
 }

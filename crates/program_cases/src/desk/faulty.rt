@@ -1,6 +1,7 @@
 //! A book that can't do what it is asked.
 
 use queue_core::book::{BookFault, QueueBook, SendFault};
+use queue_core::put_whole;
 use queue_types::document::DocumentHead;
 use queue_types::event::{Decision, Event};
 use queue_types::job::JobList;
@@ -16,8 +17,8 @@ pub(crate) struct FaultyBook<B> {
     pub(crate) unread: Option<BookFault>,
     /// Why no event can be decided, if none can; the rest can be read.
     pub(crate) undecided: Option<BookFault>,
-    /// What it tells of a document behind the first byte.
-    pub(crate) sent: Result<u64, SendFault>,
+    /// What it tells of a document behind the first byte: that it was the last, or a fault.
+    pub(crate) sent: Result<(), SendFault>,
 }
 
 impl<B> FaultyBook<B> {
@@ -71,8 +72,9 @@ impl<B: QueueBook> QueueBook for FaultyBook<B> {
         _n: u32,
         out: &mut W,
     ) -> Result<u64, SendFault> {
-        let _taken = out.write(b"h");
-        self.sent
+        put_whole(out, b"h")?;
+        self.sent?;
+        Ok(1)
     }
 
     fn sheet(&mut self, account: &str) -> Result<Option<AccountSheet>, BookFault> {

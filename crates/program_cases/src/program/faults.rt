@@ -23,7 +23,7 @@ fn faulty(alloc: Global, unread: Option<BookFault>) -> Result<FaultyBook<MemoryB
         inner,
         unread,
         undecided: None,
-        sent: Ok(1),
+        sent: Ok(()),
     })
 }
 

@@ -4,6 +4,7 @@ use Rattle.http_head.specs.declared.end.End.{End}
 use Rattle.http_head.specs.declared.end.Finish.TheVariants.{Done}
 use Rattle.http_front.specs.Connections.{IsServed}
 use Rattle.http_front.proofs.CrashLemmas.{carries_no_turn}
+use Rattle.http_front.proofs.FramedLemmas.{framed_none, framed_on}
 use Rattle.http_front.proofs.RunLemmas.{ran_none, ran_on, run_settings, served_done, served_ended, stopped_at, worked_done, worked_ended, worked_stopped}
 use Rattle.http_front.proofs.connection.run.Goals as goal
 use mir.Val.{bool_byte}
@@ -21,6 +22,7 @@ turns-init g c = record {
   began = λ h. h;
   live = λ h live none. live;
   ran = λ h w st set. (w, st, (ran_none _ _ _ _, carries_no_turn (g.B.QueueBook.crash_leaves c.args.book.now) c.args.context.now w));
+  framed = framed_none (g.W.Write.contents c.args.writer.now);
 }
 
 pub turns-preserved : goal.turns-preserved
@@ -42,6 +44,7 @@ turns-preserved g c = record {
       c.turns.acted c.turns.faults c.from-acted.result c.mark-faults.result c.in-Ok-Answered.tally c.in-Ok-Answered.closes
       r.2.0 r.2.1 t.2 (counted _ _ c.from-acted.ensures) c.mark-faults.ensures.exact c.if-closes.false in
       (t.0, t.1, on);
+  framed = framed_on _ (g.W.Write.contents c.args.writer.now) (g.W.Write.contents c.turns.writer) (g.W.Write.contents c.turn.new.writer) c.turns.invariant.framed c.in-Ok-Answered.ensures.framed;
 }
 
 pub returns-then-closes-clause-served : goal.returns-then-closes-clause-served
@@ -131,3 +134,11 @@ pub returns-in-Err-clause-live : goal.returns-in-Err-clause-live
 returns-in-Err-clause-live g c = λ h live none.
     let clear = c.mark-in-Err.ensures.none none.0 in
     c.in-Err.ensures.live h (c.turns.invariant.live (c.turn.ensures.began h) live clear.0) (clear.1, none.1)
+
+pub returns-then-closes-clause-framed : goal.returns-then-closes-clause-framed
+returns-then-closes-clause-framed g c =
+    framed_on _ (g.W.Write.contents c.args.writer.now) (g.W.Write.contents c.turns.writer) (g.W.Write.contents c.turn.new.writer) c.turns.invariant.framed c.in-Ok-Answered.ensures.framed
+
+pub returns-in-Ok-Ended-clause-framed : goal.returns-in-Ok-Ended-clause-framed
+returns-in-Ok-Ended-clause-framed g c =
+    framed_on _ (g.W.Write.contents c.args.writer.now) (g.W.Write.contents c.turns.writer) (g.W.Write.contents c.turn.new.writer) c.turns.invariant.framed c.in-Ok-Ended.ensures.framed

@@ -1,6 +1,6 @@
-use Rattle.std.proofs.Common.{refl, inl, inr, rules, length, subst, List, ℕ, None, Some, false}
+use Rattle.std.proofs.Common.{◌≡◌, refl, sym, inl, inr, rules, length, subst, List, ℕ, None, Some, false}
 use Rattle.std.specs.Io.KnownBytes.{Appends}
-use Rattle.std.proofs.KnownBytes.{Appends-trans}
+use Rattle.std.proofs.KnownBytes.{Appends-nil, Appends-trans}
 use Rattle.queue_types.specs.Formats.{format_name}
 use Rattle.queue_core.specs.Shown.{document_at}
 use Rattle.http_wire.specs.Responses.{success_head, WritesFront}
@@ -11,6 +11,8 @@ use Rattle.http_front.proofs.WriteLemmas.{by_write}
 use Rattle.http_front.specs.Turned.{IsReplied}
 use Rattle.http_front.proofs.ReplyLemmas.{no_number, at_number, there_of, none_there, document_answer, line_is, replied_ok, replied_err, replied_declined}
 use Rattle.http_front.proofs.FailedReadLemmas.{failed_by_write}
+use Rattle.http_front.specs.Framed.{IsMediaType, of_document}
+use Rattle.http_front.proofs.FramedLemmas.{framed_document}
 use Rattle.http_front.proofs.reply.reply_document.Goals as goal
 
 pub returns-in_default-clause-replied : goal.returns-in_default-clause-replied
@@ -70,3 +72,18 @@ returns-in-Err-send_document-clause-replied g c = λ honest w st now content.
 
 pub returns-in_err-send_head-clause-no_read_failed : goal.returns-in_err-send_head-clause-no_read_failed
 returns-in_err-send_head-clause-no_read_failed g c = failed_by_write c.from_residual.result c.from_residual.ensures.1
+
+pub returns-in_default-clause-framed : goal.returns-in_default-clause-framed
+returns-in_default-clause-framed g c = Appends-nil (g.W.Write.contents c.args.writer.now)
+
+pub returns-in-Ok-None-clause-framed : goal.returns-in-Ok-None-clause-framed
+returns-in-Ok-None-clause-framed g c = Appends-nil (g.W.Write.contents c.args.writer.now)
+
+pub returns-in-Err-clause-framed : goal.returns-in-Err-clause-framed
+returns-in-Err-clause-framed g c = Appends-nil (g.W.Write.contents c.args.writer.now)
+
+pub returns-in-Ok-clause-framed : goal.returns-in-Ok-clause-framed
+returns-in-Ok-clause-framed g c =
+    let same : c.in-Ok.sent ≡ c.in-Ok-Some.head.octets = search rules in
+    framed_document c.empty.result c.args.closes (g.W.Write.contents c.args.writer.now) (g.W.Write.contents c.send_head.new.writer) (g.W.Write.contents c.send_document.new.out) c.name.result.now c.in-Ok-Some.head.octets c.in-Ok.sent
+    (subst IsMediaType (sym c.name.ensures.name) (of_document c.in-Ok-Some.head.format)) c.in_ok-send_head.ensures.ok same c.in-Ok.ensures.counted

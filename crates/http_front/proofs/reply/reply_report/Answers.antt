@@ -3,6 +3,8 @@ use Rattle.std.specs.Prelude.{codes, true}
 use Rattle.http_wire.specs.Responses.{success_response}
 use Rattle.http_head.specs.declared.target.Target.TheVariants.{Report}
 use Rattle.http_front.specs.declared.outcome.Tally.{Tally}
+use Rattle.http_front.specs.Framed.{of_lines}
+use Rattle.http_front.proofs.FramedLemmas.{framed_sent}
 use Rattle.http_front.proofs.ReplyLemmas.{carries_sent, replied_sent, report_answer, sent_of}
 use Rattle.http_front.proofs.reply.reply_report.Goals as goal
 
@@ -23,3 +25,8 @@ returns-clause-replied g c = λ honest w st.
         carries_sent (g.B.QueueBook.crash_leaves c.args.book.now) (g.B.QueueBook.crash_leaves c.report-answer.new.book) _ c.args.now w u Report c.args.content.now tally v x bytes c.send.result sent (λ is. c.is_fault.ensures ∙ is) a.3,
       ),
     )
+
+pub returns-clause-framed : goal.returns-clause-framed
+returns-clause-framed g c =
+    let tally : Tally = record { acted = true; is_fault = c.is_fault.result } in
+    framed_sent tally c.args.closes (g.W.Write.contents c.args.writer.now) (g.W.Write.contents c.send.new.writer) (codes "text/plain") c.bytes.result.now c.send.result of_lines c.send.ensures.ok

@@ -4,6 +4,7 @@ use Rattle.http_head.specs.declared.end.Finish.TheVariants.{Refused}
 use Rattle.http_head.specs.declared.end.Refusal.TheVariants.{ServiceUnavailable}
 use Rattle.http_front.proofs.CrashLemmas.{carries_none}
 use Rattle.http_front.proofs.TurnedLemmas.{planned_unsaid, planned_unread, planned_closed, planned_answered, planned_broken, end_in_body, end_unavailable, end_declined, body_as, said_on, closed_faultless}
+use Rattle.http_front.proofs.FramedLemmas.{framed_answered, framed_closed}
 use Rattle.http_front.proofs.FailedReadLemmas.{unless_read, failed_by_write}
 use Rattle.http_front.proofs.WriteLemmas.{by_write}
 use Rattle.http_front.specs.Turned.{IsPlanned}
@@ -135,3 +136,25 @@ returns-in-Ok-Declined-clause-invited g c = unless_read _ c.close_with-in-Ok-Dec
 
 pub returns-clause-invited : goal.returns-clause-invited
 returns-clause-invited g c = λ e. absurd (c.in-Err.ensures.no_read_failed e)
+
+pub returns-in-Err-Ended-clause-framed : goal.returns-in-Err-Ended-clause-framed
+returns-in-Err-Ended-clause-framed g c =
+    framed_closed c.args.numbered.plan c.in-Err-Ended.end (g.W.Write.contents c.args.writer.now) (g.W.Write.contents c.send_continue.new.writer) (g.W.Write.contents c.close_with.new.writer) c.close_with.result c.in_ok-invited.ensures.ok
+    (rw c.in-Err-Ended.field-0-is at c.close_with.ensures.closed)
+
+pub returns-in-Err-Memory-clause-framed : goal.returns-in-Err-Memory-clause-framed
+returns-in-Err-Memory-clause-framed g c =
+    framed_closed c.args.numbered.plan (Refused ServiceUnavailable) (g.W.Write.contents c.args.writer.now) (g.W.Write.contents c.send_continue.new.writer) (g.W.Write.contents c.close_with-in-Err-Memory.new.writer) c.close_with-in-Err-Memory.result
+    c.in_ok-invited.ensures.ok c.close_with-in-Err-Memory.ensures.closed
+
+pub returns-in-Ok-Answered-clause-framed : goal.returns-in-Ok-Answered-clause-framed
+returns-in-Ok-Answered-clause-framed g c =
+    framed_answered c.args.numbered.plan c.in-Ok-Answered.tally c.closes_after-closes.result (g.W.Write.contents c.args.writer.now) (g.W.Write.contents c.send_continue.new.writer) (g.W.Write.contents c.reply.new.writer) c.in_ok-invited.ensures.ok
+    (rw c.in-Ok-Answered.field-0-is at c.in-Ok-Answered.ensures.framed)
+
+pub returns-in-Ok-Declined-clause-framed : goal.returns-in-Ok-Declined-clause-framed
+returns-in-Ok-Declined-clause-framed g c =
+    let v = g.W.Write.contents c.args.writer.now in
+    let m = g.W.Write.contents c.reply.new.writer in
+    framed_closed c.args.numbered.plan (Refused c.in-Ok-Declined.refusal) v m (g.W.Write.contents c.close_with-in-Ok-Declined.new.writer) c.close_with-in-Ok-Declined.result
+    (said_on v (g.W.Write.contents c.send_continue.new.writer) m c.args.numbered.plan c.in_ok-invited.ensures.ok (rw c.in-Ok-Declined.field-0-is at c.in-Ok-Declined.ensures.framed)) c.close_with-in-Ok-Declined.ensures.closed

@@ -4,6 +4,7 @@ use Rattle.http_head.specs.Reads.{bytes_left}
 use Rattle.http_head.specs.declared.end.Finish.TheVariants.{Refused}
 use Rattle.http_head.specs.declared.end.Refusal.TheVariants.{ServiceUnavailable}
 use Rattle.http_front.proofs.TurnedLemmas.{lifted, turned_closed, turned_unread, end_no_head, end_checked, end_unserved}
+use Rattle.http_front.proofs.FramedLemmas.{framed_bare}
 use Rattle.http_front.proofs.FailedReadLemmas.{unless_read, failed_behind}
 use Rattle.http_front.proofs.turn.turn.Goals as goal
 
@@ -35,13 +36,13 @@ returns-in-Err-Ended-clause-turned g c = λ honest w st set.
           (end_no_head w r c.in-Err-Ended.end (rw c.in-Err-Ended.field-0-is at c.in-Err-Ended.ensures.failed)) c.close_with-in-Err-Ended.ensures.closed,
     )
 
-pub returns-in-Err-Failed-clause-turned : goal.returns-in-Err-Failed-clause-turned
-returns-in-Err-Failed-clause-turned g c = λ honest w st set.
+pub returns-in-Err-Refused-clause-turned : goal.returns-in-Err-Refused-clause-turned
+returns-in-Err-Refused-clause-turned g c = λ honest w st set.
     let r = bytes_left g.R.Read c.args.input.now in (
       w,
       st,
-      turned_closed (g.B.QueueBook.crash_leaves c.args.book.now) c.args.context.now c.args.k w r (bytes_left g.R.Read c.take_head.new.input) (g.W.Write.contents c.args.writer.now) (g.W.Write.contents c.close_with-in-Err-Failed.new.writer) (Refused c.in-Err-Failed.refusal) c.close_with-in-Err-Failed.result
-          (end_checked w r c.in-Err-Failed.refusal (rw c.in-Err-Failed.field-0-is at c.in-Err-Failed.ensures.failed)) c.close_with-in-Err-Failed.ensures.closed,
+      turned_closed (g.B.QueueBook.crash_leaves c.args.book.now) c.args.context.now c.args.k w r (bytes_left g.R.Read c.take_head.new.input) (g.W.Write.contents c.args.writer.now) (g.W.Write.contents c.close_with-in-Err-Refused.new.writer) (Refused c.in-Err-Refused.refusal) c.close_with-in-Err-Refused.result
+          (end_checked w r c.in-Err-Refused.refusal (rw c.in-Err-Refused.field-0-is at c.in-Err-Refused.ensures.failed)) c.close_with-in-Err-Refused.ensures.closed,
     )
 
 pub returns-in-Err-Read-clause-turned : goal.returns-in-Err-Read-clause-turned
@@ -63,8 +64,19 @@ returns-in-Ok-clause-invited g c =
 pub returns-in-Err-Ended-clause-invited : goal.returns-in-Err-Ended-clause-invited
 returns-in-Err-Ended-clause-invited g c = unless_read _ c.close_with-in-Err-Ended.result c.close_with-in-Err-Ended.ensures.no_read_failed
 
-pub returns-in-Err-Failed-clause-invited : goal.returns-in-Err-Failed-clause-invited
-returns-in-Err-Failed-clause-invited g c = unless_read _ c.close_with-in-Err-Failed.result c.close_with-in-Err-Failed.ensures.no_read_failed
+pub returns-in-Err-Refused-clause-invited : goal.returns-in-Err-Refused-clause-invited
+returns-in-Err-Refused-clause-invited g c = unless_read _ c.close_with-in-Err-Refused.result c.close_with-in-Err-Refused.ensures.no_read_failed
 
 pub returns-in-Err-Read-clause-invited : goal.returns-in-Err-Read-clause-invited
 returns-in-Err-Read-clause-invited g c = λ _. inl (c.in-Err-Read.ensures.kept, Appends-nil (g.W.Write.contents c.args.writer.now))
+
+pub returns-in_default-clause-framed : goal.returns-in_default-clause-framed
+returns-in_default-clause-framed g c = framed_bare (Refused ServiceUnavailable) (g.W.Write.contents c.args.writer.now) (g.W.Write.contents c.close_with.new.writer) c.close_with.result c.close_with.ensures.closed
+
+pub returns-in-Err-Ended-clause-framed : goal.returns-in-Err-Ended-clause-framed
+returns-in-Err-Ended-clause-framed g c =
+    framed_bare c.in-Err-Ended.end (g.W.Write.contents c.args.writer.now) (g.W.Write.contents c.close_with-in-Err-Ended.new.writer) c.close_with-in-Err-Ended.result c.close_with-in-Err-Ended.ensures.closed
+
+pub returns-in-Err-Refused-clause-framed : goal.returns-in-Err-Refused-clause-framed
+returns-in-Err-Refused-clause-framed g c =
+    framed_bare (Refused c.in-Err-Refused.refusal) (g.W.Write.contents c.args.writer.now) (g.W.Write.contents c.close_with-in-Err-Refused.new.writer) c.close_with-in-Err-Refused.result c.close_with-in-Err-Refused.ensures.closed

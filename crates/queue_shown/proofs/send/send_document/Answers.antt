@@ -49,3 +49,6 @@ returns-in-Err-clause-damaged g c clean damaged =
 
 pub returns-in-Err-clause-writer_failed : goal.returns-in-Err-clause-writer_failed
 returns-in-Err-clause-writer_failed g c clean unwritten = c.in-Err.ensures.sends.writer_failed clean (write_told c.in-Err.stop (sym c.cause_of.ensures ∙ unwritten))
+
+pub returns-in-Ok-clause-counted : goal.returns-in-Ok-clause-counted
+returns-in-Ok-clause-counted g c = c.send_pieces.ensures.sends.counted

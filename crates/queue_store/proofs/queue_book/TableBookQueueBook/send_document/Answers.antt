@@ -25,3 +25,6 @@ returns-clause-err g c honest =
 
 pub returns-clause-left : goal.returns-clause-left
 returns-clause-left g c honest v w left db may = left db (c.send_document.ensures.leaves.left honest db may)
+
+pub returns-clause-counted : goal.returns-clause-counted
+returns-clause-counted g c = c.send_document.ensures.counted
