@@ -1,6 +1,6 @@
 -- Bytes and what they are answered.
 use Rattle.std.proofs.Common.{◌≡◌, ℕ, List, [], ◌==◌, Bool, true, false, refl, ap, subst, sym, ◌∙◌}
-use Rattle.std.specs.Prelude.{Option, Some, None, MatchBool, if◌then◌else◌}
+use Rattle.std.specs.Prelude.{Some, None, MatchBool, if◌then◌else◌}
 use Rattle.std.specs.Bool.{OnFalse, OnTrue}
 use Rattle.std.proofs.lemmas.Bool.{MatchBool-at_true, MatchBool-at_false, OnFalse_from, OnTrue_from, false≢true}
 use Rattle.ipp_wire.specs.declared.view.Head.{Head}
@@ -163,11 +163,6 @@ malformed_tells false b out s now spelled = subst (λ (m : Message). Spells m ou
 
 pub malformed_told : (b out : List ℕ) (s : SettingValues) (now : ℕ) → ((code : ℕ) (u : Unsupported) → IsVerdictOn b (refused code u) → SpellsUnlessFault b (refusal_to (head_of b) code u s now) out) → head_refusal (head_of b) ≡ None → IsMalformed b → SpellsUnlessFault b (bare (head_of b) 0x0400) out
 malformed_told b out s now told none unspelled = malformed_tells (is_fault out) b out s now (told 0x0400 nothing (malformed none unspelled))
-
--- bytes that spell no message are refused, if not by their head
-pub malformed_on : (b : List ℕ) (o : Option ℕ) → head_refusal (head_of b) ≡ o → IsMalformed b → (code : ℕ) × IsVerdictOn b (refused code nothing)
-malformed_on b (Some code) e unspelled = (code, by_head code e)
-malformed_on b None e unspelled = (0x0400, malformed e unspelled)
 
 -- ---- a reply
 

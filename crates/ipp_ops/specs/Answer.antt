@@ -28,8 +28,8 @@ abbrev pub IsAsk : Event → Type 0
 IsAsk (ask caller call) = ⊤
 IsAsk _ = ⊥
 
--- the verdict on bytes, 8 or more: what refuses their head; or 0x0400, where they spell no message; or the verdict on the message that
--- they spell
+-- the verdict on bytes: what refuses their head; or 0x0400, where they spell no message; or the verdict on the message that they spell. Fewer
+-- than 8 bytes are refused too, though no reply says so
 pub data IsVerdictOn (b : List ℕ) : Verdict → Type 0 where
   by_head : (code : ℕ) → head_refusal (head_of b) ≡ Some code → IsVerdictOn b (refused code nothing)
   malformed : head_refusal (head_of b) ≡ None → IsMalformed b → IsVerdictOn b (refused 0x0400 nothing)

@@ -134,10 +134,10 @@ fn answer_ask<B: QueueBook>(
         → (after : World) × BringsOutcome (ask_content ask.entry) context.entry w after result × B.stands book.new after
         × Carries (B.crash_leaves book.old) (B.crash_leaves book.new) (IsPassed (ask_content ask.entry)) (IsErr result) context.entry.now w after }
     ensures live { B.is_honest book.new → B.is_live book.old → OnOk result (B.is_live book.new) }
-    // What the checks refuse, whatever the book is.
+    // What the checks refuse, whatever the book is, which sees nothing of it.
     ensures checked { (code : ℕ) (u : Listed) → ask_content ask.entry ≡ refused code u
         → IfOk result (λ b. Spells (reply_in context.entry (Refused code) no_rows u) b.items) }
-    ensures checked_kept { (code : ℕ) (u : Listed) → ask_content ask.entry ≡ refused code u → (w : World) → B.stands book.old w → B.stands book.new w }
+    ensures unseen { (code : ℕ) (u : Listed) → ask_content ask.entry ≡ refused code u → book.new ≡ book.old }
 {
     match ask {
         Ask::Refused { code, unsupported } => refusal_bytes(context, code, &unsupported),
@@ -168,10 +168,10 @@ fn answer_message<B: QueueBook>(
         → (after : World) × BringsOutcome (verdict (message_of view.entry)) context.entry w after result × B.stands book.new after
         × Carries (B.crash_leaves book.old) (B.crash_leaves book.new) (IsPassed (verdict (message_of view.entry))) (IsErr result) context.entry.now w after }
     ensures live { B.is_honest book.new → B.is_live book.old → OnOk result (B.is_live book.new) }
-    // What the checks refuse, whatever the book is.
+    // What the checks refuse, whatever the book is, which sees nothing of it.
     ensures checked { (code : ℕ) (u : Listed) → verdict (message_of view.entry) ≡ refused code u
         → IfOk result (λ b. Spells (reply_in context.entry (Refused code) no_rows u) b.items) }
-    ensures checked_kept { (code : ℕ) (u : Listed) → verdict (message_of view.entry) ≡ refused code u → (w : World) → B.stands book.old w → B.stands book.new w }
+    ensures unseen { (code : ℕ) (u : Listed) → verdict (message_of view.entry) ≡ refused code u → book.new ≡ book.old }
 {
     let ask = ask(context.alloc, &view)?;
     // What is asked borrows of the bytes alone: the groups that were read are let go before the reply is made.
@@ -212,7 +212,7 @@ fn answer_headed<B: QueueBook>(context: Context<'_>, book: &mut B, body: &[u8]) 
     ensures live { B.is_honest book.new → B.is_live book.old → is_fault (bytes_of result) ≡ false → B.is_live book.new }
     ensures checked { (code : ℕ) (u : Listed) → IsVerdictOn body.now (refused code u)
         → SpellsUnlessFault body.now (refusal_to (head_of body.now) code u context.entry.settings.now context.entry.now) (bytes_of result) }
-    ensures checked_kept { (code : ℕ) (u : Listed) → IsVerdictOn body.now (refused code u) → (w : World) → B.stands book.old w → B.stands book.new w }
+    ensures unseen { (code : ℕ) (u : Listed) → IsVerdictOn body.now (refused code u) → book.new ≡ book.old }
 {
     one_verdict();
     match request_in(context.alloc, context.head, body) {
@@ -226,8 +226,8 @@ fn answer_headed<B: QueueBook>(context: Context<'_>, book: &mut B, body: &[u8]) 
 
 /// Answers one request by its bytes, of which there are at most 16,777,216, at a moment from 1 to 2,147,483,647: it reads, asks, decides,
 /// encodes the reply, and changes the book last. A fault in any of these, as want of memory, is answered
-/// by the bare reply 0x0505 and changes nothing. What the head alone refuses is answered without memory. What any check refuses
-/// changes nothing, whatever the book is.
+/// by the bare reply 0x0505 and changes nothing. What any check refuses never reaches the book, and what the head alone refuses is answered
+/// without memory.
 /// Under 8 bytes there is no head to reply to, and nothing happens. The settings have to be those of the book's queue:
 /// with others, of what a call is answered nothing is promised but that it is a reply to its request (`replies`).
 pub fn answer<B: QueueBook>(
@@ -243,8 +243,7 @@ pub fn answer<B: QueueBook>(
 
     // Under 8 bytes.
     ensures short { IsErr result ↔ (length body.now < 8) }
-    ensures err { OnErr result ((w : World) → B.stands book.old w → B.stands book.new w) }
-    ensures err_left { B.is_honest book.new → OnErr result ((v w : World) → B.crash_leaves book.old v w → B.crash_leaves book.new v w) }
+    ensures err { OnErr result (book.new ≡ book.old) }
 
     // What is answered, and what becomes of the queue.
     ensures answered { B.is_honest book.new → IfNoFault result (λ out. (w : World) → B.stands book.old w → settings.now ≡ w.settings
@@ -264,16 +263,14 @@ pub fn answer<B: QueueBook>(
 
     // These hold on any book, also on one that is not honest.
     ensures replies { IfOk result (λ a. IsReplyTo (head_of body.now) (bytes_of a)) }
-    // What the verdict on the bytes refuses, by whichever check, is answered by that refusal or by a fault, and nothing changes.
+    // What the verdict on the bytes refuses, by whichever check, is answered by that refusal or by a fault, and the book never sees it.
     ensures checked { (code : ℕ) (u : Listed) → IsVerdictOn body.now (refused code u)
         → IfOk result (λ a. SpellsUnlessFault body.now (refusal_to (head_of body.now) code u settings.now now) (bytes_of a)) }
-    ensures checked_kept { (code : ℕ) (u : Listed) → IsVerdictOn body.now (refused code u) → (w : World) → B.stands book.old w → B.stands book.new w }
+    ensures unseen { (code : ℕ) (u : Listed) → IsVerdictOn body.now (refused code u) → book.new ≡ book.old }
     // Two such verdicts: on a head that is refused, before which no fault can come, and on bytes that spell no message.
     ensures head_refused { (code : ℕ) → head_refusal (head_of body.now) ≡ Some code → IfOk result (λ a. Spells (bare (head_of body.now) code) (bytes_of a)) }
-    ensures head_refused_kept { (code : ℕ) → head_refusal (head_of body.now) ≡ Some code → (w : World) → B.stands book.old w → B.stands book.new w }
     ensures malformed { head_refusal (head_of body.now) ≡ None → IsMalformed body.now
         → IfOk result (λ a. SpellsUnlessFault body.now (bare (head_of body.now) 0x0400) (bytes_of a)) }
-    ensures malformed_kept { IsMalformed body.now → (w : World) → B.stands book.old w → B.stands book.new w }
 {
     let Some(head) = head(body) else {
         return Err(TooShort);

@@ -2,6 +2,7 @@
 ghost use Rattle.std.specs.Prelude.{◌≡◌};
 
 use ipp_wire::BARE_OCTETS;
+use queue_types::status::SERVER_ERROR_TEMPORARY_ERROR;
 use thiserror::Error;
 
 /// The bytes of an answer: a whole reply, or a bare one that took no memory.
@@ -29,7 +30,9 @@ impl Answer {
         ensures { result ≡ is_fault (bytes_of self.now) }
     {
         match self.bytes() {
-            [_, _, high, low, ..] => *high == 0x05 && *low == 0x05,
+            [_, _, high, low, ..] => {
+                u16::from_be_bytes([*high, *low]) == SERVER_ERROR_TEMPORARY_ERROR
+            }
             _ => false,
         }
     }

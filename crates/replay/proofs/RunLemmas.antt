@@ -1,6 +1,6 @@
 -- The lines of a replay as places of a run.
-use Rattle.std.proofs.Common.{◌≡◌, ◌∙◌, ℕ, ◌≤◌, List, [], ◌∷◌, ◌++◌, Bor, ◌⊎◌, Option, None, Some, Result, Ok, Err, inl, inr, length, refl, sym, ap, subst, arith, length-append, length-take}
-use Rattle.std.specs.Prelude.{⊤, IfSome, codes}
+use Rattle.std.proofs.Common.{◌≡◌, ◌∙◌, ℕ, ◌≤◌, List, [], ◌∷◌, ◌++◌, Bool, true, false, Bor, ◌⊎◌, Option, None, Some, Result, Ok, Err, inl, inr, length, refl, sym, ap, subst, arith, length-append, length-take}
+use Rattle.std.specs.Prelude.{⊤, IfSome, MatchBool, codes}
 use Rattle.std.specs.List.{AllByRecursion as Each}
 use Rattle.hex.specs.Hex.{decode_of}
 use Rattle.queue_types.specs.Event.{Event, ask, grant, tell}
@@ -10,7 +10,7 @@ use Rattle.queue_core.specs.Runs.{Place, IsPlace, MovesAlong, after, run}
 use Rattle.queue_core.specs.Sound.{Balances, IsSound}
 use Rattle.queue_core.specs.World.{World}
 use Rattle.ipp_wire.specs.Message.{head_of}
-use Rattle.ipp_ops.specs.Answer.{Asks, IsVerdictOn, calls, outcome, refuses}
+use Rattle.ipp_ops.specs.Answer.{Answers, Asks, Fails, IsVerdictOn, calls, is_fault, outcome, refuses}
 use Rattle.ipp_ops.specs.Verdict.{Verdict, passed, refused}
 use Rattle.device_lines.specs.Lines.{Reads}
 use Rattle.device_lines.specs.Reports.{AnswersLine, BringsAbout, reports, unread}
@@ -22,7 +22,7 @@ use Rattle.replay.specs.Line.{GivesLine}
 use Rattle.replay.specs.Places.{ArePlacesOf, AsksFor, IsPlaceOf, IsRunOf, TellsOfNothing}
 use Rattle.replay.specs.Replay.{Replays, Taken, TakesLine, TakesNext, broken, none, one_more, whole}
 use Rattle.replay.specs.RequestLine.{Says}
-use Rattle.replay.specs.Session.{AnswersMessage, IsReply, State, Takes, file_of, import_line, reply_line}
+use Rattle.replay.specs.Session.{AnswersMessage, State, Takes, file_of, import_line, reply_line}
 use Rattle.replay.specs.declared.lines.Line.{Line}
 use Rattle.replay.specs.declared.request_line.RequestLine.{RequestLine}
 use Rattle.replay.specs.declared.request_line.RequestLine.TheVariants.{Now, Ipp, Dev, Grant}
@@ -47,16 +47,16 @@ verdict_event : (now : ℕ) (w u : World) (message : List ℕ) (v : Verdict) →
 verdict_event now w u message (refused code list) on world = (None, refuses code list on, world)
 verdict_event now w u message (passed caller call rows list) on world = (Some (ask caller call), calls caller call rows list on, world)
 
-reply_comes : AreCalls → (digits : Bor (List ℕ)) (old new : State) (message out answer : List ℕ) → decode_of digits.now ≡ Ok message → length message ≤ 16777216
-    → IsReply old.queue old.now message new.queue out → answer ≡ reply_line out → ComesTo (Ipp digits) old new answer
-reply_comes are digits old new message out answer is fits (inl a) e =
+reply_comes : AreCalls → (fault : Bool) (digits : Bor (List ℕ)) (old new : State) (message out answer : List ℕ) → decode_of digits.now ≡ Ok message → length message ≤ 16777216
+    → MatchBool fault (Fails message out × (new.queue ≡ old.queue)) (Answers old.queue old.now message new.queue out) → answer ≡ reply_line out → ComesTo (Ipp digits) old new answer
+reply_comes are false digits old new message out answer is fits a e =
     let v = verdict_event old.now old.queue new.queue message a.verdict a.on_bytes a.world in
     (v.0, inl (message, is, v.1), are message v.0 fits v.1, v.2)
-reply_comes are digits old new message out answer is fits (inr f) e = (None, inr (refl, inr (message, out, is, f.0, e)), tt, f.1)
+reply_comes are true digits old new message out answer is fits f e = (None, inr (refl, inr (message, out, is, f.0, e)), tt, f.1)
 
 message_comes : AreCalls → (digits : Bor (List ℕ)) (old new : State) (message answer : List ℕ) → decode_of digits.now ≡ Ok message → length message ≤ 16777216
     → AnswersMessage old.queue old.now message new.queue answer → ComesTo (Ipp digits) old new answer
-message_comes are digits old new message answer is fits (inl a) = reply_comes are digits old new message a.1 answer is fits a.2 a.3
+message_comes are digits old new message answer is fits (inl a) = reply_comes are (is_fault a.1) digits old new message a.1 answer is fits a.2 a.3
 message_comes are digits old new message answer is fits (inr f) = (None, inr (refl, inl f.2), tt, f.1)
 
 report_comes : (line : Bor (List ℕ)) (old new : State) (answer : List ℕ) (r : Result Report LineFault) → Reads (line.now ++ 10 ∷ []) r

@@ -1,14 +1,13 @@
 -- What a line of a replay makes of a queue, by what each call on its book says.
 use Rattle.std.proofs.Common.{◌≡◌, ◌<◌, ◌≤◌, ℕ, Bool, true, false, List, [], ◌∷◌, ◌++◌, length, Result, Ok, Err, inl, inr, refl, ap}
-use Rattle.std.specs.Prelude.{IfOk, IsErr, OnOk}
-use Rattle.std.specs.Bool.{OnFalse, OnTrue}
+use Rattle.std.specs.Prelude.{IfOk, IsErr, MatchBool, OnOk}
 use Rattle.std.proofs.lemmas.Bool.{cases_lt, false≢true}
 use Rattle.device_lines.specs.Reports.{AnswersLine, BringsAbout}
 use Rattle.device_lines.specs.declared.line.LineFault.{LineFault}
 use Rattle.grants_csv.specs.Import.{Imports}
 use Rattle.grants_csv.specs.declared.fault.ImportFault.{ImportFault}
 use Rattle.grants_csv.specs.declared.importing.Imported.{Imported}
-use Rattle.ipp_ops.specs.Answer.{Answers, Fails, bytes_of, is_fault, outcome}
+use Rattle.ipp_ops.specs.Answer.{Answers, BringsAnswer, BringsReply, Fails, bytes_of, is_fault, outcome}
 use Rattle.ipp_ops.specs.Verdict.{Verdict, passed, refused}
 use Rattle.ipp_ops.specs.declared.outcome.Answer.{Answer}
 use Rattle.ipp_ops.specs.declared.outcome.TooShort.{TooShort}
@@ -16,7 +15,7 @@ use Rattle.ipp_wire.specs.Message.{head_of}
 use Rattle.queue_types.specs.Settings.{SettingValues}
 use Rattle.queue_core.specs.World.{World}
 use Rattle.queue_types.specs.declared.event.Report.{Report}
-use Rattle.replay.specs.Session.{AnswersMessage, IsReply, State, Takes, file_of}
+use Rattle.replay.specs.Session.{AnswersMessage, State, Takes, file_of}
 use Rattle.replay.specs.declared.request_line.RequestLine.{RequestLine}
 use Rattle.replay.specs.declared.request_line.RequestLine.TheVariants.{Now, Ipp, Dev, Grant}
 
@@ -26,12 +25,12 @@ outcome_settings : (now : ℕ) (w u : World) (message : List ℕ) (v : Verdict) 
 outcome_settings now w u message (refused code list) e = ap (λ (z : World). z.settings) e
 outcome_settings now w u message (passed caller call rows list) e = ap (λ (z : World). z.settings) e
 
-reply_settings : (now : ℕ) (w u : World) (message out : List ℕ) → IsReply w now message u out → u.settings ≡ w.settings
-reply_settings now w u message out (inl a) = outcome_settings now w u message a.verdict a.world
-reply_settings now w u message out (inr f) = ap (λ (z : World). z.settings) f.1
+reply_settings : (fault : Bool) (now : ℕ) (w u : World) (message out : List ℕ) → MatchBool fault (Fails message out × (u ≡ w)) (Answers w now message u out) → u.settings ≡ w.settings
+reply_settings true now w u message out f = ap (λ (z : World). z.settings) f.1
+reply_settings false now w u message out a = outcome_settings now w u message a.verdict a.world
 
 message_settings : (now : ℕ) (w u : World) (message text : List ℕ) → AnswersMessage w now message u text → u.settings ≡ w.settings
-message_settings now w u message text (inl a) = reply_settings now w u message a.1 a.2
+message_settings now w u message text (inl a) = reply_settings (is_fault a.1) now w u message a.1 a.2
 message_settings now w u message text (inr f) = ap (λ (z : World). z.settings) f.1
 
 report_settings : (now : ℕ) (w u : World) (out : List ℕ) (r : Result Report LineFault) → BringsAbout r w now u out → u.settings ≡ w.settings
@@ -62,16 +61,9 @@ headed message (Ok reply) under = elim (cases_lt (length message) 8) [
   | inr many ↦ many
 ]
 
-reply_by : (old new : World → Type 0) (now : ℕ) (set : SettingValues) (message out : List ℕ) (b : Bool)
-    → OnFalse b ((w : World) → old w → set ≡ w.settings → (after : World) × Answers w now message after out × new after)
-    → OnTrue b ((w : World) → old w → set ≡ w.settings → Fails message out × new w)
-    → (w : World) → old w → set ≡ w.settings → (u : World) × IsReply w now message u out × new u
-reply_by old new now set message out true told failed w s is = let f = failed w s is in (w, inr (f.0, refl), f.1)
-reply_by old new now set message out false told failed w s is = let a = told w s is in (a.0, inl a.1, a.2)
-
+-- an answer that is a reply brings what it brings
 pub is_reply : (old new : World → Type 0) (now : ℕ) (set : SettingValues) (message : List ℕ) (r : Result Answer TooShort)
-    → IfOk r (λ a. OnFalse (is_fault (bytes_of a)) ((w : World) → old w → set ≡ w.settings → (after : World) × Answers w now message after (bytes_of a) × new after))
-    → IfOk r (λ a. OnTrue (is_fault (bytes_of a)) ((w : World) → old w → set ≡ w.settings → Fails message (bytes_of a) × new w))
-    → IfOk r (λ a. (w : World) → old w → set ≡ w.settings → (u : World) × IsReply w now message u (bytes_of a) × new u)
-is_reply old new now set message (Ok a) told failed = reply_by old new now set message (bytes_of a) (is_fault (bytes_of a)) told failed
-is_reply old new now set message (Err e) told failed = tt
+    → ((w : World) → old w → set ≡ w.settings → (u : World) × BringsAnswer w now message u r × new u)
+    → IfOk r (λ a. (w : World) → old w → set ≡ w.settings → (u : World) × BringsReply w now message u (bytes_of a) × new u)
+is_reply old new now set message (Ok a) brings = brings
+is_reply old new now set message (Err e) brings = tt

@@ -7,7 +7,7 @@ use Rattle.grants_csv.specs.Import.{Imports}
 use Rattle.grants_csv.specs.declared.fault.ImportFault.{ImportFault}
 use Rattle.grants_csv.specs.declared.importing.Imported.{Imported}
 use Rattle.hex.specs.Hex.{decode_of, encode_lower}
-use Rattle.ipp_ops.specs.Answer.{Answers, Fails}
+use Rattle.ipp_ops.specs.Answer.{BringsReply}
 use Rattle.queue_core.specs.World.{World}
 use Rattle.replay.specs.RequestLine.{Says}
 use Rattle.replay.specs.declared.request_line.RequestLine.{RequestLine}
@@ -22,10 +22,6 @@ pub record State : Type 0 where
 abbrev pub state : ℕ → World → State
 state now w = record { now = now; queue = w }
 
--- out is the reply to the message at this moment, and new the queue after it; or out tells of a fault, and the queue stays
-abbrev pub IsReply : World → ℕ → List ℕ → World → List ℕ → Type 0
-IsReply old now message new out = Answers old now message new out ⊎ (Fails message out × (new ≡ old))
-
 -- `ipp `, the reply in lower-case hexadecimal, and a line feed
 abbrev pub reply_line : List ℕ → List ℕ
 reply_line out = codes "ipp " ++ encode_lower out ++ 10 ∷ []
@@ -34,7 +30,7 @@ reply_line out = codes "ipp " ++ encode_lower out ++ 10 ∷ []
 -- or says that the message is too short for one
 abbrev pub AnswersMessage : World → ℕ → List ℕ → World → List ℕ → Type 0
 AnswersMessage old now message new text =
-    ((8 ≤ length message) × (out : List ℕ) × IsReply old now message new out × (text ≡ reply_line out))
+    ((8 ≤ length message) × (out : List ℕ) × BringsReply old now message new out × (text ≡ reply_line out))
     ⊎ ((length message < 8) × (new ≡ old) × (text ≡ codes "ipp short" ++ 10 ∷ []))
 
 -- the digits stand for a message, and the text answers it

@@ -6,13 +6,13 @@ ghost use Rattle.std.specs.Bool.{OnFalse, OnTrue};
 ghost use Rattle.std.specs.Io.KnownBytes.{Appends};
 ghost use Rattle.device_lines.specs.Reports.{AnswersLine};
 ghost use Rattle.grants_csv.specs.Fault.{code_of};
-ghost use Rattle.ipp_ops.specs.Answer.{bytes_of};
+ghost use Rattle.ipp_ops.specs.Answer.{BringsReply, bytes_of};
 ghost use Rattle.queue_core.specs.Limits.{IsMoment};
 ghost use Rattle.queue_core.specs.World.{World};
 ghost use Rattle.replay.specs.Books.{AnswersEach, AnswersEachWith};
 ghost use Rattle.replay.specs.Faults.{IsOfStream};
 ghost use Rattle.replay.specs.Replay.{IsBadLine, TakesLine};
-ghost use Rattle.replay.specs.Session.{AnswersDigits, AnswersFile, AnswersMessage, IsNoMessage, IsReply, file_of, import_line, state};
+ghost use Rattle.replay.specs.Session.{AnswersDigits, AnswersFile, AnswersMessage, IsNoMessage, file_of, import_line, state};
 
 use crate::context::Context;
 use crate::fault::Fault;
@@ -126,7 +126,7 @@ fn answered<B: QueueBook>(
     requires { length message.now ≤ 16777216 }
     ensures began { B.is_honest book.new → B.is_honest book.old }
     ensures reply { B.is_honest book.new → IfOk result (λ reply. (w : World) → B.stands book.old w → context.entry.settings.now ≡ w.settings
-        → (u : World) × IsReply w context.entry.now message.now u (bytes_of reply) × B.stands book.new u) }
+        → (u : World) × BringsReply w context.entry.now message.now u (bytes_of reply) × B.stands book.new u) }
     ensures headed { OnOk result (8 ≤ length message.now) }
     ensures short { OnErr result ((length message.now < 8) × ((w : World) → B.stands book.old w → B.stands book.new w)) }
 {

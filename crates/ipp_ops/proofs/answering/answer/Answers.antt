@@ -1,10 +1,7 @@
 use Rattle.std.proofs.Common.{refl}
 use Rattle.queue_core.specs.Crash.{untaken}
-use Rattle.ipp_reply.specs.Unsupported.{nothing}
-use Rattle.ipp_request.specs.Reading.{head_refusal}
-use Rattle.ipp_wire.specs.Message.{head_of}
-use Rattle.ipp_ops.specs.Answer.{by_head, bytes_of}
-use Rattle.ipp_ops.proofs.Bytes.{answered, failed, head_told, malformed_on, malformed_told, refused_keeps}
+use Rattle.ipp_ops.specs.Answer.{bytes_of}
+use Rattle.ipp_ops.proofs.Bytes.{answered, failed, head_told, malformed_told, refused_keeps}
 use Rattle.ipp_ops.proofs.answering.answer.Goals as goal
 
 pub returns-in_default-clause-crash : goal.returns-in_default-clause-crash
@@ -31,13 +28,5 @@ returns-clause-crash g c = c.answer_headed.ensures.answered
 pub returns-clause-head_refused : goal.returns-clause-head_refused
 returns-clause-head_refused g c = head_told c.args.body.now (bytes_of c.answer_headed.result) c.args.settings.now c.args.now c.answer_headed.ensures.checked
 
-pub returns-clause-head_refused_kept : goal.returns-clause-head_refused_kept
-returns-clause-head_refused_kept g c = λ code found. c.answer_headed.ensures.checked_kept code nothing (by_head code found)
-
 pub returns-clause-malformed : goal.returns-clause-malformed
 returns-clause-malformed g c = malformed_told c.args.body.now (bytes_of c.answer_headed.result) c.args.settings.now c.args.now c.answer_headed.ensures.checked
-
-pub returns-clause-malformed_kept : goal.returns-clause-malformed_kept
-returns-clause-malformed_kept g c = λ unspelled.
-    let on = malformed_on c.args.body.now (head_refusal (head_of c.args.body.now)) refl unspelled in
-    c.answer_headed.ensures.checked_kept on.0 nothing on.1

@@ -18,10 +18,10 @@ returns-in-Ok-answer_message-clause-checked g c = λ code u on.
     message_told c.args.context.head c.args.body.now c.in-Ok-answer_message.bytes.items c.args.context.settings.now c.args.context.now code u c.requires.head on
     (c.in-Ok-answer_message.ensures.checked code u (c.one_verdict.ensures c.args.body.now (verdict m) (refused code u) (request m c.in-Ok.ensures.request.spelled) on))
 
-pub returns-in-Ok-answer_message-clause-checked_kept : goal.returns-in-Ok-answer_message-clause-checked_kept
-returns-in-Ok-answer_message-clause-checked_kept g c = λ code u on.
+pub returns-in-Ok-answer_message-clause-unseen : goal.returns-in-Ok-answer_message-clause-unseen
+returns-in-Ok-answer_message-clause-unseen g c = λ code u on.
     let m = message_of c.in-Ok.view in
-    c.answer_message.ensures.checked_kept code u (c.one_verdict.ensures c.args.body.now (verdict m) (refused code u) (request m c.in-Ok.ensures.request.spelled) on)
+    c.answer_message.ensures.unseen code u (c.one_verdict.ensures c.args.body.now (verdict m) (refused code u) (request m c.in-Ok.ensures.request.spelled) on)
 
 -- ---- a fault came
 
@@ -39,10 +39,10 @@ returns-in-Err-answer_message-clause-checked g c = λ code u on.
     bare_told c.args.body.now (bytes_of c.bare_answer.result) c.args.context.settings.now c.args.context.now code u c.one_verdict.ensures
     (bare_fault (request_fails c.args.context.head c.args.body.now (message_of c.in-Ok.view) (bytes_of c.bare_answer.result) c.requires.head c.in-Ok.ensures.request c.bare_answer.ensures)) on
 
-pub returns-in-Err-answer_message-clause-checked_kept : goal.returns-in-Err-answer_message-clause-checked_kept
-returns-in-Err-answer_message-clause-checked_kept g c = λ code u on.
+pub returns-in-Err-answer_message-clause-unseen : goal.returns-in-Err-answer_message-clause-unseen
+returns-in-Err-answer_message-clause-unseen g c = λ code u on.
     let m = message_of c.in-Ok.view in
-    c.answer_message.ensures.checked_kept code u (c.one_verdict.ensures c.args.body.now (verdict m) (refused code u) (request m c.in-Ok.ensures.request.spelled) on)
+    c.answer_message.ensures.unseen code u (c.one_verdict.ensures c.args.body.now (verdict m) (refused code u) (request m c.in-Ok.ensures.request.spelled) on)
 
 -- ---- no message was read
 
