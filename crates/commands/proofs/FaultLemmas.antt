@@ -27,11 +27,11 @@ of_unread : {A : Type 0} (told : OfficeFault) (fault : Fault) (why : ImportFault
     → (let r : Result A OfficeFault = Err told in r ≡ Err (office.Import why)) → (let r : Result A Fault = Err fault in r ≡ Err (Import why))
 of_unread told fault why is e = let same : told ≡ office.Import why = cc in ap Err (is ∙ ap fault_of_office same)
 
--- it is one of these refusals there, so it is here
-pub of_either : {A : Type 0} (told : OfficeFault) (fault : Fault) (why other : ImportFault) → fault ≡ fault_of_office told
-    → (let r : Result A OfficeFault = Err told in (r ≡ Err (office.Import why)) ⊎ (r ≡ Err (office.Import other)))
-    → (let r : Result A Fault = Err fault in (r ≡ Err (Import why)) ⊎ (r ≡ Err (Import other)))
-of_either told fault why other is either = elim either [ inl e ↦ inl (of_unread told fault why is e) | inr e ↦ inr (of_unread told fault other is e) ]
+-- it is one of these refusals there, of which the other comes only where P holds, so it is here
+pub of_either : {A P : Type 0} (told : OfficeFault) (fault : Fault) (why other : ImportFault) → fault ≡ fault_of_office told
+    → (let r : Result A OfficeFault = Err told in (r ≡ Err (office.Import why)) ⊎ ((r ≡ Err (office.Import other)) × P))
+    → (let r : Result A Fault = Err fault in (r ≡ Err (Import why)) ⊎ ((r ≡ Err (Import other)) × P))
+of_either told fault why other is either = elim either [ inl e ↦ inl (of_unread told fault why is e) | inr e ↦ inr (of_unread told fault other is e.0, e.1) ]
 
 -- no account file was refused there
 pub of_statement : (told : OfficeFault) (fault : Fault) → fault ≡ fault_of_office told → (IsOfFile told → ⊥) → IsOfStatement fault

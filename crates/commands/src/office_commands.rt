@@ -1,5 +1,5 @@
 //! What the office asks of a store.
-ghost use Rattle.std.specs.Prelude.{◌≡◌, ◌≢◌, ◌⊎◌, Err, IfErr, IfOk, IsTrue, OnOk, None};
+ghost use Rattle.std.specs.Prelude.{◌≡◌, ◌≢◌, ◌≤◌, ◌⊎◌, Err, IfErr, IfOk, IsTrue, OnOk, None, length};
 ghost use Rattle.std.specs.Io.KnownBytes.{Appends};
 ghost use Rattle.command_ends.specs.Faults.{IsOfStream};
 ghost use Rattle.command_ends.specs.declared.fault.Fault.TheVariants.{Damaged, NoAccount, Import as ByFile};
@@ -64,7 +64,8 @@ fn import_bytes_at<S: Alter, W: Write>(
         LeavesBeside (shown_by S.Store book.new) u (IsAllOrNone (IsTakenAt now bytes.now w) w u)) }
     // over any book, also one that is not honest
     ensures written { OnOk result ((n : ImportedRows) × Appends (W.contents output.old) (W.contents output.new) (import_line n)) }
-    ensures unread { (told : ImportFault) → rows_of bytes.now ≡ Err told → (result ≡ Err (ByFile told)) ⊎ (result ≡ Err (ByFile fault)) }
+    ensures unread { (told : ImportFault) → rows_of bytes.now ≡ Err told → (result ≡ Err (ByFile told))
+        ⊎ ((result ≡ Err (ByFile fault)) × (length bytes.now ≤ 16777216)) }
     ensures refused { IfErr result (λ f. (told : ImportFault) → f ≡ ByFile told → (w : World) → StandsFor S.Store book.old w → StandsFor S.Store book.new w) }
     ensures told { IfErr result IsOfImport }
     ensures quiet { IfErr result (λ f. (told : ImportFault) → f ≡ ByFile told → output.new ≡ output.old) }

@@ -1,5 +1,5 @@
 -- Why an account file is refused.
-use Rattle.std.specs.Prelude.{◌≡◌, ◌⊎◌, ℕ, Result, Err}
+use Rattle.std.specs.Prelude.{◌≡◌, ◌⊎◌, ◌≤◌, ℕ, List, Result, Err, length}
 use Rattle.grants_csv.specs.declared.fault.ImportCause.{ImportCause}
 use Rattle.grants_csv.specs.declared.fault.ImportCause.TheVariants.{Header, Form, Range, Conflict, TooMany, Fault}
 use Rattle.grants_csv.specs.declared.fault.ImportFault.{ImportFault}
@@ -24,3 +24,7 @@ fault = at_row Fault 0
 -- the result is this one, or the fault
 abbrev pub IsUnlessFault : {A : Type 0} → Result A ImportFault → Result A ImportFault → Type 0
 IsUnlessFault result wanted = (result ≡ wanted) ⊎ (result ≡ Err fault)
+
+-- the result of a file is this one, or the fault, which comes only behind the test of the size
+abbrev pub IsOfFileUnlessFault : {A : Type 0} → List ℕ → Result A ImportFault → Result A ImportFault → Type 0
+IsOfFileUnlessFault file result wanted = (result ≡ wanted) ⊎ ((result ≡ Err fault) × (length file ≤ 16777216))

@@ -1,5 +1,5 @@
 -- What importing an account file answers.
-use Rattle.std.specs.Prelude.{◌≡◌, ◌⊎◌, ◌≤◌, ℕ, List, Option, Some, None, Result, Ok, Err, MatchResult}
+use Rattle.std.specs.Prelude.{◌≡◌, ◌⊎◌, ◌≤◌, ℕ, List, Option, Some, None, Result, Ok, Err, MatchResult, length}
 use Rattle.queue_types.specs.declared.event.GrantFault.{GrantFault}
 use Rattle.queue_types.specs.declared.event.GrantFault.TheVariants as refusal
 use Rattle.queue_types.specs.declared.event.GrantRow.{GrantRow}
@@ -37,10 +37,10 @@ Refuses (NotAdded why row) f = (f ≡ at_row (cause_of why) row) ⊎ (f ≡ faul
 Refuses _ f = f ≡ fault
 
 -- what the import of an account file at this moment says, and the queue after it: its rows are taken as one event; or
--- this is why they are not, or a fault, and the queue stays
+-- this is why they are not, or a fault, which comes only behind the test of the size, and the queue stays
 abbrev pub Imports : World → ℕ → List ℕ → World → Result Imported ImportFault → Type 0
 Imports old now file new (Ok n) = (rows : List GrantRow) × (rows_of file ≡ Ok rows) × Adds (step old now (grant rows)).reply n × (new ≡ (step old now (grant rows)).world)
-Imports old now file new (Err f) = MatchResult (rows_of file) (λ rows. Refuses (step old now (grant rows)).reply f) (λ bad. (f ≡ bad) ⊎ (f ≡ fault)) × (new ≡ old)
+Imports old now file new (Err f) = MatchResult (rows_of file) (λ rows. Refuses (step old now (grant rows)).reply f) (λ bad. (f ≡ bad) ⊎ ((f ≡ fault) × (length file ≤ 16777216))) × (new ≡ old)
 
 -- what a file asks of the machine: to take its rows, or nothing where it has none
 pub data Asks (file : List ℕ) : Option Event → Type 0 where

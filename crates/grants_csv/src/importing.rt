@@ -6,7 +6,7 @@ ghost use Rattle.queue_core.specs.Limits.{IsEvent, IsMoment};
 ghost use Rattle.queue_core.specs.Machine.{step};
 ghost use Rattle.queue_core.specs.World.{World};
 ghost use Rattle.queue_types.specs.declared.event.GrantRow.{GrantRow};
-ghost use Rattle.grants_csv.specs.Fault.{IsUnlessFault, at_row, fault};
+ghost use Rattle.grants_csv.specs.Fault.{IsOfFileUnlessFault, at_row, fault};
 ghost use Rattle.grants_csv.specs.File.{rows_of};
 ghost use Rattle.grants_csv.specs.declared.fault.ImportCause.TheVariants.{Range};
 ghost use Rattle.grants_csv.specs.Import.{Adds, AskedBy, Imports, IsRowRefusal, Refuses};
@@ -83,7 +83,7 @@ fn take_rows<B: QueueBook>(
 /// Reads an account file and takes its rows as one event at this moment, from 1 to 2,147,483,647: all of them, or none. A row that
 /// equals one accepted before, in this file or earlier, is a repeat. A refusal says why and for which row,
 /// and the book stands for the world it stood for. Whatever the book is, a file that can be read is refused for what the
-/// machine refuses rows for, or by a fault.
+/// machine refuses rows for, or by a fault; the book never sees one that can't be read, and one that is too long is told so.
 pub fn import<B: QueueBook>(
     alloc: Global,
     book: &mut B,
@@ -111,7 +111,8 @@ pub fn import<B: QueueBook>(
     // These hold on any book, also on one that is not honest.
     ensures event { IfOk result (λ n. (rows : List GrantRow) → rows_of bytes.now ≡ Ok rows → IsEvent (grant rows)) }
     ensures size { 16777216 < length bytes.now → result ≡ Err (at_row Range 0) }
-    ensures unread { (f : ImportFault) → rows_of bytes.now ≡ Err f → IsUnlessFault result (Err f) }
+    ensures unread { (f : ImportFault) → rows_of bytes.now ≡ Err f → IsOfFileUnlessFault bytes.now result (Err f) }
+    ensures unseen { (f : ImportFault) → rows_of bytes.now ≡ Err f → book.new ≡ book.old }
     ensures replies { IfErr result (λ f. (rows : List GrantRow) → rows_of bytes.now ≡ Ok rows → (f ≡ fault) ⊎ IsRowRefusal f) }
     ensures err { OnErr result ((w : World) → B.stands book.old w → B.stands book.new w) }
 {

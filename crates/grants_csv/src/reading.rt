@@ -1,5 +1,5 @@
 //! The grants of an account file.
-ghost use Rattle.std.specs.Prelude.{◌≡◌, ◌≤◌, ◌<◌, ◌+◌, ℕ, List, [], All, Ok, Err, IfOk, IfErr, OnOk, bytes_eq, false, length};
+ghost use Rattle.std.specs.Prelude.{◌≡◌, ◌≤◌, ◌+◌, ℕ, List, [], All, Ok, Err, IfOk, IfErr, OnOk, bytes_eq, false, length};
 ghost use Rattle.std.specs.Option.{option_map_or};
 ghost use Rattle.csv.specs.Machine.{next_record as next_of};
 ghost use Rattle.csv.specs.Reading.{default_config, records_from, strip_bom};
@@ -7,9 +7,8 @@ ghost use Rattle.csv.specs.Records.{field_at, fields_of};
 ghost use Rattle.csv.specs.declared.parser.State.{State};
 ghost use Rattle.csv.specs.declared.parser.State.TheVariants as st;
 ghost use Rattle.queue_core.specs.Limits.{IsGrantRow};
-ghost use Rattle.grants_csv.specs.Fault.{IsUnlessFault, at_row, fault};
+ghost use Rattle.grants_csv.specs.Fault.{IsOfFileUnlessFault, IsUnlessFault, fault};
 ghost use Rattle.grants_csv.specs.File.{is_header, rows_from, rows_of, rows_under};
-ghost use Rattle.grants_csv.specs.declared.fault.ImportCause.TheVariants.{Range};
 ghost use Rattle.grants_csv.specs.Records.{Gives, IsAt};
 
 use crate::fault::{ImportCause, ImportFault};
@@ -113,8 +112,7 @@ fn text_len(bytes: &[u8]) -> usize
 /// The grants of an account file, in their order, or why it is refused: at row 0 for its size, which is
 /// looked at first, for its header or for want of memory; else at its first bad row.
 pub fn read_grants(alloc: Global, bytes: &[u8]) -> Result<GrantList, ImportFault>
-    ensures read { IsUnlessFault result (rows_of bytes.now) }
-    ensures size { 16777216 < length bytes.now → result ≡ Err (at_row Range 0) }
+    ensures read { IsOfFileUnlessFault bytes.now result (rows_of bytes.now) }
     ensures limits { IfOk result (All IsGrantRow) }
     ensures few { IfOk result (λ rows. length rows ≤ 16777216) }
 {

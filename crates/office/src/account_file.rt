@@ -1,5 +1,5 @@
 //! An account file enters a book.
-ghost use Rattle.std.specs.Prelude.{◌≡◌, ◌≢◌, ◌⊎◌, Err, Some, IfErr, IfOk, OnOk, take};
+ghost use Rattle.std.specs.Prelude.{◌≡◌, ◌≢◌, ◌≤◌, ◌⊎◌, Err, Some, IfErr, IfOk, OnOk, length, take};
 ghost use Rattle.office.specs.declared.fault.OfficeFault.TheVariants.{Import};
 ghost use Rattle.std.specs.Io.KnownBytes.{Appends};
 ghost use Rattle.std.specs.Option.{IfSome};
@@ -78,7 +78,9 @@ pub fn import_bytes<W: Write, B: QueueBook>(
         → (u : World) × B.stands book.new u × Carries (B.crash_leaves book.old) (B.crash_leaves book.new) (AskedBy bytes.now) (result ≡ Err (Import fault)) now w u }
     // over any book, also one that is not honest
     ensures written { OnOk result ((n : ImportedRows) × Appends (W.contents writer.old) (W.contents writer.new) (import_line n)) }
-    ensures unread { (told : ImportFault) → rows_of bytes.now ≡ Err told → (result ≡ Err (Import told)) ⊎ (result ≡ Err (Import fault)) }
+    ensures unread { (told : ImportFault) → rows_of bytes.now ≡ Err told → (result ≡ Err (Import told))
+        ⊎ ((result ≡ Err (Import fault)) × (length bytes.now ≤ 16777216)) }
+    ensures unseen { (told : ImportFault) → rows_of bytes.now ≡ Err told → book.new ≡ book.old }
     ensures refused { IfErr result (λ f. (told : ImportFault) → f ≡ Import told → (w : World) → B.stands book.old w → B.stands book.new w) }
     ensures told { IfErr result (λ f. IsOfStream f ⊎ IsOfFile f) }
     ensures quiet { IfErr result (λ f. IsOfFile f → writer.new ≡ writer.old) }
