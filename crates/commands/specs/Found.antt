@@ -1,7 +1,7 @@
 -- What a file is by its first bytes.
 use Rattle.std.specs.Prelude.{ℕ, List, [], ◌∷◌, ◌++◌, ◌==◌, bytes_eq, codes, if◌then◌else◌, take}
-use Rattle.commands.specs.declared.store.Found.{Found}
-use Rattle.commands.specs.declared.store.Found.TheVariants.{EmptyFile, Unfinished, Database, OtherFile}
+use Rattle.commands.specs.declared.found.Found.{Found}
+use Rattle.commands.specs.declared.found.Found.TheVariants.{EmptyFile, Unfinished, Database, OtherFile}
 
 -- what a database file begins with; while it is made its first byte is 0
 abbrev pub database_mark : List ℕ

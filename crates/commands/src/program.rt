@@ -13,13 +13,14 @@ ghost use Rattle.commands.specs.Refusals.{IsOfInit, IsOfReplay, IsTold, MayBePri
 ghost use Rattle.commands.specs.Store.{CanBeMade, IsAllowed, IsOfStore};
 ghost use Rattle.commands.specs.Words.{AreWrong, AskForText, NameCommand, faults_of};
 
-use crate::store::make_and_close;
+use crate::new_store::make_and_close;
 use crate::work::{Work, work_and_close};
 use command_ends::{Fault, end, tell_words};
 use command_words::{Command, CommandFault, Init, command};
 use replay_in_memory::replay;
 use sqlite_std_file::Unknown;
-use std::io::{BufWriter, Input, Write};
+use std::alloc::Global;
+use std::io::{BufWriter, Input, Read, Write};
 use std::rt::HostRuntime;
 
 /// Makes the store that the words ask for, closes it and flushes what is printed, and gives the exit status.
@@ -62,14 +63,19 @@ fn do_work<O: Write + Drop>(
     Ok(0)
 }
 
-/// Answers the lines of the program's input over a new queue in memory, flushes the answers, and gives the exit status.
-fn do_replay<O: Write + Drop>(rt: &HostRuntime, out: &mut BufWriter<O>) -> Result<u8, Fault>
+/// Answers the lines of an input over a new queue in memory, flushes the answers, and gives the exit status. It has no way to files, nor to
+/// streams but these.
+fn do_replay<R: Read, O: Write + Drop>(
+    alloc: Global,
+    input: &mut R,
+    out: &mut BufWriter<O>,
+) -> Result<u8, Fault>
     ensures status { IfOk result (λ status. status ≤ 1) }
     ensures printed { IfOk result (λ status. HasPrinted Command.Replay status (writer_contents O.contents out.old) (writer_contents O.contents out.new)) }
     ensures handed { OnOk result (writer_buffer out.new ≡ []) }
     ensures told { IfErr result IsOfReplay }
 {
-    let status = replay(rt.alloc(), &mut rt.reader(), out)?;
+    let status = replay(alloc, input, out)?;
     out.flush()?;
     Ok(status)
 }
@@ -95,7 +101,7 @@ fn do_command<O: Write + Drop>(
         Command::Import(words) => do_work(rt, Work::Import(words), out),
         Command::Statement(words) => do_work(rt, Work::Statement(words), out),
         Command::Serve(words) => do_work(rt, Work::Serve(words), out),
-        Command::Replay => do_replay(rt, out),
+        Command::Replay => do_replay(rt.alloc(), &mut rt.reader(), out),
     }
 }
 

@@ -27,8 +27,9 @@ use sqlite_disk::{Disk, Files};
 use sqlite_std_file::{FileFrom, Start};
 use sqlite_store::FileStore;
 use std::alloc::Global;
+use std::fs::File;
 use std::io::{ErrorKind, Read, Write};
-use std::net::{Net, TcpListener};
+use std::net::TcpListener;
 use std::rt::{Clock, HostRuntime};
 use std::{fs, io};
 
@@ -43,6 +44,13 @@ pub(crate) enum Work<'a> {
     Serve(Serve<'a>),
 }
 
+/// What work opens beside its store: its account file and its port. What it has none of is a `NotFound` that nobody reads.
+#[derive(Drop)]
+struct Opened<F: Drop> {
+    file: io::Result<F>,
+    listener: io::Result<TcpListener>,
+}
+
 impl<'a> Work<'a> {
     /// The path of its store.
     fn store(self) -> &'a str
@@ -55,20 +63,18 @@ impl<'a> Work<'a> {
         }
     }
 
-    /// Opens its account file. Work that has none finds none. That it is the file at the path no contract says.
-    fn account_file<R: fs::Files>(self, files: &R) -> io::Result<R::File> {
+    /// Opens its account file or its port. That it is the file at the path, or the port of the words, no contract says.
+    fn open(self, rt: &HostRuntime) -> Opened<File> {
+        let mut opened = Opened {
+            file: Err(ErrorKind::NotFound.into()),
+            listener: Err(ErrorKind::NotFound.into()),
+        };
         match self {
-            Work::Import(words) => fs::open(files, words.file),
-            Work::Statement(_) | Work::Serve(_) => Err(ErrorKind::NotFound.into()),
+            Work::Import(words) => opened.file = fs::open(rt, words.file),
+            Work::Statement(_) => {}
+            Work::Serve(words) => opened.listener = listen(rt, words.port),
         }
-    }
-
-    /// Listens on its port. Work that has none finds none. That it is the port of the words no contract says.
-    fn listener<R: Net>(self, net: &R) -> io::Result<R::Listener> {
-        match self {
-            Work::Serve(words) => listen(net, words.port),
-            Work::Import(_) | Work::Statement(_) => Err(ErrorKind::NotFound.into()),
-        }
+        opened
     }
 }
 
@@ -84,13 +90,13 @@ fn work_on<C: Clock, S: Alter, W: Write>(
     alloc: Global,
     clock: &C,
     work: Work<'_>,
-    file: io::Result<Vec<u8>>,
-    listener: io::Result<TcpListener>,
+    opened: Opened<Vec<u8>>,
     output: &mut W,
     book: &mut TableBook<S>,
 ) -> Result<(), Fault>
-    ensures { HasEnded S.Store (AreIn file) work.entry book.old book.new (W.contents output.old) (W.contents output.new) result }
+    ensures { HasEnded S.Store (AreIn opened.file) work.entry book.old book.new (W.contents output.old) (W.contents output.new) result }
 {
+    let Opened { file, listener } = opened;
     match work {
         Work::Import(_) => import_into(alloc, clock, file, output, book),
         Work::Statement(words) => print_from(alloc, words.account, output, book),
@@ -103,14 +109,13 @@ fn work_in<C: Clock, D: Disk + Drop, W: Write>(
     alloc: Global,
     clock: &C,
     work: Work<'_>,
-    file: io::Result<Vec<u8>>,
-    listener: io::Result<TcpListener>,
+    opened: Opened<Vec<u8>>,
     output: &mut W,
     book: &mut TableBook<FileStore<D>>,
 ) -> Result<(), Fault>
-    ensures { HasEnded over_files (AreIn file) work.entry book.old book.new (W.contents output.old) (W.contents output.new) result }
+    ensures { HasEnded over_files (AreIn opened.file) work.entry book.old book.new (W.contents output.old) (W.contents output.new) result }
 {
-    work_on(alloc, clock, work, file, listener, output, book)
+    work_on(alloc, clock, work, opened, output, book)
 }
 
 /// Reads the account file, does the work on a book in files, and gives the book back, or the files of one on which it was not done.
@@ -118,21 +123,22 @@ fn work_over<C: Clock, F: Read + Drop, D: Disk + Drop, W: Write>(
     alloc: Global,
     clock: &C,
     work: Work<'_>,
-    file: io::Result<F>,
-    listener: io::Result<TcpListener>,
+    opened: Opened<F>,
     output: &mut W,
     mut book: TableBook<FileStore<D>>,
 ) -> Result<TableBook<FileStore<D>>, (Fault, Files<D>)>
     ensures done { IfOk result (λ b. IsHonest over_files b
-        → IsDoneOn over_files (AreReadIn F.remaining file) work.entry book b (W.contents output.old) (W.contents output.new)) }
+        → IsDoneOn over_files (AreReadIn F.remaining opened.file) work.entry book b (W.contents output.old) (W.contents output.new)) }
     ensures printed { OnOk result (Prints work.entry (W.contents output.old) (W.contents output.new)) }
     ensures told { IfErr result (λ e. IsRefusal work.entry (W.contents output.old) (W.contents output.new) e.0) }
     ensures began { IfErr result (λ e. AreClean D.Disk e.1.log e.1.db → IsHonest over_files book) }
     ensures refused { IfErr result (λ e. AreClean D.Disk e.1.log e.1.db → IsTrue (shown_by over_files book).is_open → (w : World) → StandsFor over_files book w
-        → IsRefusedFrom D.Disk (AreReadIn F.remaining file) work.entry w e.1 (W.contents output.old) (W.contents output.new) e.0) }
+        → IsRefusedFrom D.Disk (AreReadIn F.remaining opened.file) work.entry w e.1 (W.contents output.old) (W.contents output.new) e.0) }
 {
-    let bytes = read_opened(alloc, file);
-    let done = work_in(alloc, clock, work, bytes, listener, output, &mut book);
+    let Opened { file, listener } = opened;
+    let file = read_opened(alloc, file);
+    let opened = Opened { file, listener };
+    let done = work_in(alloc, clock, work, opened, output, &mut book);
     left(book, done)
 }
 
@@ -167,9 +173,8 @@ fn work_at<S: Start, W: Write>(
 {
     match open_store(rt, work.store(), start) {
         Ok(book) => {
-            let file = work.account_file(rt);
-            let listener = work.listener(rt);
-            match work_over(rt.alloc(), rt, work, file, listener, output, book) {
+            let opened = work.open(rt);
+            match work_over(rt.alloc(), rt, work, opened, output, book) {
                 Ok(book) => Ok(book),
                 Err((fault, files)) => Err((fault, Some(files))),
             }

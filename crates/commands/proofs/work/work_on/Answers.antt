@@ -8,8 +8,8 @@ use Rattle.commands.proofs.work.work_on.Goals as goal
 
 pub returns-in-Import : goal.returns-in-Import
 returns-in-Import g c =
-    subst (λ work. HasEnded g.S.Store (AreIn c.args.file) work c.args.book.now c.import_into.new.book (g.W.Write.contents c.args.output.now) (g.W.Write.contents c.import_into.new.output) c.import_into.result) (sym c.in-Import.is)
-    (ended g.S.Store (AreIn c.args.file) (Import c.in-Import.field-0) c.args.book.now c.import_into.new.book (g.W.Write.contents c.args.output.now) (g.W.Write.contents c.import_into.new.output) c.import_into.result c.import_into.ensures.written
+    subst (λ work. HasEnded g.S.Store (AreIn c.args.opened.file) work c.args.book.now c.import_into.new.book (g.W.Write.contents c.args.output.now) (g.W.Write.contents c.import_into.new.output) c.import_into.result) (sym c.in-Import.is)
+    (ended g.S.Store (AreIn c.args.opened.file) (Import c.in-Import.field-0) c.args.book.now c.import_into.new.book (g.W.Write.contents c.args.output.now) (g.W.Write.contents c.import_into.new.output) c.import_into.result c.import_into.ensures.written
     (λ honest. on_ok_weaker c.import_into.result (λ told. record {
       began = c.import_into.ensures.began honest;
       done = told.0;
@@ -30,8 +30,8 @@ returns-in-Import g c =
 
 pub returns-in-Statement : goal.returns-in-Statement
 returns-in-Statement g c =
-    subst (λ work. HasEnded g.S.Store (AreIn c.args.file) work c.args.book.now c.print_from.new.book (g.W.Write.contents c.args.output.now) (g.W.Write.contents c.print_from.new.output) c.print_from.result) (sym c.in-Statement.is)
-    (ended g.S.Store (AreIn c.args.file) (Statement c.in-Statement.words) c.args.book.now c.print_from.new.book (g.W.Write.contents c.args.output.now) (g.W.Write.contents c.print_from.new.output) c.print_from.result c.print_from.ensures.written
+    subst (λ work. HasEnded g.S.Store (AreIn c.args.opened.file) work c.args.book.now c.print_from.new.book (g.W.Write.contents c.args.output.now) (g.W.Write.contents c.print_from.new.output) c.print_from.result) (sym c.in-Statement.is)
+    (ended g.S.Store (AreIn c.args.opened.file) (Statement c.in-Statement.words) c.args.book.now c.print_from.new.book (g.W.Write.contents c.args.output.now) (g.W.Write.contents c.print_from.new.output) c.print_from.result c.print_from.ensures.written
     (λ honest. on_ok_weaker c.print_from.result (λ told. record {
       began = c.print_from.ensures.began honest;
       done = λ w stands. let it = told.0 w stands in (
@@ -59,8 +59,8 @@ returns-in-Statement g c =
 
 pub returns-in-Serve : goal.returns-in-Serve
 returns-in-Serve g c =
-    subst (λ work. HasEnded g.S.Store (AreIn c.args.file) work c.args.book.now c.serve_book.new.book (g.W.Write.contents c.args.output.now) (g.W.Write.contents c.serve_book.new.output) c.serve_book.result) (sym c.in-Serve.is)
-    (ended g.S.Store (AreIn c.args.file) (Serve c.in-Serve.words) c.args.book.now c.serve_book.new.book (g.W.Write.contents c.args.output.now) (g.W.Write.contents c.serve_book.new.output) c.serve_book.result c.serve_book.ensures.written
+    subst (λ work. HasEnded g.S.Store (AreIn c.args.opened.file) work c.args.book.now c.serve_book.new.book (g.W.Write.contents c.args.output.now) (g.W.Write.contents c.serve_book.new.output) c.serve_book.result) (sym c.in-Serve.is)
+    (ended g.S.Store (AreIn c.args.opened.file) (Serve c.in-Serve.words) c.args.book.now c.serve_book.new.book (g.W.Write.contents c.args.output.now) (g.W.Write.contents c.serve_book.new.output) c.serve_book.result c.serve_book.ensures.written
     (λ honest. on_ok_weaker c.serve_book.result (λ told. record {
       began = c.serve_book.ensures.began honest;
       done = λ w stands. let it = told w stands in (

@@ -1,5 +1,5 @@
 use Rattle.std.proofs.lemmas.Result.{IfOk-weaker}
-use Rattle.commands.proofs.store.make_and_close.Goals as goal
+use Rattle.commands.proofs.new_store.make_and_close.Goals as goal
 
 pub returns-clause-kept : goal.returns-clause-kept
 returns-clause-kept g c =

@@ -1,7 +1,7 @@
 use Rattle.std.proofs.Common.{Err, ap, refl, sym, ◌∙◌}
 use Rattle.std.proofs.lemmas.Result.{err_from_is_err_and}
 use Rattle.commands.proofs.StoreLemmas.{at_any_second, is_bad, is_stream}
-use Rattle.commands.proofs.store.new_settings.Goals as goal
+use Rattle.commands.proofs.new_store.new_settings.Goals as goal
 
 pub returns-clause-ok : goal.returns-clause-ok
 returns-clause-ok g c = (_, c.in_ok-settings.ensures.ok)

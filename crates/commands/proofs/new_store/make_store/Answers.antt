@@ -6,7 +6,7 @@ use Rattle.queue_core.specs.World.{empty_queue}
 use Rattle.queue_store.specs.Kept.{StandsFor}
 use Rattle.commands.proofs.FaultLemmas.{of_book}
 use Rattle.commands.proofs.StoreLemmas.{is_no_setting}
-use Rattle.commands.proofs.store.make_store.Goals as goal
+use Rattle.commands.proofs.new_store.make_store.Goals as goal
 
 pub returns-clause-made : goal.returns-clause-made
 returns-clause-made g c =

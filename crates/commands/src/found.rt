@@ -1,0 +1,75 @@
+//! What is at a path, before it is opened as a store.
+ghost use Rattle.std.specs.IoError.{error_kind};
+ghost use Rattle.std.specs.Prelude.{◌≡◌, ◌≢◌, ◌↔◌, IfErr, IfOk};
+ghost use Rattle.std.specs.Option.{IfSome};
+ghost use Rattle.std.specs.declared.io.ErrorKind.TheVariants.{OutOfMemory};
+ghost use Rattle.command_ends.specs.declared.fault.Fault.TheVariants.{BadSetting, Memory as OfMemory};
+ghost use Rattle.commands.specs.Found.{found_in};
+ghost use Rattle.commands.specs.Store.{IsOfPath};
+
+use command_ends::Fault;
+use std::alloc::Global;
+use std::io::{ErrorKind, Read};
+use std::rt::HostRuntime;
+use std::{fs, io};
+
+/// What a database file begins with.
+const DATABASE_MARK: &[u8] = b"SQLite format 3\0";
+
+/// What a path has, as far as the first bytes tell.
+#[derive(Debug, Clone, Copy, PartialEq, Eq)]
+pub(crate) enum Found {
+    Nothing,
+    EmptyFile,
+    /// A database whose making was cut short: its first byte is written last, and is 0 until then.
+    Unfinished,
+    Database,
+    OtherFile,
+}
+
+/// What a file is by its first bytes.
+fn look_at<R: Read + Drop>(alloc: Global, file: R) -> io::Result<Found>
+    ensures { IfOk result (λ found. IfSome (R.remaining file) (λ bytes. found ≡ found_in bytes)) }
+{
+    let mut front = Vec::new(alloc);
+    file.take(DATABASE_MARK.len() as u64)
+        .read_to_end(&mut front)?;
+    if front.as_slice() == DATABASE_MARK {
+        return Ok(Found::Database);
+    }
+    match front.as_slice() {
+        [] => Ok(Found::EmptyFile),
+        [0, ..] => Ok(Found::Unfinished),
+        _ => Ok(Found::OtherFile),
+    }
+}
+
+/// What is at a path. Nothing is made or written. What is no regular file, as a folder or a pipe, is an error.
+fn look_at_path(rt: &HostRuntime, path: &str) -> io::Result<Found> {
+    match fs::metadata(rt, path) {
+        Ok(about) if about.is_file() => look_at(rt.alloc(), fs::open(rt, path)?),
+        Ok(_) => Err(ErrorKind::Unsupported.into()),
+        Err(error) if error.kind() == ErrorKind::NotFound => Ok(Found::Nothing),
+        Err(error) => Err(error),
+    }
+}
+
+/// The fault of a path that can't be looked at or made.
+pub(crate) fn fault_of_path(error: io::Error) -> Fault
+    ensures told { IsOfPath result }
+    ensures memory { (result ≡ OfMemory) ↔ (error_kind error ≡ OutOfMemory) }
+    ensures other { result ≢ BadSetting }
+{
+    match error.kind() {
+        ErrorKind::OutOfMemory => Fault::Memory,
+        _ => Fault::Disk,
+    }
+}
+
+/// What is at the path of a store, where an error is one of the disk.
+pub(crate) fn found_at(rt: &HostRuntime, path: &str) -> Result<Found, Fault>
+    ensures told { IfErr result IsOfPath }
+    ensures other { IfErr result (λ f. f ≢ BadSetting) }
+{
+    look_at_path(rt, path).map_err(fault_of_path)
+}
