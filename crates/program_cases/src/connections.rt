@@ -11,6 +11,7 @@
 //!   behind each 25th over tables. Writes fail after each byte of an answer over lists, with at most 50, 7 and 1 bytes a write, and after each 25th
 //!   over tables, with at most 50; in a large document they fail at each write and at five other places, over both. Books fail over both.
 
+mod answered;
 mod answers;
 mod bodies;
 mod broken;

@@ -83,7 +83,7 @@ pub(crate) fn closed<'a>(
 }
 
 /// How many bytes these parts have.
-pub(super) fn length_of(parts: &[&[u8]]) -> usize {
+pub(crate) fn length_of(parts: &[&[u8]]) -> usize {
     let mut length: usize = 0;
     for part in parts {
         length = length.saturating_add(part.len());

@@ -8,13 +8,15 @@ use crate::desk::connection::{
 use crate::desk::messages::{PRINT_JOB, job_reply};
 use crate::desk::requests::{IPP, POST_JOB};
 use crate::desk::streams::{
-    BrokenWriter, InterruptedReader, InterruptedWriter, SPEEDS, SlowReader, speeds_for,
+    AnsweredReader, BrokenWriter, InterruptedReader, InterruptedWriter, SPEEDS, SlowReader,
+    TellingWriter, speeds_for,
 };
 use http_front::{ServeCause, ServeFault, Served, serve};
 use list_book::ListBook;
 use queue_core::book::QueueBook;
 use queue_types::settings::Settings;
 use std::alloc::Global;
+use std::cell::Cell;
 use std::io::{Read, Write};
 
 /// What every connection and file comes at.
@@ -199,6 +201,45 @@ impl<B: QueueBook + Drop> Desk<B> {
         let place = self.place(most);
         place.same_outcome(Ok(wanted), served)?;
         place.same_bytes(answers, writer.taken.as_slice())
+    }
+
+    /// A connection is served as it is to be, where a read gives at most so many bytes, and answered before it is read behind its last byte.
+    pub(crate) fn take_answered(
+        &mut self,
+        connection: &Connection<'_>,
+        most: usize,
+    ) -> Result<(), Mismatch> {
+        let stream = joined(self.alloc, connection.stream)?;
+        let answers = wanted_bytes(self.alloc, connection.wanted)?;
+        let wanted = connection.outcome();
+        self.answer_first(stream.as_slice(), wanted, answers.as_slice(), most)
+    }
+
+    /// A stream is served so, and these bytes are written as its answers before it is read behind its last byte.
+    fn answer_first(
+        &mut self,
+        stream: &[u8],
+        wanted: Served,
+        answers: &[u8],
+        most: usize,
+    ) -> Result<(), Mismatch> {
+        let written = Cell::new(0);
+        let mut reader = AnsweredReader {
+            rest: stream,
+            most,
+            answers: answers.len(),
+            written: &written,
+            is_read_early: false,
+        };
+        let mut writer = TellingWriter {
+            written: &written,
+            taken: Vec::new(self.alloc),
+        };
+        let served = self.serve(&mut reader, &mut writer);
+        let place = self.place(most);
+        place.same_outcome(Ok(wanted), served)?;
+        place.same_bytes(answers, writer.taken.as_slice())?;
+        place.is_so(!reader.is_read_early, "an answer before more is read")
     }
 
     /// Connections, one after another.

@@ -1,5 +1,7 @@
-//! Readers and writers that are slow, have no end, are interrupted, or fail.
+//! Readers and writers that are slow, have no end, are interrupted, see what is written, or fail.
 
+use std::alloc::Global;
+use std::cell::Cell;
 use std::io;
 use std::io::{ErrorKind, Read, Write};
 
@@ -101,28 +103,72 @@ impl Write for InterruptedWriter {
     }
 }
 
-/// Takes each byte, and can't flush.
+/// Gives at most so many bytes at each read, and sees whether it is read behind its last byte before its answers are written.
 #[derive(Drop)]
-pub(crate) struct UnflushedWriter;
+pub(super) struct AnsweredReader<'a> {
+    pub(super) rest: &'a [u8],
+    pub(super) most: usize,
+    /// How many bytes its answers have.
+    pub(super) answers: usize,
+    /// How many bytes are written.
+    pub(super) written: &'a Cell<usize>,
+    /// It was read so.
+    pub(super) is_read_early: bool,
+}
 
-impl Write for UnflushedWriter {
+impl Read for AnsweredReader<'_> {
+    fn read(&mut self, buf: &mut [u8]) -> io::Result<usize> {
+        if self.rest.is_empty() && self.written.get() < self.answers {
+            self.is_read_early = true;
+        }
+        let wanted = buf.len().min(self.most);
+        self.rest.read(&mut buf[..wanted])
+    }
+}
+
+/// Takes each byte, and tells how many are written.
+#[derive(Drop)]
+pub(super) struct TellingWriter<'a> {
+    pub(super) written: &'a Cell<usize>,
+    pub(super) taken: Vec<u8>,
+}
+
+impl Write for TellingWriter<'_> {
     fn write(&mut self, buf: &[u8]) -> io::Result<usize> {
+        if self.taken.extend_from_slice(buf).is_err() {
+            return Err(io::Error::other("memory"));
+        }
+        self.written.set(self.taken.len());
         Ok(buf.len())
     }
 
     fn flush(&mut self) -> io::Result<()> {
-        Err(io::Error::other("full"))
+        Ok(())
     }
 }
 
 /// Takes each byte, and flushes so many times.
 #[derive(Drop)]
 pub(crate) struct FlushedWriter {
-    pub(crate) left: u32,
+    left: u32,
+    pub(crate) taken: Vec<u8>,
+}
+
+impl FlushedWriter {
+    /// One that flushes so many times.
+    pub(crate) fn new(alloc: Global, left: u32) -> FlushedWriter {
+        FlushedWriter {
+            left,
+            taken: Vec::new(alloc),
+        }
+    }
 }
 
 impl Write for FlushedWriter {
     fn write(&mut self, buf: &[u8]) -> io::Result<usize> {
+        if self.taken.extend_from_slice(buf).is_err() {
+            return Err(io::Error::other("memory"));
+        }
         Ok(buf.len())
     }
 

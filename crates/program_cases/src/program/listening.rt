@@ -5,11 +5,12 @@ use crate::desk::compare::Mismatch;
 use crate::desk::connection::Wanted::Success;
 use crate::desk::messages::{JOB_1, JOB_2};
 use crate::desk::requests::IPP;
-use crate::desk::streams::UnflushedWriter;
+use crate::desk::streams::FlushedWriter;
 use crate::program::server::Step::{Gets, Serves, ServesUnflushed, ServesUntold};
 use crate::program::server::{NO_ROOM, PRINTS, Step, narrow, take_steps};
 use crate::program::sockets::AT;
 use print_server::{listen, tell_listening};
+use std::alloc::Global;
 use std::io;
 use std::io::ErrorKind;
 use std::net::{Ipv4Addr, SocketAddr, TcpListener};
@@ -20,11 +21,14 @@ pub(super) fn free_port(rt: &HostRuntime) -> io::Result<u16> {
     Ok(listener.local_addr()?.port())
 }
 
+/// The line that tells of port 8631.
+const TELLS_8631: &[u8] = b"listening 127.0.0.1:8631\n";
+
 #[test]
 fn the_line_that_tells_of_a_port(rt: HostRuntime) -> Result<(), Mismatch> {
     let mut printed = Vec::new(rt.alloc());
     tell_listening(&mut printed, 8631)?;
-    AT.same_bytes(b"listening 127.0.0.1:8631\n", printed.as_slice())
+    AT.same_bytes(TELLS_8631, printed.as_slice())
 }
 
 /// It is listened on by the loopback interface alone.
@@ -57,12 +61,19 @@ fn a_port_that_is_taken(rt: HostRuntime) -> Result<(), Mismatch> {
     )
 }
 
+/// A line that can't be flushed was written before.
+fn tell_unflushed(alloc: Global) -> Result<(), Mismatch> {
+    let mut out = FlushedWriter::new(alloc, 0);
+    let came = tell_listening(&mut out, 8631);
+    has_failed(came, NO_ROOM, "a line that can't be flushed")?;
+    AT.same_bytes(TELLS_8631, out.taken.as_slice())
+}
+
 #[test]
 fn a_port_that_cannot_be_told(rt: HostRuntime) -> Result<(), Mismatch> {
     let came = tell_listening(&mut narrow(rt.alloc()), 8631);
     has_failed(came, NO_ROOM, "a line that can't be written")?;
-    let came = tell_listening(&mut UnflushedWriter, 8631);
-    has_failed(came, NO_ROOM, "a line that can't be flushed")
+    tell_unflushed(rt.alloc())
 }
 
 /// The first of two connections has been served when its line can't be printed so; the second is not taken, and served later.
@@ -86,7 +97,7 @@ fn a_count_that_cannot_be_told(rt: HostRuntime) -> Result<(), Mismatch> {
 /// A count that is not flushed would be lost where the server is stopped.
 #[test]
 fn a_count_that_cannot_be_flushed(rt: HostRuntime) -> Result<(), Mismatch> {
-    serves_untold(&rt, ServesUnflushed(2))
+    serves_untold(&rt, ServesUnflushed(2, "served 1\n"))
 }
 
 const NO_CONNECTION: &[Step<'static>] = &[Serves(0, "")];

@@ -114,13 +114,43 @@ fn released<B: DeskBook>(alloc: Global, document: &[u8]) -> Result<B, Mismatch> 
     Ok(desk.into_book())
 }
 
-/// The device asks for the document and doesn't read it while another client prints.
-const NOT_READ: &[Step<'static>] = &[
-    Sends(&[GET_DOCUMENT]),
-    PRINTS,
-    SERVES_BOTH,
-    Gets(1, &[Success(IPP, JOB_2)]),
-];
+/// The device asks for the document and doesn't read it, and another client prints.
+const NOT_READ: &[Step<'static>] = &[Sends(&[GET_DOCUMENT]), PRINTS];
+
+/// A clock that goes with the machine's, and tells the longest time from one look at it to the next.
+#[derive(Drop)]
+struct Watched<'a> {
+    rt: &'a HostRuntime,
+    last: Cell<Duration>,
+    longest: Cell<Duration>,
+}
+
+impl Watched<'_> {
+    /// One that was just looked at.
+    fn new(rt: &HostRuntime) -> io::Result<Watched<'_>> {
+        Ok(Watched {
+            rt,
+            last: Cell::new(rt.monotonic()?),
+            longest: Cell::new(Duration::from_secs(0)),
+        })
+    }
+}
+
+impl Clock for Watched<'_> {
+    fn monotonic(&self) -> io::Result<Duration> {
+        let now = self.rt.monotonic()?;
+        let passed = now.saturating_sub(self.last.get());
+        self.last.set(now);
+        if passed > self.longest.get() {
+            self.longest.set(passed);
+        }
+        Ok(now)
+    }
+
+    fn since_1970(&self) -> io::Result<Duration> {
+        self.rt.since_1970()
+    }
+}
 
 /// Has a server wait so many seconds for a read or a write.
 fn waits<B: DeskBook>(server: &mut Server<B>, seconds: u32) -> Result<(), Mismatch> {
@@ -142,25 +172,48 @@ fn time_of<B: DeskBook>(
     Ok(rt.monotonic()?.saturating_sub(began))
 }
 
-/// The server waits for it the three seconds of its timeout and leaves it so, and it gets a front of this document.
-fn leaves_it<B: DeskBook>(
+/// The longest time that one write to the device waits, where the server looks at its clock before each. All in all it may wait for several timeouts: a
+/// write that has taken a part when its time is over is followed by one more.
+fn longest_write<B: DeskBook>(
+    rt: &HostRuntime,
+    server: &mut Server<B>,
+) -> Result<Duration, Mismatch> {
+    let clock = Watched::new(rt)?;
+    server.serve(&clock, 2, "served 0\nserved 1\n")?;
+    Ok(clock.longest.get())
+}
+
+/// The server waits for it the eight seconds of its timeout and leaves it so.
+fn leaves_it<B: DeskBook>(rt: &HostRuntime, server: &mut Server<B>) -> Result<(), Mismatch> {
+    waits(server, 8)?;
+    let waited = longest_write(rt, server)?;
+    AT.is_so(
+        waited >= Duration::from_secs(8) && waited < Duration::from_secs(16),
+        "a client that is waited for",
+    )
+}
+
+/// The device gets a front of this document, and the other client its answer.
+fn goes_on<B: DeskBook>(
     rt: &HostRuntime,
     server: &mut Server<B>,
     document: &[u8],
 ) -> Result<(), Mismatch> {
-    waits(server, 3)?;
-    let waited = time_of(rt, server, NOT_READ)?;
-    AT.is_so(
-        waited >= Duration::from_secs(3),
-        "a client that is waited for",
-    )?;
-    server.take_each(rt, &[GetsFront(0, &[Success(OCTETS, document)])])
+    server.take_each(rt, NOT_READ)?;
+    leaves_it(rt, server)?;
+    server.take_each(
+        rt,
+        &[
+            Gets(1, &[Success(IPP, JOB_2)]),
+            GetsFront(0, &[Success(OCTETS, document)]),
+        ],
+    )
 }
 
 /// So does the server of a book with this document.
 fn is_left_unread<B: DeskBook>(rt: &HostRuntime, document: &[u8]) -> Result<(), Mismatch> {
     let mut server = Server::over(rt, released::<B>(rt.alloc(), document)?)?;
-    leaves_it(rt, &mut server, document)
+    goes_on(rt, &mut server, document)
 }
 
 /// A server that waited for it would wait for ever, and the test would be cut off.
@@ -292,7 +345,7 @@ fn is_left_soon<B: DeskBook>(rt: &HostRuntime) -> Result<(), Mismatch> {
     waits(&mut server, 40)?;
     let waited = time_of(rt, &mut server, ASKED_TO_END)?;
     AT.is_so(
-        waited >= Duration::from_secs(1) && waited < Duration::from_secs(20),
+        waited >= Duration::from_secs(1) && waited < Duration::from_secs(6),
         "a second for the client",
     )
 }

@@ -1,8 +1,6 @@
 //! Replays over streams that fail, text of bytes, and examples that are not answered as they are to be.
 
-use crate::desk::streams::{
-    BrokenReader, BrokenWriter, FlushedWriter, SlowReader, UnflushedWriter,
-};
+use crate::desk::streams::{BrokenReader, BrokenWriter, FlushedWriter, SlowReader};
 use replay::{Fault, HexFault, put_hex, read_hex};
 use replay_examples::run_cases;
 use replay_in_memory::replay;
@@ -31,14 +29,12 @@ fn streams_that_fail(rt: HostRuntime) {
 #[test]
 fn output_that_is_flushed_first(rt: HostRuntime) {
     let mut input: &[u8] = b"ipp 00\n";
-    assert_eq!(rt;
-        replay(rt.alloc(), &mut input, &mut UnflushedWriter),
-        Err(Fault::Io)
-    );
+    let mut output = FlushedWriter::new(rt.alloc(), 0);
+    assert_eq!(rt; replay(rt.alloc(), &mut input, &mut output), Err(Fault::Io));
     assert_eq!(rt; input, b"ipp 00\n".as_slice());
 }
 
-/// It is flushed before each read: where the second flush can't be, there is no second read.
+/// It is flushed before each read: where the second flush can't be, there is no second read. The line that had come is answered before that.
 #[test]
 fn output_that_is_flushed_again(rt: HostRuntime) {
     let mut input = SlowReader {
@@ -46,9 +42,10 @@ fn output_that_is_flushed_again(rt: HostRuntime) {
         most: 7,
         reads: 0,
     };
-    let mut output = FlushedWriter { left: 1 };
+    let mut output = FlushedWriter::new(rt.alloc(), 1);
     assert_eq!(rt; replay(rt.alloc(), &mut input, &mut output), Err(Fault::Io));
     assert_eq!(rt; input.reads, 1);
+    assert_eq!(rt; output.taken.as_slice(), b"ipp short\n".as_slice());
 }
 
 /// The digits stand for these bytes.

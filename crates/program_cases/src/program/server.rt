@@ -6,7 +6,7 @@ use crate::desk::connection::Wanted;
 use crate::desk::messages::PRINT_JOB;
 use crate::desk::queue::settings;
 use crate::desk::requests::POST_JOB;
-use crate::desk::streams::{BrokenWriter, UnflushedWriter};
+use crate::desk::streams::{BrokenWriter, FlushedWriter};
 use crate::program::sockets::{AT, Clients, client_at};
 use print_server::{ServerFault, Service, Standing, listen};
 use queue_core::book::{BookFault, QueueBook};
@@ -34,8 +34,8 @@ pub(super) enum Step<'a> {
     Serves(u32, &'a str),
     /// The server serves so many connections, and can't print its lines.
     ServesUntold(u32),
-    /// The same, where it can't flush them.
-    ServesUnflushed(u32),
+    /// The server serves so many connections, prints this line, and can't flush it.
+    ServesUnflushed(u32, &'a str),
     /// The server is to serve so many connections, prints these lines, and stops since its book can't be read any more, by this fault.
     Stops(u32, &'a str, BookFault),
     /// The client of this number, of those that stayed, gets this and then the end of its connection. The first is number 0.
@@ -158,6 +158,18 @@ impl<B: QueueBook + Drop> Server<B> {
         )
     }
 
+    /// Serves so many connections, prints this line, and can't flush it.
+    fn serve_unflushed(
+        &mut self,
+        rt: &HostRuntime,
+        connections: u32,
+        line: &str,
+    ) -> Result<(), Mismatch> {
+        let mut out = FlushedWriter::new(self.alloc, 0);
+        self.serve_untold(rt, &mut out, connections)?;
+        AT.same_bytes(line.as_bytes(), out.taken.as_slice())
+    }
+
     /// Takes a step.
     fn take(&mut self, rt: &HostRuntime, step: &Step<'_>) -> Result<(), Mismatch> {
         match step {
@@ -171,8 +183,8 @@ impl<B: QueueBook + Drop> Server<B> {
             Step::ServesUntold(connections) => {
                 self.serve_untold(rt, &mut narrow(self.alloc), *connections)
             }
-            Step::ServesUnflushed(connections) => {
-                self.serve_untold(rt, &mut UnflushedWriter, *connections)
+            Step::ServesUnflushed(connections, line) => {
+                self.serve_unflushed(rt, *connections, line)
             }
             Step::Stops(connections, lines, fault) => self.stop(rt, *connections, lines, *fault),
             Step::Gets(client, wanted) => self.clients.get(*client, wanted),

@@ -29,6 +29,8 @@ struct Greeter<'a> {
     port: u16,
     printed: Vec<u8>,
     clients: Clients,
+    /// The line that tells the port, and no more, was printed before the steps.
+    told: Result<(), Mismatch>,
     /// What came of the steps. A client that can't come is a step behind them.
     greeted: Result<(), StepFault>,
 }
@@ -45,6 +47,7 @@ impl Write for Greeter<'_> {
         if !self.clients.is_empty() {
             return Ok(());
         }
+        self.told = self.has_lines("");
         self.greeted = self.greet();
         self.greeted.map_err(|_| io::Error::other("a step"))
     }
@@ -86,6 +89,7 @@ impl Greeter<'_> {
     fn is_printed_to(&mut self, store: (At<'_>, &str), counts: &str) -> Result<(), Fail> {
         let folder = self.folder;
         let ran = runs(folder, store, (self.port, self.sends.len()), self, (0, ""));
+        self.told?;
         self.greeted?;
         ran?;
         self.has_lines(counts)?;
@@ -140,6 +144,7 @@ fn served(
         port,
         printed: Vec::new(folder.alloc()),
         clients: Clients::new(folder.alloc()),
+        told: Ok(()),
         greeted: Ok(()),
     };
     out.is_printed_to(store, counts)?;

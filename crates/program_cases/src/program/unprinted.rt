@@ -1,7 +1,7 @@
 //! Output that can't be printed.
 
 use crate::desk::books::GRANT;
-use crate::desk::streams::UnflushedWriter;
+use crate::desk::streams::FlushedWriter;
 use crate::program::folder::Asked::{Import, Statement};
 use crate::program::folder::Step::Writes;
 use crate::program::folder::{FILE, Folder, MADE, REPEATED, STORE, Step, tell_to};
@@ -31,7 +31,7 @@ fn print_to<O: Write>(folder: &Folder<'_>, out: &mut O) -> Result<(), Fail> {
 #[test]
 fn output_that_cannot_be_flushed(rt: HostRuntime) -> Result<(), Fail> {
     let folder = Folder::new(&rt, "unflushed")?;
-    print_to(&folder, &mut UnflushedWriter)?;
+    print_to(&folder, &mut FlushedWriter::new(rt.alloc(), 0))?;
     folder.remove()?;
     Ok(())
 }
