@@ -12,6 +12,7 @@ use crate::load::{
     read_accounts, read_documents, read_grants, read_jobs, read_meta, read_pieces, read_reports,
 };
 use queue_rows::rows::Rows;
+use queue_tables::TABLES;
 use queue_tables::fault::Fault;
 use sqlite::{Alter, Connection};
 use std::alloc::Global;
@@ -21,13 +22,7 @@ fn has_tables<S: Alter>(conn: &Connection<S>) -> bool
     ensures { result ≡ has_all (state S.Store conn.now).now.schema }
 {
     let schema = conn.schema();
-    schema.table_named(b"meta").is_some()
-        && schema.table_named(b"jobs").is_some()
-        && schema.table_named(b"documents").is_some()
-        && schema.table_named(b"pieces").is_some()
-        && schema.table_named(b"accounts").is_some()
-        && schema.table_named(b"grants").is_some()
-        && schema.table_named(b"reports").is_some()
+    TABLES.iter().all(|name| schema.table_named(name).is_some())
 }
 
 /// The row of the book itself, and the jobs with their documents and pieces.

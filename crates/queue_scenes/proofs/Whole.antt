@@ -1,33 +1,9 @@
--- A job from its row and the sizes of its documents.
-use Rattle.std.proofs.Common.{◌≡◌, ℕ, suc, zero, ◌+◌, ◌<◌, List, [], ◌∷◌, ◌++◌, map, length, take, get_or, All, Bool, refl, sym, ap, subst, ◌∙◌, arith}
+-- Jobs from their rows, one after another.
+use Rattle.std.proofs.Common.{◌≡◌, ℕ, suc, zero, ◌+◌, ◌<◌, List, [], ◌∷◌, ◌++◌, map, length, take, get_or, All, refl, ap, subst, ◌∙◌, arith}
 use Rattle.std.proofs.lemmas.List.{take_more}
-use Rattle.sqlite.specs.declared.types.Value.{Value}
 use Rattle.sqlite.specs.Order.{Row}
 use Rattle.queue_types.specs.declared.job.Job.{Job}
-use Rattle.queue_types.specs.declared.job.Phase.{Phase}
-use Rattle.queue_rows.specs.Codes.{phase_number, why_number, flag_number}
-use Rattle.queue_tables.specs.Steps.{bare}
 use Rattle.queue_tables.specs.Values.{job_values}
-use Rattle.queue_tables.proofs.JobPut.{same_job}
-
--- a job with these sizes
-abbrev pub sized : Job → ℕ → ℕ → Job
-sized j d o = record j { documents = d; octets = o }
-
--- what was read of a row is the job of it, without its documents
-pub read_is : ((p q : Phase) → phase_number p ≡ phase_number q → why_number p ≡ why_number q → p ≡ q) → ((a b : Bool) → flag_number a ≡ flag_number b → a ≡ b)
-    → (j k : Job) (row : Row) → (length row ≡ 14 → row ≡ job_values j) → (j.documents ≡ 0) × (j.octets ≡ 0) → row ≡ job_values k → j ≡ bare k
-read_is phases flags j k row reads plain is = same_job phases flags j k (sym (reads (ap (length {A = Value}) is)) ∙ is) plain.0 plain.1
-
--- the job that was read is the one of the row, with its sizes
-pub sized_is : ((p q : Phase) → phase_number p ≡ phase_number q → why_number p ≡ why_number q → p ≡ q) → ((a b : Bool) → flag_number a ≡ flag_number b → a ≡ b)
-    → (j k : Job) (row : Row) (d o : ℕ) → (length row ≡ 14 → row ≡ job_values j) → (j.documents ≡ 0) × (j.octets ≡ 0) → row ≡ job_values k → (j.number ≡ k.number → (d ≡ k.documents) × (o ≡ k.octets)) → sized j d o ≡ k
-sized_is phases flags j k row d o reads plain is sizes =
-    let same = read_is phases flags j k row reads plain is in
-    let found = sizes (ap (λ (x : Job). x.number) same) in
-    λ i. record (same i) { documents = found.0 i; octets = found.1 i }
-
--- ---- one row after another
 
 -- the job at a place, whose row stands there
 pub record HasStep (js : List Job) (i : ℕ) (row : Row) : Type 0 where

@@ -9,7 +9,7 @@ use Rattle.queue_tables.specs.Values.{number}
 abbrev pub told_values : KeptReport → Row
 told_values k = number (kind_number k.report.kind) ∷ number k.report.count ∷ number (job_state_number k.state) ∷ number k.total ∷ []
 
--- its numbers are within their limits
+-- its count has 32 bits, and its total is within its limit
 pub record IsFormedReport (k : KeptReport) : Type 0 where
   pub count : k.report.count < 2 ^ 32
   pub total : k.total ≤ 100000000

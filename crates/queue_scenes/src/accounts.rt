@@ -1,5 +1,5 @@
 //! One account, by its name.
-ghost use Rattle.std.specs.Prelude.{◌≡◌, ◌≤◌, ◌+◌, ◌+ℤ◌, pos, All, IfOk, IfErr, OnOk, IsTrue};
+ghost use Rattle.std.specs.Prelude.{◌≡◌, All, IfOk, IfErr, OnOk, IsTrue};
 ghost use Rattle.std.specs.FinMap.{get};
 ghost use Rattle.sqlite.specs.Held.{state};
 ghost use Rattle.sqlite.specs.State.{HasCleanDisk};
@@ -28,16 +28,6 @@ pub(crate) fn free_in(pages: AccountPages) -> Result<i64, Fault>
         return Err(Fault::Damaged);
     }
     Ok(pages.free)
-}
-
-/// The pages granted to an account in all: 0 to 1,000,000,000.
-pub(crate) fn granted_in(pages: AccountPages) -> Result<u32, Fault>
-    ensures most { IfOk result (λ n. n ≤ 1000000000) }
-    ensures sum { IfOk result (λ n. pos n ≡ pages.free +ℤ pos (pages.reserved + pages.printed)) }
-    ensures damaged { IfErr result (λ _. ¬ FitAccount pages) }
-{
-    let granted = pages.granted()?;
-    Ok(granted as u32)
 }
 
 /// The account with its free pages, where it is there.

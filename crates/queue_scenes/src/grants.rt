@@ -8,7 +8,7 @@ ghost use Rattle.queue_core.specs.World.{known_grant};
 ghost use Rattle.queue_tables.specs.Telling.{ReadsQueue};
 ghost use Rattle.queue_scenes.specs.Accounts.{FitAccount};
 
-use crate::accounts::{free_in, granted_in};
+use crate::accounts::free_in;
 use queue_tables::account_pages::{AccountPages, find_account};
 use queue_tables::fault::Fault;
 use queue_tables::read::value;
@@ -57,7 +57,7 @@ fn known_of(pages: Option<u32>, found: Option<AccountPages>) -> Result<KnownGran
             free: None,
         });
     };
-    let granted = granted_in(account)?;
+    let granted = account.granted()?;
     let free = free_in(account)?;
     Ok(KnownGrant {
         pages,

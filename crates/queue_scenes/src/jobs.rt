@@ -14,11 +14,9 @@ ghost use Rattle.queue_tables.specs.Content.{AreRowsOf, Holds, content_of};
 ghost use Rattle.queue_tables.specs.Queries.{IsQueryText};
 ghost use Rattle.queue_tables.specs.Values.{job_values};
 
-use queue_rows::jobs::is_job_row;
-use queue_rows::laws::numbers_tell_names;
 use queue_tables::document_sizes::sizes_of;
 use queue_tables::fault::Fault;
-use queue_tables::read::read_job;
+use queue_tables::read::read_sound_job;
 use queue_tables::select::select;
 use queue_tables::with_job_columns;
 use queue_types::job::Job;
@@ -34,11 +32,7 @@ fn whole_job<S: Alter>(alloc: Global, conn: &mut Connection<S>, row: &Row) -> Re
     ensures found { HasCleanDisk (state S.Store conn.new) → IfOk result (λ j. (w : World) (k : JobValue) → IsSound w → Holds (content_of w) (state S.Store conn.old) → job_at k.number (rows w) ≡ Some k → row.now ≡ job_values k → j ≡ k) }
     ensures damaged { HasCleanDisk (state S.Store conn.new) → IfErr result (λ e. e ≡ Fault.Damaged → (w : World) (k : JobValue) → IsSound w → Holds (content_of w) (state S.Store conn.old) → job_at k.number (rows w) ≡ Some k → row.now ≢ job_values k) }
 {
-    numbers_tell_names();
-    let mut job = read_job(alloc, row)?;
-    if !is_job_row(&job) {
-        return Err(Fault::Damaged);
-    }
+    let mut job = read_sound_job(alloc, row)?;
     let sizes = sizes_of(conn, job.number)?;
     job.documents = sizes.documents;
     job.octets = sizes.octets;

@@ -21,7 +21,7 @@ use Rattle.queue_core.specs.World.{World, Entry, rows, job_at, has_number}
 use Rattle.queue_types.specs.declared.job.Job.{Job}
 use Rattle.queue_tables.specs.Content.{AreRowsOf, Holds, content_of}
 use Rattle.queue_tables.proofs.PlainQueries.{plain_query}
-use Rattle.queue_tables.specs.Steps.{AreDistinct, bare}
+use Rattle.queue_tables.specs.Steps.{AreDistinct}
 use Rattle.queue_tables.specs.Values.{number, job_values, job_view}
 use Rattle.queue_tables.proofs.Entries.{rows_in}
 use Rattle.queue_tables.proofs.Numbers.{passed}
@@ -130,7 +130,3 @@ told_owned a (j ∷ js) = elim (cases_Bool (bytes_eq j.owner a)) [
   ]
   | inr other ↦ rw other (told_owned a js)
 ]
-
--- the job with the sizes of its documents
-pub counted_job : (was j : Job) (count octets : ℕ) → was ≡ bare j → count ≡ j.documents → octets ≡ j.octets → record was { documents = count; octets = octets } ≡ j
-counted_job was j count octets is c o = ap (λ (k : Job). record k { documents = count; octets = octets }) is ∙ ap (λ n. record j { documents = n; octets = octets }) c ∙ ap (λ n. record j { octets = n }) o

@@ -5,18 +5,14 @@ use Rattle.std.proofs.lemmas.Int.{ints}
 use Rattle.std.proofs.lemmas.List.Elements.{filter_more}
 use Rattle.sqlite.specs.Order.{Row}
 use Rattle.sqlite.specs.State.{State, HasCleanDisk}
-use Rattle.sqlite.specs.declared.types.Value.{Value}
 use Rattle.queue_core.specs.Shown.{is_charged, sheet_of, sheet_jobs}
 use Rattle.queue_core.specs.Sound.{IsSound, reserved, printed}
 use Rattle.queue_core.specs.World.{World, granted, rows, job_at}
 use Rattle.queue_types.specs.declared.job.Job.{Job}
-use Rattle.queue_types.specs.declared.job.Phase.{Phase}
 use Rattle.queue_types.specs.declared.sheet.AccountSheet.{AccountSheet}
-use Rattle.queue_rows.specs.Codes.{phase_number, why_number, flag_number}
 use Rattle.queue_tables.specs.Steps.{bare}
 use Rattle.queue_tables.specs.Values.{job_values}
 use Rattle.queue_tables.proofs.Formed.{sums_fit}
-use Rattle.queue_tables.proofs.JobPut.{same_job}
 use Rattle.queue_tables.specs.declared.account_pages.AccountPages.{AccountPages}
 use Rattle.queue_tables.specs.Accounts.{pages_of}
 use Rattle.queue_tables.specs.Content.{AreRowsOf, Holds, content_of}
@@ -26,13 +22,6 @@ use Rattle.queue_tables.specs.declared.fault.Fault.TheVariants.{Damaged}
 use Rattle.queue_shown.specs.Sheets.{TellsJobOf}
 
 -- ---- one row
-
--- the job that was read is the row's, without its documents
-pub read_bare : ((p q : Phase) → phase_number p ≡ phase_number q → why_number p ≡ why_number q → p ≡ q) → ((a b : Bool) → flag_number a ≡ flag_number b → a ≡ b)
-    → (row : Row) (k j : Job) → (length row ≡ 14 → row ≡ job_values k) → (k.documents ≡ 0) × (k.octets ≡ 0) → row ≡ job_values j → k ≡ bare j
-read_bare phases flags row k j reads plain is =
-    let read : row ≡ job_values k = reads (ap (length {A = Value}) is) in
-    same_job phases flags k j (sym read ∙ is) plain.0 plain.1
 
 pub idle_none : (k j : Job) → k ≡ bare j → is_charged k ≡ false → None ≡ (if is_charged j then Some j else None)
 idle_none k j is idle =

@@ -7,21 +7,17 @@ ghost use Rattle.queue_core.specs.Limits.{IsSoundJob};
 ghost use Rattle.queue_core.specs.Shown.{is_charged, sheet_jobs, sheet_of};
 ghost use Rattle.queue_core.specs.Sound.{IsSound};
 ghost use Rattle.queue_core.specs.World.{World};
-ghost use Rattle.queue_rows.specs.Jobs.{IsJobRow};
 ghost use Rattle.queue_shown.specs.Sheets.{TellsJobOf};
 ghost use Rattle.queue_types.specs.declared.job.Job.{Job as JobValue};
 ghost use Rattle.queue_tables.specs.Content.{AreRowsOf, Holds, content_of};
 ghost use Rattle.queue_tables.specs.Leaving.{LeavesTables};
-ghost use Rattle.queue_tables.specs.Steps.{bare};
 ghost use Rattle.queue_tables.specs.Telling.{ReadsQueue};
 ghost use Rattle.queue_tables.specs.Values.{job_values};
 
-use queue_rows::jobs::is_job_row;
-use queue_rows::laws::numbers_tell_names;
 use queue_tables::account_pages::find_account;
 use queue_tables::document_sizes::sizes_of;
 use queue_tables::fault::Fault;
-use queue_tables::read::read_job;
+use queue_tables::read::read_sound_job;
 use queue_tables::select::select;
 use queue_tables::with_job_columns;
 use queue_types::job::{Job, JobList};
@@ -37,20 +33,6 @@ fn is_charged(job: &Job) -> bool
     0 < job.owed() || 0 < job.count
 }
 
-/// The job of a row, without its documents. It is damaged where it is not within a job's limits; Damaged is told only where the row is of no such job.
-fn row_job(alloc: Global, row: &Row) -> Result<Job, Fault>
-    ensures sound { IfOk result IsJobRow }
-    ensures read { IfOk result (λ k. (j : JobValue) → row.now ≡ job_values j → k ≡ bare j) }
-    ensures damaged { IfErr result (λ e. e ≡ Fault.Damaged → (j : JobValue) → IsSoundJob j → row.now ≢ job_values j) }
-{
-    numbers_tell_names();
-    let job = read_job(alloc, row)?;
-    if !is_job_row(&job) {
-        return Err(Fault::Damaged);
-    }
-    Ok(job)
-}
-
 /// The job of that row where it has pages reserved or printed. Damaged is told only where the tables hold no sound queue
 /// with a job of that row.
 fn charged_job<S: Alter>(
@@ -61,7 +43,7 @@ fn charged_job<S: Alter>(
     ensures reads { TellsJobOf (state S.Store conn.old) (state S.Store conn.new) result row.now (λ j o. o ≡ (if is_charged j then Some j else None)) }
     ensures sound { IfOk result (λ o. IfSome o IsSoundJob) }
 {
-    let mut job = row_job(alloc, row)?;
+    let mut job = read_sound_job(alloc, row)?;
     if !is_charged(&job) {
         return Ok(None);
     }
@@ -151,7 +133,7 @@ pub fn sheet<S: Alter>(
     let name = Text::copy_of(alloc, account)?;
     Ok(Some(AccountSheet {
         account: name,
-        granted,
+        granted: u64::from(granted),
         free: pages.free,
         reserved: pages.reserved,
         printed: pages.printed,

@@ -92,6 +92,18 @@ same_job phases flags j k e documents octets =
     let d = same_moment j.ended k.ended (at 13) in
     λ x. record { number = n x; owner = o x; name = m x; copies = c x; impressions = i x; hold = h x; incoming = inc x; phase = p x; stopping = s x; count = t x; created = r x; begun = b x; ended = d x; documents = documents x; octets = octets x }
 
+-- so is the job that was read of a row
+pub read_bare : ((p q : Phase) → phase_number p ≡ phase_number q → why_number p ≡ why_number q → p ≡ q) → ((a b : Bool) → flag_number a ≡ flag_number b → a ≡ b)
+    → (row : Row) (j k : Job) → (length row ≡ 14 → row ≡ job_values j) → (j.documents ≡ 0) × (j.octets ≡ 0) → row ≡ job_values k → j ≡ bare k
+read_bare phases flags row j k reads plain is =
+    let read : row ≡ job_values j = reads (ap (length {A = Value}) is) in
+    same_job phases flags j k (sym read ∙ is) plain.0 plain.1
+
+-- and with the sizes of its documents it is the job
+pub counted_job : (j k : Job) (documents octets : ℕ) → j ≡ bare k → documents ≡ k.documents → octets ≡ k.octets → record j { documents = documents; octets = octets } ≡ k
+counted_job j k documents octets is d o =
+    ap (λ (i : Job). record i { documents = documents; octets = octets }) is ∙ ap (λ n. record k { documents = n; octets = octets }) d ∙ ap (λ n. record k { octets = n }) o
+
 pub found_none : (rs : List Row) (o : Option Job) → slice_get rs 0 ≡ None → rs ≡ found_rows o → None ≡ option_map bare o
 found_none rs o none is = sym (ap (option_map bare) (first_none job_values rs o none is))
 
@@ -99,8 +111,7 @@ pub found_some : ((p q : Phase) → phase_number p ≡ phase_number q → why_nu
     → (rs : List Row) (row : Row) (j : Job) (o : Option Job) → slice_get rs 0 ≡ Some row → (length row ≡ 14 → row ≡ job_values j) → (j.documents ≡ 0) × (j.octets ≡ 0) → rs ≡ found_rows o → Some j ≡ option_map bare o
 found_some phases flags rs row j o some reads plain is =
     let it = first_some job_values rs row o some is in
-    let read : row ≡ job_values j = reads (ap (length {A = Value}) it.2) in
-    ap (λ (x : Job). Some x) (same_job phases flags j it.0 (sym read ∙ it.2) plain.0 plain.1) ∙ sym (ap (option_map bare) it.1)
+    ap (λ (x : Job). Some x) (read_bare phases flags row j it.0 reads plain it.2) ∙ sym (ap (option_map bare) it.1)
 
 -- ---- what is read of it
 

@@ -1,23 +1,34 @@
 -- A document in pieces.
-use Rattle.std.proofs.Common.{◌≡◌, inl, inr, ℕ, ◌+◌, ◌-◌, List, [], ◌∷◌, ◌++◌, map, take, drop, length, min, sym, ap, subst, ◌∙◌, arith, length-drop}
+use Rattle.std.proofs.Common.{◌≡◌, ℕ, ◌+◌, ◌*◌, ◌<◌, List, [], ◌∷◌, ◌++◌, map, take, drop, length, min, sym, ap, subst, ◌∙◌, arith, length-drop}
 use Rattle.std.specs.List.{range_with_len}
-use Rattle.std.proofs.lemmas.Bool.{cases_lt}
-use Rattle.std.proofs.lemmas.List.{take_rest, take_all, append_assoc}
+use Rattle.std.proofs.Math.Seq.{drop-append_seam, take-append_seam}
+use Rattle.std.proofs.lemmas.List.{append_assoc, drop-drop, drop_min, take_min}
 use Rattle.std.proofs.lemmas.List.FromFn.{map-range_with_len_more}
 use Rattle.sqlite.specs.Order.{Row}
 use Rattle.sqlite.specs.State.{State}
-use Rattle.queue_rows.specs.Pieces.{piece_at}
+use Rattle.queue_rows.specs.Pieces.{piece_at, pieces_in}
 use Rattle.queue_tables.specs.Values.{piece_values}
 use Rattle.queue_tables.specs.Content.{Content, Holds}
 use Rattle.queue_tables.specs.Steps.{with_piece_row, with_pieces}
 
--- the bytes from a place to the next one, or to the end
-pub piece_is : (bs : List ℕ) (s m : ℕ) → m ≡ min (length bs) (s + 65536) → take (m - s) (drop s bs) ≡ take 65536 (drop s bs)
-piece_is bs s m e = elim (cases_lt (length bs) (s + 65536)) [
-  | inl less ↦ let at : m ≡ length bs = omega (arith, e, less) in
-      ap (λ k. take (k - s) (drop s bs)) at ∙ take_rest bs s ∙ sym (take_all 65536 (drop s bs) (omega (arith, length-drop s bs, less)))
-  | inr more ↦ let at : m - s ≡ 65536 = omega (arith, e, more) in ap (λ k. take k (drop s bs)) at
-]
+-- of the bytes from the piece of that number on, the first ones are the piece, and those behind it begin with the next one
+pub record IsPiece (bytes : List ℕ) (k : ℕ) (chunk rest : List ℕ) : Type 0 where
+  pub piece : chunk ≡ piece_at bytes k
+  pub rest_is : rest ≡ drop ((k + 1) * 65536) bytes
+  pub within : (k + 1) * 65536 < length bytes + 65536
+
+pub comes_off : (bytes all chunk rest : List ℕ) (k : ℕ) → all ≡ drop (k * 65536) bytes → all ≡ chunk ++ rest → length chunk ≡ min 65536 (length all) → 0 < length all → IsPiece bytes k chunk rest
+comes_off bytes all chunk rest k from parts long some = record {
+  piece = sym (take-append_seam chunk rest) ∙ ap (λ (bs : List ℕ). take (length chunk) bs) (sym parts) ∙ ap (λ (n : ℕ). take n all) long ∙ take_min 65536 all ∙ ap (λ (bs : List ℕ). take 65536 bs) from;
+  rest_is =
+      sym (drop-append_seam chunk rest) ∙ ap (λ (bs : List ℕ). drop (length chunk) bs) (sym parts) ∙ ap (λ (n : ℕ). drop n all) long ∙ drop_min 65536 all ∙ ap (λ (bs : List ℕ). drop 65536 bs) from
+      ∙ drop-drop 65536 (k * 65536) bytes ∙ ap (λ (n : ℕ). drop n bytes) (omega arith);
+  within = omega (arith, some, ap (length {A = ℕ}) from, length-drop (k * 65536) bytes);
+}
+
+-- where no bytes are left, all pieces were there
+pub all_pieces : (bytes all : List ℕ) (k : ℕ) → all ≡ drop (k * 65536) bytes → length all ≡ 0 → k * 65536 < length bytes + 65536 → k ≡ pieces_in (length bytes)
+all_pieces bytes all k from none within = omega (arith, none, within, ap (length {A = ℕ}) from, length-drop (k * 65536) bytes)
 
 pub next_piece : (job doc : ℕ) (bytes chunk : List ℕ) (k : ℕ) (c : Content) (s : State) → chunk ≡ piece_at bytes k → Holds (with_piece_row (piece_values job doc k chunk) (with_pieces job doc bytes k c)) s
     → Holds (with_pieces job doc bytes (k + 1) c) s

@@ -4,6 +4,7 @@ pub mod Kept
 pub mod Values
 pub mod Content
 pub mod Steps
+pub mod Courses
 pub mod Forms
 pub mod Faults
 pub mod Queries

@@ -27,7 +27,7 @@ pub struct AccountPages {
 impl AccountPages {
     /// The pages that were granted: those that are free, reserved and printed, together. They are damaged where they are
     /// not 0 to 1,000,000,000.
-    pub fn granted(self) -> Result<u64, Fault>
+    pub fn granted(self) -> Result<u32, Fault>
         ensures sum { IfOk result (λ n. pos n ≡ self.free +ℤ pos (self.reserved + self.printed)) }
         ensures most { IfOk result (λ n. n ≤ 1000000000) }
         ensures damaged { IfErr result (λ _. (n : ℕ) → n ≤ 1000000000 → self.reserved + self.printed < 2 ^ 64 → pos n ≢ self.free +ℤ pos (self.reserved + self.printed)) }
@@ -36,7 +36,7 @@ impl AccountPages {
             return Err(Fault::Damaged);
         };
         match used.checked_add_signed(self.free) {
-            Some(granted) if granted <= u64::from(MOST_GRANTED_PAGES) => Ok(granted),
+            Some(granted) if granted <= u64::from(MOST_GRANTED_PAGES) => Ok(granted as u32),
             _ => Err(Fault::Damaged),
         }
     }

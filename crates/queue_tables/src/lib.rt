@@ -22,3 +22,14 @@ pub mod select;
 pub mod transaction;
 
 pub use transaction::make;
+
+/// The names of the book's tables.
+pub const TABLES: [&[u8]; 7] = [
+    b"meta",
+    b"jobs",
+    b"documents",
+    b"pieces",
+    b"accounts",
+    b"grants",
+    b"reports",
+];

@@ -43,11 +43,8 @@ pub(crate) fn insert_pieces<S: Alter>(
     ensures same_reference { tx.new.conn.ghost_name ≡ tx.old.conn.ghost_name }
     ensures made { MakesRows (state S.Store tx.old.conn.now) (state S.Store tx.new.conn.now) result (λ c. HasOne (are_numbered job doc) c.documents × (filter (are_numbered job doc) c.pieces ≡ [])) (with_pieces job doc bytes.now (pieces_in (length bytes.now))) }
 {
-    let count = bytes.len().div_ceil(PIECE_OCTETS);
-    for k in 0..count {
-        let start = k * PIECE_OCTETS;
-        let end = bytes.len().min(start + PIECE_OCTETS);
-        insert_piece(tx, job, doc, k as u32, &bytes[start..end])?;
+    for (k, piece) in bytes.chunks(PIECE_OCTETS).enumerate() {
+        insert_piece(tx, job, doc, k as u32, piece)?;
     }
     Ok(())
 }

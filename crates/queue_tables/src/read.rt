@@ -10,12 +10,18 @@ ghost use Rattle.queue_types.specs.declared.event.Kind.{Kind as KindValue};
 ghost use Rattle.queue_types.specs.declared.job.Job.{Job as JobValue};
 ghost use Rattle.queue_types.specs.declared.job.Phase.{Phase as PhaseValue};
 ghost use Rattle.queue_types.specs.declared.states.JobState.{JobState as StateValue};
+ghost use Rattle.queue_core.specs.Limits.{IsSoundJob};
 ghost use Rattle.queue_rows.specs.Codes.{job_state_number, kind_number, phase_number, why_number};
+ghost use Rattle.queue_rows.specs.Jobs.{IsJobRow};
+ghost use Rattle.queue_tables.specs.Courses.{IsCourseIn};
 ghost use Rattle.queue_tables.specs.Forms.{IsFormedJob};
+ghost use Rattle.queue_tables.specs.Steps.{bare};
 ghost use Rattle.queue_tables.specs.Values.{job_values, moment, number, truth};
 
 use crate::fault::{Fault, fault_of_value};
 use queue_rows::codes::{flag_of, job_state_of, kind_of, phase_of};
+use queue_rows::jobs::is_job_row;
+use queue_rows::laws::numbers_tell_names;
 use queue_types::document::Format;
 use queue_types::event::Kind;
 use queue_types::job::{Job, Phase};
@@ -112,16 +118,33 @@ pub fn moment_at(row: &Row, at: usize) -> Result<Option<u32>, Fault>
     value(row, at)
 }
 
-/// When a job was created, begun and ended, from the columns of `read_job`.
-fn moments(row: &Row) -> Result<(u32, Option<u32>, Option<u32>), Fault>
-    ensures ok { IfOk result (λ m. (column row.now 11 ≡ number m.0) × (column row.now 12 ≡ moment m.1) × (column row.now 13 ≡ moment m.2)) }
+/// What has become of a job since it came. Its fields are those of [`Job`].
+#[derive(Clone, Copy)]
+struct Course {
+    hold: bool,
+    incoming: bool,
+    phase: Phase,
+    stopping: bool,
+    count: u32,
+    begun: Option<u32>,
+    ended: Option<u32>,
+}
+
+/// What has become of a job, from the columns of [`read_job`]. Damaged is told only where they are no job's.
+fn read_course(row: &Row) -> Result<Course, Fault>
+    ensures ok { IfOk result (IsCourseIn row.now) }
     ensures err { IfErr result (λ e. e ≡ Fault.Damaged → (j : JobValue) → IsFormedJob j → row.now ≢ job_values j) }
     ensures never { IfErr result (λ e. e ≢ Fault.Disk) }
 {
-    let created = value(row, 11)?;
-    let begun = moment_at(row, 12)?;
-    let ended = moment_at(row, 13)?;
-    Ok((created, begun, ended))
+    Ok(Course {
+        hold: flag(row, 5)?,
+        incoming: flag(row, 6)?,
+        phase: phase(row, 7, 8)?,
+        stopping: flag(row, 9)?,
+        count: value(row, 10)?,
+        begun: moment_at(row, 12)?,
+        ended: moment_at(row, 13)?,
+    })
 }
 
 /// A job without its documents, from the columns that a SELECT shows. Damaged is told only where they are
@@ -132,23 +155,38 @@ pub fn read_job(alloc: Global, row: &Row) -> Result<Job, Fault>
     ensures err { IfErr result (λ e. e ≡ Fault.Damaged → (j : JobValue) → IsFormedJob j → row.now ≢ job_values j) }
     ensures never { IfErr result (λ e. e ≢ Fault.Disk) }
 {
-    let (created, begun, ended) = moments(row)?;
+    let course = read_course(row)?;
     // The texts last: an error after them would have to let them go.
     Ok(Job {
         number: value(row, 0)?,
         copies: value(row, 3)?,
         impressions: value(row, 4)?,
-        hold: flag(row, 5)?,
-        incoming: flag(row, 6)?,
-        phase: phase(row, 7, 8)?,
-        stopping: flag(row, 9)?,
-        count: value(row, 10)?,
-        created,
-        begun,
-        ended,
+        created: value(row, 11)?,
+        hold: course.hold,
+        incoming: course.incoming,
+        phase: course.phase,
+        stopping: course.stopping,
+        count: course.count,
+        begun: course.begun,
+        ended: course.ended,
         documents: 0,
         octets: 0,
         owner: text(alloc, row, 1)?,
         name: text(alloc, row, 2)?,
     })
+}
+
+/// As [`read_job`], but also damaged where the job is not within a job's limits; Damaged is told only where the row is of no such
+/// job.
+pub fn read_sound_job(alloc: Global, row: &Row) -> Result<Job, Fault>
+    ensures sound { IfOk result IsJobRow }
+    ensures read { IfOk result (λ k. (j : JobValue) → row.now ≡ job_values j → k ≡ bare j) }
+    ensures damaged { IfErr result (λ e. e ≡ Fault.Damaged → (j : JobValue) → IsSoundJob j → row.now ≢ job_values j) }
+{
+    numbers_tell_names();
+    let job = read_job(alloc, row)?;
+    if !is_job_row(&job) {
+        return Err(Fault::Damaged);
+    }
+    Ok(job)
 }

@@ -4,9 +4,9 @@ use Rattle.queue_core.specs.Shown.{is_charged}
 use Rattle.queue_core.specs.World.{job_at, rows}
 use Rattle.queue_types.specs.declared.job.Job.{Job}
 use Rattle.queue_rows.proofs.Filled.{sound_sized}
-use Rattle.queue_shown.proofs.OwnedJobs.{counted_job}
 use Rattle.queue_shown.proofs.SheetLemmas.{charged_some, idle_none, not_told}
 use Rattle.queue_tables.proofs.Formed.{sound_job}
+use Rattle.queue_tables.proofs.JobPut.{counted_job}
 use Rattle.queue_tables.proofs.Leaving.{leaves_all}
 use Rattle.queue_shown.proofs.sheets.charged_job.Goals as goal
 

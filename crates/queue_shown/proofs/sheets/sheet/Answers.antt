@@ -20,4 +20,4 @@ returns-in_err-name-clause-reads g c = record { leaves = leaves_then _ _ _ c.fin
 pub returns-clause-reads : goal.returns-clause-reads
 returns-clause-reads g c = tells (told_then (told c.in_ok-found.ensures.reads c.in_ok-found.ensures.live) (told c.in_ok-jobs.ensures.reads c.in_ok-jobs.ensures.live)) (λ w sound is.
     let found = sym c.in-Some.is ∙ is.0 in
-    whole_sheet w c.args.account.now c.in-Some.pages _ found c.in_ok-name.ensures (granted_of w c.args.account.now c.in-Some.pages _ sound found c.in_ok-granted.ensures.sum) (search rules) refl refl is.1)
+    whole_sheet w c.args.account.now c.in-Some.pages _ found c.in_ok-name.ensures (c.from.ensures ∙ granted_of w c.args.account.now c.in-Some.pages _ sound found c.in_ok-granted.ensures.sum) (search rules) refl refl is.1)

@@ -2,8 +2,8 @@ use Rattle.std.proofs.Common.{sym, subst, rules}
 use Rattle.queue_rows.specs.Jobs.{IsJobRow}
 use Rattle.queue_tables.proofs.Ending.{err_after}
 use Rattle.queue_tables.proofs.Formed.{bare_row, formed_job}
-use Rattle.queue_shown.proofs.SheetLemmas.{read_bare}
-use Rattle.queue_shown.proofs.sheets.row_job.Goals as goal
+use Rattle.queue_tables.proofs.JobPut.{read_bare}
+use Rattle.queue_tables.proofs.read.read_sound_job.Goals as goal
 
 pub returns-clause-read : goal.returns-clause-read
 returns-clause-read c = λ j is. read_bare c.numbers_tell_names.ensures.phases c.numbers_tell_names.ensures.flags c.args.row.now c.in_ok-job.job j c.in_ok-job.ensures.ok c.in_ok-job.ensures.bare is
