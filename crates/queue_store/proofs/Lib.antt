@@ -1,4 +1,5 @@
 pub mod Results
+pub mod Unmade
 pub mod Made
 pub mod Empty
 pub mod Keeping

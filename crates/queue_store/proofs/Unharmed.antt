@@ -1,6 +1,5 @@
--- Files that keep a queue keep it behind a refusal.
+-- Files that hold a database hold it behind a refusal.
 use Rattle.std.proofs.Common.{◌≡◌, ℕ, ◌≤◌, ◌%◌, List, Bool, IfSome, IsTrue, None, Option, Some, cond, eq-eqb, false, inl, inr, ne_eqb, subst, sym, ◌∙◌, ◌∷◌, [], arith}
-use Rattle.std.proofs.Math.Logic.{∥∥₁_elim, ∥∥₁_map}
 use Rattle.std.proofs.lemmas.Bool.{cases_eq}
 use Rattle.sqlite.proofs.FileLemmas.{is_something}
 use Rattle.sqlite.specs.Files.{FailsToOpenFiles, HoldsDatabase, IsCleanLeft, IsNothing, IsOpened, LeavesFiles, NamesSize, SaysSums, file_state, image_of}
@@ -18,15 +17,12 @@ use Rattle.sqlite_pool.specs.Stored.{Adopts, StandsAs, is_summed, reserved, stor
 use Rattle.sqlite_store.specs.Laws.{settled_at}
 use Rattle.sqlite_store.specs.Unopened.{state_of}
 use Rattle.sqlite_store.specs.declared.store.FileStore.{FileStore}
-use Rattle.sqlite_trees.specs.Props.{Trees-set}
 use Rattle.sqlite_trees.specs.Tree.{Trees}
 use Rattle.sqlite_wal.proofs.LogLemmas.{SeenMayStay}
 use Rattle.sqlite_wal.specs.Files.{outcomes}
 use Rattle.sqlite_wal.specs.Recovery as raw
 use Rattle.sqlite_wal.specs.Recovery.{Image, IsIgnored}
-use Rattle.queue_core.specs.World.{World}
-use Rattle.queue_store.specs.Crash.{IsKept, StillKeeps}
-use Rattle.queue_tables.specs.Content.{IsBookOf}
+use Rattle.queue_store.specs.Crash.{StillHolds}
 
 -- a crash leaves a file to which nothing was done as it was
 pub left_alone : (mixes is_log which : Bool) (log db : List ℕ) (history : List Event) (key : ℕ) → is_log ≡ which → history ≡ settled key ∷ [] → (c : List ℕ)
@@ -79,43 +75,33 @@ still_holds old new db held size same stands = (
 
 -- ---- what is left
 
-module _ (first : Image) (w : World) (kept : IsKept first w) where
-  same_files : (image : Image) → image ≡ first → IsKept image w
-  same_files image same = subst (λ (i : Image). IsKept i w) (sym same) kept
-
-  same_book : (db : Trees) → ((other : Trees) → HoldsDatabase first other → db ≡ other) → IsBookOf w db
-  same_book db found = subst (IsBookOf w) (sym (∥∥₁_elim kept.held (Trees-set _ _) (found kept.db))) kept.book
+module _ (first : Image) (db : Trees) (held : HoldsDatabase first db) where
+  same_files : (image : Image) → image ≡ first → HoldsDatabase image db
+  same_files image same = subst (λ (i : Image). HoldsDatabase i db) (sym same) held
 
   module _ {D : Type 0} {g : Ghosts D} where
-    still_keeps : (files : Files D) → image_of g files ≡ first → ((image : Image) → outcomes g files.log files.db image → image ≡ first)
-        → (left : Leftover D g) → LeavesFiles files left → StillKeeps first left w
-    still_keeps files same alone (Plain now) leaves = λ image may. same_files image (alone image (leaves image may))
-    still_keeps files same alone (Unopened now) (inl nothing) = absurd (∥∥₁_elim kept.held (λ a b. absurd a) (λ held. is_something first kept.db held (subst IsNothing same nothing.0)))
-    still_keeps files same alone (Unopened now) (inr other) = λ plain image may.
+    left_holds : (files : Files D) → image_of g files ≡ first → ((image : Image) → outcomes g files.log files.db image → image ≡ first)
+        → (left : Leftover D g) → LeavesFiles files left → StillHolds first left db
+    left_holds files same alone (Plain now) leaves = λ image may. same_files image (alone image (leaves image may))
+    left_holds files same alone (Unopened now) (inl nothing) = absurd (is_something first db held (subst IsNothing same nothing.0))
+    left_holds files same alone (Unopened now) (inr other) = λ plain image may.
         let size = (state_of now).page_size in
         let names : NamesSize first (stored_size size) = subst (λ i. NamesSize i (stored_size size)) same other.1 in
         let says = λ (sums : IsTrue (is_summed size)). subst (SaysSums (stored_size size)) same (other.3 sums) in
         elim ((other.4 image may).same) [
           | inl old ↦ same_files image (alone image old)
-          | inr stands ↦ record {
-            db = kept.db;
-            held = ∥∥₁_map kept.held (λ held.
-                still_holds first image kept.db held size (same_size first kept.db held size names says (plain kept.db held)) (subst (λ i. StandsAs size i image) same stands));
-            book = kept.book;
-          }
+          | inr stands ↦ still_holds first image db held size (same_size first db held size names says (plain db held)) (subst (λ i. StandsAs size i image) same stands)
         ]
-    still_keeps files same alone (Store now) leaves = λ db may.
-        let it = leaves db may in same_book db (λ other held. it.1 other (subst (λ (i : Image). HoldsDatabase i other) (sym same) held))
+    left_holds files same alone (Store now) leaves = λ found may. (leaves found may).1 db (same_files (image_of g files) same)
 
-    pub kept_behind : (Log Db : Files D → Type 0) → ((files : Files D) → Log files → Db files → (image_of g files ≡ first) × ((image : Image) → outcomes g files.log files.db image → image ≡ first))
+    pub held_behind : (Log Db : Files D → Type 0) → ((files : Files D) → Log files → Db files → (image_of g files ≡ first) × ((image : Image) → outcomes g files.log files.db image → image ≡ first))
         → (e : Error) (o : Option (Leftover D g)) → IfSome o (λ left. (files : Files D) × Log files × Db files × (IsCleanLeft left → FailsToOpenFiles files left e × LeavesFiles files left))
-        → IfSome o (λ left. IsCleanLeft left → StillKeeps first left w)
-    kept_behind Log Db fresh e None cause = tt
-    kept_behind Log Db fresh e (Some left) cause = λ clean.
+        → IfSome o (λ left. IsCleanLeft left → StillHolds first left db)
+    held_behind Log Db fresh e None cause = tt
+    held_behind Log Db fresh e (Some left) cause = λ clean.
         let were = fresh cause.0 cause.1 cause.2 in
-        still_keeps cause.0 were.0 were.1 left (cause.3 clean).1
+        left_holds cause.0 were.0 were.1 left (cause.3 clean).1
 
     -- of a connection that was opened a crash leaves the database that was found
-    pub book_behind : SeenMayStay g → (c : Held (FileStore D g)) → IsOpened c → FindsIn first (file_state c) → (db : Trees) → (file_state c).may_leave db → IsBookOf w db
-    book_behind stays c opened found db may =
-        same_book db (λ other held. settled_at c.store stays db opened.0.is_open may ∙ found.holds other held)
+    pub same_behind : SeenMayStay g → (c : Held (FileStore D g)) → IsOpened c → FindsIn first (file_state c) → (found : Trees) → (file_state c).may_leave found → found ≡ db
+    same_behind stays c opened finds found may = settled_at c.store stays found opened.0.is_open may ∙ finds.holds db held

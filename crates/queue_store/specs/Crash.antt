@@ -33,9 +33,9 @@ KeepOneOf g files v w = (image : Image) → outcomes g files.log files.db image 
 abbrev pub HaveNoSums : Image → Type 0
 HaveNoSums image = (db : Trees) (held : HoldsDatabase image db) → is_summed held.0 ≡ false
 
--- Whatever a crash leaves of what is left of files, which held the first image, holds this queue. Of files that were being recovered
+-- Whatever a crash leaves of what is left of files, which held the first image, holds this database. Of files that were being recovered
 -- the kit says so of pages without sums alone, since it doesn't say that pages which end in sums were taken as such.
-abbrev pub StillKeeps : {D : Type 0} {g : Ghosts D} → Image → Leftover D g → World → Type 0
-StillKeeps {D} {g} first (left.Files files) w = (image : Image) → outcomes g files.log files.db image → IsKept image w
-StillKeeps first (left.Unopened files) w = HaveNoSums first → (image : Image) → (state_of files).may_leave image → IsKept image w
-StillKeeps first (left.Store store) w = (db : Trees) → recovers store db → IsBookOf w db
+abbrev pub StillHolds : {D : Type 0} {g : Ghosts D} → Image → Leftover D g → Trees → Type 0
+StillHolds {D} {g} first (left.Files files) db = (image : Image) → outcomes g files.log files.db image → HoldsDatabase image db
+StillHolds first (left.Unopened files) db = HaveNoSums first → (image : Image) → (state_of files).may_leave image → HoldsDatabase image db
+StillHolds first (left.Store store) db = (found : Trees) → recovers store found → found ≡ db

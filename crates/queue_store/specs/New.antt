@@ -10,6 +10,7 @@ use Rattle.queue_core.specs.World.{World, empty_queue}
 use Rattle.queue_rows.specs.Rows.{meta_row}
 use Rattle.queue_rows.specs.declared.rows.MetaRow.{MetaRow}
 use Rattle.queue_tables.specs.Content.{Content, IsBookOf}
+use Rattle.queue_tables.specs.Leaving.{KeepsServing}
 use Rattle.queue_tables.specs.Tables.{book_schema}
 use Rattle.queue_tables.specs.Values.{meta_values}
 
@@ -23,12 +24,15 @@ new_content m = record no_content { meta = meta_values m ∷ [] }
 abbrev pub new_meta : SettingValues → MetaRow
 new_meta s = meta_row (empty_queue s)
 
--- a connection that is open was open, shows what it showed, and has committed nothing. It says nothing once the disk has lied
+-- a connection that is open was open, shows what it showed, and has committed nothing. No transaction was begun or ended. Once the disk
+-- has lied, it says no more than that, and of the step limit and the faults
 pub record KeepsTables (old new : State) : Type 0 where
   pub clean : HasCleanDisk new → HasCleanDisk old
   pub opened : HasCleanDisk new → IsTrue new.is_open → IsTrue old.is_open
   pub same : HasCleanDisk new → IsTrue new.is_open → new.now ≡ old.now
   pub committed : HasCleanDisk new → IsTrue new.is_open → new.committed ≡ old.committed
+  pub mode : new.in_transaction ≡ old.in_transaction
+  pub serves : KeepsServing old new
 
 -- each database that a crash may leave is one that it might have left before, or holds this queue. It says nothing once the disk has lied
 abbrev pub LeavesOldOrNew : World → State → State → Type 0

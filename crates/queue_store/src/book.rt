@@ -1,5 +1,5 @@
 //! The book in tables.
-ghost use Rattle.std.specs.Prelude.{◌≡◌, ◌≢◌, ◌↔◌, false, None, Err, IfErr, IfOk, IsErrAnd, IsErrOf, IsTrue, OnErr, OnOk};
+ghost use Rattle.std.specs.Prelude.{◌≡◌, ◌≢◌, ◌↔◌, false, None, Err, IfErr, IfOk, IsErr, IsErrAnd, IsErrOf, IsTrue, OnErr, OnOk};
 ghost use Rattle.std.specs.List.{list_any};
 ghost use Rattle.sqlite.specs.Held.{state};
 ghost use Rattle.sqlite.specs.State.{HasCleanDisk};
@@ -17,6 +17,7 @@ use crate::create::make_tables;
 use queue_core::book::BookFault;
 use queue_core::empty_is_sound;
 use queue_rows::rows::{MetaRow, SCHEMA};
+use queue_tables::TABLES;
 use queue_tables::fault::Fault;
 use queue_types::settings::Settings;
 use queue_types::text::Text;
@@ -44,17 +45,6 @@ fn is_blank<S: Alter>(conn: &Connection<S>) -> bool
         && schema.views.as_slice().is_empty()
 }
 
-/// The names of the book's tables.
-const NAMES: [&[u8]; 7] = [
-    b"meta",
-    b"jobs",
-    b"documents",
-    b"pieces",
-    b"accounts",
-    b"grants",
-    b"reports",
-];
-
 /// A table, an index or a view has one of the names.
 fn has_one_of(schema: &Schema, names: &[&[u8]]) -> bool
     ensures { result ≡ list_any (λ name. is_used schema.now name.now) names.now }
@@ -66,7 +56,7 @@ fn has_one_of(schema: &Schema, names: &[&[u8]]) -> bool
 fn has_any_name<S: Alter>(conn: &Connection<S>) -> bool
     ensures { result ≡ has_any (state S.Store conn.now).now.schema }
 {
-    has_one_of(conn.schema(), &NAMES)
+    has_one_of(conn.schema(), &TABLES)
 }
 
 /// The row of a new book with these settings.
@@ -86,7 +76,7 @@ fn first_row(alloc: Global, settings: &Settings) -> Result<MetaRow, AllocError>
     })
 }
 
-/// Makes the tables of a book with these settings in a blank store. In another nothing is done.
+/// Makes the tables of a book with these settings in a blank store. In another, and within a transaction, nothing is done.
 fn make_new<S: Alter>(
     alloc: Global,
     conn: &mut Connection<S>,
@@ -103,6 +93,7 @@ fn make_new<S: Alter>(
     ensures taken { IsTrue (has_any (state S.Store conn.old).now.schema) → IsErrOf result Fault.Damaged }
     ensures others { (state S.Store conn.old).now.schema ≢ no_schema → has_any (state S.Store conn.old).now.schema ≡ false → result ≡ Err Fault.Disk }
     ensures ended { OnOk result ((state S.Store conn.new).in_transaction ≡ false) }
+    ensures inside { IsTrue (state S.Store conn.old).in_transaction → IsErr result × (conn.new ≡ conn.old) }
 {
     // its contract says that outside a transaction the tables are those of the last commit
     let _settled = conn.is_autocommit();
@@ -132,9 +123,10 @@ impl<S: Alter> TableBook<S> {
 
     /// A new book with these settings, without jobs, accounts and reports, in a store without tables, indexes and
     /// views. A store where one of these has the name of a table of the book is Damaged, another that has any is told as Disk.
-    /// A refusal hands the connection back, with its tables as they were, and as it came where there were any; an Ok lifts its
-    /// step limit. Whatever the answer, a crash then leaves what it might have left before, or the new book; after an Ok the
-    /// new book alone.
+    /// Within a transaction it is refused. A refusal hands the connection back, with its tables and its step limit as they were
+    /// and no transaction begun or ended; only a disk that fails or refuses shuts it: want of memory doesn't. Where there were
+    /// any of these, and within a transaction, it is as it came. An Ok lifts its step limit. Whatever the answer, a crash then
+    /// leaves what it might have left before, or the new book; after an Ok the new book alone.
     pub fn create(
         alloc: Global,
         mut conn: Connection<S>,
@@ -151,6 +143,7 @@ impl<S: Alter> TableBook<S> {
         ensures handed { IfErr result (λ e. KeepsTables (state S.Store conn) (state S.Store e.1)) }
         ensures crash { IfErr result (λ e. LeavesOldOrNew (empty_queue settings) (state S.Store conn) (state S.Store e.1)) }
         ensures untouched { IfErr result (λ e. (state S.Store conn).now.schema ≢ no_schema → e.1 ≡ conn) }
+        ensures inside { IsTrue (state S.Store conn).in_transaction → IsErrAnd result (λ e. e.1 ≡ conn) }
     {
         empty_is_sound();
         // its contract says that the settings are within their limits

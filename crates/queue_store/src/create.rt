@@ -1,5 +1,5 @@
 //! A new book: its tables, and the row of its settings.
-ghost use Rattle.std.specs.Prelude.{◌≡◌, ◌≢◌, false, [], IfErr, IfOk, Ok, OnErr, OnOk, IsTrue};
+ghost use Rattle.std.specs.Prelude.{◌≡◌, ◌≢◌, false, [], Err, IfErr, IfOk, Ok, OnErr, OnOk, IsTrue};
 ghost use Rattle.sqlite.specs.Effect.{IsDatabase};
 ghost use Rattle.sqlite.specs.State.{ExecutesInside, HasCleanDisk};
 ghost use Rattle.sqlite.specs.Held.{state};
@@ -122,7 +122,7 @@ fn create_all<S: Alter>(tx: &mut Transaction<'_, S>, meta: &MetaRow) -> Result<(
 }
 
 /// Makes the tables of a book without jobs in a store without any, in one transaction. Whatever the answer, a crash then leaves
-/// what it might have left before, or the new book.
+/// what it might have left before, or the new book. Inside a transaction of the caller's it answers Disk and does nothing.
 pub(crate) fn make_tables<S: Alter>(conn: &mut Connection<S>, meta: &MetaRow) -> Result<(), Fault>
     ensures clean { HasCleanDisk (state S.Store conn.new) → HasCleanDisk (state S.Store conn.old) }
     ensures made { HasCleanDisk (state S.Store conn.new) → OnOk result ((state S.Store conn.old).now.schema ≡ no_schema → Holds (new_content meta.now) (state S.Store conn.new)) }
@@ -131,6 +131,7 @@ pub(crate) fn make_tables<S: Alter>(conn: &mut Connection<S>, meta: &MetaRow) ->
     ensures crash { (state S.Store conn.old).now.schema ≡ no_schema → (w : World) → IsSound w → new_content meta.now ≡ content_of w → LeavesOldOrNew w (state S.Store conn.old) (state S.Store conn.new) }
     ensures never { IfErr result (λ e. e ≢ Damaged) }
     ensures ended { OnOk result ((state S.Store conn.new).in_transaction ≡ false) }
+    ensures inside { IsTrue (state S.Store conn.old).in_transaction → (result ≡ Err Fault.Disk) × (conn.new ≡ conn.old) }
 {
     if !conn.is_autocommit() {
         return Err(Fault::Disk);

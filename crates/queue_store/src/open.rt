@@ -1,9 +1,10 @@
 //! A book from a file.
-ghost use Rattle.std.specs.Prelude.{◌≡◌, ◌≢◌, codes, Err, IfErr, IfOk, IfSome, IsErrAnd, IsTrue};
+ghost use Rattle.std.specs.Prelude.{◌≡◌, ◌≢◌, codes, false, Err, IfErr, IfOk, IfSome, IsErrAnd, IsTrue};
 ghost use Rattle.sqlite.specs.Closing.{IsCopied};
-ghost use Rattle.sqlite.specs.Files.{HoldsDatabase, IsCleanLeft, IsOpened, file_state, over_files};
+ghost use Rattle.sqlite.specs.Files.{HoldsDatabase, IsBlankAs, IsCleanLeft, IsOpened, file_state, over_files};
 ghost use Rattle.sqlite.specs.Start.{FindsIn};
 ghost use Rattle.sqlite.specs.State.{HasCleanDisk};
+ghost use Rattle.sqlite_store.specs.FileStore.{view};
 ghost use Rattle.sqlite_trees.specs.Tree.{Trees};
 ghost use Rattle.sqlite_trees.specs.View.{IsClean};
 ghost use Rattle.sqlite_wal.specs.Files.{image_at, outcomes};
@@ -13,7 +14,7 @@ ghost use Rattle.queue_core.specs.World.{World, empty_queue};
 ghost use Rattle.queue_load.specs.Queues.{IsQueueIn};
 ghost use Rattle.queue_load.specs.Store.{FitsIn};
 ghost use Rattle.queue_store.specs.Closed.{KeepAlone, LeavesNoMore};
-ghost use Rattle.queue_store.specs.Crash.{IsKept, KeepOneOf, KeepTogether, StillKeeps};
+ghost use Rattle.queue_store.specs.Crash.{IsKept, KeepOneOf, KeepTogether, StillHolds};
 ghost use Rattle.queue_store.specs.Kept.{IsHonest, StandsFor, StandsForOne, shown_by, without_limit};
 ghost use Rattle.queue_store.specs.Opened.{FitsFile, HasNoTables, IsFaultless, IsKeptIn, open_fault};
 ghost use Rattle.queue_tables.specs.Content.{LeavesOneOf};
@@ -64,7 +65,8 @@ fn copy_log<D: Disk + Drop>(
     }
 }
 
-/// A connection to the files at a path. An error hands back what is left of them, where they were opened.
+/// A connection to the files at a path, whose pages have no sums where the files are new. An error hands back what is left of
+/// them, where they were opened.
 fn connect_or_left<S: Start>(
     rt: &HostRuntime,
     path: &str,
@@ -72,8 +74,9 @@ fn connect_or_left<S: Start>(
 ) -> Result<Connection<FileStore<FileFrom<S>>>, (BookFault, Option<Leftover<FileFrom<S>>>)>
     ensures opened { IfOk result (λ c. HasCleanDisk (file_state c) → IsOpened c) }
     ensures found { IfOk result (λ c. HasCleanDisk (file_state c) → FindsIn (image_at S.Start) (file_state c)) }
+    ensures plain { IfOk result (λ c. HasCleanDisk (file_state c) → IsBlankAs false (image_at S.Start) → (view c.store).has_sums ≡ false) }
     ensures damaged { (w : World) → IsKept (image_at S.Start) w → IfErr result (λ e. IsFaultless e.1 → e.0 ≢ BookFault.Damaged) }
-    ensures unharmed { (w : World) → IsKept (image_at S.Start) w → IfErr result (λ e. IfSome e.1 (λ left. IsCleanLeft left → StillKeeps (image_at S.Start) left w)) }
+    ensures unharmed { (db : Trees) → HoldsDatabase (image_at S.Start) db → IfErr result (λ e. IfSome e.1 (λ left. IsCleanLeft left → StillHolds (image_at S.Start) left db)) }
     ensures memory { path.now ≡ codes ":memory:" → IsErrAnd result (λ e. e.0 ≡ BookFault.Disk) }
 {
     match Connection::open_from(rt, path, false, start) {
@@ -90,6 +93,7 @@ fn connect<S: Start>(
 ) -> Result<Connection<FileStore<FileFrom<S>>>, BookFault>
     ensures opened { IfOk result (λ c. HasCleanDisk (file_state c) → IsOpened c) }
     ensures found { IfOk result (λ c. HasCleanDisk (file_state c) → FindsIn (image_at S.Start) (file_state c)) }
+    ensures plain { IfOk result (λ c. HasCleanDisk (file_state c) → IsBlankAs false (image_at S.Start) → (view c.store).has_sums ≡ false) }
     ensures memory { path.now ≡ codes ":memory:" → result ≡ Err BookFault.Disk }
 {
     match connect_or_left(rt, path, start) {
@@ -182,8 +186,8 @@ impl<S: Start> TableBook<FileStore<FileFrom<S>>> {
     /// told also where they can't be opened or are in use, Damaged also where they are no database. A path without a
     /// file gets an empty one, which is Damaged. Files that keep a queue, with their log or without, are found as it. An
     /// error hands back what is left of the files, where they were opened: where this tells of no disk that lied or
-    /// failed, files that keep a queue are not told to be Damaged. Where no disk lied, such files keep it
-    /// behind the error too; of files that were being recovered that is said where their pages have no sums.
+    /// failed, files that keep a queue are not told to be Damaged. Where no disk lied, files that hold a database, whatever
+    /// is in it, hold it behind the error too; of files that were being recovered that is said where their pages have no sums.
     pub fn open_or_left(
         rt: &HostRuntime,
         path: &str,
@@ -194,7 +198,7 @@ impl<S: Start> TableBook<FileStore<FileFrom<S>>> {
         ensures again { (w : World) → IsKept (image_at S.Start) w → IfOk result (λ b. StandsFor over_files b w) }
         ensures live { (w : World) → IsKept (image_at S.Start) w → IfOk result (λ b. IsHonest over_files b → IsTrue (shown_by over_files b).is_open) }
         ensures damaged { (w : World) → IsKept (image_at S.Start) w → IfErr result (λ e. IsFaultless e.1 → e.0 ≢ BookFault.Damaged) }
-        ensures unharmed { (w : World) → IsKept (image_at S.Start) w → IfErr result (λ e. IfSome e.1 (λ left. IsCleanLeft left → StillKeeps (image_at S.Start) left w)) }
+        ensures unharmed { (db : Trees) → HoldsDatabase (image_at S.Start) db → IfErr result (λ e. IfSome e.1 (λ left. IsCleanLeft left → StillHolds (image_at S.Start) left db)) }
         ensures memory { path.now ≡ codes ":memory:" → IsErrAnd result (λ e. e.0 ≡ BookFault.Disk) }
     {
         tables_hold_one_queue();

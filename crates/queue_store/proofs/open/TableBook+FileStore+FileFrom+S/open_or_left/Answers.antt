@@ -5,7 +5,7 @@ use Rattle.sqlite_wal.specs.Files.{image_at}
 use Rattle.queue_store.proofs.Adopting.{fits_in, kept_in}
 use Rattle.queue_store.proofs.Again.{fits_again, found_again, kept_queue}
 use Rattle.queue_store.proofs.Results.{err_same}
-use Rattle.queue_store.proofs.Unharmed.{book_behind}
+use Rattle.queue_store.proofs.Unharmed.{same_behind}
 use Rattle.queue_store.proofs.open.TableBook+FileStore+FileFrom+S.open_or_left.Goals as goal
 
 pub returns-in-Ok-clause-stands : goal.returns-in-Ok-clause-stands
@@ -46,11 +46,11 @@ pub returns-in_err-conn-clause-damaged : goal.returns-in_err-conn-clause-damaged
 returns-in_err-conn-clause-damaged g c = λ w left. err_same _ c.in_err-conn.field-0.0 _ c.from_residual.ensures.1 (c.in_err-conn.ensures.damaged w left)
 
 pub returns-in-Err-clause-unharmed : goal.returns-in-Err-clause-unharmed
-returns-in-Err-clause-unharmed g c = λ w kept clean db may.
+returns-in-Err-clause-unharmed g c = λ db held clean found may.
     let conn = c.in_ok-conn.conn in
     let sure = no_doubt _ clean in
     let was = c.in-Err.ensures.clean sure in
-    book_behind (image_at g.S.Start) w kept (λ _. inl refl) conn (c.in_ok-conn.ensures.opened was) (c.in_ok-conn.ensures.found was) db (c.in-Err.ensures.left sure db may)
+    same_behind (image_at g.S.Start) db held (λ _. inl refl) conn (c.in_ok-conn.ensures.opened was) (c.in_ok-conn.ensures.found was) found (c.in-Err.ensures.left sure found may)
 
 pub returns-in_err-conn-clause-unharmed : goal.returns-in_err-conn-clause-unharmed
-returns-in_err-conn-clause-unharmed g c = λ w kept. err_same _ c.in_err-conn.field-0.0 _ c.from_residual.ensures.1 (c.in_err-conn.ensures.unharmed w kept)
+returns-in_err-conn-clause-unharmed g c = λ db held. err_same _ c.in_err-conn.field-0.0 _ c.from_residual.ensures.1 (c.in_err-conn.ensures.unharmed db held)
