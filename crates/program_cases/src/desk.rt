@@ -3,8 +3,8 @@
 //! A `Desk` has a queue and serves connections to it (`queue`), over any book that keeps a queue; `books` has those that it is run over, and
 //! `faulty` one that can't do what it is asked. A connection is data (`connection`): the bytes that a client sends and what it is to get.
 //! Requests and IPP messages stand in `requests` and `messages`, a first job's in `jobs`, readers and writers that are slow or fail in `streams`.
-//! Streams that are refused are in `refused`, those in which a part stands many times in `long`. A comparison that fails is told with the name
-//! of its book (`compare`).
+//! Rows of connections are taken in `rows`, and `refused` has the answers that refuse. A comparison that fails is told with the name of its
+//! book (`compare`).
 //!
 //! What is promised is that a comparison succeeds just where what it compares is the same. All else is seen when the tests run.
 
@@ -13,9 +13,9 @@ pub(crate) mod compare;
 pub(crate) mod connection;
 pub(crate) mod faulty;
 pub(crate) mod jobs;
-pub(crate) mod long;
 pub(crate) mod messages;
 pub(crate) mod queue;
 pub(crate) mod refused;
 pub(crate) mod requests;
+pub(crate) mod rows;
 pub(crate) mod streams;

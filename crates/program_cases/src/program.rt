@@ -6,17 +6,15 @@
 //! the server do in turn is data: the steps of a test.
 
 mod account_files;
-mod bad_stores;
 mod clients;
+mod clocks;
 mod faults;
 mod folder;
 mod listening;
-mod moments;
-mod new_stores;
 mod patience;
 mod replays;
 mod server;
 mod serving;
 mod sockets;
-mod unprinted;
+mod stores;
 mod words;

@@ -1,18 +1,20 @@
 //! Requests that are answered, over each book.
 
-use crate::desk::compare::Mismatch;
+use crate::desk::compare::Failed;
 use crate::desk::connection::Connection;
 use crate::desk::connection::Wanted::{Continue, Last, Success};
 use crate::desk::jobs::{PRINT, PRINTED, RELEASED};
 use crate::desk::messages::{
-    BAD_REQUEST, BROKEN_OFF, JOB_2, OTHER_VERSION, PRINT_JOB, PRINT_JOB_3_0, PRINT_PDF, RELEASE_JOB,
+    BAD_REQUEST, BROKEN_OFF, JOB_1, JOB_2, JOB_3, OTHER_VERSION, PRINT_JOB, PRINT_JOB_3_0,
+    PRINT_PDF, RELEASE_JOB,
 };
-use crate::desk::queue::take_all_over_both;
 use crate::desk::refused::NO_LINE;
 use crate::desk::requests::{
-    GET_DOCUMENT, GET_QUEUE, IPP, NO_REPORT, OCTETS, POST_BROKEN_OFF, POST_JOB, POST_RELEASE,
-    REPORT_DONE, REPORT_START, TEXT,
+    GET_DOCUMENT, GET_QUEUE, IPP, NO_REPORT, OCTETS, POST_BROKEN_OFF, POST_CHUNKED, POST_JOB,
+    POST_RELEASE, REPORT_DONE, REPORT_START, TEXT,
 };
+use crate::desk::rows::{Row, take_rows};
+use crate::desk::streams::AT_EACH_SPEED;
 use http_front::End;
 
 /// A Print-Job of alice that is job 1, and its release.
@@ -44,57 +46,174 @@ const FETCH: Connection<'static> = Connection {
     wanted: &[Success(OCTETS, b"hi")],
 };
 
-#[test]
-fn the_smallest_print_job(rt: HostRuntime) -> Result<(), Mismatch> {
-    take_all_over_both(rt.alloc(), &[PRINT])
-}
-
-/// The beginnings of request lines.
-const TARGETS: [&[u8]; 4] = [
-    b"POST /ipp/print/7 HTTP/1.1",
-    b"POST /ipp/print/abc HTTP/1.1",
-    b"POST /ipp/print?a HTTP/1.1",
-    b"POST http://127.0.0.1:631/ipp/print?x#y HTTP/1.1",
-];
-
-/// What goes on behind them.
+/// What goes on behind the beginnings of request lines.
 const FIELDS: &[u8] =
     b"\r\nHost: localhost\r\ncontent-TYPE: Application/IPP ; x\r\nContent-Encoding: Identity\r\nContent-Length: 0145\r\n\r\n";
 
-#[test]
-fn other_targets_of_a_print_job(rt: HostRuntime) -> Result<(), Mismatch> {
-    for target in TARGETS {
-        let connection = Connection {
-            stream: &[target, FIELDS, PRINT_JOB],
-            acted: 1,
-            end: End::Closed,
-            wanted: &[PRINTED],
-        };
-        take_all_over_both(rt.alloc(), &[connection])?;
-    }
-    Ok(())
-}
-
-/// Heads of a Print-Job: with lines that end by a line feed alone, behind empty lines, and with a length of 20 digits.
-const HEADS: [&[u8]; 3] = [
-    b"POST /ipp/print HTTP/1.1\nContent-Type: application/ipp\nContent-Length: 145\n\n",
-    b"\r\n\n\r\nPOST /ipp/print HTTP/1.1\r\nContent-Type: application/ipp\r\nContent-Length: 145\r\n\r\n",
-    b"POST /ipp/print HTTP/1.1\r\nContent-Type: application/ipp\r\nContent-Length: 00000000000000000145\r\n\r\n",
+/// Other targets of a Print-Job.
+const TARGETS: &[Connection<'static>] = &[
+    Connection {
+        stream: &[b"POST /ipp/print/7 HTTP/1.1", FIELDS, PRINT_JOB],
+        acted: 1,
+        end: End::Closed,
+        wanted: &[PRINTED],
+    },
+    Connection {
+        stream: &[b"POST /ipp/print/abc HTTP/1.1", FIELDS, PRINT_JOB],
+        acted: 1,
+        end: End::Closed,
+        wanted: &[Success(IPP, JOB_2)],
+    },
+    Connection {
+        stream: &[b"POST /ipp/print?a HTTP/1.1", FIELDS, PRINT_JOB],
+        acted: 1,
+        end: End::Closed,
+        wanted: &[Success(IPP, JOB_3)],
+    },
 ];
 
-#[test]
-fn other_spellings_of_a_head(rt: HostRuntime) -> Result<(), Mismatch> {
-    for head in HEADS {
-        let connection = Connection {
-            stream: &[head, PRINT_JOB],
-            acted: 1,
-            end: End::Closed,
-            wanted: &[PRINTED],
-        };
-        take_all_over_both(rt.alloc(), &[connection])?;
-    }
-    Ok(())
-}
+const WHOLE_TARGET: &[Connection<'static>] = &[Connection {
+    stream: &[
+        b"POST http://127.0.0.1:631/ipp/print?x#y HTTP/1.1",
+        FIELDS,
+        PRINT_JOB,
+    ],
+    acted: 1,
+    end: End::Closed,
+    wanted: &[PRINTED],
+}];
+
+/// Other heads of a Print-Job: with lines that end by a line feed alone, behind empty lines, and with a length of 20 digits.
+const HEADS: &[Connection<'static>] = &[
+    Connection {
+        stream: &[
+            b"POST /ipp/print HTTP/1.1\nContent-Type: application/ipp\nContent-Length: 145\n\n",
+            PRINT_JOB,
+        ],
+        acted: 1,
+        end: End::Closed,
+        wanted: &[PRINTED],
+    },
+    Connection {
+        stream: &[
+            b"\r\n\n\r\nPOST /ipp/print HTTP/1.1\r\nContent-Type: application/ipp\r\nContent-Length: 145\r\n\r\n",
+            PRINT_JOB,
+        ],
+        acted: 1,
+        end: End::Closed,
+        wanted: &[Success(IPP, JOB_2)],
+    },
+    Connection {
+        stream: &[
+            b"POST /ipp/print HTTP/1.1\r\nContent-Type: application/ipp\r\nContent-Length: 00000000000000000145\r\n\r\n",
+            PRINT_JOB,
+        ],
+        acted: 1,
+        end: End::Closed,
+        wanted: &[Success(IPP, JOB_3)],
+    },
+];
+
+/// The head of a body in chunks, told by a word that begins with a capital.
+const POST_IN_CHUNKS: &[u8] =
+    b"POST /ipp/print HTTP/1.1\r\nContent-Type: application/ipp\r\nTransfer-Encoding: Chunked\r\n\r\n";
+
+/// The end of a chunk, and trailers.
+const TRAILERS: &[u8] = b"\r\n0\r\nA: b\r\nC: d\r\n\r\n";
+
+/// One chunk of 145 bytes, with an extension, and trailers.
+const ONE_CHUNK: &[Connection<'static>] = &[
+    Connection {
+        stream: &[POST_IN_CHUNKS, b"91 ;a=b\r\n", PRINT_JOB, TRAILERS],
+        acted: 1,
+        end: End::Closed,
+        wanted: &[PRINTED],
+    },
+    Connection {
+        stream: &[POST_IN_CHUNKS, b"91\t \r\n", PRINT_JOB, TRAILERS],
+        acted: 1,
+        end: End::Closed,
+        wanted: &[Success(IPP, JOB_2)],
+    },
+    Connection {
+        stream: &[
+            POST_IN_CHUNKS,
+            b"0000000000000091;\r\n",
+            PRINT_JOB,
+            TRAILERS,
+        ],
+        acted: 1,
+        end: End::Closed,
+        wanted: &[Success(IPP, JOB_3)],
+    },
+];
+
+/// The front of a head that asks for leave to send its body.
+const ASKS: &[u8] = b"POST /ipp/print HTTP/1.1\r\nContent-Type: application/ipp\r\n";
+
+/// A body that waits for leave.
+const WAITING: &[Connection<'static>] = &[
+    Connection {
+        stream: &[
+            ASKS,
+            b"Expect: 100-continue\r\n",
+            b"Content-Length: 145\r\n\r\n",
+            PRINT_JOB,
+        ],
+        acted: 1,
+        end: End::Closed,
+        wanted: &[Continue, PRINTED],
+    },
+    Connection {
+        stream: &[
+            ASKS,
+            b"expect: 100-Continue\r\n",
+            b"Content-Length: 145\r\n\r\n",
+            PRINT_JOB,
+        ],
+        acted: 1,
+        end: End::Closed,
+        wanted: &[Continue, Success(IPP, JOB_2)],
+    },
+    Connection {
+        stream: &[
+            ASKS,
+            b"Expect: x,\t100-continue \r\n",
+            b"Content-Length: 145\r\n\r\n",
+            PRINT_JOB,
+        ],
+        acted: 1,
+        end: End::Closed,
+        wanted: &[Continue, Success(IPP, JOB_3)],
+    },
+];
+
+/// A body in chunks that more may follow.
+const CHUNKED: &[Connection<'static>] = &[Connection {
+    stream: &[POST_CHUNKED, b"91\r\n", PRINT_JOB, b"\r\n0\r\n\r\n"],
+    acted: 1,
+    end: End::Closed,
+    wanted: &[PRINTED],
+}];
+
+/// Connections that are asked to end, and send no more.
+const ARE_TO_END: &[Connection<'static>] = &[
+    Connection {
+        stream: &[
+            b"POST /ipp/print HTTP/1.0\r\nContent-Type: application/ipp\r\nContent-Length: 145\r\n\r\n",
+            PRINT_JOB,
+        ],
+        acted: 1,
+        end: End::Done,
+        wanted: &[Last(IPP, JOB_1)],
+    },
+    Connection {
+        stream: &[b"GET /device/queue HTTP/1.1\r\nConnection: close\r\n\r\n"],
+        acted: 0,
+        end: End::Done,
+        wanted: &[Last(TEXT, b"")],
+    },
+];
 
 const QUEUE_AND_DOCUMENT: &[Connection<'static>] = &[
     LOOK_AT_NONE,
@@ -120,11 +239,6 @@ const QUEUE_AND_DOCUMENT: &[Connection<'static>] = &[
     },
 ];
 
-#[test]
-fn the_queue_and_a_document(rt: HostRuntime) -> Result<(), Mismatch> {
-    take_all_over_both(rt.alloc(), QUEUE_AND_DOCUMENT)
-}
-
 /// Of two jobs one is released.
 const RELEASED_AND_HELD: &[Connection<'static>] = &[
     Connection {
@@ -148,11 +262,6 @@ const RELEASED_AND_HELD: &[Connection<'static>] = &[
     },
 ];
 
-#[test]
-fn the_queue_of_a_released_and_a_held_job(rt: HostRuntime) -> Result<(), Mismatch> {
-    take_all_over_both(rt.alloc(), RELEASED_AND_HELD)
-}
-
 const PDF_DOCUMENT: &[Connection<'static>] = &[
     Connection {
         stream: &[
@@ -172,11 +281,6 @@ const PDF_DOCUMENT: &[Connection<'static>] = &[
         wanted: &[Success("application/pdf", b"%PDF")],
     },
 ];
-
-#[test]
-fn the_format_of_a_document(rt: HostRuntime) -> Result<(), Mismatch> {
-    take_all_over_both(rt.alloc(), PDF_DOCUMENT)
-}
 
 /// The head of a report of 12 bytes.
 const REPORT_12: &[u8] =
@@ -225,11 +329,6 @@ const REPORTS: &[Connection<'static>] = &[
     FETCH,
 ];
 
-#[test]
-fn lines_of_the_device(rt: HostRuntime) -> Result<(), Mismatch> {
-    take_all_over_both(rt.alloc(), REPORTS)
-}
-
 const NO_LINES: &[Connection<'static>] = &[
     Connection {
         stream: &[NO_REPORT],
@@ -247,11 +346,6 @@ const NO_LINES: &[Connection<'static>] = &[
     },
 ];
 
-#[test]
-fn bodies_that_are_no_line(rt: HostRuntime) -> Result<(), Mismatch> {
-    take_all_over_both(rt.alloc(), NO_LINES)
-}
-
 const REFUSED_MESSAGES: &[Connection<'static>] = &[
     Connection {
         stream: &[POST_JOB, PRINT_JOB_3_0],
@@ -267,11 +361,6 @@ const REFUSED_MESSAGES: &[Connection<'static>] = &[
     },
     PRINT,
 ];
-
-#[test]
-fn messages_that_are_refused_in_their_own_words(rt: HostRuntime) -> Result<(), Mismatch> {
-    take_all_over_both(rt.alloc(), REFUSED_MESSAGES)
-}
 
 /// A job from its Print-Job to its end, and behind it a connection that is asked to end.
 const WHOLE_JOB: Connection<'static> = Connection {
@@ -304,33 +393,41 @@ const WHOLE_JOB: Connection<'static> = Connection {
     ],
 };
 
-#[test]
-fn a_job_from_its_print_job_to_its_end_in_one_stream(rt: HostRuntime) -> Result<(), Mismatch> {
-    take_all_over_both(rt.alloc(), &[WHOLE_JOB])
-}
-
-/// Fields that ask for leave to send a body.
-const EXPECT_FIELDS: [&[u8]; 3] = [
-    b"Expect: 100-continue\r\n",
-    b"expect: 100-Continue\r\n",
-    b"Expect: x,\t100-continue \r\n",
+/// Print-Jobs in other spellings.
+static PRINT_JOBS: [Row; 8] = [
+    ("the smallest Print-Job", &[PRINT]),
+    ("other targets of a Print-Job", TARGETS),
+    ("a whole target of a Print-Job", WHOLE_TARGET),
+    ("other spellings of a head", HEADS),
+    ("a body in one chunk", CHUNKED),
+    ("one chunk with an extension and trailers", ONE_CHUNK),
+    ("a body that waits for leave", WAITING),
+    ("connections that are asked to end", ARE_TO_END),
 ];
 
 #[test]
-fn a_body_that_waits_for_leave(rt: HostRuntime) -> Result<(), Mismatch> {
-    for field in EXPECT_FIELDS {
-        let connection = Connection {
-            stream: &[
-                b"POST /ipp/print HTTP/1.1\r\nContent-Type: application/ipp\r\n",
-                field,
-                b"Content-Length: 145\r\n\r\n",
-                PRINT_JOB,
-            ],
-            acted: 1,
-            end: End::Closed,
-            wanted: &[Continue, PRINTED],
-        };
-        take_all_over_both(rt.alloc(), &[connection])?;
-    }
-    Ok(())
+fn print_jobs_in_other_spellings(rt: HostRuntime) -> Result<(), Failed> {
+    take_rows(rt.alloc(), &PRINT_JOBS, &AT_EACH_SPEED)
+}
+
+/// What the device asks and tells, and messages that are refused.
+static ROWS: [Row; 7] = [
+    ("the queue and a document", QUEUE_AND_DOCUMENT),
+    ("the queue of a released and a held job", RELEASED_AND_HELD),
+    ("the format of a document", PDF_DOCUMENT),
+    ("lines of the device", REPORTS),
+    ("bodies that are no line", NO_LINES),
+    (
+        "messages that are refused in their own words",
+        REFUSED_MESSAGES,
+    ),
+    (
+        "a job from its Print-Job to its end in one stream",
+        &[WHOLE_JOB],
+    ),
+];
+
+#[test]
+fn requests_that_are_answered(rt: HostRuntime) -> Result<(), Failed> {
+    take_rows(rt.alloc(), &ROWS, &AT_EACH_SPEED)
 }

@@ -1,100 +1,142 @@
-//! Bodies in chunks, and bodies that are large.
+//! Bodies that are large.
 
-use crate::desk::books::{DeskBook, MemoryBook};
-use crate::desk::compare::Mismatch;
-use crate::desk::connection::Wanted::{Continue, Success};
-use crate::desk::connection::{Connection, faultless, filled, in_chunks_of_one_byte, wanted_bytes};
+use crate::desk::compare::{Failed, Mismatch};
+use crate::desk::connection::Wanted::Success;
+use crate::desk::connection::{Connection, broken_off, faultless, filled, wanted_bytes};
 use crate::desk::jobs::{PRINTED, RELEASED};
-use crate::desk::messages::{PRINT_JOB, PRINT_JOB_BEGUN, RELEASE_JOB};
-use crate::desk::queue::{Desk, take_all_over_both};
-use crate::desk::requests::{GET_DOCUMENT, OCTETS, POST_RELEASE, POST_WAITING};
-use http_front::End;
-use list_book::ListBook;
-use std::alloc::Global;
-use std::slice;
+use crate::desk::messages::{PRINT_JOB_BEGUN, RELEASE_JOB};
+use crate::desk::queue::{Both, Exchange};
+use crate::desk::requests::{GET_DOCUMENT, OCTETS, POST_RELEASE};
+use crate::desk::rows::{Row, take_rows};
+use crate::desk::streams::{AT_LONG_SPEEDS, AT_ONCE, Way, by};
+use http_front::{End, ServeCause};
 
-/// A Print-Job by this stream waits for leave, and is job 1.
-fn print_in_chunks(alloc: Global, stream: &[u8]) -> Result<(), Mismatch> {
-    let connection = Connection {
-        stream: &[stream],
-        acted: 1,
-        end: End::Closed,
-        wanted: &[Continue, PRINTED],
-    };
-    take_all_over_both(alloc, slice::from_ref(&connection))
-}
+/// A part of a document.
+const MUCH: &[u8] = &[b'0'; 4096];
 
-#[test]
-fn chunks_of_one_byte(rt: HostRuntime) -> Result<(), Mismatch> {
-    let stream = in_chunks_of_one_byte(rt.alloc(), POST_WAITING, PRINT_JOB)?;
-    print_in_chunks(rt.alloc(), stream.as_slice())
-}
+/// The rest of a document by which the Print-Job has 20,000 bytes.
+const REST: &[u8] = &[b'0'; 20_000 - PRINT_JOB_BEGUN.len() - 4 * 4096];
 
-/// The lines of one chunk of 145 bytes.
-const CHUNK_LINES: [&[u8]; 3] = [b"91 ;a=b\r\n", b"91\t \r\n", b"0000000000000091;\r\n"];
-
-#[test]
-fn one_chunk_with_an_extension_and_trailers(rt: HostRuntime) -> Result<(), Mismatch> {
-    for line in CHUNK_LINES {
-        let connection = Connection {
+/// A Print-Job of 20,000 bytes by its length, and in one chunk.
+static ROWS: [Row; 2] = [
+    (
+        "a long body of a told length",
+        &[Connection {
             stream: &[
-                b"POST /ipp/print HTTP/1.1\r\nContent-Type: application/ipp\r\nTransfer-Encoding: Chunked\r\n\r\n",
-                line,
-                PRINT_JOB,
-                b"\r\n0\r\nA: b\r\nC: d\r\n\r\n",
+                b"POST /ipp/print HTTP/1.1\r\nContent-Type: application/ipp\r\nContent-Length: 20000\r\n\r\n",
+                PRINT_JOB_BEGUN,
+                MUCH,
+                MUCH,
+                MUCH,
+                MUCH,
+                REST,
             ],
             acted: 1,
             end: End::Closed,
             wanted: &[PRINTED],
-        };
-        take_all_over_both(rt.alloc(), &[connection])?;
-    }
-    Ok(())
+        }],
+    ),
+    (
+        "a long chunk",
+        &[Connection {
+            stream: &[
+                b"POST /ipp/print HTTP/1.1\r\nContent-Type: application/ipp\r\nTransfer-Encoding: chunked\r\n\r\n4e20\r\n",
+                PRINT_JOB_BEGUN,
+                MUCH,
+                MUCH,
+                MUCH,
+                MUCH,
+                REST,
+                b"\r\n0\r\n\r\n",
+            ],
+            acted: 1,
+            end: End::Closed,
+            wanted: &[PRINTED],
+        }],
+    ),
+];
+
+#[test]
+fn long_bodies(rt: HostRuntime) -> Result<(), Failed> {
+    take_rows(rt.alloc(), &ROWS, &AT_LONG_SPEEDS)
 }
 
-/// Prints and releases a document of 131,073 bytes: as many as these.
-fn print_large<B: DeskBook>(desk: &mut Desk<B>, document: &[u8]) -> Result<(), Mismatch> {
-    let connection = Connection {
+/// How many bytes the head of the document's answer has.
+const HEAD: usize = 83;
+
+/// The most bytes of a write to a client that is to fail.
+const PIECE: usize = 8192;
+
+/// After how many bytes of the document's answer a writer fails: inside a write, where the head begins, and at each write behind the head.
+static ROOMS: [usize; 23] = [
+    0,
+    1,
+    82,
+    84,
+    8192,
+    65_620,
+    HEAD,
+    HEAD + PIECE,
+    HEAD + 2 * PIECE,
+    HEAD + 3 * PIECE,
+    HEAD + 4 * PIECE,
+    HEAD + 5 * PIECE,
+    HEAD + 6 * PIECE,
+    HEAD + 7 * PIECE,
+    HEAD + 8 * PIECE,
+    HEAD + 9 * PIECE,
+    HEAD + 10 * PIECE,
+    HEAD + 11 * PIECE,
+    HEAD + 12 * PIECE,
+    HEAD + 13 * PIECE,
+    HEAD + 14 * PIECE,
+    HEAD + 15 * PIECE,
+    HEAD + 16 * PIECE,
+];
+
+/// The document is fetched by writers that fail, and by one that takes it whole.
+fn fetch_large(desk: &mut Both, answers: &[u8]) {
+    let whole = Exchange {
+        stream: GET_DOCUMENT,
+        answers,
+        outcome: Ok(faultless(0, End::Closed)),
+        past: 1,
+    };
+    let broken = Exchange {
+        outcome: Err(broken_off(0, ServeCause::Write)),
+        ..whole
+    };
+    for room in &ROOMS {
+        let way = Way {
+            room: *room,
+            write: PIECE,
+            ..AT_ONCE
+        };
+        desk.exchange(&broken, way);
+    }
+    desk.exchange(&whole, by(4096));
+}
+
+/// A document of 131,073 bytes is printed, released and fetched.
+#[test]
+fn a_large_document(rt: HostRuntime) -> Result<(), Mismatch> {
+    let alloc = rt.alloc();
+    let document = filled(alloc, &[(b"01234567", 16_384), (b"!", 1)])?;
+    let answers = wanted_bytes(alloc, &[Success(OCTETS, document.as_slice())])?;
+    let prints = [Connection {
         stream: &[
             b"POST /ipp/print HTTP/1.1\r\nContent-Type: application/ipp\r\nContent-Length: 131216\r\n\r\n",
             PRINT_JOB_BEGUN,
-            document,
+            document.as_slice(),
             POST_RELEASE,
             RELEASE_JOB,
         ],
         acted: 2,
         end: End::Closed,
         wanted: &[PRINTED, RELEASED],
-    };
-    desk.take(&connection, 4096)
-}
-
-/// After how many bytes of the document's answer a writer fails inside a write or where the head begins.
-const ROOMS: [usize; 6] = [0, 1, 82, 84, 8192, 65_620];
-
-/// The document is fetched by writers that fail, also at each write behind the head of 83 bytes, and by one that takes it whole.
-fn fetch_large<B: DeskBook>(desk: &mut Desk<B>, answer: &[u8]) -> Result<(), Mismatch> {
-    for room in ROOMS {
-        desk.take_writer(GET_DOCUMENT, (room, 8192), 0, answer)?;
-    }
-    for pieces in 0..17 {
-        desk.take_writer(GET_DOCUMENT, (83 + 8192 * pieces, 8192), 0, answer)?;
-    }
-    desk.take_bytes(GET_DOCUMENT, faultless(0, End::Closed), answer, 4096)
-}
-
-/// A queue takes a large document, and gives it.
-fn keep_large<B: DeskBook>(alloc: Global, document: &[u8], answer: &[u8]) -> Result<(), Mismatch> {
-    let mut desk = Desk::<B>::granted(alloc)?;
-    print_large(&mut desk, document)?;
-    fetch_large(&mut desk, answer)
-}
-
-#[test]
-fn a_large_document(rt: HostRuntime) -> Result<(), Mismatch> {
-    let alloc = rt.alloc();
-    let document = filled(alloc, b"", b"01234567", 16384, b"!")?;
-    let answer = wanted_bytes(alloc, &[Success(OCTETS, document.as_slice())])?;
-    keep_large::<ListBook>(alloc, document.as_slice(), answer.as_slice())?;
-    keep_large::<MemoryBook>(alloc, document.as_slice(), answer.as_slice())
+    }];
+    let mut desk = Both::granted(alloc)?;
+    desk.take_each(&prints, by(4096));
+    fetch_large(&mut desk, answers.as_slice());
+    desk.end()
 }

@@ -1,12 +1,11 @@
 //! What clients, the device and an owner of jobs send, each on a connection of its own, and what stands in the answer that is looked for.
 
-use crate::desk::compare::Mismatch;
-use crate::desk::connection::{filled, in_chunks_of_one_byte, joined};
+use crate::desk::connection::{filled, in_chunks_of_one_byte};
 use crate::desk::messages::{BROKEN_OFF, PRINT_JOB_3_0};
 use crate::desk::requests::{
     GET_QUEUE, IPP, POST_BROKEN_OFF, POST_CHUNKED, POST_JOB, POST_WAITING, TEXT,
 };
-use std::alloc::Global;
+use std::alloc::{AllocError, Global};
 
 /// What is sent.
 #[derive(Clone, Copy)]
@@ -342,7 +341,7 @@ fn post(
     kind: &str,
     body: &[u8],
     in_chunks: bool,
-) -> Result<Vec<u8>, Mismatch> {
+) -> Result<Vec<u8>, AllocError> {
     if in_chunks {
         let head = format!(in alloc;
             "POST {path} HTTP/1.1\r\nContent-Type: {kind}\r\nTransfer-Encoding: chunked\r\n\r\n"
@@ -353,17 +352,17 @@ fn post(
     let head = format!(in alloc;
         "POST {path} HTTP/1.1\r\nContent-Type: {kind}\r\nContent-Length: {length}\r\n\r\n"
     )?;
-    joined(alloc, &[head.as_bytes(), body])
+    [head.as_bytes(), body].concat(alloc)
 }
 
 /// A POST of the message that these parts are.
-fn post_message(alloc: Global, parts: &[&[u8]], in_chunks: bool) -> Result<Vec<u8>, Mismatch> {
-    let message = joined(alloc, parts)?;
+fn post_message(alloc: Global, parts: &[&[u8]], in_chunks: bool) -> Result<Vec<u8>, AllocError> {
+    let message = parts.concat(alloc)?;
     post(alloc, "/ipp/print", IPP, message.as_slice(), in_chunks)
 }
 
 /// A POST of a report of this kind.
-fn post_report(alloc: Global, drawn: Drawn, kind: &str, count: u32) -> Result<Vec<u8>, Mismatch> {
+fn post_report(alloc: Global, drawn: Drawn, kind: &str, count: u32) -> Result<Vec<u8>, AllocError> {
     let Drawn { job, sequence, .. } = drawn;
     let line = format!(in alloc; "{job} {sequence} {kind} {count}\n")?;
     post(
@@ -376,43 +375,45 @@ fn post_report(alloc: Global, drawn: Drawn, kind: &str, count: u32) -> Result<Ve
 }
 
 /// A GET of a document.
-fn get_document(alloc: Global, job: u32, number: u32) -> Result<Vec<u8>, Mismatch> {
+fn get_document(alloc: Global, job: u32, number: u32) -> Result<Vec<u8>, AllocError> {
     let request = format!(in alloc; "GET /device/document/{job}/{number} HTTP/1.1\r\n\r\n")?;
-    joined(alloc, &[request.as_bytes()])
+    Vec::from_slice(alloc, request.as_bytes())
 }
 
 /// The bytes that are sent for a call.
-pub(super) fn stream_of(alloc: Global, call: Call, drawn: Drawn) -> Result<Vec<u8>, Mismatch> {
+pub(super) fn stream_of(alloc: Global, call: Call, drawn: Drawn) -> Result<Vec<u8>, AllocError> {
     let version = b"\x01\x01\x00".as_slice();
     let end = b"\x03".as_slice();
+    let job = drawn.job.to_be_bytes();
     match call {
-        Call::Stream(head, rest) => joined(alloc, &[head, rest]),
-        Call::Fields(count) => {
-            let line = b"GET /device/queue HTTP/1.1\r\n";
-            filled(alloc, line, b"a:b\r\n", count, b"\r\n")
-        }
+        Call::Stream(head, rest) => [head, rest].concat(alloc),
+        Call::Fields(count) => filled(
+            alloc,
+            &[
+                (b"GET /device/queue HTTP/1.1\r\n", 1),
+                (b"a:b\r\n", count),
+                (b"\r\n", 1),
+            ],
+        ),
         Call::Message(operation, attributes, document) => post_message(
             alloc,
             &[version, &[operation], ATTRIBUTES, attributes, end, document],
             drawn.in_chunks,
         ),
-        Call::OfJob(operation, attributes, document) => {
-            let job = drawn.job.to_be_bytes();
-            post_message(
-                alloc,
-                &[
-                    version,
-                    &[operation],
-                    ATTRIBUTES,
-                    JOB_ID,
-                    &job,
-                    attributes,
-                    end,
-                    document,
-                ],
-                drawn.in_chunks,
-            )
-        }
+        Call::OfJob(operation, attributes, document) => post_message(
+            alloc,
+            &[
+                version,
+                &[operation],
+                ATTRIBUTES,
+                JOB_ID,
+                &job,
+                attributes,
+                end,
+                document,
+            ],
+            drawn.in_chunks,
+        ),
         Call::Report(kind, count) => post_report(alloc, drawn, kind, count),
         Call::Document(number) => get_document(alloc, drawn.job, number),
     }

@@ -1,171 +1,114 @@
-//! Streams that are cut short, over each book.
+//! Connections that are cut at each length, over each book.
 
-use crate::desk::books::{DeskBook, MemoryBook};
 use crate::desk::compare::Mismatch;
-use crate::desk::connection::Wanted::Success;
-use crate::desk::connection::{Connection, Wanted, faultless, in_chunks_of_one_byte, joined};
+use crate::desk::connection::Wanted::{Continue, Success};
+use crate::desk::connection::{Connection, Wanted, faultless, in_chunks_of_one_byte, wanted_bytes};
+use crate::desk::jobs::PRINTED;
 use crate::desk::messages::{BAD_REQUEST, JOB_1, JOB_2, PRINT_JOB};
-use crate::desk::queue::Desk;
-use crate::desk::refused::end_behind;
-use crate::desk::requests::{IPP, POST_CHUNKED, POST_JOB, POST_WAITING};
-use crate::desk::streams::SPEEDS;
+use crate::desk::queue::{Both, Exchange};
+use crate::desk::requests::{IPP, POST_JOB, POST_WAITING};
+use crate::desk::streams::{AT_EACH_SPEED, AT_ONCE, Way};
 use http_front::End;
-use list_book::ListBook;
 use std::alloc::Global;
+use std::slice;
 
-/// A front of a request isn't answered: these bytes alone are written.
-fn cut_to<B: DeskBook>(desk: &mut Desk<B>, front: &[u8], answers: &[u8]) -> Result<(), Mismatch> {
+/// A front of a Print-Job comes to a queue at each speed, and leaves no job. From the end of a head of so many bytes on it is answered.
+fn cut_to(desk: &mut Both, front: &[u8], head: usize, answers: &[u8]) {
     let end = if front.is_empty() {
         End::Closed
     } else {
         End::Cut
     };
-    for most in SPEEDS {
-        desk.take_bytes(front, faultless(0, end), answers, most)?;
+    let exchange = Exchange {
+        stream: front,
+        answers: if front.len() < head { b"" } else { answers },
+        outcome: Ok(faultless(0, end)),
+        past: 1,
+    };
+    for way in &AT_EACH_SPEED {
+        desk.exchange(&exchange, *way);
     }
-    Ok(())
 }
 
-/// A request is cut at each length. From the end of a head of so many bytes on, these are the answers.
-fn cut_each<B: DeskBook>(
-    desk: &mut Desk<B>,
+/// No front of a Print-Job leaves a job, and it does, with these answers, the last of which isn't written before.
+fn cut_each(
+    alloc: Global,
     request: &[u8],
     head: usize,
-    answers: &[u8],
+    wanted: &[Wanted<'_>],
 ) -> Result<(), Mismatch> {
+    let begun = wanted_bytes(alloc, &wanted[..wanted.len().saturating_sub(1)])?;
+    let mut desk = Both::new(alloc)?;
     for length in 0..request.len() {
-        let written = if length < head {
-            b"".as_slice()
-        } else {
-            answers
-        };
-        cut_to(desk, &request[..length], written)?;
+        cut_to(&mut desk, &request[..length], head, begun.as_slice());
     }
-    Ok(())
-}
-
-/// No request that is cut so leaves a job: the next Print-Job is job 1.
-fn cut_request<B: DeskBook>(
-    alloc: Global,
-    request: &[u8],
-    head: usize,
-    answers: &[u8],
-) -> Result<(), Mismatch> {
-    let mut desk = Desk::<B>::new(alloc)?;
-    cut_each(&mut desk, request, head, answers)?;
-    desk.take_job(1)
-}
-
-/// It is cut so over each book.
-fn cut_over_both(
-    alloc: Global,
-    request: &[u8],
-    head: usize,
-    answers: &[u8],
-) -> Result<(), Mismatch> {
-    cut_request::<ListBook>(alloc, request, head, answers)?;
-    cut_request::<MemoryBook>(alloc, request, head, answers)
+    let whole = Connection {
+        stream: &[request],
+        acted: 1,
+        end: End::Closed,
+        wanted,
+    };
+    desk.take_each(slice::from_ref(&whole), AT_ONCE);
+    desk.end_at_job(2)
 }
 
 #[test]
 fn a_request_cut_at_each_length(rt: HostRuntime) -> Result<(), Mismatch> {
-    let request = joined(rt.alloc(), &[POST_JOB, PRINT_JOB])?;
-    cut_over_both(rt.alloc(), request.as_slice(), 0, b"")
+    let request = [POST_JOB, PRINT_JOB].concat(rt.alloc())?;
+    cut_each(rt.alloc(), request.as_slice(), 0, &[PRINTED])
 }
 
+/// Its head waits for leave, and its body comes in chunks of one byte.
 #[test]
 fn chunks_cut_at_each_length(rt: HostRuntime) -> Result<(), Mismatch> {
-    let leave = b"HTTP/1.1 100 Continue\r\n\r\n";
-    let head = POST_WAITING.len();
     let request = in_chunks_of_one_byte(rt.alloc(), POST_WAITING, PRINT_JOB)?;
-    cut_over_both(rt.alloc(), request.as_slice(), head, leave)
+    let wanted = [Continue, PRINTED];
+    cut_each(rt.alloc(), request.as_slice(), POST_WAITING.len(), &wanted)
 }
 
-/// Bodies that are right as far as they go.
-const BEGUN_CHUNKS: &[&[u8]] = &[
-    b"1",
-    b"1\r",
-    b"1\r\n",
-    b"1\r\na",
-    b"1\r\na\r",
-    b"1\r\na\r\n",
-    b"1\r\na\r\n0\r\n",
-    b"1\r\na\r\n0\r\na: b\r\n\r",
-];
+/// How many bytes the smallest Print-Job has before its document.
+const ATTRIBUTES: usize = 143;
 
-#[test]
-fn chunks_that_may_go_on(rt: HostRuntime) -> Result<(), Mismatch> {
-    end_behind(rt.alloc(), POST_CHUNKED, End::Cut, &[], BEGUN_CHUNKS)
-}
-
-/// A message behind its head is answered so, where a read gives at most so many bytes.
-fn take_message<B: DeskBook>(
-    desk: &mut Desk<B>,
-    head: &[u8],
-    message: &[u8],
-    wanted: &[Wanted<'_>],
-    most: usize,
-) -> Result<(), Mismatch> {
+/// A message behind its head is answered so.
+fn take_message(desk: &mut Both, head: &[u8], message: &[u8], wanted: &[Wanted<'_>], way: Way) {
     let connection = Connection {
         stream: &[head, message],
         acted: 1,
         end: End::Closed,
         wanted,
     };
-    desk.take(&connection, most)
+    desk.take_each(slice::from_ref(&connection), way);
 }
 
-/// The smallest Print-Job, cut to so many bytes, is answered so.
-fn cut_message<B: DeskBook>(
-    alloc: Global,
-    desk: &mut Desk<B>,
-    length: usize,
-    wanted: &[Wanted<'_>],
-    most: usize,
-) -> Result<(), Mismatch> {
+/// The smallest Print-Job, cut to so many bytes, comes to a queue. It is refused inside its attributes, and makes a job with a part of its
+/// document, or none.
+fn cut_message(alloc: Global, desk: &mut Both, length: usize, way: Way) -> Result<(), Mismatch> {
     let head = format!(in alloc;
         "POST /ipp/print HTTP/1.1\r\nContent-Type: application/ipp\r\nContent-Length: {length}\r\n\r\n"
     )?;
+    let reply = match length.checked_sub(ATTRIBUTES) {
+        None => BAD_REQUEST,
+        Some(0) => JOB_1,
+        Some(_) => JOB_2,
+    };
     let message = PRINT_JOB.get(..length).unwrap_or(PRINT_JOB);
-    take_message(desk, head.as_bytes(), message, wanted, most)
-}
-
-const REFUSED: &[Wanted<'static>] = &[Success(IPP, BAD_REQUEST)];
-
-/// Cut inside its attributes it is refused.
-fn cut_attributes<B: DeskBook>(
-    alloc: Global,
-    desk: &mut Desk<B>,
-    most: usize,
-) -> Result<(), Mismatch> {
-    for length in 8..143 {
-        cut_message(alloc, desk, length, REFUSED, most)?;
-    }
+    take_message(desk, head.as_bytes(), message, &[Success(IPP, reply)], way);
     Ok(())
 }
 
-const FIRST: &[Wanted<'static>] = &[Success(IPP, JOB_1)];
-
-const SECOND: &[Wanted<'static>] = &[Success(IPP, JOB_2)];
-
-/// Cut inside its attributes it makes no job. With a part of its document, or none, it makes one.
-fn cut_messages<B: DeskBook>(alloc: Global, most: usize) -> Result<(), Mismatch> {
-    let mut desk = Desk::<B>::new(alloc)?;
-    cut_attributes(alloc, &mut desk, most)?;
-    cut_message(alloc, &mut desk, 143, FIRST, most)?;
-    cut_message(alloc, &mut desk, 144, SECOND, most)
-}
-
-/// So it is at each speed.
-fn cut_messages_in<B: DeskBook>(alloc: Global) -> Result<(), Mismatch> {
-    for most in SPEEDS {
-        cut_messages::<B>(alloc, most)?;
+/// It is cut so to each length from 8 bytes on, to a queue of its own.
+fn cut_messages(alloc: Global, way: Way) -> Result<(), Mismatch> {
+    let mut desk = Both::new(alloc)?;
+    for length in 8..=ATTRIBUTES + 1 {
+        cut_message(alloc, &mut desk, length, way)?;
     }
-    Ok(())
+    desk.end()
 }
 
 #[test]
 fn a_message_cut_at_each_length(rt: HostRuntime) -> Result<(), Mismatch> {
-    cut_messages_in::<ListBook>(rt.alloc())?;
-    cut_messages_in::<MemoryBook>(rt.alloc())
+    for way in &AT_EACH_SPEED {
+        cut_messages(rt.alloc(), *way)?;
+    }
+    Ok(())
 }

@@ -3,21 +3,22 @@ ghost use Rattle.std.specs.Prelude.{All};
 ghost use Rattle.queue_core.specs.Limits.{IsMoment};
 
 use crate::desk::books::{DeskBook, GRANT, MemoryBook};
-use crate::desk::compare::{Mismatch, Place};
+use crate::desk::compare::{Failed, Place, failed_at};
 use crate::desk::connection::Wanted::Success;
-use crate::desk::connection::{Wanted, broken_off, faultless, joined, wanted_bytes};
+use crate::desk::connection::{Wanted, broken_off, faultless, wanted_bytes};
 use crate::desk::messages::{DONE, JOB_1, PRINT_JOB, RELEASE_JOB};
 use crate::desk::queue::settings;
 use crate::desk::requests::{GET_QUEUE, IPP, POST_JOB, POST_RELEASE, TEXT};
-use crate::desk::streams::BrokenWriter;
+use crate::desk::streams::{AT_ONCE, TestWriter, Way};
 use arrivals::{Arrival, Arrived, Outcome, take_all};
 use grants_csv::{ImportCause, ImportFault, Imported};
 use http_front::{End, ServeCause};
 use list_book::ListBook;
+use queue_core::book::QueueBook;
 use queue_types::limits::LAST_MOMENT;
-use queue_types::settings::Settings;
 use std::alloc::Global;
-use std::io::Write;
+use std::cell::Cell;
+use std::test::Fail;
 
 /// What is wanted of one of them.
 #[derive(Clone, Copy)]
@@ -68,7 +69,7 @@ fn at(moment: u32, what: Arrived<'_>) -> Arrival<'_>
 }
 
 /// One client prints a job and releases it, the device asks for its queue, and another client breaks off. Moments may fall.
-fn day(print: &[u8]) -> [Arrival<'_>; 11]
+fn arrivals_of_a_day(print: &[u8]) -> [Arrival<'_>; 11]
     ensures { All (λ a. IsMoment a.moment) result }
 {
     [
@@ -86,114 +87,6 @@ fn day(print: &[u8]) -> [Arrival<'_>; 11]
     ]
 }
 
-/// One came to what it was to come to.
-fn compare(place: &Place, wanted: Comes, came: &Outcome) -> Result<(), Mismatch> {
-    match (wanted, came) {
-        (Comes::Serves(acted, end), Outcome::Served(served)) => {
-            place.same_outcome(Ok(faultless(acted, end)), Ok(*served))
-        }
-        (Comes::Breaks(acted), Outcome::Broken(fault)) => {
-            place.same_outcome(Err(broken_off(acted, ServeCause::Write)), Err(*fault))
-        }
-        (Comes::Tells(line), Outcome::Told(answer)) => {
-            place.same_bytes(line.as_bytes(), answer.bytes())
-        }
-        (Comes::Imports(added, repeats), Outcome::Imported(imported)) => {
-            place.is_so(
-                *imported == Imported { added, repeats },
-                "the rows that are new",
-            )
-        }
-        (Comes::Refuses(cause, row), Outcome::Refused(fault)) => {
-            place.is_so(
-                *fault == ImportFault { cause, row },
-                "why the file is refused",
-            )
-        }
-        _ => place.is_so(false, "an outcome of its kind"),
-    }
-}
-
-/// Each did.
-fn compare_each(place: &Place, wanted: &[Comes], came: &[Outcome]) -> Result<(), Mismatch> {
-    place.is_so(came.len() == wanted.len(), "an outcome for each")?;
-    for (wanted, one) in wanted.iter().zip(came) {
-        compare(place, *wanted, one)?;
-    }
-    Ok(())
-}
-
-/// In alice's account 5 pages are free, none are reserved and 25 were printed.
-fn has_printed<B: DeskBook>(place: &Place, book: &mut B) -> Result<(), Mismatch> {
-    match book.sheet("alice") {
-        Ok(Some(sheet)) => place.is_so(
-            sheet.granted == 30 && sheet.free == 5 && sheet.reserved == 0 && sheet.printed == 25,
-            "the pages of alice",
-        ),
-        _ => place.is_so(false, "the account of alice"),
-    }
-}
-
-/// Where comparisons of a book are made.
-fn place_of<B: DeskBook>() -> Place {
-    Place {
-        subject: B::subject(),
-        most: usize::MAX,
-    }
-}
-
-/// A book of an empty queue of these settings.
-fn new_book<B: DeskBook>(alloc: Global, settings: &Settings) -> Result<B, Mismatch> {
-    B::empty(alloc, settings.try_clone()?)
-}
-
-/// They come to this in a book of these settings.
-fn come_to<B: DeskBook, W: Write>(
-    alloc: Global,
-    book: &mut B,
-    settings: &Settings,
-    arrivals: &[Arrival<'_>],
-    wanted: &[Comes],
-    writer: &mut W,
-) -> Result<(), Mismatch>
-    requires { All (λ a. IsMoment a.moment) arrivals.now }
-{
-    let came = take_all(alloc, book, settings, arrivals, writer)?;
-    compare_each(&place_of::<B>(), wanted, came.as_slice())
-}
-
-/// They come to this in a new book, which is handed back.
-fn take_over<B: DeskBook, W: Write>(
-    alloc: Global,
-    arrivals: &[Arrival<'_>],
-    wanted: &[Comes],
-    writer: &mut W,
-) -> Result<B, Mismatch>
-    requires { All (λ a. IsMoment a.moment) arrivals.now }
-{
-    let settings = settings(alloc)?;
-    let mut book: B = new_book(alloc, &settings)?;
-    come_to(alloc, &mut book, &settings, arrivals, wanted, writer)?;
-    Ok(book)
-}
-
-/// A day passes over a book.
-fn pass_a_day<B: DeskBook>(alloc: Global, print: &[u8], answers: &[u8]) -> Result<(), Mismatch> {
-    let mut written = Vec::new(alloc);
-    let mut book = take_over::<B, Vec<u8>>(alloc, day(print).as_slice(), OF_A_DAY, &mut written)?;
-    place_of::<B>().same_bytes(answers, written.as_slice())?;
-    has_printed(&place_of::<B>(), &mut book)
-}
-
-#[test]
-fn a_day_of_a_queue(rt: HostRuntime) -> Result<(), Mismatch> {
-    let alloc = rt.alloc();
-    let print = joined(alloc, &[POST_JOB, PRINT_JOB, POST_RELEASE, RELEASE_JOB])?;
-    let answers = wanted_bytes(alloc, ANSWERS)?;
-    pass_a_day::<ListBook>(alloc, print.as_slice(), answers.as_slice())?;
-    pass_a_day::<MemoryBook>(alloc, print.as_slice(), answers.as_slice())
-}
-
 /// A job is printed and released, and the device starts it, in a connection and a line.
 fn print_and_start(print: &[u8]) -> [Arrival<'_>; 2]
     ensures { All (λ a. IsMoment a.moment) result }
@@ -204,29 +97,125 @@ fn print_and_start(print: &[u8]) -> [Arrival<'_>; 2]
     ]
 }
 
-/// Where the answer to the Print-Job can't be written, the job is there and isn't released.
-const OF_A_LOST_ANSWER: &[Comes] = &[Comes::Breaks(1), Comes::Tells("refused 3 state\n")];
+/// What comes of a day, and what it leaves.
+struct Day {
+    name: &'static str,
+    /// How its answers are taken.
+    way: Way,
+    wanted: &'static [Comes],
+    answers: &'static [Wanted<'static>],
+    /// The pages of alice behind it, where they are looked at: granted, free, reserved and printed.
+    pages: Option<(u64, i64, u64, u64)>,
+}
 
-/// The answer is lost over a book.
-fn lose_an_answer<B: DeskBook>(alloc: Global, print: &[u8]) -> Result<(), Mismatch> {
-    let mut writer = BrokenWriter {
+/// The day of such a queue.
+static WHOLE: Day = Day {
+    name: "a day of a queue",
+    way: AT_ONCE,
+    wanted: OF_A_DAY,
+    answers: ANSWERS,
+    pages: Some((30, 5, 0, 25)),
+};
+
+/// Where the answer to the Print-Job can't be written, the job is there and isn't released.
+static LOST: Day = Day {
+    name: "a day of a lost answer",
+    way: Way {
         room: 100,
+        ..AT_ONCE
+    },
+    wanted: &[Comes::Breaks(1), Comes::Tells("refused 3 state\n")],
+    answers: &[Success(IPP, JOB_1)],
+    pages: None,
+};
+
+/// One came to what it was to come to.
+fn is_wanted(wanted: Comes, came: &Outcome) -> bool {
+    match (wanted, came) {
+        (Comes::Serves(acted, end), Outcome::Served(served)) => *served == faultless(acted, end),
+        (Comes::Breaks(acted), Outcome::Broken(fault)) => {
+            *fault == broken_off(acted, ServeCause::Write)
+        }
+        (Comes::Tells(line), Outcome::Told(answer)) => line.as_bytes() == answer.bytes(),
+        (Comes::Imports(added, repeats), Outcome::Imported(imported)) => {
+            *imported == Imported { added, repeats }
+        }
+        (Comes::Refuses(cause, row), Outcome::Refused(fault)) => {
+            *fault == ImportFault { cause, row }
+        }
+        _ => false,
+    }
+}
+
+/// Each did.
+fn compare_each(place: &Place, day: &Day, came: &[Outcome]) -> Result<(), Failed> {
+    for (step, wanted) in day.wanted.iter().enumerate() {
+        let is_so = matches!(came.get(step), Some(one) if is_wanted(*wanted, one));
+        if let Err(why) = place.is_so(is_so, "what comes of it") {
+            return Err(failed_at(day.name, step, why));
+        }
+    }
+    Ok(())
+}
+
+/// Alice has these pages, if they are looked at.
+fn has_pages<B: QueueBook>(book: &mut B, pages: Option<(u64, i64, u64, u64)>) -> bool {
+    match (book.sheet("alice"), pages) {
+        (_, None) => true,
+        (Ok(Some(sheet)), Some(wanted)) => {
+            (sheet.granted, sheet.free, sheet.reserved, sheet.printed) == wanted
+        }
+        _ => false,
+    }
+}
+
+/// A day passes over a new book.
+fn pass<B: DeskBook>(
+    alloc: Global,
+    arrivals: &[Arrival<'_>],
+    day: &Day,
+    answers: &[u8],
+) -> Result<(), Fail>
+    requires { All (λ a. IsMoment a.moment) arrivals.now }
+{
+    let place = Place {
+        subject: B::subject(),
         most: usize::MAX,
-        taken: Vec::new(alloc),
     };
-    let _book = take_over::<B, BrokenWriter>(
-        alloc,
-        print_and_start(print).as_slice(),
-        OF_A_LOST_ANSWER,
-        &mut writer,
+    let written = Cell::new(0);
+    let mut writer = TestWriter::new(alloc, day.way, &written);
+    let settings = settings(alloc)?;
+    let mut book = B::empty(alloc, settings.try_clone()?)?;
+    let came = take_all(alloc, &mut book, &settings, arrivals, &mut writer)?;
+    compare_each(&place, day, came.as_slice())?;
+    place.is_so(has_pages(&mut book, day.pages), "the pages of alice")?;
+    place.same_bytes(
+        answers.get(..day.way.room).unwrap_or(answers),
+        writer.taken.as_slice(),
     )?;
     Ok(())
 }
 
+/// It passes over each book.
+fn pass_over_both(alloc: Global, arrivals: &[Arrival<'_>], day: &Day) -> Result<(), Fail>
+    requires { All (λ a. IsMoment a.moment) arrivals.now }
+{
+    let answers = wanted_bytes(alloc, day.answers)?;
+    pass::<ListBook>(alloc, arrivals, day, answers.as_slice())?;
+    pass::<MemoryBook>(alloc, arrivals, day, answers.as_slice())
+}
+
 #[test]
-fn a_day_of_a_lost_answer(rt: HostRuntime) -> Result<(), Mismatch> {
-    let alloc = rt.alloc();
-    let print = joined(alloc, &[POST_JOB, PRINT_JOB, POST_RELEASE, RELEASE_JOB])?;
-    lose_an_answer::<ListBook>(alloc, print.as_slice())?;
-    lose_an_answer::<MemoryBook>(alloc, print.as_slice())
+fn days_of_a_queue(rt: HostRuntime) -> Result<(), Fail> {
+    let print = [POST_JOB, PRINT_JOB, POST_RELEASE, RELEASE_JOB].concat(rt.alloc())?;
+    pass_over_both(
+        rt.alloc(),
+        arrivals_of_a_day(print.as_slice()).as_slice(),
+        &WHOLE,
+    )?;
+    pass_over_both(
+        rt.alloc(),
+        print_and_start(print.as_slice()).as_slice(),
+        &LOST,
+    )
 }

@@ -1,33 +1,20 @@
 //! Which documents the device fetches, and which it may not, over each book.
 
-use crate::desk::books::{DeskBook, MemoryBook};
-use crate::desk::compare::Mismatch;
-use crate::desk::connection::Connection;
+use crate::desk::compare::Failed;
 use crate::desk::connection::Wanted::{Continue, Success};
-use crate::desk::jobs::RELEASE;
+use crate::desk::connection::{Connection, Wanted};
+use crate::desk::jobs::{PRINT, RELEASE};
 use crate::desk::messages::{DONE, JOB_2, PRINT_JOB};
-use crate::desk::queue::Desk;
 use crate::desk::refused::NOT_FOUND;
 use crate::desk::requests::{
     GET_DOCUMENT, IPP, OCTETS, POST_JOB, POST_RELEASE, REPORT_DONE, REPORT_START, TEXT,
 };
+use crate::desk::rows::{Row, take_rows};
+use crate::desk::streams::AT_EACH_SPEED;
 use http_front::End;
-use list_book::ListBook;
-use std::alloc::Global;
-
-/// A document of a job on hold isn't there, and then the job is released.
-const NOT_FOUND_THEN_RELEASED: &[Connection<'static>] = &[
-    Connection {
-        stream: &[GET_DOCUMENT],
-        acted: 0,
-        end: End::Refused(404),
-        wanted: &[NOT_FOUND],
-    },
-    RELEASE,
-];
 
 /// The device prints the job, whose document isn't there then.
-const PRINTED: Connection<'static> = Connection {
+const PRINTED_AND_GONE: Connection<'static> = Connection {
     stream: &[
         REPORT_START,
         REPORT_DONE,
@@ -42,60 +29,93 @@ const PRINTED: Connection<'static> = Connection {
     ],
 };
 
-/// Paths of documents that aren't there.
-const PATHS: [&[u8]; 10] = [
-    b"1/2",
-    b"1/0",
-    b"1/01",
-    b"01/1",
-    b"+1/1",
-    b"0/1",
-    b"9/1",
-    b"4294967297/1",
-    b"1/4294967297",
-    b"a/b",
-];
+/// The front of a request for a document.
+const GET_OF: &[u8] = b"GET /device/document/";
 
-/// None of these documents is there, and what is behind each request isn't acted on.
-fn refuse_paths<B: DeskBook>(desk: &mut Desk<B>) -> Result<(), Mismatch> {
-    for path in PATHS {
-        let connection = Connection {
-            stream: &[
-                b"GET /device/document/",
-                path,
-                b" HTTP/1.1\r\nExpect: x, 100-Continue\r\n\r\n",
-                POST_JOB,
-                PRINT_JOB,
-            ],
-            acted: 0,
-            end: End::Refused(404),
-            wanted: &[Continue, NOT_FOUND],
-        };
-        desk.take(&connection, 7)?;
-    }
-    Ok(())
-}
+/// What goes on behind the path of a document.
+const WITH_FIELDS: &[u8] = b" HTTP/1.1\r\nExpect: x, 100-Continue\r\n\r\n";
+
+/// What is got of a document that isn't there.
+const NONE: &[Wanted<'static>] = &[Continue, NOT_FOUND];
 
 /// A job's documents are there from its release to its end.
-fn refuse_documents<B: DeskBook>(desk: &mut Desk<B>) -> Result<(), Mismatch> {
-    desk.take_job(1)?;
-    desk.take_each(NOT_FOUND_THEN_RELEASED, 1)?;
-    refuse_paths(desk)?;
-    desk.take(&PRINTED, 2)?;
-    desk.take_job(2)
-}
-
-/// So it is where alice has 30 pages.
-fn refuse_documents_in<B: DeskBook>(alloc: Global) -> Result<(), Mismatch> {
-    let mut desk = Desk::<B>::granted(alloc)?;
-    refuse_documents(&mut desk)
-}
-
-#[test]
-fn documents_that_are_not_there(rt: HostRuntime) -> Result<(), Mismatch> {
-    refuse_documents_in::<ListBook>(rt.alloc())?;
-    refuse_documents_in::<MemoryBook>(rt.alloc())
-}
+const NOT_THERE: &[Connection<'static>] = &[
+    PRINT,
+    Connection {
+        stream: &[GET_DOCUMENT],
+        acted: 0,
+        end: End::Refused(404),
+        wanted: &[NOT_FOUND],
+    },
+    RELEASE,
+    Connection {
+        stream: &[GET_OF, b"1/2", WITH_FIELDS, POST_JOB, PRINT_JOB],
+        acted: 0,
+        end: End::Refused(404),
+        wanted: NONE,
+    },
+    Connection {
+        stream: &[GET_OF, b"1/0", WITH_FIELDS, POST_JOB, PRINT_JOB],
+        acted: 0,
+        end: End::Refused(404),
+        wanted: NONE,
+    },
+    Connection {
+        stream: &[GET_OF, b"1/01", WITH_FIELDS, POST_JOB, PRINT_JOB],
+        acted: 0,
+        end: End::Refused(404),
+        wanted: NONE,
+    },
+    Connection {
+        stream: &[GET_OF, b"01/1", WITH_FIELDS, POST_JOB, PRINT_JOB],
+        acted: 0,
+        end: End::Refused(404),
+        wanted: NONE,
+    },
+    Connection {
+        stream: &[GET_OF, b"+1/1", WITH_FIELDS, POST_JOB, PRINT_JOB],
+        acted: 0,
+        end: End::Refused(404),
+        wanted: NONE,
+    },
+    Connection {
+        stream: &[GET_OF, b"0/1", WITH_FIELDS, POST_JOB, PRINT_JOB],
+        acted: 0,
+        end: End::Refused(404),
+        wanted: NONE,
+    },
+    Connection {
+        stream: &[GET_OF, b"9/1", WITH_FIELDS, POST_JOB, PRINT_JOB],
+        acted: 0,
+        end: End::Refused(404),
+        wanted: NONE,
+    },
+    Connection {
+        stream: &[GET_OF, b"4294967297/1", WITH_FIELDS, POST_JOB, PRINT_JOB],
+        acted: 0,
+        end: End::Refused(404),
+        wanted: NONE,
+    },
+    Connection {
+        stream: &[GET_OF, b"1/4294967297", WITH_FIELDS, POST_JOB, PRINT_JOB],
+        acted: 0,
+        end: End::Refused(404),
+        wanted: NONE,
+    },
+    Connection {
+        stream: &[GET_OF, b"a/b", WITH_FIELDS, POST_JOB, PRINT_JOB],
+        acted: 0,
+        end: End::Refused(404),
+        wanted: NONE,
+    },
+    PRINTED_AND_GONE,
+    Connection {
+        stream: &[POST_JOB, PRINT_JOB],
+        acted: 1,
+        end: End::Closed,
+        wanted: &[Success(IPP, JOB_2)],
+    },
+];
 
 /// Create-Job of alice: 143 bytes.
 const CREATE_JOB: &[u8] =
@@ -155,16 +175,13 @@ const FETCHED: Connection<'static> = Connection {
     ],
 };
 
-/// Beside a job of one document that is on hold, where alice has 30 pages.
-fn fetch_in<B: DeskBook>(alloc: Global) -> Result<(), Mismatch> {
-    let mut desk = Desk::<B>::granted(alloc)?;
-    desk.take_job(1)?;
-    desk.take(&OF_TWO, 100)?;
-    desk.take(&FETCHED, 100)
-}
+static ROWS: [Row; 2] = [
+    ("documents that are not there", NOT_THERE),
+    // beside a job of one document that is on hold
+    ("documents by their numbers", &[PRINT, OF_TWO, FETCHED]),
+];
 
 #[test]
-fn documents_by_their_numbers(rt: HostRuntime) -> Result<(), Mismatch> {
-    fetch_in::<ListBook>(rt.alloc())?;
-    fetch_in::<MemoryBook>(rt.alloc())
+fn documents_of_jobs(rt: HostRuntime) -> Result<(), Failed> {
+    take_rows(rt.alloc(), &ROWS, &AT_EACH_SPEED)
 }

@@ -6,14 +6,15 @@ use crate::connections::calls::{
     ALL_WEIGHTS, Call, Drawn, KINDS, LOOKS, LOOKS_AT_JOB, ROWS, Row, stream_of,
 };
 use crate::desk::books::{DeskBook, MemoryBook, grant_in};
-use crate::desk::compare::{Mismatch, Place};
+use crate::desk::compare::{Mismatch, Place, Subject};
 use crate::desk::queue::settings;
-use crate::desk::streams::{SPEEDS, SlowReader};
+use crate::desk::streams::{SPEEDS, TestReader, by};
 use http_front::{ServeFault, Served, serve};
 use list_book::ListBook;
 use queue_core::book::QueueBook;
 use queue_types::settings::Settings;
 use std::alloc::Global;
+use std::cell::Cell;
 
 /// How many connections are drawn.
 const CALLS: u32 = 500;
@@ -85,66 +86,53 @@ fn answer<B: QueueBook>(
 ) -> Result<Served, ServeFault>
     requires { IsMoment moment }
 {
-    let (stream, most) = read;
-    let mut reader = SlowReader {
-        rest: stream,
-        most,
-        reads: 0,
-    };
+    let written = Cell::new(0);
+    let mut reader = TestReader::new(by(read.1), read.0, 0, &written);
     answers.clear();
     serve(alloc, &mut reader, answers, book, settings, moment)
 }
 
-/// The pages of an account: granted, free, reserved and printed.
-type Pages = (u64, i64, u64, u64);
-
-/// The pages of an account in a book.
-fn pages_in<B: DeskBook>(book: &mut B, account: &str) -> Result<Pages, Mismatch> {
+/// The pages of an account in a book, if it is there and can be read: granted, free, reserved and printed.
+fn pages_in<B: QueueBook>(book: &mut B, account: &str) -> Option<(u64, i64, u64, u64)> {
     match book.sheet(account) {
-        Ok(Some(sheet)) => Ok((sheet.granted, sheet.free, sheet.reserved, sheet.printed)),
-        _ => Err(Mismatch::Book {
-            subject: B::subject(),
-        }),
+        Ok(Some(sheet)) => Some((sheet.granted, sheet.free, sheet.reserved, sheet.printed)),
+        _ => None,
     }
 }
 
-/// Two queues of a printer with an estimate of 20 pages, and what was written last from each.
+/// Two queues of a printer with an estimate of 20 pages, and what was written last from each. They keep what first wasn't the same.
 #[derive(Drop)]
-struct Pair<A: QueueBook, B: QueueBook> {
+struct Pair {
     alloc: Global,
     settings: Settings,
-    one: A,
-    other: B,
-    from_one: Vec<u8>,
-    from_other: Vec<u8>,
+    lists: ListBook,
+    tables: MemoryBook,
+    from_lists: Vec<u8>,
+    from_tables: Vec<u8>,
+    found: Result<(), Mismatch>,
 }
 
-impl<A: DeskBook, B: DeskBook> Pair<A, B> {
-    /// Of these books.
-    fn of(alloc: Global, one: A, other: B) -> Result<Pair<A, B>, Mismatch> {
+impl Pair {
+    /// Two empty queues.
+    fn new(alloc: Global) -> Result<Pair, Mismatch> {
+        let lists = ListBook::empty(alloc, settings(alloc)?)?;
+        let tables = MemoryBook::empty(alloc, settings(alloc)?)?;
         let settings = settings(alloc)?;
         Ok(Pair {
             alloc,
             settings,
-            one,
-            other,
-            from_one: Vec::new(alloc),
-            from_other: Vec::new(alloc),
+            lists,
+            tables,
+            from_lists: Vec::new(alloc),
+            from_tables: Vec::new(alloc),
+            found: Ok(()),
         })
     }
 
-    /// Two empty queues.
-    fn new(alloc: Global) -> Result<Pair<A, B>, Mismatch> {
-        let one = A::empty(alloc, settings(alloc)?)?;
-        let other = B::empty(alloc, settings(alloc)?)?;
-        Pair::of(alloc, one, other)
-    }
-
-    /// Where they are compared.
-    fn place(&self, most: usize) -> Place {
-        Place {
-            subject: B::subject(),
-            most,
+    /// Keeps what a comparison came to, if it is the first that failed.
+    fn note(&mut self, came: Result<(), Mismatch>) {
+        if self.found.is_ok() {
+            self.found = came;
         }
     }
 
@@ -155,57 +143,88 @@ impl<A: DeskBook, B: DeskBook> Pair<A, B> {
         let file = format!(in self.alloc;
             "batch,account,pages\nf{moment},alice,12\nf{moment},bob,30\n"
         )?;
-        grant_in(self.alloc, &mut self.one, moment, file.as_bytes(), 2)?;
-        grant_in(self.alloc, &mut self.other, moment, file.as_bytes(), 2)
+        grant_in(self.alloc, &mut self.lists, moment, file.as_bytes(), 2)?;
+        grant_in(self.alloc, &mut self.tables, moment, file.as_bytes(), 2)
     }
 
     /// A stream is served alike by both at a moment, where a read gives at most so many bytes: the same is written, and the same comes of
     /// it, which is no fault.
-    fn take(&mut self, moment: u32, stream: &[u8], most: usize) -> Result<(), Mismatch>
+    fn take(&mut self, moment: u32, read: (&[u8], usize))
         requires { IsMoment moment }
     {
-        let alloc = self.alloc;
-        let settings = &self.settings;
-        let read = (stream, most);
         let one = answer(
-            alloc,
-            &mut self.one,
-            settings,
+            self.alloc,
+            &mut self.lists,
+            &self.settings,
             moment,
             read,
-            &mut self.from_one,
+            &mut self.from_lists,
         );
         let other = answer(
-            alloc,
-            &mut self.other,
-            settings,
+            self.alloc,
+            &mut self.tables,
+            &self.settings,
             moment,
             read,
-            &mut self.from_other,
+            &mut self.from_tables,
         );
-        let place = self.place(most);
-        place.same_bytes(self.from_one.as_slice(), self.from_other.as_slice())?;
-        place.same_outcome(one, other)?;
+        let place = Place {
+            subject: Subject::Tables,
+            most: read.1,
+        };
+        let are_same = place.same_bytes(self.from_lists.as_slice(), self.from_tables.as_slice());
+        self.note(are_same);
+        self.note(place.same_outcome(one, other));
         let is_served = matches!(other, Ok(Served { faults: 0, .. }));
-        place.is_so(is_served, "no answer is a fault")
+        self.note(place.is_so(is_served, "no answer is a fault"));
     }
 
     /// So is what is sent for a call.
-    fn send(&mut self, moment: u32, call: Call, drawn: Drawn) -> Result<(), Mismatch>
+    fn send(&mut self, moment: u32, call: Call, drawn: Drawn)
         requires { IsMoment moment }
     {
-        let stream = stream_of(self.alloc, call, drawn)?;
-        self.take(moment, stream.as_slice(), drawn.most)
+        match stream_of(self.alloc, call, drawn) {
+            Ok(stream) => self.take(moment, (stream.as_slice(), drawn.most)),
+            Err(_) => self.note(Err(Mismatch::Memory)),
+        }
     }
 
     /// An account has the same pages in both.
-    fn compare_pages(&mut self, account: &str) -> Result<(), Mismatch> {
-        let one = pages_in(&mut self.one, account)?;
-        let other = pages_in(&mut self.other, account)?;
-        self.place(usize::MAX)
-            .is_so(one == other, "an account has the same pages")
+    fn compare_pages(&mut self, account: &str) {
+        let one = pages_in(&mut self.lists, account);
+        let is_same = one.is_some() && one == pages_in(&mut self.tables, account);
+        self.note(AT.is_so(is_same, "an account has the same pages"));
+    }
+
+    /// What is asked behind the draws, of a job of this number, is answered alike.
+    fn look(&mut self, looks: &[Call], job: u32) {
+        let drawn = Drawn {
+            job,
+            sequence: 1,
+            in_chunks: false,
+            most: 4096,
+        };
+        for call in looks {
+            self.send(CALLS, *call, drawn);
+        }
+    }
+
+    /// The queue, the jobs and their documents, and the accounts, are the same behind the draws.
+    fn look_at_all(&mut self) {
+        self.look(&LOOKS, 0);
+        for job in 1..=LAST_JOB {
+            self.look(&LOOKS_AT_JOB, job);
+        }
+        self.compare_pages("alice");
+        self.compare_pages("bob");
     }
 }
+
+/// Where what isn't of one connection is compared.
+const AT: Place = Place {
+    subject: Subject::Tables,
+    most: usize::MAX,
+};
 
 /// This stands in these bytes.
 fn has_part(bytes: &[u8], part: &[u8]) -> bool {
@@ -213,12 +232,7 @@ fn has_part(bytes: &[u8], part: &[u8]) -> bool {
 }
 
 /// Draws a call, and counts it where its answer has what is looked for.
-fn draw_call<A: DeskBook, B: DeskBook>(
-    pair: &mut Pair<A, B>,
-    draws: &mut Draws<'_>,
-    counts: &mut [u32],
-    moment: u32,
-) -> Result<(), Mismatch>
+fn draw_call(pair: &mut Pair, draws: &mut Draws<'_>, counts: &mut [u32], moment: u32)
     requires { IsMoment moment }
 {
     let place = draws.row();
@@ -227,84 +241,38 @@ fn draw_call<A: DeskBook, B: DeskBook>(
         draws.rows.get(place),
         counts.get_mut(place),
     ) {
-        pair.send(moment, *call, drawn)?;
-        if has_part(pair.from_other.as_slice(), part) {
+        pair.send(moment, *call, drawn);
+        if has_part(pair.from_tables.as_slice(), part) {
             *count = count.saturating_add(1);
         }
     }
-    Ok(())
 }
 
-/// Draws all of these calls, each at a moment of its own. Account files come between them.
-fn draw_calls<A: DeskBook, B: DeskBook>(
-    pair: &mut Pair<A, B>,
-    rows: &[Row],
-    counts: &mut [u32],
-) -> Result<(), Mismatch> {
-    let mut draws = Draws { state: 10, rows };
+/// Draws all of the calls, each at a moment of its own, and counts the answers that are looked for. Account files come between them.
+fn draw_calls(pair: &mut Pair) -> [u32; KINDS] {
+    let mut counts = [0; KINDS];
+    let mut draws = Draws {
+        state: 10,
+        rows: &ROWS,
+    };
     for moment in 1..=CALLS {
         if moment % UNTIL_GRANT == 1 {
-            pair.grant(moment)?;
+            let granted = pair.grant(moment);
+            pair.note(granted);
         }
-        draw_call(pair, &mut draws, counts, moment)?;
+        draw_call(pair, &mut draws, &mut counts, moment);
     }
-    Ok(())
+    counts
 }
 
-/// Each answer that was looked for in these rows came.
-fn has_each(place: &Place, rows: &[Row], counts: &[u32]) -> Result<(), Mismatch> {
-    for (row, count) in rows.iter().zip(counts) {
-        place.is_so(*count > 0, row.3)?;
-    }
-    Ok(())
-}
-
-/// What is asked behind the draws, of a job of this number.
-fn look<A: DeskBook, B: DeskBook>(
-    pair: &mut Pair<A, B>,
-    looks: &[Call],
-    job: u32,
-) -> Result<(), Mismatch> {
-    let drawn = Drawn {
-        job,
-        sequence: 1,
-        in_chunks: false,
-        most: 4096,
-    };
-    for call in looks {
-        pair.send(CALLS, *call, drawn)?;
-    }
-    Ok(())
-}
-
-/// The queue, the jobs and their documents are the same behind the draws.
-fn look_at_all<A: DeskBook, B: DeskBook>(pair: &mut Pair<A, B>) -> Result<(), Mismatch> {
-    look(pair, &LOOKS, 0)?;
-    for job in 1..=LAST_JOB {
-        look(pair, &LOOKS_AT_JOB, job)?;
-    }
-    pair.compare_pages("alice")?;
-    pair.compare_pages("bob")
-}
-
-/// From two queues comes the same for calls that are drawn from these, and each answer that is looked for.
-fn draw_from<A: DeskBook, B: DeskBook>(
-    pair: &mut Pair<A, B>,
-    rows: &[Row],
-) -> Result<(), Mismatch> {
-    let mut counts = [0; KINDS];
-    draw_calls(pair, rows, &mut counts)?;
-    has_each(&pair.place(usize::MAX), rows, &counts)?;
-    look_at_all(pair)
-}
-
-/// So it is where both are empty at first.
-fn draw<A: DeskBook, B: DeskBook>(alloc: Global, rows: &[Row]) -> Result<(), Mismatch> {
-    let mut pair = Pair::<A, B>::new(alloc)?;
-    draw_from(&mut pair, rows)
-}
-
+/// From two queues that are empty at first comes the same for calls that are drawn, and each answer that is looked for.
 #[test]
 fn five_hundred_connections_in_a_row(rt: HostRuntime) -> Result<(), Mismatch> {
-    draw::<ListBook, MemoryBook>(rt.alloc(), &ROWS)
+    let mut pair = Pair::new(rt.alloc())?;
+    let counts = draw_calls(&mut pair);
+    for (row, count) in ROWS.iter().zip(&counts) {
+        pair.note(AT.is_so(*count > 0, row.3));
+    }
+    pair.look_at_all();
+    pair.found
 }

@@ -1,87 +1,150 @@
 //! How connections end, over each book.
 
-use crate::desk::compare::Mismatch;
+use crate::desk::compare::Failed;
+use crate::desk::connection::Wanted;
 use crate::desk::connection::Wanted::Last;
-use crate::desk::connection::{Connection, Wanted};
-use crate::desk::messages::PRINT_JOB;
-use crate::desk::queue::keep_empty_over_both;
 use crate::desk::refused::NO_LINE;
-use crate::desk::requests::{POST_JOB, TEXT};
+use crate::desk::requests::{POST_CHUNKED, TEXT};
+use crate::desk::rows::Rest::{Long, Short};
+use crate::desk::rows::{Rest, Streams, come_to_their_ends};
 use http_front::End;
 
-/// The same at the end of a connection.
+/// The answer to a body that is no line of the device, at the end of a connection.
 const LAST_NO_LINE: Wanted<'static> = Last(TEXT, b"refused 1 syntax\n");
 
-const NO_REQUEST: Connection<'static> = Connection {
-    stream: &[],
-    acted: 0,
-    end: End::Closed,
-    wanted: &[],
-};
-
-#[test]
-fn no_request(rt: HostRuntime) -> Result<(), Mismatch> {
-    keep_empty_over_both(rt.alloc(), &NO_REQUEST)
-}
+/// A body in chunks, behind the line or the field by which a connection is asked to end.
+const BODY: (&[u8], usize) = (
+    b"Content-Type: text/plain;x\r\nTransfer-Encoding: chunked\r\n\r\n2 ;ext\r\nab\r\n0\r\nA: b\r\n\r\n",
+    1,
+);
 
 /// The ends of request lines, and fields, by which a connection is asked to end.
-const ENDING_LINES: [&[u8]; 5] = [
-    b"HTTP/1.0\r\n",
-    b"HTTP/1.0\r\nconnection: keep-alive\r\n",
-    b"HTTP/1.0\r\nExpect: 100-continue\r\n",
-    b"HTTP/1.1\r\nConnection: a , Close\t\r\n",
-    b"HTTP/1.1\r\nConnection: a\r\nConnection: close\r\n",
+const ENDING_LINES: &[Rest] = &[
+    Long(b"HTTP/1.0\r\n", BODY, b""),
+    Long(b"HTTP/1.0\r\nconnection: keep-alive\r\n", BODY, b""),
+    Long(b"HTTP/1.0\r\nExpect: 100-continue\r\n", BODY, b""),
+    Long(b"HTTP/1.1\r\nConnection: a , Close\t\r\n", BODY, b""),
+    Long(
+        b"HTTP/1.1\r\nConnection: a\r\nConnection: close\r\n",
+        BODY,
+        b"",
+    ),
 ];
-
-#[test]
-fn connections_that_are_asked_to_end(rt: HostRuntime) -> Result<(), Mismatch> {
-    for line in ENDING_LINES {
-        let connection = Connection {
-            stream: &[
-                b"POST /device/report ",
-                line,
-                b"Content-Type: text/plain;x\r\nTransfer-Encoding: chunked\r\n\r\n2 ;ext\r\nab\r\n0\r\nA: b\r\n\r\n",
-                POST_JOB,
-                PRINT_JOB,
-            ],
-            acted: 1,
-            end: End::Done,
-            wanted: &[LAST_NO_LINE],
-        };
-        keep_empty_over_both(rt.alloc(), &connection)?;
-    }
-    Ok(())
-}
 
 /// A report without a line.
 const POST_NO_LINE: &[u8] =
     b"POST /device/report HTTP/1.1\r\nContent-Type: text/plain\r\nContent-Length: 0\r\n\r\n";
 
-const GOING_ON: Connection<'static> = Connection {
-    stream: &[
-        b"POST /device/report HTTP/1.1\r\nConnection: closed\r\nContent-Type: text/plain\r\nContent-Length: 0\r\n\r\n",
-        POST_NO_LINE,
-    ],
-    acted: 2,
-    end: End::Closed,
-    wanted: &[NO_LINE, NO_LINE],
-};
+/// The same, with a field by which no connection is asked to end.
+const POST_GOING_ON: &[u8] =
+    b"POST /device/report HTTP/1.1\r\nConnection: closed\r\nContent-Type: text/plain\r\nContent-Length: 0\r\n\r\n";
 
-#[test]
-fn a_connection_that_goes_on(rt: HostRuntime) -> Result<(), Mismatch> {
-    keep_empty_over_both(rt.alloc(), &GOING_ON)
-}
+/// The answers to 32 of them, which are as many as a connection may have.
+const ANSWERS: [Wanted<'static>; 32] = [
+    NO_LINE,
+    NO_LINE,
+    NO_LINE,
+    NO_LINE,
+    NO_LINE,
+    NO_LINE,
+    NO_LINE,
+    NO_LINE,
+    NO_LINE,
+    NO_LINE,
+    NO_LINE,
+    NO_LINE,
+    NO_LINE,
+    NO_LINE,
+    NO_LINE,
+    NO_LINE,
+    NO_LINE,
+    NO_LINE,
+    NO_LINE,
+    NO_LINE,
+    NO_LINE,
+    NO_LINE,
+    NO_LINE,
+    NO_LINE,
+    NO_LINE,
+    NO_LINE,
+    NO_LINE,
+    NO_LINE,
+    NO_LINE,
+    NO_LINE,
+    NO_LINE,
+    LAST_NO_LINE,
+];
 
-/// Of 40 requests 32 are answered.
-#[test]
-fn the_requests_that_a_connection_may_have(rt: HostRuntime) -> Result<(), Mismatch> {
-    let mut wanted = [NO_LINE; 32];
-    wanted[31] = LAST_NO_LINE;
-    let connection = Connection {
-        stream: &[POST_NO_LINE; 40],
+/// Bodies in chunks that are right as far as they go.
+const BEGUN_CHUNKS: &[Rest] = &[
+    Short(b"1"),
+    Short(b"1\r"),
+    Short(b"1\r\n"),
+    Short(b"1\r\na"),
+    Short(b"1\r\na\r"),
+    Short(b"1\r\na\r\n"),
+    Short(b"1\r\na\r\n0\r\n"),
+    Short(b"1\r\na\r\n0\r\na: b\r\n\r"),
+];
+
+static ROWS: [Streams; 6] = [
+    Streams {
+        name: "no request",
+        front: b"",
+        rests: &[Short(b"")],
+        jobs: 0,
+        acted: 0,
+        end: End::Closed,
+        wanted: &[],
+    },
+    Streams {
+        name: "connections that are asked to end",
+        front: b"POST /device/report ",
+        rests: ENDING_LINES,
+        jobs: 1,
+        acted: 1,
+        end: End::Done,
+        wanted: &[LAST_NO_LINE],
+    },
+    Streams {
+        name: "connections that are asked to end, and behind which nothing is",
+        front: b"POST /device/report ",
+        rests: ENDING_LINES,
+        jobs: 0,
+        acted: 1,
+        end: End::Done,
+        wanted: &[LAST_NO_LINE],
+    },
+    Streams {
+        name: "a connection that goes on",
+        front: POST_GOING_ON,
+        rests: &[Short(POST_NO_LINE)],
+        jobs: 0,
+        acted: 2,
+        end: End::Closed,
+        wanted: &[NO_LINE, NO_LINE],
+    },
+    Streams {
+        name: "of 40 requests 32 are answered",
+        front: b"",
+        rests: &[Long(b"", (POST_NO_LINE, 40), b"")],
+        jobs: 0,
         acted: 32,
         end: End::Done,
-        wanted: &wanted,
-    };
-    keep_empty_over_both(rt.alloc(), &connection)
+        wanted: &ANSWERS,
+    },
+    Streams {
+        name: "chunks that may go on",
+        front: POST_CHUNKED,
+        rests: BEGUN_CHUNKS,
+        jobs: 0,
+        acted: 0,
+        end: End::Cut,
+        wanted: &[],
+    },
+];
+
+#[test]
+fn ends_of_connections(rt: HostRuntime) -> Result<(), Failed> {
+    come_to_their_ends(rt.alloc(), &ROWS)
 }

@@ -1,19 +1,17 @@
 //! Reads and writes that are interrupted, over each book: they are tried again, and nothing is lost.
 
-use crate::desk::books::{DeskBook, MemoryBook};
-use crate::desk::compare::Mismatch;
+use crate::desk::compare::Failed;
 use crate::desk::connection::Connection;
 use crate::desk::connection::Wanted::{Continue, Success};
 use crate::desk::messages::{DONE, JOB_1, JOB_2, PRINT_JOB, RELEASE_JOB};
-use crate::desk::queue::Desk;
 use crate::desk::refused::{BAD, POST_ALLOWED};
 use crate::desk::requests::{
     GET_DOCUMENT, GET_QUEUE, IPP, OCTETS, POST_JOB, POST_RELEASE, POST_WAITING, REPORT_DONE,
     REPORT_START, TEXT,
 };
+use crate::desk::rows::{Row, take_rows};
+use crate::desk::streams::{AT_ONCE, Way};
 use http_front::End;
-use list_book::ListBook;
-use std::alloc::Global;
 
 /// Messages, lines of the device, its queue, a document and refusals, one connection after another, to a queue in which alice has 30 pages.
 const CONNECTIONS: &[Connection<'static>] = &[
@@ -59,23 +57,31 @@ const CONNECTIONS: &[Connection<'static>] = &[
     },
 ];
 
-/// Connections to such a queue are served as they are to be, where what isn't interrupted gives or takes at most so many bytes.
-fn interrupt_at<B: DeskBook>(
-    alloc: Global,
-    connections: &[Connection<'_>],
-    most: usize,
-) -> Result<(), Mismatch> {
-    let mut desk = Desk::<B>::granted(alloc)?;
-    for connection in connections {
-        desk.take_interrupted(connection, most)?;
-    }
-    Ok(())
-}
+/// The ways in which they come.
+static WAYS: [Way; 3] = [
+    Way {
+        read: 1,
+        write: 1,
+        is_interrupted: true,
+        ..AT_ONCE
+    },
+    Way {
+        read: 7,
+        write: 7,
+        is_interrupted: true,
+        ..AT_ONCE
+    },
+    Way {
+        read: 4096,
+        write: 4096,
+        is_interrupted: true,
+        ..AT_ONCE
+    },
+];
+
+static ROWS: [Row; 1] = [("reads and writes that are interrupted", CONNECTIONS)];
 
 #[test]
-fn reads_and_writes_that_are_interrupted(rt: HostRuntime) -> Result<(), Mismatch> {
-    for most in [1, 7, 4096] {
-        interrupt_at::<ListBook>(rt.alloc(), CONNECTIONS, most)?;
-    }
-    interrupt_at::<MemoryBook>(rt.alloc(), CONNECTIONS, 7)
+fn reads_and_writes_that_are_interrupted(rt: HostRuntime) -> Result<(), Failed> {
+    take_rows(rt.alloc(), &ROWS, &WAYS)
 }

@@ -1,5 +1,5 @@
 //! What is told where a connection isn't served as it is to be. A comparison succeeds just where what it compares is the same.
-ghost use Rattle.std.specs.Prelude.{◌≡◌, ◌≤◌, ◌↔◌, IsOk, IsTrue};
+ghost use Rattle.std.specs.Prelude.{◌≡◌, ◌↔◌, IsOk, IsTrue};
 
 use http_front::{ServeFault, Served};
 use queue_core::book::BookFault;
@@ -67,18 +67,30 @@ pub(crate) enum Mismatch {
         wanted: Result<Served, ServeFault>,
         came: Result<Served, ServeFault>,
     },
-    /// More was read than there was reason to.
-    Reads {
-        subject: Subject,
-        /// The most bytes of a read.
-        most: usize,
-        reads: usize,
-    },
     /// What is said here isn't so.
     Not {
         subject: Subject,
         said: Told,
     },
+}
+
+/// What of a row wasn't well.
+#[derive(Clone, Copy, Debug)]
+pub(crate) struct Failed {
+    /// The name of its row.
+    pub(crate) row: Told,
+    /// The number, from 0, of its step, its stream or the way in which it came.
+    pub(crate) step: usize,
+    pub(crate) why: Mismatch,
+}
+
+/// What is at this number in the row of this name was not well.
+pub(crate) fn failed_at(row: &str, step: usize, why: Mismatch) -> Failed {
+    Failed {
+        row: told_from(row.as_bytes(), 0),
+        step,
+        why,
+    }
 }
 
 impl From<AllocError> for Mismatch {
@@ -181,20 +193,6 @@ impl Place {
             subject: self.subject,
             said: told_from(said.as_bytes(), 0),
         }
-    }
-
-    /// There were at most so many reads.
-    pub(crate) fn few_reads(&self, reads: usize, most: usize) -> Result<(), Mismatch>
-        ensures { IsOk result ↔ (reads ≤ most) }
-    {
-        if reads <= most {
-            return Ok(());
-        }
-        Err(Mismatch::Reads {
-            subject: self.subject,
-            most: self.most,
-            reads,
-        })
     }
 }
 

@@ -1,8 +1,8 @@
 //! Connections by the bytes that a client sends and those that it is to get.
 
-use crate::desk::compare::Mismatch;
 use http_front::{End, ServeCause, ServeFault, Served};
-use std::alloc::Global;
+use std::alloc::{AllocError, Global};
+use std::io;
 use std::io::Write;
 
 /// What a client is to get.
@@ -29,13 +29,6 @@ pub(crate) struct Connection<'a> {
     pub(crate) wanted: &'a [Wanted<'a>],
 }
 
-impl Connection<'_> {
-    /// What it comes to.
-    pub(super) fn outcome(&self) -> Served {
-        faultless(self.acted, self.end)
-    }
-}
-
 /// A connection comes to this end, so many of its requests act, and none meets a fault.
 pub(crate) fn faultless(acted: u32, end: End) -> Served {
     Served {
@@ -54,86 +47,15 @@ pub(crate) fn broken_off(acted: u32, cause: ServeCause) -> ServeFault {
     }
 }
 
-/// A connection that ends so, and of whose requests none acts.
-pub(crate) fn stopped<'a>(
-    stream: &'a [&'a [u8]],
-    end: End,
-    wanted: &'a [Wanted<'a>],
-) -> Connection<'a> {
-    Connection {
-        stream,
-        acted: 0,
-        end,
-        wanted,
-    }
-}
-
-/// A connection that the client ends, so many of whose requests act.
-pub(crate) fn closed<'a>(
-    stream: &'a [&'a [u8]],
-    acted: u32,
-    wanted: &'a [Wanted<'a>],
-) -> Connection<'a> {
-    Connection {
-        stream,
-        acted,
-        end: End::Closed,
-        wanted,
-    }
-}
-
-/// How many bytes these parts have.
-pub(crate) fn length_of(parts: &[&[u8]]) -> usize {
-    let mut length: usize = 0;
-    for part in parts {
-        length = length.saturating_add(part.len());
-    }
-    length
-}
-
-/// Adds these parts.
-fn put_parts(out: &mut Vec<u8>, parts: &[&[u8]]) -> Result<(), Mismatch> {
-    for part in parts {
-        out.extend_from_slice(part)?;
-    }
-    Ok(())
-}
-
-/// The bytes of these parts, one behind the other.
-pub(crate) fn joined(alloc: Global, parts: &[&[u8]]) -> Result<Vec<u8>, Mismatch> {
+/// The bytes of these parts, each so many times.
+pub(crate) fn filled(alloc: Global, parts: &[(&[u8], usize)]) -> Result<Vec<u8>, AllocError> {
     let mut all = Vec::new(alloc);
-    put_parts(&mut all, parts)?;
-    Ok(all)
-}
-
-/// Adds a part so many times.
-fn put_often(out: &mut Vec<u8>, part: &[u8], count: usize) -> Result<(), Mismatch> {
-    for _ in 0..count {
-        out.extend_from_slice(part)?;
+    for (part, count) in parts {
+        for _ in 0..*count {
+            all.extend_from_slice(part)?;
+        }
     }
-    Ok(())
-}
-
-/// Bytes, so many times another part behind them, and an end.
-pub(crate) fn filled(
-    alloc: Global,
-    begin: &[u8],
-    part: &[u8],
-    count: usize,
-    end: &[u8],
-) -> Result<Vec<u8>, Mismatch> {
-    let mut all = joined(alloc, &[begin])?;
-    put_often(&mut all, part, count)?;
-    put_parts(&mut all, &[end])?;
     Ok(all)
-}
-
-/// Adds each byte of a body as a chunk of its own.
-fn put_chunks(out: &mut Vec<u8>, body: &[u8]) -> Result<(), Mismatch> {
-    for byte in body {
-        out.extend_from_slice(&[b'1', b'\r', b'\n', *byte, b'\r', b'\n'])?;
-    }
-    Ok(())
 }
 
 /// A request of this head, with a body in chunks of one byte.
@@ -141,50 +63,42 @@ pub(crate) fn in_chunks_of_one_byte(
     alloc: Global,
     head: &[u8],
     body: &[u8],
-) -> Result<Vec<u8>, Mismatch> {
-    let mut all = joined(alloc, &[head])?;
-    put_chunks(&mut all, body)?;
-    put_parts(&mut all, &[b"0\r\n\r\n"])?;
+) -> Result<Vec<u8>, AllocError> {
+    let mut all = Vec::from_slice(alloc, head)?;
+    for byte in body {
+        all.extend_from_slice(&[b'1', b'\r', b'\n', *byte, b'\r', b'\n'])?;
+    }
+    all.extend_from_slice(b"0\r\n\r\n")?;
     Ok(all)
 }
 
-/// Adds what a client is to get.
-fn put_wanted(out: &mut Vec<u8>, wanted: Wanted<'_>) -> Result<(), Mismatch> {
-    match wanted {
-        Wanted::Continue => out.extend_from_slice(b"HTTP/1.1 100 Continue\r\n\r\n")?,
-        Wanted::Success(kind, content) => put_success(out, kind, content, "")?,
-        Wanted::Last(kind, content) => put_success(out, kind, content, "Connection: close\r\n")?,
-        Wanted::Refusal(text) => {
-            write!(
-                out,
-                "HTTP/1.1 {text}\r\nContent-Length: 0\r\nConnection: close\r\n\r\n"
-            )?;
-        }
-    }
-    Ok(())
-}
-
-fn put_success(out: &mut Vec<u8>, kind: &str, content: &[u8], line: &str) -> Result<(), Mismatch> {
+fn put_success(out: &mut Vec<u8>, kind: &str, content: &[u8], line: &str) -> io::Result<()> {
     let length = content.len();
     write!(
         out,
         "HTTP/1.1 200 OK\r\nContent-Type: {kind}\r\nContent-Length: {length}\r\n{line}\r\n"
     )?;
-    out.extend_from_slice(content)?;
-    Ok(())
+    out.write_all(content)
 }
 
-/// Adds all that a client is to get.
-fn put_each(out: &mut Vec<u8>, wanted: &[Wanted<'_>]) -> Result<(), Mismatch> {
-    for one in wanted {
-        put_wanted(out, *one)?;
+/// Adds what a client is to get.
+fn put_wanted(out: &mut Vec<u8>, wanted: Wanted<'_>) -> io::Result<()> {
+    match wanted {
+        Wanted::Continue => out.write_all(b"HTTP/1.1 100 Continue\r\n\r\n"),
+        Wanted::Success(kind, content) => put_success(out, kind, content, ""),
+        Wanted::Last(kind, content) => put_success(out, kind, content, "Connection: close\r\n"),
+        Wanted::Refusal(text) => write!(
+            out,
+            "HTTP/1.1 {text}\r\nContent-Length: 0\r\nConnection: close\r\n\r\n"
+        ),
     }
-    Ok(())
 }
 
 /// The bytes that a client is to get.
-pub(crate) fn wanted_bytes(alloc: Global, wanted: &[Wanted<'_>]) -> Result<Vec<u8>, Mismatch> {
+pub(crate) fn wanted_bytes(alloc: Global, wanted: &[Wanted<'_>]) -> io::Result<Vec<u8>> {
     let mut out = Vec::new(alloc);
-    put_each(&mut out, wanted)?;
+    for one in wanted {
+        put_wanted(&mut out, *one)?;
+    }
     Ok(out)
 }

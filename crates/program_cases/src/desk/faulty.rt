@@ -8,11 +8,9 @@ use queue_types::job::JobList;
 use queue_types::sheet::AccountSheet;
 use std::io::Write;
 
-/// A book that takes no change, as one whose disk is full or fails, and sends of any document the byte `h` alone, as of one that begins so.
-#[derive(Drop)]
-pub(crate) struct FaultyBook<B> {
-    /// What it reads from, where it can be read.
-    pub(crate) inner: B,
+/// What a book can't do beside taking changes.
+#[derive(Clone, Copy)]
+pub(crate) struct Failure {
     /// Why it can't be read, if it can't: neither events, jobs, heads of documents nor sheets. What it sends of a document is told apart.
     pub(crate) unread: Option<BookFault>,
     /// Why no event can be decided, if none can; the rest can be read.
@@ -21,10 +19,25 @@ pub(crate) struct FaultyBook<B> {
     pub(crate) sent: Result<(), SendFault>,
 }
 
+/// It can be read, and takes no change.
+pub(crate) const TAKES_NOTHING: Failure = Failure {
+    unread: None,
+    undecided: None,
+    sent: Ok(()),
+};
+
+/// A book that takes no change, as one whose disk is full or fails, and sends of any document the byte `h` alone, as of one that begins so.
+#[derive(Drop)]
+pub(crate) struct FaultyBook<B> {
+    /// What it reads from, where it can be read.
+    pub(crate) inner: B,
+    pub(crate) failure: Failure,
+}
+
 impl<B> FaultyBook<B> {
     /// It can be read.
     fn check(&self) -> Result<(), BookFault> {
-        match self.unread {
+        match self.failure.unread {
             Some(fault) => Err(fault),
             None => Ok(()),
         }
@@ -46,7 +59,7 @@ impl<B: QueueBook> QueueBook for FaultyBook<B> {
 
     fn decide<'a>(&mut self, now: u32, e: &Event<'a>) -> Result<Decision<'a>, BookFault> {
         self.check()?;
-        match self.undecided {
+        match self.failure.undecided {
             Some(fault) => Err(fault),
             None => self.inner.decide(now, e),
         }
@@ -73,7 +86,7 @@ impl<B: QueueBook> QueueBook for FaultyBook<B> {
         out: &mut W,
     ) -> Result<u64, SendFault> {
         put_whole(out, b"h")?;
-        self.sent?;
+        self.failure.sent?;
         Ok(1)
     }
 

@@ -1,4 +1,5 @@
-//! Readers and writers that are slow, have no end, are interrupted, see what is written, or fail.
+//! Readers and writers that are slow, have no end, are interrupted, see what is written, or fail: how bytes come and go is data.
+ghost use Rattle.std.specs.Io.{ReadsAtMost};
 
 use std::alloc::Global;
 use std::cell::Cell;
@@ -16,210 +17,193 @@ pub(crate) fn speeds_for(length: usize) -> &'static [usize] {
     if length < 8192 { &SPEEDS } else { &LONG_SPEEDS }
 }
 
-/// Gives at most so many bytes at each read, and counts the reads.
-#[derive(Drop)]
-pub(crate) struct SlowReader<'a> {
-    pub(crate) rest: &'a [u8],
-    pub(crate) most: usize,
-    pub(crate) reads: usize,
+/// What a reader gives behind its bytes.
+#[derive(Clone, Copy)]
+pub(crate) enum Behind {
+    /// The end.
+    Nothing,
+    /// This byte, for ever.
+    Endless(u8),
+    /// A failure.
+    Failure,
 }
 
-impl Read for SlowReader<'_> {
+/// How bytes come from a reader and go to a writer.
+#[derive(Clone, Copy)]
+pub(crate) struct Way {
+    /// The most bytes of a read.
+    pub(crate) read: usize,
+    pub(crate) behind: Behind,
+    /// The most bytes of a write.
+    pub(crate) write: usize,
+    /// How many bytes the writer takes in all, before it fails.
+    pub(crate) room: usize,
+    /// How often the writer can be flushed, before that fails.
+    pub(crate) flushes: u32,
+    /// The first read, the first write and each other one behind it are interrupted.
+    pub(crate) is_interrupted: bool,
+}
+
+/// All bytes come and go at once.
+pub(crate) const AT_ONCE: Way = Way {
+    read: usize::MAX,
+    behind: Behind::Nothing,
+    write: usize::MAX,
+    room: usize::MAX,
+    flushes: u32::MAX,
+    is_interrupted: false,
+};
+
+/// No line has room: the writer takes five bytes.
+pub(crate) const NO_ROOM: Way = Way { room: 5, ..AT_ONCE };
+
+/// The writer can't be flushed.
+pub(crate) const NO_FLUSH: Way = Way {
+    flushes: 0,
+    ..AT_ONCE
+};
+
+/// A read gives at most so many bytes.
+pub(crate) fn by(read: usize) -> Way {
+    Way { read, ..AT_ONCE }
+}
+
+/// The ways in which a stream that isn't long comes.
+pub(crate) static AT_EACH_SPEED: [Way; 4] = [
+    Way { read: 1, ..AT_ONCE },
+    Way { read: 2, ..AT_ONCE },
+    Way { read: 7, ..AT_ONCE },
+    Way {
+        read: 4096,
+        ..AT_ONCE
+    },
+];
+
+/// Those in which a long one does.
+pub(crate) static AT_LONG_SPEEDS: [Way; 2] = [
+    Way {
+        read: 100,
+        ..AT_ONCE
+    },
+    Way {
+        read: 4096,
+        ..AT_ONCE
+    },
+];
+
+/// A reader that gives bytes in its way, and sees how it is read.
+#[derive(Drop)]
+pub(crate) struct TestReader<'a> {
+    way: Way,
+    rest: &'a [u8],
+    /// How many bytes its answers have.
+    answers: usize,
+    /// How many bytes are written.
+    written: &'a Cell<usize>,
+    /// How many times it was read.
+    pub(crate) reads: usize,
+    /// What was got behind its last byte: bytes of what has no end, or how often the end.
+    pub(crate) past: usize,
+    /// It was read behind its last byte before its answers were written.
+    pub(crate) is_early: bool,
+}
+
+impl<'a> TestReader<'a> {
+    /// One that gives these bytes, to which answers of so many bytes are to be written.
+    pub(crate) fn new(
+        way: Way,
+        rest: &'a [u8],
+        answers: usize,
+        written: &'a Cell<usize>,
+    ) -> TestReader<'a> {
+        TestReader {
+            way,
+            rest,
+            answers,
+            written,
+            reads: 0,
+            past: 0,
+            is_early: false,
+        }
+    }
+
+    /// A read behind its bytes.
+    fn read_past(&mut self, part: &mut [u8]) -> io::Result<usize>
+        ensures { ReadsAtMost result part.new }
+    {
+        if let Behind::Endless(byte) = self.way.behind {
+            part.fill(byte);
+            self.past = self.past.saturating_add(part.len());
+            return Ok(part.len());
+        }
+        self.is_early = self.is_early || self.written.get() < self.answers;
+        self.past = self.past.saturating_add(1);
+        match self.way.behind {
+            Behind::Failure => Err(io::Error::other("broken")),
+            _ => Ok(0),
+        }
+    }
+}
+
+impl Read for TestReader<'_> {
     fn read(&mut self, buf: &mut [u8]) -> io::Result<usize> {
         self.reads = self.reads.saturating_add(1);
-        let wanted = buf.len().min(self.most);
-        self.rest.read(&mut buf[..wanted])
-    }
-}
-
-/// Gives some bytes, and then one byte for ever, at most so many at each read. It counts the bytes that it gave.
-#[derive(Drop)]
-pub(crate) struct EndlessReader<'a> {
-    pub(crate) rest: &'a [u8],
-    pub(crate) byte: u8,
-    pub(crate) most: usize,
-    pub(crate) given: usize,
-}
-
-impl Read for EndlessReader<'_> {
-    fn read(&mut self, buf: &mut [u8]) -> io::Result<usize> {
-        let wanted = buf.len().min(self.most);
-        let part = &mut buf[..wanted];
-        let count = if self.rest.is_empty() {
-            part.fill(self.byte);
-            wanted
+        if self.way.is_interrupted && self.reads % 2 == 1 {
+            return Err(io::Error::from(ErrorKind::Interrupted));
+        }
+        let most = buf.len().min(self.way.read);
+        let part = &mut buf[..most];
+        if self.rest.is_empty() {
+            self.read_past(part)
         } else {
-            self.rest.read(part)?
-        };
-        self.given = self.given.saturating_add(count);
-        Ok(count)
+            self.rest.read(part)
+        }
     }
 }
 
-/// Gives at most so many bytes at each read. The first and each other one behind it is interrupted.
+/// A writer that takes bytes in its way, and tells how many are written.
 #[derive(Drop)]
-pub(super) struct InterruptedReader<'a> {
-    pub(super) rest: &'a [u8],
-    pub(super) most: usize,
-    /// The last read was interrupted.
-    pub(super) is_interrupted: bool,
+pub(crate) struct TestWriter<'a> {
+    way: Way,
+    pub(crate) taken: Vec<u8>,
+    written: &'a Cell<usize>,
+    writes: usize,
+    flushes: u32,
 }
 
-impl Read for InterruptedReader<'_> {
-    fn read(&mut self, buf: &mut [u8]) -> io::Result<usize> {
-        self.is_interrupted = !self.is_interrupted;
-        if self.is_interrupted {
+impl<'a> TestWriter<'a> {
+    /// One that has taken nothing.
+    pub(crate) fn new(alloc: Global, way: Way, written: &'a Cell<usize>) -> TestWriter<'a> {
+        TestWriter {
+            way,
+            taken: Vec::new(alloc),
+            written,
+            writes: 0,
+            flushes: 0,
+        }
+    }
+}
+
+impl Write for TestWriter<'_> {
+    fn write(&mut self, buf: &[u8]) -> io::Result<usize> {
+        self.writes = self.writes.saturating_add(1);
+        if self.way.is_interrupted && self.writes % 2 == 1 {
             return Err(io::Error::from(ErrorKind::Interrupted));
         }
-        let wanted = buf.len().min(self.most);
-        self.rest.read(&mut buf[..wanted])
-    }
-}
-
-/// Takes at most so many bytes at each write. The first and each other one behind it is interrupted.
-#[derive(Drop)]
-pub(super) struct InterruptedWriter {
-    pub(super) most: usize,
-    /// The last write was interrupted.
-    pub(super) is_interrupted: bool,
-    pub(super) taken: Vec<u8>,
-}
-
-impl Write for InterruptedWriter {
-    fn write(&mut self, buf: &[u8]) -> io::Result<usize> {
-        self.is_interrupted = !self.is_interrupted;
-        if self.is_interrupted {
-            return Err(io::Error::from(ErrorKind::Interrupted));
-        }
-        let wanted = buf.len().min(self.most);
-        if self.taken.extend_from_slice(&buf[..wanted]).is_err() {
-            return Err(io::Error::other("memory"));
-        }
-        Ok(wanted)
-    }
-
-    fn flush(&mut self) -> io::Result<()> {
-        Ok(())
-    }
-}
-
-/// Gives at most so many bytes at each read, and sees whether it is read behind its last byte before its answers are written.
-#[derive(Drop)]
-pub(super) struct AnsweredReader<'a> {
-    pub(super) rest: &'a [u8],
-    pub(super) most: usize,
-    /// How many bytes its answers have.
-    pub(super) answers: usize,
-    /// How many bytes are written.
-    pub(super) written: &'a Cell<usize>,
-    /// It was read so.
-    pub(super) is_read_early: bool,
-}
-
-impl Read for AnsweredReader<'_> {
-    fn read(&mut self, buf: &mut [u8]) -> io::Result<usize> {
-        if self.rest.is_empty() && self.written.get() < self.answers {
-            self.is_read_early = true;
-        }
-        let wanted = buf.len().min(self.most);
-        self.rest.read(&mut buf[..wanted])
-    }
-}
-
-/// Takes each byte, and tells how many are written.
-#[derive(Drop)]
-pub(super) struct TellingWriter<'a> {
-    pub(super) written: &'a Cell<usize>,
-    pub(super) taken: Vec<u8>,
-}
-
-impl Write for TellingWriter<'_> {
-    fn write(&mut self, buf: &[u8]) -> io::Result<usize> {
-        if self.taken.extend_from_slice(buf).is_err() {
-            return Err(io::Error::other("memory"));
+        let room = self.way.room.saturating_sub(self.taken.len());
+        let part = &buf[..buf.len().min(room).min(self.way.write)];
+        if part.is_empty() || self.taken.extend_from_slice(part).is_err() {
+            return Err(io::Error::other("no room"));
         }
         self.written.set(self.taken.len());
-        Ok(buf.len())
+        Ok(part.len())
     }
 
     fn flush(&mut self) -> io::Result<()> {
-        Ok(())
-    }
-}
-
-/// Takes each byte, and flushes so many times.
-#[derive(Drop)]
-pub(crate) struct FlushedWriter {
-    left: u32,
-    pub(crate) taken: Vec<u8>,
-}
-
-impl FlushedWriter {
-    /// One that flushes so many times.
-    pub(crate) fn new(alloc: Global, left: u32) -> FlushedWriter {
-        FlushedWriter {
-            left,
-            taken: Vec::new(alloc),
+        if self.flushes == self.way.flushes {
+            return Err(io::Error::other("full"));
         }
-    }
-}
-
-impl Write for FlushedWriter {
-    fn write(&mut self, buf: &[u8]) -> io::Result<usize> {
-        if self.taken.extend_from_slice(buf).is_err() {
-            return Err(io::Error::other("memory"));
-        }
-        Ok(buf.len())
-    }
-
-    fn flush(&mut self) -> io::Result<()> {
-        match self.left.checked_sub(1) {
-            Some(left) => {
-                self.left = left;
-                Ok(())
-            }
-            None => Err(io::Error::other("full")),
-        }
-    }
-}
-
-/// Gives some bytes, and then fails.
-#[derive(Drop)]
-pub(crate) struct BrokenReader<'a> {
-    pub(crate) rest: &'a [u8],
-}
-
-impl Read for BrokenReader<'_> {
-    fn read(&mut self, buf: &mut [u8]) -> io::Result<usize> {
-        if self.rest.is_empty() {
-            return Err(io::Error::other("broken"));
-        }
-        self.rest.read(buf)
-    }
-}
-
-/// Takes so many bytes in all and at most so many at each write, and then fails.
-#[derive(Drop)]
-pub(crate) struct BrokenWriter {
-    pub(crate) room: usize,
-    pub(crate) most: usize,
-    pub(crate) taken: Vec<u8>,
-}
-
-impl Write for BrokenWriter {
-    fn write(&mut self, buf: &[u8]) -> io::Result<usize> {
-        let wanted = buf.len().min(self.room).min(self.most);
-        if wanted == 0 {
-            return Err(io::Error::other("broken"));
-        }
-        if self.taken.extend_from_slice(&buf[..wanted]).is_err() {
-            return Err(io::Error::other("memory"));
-        }
-        self.room = self.room.saturating_sub(wanted);
-        Ok(wanted)
-    }
-
-    fn flush(&mut self) -> io::Result<()> {
+        self.flushes = self.flushes.saturating_add(1);
         Ok(())
     }
 }

@@ -1,132 +1,341 @@
-//! Clients that print, look, break off and go away.
+//! Clients that print, look, break off, go away, keep a connection and say nothing, or don't read: the steps of a server and its clients.
 
 use crate::desk::books::{DeskBook, MemoryBook};
-use crate::desk::compare::Mismatch;
-use crate::desk::connection::Wanted::{Last, Refusal, Success};
-use crate::desk::connection::filled;
-use crate::desk::messages::{JOB_1, JOB_2, JOB_3, PRINT_JOB};
-use crate::desk::requests::{GET_QUEUE, IPP, POST_JOB, TEXT};
-use crate::program::server::Step::{Gets, GoesAway, Sends, SendsLast, Serves};
-use crate::program::server::{PRINTS, Server, Step, take_steps};
+use crate::desk::connection::Wanted::{Continue, Last, Refusal, Success};
+use crate::desk::messages::{GET_UP_TIME, JOB_1, JOB_2, JOB_3, PRINT_JOB, UP_FOR_42};
+use crate::desk::queue::settings;
+use crate::desk::requests::{GET_QUEUE, IPP, POST_JOB, POST_UP_TIME, TEXT};
+use crate::desk::streams::{NO_FLUSH, NO_ROOM};
+use crate::program::server::Step::{Comes, Gets, Serves, ServesSo, Waits};
+use crate::program::server::{Ends, PRINTS, Pace, Row, Serving, Step, USUAL, take_row};
+use crate::program::sockets::Comes::{GoesAway, Sends, SendsLast};
+use crate::program::sockets::Gets::{All, Front};
+use std::test::Fail;
 
-const PRINT_AND_REPLY: &[Step<'static>] = &[
-    PRINTS,
-    Serves(1, "served 1\n"),
-    Gets(0, &[Success(IPP, JOB_1)]),
-];
+const GETS_JOB_1: Step<'static> = Gets(0, All(&[Success(IPP, JOB_1)]));
 
-#[test]
-fn a_print_job_and_its_reply(rt: HostRuntime) -> Result<(), Mismatch> {
-    take_steps::<MemoryBook>(&rt, PRINT_AND_REPLY)
-}
+/// The first of two clients is given up, and the second is served.
+const SERVES_THE_SECOND: Step<'static> = Serves(2, "served 0\nserved 1\n");
 
-const LOOK: &[Step<'static>] = &[
-    SendsLast(&[GET_QUEUE]),
-    Serves(1, "served 0\n"),
-    Gets(0, &[Success(TEXT, b"")]),
-];
+/// It gets its job.
+const THE_SECOND_GETS_JOB_1: Step<'static> = Gets(1, All(&[Success(IPP, JOB_1)]));
 
-#[test]
-fn the_queue_of_a_device(rt: HostRuntime) -> Result<(), Mismatch> {
-    take_steps::<MemoryBook>(&rt, LOOK)
-}
+const THE_FIRST_GETS_NOTHING: Step<'static> = Gets(0, All(&[]));
 
-const IN_ORDER: &[Step<'static>] = &[
-    SendsLast(&[POST_JOB, PRINT_JOB, POST_JOB, PRINT_JOB]),
-    PRINTS,
-    Serves(2, "served 2\nserved 1\n"),
-    Gets(1, &[Success(IPP, JOB_3)]),
-    Gets(0, &[Success(IPP, JOB_1), Success(IPP, JOB_2)]),
-];
+/// A client asks for the printer's up time.
+const ASKS: Step<'static> = Comes(SendsLast(&[POST_UP_TIME, GET_UP_TIME]));
 
-#[test]
-fn clients_in_their_order(rt: HostRuntime) -> Result<(), Mismatch> {
-    take_steps::<MemoryBook>(&rt, IN_ORDER)
-}
-
-/// A client goes away before it is served, and the next one is served: the first at once, inside a head, inside a body, and behind a
-/// Print-Job.
-const GONE: [&[Step<'static>]; 4] = [
-    &[
-        GoesAway(&[]),
-        PRINTS,
-        Serves(2, "served 0\nserved 1\n"),
-        Gets(0, &[Success(IPP, JOB_1)]),
-    ],
-    &[
-        GoesAway(&[b"POST /ipp"]),
-        PRINTS,
-        Serves(2, "served 0\nserved 1\n"),
-        Gets(0, &[Success(IPP, JOB_1)]),
-    ],
-    &[
-        GoesAway(&[POST_JOB, b"\x01\x01"]),
-        PRINTS,
-        Serves(2, "served 0\nserved 1\n"),
-        Gets(0, &[Success(IPP, JOB_1)]),
-    ],
-    &[
-        GoesAway(&[POST_JOB, PRINT_JOB]),
-        PRINTS,
-        Serves(2, "served 1\nserved 1\n"),
-        Gets(0, &[Success(IPP, JOB_2)]),
-    ],
-];
-
-#[test]
-fn a_client_that_has_gone_away(rt: HostRuntime) -> Result<(), Mismatch> {
-    for steps in GONE {
-        take_steps::<MemoryBook>(&rt, steps)?;
-    }
-    Ok(())
-}
-
-/// The answer to its first request meets a closed socket, and its system resets the connection. Whatever comes of the requests behind it, the
-/// server goes on.
-const RESET: &[Step<'static>] = &[
-    GoesAway(&[POST_JOB, PRINT_JOB, GET_QUEUE, GET_QUEUE, GET_QUEUE]),
-    PRINTS,
-    Serves(2, "served 1\nserved 1\n"),
-    Gets(0, &[Success(IPP, JOB_2)]),
-];
-
-#[test]
-fn a_client_that_resets(rt: HostRuntime) -> Result<(), Mismatch> {
-    take_steps::<MemoryBook>(&rt, RESET)
-}
+/// The first is told of 42 seconds.
+const IS_TOLD: Step<'static> = Gets(0, All(&[Success(IPP, UP_FOR_42)]));
 
 /// The head of a request whose body is too large.
 pub(super) const POST_TOO_LARGE: &[u8] =
     b"POST /ipp/print HTTP/1.1\r\nContent-Type: application/ipp\r\nContent-Length: 16777217\r\n\r\n";
 
-/// What comes of it: the whole answer.
-const REFUSED: &[Step<'static>] = &[
-    Serves(1, "served 0\n"),
-    Gets(0, &[Refusal("413 Payload Too Large")]),
+/// A part of its body.
+const MUCH: &[u8] = &[b'0'; 4096];
+
+/// A head with a length, whose client sends no body before it is told to.
+const WAITS_FOR_LEAVE: &[u8] =
+    b"POST /ipp/print HTTP/1.1\r\nExpect: 100-continue\r\nContent-Type: application/ipp\r\nContent-Length: 145\r\n\r\n";
+
+/// Clients that print, look, break off and go away.
+static ROWS: [Row; 11] = [
+    (
+        "a print job and its reply",
+        &[PRINTS, Serves(1, "served 1\n"), GETS_JOB_1],
+    ),
+    (
+        "the queue of a device",
+        &[
+            Comes(SendsLast(&[GET_QUEUE])),
+            Serves(1, "served 0\n"),
+            Gets(0, All(&[Success(TEXT, b"")])),
+        ],
+    ),
+    (
+        "clients in their order",
+        &[
+            Comes(SendsLast(&[POST_JOB, PRINT_JOB, POST_JOB, PRINT_JOB])),
+            PRINTS,
+            Serves(2, "served 2\nserved 1\n"),
+            Gets(1, All(&[Success(IPP, JOB_3)])),
+            Gets(0, All(&[Success(IPP, JOB_1), Success(IPP, JOB_2)])),
+        ],
+    ),
+    ("no connection", &[Serves(0, "")]),
+    // a client goes away before it is served, and the next one is served
+    (
+        "a client that goes away at once",
+        &[Comes(GoesAway(&[])), PRINTS, SERVES_THE_SECOND, GETS_JOB_1],
+    ),
+    (
+        "a client that goes away inside a head",
+        &[
+            Comes(GoesAway(&[b"POST /ipp"])),
+            PRINTS,
+            SERVES_THE_SECOND,
+            GETS_JOB_1,
+        ],
+    ),
+    (
+        "a client that goes away inside a body",
+        &[
+            Comes(GoesAway(&[POST_JOB, b"\x01\x01"])),
+            PRINTS,
+            SERVES_THE_SECOND,
+            GETS_JOB_1,
+        ],
+    ),
+    (
+        "a client that goes away behind a Print-Job",
+        &[
+            Comes(GoesAway(&[POST_JOB, PRINT_JOB])),
+            PRINTS,
+            Serves(2, "served 1\nserved 1\n"),
+            Gets(0, All(&[Success(IPP, JOB_2)])),
+        ],
+    ),
+    // the answer to its first request meets a closed socket, and its system resets the connection: whatever comes of the requests behind it,
+    // the server goes on
+    (
+        "a client that resets",
+        &[
+            Comes(GoesAway(&[POST_JOB, PRINT_JOB, GET_QUEUE, GET_QUEUE, GET_QUEUE])),
+            PRINTS,
+            Serves(2, "served 1\nserved 1\n"),
+            Gets(0, All(&[Success(IPP, JOB_2)])),
+        ],
+    ),
+    // the rest of its request isn't read by its turn, and it still gets the whole answer
+    (
+        "a client that sends on behind a refusal",
+        &[
+            Comes(SendsLast(&[
+                POST_TOO_LARGE,
+                MUCH,
+                MUCH,
+                MUCH,
+                MUCH,
+                MUCH,
+                MUCH,
+                MUCH,
+                MUCH,
+            ])),
+            Serves(1, "served 0\n"),
+            Gets(0, All(&[Refusal("413 Payload Too Large")])),
+        ],
+    ),
+    // it keeps its side open, and the connection ends behind its last request: it is waited for a second, however long the timeout
+    (
+        "a client that asks for the end and stays behind it",
+        &[
+            Waits(40),
+            Comes(Sends(&[b"GET /device/queue HTTP/1.0\r\n\r\n", POST_JOB, PRINT_JOB])),
+            ServesSo(Serving {
+                lines: "served 0\n",
+                seconds: (1, 6),
+                ..USUAL
+            }),
+            Gets(0, All(&[Last(TEXT, b"")])),
+        ],
+    ),
 ];
 
-/// A client sends this request, and is refused.
-fn refuse<B: DeskBook>(rt: &HostRuntime, request: &[u8]) -> Result<(), Mismatch> {
-    let mut server = Server::<B>::new(rt)?;
-    server.take_each(rt, &[SendsLast(&[request])])?;
-    server.take_each(rt, REFUSED)
-}
-
-/// The rest of its request isn't read by its turn, and it still gets the whole answer.
-#[test]
-fn a_client_that_sends_on_behind_a_refusal(rt: HostRuntime) -> Result<(), Mismatch> {
-    let request = filled(rt.alloc(), POST_TOO_LARGE, b"01234567", 4096, b"")?;
-    refuse::<MemoryBook>(&rt, request.as_slice())
-}
-
-/// It keeps its side open, and the connection ends behind its last request.
-pub(super) const ASKED_TO_END: &[Step<'static>] = &[
-    Sends(&[b"GET /device/queue HTTP/1.0\r\n\r\n", POST_JOB, PRINT_JOB]),
-    Serves(1, "served 0\n"),
-    Gets(0, &[Last(TEXT, b"")]),
+/// Clients that say nothing, or no more, each of which costs the server its timeout of a second; connections whose time is over; what is done
+/// as the server looks at its clock; and lines that can't be printed.
+static WAITING: [Row; 14] = [
+    (
+        "a client that is silent",
+        &[
+            Comes(Sends(&[])),
+            PRINTS,
+            SERVES_THE_SECOND,
+            THE_SECOND_GETS_JOB_1,
+            THE_FIRST_GETS_NOTHING,
+        ],
+    ),
+    (
+        "a client that is silent in a head",
+        &[
+            Comes(Sends(&[b"POST /ipp/print HTTP/1.1\r\nContent-"])),
+            PRINTS,
+            SERVES_THE_SECOND,
+            THE_SECOND_GETS_JOB_1,
+            THE_FIRST_GETS_NOTHING,
+        ],
+    ),
+    (
+        "a client that is silent in a body",
+        &[
+            Comes(Sends(&[POST_JOB, b"\x01\x01\x00\x02"])),
+            PRINTS,
+            SERVES_THE_SECOND,
+            THE_SECOND_GETS_JOB_1,
+            THE_FIRST_GETS_NOTHING,
+        ],
+    ),
+    // it gets its leave although it sends no body
+    (
+        "a client that is silent behind its leave",
+        &[
+            Comes(Sends(&[WAITS_FOR_LEAVE])),
+            PRINTS,
+            SERVES_THE_SECOND,
+            THE_SECOND_GETS_JOB_1,
+            Gets(0, All(&[Continue])),
+        ],
+    ),
+    // it sits on its connection while another prints, and once its time is over it prints again by a new one
+    (
+        "a client that sits idle",
+        &[
+            Comes(Sends(&[POST_JOB, PRINT_JOB])),
+            PRINTS,
+            Serves(2, "served 1\nserved 1\n"),
+            Gets(1, All(&[Success(IPP, JOB_2)])),
+            GETS_JOB_1,
+            PRINTS,
+            Serves(1, "served 1\n"),
+            Gets(2, All(&[Success(IPP, JOB_3)])),
+        ],
+    ),
+    // A connection has a minute in all, 60 timeouts of a second. In its last second the request is still read and acts; then its answer is
+    // not written any more.
+    (
+        "the last second of a connection",
+        &[
+            PRINTS,
+            ServesSo(Serving {
+                pace: Pace::Leaps(59),
+                ..USUAL
+            }),
+            THE_FIRST_GETS_NOTHING,
+            PRINTS,
+            Serves(1, "served 1\n"),
+            Gets(1, All(&[Success(IPP, JOB_2)])),
+        ],
+    ),
+    // its time goes on over its writes: the answer's head is written in its 50th second, and what is behind it would be in its 75th
+    (
+        "a connection whose time is over as its answer is written",
+        &[
+            PRINTS,
+            ServesSo(Serving {
+                pace: Pace::Leaps(25),
+                ..USUAL
+            }),
+            Gets(0, Front(&[Success(IPP, JOB_1)])),
+        ],
+    ),
+    // behind it the request is not read any more
+    (
+        "a connection whose time is over",
+        &[
+            PRINTS,
+            ServesSo(Serving {
+                pace: Pace::Leaps(60),
+                lines: "served 0\n",
+                ..USUAL
+            }),
+            PRINTS,
+            Serves(1, "served 1\n"),
+            THE_SECOND_GETS_JOB_1,
+        ],
+    ),
+    // behind its last answer a client gets the end of the connection while its own side is still open and waited for
+    (
+        "a client that is told the end",
+        &[
+            Comes(Sends(&[b"GET /device/queue HTTP/1.0\r\n\r\n"])),
+            ServesSo(Serving {
+                pace: Pace::ReadsOn(0),
+                lines: "served 0\n",
+                ..USUAL
+            }),
+        ],
+    ),
+    // a client that sends no body before it is told to is told before the body is waited for
+    (
+        "a client that waits for its leave",
+        &[
+            Comes(Sends(&[WAITS_FOR_LEAVE])),
+            ServesSo(Serving {
+                pace: Pace::SendsWhenTold(0),
+                ..USUAL
+            }),
+        ],
+    ),
+    // a printer that was up at second 0 is up for 42 seconds at second 41
+    (
+        "the moment of a connection",
+        &[ASKS, Serves(1, "served 1\n"), IS_TOLD],
+    ),
+    // two clients wait: the server takes the first and then looks at the clock, which takes the second away
+    (
+        "a moment that is looked at behind the client",
+        &[
+            ASKS,
+            ASKS,
+            ServesSo(Serving {
+                pace: Pace::TakesAway,
+                ..USUAL
+            }),
+            IS_TOLD,
+        ],
+    ),
+    // the first of two connections has been served when its line can't be printed; the second is not taken, and served later
+    (
+        "a count that can't be printed",
+        &[
+            PRINTS,
+            PRINTS,
+            ServesSo(Serving {
+                connections: 2,
+                lines: "serve",
+                way: NO_ROOM,
+                ends: Ends::Unprinted,
+                ..USUAL
+            }),
+            GETS_JOB_1,
+            Serves(1, "served 1\n"),
+            Gets(1, All(&[Success(IPP, JOB_2)])),
+        ],
+    ),
+    // a count that is not flushed would be lost where the server is stopped
+    (
+        "a count that can't be flushed",
+        &[
+            PRINTS,
+            PRINTS,
+            ServesSo(Serving {
+                connections: 2,
+                way: NO_FLUSH,
+                ends: Ends::Unprinted,
+                ..USUAL
+            }),
+            GETS_JOB_1,
+            Serves(1, "served 1\n"),
+            Gets(1, All(&[Success(IPP, JOB_2)])),
+        ],
+    ),
 ];
 
+/// Takes rows, each with a server over an empty queue.
+fn take_rows(rt: &HostRuntime, rows: &[Row]) -> Result<(), Fail> {
+    for (name, steps) in rows {
+        let book = MemoryBook::empty(rt.alloc(), settings(rt.alloc())?)?;
+        take_row(rt, book, name, steps)?;
+    }
+    Ok(())
+}
+
 #[test]
-fn a_client_that_asks_for_the_end(rt: HostRuntime) -> Result<(), Mismatch> {
-    take_steps::<MemoryBook>(&rt, ASKED_TO_END)
+fn clients_that_come_and_go(rt: HostRuntime) -> Result<(), Fail> {
+    take_rows(&rt, &ROWS)
+}
+
+#[test]
+fn clients_that_are_waited_for(rt: HostRuntime) -> Result<(), Fail> {
+    take_rows(&rt, &WAITING)
 }

@@ -1,160 +1,156 @@
 //! A folder of a test, and what is done in it in turn: files are written, and commands are run on them.
+//!
+//! A path, and a command's line of words, is text in which `@` stands for the folder.
 
 use crate::desk::books::GRANT;
-use crate::desk::compare::{Mismatch, Place, Subject};
+use crate::desk::compare::{Failed, Mismatch, Place, Subject, failed_at};
+use crate::desk::connection::filled;
+use crate::desk::streams::{TestWriter, Way};
 use commands::run;
+use print_server::listen;
 use std::alloc::Global;
-use std::io::{BufWriter, Write};
+use std::cell::Cell;
+use std::io::{BufWriter, ErrorKind, Write};
 use std::os::unix::fs::PermissionsExt;
-use std::path::PathBuf;
 use std::test::Fail;
 use std::{env, fs, process};
 
 /// Where comparisons are made.
-const AT: Place = Place {
+pub(super) const AT: Place = Place {
     subject: Subject::Files,
     most: usize::MAX,
 };
 
-/// The name of the store of a test.
-pub(super) const STORE: At<'static> = At::In("store");
+/// The path of the store of a test.
+pub(super) const STORE: &str = "@/store";
 
-/// The name of another file of a test.
-pub(super) const FILE: At<'static> = At::In("file");
-
-/// The printer's URI.
-pub(super) const URI: &str = "ipp://localhost/ipp/print";
+/// The path of another file of a test.
+pub(super) const FILE: &str = "@/file";
 
 /// What a command leaves: its exit status, what it prints, and its line on standard error.
-pub(super) type Told<'a> = (u8, &'a str, &'a str);
+pub(super) type Told = (u8, &'static str, &'static str);
 
 /// A command is done, and prints nothing.
-pub(super) const DONE: Told<'static> = (0, "", "");
+pub(super) const DONE: Told = (0, "", "");
 
-pub(super) const DISK: Told<'static> = (1, "", "printd: disk\n");
+pub(super) const DISK: Told = (1, "", "printd: disk\n");
 
-pub(super) const DAMAGED: Told<'static> = (1, "", "printd: damaged\n");
+pub(super) const DAMAGED: Told = (1, "", "printd: damaged\n");
 
-pub(super) const NO_ACCOUNT: Told<'static> = (1, "", "printd: no account\n");
+pub(super) const IO: Told = (1, "", "printd: io\n");
 
-/// A path.
-#[derive(Clone, Copy)]
-pub(super) enum At<'a> {
-    /// That of a file of this name in the test's folder.
-    In(&'a str),
-    /// That of the folder itself.
-    Folder,
-    /// This one.
-    Path(&'a str),
-}
+pub(super) const NO_ACCOUNT: Told = (1, "", "printd: no account\n");
 
-/// A command on a store.
-#[derive(Clone, Copy)]
-pub(super) enum Asked<'a> {
-    /// `init` with a URI and a name.
-    Init(At<'a>, &'a str, &'a str),
-    /// `import` of a file.
-    Import(At<'a>, At<'a>),
-    /// `statement` of an account.
-    Statement(At<'a>, &'a str),
-}
+/// The line that makes the store.
+pub(super) const INIT: &str =
+    "printd init --store @/store --uri ipp://localhost/ipp/print --name release";
+
+/// The line that imports the other file into the store.
+pub(super) const IMPORT: &str = "printd import --store @/store @/file";
+
+/// The line that prints alice's statement.
+pub(super) const STATEMENT: &str = "printd statement --store @/store alice";
 
 /// What is done next.
 #[derive(Clone, Copy)]
-pub(super) enum Step<'a> {
-    /// A file is written: these bytes and no others.
-    Writes(At<'a>, &'a [u8]),
-    /// A file is made of so many zero bytes.
-    Zeros(At<'a>, u64),
-    /// The other file of the test is written, and its import into the store leaves this.
-    Imports(&'a [u8], Told<'a>),
-    /// A command leaves this.
-    Asks(Asked<'a>, Told<'a>),
-    /// A command leaves this, and this file as it was, byte for byte.
-    Keeps(At<'a>, Asked<'a>, Told<'a>),
+pub(super) enum Step {
+    /// A file is written: these parts, each so many times.
+    Writes(&'static str, &'static [(&'static [u8], usize)]),
+    /// The other file is an account file of so many rows of 1,000,000 pages each for dave.
+    WritesRows(u32),
+    /// The bytes of one file are those of another, as far as so many eighths of it.
+    Copies(&'static str, &'static str, usize),
+    /// The words of a line leave this.
+    Tells(&'static str, Told),
+    /// They leave this, and this file as it was, byte for byte.
+    Keeps(&'static str, &'static str, Told),
+    /// What they print can't be printed by a writer of this way.
+    Unprinted(&'static str, Way),
+    /// The words of a line that serves, on a port that another listens on, leave this.
+    TakenPort(&'static str, Told),
+    /// The other file has these bytes, and its import into the store leaves this.
+    Imports(&'static [u8], Told),
     /// No file is there.
-    Lacks(At<'a>),
+    Lacks(&'static str),
+    /// The bytes of one file are those of another, with the one place of some bytes turned into others.
+    Turns(&'static str, &'static str, &'static [u8], &'static [u8]),
+    /// A file has this byte at this place.
+    HasByte(&'static str, usize, u8),
     /// A file is its user's alone.
-    IsPrivate(At<'a>),
+    IsPrivate(&'static str),
+    /// There is no file in the folder, which goes. It is the last step.
+    IsEmpty,
 }
 
-/// A step that was not well.
-#[derive(Clone, Copy, Debug)]
-pub(super) struct StepFault {
-    /// Its number, from 0, of those that were taken together.
-    pub(super) step: usize,
-    pub(super) fault: Mismatch,
-}
+/// What is done in a folder of its own, with a name for it.
+pub(super) type Row = (&'static str, &'static [Step]);
 
 /// A store is made.
-pub(super) const MADE: Step<'static> = Step::Asks(Asked::Init(STORE, URI, "release"), DONE);
+pub(super) const MADE: Step = Step::Tells(INIT, DONE);
 
-/// Only that.
-pub(super) const ONLY_MADE: &[Step<'static>] = &[MADE];
-
-/// The other file of the test is an account file of one row, which the store takes.
-pub(super) const IMPORTED: Step<'static> = Step::Imports(GRANT, (0, "new 1 repeats 0\n", ""));
+/// The store takes that file.
+pub(super) const IMPORTED: Step = Step::Imports(GRANT, (0, "new 1 repeats 0\n", ""));
 
 /// The store has the row of that file.
-pub(super) const REPEATED: Step<'static> = Step::Asks(
-    Asked::Import(STORE, FILE),
-    (0, "new 0 repeats 1\n", ""),
-);
+pub(super) const REPEATED: Step = Step::Tells(IMPORT, (0, "new 0 repeats 1\n", ""));
 
-/// A store with an account is made, whose account file is the other file of the test.
-pub(super) const WITH_AN_ACCOUNT: &[Step<'static>] = &[MADE, IMPORTED];
+/// What is told of words whose output can't be printed: the exit status, and the line on standard error.
+const UNPRINTED: (u8, &str) = (1, "printd: io\n");
 
 /// The program's words print to a writer, and leave this status and this on standard error.
-pub(super) fn tell_to<O: Write>(
+fn tell_to<O: Write>(
     rt: &HostRuntime,
     words: &[&str],
     out: &mut O,
     wanted: (u8, &str),
 ) -> Result<(), Mismatch> {
-    let (wanted_status, wanted_err) = wanted;
     let mut out = BufWriter::new(rt.alloc(), out)?;
     let mut err = Vec::new(rt.alloc());
     let status = run(rt, words, &mut out, &mut err);
-    AT.same_bytes(wanted_err.as_bytes(), err.as_slice())?;
-    AT.is_so(status == wanted_status, "the exit status")
+    AT.same_bytes(wanted.1.as_bytes(), err.as_slice())?;
+    AT.is_so(status == wanted.0, "the exit status")
 }
 
-/// The program's words leave this.
-pub(super) fn tell(rt: &HostRuntime, words: &[&str], wanted: Told<'_>) -> Result<(), Mismatch> {
-    let (wanted_status, wanted_out, wanted_err) = wanted;
-    let mut out = Vec::new(rt.alloc());
-    tell_to(rt, words, &mut out, (wanted_status, wanted_err))?;
-    AT.same_bytes(wanted_out.as_bytes(), out.as_slice())
+/// Adds the rows of an account file.
+fn put_rows(file: &mut Vec<u8>, rows: u32) -> Result<(), Mismatch> {
+    file.extend_from_slice(b"batch,account,pages\n")?;
+    for row in 1..=rows {
+        writeln!(file, "b{row},dave,1000000")?;
+    }
+    Ok(())
+}
+
+/// What stands before the first place of a part, and what behind it.
+fn parted_at<'a>(bytes: &'a [u8], part: &[u8]) -> Option<(&'a [u8], &'a [u8])> {
+    let place = bytes.windows(part.len().max(1)).position(|it| it == part)?;
+    let (front, rest) = bytes.split_at(place);
+    Some((front, rest.strip_prefix(part)?))
 }
 
 /// A folder of a test.
 #[derive(Drop)]
 pub(super) struct Folder<'a> {
     rt: &'a HostRuntime,
-    path: PathBuf,
+    path: String,
 }
 
 impl<'a> Folder<'a> {
     /// A new, empty folder.
     pub(super) fn new(rt: &'a HostRuntime, name: &str) -> Result<Folder<'a>, Mismatch> {
-        let name = format!(in rt.alloc(); "printd-{name}-{}", process::id(rt.process()))?;
-        let path = env::temp_dir(rt)?.join(rt.alloc(), name.as_str())?;
+        let path = format!(in rt.alloc();
+            "{}/printd-{name}-{}",
+            env::temp_dir(rt)?.as_str(),
+            process::id(rt.process())
+        )?;
         // what a failed test of a process with this number has left
-        let _ = fs::remove_dir_all(rt, path.as_path());
-        fs::create_dir(rt, path.as_path())?;
+        let _ = fs::remove_dir_all(rt, path.as_str());
+        fs::create_dir(rt, path.as_str())?;
         Ok(Folder { rt, path })
     }
 
     /// Removes the folder with its files, as a test has ended well.
-    pub(super) fn remove(&self) -> Result<(), Mismatch> {
-        fs::remove_dir_all(self.rt, self.path.as_path())?;
-        Ok(())
-    }
-
-    /// Removes the folder, which is to be empty.
-    pub(super) fn remove_empty(&self) -> Result<(), Mismatch> {
-        fs::remove_dir(self.rt, self.path.as_path())?;
-        Ok(())
+    pub(super) fn remove(&self) {
+        let _ = fs::remove_dir_all(self.rt, self.path.as_str());
     }
 
     pub(super) fn rt(&self) -> &HostRuntime {
@@ -165,173 +161,161 @@ impl<'a> Folder<'a> {
         self.rt.alloc()
     }
 
-    /// A path, whole.
-    pub(super) fn path(&self, at: At<'_>) -> Result<PathBuf, Mismatch> {
-        let path = match at {
-            At::In(name) => self.path.as_path().join(self.alloc(), name)?,
-            At::Folder => self.path.as_path().to_path_buf(self.alloc())?,
-            At::Path(path) => PathBuf::from_str(self.alloc(), path)?,
-        };
-        Ok(path)
+    /// The text with the folder's path for each `@`.
+    fn whole(&self, text: &str) -> Result<String, Mismatch> {
+        let parts: Vec<&str> = text.split('@').collect(self.alloc())?;
+        let whole = parts.as_slice().join(self.alloc(), self.path.as_str())?;
+        Ok(whole)
     }
 
     /// The bytes of a file.
-    pub(super) fn read(&self, at: At<'_>) -> Result<Vec<u8>, Mismatch> {
-        let path = self.path(at)?;
-        Ok(fs::read(self.rt, path.as_path())?)
+    fn read(&self, path: &str) -> Result<Vec<u8>, Mismatch> {
+        Ok(fs::read(self.rt, self.whole(path)?)?)
     }
 
     /// Writes a file.
-    pub(super) fn write(&self, at: At<'_>, bytes: &[u8]) -> Result<(), Mismatch> {
-        let path = self.path(at)?;
-        fs::write(self.rt, path.as_path(), bytes)?;
+    fn write(&self, path: &str, bytes: &[u8]) -> Result<(), Mismatch> {
+        fs::write(self.rt, self.whole(path)?, bytes)?;
         Ok(())
     }
 
-    /// Copies a file.
-    pub(super) fn copy(&self, from: At<'_>, to: At<'_>) -> Result<(), Mismatch> {
+    fn fill(&self, path: &str, parts: &[(&[u8], usize)]) -> Result<(), Mismatch> {
+        self.write(path, filled(self.alloc(), parts)?.as_slice())
+    }
+
+    fn write_rows(&self, rows: u32) -> Result<(), Mismatch> {
+        let mut file = Vec::new(self.alloc());
+        put_rows(&mut file, rows)?;
+        self.write(FILE, file.as_slice())
+    }
+
+    fn copy(&self, from: &str, to: &str, eighths: usize) -> Result<(), Mismatch> {
         let bytes = self.read(from)?;
-        self.write(to, bytes.as_slice())
+        let length = (bytes.len() / 8).saturating_mul(eighths);
+        self.write(
+            to,
+            bytes.as_slice().get(..length).unwrap_or(bytes.as_slice()),
+        )
     }
 
-    fn write_zeros(&self, at: At<'_>, length: u64) -> Result<(), Mismatch> {
-        let path = self.path(at)?;
-        fs::create(self.rt, path.as_path())?.set_len(length)?;
-        Ok(())
+    fn turn(&self, from: &str, to: &str, old: &[u8], new: &[u8]) -> Result<(), Mismatch> {
+        let bytes = self.read(from)?;
+        let Some((front, behind)) = parted_at(bytes.as_slice(), old) else {
+            return Err(AT.not("a place of some bytes"));
+        };
+        AT.is_so(parted_at(behind, old).is_none(), "one place of some bytes")?;
+        let turned = [front, new, behind].concat(self.alloc())?;
+        self.write(to, turned.as_slice())
     }
 
-    /// The program's words leave this.
-    pub(super) fn tell(&self, words: &[&str], wanted: Told<'_>) -> Result<(), Mismatch> {
-        tell(self.rt, words, wanted)
-    }
-
-    fn init_to<O: Write>(
+    /// The words of a line print to a writer, and leave this status and this on standard error.
+    pub(super) fn tell_to<O: Write>(
         &self,
-        store: &str,
-        (uri, name): (&str, &str),
+        line: &str,
         out: &mut O,
         wanted: (u8, &str),
     ) -> Result<(), Mismatch> {
-        let words = [
-            "printd", "init", "--store", store, "--uri", uri, "--name", name,
-        ];
-        tell_to(self.rt, &words, out, wanted)
+        let line = self.whole(line)?;
+        let words: Vec<&str> = line.split(' ').collect(self.alloc())?;
+        tell_to(self.rt, words.as_slice(), out, wanted)
     }
 
-    fn import_to<O: Write>(
-        &self,
-        store: &str,
-        file: At<'_>,
-        out: &mut O,
-        wanted: (u8, &str),
-    ) -> Result<(), Mismatch> {
-        let file = self.path(file)?;
-        let words = ["printd", "import", "--store", store, file.as_str()];
-        tell_to(self.rt, &words, out, wanted)
-    }
-
-    fn state_to<O: Write>(
-        &self,
-        store: &str,
-        account: &str,
-        out: &mut O,
-        wanted: (u8, &str),
-    ) -> Result<(), Mismatch> {
-        let words = ["printd", "statement", "--store", store, account];
-        tell_to(self.rt, &words, out, wanted)
-    }
-
-    /// A command prints to a writer, and leaves this status and this on standard error.
-    pub(super) fn ask_to<O: Write>(
-        &self,
-        asked: Asked<'_>,
-        out: &mut O,
-        wanted: (u8, &str),
-    ) -> Result<(), Mismatch> {
-        let (Asked::Init(at, ..) | Asked::Import(at, _) | Asked::Statement(at, _)) = asked;
-        let store = self.path(at)?;
-        let store = store.as_str();
-        match asked {
-            Asked::Init(_, uri, name) => self.init_to(store, (uri, name), out, wanted),
-            Asked::Import(_, file) => self.import_to(store, file, out, wanted),
-            Asked::Statement(_, account) => self.state_to(store, account, out, wanted),
-        }
-    }
-
-    /// A command leaves this.
-    fn ask(&self, asked: Asked<'_>, wanted: Told<'_>) -> Result<(), Mismatch> {
-        let (wanted_status, wanted_out, wanted_err) = wanted;
+    /// The words of a line leave this.
+    pub(super) fn tell(&self, line: &str, wanted: Told) -> Result<(), Mismatch> {
         let mut out = Vec::new(self.alloc());
-        self.ask_to(asked, &mut out, (wanted_status, wanted_err))?;
-        AT.same_bytes(wanted_out.as_bytes(), out.as_slice())
+        self.tell_to(line, &mut out, (wanted.0, wanted.2))?;
+        AT.same_bytes(wanted.1.as_bytes(), out.as_slice())
     }
 
-    /// A command leaves this, and this file as it was.
-    fn keep(&self, at: At<'_>, asked: Asked<'_>, wanted: Told<'_>) -> Result<(), Mismatch> {
-        let before = self.read(at)?;
-        self.ask(asked, wanted)?;
-        let after = self.read(at)?;
-        AT.same_bytes(before.as_slice(), after.as_slice())
+    /// The words of a line leave this, and this file as it was.
+    fn keep(&self, path: &str, line: &str, wanted: Told) -> Result<(), Mismatch> {
+        let before = self.read(path)?;
+        self.tell(line, wanted)?;
+        AT.same_bytes(before.as_slice(), self.read(path)?.as_slice())
     }
 
-    /// No file is there.
-    fn lack(&self, at: At<'_>) -> Result<(), Mismatch> {
-        let path = self.path(at)?;
-        let is_there = fs::exists(self.rt, path.as_path())?;
-        AT.is_so(!is_there, "no file")
+    fn tell_of_taken_port(&self, line: &str, wanted: Told) -> Result<(), Mismatch> {
+        let other = listen(self.rt, 0)?;
+        let port = other.local_addr()?.port();
+        let line = format!(in self.alloc(); "{line} --port {port}")?;
+        self.tell(line.as_str(), wanted)
     }
 
-    /// A file is its user's alone.
-    fn is_private(&self, at: At<'_>) -> Result<(), Mismatch> {
-        let path = self.path(at)?;
-        let mode = fs::metadata(self.rt, path.as_path())?.permissions().mode();
-        AT.is_so(mode & 0o777 == 0o600, "a file of its user alone")
+    fn is_private(&self, path: &str) -> Result<(), Mismatch> {
+        let file = fs::metadata(self.rt, self.whole(path)?)?;
+        AT.is_so(
+            file.permissions().mode() & 0o777 == 0o600,
+            "a file of its user alone",
+        )
     }
 
     /// Takes a step.
-    fn take(&self, step: Step<'_>) -> Result<(), Mismatch> {
+    fn take(&self, step: Step) -> Result<(), Mismatch> {
         match step {
-            Step::Writes(at, bytes) => self.write(at, bytes),
-            Step::Zeros(at, length) => self.write_zeros(at, length),
+            Step::Writes(path, parts) => self.fill(path, parts),
+            Step::WritesRows(rows) => self.write_rows(rows),
+            Step::Copies(from, to, eighths) => self.copy(from, to, eighths),
+            Step::Tells(line, wanted) => self.tell(line, wanted),
+            Step::Keeps(path, line, wanted) => self.keep(path, line, wanted),
+            Step::Unprinted(line, way) => {
+                let written = Cell::new(0);
+                self.tell_to(
+                    line,
+                    &mut TestWriter::new(self.alloc(), way, &written),
+                    UNPRINTED,
+                )
+            }
+            Step::TakenPort(line, wanted) => self.tell_of_taken_port(line, wanted),
             Step::Imports(bytes, wanted) => {
                 self.write(FILE, bytes)?;
-                self.ask(Asked::Import(STORE, FILE), wanted)
+                self.tell(IMPORT, wanted)
             }
-            Step::Asks(asked, wanted) => self.ask(asked, wanted),
-            Step::Keeps(at, asked, wanted) => self.keep(at, asked, wanted),
-            Step::Lacks(at) => self.lack(at),
-            Step::IsPrivate(at) => self.is_private(at),
+            Step::Lacks(path) => {
+                let came = self.read(path);
+                AT.is_so(
+                    matches!(&came, Err(Mismatch::Io(ErrorKind::NotFound))),
+                    "no file",
+                )
+            }
+            Step::Turns(from, to, old, new) => self.turn(from, to, old, new),
+            Step::HasByte(path, place, byte) => {
+                let bytes = self.read(path)?;
+                AT.is_so(
+                    bytes.as_slice().get(place) == Some(&byte),
+                    "a byte of a file",
+                )
+            }
+            Step::IsPrivate(path) => self.is_private(path),
+            Step::IsEmpty => AT.is_so(
+                fs::remove_dir(self.rt, self.path.as_str()).is_ok(),
+                "no file in the folder",
+            ),
         }
     }
 
-    /// Takes steps, one after another.
-    pub(super) fn take_each(&self, steps: &[Step<'_>]) -> Result<(), StepFault> {
+    /// Takes steps of a row, one after another.
+    pub(super) fn take_each(&self, row: &str, steps: &[Step]) -> Result<(), Failed> {
         for (step, it) in steps.iter().enumerate() {
-            match self.take(*it) {
-                Ok(()) => {}
-                Err(fault) => return Err(StepFault { step, fault }),
+            if let Err(why) = self.take(*it) {
+                return Err(failed_at(row, step, why));
             }
         }
         Ok(())
     }
 }
 
-/// Takes steps, one after another, in a new folder, which goes as they end well.
-pub(super) fn take_steps(rt: &HostRuntime, name: &str, steps: &[Step<'_>]) -> Result<(), Fail> {
-    let folder = Folder::new(rt, name)?;
-    folder.take_each(steps)?;
-    folder.remove()?;
+/// Takes a row in a new folder of this name.
+fn take_row(rt: &HostRuntime, folder: &str, name: &str, steps: &[Step]) -> Result<(), Fail> {
+    let folder = Folder::new(rt, folder)?;
+    folder.take_each(name, steps)?;
+    folder.remove();
     Ok(())
 }
 
-/// Takes steps that leave no file in a new folder.
-pub(super) fn take_steps_for_nothing(
-    rt: &HostRuntime,
-    name: &str,
-    steps: &[Step<'_>],
-) -> Result<(), Fail> {
-    let folder = Folder::new(rt, name)?;
-    folder.take_each(steps)?;
-    folder.remove_empty()?;
+/// Takes rows, each in a new folder of this name, which no other test has.
+pub(super) fn take_rows(rt: &HostRuntime, folder: &str, rows: &[Row]) -> Result<(), Fail> {
+    for (name, steps) in rows {
+        take_row(rt, folder, name, steps)?;
+    }
     Ok(())
 }

@@ -1,108 +1,70 @@
-//! The port that a server listens on, and lines that can't be printed.
+//! The port that a server listens on, the line that tells it, and the moment of a connection.
 
-use crate::desk::books::MemoryBook;
-use crate::desk::compare::Mismatch;
-use crate::desk::connection::Wanted::Success;
-use crate::desk::messages::{JOB_1, JOB_2};
-use crate::desk::requests::IPP;
-use crate::desk::streams::FlushedWriter;
-use crate::program::server::Step::{Gets, Serves, ServesUnflushed, ServesUntold};
-use crate::program::server::{NO_ROOM, PRINTS, Step, narrow, take_steps};
-use crate::program::sockets::AT;
-use print_server::{listen, tell_listening};
-use std::alloc::Global;
-use std::io;
+use crate::desk::streams::{AT_ONCE, NO_FLUSH, NO_ROOM, TestWriter, Way};
+use crate::program::sockets::{AT, free_port};
+use print_server::{listen, present_moment, tell_listening};
+use std::cell::Cell;
 use std::io::ErrorKind;
-use std::net::{Ipv4Addr, SocketAddr, TcpListener};
+use std::net::{Ipv4Addr, SocketAddr};
+use std::test::Fail;
 
-/// A port that nobody listens on: one that the system has just given and taken back.
-pub(super) fn free_port(rt: &HostRuntime) -> io::Result<u16> {
-    let listener = TcpListener::bind(rt, SocketAddr::from((Ipv4Addr::LOCALHOST, 0)))?;
-    Ok(listener.local_addr()?.port())
-}
-
-/// The line that tells of port 8631.
-const TELLS_8631: &[u8] = b"listening 127.0.0.1:8631\n";
+/// Writers, whether port 8631 can be told to them, and what they take of that line.
+static TELLS: [(Way, bool, &[u8]); 3] = [
+    (AT_ONCE, true, b"listening 127.0.0.1:8631\n"),
+    (NO_ROOM, false, b"liste"),
+    // what can't be flushed was written before
+    (NO_FLUSH, false, b"listening 127.0.0.1:8631\n"),
+];
 
 #[test]
-fn the_line_that_tells_of_a_port(rt: HostRuntime) -> Result<(), Mismatch> {
-    let mut printed = Vec::new(rt.alloc());
-    tell_listening(&mut printed, 8631)?;
-    AT.same_bytes(TELLS_8631, printed.as_slice())
+fn lines_that_tell_of_a_port(rt: HostRuntime) -> Result<(), Fail> {
+    for (way, is_told, taken) in &TELLS {
+        let written = Cell::new(0);
+        let mut out = TestWriter::new(rt.alloc(), *way, &written);
+        let is_wanted = match tell_listening(&mut out, 8631) {
+            Ok(()) => *is_told,
+            Err(error) => !*is_told && error.kind() == ErrorKind::Other,
+        };
+        AT.is_so(is_wanted, "whether a port can be told")?;
+        AT.same_bytes(taken, out.taken.as_slice())?;
+    }
+    Ok(())
 }
 
-/// It is listened on by the loopback interface alone.
+/// It is listened on by the loopback interface alone, and can't be listened on again.
 #[test]
-fn the_port_that_is_listened_on(rt: HostRuntime) -> Result<(), Mismatch> {
+fn the_port_that_is_listened_on(rt: HostRuntime) -> Result<(), Fail> {
     let port = free_port(&rt)?;
     let listener = listen(&rt, port)?;
-    let address = SocketAddr::from((Ipv4Addr::LOCALHOST, port));
-    AT.is_so(listener.local_addr()? == address, "the address")
+    let is_alone = listener.local_addr()? == SocketAddr::from((Ipv4Addr::LOCALHOST, port));
+    let again = listen(&rt, port);
+    let is_taken = matches!(&again, Err(error) if error.kind() == ErrorKind::AddrInUse);
+    AT.is_so(
+        is_alone && is_taken,
+        "the address of a port, which is taken",
+    )?;
+    Ok(())
 }
 
-/// What was tried has failed so.
-fn has_failed<T: Drop>(
-    came: io::Result<T>,
-    kind: ErrorKind,
-    said: &'static str,
-) -> Result<(), Mismatch> {
-    AT.is_so(matches!(&came, Err(error) if error.kind() == kind), said)
-}
+/// The second at which the year 2020 began.
+const YEAR_2020: i64 = 1_577_836_800;
 
-/// A port that is listened on can't be listened on again.
+/// An hour after that.
+const AN_HOUR_LATER: i64 = 1_577_840_400;
+
+/// A printer set up in the future is at its first moment, and one from the beginning of the year 0 at the last. Two printers whose epochs are
+/// an hour apart are an hour apart, but for a second that may pass between.
 #[test]
-fn a_port_that_is_taken(rt: HostRuntime) -> Result<(), Mismatch> {
-    let listener = listen(&rt, 0)?;
-    let port = listener.local_addr()?.port();
-    has_failed(
-        listen(&rt, port),
-        ErrorKind::AddrInUse,
-        "a port that is taken",
-    )
-}
-
-/// A line that can't be flushed was written before.
-fn tell_unflushed(alloc: Global) -> Result<(), Mismatch> {
-    let mut out = FlushedWriter::new(alloc, 0);
-    let came = tell_listening(&mut out, 8631);
-    has_failed(came, NO_ROOM, "a line that can't be flushed")?;
-    AT.same_bytes(TELLS_8631, out.taken.as_slice())
-}
-
-#[test]
-fn a_port_that_cannot_be_told(rt: HostRuntime) -> Result<(), Mismatch> {
-    let came = tell_listening(&mut narrow(rt.alloc()), 8631);
-    has_failed(came, NO_ROOM, "a line that can't be written")?;
-    tell_unflushed(rt.alloc())
-}
-
-/// The first of two connections has been served when its line can't be printed so; the second is not taken, and served later.
-fn serves_untold(rt: &HostRuntime, untold: Step<'_>) -> Result<(), Mismatch> {
-    let steps = [
-        PRINTS,
-        PRINTS,
-        untold,
-        Gets(0, &[Success(IPP, JOB_1)]),
-        Serves(1, "served 1\n"),
-        Gets(1, &[Success(IPP, JOB_2)]),
-    ];
-    take_steps::<MemoryBook>(rt, &steps)
-}
-
-#[test]
-fn a_count_that_cannot_be_told(rt: HostRuntime) -> Result<(), Mismatch> {
-    serves_untold(&rt, ServesUntold(2))
-}
-
-/// A count that is not flushed would be lost where the server is stopped.
-#[test]
-fn a_count_that_cannot_be_flushed(rt: HostRuntime) -> Result<(), Mismatch> {
-    serves_untold(&rt, ServesUnflushed(2, "served 1\n"))
-}
-
-const NO_CONNECTION: &[Step<'static>] = &[Serves(0, "")];
-
-#[test]
-fn no_connection(rt: HostRuntime) -> Result<(), Mismatch> {
-    take_steps::<MemoryBook>(&rt, NO_CONNECTION)
+fn present_moments(rt: HostRuntime) -> Result<(), Fail> {
+    let first = present_moment(&rt, i64::MAX)?;
+    let last = present_moment(&rt, i64::MIN)?;
+    let younger = present_moment(&rt, AN_HOUR_LATER)?;
+    let older = present_moment(&rt, YEAR_2020)?;
+    let apart = older.saturating_sub(younger);
+    AT.is_so(
+        first == 1 && last == 2_147_483_647,
+        "the first and the last moment",
+    )?;
+    AT.is_so(apart >= 3600 && apart < 3660, "an hour")?;
+    Ok(())
 }

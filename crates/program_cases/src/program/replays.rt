@@ -1,81 +1,120 @@
-//! Replays over streams that fail, text of bytes, and examples that are not answered as they are to be.
+//! Replays over streams that fail and over a book that can't be read, and examples that are not answered as they are to be.
 
-use crate::desk::streams::{BrokenReader, BrokenWriter, FlushedWriter, SlowReader};
-use replay::{Fault, HexFault, put_hex, read_hex};
+use crate::desk::books::{DeskBook, MemoryBook};
+use crate::desk::compare::Mismatch;
+use crate::desk::faulty::{Failure, FaultyBook, TAKES_NOTHING};
+use crate::desk::queue;
+use crate::desk::streams::{AT_ONCE, Behind, NO_FLUSH, TestReader, TestWriter, Way};
+use crate::program::sockets::AT;
+use queue_core::book::BookFault;
+use replay::{Fault, replay_over, replay_settings};
 use replay_examples::run_cases;
 use replay_in_memory::replay;
 use std::alloc::Global;
-use std::process::Abort;
+use std::cell::Cell;
 use std::test::Fail;
 
-#[test]
-fn streams_that_fail(rt: HostRuntime) {
-    let mut input = BrokenReader {
-        rest: b"ipp 00\nipp",
-    };
-    let mut output = Vec::new(rt.alloc());
-    assert_eq!(rt; replay(rt.alloc(), &mut input, &mut output), Err(Fault::Io));
-    assert_eq!(rt; output.as_slice(), b"ipp short\n".as_slice());
-    let mut input: &[u8] = b"ipp 00\n";
-    let mut output = BrokenWriter {
-        room: 0,
-        most: 0,
-        taken: Vec::new(rt.alloc()),
-    };
-    assert_eq!(rt; replay(rt.alloc(), &mut input, &mut output), Err(Fault::Io));
+/// How a replay ends: the way of its streams, what is to come, how often that is read at most, what is written, and what it comes to.
+type Ending = (Way, &'static [u8], usize, &'static [u8], Result<u8, Fault>);
+
+static ENDINGS: [Ending; 5] = [
+    // the input fails behind a whole line
+    (
+        Way {
+            behind: Behind::Failure,
+            ..AT_ONCE
+        },
+        b"ipp 00\nipp",
+        usize::MAX,
+        b"ipp short\n",
+        Err(Fault::Io),
+    ),
+    // nothing can be written
+    (
+        Way { room: 0, ..AT_ONCE },
+        b"ipp 00\n",
+        usize::MAX,
+        b"",
+        Err(Fault::Io),
+    ),
+    // what it has written is flushed before it waits for more: where that can't be, nothing is read
+    (NO_FLUSH, b"ipp 00\n", 0, b"", Err(Fault::Io)),
+    // so it is before each read: where the second flush can't be, there is no second read, and the line that had come is answered before that
+    (
+        Way {
+            read: 7,
+            flushes: 1,
+            ..AT_ONCE
+        },
+        b"ipp 00\nipp 00\n",
+        1,
+        b"ipp short\n",
+        Err(Fault::Io),
+    ),
+    // a bad line is told before more is read
+    (
+        Way { read: 6, ..AT_ONCE },
+        b"now 0\nipp 00\n",
+        1,
+        b"bad line 1\n",
+        Ok(1),
+    ),
+];
+
+/// A replay ends so.
+fn ends(alloc: Global, (way, lines, reads, answers, wanted): &Ending) -> Result<(), Mismatch> {
+    let written = Cell::new(0);
+    let mut input = TestReader::new(*way, lines, 0, &written);
+    let mut output = TestWriter::new(alloc, *way, &written);
+    let came = replay(alloc, &mut input, &mut output);
+    AT.same_bytes(answers, output.taken.as_slice())?;
+    AT.is_so(
+        came == *wanted && input.reads <= *reads,
+        "how a replay ends",
+    )
 }
 
-/// What it has written is flushed before it waits for more: where that can't be, nothing is read.
 #[test]
-fn output_that_is_flushed_first(rt: HostRuntime) {
-    let mut input: &[u8] = b"ipp 00\n";
-    let mut output = FlushedWriter::new(rt.alloc(), 0);
-    assert_eq!(rt; replay(rt.alloc(), &mut input, &mut output), Err(Fault::Io));
-    assert_eq!(rt; input, b"ipp 00\n".as_slice());
-}
-
-/// It is flushed before each read: where the second flush can't be, there is no second read. The line that had come is answered before that.
-#[test]
-fn output_that_is_flushed_again(rt: HostRuntime) {
-    let mut input = SlowReader {
-        rest: b"ipp 00\nipp 00\n",
-        most: 7,
-        reads: 0,
-    };
-    let mut output = FlushedWriter::new(rt.alloc(), 1);
-    assert_eq!(rt; replay(rt.alloc(), &mut input, &mut output), Err(Fault::Io));
-    assert_eq!(rt; input.reads, 1);
-    assert_eq!(rt; output.taken.as_slice(), b"ipp short\n".as_slice());
-}
-
-/// The digits stand for these bytes.
-fn assert_read(rt: &impl Abort, alloc: Global, digits: &[u8], bytes: &[u8]) {
-    match read_hex(alloc, digits) {
-        Ok(came) => assert_eq!(rt; came.as_slice(), bytes),
-        Err(_) => panic!(rt; "no digits"),
+fn streams_that_fail_and_a_bad_line(rt: HostRuntime) -> Result<(), Mismatch> {
+    for row in &ENDINGS {
+        ends(rt.alloc(), row)?;
     }
-}
-
-#[test]
-fn messages_from_text(rt: HostRuntime) {
-    assert_read(&rt, rt.alloc(), b"00fFA9", &[0, 255, 169]);
-    assert!(rt; matches!(&read_hex(rt.alloc(), b"0"), Err(HexFault::NotOfTheForm)));
-}
-
-#[test]
-fn messages_as_text(rt: HostRuntime) -> Result<(), Fail> {
-    let mut text = Vec::new(rt.alloc());
-    put_hex(&mut text, &[0, 255, 169])?;
-    assert_eq!(rt; text.as_slice(), b"00ffa9".as_slice());
     Ok(())
 }
 
+/// Why a book can't be read.
+static UNREAD: [BookFault; 3] = [BookFault::Disk, BookFault::Memory, BookFault::Damaged];
+
+/// A Print-Job of alice, a line of the device and a row of an account file.
+const LINES: &[u8] =
+    b"ipp 010100020000000101470012617474726962757465732d6368617273657400057574662d3848001b617474726962757465732d6e61747572616c2d6c616e67756167650002656e45000b7072696e7465722d75726900196970703a2f2f6c6f63616c686f73742f6970702f7072696e7442001472657175657374696e672d757365722d6e616d650005616c696365036869\ndev 1 1 start 0\ngrant f24,alice,30\n";
+
+/// Each is told a fault: the bare reply of server-error-temporary-error, and the codes of a fault.
+const FAULTS: &[u8] =
+    b"ipp 010105050000000101470012617474726962757465732d6368617273657400057574662d3848001b617474726962757465732d6e61747572616c2d6c616e67756167650002656e03\nrefused 6 fault\ngrant refused 6\n";
+
+/// A replay over a book that can't be read by this fault tells it line by line, and comes to its end.
+fn replays_on(alloc: Global, fault: BookFault) -> Result<(), Mismatch> {
+    let settings = replay_settings(alloc)?;
+    let mut book = FaultyBook {
+        inner: MemoryBook::empty(alloc, queue::settings(alloc)?)?,
+        failure: Failure {
+            unread: Some(fault),
+            ..TAKES_NOTHING
+        },
+    };
+    let mut output = Vec::new(alloc);
+    let mut input = LINES;
+    let came = replay_over(alloc, &mut input, &mut output, &mut book, &settings);
+    AT.same_bytes(FAULTS, output.as_slice())?;
+    AT.is_so(came == Ok(0), "a replay that comes to its end")
+}
+
 #[test]
-fn a_long_message_as_text_and_back(rt: HostRuntime) -> Result<(), Fail> {
-    let long = vec![in rt.alloc(); 171; 1000]?;
-    let mut text = Vec::new(rt.alloc());
-    put_hex(&mut text, long.as_slice())?;
-    assert_read(&rt, rt.alloc(), text.as_slice(), long.as_slice());
+fn a_replay_over_a_book_that_cannot_be_read(rt: HostRuntime) -> Result<(), Mismatch> {
+    for fault in &UNREAD {
+        replays_on(rt.alloc(), *fault)?;
+    }
     Ok(())
 }
 
@@ -96,22 +135,13 @@ const COMPLAINTS: &[u8] =
     differs over tables: an answer more\nwanted: status 0\ncame:   ipp short\n\
     no case:  no lines that are wanted\n";
 
-/// The cases are told to differ on two empty streams.
-fn assert_they_differ(
-    rt: &impl Abort,
-    alloc: Global,
-    output: &mut Vec<u8>,
-    complaints: &mut Vec<u8>,
-) -> Result<(), Fail> {
-    assert!(rt; !run_cases(alloc, CASES_THAT_DIFFER, output, complaints)?);
-    assert_eq!(rt; output.as_slice(), b"ok short\n".as_slice());
-    assert_eq!(rt; complaints.as_slice(), COMPLAINTS);
-    Ok(())
-}
-
 #[test]
 fn cases_that_differ(rt: HostRuntime) -> Result<(), Fail> {
     let mut output = Vec::new(rt.alloc());
     let mut complaints = Vec::new(rt.alloc());
-    assert_they_differ(&rt, rt.alloc(), &mut output, &mut complaints)
+    let are_well = run_cases(rt.alloc(), CASES_THAT_DIFFER, &mut output, &mut complaints)?;
+    AT.is_so(!are_well, "cases that are told to differ")?;
+    AT.same_bytes(b"ok short\n", output.as_slice())?;
+    AT.same_bytes(COMPLAINTS, complaints.as_slice())?;
+    Ok(())
 }

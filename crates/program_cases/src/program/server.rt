@@ -1,81 +1,150 @@
 //! A server on a port of the loopback interface with its clients, and what they do in turn.
 
-use crate::desk::books::DeskBook;
-use crate::desk::compare::{Mismatch, no_book};
-use crate::desk::connection::Wanted;
+use crate::desk::compare::{Failed, Mismatch, failed_at};
 use crate::desk::messages::PRINT_JOB;
 use crate::desk::queue::settings;
 use crate::desk::requests::POST_JOB;
-use crate::desk::streams::{BrokenWriter, FlushedWriter};
-use crate::program::sockets::{AT, Clients, client_at};
+use crate::desk::streams::{AT_ONCE, TestWriter, Way};
+use crate::program::clocks::{AtLook, TestClock};
+use crate::program::sockets::{AT, Clients, Comes, Gets};
 use print_server::{ServerFault, Service, Standing, listen};
 use queue_core::book::{BookFault, QueueBook};
 use queue_types::settings::Settings;
 use std::alloc::Global;
-use std::io;
-use std::io::{ErrorKind, Write};
-use std::net::{SocketAddr, TcpListener, TcpStream};
+use std::cell::Cell;
+use std::io::ErrorKind;
+use std::net::{SocketAddr, TcpListener};
 use std::num::NonZeroU32;
 use std::rt::Clock;
+use std::test::Fail;
 
-/// The seconds that a server of a test waits for a client, unless it is told otherwise.
-const PATIENCE: NonZeroU32 = NonZeroU32::MIN;
+/// How the clock of a server goes, and what its clients do as it looks at it.
+#[derive(Clone, Copy)]
+pub(super) enum Pace {
+    /// It goes with the machine's.
+    OfMachine,
+    /// So many seconds pass from each look at it to the next.
+    Leaps(u64),
+    /// So many pass, and the client of this number sends some bytes at each look.
+    SendsOn(u64, usize),
+    /// It stands, and the client of this number reads to the end of its connection.
+    ReadsOn(usize),
+    /// It stands, and the client of this number sends its body once it has its leave.
+    SendsWhenTold(usize),
+    /// It stands, and the next client goes as its second is looked at.
+    TakesAway,
+}
+
+/// How a server ends.
+#[derive(Clone, Copy)]
+pub(super) enum Ends {
+    /// It has served all connections.
+    Well,
+    /// Its book can't be read any more, by this fault.
+    Unread(BookFault),
+    /// Its line can't be printed.
+    Unprinted,
+}
+
+/// How a server serves connections.
+#[derive(Clone, Copy)]
+pub(super) struct Serving<'a> {
+    /// How many it is to serve.
+    pub(super) connections: u32,
+    /// What it prints, and how its writer takes it.
+    pub(super) lines: &'a str,
+    pub(super) way: Way,
+    pub(super) pace: Pace,
+    pub(super) ends: Ends,
+    /// All of it takes so many seconds at least, and fewer than so many.
+    pub(super) seconds: (u64, u64),
+    /// So does the longest time from one look at the clock to the next.
+    pub(super) wait: (u64, u64),
+}
+
+/// Most servers serve so.
+pub(super) const USUAL: Serving<'static> = Serving {
+    connections: 1,
+    lines: "served 1\n",
+    way: AT_ONCE,
+    pace: Pace::OfMachine,
+    ends: Ends::Well,
+    seconds: (0, 60),
+    wait: (0, u64::MAX),
+};
 
 /// What is done next.
 #[derive(Clone, Copy)]
 pub(super) enum Step<'a> {
-    /// A client comes and sends these parts of a stream. It may send more.
-    Sends(&'a [&'a [u8]]),
-    /// A client comes, sends these and tells that it sends no more.
-    SendsLast(&'a [&'a [u8]]),
-    /// A client comes, sends these and goes away.
-    GoesAway(&'a [&'a [u8]]),
+    /// From now on the server waits so many seconds for a client.
+    Waits(u32),
+    /// A client comes.
+    Comes(Comes<'a>),
     /// The server serves so many connections, and prints these lines.
     Serves(u32, &'a str),
-    /// The server serves so many connections, and can't print its lines.
-    ServesUntold(u32),
-    /// The server serves so many connections, prints this line, and can't flush it.
-    ServesUnflushed(u32, &'a str),
-    /// The server is to serve so many connections, prints these lines, and stops since its book can't be read any more, by this fault.
-    Stops(u32, &'a str, BookFault),
+    /// It serves so.
+    ServesSo(Serving<'a>),
     /// The client of this number, of those that stayed, gets this and then the end of its connection. The first is number 0.
-    Gets(usize, &'a [Wanted<'a>]),
-    /// Such a client gets a front of this, and then the end of its connection.
-    GetsFront(usize, &'a [Wanted<'a>]),
+    Gets(usize, Gets<'a>),
 }
 
-/// A server that stopped where it was to go on.
-fn mismatch_of(stopped: ServerFault) -> Mismatch {
-    match stopped {
-        ServerFault::Io(error) => error.into(),
-        ServerFault::Book(fault) => no_book(AT.subject, fault),
-    }
-}
+/// A client prints.
+pub(super) const PRINTS: Step<'static> = Step::Comes(Comes::SendsLast(&[POST_JOB, PRINT_JOB]));
+
+/// What is done in turn with a server, by its name.
+pub(super) type Row = (&'static str, &'static [Step<'static>]);
 
 /// A server over a book, and the clients that stayed.
 #[derive(Drop)]
 pub(super) struct Server<B: QueueBook> {
     alloc: Global,
     /// Where its clients wait.
-    pub(super) listener: TcpListener,
+    listener: TcpListener,
     address: SocketAddr,
     settings: Settings,
     book: B,
     clients: Clients,
     /// The seconds that it waits for a client.
-    pub(super) timeout: NonZeroU32,
+    timeout: NonZeroU32,
+    /// How often it looked at its clock as it served last.
+    pub(super) looks: u64,
 }
 
-impl<B: DeskBook> Server<B> {
-    /// A server on a port that the system chose, with an empty queue.
-    pub(super) fn new(rt: &HostRuntime) -> Result<Server<B>, Mismatch> {
-        let book = B::empty(rt.alloc(), settings(rt.alloc())?)?;
-        Server::over(rt, book)
+/// The clock of a server with these clients.
+fn clock_of<'a>(
+    rt: &'a HostRuntime,
+    pace: Pace,
+    listener: &'a TcpListener,
+    clients: &'a Clients,
+) -> Result<TestClock<'a>, Mismatch> {
+    let (leap, at_look) = match pace {
+        Pace::OfMachine => (None, AtLook::Nothing),
+        Pace::Leaps(seconds) => (Some(seconds), AtLook::Nothing),
+        Pace::SendsOn(seconds, client) => (Some(seconds), AtLook::SendsOn(clients.stream(client)?)),
+        Pace::ReadsOn(client) => (Some(0), AtLook::ReadsOn(clients.stream(client)?)),
+        Pace::SendsWhenTold(client) => (Some(0), AtLook::SendsWhenTold(clients.stream(client)?)),
+        Pace::TakesAway => (Some(0), AtLook::TakesAway(listener)),
+    };
+    Ok(TestClock::new(rt, leap, at_look))
+}
+
+/// A server came to this end.
+fn is_ended(came: &Result<Standing, ServerFault>, ends: Ends) -> bool {
+    match (came, ends) {
+        (Ok(_), Ends::Well) => true,
+        (Err(ServerFault::Book(fault)), Ends::Unread(wanted)) => *fault == wanted,
+        (Err(ServerFault::Io(error)), Ends::Unprinted) => error.kind() == ErrorKind::Other,
+        _ => false,
     }
 }
 
+/// A number is within such bounds.
+fn is_within(number: u64, (least, bound): (u64, u64)) -> bool {
+    least <= number && number < bound
+}
+
 impl<B: QueueBook + Drop> Server<B> {
-    /// A server on a port that the system chose, with the queue of a book of such a printer.
+    /// A server on a port that the system chose, with the queue of a book of a printer with an estimate of 20 pages.
     pub(super) fn over(rt: &HostRuntime, book: B) -> Result<Server<B>, Mismatch> {
         let alloc = rt.alloc();
         let listener = listen(rt, 0)?;
@@ -88,156 +157,80 @@ impl<B: QueueBook + Drop> Server<B> {
             settings,
             book,
             clients: Clients::new(alloc),
-            timeout: PATIENCE,
+            timeout: NonZeroU32::MIN,
+            looks: 0,
         })
     }
 
-    /// A client that has sent these bytes and may send more.
-    pub(super) fn client(&self, rt: &HostRuntime, parts: &[&[u8]]) -> io::Result<TcpStream> {
-        client_at(rt, self.address, parts)
-    }
-
-    /// Serves so many connections by this clock, and prints to a writer.
-    fn serve_into<C: Clock, W: Write>(
-        &mut self,
-        clock: &C,
-        out: &mut W,
-        connections: u32,
-    ) -> Result<Standing, ServerFault> {
+    /// Serves connections as it is to.
+    fn serve(&mut self, rt: &HostRuntime, serving: &Serving<'_>) -> Result<(), Mismatch> {
+        let written = Cell::new(0);
+        let mut out = TestWriter::new(self.alloc, serving.way, &written);
+        let clock = clock_of(rt, serving.pace, &self.listener, &self.clients)?;
         let service = Service {
             alloc: self.alloc,
             listener: &self.listener,
             settings: &self.settings,
             timeout: self.timeout,
         };
-        service.serve_connections(clock, out, &mut self.book, connections)
-    }
-
-    /// Serves so many connections by this clock, and prints these lines.
-    pub(super) fn serve<C: Clock>(
-        &mut self,
-        clock: &C,
-        connections: u32,
-        lines: &str,
-    ) -> Result<(), Mismatch> {
-        let mut printed = Vec::new(self.alloc);
-        if let Err(stopped) = self.serve_into(clock, &mut printed, connections) {
-            return Err(mismatch_of(stopped));
-        }
-        AT.same_bytes(lines.as_bytes(), printed.as_slice())
-    }
-
-    /// Is to serve so many connections, prints these lines, and stops since its book can't be read any more, by this fault.
-    fn stop(
-        &mut self,
-        rt: &HostRuntime,
-        connections: u32,
-        lines: &str,
-        fault: BookFault,
-    ) -> Result<(), Mismatch> {
-        let mut printed = Vec::new(self.alloc);
-        let came = self.serve_into(rt, &mut printed, connections);
+        let began = rt.monotonic()?;
+        let came = service.serve_connections(&clock, &mut out, &mut self.book, serving.connections);
+        let seconds = rt.monotonic()?.saturating_sub(began).as_secs();
+        self.looks = clock.looks();
+        AT.same_bytes(serving.lines.as_bytes(), out.taken.as_slice())?;
+        AT.is_so(is_ended(&came, serving.ends), "how a server ends")?;
+        AT.is_so(clock.is_done(), "what a client gets while it is served")?;
         AT.is_so(
-            matches!(came, Err(ServerFault::Book(stopped)) if stopped == fault),
-            "a book that can't be read any more",
-        )?;
-        AT.same_bytes(lines.as_bytes(), printed.as_slice())
-    }
-
-    /// Serves so many connections, and fails to print a line to this writer.
-    fn serve_untold<W: Write>(
-        &mut self,
-        rt: &HostRuntime,
-        out: &mut W,
-        connections: u32,
-    ) -> Result<(), Mismatch> {
-        let came = self.serve_into(rt, out, connections);
-        AT.is_so(
-            matches!(&came, Err(ServerFault::Io(error)) if error.kind() == NO_ROOM),
-            "a line that can't be printed",
+            is_within(seconds, serving.seconds) && is_within(clock.longest(), serving.wait),
+            "the seconds that a client is waited for",
         )
-    }
-
-    /// Serves so many connections, prints this line, and can't flush it.
-    fn serve_unflushed(
-        &mut self,
-        rt: &HostRuntime,
-        connections: u32,
-        line: &str,
-    ) -> Result<(), Mismatch> {
-        let mut out = FlushedWriter::new(self.alloc, 0);
-        self.serve_untold(rt, &mut out, connections)?;
-        AT.same_bytes(line.as_bytes(), out.taken.as_slice())
     }
 
     /// Takes a step.
     fn take(&mut self, rt: &HostRuntime, step: &Step<'_>) -> Result<(), Mismatch> {
         match step {
-            Step::Sends(parts) => self.clients.add(rt, self.address, parts),
-            Step::SendsLast(parts) => self.clients.add_last(rt, self.address, parts),
-            Step::GoesAway(parts) => {
-                let _gone = self.client(rt, parts)?;
+            Step::Waits(seconds) => {
+                self.timeout = NonZeroU32::new(*seconds).unwrap_or(NonZeroU32::MIN);
                 Ok(())
             }
-            Step::Serves(connections, lines) => self.serve(rt, *connections, lines),
-            Step::ServesUntold(connections) => {
-                self.serve_untold(rt, &mut narrow(self.alloc), *connections)
+            Step::Comes(comes) => self.clients.add(rt, self.address, *comes),
+            Step::Serves(connections, lines) => {
+                let serving = Serving {
+                    connections: *connections,
+                    lines: *lines,
+                    ..USUAL
+                };
+                self.serve(rt, &serving)
             }
-            Step::ServesUnflushed(connections, line) => {
-                self.serve_unflushed(rt, *connections, line)
-            }
-            Step::Stops(connections, lines, fault) => self.stop(rt, *connections, lines, *fault),
-            Step::Gets(client, wanted) => self.clients.get(*client, wanted),
-            Step::GetsFront(client, wanted) => self.clients.get_front(*client, wanted),
+            Step::ServesSo(serving) => self.serve(rt, serving),
+            Step::Gets(client, gets) => self.clients.get(*client, *gets),
         }
     }
 
-    /// Takes steps, one after another.
+    /// Takes the steps of a row, one after another.
     pub(super) fn take_each(
         &mut self,
         rt: &HostRuntime,
+        row: &str,
         steps: &[Step<'_>],
-    ) -> Result<(), Mismatch> {
-        for step in steps {
-            self.take(rt, step)?;
+    ) -> Result<(), Failed> {
+        for (step, it) in steps.iter().enumerate() {
+            if let Err(why) = self.take(rt, it) {
+                return Err(failed_at(row, step, why));
+            }
         }
         Ok(())
     }
-
-    /// Takes steps, serves one connection by this clock and prints this line of it, and takes the steps behind it.
-    pub(super) fn take_by<C: Clock>(
-        &mut self,
-        rt: &HostRuntime,
-        before: &[Step<'_>],
-        (clock, line): (&C, &str),
-        behind: &[Step<'_>],
-    ) -> Result<(), Mismatch> {
-        self.take_each(rt, before)?;
-        self.serve(clock, 1, line)?;
-        self.take_each(rt, behind)
-    }
 }
 
-/// A client prints.
-pub(super) const PRINTS: Step<'static> = Step::SendsLast(&[POST_JOB, PRINT_JOB]);
-
-/// Takes steps, one after another, with a server over an empty queue.
-pub(super) fn take_steps<B: DeskBook>(
+/// Takes the steps of a row with a server over a book.
+pub(super) fn take_row<B: QueueBook + Drop>(
     rt: &HostRuntime,
+    book: B,
+    row: &str,
     steps: &[Step<'_>],
-) -> Result<(), Mismatch> {
-    let mut server = Server::<B>::new(rt)?;
-    server.take_each(rt, steps)
-}
-
-/// How a writer fails that has no more room, or can't flush.
-pub(super) const NO_ROOM: ErrorKind = ErrorKind::Other;
-
-/// A writer in which no line has room: it takes five bytes.
-pub(super) fn narrow(alloc: Global) -> BrokenWriter {
-    BrokenWriter {
-        room: 5,
-        most: usize::MAX,
-        taken: Vec::new(alloc),
-    }
+) -> Result<(), Fail> {
+    let mut server = Server::over(rt, book)?;
+    server.take_each(rt, row, steps)?;
+    Ok(())
 }

@@ -1,14 +1,12 @@
 //! Words that name a command, and words that name none.
 
-use crate::program::folder::tell;
-use command_words::{Command, CommandFault, Import, Init, Serve, Statement, command};
+use crate::desk::compare::Mismatch;
+use crate::program::folder::AT;
+use command_words::{Command, Import, Init, Serve, Statement, command};
 use commands::run;
-use std::alloc::{AllocError, Global};
-use std::io;
+use std::alloc::Global;
 use std::io::BufWriter;
 use std::num::NonZeroU32;
-use std::process::Abort;
-use std::test::Fail;
 
 /// Lines of words, and the command that they name. A printer's estimate is 20 where they leave it out.
 const COMMANDS: [(&str, Command<'static>); 5] = [
@@ -47,34 +45,8 @@ const COMMANDS: [(&str, Command<'static>); 5] = [
     ("printd replay", Command::Replay),
 ];
 
-/// The words of a line.
-fn words_of(alloc: Global, line: &str) -> Result<Vec<&str>, AllocError> {
-    line.split(' ').collect(alloc)
-}
-
-/// The words of this line name this command.
-fn is_named(
-    rt: &impl Abort,
-    alloc: Global,
-    line: &str,
-    wanted: Command<'_>,
-) -> Result<(), AllocError> {
-    let words = words_of(alloc, line)?;
-    let is_wanted = matches!(command(alloc, words.as_slice()), Ok(came) if came == wanted);
-    assert!(rt; is_wanted, "{line}");
-    Ok(())
-}
-
-#[test]
-fn words_and_commands(rt: HostRuntime) -> Result<(), Fail> {
-    for (line, wanted) in COMMANDS {
-        is_named(&rt, rt.alloc(), line, wanted)?;
-    }
-    Ok(())
-}
-
 /// Lines of words of `serve`, and the seconds of its timeout: 5 where they leave it out.
-const SERVES: [(&str, u32); 2] = [
+static SERVES: [(&str, u32); 2] = [
     (
         "printd serve --store a --port 8631 --connections 4294967295 --timeout 60",
         60,
@@ -85,84 +57,26 @@ const SERVES: [(&str, u32); 2] = [
     ),
 ];
 
+/// The words of this line name this command.
+fn is_named(alloc: Global, line: &str, wanted: Command<'_>) -> Result<(), Mismatch> {
+    let words: Vec<&str> = line.split(' ').collect(alloc)?;
+    let is_wanted = matches!(command(alloc, words.as_slice()), Ok(came) if came == wanted);
+    AT.is_so(is_wanted, line)
+}
+
 #[test]
-fn words_that_serve(rt: HostRuntime) -> Result<(), Fail> {
-    for (line, seconds) in SERVES {
-        let wanted = Command::Serve(Serve {
+fn words_and_commands(rt: HostRuntime) -> Result<(), Mismatch> {
+    for (line, wanted) in COMMANDS {
+        is_named(rt.alloc(), line, wanted)?;
+    }
+    for (line, seconds) in &SERVES {
+        let serve = Serve {
             store: "a",
             port: 8631,
             connections: 4_294_967_295,
-            timeout: NonZeroU32::new(seconds).expect(&rt, "no seconds"),
-        });
-        is_named(&rt, rt.alloc(), line, wanted)?;
-    }
-    Ok(())
-}
-
-/// Words of a server on port 0.
-const PORT_0: &str = "printd serve --store a --port 0 --connections 1";
-
-/// Lines of words that name no command, and the exit status.
-static WORDS: [(&str, u8); 12] = [
-    ("printd", 2),
-    ("printd print", 2),
-    ("printd replay now", 2),
-    ("printd sweep x", 2),
-    ("printd import --store", 2),
-    ("printd import --store a", 2),
-    ("printd init --store a --uri b", 2),
-    (
-        "printd init --store a --uri b --name c --estimate 100001",
-        2,
-    ),
-    (PORT_0, 2),
-    ("printd serve --store a --port 1 --connections 0", 2),
-    ("printd --help", 0),
-    ("printd import --help", 0),
-];
-
-/// The words of this line name no command, and the exit status of what is told is this.
-fn names_none(rt: &impl Abort, alloc: Global, line: &str, status: u8) -> Result<(), AllocError> {
-    let words = words_of(alloc, line)?;
-    match command(alloc, words.as_slice()) {
-        Err(CommandFault::Words(error)) => {
-            assert_eq!(rt; error.exit_code(), i32::from(status), "{line}")
-        }
-        _ => panic!(rt; "a command: {line}"),
-    }
-    Ok(())
-}
-
-/// Words that name no command are told what is wrong with them, or the text that they ask for.
-#[test]
-fn words_that_name_none(rt: HostRuntime) -> Result<(), Fail> {
-    for (line, status) in &WORDS {
-        names_none(&rt, rt.alloc(), line, *status)?;
-    }
-    Ok(())
-}
-
-/// What words come to: their exit status, and whether standard output and standard error stay empty.
-fn told(rt: &HostRuntime, words: &[&str]) -> io::Result<(u8, (bool, bool))> {
-    let mut out = BufWriter::new(rt.alloc(), Vec::new(rt.alloc()))?;
-    let mut err = Vec::new(rt.alloc());
-    let status = run(rt, words, &mut out, &mut err);
-    Ok((status, (out.get_ref().is_empty(), err.is_empty())))
-}
-
-/// What the words of a line come to.
-fn told_of(rt: &HostRuntime, line: &str) -> io::Result<(u8, (bool, bool))> {
-    let words = words_of(rt.alloc(), line)?;
-    told(rt, words.as_slice())
-}
-
-/// Words that name no command end with status 2 and print nothing; a help text that was asked for ends with 0.
-#[test]
-fn words_of_no_command(rt: HostRuntime) -> Result<(), Fail> {
-    for (line, status) in &WORDS {
-        let (came, are_empty) = told_of(&rt, line)?;
-        assert_eq!(rt; came, *status, "{line}");
-        assert_eq!(rt; are_empty, (*status == 2, *status == 0), "{line}");
+            timeout: NonZeroU32::new(*seconds).unwrap_or(NonZeroU32::MIN),
+        };
+        is_named(rt.alloc(), line, Command::Serve(serve))?;
     }
     Ok(())
 }
@@ -188,18 +102,59 @@ error: invalid value '0' for '--port <P>': 0 is not in 1..=65535
 For more information, try '--help'.
 ";
 
-/// A help text that was asked for is printed on standard output, and the exit status is 0.
-#[test]
-fn text_of_a_help(rt: HostRuntime) -> Result<(), Fail> {
-    let words = words_of(rt.alloc(), "printd serve --help")?;
-    tell(&rt, words.as_slice(), (0, SERVE_HELP, ""))?;
-    Ok(())
+/// What is told of words is another text than those of this table.
+const SOME_TEXT: &str = "";
+
+/// Lines of words that name no command, the exit status, and what is told.
+static NO_COMMANDS: [(&str, u8, &str); 13] = [
+    ("printd", 2, SOME_TEXT),
+    ("printd print", 2, SOME_TEXT),
+    ("printd replay now", 2, SOME_TEXT),
+    ("printd sweep x", 2, SOME_TEXT),
+    ("printd import --store", 2, SOME_TEXT),
+    ("printd import --store a", 2, SOME_TEXT),
+    ("printd init --store a --uri b", 2, SOME_TEXT),
+    (
+        "printd init --store a --uri b --name c --estimate 100001",
+        2,
+        SOME_TEXT,
+    ),
+    (
+        "printd serve --store a --port 0 --connections 1",
+        2,
+        NO_PORT,
+    ),
+    (
+        "printd serve --store a --port 1 --connections 0",
+        2,
+        SOME_TEXT,
+    ),
+    ("printd --help", 0, SOME_TEXT),
+    ("printd import --help", 0, SOME_TEXT),
+    ("printd serve --help", 0, SERVE_HELP),
+];
+
+/// The words of a line are told this: on standard output where the exit status is 0, and else on standard error. The other stays empty.
+fn are_told(rt: &HostRuntime, line: &str, status: u8, text: &str) -> Result<(), Mismatch> {
+    let words: Vec<&str> = line.split(' ').collect(rt.alloc())?;
+    let mut out = BufWriter::new(rt.alloc(), Vec::new(rt.alloc()))?;
+    let mut err = Vec::new(rt.alloc());
+    let came = run(rt, words.as_slice(), &mut out, &mut err);
+    let (told, other) = if status == 0 {
+        (out.get_ref().as_slice(), err.as_slice())
+    } else {
+        (err.as_slice(), out.get_ref().as_slice())
+    };
+    let is_alone = !told.is_empty() && other.is_empty();
+    let is_text = text == SOME_TEXT || text.as_bytes() == told;
+    AT.is_so(came == status && is_alone && is_text, line)
 }
 
-/// What is wrong with words is printed on standard error, and the exit status is 2.
+/// Words that name no command are told what is wrong with them, or the text that they ask for.
 #[test]
-fn text_of_a_wrong_word(rt: HostRuntime) -> Result<(), Fail> {
-    let words = words_of(rt.alloc(), PORT_0)?;
-    tell(&rt, words.as_slice(), (2, "", NO_PORT))?;
+fn words_of_no_command(rt: HostRuntime) -> Result<(), Mismatch> {
+    for (line, status, text) in &NO_COMMANDS {
+        are_told(&rt, line, *status, text)?;
+    }
     Ok(())
 }
