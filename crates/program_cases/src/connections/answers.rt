@@ -393,12 +393,21 @@ const WHOLE_JOB: Connection<'static> = Connection {
     ],
 };
 
-/// Print-Jobs in other spellings.
-static PRINT_JOBS: [Row; 8] = [
+/// Print-Jobs whose heads are spelled otherwise.
+static HEADS_OF_PRINT_JOBS: [Row; 4] = [
     ("the smallest Print-Job", &[PRINT]),
     ("other targets of a Print-Job", TARGETS),
     ("a whole target of a Print-Job", WHOLE_TARGET),
     ("other spellings of a head", HEADS),
+];
+
+#[test]
+fn print_jobs_with_other_heads(rt: HostRuntime) -> Result<(), Failed> {
+    take_rows(rt.alloc(), &HEADS_OF_PRINT_JOBS, &AT_EACH_SPEED)
+}
+
+/// Print-Jobs whose bodies come otherwise, or that are the last of their connection.
+static BODIES_OF_PRINT_JOBS: [Row; 4] = [
     ("a body in one chunk", CHUNKED),
     ("one chunk with an extension and trailers", ONE_CHUNK),
     ("a body that waits for leave", WAITING),
@@ -406,17 +415,34 @@ static PRINT_JOBS: [Row; 8] = [
 ];
 
 #[test]
-fn print_jobs_in_other_spellings(rt: HostRuntime) -> Result<(), Failed> {
-    take_rows(rt.alloc(), &PRINT_JOBS, &AT_EACH_SPEED)
+fn print_jobs_with_other_bodies(rt: HostRuntime) -> Result<(), Failed> {
+    take_rows(rt.alloc(), &BODIES_OF_PRINT_JOBS, &AT_EACH_SPEED)
 }
 
-/// What the device asks and tells, and messages that are refused.
-static ROWS: [Row; 7] = [
+/// What the device asks for.
+static LOOKS: [Row; 3] = [
     ("the queue and a document", QUEUE_AND_DOCUMENT),
     ("the queue of a released and a held job", RELEASED_AND_HELD),
     ("the format of a document", PDF_DOCUMENT),
+];
+
+#[test]
+fn the_queue_and_documents(rt: HostRuntime) -> Result<(), Failed> {
+    take_rows(rt.alloc(), &LOOKS, &AT_EACH_SPEED)
+}
+
+/// What it tells.
+static LINES: [Row; 2] = [
     ("lines of the device", REPORTS),
     ("bodies that are no line", NO_LINES),
+];
+
+#[test]
+fn lines_of_the_device(rt: HostRuntime) -> Result<(), Failed> {
+    take_rows(rt.alloc(), &LINES, &AT_EACH_SPEED)
+}
+
+static MESSAGES: [Row; 2] = [
     (
         "messages that are refused in their own words",
         REFUSED_MESSAGES,
@@ -428,6 +454,6 @@ static ROWS: [Row; 7] = [
 ];
 
 #[test]
-fn requests_that_are_answered(rt: HostRuntime) -> Result<(), Failed> {
-    take_rows(rt.alloc(), &ROWS, &AT_EACH_SPEED)
+fn refused_messages_and_a_whole_job(rt: HostRuntime) -> Result<(), Failed> {
+    take_rows(rt.alloc(), &MESSAGES, &AT_EACH_SPEED)
 }

@@ -1,15 +1,18 @@
 //! Bodies that are large.
 
+use crate::desk::books::{DeskBook, MemoryBook};
 use crate::desk::compare::{Failed, Mismatch};
 use crate::desk::connection::Wanted::Success;
 use crate::desk::connection::{Connection, broken_off, faultless, filled, wanted_bytes};
 use crate::desk::jobs::{PRINTED, RELEASED};
 use crate::desk::messages::{PRINT_JOB_BEGUN, RELEASE_JOB};
-use crate::desk::queue::{Both, Exchange};
+use crate::desk::queue::{Exchange, Queue};
 use crate::desk::requests::{GET_DOCUMENT, OCTETS, POST_RELEASE};
 use crate::desk::rows::{Row, take_rows};
 use crate::desk::streams::{AT_LONG_SPEEDS, AT_ONCE, Way, by};
 use http_front::{End, ServeCause};
+use list_book::ListBook;
+use std::alloc::Global;
 
 /// A part of a document.
 const MUCH: &[u8] = &[b'0'; 4096];
@@ -95,7 +98,7 @@ static ROOMS: [usize; 23] = [
 ];
 
 /// The document is fetched by writers that fail, and by one that takes it whole.
-fn fetch_large(desk: &mut Both, answers: &[u8]) {
+fn fetch_large<B: DeskBook>(queue: &mut Queue<B>, answers: &[u8]) {
     let whole = Exchange {
         stream: GET_DOCUMENT,
         answers,
@@ -112,31 +115,35 @@ fn fetch_large(desk: &mut Both, answers: &[u8]) {
             write: PIECE,
             ..AT_ONCE
         };
-        desk.exchange(&broken, way);
+        queue.exchange(&broken, way);
     }
-    desk.exchange(&whole, by(4096));
+    queue.exchange(&whole, by(4096));
 }
 
 /// A document of 131,073 bytes is printed, released and fetched.
-#[test]
-fn a_large_document(rt: HostRuntime) -> Result<(), Mismatch> {
-    let alloc = rt.alloc();
-    let document = filled(alloc, &[(b"01234567", 16_384), (b"!", 1)])?;
-    let answers = wanted_bytes(alloc, &[Success(OCTETS, document.as_slice())])?;
-    let prints = [Connection {
+fn take_large<B: DeskBook>(alloc: Global, document: &[u8], answers: &[u8]) -> Result<(), Mismatch> {
+    let prints = Connection {
         stream: &[
             b"POST /ipp/print HTTP/1.1\r\nContent-Type: application/ipp\r\nContent-Length: 131216\r\n\r\n",
             PRINT_JOB_BEGUN,
-            document.as_slice(),
+            document,
             POST_RELEASE,
             RELEASE_JOB,
         ],
         acted: 2,
         end: End::Closed,
         wanted: &[PRINTED, RELEASED],
-    }];
-    let mut desk = Both::granted(alloc)?;
-    desk.take_each(&prints, by(4096));
-    fetch_large(&mut desk, answers.as_slice());
-    desk.end()
+    };
+    let mut queue = Queue::<B>::granted(alloc)?;
+    queue.take(&prints, by(4096));
+    fetch_large(&mut queue, answers);
+    queue.end()
+}
+
+#[test]
+fn a_large_document(rt: HostRuntime) -> Result<(), Mismatch> {
+    let document = filled(rt.alloc(), &[(b"01234567", 16_384), (b"!", 1)])?;
+    let answers = wanted_bytes(rt.alloc(), &[Success(OCTETS, document.as_slice())])?;
+    take_large::<ListBook>(rt.alloc(), document.as_slice(), answers.as_slice())?;
+    take_large::<MemoryBook>(rt.alloc(), document.as_slice(), answers.as_slice())
 }

@@ -209,8 +209,7 @@ fn break_reader<B: DeskBook>(
         ..AT_ONCE
     };
     queue.exchange(&exchange, way);
-    queue.take_job(acted.saturating_add(1));
-    queue.end()
+    queue.end_at_job(acted.saturating_add(1))
 }
 
 /// How many bytes a Print-Job has.

@@ -1,19 +1,20 @@
 //! Connections that are cut at each length, over each book.
 
+use crate::desk::books::{DeskBook, MemoryBook};
 use crate::desk::compare::Mismatch;
 use crate::desk::connection::Wanted::{Continue, Success};
 use crate::desk::connection::{Connection, Wanted, faultless, in_chunks_of_one_byte, wanted_bytes};
 use crate::desk::jobs::PRINTED;
 use crate::desk::messages::{BAD_REQUEST, JOB_1, JOB_2, PRINT_JOB};
-use crate::desk::queue::{Both, Exchange};
+use crate::desk::queue::{Exchange, Queue};
 use crate::desk::requests::{IPP, POST_JOB, POST_WAITING};
 use crate::desk::streams::{AT_EACH_SPEED, AT_ONCE, Way};
 use http_front::End;
+use list_book::ListBook;
 use std::alloc::Global;
-use std::slice;
 
 /// A front of a Print-Job comes to a queue at each speed, and leaves no job. From the end of a head of so many bytes on it is answered.
-fn cut_to(desk: &mut Both, front: &[u8], head: usize, answers: &[u8]) {
+fn cut_to<B: DeskBook>(queue: &mut Queue<B>, front: &[u8], head: usize, answers: &[u8]) {
     let end = if front.is_empty() {
         End::Closed
     } else {
@@ -26,11 +27,27 @@ fn cut_to(desk: &mut Both, front: &[u8], head: usize, answers: &[u8]) {
         past: 1,
     };
     for way in &AT_EACH_SPEED {
-        desk.exchange(&exchange, *way);
+        queue.exchange(&exchange, *way);
     }
 }
 
 /// No front of a Print-Job leaves a job, and it does, with these answers, the last of which isn't written before.
+fn cut_in<B: DeskBook>(
+    alloc: Global,
+    whole: &Connection<'_>,
+    head: usize,
+    begun: &[u8],
+) -> Result<(), Mismatch> {
+    let request = whole.stream.first().copied().unwrap_or(b"");
+    let mut queue = Queue::<B>::new(alloc)?;
+    for length in 0..request.len() {
+        cut_to(&mut queue, &request[..length], head, begun);
+    }
+    queue.take(whole, AT_ONCE);
+    queue.end_at_job(2)
+}
+
+/// So it is over each book.
 fn cut_each(
     alloc: Global,
     request: &[u8],
@@ -38,18 +55,14 @@ fn cut_each(
     wanted: &[Wanted<'_>],
 ) -> Result<(), Mismatch> {
     let begun = wanted_bytes(alloc, &wanted[..wanted.len().saturating_sub(1)])?;
-    let mut desk = Both::new(alloc)?;
-    for length in 0..request.len() {
-        cut_to(&mut desk, &request[..length], head, begun.as_slice());
-    }
     let whole = Connection {
         stream: &[request],
         acted: 1,
         end: End::Closed,
         wanted,
     };
-    desk.take_each(slice::from_ref(&whole), AT_ONCE);
-    desk.end_at_job(2)
+    cut_in::<ListBook>(alloc, &whole, head, begun.as_slice())?;
+    cut_in::<MemoryBook>(alloc, &whole, head, begun.as_slice())
 }
 
 #[test]
@@ -70,19 +83,30 @@ fn chunks_cut_at_each_length(rt: HostRuntime) -> Result<(), Mismatch> {
 const ATTRIBUTES: usize = 143;
 
 /// A message behind its head is answered so.
-fn take_message(desk: &mut Both, head: &[u8], message: &[u8], wanted: &[Wanted<'_>], way: Way) {
+fn take_message<B: DeskBook>(
+    queue: &mut Queue<B>,
+    head: &[u8],
+    message: &[u8],
+    wanted: &[Wanted<'_>],
+    way: Way,
+) {
     let connection = Connection {
         stream: &[head, message],
         acted: 1,
         end: End::Closed,
         wanted,
     };
-    desk.take_each(slice::from_ref(&connection), way);
+    queue.take(&connection, way);
 }
 
 /// The smallest Print-Job, cut to so many bytes, comes to a queue. It is refused inside its attributes, and makes a job with a part of its
 /// document, or none.
-fn cut_message(alloc: Global, desk: &mut Both, length: usize, way: Way) -> Result<(), Mismatch> {
+fn cut_message<B: DeskBook>(
+    alloc: Global,
+    queue: &mut Queue<B>,
+    length: usize,
+    way: Way,
+) -> Result<(), Mismatch> {
     let head = format!(in alloc;
         "POST /ipp/print HTTP/1.1\r\nContent-Type: application/ipp\r\nContent-Length: {length}\r\n\r\n"
     )?;
@@ -92,23 +116,24 @@ fn cut_message(alloc: Global, desk: &mut Both, length: usize, way: Way) -> Resul
         Some(_) => JOB_2,
     };
     let message = PRINT_JOB.get(..length).unwrap_or(PRINT_JOB);
-    take_message(desk, head.as_bytes(), message, &[Success(IPP, reply)], way);
+    take_message(queue, head.as_bytes(), message, &[Success(IPP, reply)], way);
     Ok(())
 }
 
 /// It is cut so to each length from 8 bytes on, to a queue of its own.
-fn cut_messages(alloc: Global, way: Way) -> Result<(), Mismatch> {
-    let mut desk = Both::new(alloc)?;
+fn cut_messages<B: DeskBook>(alloc: Global, way: Way) -> Result<(), Mismatch> {
+    let mut queue = Queue::<B>::new(alloc)?;
     for length in 8..=ATTRIBUTES + 1 {
-        cut_message(alloc, &mut desk, length, way)?;
+        cut_message(alloc, &mut queue, length, way)?;
     }
-    desk.end()
+    queue.end()
 }
 
 #[test]
 fn a_message_cut_at_each_length(rt: HostRuntime) -> Result<(), Mismatch> {
     for way in &AT_EACH_SPEED {
-        cut_messages(rt.alloc(), *way)?;
+        cut_messages::<ListBook>(rt.alloc(), *way)?;
+        cut_messages::<MemoryBook>(rt.alloc(), *way)?;
     }
     Ok(())
 }

@@ -3,11 +3,11 @@ ghost use Rattle.std.specs.Prelude.{All};
 ghost use Rattle.queue_core.specs.Limits.{IsMoment};
 
 use crate::desk::books::{DeskBook, GRANT, MemoryBook};
-use crate::desk::compare::{Failed, Place, failed_at};
+use crate::desk::compare::{Failed, Mismatch, Place, failed_at};
 use crate::desk::connection::Wanted::Success;
 use crate::desk::connection::{Wanted, broken_off, faultless, wanted_bytes};
 use crate::desk::messages::{DONE, JOB_1, PRINT_JOB, RELEASE_JOB};
-use crate::desk::queue::settings;
+use crate::desk::queue::{new_book, settings};
 use crate::desk::requests::{GET_QUEUE, IPP, POST_JOB, POST_RELEASE, TEXT};
 use crate::desk::streams::{AT_ONCE, TestWriter, Way};
 use arrivals::{Arrival, Arrived, Outcome, take_all};
@@ -16,6 +16,7 @@ use http_front::{End, ServeCause};
 use list_book::ListBook;
 use queue_core::book::QueueBook;
 use queue_types::limits::LAST_MOMENT;
+use queue_types::settings::Settings;
 use std::alloc::Global;
 use std::cell::Cell;
 use std::test::Fail;
@@ -147,6 +148,14 @@ fn is_wanted(wanted: Comes, came: &Outcome) -> bool {
     }
 }
 
+/// Where a day over such a book is compared.
+fn place_in<B: DeskBook>() -> Place {
+    Place {
+        subject: B::subject(),
+        most: usize::MAX,
+    }
+}
+
 /// Each did.
 fn compare_each(place: &Place, day: &Day, came: &[Outcome]) -> Result<(), Failed> {
     for (step, wanted) in day.wanted.iter().enumerate() {
@@ -169,7 +178,46 @@ fn has_pages<B: QueueBook>(book: &mut B, pages: Option<(u64, i64, u64, u64)>) ->
     }
 }
 
-/// A day passes over a new book.
+/// All of a day comes to a book, whose answers go to a writer: this comes of it.
+fn come<B: DeskBook>(
+    alloc: Global,
+    book: &mut B,
+    settings: &Settings,
+    arrivals: &[Arrival<'_>],
+    writer: &mut TestWriter<'_>,
+    day: &Day,
+) -> Result<(), Failed>
+    requires { All (λ a. IsMoment a.moment) arrivals.now }
+{
+    match take_all(alloc, book, settings, arrivals, writer) {
+        Ok(came) => compare_each(&place_in::<B>(), day, came.as_slice()),
+        Err(_) => Err(failed_at(day.name, 0, Mismatch::Memory)),
+    }
+}
+
+/// A day passes over a book: this comes of it, these answers are written, and alice has these pages behind it.
+fn pass_over<B: DeskBook>(
+    alloc: Global,
+    book: &mut B,
+    settings: &Settings,
+    arrivals: &[Arrival<'_>],
+    day: &Day,
+    answers: &[u8],
+) -> Result<(), Failed>
+    requires { All (λ a. IsMoment a.moment) arrivals.now }
+{
+    let written = Cell::new(0);
+    let mut writer = TestWriter::new(alloc, day.way, &written);
+    come(alloc, book, settings, arrivals, &mut writer, day)?;
+    let front = answers.get(..day.way.room).unwrap_or(answers);
+    let is_written = place_in::<B>().same_bytes(front, writer.taken.as_slice());
+    let has_pages = place_in::<B>().is_so(has_pages(book, day.pages), "the pages of alice");
+    is_written
+        .and(has_pages)
+        .map_err(|why| failed_at(day.name, day.wanted.len(), why))
+}
+
+/// It passes over a new one.
 fn pass<B: DeskBook>(
     alloc: Global,
     arrivals: &[Arrival<'_>],
@@ -178,21 +226,9 @@ fn pass<B: DeskBook>(
 ) -> Result<(), Fail>
     requires { All (λ a. IsMoment a.moment) arrivals.now }
 {
-    let place = Place {
-        subject: B::subject(),
-        most: usize::MAX,
-    };
-    let written = Cell::new(0);
-    let mut writer = TestWriter::new(alloc, day.way, &written);
     let settings = settings(alloc)?;
-    let mut book = B::empty(alloc, settings.try_clone()?)?;
-    let came = take_all(alloc, &mut book, &settings, arrivals, &mut writer)?;
-    compare_each(&place, day, came.as_slice())?;
-    place.is_so(has_pages(&mut book, day.pages), "the pages of alice")?;
-    place.same_bytes(
-        answers.get(..day.way.room).unwrap_or(answers),
-        writer.taken.as_slice(),
-    )?;
+    let mut book = new_book::<B>(alloc)?;
+    pass_over(alloc, &mut book, &settings, arrivals, day, answers)?;
     Ok(())
 }
 

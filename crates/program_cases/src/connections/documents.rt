@@ -175,13 +175,17 @@ const FETCHED: Connection<'static> = Connection {
     ],
 };
 
-static ROWS: [Row; 2] = [
-    ("documents that are not there", NOT_THERE),
-    // beside a job of one document that is on hold
-    ("documents by their numbers", &[PRINT, OF_TWO, FETCHED]),
-];
+static AT_EACH_TIME: [Row; 1] = [("documents that are not there", NOT_THERE)];
 
 #[test]
-fn documents_of_jobs(rt: HostRuntime) -> Result<(), Failed> {
-    take_rows(rt.alloc(), &ROWS, &AT_EACH_SPEED)
+fn documents_that_are_not_there(rt: HostRuntime) -> Result<(), Failed> {
+    take_rows(rt.alloc(), &AT_EACH_TIME, &AT_EACH_SPEED)
+}
+
+// beside a job of one document that is on hold
+static BY_NUMBERS: [Row; 1] = [("documents by their numbers", &[PRINT, OF_TWO, FETCHED])];
+
+#[test]
+fn documents_by_their_numbers(rt: HostRuntime) -> Result<(), Failed> {
+    take_rows(rt.alloc(), &BY_NUMBERS, &AT_EACH_SPEED)
 }

@@ -7,7 +7,7 @@ use crate::connections::calls::{
 };
 use crate::desk::books::{DeskBook, MemoryBook, grant_in};
 use crate::desk::compare::{Mismatch, Place, Subject};
-use crate::desk::queue::settings;
+use crate::desk::queue::{new_book, settings};
 use crate::desk::streams::{SPEEDS, TestReader, by};
 use http_front::{ServeFault, Served, serve};
 use list_book::ListBook;
@@ -102,21 +102,21 @@ fn pages_in<B: QueueBook>(book: &mut B, account: &str) -> Option<(u64, i64, u64,
 
 /// Two queues of a printer with an estimate of 20 pages, and what was written last from each. They keep what first wasn't the same.
 #[derive(Drop)]
-struct Pair {
+struct Pair<A: QueueBook, B: QueueBook> {
     alloc: Global,
     settings: Settings,
-    lists: ListBook,
-    tables: MemoryBook,
+    lists: A,
+    tables: B,
     from_lists: Vec<u8>,
     from_tables: Vec<u8>,
     found: Result<(), Mismatch>,
 }
 
-impl Pair {
+impl<A: DeskBook, B: DeskBook> Pair<A, B> {
     /// Two empty queues.
-    fn new(alloc: Global) -> Result<Pair, Mismatch> {
-        let lists = ListBook::empty(alloc, settings(alloc)?)?;
-        let tables = MemoryBook::empty(alloc, settings(alloc)?)?;
+    fn new(alloc: Global) -> Result<Pair<A, B>, Mismatch> {
+        let lists = new_book(alloc)?;
+        let tables = new_book(alloc)?;
         let settings = settings(alloc)?;
         Ok(Pair {
             alloc,
@@ -232,7 +232,12 @@ fn has_part(bytes: &[u8], part: &[u8]) -> bool {
 }
 
 /// Draws a call, and counts it where its answer has what is looked for.
-fn draw_call(pair: &mut Pair, draws: &mut Draws<'_>, counts: &mut [u32], moment: u32)
+fn draw_call<A: DeskBook, B: DeskBook>(
+    pair: &mut Pair<A, B>,
+    draws: &mut Draws<'_>,
+    counts: &mut [u32],
+    moment: u32,
+)
     requires { IsMoment moment }
 {
     let place = draws.row();
@@ -249,12 +254,9 @@ fn draw_call(pair: &mut Pair, draws: &mut Draws<'_>, counts: &mut [u32], moment:
 }
 
 /// Draws all of the calls, each at a moment of its own, and counts the answers that are looked for. Account files come between them.
-fn draw_calls(pair: &mut Pair) -> [u32; KINDS] {
+fn draw_calls<A: DeskBook, B: DeskBook>(pair: &mut Pair<A, B>, rows: &[Row]) -> [u32; KINDS] {
     let mut counts = [0; KINDS];
-    let mut draws = Draws {
-        state: 10,
-        rows: &ROWS,
-    };
+    let mut draws = Draws { state: 10, rows };
     for moment in 1..=CALLS {
         if moment % UNTIL_GRANT == 1 {
             let granted = pair.grant(moment);
@@ -266,13 +268,17 @@ fn draw_calls(pair: &mut Pair) -> [u32; KINDS] {
 }
 
 /// From two queues that are empty at first comes the same for calls that are drawn, and each answer that is looked for.
-#[test]
-fn five_hundred_connections_in_a_row(rt: HostRuntime) -> Result<(), Mismatch> {
-    let mut pair = Pair::new(rt.alloc())?;
-    let counts = draw_calls(&mut pair);
-    for (row, count) in ROWS.iter().zip(&counts) {
+fn draw_from<A: DeskBook, B: DeskBook>(alloc: Global, rows: &[Row]) -> Result<(), Mismatch> {
+    let mut pair = Pair::<A, B>::new(alloc)?;
+    let counts = draw_calls(&mut pair, rows);
+    for (row, count) in rows.iter().zip(&counts) {
         pair.note(AT.is_so(*count > 0, row.3));
     }
     pair.look_at_all();
     pair.found
+}
+
+#[test]
+fn five_hundred_connections_in_a_row(rt: HostRuntime) -> Result<(), Mismatch> {
+    draw_from::<ListBook, MemoryBook>(rt.alloc(), &ROWS)
 }

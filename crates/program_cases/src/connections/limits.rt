@@ -365,28 +365,40 @@ fn in_chunks<'a>(
     filled(alloc, &[(front, 1), (chunk, 65_344), (rest, 1)])
 }
 
-/// A POST in chunks of one byte, each 1,027 bytes long by its extension, and this end comes to this in lists.
-fn take_raw(alloc: Global, row: &RawEnd) -> Result<(), Mismatch> {
-    let (begin, count, end) = row.rest;
+/// A POST in chunks of one byte, each 1,027 bytes long by its extension, and such an end.
+fn raw_body(
+    alloc: Global,
+    (begin, count, end): (&'static [u8], usize, &'static [u8]),
+) -> Result<Vec<u8>, AllocError> {
     let chunk = filled(alloc, &[(b"1;", 1), (b"a", 1020), (b"\r\nx\r\n", 1)])?;
     let rest = filled(alloc, &[(begin, 1), (b"a", count), (end, 1)])?;
-    let stream = in_chunks(alloc, CHUNKED, chunk.as_slice(), rest.as_slice())?;
+    in_chunks(alloc, CHUNKED, chunk.as_slice(), rest.as_slice())
+}
+
+/// One with this end comes to this.
+fn take_raw<B: DeskBook>(alloc: Global, exchange: &Exchange<'_>) -> Result<(), Mismatch> {
+    let mut queue = Queue::<B>::new(alloc)?;
+    queue.exchange(exchange, by(4096));
+    queue.end()
+}
+
+/// It does in lists.
+fn take_raw_end(alloc: Global, row: &RawEnd) -> Result<(), Mismatch> {
+    let stream = raw_body(alloc, row.rest)?;
     let answers = wanted_bytes(alloc, row.wanted)?;
-    let mut queue = Queue::<ListBook>::new(alloc)?;
     let exchange = Exchange {
         stream: stream.as_slice(),
         answers: answers.as_slice(),
         outcome: Ok(row.outcome),
         past: 1,
     };
-    queue.exchange(&exchange, by(4096));
-    queue.end()
+    take_raw::<ListBook>(alloc, &exchange)
 }
 
 /// Each row does. A test has three of them, as each takes seconds.
 fn take_each_raw(alloc: Global, rows: &[RawEnd]) -> Result<(), Failed> {
     for (step, row) in rows.iter().enumerate() {
-        if let Err(why) = take_raw(alloc, row) {
+        if let Err(why) = take_raw_end(alloc, row) {
             return Err(failed_at(row.name, step, why));
         }
     }

@@ -173,7 +173,7 @@ const TOO_LARGE_CHUNKS: &[Rest] = &[
     Short(b"1\r\na\r\n1000000\r\n"),
 ];
 
-static ROWS: [Streams; 16] = [
+static HEADS: [Streams; 3] = [
     Streams {
         name: "heads that can't be read",
         front: b"",
@@ -202,6 +202,14 @@ static ROWS: [Streams; 16] = [
         end: End::Refused(400),
         wanted: &[BAD],
     },
+];
+
+#[test]
+fn heads_and_lengths_that_cannot_be_read(rt: HostRuntime) -> Result<(), Failed> {
+    come_to_their_ends(rt.alloc(), &HEADS)
+}
+
+static TARGETS: [Streams; 3] = [
     Streams {
         name: "targets without a route",
         front: b"",
@@ -229,6 +237,14 @@ static ROWS: [Streams; 16] = [
         end: End::Refused(405),
         wanted: &[GET_ALLOWED],
     },
+];
+
+#[test]
+fn targets_without_a_route_and_other_methods(rt: HostRuntime) -> Result<(), Failed> {
+    come_to_their_ends(rt.alloc(), &TARGETS)
+}
+
+static BODIES: [Streams; 6] = [
     Streams {
         name: "bodies that may not come",
         front: b"",
@@ -284,6 +300,14 @@ static ROWS: [Streams; 16] = [
         end: End::Refused(400),
         wanted: &[BAD],
     },
+];
+
+#[test]
+fn bodies_that_are_refused(rt: HostRuntime) -> Result<(), Failed> {
+    come_to_their_ends(rt.alloc(), &BODIES)
+}
+
+static CHUNKS: [Streams; 4] = [
     Streams {
         name: "chunks that can't be read",
         front: POST_WAITING,
@@ -325,6 +349,6 @@ static ROWS: [Streams; 16] = [
 ];
 
 #[test]
-fn requests_that_are_refused(rt: HostRuntime) -> Result<(), Failed> {
-    come_to_their_ends(rt.alloc(), &ROWS)
+fn chunks_that_are_refused(rt: HostRuntime) -> Result<(), Failed> {
+    come_to_their_ends(rt.alloc(), &CHUNKS)
 }

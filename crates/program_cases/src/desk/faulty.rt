@@ -1,11 +1,15 @@
 //! A book that can't do what it is asked.
 
+use crate::desk::books::DeskBook;
+use crate::desk::compare::Mismatch;
+use crate::desk::queue::new_book;
 use queue_core::book::{BookFault, QueueBook, SendFault};
 use queue_core::put_whole;
 use queue_types::document::DocumentHead;
 use queue_types::event::{Decision, Event};
 use queue_types::job::JobList;
 use queue_types::sheet::AccountSheet;
+use std::alloc::Global;
 use std::io::Write;
 
 /// What a book can't do beside taking changes.
@@ -32,6 +36,14 @@ pub(crate) struct FaultyBook<B> {
     /// What it reads from, where it can be read.
     pub(crate) inner: B,
     pub(crate) failure: Failure,
+}
+
+impl<B: DeskBook> FaultyBook<B> {
+    /// A book of an empty queue that fails so.
+    pub(crate) fn new(alloc: Global, failure: Failure) -> Result<FaultyBook<B>, Mismatch> {
+        let inner = new_book(alloc)?;
+        Ok(FaultyBook { inner, failure })
+    }
 }
 
 impl<B> FaultyBook<B> {

@@ -1,6 +1,6 @@
 //! A queue in a book, and the connections that a test makes to it.
 
-use crate::desk::books::{DeskBook, GRANT, MemoryBook, grant_in};
+use crate::desk::books::{DeskBook, GRANT, grant_in};
 use crate::desk::compare::{Mismatch, Place, Subject};
 use crate::desk::connection::Wanted::Success;
 use crate::desk::connection::{Connection, faultless, wanted_bytes};
@@ -8,7 +8,6 @@ use crate::desk::messages::{PRINT_JOB, job_reply};
 use crate::desk::requests::{IPP, POST_JOB};
 use crate::desk::streams::{AT_ONCE, TestReader, TestWriter, Way};
 use http_front::{End, ServeFault, Served, serve};
-use list_book::ListBook;
 use queue_core::book::QueueBook;
 use queue_types::settings::Settings;
 use std::alloc::Global;
@@ -21,6 +20,11 @@ const MOMENT: u32 = 1;
 pub(crate) fn settings(alloc: Global) -> Result<Settings, Mismatch> {
     let settings = Settings::new(alloc, "ipp://localhost/ipp/print", "release", 20, 0)?;
     Ok(settings)
+}
+
+/// The book of its empty queue.
+pub(crate) fn new_book<B: DeskBook>(alloc: Global) -> Result<B, Mismatch> {
+    B::empty(alloc, settings(alloc)?)
 }
 
 /// The bytes of a connection.
@@ -48,8 +52,7 @@ pub(crate) struct Queue<B: QueueBook> {
 impl<B: DeskBook> Queue<B> {
     /// An empty queue.
     pub(crate) fn new(alloc: Global) -> Result<Queue<B>, Mismatch> {
-        let book = B::empty(alloc, settings(alloc)?)?;
-        Queue::over(alloc, book, B::subject())
+        Queue::over(alloc, new_book(alloc)?, B::subject())
     }
 
     /// A queue in which alice has 30 pages.
@@ -148,7 +151,7 @@ impl<B: QueueBook + Drop> Queue<B> {
     }
 
     /// The next Print-Job gets this number, of 1 to 3.
-    pub(crate) fn take_job(&mut self, number: u32) {
+    fn take_job(&mut self, number: u32) {
         let connection = Connection {
             stream: &[POST_JOB, PRINT_JOB],
             acted: 1,
@@ -157,56 +160,10 @@ impl<B: QueueBook + Drop> Queue<B> {
         };
         self.take(&connection, AT_ONCE)
     }
-}
 
-/// The same queue in lists and in tables.
-#[derive(Drop)]
-pub(crate) struct Desk<A: QueueBook, B: QueueBook> {
-    pub(crate) lists: Queue<A>,
-    pub(crate) tables: Queue<B>,
-}
-
-/// One that is honest.
-pub(crate) type Both = Desk<ListBook, MemoryBook>;
-
-impl Desk<ListBook, MemoryBook> {
-    /// An empty queue.
-    pub(crate) fn new(alloc: Global) -> Result<Both, Mismatch> {
-        let lists = Queue::new(alloc)?;
-        let tables = Queue::new(alloc)?;
-        Ok(Desk { lists, tables })
-    }
-
-    /// A queue in which alice has 30 pages.
-    pub(crate) fn granted(alloc: Global) -> Result<Both, Mismatch> {
-        let lists = Queue::granted(alloc)?;
-        let tables = Queue::granted(alloc)?;
-        Ok(Desk { lists, tables })
-    }
-}
-
-impl<A: QueueBook + Drop, B: QueueBook + Drop> Desk<A, B> {
-    /// Bytes come and go in this way, to both.
-    pub(crate) fn exchange(&mut self, exchange: &Exchange<'_>, way: Way) {
-        self.lists.exchange(exchange, way);
-        self.tables.exchange(exchange, way);
-    }
-
-    /// Connections come in this way, one after another, to both.
-    pub(crate) fn take_each(&mut self, connections: &[Connection<'_>], way: Way) {
-        self.lists.take_each(connections, way);
-        self.tables.take_each(connections, way);
-    }
-
-    /// The next Print-Job gets this number, of 1 to 3, in both. All was as it is to be in them.
+    /// It does, and all was as it is to be.
     pub(crate) fn end_at_job(&mut self, number: u32) -> Result<(), Mismatch> {
-        self.lists.take_job(number);
-        self.tables.take_job(number);
+        self.take_job(number);
         self.end()
-    }
-
-    /// All was as it is to be in both.
-    pub(crate) fn end(&self) -> Result<(), Mismatch> {
-        self.lists.end().and(self.tables.end())
     }
 }

@@ -1,22 +1,34 @@
 //! Rows of connections, and what they leave.
 
+use crate::desk::books::{DeskBook, MemoryBook};
 use crate::desk::compare::{Failed, Mismatch, failed_at};
 use crate::desk::connection::{Connection, Wanted, faultless, filled, wanted_bytes};
 use crate::desk::messages::PRINT_JOB;
-use crate::desk::queue::{Both, Exchange};
+use crate::desk::queue::{Exchange, Queue};
 use crate::desk::requests::POST_JOB;
 use crate::desk::streams::{Way, by, speeds_for};
 use http_front::End;
+use list_book::ListBook;
 use std::alloc::Global;
 
 /// Connections, one after another to a queue in which alice has 30 pages, by their name.
 pub(crate) type Row = (&'static str, &'static [Connection<'static>]);
 
-/// They come in this way, to a new queue in each book.
+/// They come in this way, to a new queue.
+fn take_in<B: DeskBook>(
+    alloc: Global,
+    connections: &[Connection<'_>],
+    way: Way,
+) -> Result<(), Mismatch> {
+    let mut queue = Queue::<B>::granted(alloc)?;
+    queue.take_each(connections, way);
+    queue.end()
+}
+
+/// They do over each book.
 fn take_row(alloc: Global, connections: &[Connection<'_>], way: Way) -> Result<(), Mismatch> {
-    let mut desk = Both::granted(alloc)?;
-    desk.take_each(connections, way);
-    desk.end()
+    take_in::<ListBook>(alloc, connections, way)?;
+    take_in::<MemoryBook>(alloc, connections, way)
 }
 
 /// Each row comes in each of these ways.
@@ -53,6 +65,15 @@ pub(crate) struct Streams {
     pub(crate) wanted: &'static [Wanted<'static>],
 }
 
+/// Bytes come to an empty queue at each of their speeds: behind them the next Print-Job is job 1.
+fn come_to_empty<B: DeskBook>(alloc: Global, exchange: &Exchange<'_>) -> Result<(), Mismatch> {
+    let mut queue = Queue::<B>::new(alloc)?;
+    for most in speeds_for(exchange.stream.len()) {
+        queue.exchange(exchange, by(*most));
+    }
+    queue.end_at_job(1)
+}
+
 impl Streams {
     /// The bytes of one of them.
     fn bytes(&self, alloc: Global, rest: &Rest) -> Result<Vec<u8>, Mismatch> {
@@ -72,7 +93,7 @@ impl Streams {
         Ok(bytes)
     }
 
-    /// One of them comes to an empty queue in each book, at each of its speeds: behind it the next Print-Job is job 1.
+    /// One of them comes to an empty queue over each book.
     fn come(&self, alloc: Global, rest: &Rest) -> Result<(), Mismatch> {
         let stream = self.bytes(alloc, rest)?;
         let answers = wanted_bytes(alloc, self.wanted)?;
@@ -82,11 +103,8 @@ impl Streams {
             outcome: Ok(faultless(self.acted, self.end)),
             past: 1,
         };
-        let mut desk = Both::new(alloc)?;
-        for most in speeds_for(stream.len()) {
-            desk.exchange(&exchange, by(*most));
-        }
-        desk.end_at_job(1)
+        come_to_empty::<ListBook>(alloc, &exchange)?;
+        come_to_empty::<MemoryBook>(alloc, &exchange)
     }
 }
 

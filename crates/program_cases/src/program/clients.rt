@@ -3,7 +3,7 @@
 use crate::desk::books::{DeskBook, MemoryBook};
 use crate::desk::connection::Wanted::{Continue, Last, Refusal, Success};
 use crate::desk::messages::{GET_UP_TIME, JOB_1, JOB_2, JOB_3, PRINT_JOB, UP_FOR_42};
-use crate::desk::queue::settings;
+use crate::desk::queue::new_book;
 use crate::desk::requests::{GET_QUEUE, IPP, POST_JOB, POST_UP_TIME, TEXT};
 use crate::desk::streams::{NO_FLUSH, NO_ROOM};
 use crate::program::server::Step::{Comes, Gets, Serves, ServesSo, Waits};
@@ -39,8 +39,8 @@ const MUCH: &[u8] = &[b'0'; 4096];
 const WAITS_FOR_LEAVE: &[u8] =
     b"POST /ipp/print HTTP/1.1\r\nExpect: 100-continue\r\nContent-Type: application/ipp\r\nContent-Length: 145\r\n\r\n";
 
-/// Clients that print, look, break off and go away.
-static ROWS: [Row; 11] = [
+/// Clients that print and look.
+static COMING: [Row; 4] = [
     (
         "a print job and its reply",
         &[PRINTS, Serves(1, "served 1\n"), GETS_JOB_1],
@@ -64,6 +64,10 @@ static ROWS: [Row; 11] = [
         ],
     ),
     ("no connection", &[Serves(0, "")]),
+];
+
+/// Clients that break off, go away, send on or stay.
+static GOING: [Row; 7] = [
     // a client goes away before it is served, and the next one is served
     (
         "a client that goes away at once",
@@ -142,9 +146,8 @@ static ROWS: [Row; 11] = [
     ),
 ];
 
-/// Clients that say nothing, or no more, each of which costs the server its timeout of a second; connections whose time is over; what is done
-/// as the server looks at its clock; and lines that can't be printed.
-static WAITING: [Row; 14] = [
+/// Clients that say nothing, or no more, each of which costs the server its timeout of a second.
+static SILENT: [Row; 5] = [
     (
         "a client that is silent",
         &[
@@ -200,6 +203,10 @@ static WAITING: [Row; 14] = [
             Gets(2, All(&[Success(IPP, JOB_3)])),
         ],
     ),
+];
+
+/// Connections whose time is over, and what is done as the server looks at its clock.
+static BY_THE_CLOCK: [Row; 7] = [
     // A connection has a minute in all, 60 timeouts of a second. In its last second the request is still read and acts; then its answer is
     // not written any more.
     (
@@ -284,6 +291,10 @@ static WAITING: [Row; 14] = [
             IS_TOLD,
         ],
     ),
+];
+
+/// Lines that can't be printed.
+static UNPRINTED: [Row; 2] = [
     // the first of two connections has been served when its line can't be printed; the second is not taken, and served later
     (
         "a count that can't be printed",
@@ -322,20 +333,34 @@ static WAITING: [Row; 14] = [
 ];
 
 /// Takes rows, each with a server over an empty queue.
-fn take_rows(rt: &HostRuntime, rows: &[Row]) -> Result<(), Fail> {
+fn take_rows<B: DeskBook>(rt: &HostRuntime, rows: &[Row]) -> Result<(), Fail> {
     for (name, steps) in rows {
-        let book = MemoryBook::empty(rt.alloc(), settings(rt.alloc())?)?;
-        take_row(rt, book, name, steps)?;
+        take_row(rt, new_book::<B>(rt.alloc())?, name, steps)?;
     }
     Ok(())
 }
 
 #[test]
-fn clients_that_come_and_go(rt: HostRuntime) -> Result<(), Fail> {
-    take_rows(&rt, &ROWS)
+fn clients_that_print_and_look(rt: HostRuntime) -> Result<(), Fail> {
+    take_rows::<MemoryBook>(&rt, &COMING)
 }
 
 #[test]
-fn clients_that_are_waited_for(rt: HostRuntime) -> Result<(), Fail> {
-    take_rows(&rt, &WAITING)
+fn clients_that_go_away_or_stay(rt: HostRuntime) -> Result<(), Fail> {
+    take_rows::<MemoryBook>(&rt, &GOING)
+}
+
+#[test]
+fn clients_that_are_silent(rt: HostRuntime) -> Result<(), Fail> {
+    take_rows::<MemoryBook>(&rt, &SILENT)
+}
+
+#[test]
+fn connections_by_the_clock(rt: HostRuntime) -> Result<(), Fail> {
+    take_rows::<MemoryBook>(&rt, &BY_THE_CLOCK)
+}
+
+#[test]
+fn counts_that_are_not_printed(rt: HostRuntime) -> Result<(), Fail> {
+    take_rows::<MemoryBook>(&rt, &UNPRINTED)
 }

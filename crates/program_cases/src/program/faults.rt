@@ -1,17 +1,14 @@
 //! Books that can't do what they are asked, under a server.
 
 use crate::desk::books::{DeskBook, MemoryBook};
-use crate::desk::compare::Mismatch;
 use crate::desk::connection::Wanted::Success;
 use crate::desk::faulty::{Failure, FaultyBook, TAKES_NOTHING};
 use crate::desk::messages::FAULT;
-use crate::desk::queue::settings;
 use crate::desk::requests::IPP;
 use crate::program::server::Step::{Gets, Serves, ServesSo};
 use crate::program::server::{Ends, PRINTS, Serving, Step, USUAL, take_row};
 use crate::program::sockets::Gets::All;
 use queue_core::book::BookFault;
-use std::alloc::Global;
 use std::test::Fail;
 
 /// The server goes on.
@@ -83,16 +80,21 @@ static ROWS: [(&str, Failure, &[Step<'static>]); 5] = [
     ),
 ];
 
-/// A book of an empty queue that fails so.
-fn faulty(alloc: Global, failure: Failure) -> Result<FaultyBook<MemoryBook>, Mismatch> {
-    let inner = MemoryBook::empty(alloc, settings(alloc)?)?;
-    Ok(FaultyBook { inner, failure })
+/// A server over a book that fails so does what it is to do.
+fn take<B: DeskBook>(
+    rt: &HostRuntime,
+    name: &str,
+    failure: Failure,
+    steps: &[Step<'_>],
+) -> Result<(), Fail> {
+    let book = FaultyBook::<B>::new(rt.alloc(), failure)?;
+    take_row(rt, book, name, steps)
 }
 
 #[test]
 fn books_that_cannot_do_what_they_are_asked(rt: HostRuntime) -> Result<(), Fail> {
     for (name, failure, steps) in &ROWS {
-        take_row(&rt, faulty(rt.alloc(), *failure)?, name, steps)?;
+        take::<MemoryBook>(&rt, name, *failure, steps)?;
     }
     Ok(())
 }

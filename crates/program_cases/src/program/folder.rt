@@ -234,6 +234,39 @@ impl<'a> Folder<'a> {
         AT.same_bytes(before.as_slice(), self.read(path)?.as_slice())
     }
 
+    /// So they do, where their output is a writer of this way.
+    fn tell_unprinted(&self, line: &str, way: Way) -> Result<(), Mismatch> {
+        let written = Cell::new(0);
+        let mut out = TestWriter::new(self.alloc(), way, &written);
+        self.tell_to(line, &mut out, UNPRINTED)
+    }
+
+    fn import(&self, bytes: &[u8], wanted: Told) -> Result<(), Mismatch> {
+        self.write(FILE, bytes)?;
+        self.tell(IMPORT, wanted)
+    }
+
+    fn lacks(&self, path: &str) -> Result<(), Mismatch> {
+        let came = self.read(path);
+        let is_lacking = matches!(&came, Err(Mismatch::Io(ErrorKind::NotFound)));
+        AT.is_so(is_lacking, "no file")
+    }
+
+    fn has_byte(&self, path: &str, place: usize, byte: u8) -> Result<(), Mismatch> {
+        let bytes = self.read(path)?;
+        AT.is_so(
+            bytes.as_slice().get(place) == Some(&byte),
+            "a byte of a file",
+        )
+    }
+
+    fn is_empty(&self) -> Result<(), Mismatch> {
+        AT.is_so(
+            fs::remove_dir(self.rt, self.path.as_str()).is_ok(),
+            "no file in the folder",
+        )
+    }
+
     fn tell_of_taken_port(&self, line: &str, wanted: Told) -> Result<(), Mismatch> {
         let other = listen(self.rt, 0)?;
         let port = other.local_addr()?.port();
@@ -257,39 +290,14 @@ impl<'a> Folder<'a> {
             Step::Copies(from, to, eighths) => self.copy(from, to, eighths),
             Step::Tells(line, wanted) => self.tell(line, wanted),
             Step::Keeps(path, line, wanted) => self.keep(path, line, wanted),
-            Step::Unprinted(line, way) => {
-                let written = Cell::new(0);
-                self.tell_to(
-                    line,
-                    &mut TestWriter::new(self.alloc(), way, &written),
-                    UNPRINTED,
-                )
-            }
+            Step::Unprinted(line, way) => self.tell_unprinted(line, way),
             Step::TakenPort(line, wanted) => self.tell_of_taken_port(line, wanted),
-            Step::Imports(bytes, wanted) => {
-                self.write(FILE, bytes)?;
-                self.tell(IMPORT, wanted)
-            }
-            Step::Lacks(path) => {
-                let came = self.read(path);
-                AT.is_so(
-                    matches!(&came, Err(Mismatch::Io(ErrorKind::NotFound))),
-                    "no file",
-                )
-            }
+            Step::Imports(bytes, wanted) => self.import(bytes, wanted),
+            Step::Lacks(path) => self.lacks(path),
             Step::Turns(from, to, old, new) => self.turn(from, to, old, new),
-            Step::HasByte(path, place, byte) => {
-                let bytes = self.read(path)?;
-                AT.is_so(
-                    bytes.as_slice().get(place) == Some(&byte),
-                    "a byte of a file",
-                )
-            }
+            Step::HasByte(path, place, byte) => self.has_byte(path, place, byte),
             Step::IsPrivate(path) => self.is_private(path),
-            Step::IsEmpty => AT.is_so(
-                fs::remove_dir(self.rt, self.path.as_str()).is_ok(),
-                "no file in the folder",
-            ),
+            Step::IsEmpty => self.is_empty(),
         }
     }
 

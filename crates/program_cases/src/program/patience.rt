@@ -6,12 +6,12 @@ use crate::desk::connection::Connection;
 use crate::desk::connection::Wanted::Success;
 use crate::desk::jobs::{PRINTED, RELEASED};
 use crate::desk::messages::{JOB_2, PRINT_JOB_BEGUN, RELEASE_JOB};
-use crate::desk::queue::{Queue, settings};
+use crate::desk::queue::{Queue, new_book};
 use crate::desk::requests::{GET_DOCUMENT, IPP, OCTETS, POST_LARGEST, POST_RELEASE};
 use crate::desk::streams::AT_ONCE;
 use crate::program::clients::POST_TOO_LARGE;
 use crate::program::server::Step::{Comes, Gets, ServesSo, Waits};
-use crate::program::server::{PRINTS, Pace, Server, Serving, USUAL, take_row};
+use crate::program::server::{PRINTS, Pace, Server, Serving, Step, USUAL};
 use crate::program::sockets::AT;
 use crate::program::sockets::Comes::Sends;
 use crate::program::sockets::Gets::{All, Front};
@@ -23,8 +23,8 @@ use std::test::Fail;
 const MOST_BYTES: usize = 16_777_216 - PRINT_JOB_BEGUN.len();
 
 /// A book in which job 1 has this document, as long as it may be, and is released.
-fn released(alloc: Global, document: &[u8]) -> Result<MemoryBook, Mismatch> {
-    let mut queue = Queue::<MemoryBook>::granted(alloc)?;
+fn released<B: DeskBook>(alloc: Global, document: &[u8]) -> Result<B, Mismatch> {
+    let mut queue = Queue::granted(alloc)?;
     let connection = Connection {
         stream: &[
             POST_LARGEST,
@@ -42,52 +42,61 @@ fn released(alloc: Global, document: &[u8]) -> Result<MemoryBook, Mismatch> {
 }
 
 /// The device asks for the document and doesn't read it, and another client prints. The server waits for the device the eight seconds of its
-/// timeout and leaves it so: the device gets a front of the document, and the other client its answer. All in all it may wait for several
-/// timeouts: a write that has taken a part when its time is over is followed by one more.
-fn is_left_unread(rt: &HostRuntime, document: &[u8]) -> Result<(), Fail> {
-    let steps = [
-        Comes(Sends(&[GET_DOCUMENT])),
-        PRINTS,
-        Waits(8),
-        ServesSo(Serving {
-            connections: 2,
-            lines: "served 0\nserved 1\n",
-            seconds: (8, 480),
-            wait: (8, 16),
-            ..USUAL
-        }),
-        Gets(1, All(&[Success(IPP, JOB_2)])),
-        Gets(0, Front(&[Success(OCTETS, document)])),
-    ];
-    take_row(
-        rt,
-        released(rt.alloc(), document)?,
-        "a client that does not read",
-        &steps,
-    )
+/// timeout and leaves it so; the other client gets its answer. All in all the server may wait for several timeouts: a write that has taken a part
+/// when its time is over is followed by one more.
+const LEAVES_THE_DEVICE: &[Step<'static>] = &[
+    Comes(Sends(&[GET_DOCUMENT])),
+    PRINTS,
+    Waits(8),
+    ServesSo(Serving {
+        connections: 2,
+        lines: "served 0\nserved 1\n",
+        seconds: (8, 480),
+        wait: (8, 16),
+        ..USUAL
+    }),
+    Gets(1, All(&[Success(IPP, JOB_2)])),
+];
+
+/// So it does over a book in which the document is released, and the device gets a front of that.
+fn is_left_unread<B: DeskBook>(rt: &HostRuntime, document: &[u8]) -> Result<(), Fail> {
+    let mut server = Server::over(rt, released::<B>(rt.alloc(), document)?)?;
+    server.take_each(rt, "a client that does not read", LEAVES_THE_DEVICE)?;
+    server.get(0, Front(&[Success(OCTETS, document)]))?;
+    Ok(())
 }
 
 /// A server that waited for it would wait for ever, and the test would be cut off.
 #[test]
 fn a_client_that_does_not_read(rt: HostRuntime) -> Result<(), Fail> {
     let document = vec![in rt.alloc(); b'0'; MOST_BYTES]?;
-    is_left_unread(&rt, document.as_slice())
+    is_left_unread::<MemoryBook>(&rt, document.as_slice())
 }
 
-/// How often a server looks at its clock, by which so many seconds pass from each look to the next, until it leaves the client of a request
-/// whose body is too large, which sends on without end.
-fn looks_by(rt: &HostRuntime, seconds: u64) -> Result<u64, Fail> {
-    let steps = [
-        Comes(Sends(&[POST_TOO_LARGE])),
-        ServesSo(Serving {
-            lines: "served 0\n",
-            pace: Pace::SendsOn(seconds, 0),
-            ..USUAL
-        }),
-    ];
-    let book = MemoryBook::empty(rt.alloc(), settings(rt.alloc())?)?;
-    let mut server = Server::over(rt, book)?;
-    server.take_each(rt, "a client that sends without end", &steps)?;
+/// A client whose request has too large a body sends on without end, where no time passes.
+const SENDS_WITHOUT_END: &[Step<'static>] = &[
+    Comes(Sends(&[POST_TOO_LARGE])),
+    ServesSo(Serving {
+        lines: "served 0\n",
+        pace: Pace::SendsOn(0, 0),
+        ..USUAL
+    }),
+];
+
+/// So it does, where a second passes from each look at the clock to the next.
+const SENDS_AS_TIME_PASSES: &[Step<'static>] = &[
+    Comes(Sends(&[POST_TOO_LARGE])),
+    ServesSo(Serving {
+        lines: "served 0\n",
+        pace: Pace::SendsOn(1, 0),
+        ..USUAL
+    }),
+];
+
+/// How often a server looks at its clock in such steps, until it leaves the client.
+fn looks_in<B: DeskBook>(rt: &HostRuntime, steps: &[Step<'_>]) -> Result<u64, Fail> {
+    let mut server = Server::over(rt, new_book::<B>(rt.alloc())?)?;
+    server.take_each(rt, "a client that sends without end", steps)?;
     Ok(server.looks)
 }
 
@@ -95,8 +104,8 @@ fn looks_by(rt: &HostRuntime, seconds: u64) -> Result<u64, Fail> {
 /// client.
 #[test]
 fn a_client_that_sends_without_end(rt: HostRuntime) -> Result<(), Fail> {
-    let reads = looks_by(&rt, 0)?;
-    let seconds = looks_by(&rt, 1)?;
+    let reads = looks_in::<MemoryBook>(&rt, SENDS_WITHOUT_END)?;
+    let seconds = looks_in::<MemoryBook>(&rt, SENDS_AS_TIME_PASSES)?;
     AT.is_so(
         reads > 256 && reads.checked_sub(seconds) == Some(246),
         "a client that is left behind 256 reads, or ten seconds",

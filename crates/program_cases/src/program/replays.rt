@@ -3,10 +3,10 @@
 use crate::desk::books::{DeskBook, MemoryBook};
 use crate::desk::compare::Mismatch;
 use crate::desk::faulty::{Failure, FaultyBook, TAKES_NOTHING};
-use crate::desk::queue;
 use crate::desk::streams::{AT_ONCE, Behind, NO_FLUSH, TestReader, TestWriter, Way};
 use crate::program::sockets::AT;
-use queue_core::book::BookFault;
+use queue_core::book::{BookFault, QueueBook};
+use queue_types::settings::Settings;
 use replay::{Fault, replay_over, replay_settings};
 use replay_examples::run_cases;
 use replay_in_memory::replay;
@@ -93,27 +93,34 @@ const LINES: &[u8] =
 const FAULTS: &[u8] =
     b"ipp 010105050000000101470012617474726962757465732d6368617273657400057574662d3848001b617474726962757465732d6e61747572616c2d6c616e67756167650002656e03\nrefused 6 fault\ngrant refused 6\n";
 
-/// A replay over a book that can't be read by this fault tells it line by line, and comes to its end.
-fn replays_on(alloc: Global, fault: BookFault) -> Result<(), Mismatch> {
-    let settings = replay_settings(alloc)?;
-    let mut book = FaultyBook {
-        inner: MemoryBook::empty(alloc, queue::settings(alloc)?)?,
-        failure: Failure {
-            unread: Some(fault),
-            ..TAKES_NOTHING
-        },
-    };
+/// A replay over such a book tells a fault line by line, and comes to its end.
+fn tells_faults<B: QueueBook>(
+    alloc: Global,
+    book: &mut B,
+    settings: &Settings,
+) -> Result<(), Mismatch> {
     let mut output = Vec::new(alloc);
     let mut input = LINES;
-    let came = replay_over(alloc, &mut input, &mut output, &mut book, &settings);
-    AT.same_bytes(FAULTS, output.as_slice())?;
-    AT.is_so(came == Ok(0), "a replay that comes to its end")
+    let came = replay_over(alloc, &mut input, &mut output, book, settings);
+    let is_ended = AT.is_so(came == Ok(0), "a replay that comes to its end");
+    AT.same_bytes(FAULTS, output.as_slice()).and(is_ended)
+}
+
+/// So does one over a book that can't be read by this fault.
+fn replays_on<B: DeskBook>(alloc: Global, fault: BookFault) -> Result<(), Mismatch> {
+    let failure = Failure {
+        unread: Some(fault),
+        ..TAKES_NOTHING
+    };
+    let settings = replay_settings(alloc)?;
+    let mut book = FaultyBook::<B>::new(alloc, failure)?;
+    tells_faults(alloc, &mut book, &settings)
 }
 
 #[test]
 fn a_replay_over_a_book_that_cannot_be_read(rt: HostRuntime) -> Result<(), Mismatch> {
     for fault in &UNREAD {
-        replays_on(rt.alloc(), *fault)?;
+        replays_on::<MemoryBook>(rt.alloc(), *fault)?;
     }
     Ok(())
 }

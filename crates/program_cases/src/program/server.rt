@@ -143,6 +143,51 @@ fn is_within(number: u64, (least, bound): (u64, u64)) -> bool {
     least <= number && number < bound
 }
 
+/// A service serves connections by a clock to a book, and ends as it is to.
+fn end_by<B: QueueBook>(
+    service: &Service<'_>,
+    clock: &TestClock<'_>,
+    out: &mut TestWriter<'_>,
+    book: &mut B,
+    serving: &Serving<'_>,
+) -> Result<(), Mismatch> {
+    let came = service.serve_connections(clock, out, book, serving.connections);
+    AT.is_so(is_ended(&came, serving.ends), "how a server ends")
+}
+
+/// It prints what it is to print meanwhile, and its clients get what they are to get.
+fn print_by<B: QueueBook>(
+    service: &Service<'_>,
+    clock: &TestClock<'_>,
+    book: &mut B,
+    serving: &Serving<'_>,
+) -> Result<(), Mismatch> {
+    let written = Cell::new(0);
+    let mut out = TestWriter::new(service.alloc, serving.way, &written);
+    let is_ended = end_by(service, clock, &mut out, book, serving);
+    let is_done = AT.is_so(clock.is_done(), "what a client gets while it is served");
+    AT.same_bytes(serving.lines.as_bytes(), out.taken.as_slice())
+        .and(is_ended)
+        .and(is_done)
+}
+
+/// It takes the seconds that it is to take.
+fn serve_by<B: QueueBook>(
+    rt: &HostRuntime,
+    service: &Service<'_>,
+    clock: &TestClock<'_>,
+    book: &mut B,
+    serving: &Serving<'_>,
+) -> Result<(), Mismatch> {
+    let began = rt.monotonic()?;
+    print_by(service, clock, book, serving)?;
+    let seconds = rt.monotonic()?.saturating_sub(began).as_secs();
+    AT.is_so(
+        is_within(seconds, serving.seconds) && is_within(clock.longest(), serving.wait),
+        "the seconds that a client is waited for",
+    )
+}
+
 impl<B: QueueBook + Drop> Server<B> {
     /// A server on a port that the system chose, with the queue of a book of a printer with an estimate of 20 pages.
     pub(super) fn over(rt: &HostRuntime, book: B) -> Result<Server<B>, Mismatch> {
@@ -164,8 +209,6 @@ impl<B: QueueBook + Drop> Server<B> {
 
     /// Serves connections as it is to.
     fn serve(&mut self, rt: &HostRuntime, serving: &Serving<'_>) -> Result<(), Mismatch> {
-        let written = Cell::new(0);
-        let mut out = TestWriter::new(self.alloc, serving.way, &written);
         let clock = clock_of(rt, serving.pace, &self.listener, &self.clients)?;
         let service = Service {
             alloc: self.alloc,
@@ -173,17 +216,9 @@ impl<B: QueueBook + Drop> Server<B> {
             settings: &self.settings,
             timeout: self.timeout,
         };
-        let began = rt.monotonic()?;
-        let came = service.serve_connections(&clock, &mut out, &mut self.book, serving.connections);
-        let seconds = rt.monotonic()?.saturating_sub(began).as_secs();
+        let came = serve_by(rt, &service, &clock, &mut self.book, serving);
         self.looks = clock.looks();
-        AT.same_bytes(serving.lines.as_bytes(), out.taken.as_slice())?;
-        AT.is_so(is_ended(&came, serving.ends), "how a server ends")?;
-        AT.is_so(clock.is_done(), "what a client gets while it is served")?;
-        AT.is_so(
-            is_within(seconds, serving.seconds) && is_within(clock.longest(), serving.wait),
-            "the seconds that a client is waited for",
-        )
+        came
     }
 
     /// Takes a step.
@@ -203,8 +238,13 @@ impl<B: QueueBook + Drop> Server<B> {
                 self.serve(rt, &serving)
             }
             Step::ServesSo(serving) => self.serve(rt, serving),
-            Step::Gets(client, gets) => self.clients.get(*client, *gets),
+            Step::Gets(client, gets) => self.get(*client, *gets),
         }
+    }
+
+    /// The client of this number gets this, and then the end of its connection.
+    pub(super) fn get(&self, client: usize, gets: Gets<'_>) -> Result<(), Mismatch> {
+        self.clients.get(client, gets)
     }
 
     /// Takes the steps of a row, one after another.

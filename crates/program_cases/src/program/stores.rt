@@ -48,7 +48,7 @@ const NOTES: &[(&[u8], usize)] = &[
     (b"\0", 506),
 ];
 
-static NEW: [Row; 8] = [
+static SETTINGS: [Row; 2] = [
     // URIs and names of a printer that aren't both taken: the settings come before the store, and make no file
     (
         "settings that are refused",
@@ -111,6 +111,9 @@ static NEW: [Row; 8] = [
             IsEmpty,
         ],
     ),
+];
+
+static NEW: [Row; 6] = [
     (
         "a store over a store",
         &[
@@ -169,7 +172,7 @@ static NEW: [Row; 8] = [
     ),
 ];
 
-static OTHER: [Row; 7] = [
+static OTHER: [Row; 4] = [
     // no store is made over a file with other bytes, which stays as it was
     (
         "bytes of another file",
@@ -240,6 +243,9 @@ static OTHER: [Row; 7] = [
         "a database of another program",
         &[Writes(STORE, NOTES), Keeps(STORE, INIT, DISK), NO_STATEMENT],
     ),
+];
+
+static DAMAGES: [Row; 3] = [
     // a store is whole in its one file once its command has ended, `init` and `import`: all of its bytes are a store, and no front of them is
     (
         "stores that are cut",
@@ -306,6 +312,11 @@ static OTHER: [Row; 7] = [
 ];
 
 #[test]
+fn settings_and_paths(rt: HostRuntime) -> Result<(), Fail> {
+    take_rows(&rt, "settings", &SETTINGS)
+}
+
+#[test]
 fn stores_that_are_made(rt: HostRuntime) -> Result<(), Fail> {
     take_rows(&rt, "made", &NEW)
 }
@@ -313,4 +324,9 @@ fn stores_that_are_made(rt: HostRuntime) -> Result<(), Fail> {
 #[test]
 fn files_that_are_no_store(rt: HostRuntime) -> Result<(), Fail> {
     take_rows(&rt, "other", &OTHER)
+}
+
+#[test]
+fn stores_that_are_cut_or_damaged(rt: HostRuntime) -> Result<(), Fail> {
+    take_rows(&rt, "cut", &DAMAGES)
 }
