@@ -2,7 +2,7 @@
 
 use crate::desk::compare::Failed;
 use crate::desk::connection::Wanted;
-use crate::desk::connection::Wanted::Last;
+use crate::desk::connection::Wanted::{Last, Successes};
 use crate::desk::refused::NO_LINE;
 use crate::desk::requests::{POST_CHUNKED, TEXT};
 use crate::desk::rows::Rest::{Long, Short};
@@ -40,40 +40,7 @@ const POST_GOING_ON: &[u8] =
     b"POST /device/report HTTP/1.1\r\nConnection: closed\r\nContent-Type: text/plain\r\nContent-Length: 0\r\n\r\n";
 
 /// The answers to 32 of them, which are as many as a connection may have.
-const ANSWERS: [Wanted<'static>; 32] = [
-    NO_LINE,
-    NO_LINE,
-    NO_LINE,
-    NO_LINE,
-    NO_LINE,
-    NO_LINE,
-    NO_LINE,
-    NO_LINE,
-    NO_LINE,
-    NO_LINE,
-    NO_LINE,
-    NO_LINE,
-    NO_LINE,
-    NO_LINE,
-    NO_LINE,
-    NO_LINE,
-    NO_LINE,
-    NO_LINE,
-    NO_LINE,
-    NO_LINE,
-    NO_LINE,
-    NO_LINE,
-    NO_LINE,
-    NO_LINE,
-    NO_LINE,
-    NO_LINE,
-    NO_LINE,
-    NO_LINE,
-    NO_LINE,
-    NO_LINE,
-    NO_LINE,
-    LAST_NO_LINE,
-];
+const ANSWERS: &[Wanted<'static>] = &[Successes(31, TEXT, b"refused 1 syntax\n"), LAST_NO_LINE];
 
 /// Bodies in chunks that are right as far as they go.
 const BEGUN_CHUNKS: &[Rest] = &[
@@ -131,7 +98,7 @@ static ROWS: [Streams; 6] = [
         jobs: 0,
         acted: 32,
         end: End::Done,
-        wanted: &ANSWERS,
+        wanted: ANSWERS,
     },
     Streams {
         name: "chunks that may go on",

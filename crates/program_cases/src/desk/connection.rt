@@ -12,6 +12,8 @@ pub(crate) enum Wanted<'a> {
     Continue,
     /// A success: its media type and its content.
     Success(&'a str, &'a [u8]),
+    /// So many of these.
+    Successes(usize, &'a str, &'a [u8]),
     /// A success after which the connection ends.
     Last(&'a str, &'a [u8]),
     /// A refusal: its code and phrase, and what follows them up to `Content-Length`.
@@ -81,11 +83,20 @@ fn put_success(out: &mut Vec<u8>, kind: &str, content: &[u8], line: &str) -> io:
     out.write_all(content)
 }
 
+/// Adds so many successes.
+fn put_successes(out: &mut Vec<u8>, count: usize, kind: &str, content: &[u8]) -> io::Result<()> {
+    for _ in 0..count {
+        put_success(out, kind, content, "")?;
+    }
+    Ok(())
+}
+
 /// Adds what a client is to get.
 fn put_wanted(out: &mut Vec<u8>, wanted: Wanted<'_>) -> io::Result<()> {
     match wanted {
         Wanted::Continue => out.write_all(b"HTTP/1.1 100 Continue\r\n\r\n"),
         Wanted::Success(kind, content) => put_success(out, kind, content, ""),
+        Wanted::Successes(count, kind, content) => put_successes(out, count, kind, content),
         Wanted::Last(kind, content) => put_success(out, kind, content, "Connection: close\r\n"),
         Wanted::Refusal(text) => write!(
             out,
