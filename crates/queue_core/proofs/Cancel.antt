@@ -15,7 +15,7 @@ use Rattle.queue_types.specs.declared.event.Scene.{Scene}
 use Rattle.queue_types.specs.declared.event.Reply.TheVariants.{Jobs, Done}
 use Rattle.queue_core.proofs.Own.{Keeps, unchanged, becomes_keeps, own_keeps}
 use Rattle.queue_core.proofs.Many.{replaced, keeps_documents, stays_idle, follows}
-use Rattle.queue_core.proofs.Rows.{Replaces, KeepsDocuments}
+use Rattle.queue_core.proofs.Rows.{Replaces, KeepsDocuments, same_job, still_sound}
 
 -- ---- the jobs that come of it
 
@@ -29,20 +29,7 @@ pub held_documents : (hold : Bool) (j : Job) → j.phase ≡ Waiting → KeepsDo
 held_documents hold j is = record {
   documents = refl;
   octets = refl;
-  sound = λ s. record {
-    number = s.number;
-    owner = s.owner;
-    name = s.name;
-    copies = s.copies;
-    impressions = s.impressions;
-    count = s.count;
-    created = s.created;
-    begun = s.begun;
-    ended = s.ended;
-    documents = s.documents;
-    octets = s.octets;
-    phase = subst (λ q. FitsPhase q (held hold j)) (sym is) (subst (λ q. FitsPhase q j) is s.phase);
-  };
+  sound = λ s. still_sound (held hold j) j (same_job j) s s.count s.begun s.ended s.documents s.octets (subst (λ q. FitsPhase q (held hold j)) (sym is) (subst (λ q. FitsPhase q j) is s.phase));
 }
 
 -- a waiting job moves between pending and pending-held

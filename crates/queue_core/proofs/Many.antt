@@ -27,7 +27,7 @@ use Rattle.queue_core.proofs.Numbers.{filter_whole}
 use Rattle.queue_core.proofs.Ordered.{each_of, each-filter}
 use Rattle.queue_core.proofs.Orders.{rising-filter}
 use Rattle.queue_core.proofs.Own.{Keeps, unchanged, moved, moved_from, moved_get, same_key, itself}
-use Rattle.queue_core.proofs.Rows.{Replaces, KeepsDocuments, row_keeps, row_entries, rows_of, with_jobs, back, kept_amount}
+use Rattle.queue_core.proofs.Rows.{Replaces, KeepsDocuments, same_job, still_sound, row_keeps, row_entries, rows_of, with_jobs, back, kept_amount}
 
 -- ---- a job once it is canceled
 
@@ -42,40 +42,14 @@ stopping : (now : ℕ) (j : Job) (p : Phase) → j.phase ≡ p → (FitsPhase p 
 stopping now j p is fits = record {
   documents = refl;
   octets = refl;
-  sound = λ s. record {
-    number = s.number;
-    owner = s.owner;
-    name = s.name;
-    copies = s.copies;
-    impressions = s.impressions;
-    count = s.count;
-    created = s.created;
-    begun = s.begun;
-    ended = s.ended;
-    documents = s.documents;
-    octets = s.octets;
-    phase = subst (λ q. FitsPhase q (record j { stopping = true })) (sym is) (fits (subst (λ q. FitsPhase q j) is s.phase));
-  };
+  sound = λ s. still_sound (record j { stopping = true }) j (same_job j) s s.count s.begun s.ended s.documents s.octets (subst (λ q. FitsPhase q (record j { stopping = true })) (sym is) (fits (subst (λ q. FitsPhase q j) is s.phase)));
 }
 
 pub keeps_documents : (now : ℕ) (j : Job) (p : Phase) → IsMoment now → j.phase ≡ p → is_cancelable_in p j ≡ true → KeepsDocuments (canceled_in p now j) j
 keeps_documents now j Waiting moment is can = record {
   documents = refl;
   octets = refl;
-  sound = λ s. record {
-    number = s.number;
-    owner = s.owner;
-    name = s.name;
-    copies = s.copies;
-    impressions = s.impressions;
-    count = s.count;
-    created = s.created;
-    begun = s.begun;
-    ended = moment;
-    documents = s.documents;
-    octets = s.octets;
-    phase = (refl, refl, refl, (subst (λ p. FitsPhase p j) is s.phase).3);
-  };
+  sound = λ s. still_sound (canceled_in Waiting now j) j (same_job j) s s.count s.begun moment s.documents s.octets (refl, refl, refl, (subst (λ p. FitsPhase p j) is s.phase).3);
 }
 keeps_documents now j Running moment is can = stopping now j Running is (λ f. f)
 keeps_documents now j Stopped moment is can = stopping now j Stopped is (λ f. f)

@@ -29,7 +29,7 @@ use Rattle.queue_core.proofs.Fair.{first_sound}
 use Rattle.queue_core.proofs.Maps.{report_total, is_report_key, report_key, own_report_key}
 use Rattle.queue_core.proofs.Moves.{row_moves}
 use Rattle.queue_core.proofs.Own.{Keeps, unchanged, first_named, moved, moved_get}
-use Rattle.queue_core.proofs.Rows.{job_keeps}
+use Rattle.queue_core.proofs.Rows.{IsSameJob, same_job, still_sound, job_keeps}
 
 -- ---- the job that comes of it
 
@@ -64,21 +64,8 @@ pending false false e = refl
 
 module _ (c now : ℕ) (j : Job) (s : IsSoundJob j) (moment : IsMoment now) (fits : c ≤ limit) where
   -- the row's own limits, whatever its phase
-  within : (x : Job) → x.number ≡ j.number → x.owner ≡ j.owner → x.name ≡ j.name → x.copies ≡ j.copies → x.impressions ≡ j.impressions → x.count ≡ max j.count c → x.created ≡ j.created → IfSome x.begun IsMoment → IfSome x.ended IsMoment → x.documents ≡ j.documents → x.octets ≡ j.octets → FitsPhase x.phase x → IsSoundJob x
-  within x number owner name copies impressions count created begun ended documents octets phase = record {
-    number = rw number s.number;
-    owner = rw owner s.owner;
-    name = rw name s.name;
-    copies = rw copies s.copies;
-    impressions = rw impressions s.impressions;
-    count = rw count (at_most j.count c s.count fits);
-    created = rw created s.created;
-    begun = begun;
-    ended = ended;
-    documents = rw documents s.documents;
-    octets = rw octets (rw documents s.octets);
-    phase = phase;
-  }
+  within : (x : Job) → IsSameJob x j → x.count ≡ max j.count c → IfSome x.begun IsMoment → IfSome x.ended IsMoment → x.documents ≡ j.documents → x.octets ≡ j.octets → FitsPhase x.phase x → IsSoundJob x
+  within x same count begun ended documents octets phase = still_sound x j same s (rw count (at_most j.count c s.count fits)) begun ended (rw documents s.documents) (rw octets (rw documents s.octets)) phase
 
   starts : (b : Bool) → (j.hold || j.incoming) ≡ b → j.phase ≡ Waiting → (x : Job) → cond b None (Some (record (counted c j) { phase = Running; begun = Some now })) ≡ Some x → IsReported c x j
   starts true free is x e = absurd (cc)
@@ -92,24 +79,24 @@ module _ (c now : ℕ) (j : Job) (s : IsSoundJob j) (moment : IsMoment now) (fit
         octets = refl;
         count = refl;
         live = subst (λ p. 1 ≤ cond (is_live_in p) 1 0) (sym is) (omega arith);
-        sound = within (record (counted c j) { phase = Running; begun = Some now }) refl refl refl refl refl refl refl moment s.ended refl refl (un.0, un.1, refl, waits.2);
+        sound = within (record (counted c j) { phase = Running; begun = Some now }) (same_job j) refl moment s.ended refl refl (un.0, un.1, refl, waits.2);
         follows = inr (subst (λ p. IsTrue (is_pair (state_in p j.hold j.incoming) 5)) (sym is) (pending j.hold j.incoming free));
         busy = λ idle. held_or_ended j.hold j.incoming j.ended free waits.2 idle.2;
       })
 
   -- the device has the job, and it goes on in a phase or ends in it
-  goes : (p q : Phase) (y : Job) → j.phase ≡ p → (FitsPhase p j → (j.hold ≡ false) × (j.incoming ≡ false) × IsSome j.begun × (j.ended ≡ None)) → y.number ≡ j.number → y.owner ≡ j.owner → y.name ≡ j.name → y.copies ≡ j.copies → y.impressions ≡ j.impressions → y.count ≡ max j.count c → y.created ≡ j.created → y.begun ≡ j.begun → IfSome y.ended IsMoment → y.documents ≡ j.documents → y.octets ≡ j.octets → FitsPhase y.phase y
+  goes : (p q : Phase) (y : Job) → j.phase ≡ p → (FitsPhase p j → (j.hold ≡ false) × (j.incoming ≡ false) × IsSome j.begun × (j.ended ≡ None)) → IsSameJob y j → y.count ≡ max j.count c → y.begun ≡ j.begun → IfSome y.ended IsMoment → y.documents ≡ j.documents → y.octets ≡ j.octets → FitsPhase y.phase y
       → cond (is_live y) 1 0 ≤ cond (is_live_in p) 1 0 → (state y ≡ state_in p j.hold j.incoming) ⊎ IsTrue (is_pair (state_in p j.hold j.incoming) (state y)) → (x : Job) → Some y ≡ Some x → IsReported c x j
-  goes p q y is on number owner name copies impressions count created begun ended documents octets phase live follows x e =
+  goes p q y is on same count begun ended documents octets phase live follows x e =
       let has = on (subst (λ p. FitsPhase p j) is s.phase) in
       subst (λ x. IsReported c x j) (same_Some y x e) (record {
-        number = number;
-        owner = owner;
+        number = same.0;
+        owner = same.1;
         documents = documents;
         octets = octets;
         count = count;
         live = subst (λ p. cond (is_live y) 1 0 ≤ cond (is_live_in p) 1 0) (sym is) live;
-        sound = within y number owner name copies impressions count created (subst (λ o. IfSome o IsMoment) (sym begun) s.begun) ended documents octets phase;
+        sound = within y same count (subst (λ o. IfSome o IsMoment) (sym begun) s.begun) ended documents octets phase;
         follows = subst (λ p. (state y ≡ state_in p j.hold j.incoming) ⊎ IsTrue (is_pair (state_in p j.hold j.incoming) (state y))) (sym is) follows;
         busy = λ idle. begun_not_idle j.begun has.2 idle.0;
       })
@@ -125,7 +112,7 @@ module _ (c now : ℕ) (j : Job) (s : IsSoundJob j) (moment : IsMoment now) (fit
         octets = refl;
         count = refl;
         live = omega arith;
-        sound = within (counted c j) refl refl refl refl refl refl refl s.begun s.ended refl refl (subst (λ p. FitsPhase p (counted c j)) (sym is) (keeps has (subst (λ p. FitsPhase p j) is s.phase)));
+        sound = within (counted c j) (same_job j) refl s.begun s.ended refl refl (subst (λ p. FitsPhase p (counted c j)) (sym is) (keeps has (subst (λ p. FitsPhase p j) is s.phase)));
         follows = inl refl;
         busy = λ idle. begun_not_idle j.begun has idle.0;
       })
@@ -135,15 +122,15 @@ module _ (c now : ℕ) (j : Job) (s : IsSoundJob j) (moment : IsMoment now) (fit
 
   moved_is : (k : Kind) (p : Phase) → j.phase ≡ p → (x : Job) → moved_by k p now (counted c j) ≡ Some x → IsReported c x j
   moved_is Start Waiting is x e = starts (j.hold || j.incoming) refl is x e
-  moved_is Stop Running is x e = let has = subst (λ p. FitsPhase p j) is s.phase in goes Running Stopped (record (counted c j) { phase = Stopped }) is (λ f. f) refl refl refl refl refl refl refl refl s.ended refl refl has (omega arith) (inr refl) x e
-  moved_is Resume Stopped is x e = let has = subst (λ p. FitsPhase p j) is s.phase in goes Stopped Running (record (counted c j) { phase = Running }) is (λ f. f) refl refl refl refl refl refl refl refl s.ended refl refl has (omega arith) (inr refl) x e
+  moved_is Stop Running is x e = let has = subst (λ p. FitsPhase p j) is s.phase in goes Running Stopped (record (counted c j) { phase = Stopped }) is (λ f. f) (same_job j) refl refl s.ended refl refl has (omega arith) (inr refl) x e
+  moved_is Resume Stopped is x e = let has = subst (λ p. FitsPhase p j) is s.phase in goes Stopped Running (record (counted c j) { phase = Running }) is (λ f. f) (same_job j) refl refl s.ended refl refl has (omega arith) (inr refl) x e
   moved_is Count Waiting is x e = counts_in Waiting is waits_uncounted (is_some j.begun) refl x e
   moved_is Count p is x e = counts_in p is (λ some f. f) (is_some j.begun) refl x e
-  moved_is Done Running is x e = let has = subst (λ p. FitsPhase p j) is s.phase in goes Running Completed (ended_as Completed now (counted c j)) is (λ f. f) refl refl refl refl refl refl refl refl moment refl refl (has.0, has.1, refl, refl) (omega arith) (inr refl) x e
-  moved_is Fail Running is x e = let has = subst (λ p. FitsPhase p j) is s.phase in goes Running Aborted (ended_as Aborted now (counted c j)) is (λ f. f) refl refl refl refl refl refl refl refl moment refl refl (has.0, has.1, refl, refl) (omega arith) (inr refl) x e
-  moved_is Fail Stopped is x e = let has = subst (λ p. FitsPhase p j) is s.phase in goes Stopped Aborted (ended_as Aborted now (counted c j)) is (λ f. f) refl refl refl refl refl refl refl refl moment refl refl (has.0, has.1, refl, refl) (omega arith) (inr refl) x e
-  moved_is Halt Running is x e = let has = subst (λ p. FitsPhase p j) is s.phase in goes Running Completed (ended_as (Canceled (why_halted j.stopping)) now (counted c j)) is (λ f. f) refl refl refl refl refl refl refl refl moment refl refl (has.0, has.1, refl, refl) (omega arith) (inr refl) x e
-  moved_is Halt Stopped is x e = let has = subst (λ p. FitsPhase p j) is s.phase in goes Stopped Completed (ended_as (Canceled (why_halted j.stopping)) now (counted c j)) is (λ f. f) refl refl refl refl refl refl refl refl moment refl refl (has.0, has.1, refl, refl) (omega arith) (inr refl) x e
+  moved_is Done Running is x e = let has = subst (λ p. FitsPhase p j) is s.phase in goes Running Completed (ended_as Completed now (counted c j)) is (λ f. f) (same_job j) refl refl moment refl refl (has.0, has.1, refl, refl) (omega arith) (inr refl) x e
+  moved_is Fail Running is x e = let has = subst (λ p. FitsPhase p j) is s.phase in goes Running Aborted (ended_as Aborted now (counted c j)) is (λ f. f) (same_job j) refl refl moment refl refl (has.0, has.1, refl, refl) (omega arith) (inr refl) x e
+  moved_is Fail Stopped is x e = let has = subst (λ p. FitsPhase p j) is s.phase in goes Stopped Aborted (ended_as Aborted now (counted c j)) is (λ f. f) (same_job j) refl refl moment refl refl (has.0, has.1, refl, refl) (omega arith) (inr refl) x e
+  moved_is Halt Running is x e = let has = subst (λ p. FitsPhase p j) is s.phase in goes Running Completed (ended_as (Canceled (why_halted j.stopping)) now (counted c j)) is (λ f. f) (same_job j) refl refl moment refl refl (has.0, has.1, refl, refl) (omega arith) (inr refl) x e
+  moved_is Halt Stopped is x e = let has = subst (λ p. FitsPhase p j) is s.phase in goes Stopped Completed (ended_as (Canceled (why_halted j.stopping)) now (counted c j)) is (λ f. f) (same_job j) refl refl moment refl refl (has.0, has.1, refl, refl) (omega arith) (inr refl) x e
   moved_is _ _ is x e = absurd (cc)
 
 pub reported_is : (r : Report) (now : ℕ) (j x : Job) → IsSoundJob j → IsMoment now → IsReport r → reported r now j ≡ Some x → IsReported r.count x j

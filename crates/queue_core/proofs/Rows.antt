@@ -1,5 +1,5 @@
 -- One job changes, with its owner's free pages by the balance: the world stays sound.
-use Rattle.std.proofs.Common.{◌≡◌, ℕ, ℤ, pos, ◌+ℤ◌, ◌-ℤ◌, ◌+◌, ◌≤◌, List, [], ◌∷◌, map, refl, ap, sym, ◌∙◌, arith, subst, Bool, true, false, cond}
+use Rattle.std.proofs.Common.{◌≡◌, ℕ, ℤ, pos, ◌+ℤ◌, ◌-ℤ◌, ◌+◌, ◌*◌, ◌≤◌, List, [], ◌∷◌, map, refl, ap, sym, ◌∙◌, arith, subst, Bool, true, false, cond}
 use Rattle.std.specs.Prelude.{Option, Some, None, IfSome, IsSomeAnd, is_some, bytes_eq, option_map, sum_by, ◌&&◌, ◌⊎◌}
 use Rattle.std.specs.FinMap.{FinMap, get}
 use Rattle.std.proofs.lemmas.Int.{ints}
@@ -7,7 +7,7 @@ use Rattle.std.proofs.lemmas.Option.{IfSome_then}
 use Rattle.queue_types.specs.Job.{owed, is_live}
 use Rattle.queue_core.specs.World.{World, with_row, text_cmp, report_cmp, job_at, granted}
 use Rattle.queue_core.specs.Machine.{taken}
-use Rattle.queue_core.specs.Limits.{IsSoundJob}
+use Rattle.queue_core.specs.Limits.{IsMoment, IsSoundJob, FitsPhase}
 use Rattle.std.specs.List.{AllByRecursion as Each}
 use Rattle.queue_core.specs.Sound.{Rise, IsSound, IsSoundEntry, IsKept, IsGreatestCount, IsIdle, reserved, printed}
 use Rattle.queue_types.specs.declared.job.Job.{Job}
@@ -27,6 +27,30 @@ pub record Replaces (x j : Job) : Type 0 where
   pub owner : x.owner ≡ j.owner
   pub count : x.count ≡ j.count
   pub live : cond (is_live x) 1 0 ≤ cond (is_live j) 1 0
+
+-- what never changes in a job
+abbrev pub IsSameJob : Job → Job → Type 0
+IsSameJob x j = (x.number ≡ j.number) × (x.owner ≡ j.owner) × (x.name ≡ j.name) × (x.copies ≡ j.copies) × (x.impressions ≡ j.impressions) × (x.created ≡ j.created)
+
+pub same_job : (j : Job) → IsSameJob j j
+same_job j = (refl, refl, refl, refl, refl, refl)
+
+-- a sound job stays one where what changed is within the limits
+pub still_sound : (x j : Job) → IsSameJob x j → IsSoundJob j → x.count ≤ 100000000 → IfSome x.begun IsMoment → IfSome x.ended IsMoment → x.documents ≤ 16 → x.octets ≤ x.documents * 16777216 → FitsPhase x.phase x → IsSoundJob x
+still_sound x j (number, owner, name, copies, impressions, created) s count begun ended documents octets phase = record {
+  number = rw number s.number;
+  owner = rw owner s.owner;
+  name = rw name s.name;
+  copies = rw copies s.copies;
+  impressions = rw impressions s.impressions;
+  count = count;
+  created = rw created s.created;
+  begun = begun;
+  ended = ended;
+  documents = documents;
+  octets = octets;
+  phase = phase;
+}
 
 -- with the documents of j
 pub record KeepsDocuments (x j : Job) : Type 0 where

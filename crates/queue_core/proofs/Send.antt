@@ -23,7 +23,7 @@ use Rattle.queue_core.proofs.Keep.{at, ne_from_gt}
 use Rattle.queue_core.proofs.Fair.{first_sound}
 use Rattle.queue_core.proofs.Ordered.{each-append}
 use Rattle.queue_core.proofs.Own.{Keeps, unchanged, changed_keeps, own_keeps, found_at, itself}
-use Rattle.queue_core.proofs.Rows.{Replaces, row_entries, rows_of}
+use Rattle.queue_core.proofs.Rows.{Replaces, same_job, still_sound, row_entries, rows_of}
 
 -- ---- the job within its limits
 
@@ -45,20 +45,10 @@ both true n e = (refl, grind (arith, nat_tests))
 both false n e = absurd (cc)
 
 pub sent_sound : (j : Job) (payload : List ℕ) (last : Bool) → IsSoundJob j → is_sendable j payload ≡ true → length payload ≤ 16777216 → IsSoundJob (sent j payload last)
-sent_sound j payload last s sendable fits = record {
-  number = s.number;
-  owner = s.owner;
-  name = s.name;
-  copies = s.copies;
-  impressions = s.impressions;
-  count = s.count;
-  created = s.created;
-  begun = s.begun;
-  ended = s.ended;
-  documents = (both j.incoming (j.documents + document_count payload) sendable).1;
-  octets = octets_fit (nat_eq (length payload) 0) j.octets j.documents (length payload) s.octets fits (eqb-true (length payload) 0);
-  phase = open_job j j.phase payload last (both j.incoming (j.documents + document_count payload) sendable).0 s.phase;
-}
+sent_sound j payload last s sendable fits =
+    let able = both j.incoming (j.documents + document_count payload) sendable in
+    let octets = octets_fit (nat_eq (length payload) 0) j.octets j.documents (length payload) s.octets fits (eqb-true (length payload) 0) in
+    still_sound (sent j payload last) j (same_job j) s s.count s.begun s.ended able.1 octets (open_job j j.phase payload last able.0 s.phase)
 
 -- ---- its documents
 

@@ -14,6 +14,7 @@ use Rattle.queue_rows.specs.Accounts.{reserved_for, printed_for}
 use Rattle.queue_rows.specs.Documents.{HasSize, next_of, AreGrouped}
 use Rattle.queue_rows.specs.Jobs.{IsJobRow, NumbersRise, has_number}
 use Rattle.queue_rows.specs.declared.rows.DocumentRow.{DocumentRow}
+use Rattle.queue_core.proofs.Rows.{same_job, still_sound}
 use Rattle.queue_rows.proofs.GroupLemmas.{is_of}
 
 abbrev pub octets_of : DocumentRow → ℕ
@@ -75,20 +76,7 @@ fits_sized _ j n m h = h
 
 -- with other documents a job is within its limits where these are
 pub sound_sized : (j : Job) (n m : ℕ) → IsSoundJob j → n ≤ 16 → m ≤ n * 16777216 → IsSoundJob (record j { documents = n; octets = m })
-sound_sized j n m s few small = record {
-  number = s.number;
-  owner = s.owner;
-  name = s.name;
-  copies = s.copies;
-  impressions = s.impressions;
-  count = s.count;
-  created = s.created;
-  begun = s.begun;
-  ended = s.ended;
-  documents = few;
-  octets = small;
-  phase = fits_sized j.phase j n m s.phase;
-}
+sound_sized j n m s few small = still_sound (record j { documents = n; octets = m }) j (same_job j) s s.count s.begun s.ended few small (fits_sized j.phase j n m s.phase)
 
 octets_within : (ds : List DocumentRow) → All HasSize ds → sum_by octets_of ds ≤ length ds * 16777216
 octets_within [] h = omega arith
