@@ -81,6 +81,20 @@ fn ready_path(rt: &HostRuntime, path: &str) -> Result<(), Fault>
     }
 }
 
+/// The settings of a new store, once its path is ready. A setting that is not within its limits makes no file.
+fn ready(rt: &HostRuntime, words: Init<'_>) -> Result<Settings, Fault>
+    ensures named { IfOk result (λ s. IsTrue (spec.is_file_name words.entry.store.now)) }
+    ensures ok { IfOk result (λ s. (epoch : ℤ) × (s ≡ settings_of words.entry epoch)) }
+    ensures bad { IfErr result (λ f. f ≡ BadSetting → (epoch : ℤ) → ¬ AreSettings (settings_of words.entry epoch)) }
+    ensures fits { IfOk result (λ s. (epoch : ℤ) → AreSettings (settings_of words.entry epoch)) }
+    ensures limits { IfErr result (λ f. (epoch : ℤ) → ¬ AreSettings (settings_of words.entry epoch) → (f ≡ BadSetting) ⊎ IsOfStream f) }
+    ensures told { IfErr result IsOfInit }
+{
+    let settings = new_settings(rt.alloc(), rt, words)?;
+    ready_path(rt, words.store)?;
+    Ok(settings)
+}
+
 /// Makes a store with these settings, whose epoch is the present second, in files that hold no tables: it stands for the empty queue. A setting that is not within its limits
 /// makes no file. Damaged is told where a store is there, or a file that is no database; Disk where another program's database is, or the path is no
 /// file's name to SQLite. One whose making was cut short is made anew.
@@ -94,8 +108,7 @@ fn make_store<S: Start>(rt: &HostRuntime, words: Init<'_>, start: S) -> Result<F
     ensures limits { IfErr result (λ f. (epoch : ℤ) → ¬ AreSettings (settings_of words.entry epoch) → (f ≡ BadSetting) ⊎ IsOfStream f) }
     ensures told { IfErr result IsOfInit }
 {
-    let settings = new_settings(rt.alloc(), rt, words)?;
-    ready_path(rt, words.store)?;
+    let settings = ready(rt, words)?;
     let book = TableBook::create_from(rt, words.store, settings, start)?;
     Ok(book)
 }

@@ -1,6 +1,6 @@
 //! Connections over a store.
 ghost use Rattle.std.specs.IoError.{error_kind};
-ghost use Rattle.std.specs.Prelude.{◌≡◌, ◌↔◌, ◌≤◌, ◌⊎◌, ℕ, List, IfErr, OnOk, length};
+ghost use Rattle.std.specs.Prelude.{◌≡◌, ◌↔◌, ◌≤◌, ◌⊎◌, ℕ, List, IfErr, IfOk, OnOk, length};
 ghost use Rattle.std.specs.Io.KnownBytes.{Appends};
 ghost use Rattle.std.specs.declared.io.Error.{Error as StreamError};
 ghost use Rattle.std.specs.declared.io.ErrorKind.TheVariants.{OutOfMemory};
@@ -69,6 +69,30 @@ fn tell_port<W: Write>(
     Ok(listener)
 }
 
+/// What connections are served by.
+#[derive(Drop)]
+struct Started {
+    /// Those of the book.
+    settings: Settings,
+    listener: TcpListener,
+}
+
+/// Tells of the port that was opened, once the settings of the book are known.
+fn start<S: Alter, W: Write>(
+    listener: io::Result<TcpListener>,
+    port: u16,
+    output: &mut W,
+    book: &TableBook<S>,
+) -> Result<Started, Fault>
+    ensures settings { IfOk result (λ started. (w : World) → IsHonest S.Store book.now → StandsFor S.Store book.now w → started.settings ≡ w.settings) }
+    ensures told { OnOk result (Appends (W.contents output.old) (W.contents output.new) (listening_line port)) }
+    ensures stream { IfErr result IsOfStream }
+{
+    let settings = book.settings()?;
+    let listener = tell_port(listener, output, port)?;
+    Ok(Started { settings, listener })
+}
+
 /// Serves so many connections over a book with the settings of the service.
 fn serve_at<C: Clock, S: Alter, W: Write>(
     service: Service<'_>,
@@ -124,8 +148,7 @@ pub(crate) fn serve_book<C: Clock, S: Alter, W: Write>(
     ensures written { OnOk result ((counts : List ℕ) × (length counts ≡ words.entry.connections)
         × Appends (W.contents output.old) (W.contents output.new) (server_lines words.entry counts)) }
 {
-    let settings = book.settings()?;
-    let listener = tell_port(listener, output, words.port)?;
-    let service = service(alloc, words, &listener, &settings);
+    let started = start(listener, words.port, output, book)?;
+    let service = service(alloc, words, &started.listener, &started.settings);
     serve_at(service, clock, words.connections, output, book)
 }

@@ -21,7 +21,7 @@ use Rattle.std.proofs.lemmas.Bool.{cond-true, lt-ltb}
 use Rattle.std.proofs.lemmas.Option.{slice_get-map}
 use Rattle.std.proofs.Math.Nat.{mul-le-mul_left}
 use Rattle.queue_types.specs.Job.{owed, estimate, is_live}
-use Rattle.queue_types.specs.declared.event.Scene.{Scene}
+use Rattle.queue_types.specs.declared.event.KnownGrant.{KnownGrant}
 use Rattle.queue_types.specs.declared.sheet.AccountSheet.{AccountSheet}
 use Rattle.queue_types.specs.Event.{grant}
 
@@ -139,9 +139,10 @@ known_is l (g ∷ rows) totals =
     let total = totals g.account in
     λ i. record { pages = get (grants_map l.grants.entries) (g.batch, g.account); granted = total i; free = get (free_map l.accounts.entries) g.account } ∷ rest i
 
-pub grants_scene_is : (l : Lists) (rows : List GrantRow) (s : Scene) → s.settings ≡ l.settings → s.jobs ≡ [] → s.free ≡ [] → s.live ≡ 0 → s.counts ≡ queue_counts [] → s.report ≡ None → s.known ≡ map (known_grant (world_of l)) rows → s.next ≡ l.next → s ≡ cut (world_of l) (grant rows)
-grants_scene_is l rows s settings jobs free live counts report known next =
-    λ i. record { settings = settings i; jobs = jobs i; free = free i; live = live i; counts = counts i; report = report i; known = known i; next = next i }
+pub grants_scene_is : (l : Lists) (rows : List GrantRow) (known : List KnownGrant) → known ≡ map (known_grant (world_of l)) rows → cut (world_of l) (grant rows) ≡ record { settings = l.settings; jobs = []; free = []; live = 0; counts = queue_counts []; report = None; known = known; next = l.next }
+grants_scene_is l rows known of_known =
+    let k = sym of_known in
+    λ i. record { settings = l.settings; jobs = []; free = []; live = 0; counts = queue_counts []; report = None; known = k i; next = l.next }
 
 -- a sheet is of the account that was asked for
 pub sheet_named : (l : Lists) (a : List ℕ) (free : Option ℤ) → IfSome (option_map (sheet_in l a) free) (λ it. it.account ≡ a)

@@ -5,6 +5,8 @@ ghost use Rattle.queue_core.specs.Book.{IsContent, IsDecisionOn};
 ghost use Rattle.queue_types.specs.Event.{event_of, change_of, decision_of};
 ghost use Rattle.queue_core.specs.Limits.{IsMoment, IsEvent, IsReplyTo};
 ghost use Rattle.queue_core.specs.Machine.{decision};
+ghost use Rattle.list_book.specs.Lists.{AreTotals, world_of};
+ghost use Rattle.queue_core.specs.Sound.{IsSound};
 ghost use Rattle.queue_core.specs.Shown.{document_at, head_of, pending_jobs, sheet_of};
 ghost use Rattle.queue_core.specs.World.{World, cut, made_on};
 ghost use Rattle.queue_core.specs.declared.book.SendCause.TheVariants.{Book as ByBook, Write as ByWriter};
@@ -23,7 +25,7 @@ use queue_types::event::{Decision, Event};
 use queue_types::job::JobList;
 use queue_types::settings::Settings;
 use queue_types::sheet::AccountSheet;
-use std::alloc::Global;
+use std::alloc::{AllocError, Global};
 use std::collections::HashMap;
 use std::io::Write;
 use std::marker::Model;
@@ -79,6 +81,25 @@ impl ListBook {
     }
 }
 
+/// What the machine decides on what the lists hold. The one error is want of memory.
+fn decided<'a>(
+    alloc: Global,
+    lists: &Lists,
+    now: u32,
+    event: &Event<'a>,
+) -> Result<Decision<'a>, AllocError>
+    requires moment { IsMoment now }
+    requires event { IsEvent (event_of event.now) }
+    requires totals { AreTotals lists.now }
+    requires sound { IsSound (world_of lists.now) }
+    ensures decides { IfOk result (λ d. decision_of d ≡ decision (cut (world_of lists.now) (event_of event.now)) now (event_of event.now)) }
+    ensures limits { IfOk result (λ d. IsReplyTo (event_of event.now) d.reply) }
+{
+    cut_is_fair();
+    let scene = scene(alloc, lists, event)?;
+    queue_core::decide(alloc, &scene, now, event)
+}
+
 /// A `ListBook` stands for its content, and is always honest. Its faults are want of memory and, of `send_document`,
 /// the writer's alone.
 impl QueueBook for ListBook {
@@ -105,9 +126,7 @@ impl QueueBook for ListBook {
         ensures opened { ⊤ → ⊤ → ⊤ }
         ensures fault { IfErr result (λ f. f ≡ BookFault.Memory) }
     {
-        cut_is_fair();
-        let scene = scene(self.alloc, &self.lists, event)?;
-        let decision = queue_core::decide(self.alloc, &scene, now, event)?;
+        let decision = decided(self.alloc, &self.lists, now, event)?;
         Ok(decision)
     }
 

@@ -1,5 +1,5 @@
 //! What an event needs of the book in lists.
-ghost use Rattle.std.specs.Prelude.{ℕ, [], ◌≡◌, ◌==◌, IfOk, count_by, filter, bytes_eq, ◌&&◌};
+ghost use Rattle.std.specs.Prelude.{ℕ, ◌≡◌, ◌==◌, IfOk, count_by, filter, bytes_eq, ◌&&◌};
 ghost use Rattle.std.specs.BTreeSet.{contains};
 ghost use Rattle.std.specs.FinMap.{get};
 ghost use Rattle.std.specs.List.{list_any};
@@ -8,7 +8,7 @@ ghost use Rattle.queue_types.specs.Event.{ask, tell, grant, event_of, call_of};
 ghost use Rattle.queue_types.specs.Job.{is_live, is_running, is_stopped};
 ghost use Rattle.queue_core.specs.Order.{AreRising};
 ghost use Rattle.queue_core.specs.Visible.{is_among, visible};
-ghost use Rattle.queue_core.specs.World.{cut, owner_row, queue_counts, is_one_of, numbered, jobs_for, live_for, counts_for};
+ghost use Rattle.queue_core.specs.World.{cut, owner_row, is_one_of, numbered, jobs_for, live_for, counts_for};
 ghost use Rattle.list_book.specs.Lists.{AreTotals, reports_map, world_of};
 ghost use Rattle.list_book.specs.Tables.{free_map};
 
@@ -16,13 +16,12 @@ use crate::accounts::{Accounts, free_rows_of};
 use crate::grants::known_rows;
 use crate::lists::{Lists, Reports, place_of};
 use crate::shown::ordered;
-use queue_core::number_set;
 use queue_core::visible::cut_at;
+use queue_core::{call_scene, grants_scene, no_counts, number_set, report_scene};
 use queue_types::event::{
-    Call, Event, FreeList, FreeRow, GrantRow, KeptReport, KnownList, QueueCounts, Report, Scene,
-    WhichJobs,
+    Call, Event, FreeRow, GrantRow, KeptReport, QueueCounts, Report, Scene, WhichJobs,
 };
-use queue_types::job::{Job, JobList, Phase};
+use queue_types::job::{Job, Phase};
 use std::alloc::{AllocError, Global};
 use std::collections::BTreeSet;
 
@@ -188,17 +187,6 @@ fn queued_in(jobs: &[Job]) -> usize
     jobs.iter().filter(|j| j.is_live()).count()
 }
 
-/// Counts of a queue that nobody asks for.
-fn no_counts() -> QueueCounts
-    ensures { result ≡ queue_counts [] }
-{
-    QueueCounts {
-        running: 0,
-        stopped: 0,
-        queued: 0,
-    }
-}
-
 /// The counts of the queue, for a call that needs them.
 fn counts(jobs: &[Job], call: &Call<'_>) -> QueueCounts
     ensures { result ≡ counts_for (call_of call.now) jobs.now }
@@ -223,19 +211,11 @@ fn scene_of_call(
     requires { AreRising lists.now.jobs.items }
     ensures { IfOk result (λ s. s ≡ cut (world_of lists.now) (ask caller.now (call_of call.now))) }
 {
-    let settings = lists.settings.try_clone()?;
     let jobs = concerned(alloc, lists.jobs.as_slice(), caller, call)?;
     let free = free_rows_of(alloc, &lists.accounts, caller)?;
-    Ok(Scene {
-        settings,
-        jobs: JobList::from_items(jobs),
-        free: FreeList::from_items(free),
-        live: live_for_call(lists.jobs.as_slice(), caller, call),
-        counts: counts(lists.jobs.as_slice(), call),
-        report: None,
-        known: KnownList::from_items(Vec::new(alloc)),
-        next: lists.next,
-    })
+    let live = live_for_call(lists.jobs.as_slice(), caller, call);
+    let counts = counts(lists.jobs.as_slice(), call);
+    call_scene(alloc, &lists.settings, jobs, free, live, counts, lists.next)
 }
 
 /// The account of the first job's owner.
@@ -260,19 +240,10 @@ fn scene_of_report(alloc: Global, lists: &Lists, report: &Report) -> Result<Scen
     requires { AreRising lists.now.jobs.items }
     ensures { IfOk result (λ s. s ≡ cut (world_of lists.now) (tell report.now)) }
 {
-    let settings = lists.settings.try_clone()?;
     let jobs = with_number(alloc, lists.jobs.as_slice(), report.job)?;
     let free = owner_rows(alloc, &lists.accounts, jobs.as_slice())?;
-    Ok(Scene {
-        settings,
-        jobs: JobList::from_items(jobs),
-        free: FreeList::from_items(free),
-        live: 0,
-        counts: no_counts(),
-        report: kept_report(&lists.reports, report.job, report.seq),
-        known: KnownList::from_items(Vec::new(alloc)),
-        next: lists.next,
-    })
+    let kept = kept_report(&lists.reports, report.job, report.seq);
+    report_scene(alloc, &lists.settings, jobs, free, kept, lists.next)
 }
 
 /// The rows that an account file needs.
@@ -280,18 +251,8 @@ fn scene_of_grants(alloc: Global, lists: &Lists, rows: &[GrantRow]) -> Result<Sc
     requires { AreTotals lists.now }
     ensures { IfOk result (λ s. s ≡ cut (world_of lists.now) (grant rows.now)) }
 {
-    let settings = lists.settings.try_clone()?;
     let known = known_rows(alloc, &lists.grants, &lists.accounts, rows)?;
-    Ok(Scene {
-        settings,
-        jobs: JobList::from_items(Vec::new(alloc)),
-        free: FreeList::from_items(Vec::new(alloc)),
-        live: 0,
-        counts: no_counts(),
-        report: None,
-        known: KnownList::from_items(known),
-        next: lists.next,
-    })
+    grants_scene(alloc, &lists.settings, known, lists.next)
 }
 
 /// The rows that an event needs. The one error is want of memory.

@@ -2,7 +2,7 @@
 ghost use Rattle.std.specs.Prelude.{◌≡◌, ◌≤◌, ◌<◌, ◌+◌, ◌+ℤ◌, ◌^◌, ◌==◌, ◌++◌, ◌∷◌, [], ℕ, pos, All, List, None, Some, IfOk, IsSome, bytes_eq, if◌then◌else◌, length, nat_lt, option_map, unwrap_or};
 ghost use Rattle.queue_types.specs.Event.{decision_of};
 ghost use Rattle.queue_types.specs.declared.event.GrantFault.TheVariants.{Conflict, TooMany};
-ghost use Rattle.queue_core.specs.Grants.{is_too_many, new_row, refused_row, repeated, row_of, row_under, take_rows as rows_taken};
+ghost use Rattle.queue_core.specs.Grants.{all_taken, is_too_many, new_row, refused_row, repeated, row_of, row_under, take_rows as rows_taken};
 ghost use Rattle.queue_core.specs.Limits.{IsFair, IsKnown};
 ghost use Rattle.queue_core.specs.Machine.{grant_row};
 ghost use Rattle.queue_core.specs.Tally.{total_of, row_in, rows_after, free_rows_after, taken_at, ArePages, AreTotals, IsEndWithin, IsTallied, IsTalliedAfter};
@@ -193,6 +193,56 @@ fn take_rows<'a>(
     Ok(End::Whole { repeats })
 }
 
+/// The new rows of an account file, with the free pages of the account of each after it, and where their taking ended.
+#[derive(Drop)]
+struct FileRows {
+    rows: Vec<GrantRow>,
+    free: Vec<FreeRow>,
+    end: End,
+}
+
+/// Takes the rows of an account file, each beside what is known of it, up to one that can't be taken. The one error is
+/// want of memory.
+fn take_file(alloc: Global, rows: &[GrantRow], known: &[KnownGrant]) -> Result<FileRows, AllocError>
+    requires few { length rows.now < 2 ^ 31 }
+    requires known { All IsKnown known.now }
+    ensures taken { IfOk result (λ f. taken_at f.end f.rows.items f.free.items ≡ rows_taken rows.now known.now 1 [] [] 0) }
+    ensures within { IfOk result (λ f. IsEndWithin f.end (length f.rows.items) 0 (length rows.now)) }
+{
+    let mut tally = Tally {
+        rows: Vec::new(alloc),
+        free: Vec::new(alloc),
+        pages: HashMap::new(alloc),
+        totals: HashMap::new(alloc),
+    };
+    let end = take_rows(&mut tally, rows, known)?;
+    Ok(FileRows {
+        rows: tally.rows,
+        free: tally.free,
+        end,
+    })
+}
+
+/// The decision that these rows are new, beside so many repeats.
+fn add_rows<'a>(
+    alloc: Global,
+    rows: Vec<GrantRow>,
+    free: Vec<FreeRow>,
+    repeats: u32,
+) -> Decision<'a>
+    requires few { length rows.items < 2 ^ 31 }
+    ensures { decision_of result ≡ grant_row (all_taken rows.items free.items repeats) }
+{
+    let added = rows.len() as u32;
+    let mut change = no_change(alloc);
+    change.free = FreeList::from_items(free);
+    change.grants = GrantList::from_items(rows);
+    Decision {
+        reply: Reply::Added { added, repeats },
+        change,
+    }
+}
+
 /// The rows of an account file are taken, all of them or none. The one error is want of memory.
 pub(crate) fn grant<'a>(
     alloc: Global,
@@ -203,23 +253,9 @@ pub(crate) fn grant<'a>(
     requires few { length rows.now ≤ 16777216 }
     ensures { IfOk result (λ d. decision_of d ≡ grant_row (rows_taken rows.now scene.now.known 1 [] [] 0)) }
 {
-    let mut tally = Tally {
-        rows: Vec::new(alloc),
-        free: Vec::new(alloc),
-        pages: HashMap::new(alloc),
-        totals: HashMap::new(alloc),
-    };
-    match take_rows(&mut tally, rows, scene.known.as_slice())? {
-        End::Whole { repeats } => {
-            let added = tally.rows.len() as u32;
-            let mut change = no_change(alloc);
-            change.free = FreeList::from_items(tally.free);
-            change.grants = GrantList::from_items(tally.rows);
-            Ok(Decision {
-                reply: Reply::Added { added, repeats },
-                change,
-            })
-        }
+    let FileRows { rows, free, end } = take_file(alloc, rows, scene.known.as_slice())?;
+    match end {
+        End::Whole { repeats } => Ok(add_rows(alloc, rows, free, repeats)),
         End::At { fault, row } => Ok(answer_only(alloc, Reply::NotAdded { fault, row })),
     }
 }

@@ -12,6 +12,7 @@ mod my_jobs;
 mod names;
 mod own_job;
 mod reports;
+mod scenes;
 pub mod visible;
 mod writing;
 
@@ -24,4 +25,5 @@ pub use laws::{
 pub use machine::decide;
 pub use my_jobs::number_set;
 pub use names::{are_batch_bytes, has_no_control, has_no_zero, is_batch, is_job_name, is_owner};
+pub use scenes::{call_scene, grants_scene, no_counts, report_scene};
 pub use writing::{Unwritten, put_whole};

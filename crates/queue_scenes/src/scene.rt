@@ -1,10 +1,10 @@
 //! The rows that an event needs.
-ghost use Rattle.std.specs.Prelude.{◌≡◌, ◌≤◌, ◌<◌, ◌^◌, ◌≢◌, [], All, length, IfOk, OnOk, IsTrue, IfErr};
+ghost use Rattle.std.specs.Prelude.{◌≡◌, ◌≤◌, ◌<◌, ◌^◌, ◌≢◌, All, length, IfOk, OnOk, IsTrue, IfErr};
 ghost use Rattle.sqlite.specs.Held.{state};
 ghost use Rattle.sqlite.specs.State.{HasCleanDisk};
 ghost use Rattle.queue_types.specs.Event.{ask, tell, grant, event_of, call_of};
 ghost use Rattle.queue_core.specs.Limits.{IsAmount, IsFair, IsSoundJob};
-ghost use Rattle.queue_core.specs.World.{cut, counts_for, jobs_for, live_for, numbered, owner_row, queue_counts, rows};
+ghost use Rattle.queue_core.specs.World.{cut, counts_for, jobs_for, live_for, numbered, owner_row, rows};
 ghost use Rattle.queue_tables.specs.Leaving.{LeavesTables};
 ghost use Rattle.queue_tables.specs.Telling.{ReadsQueue};
 
@@ -16,11 +16,10 @@ use crate::meta::next_number;
 use crate::own_jobs::{completed, live_jobs, not_completed};
 use crate::own_numbers::numbered_jobs;
 use crate::reports::kept_report;
+use queue_core::{call_scene, grants_scene, no_counts, report_scene};
 use queue_tables::fault::Fault;
-use queue_types::event::{
-    Call, Event, FreeList, FreeRow, GrantRow, KnownList, QueueCounts, Report, Scene, WhichJobs,
-};
-use queue_types::job::{Job, JobList};
+use queue_types::event::{Call, Event, FreeRow, GrantRow, QueueCounts, Report, Scene, WhichJobs};
+use queue_types::job::Job;
 use queue_types::limits::LAST_JOB_NUMBER;
 use queue_types::settings::Settings;
 use sqlite::{Alter, Connection};
@@ -59,19 +58,19 @@ fn few_concerned<S: Alter>(
     conn: &mut Connection<S>,
     caller: &str,
     call: &Call<'_>,
-) -> Result<JobList, Fault>
+) -> Result<Vec<Job>, Fault>
     ensures leaves { LeavesTables (state S.Store conn.old) (state S.Store conn.new) }
     ensures live { HasCleanDisk (state S.Store conn.new) → IsTrue (state S.Store conn.old).is_open → OnOk result (IsTrue (state S.Store conn.new).is_open) }
-    ensures sound { IfOk result (λ js. All IsSoundJob js) }
-    ensures few { IfOk result (λ js. length js < 2 ^ 31) }
+    ensures sound { IfOk result (λ v. All IsSoundJob v.items) }
+    ensures few { IfOk result (λ v. length v.items < 2 ^ 31) }
     // a call that speaks of no job reads nothing, so only its caller knows that the connection was open
-    ensures reads { (HasCleanDisk (state S.Store conn.new) → IsTrue (state S.Store conn.old).is_open) → ReadsQueue (state S.Store conn.old) (state S.Store conn.new) result (λ w js. js ≡ jobs_for caller.now (call_of call.now) (rows w)) }
+    ensures reads { (HasCleanDisk (state S.Store conn.new) → IsTrue (state S.Store conn.old).is_open) → ReadsQueue (state S.Store conn.old) (state S.Store conn.new) result (λ w v. v.items ≡ jobs_for caller.now (call_of call.now) (rows w)) }
 {
     let jobs = concerned(alloc, conn, caller, call)?;
     if jobs.len() > LAST_JOB_NUMBER as usize {
         return Err(Fault::Damaged);
     }
-    Ok(JobList::from_items(jobs))
+    Ok(jobs)
 }
 
 /// The numbers of a scene.
@@ -80,17 +79,6 @@ struct Numbers {
     live: usize,
     counts: QueueCounts,
     next: u32,
-}
-
-/// Counts of a queue that nobody asks for.
-fn no_counts() -> QueueCounts
-    ensures { result ≡ queue_counts [] }
-{
-    QueueCounts {
-        running: 0,
-        stopped: 0,
-        queued: 0,
-    }
 }
 
 /// How many live jobs the caller has, for a call that asks for a new one.
@@ -158,17 +146,9 @@ fn scene_of_call<S: Alter>(
     let numbers = numbers_for_call(conn, caller, call)?;
     let free = free_rows(alloc, conn, caller)?;
     let jobs = few_concerned(alloc, conn, caller, call)?;
-    let settings = settings.try_clone()?;
-    Ok(Scene {
-        settings,
-        jobs,
-        free: FreeList::from_items(free),
-        live: numbers.live,
-        counts: numbers.counts,
-        report: None,
-        known: KnownList::from_items(Vec::new(alloc)),
-        next: numbers.next,
-    })
+    let Numbers { live, counts, next } = numbers;
+    let scene = call_scene(alloc, settings, jobs, free, live, counts, next)?;
+    Ok(scene)
 }
 
 /// The account of the first job's owner.
@@ -220,17 +200,8 @@ fn scene_of_report<S: Alter>(
     let report = kept_report(conn, r.job, r.seq)?;
     let jobs = job_of_report(alloc, conn, r.job)?;
     let free = owner_rows(alloc, conn, jobs.as_slice())?;
-    let settings = settings.try_clone()?;
-    Ok(Scene {
-        settings,
-        jobs: JobList::from_items(jobs),
-        free: FreeList::from_items(free),
-        live: 0,
-        counts: no_counts(),
-        report,
-        known: KnownList::from_items(Vec::new(alloc)),
-        next,
-    })
+    let scene = report_scene(alloc, settings, jobs, free, report, next)?;
+    Ok(scene)
 }
 
 /// The rows that an account file needs.
@@ -246,17 +217,8 @@ fn scene_of_grants<S: Alter>(
 {
     let next = next_number(conn)?;
     let known = known_rows(alloc, conn, rows)?;
-    let settings = settings.try_clone()?;
-    Ok(Scene {
-        settings,
-        jobs: JobList::from_items(Vec::new(alloc)),
-        free: FreeList::from_items(Vec::new(alloc)),
-        live: 0,
-        counts: no_counts(),
-        report: None,
-        known: KnownList::from_items(known),
-        next,
-    })
+    let scene = grants_scene(alloc, settings, known, next)?;
+    Ok(scene)
 }
 
 /// The rows that an event needs, under the settings of the queue. Whatever rows the tables hold, they hold after it,

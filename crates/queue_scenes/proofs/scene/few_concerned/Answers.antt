@@ -1,16 +1,9 @@
-use Rattle.std.proofs.Common.{◌<◌, ◌^◌, List, All, length, refl, sym, subst, ◌∙◌, arith, ap}
-use Rattle.queue_core.specs.Limits.{IsSoundJob}
+use Rattle.std.proofs.Common.{length, refl, ap, arith}
 use Rattle.queue_types.specs.declared.job.Job.{Job}
 use Rattle.queue_types.specs.Event.{call_of}
 use Rattle.queue_scenes.proofs.Bounds.{jobs_fit}
 use Rattle.queue_tables.proofs.Telling.{refuses, tells, told_while}
 use Rattle.queue_scenes.proofs.scene.few_concerned.Goals as goal
-
-pub returns-clause-sound : goal.returns-clause-sound
-returns-clause-sound g c = subst (λ (js : List Job). All IsSoundJob js) (sym c.from_items.ensures) c.in_ok-jobs.ensures.sound
-
-pub returns-clause-few : goal.returns-clause-few
-returns-clause-few g c = subst (λ (js : List Job). length js < 2 ^ 31) (sym c.from_items.ensures) (omega arith)
 
 pub returns-then-len-clause-reads : goal.returns-then-len-clause-reads
 returns-then-len-clause-reads g c live =
@@ -21,4 +14,4 @@ returns-then-len-clause-reads g c live =
     omega (arith, few, same)) _ refl
 
 pub returns-clause-reads : goal.returns-clause-reads
-returns-clause-reads g c live = tells (told_while c.in_ok-jobs.ensures.reads c.in_ok-jobs.ensures.live) (λ w sound is. c.from_items.ensures ∙ is)
+returns-clause-reads g c live = tells (told_while c.in_ok-jobs.ensures.reads c.in_ok-jobs.ensures.live) (λ w sound is. is)

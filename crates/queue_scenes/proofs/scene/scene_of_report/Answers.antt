@@ -1,11 +1,7 @@
-use Rattle.std.proofs.Common.{◌<◌, ◌^◌, List, All, length, refl, sym, ap, subst, ◌∙◌, arith}
+use Rattle.std.proofs.Common.{refl, sym, ap, subst, ◌∙◌, arith}
 use Rattle.queue_types.specs.Event.{tell}
-use Rattle.queue_core.specs.Limits.{IsAmount, IsKnown, IsSoundJob}
+use Rattle.queue_core.specs.Limits.{IsFair}
 use Rattle.queue_core.specs.World.{cut, owner_row}
-use Rattle.queue_types.specs.declared.event.FreeRow.{FreeRow}
-use Rattle.queue_types.specs.declared.event.KnownGrant.{KnownGrant}
-use Rattle.queue_types.specs.declared.event.QueueCounts.{QueueCounts}
-use Rattle.queue_types.specs.declared.job.Job.{Job}
 use Rattle.queue_scenes.proofs.Cut.{same_scene}
 use Rattle.queue_tables.proofs.Telling.{fails_behind, tells, told, told_then, told_while}
 use Rattle.queue_tables.proofs.Leaving.{leaves_then}
@@ -15,16 +11,16 @@ pub returns-clause-live : goal.returns-clause-live
 returns-clause-live g c clean = c.in_ok-free.ensures.live clean (c.in_ok-jobs.ensures.live (c.owner_rows.ensures.reads.leaves.clean clean))
 
 pub returns-clause-fair : goal.returns-clause-fair
-returns-clause-fair g c = record {
-  settings = c.in_ok-settings.ensures.limits;
-  jobs = subst (λ (js : List Job). All IsSoundJob js) (sym c.from_items.ensures) c.in_ok-jobs.ensures.sound;
-  few = subst (λ (js : List Job). length js < 2 ^ 31) (sym c.from_items.ensures) (let few = c.in_ok-jobs.ensures.few in omega (arith, few));
-  free = subst (λ (rs : List FreeRow). All (λ a. IsAmount a.free) rs) (sym c.from_items-2.ensures) c.in_ok-free.ensures.within;
+returns-clause-fair g c = subst IsFair (sym c.in_ok-scene.ensures.scene) (record {
+  settings = c.in_ok-scene.ensures.settings;
+  jobs = c.in_ok-jobs.ensures.sound;
+  few = let few = c.in_ok-jobs.ensures.few in omega (arith, few);
+  free = c.in_ok-free.ensures.within;
   next = c.in_ok-next.ensures.least;
-  queued = subst (λ (n : QueueCounts). n.queued < 2 ^ 31) (sym c.no_counts.ensures) (omega arith);
+  queued = omega arith;
   report = c.in_ok-report.ensures.within;
-  known = subst (λ (ks : List KnownGrant). All IsKnown ks) (sym (c.from_items-3.ensures ∙ c.new.ensures.items)) (λ k d low. absurd (omega (arith, low)));
-}
+  known = λ k d low. absurd (omega (arith, low));
+})
 
 pub returns-in_err-report-clause-reads : goal.returns-in_err-report-clause-reads
 returns-in_err-report-clause-reads g c = fails_behind c.next_number.ensures.reads.leaves c.in_err-report.ensures.reads _ c.from_residual-in_err-report.ensures.1
@@ -41,12 +37,4 @@ returns-clause-reads g c =
     let three = told_then two (told c.in_ok-jobs.ensures.reads c.in_ok-jobs.ensures.live) in
     tells (told_then three (told_while c.in_ok-free.ensures.reads c.in_ok-free.ensures.live)) (λ w sound is settings_are.
     let jobs = is.0.1 in
-    same_scene _ (cut w (tell c.args.r.now))
-    (c.in_ok-settings.ensures.same ∙ settings_are)
-    (c.from_items.ensures ∙ jobs)
-    (c.from_items-2.ensures ∙ is.1 ∙ ap (owner_row w.free) (c.as_slice.ensures.value ∙ jobs))
-    refl
-    c.no_counts.ensures
-    is.0.0.1
-    (c.from_items-3.ensures ∙ c.new.ensures.items)
-    is.0.0.0)
+    c.in_ok-scene.ensures.scene ∙ same_scene _ (cut w (tell c.args.r.now)) settings_are jobs (is.1 ∙ ap (owner_row w.free) (c.as_slice.ensures.value ∙ jobs)) refl refl is.0.0.1 refl is.0.0.0)
