@@ -58,7 +58,7 @@ pub record IsCount (q : Count) : Type 0 where
 
 -- an owner's live jobs
 abbrev pub count_live : Count
-count_live = record { text = codes "SELECT count(*) FROM jobs WHERE owner = ?1 AND phase < 7"; tree = 1; filter = op2 (Compare Eq Binary) (col 1 2) (col 0 0) ∷ op2 (Compare Lt Binary) (col 1 8) (lit (Int (pos 7))) ∷ [] }
+count_live = record { text = codes "SELECT count(*) FROM jobs WHERE owner = ?1 AND phase < 3"; tree = 1; filter = op2 (Compare Eq Binary) (col 1 2) (col 0 0) ∷ op2 (Compare Lt Binary) (col 1 8) (lit (Int (pos 3))) ∷ [] }
 
 pub count_live_is : IsCount count_live
 unfolding understood first everything
@@ -90,7 +90,7 @@ count_stopped_is = record { shows = record { command = refl; plain = (refl, refl
 
 -- the live jobs
 abbrev pub count_queued : Count
-count_queued = record { text = codes "SELECT count(*) FROM jobs WHERE phase < 7"; tree = 1; filter = op2 (Compare Lt Binary) (col 1 8) (lit (Int (pos 7))) ∷ [] }
+count_queued = record { text = codes "SELECT count(*) FROM jobs WHERE phase < 3"; tree = 1; filter = op2 (Compare Lt Binary) (col 1 8) (lit (Int (pos 3))) ∷ [] }
 
 pub count_queued_is : IsCount count_queued
 unfolding understood first everything

@@ -85,7 +85,7 @@ select_own_is = record { shows = record { command = refl; plain = (refl, refl); 
 -- ---- an owner's live jobs
 
 abbrev pub select_own_live : Selection
-select_own_live = jobs_selected (codes " FROM jobs WHERE owner = ?1 AND phase < 7 ORDER BY number") (op2 (Compare Eq Binary) (col 1 2) (col 0 0) ∷ op2 (Compare Lt Binary) (col 1 8) (lit (Int (pos 7))) ∷ []) ((col 1 0, plain_key Binary) ∷ [])
+select_own_live = jobs_selected (codes " FROM jobs WHERE owner = ?1 AND phase < 3 ORDER BY number") (op2 (Compare Eq Binary) (col 1 2) (col 0 0) ∷ op2 (Compare Lt Binary) (col 1 8) (lit (Int (pos 3))) ∷ []) ((col 1 0, plain_key Binary) ∷ [])
 
 pub select_own_live_is : IsSelection select_own_live
 unfolding understood first everything
@@ -94,7 +94,7 @@ select_own_live_is = record { shows = record { command = refl; plain = (refl, re
 -- ---- the first of an owner's jobs that the device has
 
 abbrev pub select_at_device : Selection
-select_at_device = jobs_selected (codes " FROM jobs WHERE owner = ?1 AND phase > 0 AND phase < 7 ORDER BY number LIMIT ?2") (op2 (Compare Eq Binary) (col 1 2) (col 0 0) ∷ op2 (Compare Gt Binary) (col 1 8) (lit (Int (pos 0))) ∷ op2 (Compare Lt Binary) (col 1 8) (lit (Int (pos 7))) ∷ []) ((col 1 0, plain_key Binary) ∷ [])
+select_at_device = jobs_selected (codes " FROM jobs WHERE owner = ?1 AND phase > 0 AND phase < 3 ORDER BY number LIMIT ?2") (op2 (Compare Eq Binary) (col 1 2) (col 0 0) ∷ op2 (Compare Gt Binary) (col 1 8) (lit (Int (pos 0))) ∷ op2 (Compare Lt Binary) (col 1 8) (lit (Int (pos 3))) ∷ []) ((col 1 0, plain_key Binary) ∷ [])
 
 pub select_at_device_is : IsLimited select_at_device 1
 unfolding understood first everything

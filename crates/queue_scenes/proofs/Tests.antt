@@ -44,7 +44,7 @@ where_above m n = rw (value_cmp-Int (pos m) (pos n), bare _) refl
 
 -- ---- phases
 
-live_by_number : (p : Phase) → is_lt (int_cmp (pos (phase_number p)) (pos 7)) ≡ is_live_in p
+live_by_number : (p : Phase) → is_lt (int_cmp (pos (phase_number p)) (pos 3)) ≡ is_live_in p
 live_by_number Waiting = refl
 live_by_number _ = refl
 
@@ -65,7 +65,7 @@ pending_by_numbers _ _ _ = refl
 abbrev pub is_between : ℕ → ℕ → Job → Bool
 is_between first last j = nat_le first (state j) && nat_le (state j) last
 
-at_device_by_number : (p : Phase) (h i : Bool) → (is_gt (int_cmp (pos (phase_number p)) (pos 0)) && is_lt (int_cmp (pos (phase_number p)) (pos 7))) ≡ (nat_le 5 (state_in p h i) && nat_le (state_in p h i) 6)
+at_device_by_number : (p : Phase) (h i : Bool) → (is_gt (int_cmp (pos (phase_number p)) (pos 0)) && is_lt (int_cmp (pos (phase_number p)) (pos 3))) ≡ (nat_le 5 (state_in p h i) && nat_le (state_in p h i) 6)
 at_device_by_number Waiting true i = refl
 at_device_by_number Waiting false true = refl
 at_device_by_number _ _ _ = refl
@@ -118,13 +118,13 @@ pub stopped-row : (j : Job) → is_stopped_row (job_values j) ≡ is_stopped j
 unfolding is_stopped_row
 stopped-row j = rw (where_number_is (phase_number j.phase) 2, and-true _) (stopped_by_number j.phase)
 
--- phase < 7
+-- phase < 3
 unfoldable pub is_live_row : Row → Bool
-is_live_row v = is_true (binary (Compare Lt Binary) (column v 7) (Int (pos 7))) && true
+is_live_row v = is_true (binary (Compare Lt Binary) (column v 7) (Int (pos 3))) && true
 
 pub live-row : (j : Job) → is_live_row (job_values j) ≡ is_live j
 unfolding is_live_row
-live-row j = rw (where_below (phase_number j.phase) 7, and-true _) (live_by_number j.phase)
+live-row j = rw (where_below (phase_number j.phase) 3, and-true _) (live_by_number j.phase)
 
 -- owner = ?1
 unfoldable pub is_own_row : List ℕ → Row → Bool
@@ -134,13 +134,13 @@ pub own-row : (name : List ℕ) (j : Job) → is_own_row name (job_values j) ≡
 unfolding is_own_row
 own-row name j = rw (where_text_is j.owner name, and-true _) refl
 
--- owner = ?1 AND phase < 7
+-- owner = ?1 AND phase < 3
 unfoldable pub is_own_live_row : List ℕ → Row → Bool
-is_own_live_row name v = is_true (binary (Compare Eq Binary) (column v 1) (Words name)) && (is_true (binary (Compare Lt Binary) (column v 7) (Int (pos 7))) && true)
+is_own_live_row name v = is_true (binary (Compare Eq Binary) (column v 1) (Words name)) && (is_true (binary (Compare Lt Binary) (column v 7) (Int (pos 3))) && true)
 
 pub own_live-row : (name : List ℕ) (j : Job) → is_own_live_row name (job_values j) ≡ (bytes_eq j.owner name && is_live j)
 unfolding is_own_live_row
-own_live-row name j = rw (where_text_is j.owner name, where_below (phase_number j.phase) 7, and-true _, live_by_number j.phase) refl
+own_live-row name j = rw (where_text_is j.owner name, where_below (phase_number j.phase) 3, and-true _, live_by_number j.phase) refl
 
 -- phase = 0 AND hold = 0 AND incoming = 0
 unfoldable pub is_pending_row : Row → Bool
@@ -150,13 +150,13 @@ pub pending-row : (j : Job) → is_pending_row (job_values j) ≡ (state j == 3)
 unfolding is_pending_row
 pending-row j = rw (where_number_is (phase_number j.phase) 0, where_number_is (flag_number j.hold) 0, where_number_is (flag_number j.incoming) 0, and-true _) (pending_by_numbers j.phase j.hold j.incoming)
 
--- owner = ?1 AND phase > 0 AND phase < 7
+-- owner = ?1 AND phase > 0 AND phase < 3
 unfoldable pub is_at_device_row : List ℕ → Row → Bool
-is_at_device_row name v = is_true (binary (Compare Eq Binary) (column v 1) (Words name)) && (is_true (binary (Compare Gt Binary) (column v 7) (Int (pos 0))) && (is_true (binary (Compare Lt Binary) (column v 7) (Int (pos 7))) && true))
+is_at_device_row name v = is_true (binary (Compare Eq Binary) (column v 1) (Words name)) && (is_true (binary (Compare Gt Binary) (column v 7) (Int (pos 0))) && (is_true (binary (Compare Lt Binary) (column v 7) (Int (pos 3))) && true))
 
 pub at_device-row : (name : List ℕ) (j : Job) → is_at_device_row name (job_values j) ≡ (bytes_eq j.owner name && is_between 5 6 j)
 unfolding is_at_device_row
-at_device-row name j = rw (where_text_is j.owner name, where_above (phase_number j.phase) 0, where_below (phase_number j.phase) 7, and-true _, at_device_by_number j.phase j.hold j.incoming) refl
+at_device-row name j = rw (where_text_is j.owner name, where_above (phase_number j.phase) 0, where_below (phase_number j.phase) 3, and-true _, at_device_by_number j.phase j.hold j.incoming) refl
 
 -- owner = ?1 AND phase = 0 AND hold + incoming = 0
 unfoldable pub is_own_pending_row : List ℕ → Row → Bool

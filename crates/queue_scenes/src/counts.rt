@@ -43,9 +43,10 @@ pub(crate) fn live_count<S: Alter>(conn: &mut Connection<S>, caller: &str) -> Re
     ensures live { HasCleanDisk (state S.Store conn.new) → OnOk result (IsTrue (state S.Store conn.new).is_open) }
     ensures never { IfErr result (λ e. e ≢ Fault.Damaged) }
 {
+    // no phase is 3: an index is read up to the bound with the bound itself, which by `phase < 7` would be each canceled job
     count(
         conn,
-        "SELECT count(*) FROM jobs WHERE owner = ?1 AND phase < 7",
+        "SELECT count(*) FROM jobs WHERE owner = ?1 AND phase < 3",
         params![caller],
     )
 }
@@ -71,7 +72,7 @@ pub(crate) fn all_counts<S: Alter>(conn: &mut Connection<S>) -> Result<QueueCoun
 {
     let running = count(conn, "SELECT count(*) FROM jobs WHERE phase = 1", &[])?;
     let stopped = count(conn, "SELECT count(*) FROM jobs WHERE phase = 2", &[])?;
-    let queued = count(conn, "SELECT count(*) FROM jobs WHERE phase < 7", &[])?;
+    let queued = count(conn, "SELECT count(*) FROM jobs WHERE phase < 3", &[])?;
     if queued > LAST_JOB_NUMBER as usize {
         return Err(Fault::Damaged);
     }
