@@ -18,7 +18,7 @@ use crate::work::{Work, work_and_close};
 use command_ends::{Fault, end, tell_words};
 use command_words::{Command, CommandFault, Init, command};
 use replay_in_memory::replay;
-use sqlite_std_file::Unknown;
+use sqlite_std_file::Wary;
 use std::alloc::Global;
 use std::io::{BufWriter, Input, Read, Write};
 use std::rt::HostRuntime;
@@ -39,7 +39,7 @@ fn do_init<O: Write + Drop>(
     ensures quiet { IfErr result (λ f. IsOfStream f ⊎ (writer_contents O.contents out.new ≡ writer_contents O.contents out.old)) }
 {
     // what it gives back is let go here, before the flush
-    let _ = make_and_close(rt, words, Unknown)?;
+    let _ = make_and_close(rt, words, Wary)?;
     out.flush()?;
     Ok(0)
 }
@@ -58,7 +58,7 @@ fn do_work<O: Write + Drop>(
     ensures quiet { IfErr result (λ f. IsOfStream f ⊎ MayBePrintedOf work.entry (writer_contents O.contents out.old) (writer_contents O.contents out.new)) }
 {
     // what it gives back is let go here, before the flush
-    let _ = work_and_close(rt, work, out, Unknown)?;
+    let _ = work_and_close(rt, work, out, Wary)?;
     out.flush()?;
     Ok(0)
 }
