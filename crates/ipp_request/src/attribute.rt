@@ -15,6 +15,12 @@ const MOST_URI_OCTETS: usize = 1023;
 /// The most octets of a naturalLanguage (RFC 8011, section 5.1.9).
 const MOST_LANGUAGE_OCTETS: usize = 63;
 
+/// The most octets of a keyword (RFC 8011, section 5.1.4).
+const MOST_KEYWORD_OCTETS: usize = 255;
+
+/// The most octets of a mimeMediaType (RFC 8011, section 5.1.10).
+const MOST_MEDIA_TYPE_OCTETS: usize = 255;
+
 /// The operation attributes that are looked at.
 #[derive(Clone, Copy, Debug)]
 pub enum OperationAttribute {
@@ -174,11 +180,9 @@ impl Syntax {
             Syntax::Charset | Syntax::Integer | Syntax::Positive | Syntax::Boolean => None,
             Syntax::NaturalLanguage => Some(MOST_LANGUAGE_OCTETS),
             Syntax::Uri => Some(MOST_URI_OCTETS),
-            Syntax::MediaType
-            | Syntax::Keyword
-            | Syntax::KeywordOrName
-            | Syntax::UserName
-            | Syntax::Title => Some(MOST_NAME_OCTETS),
+            Syntax::MediaType => Some(MOST_MEDIA_TYPE_OCTETS),
+            Syntax::Keyword => Some(MOST_KEYWORD_OCTETS),
+            Syntax::KeywordOrName | Syntax::UserName | Syntax::Title => Some(MOST_NAME_OCTETS),
         }
     }
 

@@ -12,7 +12,7 @@ use Rattle.queue_core.specs.World.{made_on, with_document, with_row}
 use Rattle.list_book.specs.declared.lists.Lists.{Lists}
 use Rattle.list_book.proofs.Put.{documents_is, with_rows_of}
 use Rattle.queue_types.specs.declared.job.Job.{Job}
-use Rattle.queue_types.specs.declared.document.KeptDocument.{KeptDocument}
+use Rattle.list_book.specs.declared.lists.KeptDocument.{KeptDocument}
 use Rattle.list_book.specs.Lists.{IsTidy, entries_of, kept_of, put_row, put_rows, with_kept, world_of}
 
 -- a job has none of the numbers below its own, and those behind it neither

@@ -15,7 +15,7 @@ use Rattle.list_book.specs.Tables.{free_map, grants_map}
 use Rattle.queue_types.specs.declared.event.Report.{Report}
 use Rattle.queue_types.specs.declared.job.Job.{Job}
 use Rattle.queue_types.specs.declared.document.Document.{Document}
-use Rattle.queue_types.specs.declared.document.KeptDocument.{KeptDocument}
+use Rattle.list_book.specs.declared.lists.KeptDocument.{KeptDocument}
 
 -- the first that is the same is at i
 pub put_at : {X : Type 0} (same : X → Bool) (es : List X) (i : ℕ) → i < length es → ((k : ℕ) (d : X) → k < i → same (get_or es k d) ≡ false) → (d : X) → same (get_or es i d) ≡ true → (x : X) → put_by same x es ≡ slice_set es i x

@@ -10,7 +10,7 @@ use Rattle.queue_core.specs.Sound.{IsSound, IsSoundEntry, Rise, printed_for, res
 use Rattle.queue_core.specs.World.{World, Entry, grant_cmp, granted_in, known_grant, rows, job_at, cut, queue_counts}
 use Rattle.queue_types.specs.declared.job.Job.{Job}
 use Rattle.queue_types.specs.declared.document.Document.{Document}
-use Rattle.queue_types.specs.declared.document.KeptDocument.{KeptDocument}
+use Rattle.list_book.specs.declared.lists.KeptDocument.{KeptDocument}
 use Rattle.queue_types.specs.declared.event.GrantRow.{GrantRow}
 use Rattle.list_book.specs.declared.lists.Lists.{Lists}
 use Rattle.list_book.specs.Lists.{AreTotals, entry_of, entries_of, nth_of, documents_of, sheet_in, world_of}

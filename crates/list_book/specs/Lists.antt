@@ -4,11 +4,11 @@ use Rattle.std.specs.FinMap.{FinMap, from_entries}
 use Rattle.std.specs.HashMap.{spare}
 use Rattle.queue_types.specs.Event.{NewDocument}
 use Rattle.queue_core.specs.Shown.{charged_to}
-use Rattle.queue_core.specs.Sound.{printed_for, reserved_for}
+use Rattle.queue_core.specs.Sound.{IsSound, printed_for, reserved_for}
 use Rattle.queue_core.specs.World.{World, Entry, granted_in, report_cmp, job_at}
 use Rattle.queue_types.specs.declared.job.Job.{Job}
 use Rattle.queue_types.specs.declared.document.Document.{Document}
-use Rattle.queue_types.specs.declared.document.KeptDocument.{KeptDocument}
+use Rattle.list_book.specs.declared.lists.KeptDocument.{KeptDocument}
 use Rattle.queue_types.specs.declared.event.KeptReport.{KeptReport}
 use Rattle.queue_types.specs.declared.sheet.AccountSheet.{AccountSheet}
 use Rattle.list_book.specs.declared.lists.Lists.{Lists}
@@ -50,6 +50,10 @@ reports_map = from_entries
 
 abbrev pub world_of : Lists → World
 world_of l = record { settings = l.settings; jobs = entries_of l.documents.items l.jobs.items; next = l.next; grants = grants_map l.grants.entries; free = free_map l.accounts.entries; reports = reports_map l.reports.entries }
+
+-- the world is what the lists hold, and is sound
+abbrev pub IsContent : World → World → Type 0
+IsContent held w = (held ≡ w) × IsSound w
 
 -- what is counted to each account is what was granted to it
 abbrev pub AreTotals : Lists → Type 0

@@ -1,11 +1,11 @@
 //! The book in lists, which keeps a queue in memory.
 ghost use Rattle.std.specs.Prelude.{◌≡◌, ◌≤◌, ⊤, ℕ, List, IfOk, IfErr, IfSome, IsSome, OnOk, OnErr, Some, length, option_map, take};
 ghost use Rattle.std.specs.Io.KnownBytes.{Appends};
-ghost use Rattle.queue_core.specs.Book.{IsContent, IsDecisionOn};
+ghost use Rattle.queue_core.specs.Book.{IsDecisionOn};
 ghost use Rattle.queue_types.specs.Event.{event_of, change_of, decision_of};
 ghost use Rattle.queue_core.specs.Limits.{IsMoment, IsEvent, IsReplyTo};
 ghost use Rattle.queue_core.specs.Machine.{decision};
-ghost use Rattle.list_book.specs.Lists.{AreTotals, world_of};
+ghost use Rattle.list_book.specs.Lists.{AreTotals, IsContent, world_of};
 ghost use Rattle.queue_core.specs.Sound.{IsSound};
 ghost use Rattle.queue_core.specs.Shown.{document_at, head_of, pending_jobs, sheet_of};
 ghost use Rattle.queue_core.specs.World.{World, cut, made_on};

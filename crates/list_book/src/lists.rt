@@ -11,7 +11,7 @@ ghost use Rattle.list_book.specs.Tables.{HaveAccounts, free_map, total_of};
 
 use crate::accounts::{Accounts, put_free_rows, reserve_accounts};
 use crate::grants::{Grants, put_grants, reserve_grants};
-use queue_types::document::{Bytes, Document, KeptDocument};
+use queue_types::document::{Bytes, Document};
 use queue_types::event::{Change, KeptReport, NewDocument};
 use queue_types::job::Job;
 use queue_types::settings::Settings;
@@ -20,6 +20,13 @@ use std::collections::HashMap;
 
 /// The reports that were accepted, by job and sequence number.
 pub(crate) type Reports = HashMap<(u32, u32), KeptReport>;
+
+/// A document with the number of its job.
+#[derive(Drop)]
+pub(crate) struct KeptDocument {
+    pub(crate) job: u32,
+    pub(crate) document: Document,
+}
 
 /// What the book holds: jobs in the order of their numbers, and their documents in the order in
 /// which they came; accounts, grants and reports in tables, which find a key in a few steps.

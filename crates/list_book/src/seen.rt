@@ -5,9 +5,9 @@ ghost use Rattle.queue_types.specs.Job.{state};
 ghost use Rattle.queue_core.specs.Shown.{document_at, head_of, may_be_fetched};
 ghost use Rattle.list_book.specs.Lists.{nth_of, world_of};
 
-use crate::lists::Lists;
+use crate::lists::{KeptDocument, Lists};
 use queue_core::numbered_job;
-use queue_types::document::{Document, DocumentHead, KeptDocument};
+use queue_types::document::{Document, DocumentHead};
 use queue_types::job::Job;
 use queue_types::states::JobState;
 use std::alloc::{AllocError, Global};

@@ -162,7 +162,7 @@ IsReplyTo (ask caller call) r = IsSoundReply r
 IsReplyTo (tell report) r = IsReportReply r
 IsReplyTo (grant new) r = IsGrantReply r
 
--- a change whose rows are within their limits, and whose document is of one of its jobs
+-- a change whose jobs are within their limits, and whose document is of one of them
 pub record IsSoundChange (c : Change) : Type 0 where
   pub jobs : All IsSoundJob c.jobs
   pub document : IfSome c.document (λ k. IsSome (job_at k.job c.jobs))

@@ -1,4 +1,4 @@
-//! Laws of the machine, which no program calls: each is a contract on an empty body.
+//! Laws of the machine: contracts on empty bodies, called for what they say.
 ghost use Rattle.std.specs.Prelude.{ℕ, ◌≡◌, ◌+◌, ◌∷◌, ◌++◌, [], Bool, List, count_by, fold};
 ghost use Rattle.std.specs.FinMap.{FinMap};
 ghost use Rattle.std.specs.List.{AllByRecursion};
@@ -39,8 +39,8 @@ pub fn empty_is_sound()
     ensures { (s : SettingValues) → AreSettings s → IsSound (empty_queue s) }
 {}
 
-/// What becomes of the rows by a decision on a sound world is within the limits, and makes a sound world;
-/// its grants are under batches and accounts that have none.
+/// By a decision on a sound world each job becomes one within the limits, a document is of one of these jobs, and the world that
+/// it makes is sound; its grants are under batches and accounts that have none.
 pub fn decisions_are_sound()
     ensures within { (w : World) (d : Decision) → IsSound w → IsDecisionOn w d → IsSoundChange d.change }
     ensures made { (w : World) (d : Decision) → IsSound w → IsDecisionOn w d → IsSound (made_on d.change w) }

@@ -1,5 +1,5 @@
 //! The print queue as a machine: jobs, accounts and their balance, the step that an event takes, and
-//! the trait of the books that keep a queue. It knows nothing of messages, tables or devices.
+//! the trait of the books that keep a queue. It knows nothing of messages, lines or tables.
 #![tactic(auto)]
 
 mod balance;

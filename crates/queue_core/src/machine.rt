@@ -283,7 +283,7 @@ pub fn decide<'a>(
     requires event { IsEvent (event_of event.now) }
     ensures decides { IfOk result (λ d. decision_of d ≡ decision scene.now now (event_of event.now)) }
     ensures limits { IfOk result (λ d. IsReplyTo (event_of event.now) d.reply) }
-    ensures rows { IfOk result (λ d. IsSoundChange (change_of d.change)) }
+    ensures change { IfOk result (λ d. IsSoundChange (change_of d.change)) }
 
     // on the scene that was cut from a world
     ensures reply { IfOk result (λ d. (w : World) → scene.now ≡ cut w (event_of event.now) → d.reply ≡ (step w now (event_of event.now)).reply) }

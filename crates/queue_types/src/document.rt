@@ -105,13 +105,6 @@ pub struct Document {
     pub bytes: Bytes,
 }
 
-/// A document with the number of its job, as a plain list of documents has it.
-#[derive(Debug, Drop)]
-pub struct KeptDocument {
-    pub job: u32,
-    pub document: Document,
-}
-
 /// The format of a document, and its length in bytes.
 #[derive(Clone, Copy, Debug, PartialEq, Eq)]
 pub struct DocumentHead {

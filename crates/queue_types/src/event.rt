@@ -129,7 +129,7 @@ pub enum Reply {
     Refused(u16),
     /// What was asked is done, and there is nothing to show.
     Done,
-    /// The jobs that are shown, in order: those that were asked for, or the one that was made.
+    /// The jobs that are shown, in order: those that were asked for, or the one that was made or took a document.
     Jobs(JobList),
     /// The printer's state, how many jobs are in states 3 to 6, and whether there is a number for a new job.
     Printer {

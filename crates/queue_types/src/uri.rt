@@ -61,7 +61,7 @@ pub fn path(uri: &[u8]) -> &[u8]
 }
 
 /// A URI of a scheme, `://`, an authority, a path, and a query or a fragment or neither, has that path (RFC 3986, section 3). One in which no `://`
-/// stands, or no path behind it, has none.
+/// stands, or no slash behind it, has none.
 pub fn uris_have_paths()
     ensures found { (scheme authority path rest : List ℕ)
         → list_all (λ b. not (b == byte ":")) scheme ≡ true → list_all (λ b. not (b == byte "/")) authority ≡ true

@@ -18,8 +18,8 @@ within c d is = subst (IsSoundDecision (event_of c.args.event.now)) (sym is) (de
 pub returns-clause-limits : goal.returns-clause-limits
 returns-clause-limits c = IfOk-weaker c.decision_on.result _ _ (λ d is. (within c (decision_of d) is).reply) (decides c)
 
-pub returns-clause-rows : goal.returns-clause-rows
-returns-clause-rows c = IfOk-weaker c.decision_on.result _ _ (λ d is. (within c (decision_of d) is).change) (decides c)
+pub returns-clause-change : goal.returns-clause-change
+returns-clause-change c = IfOk-weaker c.decision_on.result _ _ (λ d is. (within c (decision_of d) is).change) (decides c)
 
 pub returns-clause-sound : goal.returns-clause-sound
 returns-clause-sound c = IfOk-weaker c.decision_on.result _ _ (λ d is w same sound. (step_keeps w (decision_of d) sound (decided_on w c.args.scene.now c.args.now (event_of c.args.event.now) (decision_of d) c.requires.moment c.requires.event same is)).sound) (decides c)
