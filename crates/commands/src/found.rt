@@ -4,7 +4,7 @@ ghost use Rattle.std.specs.Prelude.{◌≡◌, ◌≢◌, ◌↔◌, IfErr, IfOk
 ghost use Rattle.std.specs.Option.{IfSome};
 ghost use Rattle.std.specs.declared.io.ErrorKind.TheVariants.{OutOfMemory};
 ghost use Rattle.command_ends.specs.declared.fault.Fault.TheVariants.{BadSetting, Memory as OfMemory};
-ghost use Rattle.commands.specs.Found.{found_in};
+ghost use Rattle.commands.specs.Found.{begins_log, found_in};
 ghost use Rattle.commands.specs.Store.{IsOfPath};
 
 use command_ends::Fault;
@@ -16,6 +16,11 @@ use std::{fs, io};
 /// What a database file begins with.
 const DATABASE_MARK: &[u8] = b"SQLite format 3\0";
 
+/// What a log begins with: a number whose last bit tells the byte order of its sums (SQLite's file format, section 4.1).
+const LOG_MARK: &[u8] = b"7\x7f\x06\x82";
+
+const OTHER_LOG_MARK: &[u8] = b"7\x7f\x06\x83";
+
 /// What a path has, as far as the first bytes tell.
 #[derive(Debug, Clone, Copy, PartialEq, Eq)]
 pub(crate) enum Found {
@@ -24,6 +29,9 @@ pub(crate) enum Found {
     /// A database whose making was cut short: its first byte is written last, and is 0 until then.
     Unfinished,
     Database,
+    /// Other bytes beside a log. A crash that comes as the first page of a database is written leaves it so: its log has that page whole, or the
+    /// database is being made.
+    Torn,
     OtherFile,
 }
 
@@ -44,10 +52,39 @@ fn look_at<R: Read + Drop>(alloc: Global, file: R) -> io::Result<Found>
     }
 }
 
+/// A file is a log, by its first bytes.
+fn is_log<R: Read + Drop>(alloc: Global, file: R) -> io::Result<bool>
+    ensures { IfOk result (λ is_one. IfSome (R.remaining file) (λ bytes. is_one ≡ begins_log bytes)) }
+{
+    let mut front = Vec::new(alloc);
+    file.take(LOG_MARK.len() as u64).read_to_end(&mut front)?;
+    Ok(front.as_slice() == LOG_MARK || front.as_slice() == OTHER_LOG_MARK)
+}
+
+/// A log lies beside the file of a path.
+fn has_log(rt: &HostRuntime, path: &str) -> io::Result<bool> {
+    let log = format!(in rt.alloc(); "{}-wal", path)?;
+    match fs::metadata(rt, log.as_str()) {
+        Ok(about) if about.is_file() => is_log(rt.alloc(), fs::open(rt, log.as_str())?),
+        Ok(_) => Ok(false),
+        Err(error) if error.kind() == ErrorKind::NotFound => Ok(false),
+        Err(error) => Err(error),
+    }
+}
+
+/// What the file of a path is, with the log that may lie beside it.
+fn look_at_file(rt: &HostRuntime, path: &str) -> io::Result<Found> {
+    let found = look_at(rt.alloc(), fs::open(rt, path)?)?;
+    match found {
+        Found::Unfinished | Found::OtherFile if has_log(rt, path)? => Ok(Found::Torn),
+        _ => Ok(found),
+    }
+}
+
 /// What is at a path. Nothing is made or written. What is no regular file, as a folder or a pipe, is an error.
 fn look_at_path(rt: &HostRuntime, path: &str) -> io::Result<Found> {
     match fs::metadata(rt, path) {
-        Ok(about) if about.is_file() => look_at(rt.alloc(), fs::open(rt, path)?),
+        Ok(about) if about.is_file() => look_at_file(rt, path),
         Ok(_) => Err(ErrorKind::Unsupported.into()),
         Err(error) if error.kind() == ErrorKind::NotFound => Ok(Found::Nothing),
         Err(error) => Err(error),

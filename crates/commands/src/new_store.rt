@@ -76,7 +76,7 @@ fn ready_path(rt: &HostRuntime, path: &str) -> Result<(), Fault>
     }
     match found_at(rt, path)? {
         Found::Nothing => make_file(rt, path).map_err(fault_of_path),
-        Found::EmptyFile | Found::Unfinished | Found::Database => Ok(()),
+        Found::EmptyFile | Found::Unfinished | Found::Database | Found::Torn => Ok(()),
         Found::OtherFile => Err(Fault::Damaged),
     }
 }

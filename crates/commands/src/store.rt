@@ -41,7 +41,7 @@ pub(crate) fn open_store<S: Start>(
     ensures told { IfErr result IsOfStore }
 {
     match found_at(rt, path)? {
-        Found::Database => {}
+        Found::Database | Found::Torn => {}
         Found::Nothing => return Err(Fault::Disk),
         Found::EmptyFile | Found::Unfinished | Found::OtherFile => return Err(Fault::Damaged),
     }
