@@ -11,7 +11,7 @@ use queue_store::TableBook;
 use queue_types::settings::Settings;
 use sqlite::{Connection, MemStore};
 use sqlite_disk::Disk;
-use sqlite_std_file::{FileFrom, Unknown};
+use sqlite_std_file::{FileFrom, Wary};
 use sqlite_store::FileStore;
 use std::alloc::{AllocError, Global};
 use std::path::PathBuf;
@@ -171,7 +171,7 @@ impl<'a> InFolder<'a> {
 }
 
 impl BookFiles for InFolder<'_> {
-    type File = FileFrom<Unknown>;
+    type File = FileFrom<Wary>;
 
     fn create(
         &self,
@@ -180,13 +180,13 @@ impl BookFiles for InFolder<'_> {
     ) -> Result<TableBook<FileStore<Self::File>>, StepFault> {
         self.empty()?;
         let path = self.path(alloc)?;
-        let book = TableBook::create_from(self.rt, path.as_str(), settings, Unknown)?;
+        let book = TableBook::create_from(self.rt, path.as_str(), settings, Wary)?;
         Ok(book)
     }
 
     fn open(&self, alloc: Global) -> Result<TableBook<FileStore<Self::File>>, StepFault> {
         let path = self.path(alloc)?;
-        let book = TableBook::open_from(self.rt, path.as_str(), Unknown)?;
+        let book = TableBook::open_from(self.rt, path.as_str(), Wary)?;
         Ok(book)
     }
 }

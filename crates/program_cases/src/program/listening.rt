@@ -52,7 +52,7 @@ const YEAR_2020: i64 = 1_577_836_800;
 /// An hour after that.
 const AN_HOUR_LATER: i64 = 1_577_840_400;
 
-/// A printer set up in the future is at its first moment, and one from the beginning of the year 0 at the last. Two printers whose epochs are
+/// A printer set up in the future is at its first moment, and one set up as long ago as can be told at the last. Two printers whose epochs are
 /// an hour apart are an hour apart, but for a second that may pass between.
 #[test]
 fn present_moments(rt: HostRuntime) -> Result<(), Fail> {

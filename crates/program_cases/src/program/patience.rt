@@ -100,8 +100,8 @@ fn looks_in<B: DeskBook>(rt: &HostRuntime, steps: &[Step<'_>]) -> Result<u64, Fa
     Ok(server.looks)
 }
 
-/// It reads 256 times past what came where no time passes, and ten times where a second passes from each look to the next: then it leaves the
-/// client.
+/// It reads 256 times past what came where no time passes, and nine times where a second passes from each look to the next, since the tenth look
+/// before a read is ten seconds behind the first: then it leaves the client.
 #[test]
 fn a_client_that_sends_without_end(rt: HostRuntime) -> Result<(), Fail> {
     let reads = looks_in::<MemoryBook>(&rt, SENDS_WITHOUT_END)?;

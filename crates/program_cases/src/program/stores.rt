@@ -48,6 +48,33 @@ const NOTES: &[(&[u8], usize)] = &[
     (b"\0", 506),
 ];
 
+/// The log that SQLite 3.40 made of that statement over an empty database: both pages are whole in it.
+const LOG_OF_NOTES: &[(&[u8], usize)] = &[
+    (
+        b"7\x7f\x06\x82\0-\xe2\x18\0\0\x02\0\0\0\0\0\xa0B:Q\xdf\x80S\xc9&\x05E\xb3\xa72\x9e7\0\0\0\x01\0\0\0\0\xa0B:Q\xdf\x80S\xc93>\xe4Z\xb1f\xc6\xc9SQLite format 3\0\x02\0\x02\x02\0@  \0\0\0\x02\0\0\0\x02\0\0\0\0\0\0\0\0\0\0\0\x01\0\0\0\x04\0\0\0\0\0\0\0\0\0\0\0\x01",
+        1,
+    ),
+    (b"\0", 35),
+    (b"\x02\0.c\x01\r\0\0\0\x01\x01\xd5\0\x01\xd5", 1),
+    (b"\0", 359),
+    (
+        b")\x01\x06\x17\x15\x15\x017tablenotenote\x02CREATE TABLE note (x)\0\0\0\x02\0\0\0\x02\xa0B:Q\xdf\x80S\xc9\x85\xf0\x17\x0c%'\xa0H\r\0\0\0\0\x02",
+        1,
+    ),
+    (b"\0", 506),
+];
+
+/// A database of 512 bytes without tables that SQLite 3.40 made by `CREATE TABLE note (x)`, `DROP TABLE note` and `VACUUM` in pages of 512.
+const BLANK: &[(&[u8], usize)] = &[
+    (
+        b"SQLite format 3\0\x02\0\x01\x01\0@  \0\0\0\x03\0\0\0\x01\0\0\0\0\0\0\0\0\0\0\0\x03\0\0\0\0\0\0\0\0\0\0\0\0\0\0\0\x01",
+        1,
+    ),
+    (b"\0", 35),
+    (b"\x03\0.c\x01\r\0\0\0\0\x02", 1),
+    (b"\0", 406),
+];
+
 static SETTINGS: [Row; 2] = [
     // URIs and names of a printer that aren't both taken: the settings come before the store, and make no file
     (
@@ -113,7 +140,7 @@ static SETTINGS: [Row; 2] = [
     ),
 ];
 
-static NEW: [Row; 6] = [
+static NEW: [Row; 7] = [
     (
         "a store over a store",
         &[
@@ -147,6 +174,10 @@ static NEW: [Row; 6] = [
         ],
     ),
     (
+        "a store in a database without tables",
+        &[Writes(STORE, BLANK), MADE, Tells(STATEMENT, NO_ACCOUNT)],
+    ),
+    (
         "paths where no store can be made",
         &[
             Tells(
@@ -172,7 +203,7 @@ static NEW: [Row; 6] = [
     ),
 ];
 
-static OTHER: [Row; 4] = [
+static OTHER: [Row; 6] = [
     // no store is made over a file with other bytes, which stays as it was
     (
         "bytes of another file",
@@ -242,6 +273,34 @@ static OTHER: [Row; 4] = [
     (
         "a database of another program",
         &[Writes(STORE, NOTES), Keeps(STORE, INIT, DISK), NO_STATEMENT],
+    ),
+    // what a crash cut short as the log was copied into the first page is read from the log: it is that database
+    (
+        "a database that is whole in its log alone",
+        &[
+            Writes(STORE, &[(b"\xa5", 512)]),
+            NO_INIT,
+            Writes(LOG, LOG_OF_NOTES),
+            Tells(INIT, DISK),
+            Writes(STORE, &[(b"\0\xa5", 256)]),
+            Writes(LOG, LOG_OF_NOTES),
+            Tells(INIT, DISK),
+        ],
+    ),
+    // what is left of a log beside other bytes makes no database of them
+    (
+        "bytes of another file beside what is left of a log",
+        &[
+            MADE,
+            Writes(STORE, &[(b"Sq", 1)]),
+            NO_STATEMENT,
+            NO_IMPORT,
+            NO_INIT,
+            Writes(STORE, &[(b"\xa5", 4096)]),
+            NO_STATEMENT,
+            NO_IMPORT,
+            NO_INIT,
+        ],
     ),
 ];
 
