@@ -1,5 +1,6 @@
 pub mod Results
 pub mod Unmade
+pub mod Batch
 pub mod Made
 pub mod Empty
 pub mod Keeping

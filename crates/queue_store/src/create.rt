@@ -1,12 +1,10 @@
 //! A new book: its tables, and the row of its settings.
-ghost use Rattle.std.specs.Prelude.{◌≡◌, ◌≢◌, false, [], Err, IfErr, IfOk, Ok, OnErr, OnOk, IsTrue};
-ghost use Rattle.sqlite.specs.Effect.{IsDatabase};
-ghost use Rattle.sqlite.specs.State.{ExecutesInside, HasCleanDisk};
+ghost use Rattle.std.specs.Prelude.{◌≡◌, ◌≢◌, false, Err, IfErr, OnErr, OnOk, IsTrue};
+ghost use Rattle.sqlite.specs.State.{HasCleanDisk};
 ghost use Rattle.sqlite.specs.Held.{state};
 ghost use Rattle.queue_core.specs.Sound.{IsSound};
 ghost use Rattle.queue_core.specs.World.{World};
-ghost use Rattle.queue_store.specs.Made.{IsMade, schema4, schema7, schema10};
-ghost use Rattle.queue_store.specs.New.{KeepsTables, LeavesOldOrNew, new_content};
+ghost use Rattle.queue_store.specs.New.{KeepsTables, LeavesOldOrNew, new_content, no_content};
 ghost use Rattle.queue_tables.specs.Content.{Content, Holds, content_of};
 ghost use Rattle.queue_tables.specs.Leaving.{StaysInside};
 ghost use Rattle.queue_tables.specs.Steps.{with_meta_row};
@@ -19,78 +17,27 @@ use queue_tables::fault::Fault;
 use queue_tables::meta_rows::insert_meta;
 use sqlite::{Alter, Connection, Transaction};
 
-/// Runs a statement that makes a table or an index.
-fn define<S: Alter>(tx: &mut Transaction<'_, S>, sql: &str) -> Result<usize, Fault>
-    ensures same_reference { tx.new.conn.ghost_name ≡ tx.old.conn.ghost_name }
-    ensures stays { StaysInside (state S.Store tx.old.conn.now) (state S.Store tx.new.conn.now) result }
-    ensures ran { HasCleanDisk (state S.Store tx.new.conn.now) → IfOk result (λ count. ExecutesInside 0 sql.now [] (state S.Store tx.old.conn.now) (state S.Store tx.new.conn.now) (Ok count)) }
-    ensures never { IfErr result (λ e. e ≢ Damaged) }
-{
-    let count = tx.execute(sql, &[])?;
-    Ok(count)
-}
+/// What makes the tables of the book itself, of jobs, documents and pieces, of accounts, grants and reports, and their indexes.
+const SCHEMA: &str = "\
+    CREATE TABLE meta (one INTEGER PRIMARY KEY, schema INTEGER NOT NULL, uri TEXT NOT NULL, name TEXT NOT NULL, estimate INTEGER NOT NULL, epoch INTEGER NOT NULL, next_number INTEGER NOT NULL) STRICT;\
+    CREATE TABLE jobs (number INTEGER PRIMARY KEY, owner TEXT NOT NULL, name TEXT NOT NULL, copies INTEGER NOT NULL, impressions INTEGER NOT NULL, hold INTEGER NOT NULL, incoming INTEGER NOT NULL, phase INTEGER NOT NULL, why INTEGER NOT NULL, stopping INTEGER NOT NULL, count INTEGER NOT NULL, created INTEGER NOT NULL, begun INTEGER, ended INTEGER) STRICT;\
+    CREATE TABLE documents (job INTEGER NOT NULL REFERENCES jobs (number), doc INTEGER NOT NULL, format TEXT NOT NULL, octets INTEGER NOT NULL, PRIMARY KEY (job, doc)) STRICT;\
+    CREATE TABLE pieces (job INTEGER NOT NULL, doc INTEGER NOT NULL, piece INTEGER NOT NULL, bytes BLOB NOT NULL, PRIMARY KEY (job, doc, piece), FOREIGN KEY (job, doc) REFERENCES documents (job, doc)) STRICT;\
+    CREATE TABLE accounts (name TEXT NOT NULL PRIMARY KEY, free INTEGER NOT NULL, reserved INTEGER NOT NULL, printed INTEGER NOT NULL) STRICT;\
+    CREATE TABLE grants (batch TEXT NOT NULL, account TEXT NOT NULL REFERENCES accounts (name), pages INTEGER NOT NULL, PRIMARY KEY (batch, account)) STRICT;\
+    CREATE TABLE reports (job INTEGER NOT NULL REFERENCES jobs (number), seq INTEGER NOT NULL, kind INTEGER NOT NULL, count INTEGER NOT NULL, state INTEGER NOT NULL, total INTEGER NOT NULL, PRIMARY KEY (job, seq)) STRICT;\
+    CREATE INDEX jobs_by_owner ON jobs (owner, phase);\
+    CREATE INDEX jobs_by_end ON jobs (owner, ended);\
+    CREATE INDEX jobs_by_phase ON jobs (phase, hold, incoming);";
 
-/// The tables of the book itself and of jobs, documents and pieces.
-fn create_first<S: Alter>(tx: &mut Transaction<'_, S>) -> Result<(), Fault>
+/// All tables and indexes, which have no rows.
+fn create_schema<S: Alter>(tx: &mut Transaction<'_, S>) -> Result<(), Fault>
     ensures same_reference { tx.new.conn.ghost_name ≡ tx.old.conn.ghost_name }
     ensures stays { StaysInside (state S.Store tx.old.conn.now) (state S.Store tx.new.conn.now) result }
-    ensures done { HasCleanDisk (state S.Store tx.new.conn.now) → OnOk result ((state S.Store tx.old.conn.now).now.schema ≡ no_schema → IsMade schema4 (state S.Store tx.new.conn.now)) }
+    ensures done { HasCleanDisk (state S.Store tx.new.conn.now) → OnOk result ((state S.Store tx.old.conn.now).now.schema ≡ no_schema → Holds no_content (state S.Store tx.new.conn.now)) }
     ensures never { IfErr result (λ e. e ≢ Damaged) }
 {
-    define(
-        tx,
-        "CREATE TABLE meta (one INTEGER PRIMARY KEY, schema INTEGER NOT NULL, uri TEXT NOT NULL, name TEXT NOT NULL, estimate INTEGER NOT NULL, epoch INTEGER NOT NULL, next_number INTEGER NOT NULL) STRICT",
-    )?;
-    define(
-        tx,
-        "CREATE TABLE jobs (number INTEGER PRIMARY KEY, owner TEXT NOT NULL, name TEXT NOT NULL, copies INTEGER NOT NULL, impressions INTEGER NOT NULL, hold INTEGER NOT NULL, incoming INTEGER NOT NULL, phase INTEGER NOT NULL, why INTEGER NOT NULL, stopping INTEGER NOT NULL, count INTEGER NOT NULL, created INTEGER NOT NULL, begun INTEGER, ended INTEGER) STRICT",
-    )?;
-    define(
-        tx,
-        "CREATE TABLE documents (job INTEGER NOT NULL REFERENCES jobs (number), doc INTEGER NOT NULL, format TEXT NOT NULL, octets INTEGER NOT NULL, PRIMARY KEY (job, doc)) STRICT",
-    )?;
-    define(
-        tx,
-        "CREATE TABLE pieces (job INTEGER NOT NULL, doc INTEGER NOT NULL, piece INTEGER NOT NULL, bytes BLOB NOT NULL, PRIMARY KEY (job, doc, piece), FOREIGN KEY (job, doc) REFERENCES documents (job, doc)) STRICT",
-    )?;
-    Ok(())
-}
-
-/// The tables of accounts, grants and reports.
-fn create_second<S: Alter>(tx: &mut Transaction<'_, S>) -> Result<(), Fault>
-    ensures same_reference { tx.new.conn.ghost_name ≡ tx.old.conn.ghost_name }
-    ensures stays { StaysInside (state S.Store tx.old.conn.now) (state S.Store tx.new.conn.now) result }
-    ensures done { HasCleanDisk (state S.Store tx.new.conn.now) → OnOk result (IsMade schema4 (state S.Store tx.old.conn.now) → IsMade schema7 (state S.Store tx.new.conn.now)) }
-    ensures never { IfErr result (λ e. e ≢ Damaged) }
-{
-    define(
-        tx,
-        "CREATE TABLE accounts (name TEXT NOT NULL PRIMARY KEY, free INTEGER NOT NULL, reserved INTEGER NOT NULL, printed INTEGER NOT NULL) STRICT",
-    )?;
-    define(
-        tx,
-        "CREATE TABLE grants (batch TEXT NOT NULL, account TEXT NOT NULL REFERENCES accounts (name), pages INTEGER NOT NULL, PRIMARY KEY (batch, account)) STRICT",
-    )?;
-    define(
-        tx,
-        "CREATE TABLE reports (job INTEGER NOT NULL REFERENCES jobs (number), seq INTEGER NOT NULL, kind INTEGER NOT NULL, count INTEGER NOT NULL, state INTEGER NOT NULL, total INTEGER NOT NULL, PRIMARY KEY (job, seq)) STRICT",
-    )?;
-    Ok(())
-}
-
-/// The indexes.
-fn create_indexes<S: Alter>(tx: &mut Transaction<'_, S>) -> Result<(), Fault>
-    ensures same_reference { tx.new.conn.ghost_name ≡ tx.old.conn.ghost_name }
-    ensures stays { StaysInside (state S.Store tx.old.conn.now) (state S.Store tx.new.conn.now) result }
-    ensures done { HasCleanDisk (state S.Store tx.new.conn.now) → OnOk result (IsMade schema7 (state S.Store tx.old.conn.now) → IsMade schema10 (state S.Store tx.new.conn.now) × IsDatabase (state S.Store tx.new.conn.now).now × IsTrue (state S.Store tx.new.conn.now).is_open) }
-    ensures never { IfErr result (λ e. e ≢ Damaged) }
-{
-    define(tx, "CREATE INDEX jobs_by_owner ON jobs (owner, phase)")?;
-    define(tx, "CREATE INDEX jobs_by_end ON jobs (owner, ended)")?;
-    define(
-        tx,
-        "CREATE INDEX jobs_by_phase ON jobs (phase, hold, incoming)",
-    )?;
+    tx.execute_batch(SCHEMA)?;
     Ok(())
 }
 
@@ -115,9 +62,7 @@ fn create_all<S: Alter>(tx: &mut Transaction<'_, S>, meta: &MetaRow) -> Result<(
     ensures done { HasCleanDisk (state S.Store tx.new.conn.now) → OnOk result ((state S.Store tx.old.conn.now).now.schema ≡ no_schema → Holds (new_content meta.now) (state S.Store tx.new.conn.now)) }
     ensures never { IfErr result (λ e. e ≢ Damaged) }
 {
-    create_first(tx)?;
-    create_second(tx)?;
-    create_indexes(tx)?;
+    create_schema(tx)?;
     add_meta(tx, meta)
 }
 
