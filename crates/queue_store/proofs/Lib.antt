@@ -1,4 +1,5 @@
 pub mod Results
+pub mod Handed
 pub mod Unmade
 pub mod Batch
 pub mod Made

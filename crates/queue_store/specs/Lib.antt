@@ -1,5 +1,6 @@
 pub mod Closed
 pub mod Crash
+pub mod Handed
 pub mod Kept
 pub mod Laws
 pub mod Made

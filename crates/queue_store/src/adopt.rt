@@ -2,8 +2,6 @@
 ghost use Rattle.std.specs.Prelude.{◌≡◌, ◌∷◌, [], Err, IfErr, IfOk, IsErrAnd, IsTrue};
 ghost use Rattle.sqlite.specs.Held.{state};
 ghost use Rattle.sqlite.specs.State.{HasCleanDisk};
-ghost use Rattle.sqlite_trees.specs.Tree.{Trees};
-ghost use Rattle.sqlite_trees.specs.View.{IsClean};
 ghost use Rattle.queue_types.specs.Settings.{AreSettings};
 ghost use Rattle.queue_core.specs.World.{World};
 ghost use Rattle.queue_rows.specs.Meta.{settings_in};
@@ -75,25 +73,6 @@ impl<S: Alter> TableBook<S> {
         match settings_in_tables(alloc, &mut conn) {
             Ok(settings) => Ok(TableBook::over(alloc, conn, settings)),
             Err(fault) => Err((BookFault::from(fault), conn)),
-        }
-    }
-}
-
-impl<S: Alter + Drop> TableBook<S> {
-    /// As `adopt`, but a refusal hands back the store alone.
-    pub(crate) fn adopt_or_store(
-        alloc: Global,
-        conn: Connection<S>,
-    ) -> Result<TableBook<S>, (BookFault, S)>
-        ensures stands { FitsIn (state S.Store conn) → IfOk result (λ b. StandsForOne S.Store b) }
-        ensures kept { IfOk result (λ b. LeavesTables (without_limit (state S.Store conn)) (shown_by S.Store b)) }
-        ensures clean { IfErr result (λ e. IsClean (S.Store.view e.1) → HasCleanDisk (state S.Store conn)) }
-        ensures damaged { FitsIn (state S.Store conn) → IfErr result (λ e. IsClean (S.Store.view e.1) → e.0 ≡ BookFault.Damaged → (w : World) → ¬ IsQueueIn w (state S.Store conn).now) }
-        ensures left { IfErr result (λ e. IsClean (S.Store.view e.1) → (db : Trees) → S.Store.recovers e.1 db → (state S.Store conn).may_leave db) }
-    {
-        match TableBook::adopt(alloc, conn) {
-            Ok(book) => Ok(book),
-            Err((fault, conn)) => Err((fault, conn.into_store())),
         }
     }
 }

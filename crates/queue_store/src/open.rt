@@ -1,31 +1,27 @@
 //! A book from a file.
-ghost use Rattle.std.specs.Prelude.{◌≡◌, ◌≢◌, codes, false, Err, IfErr, IfOk, IfSome, IsErrAnd, IsTrue};
+ghost use Rattle.std.specs.Prelude.{◌≡◌, ◌≢◌, codes, false, Err, IfErr, IfNone, IfOk, IfSome, IsErrAnd, IsTrue, Ok};
 ghost use Rattle.sqlite.specs.Closing.{IsCopied};
 ghost use Rattle.sqlite.specs.Files.{HoldsDatabase, IsBlankAs, IsCleanLeft, IsOpened, file_state, over_files};
 ghost use Rattle.sqlite.specs.Start.{FindsIn};
 ghost use Rattle.sqlite.specs.State.{HasCleanDisk};
 ghost use Rattle.sqlite_store.specs.FileStore.{view};
 ghost use Rattle.sqlite_trees.specs.Tree.{Trees};
-ghost use Rattle.sqlite_trees.specs.View.{IsClean};
 ghost use Rattle.sqlite_wal.specs.Files.{image_at, outcomes};
 ghost use Rattle.sqlite_wal.specs.Reads.{AreClean};
 ghost use Rattle.sqlite_wal.specs.Recovery.{Image};
 ghost use Rattle.queue_core.specs.World.{World, empty_queue};
-ghost use Rattle.queue_load.specs.Queues.{IsQueueIn};
-ghost use Rattle.queue_load.specs.Store.{FitsIn};
 ghost use Rattle.queue_store.specs.Closed.{KeepAlone, LeavesNoMore};
 ghost use Rattle.queue_store.specs.Crash.{IsKept, KeepOneOf, KeepTogether, StillHolds};
-ghost use Rattle.queue_store.specs.Kept.{IsHonest, StandsFor, StandsForOne, shown_by, without_limit};
+ghost use Rattle.queue_store.specs.Handed.{AdoptsBook, IsBehind, MakesBook};
+ghost use Rattle.queue_store.specs.Kept.{IsHonest, StandsFor, StandsForOne, shown_by};
 ghost use Rattle.queue_store.specs.Opened.{FitsFile, HasNoTables, IsFaultless, IsKeptIn, open_fault};
 ghost use Rattle.queue_tables.specs.Content.{LeavesOneOf};
-ghost use Rattle.queue_tables.specs.Leaving.{LeavesTables};
-ghost use Rattle.queue_tables.specs.Tables.{no_schema};
 
 use crate::book::TableBook;
 use crate::laws::{tables_hold_one_queue, trees_list_one_schema};
 use queue_core::book::BookFault;
 use queue_types::settings::Settings;
-use sqlite::{Connection, Error, ErrorCode, Leftover};
+use sqlite::{Alter, Connection, Error, ErrorCode, Leftover};
 use sqlite_disk::{Disk, Files, Start};
 use sqlite_std_file::FileFrom;
 use sqlite_store::FileStore;
@@ -102,32 +98,44 @@ fn connect<S: Start>(
     }
 }
 
-/// `TableBook::adopt_or_store` over files.
-fn adopt_in_files<D: Disk + Drop>(
-    alloc: Global,
-    conn: Connection<FileStore<D>>,
-) -> Result<TableBook<FileStore<D>>, (BookFault, FileStore<D>)>
-    ensures stands { FitsIn (file_state conn) → IfOk result (λ b. StandsForOne over_files b) }
-    ensures kept { IfOk result (λ b. LeavesTables (without_limit (file_state conn)) (shown_by over_files b)) }
-    ensures clean { IfErr result (λ e. IsClean (over_files.view e.1) → HasCleanDisk (file_state conn)) }
-    ensures damaged { FitsIn (file_state conn) → IfErr result (λ e. IsClean (over_files.view e.1) → e.0 ≡ BookFault.Damaged → (w : World) → ¬ IsQueueIn w (file_state conn).now) }
-    ensures left { IfErr result (λ e. IsClean (over_files.view e.1) → LeavesNoMore (file_state conn) e.1) }
+/// A book, or of a connection that was handed back the store alone.
+fn store_behind<S: Alter + Drop>(
+    came: Result<TableBook<S>, (BookFault, Connection<S>)>,
+) -> Result<TableBook<S>, (BookFault, S)>
+    ensures book { IfOk result (λ b. came ≡ Ok b) }
+    ensures left { IfErr result (λ e. IsErrAnd came (λ f. (f.0 ≡ e.0) × IsBehind S.Store f.1 e.1)) }
 {
-    TableBook::adopt_or_store(alloc, conn)
+    match came {
+        Ok(book) => Ok(book),
+        Err((fault, conn)) => Err((fault, conn.into_store())),
+    }
 }
 
-/// `TableBook::create_or_drop` over files.
-fn create_in_files<D: Disk + Drop>(
+/// A new book with these settings, or where there are none the one that the tables hold. A refusal hands back the store alone.
+fn make_or_adopt<S: Alter + Drop>(
+    alloc: Global,
+    conn: Connection<S>,
+    new: Option<Settings>,
+) -> Result<TableBook<S>, (BookFault, S)>
+    ensures made { IfSome new (MakesBook S.Store conn result) }
+    ensures adopted { IfNone new (AdoptsBook S.Store conn result) }
+{
+    match new {
+        Some(settings) => store_behind(TableBook::create(alloc, conn, settings)),
+        None => store_behind(TableBook::adopt(alloc, conn)),
+    }
+}
+
+/// `make_or_adopt` over files.
+fn make_or_adopt_in_files<D: Disk + Drop>(
     alloc: Global,
     conn: Connection<FileStore<D>>,
-    settings: Settings,
-) -> Result<TableBook<FileStore<D>>, BookFault>
-    ensures clean { IfOk result (λ b. IsHonest over_files b → HasCleanDisk (file_state conn)) }
-    ensures blank { IfOk result (λ b. (file_state conn).now.schema ≡ no_schema) }
-    ensures stands { IfOk result (λ b. StandsFor over_files b (empty_queue settings)) }
-    ensures live { IfOk result (λ b. IsHonest over_files b → IsTrue (shown_by over_files b).is_open) }
+    new: Option<Settings>,
+) -> Result<TableBook<FileStore<D>>, (BookFault, FileStore<D>)>
+    ensures made { IfSome new (MakesBook over_files conn result) }
+    ensures adopted { IfNone new (AdoptsBook over_files conn result) }
 {
-    TableBook::create_or_drop(alloc, conn, settings)
+    make_or_adopt(alloc, conn, new)
 }
 
 impl<D: Disk + Drop> TableBook<FileStore<D>> {
@@ -179,7 +187,10 @@ impl<S: Start> TableBook<FileStore<FileFrom<S>>> {
         ensures live { IfOk result (λ b. IsHonest over_files b → IsTrue (shown_by over_files b).is_open) }
     {
         let conn = connect(rt, path, start)?;
-        create_in_files(rt.alloc(), conn, settings)
+        match make_or_adopt_in_files(rt.alloc(), conn, Some(settings)) {
+            Ok(book) => Ok(book),
+            Err((fault, _store)) => Err(fault),
+        }
     }
 
     /// The book that the files at a path hold, where `start` stands for what they hold as they are opened. Disk is
@@ -204,7 +215,7 @@ impl<S: Start> TableBook<FileStore<FileFrom<S>>> {
         tables_hold_one_queue();
         trees_list_one_schema();
         let conn = connect_or_left(rt, path, start)?;
-        match adopt_in_files(rt.alloc(), conn) {
+        match make_or_adopt_in_files(rt.alloc(), conn, None) {
             Ok(book) => Ok(book),
             Err((fault, store)) => Err((fault, Some(Leftover::Store(store)))),
         }
