@@ -1,6 +1,7 @@
 pub mod Results
 pub mod Handed
 pub mod Unmade
+pub mod Making
 pub mod Batch
 pub mod Made
 pub mod Empty

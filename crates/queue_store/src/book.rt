@@ -1,16 +1,15 @@
 //! The book in tables.
-ghost use Rattle.std.specs.Prelude.{◌≡◌, ◌≢◌, ◌↔◌, false, None, Err, IfErr, IfOk, IsErr, IsErrAnd, IsErrOf, IsTrue, OnErr, OnOk};
+ghost use Rattle.std.specs.Prelude.{◌≡◌, ◌≢◌, ◌↔◌, false, None, Err, IfErr, IfOk, IsErr, IsErrAnd, IsErrOf, IsTrue};
 ghost use Rattle.std.specs.List.{list_any};
 ghost use Rattle.sqlite.specs.Held.{state};
 ghost use Rattle.sqlite.specs.State.{HasCleanDisk};
 ghost use Rattle.sqlite.specs.Steps.{over_memory};
 ghost use Rattle.sqlite_catalog.specs.Change.{is_used};
-ghost use Rattle.queue_core.specs.Sound.{IsSound};
 ghost use Rattle.queue_core.specs.World.{World, empty_queue};
 ghost use Rattle.queue_core.specs.declared.book.BookFault.TheVariants.{Damaged};
 ghost use Rattle.queue_store.specs.Kept.{IsHonest, StandsFor, connection_of, shown_by};
+ghost use Rattle.queue_store.specs.Making.{MakesTables};
 ghost use Rattle.queue_store.specs.New.{KeepsTables, LeavesOldOrNew, LeavesOnly, has_any, new_meta};
-ghost use Rattle.queue_tables.specs.Content.{Holds, content_of};
 ghost use Rattle.queue_tables.specs.Tables.{no_schema};
 
 use crate::create::make_tables;
@@ -82,17 +81,12 @@ fn make_new<S: Alter>(
     conn: &mut Connection<S>,
     settings: &Settings,
 ) -> Result<(), Fault>
-    ensures clean { HasCleanDisk (state S.Store conn.new) → HasCleanDisk (state S.Store conn.old) }
     ensures blank { IfOk result (λ u. (state S.Store conn.old).now.schema ≡ no_schema) }
-    ensures made { HasCleanDisk (state S.Store conn.new) → IfOk result (λ u. Holds (content_of (empty_queue settings.now)) (state S.Store conn.new)) }
-    ensures settled { HasCleanDisk (state S.Store conn.new) → IfOk result (λ u. (state S.Store conn.new).now ≡ (state S.Store conn.new).committed) }
-    ensures refused { OnErr result (KeepsTables (state S.Store conn.old) (state S.Store conn.new)) }
-    ensures crash { IsSound (empty_queue settings.now) → LeavesOldOrNew (empty_queue settings.now) (state S.Store conn.old) (state S.Store conn.new) }
+    ensures makes { MakesTables (empty_queue settings.now) (state S.Store conn.old) (state S.Store conn.new) result }
     ensures untouched { (state S.Store conn.old).now.schema ≢ no_schema → conn.new ≡ conn.old }
     ensures damaged { IfErr result (λ e. e ≡ Fault.Damaged → IsTrue (has_any (state S.Store conn.old).now.schema)) }
     ensures taken { IsTrue (has_any (state S.Store conn.old).now.schema) → IsErrOf result Fault.Damaged }
     ensures others { (state S.Store conn.old).now.schema ≢ no_schema → has_any (state S.Store conn.old).now.schema ≡ false → result ≡ Err Fault.Disk }
-    ensures ended { OnOk result ((state S.Store conn.new).in_transaction ≡ false) }
     ensures inside { IsTrue (state S.Store conn.old).in_transaction → IsErr result × (conn.new ≡ conn.old) }
 {
     // its contract says that outside a transaction the tables are those of the last commit

@@ -1,10 +1,10 @@
 //! A new book: its tables, and the row of its settings.
-ghost use Rattle.std.specs.Prelude.{◌≡◌, ◌≢◌, false, Err, IfErr, OnErr, OnOk, IsTrue};
+ghost use Rattle.std.specs.Prelude.{◌≡◌, ◌≢◌, Err, IfErr, OnOk, IsTrue};
 ghost use Rattle.sqlite.specs.State.{HasCleanDisk};
 ghost use Rattle.sqlite.specs.Held.{state};
-ghost use Rattle.queue_core.specs.Sound.{IsSound};
 ghost use Rattle.queue_core.specs.World.{World};
-ghost use Rattle.queue_store.specs.New.{KeepsTables, LeavesOldOrNew, new_content, no_content};
+ghost use Rattle.queue_store.specs.Making.{MakesTables};
+ghost use Rattle.queue_store.specs.New.{new_content, no_content};
 ghost use Rattle.queue_tables.specs.Content.{Content, Holds, content_of};
 ghost use Rattle.queue_tables.specs.Leaving.{StaysInside};
 ghost use Rattle.queue_tables.specs.Steps.{with_meta_row};
@@ -69,13 +69,8 @@ fn create_all<S: Alter>(tx: &mut Transaction<'_, S>, meta: &MetaRow) -> Result<(
 /// Makes the tables of a book without jobs in a store without any, in one transaction. Whatever the answer, a crash then leaves
 /// what it might have left before, or the new book. Inside a transaction of the caller's it answers Disk and does nothing.
 pub(crate) fn make_tables<S: Alter>(conn: &mut Connection<S>, meta: &MetaRow) -> Result<(), Fault>
-    ensures clean { HasCleanDisk (state S.Store conn.new) → HasCleanDisk (state S.Store conn.old) }
-    ensures made { HasCleanDisk (state S.Store conn.new) → OnOk result ((state S.Store conn.old).now.schema ≡ no_schema → Holds (new_content meta.now) (state S.Store conn.new)) }
-    ensures settled { HasCleanDisk (state S.Store conn.new) → OnOk result ((state S.Store conn.new).now ≡ (state S.Store conn.new).committed) }
-    ensures refused { OnErr result (KeepsTables (state S.Store conn.old) (state S.Store conn.new)) }
-    ensures crash { (state S.Store conn.old).now.schema ≡ no_schema → (w : World) → IsSound w → new_content meta.now ≡ content_of w → LeavesOldOrNew w (state S.Store conn.old) (state S.Store conn.new) }
+    ensures makes { (state S.Store conn.old).now.schema ≡ no_schema → (w : World) → new_content meta.now ≡ content_of w → MakesTables w (state S.Store conn.old) (state S.Store conn.new) result }
     ensures never { IfErr result (λ e. e ≢ Damaged) }
-    ensures ended { OnOk result ((state S.Store conn.new).in_transaction ≡ false) }
     ensures inside { IsTrue (state S.Store conn.old).in_transaction → (result ≡ Err Fault.Disk) × (conn.new ≡ conn.old) }
 {
     if !conn.is_autocommit() {

@@ -1,19 +1,21 @@
-use Rattle.std.proofs.Common.{◌≡◌, IsTrue, rules, ap, subst, ◌∙◌}
-use Rattle.std.proofs.lemmas.Result.{on_ok_weaker}
+use Rattle.std.proofs.Common.{IsTrue, rules, ap, refl, ◌∙◌}
 use Rattle.sqlite.specs.Held.{state}
+use Rattle.queue_core.specs.World.{empty_queue}
 use Rattle.queue_store.specs.New.{new_content}
 use Rattle.queue_store.proofs.Empty.{new_is}
-use Rattle.queue_tables.specs.Content.{Content, Holds}
+use Rattle.queue_store.proofs.Making.{none_made}
 use Rattle.queue_store.proofs.book.make_new.Goals as goal
 
-pub returns-clause-made : goal.returns-clause-made
-returns-clause-made g c clean =
-    let blank : IsTrue c.is_blank.result = search rules in
-    let here = c.is_blank.ensures.0 blank in
-    let same : new_content c.in_ok-meta.meta ≡ _ = ap new_content c.in_ok-meta.ensures ∙ new_is c.args.settings.now in
-    on_ok_weaker c.make_tables.result (λ made. subst (λ (content : Content). Holds content (state g.S.Store c.make_tables.new.conn)) same (made here)) (c.make_tables.ensures.made clean)
+pub returns-then-has_any_name-clause-makes : goal.returns-then-has_any_name-clause-makes
+returns-then-has_any_name-clause-makes g c = none_made (empty_queue c.args.settings.now) (state g.S.Store c.args.conn.now) _ _ refl
 
-pub returns-clause-crash : goal.returns-clause-crash
-returns-clause-crash g c sound =
+pub returns-then-not-is_blank-clause-makes : goal.returns-then-not-is_blank-clause-makes
+returns-then-not-is_blank-clause-makes g c = none_made (empty_queue c.args.settings.now) (state g.S.Store c.args.conn.now) _ _ refl
+
+pub returns-in_err-meta-clause-makes : goal.returns-in_err-meta-clause-makes
+returns-in_err-meta-clause-makes g c = none_made (empty_queue c.args.settings.now) (state g.S.Store c.args.conn.now) _ _ c.from_residual.ensures.1
+
+pub returns-clause-makes : goal.returns-clause-makes
+returns-clause-makes g c =
     let blank : IsTrue c.is_blank.result = search rules in
-    c.make_tables.ensures.crash (c.is_blank.ensures.0 blank) _ sound (ap new_content c.in_ok-meta.ensures ∙ new_is c.args.settings.now)
+    c.make_tables.ensures.makes (c.is_blank.ensures.0 blank) (empty_queue c.args.settings.now) (ap new_content c.in_ok-meta.ensures ∙ new_is c.args.settings.now)

@@ -3,16 +3,40 @@ use Rattle.queue_store.specs.Laws.{open_leaves}
 use Rattle.queue_store.proofs.book.TableBook.create.Goals as goal
 
 pub returns-in-Ok-clause-clean : goal.returns-in-Ok-clause-clean
-returns-in-Ok-clause-clean g c honest = c.make_new.ensures.clean (was_clean g.S.Store c.over.result c.make_new.new.conn c.over.ensures.lifted honest)
+returns-in-Ok-clause-clean g c honest = c.in-Ok.ensures.makes.clean (was_clean g.S.Store c.over.result c.make_new.new.conn c.over.ensures.lifted honest)
+
+pub returns-in-Ok-clause-blank : goal.returns-in-Ok-clause-blank
+returns-in-Ok-clause-blank g c = c.in-Ok.ensures.blank
 
 pub returns-in-Ok-clause-stands : goal.returns-in-Ok-clause-stands
 returns-in-Ok-clause-stands g c =
-    new_stands g.S.Store c.over.result c.make_new.new.conn c.over.ensures.lifted c.args.settings c.in-Ok.ensures.made c.over.ensures.settings
-    (c.empty_is_sound.ensures c.args.settings c.estimate-estimate.ensures.limits) c.in-Ok.ensures.settled c.in-Ok.ensures.ended
+    new_stands g.S.Store c.over.result c.make_new.new.conn c.over.ensures.lifted c.args.settings c.in-Ok.ensures.makes.made c.over.ensures.settings
+    (c.empty_is_sound.ensures c.args.settings c.estimate-estimate.ensures.limits) c.in-Ok.ensures.makes.settled c.in-Ok.ensures.makes.ended
 
 pub returns-in-Ok-clause-live : goal.returns-in-Ok-clause-live
-returns-in-Ok-clause-live g c = new_live g.S.Store c.over.result c.make_new.new.conn c.over.ensures.lifted c.args.settings c.in-Ok.ensures.made
+returns-in-Ok-clause-live g c = new_live g.S.Store c.over.result c.make_new.new.conn c.over.ensures.lifted c.args.settings c.in-Ok.ensures.makes.made
 
 pub returns-in-Ok-clause-lasts : goal.returns-in-Ok-clause-lasts
 returns-in-Ok-clause-lasts g c honest =
     open_leaves (returns-in-Ok-clause-stands g c) (g.met.S.Store.settled c.over.result.conn.store) honest (returns-in-Ok-clause-live g c honest)
+
+pub returns-in-Ok-clause-damaged : goal.returns-in-Ok-clause-damaged
+returns-in-Ok-clause-damaged g c = tt
+
+pub returns-in-Ok-clause-taken : goal.returns-in-Ok-clause-taken
+returns-in-Ok-clause-taken g c = λ taken. absurd (let no = c.in-Ok.ensures.taken taken in cc)
+
+pub returns-in-Ok-clause-others : goal.returns-in-Ok-clause-others
+returns-in-Ok-clause-others g c = λ other free. absurd (let no = c.in-Ok.ensures.others other free in cc)
+
+pub returns-in-Ok-clause-handed : goal.returns-in-Ok-clause-handed
+returns-in-Ok-clause-handed g c = tt
+
+pub returns-in-Ok-clause-crash : goal.returns-in-Ok-clause-crash
+returns-in-Ok-clause-crash g c = tt
+
+pub returns-in-Ok-clause-untouched : goal.returns-in-Ok-clause-untouched
+returns-in-Ok-clause-untouched g c = tt
+
+pub returns-in-Ok-clause-inside : goal.returns-in-Ok-clause-inside
+returns-in-Ok-clause-inside g c = λ within. absurd (let no = (c.in-Ok.ensures.inside within).0 in cc)
