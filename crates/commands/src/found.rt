@@ -72,8 +72,11 @@ fn has_log(rt: &HostRuntime, path: &str) -> io::Result<bool> {
     }
 }
 
-/// What the file of a path is, with the log that may lie beside it.
+/// What the file of a path is, with the log that may lie beside it. What is no regular file, as a folder or a pipe, is an error.
 fn look_at_file(rt: &HostRuntime, path: &str) -> io::Result<Found> {
+    if !fs::metadata(rt, path)?.is_file() {
+        return Err(ErrorKind::Unsupported.into());
+    }
     let found = look_at(rt.alloc(), fs::open(rt, path)?)?;
     match found {
         Found::Unfinished | Found::OtherFile if has_log(rt, path)? => Ok(Found::Torn),
@@ -81,11 +84,10 @@ fn look_at_file(rt: &HostRuntime, path: &str) -> io::Result<Found> {
     }
 }
 
-/// What is at a path. Nothing is made or written. What is no regular file, as a folder or a pipe, is an error.
+/// What is at a path, or where it leads to if it is a link: the log lies beside the file itself. Nothing is made or written.
 fn look_at_path(rt: &HostRuntime, path: &str) -> io::Result<Found> {
-    match fs::metadata(rt, path) {
-        Ok(about) if about.is_file() => look_at_file(rt, path),
-        Ok(_) => Err(ErrorKind::Unsupported.into()),
+    match fs::canonicalize(rt, path) {
+        Ok(real) => look_at_file(rt, real.as_str()),
         Err(error) if error.kind() == ErrorKind::NotFound => Ok(Found::Nothing),
         Err(error) => Err(error),
     }

@@ -63,8 +63,8 @@ fn is_file_name(path: &str) -> bool
     path != ":memory:" && !path.as_bytes().starts_with(b"file:")
 }
 
-/// Readies the path of a new store: makes its file where there is none, and refuses one that is no store in the making. What is no file's name is
-/// refused before anything is looked at.
+/// Readies the path of a new store: makes its file where there is none, and refuses one that is no database by its first bytes; what is in a database
+/// is looked at as it is opened. What is no file's name is refused before anything is looked at.
 fn ready_path(rt: &HostRuntime, path: &str) -> Result<(), Fault>
     ensures named { IfOk result (λ nothing. IsTrue (spec.is_file_name path.now)) }
     ensures nameless { spec.is_file_name path.now ≡ false → result ≡ Err OfDisk }

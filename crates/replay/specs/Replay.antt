@@ -1,14 +1,15 @@
 -- What a whole replay writes, line after line.
-use Rattle.std.specs.Prelude.{◌≡◌, ◌⊎◌, ◌+◌, ℕ, pos, true, false, List, [], ◌∷◌, ◌++◌, Option, codes}
+use Rattle.std.specs.Prelude.{⊤, ◌≡◌, ◌+◌, ℕ, pos, false, List, [], ◌∷◌, ◌++◌, Option, codes}
 use Rattle.std.specs.Fmt.{decimal}
 use Rattle.std.specs.Io.KnownBytes.{IsAtEnd}
 use Rattle.queue_types.specs.Settings.{SettingValues}
 use Rattle.queue_core.specs.World.{World}
 use Rattle.replay.specs.Line.{GivesLine}
 use Rattle.replay.specs.RequestLine.{Says}
-use Rattle.replay.specs.Session.{IsBad, State, Takes, state}
+use Rattle.replay.specs.Session.{IsRefused, State, Takes, state}
 use Rattle.replay.specs.declared.lines.Line.{Line}
 use Rattle.replay.specs.declared.request_line.RequestLine.{RequestLine}
+use Rattle.replay.specs.declared.request_line.RequestLine.TheVariants.{Now, Ipp, Dev, Grant}
 
 -- what the printer of a replay is set up with
 abbrev pub settings : SettingValues
@@ -18,16 +19,23 @@ settings = record { uri = codes "ipp://localhost/ipp/print"; name = codes "relea
 abbrev pub first : World → State
 first w = state 1 w
 
--- the line is whole, and says what takes old to new and has this answer
+-- a message is whole: it isn't taken by a front of its digits
+abbrev pub HasWhole : Line → RequestLine → Type 0
+HasWhole line (Ipp digits) = line.is_cut ≡ false
+HasWhole line (Now n) = ⊤
+HasWhole line (Dev text) = ⊤
+HasWhole line (Grant row) = ⊤
+
+-- what is kept of the line says what takes old to new and has this answer
 pub record TakesLine (line : Line) (old new : State) (answer : List ℕ) : Type 0 where
-  pub whole : line.is_cut ≡ false
   pub request : RequestLine
   pub says : Says line.bytes.items request
+  pub whole : HasWhole line request
   pub takes : Takes request old new answer
 
--- the line is too long, or it is of no form or has a message that is refused
+-- it is of no form, or has a message that isn't whole or is refused
 abbrev pub IsBadLine : Line → Type 0
-IsBadLine line = (line.is_cut ≡ true) ⊎ IsBad line.bytes.items
+IsBadLine line = (request : RequestLine) → Says line.bytes.items request → IsRefused line.is_cut request
 
 -- so many lines of the input are taken one after the other: the text that answers them, what is left of the input, and where
 -- the session is then

@@ -1,5 +1,5 @@
 -- What a line of a replay brings about, and the text that answers it.
-use Rattle.std.specs.Prelude.{◌≡◌, ◌<◌, ◌≤◌, ◌⊎◌, ℕ, List, [], ◌∷◌, ◌++◌, Result, Ok, Err, IsErr, IsOkAnd, codes, length}
+use Rattle.std.specs.Prelude.{◌≡◌, ◌<◌, ◌≤◌, ◌⊎◌, ℕ, Bool, true, List, [], ◌∷◌, ◌++◌, Result, Ok, Err, IsErr, IsOkAnd, codes, length}
 use Rattle.std.specs.Fmt.{decimal}
 use Rattle.device_lines.specs.Reports.{AnswersLine}
 use Rattle.grants_csv.specs.Fault.{code_of}
@@ -9,7 +9,6 @@ use Rattle.grants_csv.specs.declared.importing.Imported.{Imported}
 use Rattle.hex.specs.Hex.{decode_of, encode_lower}
 use Rattle.ipp_ops.specs.Answer.{BringsReply}
 use Rattle.queue_core.specs.World.{World}
-use Rattle.replay.specs.RequestLine.{Says}
 use Rattle.replay.specs.declared.request_line.RequestLine.{RequestLine}
 use Rattle.replay.specs.declared.request_line.RequestLine.TheVariants.{Now, Ipp, Dev, Grant}
 
@@ -61,12 +60,9 @@ Takes (Grant row) old new text = (new.now ≡ old.now) × AnswersFile old.queue 
 abbrev pub IsNoMessage : List ℕ → Type 0
 IsNoMessage digits = IsErr (decode_of digits) ⊎ IsOkAnd (decode_of digits) (λ message. 16777216 < length message)
 
-abbrev pub IsRefused : RequestLine → Type 0
-IsRefused (Now n) = ⊥
-IsRefused (Dev line) = ⊥
-IsRefused (Grant row) = ⊥
-IsRefused (Ipp digits) = IsNoMessage digits.now
-
--- the line is of no form, or has a message that is refused
-abbrev pub IsBad : List ℕ → Type 0
-IsBad line = (request : RequestLine) → Says line request → IsRefused request
+-- a message alone is refused, of a line that was cut or for itself
+abbrev pub IsRefused : Bool → RequestLine → Type 0
+IsRefused is_cut (Now n) = ⊥
+IsRefused is_cut (Dev line) = ⊥
+IsRefused is_cut (Grant row) = ⊥
+IsRefused is_cut (Ipp digits) = (is_cut ≡ true) ⊎ IsNoMessage digits.now

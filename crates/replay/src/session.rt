@@ -42,15 +42,16 @@ pub(crate) fn take_line<B: QueueBook, W: Write>(
     ensures bad { IfOk result (λ next. IfNone next (IsBadLine line.now × (book.new ≡ book.old) × (output.new ≡ output.old))) }
     ensures failed { IfErr result IsOfStream }
 {
-    if line.is_cut {
-        return Ok(None);
-    }
     let Some(request) = RequestLine::read(line.bytes.as_slice()) else {
         return Ok(None);
     };
     match request {
         RequestLine::Now(moment) => Ok(Some(moment)),
         RequestLine::Ipp(digits) => {
+            // other lines that are so long are refused by what is kept of them
+            if line.is_cut {
+                return Ok(None);
+            }
             if answer_digits(context, book, digits, output)? {
                 Ok(Some(context.now))
             } else {

@@ -11,7 +11,7 @@ use print_server::listen;
 use std::alloc::Global;
 use std::cell::Cell;
 use std::io::{BufWriter, ErrorKind, Write};
-use std::os::unix::fs::PermissionsExt;
+use std::os::unix::fs::{PermissionsExt, symlink};
 use std::test::Fail;
 use std::{env, fs, process};
 
@@ -60,6 +60,8 @@ pub(super) enum Step {
     WritesRows(u32),
     /// The bytes of one file are those of another, as far as so many eighths of it.
     Copies(&'static str, &'static str, usize),
+    /// A path is a link to another.
+    Links(&'static str, &'static str),
     /// The words of a line leave this.
     Tells(&'static str, Told),
     /// They leave this, and this file as it was, byte for byte.
@@ -198,6 +200,11 @@ impl<'a> Folder<'a> {
         )
     }
 
+    fn link(&self, path: &str, to: &str) -> Result<(), Mismatch> {
+        symlink(self.rt, self.whole(to)?, self.whole(path)?)?;
+        Ok(())
+    }
+
     fn turn(&self, from: &str, to: &str, old: &[u8], new: &[u8]) -> Result<(), Mismatch> {
         let bytes = self.read(from)?;
         let Some((front, behind)) = parted_at(bytes.as_slice(), old) else {
@@ -288,6 +295,7 @@ impl<'a> Folder<'a> {
             Step::Writes(path, parts) => self.fill(path, parts),
             Step::WritesRows(rows) => self.write_rows(rows),
             Step::Copies(from, to, eighths) => self.copy(from, to, eighths),
+            Step::Links(path, to) => self.link(path, to),
             Step::Tells(line, wanted) => self.tell(line, wanted),
             Step::Keeps(path, line, wanted) => self.keep(path, line, wanted),
             Step::Unprinted(line, way) => self.tell_unprinted(line, way),

@@ -2,6 +2,7 @@
 
 use crate::desk::books::{DeskBook, MemoryBook};
 use crate::desk::compare::Mismatch;
+use crate::desk::connection::filled;
 use crate::desk::faulty::{Failure, FaultyBook, TAKES_NOTHING};
 use crate::desk::streams::{AT_ONCE, Behind, NO_FLUSH, TestReader, TestWriter, Way};
 use crate::program::sockets::AT;
@@ -80,6 +81,30 @@ fn streams_that_fail_and_a_bad_line(rt: HostRuntime) -> Result<(), Mismatch> {
         ends(rt.alloc(), row)?;
     }
     Ok(())
+}
+
+const DIGITS: &[u8] = &[b'1'; 1_024];
+
+/// Three lines of which more bytes come than are kept of one, 33,554,436.
+const CUT_LINES: &[(&[u8], usize)] = &[
+    (b"dev ", 1),
+    (DIGITS, 32_768),
+    (b"1\ngrant ", 1),
+    (DIGITS, 32_768),
+    (b"\nipp ", 1),
+    (DIGITS, 32_768),
+    (b"11\n", 1),
+];
+
+#[test]
+fn lines_that_are_cut(rt: HostRuntime) -> Result<(), Mismatch> {
+    let lines = filled(rt.alloc(), CUT_LINES)?;
+    let mut input = lines.as_slice();
+    let mut output = Vec::new(rt.alloc());
+    let came = replay(rt.alloc(), &mut input, &mut output);
+    let answers = b"refused 1 syntax\ngrant refused 3\nbad line 3\n";
+    AT.same_bytes(answers, output.as_slice())?;
+    AT.is_so(came == Ok(1), "how a replay of lines that are cut ends")
 }
 
 /// Why a book can't be read.

@@ -2,7 +2,7 @@
 
 use crate::desk::books::GRANT;
 use crate::program::folder::Step::{
-    Copies, HasByte, IsEmpty, IsPrivate, Keeps, Lacks, Tells, Turns, Writes,
+    Copies, HasByte, IsEmpty, IsPrivate, Keeps, Lacks, Links, Tells, Turns, Writes,
 };
 use crate::program::folder::{
     DAMAGED, DISK, IMPORTED, INIT, MADE, NO_ACCOUNT, REPEATED, Row, STATEMENT, STORE, Step, Told,
@@ -203,7 +203,7 @@ static NEW: [Row; 7] = [
     ),
 ];
 
-static OTHER: [Row; 6] = [
+static OTHER: [Row; 7] = [
     // no store is made over a file with other bytes, which stays as it was
     (
         "bytes of another file",
@@ -285,6 +285,19 @@ static OTHER: [Row; 6] = [
             Writes(STORE, &[(b"\0\xa5", 256)]),
             Writes(LOG, LOG_OF_NOTES),
             Tells(INIT, DISK),
+        ],
+    ),
+    // the log lies beside the file that a link leads to
+    (
+        "a link to a database that is whole in its log alone",
+        &[
+            Links("@/link", STORE),
+            Writes(STORE, &[(b"\xa5", 512)]),
+            Writes(LOG, LOG_OF_NOTES),
+            Tells(
+                "printd init --store @/link --uri ipp://localhost/ipp/print --name release",
+                DISK,
+            ),
         ],
     ),
     // what is left of a log beside other bytes makes no database of them
