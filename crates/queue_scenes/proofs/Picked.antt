@@ -1,15 +1,17 @@
 -- The jobs of given numbers, one number after another.
-use Rattle.std.proofs.Common.{◌≡◌, inl, inr, ℕ, zero, suc, ◌+◌, ◌<◌, List, [], ◌∷◌, ◌++◌, filter, take, length, get_or, Bool, false, ◌&&◌, ◌||◌, ◌==◌, refl, sym, ap, ap₂, subst, ◌∙◌, arith, is_eq, Less, All}
+use Rattle.std.proofs.Common.{◌≡◌, inl, inr, ℕ, zero, suc, ◌+◌, ◌<◌, ◌≤◌, List, [], ◌∷◌, ◌++◌, filter, take, length, get_or, Bool, false, ◌&&◌, ◌||◌, ◌==◌, refl, sym, ap, ap₂, subst, ◌∙◌, arith, is_eq, Less, All, Result, Ok, Err, is_ok}
 use mathlib.Core.Bool.{and-false, and-true, or-false}
 use Rattle.std.specs.List.{list_any, AllByRecursion as Each}
-use Rattle.std.specs.List.Sorted.{IsStrictlySortedBy}
+use Rattle.std.specs.List.Sorted.{IsBinarySearchResult, IsStrictlySortedBy}
 use Rattle.std.specs.Cmp.{nat_eq_equiv, unsigned_tied}
 use Rattle.std.specs.Ordering.{nat_cmp}
-use Rattle.std.proofs.lemmas.Bool.{and_right, cases_Bool, eqb-true, ne_eqb}
+use Rattle.std.proofs.lemmas.Bool.{and_right, cases_Bool, eq-eqb, eqb-true, ne_eqb}
 use Rattle.std.proofs.lemmas.Cmp.{ranked}
-use Rattle.std.proofs.lemmas.List.{take_more}
+use Rattle.std.proofs.lemmas.List.{get_or_default, take_more}
 use Rattle.std.proofs.lemmas.List.Elements.{All-append, All-filter}
-use Rattle.std.proofs.lemmas.List.Folds.{list_any-append}
+use Rattle.std.proofs.lemmas.List.Folds.{list_any-append, list_any_at, list_any_none}
+use Rattle.std.proofs.lemmas.List.Sorted.{searched}
+use Rattle.std.proofs.lemmas.Map.Keys.{non_decreasing_from_sorted}
 use Rattle.sqlite_keyed.proofs.ListLemmas.{all_weaker, any_from_none, filter_none}
 use Rattle.queue_core.specs.World.{is_one_of, numbered}
 use Rattle.queue_types.specs.declared.job.Job.{Job}
@@ -25,6 +27,19 @@ has_key q [] = refl
 has_key q (k ∷ ks) = ap₂ ◌||◌ (nat_eq_equiv.symm k q ∙ sym (unsigned_tied q k)) (has_key q ks)
 
 -- ---- rising numbers
+
+beside : (i k n q : ℕ) → (k < i → n < q) → (i ≤ k → q < n) → n ≡ q → ⊥
+beside i k n q before behind same = grind arith
+
+-- what is found among them
+pub found_among : (ns : List ℕ) (q : ℕ) (r : Result ℕ ℕ) → IsBinarySearchResult (λ n. nat_cmp n q) ns r → IsStrictlySortedBy nat_cmp ns → is_ok r ≡ has q ns
+found_among ns q (Ok i) found rise =
+    let at = searched ns q (Ok i) found (λ a b le lt. non_decreasing_from_sorted ns rise a b 0 le lt) in
+    sym (list_any_at (λ n. n == q) ns i 0 at.0 (eq-eqb (get_or ns i 0) q at.1))
+found_among ns q (Err i) found rise =
+    let at = searched ns q (Err i) found (λ a b le lt. non_decreasing_from_sorted ns rise a b 0 le lt) in
+    sym (list_any_none (λ n. n == q) ns (λ k d low. ne_eqb (get_or ns k d) q (λ same.
+    beside i k (get_or ns k 0) q (at.1 k) (λ past. at.2 k past low) (sym (get_or_default ns k d 0 low) ∙ same))))
 
 -- each of the first numbers is below the next
 pub before_next : (ns : List ℕ) (i k : ℕ) → IsStrictlySortedBy nat_cmp ns → i < length ns → k ≡ get_or ns i k → Each (λ n. n < k) (take i ns)
@@ -100,14 +115,11 @@ picked_same p ms ns same (j ∷ js) =
     ]
 
 -- what is picked among those that pass
-pub picked_among : (p t : Job → Bool) (ns : List ℕ) → ((j : Job) → t j ≡ has j.number ns) → (js : List Job) → filter t (filter p js) ≡ filter (λ (j : Job). p j && has j.number ns) js
-picked_among p t ns same [] = refl
-picked_among p t ns same (j ∷ js) = elim (cases_Bool (p j)) [
-  | inl passes ↦ elim (cases_Bool (has j.number ns)) [
-    | inl there ↦ rw (passes, same j ∙ there, there, picked_among p t ns same js) refl
-    | inr gone ↦ rw (passes, same j ∙ gone, gone, picked_among p t ns same js) refl
-  ]
-  | inr fails ↦ rw (fails, picked_among p t ns same js) refl
+pub picked_among : (p : Job → Bool) (ns : List ℕ) (js : List Job) → filter (λ (j : Job). has j.number ns) (filter p js) ≡ filter (λ (j : Job). p j && has j.number ns) js
+picked_among p ns [] = refl
+picked_among p ns (j ∷ js) = elim (cases_Bool (p j)) [
+  | inl passes ↦ elim (cases_Bool (has j.number ns)) [ inl there ↦ rw (passes, there, picked_among p ns js) refl | inr gone ↦ rw (passes, gone, picked_among p ns js) refl ]
+  | inr fails ↦ rw (fails, picked_among p ns js) refl
 ]
 
 pub taken_more : (ns : List ℕ) (i k : ℕ) → i < length ns → k ≡ get_or ns i k → take (i + 1) ns ≡ take i ns ++ k ∷ []

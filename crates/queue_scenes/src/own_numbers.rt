@@ -1,6 +1,5 @@
 //! The jobs of one owner that have given numbers.
-ghost use Rattle.std.specs.Prelude.{◌≡◌, ◌≢◌, ◌<◌, ◌↔◌, ◌++◌, ◌==◌, ◌&&◌, ℕ, All, bytes_eq, count_by, filter, length, IfOk, OnOk, IsTrue, IfErr};
-ghost use Rattle.std.specs.BTreeSet.{contains};
+ghost use Rattle.std.specs.Prelude.{◌≡◌, ◌≢◌, ◌<◌, ◌↔◌, ◌==◌, ◌&&◌, ℕ, All, bytes_eq, count_by, filter, length, IfOk, OnOk, IsTrue, IfErr};
 ghost use Rattle.std.specs.List.{list_any};
 ghost use Rattle.std.specs.List.Sorted.{IsStrictlySortedBy};
 ghost use Rattle.std.specs.Ordering.{nat_cmp};
@@ -39,16 +38,11 @@ fn in_order(alloc: Global, numbers: &[u32]) -> Result<Vec<u32>, AllocError>
     keys_of(alloc, &set)
 }
 
-/// Adds those of the jobs that are the owner's.
-fn push_owned(own: &mut Vec<Job>, jobs: Vec<Job>, owner: &str) -> Result<(), AllocError>
-    ensures { OnOk result (own.new.items ≡ own.old.items ++ filter (λ (j : JobValue). bytes_eq j.owner owner.now) jobs.items) }
+/// Keeps those of the jobs that are the owner's.
+fn keep_owned(jobs: &mut Vec<Job>, owner: &str)
+    ensures { jobs.new.items ≡ filter (λ (j : JobValue). bytes_eq j.owner owner.now) jobs.old.items }
 {
-    for job in jobs {
-        if job.owner.as_str() == owner {
-            own.push(job)?;
-        }
-    }
-    Ok(())
+    jobs.retain(|job| job.owner.as_str() == owner);
 }
 
 /// The owner's jobs of the numbers, which rise.
@@ -65,44 +59,42 @@ fn owned_of<S: Alter>(
 {
     let mut own = Vec::new(alloc);
     for number in numbers {
-        let found = with_number(alloc, conn, *number)?;
-        push_owned(&mut own, found, owner)?;
+        let mut found = with_number(alloc, conn, *number)?;
+        keep_owned(&mut found, owner);
+        own.append(&mut found)?;
     }
     Ok(own)
 }
 
-/// Adds those of the jobs that have a number of the set.
-fn push_numbered(
-    picked: &mut Vec<Job>,
-    jobs: Vec<Job>,
-    numbers: &BTreeSet<u32>,
-) -> Result<(), AllocError>
-    ensures { OnOk result (picked.new.items ≡ picked.old.items ++ filter (λ (j : JobValue). contains nat_cmp numbers.now j.number) jobs.items) }
+/// The number is one of these, which rise.
+fn is_among(numbers: &[u32], number: u32) -> bool
+    ensures { IsStrictlySortedBy nat_cmp numbers.now → result ≡ list_any (λ n. n == number) numbers.now }
 {
-    for job in jobs {
-        if numbers.contains(&job.number) {
-            picked.push(job)?;
-        }
-    }
-    Ok(())
+    numbers.binary_search(&number).is_ok()
 }
 
-/// The owner's jobs of the numbers, out of all that the owner has.
+/// Keeps those of the jobs that have one of the numbers, which rise.
+fn keep_numbered(jobs: &mut Vec<Job>, numbers: &[u32])
+    ensures { IsStrictlySortedBy nat_cmp numbers.now → jobs.new.items ≡ filter (λ (j : JobValue). list_any (λ n. n == j.number) numbers.now) jobs.old.items }
+{
+    jobs.retain(|job| is_among(numbers, job.number));
+}
+
+/// The owner's jobs of the numbers, which rise, out of all that the owner has.
 fn picked_of<S: Alter>(
     alloc: Global,
     conn: &mut Connection<S>,
     owner: &str,
     numbers: &[u32],
 ) -> Result<Vec<Job>, Fault>
+    requires { IsStrictlySortedBy nat_cmp numbers.now }
     ensures reads { ReadsQueue (state S.Store conn.old) (state S.Store conn.new) result (λ w v. v.items ≡ filter (λ (j : JobValue). bytes_eq j.owner owner.now && list_any (λ n. n == j.number) numbers.now) (rows w)) }
     ensures live { HasCleanDisk (state S.Store conn.new) → OnOk result (IsTrue (state S.Store conn.new).is_open) }
     ensures sound { IfOk result (λ v. All IsSoundJob v.items) }
 {
-    let set = number_set(alloc, numbers)?;
-    let own = all_jobs(alloc, conn, owner)?;
-    let mut picked = Vec::new(alloc);
-    push_numbered(&mut picked, own, &set)?;
-    Ok(picked)
+    let mut own = all_jobs(alloc, conn, owner)?;
+    keep_numbered(&mut own, numbers);
+    Ok(own)
 }
 
 /// There are more than 100 numbers, and more than the owner has jobs.

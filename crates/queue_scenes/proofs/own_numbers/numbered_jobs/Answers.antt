@@ -7,6 +7,9 @@ use Rattle.queue_scenes.proofs.Picked.{has, picked_same}
 use Rattle.queue_tables.proofs.Telling.{tells_as, tells_behind, told_while}
 use Rattle.queue_scenes.proofs.own_numbers.numbered_jobs.Goals as goal
 
+pub picked_of-requires : goal.picked_of-requires
+picked_of-requires g c = subst (IsStrictlySortedBy nat_cmp) (sym c.as_slice-asked.ensures.value) c.in_ok-wanted.ensures.rising
+
 pub owned_of-requires : goal.owned_of-requires
 owned_of-requires g c = subst (IsStrictlySortedBy nat_cmp) (sym c.as_slice-asked.ensures.value) c.in_ok-wanted.ensures.rising
 

@@ -24,11 +24,12 @@ loop-number-preserved g c =
     let p = λ (j : Job). bytes_eq j.owner c.args.owner.now in
     let low : c.loop-number.number-index < length c.args.numbers.now = c.loop-number-test.true in
     let at : k ≡ get_or ns i k = get_or_default ns i 0 k low in
+    let added = c.in_ok-append.ensures.items ∙ ap (λ (js : List Job). c.loop-number.own.items ++ js) c.keep_owned.ensures in
     record {
       read = told_as (told_then first.read (told found.reads found.live)) (λ w sound is.
-          c.in_ok-push_owned.ensures ∙ (λ t. is.0 t ++ filter p (is.1 t)) ∙ sym (picked_more p (take i ns) k (rows w) (before_next ns i k c.requires low at) (world_rising w sound))
+          added ∙ (λ t. is.0 t ++ filter p (is.1 t)) ∙ sym (picked_more p (take i ns) k (rows w) (before_next ns i k c.requires low at) (world_rising w sound))
           ∙ ap (λ (ms : List ℕ). picked p ms (rows w)) (sym (taken_more ns i k low at)));
-      sound = subst (λ (js : List Job). All IsSoundJob js) (sym c.in_ok-push_owned.ensures) (all_more IsSoundJob p c.loop-number.own.items c.in_ok-found.found.items first.sound found.sound);
+      sound = subst (λ (js : List Job). All IsSoundJob js) (sym added) (all_more IsSoundJob p c.loop-number.own.items c.in_ok-found.found.items first.sound found.sound);
     }
 
 pub returns-in_err-found-clause-reads : goal.returns-in_err-found-clause-reads
