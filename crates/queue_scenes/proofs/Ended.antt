@@ -1,7 +1,7 @@
 -- The jobs of an owner that ended, from the last one on.
 use Rattle.std.proofs.Common.{◌≡◌, ◌⊎◌, inl, inr, ℕ, pos, ◌<◌, ◌≤◌, List, [], ◌∷◌, map, filter, take, Bool, true, false, not, ◌&&◌, ◌||◌, ◌==◌, Option, Some, None, refl, sym, ap, subst, ◌∙◌, arith, bytes_eq, nat_lt, Less, Greater, is_gt}
 use mathlib.Core.Bool.{and-true}
-use Rattle.std.specs.Prelude.{IsSome, IfSome}
+use Rattle.std.specs.Prelude.{IsSome, IfSome, unwrap_or}
 use Rattle.std.specs.Ordering.{int_cmp}
 use Rattle.std.specs.Cmp.{int_cmp_is, tied_itself}
 use Rattle.std.specs.List.{AllByRecursion as Each}
@@ -9,7 +9,6 @@ use Rattle.std.specs.List.Sorted.{IsPermutation}
 use Rattle.std.proofs.lemmas.Bool.{and_cases, and_parts, cases_Bool, eqb-false, eqb-true, ltb-false, ltb-true, or_cases, or_parts}
 use Rattle.std.proofs.lemmas.Int.{ints}
 use Rattle.std.proofs.lemmas.List.{map-id, take-map}
-use Rattle.std.proofs.lemmas.List.Elements.{All-from_recursion}
 use Rattle.std.proofs.lemmas.List.Sorted.{IsPermutation-refl, IsPermutation-trans, IsPermutation-cons, IsPermutation-map}
 use Rattle.sqlite.specs.declared.types.Value.TheVariants.{Int, Text as Words}
 use Rattle.sqlite.specs.Order.{Row, column}
@@ -22,26 +21,25 @@ use Rattle.sqlite_sql.specs.declared.ops.BinaryOp.TheVariants.{Compare}
 use Rattle.sqlite_sql.specs.declared.ops.CompareOp.TheVariants.{Eq, Gt}
 use Rattle.sqlite_value.proofs.OrderLemmas.{value_cmp_total}
 use Rattle.sqlite_trees.specs.Tree.{IsAscending}
-use Rattle.sqlite_keyed.proofs.ListLemmas.{all_weaker, all-filter, ascending-map}
+use Rattle.sqlite_keyed.proofs.ListLemmas.{all_weaker, ascending-map}
 use Rattle.queue_types.specs.declared.job.Job.{Job}
 use Rattle.queue_types.specs.declared.job.Phase.{Phase}
 use Rattle.queue_types.specs.declared.job.Phase.TheVariants.{Waiting, Running, Stopped}
 use Rattle.queue_types.specs.declared.event.WhichJobs.TheVariants.{Completed}
 use Rattle.queue_types.specs.Job.{is_live, is_live_in}
 use Rattle.queue_core.specs.Limits.{IsMoment, IsSoundJob, FitsPhase}
-use Rattle.queue_core.specs.Sound.{IsSound, IsSoundEntry}
+use Rattle.queue_core.specs.Sound.{IsSound}
 use Rattle.queue_core.specs.Visible.{by_end, placed, is_newer, visible}
-use Rattle.queue_core.specs.World.{World, Entry, rows, job_at}
+use Rattle.queue_core.specs.World.{World, rows}
 use Rattle.queue_core.proofs.Ordered.{each-placed, each-visible}
 use Rattle.queue_tables.specs.Values.{number, moment, job_values, job_view}
-use Rattle.queue_tables.proofs.Entries.{rows_in}
 use Rattle.queue_tables.proofs.Permuting.{swap_front}
-use Rattle.queue_tables.specs.Content.{AreRowsOf}
 use Rattle.queue_scenes.specs.Jobs.{Selects}
-use Rattle.queue_scenes.proofs.Lists.{each_row, world_rising}
+use Rattle.queue_scenes.proofs.Lists.{each_sound, world_rising}
 use Rattle.queue_scenes.proofs.Numbers.{AreRising, rising_filter, less_value}
-use Rattle.queue_scenes.proofs.Ordered.{shows_in_order, shows_first}
-use Rattle.queue_scenes.proofs.Statements.{descending, select_ended, select_ended_is, select_ended_first, select_ended_first_is}
+use Rattle.queue_scenes.proofs.Ordered.{shows_first}
+use Rattle.queue_scenes.proofs.Shown.{visible_rows, within_most}
+use Rattle.queue_scenes.proofs.Statements.{descending, select_ended, select_ended_is}
 use Rattle.queue_scenes.proofs.Tests.{where_text_is, where_above}
 
 -- ---- a job that ended has the moment of its end
@@ -86,10 +84,6 @@ end_in Waiting j fits over = absurd cc
 end_in Running j fits over = absurd cc
 end_in Stopped j fits over = absurd cc
 end_in _ j fits over = fits.2
-
-each_sound : (es : List Entry) → Each IsSoundEntry es → Each IsSoundJob (rows_in es)
-each_sound [] all = tt
-each_sound (e ∷ es) all = (all.0.row, each_sound es all.1)
 
 ended_kept : (name : List ℕ) (js : List Job) → Each IsSoundJob js → filter (is_ended_row name) (map job_values js) ≡ map job_values (filter (has_ended name) js)
 ended_kept name [] all = refl
@@ -206,30 +200,14 @@ ended_ascends name w sound =
     ascending-map (λ u v. key_cmp 0 (descending ∷ descending ∷ []) (end_key u) (end_key v) ≡ Less) job_values (by_end (ended_of name w))
     (by_end_ascends (ended_of name w) (rising_filter (has_ended name) (rows w) (world_rising w sound)) (ends name (rows w) (each_sound w.jobs sound.entries)))
 
-ended_rows : (name : List ℕ) (limit : Option ℕ) (w : World) → IsSound w → AreRowsOf w (visible name Completed limit (rows w))
-ended_rows name limit w sound =
-    All-from_recursion (λ (j : Job). job_at j.number (rows w) ≡ Some j) (visible name Completed limit (rows w))
-    (each-visible (λ (j : Job). job_at j.number (rows w) ≡ Some j) limit Completed (filter (has_ended name) (rows w))
-    (all-filter (λ (j : Job). job_at j.number (rows w) ≡ Some j) (has_ended name) (rows w) (each_row w sound)))
-
-pub selects_ended : (name : List ℕ) (s : State) → Selects select_ended.text (Words name ∷ []) s (λ w. visible name Completed None (rows w))
+pub selects_ended : (name : List ℕ) (limit : Option ℕ) (most : ℕ) → most ≡ unwrap_or limit 2147483647 → (s : State) → Selects select_ended.text (Words name ∷ number most ∷ []) s (λ w. visible name Completed limit (rows w))
 unfolding is_ended_row ended_of
-selects_ended name s = record {
-  rows = ended_rows name None;
+selects_ended name limit most is s = record {
+  rows = visible_rows name Completed limit;
   shows = λ w sound has shown_rows h.
-      shows_in_order select_ended (Words name ∷ []) job_view (is_ended_row name) (λ (v : Row). v) end_key (λ r. refl) (λ r. refl) (λ r. refl)
-      select_ended_is s s (map job_values (rows w)) shown_rows (map job_values (by_end (ended_of name w))) has.schema has.rows.jobs
+      let shown = by_end (ended_of name w) in
+      shows_first select_ended (Words name ∷ number most ∷ []) job_view (is_ended_row name) (λ (v : Row). v) end_key (λ r. refl) (λ r. refl) (λ r. refl)
+      1 most select_ended_is refl s s (map job_values (rows w)) shown_rows (map job_values shown) has.schema has.rows.jobs
       (ended_listed name w sound) (ended_ascends name w sound) h
-      ∙ map-id (map job_values (by_end (ended_of name w)));
-}
-
-pub selects_ended_first : (name : List ℕ) (n : ℕ) (s : State) → Selects select_ended_first.text (Words name ∷ number n ∷ []) s (λ w. visible name Completed (Some n) (rows w))
-unfolding is_ended_row ended_of
-selects_ended_first name n s = record {
-  rows = ended_rows name (Some n);
-  shows = λ w sound has shown_rows h.
-      shows_first select_ended_first (Words name ∷ number n ∷ []) job_view (is_ended_row name) (λ (v : Row). v) end_key (λ r. refl) (λ r. refl) (λ r. refl)
-      1 n select_ended_first_is refl s s (map job_values (rows w)) shown_rows (map job_values (by_end (ended_of name w))) has.schema has.rows.jobs
-      (ended_listed name w sound) (ended_ascends name w sound) h
-      ∙ ap (take n) (map-id (map job_values (by_end (ended_of name w)))) ∙ take-map job_values n (by_end (ended_of name w));
+      ∙ ap (take most) (map-id (map job_values shown)) ∙ take-map job_values most shown ∙ ap (map job_values) (within_most name Completed limit most is w sound);
 }

@@ -8,7 +8,8 @@ pub mod Whole
 pub mod Lists
 pub mod Counting
 pub mod Ended
-pub mod Ranked
+pub mod Shown
+pub mod Live
 pub mod Known
 pub mod Told
 pub mod Picked

@@ -1,14 +1,14 @@
 -- The jobs that SELECTs of all columns show.
-use Rattle.std.proofs.Common.{◌≡◌, inl, inr, ℕ, ◌<◌, List, [], ◌∷◌, map, filter, take, Bool, true, false, ◌&&◌, ◌==◌, Some, Less, refl, sym, ap, subst, ◌∙◌, arith, bytes_eq}
+use Rattle.std.proofs.Common.{◌≡◌, inl, inr, ℕ, ◌<◌, List, [], ◌∷◌, map, filter, Bool, true, false, ◌&&◌, ◌==◌, Some, Less, refl, sym, subst, ◌∙◌, arith, bytes_eq}
 use Rattle.std.specs.Prelude.{⊤}
 use Rattle.std.specs.List.{AllByRecursion as Each}
 use Rattle.std.specs.List.Sorted.{IsPermutation}
 use Rattle.std.proofs.lemmas.Bool.{cases_Bool, eqb-true, eq-eqb, ne_eqb, or_parts}
-use Rattle.std.proofs.lemmas.List.{map-id, take-map}
-use Rattle.std.proofs.lemmas.List.Elements.{All-from_recursion, All-take}
+use Rattle.std.proofs.lemmas.List.{map-id}
+use Rattle.std.proofs.lemmas.List.Elements.{All-from_recursion}
 use Rattle.sqlite.specs.declared.types.Value.TheVariants.{Text as Words}
 use Rattle.sqlite.specs.Collation.TheVariants.{Binary}
-use Rattle.sqlite.specs.Order.{Row, column}
+use Rattle.sqlite.specs.Order.{Row}
 use Rattle.sqlite.specs.State.{State}
 use Rattle.sqlite.specs.Term.{eval_all}
 use Rattle.sqlite_keyed.proofs.ListLemmas.{IsPermutation-same, all_both, all-filter}
@@ -19,7 +19,8 @@ use Rattle.sqlite_value.specs.declared.keys.Key.{Key}
 use Rattle.queue_types.specs.declared.job.Job.{Job}
 use Rattle.queue_types.specs.Job.{is_live, state}
 use Rattle.queue_core.specs.Shown.{pending_in, pending_jobs}
-use Rattle.queue_core.specs.Sound.{IsSound}
+use Rattle.queue_core.specs.Limits.{IsSoundJob}
+use Rattle.queue_core.specs.Sound.{IsSound, IsSoundEntry}
 use Rattle.queue_core.specs.World.{World, Entry, rows, job_at, numbered, has_number}
 use Rattle.queue_tables.specs.Content.{AreRowsOf, Holds, content_of}
 use Rattle.queue_tables.specs.Kept.{HasRows}
@@ -28,11 +29,11 @@ use Rattle.queue_tables.specs.Values.{number, job_values, job_view}
 use Rattle.queue_tables.proofs.Entries.{rows_in, found_rows, distinct_of}
 use Rattle.queue_tables.proofs.JobPut.{reads_job_at}
 use Rattle.queue_tables.proofs.PlainQueries.{passes, shown_of}
-use Rattle.queue_tables.proofs.Statements.{IsLimited, IsSelection, Selection, select_job}
+use Rattle.queue_tables.proofs.Statements.{IsSelection, Selection, select_job}
 use Rattle.queue_scenes.specs.Jobs.{Selects, own_live}
 use Rattle.queue_scenes.proofs.Lookup.{rows_passing}
 use Rattle.queue_scenes.proofs.Numbers.{AreRising, rising, rising_filter, numbers_ascend, number_key}
-use Rattle.queue_scenes.proofs.Ordered.{shows_first, shows_in_order}
+use Rattle.queue_scenes.proofs.Ordered.{shows_in_order}
 use Rattle.queue_scenes.proofs.Statements.{select_own, select_own_is, select_own_live, select_own_live_is, select_pending, select_pending_is}
 use Rattle.queue_scenes.proofs.Tests.{is_own_row, own-row, is_own_live_row, own_live-row, is_pending_row, pending-row}
 
@@ -57,6 +58,10 @@ each_row w sound = each_found (rows w) (world_rising w sound)
 
 pub filtered_rows : (w : World) → IsSound w → (p : Job → Bool) → AreRowsOf w (filter p (rows w))
 filtered_rows w sound p = All-from_recursion (λ (j : Job). job_at j.number (rows w) ≡ Some j) (filter p (rows w)) (all-filter (λ (j : Job). job_at j.number (rows w) ≡ Some j) p (rows w) (each_row w sound))
+
+pub each_sound : (es : List Entry) → Each IsSoundEntry es → Each IsSoundJob (rows_in es)
+each_sound [] all = tt
+each_sound (e ∷ es) all = (all.0.row, each_sound es all.1)
 
 -- ---- by number
 
@@ -104,16 +109,6 @@ module _ (q : Selection) (tree : q.tree ≡ 1) (params : Row) (test : Row → Bo
         shows_in_order q params job_view test (λ (v : Row). v) number_key alike shows keys
         is s s (map job_values (rows w)) shown_rows (map job_values (filter p (rows w))) has.schema (there s w has) (listed w) (ascend w sound) h
         ∙ map-id (map job_values (filter p (rows w)));
-  }
-
-  -- and of the first of them, as many as a parameter says
-  pub selects_first : (at n : ℕ) → IsLimited q at → column params at ≡ number n → (s : State) → Selects q.text params s (λ w. take n (filter p (rows w)))
-  selects_first at n is limit s = record {
-    rows = λ w sound. All-take (λ (j : Job). job_at j.number (rows w) ≡ Some j) n (filter p (rows w)) (filtered_rows w sound p);
-    shows = λ w sound has shown_rows h.
-        shows_first q params job_view test (λ (v : Row). v) number_key alike shows keys
-        at n is limit s s (map job_values (rows w)) shown_rows (map job_values (filter p (rows w))) has.schema (there s w has) (listed w) (ascend w sound) h
-        ∙ ap (take n) (map-id (map job_values (filter p (rows w)))) ∙ take-map job_values n (filter p (rows w));
   }
 
 pub selects_own_live : (name : List ℕ) (s : State) → Selects select_own_live.text (Words name ∷ []) s (λ w. own_live name (rows w))

@@ -91,47 +91,21 @@ pub select_own_live_is : IsSelection select_own_live
 unfolding understood first everything
 select_own_live_is = record { shows = record { command = refl; plain = (refl, refl); query = refl; unlisted = refl }; plainly = λ db. refl }
 
--- ---- the first of an owner's jobs that the device has
+-- ---- so many of them, by the rank of their state
 
-abbrev pub select_at_device : Selection
-select_at_device = jobs_selected (codes " FROM jobs WHERE owner = ?1 AND phase > 0 AND phase < 3 ORDER BY number LIMIT ?2") (op2 (Compare Eq Binary) (col 1 2) (col 0 0) ∷ op2 (Compare Gt Binary) (col 1 8) (lit (Int (pos 0))) ∷ op2 (Compare Lt Binary) (col 1 8) (lit (Int (pos 3))) ∷ []) ((col 1 0, plain_key Binary) ∷ [])
+abbrev pub select_live : Selection
+select_live = jobs_selected (codes " FROM jobs WHERE owner = ?1 AND phase < 3 ORDER BY (phase = 0) + (hold + incoming > 0), number LIMIT ?2") select_own_live.filter
+    ((op2 (Arith Add) (op2 (Compare Eq Binary) (col 1 8) (lit (Int (pos 0)))) (op2 (Compare Gt Binary) (op2 (Arith Add) (col 1 6) (col 1 7)) (lit (Int (pos 0)))), plain_key Binary) ∷ (col 1 0, plain_key Binary) ∷ [])
 
-pub select_at_device_is : IsLimited select_at_device 1
+pub select_live_is : IsLimited select_live 1
 unfolding understood first everything
-select_at_device_is = record { shows = record { command = refl; plain = (refl, refl); query = refl; unlisted = refl }; plainly = λ db. refl }
+select_live_is = record { shows = record { command = refl; plain = (refl, refl); query = refl; unlisted = refl }; plainly = λ db. refl }
 
--- ---- the first of an owner's jobs that may start
-
-abbrev pub select_own_pending : Selection
-select_own_pending = jobs_selected (codes " FROM jobs WHERE owner = ?1 AND phase = 0 AND hold + incoming = 0 ORDER BY number LIMIT ?2") (op2 (Compare Eq Binary) (col 1 2) (col 0 0) ∷ op2 (Compare Eq Binary) (col 1 8) (lit (Int (pos 0))) ∷ op2 (Compare Eq Binary) (op2 (Arith Add) (col 1 6) (col 1 7)) (lit (Int (pos 0))) ∷ []) ((col 1 0, plain_key Binary) ∷ [])
-
-pub select_own_pending_is : IsLimited select_own_pending 1
-unfolding understood first everything
-select_own_pending_is = record { shows = record { command = refl; plain = (refl, refl); query = refl; unlisted = refl }; plainly = λ db. refl }
-
--- ---- the first of an owner's jobs that are held
-
-abbrev pub select_held : Selection
-select_held = jobs_selected (codes " FROM jobs WHERE owner = ?1 AND phase = 0 AND hold + incoming > 0 ORDER BY number LIMIT ?2") (op2 (Compare Eq Binary) (col 1 2) (col 0 0) ∷ op2 (Compare Eq Binary) (col 1 8) (lit (Int (pos 0))) ∷ op2 (Compare Gt Binary) (op2 (Arith Add) (col 1 6) (col 1 7)) (lit (Int (pos 0))) ∷ []) ((col 1 0, plain_key Binary) ∷ [])
-
-pub select_held_is : IsLimited select_held 1
-unfolding understood first everything
-select_held_is = record { shows = record { command = refl; plain = (refl, refl); query = refl; unlisted = refl }; plainly = λ db. refl }
-
--- ---- an owner's jobs that ended
+-- ---- so many of an owner's jobs that ended
 
 abbrev pub select_ended : Selection
-select_ended = jobs_selected (codes " FROM jobs WHERE owner = ?1 AND ended > 0 ORDER BY ended DESC, number DESC") (op2 (Compare Eq Binary) (col 1 2) (col 0 0) ∷ op2 (Compare Gt Binary) (col 1 14) (lit (Int (pos 0))) ∷ []) ((col 1 14, descending) ∷ (col 1 0, descending) ∷ [])
+select_ended = jobs_selected (codes " FROM jobs WHERE owner = ?1 AND ended > 0 ORDER BY ended DESC, number DESC LIMIT ?2") (op2 (Compare Eq Binary) (col 1 2) (col 0 0) ∷ op2 (Compare Gt Binary) (col 1 14) (lit (Int (pos 0))) ∷ []) ((col 1 14, descending) ∷ (col 1 0, descending) ∷ [])
 
-pub select_ended_is : IsSelection select_ended
+pub select_ended_is : IsLimited select_ended 1
 unfolding understood first everything
 select_ended_is = record { shows = record { command = refl; plain = (refl, refl); query = refl; unlisted = refl }; plainly = λ db. refl }
-
--- ---- so many of them
-
-abbrev pub select_ended_first : Selection
-select_ended_first = jobs_selected (codes " FROM jobs WHERE owner = ?1 AND ended > 0 ORDER BY ended DESC, number DESC LIMIT ?2") select_ended.filter select_ended.order
-
-pub select_ended_first_is : IsLimited select_ended_first 1
-unfolding understood first everything
-select_ended_first_is = record { shows = record { command = refl; plain = (refl, refl); query = refl; unlisted = refl }; plainly = λ db. refl }

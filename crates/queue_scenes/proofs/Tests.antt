@@ -1,8 +1,7 @@
 -- What WHERE asks of a job's row, by the job.
-use Rattle.std.proofs.Common.{◌≡◌, ℕ, ◌+◌, pos, List, Bool, true, false, ◌&&◌, ◌||◌, ◌==◌, Some, refl, arith, bytes_eq, is_lt, is_gt, nat_le}
+use Rattle.std.proofs.Common.{◌≡◌, ℕ, ◌+◌, pos, List, Bool, true, false, ◌&&◌, ◌||◌, ◌==◌, Some, refl, bytes_eq, is_lt, is_gt}
 use mathlib.Core.Bool.{and-true}
 use Rattle.std.specs.Ordering.{int_cmp}
-use Rattle.std.proofs.lemmas.Bool.Decides.{nat_tests}
 use Rattle.std.proofs.lemmas.Map.Text.{is_eq-slice_cmp}
 use Rattle.sqlite.specs.declared.types.Value.TheVariants.{Int, Text as Words}
 use Rattle.sqlite.specs.Order.{Row, column}
@@ -61,44 +60,18 @@ pending_by_numbers Waiting true i = refl
 pending_by_numbers Waiting false true = refl
 pending_by_numbers _ _ _ = refl
 
--- the states of one rank
-abbrev pub is_between : ℕ → ℕ → Job → Bool
-is_between first last j = nat_le first (state j) && nat_le (state j) last
+-- ---- flags
 
-at_device_by_number : (p : Phase) (h i : Bool) → (is_gt (int_cmp (pos (phase_number p)) (pos 0)) && is_lt (int_cmp (pos (phase_number p)) (pos 3))) ≡ (nat_le 5 (state_in p h i) && nat_le (state_in p h i) 6)
-at_device_by_number Waiting true i = refl
-at_device_by_number Waiting false true = refl
-at_device_by_number _ _ _ = refl
-
-only_third : (n : ℕ) → (n == 3) ≡ (nat_le 3 n && nat_le n 3)
-only_third n = grind (arith, nat_tests)
-
-flags_added : (h i : Bool) → binary (Arith Add) (Int (pos (flag_number h))) (Int (pos (flag_number i))) ≡ Int (pos (flag_number h + flag_number i))
+pub flags_added : (h i : Bool) → binary (Arith Add) (Int (pos (flag_number h))) (Int (pos (flag_number i))) ≡ Int (pos (flag_number h + flag_number i))
 unfolding binary
 flags_added true true = refl
 flags_added false true = refl
 flags_added _ _ = refl
 
-either_by_number : (h i : Bool) → is_gt (int_cmp (pos (flag_number h + flag_number i)) (pos 0)) ≡ (h || i)
+pub either_by_number : (h i : Bool) → is_gt (int_cmp (pos (flag_number h + flag_number i)) (pos 0)) ≡ (h || i)
 either_by_number true true = refl
 either_by_number false true = refl
 either_by_number _ _ = refl
-
-either_flag : (h i : Bool) → is_true (binary (Compare Gt Binary) (binary (Arith Add) (Int (pos (flag_number h))) (Int (pos (flag_number i)))) (Int (pos 0))) ≡ (h || i)
-either_flag h i = rw (flags_added h i, where_above (flag_number h + flag_number i) 0) (either_by_number h i)
-
-neither_by_number : (h i : Bool) → ((flag_number h + flag_number i) == 0) ≡ ((flag_number h == 0) && (flag_number i == 0))
-neither_by_number true true = refl
-neither_by_number false true = refl
-neither_by_number _ _ = refl
-
-neither_flag : (h i : Bool) → is_true (binary (Compare Eq Binary) (binary (Arith Add) (Int (pos (flag_number h))) (Int (pos (flag_number i)))) (Int (pos 0))) ≡ ((flag_number h == 0) && (flag_number i == 0))
-neither_flag h i = rw (flags_added h i, where_number_is (flag_number h + flag_number i) 0) (neither_by_number h i)
-
-held_by_numbers : (p : Phase) (h i : Bool) → ((phase_number p == 0) && (h || i)) ≡ (nat_le 4 (state_in p h i) && nat_le (state_in p h i) 4)
-held_by_numbers Waiting true i = refl
-held_by_numbers Waiting false true = refl
-held_by_numbers _ _ _ = refl
 
 -- ---- WHERE, on what the row shows
 
@@ -149,28 +122,3 @@ is_pending_row v = is_true (binary (Compare Eq Binary) (column v 7) (Int (pos 0)
 pub pending-row : (j : Job) → is_pending_row (job_values j) ≡ (state j == 3)
 unfolding is_pending_row
 pending-row j = rw (where_number_is (phase_number j.phase) 0, where_number_is (flag_number j.hold) 0, where_number_is (flag_number j.incoming) 0, and-true _) (pending_by_numbers j.phase j.hold j.incoming)
-
--- owner = ?1 AND phase > 0 AND phase < 3
-unfoldable pub is_at_device_row : List ℕ → Row → Bool
-is_at_device_row name v = is_true (binary (Compare Eq Binary) (column v 1) (Words name)) && (is_true (binary (Compare Gt Binary) (column v 7) (Int (pos 0))) && (is_true (binary (Compare Lt Binary) (column v 7) (Int (pos 3))) && true))
-
-pub at_device-row : (name : List ℕ) (j : Job) → is_at_device_row name (job_values j) ≡ (bytes_eq j.owner name && is_between 5 6 j)
-unfolding is_at_device_row
-at_device-row name j = rw (where_text_is j.owner name, where_above (phase_number j.phase) 0, where_below (phase_number j.phase) 3, and-true _, at_device_by_number j.phase j.hold j.incoming) refl
-
--- owner = ?1 AND phase = 0 AND hold + incoming = 0
-unfoldable pub is_own_pending_row : List ℕ → Row → Bool
-is_own_pending_row name v = is_true (binary (Compare Eq Binary) (column v 1) (Words name)) && (is_true (binary (Compare Eq Binary) (column v 7) (Int (pos 0))) && (is_true (binary (Compare Eq Binary) (binary (Arith Add) (column v 5) (column v 6)) (Int (pos 0))) && true))
-
-pub own_pending-row : (name : List ℕ) (j : Job) → is_own_pending_row name (job_values j) ≡ (bytes_eq j.owner name && is_between 3 3 j)
-unfolding is_own_pending_row
-own_pending-row name j =
-    rw (where_text_is j.owner name, where_number_is (phase_number j.phase) 0, neither_flag j.hold j.incoming, and-true _, pending_by_numbers j.phase j.hold j.incoming, only_third (state j)) refl
-
--- owner = ?1 AND phase = 0 AND hold + incoming > 0
-unfoldable pub is_held_row : List ℕ → Row → Bool
-is_held_row name v = is_true (binary (Compare Eq Binary) (column v 1) (Words name)) && (is_true (binary (Compare Eq Binary) (column v 7) (Int (pos 0))) && (is_true (binary (Compare Gt Binary) (binary (Arith Add) (column v 5) (column v 6)) (Int (pos 0))) && true))
-
-pub held-row : (name : List ℕ) (j : Job) → is_held_row name (job_values j) ≡ (bytes_eq j.owner name && is_between 4 4 j)
-unfolding is_held_row
-held-row name j = rw (where_text_is j.owner name, where_number_is (phase_number j.phase) 0, either_flag j.hold j.incoming, and-true _, held_by_numbers j.phase j.hold j.incoming) refl
