@@ -9,6 +9,7 @@ use http_front::{ServeFault, Served};
 pub struct Arrival<'a> {
     /// Seconds of the printer's up time, from 1 to 2,147,483,647. Moments need not rise.
     pub moment: u32,
+    /// What comes then.
     pub what: Arrived<'a>,
 }
 

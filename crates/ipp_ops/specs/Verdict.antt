@@ -104,12 +104,12 @@ abbrev pub listed_verdict : Request → Unsupported → Bool → Verdict
 listed_verdict r u true = refused 0x040B u
 listed_verdict r u false = passed (caller r) (call r) (rows r) u
 
--- of a request whose head and groups are in order, by the check that refuses it, if one does
+-- of a request whose head is taken and whose first group begins as it has to, by the check that refuses it, if one does
 abbrev pub checked_verdict : Request → Option Check → Verdict
 checked_verdict r (Some c) = refused (code c) nothing
 checked_verdict r None = listed_verdict r (unsupported r) (is_refused_for r (unsupported r))
 
--- by what its message was read as: a request, or the code of what refuses its head or its groups
+-- by what its message was read as: a request, or the code of what refuses its head or how its first group begins
 abbrev pub request_verdict : Result Request ℕ → Verdict
 request_verdict (Err code) = refused code nothing
 request_verdict (Ok r) = checked_verdict r (refusal r)

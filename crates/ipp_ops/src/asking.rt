@@ -196,7 +196,7 @@ fn listed_verdict<'a>(alloc: Global, request: Request<'_, 'a>) -> Result<Ask<'a>
     passed(alloc, request, unsupported)
 }
 
-/// What a request asks whose head and groups are in order: it is refused by the code of the first check of the table that applies, and
+/// What a request asks whose head is taken and whose first group begins as it has to: it is refused by the code of the first check of the table that applies, and
 /// nothing is told of what is unsupported; where none applies, what is unsupported may still refuse it.
 fn checked_verdict<'a>(alloc: Global, request: Request<'_, 'a>) -> Result<Ask<'a>, AllocError>
     ensures { let r = request_of request.entry in IfOk result (λ a. ask_content a ≡ checked_verdict r (refusal r)) }
@@ -208,8 +208,8 @@ fn checked_verdict<'a>(alloc: Global, request: Request<'_, 'a>) -> Result<Ask<'a
 }
 
 /// What a request asks: the code of the first check that refuses it, or else its call (RFC 8011,
-/// section 4.1), with what is unsupported. A call is an event within the machine's limits. The one error
-/// is want of memory.
+/// section 4.1), with what is unsupported. A call with a payload of at most 16,777,216 bytes is an event
+/// within the machine's limits. The one error is want of memory.
 pub fn ask<'a>(alloc: Global, view: &View<'a>) -> Result<Ask<'a>, AllocError>
     ensures verdict { IfOk result (λ a. ask_content a ≡ verdict (message_of view.now)) }
     ensures limits { length view.now.payload.now ≤ 16777216 → IfOk result (λ a. IsWithinLimits (ask_content a)) }

@@ -38,13 +38,13 @@ abbrev pub groups_begin : List Group → Bool
 groups_begin [] = false
 groups_begin (g ∷ gs) = g.tag == 0x01 && attributes_begin g.attributes
 
--- the request that a message is, or the code that refuses its head or the order of its groups
-abbrev pub ordered_for : Operation → Message → Result Request ℕ
-ordered_for o m = if groups_begin m.groups then Ok (request_for o m) else Err 0x0400
+-- the request that a message is, or the code that refuses how its first group begins
+abbrev pub begun_for : Operation → Message → Result Request ℕ
+begun_for o m = if groups_begin m.groups then Ok (request_for o m) else Err 0x0400
 
 abbrev pub request_by : Result Operation ℕ → Message → Result Request ℕ
 request_by (Err code) m = Err code
-request_by (Ok o) m = ordered_for o m
+request_by (Ok o) m = begun_for o m
 
 abbrev pub request_in : Message → Result Request ℕ
 request_in m = request_by (operation_in m.head) m

@@ -1,5 +1,5 @@
 //! What a request of a print operation says: its head, its attributes by the tables, its caller, its target and the format of its document,
-//! and what of it is unsupported. No check refuses here but those of the head and of the order of the groups.
+//! and what of it is unsupported. No check refuses here but those of the head and of how the first group begins.
 #![tactic(auto)]
 
 pub mod attribute;

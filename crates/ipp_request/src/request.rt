@@ -116,7 +116,7 @@ impl<'v, 'a: 'v> Request<'v, 'a> {
         }
     }
 
-    /// The request that a message is, or the status code that refuses its head or the order of its groups.
+    /// The request that a message is, or the status code that refuses its head or how its first group begins.
     pub fn read(view: &'v View<'a>) -> Result<Self, u16>
         ensures ok { IfOk result (λ r. request_in (message_of view.entry.now) ≡ Ok (request_of r)) }
         ensures err { IfErr result (λ code. request_in (message_of view.entry.now) ≡ Err code) }

@@ -6,7 +6,7 @@ use queue_core::book::BookFault;
 use std::io;
 use thiserror::Error;
 
-/// Why a server stopped before it had served all its connections.
+/// Why serving connections ended in an error.
 #[derive(Debug, Drop, Error)]
 pub enum ServerFault {
     /// No connection could be taken, the clock could not be read, or a line could not be written.
