@@ -13,7 +13,7 @@ use Rattle.queue_rows.specs.Rows.{grant_row}
 use Rattle.queue_tables.specs.Content.{Holds, content_of}
 use Rattle.queue_tables.specs.Kept.{AreKeyed, HasRows}
 use Rattle.queue_tables.specs.Values.{meta_values, account_values, grant_values, report_values}
-use Rattle.queue_store.specs.Made.{IsMade, schema10}
+use Rattle.queue_store.proofs.Schemas.{IsMade, schema10}
 use Rattle.queue_store.specs.New.{no_content, new_content, new_meta}
 use Rattle.queue_store.proofs.Made.{all_made}
 

@@ -3,6 +3,8 @@ pub mod Handed
 pub mod Unmade
 pub mod Making
 pub mod Batch
+pub mod Texts
+pub mod Schemas
 pub mod Made
 pub mod Empty
 pub mod Keeping

@@ -22,8 +22,8 @@ use Rattle.sqlite_tied.specs.Compute.{everything}
 use Rattle.sqlite_trees.specs.declared.store.Store.{Ghosts}
 use Rattle.queue_tables.specs.Plain.{table_of}
 use Rattle.queue_tables.specs.Tables.{meta, jobs, documents, pieces, accounts, grants, reports, by_owner, by_end, by_phase, no_schema, book_schema}
-use Rattle.queue_store.specs.Made.{schema1, schema2, schema3, schema4, schema5, schema6, schema7, schema8, schema9, schema10, IsMade}
-use Rattle.queue_tables.proofs.Texts.{meta_text, jobs_text, documents_text, pieces_text, accounts_text, grants_text, reports_text, by_owner_text, by_end_text, by_phase_text}
+use Rattle.queue_store.proofs.Schemas.{schema1, schema2, schema3, schema4, schema5, schema6, schema7, schema8, schema9, schema10, IsMade}
+use Rattle.queue_store.proofs.Texts.{meta_text, jobs_text, documents_text, pieces_text, accounts_text, grants_text, reports_text, by_owner_text, by_end_text, by_phase_text}
 use Rattle.queue_tables.proofs.Writing.{same_value, went}
 use Rattle.queue_store.proofs.Batch.{first_ran, runs_in_batch}
 

@@ -1,13 +1,9 @@
 -- What a call's result gives its caller's.
-use Rattle.std.proofs.Common.{◌≡◌, Ok, Err, Result, OnErr, OnOk, IfOk, IfErr, IsErrAnd, subst, sym}
+use Rattle.std.proofs.Common.{◌≡◌, Ok, Err, Result, OnOk, IfOk, IfErr, IsErrAnd, subst, sym}
 
 pub on_any : {A E : Type 0} (r : Result A E) (P : Type 0) → P → OnOk r P
 on_any (Ok x) P p = p
 on_any (Err e) P p = tt
-
-pub on_any_err : {A E : Type 0} (r : Result A E) (P : Type 0) → P → OnErr r P
-on_any_err (Ok x) P p = tt
-on_any_err (Err e) P p = p
 
 pub both_ok : {A E : Type 0} (r : Result A E) (P Q R : A → Type 0) → ((x : A) → P x → Q x → R x) → IfOk r P → IfOk r Q → IfOk r R
 both_ok (Ok x) P Q R then_r p q = then_r x p q

@@ -3,7 +3,6 @@ pub mod Crash
 pub mod Handed
 pub mod Kept
 pub mod Laws
-pub mod Made
 pub mod Making
 pub mod New
 pub mod Opened

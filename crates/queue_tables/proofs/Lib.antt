@@ -1,7 +1,5 @@
-pub mod Texts
 pub mod PlainQueries
 pub mod Writing
-pub mod Creating
 pub mod Permuting
 pub mod Statements
 pub mod Changing

@@ -1,4 +1,4 @@
--- The tables of the book, schema 1, and the texts that make them.
+-- The tables and indexes of the book, schema 1, as a schema of the kit's.
 use Rattle.sqlite.specs.Collation.TheVariants.{Binary}
 use Rattle.std.specs.Prelude.{true, false, [], ◌∷◌, ◌++◌, Some, None, codes, List, ℕ, Bool, map}
 use Rattle.sqlite.specs.declared.types.Value.TheVariants.{Null}
