@@ -58,8 +58,8 @@ module _ (w : World) (old mid new : State) (settled : IsTrue old.is_open → old
 
   -- what was to be committed is undone
   pub tables_failed : {T U : Type 0} {x : T} → StaysInside {E = Fault} begun mid (Ok x) → (HasCleanDisk mid → Holds (content_of w) mid) → (HasCleanDisk new → IsRolledBack mid new)
-      → Survives mid new (λ db. db ≡ mid.now.trees) → (e : Fault) → MakesTables {T = U} w old new (Err e)
-  tables_failed stays holds back survives e = tables_undone (λ db. db ≡ mid.now.trees) stays survives (committed_book holds) back (Err e) e refl
+      → Survives mid new (λ db. db ≡ mid.now.trees) → (q : Result U Fault) (e : Fault) → IsErrAnd q (λ f. f ≡ e) → MakesTables w old new q
+  tables_failed stays holds back survives = tables_undone (λ db. db ≡ mid.now.trees) stays survives (committed_book holds) back
 
   pub tables_refused : {T U : Type 0} {r : Result T Fault} → StaysInside begun mid r → (HasCleanDisk new → IsRolledBack mid new) → Survives mid new (λ _. ⊥)
       → (q : Result U Fault) (e : Fault) → IsErrAnd q (λ f. f ≡ e) → MakesTables w old new q

@@ -168,28 +168,6 @@ impl<S: Alter> TableBook<S> {
     }
 }
 
-impl<S: Alter + Drop> TableBook<S> {
-    /// As `create`, but a refusal lets the connection go, so no clause says what a crash then leaves.
-    pub fn create_or_drop(
-        alloc: Global,
-        conn: Connection<S>,
-        settings: Settings,
-    ) -> Result<TableBook<S>, BookFault>
-        ensures clean { IfOk result (λ b. IsHonest S.Store b → HasCleanDisk (state S.Store conn)) }
-        ensures blank { IfOk result (λ b. (state S.Store conn).now.schema ≡ no_schema) }
-        ensures stands { IfOk result (λ b. StandsFor S.Store b (empty_queue settings)) }
-        ensures live { IfOk result (λ b. IsHonest S.Store b → IsTrue (shown_by S.Store b).is_open) }
-        ensures damaged { IfErr result (λ e. e ≡ Damaged → IsTrue (has_any (state S.Store conn).now.schema)) }
-        ensures taken { IsTrue (has_any (state S.Store conn).now.schema) → result ≡ Err Damaged }
-        ensures others { (state S.Store conn).now.schema ≢ no_schema → has_any (state S.Store conn).now.schema ≡ false → result ≡ Err BookFault.Disk }
-    {
-        match TableBook::create(alloc, conn, settings) {
-            Ok(book) => Ok(book),
-            Err((fault, _conn)) => Err(fault),
-        }
-    }
-}
-
 impl TableBook<MemStore> {
     /// A new book with these settings, without jobs, accounts and reports, in tables in memory. Damaged is never told, since no table is there.
     pub fn in_memory(alloc: Global, settings: Settings) -> Result<TableBook<MemStore>, BookFault>
@@ -198,6 +176,9 @@ impl TableBook<MemStore> {
         ensures never { IfErr result (λ e. e ≢ Damaged) }
     {
         let conn = Connection::open_in_memory(alloc)?;
-        TableBook::create_or_drop(alloc, conn, settings)
+        match TableBook::create(alloc, conn, settings) {
+            Ok(book) => Ok(book),
+            Err((fault, _conn)) => Err(fault),
+        }
     }
 }

@@ -18,7 +18,7 @@ use queue_tables::meta_rows::insert_meta;
 use sqlite::{Alter, Connection, Transaction};
 
 /// What makes the tables of the book itself, of jobs, documents and pieces, of accounts, grants and reports, and their indexes.
-const SCHEMA: &str = "\
+const TABLES_AND_INDEXES: &str = "\
     CREATE TABLE meta (one INTEGER PRIMARY KEY, schema INTEGER NOT NULL, uri TEXT NOT NULL, name TEXT NOT NULL, estimate INTEGER NOT NULL, epoch INTEGER NOT NULL, next_number INTEGER NOT NULL) STRICT;\
     CREATE TABLE jobs (number INTEGER PRIMARY KEY, owner TEXT NOT NULL, name TEXT NOT NULL, copies INTEGER NOT NULL, impressions INTEGER NOT NULL, hold INTEGER NOT NULL, incoming INTEGER NOT NULL, phase INTEGER NOT NULL, why INTEGER NOT NULL, stopping INTEGER NOT NULL, count INTEGER NOT NULL, created INTEGER NOT NULL, begun INTEGER, ended INTEGER) STRICT;\
     CREATE TABLE documents (job INTEGER NOT NULL REFERENCES jobs (number), doc INTEGER NOT NULL, format TEXT NOT NULL, octets INTEGER NOT NULL, PRIMARY KEY (job, doc)) STRICT;\
@@ -37,7 +37,7 @@ fn create_schema<S: Alter>(tx: &mut Transaction<'_, S>) -> Result<(), Fault>
     ensures done { HasCleanDisk (state S.Store tx.new.conn.now) → OnOk result ((state S.Store tx.old.conn.now).now.schema ≡ no_schema → Holds no_content (state S.Store tx.new.conn.now)) }
     ensures never { IfErr result (λ e. e ≢ Damaged) }
 {
-    tx.execute_batch(SCHEMA)?;
+    tx.execute_batch(TABLES_AND_INDEXES)?;
     Ok(())
 }
 
@@ -78,8 +78,6 @@ pub(crate) fn make_tables<S: Alter>(conn: &mut Connection<S>, meta: &MetaRow) ->
     }
     let mut tx = conn.transaction();
     create_all(&mut tx, meta)?;
-    match tx.commit() {
-        Ok(()) => Ok(()),
-        Err(e) => Err(Fault::from(e)),
-    }
+    tx.commit()?;
+    Ok(())
 }

@@ -32,8 +32,7 @@ fn decide_on<'a>(
     ensures limits { IfOk result (λ d. IsReplyTo (event_of event.now) d.reply) }
     ensures fault { IfErr result (λ e. e ≡ BookFault.Memory) }
 {
-    let decision = queue_core::decide(alloc, &scene, now, event)?;
-    Ok(decision)
+    Ok(queue_core::decide(alloc, &scene, now, event)?)
 }
 
 /// A `TableBook` stands for a world that its tables hold, as long as the connection is open, which is then outside of any
@@ -55,20 +54,16 @@ impl<S: Alter> QueueBook for TableBook<S> {
 
     fn apply(&mut self, decision: Decision<'_>) -> Result<(), BookFault> {
         decisions_are_sound();
-        match queue_tables::make(self.alloc, &mut self.conn, &decision) {
-            Ok(()) => Ok(()),
-            Err(fault) => Err(BookFault::from(fault)),
-        }
+        queue_tables::make(self.alloc, &mut self.conn, &decision)?;
+        Ok(())
     }
 
     fn pending(&mut self) -> Result<JobList, BookFault> {
-        let jobs = queue_scenes::pending::pending(self.alloc, &mut self.conn)?;
-        Ok(jobs)
+        Ok(queue_scenes::pending::pending(self.alloc, &mut self.conn)?)
     }
 
     fn document_head(&mut self, job: u32, n: u32) -> Result<Option<DocumentHead>, BookFault> {
-        let head = queue_shown::document_head(&mut self.conn, job, n)?;
-        Ok(head)
+        Ok(queue_shown::document_head(&mut self.conn, job, n)?)
     }
 
     fn send_document<W: Write>(&mut self, job: u32, n: u32, out: &mut W) -> Result<u64, SendFault> {
@@ -79,8 +74,7 @@ impl<S: Alter> QueueBook for TableBook<S> {
     }
 
     fn sheet(&mut self, account: &str) -> Result<Option<AccountSheet>, BookFault> {
-        let sheet = queue_shown::sheet(self.alloc, &mut self.conn, account)?;
-        Ok(sheet)
+        Ok(queue_shown::sheet(self.alloc, &mut self.conn, account)?)
     }
 
     ghost sound = { λ b w honest h. (h honest).sound };

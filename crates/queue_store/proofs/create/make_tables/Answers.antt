@@ -10,8 +10,8 @@ use Rattle.queue_store.proofs.create.make_tables.Goals as goal
 pub returns-then-not-is_autocommit-clause-makes : goal.returns-then-not-is_autocommit-clause-makes
 returns-then-not-is_autocommit-clause-makes g c = λ blank w same. none_made w (state g.S.Store c.args.conn.now) _ _ refl
 
-pub returns-in-Ok-clause-makes : goal.returns-in-Ok-clause-makes
-returns-in-Ok-clause-makes g c = λ blank w same.
+pub returns-clause-makes : goal.returns-clause-makes
+returns-clause-makes g c = λ blank w same.
     let tie : c.conn-2-1.given.0 ≡ c.commit.new.self.0 = search rules in
     let outside : IsTrue c.is_autocommit.result = search rules in
     let old = state g.S.Store c.args.conn.now in
@@ -19,10 +19,10 @@ returns-in-Ok-clause-makes g c = λ blank w same.
     let new = state g.S.Store c.commit.new.self.0 in
     let stays = rw c.transaction-tx.ensures.begun at c.in_ok-create_all.ensures.stays in
     let done = rw (c.transaction-tx.ensures.begun, same) at c.in_ok-create_all.ensures.done in
-    rw tie (tables_made w old mid new (c.is_autocommit.ensures.settled outside) (not-true _ (sym c.is_autocommit.ensures.value ∙ outside)) c.commit.ensures.ended _ stays (λ clean. done clean blank) (λ clean. (c.in-Ok.ensures.ok clean).1) c.commit.ensures.survives)
+    rw tie (tables_made w old mid new (c.is_autocommit.ensures.settled outside) (not-true _ (sym c.is_autocommit.ensures.value ∙ outside)) c.commit.ensures.ended _ stays (λ clean. done clean blank) (λ clean. (c.in_ok-commit.ensures.ok clean).1) c.commit.ensures.survives)
 
-pub returns-in-Err-clause-makes : goal.returns-in-Err-clause-makes
-returns-in-Err-clause-makes g c = λ blank w same.
+pub returns-in_err-commit-clause-makes : goal.returns-in_err-commit-clause-makes
+returns-in_err-commit-clause-makes g c = λ blank w same.
     let tie : c.conn-2-1.given.0 ≡ c.commit.new.self.0 = search rules in
     let outside : IsTrue c.is_autocommit.result = search rules in
     let old = state g.S.Store c.args.conn.now in
@@ -30,8 +30,8 @@ returns-in-Err-clause-makes g c = λ blank w same.
     let new = state g.S.Store c.commit.new.self.0 in
     let stays = rw c.transaction-tx.ensures.begun at c.in_ok-create_all.ensures.stays in
     let done = rw (c.transaction-tx.ensures.begun, same) at c.in_ok-create_all.ensures.done in
-    let back : HasCleanDisk new → IsRolledBack mid new = λ clean. commit_undone mid new _ (stays.inside (clean_before mid new c.commit.ensures.survives.clean clean) refl) (c.in-Err.ensures.err clean) in
-    rw tie (tables_failed w old mid new (c.is_autocommit.ensures.settled outside) (not-true _ (sym c.is_autocommit.ensures.value ∙ outside)) c.commit.ensures.ended stays (λ clean. done clean blank) back c.commit.ensures.survives _)
+    let back : HasCleanDisk new → IsRolledBack mid new = λ clean. commit_undone mid new _ (stays.inside (clean_before mid new c.commit.ensures.survives.clean clean) refl) (c.in_err-commit.ensures.err clean) in
+    rw tie (tables_failed w old mid new (c.is_autocommit.ensures.settled outside) (not-true _ (sym c.is_autocommit.ensures.value ∙ outside)) c.commit.ensures.ended stays (λ clean. done clean blank) back c.commit.ensures.survives _ _ c.from_residual-in_err-commit.ensures.1)
 
 pub returns-in_err-create_all-clause-makes : goal.returns-in_err-create_all-clause-makes
 returns-in_err-create_all-clause-makes g c = λ blank w same.
@@ -43,11 +43,11 @@ returns-in_err-create_all-clause-makes g c = λ blank w same.
     let stays = rw c.transaction-tx.ensures.begun at c.in_err-create_all.ensures.stays in
     rw tie (tables_refused w old mid new (c.is_autocommit.ensures.settled outside) (not-true _ (sym c.is_autocommit.ensures.value ∙ outside)) c.drop-tx.ensures.ended stays c.drop-tx.ensures.undone c.drop-tx.ensures.survives _ _ c.from_residual.ensures.1)
 
-pub returns-in-Ok-clause-inside : goal.returns-in-Ok-clause-inside
-returns-in-Ok-clause-inside g c = not_inside c.is_autocommit.result (state g.S.Store c.args.conn.now).in_transaction c.is_autocommit.ensures.value (search rules)
+pub returns-clause-inside : goal.returns-clause-inside
+returns-clause-inside g c = not_inside c.is_autocommit.result (state g.S.Store c.args.conn.now).in_transaction c.is_autocommit.ensures.value (search rules)
 
-pub returns-in-Err-clause-inside : goal.returns-in-Err-clause-inside
-returns-in-Err-clause-inside g c = not_inside c.is_autocommit.result (state g.S.Store c.args.conn.now).in_transaction c.is_autocommit.ensures.value (search rules)
+pub returns-in_err-commit-clause-inside : goal.returns-in_err-commit-clause-inside
+returns-in_err-commit-clause-inside g c = not_inside c.is_autocommit.result (state g.S.Store c.args.conn.now).in_transaction c.is_autocommit.ensures.value (search rules)
 
 pub returns-in_err-create_all-clause-inside : goal.returns-in_err-create_all-clause-inside
 returns-in_err-create_all-clause-inside g c = not_inside c.is_autocommit.result (state g.S.Store c.args.conn.now).in_transaction c.is_autocommit.ensures.value (search rules)

@@ -4,19 +4,19 @@ use Rattle.queue_store.proofs.Keeping.{still_keeps}
 use Rattle.queue_tables.proofs.Leaving.{held_by}
 use Rattle.queue_store.proofs.queue_book.TableBookQueueBook.document_head.Goals as goal
 
-pub returns-in_err-head-clause-kept : goal.returns-in_err-head-clause-kept
-returns-in_err-head-clause-kept g c w stood = still_keeps (state g.S.Store c.args.self.now.conn) (state g.S.Store c.document_head.new.conn) c.args.self.now.settings w c.in_err-head.ensures.reads.leaves stood
+pub returns-in_err-document_head-clause-kept : goal.returns-in_err-document_head-clause-kept
+returns-in_err-document_head-clause-kept g c w stood = still_keeps (state g.S.Store c.args.self.now.conn) (state g.S.Store c.document_head.new.conn) c.args.self.now.settings w c.in_err-document_head.ensures.reads.leaves stood
 
 pub returns-clause-kept : goal.returns-clause-kept
-returns-clause-kept g c w stood = still_keeps (state g.S.Store c.args.self.now.conn) (state g.S.Store c.document_head.new.conn) c.args.self.now.settings w c.in_ok-head.ensures.reads.leaves stood
+returns-clause-kept g c w stood = still_keeps (state g.S.Store c.args.self.now.conn) (state g.S.Store c.document_head.new.conn) c.args.self.now.settings w c.in_ok-document_head.ensures.reads.leaves stood
 
 pub returns-clause-head : goal.returns-clause-head
 returns-clause-head g c honest w stands =
     let now = stands honest in
-    c.in_ok-head.ensures.reads.found honest w now.sound (held_by c.in_ok-head.ensures.reads.leaves honest (content_of w) (now.holds (c.in_ok-head.ensures.live honest)))
+    c.in_ok-document_head.ensures.reads.found honest w now.sound (held_by c.in_ok-document_head.ensures.reads.leaves honest (content_of w) (now.holds (c.in_ok-document_head.ensures.live honest)))
 
-pub returns-in_err-head-clause-left : goal.returns-in_err-head-clause-left
-returns-in_err-head-clause-left g c honest v w left db may = left db (c.in_err-head.ensures.reads.leaves.left honest db may)
+pub returns-in_err-document_head-clause-left : goal.returns-in_err-document_head-clause-left
+returns-in_err-document_head-clause-left g c honest v w left db may = left db (c.in_err-document_head.ensures.reads.leaves.left honest db may)
 
 pub returns-clause-left : goal.returns-clause-left
-returns-clause-left g c honest v w left db may = left db (c.in_ok-head.ensures.reads.leaves.left honest db may)
+returns-clause-left g c honest v w left db may = left db (c.in_ok-document_head.ensures.reads.leaves.left honest db may)
