@@ -5,9 +5,7 @@ ghost use Rattle.sqlite.specs.Held.{state};
 ghost use Rattle.sqlite.specs.Order.{column};
 ghost use Rattle.sqlite.specs.State.{HasCleanDisk};
 ghost use Rattle.sqlite.specs.declared.types.Value.TheVariants.{Int};
-ghost use Rattle.queue_core.specs.World.{World};
 ghost use Rattle.queue_tables.specs.Accounts.{pages_of};
-ghost use Rattle.queue_tables.specs.Content.{Holds, content_of};
 ghost use Rattle.queue_tables.specs.Telling.{ReadsQueue};
 
 use crate::fault::Fault;
@@ -65,8 +63,6 @@ pub fn find_account<S: Alter>(
     account: &str,
 ) -> Result<Option<AccountPages>, Fault>
     ensures reads { ReadsQueue (state S.Store conn.old) (state S.Store conn.new) result (λ w found. found ≡ option_map (pages_of w account.now) (get w.free account.now)) }
-    // also of tables whose queue is not sound
-    ensures found { HasCleanDisk (state S.Store conn.new) → IfOk result (λ found. (w : World) → Holds (content_of w) (state S.Store conn.old) → found ≡ option_map (pages_of w account.now) (get w.free account.now)) }
     ensures live { HasCleanDisk (state S.Store conn.new) → OnOk result (IsTrue (state S.Store conn.new).is_open) }
 {
     let found = select(

@@ -1,6 +1,5 @@
 use Rattle.std.proofs.Common.{◌∙◌, sym, ap, rules, option_map, Some}
 use Rattle.std.specs.FinMap.{get}
-use Rattle.sqlite.specs.Held.{state}
 use Rattle.queue_tables.specs.declared.account_pages.AccountPages.{AccountPages}
 use Rattle.queue_core.specs.Sound.{reserved, printed}
 use Rattle.queue_tables.specs.Accounts.{pages_of}
@@ -33,17 +32,3 @@ returns-in_err-pages-in-Some-clause-reads g c =
     refuses (told_by c.select.ensures.leaves c.in_ok-found.ensures.live (rw (c.params-to_sql.ensures) at (c.in_ok-found.ensures.shown)) (λ w sound has h. reads_account _ _ a _ w has h)) c.in_ok-found.ensures.live (λ d w sound is.
     let some = first_some (pages_values w a) c.in_ok-found.found.items c.in-Some.row.now (get w.free a) (search rules) is in
     c.in_err-pages-in-Some.ensures.damaged d some.0 (reserved a w) (printed a w) some.2) _ c.from_residual-in_err-pages-in-Some.ensures.1
-
-pub returns-in-None-clause-found : goal.returns-in-None-clause-found
-returns-in-None-clause-found g c clean w has =
-    let a = c.args.account.now in
-    let is = reads_account (state g.S.Store c.args.conn.now) (state g.S.Store c.select.new.conn) a c.in_ok-found.found.items w has (rw (c.params-to_sql.ensures) at (c.in_ok-found.ensures.shown clean)) in
-    ap (option_map (pages_of w a)) (sym (first_none (pages_values w a) c.in_ok-found.found.items (get w.free a) (search rules) is))
-
-pub returns-clause-found : goal.returns-clause-found
-returns-clause-found g c clean w has =
-    let a = c.args.account.now in
-    let is = reads_account (state g.S.Store c.args.conn.now) (state g.S.Store c.select.new.conn) a c.in_ok-found.found.items w has (rw (c.params-to_sql.ensures) at (c.in_ok-found.ensures.shown clean)) in
-    let some = first_some (pages_values w a) c.in_ok-found.found.items c.in-Some.row.now (get w.free a) (search rules) is in
-    let read = c.in_ok-pages-in-Some.ensures in
-    ap (λ (x : AccountPages). Some x) (pages_are w a some.0 c.in-Some.row.now c.in_ok-pages-in-Some.pages some.2 read.free read.reserved read.printed) ∙ ap (option_map (pages_of w a)) (sym some.1)
