@@ -4,7 +4,9 @@
 mod keyed;
 pub mod laws;
 mod load;
-pub mod queue;
+mod queue;
 mod rows;
 mod table;
 mod typed;
+
+pub use queue::load_queue;

@@ -3,11 +3,14 @@
 
 mod accounts;
 mod counts;
+mod event_scene;
 mod grants;
 mod jobs;
 mod meta;
 mod own_jobs;
 mod own_numbers;
-pub mod pending;
+mod pending_jobs;
 mod reports;
-pub mod scene;
+
+pub use event_scene::scene;
+pub use pending_jobs::pending;

@@ -15,7 +15,7 @@ ghost use Rattle.queue_tables.specs.declared.fault.Fault.TheVariants.{Damaged};
 
 use crate::book::TableBook;
 use queue_core::book::BookFault;
-use queue_load::queue::load_queue;
+use queue_load::load_queue;
 use queue_rows::meta::settings_of;
 use queue_rows::rows::Rows;
 use queue_tables::fault::Fault;

@@ -48,7 +48,7 @@ impl<S: Alter> QueueBook for TableBook<S> {
     ghost crash_leaves = { λ b v w. LeavesOneOf v w (shown_by S.Store b) };
 
     fn decide<'a>(&mut self, now: u32, event: &Event<'a>) -> Result<Decision<'a>, BookFault> {
-        let scene = queue_scenes::scene::scene(self.alloc, &mut self.conn, &self.settings, event)?;
+        let scene = queue_scenes::scene(self.alloc, &mut self.conn, &self.settings, event)?;
         decide_on(self.alloc, scene, now, event)
     }
 
@@ -59,7 +59,7 @@ impl<S: Alter> QueueBook for TableBook<S> {
     }
 
     fn pending(&mut self) -> Result<JobList, BookFault> {
-        Ok(queue_scenes::pending::pending(self.alloc, &mut self.conn)?)
+        Ok(queue_scenes::pending(self.alloc, &mut self.conn)?)
     }
 
     fn document_head(&mut self, job: u32, n: u32) -> Result<Option<DocumentHead>, BookFault> {

@@ -110,7 +110,7 @@ pub fn format(row: &Row, at: usize) -> Result<Format, Fault>
 }
 
 /// A moment, or NULL where there is none: `value`, with clauses that speak of the moment.
-pub fn moment_at(row: &Row, at: usize) -> Result<Option<u32>, Fault>
+fn moment_at(row: &Row, at: usize) -> Result<Option<u32>, Fault>
     ensures ok { IfOk result (λ o. column row.now at ≡ moment o) }
     ensures err { IfErr result (λ e. e ≡ Fault.Damaged → at < length row.now → (o : Option ℕ) → IfSome o (λ n. n < 2 ^ 32) → column row.now at ≢ moment o) }
     ensures never { IfErr result (λ e. e ≢ Fault.Disk) }

@@ -3,7 +3,7 @@ use Rattle.queue_types.specs.declared.job.Job.{Job}
 use Rattle.queue_types.specs.Event.{call_of}
 use Rattle.queue_scenes.proofs.Bounds.{jobs_fit}
 use Rattle.queue_tables.proofs.Telling.{refuses, tells, told_while}
-use Rattle.queue_scenes.proofs.scene.few_concerned.Goals as goal
+use Rattle.queue_scenes.proofs.event_scene.few_concerned.Goals as goal
 
 pub returns-then-len-clause-reads : goal.returns-then-len-clause-reads
 returns-then-len-clause-reads g c live =

@@ -5,7 +5,7 @@ use Rattle.queue_core.specs.World.{cut, owner_row}
 use Rattle.queue_scenes.proofs.Cut.{same_scene}
 use Rattle.queue_tables.proofs.Telling.{fails_behind, tells, told, told_then, told_while}
 use Rattle.queue_tables.proofs.Leaving.{leaves_then}
-use Rattle.queue_scenes.proofs.scene.scene_of_report.Goals as goal
+use Rattle.queue_scenes.proofs.event_scene.scene_of_report.Goals as goal
 
 pub returns-clause-live : goal.returns-clause-live
 returns-clause-live g c clean = c.in_ok-free.ensures.live clean (c.in_ok-jobs.ensures.live (c.owner_rows.ensures.reads.leaves.clean clean))

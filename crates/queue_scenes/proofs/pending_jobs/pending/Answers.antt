@@ -3,7 +3,7 @@ use Rattle.queue_scenes.proofs.Lists.{selects_pending}
 use Rattle.queue_tables.proofs.Telling.{fails_behind, tells, told}
 use Rattle.queue_scenes.proofs.Statements.{select_pending_is}
 use Rattle.queue_tables.proofs.Leaving.{leaves_all}
-use Rattle.queue_scenes.proofs.pending.pending.Goals as goal
+use Rattle.queue_scenes.proofs.pending_jobs.pending.Goals as goal
 
 pub select_jobs-requires : goal.select_jobs-requires
 select_jobs-requires g c = record { query = select_pending_is.shows.query }

@@ -1,6 +1,6 @@
 use Rattle.queue_tables.proofs.Leaving.{leaves_then}
 use Rattle.queue_tables.proofs.Telling.{fails_behind, tells, told, told_then, told_while}
-use Rattle.queue_scenes.proofs.scene.numbers_for_call.Goals as goal
+use Rattle.queue_scenes.proofs.event_scene.numbers_for_call.Goals as goal
 
 pub returns-in_err-counts-clause-reads : goal.returns-in_err-counts-clause-reads
 returns-in_err-counts-clause-reads g c = fails_behind c.live_for_call.ensures.reads.leaves c.in_err-counts.ensures.reads _ c.from_residual-in_err-counts.ensures.1

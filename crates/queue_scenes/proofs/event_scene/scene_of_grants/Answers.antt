@@ -4,7 +4,7 @@ use Rattle.queue_core.specs.Limits.{IsFair}
 use Rattle.queue_core.specs.World.{cut}
 use Rattle.queue_scenes.proofs.Cut.{same_scene}
 use Rattle.queue_tables.proofs.Telling.{fails_behind, tells, told, told_then, told_while}
-use Rattle.queue_scenes.proofs.scene.scene_of_grants.Goals as goal
+use Rattle.queue_scenes.proofs.event_scene.scene_of_grants.Goals as goal
 
 pub returns-clause-live : goal.returns-clause-live
 returns-clause-live g c clean = c.in_ok-known.ensures.live clean (c.in_ok-next.ensures.live (c.known_rows.ensures.reads.leaves.clean clean))
