@@ -13,12 +13,12 @@ use crate::counts::{all_counts, live_count};
 use crate::grants::known_rows;
 use crate::jobs::with_number;
 use crate::meta::next_number;
-use crate::own_jobs::{completed, live_jobs, not_completed};
+use crate::own_jobs::{live_jobs, visible_jobs};
 use crate::own_numbers::numbered_jobs;
 use crate::reports::kept_report;
 use queue_core::{call_scene, grants_scene, no_counts, report_scene};
 use queue_tables::fault::Fault;
-use queue_types::event::{Call, Event, FreeRow, GrantRow, QueueCounts, Report, Scene, WhichJobs};
+use queue_types::event::{Call, Event, FreeRow, GrantRow, QueueCounts, Report, Scene};
 use queue_types::job::Job;
 use queue_types::limits::LAST_JOB_NUMBER;
 use queue_types::settings::Settings;
@@ -44,10 +44,7 @@ fn concerned<S: Alter>(
             jobs: Some(numbers),
         } => numbered_jobs(alloc, conn, caller, numbers.as_slice()),
         Call::CancelMyJobs { jobs: None } => live_jobs(alloc, conn, caller),
-        Call::GetJobs { which, limit } => match which {
-            WhichJobs::NotCompleted => not_completed(alloc, conn, caller, *limit),
-            WhichJobs::Completed => completed(alloc, conn, caller, *limit),
-        },
+        Call::GetJobs { which, limit } => visible_jobs(alloc, conn, caller, *which, *limit),
         _ => Ok(Vec::new(alloc)),
     }
 }
