@@ -1,5 +1,4 @@
 pub mod Texts
-pub mod Unique
 pub mod Ordered
 pub mod DocumentParts
 pub mod Fetching

@@ -1,32 +1,24 @@
 -- A SELECT in the order of a number that no two of its rows share.
-use Rattle.std.proofs.Common.{◌≡◌, inl, inr, ℕ, pos, ◌+◌, ◌<◌, List, [], ◌∷◌, map, filter, All, Bool, refl, sym, ap, subst, subst₂, ◌∙◌, arith, slice_index_or, nat_cmp, Ordering, Equal}
-use Rattle.std.specs.Ordering.{int_cmp, is_lt, ordering_then}
+use Rattle.std.proofs.Common.{◌≡◌, inl, inr, ℕ, pos, ◌<◌, List, [], ◌∷◌, map, filter, Bool, refl, sym, ap, subst, ◌∙◌, arith, Less}
+use Rattle.std.specs.Cmp.{int_cmp_is}
 use Rattle.std.specs.List.Sorted.{IsPermutation, IsSorted}
 use Rattle.std.proofs.lemmas.Bool.{cases_Bool}
 use Rattle.std.proofs.lemmas.Int.{ints}
-use Rattle.std.proofs.lemmas.List.Sorted.{All-permutation, IsPermutation-map, IsPermutation-trans}
-use Rattle.std.proofs.lemmas.List.Elements.{All-map}
+use Rattle.std.proofs.lemmas.List.Sorted.{IsPermutation-map, IsPermutation-trans}
+use Rattle.sqlite_keyed.proofs.ListLemmas.{ascending-map, ascending_weaker}
+use Rattle.sqlite_keyed.proofs.SortLemmas.{sorted_unique}
+use Rattle.sqlite_sql.proofs.QueryLemmas.{output_cmp_total}
 use Rattle.sqlite_trees.proofs.ListLemmas.{IsPermutation-filter}
+use Rattle.sqlite_trees.specs.Tree.{IsAscending}
+use Rattle.sqlite_value.proofs.OrderLemmas.{value_cmp-Int}
 use Rattle.sqlite_value.specs.declared.keys.Key.{Key}
-use Rattle.sqlite.specs.Order.{Row, column}
+use Rattle.sqlite.specs.declared.types.Value.TheVariants.{Int}
+use Rattle.sqlite.specs.Order.{Row, value_cmp}
 use Rattle.sqlite.specs.Query.{Query, Output, output_cmp}
 use Rattle.sqlite.specs.Term.{Term}
 use Rattle.queue_tables.specs.Kept.{HasRows}
 use Rattle.queue_tables.proofs.PlainQueries.{plain_query, passes}
 use Rattle.queue_tables.proofs.Writing.{kept_of, sorted_and_shown, IsListing}
-use Rattle.queue_tables.specs.Sizes.{number_in}
-use Rattle.queue_shown.proofs.Unique.{Rises, unique, climbs}
-
-pub nat_int : (a b : ℕ) → int_cmp (pos a) (pos b) ≡ nat_cmp a b
-nat_int a b = grind (arith, ints)
-
-pub then_equal : (o : Ordering) → ordering_then o Equal ≡ o
-then_equal Equal = refl
-then_equal _ = refl
-
--- the number by which a row is sorted
-abbrev pub key : Output → ℕ
-key o = number_in (column o.0 0)
 
 -- ---- from the rows of a table to the values that it holds
 
@@ -49,25 +41,17 @@ module _ (tree : ℕ) (terms project : List Term) (order : List (Term × Key)) (
 
 -- ---- one order alone
 
-module _ {X : Type 0} (num : X → ℕ) (sent : X → Output) (q : Query) (keyed : (x : X) → key (sent x) ≡ num x) (ordered : (a b : X) → output_cmp q (sent a) (sent b) ≡ nat_cmp (num a) (num b)) where
-  abbrev IsSent : Output → Type 0
-  IsSent o = (x : X) × (o ≡ sent x)
+-- each number is below those after it
+abbrev pub Rises : {X : Type 0} → (X → ℕ) → List X → Type 0
+Rises {X} num = IsAscending (λ (a b : X). num a < num b)
 
-  same_order : (a b : Output) → IsSent a → IsSent b → output_cmp q a b ≡ nat_cmp (key a) (key b)
-  same_order a b one other = subst₂ (λ (c d : Output). output_cmp q c d ≡ nat_cmp (key c) (key d)) (sym one.1) (sym other.1) (rw (keyed one.0, keyed other.0) (ordered one.0 other.0))
+pub less_value : (m n : ℕ) → m < n → value_cmp (Int (pos m)) (Int (pos n)) ≡ Less
+less_value m n low = value_cmp-Int (pos m) (pos n) ∙ sym (int_cmp_is (pos m) (pos n) Less (omega (arith, ints)))
 
-  by_key : (os : List Output) → All IsSent os → IsSorted (output_cmp q) os → IsSorted (λ a b. nat_cmp (key a) (key b)) os
-  by_key os all sorted = λ i d low high.
-      let late = all (i + 1) d high in
-      let early = all i d (omega (arith, high)) in
-      ap is_lt (sym (same_order (slice_index_or os (i + 1) d) (slice_index_or os i d) late early)) ∙ sorted i d low high
-
-  rises : (xs : List X) → Rises num xs → Rises key (map sent xs)
-  rises [] h = tt
-  rises (x ∷ xs) h = (subst (λ (k : ℕ). All (λ o. k < key o) (map sent xs)) (sym (keyed x)) (All-map (λ o. num x < key o) sent xs (λ i d low. subst (λ (k : ℕ). num x < k) (sym (keyed (slice_index_or xs i d))) (h.0 i d low))), rises xs h.1)
-
+module _ {X : Type 0} (num : X → ℕ) (sent : X → Output) (q : Query) (before : (a b : X) → num a < num b → output_cmp q (sent a) (sent b) ≡ Less) where
   -- what is sorted by its numbers, which rise, stands in their order
-  pub in_order : (xs : List X) (os : List Output) → Rises num xs → IsPermutation (map sent xs) os → IsSorted (output_cmp q) os → map sent xs ≡ os
+  pub in_order : (xs : List X) (os : List Output) → Rises num xs → IsPermutation (map sent xs) os → IsSorted (output_cmp q) os → os ≡ map sent xs
   in_order xs os rise same sorted =
-      let all : All IsSent os = All-permutation IsSent _ _ same (All-map IsSent sent xs (λ i d low. (slice_index_or xs i d, refl))) in
-      unique key (map sent xs) os (rises xs rise) (climbs key os (by_key os all sorted)) same
+      let IsBefore = λ (o p : Output). output_cmp q o p ≡ Less in
+      let strict : IsAscending IsBefore (map sent xs) = ascending-map IsBefore sent xs (ascending_weaker (λ (a b : X). num a < num b) (λ (a b : X). IsBefore (sent a) (sent b)) before xs rise) in
+      sorted_unique (output_cmp q) (output_cmp_total q) (map sent xs) os strict same sorted

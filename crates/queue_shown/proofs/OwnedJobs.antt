@@ -1,14 +1,15 @@
 -- The jobs of an owner, by number, and what the documents of one add up to.
-use Rattle.std.proofs.Common.{◌≡◌, inl, inr, ℕ, pos, ◌+◌, ◌<◌, List, [], ◌∷◌, map, filter, All, Bool, true, false, ◌&&◌, ◌==◌, Option, None, Some, bytes_eq, refl, sym, ap, subst, ◌∙◌, arith, nat_cmp}
+use Rattle.std.proofs.Common.{◌≡◌, inl, inr, ℕ, ◌+◌, ◌<◌, List, [], ◌∷◌, map, filter, Bool, true, false, ◌&&◌, ◌==◌, Option, None, Some, bytes_eq, refl, sym, ap, subst, ◌∙◌, arith, Less}
 use Rattle.std.specs.List.{AllByRecursion as Each}
 use Rattle.std.specs.List.Sorted.{IsPermutation}
 use Rattle.std.proofs.lemmas.Bool.{cases_Bool, eqb-true, eq-eqb, or_parts}
-use Rattle.std.proofs.lemmas.List.Elements.{All-cons, All-filter, All-from_recursion, filter_agree}
+use Rattle.std.proofs.lemmas.List.Elements.{All-filter, All-from_recursion, filter_agree}
 use Rattle.std.proofs.lemmas.Map.Text.{is_eq-slice_cmp}
+use Rattle.sqlite_keyed.proofs.ListLemmas.{ascending-filter}
 use Rattle.sqlite_trees.proofs.ListLemmas.{filter-map, map-map}
 use Rattle.sqlite_sql.specs.declared.ops.BinaryOp.TheVariants.{Compare}
 use Rattle.sqlite_sql.specs.declared.ops.CompareOp.TheVariants.{Eq}
-use Rattle.sqlite_value.proofs.OrderLemmas.{value_cmp-Int, value_cmp-Text}
+use Rattle.sqlite_value.proofs.OrderLemmas.{value_cmp-Text}
 use Rattle.sqlite.specs.Collation.TheVariants.{Binary}
 use Rattle.sqlite.specs.declared.types.Value.TheVariants.{Text as Words}
 use Rattle.sqlite.specs.Ops.{binary, is_true}
@@ -26,9 +27,8 @@ use Rattle.queue_tables.specs.Values.{number, job_values, job_view}
 use Rattle.queue_tables.proofs.Entries.{rows_in}
 use Rattle.queue_tables.proofs.Numbers.{passed}
 use Rattle.queue_tables.proofs.Writing.{reads_rows}
-use Rattle.queue_shown.proofs.Ordered.{nat_int, then_equal, listed_values, in_order}
+use Rattle.queue_shown.proofs.Ordered.{Rises, less_value, listed_values, in_order}
 use Rattle.queue_shown.proofs.Texts.{select_owned, select_owned_is}
-use Rattle.queue_shown.proofs.Unique.{Rises}
 use Rattle.queue_tables.proofs.Statements.{job_terms}
 
 -- ---- the rows of an owner's jobs
@@ -58,29 +58,24 @@ owned_out a js =
 abbrev query : Query
 query = plain_query 1 select_owned.filter job_terms select_owned.order
 
-by_number : (i j : Job) → output_cmp query (sent i) (sent j) ≡ nat_cmp i.number j.number
-by_number i j = rw (value_cmp-Int (pos i.number) (pos j.number), nat_int i.number j.number) (then_equal (nat_cmp i.number j.number))
+by_number : (i j : Job) → i.number < j.number → output_cmp query (sent i) (sent j) ≡ Less
+by_number i j low = rw (less_value i.number j.number low) refl
 
 -- ---- numbers rise
 
 abbrev num : Job → ℕ
 num j = j.number
 
-all_above : (n first : ℕ) (es : List Entry) (next : ℕ) → n < first → Rise first es next → All (λ j. n < num j) (rows_in es)
-all_above n first [] next low rise = λ i d small. absurd (omega (arith, small))
-all_above n first (e ∷ es) next low rise =
-    All-cons (λ j. n < num j) e.row (rows_in es) (omega (arith, low, rise.0)) (all_above n (e.row.number + 1) es next (omega (arith, low, rise.0)) rise.1)
+all_above : (n first : ℕ) (es : List Entry) (next : ℕ) → n < first → Rise first es next → Each (λ (j : Job). n < num j) (rows_in es)
+all_above n first [] next low rise = tt
+all_above n first (e ∷ es) next low rise = (omega (arith, low, rise.0), all_above n (e.row.number + 1) es next (omega (arith, low, rise.0)) rise.1)
 
 rows_rise : (first : ℕ) (es : List Entry) (next : ℕ) → Rise first es next → Rises num (rows_in es)
 rows_rise first [] next rise = tt
 rows_rise first (e ∷ es) next rise = (all_above e.row.number (e.row.number + 1) es next (omega arith) rise.1, rows_rise (e.row.number + 1) es next rise.1)
 
 kept_rise : (p : Job → Bool) (js : List Job) → Rises num js → Rises num (filter p js)
-kept_rise p [] rise = tt
-kept_rise p (j ∷ js) rise = elim (cases_Bool (p j)) [
-  | inl through ↦ rw through (All-filter p (λ i. num j < num i) js rise.0, kept_rise p js rise.1)
-  | inr apart ↦ rw apart (kept_rise p js rise.1)
-]
+kept_rise p js rise = ascending-filter (λ (a b : Job). num a < num b) p js rise
 
 -- ---- each job is the one of its number
 
@@ -117,8 +112,8 @@ reads_owned old new a found w sound has h =
     let it = listed_values 1 select_owned.filter job_terms select_owned.order (Words a ∷ []) job_view (is_owned a) out (λ r. refl) (λ r. refl) (content_of w).jobs (old.now.trees 1) found has.rows.jobs l in
     let js = filter (owns a) (rows w) in
     let same : IsPermutation (map sent js) it.0 = subst (λ (t : List Output). IsPermutation t it.0) (owned_out a (rows w)) it.1 in
-    let equal : map sent js ≡ it.0 = in_order num sent query (λ j. refl) by_number js it.0 (kept_rise (owns a) (rows w) (rows_rise 1 w.jobs w.next sound.numbers)) same it.2 in
-    it.3 ∙ ap (map (λ (o : Output). o.1)) (sym equal) ∙ map-map (λ (o : Output). o.1) sent js
+    let equal : it.0 ≡ map sent js = in_order num sent query by_number js it.0 (kept_rise (owns a) (rows w) (rows_rise 1 w.jobs w.next sound.numbers)) same it.2 in
+    it.3 ∙ ap (map (λ (o : Output). o.1)) equal ∙ map-map (λ (o : Output). o.1) sent js
 
 -- those that are told of
 pub told_owned : (a : List ℕ) (js : List Job) → filter is_charged (filter (λ j. bytes_eq j.owner a) js) ≡ charged_to a js

@@ -1,13 +1,11 @@
 -- The bytes that were sent are those of the document.
-use Rattle.std.proofs.Common.{◌≡◌, ◌⊎◌, inl, inr, ℕ, zero, suc, pos, ◌+◌, ◌<◌, ◌≤◌, List, [], ◌∷◌, ◌++◌, map, filter, flat_map, length, take, All, Bool, true, false, ◌&&◌, ◌==◌, if◌then◌else◌, Option, Some, None, refl, sym, ap, subst, subst₂, ◌∙◌, arith, append-nil, append_assoc, length-append, nat_cmp}
+use Rattle.std.proofs.Common.{◌≡◌, ◌⊎◌, inl, inr, ℕ, zero, suc, ◌+◌, ◌<◌, ◌≤◌, List, [], ◌∷◌, ◌++◌, map, filter, flat_map, length, take, Bool, true, false, ◌&&◌, ◌==◌, if◌then◌else◌, Option, Some, None, refl, sym, ap, subst, subst₂, ◌∙◌, arith, append-nil, append_assoc, length-append, Less}
 use Rattle.std.specs.Io.KnownBytes.{Appends}
-use Rattle.std.specs.List.{concat, range_with_len}
+use Rattle.std.specs.List.{AllByRecursion as Each, concat, range_with_len}
 use Rattle.std.specs.List.Sorted.{IsPermutation}
 use Rattle.std.proofs.Math.Seq.{take-append_seam}
 use Rattle.std.proofs.lemmas.Grind.{flat_map-append}
-use Rattle.std.proofs.lemmas.List.Elements.{All-cons}
 use Rattle.sqlite_trees.proofs.ListLemmas.{map-map}
-use Rattle.sqlite_value.proofs.OrderLemmas.{value_cmp-Int}
 use Rattle.sqlite.specs.declared.types.Value.TheVariants.{Null, Blob}
 use Rattle.sqlite.specs.Order.{Row, column}
 use Rattle.sqlite.specs.Query.{Query, Output, output_cmp}
@@ -30,9 +28,8 @@ use Rattle.queue_shown.specs.Fetched.{document_in, job_may_be_fetched}
 use Rattle.queue_shown.specs.Sent.{pieces_select, piece_bytes, bytes_of, Answers, HasSent, HasSentFront}
 use Rattle.queue_shown.proofs.DocumentParts.{is_of, of_numbers, rows_from, all_rows, chosen, only_document}
 use Rattle.queue_shown.proofs.Fetching.{shown_document}
-use Rattle.queue_shown.proofs.Ordered.{nat_int, then_equal, listed_values, in_order}
+use Rattle.queue_shown.proofs.Ordered.{Rises, less_value, listed_values, in_order}
 use Rattle.queue_shown.proofs.Texts.{select_pieces, select_pieces_is}
-use Rattle.queue_shown.proofs.Unique.{Rises}
 
 -- ---- the pieces of one document among those of all
 
@@ -74,12 +71,12 @@ sent bytes k = (number k ∷ [], Blob (piece_at bytes k) ∷ [])
 abbrev query : Query
 query = plain_query 4 select_pieces.filter select_pieces.terms select_pieces.order
 
-by_number : (bytes : List ℕ) (a b : ℕ) → output_cmp query (sent bytes a) (sent bytes b) ≡ nat_cmp a b
-by_number bytes a b = rw (value_cmp-Int (pos a) (pos b), nat_int a b) (then_equal (nat_cmp a b))
+by_number : (bytes : List ℕ) (a b : ℕ) → a < b → output_cmp query (sent bytes a) (sent bytes b) ≡ Less
+by_number bytes a b low = rw (less_value a b low) refl
 
-above : (k j n : ℕ) → k < j → All (λ i. k < i) (range_with_len j n)
-above k j zero low = λ i d small. absurd (omega (arith, small))
-above k j (suc n) low = All-cons (λ i. k < i) j (range_with_len (j + 1) n) low (above k (j + 1) n (omega (arith, low)))
+above : (k j n : ℕ) → k < j → Each (λ (i : ℕ). k < i) (range_with_len j n)
+above k j zero low = tt
+above k j (suc n) low = (low, above k (j + 1) n (omega (arith, low)))
 
 counts_up : (j n : ℕ) → Rises (λ (i : ℕ). i) (range_with_len j n)
 counts_up j zero = tt
@@ -106,8 +103,8 @@ module _ (s : State) (job n : ℕ) (w : World) (d : Document) (distinct : AreDis
       let ks = range_with_len 0 (pieces_in (length d.bytes)) in
       let values : map out (filter (is_of job n) (content_of w).pieces) ≡ map (sent d.bytes) ks = ap (map out) (only job n w d distinct there) ∙ map-map out (λ k. piece_values job n k (piece_at d.bytes k)) ks in
       let same : IsPermutation (map (sent d.bytes) ks) it.0 = subst (λ (t : List Output). IsPermutation t it.0) values it.1 in
-      let equal : map (sent d.bytes) ks ≡ it.0 = in_order (λ (i : ℕ). i) (sent d.bytes) query (λ i. refl) (by_number d.bytes) ks it.0 (counts_up 0 (pieces_in (length d.bytes))) same it.2 in
-      ap bytes_of it.3 ∙ ap (λ (os : List Output). bytes_of (map (λ (o : Output). o.1) os)) (sym equal) ∙ sent_bytes d.bytes ks ∙ joined d.bytes
+      let equal : it.0 ≡ map (sent d.bytes) ks = in_order (λ (i : ℕ). i) (sent d.bytes) query (by_number d.bytes) ks it.0 (counts_up 0 (pieces_in (length d.bytes))) same it.2 in
+      ap bytes_of it.3 ∙ ap (λ (os : List Output). bytes_of (map (λ (o : Output). o.1) os)) equal ∙ sent_bytes d.bytes ks ∙ joined d.bytes
 
   all_bytes : (shown : List Row) → Answers pieces_select (number job ∷ number n ∷ []) s shown → bytes_of shown ≡ d.bytes
   all_bytes shown h = listing_bytes shown (answers_listed s (number job ∷ number n ∷ []) shown has.schema h)
