@@ -21,9 +21,11 @@ const TEXT_BYTES: usize = 48;
 pub enum Fault {
     /// There was no memory.
     Memory,
-    /// The disk, or its size, refused, or the store is not there or in use.
+    /// The disk, or its size, refused, the store is not there or in use, or its path is no file's name to SQLite; or where one is to be
+    /// made, another database is there that isn't empty.
     Disk,
-    /// The store does not stand for a queue, or one is there already.
+    /// The store does not stand for a queue, or is no database; or where one is to be made, one is there already, or a database in which a
+    /// name of a queue's table is taken.
     Damaged,
     /// Nothing was ever granted to the account.
     NoAccount,

@@ -96,8 +96,8 @@ fn ready(rt: &HostRuntime, words: Init<'_>) -> Result<Settings, Fault>
 }
 
 /// Makes a store with these settings, whose epoch is the present second, in files that hold no tables: it stands for the empty queue. A setting that is not within its limits
-/// makes no file. Damaged is told where a store is there, or a file that is no database; Disk where another program's database is, or the path is no
-/// file's name to SQLite. One whose making was cut short is made anew.
+/// makes no file. Damaged is told where a store is there, a database in which a name of a queue's table is taken, or a file that is no database; Disk
+/// where another database is that isn't empty, or the path is no file's name to SQLite. One whose making was cut short is made anew.
 fn make_store<S: Start>(rt: &HostRuntime, words: Init<'_>, start: S) -> Result<FileBook<S>, Fault>
     ensures named { IfOk result (λ b. IsTrue (spec.is_file_name words.entry.store.now)) }
     ensures blank { IfOk result (λ b. IsHonest over_files b → HasNoTables (image_at S.Start)) }
