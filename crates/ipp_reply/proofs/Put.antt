@@ -1,9 +1,9 @@
 -- Attributes that may stand in a message, and the last group of one.
 use Rattle.std.proofs.Common.{◌≡◌, ℕ, ◌<◌, List, [], ◌∷◌, ◌++◌, length, take, get_or, refl, ap, sym, ◌∙◌, arith, append_assoc, zero, suc}
-use Rattle.std.specs.Prelude.{fold, Bool, true, false, if◌then◌else◌}
+use Rattle.std.specs.Prelude.{fold, map, ◌+◌, Bool, true, false, if◌then◌else◌}
 use Rattle.ipp_wire.specs.declared.view.AttrView.{AttrView}
 use Rattle.ipp_wire.specs.Viewed.{attribute_of, attributes_of}
-use Rattle.std.proofs.lemmas.List.{append-nil}
+use Rattle.std.proofs.lemmas.List.{append-nil, map_more}
 use Rattle.std.specs.List.{AllByRecursion}
 use Rattle.ipp_reply.specs.Unsupported.{Unsupported, is_listed}
 use Rattle.ipp_reply.specs.Reply.{with_groups, unsupported_groups}
@@ -14,6 +14,14 @@ pub add_last : (a : Attribute) (g : Group) (gs : List Group) → add_attribute a
 add_last a g [] = refl
 add_last a g (x ∷ []) = refl
 add_last a g (x ∷ y ∷ gs) = ap (λ t. x ∷ t) (add_last a g (y ∷ gs))
+
+-- one row more at the end of the last group
+pub row_more : {A : Type 0} (m : Message) (gs : List Group) (tag : ℕ) (f : A → Attribute) (rows : List A) (i : ℕ) (d : A) → i < length rows
+    → record m { groups = add_attribute (f (get_or rows i d)) (gs ++ record { tag = tag; attributes = map f (take i rows) } ∷ []) }
+    ≡ record m { groups = gs ++ record { tag = tag; attributes = map f (take (i + 1) rows) } ∷ [] }
+row_more m gs tag f rows i d below = ap (λ (x : List Group). let r : Message = record m { groups = x } in r)
+    (add_last (f (get_or rows i d)) (record { tag = tag; attributes = map f (take i rows) }) gs
+    ∙ ap (λ (x : List Attribute). gs ++ record { tag = tag; attributes = x } ∷ []) (sym (map_more f rows i d below)))
 
 -- ---- attributes one after the other
 

@@ -60,16 +60,6 @@ fn reason_word(reason: Reason) -> &'static str
     }
 }
 
-fn keyword(reason: Reason) -> ValueView<'static>
-    ensures tag { result.tag ≡ 0x44 }
-    ensures word { result.bytes.now ≡ spec.reason_word reason }
-{
-    ValueView {
-        tag: KEYWORD,
-        bytes: reason_word(reason).as_bytes(),
-    }
-}
-
 fn text_view(tag: u8, text: &str) -> ValueView<'_>
     ensures { value_of result ≡ record { tag = tag; bytes = text.entry.now } }
 {
@@ -77,6 +67,12 @@ fn text_view(tag: u8, text: &str) -> ValueView<'_>
         tag,
         bytes: text.as_bytes(),
     }
+}
+
+fn keyword(reason: Reason) -> ValueView<'static>
+    ensures { value_of result ≡ record { tag = 0x44; bytes = spec.reason_word reason } }
+{
+    text_view(KEYWORD, reason_word(reason))
 }
 
 fn text_views<'a>(
