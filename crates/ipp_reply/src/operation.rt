@@ -3,7 +3,7 @@ ghost use Rattle.std.specs.Prelude.{◌≡◌};
 ghost use Rattle.ipp_reply.specs.Operations.{id, operation_of};
 
 /// An operation, by its id.
-#[derive(Clone, Copy, Debug)]
+#[derive(Clone, Copy, Debug, PartialEq, Eq)]
 pub enum Operation {
     PrintJob = 0x0002,
     ValidateJob = 0x0004,

@@ -61,7 +61,7 @@ pub record Row : Type 0 where
 
 -- the operation is one of these
 abbrev pub is_one_of : List Operation → Operation → Bool
-is_one_of os o = list_any (λ p. is_operation o p) os
+is_one_of os o = list_any (λ p. is_operation p o) os
 
 -- the operations on one job
 abbrev pub of_job : List Operation

@@ -265,7 +265,7 @@ impl OperationAttribute {
 pub(crate) fn is_one_of(operations: &[Operation], operation: Operation) -> bool
     ensures { result ≡ is_one_of operations.now operation }
 {
-    operations.iter().any(|p| operation.id() == p.id())
+    operations.contains(&operation)
 }
 
 /// The operation knows the attribute.
