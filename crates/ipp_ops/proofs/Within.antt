@@ -12,9 +12,9 @@ use Rattle.ipp_reply.specs.declared.operation.Operation.{Operation}
 use Rattle.ipp_reply.specs.declared.operation.Operation.TheVariants.{PrintJob, ValidateJob, CreateJob, SendDocument}
 use Rattle.ipp_reply.specs.Unsupported.{Unsupported}
 use Rattle.ipp_request.specs.declared.attribute.OperationAttribute.TheVariants as key
-use Rattle.ipp_request.specs.declared.attribute.TemplateAttribute.TheVariants as template
+use Rattle.ipp_request.specs.declared.attribute.JobGroupAttribute.TheVariants as in_job_group
 use Rattle.ipp_ops.specs.declared.check.Check.{Check}
-use Rattle.ipp_request.specs.Attributes.{row, table, template_name, between}
+use Rattle.ipp_request.specs.Attributes.{row, table, job_group_name, between}
 use Rattle.ipp_request.specs.Values.{are_formed, any_long, is_within, number_of}
 use Rattle.ipp_request.specs.Request.{Request, request_for, known, named, has, text_in, caller}
 use Rattle.ipp_request.specs.Unsupported.{unsupported}
@@ -22,7 +22,7 @@ use Rattle.ipp_ops.specs.Answer.{Asks, refuses, calls, IsAsk, IsVerdictOn, by_he
 use Rattle.ipp_ops.specs.Checks.{applies, checks, refusal, fails, some_fails}
 use Rattle.ipp_request.specs.Reading.{groups_begin, request_by}
 use Rattle.ipp_request.specs.Unsupported.{is_refused_for}
-use Rattle.ipp_ops.specs.NewJob.{supported_number, template_number, job_name, new_job}
+use Rattle.ipp_ops.specs.NewJob.{supported_number, job_group_number, job_name, new_job}
 use Rattle.ipp_ops.specs.Verdict.{Verdict, passed, call_by, verdict, request_verdict, listed_verdict, checked_verdict, IsWithinLimits}
 use Rattle.ipp_ops.proofs.Tests.{list_any_false, find_none}
 use Rattle.ipp_ops.proofs.Texts.{anonymous_owns, untitled_names, owns, names, of_attribute}
@@ -92,10 +92,10 @@ either false x y p q = q
 new_job_fits : (r : Request) → ArePassed r → IsNewJob (new_job r)
 new_job_fits r p = record {
   name = job_names r p;
-  copies = or_one (template_number r template.Copies) (supported_within 1 999 (named (template_name template.Copies) r.job_attributes));
+  copies = or_one (job_group_number r in_job_group.Copies) (supported_within 1 999 (named (job_group_name in_job_group.Copies) r.job_attributes));
   impressions = either (has r key.JobImpressions) _ _
       (at_most 100000 _ (supported_within 0 100000 (known r key.JobImpressions)))
-      (at_most 100000 _ (supported_within 0 100000 (named (template_name template.JobImpressions) r.job_attributes)));
+      (at_most 100000 _ (supported_within 0 100000 (named (job_group_name in_job_group.JobImpressions) r.job_attributes)));
 }
 
 call_fits : (o : Operation) (r : Request) → ArePassed r → length r.payload ≤ 16777216 → IsCall (call_by o r)

@@ -6,9 +6,9 @@ use Rattle.queue_types.specs.declared.document.Format.{Format}
 use Rattle.queue_types.specs.declared.document.Format.TheVariants.{OctetStream}
 use Rattle.queue_types.specs.Event.{NewJob}
 use Rattle.ipp_request.specs.declared.attribute.OperationAttribute.TheVariants as key
-use Rattle.ipp_request.specs.declared.attribute.TemplateAttribute.{TemplateAttribute}
-use Rattle.ipp_request.specs.declared.attribute.TemplateAttribute.TheVariants as template
-use Rattle.ipp_request.specs.Attributes.{Support, row, template_name, template_support}
+use Rattle.ipp_request.specs.declared.attribute.JobGroupAttribute.{JobGroupAttribute}
+use Rattle.ipp_request.specs.declared.attribute.JobGroupAttribute.TheVariants as in_job_group
+use Rattle.ipp_request.specs.Attributes.{Support, row, job_group_name, job_group_support}
 use Rattle.ipp_request.specs.Values.{number_of, are_supported}
 use Rattle.ipp_request.specs.Formats.{format_of}
 use Rattle.ipp_request.specs.Request.{Request, named, known, has, first_value, bytes_of, text_in}
@@ -22,19 +22,19 @@ supported_number s None = None
 supported_number s (Some a) = if are_supported s a.values then first_number a.values else None
 
 -- of the job group
-abbrev pub template_number : Request → TemplateAttribute → Option ℕ
-template_number r k = supported_number (template_support k) (named (template_name k) r.job_attributes)
+abbrev pub job_group_number : Request → JobGroupAttribute → Option ℕ
+job_group_number r k = supported_number (job_group_support k) (named (job_group_name k) r.job_attributes)
 
 -- of the operation group where it is there, else of the job group
 abbrev pub impressions : Request → Option ℕ
-impressions r = if has r key.JobImpressions then supported_number (row key.JobImpressions).support (known r key.JobImpressions) else template_number r template.JobImpressions
+impressions r = if has r key.JobImpressions then supported_number (row key.JobImpressions).support (known r key.JobImpressions) else job_group_number r in_job_group.JobImpressions
 
 -- job-name, else document-name
 abbrev pub job_name : Request → List ℕ
 job_name r = unwrap_or (text_in r key.JobName) (unwrap_or (text_in r key.DocumentName) (codes "untitled"))
 
 abbrev pub new_job : Request → NewJob
-new_job r = record { name = job_name r; copies = unwrap_or (template_number r template.Copies) 1; impressions = impressions r }
+new_job r = record { name = job_name r; copies = unwrap_or (job_group_number r in_job_group.Copies) 1; impressions = impressions r }
 
 abbrev pub format : Request → Format
 format r = unwrap_or (format_of (bytes_of r key.DocumentFormat)) OctetStream

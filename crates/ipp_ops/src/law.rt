@@ -20,14 +20,14 @@ ghost use Rattle.ipp_ops.specs.Validations.{AreAlike, bytes_asking, without_jobs
 ghost use Rattle.queue_core.specs.World.{World};
 ghost use Rattle.queue_core.specs.Limits.{IsEvent, IsPositive};
 ghost use Rattle.queue_types.specs.Event.{Call, Event, ask, cancel_my_jobs, on_job};
-ghost use Rattle.ipp_request.specs.Attributes.{knows, row, table, template_name, template_table};
+ghost use Rattle.ipp_request.specs.Attributes.{job_group_name, job_group_table, knows, row, table};
 ghost use Rattle.ipp_request.specs.Formats.{format_of};
 ghost use Rattle.ipp_request.specs.Unsupported.{attribute_named};
 ghost use Rattle.ipp_ops.specs.Checks.{checks};
 ghost use Rattle.ipp_request.specs.Request.{IsJobPath, first_value, job_in};
 ghost use Rattle.ipp_ops.specs.Verdict.{Verdict};
 ghost use Rattle.ipp_request.specs.declared.attribute.OperationAttribute.{OperationAttribute};
-ghost use Rattle.ipp_request.specs.declared.attribute.TemplateAttribute.{TemplateAttribute};
+ghost use Rattle.ipp_request.specs.declared.attribute.JobGroupAttribute.{JobGroupAttribute};
 ghost use Rattle.ipp_ops.specs.declared.check.Check.{Check};
 
 use ipp_request::names_with_languages;
@@ -93,8 +93,8 @@ pub fn whole_tables()
     ensures operations_found { (o : Operation) → operation_of (id o) ≡ Some o }
     ensures attributes { (k : OperationAttribute) → Contains table k }
     ensures attributes_found { (o : Operation) (k : OperationAttribute) → knows o k ≡ true → attribute_named o (row k).name ≡ Some k }
-    ensures job_attributes { (k : TemplateAttribute) → Contains template_table k }
-    ensures job_attributes_found { (k : TemplateAttribute) → find (λ a. bytes_eq (template_name a) (template_name k)) template_table ≡ Some k }
+    ensures job_attributes { (k : JobGroupAttribute) → Contains job_group_table k }
+    ensures job_attributes_found { (k : JobGroupAttribute) → find (λ a. bytes_eq (job_group_name a) (job_group_name k)) job_group_table ≡ Some k }
     ensures job_replies { (a : JobAttribute) → Contains job_reply_table a }
     ensures job_replies_selected { (a : JobAttribute) → selected_of_job (job_reply_name a ∷ []) ≡ a ∷ [] }
     ensures printer_replies { (a : PrinterAttribute) → Contains printer_reply_table a }

@@ -7,7 +7,7 @@ ghost use Rattle.ipp_request.specs.Attributes.{support_of};
 ghost use Rattle.ipp_ops.specs.NewJob as spec;
 ghost use Rattle.ipp_request.specs.Request.{request_of};
 
-use ipp_request::attribute::{OperationAttribute, Support, TemplateAttribute};
+use ipp_request::attribute::{JobGroupAttribute, OperationAttribute, Support};
 use ipp_request::format::format_of;
 use ipp_request::request::{Request, named};
 use ipp_request::value::{are_supported, first_value, number};
@@ -27,8 +27,8 @@ fn supported_number(support: Support, attribute: Option<&AttrView<'_>>) -> Optio
     }
 }
 
-fn template_number(request: Request<'_, '_>, attribute: TemplateAttribute) -> Option<u32>
-    ensures { result ≡ spec.template_number (request_of request.entry) attribute }
+fn job_group_number(request: Request<'_, '_>, attribute: JobGroupAttribute) -> Option<u32>
+    ensures { result ≡ spec.job_group_number (request_of request.entry) attribute }
 {
     supported_number(
         attribute.support(),
@@ -39,11 +39,12 @@ fn template_number(request: Request<'_, '_>, attribute: TemplateAttribute) -> Op
 fn impressions(request: Request<'_, '_>) -> Option<u32>
     ensures { result ≡ spec.impressions (request_of request.entry) }
 {
-    if request.has(OperationAttribute::JobImpressions) {
-        let found = request.known(OperationAttribute::JobImpressions);
-        supported_number(OperationAttribute::JobImpressions.row().support, found)
-    } else {
-        template_number(request, TemplateAttribute::JobImpressions)
+    match request.known(OperationAttribute::JobImpressions) {
+        Some(a) => {
+            let support = OperationAttribute::JobImpressions.row().support;
+            supported_number(support, Some(a))
+        }
+        None => job_group_number(request, JobGroupAttribute::JobImpressions),
     }
 }
 
@@ -64,7 +65,7 @@ pub(crate) fn new_job<'a>(request: Request<'_, 'a>) -> NewJob<'a>
 {
     NewJob {
         name: job_name(request),
-        copies: template_number(request, TemplateAttribute::Copies).unwrap_or(1),
+        copies: job_group_number(request, JobGroupAttribute::Copies).unwrap_or(1),
         impressions: impressions(request),
     }
 }

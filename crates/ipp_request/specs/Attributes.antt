@@ -1,4 +1,4 @@
--- The attributes that requests have, as two tables: a row for each (RFC 8011, sections 4 and 5.2).
+-- The attributes that requests have, as two tables: a row for each (RFC 8011, sections 4, 5.2 and 5.3.17.2).
 use Rattle.std.specs.Prelude.{ℕ, List, [], ◌∷◌, Option, Some, None, Bool, true, false, codes, map}
 use Rattle.std.specs.List.{list_any}
 use Rattle.ipp_reply.specs.declared.operation.Operation.{Operation}
@@ -10,8 +10,8 @@ use Rattle.ipp_request.specs.declared.attribute.Syntax.TheVariants as syntaxes
 use Rattle.ipp_request.specs.declared.attribute.Support.{Support as SupportRef}
 use Rattle.ipp_request.specs.declared.attribute.Support.TheVariants.{Anything, Between, Words}
 use Rattle.ipp_request.specs.declared.attribute.Row.{Row as RowRef}
-use Rattle.ipp_request.specs.declared.attribute.TemplateAttribute.{TemplateAttribute}
-use Rattle.ipp_request.specs.declared.attribute.TemplateAttribute.TheVariants as template
+use Rattle.ipp_request.specs.declared.attribute.JobGroupAttribute.{JobGroupAttribute}
+use Rattle.ipp_request.specs.declared.attribute.JobGroupAttribute.TheVariants as in_job_group
 use Rattle.ipp_reply.specs.Operations.{operations, is_operation}
 
 -- which values are supported: any, one number within bounds, or one of these keywords
@@ -116,7 +116,7 @@ is_on_job o = is_one_of of_job o
 abbrev pub makes_job : Operation → Bool
 makes_job o = is_one_of of_new_job o
 
--- in the table's order
+-- the operation attributes
 abbrev pub table : List OperationAttribute
 table = AttributesCharset ∷ AttributesNaturalLanguage ∷ PrinterUri ∷ JobUri ∷ JobId ∷ RequestingUserName ∷ JobName ∷ DocumentName ∷ IppAttributeFidelity ∷ Compression ∷ DocumentFormat ∷ JobImpressions ∷ RequestedAttributes ∷ WhichJobs ∷ Limit ∷ MyJobs ∷ LastDocument ∷ JobIds ∷ JobHoldUntil ∷ []
 
@@ -144,18 +144,18 @@ needs CancelMyJobs = (PrinterUri ∷ []) ∷ []
 
 -- ---- attributes of the job group
 
-abbrev pub template_name : TemplateAttribute → List ℕ
-template_name template.Copies = codes "copies"
-template_name template.JobHoldUntil = codes "job-hold-until"
-template_name template.JobImpressions = codes "job-impressions"
+abbrev pub job_group_name : JobGroupAttribute → List ℕ
+job_group_name in_job_group.Copies = codes "copies"
+job_group_name in_job_group.JobHoldUntil = codes "job-hold-until"
+job_group_name in_job_group.JobImpressions = codes "job-impressions"
 
-abbrev pub template_support : TemplateAttribute → Support
-template_support template.Copies = between 1 999
-template_support template.JobHoldUntil = hold_words
-template_support template.JobImpressions = impression_range
+abbrev pub job_group_support : JobGroupAttribute → Support
+job_group_support in_job_group.Copies = between 1 999
+job_group_support in_job_group.JobHoldUntil = hold_words
+job_group_support in_job_group.JobImpressions = impression_range
 
-abbrev pub template_table : List TemplateAttribute
-template_table = template.Copies ∷ template.JobHoldUntil ∷ template.JobImpressions ∷ []
+abbrev pub job_group_table : List JobGroupAttribute
+job_group_table = in_job_group.Copies ∷ in_job_group.JobHoldUntil ∷ in_job_group.JobImpressions ∷ []
 
 -- ---- a row of the code, by its content
 

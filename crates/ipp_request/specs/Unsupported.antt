@@ -8,7 +8,7 @@ use Rattle.ipp_request.specs.declared.unsupported.Source.TheVariants.{OperationG
 use Rattle.ipp_request.specs.declared.attribute.OperationAttribute.{OperationAttribute}
 use Rattle.ipp_request.specs.declared.attribute.OperationAttribute.TheVariants as key
 use Rattle.ipp_reply.specs.Unsupported.{Unsupported, is_filled}
-use Rattle.ipp_request.specs.Attributes.{Support, row, table, knows, makes_job, template_name, template_support, template_table}
+use Rattle.ipp_request.specs.Attributes.{Support, row, table, knows, makes_job, job_group_name, job_group_support, job_group_table}
 use Rattle.ipp_request.specs.Values.{are_supported}
 use Rattle.ipp_request.specs.Request.{Request, is_true}
 
@@ -27,7 +27,7 @@ is_known o name = is_some (attribute_named o name)
 -- what is supported of an attribute of that name, where it is known
 abbrev pub support_for : Source → List ℕ → Option Support
 support_for (OperationGroup o) name = option_map (λ k. (row k).support) (attribute_named o name)
-support_for JobGroup name = option_map template_support (find (λ k. bytes_eq (template_name k) name) template_table)
+support_for JobGroup name = option_map job_group_support (find (λ k. bytes_eq (job_group_name k) name) job_group_table)
 
 -- an unknown attribute is listed with one value of tag 0x10 without bytes, a known one with its own
 abbrev pub listed_by : Option Support → Attribute → Option Attribute

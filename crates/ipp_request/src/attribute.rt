@@ -1,6 +1,6 @@
-//! The attributes that requests have, as two tables: a row for each (RFC 8011, sections 4 and 5.2).
+//! The attributes that requests have, as two tables: a row for each (RFC 8011, sections 4, 5.2 and 5.3.17.2).
 ghost use Rattle.std.specs.Prelude.{◌≡◌, map, true};
-ghost use Rattle.ipp_request.specs.Attributes.{is_one_of, knows, limit_of, needs, one, row, row_of, support_of, tags_of, template_name, template_support};
+ghost use Rattle.ipp_request.specs.Attributes.{is_one_of, job_group_name, job_group_support, knows, limit_of, needs, one, row, row_of, support_of, tags_of};
 
 use ipp_reply::{OPERATIONS, Operation};
 use ipp_wire::tags::{
@@ -66,7 +66,7 @@ pub enum Syntax {
     Title,
 }
 
-/// Which values of a good form are supported.
+/// Which values are supported.
 #[derive(Clone, Copy, Debug)]
 pub enum Support {
     Anything,
@@ -87,7 +87,7 @@ pub struct Row {
     pub known_in: &'static [Operation],
 }
 
-/// The operation attributes, in the table's order.
+/// The operation attributes.
 pub const TABLE: [OperationAttribute; 19] = [
     OperationAttribute::AttributesCharset,
     OperationAttribute::AttributesNaturalLanguage,
@@ -299,40 +299,40 @@ pub fn needs(operation: Operation) -> &'static [&'static [OperationAttribute]]
 
 /// The attributes of the job group that are looked at.
 #[derive(Clone, Copy, Debug)]
-pub enum TemplateAttribute {
+pub enum JobGroupAttribute {
     Copies,
     JobHoldUntil,
-    /// Where the operation group has none.
+    /// Used where the operation group has none, and listed wherever it is not supported.
     JobImpressions,
 }
 
-/// The attributes of the job group, in the table's order.
-pub(crate) const TEMPLATE_TABLE: [TemplateAttribute; 3] = [
-    TemplateAttribute::Copies,
-    TemplateAttribute::JobHoldUntil,
-    TemplateAttribute::JobImpressions,
+/// The attributes of the job group.
+pub(crate) const JOB_GROUP_TABLE: [JobGroupAttribute; 3] = [
+    JobGroupAttribute::Copies,
+    JobGroupAttribute::JobHoldUntil,
+    JobGroupAttribute::JobImpressions,
 ];
 
-impl TemplateAttribute {
+impl JobGroupAttribute {
     /// Its name (RFC 8011, sections 5.2 and 5.3).
     pub fn name(self) -> &'static str
-        ensures { result.now ≡ template_name self }
+        ensures { result.now ≡ job_group_name self }
     {
         match self {
-            TemplateAttribute::Copies => "copies",
-            TemplateAttribute::JobHoldUntil => "job-hold-until",
-            TemplateAttribute::JobImpressions => "job-impressions",
+            JobGroupAttribute::Copies => "copies",
+            JobGroupAttribute::JobHoldUntil => "job-hold-until",
+            JobGroupAttribute::JobImpressions => "job-impressions",
         }
     }
 
     /// The values of it that are supported.
     pub fn support(self) -> Support
-        ensures { support_of result ≡ template_support self }
+        ensures { support_of result ≡ job_group_support self }
     {
         match self {
-            TemplateAttribute::Copies => Support::Between(1, MOST_COPIES),
-            TemplateAttribute::JobHoldUntil => HELD,
-            TemplateAttribute::JobImpressions => IMPRESSIONS,
+            JobGroupAttribute::Copies => Support::Between(1, MOST_COPIES),
+            JobGroupAttribute::JobHoldUntil => HELD,
+            JobGroupAttribute::JobImpressions => IMPRESSIONS,
         }
     }
 }

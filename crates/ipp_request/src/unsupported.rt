@@ -3,14 +3,14 @@ ghost use Rattle.std.specs.Prelude.{◌≡◌, ◌++◌, IfOk, OnOk, bytes_eq, f
 ghost use Rattle.std.specs.List.{list_any};
 ghost use Rattle.std.specs.Option.{option_to_list};
 ghost use Rattle.ipp_wire.specs.Viewed.{attribute_of, attribute_with, attributes_of};
-ghost use Rattle.ipp_request.specs.Attributes.{support_of, template_name, template_table};
+ghost use Rattle.ipp_request.specs.Attributes.{job_group_name, job_group_table, support_of};
 ghost use Rattle.ipp_request.specs.Unsupported.{is_refused_for};
 ghost use Rattle.ipp_request.specs.Request.{request_of};
 ghost use Rattle.ipp_request.specs.Unsupported as spec;
 ghost use Rattle.ipp_reply.specs.Unsupported.{unsupported_of};
 
 use crate::attribute::{
-    OperationAttribute, Support, TABLE, TEMPLATE_TABLE, TemplateAttribute, knows,
+    JOB_GROUP_TABLE, JobGroupAttribute, OperationAttribute, Support, TABLE, knows,
 };
 use crate::request::Request;
 use crate::value::are_supported;
@@ -35,10 +35,10 @@ fn attribute_named(operation: Operation, name: &[u8]) -> Option<OperationAttribu
     TABLE.iter().copied().find(|k| k.row().name.as_bytes() == name && knows(operation, *k))
 }
 
-fn template_attribute(name: &[u8]) -> Option<TemplateAttribute>
-    ensures { result ≡ find (λ k. bytes_eq (template_name k) name.now) template_table }
+fn job_group_attribute(name: &[u8]) -> Option<JobGroupAttribute>
+    ensures { result ≡ find (λ k. bytes_eq (job_group_name k) name.now) job_group_table }
 {
-    TEMPLATE_TABLE
+    JOB_GROUP_TABLE
         .iter()
         .copied()
         .find(|k| k.name().as_bytes() == name)
@@ -55,7 +55,7 @@ impl Source {
                 Some(attribute.row().support)
             }
             Source::JobGroup => {
-                let attribute = template_attribute(name)?;
+                let attribute = job_group_attribute(name)?;
                 Some(attribute.support())
             }
         }

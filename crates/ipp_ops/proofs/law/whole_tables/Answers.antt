@@ -10,14 +10,14 @@ use Rattle.ipp_reply.specs.declared.job_reply.JobAttribute.{JobAttribute}
 use Rattle.ipp_reply.specs.declared.job_reply.JobAttribute.TheVariants as job
 use Rattle.ipp_reply.specs.declared.printer_reply.PrinterAttribute.{PrinterAttribute}
 use Rattle.ipp_reply.specs.declared.printer_reply.PrinterAttribute.TheVariants as printer
-use Rattle.ipp_request.specs.Attributes.{knows, row, table, template_name, template_table}
+use Rattle.ipp_request.specs.Attributes.{knows, row, table, job_group_name, job_group_table}
 use Rattle.ipp_request.specs.Formats.{format_of}
 use Rattle.ipp_request.specs.Unsupported.{attribute_named}
 use Rattle.ipp_ops.specs.Checks.{checks}
 use Rattle.ipp_request.specs.declared.attribute.OperationAttribute.{OperationAttribute}
 use Rattle.ipp_request.specs.declared.attribute.OperationAttribute.TheVariants as key
-use Rattle.ipp_request.specs.declared.attribute.TemplateAttribute.{TemplateAttribute}
-use Rattle.ipp_request.specs.declared.attribute.TemplateAttribute.TheVariants as template
+use Rattle.ipp_request.specs.declared.attribute.JobGroupAttribute.{JobGroupAttribute}
+use Rattle.ipp_request.specs.declared.attribute.JobGroupAttribute.TheVariants as in_job_group
 use Rattle.ipp_ops.specs.declared.check.Check.{Check}
 use Rattle.ipp_ops.specs.declared.check.Check.TheVariants as check
 use Rattle.queue_types.specs.Formats.{format_name, formats}
@@ -59,10 +59,10 @@ each_attribute key.LastDocument = (16, lit< tt, refl)
 each_attribute key.JobIds = (17, lit< tt, refl)
 each_attribute key.JobHoldUntil = (18, lit< tt, refl)
 
-each_job_attribute : (x : TemplateAttribute) → Contains template_table x
-each_job_attribute template.Copies = (0, lit< tt, refl)
-each_job_attribute template.JobHoldUntil = (1, lit< tt, refl)
-each_job_attribute template.JobImpressions = (2, lit< tt, refl)
+each_job_attribute : (x : JobGroupAttribute) → Contains job_group_table x
+each_job_attribute in_job_group.Copies = (0, lit< tt, refl)
+each_job_attribute in_job_group.JobHoldUntil = (1, lit< tt, refl)
+each_job_attribute in_job_group.JobImpressions = (2, lit< tt, refl)
 
 each_job_reply : (x : JobAttribute) → Contains job_reply_table x
 each_job_reply job.JobUri = (0, lit< tt, refl)
@@ -132,8 +132,8 @@ found_attribute : (o : Operation) (x : OperationAttribute) → knows o x ≡ tru
 found_attribute o key.AttributesCharset h = cond-true (knows o key.AttributesCharset) (Some key.AttributesCharset) _ h
 found_attribute o k h = cond-true (knows o k) (Some k) _ h
 
-found_job_attribute : (x : TemplateAttribute) → find (λ a. bytes_eq (template_name a) (template_name x)) template_table ≡ Some x
-found_job_attribute template.Copies = refl
+found_job_attribute : (x : JobGroupAttribute) → find (λ a. bytes_eq (job_group_name a) (job_group_name x)) job_group_table ≡ Some x
+found_job_attribute in_job_group.Copies = refl
 found_job_attribute _ = refl
 
 selected_job_reply : (x : JobAttribute) → selected_of_job (job_reply_name x ∷ []) ≡ x ∷ []
