@@ -38,7 +38,7 @@ impl Answer {
     }
 }
 
-/// There are fewer than 8 bytes, too few for the head of a reply.
+/// There are fewer than 8 bytes, too few for the head of a message.
 #[derive(Clone, Copy, Debug, PartialEq, Eq, Error)]
 #[error("there are fewer than 8 octets")]
 pub struct TooShort;

@@ -6,7 +6,7 @@ use Rattle.ipp_reply.specs.declared.printer_reply.PrinterAttribute.{PrinterAttri
 use Rattle.ipp_reply.specs.declared.wanted.Wanted.{Wanted}
 use Rattle.ipp_reply.specs.declared.wanted.Wanted.TheVariants.{Job, Printer}
 
--- of each job that is shown, or of the printer, in their table's order
+-- of each job that is shown, or of the printer, in this order
 pub data Rows : Type 0 where
   of_job : List JobAttribute → Rows
   of_printer : List PrinterAttribute → Rows

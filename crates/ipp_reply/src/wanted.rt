@@ -3,7 +3,7 @@ use crate::job_reply::JobAttribute;
 use crate::printer_reply::PrinterAttribute;
 use std::alloc::{AllocError, Global};
 
-/// The rows that a reply is to have, in their table's order.
+/// The rows that a reply is to have, in this order.
 #[derive(Debug, Drop)]
 pub enum Wanted {
     /// Of each job that the reply shows.
@@ -23,14 +23,14 @@ impl Wanted {
         Wanted::Job(Vec::new(alloc))
     }
 
-    /// These rows of each job, which stand in their table's order. The one error is want of memory.
+    /// These rows of each job, in this order. The one error is want of memory.
     pub fn of_job(alloc: Global, rows: &[JobAttribute]) -> Result<Self, AllocError>
         ensures { IfOk result (λ w. rows_of w ≡ spec.of_job rows.now) }
     {
         Ok(Wanted::Job(Vec::from_slice(alloc, rows)?))
     }
 
-    /// These rows of the printer, which stand in their table's order. The one error is want of memory.
+    /// These rows of the printer, in this order. The one error is want of memory.
     pub fn of_printer(alloc: Global, rows: &[PrinterAttribute]) -> Result<Self, AllocError>
         ensures { IfOk result (λ w. rows_of w ≡ spec.of_printer rows.now) }
     {

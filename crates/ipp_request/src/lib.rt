@@ -1,5 +1,6 @@
 //! What a request of a print operation says: its head, its attributes by the tables, its caller, its target and the format of its document,
-//! and what of it is unsupported. No check refuses here but those of the head and of how the first group begins.
+//! and what of it is unsupported. What refuses is told here of its head, of how its first group begins, and of what is unsupported; the
+//! other checks stand in `ipp_ops`.
 #![tactic(auto)]
 
 pub mod attribute;

@@ -22,9 +22,11 @@ use std::io::{Read, Write};
 const FIRST_MOMENT: u32 = 1;
 
 /// Answers the lines of an input over a book, whose settings these are, until the input ends, and gives the program's exit
-/// status: 0, or 1 at a bad line: one that is of no form, too long, or whose message is. It is answered by `bad line K`, where lines count from 1, and none
-/// behind it is answered. Answers are flushed before the program waits for more of the input. A fault of the book is told in the answer to
-/// its line and ends nothing: a replay ends by a fault only where there was no memory or a stream failed.
+/// status: 0, or 1 at a bad line: one that is of no form, or an `ipp` line that is too long or whose digits stand for no message of
+/// at most 16,777,216 bytes. It is answered by `bad line K`, where lines count from 1, and none behind it is answered. A `dev` or
+/// `grant` line that is too long is answered for what is kept of it. Answers are flushed before the program waits for more of the
+/// input. A fault of the book is told in the answer to its line and ends nothing: a replay ends by a fault only where there was no
+/// memory or a stream failed.
 pub fn replay_over<R: Read, W: Write, B: QueueBook>(
     alloc: Global,
     input: &mut R,
@@ -74,6 +76,7 @@ fn answer_lines<R: Read, W: Write, B: QueueBook>(
             None => return end_at_bad_line(output, number),
         }
     }
+    // It can't come: the reads that are allowed bring fewer bytes than so many lines have.
     Err(Fault::Io)
 }
 
