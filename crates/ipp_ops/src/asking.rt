@@ -8,7 +8,7 @@ ghost use Rattle.ipp_reply.specs.Wanted.{rows_of, words_of};
 ghost use Rattle.ipp_request.specs.Request.{caller, request_of};
 ghost use Rattle.ipp_request.specs.Unsupported.{unsupported};
 ghost use Rattle.ipp_request.specs.Values.{number_of};
-ghost use Rattle.ipp_ops.specs.Verdict.{call, job_ids, passed, refused, rows, rows_by, usual, verdict, ask_content, listed_verdict, checked_verdict, which_jobs, IsWithinLimits, ListsAttributes};
+ghost use Rattle.ipp_ops.specs.Verdict.{call, job, job_ids, passed, refused, rows, rows_by, usual, verdict, ask_content, listed_verdict, checked_verdict, which_jobs, IsWithinLimits, ListsAttributes};
 ghost use Rattle.ipp_ops.specs.Checks.{refusal};
 ghost use Rattle.ipp_request.specs.Unsupported.{is_refused_for};
 
@@ -64,11 +64,17 @@ fn job_ids(alloc: Global, request: Request<'_, '_>) -> Result<Option<NumberList>
     }
 }
 
+/// The number of the job that a request is about. Where the checks pass there is one.
+fn job(request: Request<'_, '_>) -> u32
+    ensures { result ≡ job (request_of request.entry) }
+{
+    target_job(request).unwrap_or(0)
+}
+
 /// The call that the operation makes of a request.
 fn call<'a>(alloc: Global, request: Request<'_, 'a>) -> Result<Call<'a>, AllocError>
     ensures { IfOk result (λ c. call_of c ≡ call (request_of request.entry)) }
 {
-    let job = target_job(request).unwrap_or(0);
     Ok(match request.operation {
         Operation::PrintJob => Call::PrintJob {
             job: new_job(request),
@@ -82,7 +88,7 @@ fn call<'a>(alloc: Global, request: Request<'_, 'a>) -> Result<Call<'a>, AllocEr
             job: new_job(request),
         },
         Operation::SendDocument => Call::SendDocument {
-            job,
+            job: job(request),
             format: format(request),
             payload: request.payload,
             last: request.is_true(OperationAttribute::LastDocument),
@@ -92,10 +98,10 @@ fn call<'a>(alloc: Global, request: Request<'_, 'a>) -> Result<Call<'a>, AllocEr
             limit: number(request.bytes_of(OperationAttribute::Limit)),
         },
         Operation::GetPrinterAttributes => Call::GetPrinterAttributes,
-        Operation::CancelJob => Call::CancelJob { job },
-        Operation::GetJobAttributes => Call::GetJobAttributes { job },
-        Operation::HoldJob => Call::HoldJob { job },
-        Operation::ReleaseJob => Call::ReleaseJob { job },
+        Operation::CancelJob => Call::CancelJob { job: job(request) },
+        Operation::GetJobAttributes => Call::GetJobAttributes { job: job(request) },
+        Operation::HoldJob => Call::HoldJob { job: job(request) },
+        Operation::ReleaseJob => Call::ReleaseJob { job: job(request) },
         Operation::CancelMyJobs => Call::CancelMyJobs {
             jobs: job_ids(alloc, request)?,
         },
