@@ -181,7 +181,7 @@ fn answer_message<B: QueueBook>(
 
 /// The message that bytes with a head spell. What the head alone refuses, without memory, bytes that spell no message, and want of memory
 /// are answered by a bare reply.
-fn request_in<'a>(alloc: Global, head: Head, body: &'a [u8]) -> Result<View<'a>, Answer>
+fn message_in<'a>(alloc: Global, head: Head, body: &'a [u8]) -> Result<View<'a>, Answer>
     requires head { head ≡ head_of body.now }
     requires long { 8 ≤ length body.now }
     ensures request { IfOk result (λ view. IsRequestIn body.now (message_of view)) }
@@ -215,7 +215,7 @@ fn answer_headed<B: QueueBook>(context: Context<'_>, book: &mut B, body: &[u8]) 
     ensures unseen { (code : ℕ) (u : Listed) → IsVerdictOn body.now (refused code u) → book.new ≡ book.old }
 {
     one_verdict();
-    match request_in(context.alloc, context.head, body) {
+    match message_in(context.alloc, context.head, body) {
         Ok(view) => match answer_message(context, book, view) {
             Ok(bytes) => Answer::Whole(bytes),
             Err(_) => bare_answer(context.head, SERVER_ERROR_TEMPORARY_ERROR),
