@@ -1,5 +1,5 @@
 -- What a line of a replay makes of a queue, by what each call on its book says.
-use Rattle.std.proofs.Common.{◌≡◌, ◌<◌, ◌≤◌, ℕ, Bool, true, false, List, [], ◌∷◌, ◌++◌, length, Result, Ok, Err, inl, inr, refl, ap}
+use Rattle.std.proofs.Common.{◌≡◌, ◌<◌, ◌≤◌, ℕ, Bool, true, false, List, [], ◌∷◌, ◌++◌, length, Result, Ok, Err, inl, inr, ap}
 use Rattle.std.specs.Prelude.{IfOk, IsErr, MatchBool, OnOk}
 use Rattle.std.proofs.lemmas.Bool.{cases_lt, false≢true}
 use Rattle.device_lines.specs.Reports.{AnswersLine, BringsAbout}

@@ -6,17 +6,17 @@ use std::alloc::AllocError;
 use std::io;
 use thiserror::Error;
 
-/// A fault that ends a replay, which its one word tells. A fault of its book ends none: it is told in the answer to the line.
+/// A fault that ends a replay. A fault of its book ends none: it is told in the answer to the line.
 #[derive(Debug, Clone, Copy, PartialEq, Eq, Error)]
 pub enum Fault {
     /// There was no memory.
-    #[error("memory")]
+    #[error("there is no memory")]
     Memory,
     /// The store that is to have the queue, or its size, refused.
-    #[error("disk")]
+    #[error("the disk refused")]
     Disk,
     /// A standard stream couldn't be read or written.
-    #[error("io")]
+    #[error("a stream failed")]
     Io,
 }
 

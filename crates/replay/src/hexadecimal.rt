@@ -12,7 +12,7 @@ use std::io::Write;
 use thiserror::Error;
 
 /// The most bytes that a message may have.
-pub const MOST_BYTES: usize = 16_777_216;
+pub const MOST_MESSAGE_BYTES: usize = 16_777_216;
 
 /// How many bytes are turned into text at a time.
 const PIECE: usize = 512;
@@ -23,7 +23,7 @@ pub enum HexFault {
     /// It isn't an even number of hexadecimal digits.
     #[error("the text is not an even number of hexadecimal digits")]
     NotOfTheForm = 1,
-    /// It stands for more bytes than [`MOST_BYTES`].
+    /// It stands for more bytes than [`MOST_MESSAGE_BYTES`].
     #[error("the message is too long")]
     TooLong = 2,
     /// There was no memory for its bytes.
@@ -44,7 +44,7 @@ pub fn read_hex(alloc: Global, text: &[u8]) -> Result<Vec<u8>, HexFault>
     if !is_hexadecimal(text) {
         return Err(HexFault::NotOfTheForm);
     }
-    if text.len() / 2 > MOST_BYTES {
+    if text.len() / 2 > MOST_MESSAGE_BYTES {
         return Err(HexFault::TooLong);
     }
     hex::decode(alloc, text).map_err(|_| HexFault::Memory)

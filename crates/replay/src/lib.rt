@@ -12,7 +12,7 @@ mod session;
 mod settings;
 
 pub use fault::Fault;
-pub use hexadecimal::{HexFault, MOST_BYTES, put_hex, read_hex};
+pub use hexadecimal::{HexFault, MOST_MESSAGE_BYTES, put_hex, read_hex};
 pub use law::replays_are_runs;
 pub use replaying::replay_over;
 pub use settings::replay_settings;

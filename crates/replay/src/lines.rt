@@ -8,14 +8,14 @@ ghost use Rattle.replay.specs.Line.{GivesLine, IsFrontOf, IsOneLine, Lengthens, 
 ghost use Rattle.replay.specs.Unread.{left};
 
 use crate::fault::Fault;
-use crate::hexadecimal::MOST_BYTES;
+use crate::hexadecimal::MOST_MESSAGE_BYTES;
 use std::alloc::{AllocError, Global};
 use std::io;
 use std::io::{ErrorKind, Read, Write};
 use std::marker::Model;
 
 /// The most bytes of a line that are kept, 33,554,436: what a line with the longest message has, two digits a byte.
-pub(crate) const MOST_LINE: usize = b"ipp ".len() + 2 * MOST_BYTES;
+pub(crate) const MOST_LINE_BYTES: usize = b"ipp ".len() + 2 * MOST_MESSAGE_BYTES;
 
 /// How many times an input is read at most. After that it ends as by a read that fails.
 pub(crate) const MOST_READS: u32 = u32::MAX;
@@ -26,7 +26,7 @@ const BUFFER: usize = 65_536;
 /// A line without its line feed.
 #[derive(Drop)]
 pub(crate) struct Line {
-    /// Its first bytes, at most [`MOST_LINE`].
+    /// Its first bytes, at most [`MOST_LINE_BYTES`].
     pub bytes: Vec<u8>,
     /// Whether it has more bytes than those.
     pub is_cut: bool,
@@ -54,7 +54,7 @@ impl Line {
     fn push(&mut self, piece: &[u8]) -> Result<(), AllocError>
         ensures { OnOk result (Lengthens piece.now self.old self.new) }
     {
-        let room = MOST_LINE.saturating_sub(self.bytes.len());
+        let room = MOST_LINE_BYTES.saturating_sub(self.bytes.len());
         let kept = piece.len().min(room);
         self.bytes.extend_from_slice(&piece[..kept])?;
         self.is_cut |= kept < piece.len();
@@ -114,7 +114,7 @@ impl LineReader {
     {
         line.clear();
         'pieces: loop {
-            if self.take_line(line)? {
+            if self.take_piece(line)? {
                 return Ok(true);
             }
             tied.flush()?;
@@ -125,7 +125,7 @@ impl LineReader {
     }
 
     /// Moves what has come of a line to the line, and says whether its line feed has come.
-    fn take_line(&mut self, line: &mut Line) -> Result<bool, AllocError>
+    fn take_piece(&mut self, line: &mut Line) -> Result<bool, AllocError>
         ensures taken { IfOk result (λ is_ended. (piece : List ℕ) × IsOneLine piece
             × Lengthens piece line.old line.new × LosesPiece is_ended piece self.old.come self.new.come) }
         ensures reads { (self.new.reads ≡ self.old.reads) × (self.new.reads ≤ 4294967295) }

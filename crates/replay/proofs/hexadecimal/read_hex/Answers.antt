@@ -5,8 +5,8 @@ use Rattle.hex.specs.Hex.{decode_of}
 use Rattle.replay.proofs.HexadecimalLemmas.{length-decoded, not_too_long, too_long}
 use Rattle.replay.proofs.hexadecimal.read_hex.Goals as goal
 
-pub returns-then-text-gt-MOST_BYTES-clause-long : goal.returns-then-text-gt-MOST_BYTES-clause-long
-returns-then-text-gt-MOST_BYTES-clause-long c =
+pub returns-then-text-gt-MOST_MESSAGE_BYTES-clause-long : goal.returns-then-text-gt-MOST_MESSAGE_BYTES-clause-long
+returns-then-text-gt-MOST_MESSAGE_BYTES-clause-long c =
     (λ h. too_long c.args.text.now (search rules) (omega arith), λ h. refl)
 
 pub returns-clause-fits : goal.returns-clause-fits

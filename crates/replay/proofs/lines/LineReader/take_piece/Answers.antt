@@ -1,6 +1,6 @@
 use Rattle.std.proofs.Common.{arith, ◌≡◌, ◌+◌, ◌-◌, ◌≤◌, ◌∷◌, ◌++◌, drop, take, slice_range, sym, ap, ◌∙◌}
 use Rattle.replay.proofs.LineLemmas.{range_drop, range_length}
-use Rattle.replay.proofs.lines.LineReader.take_line.Goals as goal
+use Rattle.replay.proofs.lines.LineReader.take_piece.Goals as goal
 
 pub returns-in_ok-push-in-Some-clause-taken : goal.returns-in_ok-push-in-Some-clause-taken
 returns-in_ok-push-in-Some-clause-taken c =
