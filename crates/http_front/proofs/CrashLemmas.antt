@@ -16,7 +16,7 @@ use Rattle.http_front.specs.Crash.{AsksIn, CarriesAll, IsAskedIn, IsAtMostOneMor
 use Rattle.http_front.specs.Turns.{IsTurn, Turn, plan}
 use Rattle.http_front.specs.Places.{AsksFor}
 use Rattle.http_front.proofs.GrantLemmas.{asked, told}
-use Rattle.http_front.proofs.PlaceLemmas.{AreCalls, turn_fits}
+use Rattle.http_front.proofs.PlaceLemmas.{AreEvents, turn_fits}
 
 -- where nothing is done, all stays
 pub carries_none : {failed : Type 0} (before : World → World → Type 0) (asks : Event → Type 0) (now : ℕ) (w : World) → Carries before before asks failed now w w
@@ -80,25 +80,21 @@ left_one now turns w u x (inr h) = h
 
 -- ---- what is left, as a run of the machine
 
-line_event : (line : List ℕ) (o : Option Event) → Tells line o → IfSome o IsEvent
-line_event line _ (reports r reads) = reads.1
-line_event line _ (unread f reads) = tt
-
-target_event : AreCalls → (target : Target) (content : List ℕ) (o : Option Event) → length content ≤ 16777216 → AsksFor target content o → IfSome o IsEvent
-target_event are Ipp content o fits asks = are content o fits asks
-target_event are Report content o fits asks = line_event content o asks
+target_event : AreEvents → (target : Target) (content : List ℕ) (o : Option Event) → length content ≤ 16777216 → AsksFor target content o → IfSome o IsEvent
+target_event are Ipp content o fits asks = are.0 content o fits asks
+target_event are Report content o fits asks = are.1 content o asks
 target_event are Queue content o fits asks = subst (λ (z : Option Event). IfSome z IsEvent) (sym asks) tt
 target_event are (Document n) content o fits asks = subst (λ (z : Option Event). IfSome z IsEvent) (sym asks) tt
 
-pub turn_event : AreCalls → (now : ℕ) (w : World) (t : Turn) (e : Event) → IsTurn now w t → AsksIn t e → IsEvent e
+pub turn_event : AreEvents → (now : ℕ) (w : World) (t : Turn) (e : Event) → IsTurn now w t → AsksIn t e → IsEvent e
 turn_event are now w t e is asks = target_event are (plan t).target t.content (Some e) (turn_fits now w t is) asks
 
-pub turns_event : AreCalls → (now : ℕ) (w u : World) (ts : List Turn) (e : Event) → AreTurns now w ts → IsAskedIn w ts u e → IsEvent e
+pub turns_event : AreEvents → (now : ℕ) (w u : World) (ts : List Turn) (e : Event) → AreTurns now w ts → IsAskedIn w ts u e → IsEvent e
 turns_event are now w u [] e a asks = absurd asks
 turns_event are now w u (t ∷ ts) e a (inl asks) = turn_event are now w t e a.0 asks.0
 turns_event are now w u (t ∷ ts) e a (inr asks) = turns_event are now t.after u ts e a.1 asks
 
-pub left_places : AreCalls → (now : ℕ) (w u x : World) (ts : List Turn) → IsMoment now → AreTurns now w ts → IsAtMostOneMore now w ts u x
+pub left_places : AreEvents → (now : ℕ) (w u x : World) (ts : List Turn) → IsMoment now → AreTurns now w ts → IsAtMostOneMore now w ts u x
     → (ps : List Place) × Each IsPlace ps × (length ps ≤ 1) × (x ≡ run u ps)
 left_places are now w u x ts moment a (inl e) = ([], tt, omega arith, e)
 left_places are now w u x ts moment a (inr h) =

@@ -13,7 +13,7 @@ use Rattle.http_front.specs.declared.outcome.Replied.TheVariants.{Answered as Re
 use Rattle.http_front.specs.declared.outcome.Stopped.{Stopped}
 use Rattle.http_front.specs.declared.outcome.Tally.{Tally}
 use Rattle.http_front.specs.declared.outcome.Turned.{Turned}
-use Rattle.http_front.specs.declared.outcome.Turned.TheVariants.{Answered, Ended}
+use Rattle.http_front.specs.declared.outcome.Turned.TheVariants.{Answered}
 
 -- ---- a whole request
 

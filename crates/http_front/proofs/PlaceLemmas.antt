@@ -1,18 +1,13 @@
 -- The turns of a connection as places of a run.
-use Rattle.std.proofs.Common.{◌≡◌, ◌∙◌, Bool, true, false, ℕ, ◌≤◌, List, [], ◌∷◌, ◌++◌, Option, None, Some, Ok, Err, Result, IfSome, length, refl, sym, ap, subst, arith, lit≤}
+use Rattle.std.proofs.Common.{◌≡◌, ◌∙◌, Bool, true, false, ℕ, ◌≤◌, List, [], ◌∷◌, ◌++◌, Option, None, Ok, IfSome, length, refl, sym, ap, subst, arith, lit≤}
 use Rattle.std.specs.Prelude.{MatchBool}
 use Rattle.std.specs.List.{AllByRecursion as Each}
-use Rattle.queue_types.specs.Event.{Event, ask, tell}
-use Rattle.queue_types.specs.declared.event.Report.{Report as DeviceReport}
+use Rattle.queue_types.specs.Event.{Event}
 use Rattle.queue_core.specs.Limits.{IsEvent, IsMoment}
 use Rattle.queue_core.specs.Runs.{Place, IsPlace, after, run}
 use Rattle.queue_core.specs.World.{World}
-use Rattle.ipp_wire.specs.Message.{head_of}
-use Rattle.ipp_ops.specs.Answer.{Asks, refuses, calls, IsVerdictOn, outcome}
-use Rattle.ipp_ops.specs.Verdict.{Verdict, passed, refused}
-use Rattle.device_lines.specs.Lines.{Reads}
-use Rattle.device_lines.specs.Reports.{BringsAbout, Tells, reports, unread}
-use Rattle.device_lines.specs.declared.line.LineFault.{LineFault}
+use Rattle.ipp_ops.specs.Answer.{Answers, Asks}
+use Rattle.device_lines.specs.Reports.{IsReported, Tells}
 use Rattle.http_head.specs.Checks.{head_of as head_in}
 use Rattle.http_head.specs.Framing.{size_of}
 use Rattle.http_head.specs.declared.framing.Framing.{Framing}
@@ -26,9 +21,15 @@ use Rattle.http_front.specs.Turns.{Turn, plan, IsTurn, IsAnswered}
 use Rattle.http_front.specs.Connections.{AreTurns, world_after}
 use Rattle.http_front.specs.Places.{AsksFor, IsPlaceOf, IsRunOf}
 
--- what calls are: the law of requests
-abbrev pub AreCalls : Type 0
-AreCalls = (b : List ℕ) (e : Option Event) → length b ≤ 16777216 → Asks b e → IfSome e IsEvent
+-- what requests and lines of the device ask for is within the limits: the laws of both
+abbrev pub AreEvents : Type 0
+AreEvents = ((b : List ℕ) (e : Option Event) → length b ≤ 16777216 → Asks b e → IfSome e IsEvent)
+    × ((line : List ℕ) (e : Option Event) → Tells line e → IfSome e IsEvent)
+
+-- and what they are answered says what it comes to: the same laws
+abbrev pub AreDone : Type 0
+AreDone = ((now : ℕ) (w u : World) (b out : List ℕ) → Answers w now b u out → (e : Option Event) × Asks b e × (u ≡ after w now e))
+    × ((now : ℕ) (w u : World) (line out : List ℕ) → IsReported w now line u out → (e : Option Event) × Tells line e × (u ≡ after w now e))
 
 -- ---- the length of a body
 
@@ -46,32 +47,23 @@ turn_fits now w t is = body_fits (plan t).framing t.raw t.content (fits_by (head
 
 -- ---- one turn
 
-verdict_event : (now : ℕ) (w u : World) (content : List ℕ) (v : Verdict) → IsVerdictOn content v → u ≡ (outcome v (head_of content) w now).world
-    → (e : Option Event) × Asks content e × (u ≡ after w now e)
-verdict_event now w u content (refused code list) on world = (None, refuses code list on, world)
-verdict_event now w u content (passed caller call rows list) on world = (Some (ask caller call), calls caller call rows list on, world)
-
-pub report_event : (now : ℕ) (w u : World) (line out : List ℕ) (r : Result DeviceReport LineFault) → Reads line r → BringsAbout r w now u out
-    → (e : Option Event) × Tells line e × IfSome e IsEvent × (u ≡ after w now e)
-report_event now w u line out (Ok r) reads brings = (Some (tell r), reports r reads, reads.1, brings.0)
-report_event now w u line out (Err f) reads brings = (None, unread f reads, tt, brings.0)
-
-answered_event : AreCalls → (now : ℕ) (w : World) (target : Target) (content : List ℕ) (fault : Bool) (kind reply : List ℕ) (u : World) → length content ≤ 16777216
+answered_event : AreEvents → AreDone → (now : ℕ) (w : World) (target : Target) (content : List ℕ) (fault : Bool) (kind reply : List ℕ) (u : World) → length content ≤ 16777216
     → IsAnswered now w target content fault kind reply u
     → (e : Option Event) × MatchBool fault (e ≡ None) (AsksFor target content e) × IfSome e IsEvent × (u ≡ after w now e)
-answered_event are now w Ipp content true kind reply u fits a = (None, refl, tt, a.answers.1)
-answered_event are now w Ipp content false kind reply u fits a =
-    let v = verdict_event now w u content a.answers.verdict a.answers.on_bytes a.answers.world in (v.0, v.1, are content v.0 fits v.1, v.2)
-answered_event are now w Report content true kind reply u fits a = (None, refl, tt, a.answers.1)
-answered_event are now w Report content false kind reply u fits a = report_event now w u content reply a.answers.reading a.answers.reads a.answers.brings
-answered_event are now w Queue content true kind reply u fits a = (None, refl, tt, a.after_is)
-answered_event are now w Queue content false kind reply u fits a = (None, refl, tt, a.after_is)
-answered_event are now w (DocumentTarget n) content true kind reply u fits a = (None, refl, tt, a.after_is)
-answered_event are now w (DocumentTarget n) content false kind reply u fits a = (None, refl, tt, a.after_is)
+answered_event are done now w Ipp content true kind reply u fits a = (None, refl, tt, a.answers.1)
+answered_event are done now w Ipp content false kind reply u fits a =
+    let v = done.0 now w u content reply a.answers in (v.0, v.1, are.0 content v.0 fits v.1, v.2)
+answered_event are done now w Report content true kind reply u fits a = (None, refl, tt, a.answers.1)
+answered_event are done now w Report content false kind reply u fits a =
+    let v = done.1 now w u content reply a.answers in (v.0, v.1, are.1 content v.0 v.1, v.2)
+answered_event are done now w Queue content true kind reply u fits a = (None, refl, tt, a.after_is)
+answered_event are done now w Queue content false kind reply u fits a = (None, refl, tt, a.after_is)
+answered_event are done now w (DocumentTarget n) content true kind reply u fits a = (None, refl, tt, a.after_is)
+answered_event are done now w (DocumentTarget n) content false kind reply u fits a = (None, refl, tt, a.after_is)
 
-turn_place : AreCalls → (now : ℕ) (w : World) (t : Turn) → IsMoment now → IsTurn now w t → (p : Place) × IsPlaceOf now w t p × IsPlace p × (t.after ≡ run w (p ∷ []))
-turn_place are now w t moment is =
-    let e = answered_event are now w (plan t).target t.content t.is_fault t.media_type t.reply t.after (turn_fits now w t is) is.answered in (
+turn_place : AreEvents → AreDone → (now : ℕ) (w : World) (t : Turn) → IsMoment now → IsTurn now w t → (p : Place) × IsPlaceOf now w t p × IsPlace p × (t.after ≡ run w (p ∷ []))
+turn_place are done now w t moment is =
+    let e = answered_event are done now w (plan t).target t.content t.is_fault t.media_type t.reply t.after (turn_fits now w t is) is.answered in (
       record { now = now; event = e.0 },
       record { moment = refl; within = (moment, e.2); asks = e.1; world = e.3 },
       (moment, e.2),
@@ -83,18 +75,18 @@ turn_place are now w t moment is =
 run_on : (w v u : World) (p : Place) (ps : List Place) → v ≡ run w (p ∷ []) → u ≡ run v ps → u ≡ run w (p ∷ ps)
 run_on w v u p ps first rest = rest ∙ ap (λ (x : World). run x ps) first
 
-pub turns_places : AreCalls → (now : ℕ) (w : World) (ts : List Turn) → IsMoment now → AreTurns now w ts
+pub turns_places : AreEvents → AreDone → (now : ℕ) (w : World) (ts : List Turn) → IsMoment now → AreTurns now w ts
     → IsRunOf now w ts (world_after w ts)
-turns_places are now w [] moment a = ([], tt, tt, refl)
-turns_places are now w (t ∷ ts) moment a =
-    let p = turn_place are now w t moment a.0 in
-    let ps = turns_places are now t.after ts moment a.1 in
+turns_places are done now w [] moment a = ([], tt, tt, refl)
+turns_places are done now w (t ∷ ts) moment a =
+    let p = turn_place are done now w t moment a.0 in
+    let ps = turns_places are done now t.after ts moment a.1 in
     (p.0 ∷ ps.0, (p.1, ps.1), (p.2, ps.2), run_on w t.after (world_after t.after ts) p.0 ps.0 p.3 ps.3)
 
 -- those of a connection whose end world has another name
-pub served_places : AreCalls → (now : ℕ) (w u : World) (ts : List Turn) → IsMoment now → AreTurns now w ts → u ≡ world_after w ts
+pub served_places : AreEvents → AreDone → (now : ℕ) (w u : World) (ts : List Turn) → IsMoment now → AreTurns now w ts → u ≡ world_after w ts
     → IsRunOf now w ts u
-served_places are now w u ts moment a e = let ps = turns_places are now w ts moment a in (ps.0, ps.1, ps.2, e ∙ ps.3)
+served_places are done now w u ts moment a e = let ps = turns_places are done now w ts moment a in (ps.0, ps.1, ps.2, e ∙ ps.3)
 
 -- ---- lists of places
 

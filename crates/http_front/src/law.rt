@@ -14,7 +14,7 @@ ghost use Rattle.http_front.specs.Crash.{AsksIn, IsAskedIn, IsAtMostOneMore};
 ghost use Rattle.http_front.specs.Places.{IsRunOf};
 ghost use Rattle.http_front.specs.Turns.{IsTurn, Turn, request_bytes};
 
-use device_lines::one_line_reading;
+use device_lines::{lines_are_events, one_line_reading};
 use http_wire::one_reading;
 use ipp_ops::{calls_are_events, one_verdict};
 use ipp_wire::one_spelling;
@@ -38,6 +38,7 @@ pub fn connections_are_runs()
         → (ps : List Place) × AllByRecursion IsPlace ps × (length ps ≤ 1) × (x ≡ run u ps) }
 {
     calls_are_events();
+    lines_are_events();
 }
 
 /// A connection grants no pages, whatever its requests ask for.

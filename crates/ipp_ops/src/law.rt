@@ -17,6 +17,7 @@ ghost use Rattle.ipp_wire.specs.Message.{Message, Spells};
 ghost use Rattle.ipp_ops.specs.Answer.{Answers, Asks, IsVerdictOn};
 ghost use Rattle.ipp_ops.specs.Caller.{IsCallerOf};
 ghost use Rattle.ipp_ops.specs.Validations.{AreAlike, bytes_asking, without_jobs};
+ghost use Rattle.queue_core.specs.Runs.{after};
 ghost use Rattle.queue_core.specs.World.{World};
 ghost use Rattle.queue_core.specs.Limits.{IsEvent, IsPositive};
 ghost use Rattle.queue_types.specs.Event.{Call, Event, ask, cancel_my_jobs, on_job};
@@ -40,9 +41,11 @@ pub fn one_verdict()
     one_spelling();
 }
 
-/// What bytes ask, of which there are at most 16,777,216, is an event within the machine's limits.
+/// What bytes ask of the machine, of which there are at most 16,777,216, is one event within the machine's limits, or nothing; and the queue
+/// after bytes that were answered is the one after that event.
 pub fn calls_are_events()
-    ensures { (b : List ℕ) (e : Option Event) → length b ≤ 16777216 → Asks b e → IfSome e IsEvent }
+    ensures within { (b : List ℕ) (e : Option Event) → length b ≤ 16777216 → Asks b e → IfSome e IsEvent }
+    ensures done { (now : ℕ) (w u : World) (b out : List ℕ) → Answers w now b u out → (e : Option Event) × Asks b e × (u ≡ after w now e) }
 {}
 
 /// What bytes ask of a job names it by a number that a job may have, from 1 to 2,147,483,647; and so does what they ask of several

@@ -3,18 +3,13 @@ use Rattle.std.proofs.Common.{◌≡◌, ◌∙◌, ℕ, ◌≤◌, List, [], �
 use Rattle.std.specs.Prelude.{⊤, IfSome, MatchBool, codes}
 use Rattle.std.specs.List.{AllByRecursion as Each}
 use Rattle.hex.specs.Hex.{decode_of}
-use Rattle.queue_types.specs.Event.{Event, ask, grant, tell}
-use Rattle.queue_types.specs.declared.event.Report.{Report}
+use Rattle.queue_types.specs.Event.{Event, grant}
 use Rattle.queue_core.specs.Limits.{IsEvent, IsMoment}
 use Rattle.queue_core.specs.Runs.{Place, IsPlace, MovesAlong, after, run}
 use Rattle.queue_core.specs.Sound.{Balances, IsSound}
 use Rattle.queue_core.specs.World.{World}
-use Rattle.ipp_wire.specs.Message.{head_of}
-use Rattle.ipp_ops.specs.Answer.{Answers, Asks, Fails, IsVerdictOn, calls, is_fault, outcome, refuses}
-use Rattle.ipp_ops.specs.Verdict.{Verdict, passed, refused}
-use Rattle.device_lines.specs.Lines.{Reads}
-use Rattle.device_lines.specs.Reports.{AnswersLine, BringsAbout, reports, unread}
-use Rattle.device_lines.specs.declared.line.LineFault.{LineFault}
+use Rattle.ipp_ops.specs.Answer.{Answers, Asks, Fails, is_fault}
+use Rattle.device_lines.specs.Reports.{AnswersLine, IsReported, Tells}
 use Rattle.grants_csv.specs.Import.{Asks as AsksOfFile, Imports, grants}
 use Rattle.grants_csv.specs.declared.fault.ImportFault.{ImportFault}
 use Rattle.grants_csv.specs.declared.importing.Imported.{Imported}
@@ -28,10 +23,16 @@ use Rattle.replay.specs.declared.request_line.RequestLine.{RequestLine}
 use Rattle.replay.specs.declared.request_line.RequestLine.TheVariants.{Now, Ipp, Dev, Grant}
 use Rattle.replay.proofs.HexadecimalLemmas.{length-decoded}
 
--- what calls and account files are: the laws of requests and of files
-abbrev pub AreCalls : Type 0
-AreCalls = (b : List ℕ) (e : Option Event) → length b ≤ 16777216 → Asks b e → IfSome e IsEvent
+-- what messages and lines of the device ask for is within the limits, and what they are answered says what it comes to: the laws of requests and of lines
+abbrev pub AreEvents : Type 0
+AreEvents = ((b : List ℕ) (e : Option Event) → length b ≤ 16777216 → Asks b e → IfSome e IsEvent)
+    × ((line : List ℕ) (e : Option Event) → Tells line e → IfSome e IsEvent)
 
+abbrev pub AreDone : Type 0
+AreDone = ((now : ℕ) (w u : World) (b out : List ℕ) → Answers w now b u out → (e : Option Event) × Asks b e × (u ≡ after w now e))
+    × ((now : ℕ) (w u : World) (line out : List ℕ) → IsReported w now line u out → (e : Option Event) × Tells line e × (u ≡ after w now e))
+
+-- what account files are: the law of files
 abbrev pub AreFiles : Type 0
 AreFiles = (file : List ℕ) (e : Option Event) → AsksOfFile file e → IfSome e IsEvent
 
@@ -42,32 +43,24 @@ abbrev ComesTo : RequestLine → State → State → List ℕ → Type 0
 ComesTo request old new answer =
     (e : Option Event) × (AsksFor request e ⊎ ((e ≡ None) × TellsOfNothing request answer)) × IfSome e IsEvent × (new.queue ≡ after old.queue old.now e)
 
-verdict_event : (now : ℕ) (w u : World) (message : List ℕ) (v : Verdict) → IsVerdictOn message v → u ≡ (outcome v (head_of message) w now).world
-    → (e : Option Event) × Asks message e × (u ≡ after w now e)
-verdict_event now w u message (refused code list) on world = (None, refuses code list on, world)
-verdict_event now w u message (passed caller call rows list) on world = (Some (ask caller call), calls caller call rows list on, world)
-
-reply_comes : AreCalls → (fault : Bool) (digits : Bor (List ℕ)) (old new : State) (message out answer : List ℕ) → decode_of digits.now ≡ Ok message → length message ≤ 16777216
+reply_comes : AreEvents → AreDone → (fault : Bool) (digits : Bor (List ℕ)) (old new : State) (message out answer : List ℕ) → decode_of digits.now ≡ Ok message → length message ≤ 16777216
     → MatchBool fault (Fails message out × (new.queue ≡ old.queue)) (Answers old.queue old.now message new.queue out) → answer ≡ reply_line out → ComesTo (Ipp digits) old new answer
-reply_comes are false digits old new message out answer is fits a e =
-    let v = verdict_event old.now old.queue new.queue message a.verdict a.on_bytes a.world in
-    (v.0, inl (message, is, v.1), are message v.0 fits v.1, v.2)
-reply_comes are true digits old new message out answer is fits f e = (None, inr (refl, inr (message, out, is, f.0, e)), tt, f.1)
+reply_comes are done false digits old new message out answer is fits a e =
+    let v = done.0 old.now old.queue new.queue message out a in
+    (v.0, inl (message, is, v.1), are.0 message v.0 fits v.1, v.2)
+reply_comes are done true digits old new message out answer is fits f e = (None, inr (refl, inr (message, out, is, f.0, e)), tt, f.1)
 
-message_comes : AreCalls → (digits : Bor (List ℕ)) (old new : State) (message answer : List ℕ) → decode_of digits.now ≡ Ok message → length message ≤ 16777216
+message_comes : AreEvents → AreDone → (digits : Bor (List ℕ)) (old new : State) (message answer : List ℕ) → decode_of digits.now ≡ Ok message → length message ≤ 16777216
     → AnswersMessage old.queue old.now message new.queue answer → ComesTo (Ipp digits) old new answer
-message_comes are digits old new message answer is fits (inl a) = reply_comes are (is_fault a.1) digits old new message a.1 answer is fits a.2 a.3
-message_comes are digits old new message answer is fits (inr f) = (None, inr (refl, inl f.2), tt, f.1)
+message_comes are done digits old new message answer is fits (inl a) = reply_comes are done (is_fault a.1) digits old new message a.1 answer is fits a.2 a.3
+message_comes are done digits old new message answer is fits (inr f) = (None, inr (refl, inl f.2), tt, f.1)
 
-report_comes : (line : Bor (List ℕ)) (old new : State) (answer : List ℕ) (r : Result Report LineFault) → Reads (line.now ++ 10 ∷ []) r
-    → BringsAbout r old.queue old.now new.queue answer → ComesTo (Dev line) old new answer
-report_comes line old new answer (Ok r) reads brings = (Some (tell r), inl (reports r reads), reads.1, brings.0)
-report_comes line old new answer (Err f) reads brings = (None, inl (unread f reads), tt, brings.0)
-
-line_comes : (line : Bor (List ℕ)) (old new : State) (answer : List ℕ) → AnswersLine old.queue old.now (line.now ++ 10 ∷ []) new.queue answer
+line_comes : AreEvents → AreDone → (line : Bor (List ℕ)) (old new : State) (answer : List ℕ) → AnswersLine old.queue old.now (line.now ++ 10 ∷ []) new.queue answer
     → ComesTo (Dev line) old new answer
-line_comes line old new answer (inl r) = report_comes line old new answer r.reading r.reads r.brings
-line_comes line old new answer (inr u) = (None, inr (refl, u.0.text), tt, u.1)
+line_comes are done line old new answer (inl r) =
+    let v = done.1 old.now old.queue new.queue (line.now ++ 10 ∷ []) answer r in
+    (v.0, inl v.1, are.1 (line.now ++ 10 ∷ []) v.0 v.1, v.2)
+line_comes are done line old new answer (inr u) = (None, inr (refl, u.0.text), tt, u.1)
 
 file_comes : AreFiles → (row : Bor (List ℕ)) (old new : State) (said : Result Imported ImportFault) (answer : List ℕ)
     → Imports old.queue old.now (file_of row.now) new.queue said → answer ≡ import_line said → ComesTo (Grant row) old new answer
@@ -79,12 +72,12 @@ abbrev FitsIn : RequestLine → Type 0
 FitsIn (Ipp digits) = (message : List ℕ) → decode_of digits.now ≡ Ok message → length message ≤ 16777216
 FitsIn _ = ⊤
 
-comes : AreCalls → AreFiles → (request : RequestLine) (old new : State) (answer : List ℕ) → FitsIn request → Takes request old new answer
+comes : AreEvents → AreDone → AreFiles → (request : RequestLine) (old new : State) (answer : List ℕ) → FitsIn request → Takes request old new answer
     → ComesTo request old new answer
-comes are_calls are_files (Now n) old new answer fits t = (None, inl refl, tt, t.1)
-comes are_calls are_files (Ipp digits) old new answer fits t = message_comes are_calls digits old new t.1.0 answer t.1.1 (fits t.1.0 t.1.1) t.1.2
-comes are_calls are_files (Dev line) old new answer fits t = line_comes line old new answer t.1
-comes are_calls are_files (Grant row) old new answer fits t = file_comes are_files row old new t.1.0 answer t.1.1 t.1.2
+comes are done are_files (Now n) old new answer fits t = (None, inl refl, tt, t.1)
+comes are done are_files (Ipp digits) old new answer fits t = message_comes are done digits old new t.1.0 answer t.1.1 (fits t.1.0 t.1.1) t.1.2
+comes are done are_files (Dev line) old new answer fits t = line_comes are done line old new answer t.1
+comes are done are_files (Grant row) old new answer fits t = file_comes are_files row old new t.1.0 answer t.1.1 t.1.2
 
 -- of a line there are so many bytes that its message fits
 fits_in : (before behind : Option (List ℕ)) (line : Line) → GivesLine before behind line → (request : RequestLine) → Says line.bytes.items request → FitsIn request
@@ -95,11 +88,11 @@ fits_in before behind line gives (Ipp digits) says = λ message is.
     omega (arith, kept, whole, half)
 fits_in before behind line gives _ says = tt
 
-pub place_of : AreCalls → AreFiles → (before behind : Option (List ℕ)) (line : Line) (old new : State) (answer : List ℕ) → IsMoment old.now
+pub place_of : AreEvents → AreDone → AreFiles → (before behind : Option (List ℕ)) (line : Line) (old new : State) (answer : List ℕ) → IsMoment old.now
     → GivesLine before behind line → (t : TakesLine line old new answer)
     → (p : Place) × IsPlaceOf t.request old new answer p × IsPlace p × (new.queue ≡ run old.queue (p ∷ []))
-place_of are_calls are_files before behind line old new answer moment gives t =
-    let e = comes are_calls are_files t.request old new answer (fits_in before behind line gives t.request t.says) t.takes in (
+place_of are done are_files before behind line old new answer moment gives t =
+    let e = comes are done are_files t.request old new answer (fits_in before behind line gives t.request t.says) t.takes in (
       record { now = old.now; event = e.0 },
       record { moment = refl; asks = e.1; world = e.3 },
       (moment, e.2),
@@ -129,39 +122,39 @@ AreJoined = (w : World) (ps qs : List Place) → run w (ps ++ qs) ≡ run (run w
 run_more : AreJoined → (w v u : World) (ps : List Place) (p : Place) → v ≡ run w ps → u ≡ run v (p ∷ []) → u ≡ run w (ps ++ p ∷ [])
 run_more joined w v u ps p before one = one ∙ ap (λ (z : World). run z (p ∷ [])) before ∙ sym (joined w ps (p ∷ []))
 
-pub places_of : AreCalls → AreFiles → AreJoined → {input : Option (List ℕ)} {begin : State} {count : ℕ} {text : List ℕ} {left : Option (List ℕ)} {last : State}
+pub places_of : AreEvents → AreDone → AreFiles → AreJoined → {input : Option (List ℕ)} {begin : State} {count : ℕ} {text : List ℕ} {left : Option (List ℕ)} {last : State}
     → IsMoment begin.now → (t : Taken input begin count text left last)
     → (ps : List Place) × ArePlacesOf t ps × Each IsPlace ps × (last.queue ≡ run begin.queue ps)
-places_of are_calls are_files joined moment none = ([], refl, tt, refl)
-places_of are_calls are_files joined {begin = begin} moment (one_more count text answer before behind old new line taken gives takes) =
-    let r = places_of are_calls are_files joined moment taken in
-    let p = place_of are_calls are_files before behind line old new answer (moment_after moment taken) gives takes in
+places_of are done are_files joined moment none = ([], refl, tt, refl)
+places_of are done are_files joined {begin = begin} moment (one_more count text answer before behind old new line taken gives takes) =
+    let r = places_of are done are_files joined moment taken in
+    let p = place_of are done are_files before behind line old new answer (moment_after moment taken) gives takes in
     (r.0 ++ p.0 ∷ [], (r.0, p.0, refl, r.1, p.1), each_more r.0 p.0 r.2 p.2, run_more joined begin.queue old.queue new.queue r.0 p.0 r.3 p.3)
 
-pub places_in : AreCalls → AreFiles → AreJoined → {input : Option (List ℕ)} {begin : State} {status : ℕ} {text : List ℕ} {last : State}
+pub places_in : AreEvents → AreDone → AreFiles → AreJoined → {input : Option (List ℕ)} {begin : State} {status : ℕ} {text : List ℕ} {last : State}
     → IsMoment begin.now → (r : Replays input begin status text last) → IsRunOf r
-places_in are_calls are_files joined moment (whole count text left last taken end) =
-    let r = places_of are_calls are_files joined moment taken in
+places_in are done are_files joined moment (whole count text left last taken end) =
+    let r = places_of are done are_files joined moment taken in
     record { places = r.0; lines = r.1; are = r.2; run_is = r.3 }
-places_in are_calls are_files joined moment (broken count text before behind last line taken gives bad) =
-    let r = places_of are_calls are_files joined moment taken in
+places_in are done are_files joined moment (broken count text before behind last line taken gives bad) =
+    let r = places_of are done are_files joined moment taken in
     record { places = r.0; lines = r.1; are = r.2; run_is = r.3 }
 
 -- ---- what lines keep
 
-pub moves_along : AreCalls → AreFiles → AreJoined
+pub moves_along : AreEvents → AreDone → AreFiles → AreJoined
     → ((w : World) (ps : List Place) (p : Place) → IsSound w → Each IsPlace ps → IsPlace p → MovesAlong (run w ps) (run w (ps ++ p ∷ [])))
     → (input : Option (List ℕ)) (begin old new : State) → IsMoment begin.now → IsSound begin.queue → TakesNext input begin old new → MovesAlong old.queue new.queue
-moves_along are_calls are_files joined moves input begin old new moment sound next =
-    let r = places_of are_calls are_files joined moment next.taken in
-    let p = place_of are_calls are_files next.before next.after next.line old new next.answer (moment_after moment next.taken) next.gives next.takes in
+moves_along are done are_files joined moves input begin old new moment sound next =
+    let r = places_of are done are_files joined moment next.taken in
+    let p = place_of are done are_files next.before next.after next.line old new next.answer (moment_after moment next.taken) next.gives next.takes in
     let e = run_more joined begin.queue old.queue new.queue r.0 p.0 r.3 p.3 in
     subst (λ (z : World). MovesAlong z new.queue) (sym r.3)
     (subst (λ (z : World). MovesAlong (run begin.queue r.0) z) (sym e) (moves begin.queue r.0 p.0 sound r.2 p.2))
 
-pub keeps_balance : AreCalls → AreFiles → AreJoined → ((w : World) (ps : List Place) → IsSound w → Each IsPlace ps → Balances (run w ps))
+pub keeps_balance : AreEvents → AreDone → AreFiles → AreJoined → ((w : World) (ps : List Place) → IsSound w → Each IsPlace ps → Balances (run w ps))
     → (input left : Option (List ℕ)) (begin last : State) (count : ℕ) (text : List ℕ)
     → IsMoment begin.now → IsSound begin.queue → Taken input begin count text left last → Balances last.queue
-keeps_balance are_calls are_files joined balances input left begin last count text moment sound taken =
-    let r = places_of are_calls are_files joined moment taken in
+keeps_balance are done are_files joined balances input left begin last count text moment sound taken =
+    let r = places_of are done are_files joined moment taken in
     subst Balances (sym r.3) (balances begin.queue r.0 sound r.2)

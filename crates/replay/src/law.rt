@@ -8,6 +8,7 @@ ghost use Rattle.replay.specs.Places.{IsRunOf};
 ghost use Rattle.replay.specs.Replay.{Replays, Taken, TakesNext, settings};
 ghost use Rattle.replay.specs.Session.{State};
 
+use device_lines::lines_are_events;
 use grants_csv::files_are_events;
 use ipp_ops::calls_are_events;
 use queue_core::{empty_is_sound, run_keeps};
@@ -26,6 +27,7 @@ pub fn replays_are_runs()
     ensures empty { IsSound (empty_queue settings) }
 {
     calls_are_events();
+    lines_are_events();
     files_are_events();
     run_keeps();
     empty_is_sound();
