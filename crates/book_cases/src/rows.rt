@@ -8,6 +8,7 @@ mod files;
 mod great_files;
 mod job_numbers;
 mod lists_of_jobs;
+mod messages;
 mod sending;
 mod stops;
 mod two_accounts;

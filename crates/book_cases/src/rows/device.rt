@@ -115,6 +115,17 @@ static COUNTS_AND_ENDS: &[Case<'static>] = &[
             &[
                 Dev("1 2 count 100000000", "ok 1 5 100000000"),
                 Sheet("alice", (30, -99_999_970, 0, 100_000_000)),
+                Statement(
+                    "alice",
+                    "account alice\n\
+                    granted               30\n\
+                    free           -99999970\n\
+                    reserved               0\n\
+                    printed        100000000\n\
+                \x20      job state  reserved   printed\n\
+                \x20        1     5         0 100000000\n\
+                \x20    total               0 100000000\n",
+                ),
             ],
         ],
     },
