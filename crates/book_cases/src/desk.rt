@@ -1,7 +1,7 @@
 //! A print queue in any book, as the steps of a test ask it and look at it. What comes of a step is compared with what
 //! is wanted of it, and a difference names the book, the row and the step.
 
-pub(crate) mod accounts;
+mod accounts;
 mod asked;
 mod device;
 mod documents;
@@ -152,10 +152,8 @@ impl Desk {
                 self.now = moment;
                 Ok(())
             }
-            Step::Grant(rows, wanted) => self.compare_grant(book, &[rows], wanted),
-            Step::NoRow(line) => self.compare_no_row(book, line),
+            Step::Grant(rows, wanted) => self.compare_grant(book, rows, wanted),
             Step::File(file, wanted) => self.compare_file(book, file, wanted),
-            Step::Millions(count, rows, wanted) => self.compare_millions(book, count, rows, wanted),
             Step::Dev(line, wanted) => self.compare_answer(book, line, wanted),
             Step::Ask(caller, request, wanted) => self.compare_code(book, caller, request, wanted),
             Step::AskTimes(count, caller, request, wanted) => {

@@ -2,10 +2,8 @@
 //! closed and adopted before every step, and in tables in a file.
 
 mod accounts;
-mod bad_rows;
 mod device;
 mod files;
-mod great_files;
 mod job_numbers;
 mod lists_of_jobs;
 mod messages;

@@ -15,13 +15,8 @@ pub(crate) enum Step<'a> {
     Now(u32),
     /// An account file of these rows behind its header, and what comes of it.
     Grant(&'a [u8], Outcome),
-    /// A line that is no row of an account file. A file of it is refused, and so is a file of a row and of it.
-    NoRow(&'a [u8]),
     /// A whole account file, and what comes of it.
     File(&'a [u8], Outcome),
-    /// An account file of so many rows of 1,000,000 pages each for alice, of batches `b1` and on, and of these rows
-    /// behind them, and what comes of it.
-    Millions(u32, &'a [u8], Outcome),
     /// A line of the device, and its answer, both without their line feeds.
     Dev(&'a str, &'a str),
     /// A caller's request, and the status code of the reply.
@@ -63,9 +58,7 @@ impl Step<'_> {
             | Step::Cut(..) => true,
             Step::Now(_)
             | Step::Grant(..)
-            | Step::NoRow(_)
             | Step::File(..)
-            | Step::Millions(..)
             | Step::Dev(..)
             | Step::Ask(..)
             | Step::AskTimes(..) => false,

@@ -1,6 +1,6 @@
 //! Account files, one after another and alone.
 
-use crate::desk::step::Step::{File, Grant, Millions, NoSheet, Sheet};
+use crate::desk::step::Step::{File, Grant, NoSheet, Sheet};
 use crate::desk::step::{Outcome, Step};
 use crate::shelves::books::{Case, take_cases};
 use std::test::Fail;
@@ -13,9 +13,6 @@ const TAKEN: Step<'static> = Sheet("alice", (30, 30, 0, 0));
 
 /// The refusal of a file that has no header.
 const NO_HEADER: Outcome = Err((1, 0));
-
-/// An account with the most pages.
-const FULL: Step<'static> = Sheet("alice", (1_000_000_000, 1_000_000_000, 0, 0));
 
 /// A file, and files after it.
 static FILES_ONE_AFTER_ANOTHER: &[Case<'static>] = &[Case {
@@ -47,73 +44,6 @@ static FILES_ONE_AFTER_ANOTHER: &[Case<'static>] = &[Case {
             Grant(b"f24,alice,30\n", Ok((1, 0))),
             Grant(b"f25,alice,10\nf24,alice,31\n", Err((4, 2))),
             Sheet("alice", (30, 30, 0, 0)),
-        ],
-    ],
-}];
-
-/// Files that are taken.
-static TAKEN_ROWS: &[Case<'static>] = &[Case {
-    name: "rows that are taken",
-    first: &[],
-    rows: &[
-        &[
-            Grant(b"f24,alice,30\nf24,alice,30\n", Ok((1, 1))),
-            Sheet("alice", (30, 30, 0, 0)),
-        ],
-        &[Grant(b"", Ok((0, 0))), NoSheet("alice")],
-        &[File(b"batch,account,pages", Ok((0, 0))), NoSheet("alice")],
-        &[
-            Grant(b"f24,alice,30", Ok((1, 0))),
-            Sheet("alice", (30, 30, 0, 0)),
-        ],
-        &[
-            Grant(b"f24,alice,30\n\n\nf24,bob,50\n\n", Ok((2, 0))),
-            Sheet("bob", (50, 50, 0, 0)),
-        ],
-        &[
-            Grant(b"f24,\"alice\",30\n", Ok((1, 0))),
-            Sheet("alice", (30, 30, 0, 0)),
-        ],
-        &[
-            Grant(b"f24,\"Babbage, Charles\",200\n", Ok((1, 0))),
-            Sheet("Babbage, Charles", (200, 200, 0, 0)),
-        ],
-        &[
-            Grant(b"f24,\"say \"\"hi\"\"\",7\n", Ok((1, 0))),
-            Sheet("say \"hi\"", (7, 7, 0, 0)),
-        ],
-        &[
-            Grant(b"f24, alice,30\n", Ok((1, 0))),
-            Sheet(" alice", (30, 30, 0, 0)),
-        ],
-        &[
-            Grant(b"f24,J\xC3\xBCrg,30\n", Ok((1, 0))),
-            Sheet("J\u{fc}rg", (30, 30, 0, 0)),
-        ],
-        &[
-            Grant(b"A-Z.a_z-09,x,1\n", Ok((1, 0))),
-            Sheet("x", (1, 1, 0, 0)),
-        ],
-        &[
-            Grant(b"f24,x,1\nf24,y,1000000\n", Ok((2, 0))),
-            Sheet("y", (1_000_000, 1_000_000, 0, 0)),
-        ],
-        &[
-            Grant(b"f24,alice,30\nf25,alice,30\n", Ok((2, 0))),
-            Sheet("alice", (60, 60, 0, 0)),
-        ],
-        &[
-            Grant(b"f24,alice,30\nF24,alice,30\nf24,Alice,30\n", Ok((3, 0))),
-            Sheet("alice", (60, 60, 0, 0)),
-            Sheet("Alice", (30, 30, 0, 0)),
-        ],
-        &[
-            Grant(b"f24,a\x7e,1\nf24,\x20,1\n", Ok((2, 0))),
-            Sheet("a~", (1, 1, 0, 0)),
-        ],
-        &[
-            Grant(b"f24,anonymous,5\n", Ok((1, 0))),
-            Sheet("anonymous", (5, 5, 0, 0)),
         ],
     ],
 }];
@@ -163,6 +93,12 @@ static LINE_ENDS_AND_HEADERS: &[Case<'static>] = &[
                 File(b"\n\nbatch,account,pages\nf24,alice,30\n", Ok((1, 0))),
                 TAKEN,
             ],
+            &[File(b"batch,account,pages", Ok((0, 0))), NoSheet("alice")],
+            &[Grant(b"f24,alice,30", Ok((1, 0))), TAKEN],
+            &[
+                Grant(b"f24,alice,30\n\n\nf24,bob,50\n\n", Ok((2, 0))),
+                Sheet("bob", (50, 50, 0, 0)),
+            ],
         ],
     },
     Case {
@@ -198,12 +134,15 @@ static LINE_ENDS_AND_HEADERS: &[Case<'static>] = &[
     },
 ];
 
-/// The row of a refusal, and the limit of an account.
-static REFUSALS_AND_LIMITS: &[Case<'static>] = &[
+/// The row of a refusal.
+static REFUSALS: &[Case<'static>] = &[
     Case {
         name: "the row of a refusal",
         first: &[],
         rows: &[&[
+            Grant(b" \n", Err((2, 1))),
+            Grant(b"f24,zoe,1\n   \n", Err((2, 2))),
+            Grant(b"f24,\"al\nice\",30\n", Err((2, 1))),
             Grant(b"f24,a,1\nf24,b\nf24,c,0\n", Err((2, 2))),
             Grant(b"f24,a,1\nf24,c,0\nf24,b\n", Err((3, 2))),
             Grant(b"\n\nf24,a,1\n\nf24,b\n", Err((2, 2))),
@@ -228,44 +167,8 @@ static REFUSALS_AND_LIMITS: &[Case<'static>] = &[
             NoSheet("alice"),
             NoSheet("a"),
             NoSheet("bob"),
+            NoSheet("zoe"),
         ]],
-    },
-    Case {
-        name: "an account at its limit",
-        first: &[],
-        rows: &[&[
-            Millions(1000, b"", Ok((1000, 0))),
-            FULL,
-            Grant(b"b1001,alice,1\n", Err((5, 1))),
-            Grant(b"b1001,bob,1\nb1001,alice,1\n", Err((5, 2))),
-            Grant(b"b1,alice,999999\n", Err((4, 1))),
-            NoSheet("bob"),
-            FULL,
-            Millions(1000, b"", Ok((0, 1000))),
-            FULL,
-        ]],
-    },
-    Case {
-        name: "files around the limit of an account",
-        first: &[],
-        rows: &[
-            &[
-                Millions(1000, b"b1001,alice,1\n", Err((5, 1001))),
-                NoSheet("alice"),
-            ],
-            &[
-                Millions(1000, b"b1001,alice,1\nb1,alice,5\n", Err((5, 1001))),
-                NoSheet("alice"),
-            ],
-            &[
-                Millions(1000, b"b1,alice,5\nb1001,alice,1\n", Err((4, 1001))),
-                NoSheet("alice"),
-            ],
-            &[
-                Millions(999, b"b1000,alice,999999\nb1001,alice,1\n", Ok((1001, 0))),
-                FULL,
-            ],
-        ],
     },
 ];
 
@@ -275,16 +178,11 @@ fn files_one_after_another(rt: HostRuntime) -> Result<(), Fail> {
 }
 
 #[test]
-fn taken_rows(rt: HostRuntime) -> Result<(), Fail> {
-    take_cases(&rt, "taken_rows", TAKEN_ROWS)
-}
-
-#[test]
 fn line_ends_and_headers(rt: HostRuntime) -> Result<(), Fail> {
     take_cases(&rt, "line_ends_and_headers", LINE_ENDS_AND_HEADERS)
 }
 
 #[test]
-fn refusals_and_limits(rt: HostRuntime) -> Result<(), Fail> {
-    take_cases(&rt, "refusals_and_limits", REFUSALS_AND_LIMITS)
+fn refusals(rt: HostRuntime) -> Result<(), Fail> {
+    take_cases(&rt, "refusals", REFUSALS)
 }

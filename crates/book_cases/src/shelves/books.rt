@@ -8,8 +8,8 @@ use std::alloc::Global;
 use std::io;
 use std::test::Fail;
 
-/// Takes the first steps and then those of a row, over lists and over tables in memory. It is for what takes long.
-pub(crate) fn take_in_memory(
+/// Takes the first steps and then those of a row, over lists and over tables in memory.
+fn take_in_memory(
     alloc: Global,
     row: usize,
     first: &[Step<'_>],
@@ -39,13 +39,13 @@ pub(crate) fn take_cases(rt: &HostRuntime, folder: &str, cases: &[Case<'_>]) -> 
 
 /// All books of a test, with a folder of its own for its files.
 #[derive(Drop)]
-pub(crate) struct TestBooks<'a> {
+struct TestBooks<'a> {
     in_file: InFile<InFolder<'a>>,
 }
 
 impl<'a> TestBooks<'a> {
     /// The books of a test, whose folder has this name, beside that of the process.
-    pub(crate) fn new(rt: &'a HostRuntime, name: &str) -> io::Result<TestBooks<'a>> {
+    fn new(rt: &'a HostRuntime, name: &str) -> io::Result<TestBooks<'a>> {
         let files = InFolder::new(rt, name)?;
         Ok(TestBooks {
             in_file: InFile { files },
@@ -53,7 +53,7 @@ impl<'a> TestBooks<'a> {
     }
 
     /// The allocator of the test's runtime.
-    pub(crate) fn alloc(&self) -> Global {
+    fn alloc(&self) -> Global {
         self.in_file.files.rt().alloc()
     }
 
@@ -70,7 +70,7 @@ impl<'a> TestBooks<'a> {
     }
 
     /// Takes the first steps and then those of a row, over each book.
-    pub(crate) fn take_row(
+    fn take_row(
         &self,
         row: usize,
         first: &[Step<'_>],

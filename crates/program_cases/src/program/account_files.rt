@@ -17,8 +17,23 @@ const ALICE: &str = "account alice\n\
     job state  reserved   printed\n     \
     total               0         0\n";
 
+/// The statement of an account with the most pages.
+const MOST: &str = "account dave\n\
+    granted       1000000000\n\
+    free          1000000000\n\
+    reserved               0\n\
+    printed                0\n       \
+    job state  reserved   printed\n     \
+    total               0         0\n";
+
 /// The header of an account file isn't of its form.
 const NO_HEADER: Told = (1, "", "printd: import fault 1 at row 0\n");
+
+/// Lines without a field.
+const LINES: &[u8] = &[b'\n'; 4096];
+
+/// An account file of 16,777,216 bytes.
+const LONGEST: &[(&[u8], usize)] = &[(GRANT, 1), (LINES, 4095), (b"\n", 4063)];
 
 /// A file of 16,777,217 bytes.
 const TOO_LONG: &[(&[u8], usize)] = &[(&[0; 4096], 4096), (b"\0", 1)];
@@ -43,7 +58,7 @@ const UNFLUSHED: &[Step] = &[
     Unprinted("printd --help", NO_FLUSH),
 ];
 
-static TAKEN: [Row; 2] = [
+static TAKEN: [Row; 3] = [
     // account files, one after another to the same store, and the statements before and after them
     (
         "account files and statements",
@@ -107,6 +122,15 @@ static TAKEN: [Row; 2] = [
                 (1, "", "printd: import fault 5 at row 2\n"),
             ),
             Tells("printd statement --store @/store erin", NO_ACCOUNT),
+            Tells("printd statement --store @/store dave", (0, MOST, "")),
+        ],
+    ),
+    (
+        "a file of the most bytes",
+        &[
+            MADE,
+            Writes(FILE, LONGEST),
+            Tells(IMPORT, (0, "new 1 repeats 0\n", "")),
         ],
     ),
 ];
