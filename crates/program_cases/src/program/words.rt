@@ -1,85 +1,23 @@
-//! Words that name a command, and words that name none.
+//! Words that name no command: what is wrong with them, and the texts that they ask for.
 
 use crate::desk::compare::Mismatch;
 use crate::program::folder::AT;
-use command_words::{Command, Import, Init, Serve, Statement, command};
 use commands::run;
-use std::alloc::Global;
 use std::io::BufWriter;
-use std::num::NonZeroU32;
 
-/// Lines of words, and the command that they name. A printer's estimate is 20 where they leave it out.
-const COMMANDS: [(&str, Command<'static>); 5] = [
-    (
-        "printd init --store a --uri b --name c --estimate 7",
-        Command::Init(Init {
-            store: "a",
-            uri: "b",
-            name: "c",
-            estimate: 7,
-        }),
-    ),
-    (
-        "printd init --store a --uri b --name c",
-        Command::Init(Init {
-            store: "a",
-            uri: "b",
-            name: "c",
-            estimate: 20,
-        }),
-    ),
-    (
-        "printd import --store a b",
-        Command::Import(Import {
-            store: "a",
-            file: "b",
-        }),
-    ),
-    (
-        "printd statement --store a b",
-        Command::Statement(Statement {
-            store: "a",
-            account: "b",
-        }),
-    ),
-    ("printd replay", Command::Replay),
-];
+/// What `init` is, as it tells it.
+const INIT_HELP: &str = "\
+Make a new store
 
-/// Lines of words of `serve`, and the seconds of its timeout: 5 where they leave it out.
-static SERVES: [(&str, u32); 2] = [
-    (
-        "printd serve --store a --port 8631 --connections 4294967295 --timeout 60",
-        60,
-    ),
-    (
-        "printd serve --store a --port 8631 --connections 4294967295",
-        5,
-    ),
-];
+Usage: printd init [OPTIONS] --store <PATH> --uri <URI> --name <NAME>
 
-/// The words of this line name this command.
-fn is_named(alloc: Global, line: &str, wanted: Command<'_>) -> Result<(), Mismatch> {
-    let words: Vec<&str> = line.split(' ').collect(alloc)?;
-    let is_wanted = matches!(command(alloc, words.as_slice()), Ok(came) if came == wanted);
-    AT.is_so(is_wanted, line)
-}
-
-#[test]
-fn words_and_commands(rt: HostRuntime) -> Result<(), Mismatch> {
-    for (line, wanted) in COMMANDS {
-        is_named(rt.alloc(), line, wanted)?;
-    }
-    for (line, seconds) in &SERVES {
-        let serve = Serve {
-            store: "a",
-            port: 8631,
-            connections: 4_294_967_295,
-            timeout: NonZeroU32::new(*seconds).unwrap_or(NonZeroU32::MIN),
-        };
-        is_named(rt.alloc(), line, Command::Serve(serve))?;
-    }
-    Ok(())
-}
+Options:
+      --store <PATH>  The file that keeps the queue
+      --uri <URI>     The printer's URI, with the path /ipp/print
+      --name <NAME>   The printer's name
+      --estimate <N>  Pages to take for one copy of a job that doesn't tell them [default: 20]
+  -h, --help          Print help
+";
 
 /// What `serve` is, as it tells it.
 const SERVE_HELP: &str = "\
@@ -106,7 +44,7 @@ For more information, try '--help'.
 const SOME_TEXT: &str = "";
 
 /// Lines of words that name no command, the exit status, and what is told.
-static NO_COMMANDS: [(&str, u8, &str); 13] = [
+static NO_COMMANDS: [(&str, u8, &str); 16] = [
     ("printd", 2, SOME_TEXT),
     ("printd print", 2, SOME_TEXT),
     ("printd replay now", 2, SOME_TEXT),
@@ -125,12 +63,27 @@ static NO_COMMANDS: [(&str, u8, &str); 13] = [
         NO_PORT,
     ),
     (
+        "printd serve --store a --port 65536 --connections 1",
+        2,
+        SOME_TEXT,
+    ),
+    (
         "printd serve --store a --port 1 --connections 0",
         2,
         SOME_TEXT,
     ),
+    (
+        "printd serve --store a --port 1 --connections 1 --timeout 0",
+        2,
+        SOME_TEXT,
+    ),
+    (
+        "printd serve --store a --port 1 --connections 1 --timeout 3601",
+        2,
+        SOME_TEXT,
+    ),
     ("printd --help", 0, SOME_TEXT),
-    ("printd import --help", 0, SOME_TEXT),
+    ("printd init --help", 0, INIT_HELP),
     ("printd serve --help", 0, SERVE_HELP),
 ];
 
