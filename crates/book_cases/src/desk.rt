@@ -176,7 +176,6 @@ impl Desk {
             Step::Queue(wanted) => self.compare_queue(book, wanted),
             Step::Document(job, number, wanted) => self.compare_document(book, job, number, wanted),
             Step::Fetch(job, number, wanted) => self.compare_bytes(book, job, number, wanted),
-            Step::Cut(job, number, room, front) => self.compare_cut(book, job, number, room, front),
             _ => Err(StepFault::NoLook),
         }
     }

@@ -7,6 +7,5 @@ mod files;
 mod job_numbers;
 mod lists_of_jobs;
 mod messages;
-mod sending;
 mod stops;
 mod two_accounts;

@@ -39,8 +39,6 @@ pub(crate) enum Step<'a> {
     Document(u32, u32, Option<u64>),
     /// The bytes of the document of a job, as the device fetches them.
     Fetch(u32, u32, &'a [u8]),
-    /// The document of a job is fetched to a writer that has room for so many bytes and then fails, and takes this front.
-    Cut(u32, u32, usize, &'a [u8]),
 }
 
 impl Step<'_> {
@@ -54,8 +52,7 @@ impl Step<'_> {
             | Step::Statement(..)
             | Step::Queue(_)
             | Step::Document(..)
-            | Step::Fetch(..)
-            | Step::Cut(..) => true,
+            | Step::Fetch(..) => true,
             Step::Now(_)
             | Step::Grant(..)
             | Step::File(..)
