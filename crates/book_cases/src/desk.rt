@@ -166,6 +166,9 @@ impl Desk {
     /// Compares what a look shows with what is wanted. A step that is no look is refused.
     fn compare_look<B: QueueBook>(&self, book: &mut B, step: Step<'_>) -> Result<(), StepFault> {
         match step {
+            Step::Reply(caller, request, wanted) => {
+                self.compare_reply(book, caller, request, wanted)
+            }
             Step::Look(caller, job, state, reasons) => {
                 self.compare_state(book, caller, job, state, reasons)
             }

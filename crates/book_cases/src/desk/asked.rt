@@ -11,7 +11,7 @@ const MOST: usize = 16_777_216;
 
 impl Desk {
     /// The answer to a caller's request. One that tells a fault of the book is none.
-    pub(crate) fn ask<B: QueueBook>(
+    fn ask<B: QueueBook>(
         &self,
         book: &mut B,
         caller: &str,
@@ -63,7 +63,7 @@ impl Desk {
     }
 
     /// The answer to a caller's request has these bytes.
-    fn compare_reply<B: QueueBook>(
+    pub(super) fn compare_reply<B: QueueBook>(
         &self,
         book: &mut B,
         caller: &str,

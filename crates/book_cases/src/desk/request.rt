@@ -36,8 +36,6 @@ pub(crate) enum Request<'a> {
     LookAtAll(u32),
     /// Get-Jobs of the numbers.
     Jobs(JobsWanted),
-    /// Get-Jobs of all attributes.
-    JobsInFull(JobsWanted),
     /// Get-Printer-Attributes of all of them.
     Printer,
 }
@@ -82,7 +80,7 @@ impl<'a> Request<'a> {
             Request::Send { .. } => 0x06,
             Request::Cancel(_) => 0x08,
             Request::Look(_) | Request::LookAtAll(_) => 0x09,
-            Request::Jobs(_) | Request::JobsInFull(_) => 0x0a,
+            Request::Jobs(_) => 0x0a,
             Request::Printer => 0x0b,
             Request::Hold(_) => 0x0c,
             Request::Release(_) => 0x0d,
@@ -99,7 +97,6 @@ impl<'a> Request<'a> {
             | Request::Create
             | Request::CancelMine(_)
             | Request::Jobs(_)
-            | Request::JobsInFull(_)
             | Request::Printer => None,
             Request::Send { job, .. }
             | Request::Release(job)
@@ -162,8 +159,7 @@ fn put_own(bytes: &mut Vec<u8>, request: Request<'_>) -> Result<(), AllocError> 
             put(bytes, 0x44, "requested-attributes", b"job-state")?;
             put(bytes, 0x44, "", b"job-state-reasons")
         }
-        Request::Jobs(wanted) => put_wanted(bytes, wanted, b"job-id"),
-        Request::JobsInFull(wanted) => put_wanted(bytes, wanted, b"all"),
+        Request::Jobs(wanted) => put_wanted(bytes, wanted),
         _ => Ok(()),
     }
 }
@@ -175,13 +171,9 @@ fn put_size(bytes: &mut Vec<u8>, impressions: u32, copies: u32) -> Result<(), Al
     put(bytes, 0x21, "copies", &copies.to_be_bytes())
 }
 
-/// Adds the jobs that are wanted, and which of their attributes.
-fn put_wanted(
-    bytes: &mut Vec<u8>,
-    wanted: JobsWanted,
-    attributes: &[u8],
-) -> Result<(), AllocError> {
-    put(bytes, 0x44, "requested-attributes", attributes)?;
+/// Adds the jobs that are wanted, by their numbers.
+fn put_wanted(bytes: &mut Vec<u8>, wanted: JobsWanted) -> Result<(), AllocError> {
+    put(bytes, 0x44, "requested-attributes", b"job-id")?;
     put(bytes, 0x44, "which-jobs", wanted.which().as_bytes())?;
     match wanted.limit() {
         Some(count) => put(bytes, 0x21, "limit", &count.to_be_bytes()),

@@ -23,6 +23,8 @@ pub(crate) enum Step<'a> {
     Ask(&'a str, Request<'a>, u16),
     /// A caller's request so many times, and the status code of each reply.
     AskTimes(u32, &'a str, Request<'a>, u16),
+    /// A caller's request that changes nothing, and the bytes of the reply.
+    Reply(&'a str, Request<'a>, &'a [u8]),
     /// A caller's job has this state, with these reasons.
     Look(&'a str, u32, u8, &'a [&'a str]),
     /// A caller's Get-Jobs lists the jobs of these numbers, in this order.
@@ -45,7 +47,8 @@ impl Step<'_> {
     /// It looks at the queue, and changes nothing of it.
     pub(crate) fn only_looks(self) -> bool {
         match self {
-            Step::Look(..)
+            Step::Reply(..)
+            | Step::Look(..)
             | Step::Jobs(..)
             | Step::Sheet(..)
             | Step::NoSheet(_)

@@ -3,47 +3,17 @@
 use crate::desk::request::Request::{Print, Release};
 use crate::desk::step::Step;
 use crate::desk::step::Step::{Ask, Dev, Grant};
-use crate::desk::{Desk, printer};
 use crate::stores::compare::same;
 use crate::stores::judge::Changes;
-use crate::stores::queue::{empty_book, fill, full_tables, new_book, take_steps};
-use crate::stores::shown::shown;
+use crate::stores::queue::{empty_book, full_tables, new_book, take_steps};
+use crate::stores::shown::shows_the_queue;
 use crate::stores::tables::{DAMAGED, Tables};
-use list_book::ListBook;
-use queue_core::book::{BookFault, QueueBook};
+use queue_core::book::BookFault;
 use queue_store::TableBook;
 use queue_types::settings::Settings;
-use sqlite::{Alter, MemStore};
+use sqlite::MemStore;
 use std::alloc::Global;
 use std::test::Fail;
-
-/// Makes the queue in a book without jobs, and tells what the book shows at moment 100.
-fn fill_and_show<B: QueueBook + Drop>(alloc: Global, mut book: B) -> Result<Vec<u8>, Fail> {
-    fill(alloc, &mut book)?;
-    shown(&Desk::of(alloc, printer(alloc)?, 100), &mut book)
-}
-
-/// What a book in lists of the queue shows at moment 100.
-fn plain_queue(alloc: Global) -> Result<Vec<u8>, Fail> {
-    fill_and_show(alloc, ListBook::new(alloc, printer(alloc)?))
-}
-
-/// A desk with the settings of a book, at moment 100.
-fn desk_of<S: Alter>(alloc: Global, book: &TableBook<S>) -> Result<Desk, Fail> {
-    Ok(Desk::of(alloc, book.settings()?, 100))
-}
-
-/// What a book shows at moment 100.
-fn queue_of<S: Alter>(alloc: Global, book: &mut TableBook<S>) -> Result<Vec<u8>, Fail> {
-    shown(&desk_of(alloc, book)?, book)
-}
-
-/// At moment 100 the book shows what a book in lists of the queue shows.
-fn shows_the_queue<S: Alter>(alloc: Global, book: &mut TableBook<S>) -> Result<(), Fail> {
-    let came = queue_of(alloc, book)?;
-    let wanted = plain_queue(alloc)?;
-    same(&came.as_slice(), &wanted.as_slice(), "the queue")
-}
 
 #[test]
 fn a_queue_comes_back(rt: HostRuntime) -> Result<(), Fail> {

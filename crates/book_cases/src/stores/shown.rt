@@ -1,137 +1,125 @@
-//! All that a book shows of its queue, as bytes that can be compared.
+//! What the queue with a job in each phase shows at moment 100.
 
 use crate::desk::Desk;
 use crate::desk::request::JobsWanted::{Ended, Live};
-use crate::desk::request::Request;
-use crate::desk::request::Request::{JobsInFull, LookAtAll, Printer};
-use crate::stores::compare::same;
-use device_lines::queue_text;
-use queue_core::book::QueueBook;
+use crate::desk::request::Request::{LookAtAll, Printer};
+use crate::desk::step::Step;
+use crate::desk::step::Step::{
+    Ask, Document, Fetch, Jobs, NoSheet, Queue, Reply, Sheet, Statement,
+};
+use crate::stores::queue::long_document;
+use queue_store::TableBook;
+use sqlite::Alter;
 use std::alloc::Global;
-use std::io::Write;
 use std::test::Fail;
 
-/// A reply's status code (RFC 8011, appendix B).
-type Code = [u8; 2];
-
-const OK: Code = [0x00, 0x00];
-
-const NOT_FOUND: Code = [0x04, 0x06];
-
-/// What the users ask of their jobs and of the printer, and the codes of the replies. Jobs 1 to 7 and 9 are alice's, 8 is bob's and
-/// 10 is carol's. There is no job 11.
-const REQUESTS: &[(&str, Request<'static>, Code)] = &[
-    ("alice", LookAtAll(1), OK),
-    ("alice", LookAtAll(2), OK),
-    ("alice", LookAtAll(3), OK),
-    ("alice", LookAtAll(4), OK),
-    ("alice", LookAtAll(5), OK),
-    ("alice", LookAtAll(6), OK),
-    ("alice", LookAtAll(7), OK),
-    ("bob", LookAtAll(8), OK),
-    ("alice", LookAtAll(9), OK),
-    ("carol", LookAtAll(10), OK),
-    ("alice", LookAtAll(10), NOT_FOUND),
-    ("carol", LookAtAll(11), NOT_FOUND),
-    ("alice", JobsInFull(Live), OK),
-    ("alice", JobsInFull(Ended), OK),
-    ("bob", JobsInFull(Live), OK),
-    ("carol", JobsInFull(Live), OK),
-    ("carol", Printer, OK),
+/// All attributes of each job and of the printer.
+static REPLIES: &[Step<'static>] = &[
+    Reply(
+        "alice",
+        LookAtAll(1),
+        b"\x01\x01\x00\x00\x00\x00\x00\x01\x01G\x00\x12attributes-charset\x00\x05utf-8H\x00\x1battributes-natural-language\x00\x02en\x02E\x00\x07job-uri\x00\x1bipp://localhost/ipp/print/1!\x00\x06job-id\x00\x04\x00\x00\x00\x01E\x00\x0fjob-printer-uri\x00\x19ipp://localhost/ipp/printB\x00\x08job-name\x00\x08untitledB\x00\x19job-originating-user-name\x00\x05alice#\x00\x09job-state\x00\x04\x00\x00\x00\x09D\x00\x11job-state-reasons\x00\x1ajob-completed-successfully!\x00\x10time-at-creation\x00\x04\x00\x00\x00\x02!\x00\x12time-at-processing\x00\x04\x00\x00\x00\x16!\x00\x11time-at-completed\x00\x04\x00\x00\x00\x18!\x00\x13job-printer-up-time\x00\x04\x00\x00\x00dG\x00\x12attributes-charset\x00\x05utf-8H\x00\x1battributes-natural-language\x00\x02en!\x00\x0cjob-k-octets\x00\x04\x00\x00\x00\x01!\x00\x0fjob-impressions\x00\x04\x00\x00\x00\x14!\x00\x19job-impressions-completed\x00\x04\x00\x00\x00\x19!\x00\x13number-of-documents\x00\x04\x00\x00\x00\x01!\x00\x06copies\x00\x04\x00\x00\x00\x01D\x00\x0ejob-hold-until\x00\x07no-hold\x03",
+    ),
+    Reply(
+        "alice",
+        LookAtAll(2),
+        b"\x01\x01\x00\x00\x00\x00\x00\x01\x01G\x00\x12attributes-charset\x00\x05utf-8H\x00\x1battributes-natural-language\x00\x02en\x02E\x00\x07job-uri\x00\x1bipp://localhost/ipp/print/2!\x00\x06job-id\x00\x04\x00\x00\x00\x02E\x00\x0fjob-printer-uri\x00\x19ipp://localhost/ipp/printB\x00\x08job-name\x00\x08untitledB\x00\x19job-originating-user-name\x00\x05alice#\x00\x09job-state\x00\x04\x00\x00\x00\x07D\x00\x11job-state-reasons\x00\x14job-canceled-by-user!\x00\x10time-at-creation\x00\x04\x00\x00\x00\x03\x13\x00\x12time-at-processing\x00\x00!\x00\x11time-at-completed\x00\x04\x00\x00\x00\x15!\x00\x13job-printer-up-time\x00\x04\x00\x00\x00dG\x00\x12attributes-charset\x00\x05utf-8H\x00\x1battributes-natural-language\x00\x02en!\x00\x0cjob-k-octets\x00\x04\x00\x00\x00\x01!\x00\x0fjob-impressions\x00\x04\x00\x00\x00\x14!\x00\x19job-impressions-completed\x00\x04\x00\x00\x00\x00!\x00\x13number-of-documents\x00\x04\x00\x00\x00\x01!\x00\x06copies\x00\x04\x00\x00\x00\x01D\x00\x0ejob-hold-until\x00\x07no-hold\x03",
+    ),
+    Reply(
+        "alice",
+        LookAtAll(3),
+        b"\x01\x01\x00\x00\x00\x00\x00\x01\x01G\x00\x12attributes-charset\x00\x05utf-8H\x00\x1battributes-natural-language\x00\x02en\x02E\x00\x07job-uri\x00\x1bipp://localhost/ipp/print/3!\x00\x06job-id\x00\x04\x00\x00\x00\x03E\x00\x0fjob-printer-uri\x00\x19ipp://localhost/ipp/printB\x00\x08job-name\x00\x08untitledB\x00\x19job-originating-user-name\x00\x05alice#\x00\x09job-state\x00\x04\x00\x00\x00\x07D\x00\x11job-state-reasons\x00\x16job-canceled-at-device!\x00\x10time-at-creation\x00\x04\x00\x00\x00\x04!\x00\x12time-at-processing\x00\x04\x00\x00\x00\x19!\x00\x11time-at-completed\x00\x04\x00\x00\x00\x1a!\x00\x13job-printer-up-time\x00\x04\x00\x00\x00dG\x00\x12attributes-charset\x00\x05utf-8H\x00\x1battributes-natural-language\x00\x02en!\x00\x0cjob-k-octets\x00\x04\x00\x00\x00\x01!\x00\x0fjob-impressions\x00\x04\x00\x00\x00\x14!\x00\x19job-impressions-completed\x00\x04\x00\x00\x00\x03!\x00\x13number-of-documents\x00\x04\x00\x00\x00\x01!\x00\x06copies\x00\x04\x00\x00\x00\x01D\x00\x0ejob-hold-until\x00\x07no-hold\x03",
+    ),
+    Reply(
+        "alice",
+        LookAtAll(4),
+        b"\x01\x01\x00\x00\x00\x00\x00\x01\x01G\x00\x12attributes-charset\x00\x05utf-8H\x00\x1battributes-natural-language\x00\x02en\x02E\x00\x07job-uri\x00\x1bipp://localhost/ipp/print/4!\x00\x06job-id\x00\x04\x00\x00\x00\x04E\x00\x0fjob-printer-uri\x00\x19ipp://localhost/ipp/printB\x00\x08job-name\x00\x08untitledB\x00\x19job-originating-user-name\x00\x05alice#\x00\x09job-state\x00\x04\x00\x00\x00\x08D\x00\x11job-state-reasons\x00\x11aborted-by-system!\x00\x10time-at-creation\x00\x04\x00\x00\x00\x05!\x00\x12time-at-processing\x00\x04\x00\x00\x00\x1b!\x00\x11time-at-completed\x00\x04\x00\x00\x00\x1c!\x00\x13job-printer-up-time\x00\x04\x00\x00\x00dG\x00\x12attributes-charset\x00\x05utf-8H\x00\x1battributes-natural-language\x00\x02en!\x00\x0cjob-k-octets\x00\x04\x00\x00\x00\x01!\x00\x0fjob-impressions\x00\x04\x00\x00\x00\x14!\x00\x19job-impressions-completed\x00\x04\x00\x00\x00\x06!\x00\x13number-of-documents\x00\x04\x00\x00\x00\x01!\x00\x06copies\x00\x04\x00\x00\x00\x01D\x00\x0ejob-hold-until\x00\x07no-hold\x03",
+    ),
+    Reply(
+        "alice",
+        LookAtAll(5),
+        b"\x01\x01\x00\x00\x00\x00\x00\x01\x01G\x00\x12attributes-charset\x00\x05utf-8H\x00\x1battributes-natural-language\x00\x02en\x02E\x00\x07job-uri\x00\x1bipp://localhost/ipp/print/5!\x00\x06job-id\x00\x04\x00\x00\x00\x05E\x00\x0fjob-printer-uri\x00\x19ipp://localhost/ipp/printB\x00\x08job-name\x00\x08untitledB\x00\x19job-originating-user-name\x00\x05alice#\x00\x09job-state\x00\x04\x00\x00\x00\x05D\x00\x11job-state-reasons\x00\x0cjob-printingD\x00\x00\x00\x18processing-to-stop-point!\x00\x10time-at-creation\x00\x04\x00\x00\x00\x06!\x00\x12time-at-processing\x00\x04\x00\x00\x00\x1d\x13\x00\x11time-at-completed\x00\x00!\x00\x13job-printer-up-time\x00\x04\x00\x00\x00dG\x00\x12attributes-charset\x00\x05utf-8H\x00\x1battributes-natural-language\x00\x02en!\x00\x0cjob-k-octets\x00\x04\x00\x00\x00\x01!\x00\x0fjob-impressions\x00\x04\x00\x00\x00\x14!\x00\x19job-impressions-completed\x00\x04\x00\x00\x00\x00!\x00\x13number-of-documents\x00\x04\x00\x00\x00\x01!\x00\x06copies\x00\x04\x00\x00\x00\x01D\x00\x0ejob-hold-until\x00\x07no-hold\x03",
+    ),
+    Reply(
+        "alice",
+        LookAtAll(6),
+        b"\x01\x01\x00\x00\x00\x00\x00\x01\x01G\x00\x12attributes-charset\x00\x05utf-8H\x00\x1battributes-natural-language\x00\x02en\x02E\x00\x07job-uri\x00\x1bipp://localhost/ipp/print/6!\x00\x06job-id\x00\x04\x00\x00\x00\x06E\x00\x0fjob-printer-uri\x00\x19ipp://localhost/ipp/printB\x00\x08job-name\x00\x08untitledB\x00\x19job-originating-user-name\x00\x05alice#\x00\x09job-state\x00\x04\x00\x00\x00\x06D\x00\x11job-state-reasons\x00\x0fprinter-stopped!\x00\x10time-at-creation\x00\x04\x00\x00\x00\x07!\x00\x12time-at-processing\x00\x04\x00\x00\x00\x1f\x13\x00\x11time-at-completed\x00\x00!\x00\x13job-printer-up-time\x00\x04\x00\x00\x00dG\x00\x12attributes-charset\x00\x05utf-8H\x00\x1battributes-natural-language\x00\x02en!\x00\x0cjob-k-octets\x00\x04\x00\x00\x00\x01!\x00\x0fjob-impressions\x00\x04\x00\x00\x00\x14!\x00\x19job-impressions-completed\x00\x04\x00\x00\x00\x04!\x00\x13number-of-documents\x00\x04\x00\x00\x00\x01!\x00\x06copies\x00\x04\x00\x00\x00\x01D\x00\x0ejob-hold-until\x00\x07no-hold\x03",
+    ),
+    Reply(
+        "alice",
+        LookAtAll(7),
+        b"\x01\x01\x00\x00\x00\x00\x00\x01\x01G\x00\x12attributes-charset\x00\x05utf-8H\x00\x1battributes-natural-language\x00\x02en\x02E\x00\x07job-uri\x00\x1bipp://localhost/ipp/print/7!\x00\x06job-id\x00\x04\x00\x00\x00\x07E\x00\x0fjob-printer-uri\x00\x19ipp://localhost/ipp/printB\x00\x08job-name\x00\x08untitledB\x00\x19job-originating-user-name\x00\x05alice#\x00\x09job-state\x00\x04\x00\x00\x00\x03D\x00\x11job-state-reasons\x00\x04none!\x00\x10time-at-creation\x00\x04\x00\x00\x00\x08\x13\x00\x12time-at-processing\x00\x00\x13\x00\x11time-at-completed\x00\x00!\x00\x13job-printer-up-time\x00\x04\x00\x00\x00dG\x00\x12attributes-charset\x00\x05utf-8H\x00\x1battributes-natural-language\x00\x02en!\x00\x0cjob-k-octets\x00\x04\x00\x00\x00\x81!\x00\x0fjob-impressions\x00\x04\x00\x00\x00\x14!\x00\x19job-impressions-completed\x00\x04\x00\x00\x00\x00!\x00\x13number-of-documents\x00\x04\x00\x00\x00\x02!\x00\x06copies\x00\x04\x00\x00\x00\x01D\x00\x0ejob-hold-until\x00\x07no-hold\x03",
+    ),
+    Reply(
+        "bob",
+        LookAtAll(8),
+        b"\x01\x01\x00\x00\x00\x00\x00\x01\x01G\x00\x12attributes-charset\x00\x05utf-8H\x00\x1battributes-natural-language\x00\x02en\x02E\x00\x07job-uri\x00\x1bipp://localhost/ipp/print/8!\x00\x06job-id\x00\x04\x00\x00\x00\x08E\x00\x0fjob-printer-uri\x00\x19ipp://localhost/ipp/printB\x00\x08job-name\x00\x08untitledB\x00\x19job-originating-user-name\x00\x03bob#\x00\x09job-state\x00\x04\x00\x00\x00\x04D\x00\x11job-state-reasons\x00\x18job-hold-until-specified!\x00\x10time-at-creation\x00\x04\x00\x00\x00\x09\x13\x00\x12time-at-processing\x00\x00\x13\x00\x11time-at-completed\x00\x00!\x00\x13job-printer-up-time\x00\x04\x00\x00\x00dG\x00\x12attributes-charset\x00\x05utf-8H\x00\x1battributes-natural-language\x00\x02en!\x00\x0cjob-k-octets\x00\x04\x00\x00\x00\x01!\x00\x0fjob-impressions\x00\x04\x00\x00\x00\x14!\x00\x19job-impressions-completed\x00\x04\x00\x00\x00\x00!\x00\x13number-of-documents\x00\x04\x00\x00\x00\x01!\x00\x06copies\x00\x04\x00\x00\x00\x01D\x00\x0ejob-hold-until\x00\x0aindefinite\x03",
+    ),
+    Reply(
+        "alice",
+        LookAtAll(9),
+        b"\x01\x01\x00\x00\x00\x00\x00\x01\x01G\x00\x12attributes-charset\x00\x05utf-8H\x00\x1battributes-natural-language\x00\x02en\x02E\x00\x07job-uri\x00\x1bipp://localhost/ipp/print/9!\x00\x06job-id\x00\x04\x00\x00\x00\x09E\x00\x0fjob-printer-uri\x00\x19ipp://localhost/ipp/printB\x00\x08job-name\x00\x08untitledB\x00\x19job-originating-user-name\x00\x05alice#\x00\x09job-state\x00\x04\x00\x00\x00\x04D\x00\x11job-state-reasons\x00\x0cjob-incoming!\x00\x10time-at-creation\x00\x04\x00\x00\x00\x0a\x13\x00\x12time-at-processing\x00\x00\x13\x00\x11time-at-completed\x00\x00!\x00\x13job-printer-up-time\x00\x04\x00\x00\x00dG\x00\x12attributes-charset\x00\x05utf-8H\x00\x1battributes-natural-language\x00\x02en!\x00\x0cjob-k-octets\x00\x04\x00\x00\x00\x00!\x00\x0fjob-impressions\x00\x04\x00\x00\x00\x14!\x00\x19job-impressions-completed\x00\x04\x00\x00\x00\x00!\x00\x13number-of-documents\x00\x04\x00\x00\x00\x00!\x00\x06copies\x00\x04\x00\x00\x00\x01D\x00\x0ejob-hold-until\x00\x07no-hold\x03",
+    ),
+    Reply(
+        "carol",
+        LookAtAll(10),
+        b"\x01\x01\x00\x00\x00\x00\x00\x01\x01G\x00\x12attributes-charset\x00\x05utf-8H\x00\x1battributes-natural-language\x00\x02en\x02E\x00\x07job-uri\x00\x1cipp://localhost/ipp/print/10!\x00\x06job-id\x00\x04\x00\x00\x00\x0aE\x00\x0fjob-printer-uri\x00\x19ipp://localhost/ipp/printB\x00\x08job-name\x00\x08untitledB\x00\x19job-originating-user-name\x00\x05carol#\x00\x09job-state\x00\x04\x00\x00\x00\x04D\x00\x11job-state-reasons\x00\x18job-hold-until-specified!\x00\x10time-at-creation\x00\x04\x00\x00\x00\x0b\x13\x00\x12time-at-processing\x00\x00\x13\x00\x11time-at-completed\x00\x00!\x00\x13job-printer-up-time\x00\x04\x00\x00\x00dG\x00\x12attributes-charset\x00\x05utf-8H\x00\x1battributes-natural-language\x00\x02en!\x00\x0cjob-k-octets\x00\x04\x00\x00\x00\x01!\x00\x0fjob-impressions\x00\x04\x00\x00\x00\x14!\x00\x19job-impressions-completed\x00\x04\x00\x00\x00\x00!\x00\x13number-of-documents\x00\x04\x00\x00\x00\x01!\x00\x06copies\x00\x04\x00\x00\x00\x01D\x00\x0ejob-hold-until\x00\x0aindefinite\x03",
+    ),
+    Reply(
+        "carol",
+        Printer,
+        b"\x01\x01\x00\x00\x00\x00\x00\x01\x01G\x00\x12attributes-charset\x00\x05utf-8H\x00\x1battributes-natural-language\x00\x02en\x04E\x00\x15printer-uri-supported\x00\x19ipp://localhost/ipp/printD\x00\x1curi-authentication-supported\x00\x14requesting-user-nameD\x00\x16uri-security-supported\x00\x04noneB\x00\x0cprinter-name\x00\x07release#\x00\x0dprinter-state\x00\x04\x00\x00\x00\x04D\x00\x15printer-state-reasons\x00\x04noneD\x00\x16ipp-versions-supported\x00\x031.1D\x00\x00\x00\x032.0#\x00\x14operations-supported\x00\x04\x00\x00\x00\x02#\x00\x00\x00\x04\x00\x00\x00\x04#\x00\x00\x00\x04\x00\x00\x00\x05#\x00\x00\x00\x04\x00\x00\x00\x06#\x00\x00\x00\x04\x00\x00\x00\x08#\x00\x00\x00\x04\x00\x00\x00\x09#\x00\x00\x00\x04\x00\x00\x00\x0a#\x00\x00\x00\x04\x00\x00\x00\x0b#\x00\x00\x00\x04\x00\x00\x00\x0c#\x00\x00\x00\x04\x00\x00\x00\x0d#\x00\x00\x00\x04\x00\x00\x009G\x00\x12charset-configured\x00\x05utf-8G\x00\x11charset-supported\x00\x05utf-8H\x00\x1bnatural-language-configured\x00\x02enH\x00$generated-natural-language-supported\x00\x02enI\x00\x17document-format-default\x00\x18application/octet-streamI\x00\x19document-format-supported\x00\x18application/octet-streamI\x00\x00\x00\x0fapplication/pdfI\x00\x00\x00\x16application/postscriptI\x00\x00\x00\x0aimage/jpegI\x00\x00\x00\x10image/pwg-rasterI\x00\x00\x00\x09image/urfI\x00\x00\x00\x0atext/plain\"\x00\x19printer-is-accepting-jobs\x00\x01\x01!\x00\x10queued-job-count\x00\x04\x00\x00\x00\x06D\x00\x16pdl-override-supported\x00\x0dnot-attempted!\x00\x0fprinter-up-time\x00\x04\x00\x00\x00dD\x00\x15compression-supported\x00\x04none\x03",
+    ),
 ];
 
-/// Documents by job and number, with the octets of those that the device may fetch: one of an ended and one of a held job, and
-/// some that aren't there, have none.
-const DOCUMENTS: &[(u32, u32, Option<u64>)] = &[
-    (1, 1, None),
-    (5, 1, Some(4)),
-    (6, 1, Some(3)),
-    (7, 1, Some(2)),
-    (7, 2, Some(131_073)),
-    (7, 3, None),
-    (8, 1, None),
-    (9, 1, None),
-    (99, 1, None),
+/// Jobs that users may not see, their lists, the device's queue, documents, of which it may fetch those of jobs 5, 6 and 7, and the
+/// accounts.
+static LOOKS: &[Step<'static>] = &[
+    Ask("alice", LookAtAll(10), 0x0406),
+    Ask("carol", LookAtAll(11), 0x0406),
+    Jobs("alice", Live, &[5, 6, 7, 9]),
+    Jobs("alice", Ended, &[4, 3, 1, 2]),
+    Jobs("bob", Live, &[8]),
+    Jobs("carol", Live, &[10]),
+    Queue("7 1 2 131075\n"),
+    Document(1, 1, None),
+    Fetch(5, 1, b"five"),
+    Fetch(6, 1, b"six"),
+    Fetch(7, 1, b"hi"),
+    Document(7, 3, None),
+    Document(8, 1, None),
+    Document(9, 1, None),
+    Document(99, 1, None),
+    Statement(
+        "alice",
+        "account alice\n\
+        granted              300\n\
+        free                 186\n\
+        reserved              76\n\
+        printed               38\n\
+        \x20      job state  reserved   printed\n\
+        \x20        1     9         0        25\n\
+        \x20        3     7         0         3\n\
+        \x20        4     8         0         6\n\
+        \x20        5     5        20         0\n\
+        \x20        6     6        16         4\n\
+        \x20        7     3        20         0\n\
+        \x20        9     4        20         0\n\
+        \x20    total              76        38\n",
+    ),
+    Sheet("bob", (50, 50, 0, 0)),
+    NoSheet("carol"),
 ];
 
-/// Adds the answer to a request, which has this code.
-fn put_answer<B: QueueBook>(
-    desk: &Desk,
-    book: &mut B,
-    caller: &str,
-    request: Request<'_>,
-    code: Code,
-    out: &mut Vec<u8>,
+/// A book shows all of the queue at moment 100.
+pub(super) fn shows_the_queue<S: Alter>(
+    alloc: Global,
+    book: &mut TableBook<S>,
 ) -> Result<(), Fail> {
-    let answer = desk.ask(book, caller, request)?;
-    same(&answer.bytes().get(2..4), &Some(code.as_slice()), caller)?;
-    out.extend_from_slice(answer.bytes())?;
-    out.extend_from_slice(b"\n")?;
+    let mut desk = Desk::of(alloc, book.settings()?, 100);
+    desk.take_each(book, REPLIES)?;
+    desk.take_each(book, LOOKS)?;
+    let document = long_document(alloc, 131_073)?;
+    desk.take(book, Fetch(7, 2, document.as_slice()))?;
     Ok(())
-}
-
-/// Adds the answers to the requests.
-fn put_answers<B: QueueBook>(desk: &Desk, book: &mut B, out: &mut Vec<u8>) -> Result<(), Fail> {
-    for (caller, request, code) in REQUESTS {
-        put_answer(desk, book, caller, *request, *code, out)?;
-    }
-    Ok(())
-}
-
-/// Adds the jobs that the device is shown.
-fn put_queue<B: QueueBook>(alloc: Global, book: &mut B, out: &mut Vec<u8>) -> Result<(), Fail> {
-    let jobs = book.pending()?;
-    let text = queue_text(alloc, jobs.as_slice())?;
-    out.extend_from_slice(text.as_bytes())?;
-    Ok(())
-}
-
-/// Adds a document, which has so many octets if the device may fetch it.
-fn put_document<B: QueueBook>(
-    book: &mut B,
-    job: u32,
-    number: u32,
-    octets: Option<u64>,
-    out: &mut Vec<u8>,
-) -> Result<(), Fail> {
-    let head = book.document_head(job, number)?;
-    writeln!(out, "{job} {number}: {head:?}")?;
-    same(&head.map(|head| head.octets), &octets, "octets")?;
-    if head.is_some() {
-        let sent = book.send_document(job, number, out);
-        same(&sent.ok(), &octets, "octets sent")?;
-    }
-    Ok(())
-}
-
-/// Adds the documents.
-fn put_documents<B: QueueBook>(book: &mut B, out: &mut Vec<u8>) -> Result<(), Fail> {
-    for (job, number, octets) in DOCUMENTS {
-        put_document(book, *job, *number, *octets, out)?;
-    }
-    Ok(())
-}
-
-/// Adds what is told of an account.
-fn put_sheet<B: QueueBook>(book: &mut B, account: &str, out: &mut Vec<u8>) -> Result<(), Fail> {
-    let sheet = book.sheet(account)?;
-    writeln!(out, "{account}: {sheet:?}")?;
-    Ok(())
-}
-
-/// Adds all that the book shows.
-fn put_all<B: QueueBook>(desk: &Desk, book: &mut B, out: &mut Vec<u8>) -> Result<(), Fail> {
-    put_answers(desk, book, out)?;
-    put_queue(desk.alloc(), book, out)?;
-    put_documents(book, out)?;
-    put_sheet(book, "alice", out)?;
-    put_sheet(book, "bob", out)?;
-    put_sheet(book, "carol", out)
-}
-
-/// All that the book shows.
-pub(super) fn shown<B: QueueBook>(desk: &Desk, book: &mut B) -> Result<Vec<u8>, Fail> {
-    let mut out = Vec::new(desk.alloc());
-    put_all(desk, book, &mut out)?;
-    Ok(out)
 }
