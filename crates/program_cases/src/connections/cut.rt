@@ -8,7 +8,7 @@ use crate::desk::jobs::PRINTED;
 use crate::desk::messages::{BAD_REQUEST, JOB_1, JOB_2, PRINT_JOB};
 use crate::desk::queue::{Exchange, Queue};
 use crate::desk::requests::{IPP, POST_JOB, POST_WAITING};
-use crate::desk::streams::{AT_EACH_SPEED, AT_ONCE, Way};
+use crate::desk::streams::{AT_EACH_SPEED, Way, by};
 use http_front::End;
 use list_book::ListBook;
 use std::alloc::Global;
@@ -31,7 +31,7 @@ fn cut_to<B: DeskBook>(queue: &mut Queue<B>, front: &[u8], head: usize, answers:
     }
 }
 
-/// No front of a Print-Job leaves a job, and it does, with these answers, the last of which isn't written before.
+/// No front of a Print-Job leaves a job, and it does, byte by byte, with these answers, the last of which isn't written before.
 fn cut_in<B: DeskBook>(
     alloc: Global,
     whole: &Connection<'_>,
@@ -43,7 +43,7 @@ fn cut_in<B: DeskBook>(
     for length in 0..request.len() {
         cut_to(&mut queue, &request[..length], head, begun);
     }
-    queue.take(whole, AT_ONCE);
+    queue.take(whole, by(1));
     queue.end_at_job(2)
 }
 

@@ -6,7 +6,7 @@ use crate::desk::connection::Wanted::{Refusal, Success};
 use crate::desk::connection::{Wanted, wanted_bytes};
 use crate::desk::faulty::{Failure, FaultyBook, TAKES_NOTHING};
 use crate::desk::jobs::{PRINT, RELEASE};
-use crate::desk::messages::{FAULT, PRINT_JOB};
+use crate::desk::messages::{FAULT, OTHER_VERSION, PRINT_JOB, PRINT_JOB_3_0};
 use crate::desk::queue::{Exchange, Queue};
 use crate::desk::refused::NO_LINE;
 use crate::desk::requests::{
@@ -62,12 +62,14 @@ const JOB_FAULT: Wanted<'static> = Success(IPP, FAULT);
 
 const UNAVAILABLE: Wanted<'static> = Refusal("503 Service Unavailable");
 
-/// A look at the queue of a book that can't be read, and one more request behind it, which the look ends.
+/// Requests that ask nothing of a book that can't be read, changes, a look at the queue, and one more request behind it, which the look ends.
 const LOOK: Row = Row {
     name: "a queue that can't be read",
     failure: NO_MEMORY,
     stream: &[
         NO_REPORT,
+        POST_JOB,
+        PRINT_JOB_3_0,
         REPORT_START,
         POST_JOB,
         PRINT_JOB,
@@ -76,11 +78,17 @@ const LOOK: Row = Row {
         PRINT_JOB,
     ],
     outcome: Ok(Served {
-        acted: 3,
-        faults: 0b1110,
+        acted: 4,
+        faults: 0b11100,
         end: End::Refused(503),
     }),
-    wanted: &[NO_LINE, REPORT_FAULT, JOB_FAULT, UNAVAILABLE],
+    wanted: &[
+        NO_LINE,
+        Success(IPP, OTHER_VERSION),
+        REPORT_FAULT,
+        JOB_FAULT,
+        UNAVAILABLE,
+    ],
     lacks: 0,
 };
 
