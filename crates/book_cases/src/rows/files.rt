@@ -135,42 +135,40 @@ static LINE_ENDS_AND_HEADERS: &[Case<'static>] = &[
 ];
 
 /// The row of a refusal.
-static REFUSALS: &[Case<'static>] = &[
-    Case {
-        name: "the row of a refusal",
-        first: &[],
-        rows: &[&[
-            Grant(b" \n", Err((2, 1))),
-            Grant(b"f24,zoe,1\n   \n", Err((2, 2))),
-            Grant(b"f24,\"al\nice\",30\n", Err((2, 1))),
-            Grant(b"f24,a,1\nf24,b\nf24,c,0\n", Err((2, 2))),
-            Grant(b"f24,a,1\nf24,c,0\nf24,b\n", Err((3, 2))),
-            Grant(b"\n\nf24,a,1\n\nf24,b\n", Err((2, 2))),
-            Grant(b"f24,\"a\",1\r\nf24,b\r\n", Err((2, 2))),
-            Grant(b"f24,alice,30\nf24,alice,0\n", Err((3, 2))),
-            Grant(b"f24,alice,0\n", Err((3, 1))),
-            Grant(b"f24,alice,1000001\n", Err((3, 1))),
-            Grant(b"f24,alice,4294967296\n", Err((3, 1))),
-            Grant(b"f24,alice,4294967326\n", Err((3, 1))),
-            Grant(b"f24,alice,18446744073709551646\n", Err((3, 1))),
-            Grant(b"f 24,alice,0\n", Err((2, 1))),
-            Grant(b"f24,,1000001\n", Err((2, 1))),
-            Grant(b"f24,alice,0\nf24,bob\n", Err((3, 1))),
-            Grant(b"f24,alice,30\nf24,alice,31\n", Err((4, 2))),
-            Grant(
-                b"f24,alice,30\nf24,bob,1\nf24,alice,30\nf24,alice,29\n",
-                Err((4, 4)),
-            ),
-            Grant(b"f24,alice,30\nf24,alice,31\nf24,bob\n", Err((2, 3))),
-            Grant(b"f24,alice,30\nf24,alice,31\nf24,bob,0\n", Err((3, 3))),
-            Grant(b"f24,\"x\",1\r\nf24,b\r\n", Err((2, 2))),
-            NoSheet("alice"),
-            NoSheet("a"),
-            NoSheet("bob"),
-            NoSheet("zoe"),
-        ]],
-    },
-];
+static REFUSALS: &[Case<'static>] = &[Case {
+    name: "the row of a refusal",
+    first: &[],
+    rows: &[&[
+        Grant(b" \n", Err((2, 1))),
+        Grant(b"f24,zoe,1\n   \n", Err((2, 2))),
+        Grant(b"f24,\"al\nice\",30\n", Err((2, 1))),
+        Grant(b"f24,a,1\nf24,b\nf24,c,0\n", Err((2, 2))),
+        Grant(b"f24,a,1\nf24,c,0\nf24,b\n", Err((3, 2))),
+        Grant(b"\n\nf24,a,1\n\nf24,b\n", Err((2, 2))),
+        Grant(b"f24,\"a\",1\r\nf24,b\r\n", Err((2, 2))),
+        Grant(b"f24,alice,30\nf24,alice,0\n", Err((3, 2))),
+        Grant(b"f24,alice,0\n", Err((3, 1))),
+        Grant(b"f24,alice,1000001\n", Err((3, 1))),
+        Grant(b"f24,alice,4294967296\n", Err((3, 1))),
+        Grant(b"f24,alice,4294967326\n", Err((3, 1))),
+        Grant(b"f24,alice,18446744073709551646\n", Err((3, 1))),
+        Grant(b"f 24,alice,0\n", Err((2, 1))),
+        Grant(b"f24,,1000001\n", Err((2, 1))),
+        Grant(b"f24,alice,0\nf24,bob\n", Err((3, 1))),
+        Grant(b"f24,alice,30\nf24,alice,31\n", Err((4, 2))),
+        Grant(
+            b"f24,alice,30\nf24,bob,1\nf24,alice,30\nf24,alice,29\n",
+            Err((4, 4)),
+        ),
+        Grant(b"f24,alice,30\nf24,alice,31\nf24,bob\n", Err((2, 3))),
+        Grant(b"f24,alice,30\nf24,alice,31\nf24,bob,0\n", Err((3, 3))),
+        Grant(b"f24,\"x\",1\r\nf24,b\r\n", Err((2, 2))),
+        NoSheet("alice"),
+        NoSheet("a"),
+        NoSheet("bob"),
+        NoSheet("zoe"),
+    ]],
+}];
 
 #[test]
 fn files_one_after_another(rt: HostRuntime) -> Result<(), Fail> {

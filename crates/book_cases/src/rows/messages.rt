@@ -74,10 +74,7 @@ fn is_told(alloc: Global, message: &[u8], wanted: Told) -> Result<(), Fail> {
     if came == wanted {
         return Ok(());
     }
-    Err(Fail::new(format_args!(
-        "{} bytes: {came:?}, wanted: {wanted:?}",
-        message.len()
-    )))
+    Err(Fail::new(format_args!("{} bytes: {came:?}, wanted: {wanted:?}", message.len())))
 }
 
 /// This is told of the fronts of a message from one length up to another.

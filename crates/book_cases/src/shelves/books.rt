@@ -70,12 +70,7 @@ impl<'a> TestBooks<'a> {
     }
 
     /// Takes the first steps and then those of a row, over each book.
-    fn take_row(
-        &self,
-        row: usize,
-        first: &[Step<'_>],
-        steps: &[Step<'_>],
-    ) -> Result<(), RowFault> {
+    fn take_row(&self, row: usize, first: &[Step<'_>], steps: &[Step<'_>]) -> Result<(), RowFault> {
         let alloc = self.alloc();
         take_in_memory(alloc, row, first, steps)?;
         take_row(alloc, &Adopted, row, first, steps)?;
