@@ -1,18 +1,42 @@
--- What is decided on a call has one of the forms.
+-- What is decided on a call has one of a few forms.
 use Rattle.std.proofs.Common.{◌≡◌, ℕ, List, [], ◌∷◌, refl, subst, Bool, true, false, cond}
-use Rattle.std.specs.Prelude.{Some, None, bytes_eq, nat_le, nat_lt}
+use Rattle.std.specs.Prelude.{Option, Some, None, bytes_eq, filter, nat_le, nat_lt}
 use Rattle.std.specs.List.{list_all}
 use Rattle.queue_types.specs.Job.{estimate}
-use Rattle.queue_types.specs.Event.{Call, Decision, print_job, validate_job, create_job, send_document, cancel_job, cancel_my_jobs, hold_job, release_job, get_job_attributes, get_jobs, get_printer_attributes}
-use Rattle.queue_core.specs.Forms.{IsOwn, HasForm, not_possible, not_found, out_of_numbers, done, lists, shows, shows_printer, prints, creates, sends, cancels, cancels_all, holds, releases}
-use Rattle.queue_core.specs.Machine.{answered, refused, unless_refused, call_row, send_in, is_sendable, is_cancelable, cancel_row, are_there, all_canceled, cancel_my_jobs_row, hold_in, has_pages, let_print, release_in, of_own}
+use Rattle.queue_types.specs.Event.{NewJob, Call, Decision, print_job, validate_job, create_job, send_document, cancel_job, cancel_my_jobs, hold_job, release_job, get_job_attributes, get_jobs, get_printer_attributes}
+use Rattle.queue_core.specs.Machine.{answered, refused, becomes, entered, new_job, new_document, new_refusal, unless_refused, call_row, printer_row, send_in, document_sent, is_sendable, is_cancelable, canceled, cancel_row, are_there, all_canceled, cancel_my_jobs_row, hold_in, has_pages, let_print, release_in, of_own}
+use Rattle.queue_types.specs.declared.document.Format.{Format}
 use Rattle.queue_types.specs.declared.event.Reply.TheVariants.{Done, Jobs}
 use Rattle.queue_types.specs.declared.event.Scene.{Scene}
+use Rattle.queue_types.specs.declared.event.WhichJobs.{WhichJobs}
 use Rattle.queue_types.specs.declared.job.Job.{Job}
 use Rattle.queue_types.specs.declared.job.Phase.{Phase}
 use Rattle.queue_types.specs.declared.job.Phase.TheVariants.{Waiting, Running, Stopped}
 use Rattle.queue_core.proofs.Numbers.{filter_whole}
 use Rattle.queue_core.proofs.Print.{refused_by}
+
+-- the first job of the scene is the caller's own
+pub record IsOwn (s : Scene) (caller : List ℕ) (j : Job) : Type 0 where
+  pub rest : List Job
+  pub first : s.jobs ≡ j ∷ rest
+  pub owner : bytes_eq j.owner caller ≡ true
+
+-- a refusal; an answer alone; or the change that the call asks for
+pub data HasForm (s : Scene) (now : ℕ) (caller : List ℕ) : Call → Decision → Type 0 where
+  not_possible : (call : Call) → HasForm s now caller call (refused 0x0404)
+  not_found : (call : Call) → HasForm s now caller call (refused 0x0406)
+  out_of_numbers : (call : Call) → HasForm s now caller call (refused 0x0506)
+  done : (call : Call) → HasForm s now caller call (answered Done)
+  lists : (which : WhichJobs) (limit : Option ℕ) → HasForm s now caller (get_jobs which limit) (answered (Jobs s.jobs))
+  shows : (n : ℕ) (j : Job) → IsOwn s caller j → HasForm s now caller (get_job_attributes n) (answered (Jobs (j ∷ [])))
+  shows_printer : HasForm s now caller get_printer_attributes (printer_row s)
+  prints : (new : NewJob) (format : Format) (payload : List ℕ) → new_refusal s ≡ None → HasForm s now caller (print_job new format payload) (entered s (new_job s now caller false new payload) (new_document s.next format payload))
+  creates : (new : NewJob) → new_refusal s ≡ None → HasForm s now caller (create_job new) (entered s (new_job s now caller true new []) None)
+  sends : (n : ℕ) (format : Format) (payload : List ℕ) (last : Bool) (j : Job) → IsOwn s caller j → is_sendable j payload ≡ true → HasForm s now caller (send_document n format payload last) (document_sent s j format payload last)
+  cancels : (n : ℕ) (j : Job) → IsOwn s caller j → is_cancelable j ≡ true → HasForm s now caller (cancel_job n) (becomes s (canceled now j))
+  cancels_all : (numbers : Option (List ℕ)) → HasForm s now caller (cancel_my_jobs numbers) (all_canceled s now (filter is_cancelable s.jobs))
+  holds : (n : ℕ) (j : Job) → IsOwn s caller j → j.phase ≡ Waiting → HasForm s now caller (hold_job n) (becomes s (record j { hold = true }))
+  releases : (n : ℕ) (j : Job) → IsOwn s caller j → j.phase ≡ Waiting → has_pages s.free (estimate j) ≡ true → HasForm s now caller (release_job n) (becomes s (record j { hold = false }))
 
 module _ (s : Scene) (now : ℕ) (caller : List ℕ) where
   unless_form : (call : Call) (full past : Bool) (d : Decision) → (refused_by full past ≡ None → HasForm s now caller call d) → HasForm s now caller call (unless_refused (refused_by full past) d)

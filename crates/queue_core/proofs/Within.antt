@@ -4,7 +4,6 @@ use Rattle.std.specs.List.{AllByRecursion as Each}
 use Rattle.std.specs.Prelude.{All, IsSome, IfSome, is_some, filter, Option, Some, None}
 use Rattle.queue_types.specs.Event.{Event, Call, NewJob, NewDocument, Decision, ask, tell, grant}
 use Rattle.queue_core.specs.World.{job_at}
-use Rattle.queue_core.specs.Forms.{IsOwn, HasForm, not_possible, not_found, out_of_numbers, done, lists, shows, shows_printer, prints, creates, sends, cancels, cancels_all, holds, releases}
 use Rattle.queue_core.specs.Reports.{reported, is_same_report}
 use Rattle.queue_core.specs.Grants.{repeated, refused_row, new_row, row_of, Taken, all_taken, none_taken, free_after, add_row, take_rows}
 use Rattle.queue_core.specs.Machine.{decision, call_row, refused, becomes, answered, canceled, is_cancelable, all_canceled, entered, new_job, new_document, new_refusal, sent, accepted, accepted_where, report_row, grant_row}
@@ -22,7 +21,7 @@ use Rattle.queue_types.specs.declared.event.ReportRefusal.TheVariants.{NoJob, St
 use Rattle.queue_types.specs.declared.event.Scene.{Scene}
 use Rattle.queue_core.proofs.Cancel.{held, held_documents}
 use Rattle.queue_core.proofs.Many.{keeps_documents, passed, each_both}
-use Rattle.queue_core.proofs.Forms.{call_form}
+use Rattle.queue_core.proofs.Forms.{IsOwn, HasForm, not_possible, not_found, out_of_numbers, done, lists, shows, shows_printer, prints, creates, sends, cancels, cancels_all, holds, releases, call_form}
 use Rattle.queue_core.proofs.Ordered.{all_of, each_of, each-filter}
 use Rattle.queue_core.proofs.Print.{new_job_sound, not_refused}
 use Rattle.queue_core.proofs.Reported.{reported_is}

@@ -5,7 +5,6 @@ pub mod Reports
 pub mod Grants
 pub mod Tally
 pub mod Machine
-pub mod Forms
 pub mod Order
 pub mod Limits
 pub mod Balance

@@ -3,15 +3,12 @@ ghost use Rattle.std.specs.Prelude.{ℕ, ◌≡◌, ◌+◌, ◌∷◌, ◌++◌
 ghost use Rattle.std.specs.FinMap.{FinMap};
 ghost use Rattle.std.specs.List.{AllByRecursion};
 ghost use Rattle.queue_core.specs.Book.{IsDecisionOn};
-ghost use Rattle.queue_types.specs.Event.{Call, Event, Decision};
-ghost use Rattle.queue_core.specs.Forms.{HasForm};
+ghost use Rattle.queue_types.specs.Event.{Event, Decision};
 ghost use Rattle.queue_core.specs.Grants.{pages_to};
 ghost use Rattle.queue_types.specs.declared.event.GrantRow.{GrantRow};
 ghost use Rattle.queue_core.specs.Limits.{IsFair, IsSoundChange};
-ghost use Rattle.queue_core.specs.Machine.{call_row};
 ghost use Rattle.queue_core.specs.Visible.{in_order};
 ghost use Rattle.queue_core.specs.Order.{IsLive, AreNewestFirst, AreByRank, AreRising};
-ghost use Rattle.queue_types.specs.declared.event.Scene.{Scene};
 ghost use Rattle.queue_types.specs.declared.event.WhichJobs.TheVariants.{NotCompleted, Completed as CompletedJobs};
 ghost use Rattle.queue_types.specs.declared.job.Job.{Job};
 ghost use Rattle.queue_core.specs.Runs.{Place, IsPlace, run, MovesAlong};
@@ -52,15 +49,10 @@ pub fn new_grants_add_up()
     ensures { (a : List ℕ) (rows : List GrantRow) (m : FinMap grant_cmp ℕ) → AreNew m rows → granted_in a (fold put_grant m rows) ≡ granted_in a m + pages_to a rows }
 {}
 
-/// What is decided on a request is a refusal, an answer alone, or the one change that its call asks for: of a job of the
-/// caller's own where the call is on one, and of a new one where it asks for one and there is room.
-pub fn requests_have_forms()
-    ensures { (s : Scene) (now : ℕ) (caller : List ℕ) (call : Call) → HasForm s now caller call (call_row s now caller call) }
-{}
-
-/// Get-Jobs shows each job that it is about as often as the list has it: 'completed' from the one that ended last,
-/// and at one moment from the greatest number; 'not-completed' by the rank of its state (those that the
-/// device has, those that it may start, those that wait), and of one rank by number.
+/// The list that `in_order` makes of a list of jobs, as Get-Jobs shows them. 'completed': it has each of them as often,
+/// from the one that ended last, and of one moment from the greatest number. 'not-completed': it has each of them as often
+/// where all are live; where the list's numbers rise, they stand by the rank of their state (those that the device has,
+/// those that it may start, those that wait), and of one rank by number.
 pub fn get_jobs_in_order()
     ensures completed_all { (p : Job → Bool) (js : List Job) → count_by p (in_order CompletedJobs js) ≡ count_by p js }
     ensures completed_newest { (js : List Job) → AreNewestFirst (in_order CompletedJobs js) }

@@ -20,7 +20,7 @@ pub use balance::numbered_job;
 pub use book::{BookFault, QueueBook, SendCause, SendFault};
 pub use laws::{
     cut_is_fair, decisions_are_sound, empty_is_sound, get_jobs_in_order, new_grants_add_up,
-    requests_have_forms, run_keeps,
+    run_keeps,
 };
 pub use machine::decide;
 pub use my_jobs::number_set;

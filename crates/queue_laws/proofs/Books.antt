@@ -2,11 +2,10 @@
 use Rattle.std.proofs.Common.{◌≡◌, ℕ, List, [], refl, ap}
 use Rattle.std.specs.Prelude.{None, fold}
 use Rattle.queue_types.specs.Event.{Call, Decision, ask}
-use Rattle.queue_core.specs.Forms.{HasForm, not_possible}
 use Rattle.queue_core.specs.Machine.{step, call_row}
 use Rattle.queue_core.specs.World.{World, cut, put_grant, with_report}
 use Rattle.queue_types.specs.declared.event.Scene.{Scene}
-use Rattle.queue_core.proofs.Forms.{call_form}
+use Rattle.queue_core.proofs.Forms.{HasForm, not_possible, call_form}
 
 abbrev Keeps : Decision → Type 0
 Keeps d = (d.change.grants ≡ []) × (d.change.report ≡ None)

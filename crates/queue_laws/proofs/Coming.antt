@@ -6,7 +6,6 @@ use Rattle.std.specs.Option.{option_map_or}
 use Rattle.std.proofs.lemmas.List.{append-nil}
 use Rattle.queue_types.specs.Event.{Event, Call, Change, Decision, NewDocument, ask, tell, grant, print_job, send_document}
 use Rattle.queue_core.specs.World.{World, Entry, rows, cut, made_on, with_row, add_document, with_document}
-use Rattle.queue_core.specs.Forms.{HasForm, prints, sends as sends_form}
 use Rattle.queue_core.specs.Grants.{Taken, all_taken, none_taken, take_rows}
 use Rattle.queue_core.specs.Machine.{step, decision, call_row, answered, refused, entered, new_job, new_document, new_refusal, unless_refused, is_sendable, document_sent, send_in, report_row, accepted_where, grant_row, of_own}
 use Rattle.queue_core.specs.Reports.{reported, is_same_report}
@@ -18,7 +17,7 @@ use Rattle.queue_types.specs.declared.event.ReportRefusal.TheVariants.{Conflict}
 use Rattle.queue_types.specs.declared.event.Reply.TheVariants.{Told, NotTold}
 use Rattle.queue_types.specs.declared.event.Scene.{Scene}
 use Rattle.queue_types.specs.declared.job.Job.{Job}
-use Rattle.queue_core.proofs.Forms.{call_form}
+use Rattle.queue_core.proofs.Forms.{HasForm, prints, sends as sends_form, call_form}
 use Rattle.queue_laws.specs.Documents.{documents_at, sent_by, sent_in}
 use Rattle.queue_laws.specs.Doing.{entry_at}
 use Rattle.queue_laws.specs.Entering.{documents_of}

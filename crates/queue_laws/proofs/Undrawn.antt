@@ -2,11 +2,10 @@
 use Rattle.std.proofs.Common.{◌≡◌, ℕ, List, refl, ap, false}
 use Rattle.std.specs.Prelude.{None, unwrap_or}
 use Rattle.queue_types.specs.Event.{Call, Decision, ask}
-use Rattle.queue_core.specs.Forms.{HasForm, prints, creates}
 use Rattle.queue_core.specs.Machine.{step, call_row}
 use Rattle.queue_core.specs.World.{World, cut}
 use Rattle.queue_types.specs.declared.event.Scene.{Scene}
-use Rattle.queue_core.proofs.Forms.{call_form}
+use Rattle.queue_core.proofs.Forms.{HasForm, prints, creates, call_form}
 use Rattle.queue_laws.specs.Calls.{draws_number}
 
 form_draws_none : (s : Scene) (now : ℕ) (caller : List ℕ) (call : Call) (d : Decision) → HasForm s now caller call d → draws_number call ≡ false → d.change.next ≡ None
