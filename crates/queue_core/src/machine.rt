@@ -19,7 +19,9 @@ use queue_types::event::{Call, Decision, Event, NewDocument, NewJob, QueueCounts
 use queue_types::job::{Job, Phase};
 use queue_types::limits::{LAST_JOB_NUMBER, MOST_LIVE_JOBS};
 use queue_types::states::PrinterState;
-use queue_types::status::{CLIENT_ERROR_NOT_POSSIBLE, SERVER_ERROR_NOT_ACCEPTING_JOBS};
+use queue_types::status::{
+    CLIENT_ERROR_NOT_FOUND, CLIENT_ERROR_NOT_POSSIBLE, SERVER_ERROR_NOT_ACCEPTING_JOBS,
+};
 use queue_types::text::Text;
 use std::alloc::{AllocError, Global};
 
@@ -184,9 +186,8 @@ fn answer_on_job<'a>(context: CallContext<'_>, call: &Call<'a>) -> Result<Decisi
         now,
         caller,
     } = context;
-    let job = match own(scene, caller) {
-        Ok(job) => job,
-        Err(code) => return Ok(refuse(alloc, code)),
+    let Some(job) = own(scene, caller) else {
+        return Ok(refuse(alloc, CLIENT_ERROR_NOT_FOUND));
     };
     match call {
         Call::SendDocument {

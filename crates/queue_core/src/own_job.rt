@@ -1,5 +1,5 @@
 //! What the machine decides on a job of the caller's own.
-ghost use Rattle.std.specs.Prelude.{◌≡◌, ◌≤◌, ◌∷◌, [], All, IfOk, IfErr, option_map};
+ghost use Rattle.std.specs.Prelude.{◌≡◌, ◌≤◌, ◌∷◌, [], All, IfOk, IfSome, IsNone, option_map};
 ghost use Rattle.queue_types.specs.Event.{decision_of, document_of};
 ghost use Rattle.queue_types.specs.Job.{estimate};
 ghost use Rattle.queue_core.specs.Limits.{IsFair, IsSoundJob};
@@ -11,7 +11,7 @@ use queue_types::document::Format;
 use queue_types::event::{Decision, FreeRow, NewDocument, Reply, Scene};
 use queue_types::job::{Job, Phase, Why};
 use queue_types::limits::MOST_DOCUMENTS;
-use queue_types::status::{CLIENT_ERROR_NOT_FOUND, CLIENT_ERROR_NOT_POSSIBLE};
+use queue_types::status::CLIENT_ERROR_NOT_POSSIBLE;
 use std::alloc::{AllocError, Global};
 
 /// The job waits, or the device has it and was not asked to stop it.
@@ -59,17 +59,16 @@ pub(crate) fn cancel<'a>(
     job_becomes(alloc, scene, canceled_job(now, job)?)
 }
 
-/// The caller's own job, the first of those that the event speaks of, or the code of a refusal: another's
-/// job and no job are one answer.
-pub(crate) fn own<'s>(scene: &'s Scene, caller: &str) -> Result<&'s Job, u16>
+/// The caller's own job, the first of those that the event speaks of: another's job and no job are both none.
+pub(crate) fn own<'s>(scene: &'s Scene, caller: &str) -> Option<&'s Job>
     requires sound { All IsSoundJob scene.now.jobs }
-    ensures own { IfOk result (λ j. (row : _) → of_own caller.now row scene.now.jobs ≡ row j.now) }
-    ensures none { IfErr result (λ code. (row : _) → of_own caller.now row scene.now.jobs ≡ refused code) }
-    ensures sound { IfOk result (λ j. IsSoundJob j.now) }
+    ensures own { IfSome result (λ j. (row : _) → of_own caller.now row scene.now.jobs ≡ row j.now) }
+    ensures none { IsNone result → (row : _) → of_own caller.now row scene.now.jobs ≡ refused 0x0406 }
+    ensures sound { IfSome result (λ j. IsSoundJob j.now) }
 {
     match scene.jobs.as_slice() {
-        [job, ..] if job.owner.as_str() == caller => Ok(job),
-        _ => Err(CLIENT_ERROR_NOT_FOUND),
+        [job, ..] if job.owner.as_str() == caller => Some(job),
+        _ => None,
     }
 }
 
