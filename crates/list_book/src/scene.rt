@@ -15,8 +15,7 @@ ghost use Rattle.list_book.specs.Tables.{free_map};
 use crate::accounts::{Accounts, free_rows_of};
 use crate::grants::known_rows;
 use crate::lists::{Lists, Reports, place_of};
-use crate::shown::ordered;
-use queue_core::visible::cut_at;
+use crate::shown::{cut_at, ordered};
 use queue_core::{call_scene, grants_scene, no_counts, number_set, report_scene};
 use queue_types::event::{
     Call, Event, FreeRow, GrantRow, KeptReport, QueueCounts, Report, Scene, WhichJobs,

@@ -13,7 +13,6 @@ mod names;
 mod own_job;
 mod reports;
 mod scenes;
-pub mod visible;
 mod writing;
 
 pub use balance::numbered_job;
