@@ -38,17 +38,10 @@ pub(crate) fn pages_of(accounts: &Accounts, name: &Name) -> (Option<i64>, u32)
 }
 
 /// The account's free pages, where it is there.
-pub(crate) fn free_pages(accounts: &Accounts, name: &Name) -> Option<i64>
+fn free_pages(accounts: &Accounts, name: &Name) -> Option<i64>
     ensures { result ≡ get (free_map accounts.now.entries) name.now }
 {
     pages_of(accounts, name).0
-}
-
-/// The pages that were granted to the account in all, 0 where it is not there.
-pub(crate) fn pages_granted(accounts: &Accounts, name: &Name) -> u32
-    ensures { result ≡ total_of accounts.now.entries name.now }
-{
-    pages_of(accounts, name).1
 }
 
 /// The account with its free pages, where it is there.

@@ -51,9 +51,7 @@ fn nth_document(documents: &[KeptDocument], job: u32, n: u32) -> Option<&Documen
 pub(crate) fn document(lists: &Lists, job: u32, n: u32) -> Option<&Document>
     ensures { option_copied result ≡ document_at (world_of lists.now) job n }
 {
-    let Some(found) = numbered_job(lists.jobs.as_slice(), job) else {
-        return None;
-    };
+    let found = numbered_job(lists.jobs.as_slice(), job)?;
     if may_be_fetched(found) {
         nth_document(lists.documents.as_slice(), found.number, n)
     } else {

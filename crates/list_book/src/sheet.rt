@@ -4,9 +4,9 @@ ghost use Rattle.std.specs.FinMap.{get};
 ghost use Rattle.queue_core.specs.Shown.{charged_to};
 ghost use Rattle.queue_core.specs.Sound.{printed_for, reserved_for};
 ghost use Rattle.list_book.specs.Lists.{sheet_in};
-ghost use Rattle.list_book.specs.Tables.{free_map};
+ghost use Rattle.list_book.specs.Tables.{free_map, total_of};
 
-use crate::accounts::{free_pages, pages_granted};
+use crate::accounts::pages_of;
 use crate::lists::Lists;
 use crate::name::Name;
 use queue_types::job::{Job, JobList};
@@ -54,22 +54,23 @@ fn printed_in(jobs: &[Job], account: &str) -> u64
     pages
 }
 
-/// The sheet of an account that is there, with its free pages.
+/// The sheet of an account that is there, with its free pages and those that were granted to it.
 fn sheet_with(
     alloc: Global,
     lists: &Lists,
     account: &str,
     name: Name,
     free: i64,
+    granted: u32,
 ) -> Result<AccountSheet, AllocError>
     requires name { name ≡ account.now }
+    requires granted { granted ≡ total_of lists.now.accounts.entries account.now }
     requires reserved { reserved_for account.now lists.now.jobs.items < 2 ^ 64 }
     requires printed { printed_for account.now lists.now.jobs.items < 2 ^ 64 }
     ensures { IfOk result (λ s. s ≡ sheet_in lists.now account.now free) }
 {
     let jobs = lists.jobs.as_slice();
     let shown = sheet_jobs(alloc, jobs, account)?;
-    let granted = pages_granted(&lists.accounts, &name);
     Ok(AccountSheet {
         account: name.into_text(),
         granted: u64::from(granted),
@@ -91,11 +92,9 @@ pub(crate) fn sheet(
     ensures { IfOk result (λ s. s ≡ option_map (sheet_in lists.now account.now) (get (free_map lists.now.accounts.entries) account.now)) }
 {
     let name = Name::copy_of(alloc, account)?;
-    match free_pages(&lists.accounts, &name) {
-        Some(free) => {
-            let s = sheet_with(alloc, lists, account, name, free)?;
-            Ok(Some(s))
-        }
-        None => Ok(None),
-    }
+    let (Some(free), granted) = pages_of(&lists.accounts, &name) else {
+        return Ok(None);
+    };
+    let sheet = sheet_with(alloc, lists, account, name, free, granted)?;
+    Ok(Some(sheet))
 }

@@ -17,7 +17,7 @@ use std::collections::HashMap;
 
 /// A batch and an account.
 #[derive(Clone, Copy, PartialEq, Eq, Hash)]
-pub(crate) struct Key<'a> {
+struct Key<'a> {
     batch: &'a str,
     account: &'a str,
 }

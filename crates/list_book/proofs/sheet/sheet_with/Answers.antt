@@ -1,7 +1,6 @@
 use Rattle.std.proofs.Common.{ap, ◌∙◌, rules}
 use Rattle.queue_core.specs.Shown.{charged_to}
 use Rattle.queue_core.specs.Sound.{printed_for, reserved_for}
-use Rattle.list_book.specs.Tables.{total_of}
 use Rattle.list_book.proofs.SeenLemmas.{same_sheet}
 use Rattle.list_book.proofs.sheet.sheet_with.Goals as goal
 
@@ -11,7 +10,7 @@ returns c =
     let jobs = c.as_slice-jobs.ensures.value in
     same_sheet c.args.lists.now a c.args.free _
     (c.into_text.ensures ∙ c.requires.name)
-    (c.from.ensures ∙ c.pages_granted-granted.ensures ∙ ap (total_of c.args.lists.now.accounts.entries) c.requires.name)
+    (c.from.ensures ∙ c.requires.granted)
     (search rules)
     (c.reserved_in.ensures ∙ ap (reserved_for a) jobs)
     (c.printed_in.ensures ∙ ap (printed_for a) jobs)
