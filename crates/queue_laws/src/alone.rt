@@ -21,7 +21,7 @@ pub fn others_are_left_alone()
 
 /// Whatever is asked: the settings, the grants and the kept reports stay as they are, and one job number is drawn
 /// or none.
-pub fn books_are_left_alone()
+pub fn records_are_left_alone()
     ensures settings { (w : World) (now : ℕ) (u : List ℕ) (call : Call) → (after w now (ask u call)).settings ≡ w.settings }
     ensures grants { (w : World) (now : ℕ) (u : List ℕ) (call : Call) → (after w now (ask u call)).grants ≡ w.grants }
     ensures reports { (w : World) (now : ℕ) (u : List ℕ) (call : Call) → (after w now (ask u call)).reports ≡ w.reports }

@@ -2,13 +2,16 @@
 //! it speaks of `step`, the answer to an event and the queue after it, or of a queue's jobs, accounts, grants and
 //! reports alone, and of nothing by which the step is made, but for a job's state, its estimate and the pages set aside for
 //! it, the pages granted to an account, set aside and printed in it, the number of a report's kind, and the order in
-//! [`own_jobs_are_shown`], which is the machine's; [`own_jobs_are_in_order`] says that order in words of its own.
+//! [`own_jobs_are_shown`], which is the machine's; [`own_jobs_are_in_order`] says what that order is.
 //!
 //! In the clauses `w`, `v` and `x` are queues, `now` is a moment, `u` the caller, `n` a job's number, `e` a job with its documents,
 //! `j` and `k` are jobs without them, `d` is a document, or a payload with its format, `r` a report, `b` a batch, `a` an account,
 //! `ps` are places of a run, and `f` and `g` free pages; in what account files do, `g` is a row, and `gs` and `hs` are lists of rows.
-//! The words that they use are defined in `specs`, most in a line or two: those of all laws in `Steps` (what an event leaves
-//! and what it is answered) and `Jobs` (states and owners).
+//! Most words that they use are defined in `specs`, in a line or two: those of all laws in `Steps` (what an event leaves
+//! and what it is answered) and `Jobs` (states and owners). The others are those of `queue_core/specs`: a queue (`World`) and a
+//! sound one (`Sound`), runs (`Runs`), what is within the limits (`Limits`), rising numbers and the order of jobs that did
+//! not end (`Order`), sheets and what the device sees (`Shown`); and of `queue_types` the job that a call is about (`on_job`).
+//! Where a clause asks `IsSound w` the text doesn't repeat it: a run from a sound queue has no other (`run_keeps`).
 #![tactic(auto)]
 
 mod accounting;
@@ -36,7 +39,7 @@ pub use accounts::{
     repeated_files_change_nothing,
 };
 pub use alone::{
-    begun_jobs_are_left_alone, books_are_left_alone, others_are_left_alone, work_is_left_alone,
+    begun_jobs_are_left_alone, others_are_left_alone, records_are_left_alone, work_is_left_alone,
 };
 pub use charges::{reports_move_what_is_owed, reports_take_what_passes, requests_leave_no_debt};
 pub use device::{
