@@ -198,7 +198,7 @@ abbrev pub owner_row : FinMap text_cmp ℤ → List Job → List FreeRow
 owner_row free [] = []
 owner_row free (j ∷ js) = found_row j.owner (get free j.owner)
 
--- the account that the event may move: the caller's, or that of the job's owner
+-- the account of the caller, or of the job's owner
 abbrev pub free_of : Event → World → List FreeRow
 free_of (ask caller call) w = found_row caller (get w.free caller)
 free_of (tell r) w = owner_row w.free (numbered r.job (rows w))

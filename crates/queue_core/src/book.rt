@@ -3,7 +3,8 @@
 //! What a book may stand for is a relation to worlds. What is read of a book holds where it is honest as
 //! the call ends; a call that ends honest began so. A refused call leaves what the book stands for. No call on an
 //! honest book that stands for a queue is told Damaged. A book that an error has shut answers nothing but faults.
-//! A crash, at whatever moment, leaves the queue from before a call or the one after it, and nothing between.
+//! A crash, at whatever moment of a call on a live book, leaves the queue from before the call or the one after it; of a
+//! book that was shut before, what only reads leaves what a crash left, and of `apply` nothing is said.
 ghost use Rattle.std.specs.Prelude.{◌≡◌, ◌≤◌, ℕ, List, Some, IfErr, IfOk, IfSome, IsSome, OnOk, OnErr, length, option_map, take};
 ghost use Rattle.std.specs.Io.KnownBytes.{Appends};
 ghost use Rattle.queue_core.specs.Book.{IsDecisionOn};
@@ -102,7 +103,7 @@ pub trait QueueBook {
         ensures ok { OnOk result ((w : World) → stands self.old w → stands self.new (made_on (change_of decision.entry.change) w)) }
         ensures err { OnErr result ((w : World) → stands self.old w → stands self.new w) }
         ensures damaged { is_honest self.new → IfErr result (λ e. e ≡ BookFault.Damaged → (w : World) → ¬ stands self.old w) }
-        // whatever it answers, and also where an error has shut the book
+        // of a live book, whatever it answers, also where its error shuts the book
         ensures crash { is_honest self.new → is_live self.old → (w : World) → stands self.old w → crash_leaves self.new w (made_on (change_of decision.entry.change) w) }
         ensures live { is_honest self.new → OnOk result (is_live self.new) }
         ensures opened { is_honest self.new → is_live self.new → is_live self.old };

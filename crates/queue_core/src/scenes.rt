@@ -21,8 +21,8 @@ pub fn no_counts() -> QueueCounts
     }
 }
 
-/// The scene of a caller's call: the jobs that it speaks of, the caller's account, its live jobs and the counts of the
-/// queue, each where the call needs it, and the next job number. The one error is want of memory.
+/// The scene of a caller's call: the jobs that it speaks of, its live jobs and the counts of the queue, each where the call
+/// needs it; the caller's account and the next job number, whatever the call is. The one error is want of memory.
 pub fn call_scene(
     alloc: Global,
     settings: &Settings,

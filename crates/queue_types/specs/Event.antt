@@ -55,6 +55,7 @@ pub record NewDocument : Type 0 where
 pub record Change : Type 0 where
   pub jobs : List Job
   pub document : Option NewDocument
+  -- in order: an account may stand more than once, and its last row counts
   pub free : List FreeRow
   pub grants : List GrantRow
   pub report : Option KeptReport

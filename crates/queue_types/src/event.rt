@@ -43,7 +43,7 @@ pub enum Call<'a> {
         format: Format,
         payload: &'a [u8],
     },
-    /// What Print-Job would answer for such a job. Nothing changes.
+    /// Whether Print-Job would take such a job: done, or the code that refuses it. Nothing changes.
     ValidateJob {
         job: NewJob<'a>,
     },
@@ -129,7 +129,7 @@ pub enum Reply {
     Refused(u16),
     /// What was asked is done, and there is nothing to show.
     Done,
-    /// The jobs that are shown, in order: those that were asked for, or the one that was made or took a document.
+    /// The jobs that are shown, in order: those that were asked for, or the one that was made or sent to.
     Jobs(JobList),
     /// The printer's state, how many jobs are in states 3 to 6, and whether there is a number for a new job.
     Printer {
@@ -288,6 +288,7 @@ pub struct NewDocument<'a> {
 pub struct Change<'a> {
     pub jobs: JobList,
     pub document: Option<NewDocument<'a>>,
+    /// In order: an account may stand more than once, and its last row counts.
     pub free: FreeList,
     pub grants: GrantList,
     pub report: Option<KeptReport>,
@@ -309,9 +310,9 @@ pub struct QueueCounts {
     pub queued: usize,
 }
 
-/// The rows that an event needs: the jobs that it speaks of, the free pages of the account that it may
-/// move, how many live jobs its caller has, the counts of the queue, the report that is kept under the same
-/// sequence number, what is known of the rows of an account file, and the next job number.
+/// The rows that an event needs: the jobs that it speaks of, the free pages of the account of the caller, or of
+/// the job's owner, how many live jobs its caller has, the counts of the queue, the report that is kept under the
+/// same sequence number, what is known of the rows of an account file, and the next job number.
 #[derive(Drop)]
 pub struct Scene {
     pub settings: Settings,
