@@ -147,9 +147,9 @@ impl QueueBook for ListBook {
         let document = kept_document(self.alloc, &change.document)?;
         reserve(
             &mut self.lists,
-            change.jobs.len(),
-            change.free.len(),
-            change.grants.len(),
+            change.jobs.as_slice().len(),
+            change.free.as_slice().len(),
+            change.grants.as_slice().len(),
         )?;
         write(&mut self.lists, change, document);
         Ok(())

@@ -71,7 +71,7 @@ pub fn job_state_of(state: i64) -> Option<JobState>
     ensures { MatchOption result ((s : JobState) → ¬ (state ≡ pos (job_state_number s))) (λ s. state ≡ pos (job_state_number s)) }
 {
     let number = u8::try_from(state).ok()?;
-    JobState::of_number(number)
+    JobState::from_number(number)
 }
 
 /// The truth value that stands in a column: 0 false, 1 true, else None.

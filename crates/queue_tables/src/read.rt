@@ -106,7 +106,7 @@ pub fn format(row: &Row, at: usize) -> Result<Format, Fault>
     let Ok(ValueRef::Text(text)) = row.get_ref(at) else {
         return Err(Fault::Damaged);
     };
-    Format::of_name(text).ok_or(Fault::Damaged)
+    Format::from_name(text).ok_or(Fault::Damaged)
 }
 
 /// A moment, or NULL where there is none: `value`, with clauses that speak of the moment.

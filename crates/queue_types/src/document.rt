@@ -60,7 +60,7 @@ impl Format {
     }
 
     /// The format of this name, byte for byte, where it is a supported one.
-    pub fn of_name(name: &[u8]) -> Option<Format>
+    pub fn from_name(name: &[u8]) -> Option<Format>
         ensures { MatchOption result ((f : FormatValue) → name.now ≢ formats.format_name f) (λ f. name.now ≡ formats.format_name f) }
     {
         FORMATS.iter().copied().find(|f| f.is_named(name))

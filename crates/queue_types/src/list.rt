@@ -1,5 +1,5 @@
 //! Lists of what a queue is made of.
-ghost use Rattle.std.specs.Prelude.{◌≡◌, length};
+ghost use Rattle.std.specs.Prelude.{◌≡◌};
 
 use std::marker::Model;
 
@@ -37,12 +37,5 @@ impl<T: Drop> ListOf<T> {
         ensures { result.now ≡ self.now }
     {
         self.items.as_slice()
-    }
-
-    /// How many there are.
-    pub fn len(&self) -> usize
-        ensures { result ≡ length self.now }
-    {
-        self.items.len()
     }
 }

@@ -31,7 +31,7 @@ impl JobState {
     }
 
     /// The state of that value, where there is one.
-    pub fn of_number(number: u8) -> Option<JobState>
+    pub fn from_number(number: u8) -> Option<JobState>
         ensures { MatchOption result ((s : StateOfJob) → number ≢ job_state_number s) (λ s. number ≡ job_state_number s) }
     {
         match number {

@@ -9,7 +9,7 @@ use Rattle.std.proofs.lemmas.Slice.Eq.{bytes_eq-Decides}
 use Rattle.queue_types.specs.Formats.{format_name, formats}
 use Rattle.queue_types.specs.declared.document.Format.{Format}
 use Rattle.queue_types.specs.declared.document.Format.TheVariants.{OctetStream, Pdf, Postscript, Jpeg, PwgRaster, Urf, PlainText}
-use Rattle.queue_types.proofs.document.Format.of_name.Goals as goal
+use Rattle.queue_types.proofs.document.Format.from_name.Goals as goal
 
 abbrev IsOther : List ℕ → Format → Type 0
 IsOther name f = name ≢ format_name f
