@@ -36,19 +36,19 @@ pub fn are_batch_bytes(text: &[u8]) -> bool
 pub fn is_owner(text: &str) -> bool
     ensures { IsTrue result ↔ limits.IsOwner text.now }
 {
-    text.len() >= 1 && text.len() <= MOST_NAME_OCTETS && has_no_control(text.as_bytes())
+    !text.is_empty() && text.len() <= MOST_NAME_OCTETS && has_no_control(text.as_bytes())
 }
 
 /// The name of a job: 1 to 255 octets without a zero byte.
 pub fn is_job_name(text: &str) -> bool
     ensures { IsTrue result ↔ limits.IsJobName text.now }
 {
-    text.len() >= 1 && text.len() <= MOST_NAME_OCTETS && has_no_zero(text.as_bytes())
+    !text.is_empty() && text.len() <= MOST_NAME_OCTETS && has_no_zero(text.as_bytes())
 }
 
 /// The name of a batch: 1 to 40 ASCII letters or digits, `-`, `.` or `_`.
 pub fn is_batch(text: &str) -> bool
     ensures { IsTrue result ↔ limits.IsBatch text.now }
 {
-    text.len() >= 1 && text.len() <= MOST_BATCH_OCTETS && are_batch_bytes(text.as_bytes())
+    !text.is_empty() && text.len() <= MOST_BATCH_OCTETS && are_batch_bytes(text.as_bytes())
 }

@@ -77,10 +77,10 @@ impl Settings {
         ensures fits { IsOk result → AreSettings (record { uri = uri.now; name = name.now; estimate = estimate; epoch = epoch }) }
         ensures bad { (result ≡ Err SettingFault.Bad) ↔ (¬ AreSettings (record { uri = uri.now; name = name.now; estimate = estimate; epoch = epoch })) }
     {
-        let uri_fits = uri.len() >= 1
+        let uri_fits = !uri.is_empty()
             && uri.len() <= MOST_PRINTER_URI_OCTETS
             && has_uri_bytes(uri.as_bytes());
-        let name_fits = name.len() >= 1 && name.len() <= MOST_PRINTER_NAME_OCTETS;
+        let name_fits = !name.is_empty() && name.len() <= MOST_PRINTER_NAME_OCTETS;
         if !uri_fits
             || !is_printer_path(path(uri.as_bytes()))
             || !name_fits
