@@ -14,7 +14,7 @@ ghost use Rattle.queue_core.specs.Limits.{IsMoment};
 
 use crate::desk::fault::StepFault;
 use crate::desk::step::Step;
-use queue_core::book::QueueBook;
+use queue_core::QueueBook;
 use queue_types::limits::LAST_MOMENT;
 use queue_types::settings::{SettingFault, Settings};
 use std::alloc::Global;

@@ -8,7 +8,7 @@ use arrayvec::ArrayString;
 use grants_csv::ImportFault;
 use itoa::Buffer;
 use office::OfficeFault;
-use queue_core::book::BookFault;
+use queue_core::BookFault;
 use queue_types::settings::SettingFault;
 use std::alloc::AllocError;
 use std::{error, fmt, io};

@@ -13,7 +13,7 @@ ghost use Rattle.device_lines.specs.declared.line.LineFault.{LineFault};
 
 use crate::line::read_report;
 use crate::report_answer::ReportAnswer;
-use queue_core::book::{BookFault, QueueBook};
+use queue_core::{BookFault, QueueBook};
 use queue_types::event::{Event, Reply, Report};
 
 /// Answers one line of the device at a moment from 1 to 2,147,483,647: it reads the line, and takes one step of the machine on its report. A

@@ -13,7 +13,7 @@ ghost use Rattle.grants_csv.specs.Import.{Adds, AskedBy, Imports, IsRowRefusal, 
 
 use crate::fault::{ImportCause, ImportFault};
 use crate::reading::read_grants;
-use queue_core::book::{BookFault, QueueBook};
+use queue_core::{BookFault, QueueBook};
 use queue_types::event::{Event, GrantFault, GrantRow, Reply};
 use std::alloc::Global;
 

@@ -18,7 +18,7 @@ use http_head::end::End;
 use http_head::input::Input;
 use http_head::routes::{Route, router};
 use matchit::Router;
-use queue_core::book::QueueBook;
+use queue_core::QueueBook;
 use queue_types::settings::Settings;
 use std::alloc::Global;
 use std::io::{Read, Write};

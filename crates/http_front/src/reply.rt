@@ -18,7 +18,7 @@ use http_head::target::Target;
 use http_wire::fault::WriteFault;
 use http_wire::respond::{send_head, send_success};
 use ipp_ops::{TooShort, answer};
-use queue_core::book::{QueueBook, SendCause};
+use queue_core::{QueueBook, SendCause};
 use std::alloc::Global;
 use std::io::Write;
 

@@ -28,7 +28,7 @@ use http_wire::fault::{BodyFault, WriteFault};
 use http_wire::framed::take_framed;
 use http_wire::respond::{send_continue, send_end};
 use matchit::Router;
-use queue_core::book::QueueBook;
+use queue_core::QueueBook;
 use std::io::{Read, Write};
 
 /// The number, from 0, of the last request that a connection may have.

@@ -23,7 +23,7 @@ use crate::verdict::Ask;
 use ipp_reply::{Unsupported, Wanted, reply_message};
 use ipp_request::head_check;
 use ipp_wire::{BARE_OCTETS, Head, View, WireFault, head, put_fault, read, write};
-use queue_core::book::{BookFault, QueueBook};
+use queue_core::{BookFault, QueueBook};
 use queue_types::event::{Event, Reply};
 use queue_types::settings::Settings;
 use queue_types::status::{CLIENT_ERROR_BAD_REQUEST, SERVER_ERROR_TEMPORARY_ERROR};

@@ -2,7 +2,7 @@
 #![tactic(auto)]
 
 mod accounts;
-pub mod book;
+mod book;
 mod grants;
 mod lists;
 mod name;

@@ -16,7 +16,7 @@ ghost use Rattle.queue_core.specs.World.{World};
 
 use crate::fault::OfficeFault;
 use grants_csv::{Imported, MOST_FILE_BYTES, import};
-use queue_core::book::QueueBook;
+use queue_core::QueueBook;
 use std::alloc::Global;
 use std::io;
 use std::io::{Read, Write};

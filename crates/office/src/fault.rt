@@ -4,7 +4,7 @@ ghost use Rattle.office.specs.declared.fault.OfficeFault.TheVariants as faults;
 ghost use Rattle.office.specs.Faults.{fault_of_book};
 
 use grants_csv::ImportFault;
-use queue_core::book::BookFault;
+use queue_core::BookFault;
 use std::alloc::AllocError;
 use std::io;
 use thiserror::Error;

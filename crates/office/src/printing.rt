@@ -10,7 +10,7 @@ ghost use Rattle.queue_types.specs.declared.sheet.AccountSheet.{AccountSheet as 
 
 use crate::fault::OfficeFault;
 use page_statements::statement;
-use queue_core::book::QueueBook;
+use queue_core::QueueBook;
 use queue_types::sheet::AccountSheet;
 use std::alloc::Global;
 use std::io::Write;

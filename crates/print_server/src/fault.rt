@@ -2,7 +2,7 @@
 ghost use Rattle.std.specs.Prelude.{◌≡◌};
 ghost use Rattle.print_server.specs.declared.fault.ServerFault.TheVariants as faults;
 
-use queue_core::book::BookFault;
+use queue_core::BookFault;
 use std::io;
 use thiserror::Error;
 

@@ -19,7 +19,7 @@ use crate::listening::next_stream;
 use crate::moment::present_moment;
 use crate::timed::TimedStream;
 use http_front::serve;
-use queue_core::book::{BookFault, QueueBook};
+use queue_core::{BookFault, QueueBook};
 use queue_types::job::JobList;
 use queue_types::settings::Settings;
 use std::alloc::Global;

@@ -3,11 +3,11 @@
 #![tactic(auto)]
 
 mod balance;
-pub mod book;
+mod book;
 mod decision;
 mod grants;
-pub mod laws;
-pub mod machine;
+mod laws;
+mod machine;
 mod my_jobs;
 mod names;
 mod own_job;

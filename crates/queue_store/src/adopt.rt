@@ -14,7 +14,7 @@ ghost use Rattle.queue_tables.specs.Leaving.{LeavesTables};
 ghost use Rattle.queue_tables.specs.declared.fault.Fault.TheVariants.{Damaged};
 
 use crate::book::TableBook;
-use queue_core::book::BookFault;
+use queue_core::BookFault;
 use queue_load::load_queue;
 use queue_rows::meta::settings_of;
 use queue_rows::rows::Rows;

@@ -13,8 +13,7 @@ ghost use Rattle.queue_store.specs.New.{KeepsTables, LeavesOldOrNew, LeavesOnly,
 ghost use Rattle.queue_tables.specs.Tables.{no_schema};
 
 use crate::create::make_tables;
-use queue_core::book::BookFault;
-use queue_core::empty_is_sound;
+use queue_core::{BookFault, empty_is_sound};
 use queue_rows::rows::{MetaRow, SCHEMA};
 use queue_tables::TABLES;
 use queue_tables::fault::Fault;

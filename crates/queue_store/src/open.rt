@@ -19,7 +19,7 @@ ghost use Rattle.queue_tables.specs.Content.{LeavesOneOf};
 
 use crate::book::TableBook;
 use crate::laws::{tables_hold_one_queue, trees_list_one_schema};
-use queue_core::book::BookFault;
+use queue_core::BookFault;
 use queue_types::settings::Settings;
 use sqlite::{Alter, Connection, Error, ErrorCode, Leftover};
 use sqlite_disk::{Disk, Files, Start};

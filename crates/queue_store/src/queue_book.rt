@@ -8,8 +8,7 @@ ghost use Rattle.queue_tables.specs.Content.{LeavesOneOf};
 ghost use Rattle.queue_types.specs.Event.{decision_of, event_of};
 
 use crate::book::TableBook;
-use queue_core::book::{BookFault, QueueBook, SendFault};
-use queue_core::{decisions_are_sound, empty_is_sound};
+use queue_core::{BookFault, QueueBook, SendFault, decisions_are_sound, empty_is_sound};
 use queue_types::document::DocumentHead;
 use queue_types::event::{Decision, Event, Scene};
 use queue_types::job::JobList;

@@ -15,7 +15,7 @@ use crate::grant_rows::insert_grants;
 use crate::meta_rows::update_next;
 use crate::put::put_jobs;
 use crate::report_rows::insert_report;
-use queue_core::laws::decisions_are_sound;
+use queue_core::decisions_are_sound;
 use queue_types::event::{Decision, KeptReport, NewDocument};
 use sqlite::{Alter, Transaction};
 use std::alloc::Global;

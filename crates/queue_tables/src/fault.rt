@@ -2,7 +2,7 @@
 ghost use Rattle.std.specs.Prelude.{◌≡◌};
 ghost use Rattle.queue_tables.specs.Faults.{insert_fault, write_fault, form_fault};
 
-use queue_core::book::BookFault;
+use queue_core::BookFault;
 use sqlite::{Constraint, Error, ErrorCode};
 use std::alloc::{AllocError, AllocFailed};
 

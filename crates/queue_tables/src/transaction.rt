@@ -9,7 +9,7 @@ ghost use Rattle.queue_tables.specs.Making.{CommitsQueue};
 
 use crate::change::write_change;
 use crate::fault::{Fault, fault_of_write};
-use queue_core::laws::decisions_are_sound;
+use queue_core::decisions_are_sound;
 use queue_types::event::Decision;
 use sqlite::{Alter, Connection};
 use std::alloc::Global;

@@ -13,7 +13,7 @@ use crate::context::Context;
 use crate::fault::Fault;
 use crate::lines::{Line, LineReader};
 use crate::session::take_line;
-use queue_core::book::QueueBook;
+use queue_core::QueueBook;
 use queue_types::settings::Settings;
 use std::alloc::Global;
 use std::io::{Read, Write};

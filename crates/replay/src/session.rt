@@ -22,7 +22,7 @@ use crate::request_line::RequestLine;
 use device_lines::report;
 use grants_csv::{ImportCause, ImportFault, Imported, import};
 use ipp_ops::{Answer, TooShort, answer};
-use queue_core::book::QueueBook;
+use queue_core::QueueBook;
 use std::alloc::{AllocError, Global};
 use std::io::Write;
 

@@ -9,7 +9,7 @@ ghost use Rattle.replay.specs.Replay.{Replays, first, settings};
 ghost use Rattle.replay.specs.Session.{State};
 ghost use Rattle.sqlite.specs.Steps.{over_memory};
 
-use queue_core::book::BookFault;
+use queue_core::BookFault;
 use queue_store::TableBook;
 use queue_types::settings::Settings;
 use replay::{Fault, replay_over, replay_settings};

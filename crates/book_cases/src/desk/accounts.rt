@@ -5,7 +5,7 @@ use crate::desk::fault::StepFault;
 use crate::desk::step::{Outcome, Pages};
 use grants_csv::import;
 use page_statements::statement;
-use queue_core::book::QueueBook;
+use queue_core::QueueBook;
 
 /// The first record of an account file.
 const HEADER: &[u8] = b"batch,account,pages\n";

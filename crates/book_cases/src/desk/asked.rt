@@ -4,7 +4,7 @@ use crate::desk::Desk;
 use crate::desk::fault::StepFault;
 use crate::desk::request::{JobsWanted, Request, fault_reply, jobs_reply, message, state_reply};
 use ipp_ops::{Answer, answer};
-use queue_core::book::QueueBook;
+use queue_core::QueueBook;
 
 /// The most bytes that a request may have.
 const MOST: usize = 16_777_216;

@@ -3,7 +3,7 @@
 use crate::desk::Desk;
 use crate::desk::fault::StepFault;
 use device_lines::{queue_text, report};
-use queue_core::book::QueueBook;
+use queue_core::QueueBook;
 
 /// The answer to a line of the device that tells a fault.
 const DEVICE_FAULT: &[u8] = b"refused 6 fault\n";

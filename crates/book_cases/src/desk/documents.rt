@@ -2,7 +2,7 @@
 
 use crate::desk::Desk;
 use crate::desk::fault::StepFault;
-use queue_core::book::{QueueBook, SendCause, SendFault};
+use queue_core::{QueueBook, SendCause, SendFault};
 
 impl Desk {
     /// Sends a document that the device may fetch.

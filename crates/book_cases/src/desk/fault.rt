@@ -1,7 +1,7 @@
 //! Why a row of a test is not well.
 
 use ipp_ops::TooShort;
-use queue_core::book::BookFault;
+use queue_core::BookFault;
 use queue_types::settings::SettingFault;
 use std::alloc::{AllocError, AllocFailed};
 

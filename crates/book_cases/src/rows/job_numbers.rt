@@ -8,7 +8,7 @@ use crate::desk::shelf::{Shelf, take_row};
 use crate::desk::step::Step;
 use crate::desk::step::Step::{Ask, Jobs, Look};
 use crate::shelves::kinds::take_adopted;
-use queue_core::book::BookFault;
+use queue_core::BookFault;
 use queue_store::TableBook;
 use sqlite::{Alter, Connection};
 

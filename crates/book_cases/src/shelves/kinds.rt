@@ -6,7 +6,7 @@ use crate::desk::shelf::Shelf;
 use crate::desk::step::Step;
 use crate::shelves::store::{Source, take_both, take_in_file_store};
 use list_book::ListBook;
-use queue_core::book::BookFault;
+use queue_core::BookFault;
 use queue_store::TableBook;
 use queue_types::settings::Settings;
 use sqlite::{Connection, MemStore};

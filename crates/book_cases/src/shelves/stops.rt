@@ -6,7 +6,7 @@ use crate::desk::step::Step;
 use crate::desk::{Desk, Place};
 use crate::shelves::disk::{Contents, Left, Remains, Stop, StoppingFile, is_one_spent};
 use crate::shelves::store::{End, Source, take_in_file_store, unopened};
-use queue_core::book::BookFault;
+use queue_core::BookFault;
 use queue_types::settings::Settings;
 use sqlite::{Connection, Error, ErrorCode, FileStore, Files, Options};
 use sqlite_disk::Disk;

@@ -3,7 +3,7 @@
 use crate::desk::Desk;
 use crate::desk::fault::StepFault;
 use crate::desk::step::Step;
-use queue_core::book::{BookFault, QueueBook};
+use queue_core::{BookFault, QueueBook};
 use queue_store::TableBook;
 use queue_types::settings::Settings;
 use sqlite::{Alter, Connection, Error, ErrorCode, FileStore, Files};

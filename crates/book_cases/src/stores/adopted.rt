@@ -8,7 +8,7 @@ use crate::stores::judge::Changes;
 use crate::stores::queue::{empty_book, full_tables, new_book, take_steps};
 use crate::stores::shown::shows_the_queue;
 use crate::stores::tables::{DAMAGED, Tables};
-use queue_core::book::BookFault;
+use queue_core::BookFault;
 use queue_store::TableBook;
 use queue_types::settings::Settings;
 use sqlite::MemStore;

@@ -5,7 +5,7 @@ use crate::desk::request::Request::{PrintThis, Release};
 use crate::desk::step::Step::{Ask, Dev, Document, Fetch, Grant};
 use crate::stores::queue::{empty_book, long_document, take_steps};
 use crate::stores::tables::Tables;
-use queue_core::book::QueueBook;
+use queue_core::QueueBook;
 use std::alloc::Global;
 use std::test::Fail;
 

@@ -7,7 +7,7 @@ use crate::desk::step::Step;
 use crate::desk::step::Step::{Ask, Dev, Grant};
 use crate::desk::{Desk, printer};
 use crate::stores::tables::{Tables, opened};
-use queue_core::book::QueueBook;
+use queue_core::QueueBook;
 use queue_store::TableBook;
 use queue_types::settings::Settings;
 use sqlite::{Connection, MemStore};

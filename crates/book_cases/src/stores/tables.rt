@@ -2,7 +2,7 @@
 
 use crate::desk::printer;
 use crate::stores::compare::same;
-use queue_core::book::BookFault;
+use queue_core::BookFault;
 use queue_store::TableBook;
 use sqlite::types::ValueRef;
 use sqlite::{Alter, Connection, Constraint, Error, ErrorCode, MemStore, Row, params};

@@ -14,7 +14,7 @@ use arrivals::{Arrival, Arrived, Outcome, take_all};
 use grants_csv::{ImportCause, ImportFault, Imported};
 use http_front::{End, ServeCause};
 use list_book::ListBook;
-use queue_core::book::QueueBook;
+use queue_core::QueueBook;
 use queue_types::limits::LAST_MOMENT;
 use queue_types::settings::Settings;
 use std::alloc::Global;

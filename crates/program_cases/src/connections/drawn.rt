@@ -11,7 +11,7 @@ use crate::desk::queue::{new_book, settings};
 use crate::desk::streams::{SPEEDS, TestReader, by};
 use http_front::{ServeFault, Served, serve};
 use list_book::ListBook;
-use queue_core::book::QueueBook;
+use queue_core::QueueBook;
 use queue_types::settings::Settings;
 use std::alloc::Global;
 use std::cell::Cell;

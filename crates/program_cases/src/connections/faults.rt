@@ -15,7 +15,7 @@ use crate::desk::requests::{
 use crate::desk::streams::AT_ONCE;
 use http_front::{End, ServeCause, ServeFault, Served};
 use list_book::ListBook;
-use queue_core::book::{BookFault, SendCause, SendFault};
+use queue_core::{BookFault, SendCause, SendFault};
 use std::alloc::Global;
 
 /// Requests to a book in which job 1 of alice is released, and which fails so from then on.

@@ -4,7 +4,7 @@ ghost use Rattle.queue_core.specs.Limits.{IsMoment};
 use crate::desk::compare::{Mismatch, Subject, no_book};
 use grants_csv::{Imported, import};
 use list_book::ListBook;
-use queue_core::book::QueueBook;
+use queue_core::QueueBook;
 use queue_store::TableBook;
 use queue_types::settings::Settings;
 use sqlite::MemStore;

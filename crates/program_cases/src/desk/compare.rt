@@ -2,7 +2,7 @@
 ghost use Rattle.std.specs.Prelude.{◌≡◌, ◌↔◌, IsOk, IsTrue};
 
 use http_front::{ServeFault, Served};
-use queue_core::book::BookFault;
+use queue_core::BookFault;
 use queue_types::settings::SettingFault;
 use std::alloc::AllocError;
 use std::{fmt, io};

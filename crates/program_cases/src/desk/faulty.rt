@@ -3,8 +3,7 @@
 use crate::desk::books::DeskBook;
 use crate::desk::compare::Mismatch;
 use crate::desk::queue::new_book;
-use queue_core::book::{BookFault, QueueBook, SendFault};
-use queue_core::put_whole;
+use queue_core::{BookFault, QueueBook, SendFault, put_whole};
 use queue_types::document::DocumentHead;
 use queue_types::event::{Decision, Event};
 use queue_types::job::JobList;

@@ -8,7 +8,7 @@ use crate::desk::messages::{PRINT_JOB, job_reply};
 use crate::desk::requests::{IPP, POST_JOB};
 use crate::desk::streams::{AT_ONCE, TestReader, TestWriter, Way};
 use http_front::{End, ServeFault, Served, serve};
-use queue_core::book::QueueBook;
+use queue_core::QueueBook;
 use queue_types::settings::Settings;
 use std::alloc::Global;
 use std::cell::Cell;

@@ -8,7 +8,7 @@ use crate::desk::requests::IPP;
 use crate::program::server::Step::{Gets, Serves, ServesSo};
 use crate::program::server::{Ends, PRINTS, Serving, Step, USUAL, take_row};
 use crate::program::sockets::Gets::All;
-use queue_core::book::BookFault;
+use queue_core::BookFault;
 use std::test::Fail;
 
 /// The server goes on.

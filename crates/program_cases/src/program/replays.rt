@@ -6,7 +6,7 @@ use crate::desk::connection::filled;
 use crate::desk::faulty::{Failure, FaultyBook, TAKES_NOTHING};
 use crate::desk::streams::{AT_ONCE, Behind, NO_FLUSH, TestReader, TestWriter, Way};
 use crate::program::sockets::AT;
-use queue_core::book::{BookFault, QueueBook};
+use queue_core::{BookFault, QueueBook};
 use queue_types::settings::Settings;
 use replay::{Fault, replay_over, replay_settings};
 use replay_examples::run_cases;

@@ -8,7 +8,7 @@ use crate::desk::streams::{AT_ONCE, TestWriter, Way};
 use crate::program::clocks::{AtLook, TestClock};
 use crate::program::sockets::{AT, Clients, Comes, Gets};
 use print_server::{ServerFault, Service, Standing, listen};
-use queue_core::book::{BookFault, QueueBook};
+use queue_core::{BookFault, QueueBook};
 use queue_types::settings::Settings;
 use std::alloc::Global;
 use std::cell::Cell;
