@@ -1,15 +1,15 @@
 -- Where the bytes that have come hold no head, those left of the connection hold none within the limits.
-use Rattle.std.proofs.Common.{◌≡◌, Option, ℕ, ◌≤◌, List, ◌++◌, None, Some, IfSome, length, take, drop, refl, sym, ap, ◌∙◌, subst, append_assoc, arith, take-append-drop, inl, inr, length-append}
+use Rattle.std.proofs.Common.{◌≡◌, Option, ℕ, zero, suc, ◌≤◌, List, [], ◌∷◌, ◌++◌, None, Some, IfSome, length, take, drop, refl, sym, ap, ◌∙◌, subst, append_assoc, arith, take-append-drop, inl, inr, length-append}
 use Rattle.std.specs.Io.KnownBytes.{Keeps}
-use Rattle.std.proofs.lemmas.List.{take-append-le}
+use Rattle.std.proofs.lemmas.List.{take-append-le, take_all}
 use Rattle.std.proofs.Math.Seq.{take-append_seam}
-use Rattle.httparse.specs.Grammar.{HasNoRequest, print_request}
+use Rattle.httparse.specs.Grammar.{HasNoRequest, MayBecomeRequest, NeverHasRequest, print_request}
 use Rattle.httparse.specs.Spans.{RequestOverflows, RequestExceeds}
 use Rattle.http_head.specs.Left.{left}
 use Rattle.http_head.specs.Head.{HasNoHead, EndsWithoutHead}
 use Rattle.http_head.specs.Limits.{head_limit, field_limit}
 use Rattle.http_head.specs.declared.end.Finish.TheVariants.{Refused}
-use Rattle.http_head.specs.declared.end.Refusal.TheVariants.{HeaderFieldsTooLarge}
+use Rattle.http_head.specs.declared.end.Refusal.TheVariants.{BadRequest, HeaderFieldsTooLarge}
 
 -- a front that is no longer than another front begins it
 pub front_of : (a b c d : List ℕ) → a ++ b ≡ c ++ d → length c ≤ length a → a ≡ c ++ drop (length c) a
@@ -32,16 +32,34 @@ exceeds_more come more x =
     let rest = x.1 in
     (front, rest ++ more, ap (λ l. l ++ more) x.2 ∙ append_assoc front rest more, x.3, x.4, x.5)
 
-length_front : (come more : List ℕ) → head_limit ≤ length come → head_limit ≤ length (come ++ more)
-length_front come more h = omega (arith, h, length-append come more)
+-- what has come, where it is no more than n bytes, begins the first n of it and more
+fronted : (n : ℕ) (come more : List ℕ) → length come ≤ n → (rest : List ℕ) × (take n (come ++ more) ≡ come ++ rest)
+fronted n [] more fits = (take n more, refl)
+fronted zero (b ∷ come) more fits = absurd (omega (arith, fits))
+fronted (suc n) (b ∷ come) more fits = let r = fronted n come more (omega (arith, fits)) in (r.0, ap (λ l. b ∷ l) r.1)
 
-pub refused_full : (bytes r : Option (List ℕ)) (come : List ℕ) → Keeps bytes (left come r) → head_limit ≤ length come → HasNoRequest come
+full_is_front : (come more : List ℕ) → length come ≡ head_limit → take head_limit (come ++ more) ≡ come
+full_is_front come more full = take-append-le head_limit come more (omega (arith, full)) ∙ take_all head_limit come (omega (arith, full))
+
+pub refused_full : (bytes r : Option (List ℕ)) (come : List ℕ) → Keeps bytes (left come r) → length come ≡ head_limit → HasNoRequest come → MayBecomeRequest come
     → IfSome bytes (λ xs. EndsWithoutHead xs (Refused HeaderFieldsTooLarge))
-refused_full None r come p full none = tt
-refused_full (Some x) None come p full none = absurd p
-refused_full (Some x) (Some y) come p full none =
+refused_full None r come p full none may = tt
+refused_full (Some x) None come p full none may = absurd p
+refused_full (Some x) (Some y) come p full none may =
+    let enough : head_limit ≤ length come = omega (arith, full) in
+    let all : head_limit ≤ length (come ++ y) = omega (arith, full, length-append come y) in
     subst (λ xs. EndsWithoutHead xs (Refused HeaderFieldsTooLarge)) p
-    (inr (refl, no_head_in_full come y full none, inl (length_front come y full)))
+    (inr (refl, no_head_in_full come y enough none, inl (all, subst MayBecomeRequest (sym (full_is_front come y full)) may)))
+
+-- what can never begin a head can't with more behind it
+pub refused_never : (bytes r : Option (List ℕ)) (come : List ℕ) → Keeps bytes (left come r) → length come ≤ head_limit → NeverHasRequest come
+    → IfSome bytes (λ xs. EndsWithoutHead xs (Refused BadRequest))
+refused_never None r come p fits never = tt
+refused_never (Some x) None come p fits never = absurd p
+refused_never (Some x) (Some y) come p fits never =
+    let on = fronted head_limit come y fits in
+    subst (λ xs. EndsWithoutHead xs (Refused BadRequest)) p
+    (inl (refl, subst NeverHasRequest (sym on.1) (λ more. subst HasNoRequest (sym (append_assoc come on.0 more)) (never (on.0 ++ more)))))
 
 pub refused_many : (bytes r : Option (List ℕ)) (come : List ℕ) → Keeps bytes (left come r) → RequestOverflows field_limit come → RequestExceeds field_limit come
     → IfSome bytes (λ xs. EndsWithoutHead xs (Refused HeaderFieldsTooLarge))

@@ -1,6 +1,6 @@
 -- Where a request head stands in the bytes of a connection (RFC 9112, section 2.1), and where none does.
-use Rattle.std.specs.Prelude.{◌≡◌, ◌<◌, ◌≤◌, ◌⊎◌, ℕ, List, [], length}
-use Rattle.httparse.specs.Grammar.{RequestHead, ReadsRequest, print_request, NeverHasRequest}
+use Rattle.std.specs.Prelude.{◌≡◌, ◌<◌, ◌≤◌, ◌⊎◌, ℕ, List, [], length, take}
+use Rattle.httparse.specs.Grammar.{RequestHead, ReadsRequest, print_request, HasNoRequest, NeverHasRequest, MayBecomeRequest}
 use Rattle.httparse.specs.Spans.{RequestExceeds}
 use Rattle.http_head.specs.Limits.{head_limit, field_limit}
 use Rattle.http_head.specs.declared.end.Finish.{Finish}
@@ -17,14 +17,15 @@ pub record BeginsHead (bytes : List ℕ) (h : RequestHead) (rest : List ℕ) : T
 abbrev pub HasNoHead : List ℕ → Type 0
 HasNoHead bytes = (h : RequestHead) (rest : List ℕ) → BeginsHead bytes h rest → ⊥
 
--- there are as many bytes as a head may have, or more fields than it may have
+-- there are as many bytes as a head may have, and a head may begin with these; or there are more fields than it may have
 abbrev pub IsTooLarge : List ℕ → Type 0
-IsTooLarge bytes = (head_limit ≤ length bytes) ⊎ RequestExceeds field_limit bytes
+IsTooLarge bytes = ((head_limit ≤ length bytes) × MayBecomeRequest (take head_limit bytes)) ⊎ RequestExceeds field_limit bytes
 
--- how a connection may end where no head stands
+-- how a connection may end where no head stands: with nothing; within what may become a head; or no head can begin with as many bytes as it
+-- may have; or what stands there is too large
 abbrev pub EndsWithoutHead : List ℕ → Finish → Type 0
 EndsWithoutHead bytes Closed = bytes ≡ []
-EndsWithoutHead bytes Cut = (0 < length bytes) × (length bytes < head_limit) × HasNoHead bytes
+EndsWithoutHead bytes Cut = (0 < length bytes) × (length bytes < head_limit) × HasNoRequest bytes × MayBecomeRequest bytes
 EndsWithoutHead bytes Done = ⊥
 EndsWithoutHead bytes (Refused r) =
-    ((r ≡ BadRequest) × NeverHasRequest bytes) ⊎ ((r ≡ HeaderFieldsTooLarge) × HasNoHead bytes × IsTooLarge bytes)
+    ((r ≡ BadRequest) × NeverHasRequest (take head_limit bytes)) ⊎ ((r ≡ HeaderFieldsTooLarge) × HasNoHead bytes × IsTooLarge bytes)

@@ -9,7 +9,7 @@ use Rattle.httparse.specs.Grammar.{RequestHead, print_blank, ChunkLine, print_ch
 use Rattle.httparse.proofs.GrammarLemmas.{print_request-append}
 use Rattle.httparse.proofs.ChunkLemmas.{chunk_line_unique}
 use Rattle.http_head.specs.Head.{BeginsHead, EndsWithoutHead}
-use Rattle.http_head.specs.Limits.{line_limit, raw_limit, trailer_limit}
+use Rattle.http_head.specs.Limits.{head_limit, line_limit, raw_limit, trailer_limit}
 use Rattle.http_head.specs.declared.end.Finish.{Finish}
 use Rattle.http_head.specs.declared.end.Finish.TheVariants.{Closed, Cut, Done, Refused}
 use Rattle.http_head.specs.declared.end.Refusal.TheVariants.{BadRequest, ContentTooLarge}
@@ -28,10 +28,10 @@ some_bytes a m t bytes some e none = omega (arith, some, ap length e, ap length 
 
 pub head_whole : (bytes : List ℕ) (h : RequestHead) (rest : List ℕ) (end : Finish) → BeginsHead bytes h rest → ¬ EndsWithoutHead bytes end
 head_whole bytes h rest Closed x n = some_bytes (print_blank h.blank) h.method _ bytes x.reads.0.method.0 (x.reads.1 ∙ print_request-append h rest) n
-head_whole bytes h rest Cut x n = n.2 h rest x
+head_whole bytes h rest Cut x n = n.2 h rest x.reads
 head_whole bytes h rest Done x n = n
 head_whole bytes h rest (Refused r) x n = elim n [
-  | inl k ↦ k.1 [] h rest (x.reads.0, append-nil bytes ∙ x.reads.1)
+  | inl k ↦ k.1 (drop head_limit bytes) h rest (x.reads.0, take-append-drop head_limit bytes ∙ x.reads.1)
   | inr k ↦ k.1 h rest x
 ]
 

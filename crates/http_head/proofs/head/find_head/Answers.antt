@@ -1,6 +1,6 @@
 use Rattle.std.proofs.Common.{arith, refl, rules}
 use Rattle.std.proofs.KnownBytes.{Keeps-refl}
-use Rattle.http_head.proofs.HeadLemmas.{refused_full, refused_many}
+use Rattle.http_head.proofs.HeadLemmas.{refused_full, refused_many, refused_never}
 use Rattle.http_head.proofs.head.find_head.Goals as goal
 
 pub fill-init : goal.fill-init
@@ -10,6 +10,10 @@ pub returns-in-Err-TooManyHeaders-clause-failed : goal.returns-in-Err-TooManyHea
 returns-in-Err-TooManyHeaders-clause-failed g c =
     grind (arith, refused_many, c.fill.invariant.kept, c.bytes.ensures.value, c.in-Err-TooManyHeaders.ensures.no_room, c.in-Err-TooManyHeaders.ensures.too_many)
 
+pub returns-in-Err-clause-failed : goal.returns-in-Err-clause-failed
+returns-in-Err-clause-failed g c =
+    grind (arith, refused_never, c.fill.invariant.kept, c.bytes.ensures.value, c.bytes.ensures.fits, c.in-Err.ensures.invalid)
+
 pub returns-then-bytes-eq-HEAD_LIMIT-clause-failed : goal.returns-then-bytes-eq-HEAD_LIMIT-clause-failed
 returns-then-bytes-eq-HEAD_LIMIT-clause-failed g c =
-    grind (arith, refused_full, c.fill.invariant.kept, c.bytes.ensures.value, c.bytes-in-fill.ensures.value, c.in-Ok-Partial.ensures.partial)
+    grind (arith, refused_full, c.fill.invariant.kept, c.bytes.ensures.value, c.bytes-in-fill.ensures.value, c.in-Ok-Partial.ensures.partial, c.in-Ok-Partial.ensures.unfinished)
