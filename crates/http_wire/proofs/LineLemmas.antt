@@ -1,14 +1,17 @@
 -- What a window over the bytes that have come says of a chunk line or a trailer section in the bytes left.
-use Rattle.std.proofs.Common.{◌≡◌, Option, ℕ, zero, suc, [], ◌∷◌, ◌≤◌, List, ◌++◌, None, Some, IfSome, length, take, drop, refl, sym, ap, ◌∙◌, subst, append_assoc, arith, take-append-drop, inl, inr, length-append, zero-add}
+use Rattle.std.proofs.Common.{◌≡◌, ◌≢◌, Option, Result, Ok, Err, OnErr, ℕ, zero, suc, [], ◌∷◌, ◌≤◌, List, ◌++◌, None, Some, IfSome, length, take, drop, refl, sym, ap, ◌∙◌, subst, append_assoc, arith, take-append-drop, inl, inr, length-append, zero-add}
 use Rattle.std.specs.Io.KnownBytes.{Keeps}
 use Rattle.std.proofs.lemmas.List.{length-take-le, length-take, length-map, take-append-le}
 use Rattle.std.proofs.Math.Seq.{drop-append_seam}
-use Rattle.httparse.specs.Grammar.{ChunkLine, HasNoChunkLine, MayBecomeChunkLine, NeverHasChunkLine, print_chunk_line, Field, print_section, HasNoSection, MayBecomeSection}
-use Rattle.httparse.specs.Spans.{IsChunkLineAt, SectionOverflows, IsSectionOf, AreFieldsAt, header_bytes, name_and_value}
+use Rattle.httparse.specs.Grammar.{ChunkLine, HasNoChunkLine, MayBecomeChunkLine, NeverHasChunkLine, print_chunk_line, Field, print_section, HasNoSection, NeverHasSection, MayBecomeSection}
+use Rattle.httparse.specs.Spans.{IsChunkLineAt, SectionOverflows, SectionExceeds, IsSectionOf, AreFieldsAt, header_bytes, name_and_value}
+use Rattle.httparse.specs.Outcome.{OnInvalid, OnTooManyHeaders}
+use Rattle.httparse.specs.declared.Error.{Error}
+use Rattle.httparse.specs.declared.Error.TheVariants.{HeaderName, HeaderValue, NewLine, Status, Token, TooManyHeaders, Version}
 use Rattle.httparse.specs.declared.spans.HeaderSpan.{HeaderSpan}
 use Rattle.http_head.specs.Left.{left}
 use Rattle.http_head.specs.Limits.{trailer_limit, field_limit}
-use Rattle.http_wire.specs.ChunkEnds.{HasNoLineWithin, HasNoTrailersWithin, NeverHasTrailers, EndsAtLine, EndsAtTrailers}
+use Rattle.http_wire.specs.ChunkEnds.{HasNoLineWithin, HasNoTrailersWithin, HasWrongLines, EndsAtLine, EndsAtTrailers}
 use Rattle.http_wire.specs.ChunkParts.{AreTrailersAt}
 use Rattle.http_wire.specs.declared.chunk.Bound.{Bound}
 use Rattle.http_head.specs.declared.end.Finish.TheVariants.{Refused}
@@ -108,28 +111,44 @@ trailers_found come window headers n len count e small room h =
       r.1,
     )
 
-overflown : (window : List ℕ) → SectionOverflows 64 window → NeverHasTrailers window
-overflown window over more fields end rest are e = omega (arith, over more fields end rest (are.each, e), are.few)
+-- more field lines than a section may have stand there, whatever bytes follow
+overflown : (window more : List ℕ) (n : ℕ) → SectionOverflows 64 window → HasNoTrailersWithin n (window ++ more)
+overflown window more n over fields end rest are short e = omega (arith, over more fields end rest (are.each, e), are.few)
 
-never_on : (window rest : List ℕ) → NeverHasTrailers window → NeverHasTrailers (window ++ rest)
-never_on window rest never more fields end behind are e = never (rest ++ more) fields end behind are (sym (append_assoc window rest more) ∙ e)
+never_on : (window rest : List ℕ) → NeverHasSection window → NeverHasSection (window ++ rest)
+never_on window rest never more = subst HasNoSection (sym (append_assoc window rest more)) (never (rest ++ more))
+
+exceeds_on : (window rest : List ℕ) → SectionExceeds field_limit window → SectionExceeds field_limit (window ++ rest)
+exceeds_on window rest x = (x.0, x.1 ++ rest, ap (λ l. l ++ rest) x.2 ∙ append_assoc x.0 x.1 rest, x.3, x.4, x.5)
+
+wrong_on : (window rest : List ℕ) → HasWrongLines window → HasWrongLines (window ++ rest)
+wrong_on window rest wrong = elim wrong [ inl h ↦ inl (never_on window rest h) | inr h ↦ inr (exceeds_on window rest h) ]
+
+-- either of the two for which it is refused
+wrong_by : (window : List ℕ) (e : Error) → (e ≢ TooManyHeaders → NeverHasSection window) → (e ≡ TooManyHeaders → SectionExceeds 64 window) → HasWrongLines window
+wrong_by window HeaderName never many = inl (never (λ s. absurd cc))
+wrong_by window HeaderValue never many = inl (never (λ s. absurd cc))
+wrong_by window NewLine never many = inl (never (λ s. absurd cc))
+wrong_by window Status never many = inl (never (λ s. absurd cc))
+wrong_by window Token never many = inl (never (λ s. absurd cc))
+wrong_by window TooManyHeaders never many = inr (many refl)
+wrong_by window Version never many = inl (never (λ s. absurd cc))
+
+pub trailers_wrong : {A : Type 0} (window : List ℕ) (r : Result A Error) → OnInvalid r (NeverHasSection window) → OnTooManyHeaders r (SectionExceeds 64 window) → OnErr r (HasWrongLines window)
+trailers_wrong window (Ok a) invalid many = tt
+trailers_wrong window (Err e) invalid many = wrong_by window e invalid (λ s. many (ap Err s))
 
 pub trailers_refused : (bytes r : Option (List ℕ)) (come window : List ℕ) (bound : Bound) → Keeps bytes (left come r) → window ≡ take bound.limit come → SectionOverflows 64 window
-    → IfSome bytes (λ xs. EndsAtTrailers bound xs (Refused BadRequest))
-trailers_refused None r come window bound p e over = tt
-trailers_refused (Some x) None come window bound p e over = absurd p
-trailers_refused (Some x) (Some y) come window bound p e over =
+    → HasWrongLines window → IfSome bytes (λ xs. EndsAtTrailers bound xs (Refused BadRequest))
+trailers_refused None r come window bound p e over wrong = tt
+trailers_refused (Some x) None come window bound p e over wrong = absurd p
+trailers_refused (Some x) (Some y) come window bound p e over wrong =
     let n = bound.limit in
     let on = front_on n come y in
-    let cut : NeverHasTrailers (take n come) = subst NeverHasTrailers e (overflown window over) in
-    subst (λ xs. EndsAtTrailers bound xs (Refused BadRequest)) p (inl (refl, subst NeverHasTrailers (sym on.1) (never_on (take n come) on.0 cut)))
-
-no_trailers_within : (come more : List ℕ) (n : ℕ) → n ≤ length come → HasNoSection (take n come) → HasNoTrailersWithin n (come ++ more)
-no_trailers_within come more n full none fields end rest are short e =
-    let size : length (take n come) ≡ n = length-take-le n come full in
-    let fits : length (print_section fields end) ≤ length (take n come) = omega (arith, size, short) in
-    none fields end (drop (length (print_section fields end)) (take n come))
-    (are.each, front_of (take n come) (drop n come ++ more) (print_section fields end) rest (window_of come more n ∙ e) fits)
+    let none : HasNoTrailersWithin n (come ++ y) =
+    subst (HasNoTrailersWithin n) (window_of come y n) (overflown (take n come) (drop n come ++ y) n (subst (SectionOverflows 64) e over)) in
+    let cut : HasWrongLines (take n (come ++ y)) = subst HasWrongLines (sym on.1) (wrong_on (take n come) on.0 (subst HasWrongLines e wrong)) in
+    subst (λ xs. EndsAtTrailers bound xs (Refused BadRequest)) p (inl (refl, none, cut))
 
 -- as many bytes as a section may have hold none, and one may begin with them
 pub trailers_endless : (bytes r : Option (List ℕ)) (come window : List ℕ) (bound : Bound) → Keeps bytes (left come r) → bound.limit ≤ length come → window ≡ take bound.limit come → HasNoSection window
@@ -137,7 +156,6 @@ pub trailers_endless : (bytes r : Option (List ℕ)) (come window : List ℕ) (b
 trailers_endless None r come window bound p full e none may = tt
 trailers_endless (Some x) None come window bound p full e none may = absurd p
 trailers_endless (Some x) (Some y) come window bound p full e none may =
-    let cut : HasNoSection (take bound.limit come) = subst HasNoSection e none in
     let same : window ≡ take bound.limit (come ++ y) = e ∙ sym (take-append-le bound.limit come y full) in
     subst (λ xs. EndsAtTrailers bound xs (Refused bound.refusal)) p
-    (inr (refl, omega (arith, full, length-append come y), no_trailers_within come y bound.limit full cut, subst MayBecomeSection same may))
+    (inr (refl, omega (arith, full, length-append come y), subst HasNoSection same none, subst MayBecomeSection same may))

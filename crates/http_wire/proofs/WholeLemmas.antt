@@ -1,13 +1,15 @@
 -- Where a whole head or a whole body stands, a connection doesn't end for want of it.
-use Rattle.std.proofs.Common.{◌≡◌, ℕ, ◌+◌, ◌-◌, ◌<◌, ◌≤◌, Bool, true, false, List, [], ◌∷◌, ◌++◌, All, length, drop, refl, sym, ap, ◌∙◌, append_assoc, append-nil, arith, inl, inr, length-append, take-append-drop}
+use Rattle.std.proofs.Common.{◌≡◌, ℕ, ◌+◌, ◌-◌, ◌<◌, ◌≤◌, Bool, true, false, List, [], ◌∷◌, ◌++◌, All, length, take, drop, refl, sym, ap, ◌∙◌, append_assoc, append-nil, arith, inl, inr, length-append, take-append-drop}
 use Rattle.std.specs.Prelude.{nat_lt, if◌then◌else◌}
 use Rattle.std.specs.List.{flat_map}
 use Rattle.std.proofs.lemmas.Grind.{flat_map-append}
+use Rattle.std.proofs.lemmas.List.{length-take-le}
 use Rattle.std.proofs.lemmas.List.Elements.{All-head}
 use Rattle.httparse.specs.Ascii.{crlf_bytes}
-use Rattle.httparse.specs.Grammar.{RequestHead, print_blank, ChunkLine, print_chunk_line, chunk_size, print_section}
+use Rattle.httparse.specs.Grammar.{RequestHead, print_blank, ChunkLine, print_chunk_line, chunk_size, Field, LineEnd, print_section, HasNoSection}
 use Rattle.httparse.proofs.GrammarLemmas.{print_request-append}
 use Rattle.httparse.proofs.ChunkLemmas.{chunk_line_unique}
+use Rattle.http_head.proofs.HeadLemmas.{front_of}
 use Rattle.http_head.specs.Head.{BeginsHead, EndsWithoutHead}
 use Rattle.http_head.specs.Limits.{head_limit, line_limit, raw_limit, trailer_limit}
 use Rattle.http_head.specs.declared.end.Finish.{Finish}
@@ -74,14 +76,22 @@ whole_chunk size content bytes rest (Refused r) long e n =
     let same = same_front n.2.content content n.1 _ (n.2.size_is ∙ sym long) (sym n.2.bytes_are ∙ e) in
     n.3 [] rest (append-nil n.1 ∙ same.1)
 
+no_section_within : (n : ℕ) (bytes : List ℕ) (fields : List Field) (end : LineEnd) (rest : List ℕ) → AreTrailers fields end → length (print_section fields end) ≤ n
+    → bytes ≡ print_section fields end ++ rest → n ≤ length bytes → ¬ HasNoSection (take n bytes)
+no_section_within n bytes fields end rest are fits e full none =
+    let size : length (take n bytes) ≡ n = length-take-le n bytes full in
+    let within : length (print_section fields end) ≤ length (take n bytes) = omega (arith, size, fits) in
+    none fields end (drop (length (print_section fields end)) (take n bytes))
+    (are.each, front_of (take n bytes) (drop n bytes) (print_section fields end) rest (take-append-drop n bytes ∙ e) within)
+
 whole_trailers : (bound : Bound) (b : ChunkedBody) (bytes rest : List ℕ) (end : Finish) → AreTrailers b.trailers b.end → length (print_section b.trailers b.end) ≤ bound.limit
     → bytes ≡ print_section b.trailers b.end ++ rest → ¬ EndsAtTrailers bound bytes end
 whole_trailers bound b bytes rest Closed are fits e n = n
-whole_trailers bound b bytes rest Cut are fits e n = n.1 b.trailers b.end rest are are.short e
+whole_trailers bound b bytes rest Cut are fits e n = n.1 b.trailers b.end rest (are.each, e)
 whole_trailers bound b bytes rest Done are fits e n = n
 whole_trailers bound b bytes rest (Refused r) are fits e n = elim n [
-  | inl h ↦ h.1 (drop bound.limit bytes) b.trailers b.end rest are (take-append-drop bound.limit bytes ∙ e)
-  | inr h ↦ h.2 b.trailers b.end rest are fits e
+  | inl h ↦ h.1 b.trailers b.end rest are fits e
+  | inr h ↦ no_section_within bound.limit bytes b.trailers b.end rest are fits e h.1 h.2
 ]
 
 -- ---- chunks

@@ -1,8 +1,9 @@
 -- Where a connection may end in a chunked body (RFC 9112, sections 7.1 and 8).
 use Rattle.std.specs.Prelude.{◌≡◌, ◌≢◌, ◌+◌, ◌-◌, ◌<◌, ◌≤◌, ◌⊎◌, ℕ, List, [], ◌∷◌, ◌++◌, length, take, nat_lt, if◌then◌else◌}
 use Rattle.httparse.specs.Ascii.{crlf_bytes}
-use Rattle.httparse.specs.Grammar.{ChunkLine, IsChunkLine, print_chunk_line, chunk_size, HasNoChunkLine, MayBecomeChunkLine, NeverHasChunkLine, Field, LineEnd, print_section, MayBecomeSection}
-use Rattle.http_head.specs.Limits.{line_limit, content_limit, raw_limit, trailer_limit}
+use Rattle.httparse.specs.Grammar.{ChunkLine, IsChunkLine, print_chunk_line, chunk_size, HasNoChunkLine, MayBecomeChunkLine, NeverHasChunkLine, Field, LineEnd, print_section, HasNoSection, NeverHasSection, MayBecomeSection}
+use Rattle.httparse.specs.Spans.{SectionExceeds}
+use Rattle.http_head.specs.Limits.{line_limit, content_limit, raw_limit, field_limit, trailer_limit}
 use Rattle.http_wire.specs.Chunks.{Chunk, AreChunks, IsShortLine, chunks_bytes, chunks_content, AreTrailers}
 use Rattle.http_wire.specs.declared.chunk.Bound.{Bound}
 use Rattle.http_head.specs.declared.end.Finish.{Finish}
@@ -39,19 +40,18 @@ abbrev pub HasNoTrailersWithin : ℕ → List ℕ → Type 0
 HasNoTrailersWithin limit bytes =
     (fields : List Field) (end : LineEnd) (rest : List ℕ) → AreTrailers fields end → length (print_section fields end) ≤ limit → bytes ≢ print_section fields end ++ rest
 
--- no bytes behind these make a trailer section their prefix
-abbrev pub NeverHasTrailers : List ℕ → Type 0
-NeverHasTrailers bytes =
-    (more : List ℕ) (fields : List Field) (end : LineEnd) (rest : List ℕ) → AreTrailers fields end → bytes ++ more ≢ print_section fields end ++ rest
+-- no section can begin with these bytes, or they have more field lines than it may have
+abbrev pub HasWrongLines : List ℕ → Type 0
+HasWrongLines bytes = NeverHasSection bytes ⊎ SectionExceeds field_limit bytes
 
--- the input ends within what may become a section, of whatever size; or none can begin with as many bytes as it may have; or those hold none,
--- though a section, of whatever size, may begin with them
+-- the input ends within what may become a section, of whatever size; or as many bytes as it may have are wrong; or those hold none, though a
+-- section, of whatever size, may begin with them
 abbrev pub EndsAtTrailers : Bound → List ℕ → Finish → Type 0
 EndsAtTrailers bound bytes Closed = ⊥
-EndsAtTrailers bound bytes Cut = (length bytes < bound.limit) × HasNoTrailersWithin trailer_limit bytes × MayBecomeSection bytes
+EndsAtTrailers bound bytes Cut = (length bytes < bound.limit) × HasNoSection bytes × MayBecomeSection bytes
 EndsAtTrailers bound bytes Done = ⊥
 EndsAtTrailers bound bytes (Refused r) =
-    ((r ≡ BadRequest) × NeverHasTrailers (take bound.limit bytes)) ⊎ ((r ≡ bound.refusal) × (bound.limit ≤ length bytes) × HasNoTrailersWithin bound.limit bytes × MayBecomeSection (take bound.limit bytes))
+    ((r ≡ BadRequest) × HasNoTrailersWithin bound.limit bytes × HasWrongLines (take bound.limit bytes)) ⊎ ((r ≡ bound.refusal) × (bound.limit ≤ length bytes) × HasNoSection (take bound.limit bytes) × MayBecomeSection (take bound.limit bytes))
 
 -- ---- in a chunk
 

@@ -1,7 +1,8 @@
-use Rattle.std.proofs.Common.{◌≡◌, ◌≤◌, length, rules}
+use Rattle.std.proofs.Common.{◌≡◌, ◌≤◌, arith, length, rules}
 use Rattle.httparse.specs.Grammar.{HasNoSection, MayBecomeSection}
 use Rattle.httparse.specs.Spans.{SectionOverflows, IsSectionOf}
-use Rattle.http_wire.proofs.LineLemmas.{trailers_found, trailers_refused, trailers_endless}
+use Rattle.http_wire.specs.ChunkEnds.{HasWrongLines}
+use Rattle.http_wire.proofs.LineLemmas.{trailers_found, trailers_refused, trailers_endless, trailers_wrong}
 use Rattle.http_wire.proofs.trailers.find_trailers.Goals as goal
 
 pub returns-in-Ok-Complete-clause-found : goal.returns-in-Ok-Complete-clause-found
@@ -13,7 +14,8 @@ returns-in-Ok-Complete-clause-found g c =
 pub returns-in-Err-clause-ended : goal.returns-in-Err-clause-ended
 returns-in-Err-clause-ended g c =
     let over : SectionOverflows 64 c.front.result.now = search rules in
-    trailers_refused _ _ c.fill.input.buffer c.front.result.now c.args.bound c.fill.invariant.kept (search rules) over
+    let wrong : HasWrongLines c.front.result.now = grind (arith, trailers_wrong, c.parse_headers.ensures.invalid, c.parse_headers.ensures.too_many) in
+    trailers_refused _ _ c.fill.input.buffer c.front.result.now c.args.bound c.fill.invariant.kept (search rules) over wrong
 
 pub returns-then-bytes-bound-clause-ended : goal.returns-then-bytes-bound-clause-ended
 returns-then-bytes-bound-clause-ended g c =
