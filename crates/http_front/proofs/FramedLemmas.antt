@@ -3,10 +3,11 @@ use Rattle.std.proofs.Common.{◌≡◌, ◌⊎◌, ◌∙◌, inl, inr, Option,
 use Rattle.std.specs.Prelude.{Result}
 use Rattle.std.specs.Io.KnownBytes.{Appends}
 use Rattle.std.proofs.KnownBytes.{Appends-nil, Appends-trans}
+use Rattle.http_head.specs.declared.end.End.{End}
 use Rattle.http_head.specs.declared.end.Finish.{Finish}
 use Rattle.http_head.specs.declared.plan.Plan.{Plan}
 use Rattle.http_wire.specs.Responses.{continue_response, interim_response, last_response, success_head, success_response}
-use Rattle.http_front.specs.Framed.{AreFramed, IsFramed, IsMediaType, IsTurnFramed, none, one_more}
+use Rattle.http_front.specs.Framed.{AreAnswered, AreFramed, IsFinal, IsFramed, IsLast, IsMediaType, IsTurnFramed, none, one_more}
 use Rattle.http_front.specs.Turned.{IsClosed}
 use Rattle.http_front.specs.declared.outcome.Replied.{Replied}
 use Rattle.http_front.specs.declared.outcome.Replied.TheVariants.{Answered as ReplyAnswered}
@@ -63,12 +64,16 @@ framed_bare end v x (Err f) closed = tt
 
 -- ---- one turn after another
 
-pub framed_none : (v : Option (List ℕ)) → AreFramed v v
-framed_none v = ([], none, Appends-nil v)
+pub answered_none : (v : Option (List ℕ)) → AreAnswered v v
+answered_none v = ([], none, Appends-nil v)
 
-pub framed_on : (turned : Turned) (v m x : Option (List ℕ)) → AreFramed v m → IsTurnFramed m x turned → AreFramed v x
-framed_on turned v m x before t = (
+pub answered_on : (tally : Tally) (closes : Bool) (v m x : Option (List ℕ)) → closes ≡ false → AreAnswered v m → IsTurnFramed m x (Answered tally closes) → AreAnswered v x
+answered_on tally closes v m x stays before t = (
   before.0 ++ (t.0 ++ t.1),
-  one_more turned before.0 t.0 t.1 before.1 t.2 t.3,
+  one_more tally before.0 t.0 t.1 before.1 t.2 (subst (λ (b : Bool). IsFinal (Answered tally b) t.1) stays t.3),
   Appends-trans v m x before.0 (t.0 ++ t.1) before.2 t.4,
 )
+
+pub framed_last : (turned : Turned) (end : End) (v m x : Option (List ℕ)) → AreAnswered v m → IsTurnFramed m x turned → IsLast turned end → AreFramed v x end
+framed_last turned end v m x before t last =
+    (before.0, t.0, t.1, turned, before.1, t.2, t.3, last, Appends-trans v m x before.0 (t.0 ++ t.1) before.2 t.4)

@@ -59,8 +59,9 @@ fn run<R: Read, W: Write, B: QueueBook>(
     ensures few_stopped { IfErr result (λ fault. fault.acted ≤ most_requests) }
     // what shuts a book is answered as a fault, or breaks a document off
     ensures live { B.is_honest book.new → B.is_live book.old → IsFaultless result → B.is_live book.new }
-    // over any book, also one that is not honest: each response has as many bytes of content as its head tells
-    ensures framed { IfOk result (λ served. AreFramed (W.contents writer.old) (W.contents writer.new)) }
+    // over any book, also one that is not honest: each response has as many bytes of content as its head tells, and the last alone ends
+    // the connection, as it ended
+    ensures framed { IfOk result (λ served. AreFramed (W.contents writer.old) (W.contents writer.new) served.end) }
 {
     let mut acted = 0;
     let mut faults = 0;
@@ -137,8 +138,9 @@ pub fn serve<R: Read, W: Write, B: QueueBook>(
     ensures few_stopped { IfErr result (λ fault. fault.acted ≤ most_requests) }
     // what shuts a book is answered as a fault, or breaks a document off
     ensures live { B.is_honest book.new → B.is_live book.old → IsFaultless result → B.is_live book.new }
-    // over any book, also one that is not honest: each response has as many bytes of content as its head tells
-    ensures framed { IfOk result (λ served. AreFramed (W.contents writer.old) (W.contents writer.new)) }
+    // over any book, also one that is not honest: each response has as many bytes of content as its head tells, and the last alone ends
+    // the connection, as it ended
+    ensures framed { IfOk result (λ served. AreFramed (W.contents writer.old) (W.contents writer.new) served.end) }
 {
     let mut input = Input::new(reader);
     let table = router(alloc).ok();

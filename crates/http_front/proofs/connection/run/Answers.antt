@@ -1,10 +1,12 @@
 use Rattle.std.proofs.Common.{◌≡◌, ℕ, Bool, true, false, ◌∙◌, arith, rules, ap, refl, sym, subst, if◌then◌else◌, ◌+◌, ◌^◌, IfSome}
 use Rattle.http_head.specs.Reads.{bytes_left}
 use Rattle.http_head.specs.declared.end.End.{End}
+use Rattle.http_head.specs.declared.end.End.TheVariants.{Done as EndDone}
 use Rattle.http_head.specs.declared.end.Finish.TheVariants.{Done}
 use Rattle.http_front.specs.Connections.{IsServed}
+use Rattle.http_front.specs.declared.outcome.Turned.TheVariants.{Answered, Ended}
 use Rattle.http_front.proofs.CrashLemmas.{carries_no_turn}
-use Rattle.http_front.proofs.FramedLemmas.{framed_none, framed_on}
+use Rattle.http_front.proofs.FramedLemmas.{answered_none, answered_on, framed_last}
 use Rattle.http_front.proofs.RunLemmas.{ran_none, ran_on, run_settings, served_done, served_ended, stopped_at, worked_done, worked_ended, worked_stopped}
 use Rattle.http_front.proofs.connection.run.Goals as goal
 use mir.Val.{bool_byte}
@@ -22,7 +24,7 @@ turns-init g c = record {
   began = λ h. h;
   live = λ h live none. live;
   ran = λ h w st set. (w, st, (ran_none _ _ _ _, carries_no_turn (g.B.QueueBook.crash_leaves c.args.book.now) c.args.context.now w));
-  framed = framed_none (g.W.Write.contents c.args.writer.now);
+  answered = answered_none (g.W.Write.contents c.args.writer.now);
 }
 
 pub turns-preserved : goal.turns-preserved
@@ -44,7 +46,9 @@ turns-preserved g c = record {
       c.turns.acted c.turns.faults c.from-acted.result c.mark-faults.result c.in-Ok-Answered.tally c.in-Ok-Answered.closes
       r.2.0 r.2.1 t.2 (counted _ _ c.from-acted.ensures) c.mark-faults.ensures.exact c.if-closes.false in
       (t.0, t.1, on);
-  framed = framed_on _ (g.W.Write.contents c.args.writer.now) (g.W.Write.contents c.turns.writer) (g.W.Write.contents c.turn.new.writer) c.turns.invariant.framed c.in-Ok-Answered.ensures.framed;
+  answered =
+      answered_on c.in-Ok-Answered.tally c.in-Ok-Answered.closes (g.W.Write.contents c.args.writer.now) (g.W.Write.contents c.turns.writer) (g.W.Write.contents c.turn.new.writer) c.if-closes.false c.turns.invariant.answered
+      (rw c.in-Ok-Answered.field-0-is at c.in-Ok-Answered.ensures.framed);
 }
 
 pub returns-then-closes-clause-served : goal.returns-then-closes-clause-served
@@ -137,8 +141,10 @@ returns-in-Err-clause-live g c = λ h live none.
 
 pub returns-then-closes-clause-framed : goal.returns-then-closes-clause-framed
 returns-then-closes-clause-framed g c =
-    framed_on _ (g.W.Write.contents c.args.writer.now) (g.W.Write.contents c.turns.writer) (g.W.Write.contents c.turn.new.writer) c.turns.invariant.framed c.in-Ok-Answered.ensures.framed
+    framed_last (Answered c.in-Ok-Answered.tally c.in-Ok-Answered.closes) EndDone (g.W.Write.contents c.args.writer.now) (g.W.Write.contents c.turns.writer) (g.W.Write.contents c.turn.new.writer)
+    c.turns.invariant.answered (rw c.in-Ok-Answered.field-0-is at c.in-Ok-Answered.ensures.framed) (c.if-closes.true, refl)
 
 pub returns-in-Ok-Ended-clause-framed : goal.returns-in-Ok-Ended-clause-framed
 returns-in-Ok-Ended-clause-framed g c =
-    framed_on _ (g.W.Write.contents c.args.writer.now) (g.W.Write.contents c.turns.writer) (g.W.Write.contents c.turn.new.writer) c.turns.invariant.framed c.in-Ok-Ended.ensures.framed
+    framed_last (Ended c.in-Ok-Ended.finish) _ (g.W.Write.contents c.args.writer.now) (g.W.Write.contents c.turns.writer) (g.W.Write.contents c.turn.new.writer)
+    c.turns.invariant.answered (rw c.in-Ok-Ended.field-0-is at c.in-Ok-Ended.ensures.framed) c.end.ensures

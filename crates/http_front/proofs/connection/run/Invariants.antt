@@ -2,7 +2,7 @@ use Rattle.std.proofs.Common.{◌-◌, ◌^◌, ◌<◌, ◌≤◌, ◌≡◌}
 use Rattle.http_head.specs.Reads.{bytes_left}
 use Rattle.http_front.specs.Books.{ComesTo}
 use Rattle.http_front.specs.Crash.{CarriesAll}
-use Rattle.http_front.specs.Framed.{AreFramed}
+use Rattle.http_front.specs.Framed.{AreAnswered}
 use Rattle.http_front.specs.Turns.{last_request, most_requests}
 use Rattle.http_front.proofs.Runs.{RanOn}
 use Rattle.http_front.proofs.connection.run.Given as goal
@@ -19,7 +19,7 @@ invariant-turns g l = record {
       (so_far : RanOn l.k l.context.now w u (bytes_left g.R.Read l.initial.input) (bytes_left g.R.Read l.input)
       (g.W.Write.contents l.initial.writer) (g.W.Write.contents l.writer) l.acted l.faults)
       × CarriesAll (g.B.QueueBook.crash_leaves l.initial.book) (g.B.QueueBook.crash_leaves l.book) l.context.now so_far.run.turns w u);
-  framed : AreFramed (g.W.Write.contents l.initial.writer) (g.W.Write.contents l.writer);
+  answered : AreAnswered (g.W.Write.contents l.initial.writer) (g.W.Write.contents l.writer);
 }
 
 abbrev pub decreases-turns : goal.decreases-turns
