@@ -1,5 +1,5 @@
 //! What a connection came to, and what its client still sends.
-ghost use Rattle.std.specs.Prelude.{◌≡◌, ◌≢◌, ◌≤◌, ◌*◌, ◌↔◌, ℕ, List, length, IsOkAnd, IsTrue, false};
+ghost use Rattle.std.specs.Prelude.{◌≡◌, ◌≢◌, ◌≤◌, ◌*◌, ◌↔◌, ℕ, List, length, IfErr, IfOk, IsTrue, false};
 ghost use Rattle.std.specs.Io.KnownBytes.{Consumes};
 ghost use Rattle.http_front.specs.Connections.{IsFaultless, acted_of};
 
@@ -22,16 +22,18 @@ pub(crate) fn acted_of(served: Result<Served, ServeFault>) -> u32
     }
 }
 
-/// The server has ended the connection, and its client may still be sending.
+/// The server has ended the connection, by what it wrote last or inside a document where the book failed, and its client may still be
+/// sending.
 pub(crate) fn is_ended_here(served: Result<Served, ServeFault>) -> bool
-    ensures { IsTrue result ↔ IsOkAnd served (λ s. (s.end ≢ End.Closed) × (s.end ≢ End.Cut)) }
+    ensures ended { IfOk served (λ s. IsTrue result ↔ ((s.end ≢ End.Closed) × (s.end ≢ End.Cut))) }
+    ensures broken { IfErr served (λ fault. IsTrue result ↔ (fault.cause ≡ ServeCause.Book)) }
 {
     match served {
         Ok(served) => match served.end {
             End::Done | End::Refused(_) => true,
             End::Closed | End::Cut => false,
         },
-        Err(_) => false,
+        Err(fault) => fault.cause == ServeCause::Book,
     }
 }
 
