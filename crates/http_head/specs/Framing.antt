@@ -26,8 +26,8 @@ first_text (text ∷ texts) = text
 abbrev pub all_same : List (List ℕ) → Bool
 all_same texts = list_all (λ other. bytes_eq other (first_text texts)) texts
 
--- both are there, or the transfer codings are not chunked alone, or the lengths are not digits, or differ in their texts: not to be
--- answered, since a proxy may have read the stream in another way (section 6.3)
+-- both are there, or the transfer codings are not chunked alone, or the lengths are not digits, or differ in their texts: refused,
+-- since a proxy may have read the stream in another way (section 6.3)
 abbrev pub misframed : List (List ℕ) → List (List ℕ) → Bool
 misframed codings lengths =
     (is_there codings && is_there lengths)

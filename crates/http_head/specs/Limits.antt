@@ -25,6 +25,6 @@ line_limit = 1024
 abbrev pub trailer_limit : ℕ
 trailer_limit = 16384
 
--- a chunked body as it stands in the stream: chunk lines, data, trailer section
+-- a chunked body as it stands in the stream: chunk lines, content, trailer section
 abbrev pub raw_limit : ℕ
 raw_limit = 67108864
