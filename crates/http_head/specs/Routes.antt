@@ -1,10 +1,10 @@
 -- The routes of the server, and which a path has.
-use Rattle.std.specs.Prelude.{◌≢◌, ◌<◌, ℕ, List, [], ◌∷◌, length, Option, option_map, Result, Ok, Err, codes}
+use Rattle.std.specs.Prelude.{◌≡◌, ◌≢◌, ◌<◌, ℕ, List, [], ◌∷◌, length, Option, None, option_map, Result, Ok, Err, codes, ⊤}
 use Rattle.std.specs.List.{AllByRecursion}
 use Rattle.matchit.specs.Rows.{RowsOf}
 use Rattle.matchit.specs.Order.{placed}
 use Rattle.matchit.specs.Route.{parse_route, Scan}
-use Rattle.matchit.specs.Router.{RouteOf, route_from}
+use Rattle.matchit.specs.Router.{RouteOf, nearest, route_from}
 use Rattle.matchit.specs.Seek.{first}
 use Rattle.matchit.specs.declared.error.InsertError.{InsertError}
 use Rattle.http_head.specs.declared.routes.Route.{Route}
@@ -31,6 +31,16 @@ table =
 abbrev pub rows_of : List (List ℕ × Route) → RowsOf (RouteOf Route) → RowsOf (RouteOf Route)
 rows_of [] rows = rows
 rows_of (r ∷ rs) rows = rows_of rs (with_route r rows)
+
+-- what was read is a route, and none of the rows conflicts with it
+abbrev pub IsFree : Result Scan InsertError → RowsOf (RouteOf Route) → Type 0
+IsFree (Ok s) rows = nearest s.pattern rows ≡ None
+IsFree (Err e) rows = ⊥
+
+-- each of these is a route, and conflicts neither with the rows nor with one before it
+abbrev pub AreFree : List (List ℕ × Route) → RowsOf (RouteOf Route) → Type 0
+AreFree [] rows = ⊤
+AreFree (r ∷ rs) rows = IsFree (parse_route r.0) rows × AreFree rs (with_route r rows)
 
 -- the router's rows: each route of the table put in its place, one after another
 abbrev pub routes : RowsOf (RouteOf Route)

@@ -1,5 +1,5 @@
 //! The routes of the server.
-ghost use Rattle.std.specs.Prelude.{◌≡◌, IfOk, OnOk, map};
+ghost use Rattle.std.specs.Prelude.{◌≡◌, IfErr, IfOk, OnOk, map};
 ghost use Rattle.http_head.specs.Routes as spec;
 
 use matchit::{InsertError, Router};
@@ -20,7 +20,8 @@ pub enum Route {
 
 /// Adds these paths, each with what answers it.
 fn add(router: &mut Router<Route>, routes: &[(&str, Route)]) -> Result<(), InsertError>
-    ensures { OnOk result (router.new ≡ spec.rows_of (map (λ r. (r.0.now, r.1)) routes.now) router.old) }
+    ensures added { OnOk result (router.new ≡ spec.rows_of (map (λ r. (r.0.now, r.1)) routes.now) router.old) }
+    ensures wanting { spec.AreFree (map (λ r. (r.0.now, r.1)) routes.now) router.old → IfErr result (λ e. e ≡ InsertError.OutOfMemory) }
 {
     for (path, route) in routes {
         router.insert(*path, *route)?;
@@ -30,7 +31,8 @@ fn add(router: &mut Router<Route>, routes: &[(&str, Route)]) -> Result<(), Inser
 
 /// The router of the server. The one error is want of memory, [`InsertError::OutOfMemory`]: no two of its routes conflict.
 pub fn router(alloc: Global) -> Result<Router<Route>, InsertError>
-    ensures { IfOk result (λ r. r ≡ spec.routes) }
+    ensures routes { IfOk result (λ r. r ≡ spec.routes) }
+    ensures wanting { IfErr result (λ e. e ≡ InsertError.OutOfMemory) }
 {
     let mut router = Router::new(alloc);
     add(

@@ -7,7 +7,7 @@ use Rattle.http_front.proofs.RunLemmas.{left_at_first, router_of}
 use Rattle.http_front.proofs.connection.serve.Goals as goal
 
 pub run-requires-clause-router : goal.run-requires-clause-router
-run-requires-clause-router g c = λ x e. router_of c.router.result c.ok-table.result c.as_ref.result x routes c.router.ensures c.ok-table.ensures.value c.as_ref.ensures.value e
+run-requires-clause-router g c = λ x e. router_of c.router.result c.ok-table.result c.as_ref.result x routes c.router.ensures.routes c.ok-table.ensures.value c.as_ref.ensures.value e
 
 pub returns-clause-served : goal.returns-clause-served
 returns-clause-served g c =
