@@ -1,7 +1,7 @@
 -- What importing an account file answers.
 use Rattle.std.specs.Prelude.{◌≡◌, ◌⊎◌, ◌≤◌, ℕ, List, Option, Some, None, Result, Ok, Err, MatchResult, length}
-use Rattle.queue_types.specs.declared.event.GrantFault.{GrantFault}
-use Rattle.queue_types.specs.declared.event.GrantFault.TheVariants as refusal
+use Rattle.queue_types.specs.declared.event.GrantRefusal.{GrantRefusal}
+use Rattle.queue_types.specs.declared.event.GrantRefusal.TheVariants as refusal
 use Rattle.queue_types.specs.declared.event.GrantRow.{GrantRow}
 use Rattle.queue_types.specs.Event.{Event, grant}
 use Rattle.queue_core.specs.Machine.{step}
@@ -16,7 +16,7 @@ use Rattle.grants_csv.specs.declared.fault.ImportFault.{ImportFault}
 use Rattle.grants_csv.specs.declared.importing.Imported.{Imported}
 
 -- why the import refuses a row that the machine refuses so
-abbrev pub cause_of : GrantFault → ImportCause
+abbrev pub cause_of : GrantRefusal → ImportCause
 cause_of refusal.Conflict = Conflict
 cause_of refusal.TooMany = TooMany
 
@@ -26,7 +26,7 @@ Adds r n = r ≡ Added n.added n.repeats
 
 -- f is why a row is refused, whichever the reply of the machine is that refuses one
 pub record IsRowRefusal (f : ImportFault) : Type 0 where
-  pub why : GrantFault
+  pub why : GrantRefusal
   pub row : ℕ
   pub counted : (1 ≤ row) × (row ≤ 16777216)
   pub is : f ≡ at_row (cause_of why) row

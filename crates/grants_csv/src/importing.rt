@@ -14,7 +14,7 @@ ghost use Rattle.grants_csv.specs.Import.{Adds, AskedBy, Imports, IsRowRefusal, 
 use crate::fault::{ImportCause, ImportFault};
 use crate::reading::read_grants;
 use queue_core::{BookFault, QueueBook};
-use queue_types::event::{Event, GrantFault, GrantRow, Reply};
+use queue_types::event::{Event, GrantRefusal, GrantRow, Reply};
 use std::alloc::Global;
 
 /// What an account file added.
@@ -36,15 +36,15 @@ impl From<BookFault> for ImportFault {
     }
 }
 
-impl From<GrantFault> for ImportCause {
+impl From<GrantRefusal> for ImportCause {
     ghost use Rattle.grants_csv.specs.Import.{cause_of};
 
     ghost from_gives = { λ g c. c ≡ cause_of g };
 
-    fn from(fault: GrantFault) -> ImportCause {
-        match fault {
-            GrantFault::Conflict => ImportCause::Conflict,
-            GrantFault::TooMany => ImportCause::TooMany,
+    fn from(refusal: GrantRefusal) -> ImportCause {
+        match refusal {
+            GrantRefusal::Conflict => ImportCause::Conflict,
+            GrantRefusal::TooMany => ImportCause::TooMany,
         }
     }
 }
@@ -75,7 +75,7 @@ fn take_rows<B: QueueBook>(
             book.apply(decision)?;
             Ok(Imported { added, repeats })
         }
-        Reply::NotAdded { fault, row } => Err(ImportCause::from(fault).at(row)),
+        Reply::NotAdded { refusal, row } => Err(ImportCause::from(refusal).at(row)),
         _ => unreachable!("no other reply is to an account file"),
     }
 }

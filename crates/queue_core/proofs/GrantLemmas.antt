@@ -6,7 +6,7 @@ use Rattle.std.proofs.lemmas.Bool.{and_parts, cases_Bool, ltb-false}
 use Rattle.std.proofs.lemmas.List.Sums.{sum_by_push}
 use Rattle.queue_core.specs.Grants.{repeated, refused_row, new_row, all_taken, take_rows, row_of, row_under, pages_under, pages_to, is_too_many}
 use Rattle.queue_core.specs.Tally.{is_key_of}
-use Rattle.queue_types.specs.declared.event.GrantFault.TheVariants.{Conflict, TooMany}
+use Rattle.queue_types.specs.declared.event.GrantRefusal.TheVariants.{Conflict, TooMany}
 use Rattle.queue_types.specs.declared.event.KnownGrant.{KnownGrant}
 use Rattle.queue_types.specs.declared.event.FreeRow.{FreeRow}
 use Rattle.queue_types.specs.declared.event.GrantRow.{GrantRow}

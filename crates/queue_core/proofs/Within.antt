@@ -138,7 +138,7 @@ telling s now r moment report (j ∷ js) all (Some k) kept = elim (is_same_repor
 
 abbrev IsFew : Taken → ℕ → Type 0
 IsFew (all_taken rows free repeats) n = length rows + repeats ≤ n
-IsFew (none_taken fault row) n = (1 ≤ row) × (row ≤ n)
+IsFew (none_taken refusal row) n = (1 ≤ row) × (row ≤ n)
 
 few_rows : (rows : List GrantRow) (known : List KnownGrant) (n : ℕ) (new : List GrantRow) (free : List FreeRow) (repeats m : ℕ) → 1 ≤ n → length new + repeats + 1 ≤ n → n + length rows ≤ m + 1 → IsFew (take_rows rows known n new free repeats) m
 few_rows [] known n new free repeats m first few fits = omega arith
@@ -152,7 +152,7 @@ few_rows (r ∷ rows) (k ∷ known) n new free repeats m first few fits =
 
 granting : (rows : List GrantRow) (t : Taken) → IsFew t 16777216 → IsSoundDecision (grant rows) (grant_row t)
 granting rows (all_taken new free repeats) few = record { reply = few; change = record { jobs = all_of IsSoundJob [] tt; document = tt } }
-granting rows (none_taken fault row) few = told (grant rows) (NotAdded fault row) few
+granting rows (none_taken refusal row) few = told (grant rows) (NotAdded refusal row) few
 
 -- ---- every event
 

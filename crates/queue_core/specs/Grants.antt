@@ -1,8 +1,8 @@
 -- How the rows of an account file are taken: in order, all of them or none.
 use Rattle.std.specs.Prelude.{ℕ, pos, ◌+ℤ◌, ◌+◌, unwrap_or, ◌==◌, ◌&&◌, List, [], ◌∷◌, ◌++◌, Option, Bool, false, bytes_eq, find, option_map, sum_by, nat_lt, is_some, if◌then◌else◌}
 use Rattle.std.specs.Option.{option_map_or}
-use Rattle.queue_types.specs.declared.event.GrantFault.{GrantFault}
-use Rattle.queue_types.specs.declared.event.GrantFault.TheVariants.{Conflict, TooMany}
+use Rattle.queue_types.specs.declared.event.GrantRefusal.{GrantRefusal}
+use Rattle.queue_types.specs.declared.event.GrantRefusal.TheVariants.{Conflict, TooMany}
 use Rattle.queue_types.specs.declared.event.FreeRow.{FreeRow}
 use Rattle.queue_types.specs.declared.event.KnownGrant.{KnownGrant}
 use Rattle.queue_types.specs.declared.event.GrantRow.{GrantRow}
@@ -30,7 +30,7 @@ free_after r k new = record { account = r.account; free = unwrap_or k.free (pos 
 -- what becomes of a row after these new ones: it equals one accepted before; it can't be taken; or it is new
 pub data Row : Type 0 where
   repeated : Row
-  refused_row : GrantFault → Row
+  refused_row : GrantRefusal → Row
   new_row : Row
 
 abbrev pub row_of : GrantRow → KnownGrant → List GrantRow → Row
@@ -43,11 +43,11 @@ row_of r k new =
 -- row, counted from 1, that can't be taken
 pub data Taken : Type 0 where
   all_taken : List GrantRow → List FreeRow → ℕ → Taken
-  none_taken : GrantFault → ℕ → Taken
+  none_taken : GrantRefusal → ℕ → Taken
 
 abbrev pub add_row : Row → GrantRow → KnownGrant → ℕ → (List GrantRow → List FreeRow → ℕ → Taken) → List GrantRow → List FreeRow → ℕ → Taken
 add_row repeated r k n rest new free repeats = rest new free (repeats + 1)
-add_row (refused_row fault) r k n rest new free repeats = none_taken fault n
+add_row (refused_row refusal) r k n rest new free repeats = none_taken refusal n
 add_row new_row r k n rest new free repeats = rest (new ++ r ∷ []) (free ++ free_after r k new ∷ []) repeats
 
 -- the rows from number n on, each beside what is known of it, after these new rows

@@ -142,7 +142,7 @@ IsSoundReply (Printer state queued accepting) = queued < 2 ^ 31
 IsSoundReply (Told state count) = ⊥
 IsSoundReply (NotTold refusal) = ⊥
 IsSoundReply (Added new repeats) = ⊥
-IsSoundReply (NotAdded fault row) = ⊥
+IsSoundReply (NotAdded refusal row) = ⊥
 
 -- the answer to a report
 abbrev pub IsReportReply : Reply → Type 0
@@ -153,7 +153,7 @@ IsReportReply _ = ⊥
 -- the answer to the rows of an account file
 abbrev pub IsGrantReply : Reply → Type 0
 IsGrantReply (Added new repeats) = new + repeats ≤ 16777216
-IsGrantReply (NotAdded fault row) = (1 ≤ row) × (row ≤ 16777216)
+IsGrantReply (NotAdded refusal row) = (1 ≤ row) × (row ≤ 16777216)
 IsGrantReply _ = ⊥
 
 -- each kind of event has replies of its own

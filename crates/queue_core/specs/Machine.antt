@@ -237,7 +237,7 @@ report_row s now r (j ∷ js) (Some k) = if is_same_report r k.report then answe
 
 abbrev pub grant_row : Taken → Decision
 grant_row (all_taken new free repeats) = record { reply = Added (length new) repeats; change = record no_change { free = free; grants = new } }
-grant_row (none_taken fault row) = answered (NotAdded fault row)
+grant_row (none_taken refusal row) = answered (NotAdded refusal row)
 
 -- ---- the table
 

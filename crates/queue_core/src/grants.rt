@@ -1,7 +1,7 @@
 //! What the machine decides on an account file: its rows are taken in order, all of them or none.
 ghost use Rattle.std.specs.Prelude.{◌≡◌, ◌≤◌, ◌<◌, ◌+◌, ◌+ℤ◌, ◌^◌, ◌==◌, ◌++◌, ◌∷◌, [], ℕ, pos, All, List, None, Some, IfOk, IsSome, bytes_eq, if◌then◌else◌, length, nat_lt, option_map, unwrap_or};
 ghost use Rattle.queue_types.specs.Event.{decision_of};
-ghost use Rattle.queue_types.specs.declared.event.GrantFault.TheVariants.{Conflict, TooMany};
+ghost use Rattle.queue_types.specs.declared.event.GrantRefusal.TheVariants.{Conflict, TooMany};
 ghost use Rattle.queue_core.specs.Grants.{all_taken, is_too_many, new_row, refused_row, repeated, row_of, row_under, take_rows as rows_taken};
 ghost use Rattle.queue_core.specs.Limits.{IsFair, IsKnown};
 ghost use Rattle.queue_core.specs.Machine.{grant_row};
@@ -9,7 +9,7 @@ ghost use Rattle.queue_core.specs.Tally.{total_of, row_in, rows_after, free_rows
 
 use crate::decision::{answer_only, no_change};
 use queue_types::event::{
-    Decision, FreeList, FreeRow, GrantFault, GrantList, GrantRow, KnownGrant, Reply, Scene,
+    Decision, FreeList, FreeRow, GrantList, GrantRefusal, GrantRow, KnownGrant, Reply, Scene,
 };
 use queue_types::limits::MOST_GRANTED_PAGES;
 use std::alloc::{AllocError, Global};
@@ -78,7 +78,7 @@ struct Tally<'a> {
 enum RowState {
     /// It equals one that was accepted before.
     Repeated,
-    Refused(GrantFault),
+    Refused(GrantRefusal),
     New,
 }
 
@@ -89,7 +89,7 @@ fn state_beside(before: u32, pages: u32) -> RowState
     if before == pages {
         RowState::Repeated
     } else {
-        RowState::Refused(GrantFault::Conflict)
+        RowState::Refused(GrantRefusal::Conflict)
     }
 }
 
@@ -123,7 +123,7 @@ fn add_row<'a>(
 {
     let Some(total) = add_pages(&mut tally.totals, grant, MOST_GRANTED_PAGES - known.granted)?
     else {
-        return Ok(RowState::Refused(GrantFault::TooMany));
+        return Ok(RowState::Refused(GrantRefusal::TooMany));
     };
     let account = account_after(grant, known, total)?;
     tally.free.push(account)?;
@@ -160,7 +160,7 @@ enum End {
     /// Behind the last one. So many equal one accepted before.
     Whole { repeats: u32 },
     /// At a row, counted from 1, that can't be taken.
-    At { fault: GrantFault, row: u32 },
+    At { refusal: GrantRefusal, row: u32 },
 }
 
 /// Takes rows in order, each beside what is known of it, up to one that can't be taken. A row that equals one accepted
@@ -182,9 +182,9 @@ fn take_rows<'a>(
         match take_row(tally, &rows[i], &known[i])? {
             RowState::New => {}
             RowState::Repeated => repeats += 1,
-            RowState::Refused(fault) => {
+            RowState::Refused(refusal) => {
                 return Ok(End::At {
-                    fault,
+                    refusal,
                     row: i as u32 + 1,
                 });
             }
@@ -256,6 +256,6 @@ pub(crate) fn grant<'a>(
     let FileRows { rows, free, end } = take_file(alloc, rows, scene.known.as_slice())?;
     match end {
         End::Whole { repeats } => Ok(add_rows(alloc, rows, free, repeats)),
-        End::At { fault, row } => Ok(answer_only(alloc, Reply::NotAdded { fault, row })),
+        End::At { refusal, row } => Ok(answer_only(alloc, Reply::NotAdded { refusal, row })),
     }
 }

@@ -52,7 +52,7 @@ pub fn new_grants_add_up()
 /// The list that `in_order` makes of a list of jobs, as Get-Jobs shows them. 'completed': it has each of them as often,
 /// from the one that ended last, and of one moment from the greatest number. 'not-completed': it has each of them as often
 /// where all are live; where the list's numbers rise, they stand by the rank of their state (those that the device has,
-/// those that it may start, those that wait), and of one rank by number.
+/// those that it may start, those that are on hold or still take documents), and of one rank by number.
 pub fn get_jobs_in_order()
     ensures completed_all { (p : Job → Bool) (js : List Job) → count_by p (in_order CompletedJobs js) ≡ count_by p js }
     ensures completed_newest { (js : List Job) → AreNewestFirst (in_order CompletedJobs js) }

@@ -10,7 +10,7 @@ use Rattle.queue_core.specs.World.{World, AreNew, made_on, known_grant, put_gran
 use Rattle.queue_core.specs.Machine.{Step, step, grant_row}
 use Rattle.queue_core.specs.Runs.{Place, after, run}
 use Rattle.queue_types.specs.declared.event.FreeRow.{FreeRow}
-use Rattle.queue_types.specs.declared.event.GrantFault.{GrantFault}
+use Rattle.queue_types.specs.declared.event.GrantRefusal.{GrantRefusal}
 use Rattle.queue_types.specs.declared.event.GrantRow.{GrantRow}
 use Rattle.queue_types.specs.declared.event.Reply.TheVariants.{Added, NotAdded}
 use Rattle.queue_laws.specs.Granting.{IsGranted, is_named, is_account_of}
@@ -29,7 +29,7 @@ made w t = made_on (grant_row t).change w
 
 left_made : (w : World) (t : Taken) → ((made w t).jobs ≡ w.jobs) × ((made w t).next ≡ w.next) × ((made w t).reports ≡ w.reports)
 left_made w (all_taken new free n) = (refl, refl, refl)
-left_made w (none_taken fault row) = (refl, refl, refl)
+left_made w (none_taken refusal row) = (refl, refl, refl)
 
 pub jobs_left : (w : World) (now : ℕ) (file : List GrantRow) → (step w now (grant file)).world.jobs ≡ w.jobs
 jobs_left w now file = (left_made w (taken_of w file)).0
@@ -44,11 +44,11 @@ reports_left w now file = (left_made w (taken_of w file)).2
 
 grants_as : (w : World) (t : Taken) (P : FinMap grant_cmp ℕ → Type 0) → P w.grants → Comes (λ new free n. P (fold put_grant w.grants new)) t → P (made w t).grants
 grants_as w (all_taken new free n) P before then = then
-grants_as w (none_taken fault row) P before then = before
+grants_as w (none_taken refusal row) P before then = before
 
 free_as : (w : World) (t : Taken) (a : List ℕ) → Comes (λ new free n. get (fold put_free w.free free) a ≡ get w.free a) t → get (made w t).free a ≡ get w.free a
 free_as w (all_taken new free n) a then = then
-free_as w (none_taken fault row) a then = refl
+free_as w (none_taken refusal row) a then = refl
 
 pub grants_but : (w : World) (now : ℕ) (file : List GrantRow) (b a : List ℕ) → is_named b a file ≡ false → get (step w now (grant file)).world.grants (b, a) ≡ get w.grants (b, a)
 grants_but w now file b a absent = grants_as w (taken_of w file) (λ m. get m (b, a) ≡ get w.grants (b, a)) refl (other_grants w file b a absent)
@@ -69,12 +69,12 @@ grants_stay w now file b a pages there = row_stays w now file (record { batch = 
 
 -- ---- each row is granted
 
-pub no_added : (fault : GrantFault) (row added repeats : ℕ) (A : Type 0) → NotAdded fault row ≡ Added added repeats → A
-no_added fault row added repeats A e = absurd (cc)
+pub no_added : (refusal : GrantRefusal) (row added repeats : ℕ) (A : Type 0) → NotAdded refusal row ≡ Added added repeats → A
+no_added refusal row added repeats A e = absurd (cc)
 
 accepted_as : (w : World) (t : Taken) (P : World → Type 0) (added repeats : ℕ) → (grant_row t).reply ≡ Added added repeats → Comes (λ new free n. P (made w (all_taken new free n))) t → P (made w t)
 accepted_as w (all_taken new free n) P added repeats e then = then
-accepted_as w (none_taken fault row) P added repeats e then = no_added fault row added repeats (P w) e
+accepted_as w (none_taken refusal row) P added repeats e then = no_added refusal row added repeats (P w) e
 
 each_granted : (w : World) (rows : List GrantRow) (new : List GrantRow) (free : List FreeRow) → IsTaken w new free → Each (λ g. IsThere w g new) rows → Each (IsGranted (fold put_grant w.grants new)) rows
 each_granted w rows new free taken each = each_map (λ g. IsThere w g new) (IsGranted (fold put_grant w.grants new)) rows (λ g there. taken.pages g ∙ there) each
@@ -90,7 +90,7 @@ added_parts m n added repeats e = (cc, cc)
 
 count_as : (t : Taken) (k added repeats : ℕ) → (grant_row t).reply ≡ Added added repeats → Comes (λ new free n. length new + n ≡ k) t → added + repeats ≡ k
 count_as (all_taken new free n) k added repeats e then = let parts = added_parts (length new) n added repeats e in let a : length new ≡ added = parts.0 in let b : n ≡ repeats = parts.1 in omega arith
-count_as (none_taken fault row) k added repeats e then = no_added fault row added repeats (added + repeats ≡ k) e
+count_as (none_taken refusal row) k added repeats e then = no_added refusal row added repeats (added + repeats ≡ k) e
 
 pub file_counted : (w : World) (now : ℕ) (file : List GrantRow) (added repeats : ℕ) → (step w now (grant file)).reply ≡ Added added repeats → added + repeats ≡ length file
 file_counted w now file added repeats e = count_as (taken_of w file) (length file) added repeats e (one_comes _ _ (taken_of w file) (λ new free n is. omega arith) (counted w file 1 [] [] 0))
@@ -103,7 +103,7 @@ moves_alike f g m n p e h = omega (arith, ints)
 
 sum_as : AddUp → (w : World) (t : Taken) (a : List ℕ) → Comes (λ new free n. IsTaken w new free) t → unwrap_or (get (made w t).free a) (pos 0) +ℤ pos (granted a w) ≡ unwrap_or (get w.free a) (pos 0) +ℤ pos (granted a (made w t))
 sum_as add_up w (all_taken new free n) a taken = moves_alike (unwrap_or (get w.free a) (pos 0)) (unwrap_or (get (fold put_free w.free free) a) (pos 0)) (granted_in a w.grants) (granted_in a (fold put_grant w.grants new)) (pages_to a new) (taken.amounts a) (add_up a new w.grants taken.apart)
-sum_as add_up w (none_taken fault row) a taken = refl
+sum_as add_up w (none_taken refusal row) a taken = refl
 
 pub file_free : AddUp → (w : World) (now : ℕ) (file : List GrantRow) (a : List ℕ) → unwrap_or (get (step w now (grant file)).world.free a) (pos 0) +ℤ pos (granted a w) ≡ unwrap_or (get w.free a) (pos 0) +ℤ pos (granted a (step w now (grant file)).world)
 file_free add_up w now file a = sum_as add_up w (taken_of w file) a (file_taken w file)

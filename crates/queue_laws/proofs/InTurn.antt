@@ -12,7 +12,7 @@ use Rattle.queue_core.specs.Grants.{repeated, refused_row, new_row, Taken, all_t
 use Rattle.queue_core.specs.World.{World, known_grant, granted, put_grant, put_free}
 use Rattle.queue_core.specs.Machine.{step, grant_row}
 use Rattle.queue_types.specs.declared.event.FreeRow.{FreeRow}
-use Rattle.queue_types.specs.declared.event.GrantFault.{GrantFault}
+use Rattle.queue_types.specs.declared.event.GrantRefusal.{GrantRefusal}
 use Rattle.queue_types.specs.declared.event.GrantRow.{GrantRow}
 use Rattle.queue_types.specs.declared.event.Reply.TheVariants.{Added, NotAdded}
 use Rattle.queue_laws.specs.Steps.{after, answer, unchanged, LeadsTo}
@@ -24,7 +24,7 @@ use Rattle.queue_laws.proofs.OneRow.{row_with}
 
 abbrev and_then : Taken → (List GrantRow → List FreeRow → ℕ → Taken) → Taken
 and_then (all_taken new free n) more = more new free n
-and_then (none_taken fault row) more = none_taken fault row
+and_then (none_taken refusal row) more = none_taken refusal row
 
 no_further : (m : ℕ) → m ≡ m + 0
 no_further m = omega arith
@@ -37,7 +37,7 @@ module _ (w : World) (rest : List GrantRow) where
       let k = known_grant w r in
       elim (row_of r k new) as (λ o. add_row o r k row (take_rows (front ++ rest) (known w (front ++ rest)) (row + 1)) new free n ≡ and_then (add_row o r k row (take_rows front (known w front) (row + 1)) new free n) (take_rows rest (known w rest) (row + length (r ∷ front)))) [
         | repeated ↦ taken_on front (row + 1) new free (n + 1) ∙ ap (λ m. and_then (take_rows front (known w front) (row + 1) new free (n + 1)) (take_rows rest (known w rest) m)) (further row front r)
-        | refused_row fault ↦ refl
+        | refused_row refusal ↦ refl
         | new_row ↦ taken_on front (row + 1) (new ++ r ∷ []) (free ++ free_after r k new ∷ []) n ∙ ap (λ m. and_then (take_rows front (known w front) (row + 1) (new ++ r ∷ []) (free ++ free_after r k new ∷ []) n) (take_rows rest (known w rest) m)) (further row front r)
       ]
     where
@@ -49,7 +49,7 @@ module _ (w : World) (rest : List GrantRow) where
 -- behind these rows
 abbrev shifted : ℕ → List GrantRow → List FreeRow → ℕ → Taken → Taken
 shifted p new free n (all_taken more freed again) = all_taken (new ++ more) (free ++ freed) (n + again)
-shifted p new free n (none_taken fault row) = none_taken fault (p + row)
+shifted p new free n (none_taken refusal row) = none_taken refusal (p + row)
 
 either_pages : (o : Option ℕ) (x y : Option GrantRow) → cond (is_some o) o (option_map (λ (g : GrantRow). g.pages) (option_or x y)) ≡ cond (is_some (cond (is_some o) o (option_map (λ (g : GrantRow). g.pages) x))) (cond (is_some o) o (option_map (λ (g : GrantRow). g.pages) x)) (option_map (λ (g : GrantRow). g.pages) y)
 either_pages None None y = refl
@@ -99,7 +99,7 @@ module _ (add_up : AddUp) (w : World) (new : List GrantRow) (free : List FreeRow
       ap (λ o. add_row o r (known_grant w r) (p + row) (take_rows rest (known w rest) ((p + row) + 1)) (new ++ more) (free ++ freed) (n + again)) (same_row r more)
       ∙ elim (row_of r (known_grant v r) more) as (λ o. add_row o r (known_grant w r) (p + row) (take_rows rest (known w rest) ((p + row) + 1)) (new ++ more) (free ++ freed) (n + again) ≡ shifted p new free n (add_row o r (known_grant v r) row (take_rows rest (known v rest) (row + 1)) more freed again)) [
         | repeated ↦ (λ i. take_rows rest (known w rest) (one_more p row i) (new ++ more) (free ++ freed) (one_more n again i)) ∙ shifts p rest (row + 1) more freed (again + 1)
-        | refused_row fault ↦ refl
+        | refused_row refusal ↦ refl
         | new_row ↦
             (λ i. take_rows rest (known w rest) (one_more p row i) (append_assoc new more (r ∷ []) i) (with_funds r more freed i) (n + again))
             ∙ shifts p rest (row + 1) (more ++ r ∷ []) (freed ++ free_after r (known_grant v r) more ∷ []) again
@@ -115,11 +115,11 @@ module _ (add_up : AddUp) (w : World) (new : List GrantRow) (free : List FreeRow
 
 abbrev joined : ℕ → Taken → Taken → Taken
 joined p (all_taken new free n) t = shifted p new free n t
-joined p (none_taken fault row) t = none_taken fault row
+joined p (none_taken refusal row) t = none_taken refusal row
 
 module _ (add_up : AddUp) (w : World) (front rest : List GrantRow) where
   joins : (t : Taken) → Comes (λ new free n. IsTaken w new free) t → and_then t (take_rows rest (known w rest) (1 + length front)) ≡ joined (length front) t (taken_of (made w t) rest)
-  joins (none_taken fault row) taken = refl
+  joins (none_taken refusal row) taken = refl
   joins (all_taken new free n) taken =
       (λ i. take_rows rest (known w rest) (swapped (length front) i) (sym (append-nil new) i) (sym (append-nil free) i) (no_further n i))
       ∙ shifts add_up w new free n taken (length front) rest 1 [] [] 0
@@ -130,22 +130,22 @@ module _ (add_up : AddUp) (w : World) (front rest : List GrantRow) where
   whole : taken_of w (front ++ rest) ≡ joined (length front) (taken_of w front) (taken_of (made w (taken_of w front)) rest)
   whole = taken_on w rest front 1 [] [] 0 ∙ joins (taken_of w front) (file_taken w front)
 
-refused_parts : (fault fault_then : GrantFault) (m n : ℕ) → NotAdded fault m ≡ NotAdded fault_then n → (fault ≡ fault_then) × (m ≡ n)
-refused_parts fault fault_then m n e = (cc, cc)
+refused_parts : (refusal refusal_then : GrantRefusal) (m n : ℕ) → NotAdded refusal m ≡ NotAdded refusal_then n → (refusal ≡ refusal_then) × (m ≡ n)
+refused_parts refusal refusal_then m n e = (cc, cc)
 
-no_refused : (fault : GrantFault) (row added repeats : ℕ) (A : Type 0) → Added added repeats ≡ NotAdded fault row → A
-no_refused fault row added repeats A e = absurd (cc)
+no_refused : (refusal : GrantRefusal) (row added repeats : ℕ) (A : Type 0) → Added added repeats ≡ NotAdded refusal row → A
+no_refused refusal row added repeats A e = absurd (cc)
 
 module _ (w : World) (p : ℕ) where
-  front_refused : (t s : Taken) (fault : GrantFault) (n : ℕ) → (grant_row t).reply ≡ NotAdded fault n → made_step w (joined p t s) ≡ record { world = w; reply = NotAdded fault n }
-  front_refused (all_taken new free m) s fault n e = no_refused fault n (length new) m (made_step w (joined p (all_taken new free m) s) ≡ record { world = w; reply = NotAdded fault n }) e
-  front_refused (none_taken cause row) s fault n e = λ i. record { world = w; reply = e i }
+  front_refused : (t s : Taken) (refusal : GrantRefusal) (n : ℕ) → (grant_row t).reply ≡ NotAdded refusal n → made_step w (joined p t s) ≡ record { world = w; reply = NotAdded refusal n }
+  front_refused (all_taken new free m) s refusal n e = no_refused refusal n (length new) m (made_step w (joined p (all_taken new free m) s) ≡ record { world = w; reply = NotAdded refusal n }) e
+  front_refused (none_taken cause row) s refusal n e = λ i. record { world = w; reply = e i }
 
-  rest_refused : (t s : Taken) (added repeats : ℕ) (fault : GrantFault) (n : ℕ) → (grant_row t).reply ≡ Added added repeats → (grant_row s).reply ≡ NotAdded fault n → made_step w (joined p t s) ≡ record { world = w; reply = NotAdded fault (p + n) }
-  rest_refused (none_taken cause row) s added repeats fault n d e = no_added cause row added repeats (made_step w (none_taken cause row) ≡ record { world = w; reply = NotAdded fault (p + n) }) d
-  rest_refused (all_taken new free m) (all_taken more freed k) added repeats fault n d e = no_refused fault n (length more) k (made_step w (joined p (all_taken new free m) (all_taken more freed k)) ≡ record { world = w; reply = NotAdded fault (p + n) }) e
-  rest_refused (all_taken new free m) (none_taken cause row) added repeats fault n d e =
-      let parts = refused_parts cause fault row n e in
+  rest_refused : (t s : Taken) (added repeats : ℕ) (refusal : GrantRefusal) (n : ℕ) → (grant_row t).reply ≡ Added added repeats → (grant_row s).reply ≡ NotAdded refusal n → made_step w (joined p t s) ≡ record { world = w; reply = NotAdded refusal (p + n) }
+  rest_refused (none_taken cause row) s added repeats refusal n d e = no_added cause row added repeats (made_step w (none_taken cause row) ≡ record { world = w; reply = NotAdded refusal (p + n) }) d
+  rest_refused (all_taken new free m) (all_taken more freed k) added repeats refusal n d e = no_refused refusal n (length more) k (made_step w (joined p (all_taken new free m) (all_taken more freed k)) ≡ record { world = w; reply = NotAdded refusal (p + n) }) e
+  rest_refused (all_taken new free m) (none_taken cause row) added repeats refusal n d e =
+      let parts = refused_parts cause refusal row n e in
       λ i. record { world = w; reply = NotAdded (parts.0 i) (p + parts.1 i) }
 
   both_taken : (t s : Taken) (added repeats added_then repeats_then : ℕ) → (grant_row t).reply ≡ Added added repeats → (grant_row s).reply ≡ Added added_then repeats_then
@@ -172,11 +172,11 @@ module _ (add_up : AddUp) (w : World) (now : ℕ) (front rest : List GrantRow) w
   in_turn : step w now (grant (front ++ rest)) ≡ made_step w (joined (length front) first second)
   in_turn = ap (made_step w) (whole add_up w front rest)
 
-  pub refused_first : (fault : GrantFault) (n : ℕ) → (step w now (grant front)).reply ≡ NotAdded fault n → step w now (grant (front ++ rest)) ≡ record { world = w; reply = NotAdded fault n }
-  refused_first fault n e = in_turn ∙ front_refused w (length front) first second fault n e
+  pub refused_first : (refusal : GrantRefusal) (n : ℕ) → (step w now (grant front)).reply ≡ NotAdded refusal n → step w now (grant (front ++ rest)) ≡ record { world = w; reply = NotAdded refusal n }
+  refused_first refusal n e = in_turn ∙ front_refused w (length front) first second refusal n e
 
-  pub refused_then : (v : World) (added repeats : ℕ) (fault : GrantFault) (n : ℕ) → LeadsTo w now (grant front) v (Added added repeats) → answer v now (grant rest) ≡ NotAdded fault n → step w now (grant (front ++ rest)) ≡ unchanged w (NotAdded fault (length front + n))
-  refused_then v added repeats fault n one two = in_turn ∙ rest_refused w (length front) first second added repeats fault n one.1 (ap (λ v. answer v now (grant rest)) one.0 ∙ two)
+  pub refused_then : (v : World) (added repeats : ℕ) (refusal : GrantRefusal) (n : ℕ) → LeadsTo w now (grant front) v (Added added repeats) → answer v now (grant rest) ≡ NotAdded refusal n → step w now (grant (front ++ rest)) ≡ unchanged w (NotAdded refusal (length front + n))
+  refused_then v added repeats refusal n one two = in_turn ∙ rest_refused w (length front) first second added repeats refusal n one.1 (ap (λ v. answer v now (grant rest)) one.0 ∙ two)
 
   pub taken_then : (v x : World) (added repeats added_then repeats_then : ℕ) → LeadsTo w now (grant front) v (Added added repeats) → LeadsTo v now (grant rest) x (Added added_then repeats_then)
       → step w now (grant (front ++ rest)) ≡ record { world = x; reply = Added (added + added_then) (repeats + repeats_then) }

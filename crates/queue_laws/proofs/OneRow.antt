@@ -8,7 +8,7 @@ use Rattle.queue_types.specs.Event.{grant}
 use Rattle.queue_core.specs.Grants.{Row, repeated, refused_row, new_row, take_rows, add_row, is_too_many}
 use Rattle.queue_core.specs.World.{World, known_grant, granted}
 use Rattle.queue_core.specs.Machine.{Step, step}
-use Rattle.queue_types.specs.declared.event.GrantFault.TheVariants.{Conflict, TooMany}
+use Rattle.queue_types.specs.declared.event.GrantRefusal.TheVariants.{Conflict, TooMany}
 use Rattle.queue_types.specs.declared.event.GrantRow.{GrantRow}
 use Rattle.queue_types.specs.declared.event.Reply.TheVariants.{Added, NotAdded}
 use Rattle.queue_laws.proofs.Filed.{made_step}

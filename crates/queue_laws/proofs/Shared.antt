@@ -21,9 +21,9 @@ own_rows u free = filter (λ a. bytes_eq u a.account) free
 -- both are refused for one row, or both are taken with the same new rows and repeats
 abbrev AreTakenAlike : List ℕ → Taken → Taken → Type 0
 AreTakenAlike u (all_taken new free n) (all_taken also freed m) = (new ≡ also) × (own_rows u free ≡ own_rows u freed) × (n ≡ m)
-AreTakenAlike u (all_taken new free n) (none_taken fault row) = ⊥
-AreTakenAlike u (none_taken fault row) (all_taken new free n) = ⊥
-AreTakenAlike u (none_taken fault row) (none_taken other place) = (fault ≡ other) × (row ≡ place)
+AreTakenAlike u (all_taken new free n) (none_taken refusal row) = ⊥
+AreTakenAlike u (none_taken refusal row) (all_taken new free n) = ⊥
+AreTakenAlike u (none_taken refusal row) (none_taken other place) = (refusal ≡ other) × (row ≡ place)
 
 fold_own : (u : List ℕ) (free : List FreeRow) (o : Option ℤ) → fold (free_then u) o free ≡ fold (free_then u) o (own_rows u free)
 fold_own u [] o = refl
@@ -88,9 +88,9 @@ module _ (u : List ℕ) (w v : World) (same : own u w ≡ own u v) where
   made_alike (all_taken new free n) (all_taken also freed m) alike =
       let free_is = free_made free freed alike.1 in
       (λ i. record (same i) { free = free_is i; grants = fold put_grant (grants i) (alike.0 i) }, λ i. Added (length (alike.0 i)) (alike.2 i))
-  made_alike (all_taken new free n) (none_taken fault row) alike = absurd alike
-  made_alike (none_taken fault row) (all_taken new free n) alike = absurd alike
-  made_alike (none_taken fault row) (none_taken other place) alike = (same, λ i. NotAdded (alike.0 i) (alike.1 i))
+  made_alike (all_taken new free n) (none_taken refusal row) alike = absurd alike
+  made_alike (none_taken refusal row) (all_taken new free n) alike = absurd alike
+  made_alike (none_taken refusal row) (none_taken other place) alike = (same, λ i. NotAdded (alike.0 i) (alike.1 i))
 
 pub files_alike : (u : List ℕ) (w v : World) (now : ℕ) (file : List GrantRow) → own u w ≡ own u v → (own u (step w now (grant file)).world ≡ own u (step v now (grant file)).world) × ((step w now (grant file)).reply ≡ (step v now (grant file)).reply)
 files_alike u w v now file same = made_alike u w v same (take_rows file (map (known_grant w) file) 1 [] [] 0) (take_rows file (map (known_grant v) file) 1 [] [] 0) (take_alike u w v same file 1 [] [] [] 0 refl)

@@ -13,7 +13,7 @@ use Rattle.std.proofs.lemmas.Bool.{and_parts, or_parts}
 use Rattle.queue_core.specs.World.{World, AreNew, known_grant, put_free, put_grant, grant_cmp}
 use Rattle.queue_core.specs.Grants.{repeated, refused_row, new_row, Taken, all_taken, none_taken, take_rows, add_row, row_of, row_under, pages_under, pages_to, is_too_many, free_after}
 use Rattle.queue_types.specs.declared.event.FreeRow.{FreeRow}
-use Rattle.queue_types.specs.declared.event.GrantFault.TheVariants.{Conflict, TooMany}
+use Rattle.queue_types.specs.declared.event.GrantRefusal.TheVariants.{Conflict, TooMany}
 use Rattle.queue_types.specs.declared.event.GrantRow.{GrantRow}
 use Rattle.queue_types.specs.declared.event.KnownGrant.{KnownGrant}
 use Rattle.queue_laws.specs.Granting.{is_named, is_account_of}
@@ -59,15 +59,15 @@ means_repeat r k new e =
 -- a fact of the new rows, the free rows and the repeats, where the file is accepted
 abbrev pub Comes : (List GrantRow → List FreeRow → ℕ → Type 0) → Taken → Type 0
 Comes P (all_taken new free repeats) = P new free repeats
-Comes P (none_taken fault row) = ⊤
+Comes P (none_taken refusal row) = ⊤
 
 pub both_come : (P Q R : List GrantRow → List FreeRow → ℕ → Type 0) (t : Taken) → ((new : List GrantRow) (free : List FreeRow) (n : ℕ) → P new free n → Q new free n → R new free n) → Comes P t → Comes Q t → Comes R t
 both_come P Q R (all_taken new free n) f p q = f new free n p q
-both_come P Q R (none_taken fault row) f p q = tt
+both_come P Q R (none_taken refusal row) f p q = tt
 
 pub one_comes : (P Q : List GrantRow → List FreeRow → ℕ → Type 0) (t : Taken) → ((new : List GrantRow) (free : List FreeRow) (n : ℕ) → P new free n → Q new free n) → Comes P t → Comes Q t
 one_comes P Q (all_taken new free n) f p = f new free n p
-one_comes P Q (none_taken fault row) f p = tt
+one_comes P Q (none_taken refusal row) f p = tt
 
 module _ (w : World) where
   abbrev pub known : List GrantRow → List KnownGrant
@@ -85,7 +85,7 @@ module _ (w : World) where
   comes P again more (r ∷ rows) row new free n here =
       elim (row_of r (known_grant w r) new) as (λ o. row_of r (known_grant w r) new ≡ o → Comes P (add_row o r (known_grant w r) row (take_rows rows (known rows) (row + 1)) new free n)) [
         | repeated ↦ λ is. comes P again more rows (row + 1) new free (n + 1) (again r new free n here)
-        | refused_row fault ↦ λ is. tt
+        | refused_row refusal ↦ λ is. tt
         | new_row ↦ λ is. comes P again more rows (row + 1) (new ++ r ∷ []) (free ++ funds r new ∷ []) n (more r new free n is here)
       ] refl
 
@@ -95,7 +95,7 @@ module _ (w : World) where
   counted (r ∷ rows) row new free n =
       elim (row_of r (known_grant w r) new) as (λ o. Comes (λ new_after free_rows m. length new_after + m ≡ length new + n + length (r ∷ rows)) (add_row o r (known_grant w r) row (take_rows rows (known rows) (row + 1)) new free n)) [
         | repeated ↦ one_comes _ _ (take_rows rows (known rows) (row + 1) new free (n + 1)) (λ new_after free_rows m is. omega arith) (counted rows (row + 1) new free (n + 1))
-        | refused_row fault ↦ tt
+        | refused_row refusal ↦ tt
         | new_row ↦ one_comes _ _ (take_rows rows (known rows) (row + 1) (new ++ r ∷ []) (free ++ funds r new ∷ []) n) (λ new_after free_rows m is. let one = length_push new r in omega arith) (counted rows (row + 1) (new ++ r ∷ []) (free ++ funds r new ∷ []) n)
       ]
 
@@ -142,7 +142,7 @@ module _ (w : World) where
         | repeated ↦ λ is.
             both_come (λ new_after free_rows m. IsThere r new_after) (λ new_after free_rows m. Each (λ g. IsThere g new_after) rows) _ (take_rows rows (known rows) (row + 1) new free (n + 1)) (λ new_after free_rows m p q. (p, q))
             (stays_there r rows (row + 1) new free (n + 1) (repeat_means r (known_grant w r) new is)) (all_there rows (row + 1) new free (n + 1))
-        | refused_row fault ↦ λ is. tt
+        | refused_row refusal ↦ λ is. tt
         | new_row ↦ λ is.
             both_come (λ new_after free_rows m. IsThere r new_after) (λ new_after free_rows m. Each (λ g. IsThere g new_after) rows) _ (take_rows rows (known rows) (row + 1) (new ++ r ∷ []) (free ++ funds r new ∷ []) n) (λ new_after free_rows m p q. (p, q))
             (stays_there r rows (row + 1) (new ++ r ∷ []) (free ++ funds r new ∷ []) n (now_there r new (new_means r (known_grant w r) new is))) (all_there rows (row + 1) (new ++ r ∷ []) (free ++ funds r new ∷ []) n)
@@ -246,7 +246,7 @@ module _ (w : World) where
   none_new t (r ∷ rows) row new free n absent none =
       elim (row_of r (known_grant w r) new) as (λ o. Comes (λ new_after free_rows m. list_any t new_after ≡ false) (add_row o r (known_grant w r) row (take_rows rows (known rows) (row + 1)) new free n)) [
         | repeated ↦ none_new t rows (row + 1) new free (n + 1) (or_parts (t r) (list_any t rows) absent).1 none
-        | refused_row fault ↦ tt
+        | refused_row refusal ↦ tt
         | new_row ↦ none_new t rows (row + 1) (new ++ r ∷ []) (free ++ funds r new ∷ []) n (or_parts (t r) (list_any t rows) absent).1 (not_in t new r none (or_parts (t r) (list_any t rows) absent).0)
       ]
 
@@ -272,7 +272,7 @@ module _ (w : World) where
   none_free (r ∷ rows) row new free n a absent before =
       elim (row_of r (known_grant w r) new) as (λ o. Comes (λ new_after free_after m. get (fold put_free w.free free_after) a ≡ get w.free a) (add_row o r (known_grant w r) row (take_rows rows (known rows) (row + 1)) new free n)) [
         | repeated ↦ none_free rows (row + 1) new free (n + 1) a (or_parts (bytes_eq r.account a) (is_account_of a rows) absent).1 before
-        | refused_row fault ↦ tt
+        | refused_row refusal ↦ tt
         | new_row ↦ none_free rows (row + 1) (new ++ r ∷ []) (free ++ funds r new ∷ []) n a (or_parts (bytes_eq r.account a) (is_account_of a rows) absent).1 (same_funds free (funds r new) a before (or_parts (bytes_eq r.account a) (is_account_of a rows) absent).0)
       ]
 

@@ -7,7 +7,7 @@ use Rattle.queue_types.specs.declared.event.Reply.TheVariants.{Refused, Done, Jo
 abbrev pub refuses : Reply → Bool
 refuses (Refused code) = true
 refuses (NotTold cause) = true
-refuses (NotAdded fault row) = true
+refuses (NotAdded refusal row) = true
 refuses Done = false
 refuses (Jobs jobs) = false
 refuses (Printer state queued accepting) = false

@@ -7,8 +7,8 @@ ghost use Rattle.queue_core.specs.Machine.{step};
 ghost use Rattle.queue_core.specs.Runs.{Place, run};
 ghost use Rattle.queue_core.specs.World.{World, granted};
 ghost use Rattle.queue_types.specs.declared.event.GrantRow.{GrantRow};
-ghost use Rattle.queue_types.specs.declared.event.GrantFault.{GrantFault};
-ghost use Rattle.queue_types.specs.declared.event.GrantFault.TheVariants.{Conflict, TooMany};
+ghost use Rattle.queue_types.specs.declared.event.GrantRefusal.{GrantRefusal};
+ghost use Rattle.queue_types.specs.declared.event.GrantRefusal.TheVariants.{Conflict, TooMany};
 ghost use Rattle.queue_types.specs.declared.event.Reply.TheVariants.{Added, NotAdded};
 ghost use Rattle.queue_laws.specs.Granting.{IsGranted, is_named, is_account_of, free_pages};
 ghost use Rattle.queue_laws.specs.Steps.{after, answer, unchanged, LeadsTo};
@@ -59,8 +59,8 @@ pub fn one_row_is_taken()
 /// refused for that row of the second; and where both would be accepted one after the other, the whole does what they
 /// do.
 pub fn files_are_taken_in_order()
-    ensures front { (w : World) (now : ℕ) (gs hs : List GrantRow) (fault : GrantFault) (n : ℕ) → answer w now (grant gs) ≡ NotAdded fault n → step w now (grant (gs ++ hs)) ≡ unchanged w (NotAdded fault n) }
-    ensures rest { (w v : World) (now n added repeats : ℕ) (gs hs : List GrantRow) (fault : GrantFault) → LeadsTo w now (grant gs) v (Added added repeats) → answer v now (grant hs) ≡ NotAdded fault n → step w now (grant (gs ++ hs)) ≡ unchanged w (NotAdded fault (length gs + n)) }
+    ensures front { (w : World) (now : ℕ) (gs hs : List GrantRow) (refusal : GrantRefusal) (n : ℕ) → answer w now (grant gs) ≡ NotAdded refusal n → step w now (grant (gs ++ hs)) ≡ unchanged w (NotAdded refusal n) }
+    ensures rest { (w v : World) (now n added repeats : ℕ) (gs hs : List GrantRow) (refusal : GrantRefusal) → LeadsTo w now (grant gs) v (Added added repeats) → answer v now (grant hs) ≡ NotAdded refusal n → step w now (grant (gs ++ hs)) ≡ unchanged w (NotAdded refusal (length gs + n)) }
     ensures taken { (w v x : World) (now added more repeats again : ℕ) (gs hs : List GrantRow) → LeadsTo w now (grant gs) v (Added added repeats) → LeadsTo v now (grant hs) x (Added more again) → step w now (grant (gs ++ hs)) ≡ record { world = x; reply = Added (added + more) (repeats + again) } }
 {
     new_grants_add_up();

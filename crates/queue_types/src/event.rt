@@ -152,7 +152,7 @@ pub enum Reply {
     },
     /// None of the rows of an account file is taken, for this one, counted from 1. Nothing changes.
     NotAdded {
-        fault: GrantFault,
+        refusal: GrantRefusal,
         row: u32,
     },
 }
@@ -170,7 +170,7 @@ pub enum ReportRefusal {
 
 /// Why a row of an account file can't be taken, by its number.
 #[derive(Clone, Copy, Debug, PartialEq, Eq)]
-pub enum GrantFault {
+pub enum GrantRefusal {
     /// The same batch and account were accepted with other pages.
     Conflict = 4,
     /// The account would have more than 1,000,000,000 pages granted.

@@ -31,4 +31,4 @@ returns-in_err-apply-in-Added-clause-crash g c = λ honest. on_err _ (g.B.QueueB
     (c.apply.ensures.crash honest (c.in_ok-decision.ensures.live began) w kept))
 
 pub returns-in-NotAdded-clause-replies : goal.returns-in-NotAdded-clause-replies
-returns-in-NotAdded-clause-replies g c = inr record { why = c.in-NotAdded.fault; row = c.in-NotAdded.row; counted = rw c.in-NotAdded.is at c.in_ok-decision.ensures.limits; is = search rules }
+returns-in-NotAdded-clause-replies g c = inr record { why = c.in-NotAdded.refusal; row = c.in-NotAdded.row; counted = rw c.in-NotAdded.is at c.in_ok-decision.ensures.limits; is = search rules }
