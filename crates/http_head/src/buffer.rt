@@ -6,12 +6,12 @@ ghost use Rattle.http_head.specs.Left.{left};
 ghost use Rattle.http_head.specs.Limits.{head_limit};
 
 use crate::fault::ReadFault;
-use crate::limits::{HEAD_LIMIT, MOST_TRIES};
+use crate::limits::{MOST_HEAD_BYTES, MOST_TRIES};
 use std::io::{ErrorKind, Read};
 use std::marker::Model;
 
 /// How many bytes it holds at most: as many as a head may have.
-const CAPACITY: usize = HEAD_LIMIT;
+const CAPACITY: usize = MOST_HEAD_BYTES;
 
 /// Bytes that have come. A contract sees them as a list.
 #[derive(Drop)]

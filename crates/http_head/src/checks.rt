@@ -9,7 +9,7 @@ ghost use Rattle.http_head.specs.Planned.{fields_at};
 use crate::end::Refusal;
 use crate::fields::{before, has_member, same_word, text_at, values, without_spaces};
 use crate::framing::Framing;
-use crate::limits::CONTENT_LIMIT;
+use crate::limits::MOST_CONTENT_BYTES;
 use crate::target::Target;
 use httparse::spans::{HeaderSpan, Span};
 
@@ -105,7 +105,7 @@ pub(crate) fn routed_refusal(
             Refusal::BadRequest,
         ),
         (posted && framing.is_untold(), Refusal::LengthRequired),
-        (size > CONTENT_LIMIT, Refusal::ContentTooLarge),
+        (size > MOST_CONTENT_BYTES, Refusal::ContentTooLarge),
         (posted && !typed, Refusal::UnsupportedMediaType),
     ])
 }

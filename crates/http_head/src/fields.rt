@@ -8,7 +8,7 @@ ghost use Rattle.std.specs.Str.Parse.{digits_value};
 ghost use Rattle.httparse.specs.Spans.{span_bytes, header_bytes};
 ghost use Rattle.http_head.specs.Fields as spec;
 
-use crate::limits::{CONTENT_LIMIT, MOST_DIGITS, MOST_FIELDS};
+use crate::limits::{MOST_CONTENT_BYTES, MOST_DIGITS, MOST_FIELDS};
 use arrayvec::ArrayVec;
 use httparse::spans::{HeaderSpan, Span};
 use std::str;
@@ -166,7 +166,7 @@ pub(crate) fn capped_number(text: &[u8]) -> u32
 {
     let mut n: u32 = 0;
     for b in text {
-        n = (n * 10 + u32::from(b.saturating_sub(b'0'))).min(CONTENT_LIMIT + 1);
+        n = (n * 10 + u32::from(b.saturating_sub(b'0'))).min(MOST_CONTENT_BYTES + 1);
     }
     n
 }

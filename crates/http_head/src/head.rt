@@ -9,7 +9,7 @@ ghost use Rattle.httparse.specs.Grammar.{RequestHead, ReadsRequest};
 use crate::end::{Finish, Refusal};
 use crate::fault::HeadFault;
 use crate::input::Input;
-use crate::limits::{HEAD_LIMIT, MOST_FIELDS};
+use crate::limits::{MOST_FIELDS, MOST_HEAD_BYTES};
 use httparse::spans::{HeaderSpan, RequestSpans, parse_request};
 use httparse::{Error, Status};
 use std::io::Read;
@@ -35,7 +35,7 @@ pub(crate) fn find_head<R: Read>(
             }
             Err(_) => return Err(HeadFault::Ended(Finish::Refused(Refusal::BadRequest))),
         }
-        if input.bytes().len() == HEAD_LIMIT {
+        if input.bytes().len() == MOST_HEAD_BYTES {
             return Err(HeadFault::Ended(Finish::Refused(Refusal::HeaderFieldsTooLarge)));
         }
         if input.fill()? == 0 {

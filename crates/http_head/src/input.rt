@@ -7,13 +7,13 @@ ghost use Rattle.http_head.specs.Limits.{head_limit};
 
 use crate::buffer::Buffer;
 use crate::fault::ReadFault;
-use crate::limits::{HEAD_LIMIT, MOST_REQUESTS, RAW_LIMIT};
+use crate::limits::{MOST_HEAD_BYTES, MOST_RAW_BYTES, MOST_REQUESTS};
 use std::io::Read;
 
 /// The most reads of a connection, 2,148,007,937: one more than its requests have bytes, those of a head and of a body in each.
 /// A read takes at least one byte or is the last, and none is made where a request has as many bytes as it may have, so the
 /// count never ends a connection. A read that is interrupted and tried again counts once.
-pub const MOST_READS: u32 = MOST_REQUESTS * (HEAD_LIMIT + RAW_LIMIT) as u32 + 1;
+pub const MOST_READS: u32 = MOST_REQUESTS * (MOST_HEAD_BYTES + MOST_RAW_BYTES) as u32 + 1;
 
 /// The input of a connection: the bytes that have come and are not taken yet, and the reader that more come from.
 #[derive(Drop)]

@@ -16,7 +16,7 @@ use crate::body::take_more;
 use crate::fault::BodyFault;
 use http_head::end::{Finish, Refusal};
 use http_head::input::Input;
-use http_head::limits::RAW_LIMIT;
+use http_head::limits::MOST_RAW_BYTES;
 use httparse::{Status, parse_chunk_size};
 use std::io::Read;
 
@@ -35,7 +35,7 @@ pub(crate) fn bound_behind(raw: usize, limit: usize) -> Bound
     ensures own { result.limit ≤ limit }
     ensures whole { raw ≤ raw_limit → raw + result.limit ≤ raw_limit }
 {
-    let room = RAW_LIMIT.saturating_sub(raw);
+    let room = MOST_RAW_BYTES.saturating_sub(raw);
     if room < limit {
         Bound {
             limit: room,

@@ -13,7 +13,9 @@ use crate::fault::BodyFault;
 use crate::trailers::take_trailers;
 use http_head::end::{Finish, Refusal};
 use http_head::input::Input;
-use http_head::limits::{CONTENT_LIMIT, LINE_LIMIT, RAW_LIMIT, TRAILER_LIMIT};
+use http_head::limits::{
+    MOST_CHUNK_LINE_BYTES, MOST_CONTENT_BYTES, MOST_RAW_BYTES, MOST_TRAILER_BYTES,
+};
 use std::alloc::Global;
 use std::io::Read;
 
@@ -25,8 +27,8 @@ fn is_too_large(content: usize, raw: usize, line: Line) -> bool
     ensures over { OnTrue result ((content_limit < content + line.size) ⊎ (raw_limit < raw + line.len + line.size + 2)) }
     ensures fits { OnFalse result ((content + line.size ≤ content_limit) × (raw + line.len + line.size + 2 ≤ raw_limit)) }
 {
-    line.size > u64::from(CONTENT_LIMIT) - content as u64
-        || raw + line.len + line.size as usize + 2 > RAW_LIMIT
+    line.size > u64::from(MOST_CONTENT_BYTES) - content as u64
+        || raw + line.len + line.size as usize + 2 > MOST_RAW_BYTES
 }
 
 /// Takes the chunks and the line of the last one, adds up their content, and answers how many bytes they have.
@@ -38,7 +40,7 @@ fn take_chunks<R: Read>(input: &mut Input<R>, content: &mut Vec<u8>) -> Result<u
 {
     let mut raw: usize = 0;
     'chunks: loop {
-        let line = take_line(input, bound_behind(raw, LINE_LIMIT))?;
+        let line = take_line(input, bound_behind(raw, MOST_CHUNK_LINE_BYTES))?;
         if line.size == 0 {
             return Ok(raw + line.len);
         }
@@ -62,6 +64,6 @@ pub(crate) fn take_chunked<R: Read>(
 {
     let mut content = Vec::new(alloc);
     let raw = take_chunks(input, &mut content)?;
-    take_trailers(input, bound_behind(raw, TRAILER_LIMIT))?;
+    take_trailers(input, bound_behind(raw, MOST_TRAILER_BYTES))?;
     Ok(content)
 }

@@ -17,10 +17,10 @@ use crate::view::{AttrView, GroupView, Head, ValueView, View, WireFault};
 use std::alloc::Global;
 
 /// How many collections may be open at once.
-const DEEPEST: u8 = 8;
+const MOST_DEPTH: u8 = 8;
 
 /// The most bytes of a name or a value.
-const LONGEST: usize = 0x7fff;
+const MOST_TEXT_OCTETS: usize = 0x7fff;
 
 /// What of the input is not read yet. A loop that holds it in a struct can say where it stands.
 #[derive(Clone, Copy)]
@@ -70,7 +70,7 @@ fn text_at(bytes: &[u8]) -> Option<(&[u8], &[u8])>
         return None;
     };
     let len = u16::from_be_bytes([*high, *low]) as usize;
-    if LONGEST < len || rest.len() < len {
+    if MOST_TEXT_OCTETS < len || rest.len() < len {
         return None;
     }
     Some((&rest[..len], &rest[len..]))
@@ -109,7 +109,7 @@ fn depth_after(depth: u8, value: ValueView<'_>) -> Option<u8>
     ensures none { IfNone result (IsNestedAt depth (value_of value.entry) → ⊥) }
 {
     match value.tag {
-        BEGIN_COLLECTION => (depth < DEEPEST).then_some(depth + 1),
+        BEGIN_COLLECTION => (depth < MOST_DEPTH).then_some(depth + 1),
         END_COLLECTION => depth.checked_sub(1),
         _ => Some(depth),
     }

@@ -22,7 +22,7 @@ use std::io;
 use std::io::{Read, Write};
 
 /// One byte more than an account file may have, so that a file that is too long is seen to be so.
-const MOST_READ: u64 = MOST_FILE_BYTES as u64 + 1;
+const MOST_READ_BYTES: u64 = MOST_FILE_BYTES as u64 + 1;
 
 /// The bytes of a file, at most so many.
 fn read_file<R: Read + Drop>(alloc: Global, reader: R, most: u64) -> io::Result<Vec<u8>>
@@ -37,7 +37,7 @@ fn read_file<R: Read + Drop>(alloc: Global, reader: R, most: u64) -> io::Result<
 pub fn read_account_file<R: Read + Drop>(alloc: Global, reader: R) -> io::Result<Vec<u8>>
     ensures { IfOk result (λ bytes. AreReadOf (R.remaining reader) bytes.items) }
 {
-    read_file(alloc, reader, MOST_READ)
+    read_file(alloc, reader, MOST_READ_BYTES)
 }
 
 /// Writes `new N repeats M`.

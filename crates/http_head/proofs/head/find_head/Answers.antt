@@ -14,6 +14,6 @@ pub returns-in-Err-clause-failed : goal.returns-in-Err-clause-failed
 returns-in-Err-clause-failed g c =
     grind (arith, refused_never, c.fill.invariant.kept, c.bytes.ensures.value, c.bytes.ensures.fits, c.in-Err.ensures.invalid)
 
-pub returns-then-bytes-eq-HEAD_LIMIT-clause-failed : goal.returns-then-bytes-eq-HEAD_LIMIT-clause-failed
-returns-then-bytes-eq-HEAD_LIMIT-clause-failed g c =
+pub returns-then-bytes-eq-MOST_HEAD_BYTES-clause-failed : goal.returns-then-bytes-eq-MOST_HEAD_BYTES-clause-failed
+returns-then-bytes-eq-MOST_HEAD_BYTES-clause-failed g c =
     grind (arith, refused_full, c.fill.invariant.kept, c.bytes.ensures.value, c.bytes-in-fill.ensures.value, c.in-Ok-Partial.ensures.partial, c.in-Ok-Partial.ensures.unfinished)
