@@ -1,5 +1,5 @@
 -- Where a connection ends no request stands that could be answered; and what is written last is told by the end.
-use Rattle.std.proofs.Common.{◌≡◌, ◌≢◌, ◌==◌, ◌-◌, ◌+◌, ◌⊎◌, ◌∙◌, ℕ, Bool, true, false, List, ◌++◌, Some, None, length, inl, inr, refl, sym, ap, subst, arith, if◌then◌else◌}
+use Rattle.std.proofs.Common.{◌≡◌, ◌≢◌, ◌==◌, ◌-◌, ◌+◌, ◌⊎◌, ◌∙◌, ℕ, Bool, true, false, List, ◌++◌, Option, Some, None, length, inl, inr, refl, sym, ap, subst, arith, if◌then◌else◌}
 use Rattle.std.specs.Prelude.{nat_lt}
 use Rattle.httparse.specs.Grammar.{RequestHead, chunk_size, print_chunk_line}
 use Rattle.queue_core.specs.World.{World}
@@ -10,7 +10,7 @@ use Rattle.http_head.specs.Limits.{line_limit, raw_limit, trailer_limit}
 use Rattle.http_head.specs.declared.end.End.{End}
 use Rattle.http_head.specs.declared.end.End.TheVariants.{Closed as EndClosed, Cut as EndCut, Done as EndDone, Refused as EndRefused}
 use Rattle.http_head.specs.declared.end.Finish.{Finish}
-use Rattle.http_head.specs.declared.end.Finish.TheVariants.{Closed, Cut, Done, Refused}
+use Rattle.http_head.specs.declared.end.Finish.TheVariants.{Closed, Cut, Refused}
 use Rattle.http_head.specs.declared.end.Refusal.{Refusal}
 use Rattle.http_head.specs.declared.end.Refusal.TheVariants.{BadRequest, NotFound, PostAllowed, LengthRequired, ContentTooLarge, UnsupportedMediaType, HeaderFieldsTooLarge, ServiceUnavailable}
 use Rattle.http_head.specs.declared.framing.Framing.{Framing}
@@ -22,6 +22,7 @@ use Rattle.http_wire.specs.ChunkEnds.{EndsAtLine, EndsAtTrailers, EndsInChunk, E
 use Rattle.http_wire.specs.Chunks.{chunks_bytes}
 use Rattle.http_wire.specs.declared.chunk.Bound.{Bound}
 use Rattle.http_wire.specs.Responses.{interim_response, last_response, refusal_response}
+use Rattle.http_front.specs.Connections.{end_told, ends_by_fault}
 use Rattle.http_front.specs.Conversations.{MayEndAs}
 use Rattle.http_front.specs.Ends.{Declines, IsEnd, checked, declined, in_body, no_head, unavailable, unavailable_later}
 use Rattle.http_front.specs.Turns.{Turn, IsAnswered, IsTurn, plan, request_bytes}
@@ -74,7 +75,7 @@ end_no_turn laws now w t bytes r _ _ is e (headed h rest end last begins behind)
     let same = laws.heads bytes h t.head rest (t.raw ++ r) begins (turn_head now w t bytes r is e) in
     behind_no_turn laws now w t rest r end last is (subst (λ (z : RequestHead). EndsBehind w z rest end last) same.0 behind) same.1
 
--- ---- the end tells its response, but for the two refusals of a method
+-- ---- the end tells its response, but for the two refusals of a method, and one behind the last request has none
 
 abbrev refusal_with : ℕ → Refusal
 refusal_with code =
@@ -84,7 +85,7 @@ refusal_with code =
 abbrev finish_with : End → Finish
 finish_with EndClosed = Closed
 finish_with EndCut = Cut
-finish_with EndDone = Done
+finish_with EndDone = Closed
 finish_with (EndRefused code) = Refused (refusal_with code)
 
 -- it is told by its end
@@ -115,7 +116,6 @@ told_as r q e told = subst (λ (z : Refusal). IsTold (Refused z)) (sym e) told
 told_headless : (bytes : List ℕ) (f : Finish) → EndsWithoutHead bytes f → IsTold f
 told_headless bytes Closed n = told_closed
 told_headless bytes Cut n = told_cut
-told_headless bytes Done n = absurd n
 told_headless bytes (Refused r) n = elim n [ inl h ↦ told_as r BadRequest h.0 told_bad | inr h ↦ told_as r HeaderFieldsTooLarge h.0 told_fields ]
 
 told_bound : (raw limit : ℕ) → IsTold (Refused (bound_behind raw limit).refusal)
@@ -129,19 +129,16 @@ told_bound raw limit =
 told_line : (raw limit : ℕ) (bytes : List ℕ) (f : Finish) → EndsAtLine (bound_behind raw limit) bytes f → IsTold f
 told_line raw limit bytes Closed n = absurd n
 told_line raw limit bytes Cut n = told_cut
-told_line raw limit bytes Done n = absurd n
 told_line raw limit bytes (Refused r) n = elim n [ inl h ↦ told_as r BadRequest h.0 told_bad | inr h ↦ told_as r (bound_behind raw limit).refusal h.0 (told_bound raw limit) ]
 
 told_trailers : (raw limit : ℕ) (bytes : List ℕ) (f : Finish) → EndsAtTrailers (bound_behind raw limit) bytes f → IsTold f
 told_trailers raw limit bytes Closed n = absurd n
 told_trailers raw limit bytes Cut n = told_cut
-told_trailers raw limit bytes Done n = absurd n
 told_trailers raw limit bytes (Refused r) n = elim n [ inl h ↦ told_as r BadRequest h.0 told_bad | inr h ↦ told_as r (bound_behind raw limit).refusal h.0 (told_bound raw limit) ]
 
 told_chunk : (size : ℕ) (bytes : List ℕ) (f : Finish) → EndsInChunk size bytes f → IsTold f
 told_chunk size bytes Closed n = absurd n
 told_chunk size bytes Cut n = told_cut
-told_chunk size bytes Done n = absurd n
 told_chunk size bytes (Refused r) n = told_as r BadRequest n.0 told_bad
 
 told_chunks : (bytes : List ℕ) (f : Finish) → EndsInChunks bytes f → IsTold f
@@ -212,7 +209,7 @@ same_behind laws w h rest _ _ _ _ (by_decline raw content more r at c body decli
 same_behind laws w h rest _ _ _ _ (by_decline raw content more r at c body declines) (by_decline raws contents mores q at_too d bodies declines_too) =
     inl (ap (λ (z : Refusal). end_of (Refused z)) (declined_same w (plan_of (head_of h)).target content contents r q declines declines_too))
 
-pub same_ends : Laws → (w : World) (bytes : List ℕ) (f g : Finish) (l m : List ℕ) → EndKind w bytes f l → EndKind w bytes g m → (end_of f ≡ end_of g) ⊎ MayEndAs bytes f g
+pub same_ends : Laws → (w : World) (bytes : List ℕ) (f g : Finish) (l m : List ℕ) → EndKind w bytes f l → EndKind w bytes g m → (end_of f ≡ end_of g) ⊎ MayEndAs bytes (Some f) (Some g)
 same_ends laws w bytes _ _ _ _ (headless f n) (headless g p) = inr (inl (n, p))
 same_ends laws w bytes _ _ _ _ (headless f n) (headed h rest g m begins behind) = absurd (laws.whole_heads bytes h rest f begins n)
 same_ends laws w bytes _ _ _ _ (headed h rest f l begins behind) (headless g p) = absurd (laws.whole_heads bytes h rest g begins p)
@@ -235,9 +232,17 @@ unavailable_told : (f : Finish) → is_unavailable f ≡ unavailable_at (end_of 
 unavailable_told (Refused ServiceUnavailable) = refl
 unavailable_told _ = refl
 
-pub same_available : (f g : Finish) → end_of f ≡ end_of g → is_unavailable f ≡ is_unavailable g
-same_available f g e = unavailable_told f ∙ ap unavailable_at e ∙ sym (unavailable_told g)
+fault_told : (f : Option Finish) → ends_by_fault f ≡ unavailable_at (end_told f)
+fault_told None = refl
+fault_told (Some f) = unavailable_told f
 
-pub available : (f : Finish) → end_of f ≢ EndRefused 503 → is_unavailable f ≡ false
-available (Refused ServiceUnavailable) other = absurd (other refl)
-available _ other = refl
+pub same_available : (f g : Option Finish) → end_told f ≡ end_told g → ends_by_fault f ≡ ends_by_fault g
+same_available f g e = fault_told f ∙ ap unavailable_at e ∙ sym (fault_told g)
+
+available_in : (f : Finish) → end_of f ≢ EndRefused 503 → is_unavailable f ≡ false
+available_in (Refused ServiceUnavailable) other = absurd (other refl)
+available_in _ other = refl
+
+pub available : (f : Option Finish) → end_told f ≢ EndRefused 503 → ends_by_fault f ≡ false
+available None other = refl
+available (Some f) other = available_in f other

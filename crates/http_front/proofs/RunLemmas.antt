@@ -13,10 +13,10 @@ use Rattle.queue_types.specs.Settings.{SettingValues}
 use Rattle.http_head.specs.Left.{left}
 use Rattle.http_head.specs.Ends.{is_unavailable, end_of}
 use Rattle.http_head.specs.declared.end.Finish.{Finish}
-use Rattle.http_head.specs.declared.end.Finish.TheVariants.{Done}
+use Rattle.http_head.specs.declared.end.End.TheVariants.{Done}
 use Rattle.http_front.specs.Turns.{Turn, IsTurn, request_bytes, answer_bytes, acts, closes_at, last_request, most_requests}
 use Rattle.http_front.specs.Ends.{IsEnd, IsBegun}
-use Rattle.http_front.specs.Connections.{AreTurns, GoesOn, EndsAt, IsServed, IsStopped, Worked, written_for, world_after, bits, flag_of}
+use Rattle.http_front.specs.Connections.{AreTurns, GoesOn, EndsAt, IsServed, IsStopped, Worked, written_for, world_after, bits, flag_of, end_told, ends_by_fault}
 use Rattle.http_front.specs.Crash.{CarriesAll}
 use Rattle.http_front.specs.Turned.{IsTurned, TellsFault}
 use Rattle.http_front.proofs.CrashLemmas.{carries_more}
@@ -120,10 +120,10 @@ ran_on before between after k now w u p r s q v x y acted faults n m tally c h l
 
 -- ---- ends
 
-answers_from : (before after : World → World → Type 0) (now : ℕ) (w u : World) (r s v x y : Option (List ℕ)) (acted faults m : ℕ) (finish : Finish) (run : Ran now w u r s v x acted faults) → CarriesAll before after now run.turns w u
+answers_from : (before after : World → World → Type 0) (now : ℕ) (w u : World) (r s v x y : Option (List ℕ)) (acted faults m : ℕ) (finish : Option Finish) (run : Ran now w u r s v x acted faults) → CarriesAll before after now run.turns w u
     → length run.turns ≤ most_requests → IfSome s (λ rest. (last : List ℕ) × EndsAt u run.turns rest finish last × Appends x y last)
-    → m ≡ faults + (if is_unavailable finish then 2 ^ length run.turns else 0)
-    → IfSome r (IsServed before after now w u v y (record { acted = acted; faults = m; end = end_of finish }))
+    → m ≡ faults + (if ends_by_fault finish then 2 ^ length run.turns else 0)
+    → IfSome r (IsServed before after now w u v y (record { acted = acted; faults = m; end = end_told finish }))
 answers_from before after now w u None s v x y acted faults m finish run l few ends faults_are = tt
 answers_from before after now w u (Some stream) None v x y acted faults m finish run l few ends faults_are = absurd run.taken
 answers_from before after now w u (Some stream) (Some rest) v x y acted faults m finish run l few ends faults_are = record {
@@ -143,18 +143,18 @@ answers_from before after now w u (Some stream) (Some rest) v x y acted faults m
     world = run.world;
     settings = ran_settings now w u (Some stream) (Some rest) v x acted faults run;
     acted_is = run.acted_is;
-    faults_are = faults_are ∙ ap (λ z. z + (if is_unavailable finish then 2 ^ length run.turns else 0)) run.faults_are
-        ∙ ap (λ j. bits (map flag_of run.turns) + (if is_unavailable finish then 2 ^ j else 0)) (sym (length-map run.turns flag_of))
-        ∙ sym (bits_more (map flag_of run.turns) (is_unavailable finish));
+    faults_are = faults_are ∙ ap (λ z. z + (if ends_by_fault finish then 2 ^ length run.turns else 0)) run.faults_are
+        ∙ ap (λ j. bits (map flag_of run.turns) + (if ends_by_fault finish then 2 ^ j else 0)) (sym (length-map run.turns flag_of))
+        ∙ sym (bits_more (map flag_of run.turns) (ends_by_fault finish));
   };
   carries = l;
 }
 
 ended_at : (u : World) (s x y : Option (List ℕ)) (end : Finish) (turns : List Turn) → GoesOn 0 turns
     → IfSome s (λ bytes. (last : List ℕ) × IsEnd u bytes end last × Appends x y last)
-    → IfSome s (λ rest. (last : List ℕ) × EndsAt u turns rest end last × Appends x y last)
+    → IfSome s (λ rest. (last : List ℕ) × EndsAt u turns rest (Some end) last × Appends x y last)
 ended_at u None x y end turns g h = tt
-ended_at u (Some rest) x y end turns g h = (h.0, inr (g, h.1), h.2)
+ended_at u (Some rest) x y end turns g h = (h.0, (g, h.1), h.2)
 
 -- the connection ended behind these turns
 carries_ended : (before between after : World → World → Type 0) (now : ℕ) (turns : List Turn) (w u p : World) → u ≡ world_after w turns → CarriesAll before between now turns w u → CarriesAll between after now [] u p
@@ -169,26 +169,26 @@ pub served_ended : (before between after : World → World → Type 0) (k now : 
     → IfSome r (IsServed before after now w p v y (record { acted = acted; faults = m; end = end_of end }))
 served_ended before between after k now w u p r s q v x y acted faults m end few h left turned faults_are =
     subst (λ (z : World). IfSome r (IsServed before after now w z v y (record { acted = acted; faults = m; end = end_of end }))) (sym turned.1)
-    (answers_from before after now w u r s v x y acted faults m end h.run
+    (answers_from before after now w u r s v x y acted faults m (Some end) h.run
     (carries_ended before between after now h.run.turns w u u h.run.world left (subst (λ (z : World). CarriesAll between after now [] u z) turned.1 turned.2))
     (let e = h.count in omega (arith, e, few)) (ended_at u s x y end h.run.turns h.goes_on turned.0)
     (faults_are ∙ ap (λ j. faults + (if is_unavailable end then 2 ^ j else 0)) (sym h.count)))
 
 closed_at : (u : World) (s y : Option (List ℕ)) (turns front : List Turn) (t : Turn) → turns ≡ front ++ t ∷ [] → GoesOn 0 front → closes_at (length front) t ≡ true
-    → IfSome s (λ rest. (last : List ℕ) × EndsAt u turns rest Done last × Appends y y last)
+    → IfSome s (λ rest. (last : List ℕ) × EndsAt u turns rest None last × Appends y y last)
 closed_at u None y turns front t e g c = tt
-closed_at u (Some rest) y turns front t e g c = ([], inl (refl, refl, record { front = front; last = t; turns_are = e; goes_on = g; closes = c }), Appends-nil y)
+closed_at u (Some rest) y turns front t e g c = ([], (refl, record { front = front; last = t; turns_are = e; goes_on = g; closes = c }), Appends-nil y)
 
 pub served_done : (before between after : World → World → Type 0) (k now : ℕ) (w u p : World) (r s q v x y : Option (List ℕ)) (acted faults n m : ℕ) (tally : Tally) (c : Bool)
     → k ≤ last_request → (h : RanOn k now w u r s v x acted faults) → CarriesAll before between now h.run.turns w u
     → IsTurned between after now k u p s q x y (Ok (Answered tally c))
     → n ≡ (if tally.acted then 1 else 0) → m ≡ faults + (if tally.is_fault then 2 ^ k else 0) → c ≡ true
-    → IfSome r (IsServed before after now w p v y (record { acted = acted + n; faults = m; end = end_of Done }))
+    → IfSome r (IsServed before after now w p v y (record { acted = acted + n; faults = m; end = Done }))
 served_done before between after k now w u p r s q v x y acted faults n m tally c few h left turned acted_is faults_are c_is =
     let t = turned.turn in
     let run = ran_turned between after k now w u p r s q v x y acted faults n m tally c h turned acted_is faults_are in
     let e = length-append h.run.turns (t ∷ []) in
-    answers_from before after now w p r q v y y (acted + n) m m Done run (carries_more before between after now h.run.turns (t ∷ []) w u p h.run.world left turned.carries)
+    answers_from before after now w p r q v y y (acted + n) m m None run (carries_more before between after now h.run.turns (t ∷ []) w u p h.run.world left turned.carries)
     (omega (arith, e, h.count, few))
     (closed_at p q y run.turns h.run.turns t refl h.goes_on
     (subst (λ j. closes_at j t ≡ true) (sym h.count) (sym turned.closes_is ∙ c_is)))

@@ -1,12 +1,12 @@
 -- A connection: one turn after another over the bytes that it reads, to an end.
-use Rattle.std.specs.Prelude.{◌≡◌, ◌≢◌, ◌+◌, ◌*◌, ◌<◌, ◌≤◌, ◌⊎◌, Bool, true, false, ℕ, List, [], ◌∷◌, ◌++◌, length, map, Option, Result, Ok, Err, if◌then◌else◌, ⊤}
+use Rattle.std.specs.Prelude.{◌≡◌, ◌≢◌, ◌+◌, ◌*◌, ◌<◌, ◌≤◌, ◌⊎◌, Bool, true, false, ℕ, List, [], ◌∷◌, ◌++◌, length, map, Option, Some, None, Result, Ok, Err, if◌then◌else◌, ⊤}
 use Rattle.std.specs.List.{flat_map, count_by}
 use Rattle.std.specs.Io.KnownBytes.{Appends}
 use Rattle.queue_core.specs.World.{World}
 use Rattle.http_head.specs.Ends.{is_unavailable, end_of}
 use Rattle.http_head.specs.declared.end.End.{End}
+use Rattle.http_head.specs.declared.end.End.TheVariants.{Done}
 use Rattle.http_head.specs.declared.end.Finish.{Finish}
-use Rattle.http_head.specs.declared.end.Finish.TheVariants.{Done}
 use Rattle.http_front.specs.Turns.{Turn, IsTurn, request_bytes, answer_bytes, acts, closes_at, most_requests}
 use Rattle.http_front.specs.Crash.{CarriesAll}
 use Rattle.http_front.specs.Ends.{IsEnd, IsBegun}
@@ -53,9 +53,20 @@ flag_of t = t.is_fault
 
 -- ---- what a connection leaves
 
--- how it may end behind these turns: after the last request that it may have, or where no further request is answered
-abbrev pub EndsAt : World → List Turn → List ℕ → Finish → List ℕ → Type 0
-EndsAt w turns rest end last = ((end ≡ Done) × (last ≡ []) × HasClosed turns) ⊎ (GoesOn 0 turns × IsEnd w rest end last)
+-- how it may end behind these turns, and what is written last: after the last request that it may have, or where no further request is answered
+abbrev pub EndsAt : World → List Turn → List ℕ → Option Finish → List ℕ → Type 0
+EndsAt w turns rest None last = (last ≡ []) × HasClosed turns
+EndsAt w turns rest (Some finish) last = GoesOn 0 turns × IsEnd w rest finish last
+
+-- how that is told
+abbrev pub end_told : Option Finish → End
+end_told None = Done
+end_told (Some finish) = end_of finish
+
+-- whether it ends by a fault of the server's own
+abbrev pub ends_by_fault : Option Finish → Bool
+ends_by_fault None = false
+ends_by_fault (Some finish) = is_unavailable finish
 
 -- the answers to the stream of a connection that ended: what was written, and the world u that its requests made of w
 pub record Answers (now : ℕ) (w : World) (stream written : List ℕ) (u : World) (acted faults : ℕ) (end : End) : Type 0 where
@@ -65,8 +76,8 @@ pub record Answers (now : ℕ) (w : World) (stream written : List ℕ) (u : Worl
   pub stream_is : stream ≡ flat_map request_bytes turns ++ rest
   pub few : length turns ≤ most_requests
   pub are : AreTurns now w turns
-  -- the end there, and what is written last
-  pub finish : Finish
+  -- the end there, unless the last of them ended it; and what is written last
+  pub finish : Option Finish
   pub last : List ℕ
   pub ends : EndsAt (world_after w turns) turns rest finish last
   -- what comes of them
@@ -74,8 +85,8 @@ pub record Answers (now : ℕ) (w : World) (stream written : List ℕ) (u : Worl
   pub world : u ≡ world_after w turns
   pub settings : u.settings ≡ w.settings
   pub acted_is : acted ≡ count_by acts turns
-  pub faults_are : faults ≡ bits (map flag_of turns ++ is_unavailable finish ∷ [])
-  pub end_is : end ≡ end_of finish
+  pub faults_are : faults ≡ bits (map flag_of turns ++ ends_by_fault finish ∷ [])
+  pub end_is : end ≡ end_told finish
 
 -- the answers to a stream, where they were broken off
 pub record Breaks (now : ℕ) (w : World) (stream written : List ℕ) (u : World) (acted faults : ℕ) : Type 0 where
@@ -140,7 +151,7 @@ WorkedOver before after now w u acted = (k : Worked most_requests now w u acted)
 
 -- bit k of the faults is set exactly where request k was answered by a fault, and the bit behind these where the end is one, or what was begun there
 abbrev pub MarksFaults : List Turn → Result Served ServeFault → Type 0
-MarksFaults turns (Ok served) = (finish : Finish) × (served.end ≡ end_of finish) × (served.faults ≡ bits (map flag_of turns ++ is_unavailable finish ∷ []))
+MarksFaults turns (Ok served) = (finish : Option Finish) × (served.end ≡ end_told finish) × (served.faults ≡ bits (map flag_of turns ++ ends_by_fault finish ∷ []))
 MarksFaults turns (Err fault) = (last : Bool) × (fault.faults ≡ bits (map flag_of turns ++ last ∷ []))
 
 -- no request was answered by a fault, and the book did not fail inside a document

@@ -1,5 +1,5 @@
 -- The requests of a stream and its end, read twice.
-use Rattle.std.specs.Prelude.{◌≡◌, ◌⊎◌, ⊤, ℕ, List, [], ◌∷◌}
+use Rattle.std.specs.Prelude.{◌≡◌, ◌⊎◌, ⊤, ℕ, List, [], ◌∷◌, Option, Some, None}
 use Rattle.httparse.specs.Grammar.{RequestHead}
 use Rattle.http_head.specs.Head.{BeginsHead, EndsWithoutHead}
 use Rattle.http_head.specs.declared.end.Finish.{Finish}
@@ -19,7 +19,9 @@ AreSameRequests (s ∷ ss) [] = ⊤
 AreSameRequests (s ∷ ss) (t ∷ ts) = IsSameRequest s t × AreSameRequests ss ts
 
 -- the bytes may end so or so: no head stands there, or one does and no whole body follows it
-abbrev pub MayEndAs : List ℕ → Finish → Finish → Type 0
-MayEndAs bytes f g =
+abbrev pub MayEndAs : List ℕ → Option Finish → Option Finish → Type 0
+MayEndAs bytes None g = ⊥
+MayEndAs bytes (Some f) None = ⊥
+MayEndAs bytes (Some f) (Some g) =
     (EndsWithoutHead bytes f × EndsWithoutHead bytes g)
     ⊎ ((h : RequestHead) × (rest : List ℕ) × BeginsHead bytes h rest × EndsInBody (plan_in h).framing rest f × EndsInBody (plan_in h).framing rest g)

@@ -1,5 +1,5 @@
 //! What a connection is to the machine, and what it leaves: laws over the definitions, in functions that do nothing.
-ghost use Rattle.std.specs.Prelude.{◌≡◌, ◌≢◌, ◌≤◌, ◌⊎◌, ◌++◌, ℕ, List, length};
+ghost use Rattle.std.specs.Prelude.{◌≡◌, ◌≢◌, ◌≤◌, ◌⊎◌, ◌++◌, ℕ, List, Some, length};
 ghost use Rattle.std.specs.List.{AllByRecursion, flat_map};
 ghost use Rattle.queue_types.specs.Event.{Event};
 ghost use Rattle.queue_core.specs.Limits.{IsEvent, IsMoment};
@@ -72,7 +72,7 @@ pub fn one_conversation()
     ensures broken { (now : ℕ) (w u v : World) (stream written other : List ℕ) (acted n : ℕ) (end : End)
         → (a : Answers now w stream written u acted 0 end) → (b : Breaks now w stream other v n 0)
         → (more : List Turn) × (a.turns ≡ (b.turns ++ b.broken) ++ more)
-        × (((unwritten : List ℕ) × (written ≡ other ++ unwritten)) ⊎ ((f : Finish) × MayEndAs b.rest f a.finish)) }
+        × (((unwritten : List ℕ) × (written ≡ other ++ unwritten)) ⊎ ((f : Finish) × MayEndAs b.rest (Some f) a.finish)) }
 {
     one_line_reading();
     one_reading();

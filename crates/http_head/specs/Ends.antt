@@ -1,9 +1,9 @@
 -- The status of a refusal (RFC 9110, section 15; RFC 6585, section 5), and how a connection ended.
 use Rattle.std.specs.Prelude.{ℕ, Bool, true, false}
 use Rattle.http_head.specs.declared.end.End.{End}
-use Rattle.http_head.specs.declared.end.End.TheVariants.{Closed, Cut, Done, Refused}
+use Rattle.http_head.specs.declared.end.End.TheVariants.{Closed, Cut, Refused}
 use Rattle.http_head.specs.declared.end.Finish.{Finish}
-use Rattle.http_head.specs.declared.end.Finish.TheVariants.{Closed as FinishClosed, Cut as FinishCut, Done as FinishDone, Refused as FinishRefused}
+use Rattle.http_head.specs.declared.end.Finish.TheVariants.{Closed as FinishClosed, Cut as FinishCut, Refused as FinishRefused}
 use Rattle.http_head.specs.declared.end.Refusal.{Refusal}
 use Rattle.http_head.specs.declared.end.Refusal.TheVariants.{BadRequest, NotFound, PostAllowed, GetAllowed, LengthRequired, ContentTooLarge, UnsupportedMediaType, HeaderFieldsTooLarge, ServiceUnavailable}
 
@@ -23,7 +23,6 @@ code_of ServiceUnavailable = 503
 abbrev pub end_of : Finish → End
 end_of FinishClosed = Closed
 end_of FinishCut = Cut
-end_of FinishDone = Done
 end_of (FinishRefused r) = Refused (code_of r)
 
 -- it is a fault of the server's own

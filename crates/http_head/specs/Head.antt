@@ -4,7 +4,7 @@ use Rattle.httparse.specs.Grammar.{RequestHead, ReadsRequest, print_request, Has
 use Rattle.httparse.specs.Spans.{RequestExceeds}
 use Rattle.http_head.specs.Limits.{head_limit, field_limit}
 use Rattle.http_head.specs.declared.end.Finish.{Finish}
-use Rattle.http_head.specs.declared.end.Finish.TheVariants.{Closed, Cut, Done, Refused}
+use Rattle.http_head.specs.declared.end.Finish.TheVariants.{Closed, Cut, Refused}
 use Rattle.http_head.specs.declared.end.Refusal.TheVariants.{BadRequest, HeaderFieldsTooLarge}
 
 -- the bytes are this head, which is within the limits, and then the rest
@@ -26,6 +26,5 @@ IsTooLarge bytes = ((head_limit ≤ length bytes) × MayBecomeRequest (take head
 abbrev pub EndsWithoutHead : List ℕ → Finish → Type 0
 EndsWithoutHead bytes Closed = bytes ≡ []
 EndsWithoutHead bytes Cut = (0 < length bytes) × (length bytes < head_limit) × HasNoRequest bytes × MayBecomeRequest bytes
-EndsWithoutHead bytes Done = ⊥
 EndsWithoutHead bytes (Refused r) =
     ((r ≡ BadRequest) × NeverHasRequest (take head_limit bytes)) ⊎ ((r ≡ HeaderFieldsTooLarge) × HasNoHead bytes × IsTooLarge bytes)

@@ -39,15 +39,13 @@ pub enum Refusal {
     ServiceUnavailable,
 }
 
-/// How a connection ends, with the refusal itself.
+/// How a connection ends where no further request is answered, with the refusal itself.
 #[derive(Clone, Copy, Debug)]
 pub enum Finish {
     /// As [`End::Closed`].
     Closed,
     /// As [`End::Cut`].
     Cut,
-    /// As [`End::Done`].
-    Done,
     /// A request was refused so.
     Refused(Refusal),
 }
@@ -78,7 +76,6 @@ impl Finish {
         match self {
             Finish::Closed => End::Closed,
             Finish::Cut => End::Cut,
-            Finish::Done => End::Done,
             Finish::Refused(refusal) => End::Refused(refusal.code()),
         }
     }

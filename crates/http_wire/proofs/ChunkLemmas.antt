@@ -12,7 +12,7 @@ use Rattle.http_wire.specs.Chunks.{Chunk, IsChunk, AreChunks, IsShortLine, chunk
 use Rattle.http_wire.specs.ChunkEnds.{BeginsWithChunks, EndsAtLine, EndsAtTrailers, EndsAtLineEnd, EndsInChunk, EndsInChunks, IsPastLimits, at_line, too_large, in_chunk, at_trailers, bound_behind}
 use Rattle.http_wire.specs.ChunkParts.{TakesLine, TakesToLast, TakesTrailers, TakesChunked}
 use Rattle.http_head.specs.declared.end.Finish.{Finish}
-use Rattle.http_head.specs.declared.end.Finish.TheVariants.{Closed, Cut, Done, Refused}
+use Rattle.http_head.specs.declared.end.Finish.TheVariants.{Closed, Cut, Refused}
 use Rattle.http_head.specs.declared.end.Refusal.TheVariants.{ContentTooLarge}
 
 -- ---- chunks that were taken
@@ -153,7 +153,6 @@ body_taken a c d raw limit body run t fits =
 chunk_end_of : (size : ℕ) (x y content : List ℕ) (end : Finish) → x ≡ content ++ y → length content ≡ size → EndsAtLineEnd y end → EndsInChunk size x end
 chunk_end_of size x y content Closed e h n = n
 chunk_end_of size x y content Cut e h n = inr (y, record { content = content; bytes_are = e; size_is = h }, n)
-chunk_end_of size x y content Done e h n = n
 chunk_end_of size x y content (Refused r) e h n = (n.0, y, record { content = content; bytes_are = e; size_is = h }, n.1)
 
 pub chunk_end : (a b : Option (List ℕ)) (size : ℕ) (content : List ℕ) (end : Finish) → Consumes a b content → length content ≡ size → IfSome b (λ xs. EndsAtLineEnd xs end) → IfSome a (λ xs. EndsInChunk size xs end)

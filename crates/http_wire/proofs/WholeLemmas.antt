@@ -13,7 +13,7 @@ use Rattle.http_head.proofs.HeadLemmas.{front_of}
 use Rattle.http_head.specs.Head.{BeginsHead, EndsWithoutHead}
 use Rattle.http_head.specs.Limits.{head_limit, line_limit, raw_limit, trailer_limit}
 use Rattle.http_head.specs.declared.end.Finish.{Finish}
-use Rattle.http_head.specs.declared.end.Finish.TheVariants.{Closed, Cut, Done, Refused}
+use Rattle.http_head.specs.declared.end.Finish.TheVariants.{Closed, Cut, Refused}
 use Rattle.http_head.specs.declared.end.Refusal.TheVariants.{BadRequest, ContentTooLarge}
 use Rattle.http_head.specs.declared.framing.Framing.{Framing}
 use Rattle.http_head.specs.declared.framing.Framing.TheVariants.{Nothing, Sized, Chunked}
@@ -31,7 +31,6 @@ some_bytes a m t bytes some e none = omega (arith, some, ap length e, ap length 
 pub head_whole : (bytes : List ℕ) (h : RequestHead) (rest : List ℕ) (end : Finish) → BeginsHead bytes h rest → ¬ EndsWithoutHead bytes end
 head_whole bytes h rest Closed x n = some_bytes (print_blank h.blank) h.method _ bytes x.reads.0.method.0 (x.reads.1 ∙ print_request-append h rest) n
 head_whole bytes h rest Cut x n = n.2 h rest x.reads
-head_whole bytes h rest Done x n = n
 head_whole bytes h rest (Refused r) x n = elim n [
   | inl k ↦ k.1 (drop head_limit bytes) h rest (x.reads.0, take-append-drop head_limit bytes ∙ x.reads.1)
   | inr k ↦ k.1 h rest x
@@ -53,7 +52,6 @@ bound_fits raw limit n small fits = of (nat_lt (raw_limit - raw) limit)
 whole_line : (bound : Bound) (l : ChunkLine) (bytes rest : List ℕ) (end : Finish) → IsShortLine l → length (print_chunk_line l) ≤ bound.limit → bytes ≡ print_chunk_line l ++ rest → ¬ EndsAtLine bound bytes end
 whole_line bound l bytes rest Closed is fits e n = n
 whole_line bound l bytes rest Cut is fits e n = n.1 l rest (is.line, e)
-whole_line bound l bytes rest Done is fits e n = n
 whole_line bound l bytes rest (Refused r) is fits e n = elim n [
   | inl h ↦ h.1 (drop bound.limit bytes) l rest (is.line, take-append-drop bound.limit bytes ∙ e)
   | inr h ↦ h.2 l rest is.line fits e
@@ -71,7 +69,6 @@ whole_chunk size content bytes rest Cut long e n = elim n [
   | inl h ↦ omega (arith, h, long, ap length e, length-append content (crlf_bytes ++ rest))
   | inr h ↦ whole_line_end h.0 rest (same_front h.1.content content h.0 _ (h.1.size_is ∙ sym long) (sym h.1.bytes_are ∙ e)).1 h.2
 ]
-whole_chunk size content bytes rest Done long e n = n
 whole_chunk size content bytes rest (Refused r) long e n =
     let same = same_front n.2.content content n.1 _ (n.2.size_is ∙ sym long) (sym n.2.bytes_are ∙ e) in
     n.3 [] rest (append-nil n.1 ∙ same.1)
@@ -88,7 +85,6 @@ whole_trailers : (bound : Bound) (b : ChunkedBody) (bytes rest : List ℕ) (end 
     → bytes ≡ print_section b.trailers b.end ++ rest → ¬ EndsAtTrailers bound bytes end
 whole_trailers bound b bytes rest Closed are fits e n = n
 whole_trailers bound b bytes rest Cut are fits e n = n.1 b.trailers b.end rest (are.each, e)
-whole_trailers bound b bytes rest Done are fits e n = n
 whole_trailers bound b bytes rest (Refused r) are fits e n = elim n [
   | inl h ↦ h.1 b.trailers b.end rest are fits e
   | inr h ↦ no_section_within bound.limit bytes b.trailers b.end rest are fits e h.1 h.2

@@ -7,7 +7,7 @@ use Rattle.http_head.specs.Limits.{line_limit, content_limit, raw_limit, field_l
 use Rattle.http_wire.specs.Chunks.{Chunk, AreChunks, IsShortLine, chunks_bytes, chunks_content, AreTrailers}
 use Rattle.http_wire.specs.declared.chunk.Bound.{Bound}
 use Rattle.http_head.specs.declared.end.Finish.{Finish}
-use Rattle.http_head.specs.declared.end.Finish.TheVariants.{Closed, Cut, Done, Refused}
+use Rattle.http_head.specs.declared.end.Finish.TheVariants.{Closed, Cut, Refused}
 use Rattle.http_head.specs.declared.end.Refusal.TheVariants.{BadRequest, ContentTooLarge}
 
 -- how many bytes a part with a limit of its own may have behind that many raw bytes of the body, and the refusal where it has no
@@ -29,7 +29,6 @@ HasNoLineWithin limit bytes = (l : ChunkLine) (rest : List ℕ) → IsChunkLine 
 abbrev pub EndsAtLine : Bound → List ℕ → Finish → Type 0
 EndsAtLine bound bytes Closed = ⊥
 EndsAtLine bound bytes Cut = (length bytes < bound.limit) × HasNoChunkLine bytes × MayBecomeChunkLine bytes
-EndsAtLine bound bytes Done = ⊥
 EndsAtLine bound bytes (Refused r) =
     ((r ≡ BadRequest) × NeverHasChunkLine (take bound.limit bytes)) ⊎ ((r ≡ bound.refusal) × (bound.limit ≤ length bytes) × HasNoLineWithin bound.limit bytes × MayBecomeChunkLine (take bound.limit bytes))
 
@@ -49,7 +48,6 @@ HasWrongLines bytes = NeverHasSection bytes ⊎ SectionExceeds field_limit bytes
 abbrev pub EndsAtTrailers : Bound → List ℕ → Finish → Type 0
 EndsAtTrailers bound bytes Closed = ⊥
 EndsAtTrailers bound bytes Cut = (length bytes < bound.limit) × HasNoSection bytes × MayBecomeSection bytes
-EndsAtTrailers bound bytes Done = ⊥
 EndsAtTrailers bound bytes (Refused r) =
     ((r ≡ BadRequest) × HasNoTrailersWithin bound.limit bytes × HasWrongLines (take bound.limit bytes)) ⊎ ((r ≡ bound.refusal) × (bound.limit ≤ length bytes) × HasNoSection (take bound.limit bytes) × MayBecomeSection (take bound.limit bytes))
 
@@ -67,7 +65,6 @@ NeverHasLineEnd bytes = (more : List ℕ) (rest : List ℕ) → bytes ++ more �
 abbrev pub EndsAtLineEnd : List ℕ → Finish → Type 0
 EndsAtLineEnd bytes Closed = ⊥
 EndsAtLineEnd bytes Cut = IsOpenLineEnd bytes
-EndsAtLineEnd bytes Done = ⊥
 EndsAtLineEnd bytes (Refused r) = (r ≡ BadRequest) × NeverHasLineEnd bytes
 
 -- the content of a chunk of that size stands at the front, and these bytes behind it
@@ -80,7 +77,6 @@ pub record HasContent (size : ℕ) (bytes rest : List ℕ) : Type 0 where
 abbrev pub EndsInChunk : ℕ → List ℕ → Finish → Type 0
 EndsInChunk size bytes Closed = ⊥
 EndsInChunk size bytes Cut = (length bytes < size) ⊎ ((rest : List ℕ) × HasContent size bytes rest × IsOpenLineEnd rest)
-EndsInChunk size bytes Done = ⊥
 EndsInChunk size bytes (Refused r) = (r ≡ BadRequest) × (rest : List ℕ) × HasContent size bytes rest × NeverHasLineEnd rest
 
 -- ---- in the body

@@ -188,6 +188,6 @@ pub fn send_end<W: Write>(writer: &mut W, end: Finish) -> Result<(), WriteFault>
 {
     match end {
         Finish::Refused(refusal) => put(writer, refusal_response(refusal).as_slice()),
-        Finish::Closed | Finish::Cut | Finish::Done => Ok(()),
+        Finish::Closed | Finish::Cut => Ok(()),
     }
 }

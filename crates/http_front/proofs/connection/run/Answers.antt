@@ -1,8 +1,7 @@
-use Rattle.std.proofs.Common.{◌≡◌, ℕ, Bool, true, false, ◌∙◌, arith, rules, ap, refl, sym, subst, if◌then◌else◌, ◌+◌, ◌^◌, IfSome}
+use Rattle.std.proofs.Common.{◌≡◌, ℕ, Bool, true, false, ◌∙◌, arith, rules, ap, refl, sym, subst, if◌then◌else◌, ◌+◌, ◌^◌, IfSome, Some, None}
 use Rattle.http_head.specs.Reads.{bytes_left}
 use Rattle.http_head.specs.declared.end.End.{End}
 use Rattle.http_head.specs.declared.end.End.TheVariants.{Done as EndDone}
-use Rattle.http_head.specs.declared.end.Finish.TheVariants.{Done}
 use Rattle.http_front.specs.Connections.{IsServed}
 use Rattle.http_front.specs.declared.outcome.Turned.TheVariants.{Answered, Ended}
 use Rattle.http_front.proofs.CrashLemmas.{carries_no_turn}
@@ -101,7 +100,7 @@ returns-then-closes-clause-worked g c = λ h w st set.
     (g.W.Write.contents c.args.writer.now) (g.W.Write.contents c.turns.writer) (g.W.Write.contents c.turn.new.writer)
     c.turns.acted c.turns.faults c.from-acted.result c.mark-faults.result c.in-Ok-Answered.tally c.in-Ok-Answered.closes
     c.turns.invariant.few r.2.0 r.2.1 t.2 (counted _ _ c.from-acted.ensures) c.mark-faults.ensures.exact in
-    (t.0, t.1, (all.0, all.1, (Done, refl, all.2)))
+    (t.0, t.1, (all.0, all.1, (None, refl, all.2)))
 
 pub returns-in-Ok-Ended-clause-worked : goal.returns-in-Ok-Ended-clause-worked
 returns-in-Ok-Ended-clause-worked g c = λ h w st set.
@@ -112,7 +111,7 @@ returns-in-Ok-Ended-clause-worked g c = λ h w st set.
     (g.W.Write.contents c.args.writer.now) (g.W.Write.contents c.turns.writer) (g.W.Write.contents c.turn.new.writer)
     c.turns.acted c.turns.faults c.mark.result c.in-Ok-Ended.finish c.turns.invariant.few r.2.0 r.2.1 t.2
     (c.mark.ensures.exact ∙ ap (λ b. c.turns.faults + (if b then 2 ^ c.turns.k else 0)) c.is_unavailable.ensures) in
-    (t.0, t.1, (all.0, all.1, (c.in-Ok-Ended.finish, c.end.ensures, all.2)))
+    (t.0, t.1, (all.0, all.1, (Some c.in-Ok-Ended.finish, c.end.ensures, all.2)))
 
 pub returns-in-Err-clause-worked : goal.returns-in-Err-clause-worked
 returns-in-Err-clause-worked g c = λ h w st set.
