@@ -19,8 +19,8 @@ use ipp_reply::{
     JOB_TABLE, JobAttribute, Operation, PRINTER_TABLE, Unsupported, Wanted, select_of_job,
     select_of_printer,
 };
+use ipp_request::Request;
 use ipp_request::attribute::OperationAttribute;
-use ipp_request::request::Request;
 use ipp_request::target::target_job;
 use ipp_request::unsupported::{is_refused_for, unsupported_in};
 use ipp_request::value::number;

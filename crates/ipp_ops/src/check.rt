@@ -5,9 +5,9 @@ ghost use Rattle.ipp_ops.specs.Checks.{code, applies, refusal, fails, some_fails
 ghost use Rattle.ipp_request.specs.Request.{has, request_of};
 ghost use Rattle.ipp_request.specs.Values as values;
 
+use ipp_request::Request;
 use ipp_request::attribute::{OperationAttribute, TABLE, needs};
 use ipp_request::format::format_of;
-use ipp_request::request::Request;
 use ipp_request::target::is_target;
 use ipp_request::value::{any_long, are_formed};
 use queue_types::status;

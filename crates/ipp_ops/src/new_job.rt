@@ -9,8 +9,8 @@ ghost use Rattle.ipp_request.specs.Request.{request_of};
 
 use ipp_request::attribute::{JobGroupAttribute, OperationAttribute, Support};
 use ipp_request::format::format_of;
-use ipp_request::request::{Request, named};
 use ipp_request::value::{are_supported, first_value, number};
+use ipp_request::{Request, named};
 use ipp_wire::AttrView;
 use queue_types::document::Format;
 use queue_types::event::NewJob;

@@ -5,13 +5,13 @@
 
 pub mod attribute;
 pub mod format;
-pub mod head;
+mod head;
 mod law;
-pub mod request;
+mod request;
 pub mod target;
 pub mod unsupported;
 pub mod value;
 
 pub use head::head_check;
 pub use law::names_with_languages;
-pub use request::Request;
+pub use request::{Request, named};

@@ -14,7 +14,7 @@ use Rattle.queue_types.specs.declared.job.Job.{Job}
 use Rattle.queue_core.specs.Balance.{AreAmounts}
 use Rattle.queue_core.specs.Limits.{IsSoundChange, IsSoundJob}
 use Rattle.queue_core.specs.Sound.{IsKept, IsSound, IsSoundDocument, IsSoundEntry}
-use Rattle.queue_core.specs.World.{World, Entry, add_document, grant_cmp, job_at, made_on, put_free, put_grant, rows, with_document, with_report, with_row}
+use Rattle.queue_core.specs.World.{World, Entry, add_document, grant_cmp, job_at, made_on, put_free, put_grant, with_document, with_report, with_row}
 use Rattle.queue_core.proofs.Maps.{grant_total, own_grant_key, own_report_key, report_total}
 use Rattle.queue_tables.specs.Forms.{AreFormed, IsFormedJob}
 use Rattle.queue_tables.specs.Steps.{AreDistinct, AreReportsKeyed, CanKeep, CanTake, document_count_at, with_added, with_frees, with_grants, with_puts}

@@ -19,7 +19,7 @@ pub mod read;
 mod report_rows;
 mod run;
 pub mod select;
-pub mod transaction;
+mod transaction;
 
 pub use transaction::make;
 
