@@ -60,14 +60,14 @@ case(
     (look(1, "job-template", "copies", "job-id"), seen(WAITING, "job-id", "copies", "job-hold-until")),
 )
 
-# both with request-id 5, as the smallest Print-Job before them has 1
+# both with request-id 5: one answer
 NOT_FOUND = line(sized(72, refused(0x0406)), 5)
 replay(
     "another's job and no job, looked at",
-    line(print_job(), 1)
+    line(print_job(), 4)
     + line(job_request(GET_JOB_ATTRIBUTES, 1, caller="bob"), 5)
     + line(job_request(GET_JOB_ATTRIBUTES, 999, caller="bob"), 5),
-    line(taken(1), 1) + NOT_FOUND + NOT_FOUND,
+    line(taken(1), 4) + NOT_FOUND + NOT_FOUND,
 )
 for name, operation, others in [
     ("canceled", CANCEL_JOB, ()),

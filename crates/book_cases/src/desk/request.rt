@@ -188,7 +188,7 @@ pub(super) fn message(
     request: Request<'_>,
 ) -> Result<Vec<u8>, AllocError> {
     let operation = request.operation();
-    let mut bytes = Vec::from_slice(alloc, &[1, 1, 0, operation, 0, 0, 0, 1])?;
+    let mut bytes = Vec::from_slice(alloc, &[1, 1, 0, operation, 10, 11, 12, 13])?;
     put_message(&mut bytes, caller, request)?;
     Ok(bytes)
 }
@@ -207,7 +207,7 @@ pub(super) fn state_reply(
     state: u8,
     reasons: &[&str],
 ) -> Result<Vec<u8>, AllocError> {
-    let mut bytes = Vec::from_slice(alloc, b"\x01\x01\x00\x00\x00\x00\x00\x01")?;
+    let mut bytes = Vec::from_slice(alloc, b"\x01\x01\x00\x00\x0a\x0b\x0c\x0d")?;
     put_state(&mut bytes, state, reasons)?;
     Ok(bytes)
 }
@@ -226,7 +226,7 @@ fn put_state(bytes: &mut Vec<u8>, state: u8, reasons: &[&str]) -> Result<(), All
 
 /// The bytes of the reply that tells a fault, `server-error-temporary-error`.
 pub(super) fn fault_reply(alloc: Global) -> Result<Vec<u8>, AllocError> {
-    let mut bytes = Vec::from_slice(alloc, b"\x01\x01\x05\x05\x00\x00\x00\x01")?;
+    let mut bytes = Vec::from_slice(alloc, b"\x01\x01\x05\x05\x0a\x0b\x0c\x0d")?;
     put_language(&mut bytes)?;
     bytes.extend_from_slice(b"\x03")?;
     Ok(bytes)
@@ -234,7 +234,7 @@ pub(super) fn fault_reply(alloc: Global) -> Result<Vec<u8>, AllocError> {
 
 /// The bytes of the reply to [`Request::Jobs`].
 pub(super) fn jobs_reply(alloc: Global, numbers: &[u32]) -> Result<Vec<u8>, AllocError> {
-    let mut bytes = Vec::from_slice(alloc, b"\x01\x01\x00\x00\x00\x00\x00\x01")?;
+    let mut bytes = Vec::from_slice(alloc, b"\x01\x01\x00\x00\x0a\x0b\x0c\x0d")?;
     put_jobs(&mut bytes, numbers)?;
     Ok(bytes)
 }

@@ -43,7 +43,7 @@ pub(super) type Row = (u32, Call, &'static [u8], &'static str);
 
 /// The attributes that each message of these begins with, behind its operation.
 const ATTRIBUTES: &[u8] =
-    b"\x00\x00\x00\x01\x01G\x00\x12attributes-charset\x00\x05utf-8H\x00\x1battributes-natural-language\x00\x02enE\x00\x0bprinter-uri\x00\x19ipp://localhost/ipp/print";
+    b"\x0a\x0b\x0c\x0d\x01G\x00\x12attributes-charset\x00\x05utf-8H\x00\x1battributes-natural-language\x00\x02enE\x00\x0bprinter-uri\x00\x19ipp://localhost/ipp/print";
 
 /// The front of the attribute of the job's number.
 const JOB_ID: &[u8] = b"!\x00\x06job-id\x00\x04";
@@ -69,13 +69,13 @@ const ENDED: &[u8] =
     b"B\x00\x14requesting-user-name\x00\x05aliceD\x00\x0awhich-jobs\x00\x09completed";
 
 /// How the reply begins that tells a success.
-const SUCCESS: &[u8] = b"\x01\x01\x00\x00\x00\x00\x00\x01\x01G";
+const SUCCESS: &[u8] = b"\x01\x01\x00\x00\x0a\x0b\x0c\x0d\x01G";
 
 /// How the bare reply begins that tells client-error-not-possible.
-const NOT_POSSIBLE: &[u8] = b"\x01\x01\x04\x04\x00\x00\x00\x01\x01G";
+const NOT_POSSIBLE: &[u8] = b"\x01\x01\x04\x04\x0a\x0b\x0c\x0d\x01G";
 
 /// How the bare reply begins that tells client-error-not-found.
-const NO_JOB: &[u8] = b"\x01\x01\x04\x06\x00\x00\x00\x01\x01G";
+const NO_JOB: &[u8] = b"\x01\x01\x04\x06\x0a\x0b\x0c\x0d\x01G";
 
 /// What the device is told of a report that was taken.
 const TAKEN: &[u8] = b"\r\n\r\nok ";

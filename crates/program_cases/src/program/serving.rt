@@ -169,19 +169,19 @@ const PRINTS: Comes<'static> = SendsLast(&[POST_JOB, PRINT_JOB]);
 
 /// Get-Printer-Attributes of `printer-name`: 150 bytes, behind its head.
 const POST_NAME: &[u8] =
-    b"POST /ipp/print HTTP/1.1\r\nContent-Type: application/ipp\r\nContent-Length: 150\r\n\r\n\x01\x01\x00\x0b\x00\x00\x00\x01\x01G\x00\x12attributes-charset\x00\x05utf-8H\x00\x1battributes-natural-language\x00\x02enE\x00\x0bprinter-uri\x00\x19ipp://localhost/ipp/printD\x00\x14requested-attributes\x00\x0cprinter-name\x03";
+    b"POST /ipp/print HTTP/1.1\r\nContent-Type: application/ipp\r\nContent-Length: 150\r\n\r\n\x01\x01\x00\x0b\x0a\x0b\x0c\x0d\x01G\x00\x12attributes-charset\x00\x05utf-8H\x00\x1battributes-natural-language\x00\x02enE\x00\x0bprinter-uri\x00\x19ipp://localhost/ipp/printD\x00\x14requested-attributes\x00\x0cprinter-name\x03";
 
 /// The reply of a printer that is named `other`.
 const NAMED_OTHER: &[u8] =
-    b"\x01\x01\x00\x00\x00\x00\x00\x01\x01G\x00\x12attributes-charset\x00\x05utf-8H\x00\x1battributes-natural-language\x00\x02en\x04B\x00\x0cprinter-name\x00\x05other\x03";
+    b"\x01\x01\x00\x00\x0a\x0b\x0c\x0d\x01G\x00\x12attributes-charset\x00\x05utf-8H\x00\x1battributes-natural-language\x00\x02en\x04B\x00\x0cprinter-name\x00\x05other\x03";
 
 /// Get-Job-Attributes of `job-impressions` of job 1 by alice: 198 bytes, behind its head.
 const POST_IMPRESSIONS: &[u8] =
-    b"POST /ipp/print HTTP/1.1\r\nContent-Type: application/ipp\r\nContent-Length: 198\r\n\r\n\x01\x01\x00\x09\x00\x00\x00\x01\x01G\x00\x12attributes-charset\x00\x05utf-8H\x00\x1battributes-natural-language\x00\x02enE\x00\x0bprinter-uri\x00\x19ipp://localhost/ipp/print!\x00\x06job-id\x00\x04\x00\x00\x00\x01B\x00\x14requesting-user-name\x00\x05aliceD\x00\x14requested-attributes\x00\x0fjob-impressions\x03";
+    b"POST /ipp/print HTTP/1.1\r\nContent-Type: application/ipp\r\nContent-Length: 198\r\n\r\n\x01\x01\x00\x09\x0a\x0b\x0c\x0d\x01G\x00\x12attributes-charset\x00\x05utf-8H\x00\x1battributes-natural-language\x00\x02enE\x00\x0bprinter-uri\x00\x19ipp://localhost/ipp/print!\x00\x06job-id\x00\x04\x00\x00\x00\x01B\x00\x14requesting-user-name\x00\x05aliceD\x00\x14requested-attributes\x00\x0fjob-impressions\x03";
 
 /// The reply of a job of 7 impressions.
 const OF_7_PAGES: &[u8] =
-    b"\x01\x01\x00\x00\x00\x00\x00\x01\x01G\x00\x12attributes-charset\x00\x05utf-8H\x00\x1battributes-natural-language\x00\x02en\x02!\x00\x0fjob-impressions\x00\x04\x00\x00\x00\x07\x03";
+    b"\x01\x01\x00\x00\x0a\x0b\x0c\x0d\x01G\x00\x12attributes-charset\x00\x05utf-8H\x00\x1battributes-natural-language\x00\x02en\x02!\x00\x0fjob-impressions\x00\x04\x00\x00\x00\x07\x03";
 
 /// Servers over stores, each row in a folder of its own.
 static SERVED: [(&str, &[Turn]); 4] = [
