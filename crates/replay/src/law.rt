@@ -14,7 +14,7 @@ use ipp_ops::calls_are_events;
 use queue_core::{empty_is_sound, run_keeps};
 
 /// What a replay makes of a queue is a run of the machine: each line is a place of the run, at the moment that was set last, with the event that the
-/// line asks for; or with nothing, where it sets the moment, is refused before the machine is asked, or is answered by a fault. So from a sound queue on, as an empty one with the
+/// line asks for; or with nothing, where it sets the moment, is refused before the machine is asked, is a `grant` line that is refused, or is answered by a fault. So from a sound queue on, as an empty one with the
 /// settings of a replay is, each line moves jobs along the allowed pairs of states alone, and before and behind each, in every account the pages
 /// granted are those that are free, reserved and printed.
 pub fn replays_are_runs()
