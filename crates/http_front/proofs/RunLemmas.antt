@@ -1,5 +1,5 @@
 -- A run of turns goes on by one turn, and ends.
-use Rattle.std.proofs.Common.{◌≡◌, Option, Bool, true, false, ℕ, ◌+◌, ◌^◌, ◌≤◌, List, [], ◌∷◌, ◌++◌, None, Some, Ok, Err, IfSome, length, map, refl, sym, ap, ◌∙◌, subst, append_assoc, append-nil, length-append, arith, inl, inr, if◌then◌else◌}
+use Rattle.std.proofs.Common.{◌≡◌, Option, Bool, true, false, ℕ, ◌+◌, ◌^◌, ◌≤◌, List, [], ◌∷◌, ◌++◌, None, Some, Ok, Err, IfSome, length, map, refl, sym, ap, ◌∙◌, subst, append_assoc, append-nil, length-append, arith, if◌then◌else◌}
 use Rattle.std.proofs.Common.{IfOk, Result, Bor, option_copied}
 use Rattle.std.specs.Result.{result_ok}
 use Rattle.std.specs.List.{flat_map}
