@@ -4,7 +4,8 @@ use crate::desk::books::{DeskBook, MemoryBook};
 use crate::desk::compare::Mismatch;
 use crate::desk::connection::Connection;
 use crate::desk::connection::Wanted::Success;
-use crate::desk::jobs::{PRINTED, RELEASED};
+use crate::desk::faulty::{Failure, FaultyBook, TAKES_NOTHING};
+use crate::desk::jobs::{PRINT, PRINTED, RELEASE, RELEASED};
 use crate::desk::messages::{JOB_2, PRINT_JOB_BEGUN, RELEASE_JOB};
 use crate::desk::queue::{Queue, new_book};
 use crate::desk::requests::{GET_DOCUMENT, IPP, OCTETS, POST_LARGEST, POST_RELEASE};
@@ -16,6 +17,7 @@ use crate::program::sockets::AT;
 use crate::program::sockets::Comes::Sends;
 use crate::program::sockets::Gets::{All, Front};
 use http_front::End;
+use queue_core::{BookFault, QueueBook, SendCause, SendFault};
 use std::alloc::Global;
 use std::test::Fail;
 
@@ -98,6 +100,57 @@ fn looks_in<B: DeskBook>(rt: &HostRuntime, steps: &[Step<'_>]) -> Result<u64, Fa
     let mut server = Server::over(rt, new_book::<B>(rt.alloc())?)?;
     server.take_each(rt, "a client that sends without end", steps)?;
     Ok(server.looks)
+}
+
+/// A device asks for a document, which the book breaks off, and sends on without end, where no time passes.
+const SENDS_BEHIND_A_DOCUMENT: &[Step<'static>] = &[
+    Comes(Sends(&[GET_DOCUMENT])),
+    ServesSo(Serving {
+        lines: "served 0\n",
+        pace: Pace::SendsOn(0, 0),
+        ..USUAL
+    }),
+];
+
+/// The book tells a fault behind the first byte of a document.
+const BREAKS_OFF: Failure = Failure {
+    sent: Err(SendFault {
+        written: 1,
+        cause: SendCause::Book(BookFault::Memory),
+    }),
+    ..TAKES_NOTHING
+};
+
+/// A book in which job 1 is released, and whose documents break off.
+fn breaking<B: DeskBook>(alloc: Global) -> Result<FaultyBook<B>, Mismatch> {
+    let mut queue = Queue::<B>::granted(alloc)?;
+    queue.take_each(&[PRINT, RELEASE], AT_ONCE);
+    Ok(FaultyBook {
+        inner: queue.into_book()?,
+        failure: BREAKS_OFF,
+    })
+}
+
+/// How often a server looks at its clock over such a book, until it leaves the client.
+fn looks_over<B: QueueBook + Drop>(rt: &HostRuntime, book: B) -> Result<u64, Fail> {
+    let mut server = Server::over(rt, book)?;
+    server.take_each(
+        rt,
+        "a device that sends behind a document",
+        SENDS_BEHIND_A_DOCUMENT,
+    )?;
+    Ok(server.looks)
+}
+
+/// It reads past 256 reads there too, where few would do for the request.
+#[test]
+fn a_device_that_sends_behind_a_broken_document(rt: HostRuntime) -> Result<(), Fail> {
+    let looks = looks_over(&rt, breaking::<MemoryBook>(rt.alloc())?)?;
+    AT.is_so(
+        looks > 256,
+        "a device that is left behind 256 reads, where its document broke off",
+    )?;
+    Ok(())
 }
 
 /// It reads 256 times past what came where no time passes, and nine times where a second passes from each look to the next, since the tenth look
