@@ -23,6 +23,7 @@ use queue_core::{
 use queue_types::document::DocumentHead;
 use queue_types::event::{Decision, Event};
 use queue_types::job::JobList;
+use queue_types::limits::FIRST_JOB_NUMBER;
 use queue_types::settings::Settings;
 use queue_types::sheet::AccountSheet;
 use std::alloc::{AllocError, Global};
@@ -72,7 +73,7 @@ impl ListBook {
                 settings,
                 jobs: Vec::new(alloc),
                 documents: Vec::new(alloc),
-                next: 1,
+                next: FIRST_JOB_NUMBER,
                 accounts: HashMap::new(alloc),
                 grants: HashMap::new(alloc),
                 reports: HashMap::new(alloc),

@@ -8,7 +8,7 @@ ghost use Rattle.queue_types.specs.Event.{ask, tell, grant, event_of, call_of};
 ghost use Rattle.queue_types.specs.Job.{is_live, is_running, is_stopped};
 ghost use Rattle.queue_core.specs.Order.{AreRising};
 ghost use Rattle.queue_core.specs.Visible.{is_among, visible};
-ghost use Rattle.queue_core.specs.World.{cut, owner_row, is_one_of, numbered, jobs_for, live_for, counts_for};
+ghost use Rattle.queue_core.specs.World.{cut, owner_row, is_one_of, numbered, jobs_for, free_for, live_for, counts_for, next_for};
 ghost use Rattle.list_book.specs.Lists.{AreTotals, reports_map, world_of};
 ghost use Rattle.list_book.specs.Tables.{free_map};
 
@@ -21,6 +21,7 @@ use queue_types::event::{
     Call, Event, FreeRow, GrantRow, KeptReport, QueueCounts, Report, Scene, WhichJobs,
 };
 use queue_types::job::{Job, Phase};
+use queue_types::limits::FIRST_JOB_NUMBER;
 use std::alloc::{AllocError, Global};
 use std::collections::BTreeSet;
 
@@ -200,6 +201,37 @@ fn counts(jobs: &[Job], call: &Call<'_>) -> QueueCounts
     }
 }
 
+/// The caller's account, for a call by which pages may be set aside or come back.
+fn free_for_call(
+    alloc: Global,
+    accounts: &Accounts,
+    caller: &str,
+    call: &Call<'_>,
+) -> Result<Vec<FreeRow>, AllocError>
+    ensures { IfOk result (λ v. v.items ≡ free_for caller.now (call_of call.now) (get (free_map accounts.now.entries) caller.now)) }
+{
+    match call {
+        Call::CancelJob { .. }
+        | Call::CancelMyJobs { .. }
+        | Call::HoldJob { .. }
+        | Call::ReleaseJob { .. } => free_rows_of(alloc, accounts, caller),
+        _ => Ok(Vec::new(alloc)),
+    }
+}
+
+/// The next job number, for a call that needs it.
+fn next_for_call(next: u32, call: &Call<'_>) -> u32
+    ensures { result ≡ next_for (call_of call.now) next }
+{
+    match call {
+        Call::PrintJob { .. }
+        | Call::ValidateJob { .. }
+        | Call::CreateJob { .. }
+        | Call::GetPrinterAttributes => next,
+        _ => FIRST_JOB_NUMBER,
+    }
+}
+
 /// The rows that a caller's call needs.
 fn scene_of_call(
     alloc: Global,
@@ -211,10 +243,11 @@ fn scene_of_call(
     ensures { IfOk result (λ s. s ≡ cut (world_of lists.now) (ask caller.now (call_of call.now))) }
 {
     let jobs = concerned(alloc, lists.jobs.as_slice(), caller, call)?;
-    let free = free_rows_of(alloc, &lists.accounts, caller)?;
+    let free = free_for_call(alloc, &lists.accounts, caller, call)?;
     let live = live_for_call(lists.jobs.as_slice(), caller, call);
     let counts = counts(lists.jobs.as_slice(), call);
-    call_scene(alloc, &lists.settings, jobs, free, live, counts, lists.next)
+    let next = next_for_call(lists.next, call);
+    call_scene(alloc, &lists.settings, jobs, free, live, counts, next)
 }
 
 /// The account of the first job's owner.
@@ -242,7 +275,7 @@ fn scene_of_report(alloc: Global, lists: &Lists, report: &Report) -> Result<Scen
     let jobs = with_number(alloc, lists.jobs.as_slice(), report.job)?;
     let free = owner_rows(alloc, &lists.accounts, jobs.as_slice())?;
     let kept = kept_report(&lists.reports, report.job, report.seq);
-    report_scene(alloc, &lists.settings, jobs, free, kept, lists.next)
+    report_scene(alloc, &lists.settings, jobs, free, kept)
 }
 
 /// The rows that an account file needs.

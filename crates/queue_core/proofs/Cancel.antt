@@ -50,7 +50,7 @@ cancel_keeps w now caller n sound moment =
     own_keeps w caller (cancel_job n) n sound refl (λ j. cancel_row (cut w (ask caller (cancel_job n))) now j)
     (λ j rest e own.
     elim (is_cancelable j) as (λ b. is_cancelable j ≡ b → Keeps w (made_on (cond b (becomes (cut w (ask caller (cancel_job n))) (canceled now j)) (refused 0x0404)).change w)) [
-      | true ↦ λ can. becomes_keeps w caller (cancel_job n) n sound refl j (canceled now j) rest e own (replaced now j j.phase refl can) (keeps_documents now j j.phase moment refl can) (λ none h. stays_idle now j j.phase can h) (follows now j j.phase refl can)
+      | true ↦ λ can. becomes_keeps w caller (cancel_job n) n sound refl j (canceled now j) rest e refl own (replaced now j j.phase refl can) (keeps_documents now j j.phase moment refl can) (λ none h. stays_idle now j j.phase can h) (follows now j j.phase refl can)
       | false ↦ λ can. unchanged w sound
     ] refl)
 
@@ -61,7 +61,7 @@ hold_keeps w caller n sound =
     own_keeps w caller (hold_job n) n sound refl (λ j. hold_in j.phase (cut w (ask caller (hold_job n))) j)
     (λ j rest e own.
     elim j.phase as (λ p. j.phase ≡ p → Keeps w (made_on (hold_in p (cut w (ask caller (hold_job n))) j).change w)) [
-      | Waiting ↦ λ is. becomes_keeps w caller (hold_job n) n sound refl j (held true j) rest e own (holds true j) (held_documents true j is) (λ none h. (h.0, h.1, refl)) (held_follows true j is)
+      | Waiting ↦ λ is. becomes_keeps w caller (hold_job n) n sound refl j (held true j) rest e refl own (holds true j) (held_documents true j is) (λ none h. (h.0, h.1, refl)) (held_follows true j is)
       | _ ↦ λ is. unchanged w sound
     ] refl)
 
@@ -79,7 +79,7 @@ module _ (w : World) (caller : List ℕ) (n : ℕ) (sound : IsSound w) where
   let_print_keeps : (j : Job) (rest : List Job) → release_scene.jobs ≡ j ∷ rest → j.owner ≡ caller → j.phase ≡ Waiting → Keeps w (made_on (let_print release_scene j).change w)
   let_print_keeps j rest e own is =
       elim (has_pages release_scene.free (estimate j)) as (λ b. has_pages release_scene.free (estimate j) ≡ b → Keeps w (made_on (cond b (becomes release_scene (held false j)) (refused 0x0404)).change w)) [
-        | true ↦ λ has. becomes_keeps w caller (release_job n) n sound refl j (held false j) rest e own (holds false j) (held_documents false j is)
+        | true ↦ λ has. becomes_keeps w caller (release_job n) n sound refl j (held false j) rest e refl own (holds false j) (held_documents false j is)
             (λ none h. absurd (has_account caller (get w.free caller) (estimate j) has (subst (λ a. get w.free a ≡ None) own none))) (held_follows false j is)
         | false ↦ λ has. unchanged w sound
       ] refl

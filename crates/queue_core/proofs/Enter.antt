@@ -1,16 +1,16 @@
 -- A new row at the end.
 use Rattle.std.proofs.Common.{◌≡◌, ℕ, ◌+◌, ◌≤◌, ◌<◌, List, [], ◌∷◌, ◌++◌, map, refl, ap, sym, ◌∙◌, arith, subst, inl, Bool, true, false, cond}
-use Rattle.std.specs.Prelude.{Option, Some, None, IfSome, IsSome, is_some, bytes_eq, nat_eq, sum_by, ℤ, pos, ◌+ℤ◌, ◌&&◌, ◌^◌}
-use Rattle.std.specs.FinMap.{FinMap, get}
+use Rattle.std.specs.Prelude.{Option, Some, None, IfSome, IsSome, is_some, bytes_eq, nat_eq, sum_by, pos, ◌+ℤ◌, ◌&&◌, ◌^◌}
+use Rattle.std.specs.FinMap.{get}
 use Rattle.std.proofs.lemmas.List.Sums.{sum_by_push}
 use Rattle.std.proofs.lemmas.Option.{IfSome_then}
-use Rattle.queue_core.specs.World.{World, Entry, rows, with_row, add_document, live_jobs, text_cmp, granted}
+use Rattle.queue_core.specs.World.{World, Entry, rows, with_row, add_document, live_jobs, granted}
 use Rattle.queue_core.specs.Sound.{Rise, IsSound, IsSoundEntry, IsKept, IsGreatestCount, IsIdle, reserved, printed}
 use Rattle.queue_types.specs.Event.{NewDocument}
 use Rattle.queue_types.specs.Job.{owed, is_live}
 use Rattle.queue_types.specs.declared.event.KeptReport.{KeptReport}
 use Rattle.queue_types.specs.declared.job.Job.{Job}
-use Rattle.queue_core.proofs.Keep.{at, each-map, ne_from_lt, same_key, some_step}
+use Rattle.queue_core.proofs.Keep.{at, ne_from_lt, same_key, some_step}
 use Rattle.queue_core.proofs.Ordered.{each-append}
 
 abbrev pub fresh : Job → Entry
@@ -72,12 +72,12 @@ not_kept : (w : World) (k seq : ℕ) (Q : KeptReport → Type 0) (o : Option Kep
 not_kept w k seq Q None none kept = tt
 not_kept w k seq Q (Some r) none kept = let there : is_some (at k w.jobs) ≡ true = kept.there in let no : is_some (at k w.jobs) ≡ false = ap is_some none in absurd (cc)
 
-abbrev pub with_new : World → FinMap text_cmp ℤ → Entry → World
-with_new w m n = record w { jobs = w.jobs ++ n ∷ []; next = w.next + 1; free = m }
+abbrev pub with_new : World → Entry → World
+with_new w n = record w { jobs = w.jobs ++ n ∷ []; next = w.next + 1 }
 
 -- a new job that has taken nothing: the world stays sound
-pub new_row_keeps : (w : World) (m : FinMap text_cmp ℤ) (n : Entry) → IsSound w → n.row.number ≡ w.next → w.next < 2 ^ 31 → IsSoundEntry n → n.row.count ≡ 0 → owed n.row ≡ 0 → IsIdle n.row → live_jobs n.row.owner (rows w) < 100 → ((a : List ℕ) → get m a ≡ get w.free a) → IsSound (with_new w m n)
-new_row_keeps w m n sound number room entry count owing idle few free =
+pub new_row_keeps : (w : World) (n : Entry) → IsSound w → n.row.number ≡ w.next → w.next < 2 ^ 31 → IsSoundEntry n → n.row.count ≡ 0 → owed n.row ≡ 0 → IsIdle n.row → live_jobs n.row.owner (rows w) < 100 → IsSound (with_new w n)
+new_row_keeps w n sound number room entry count owing idle few =
     let rise : Rise 1 w.jobs n.row.number = subst (λ k. Rise 1 w.jobs k) (sym number) sound.numbers in
     record {
       settings = sound.settings;
@@ -87,14 +87,13 @@ new_row_keeps w m n sound number room entry count owing idle few free =
       live = λ u. subst (λ s. s ≤ 100) (sym (sum-push (λ (k : Job). cond (bytes_eq k.owner u && is_live k) 1 0) n w.jobs)) (live_add (bytes_eq n.row.owner u) (is_live n.row) (live_jobs u (rows w)) (λ e. subst (λ a. live_jobs a (rows w) < 100) (same_key n.row.owner u e) few) (sound.live u));
       grants = sound.grants;
       most = sound.most;
-      accounts = λ a. (λ h. (sound.accounts a).0 (ap is_some (sym (free a)) ∙ h), λ h. ap is_some (free a) ∙ (sound.accounts a).1 h);
+      accounts = sound.accounts;
       reports = λ k s. IfSome_then (get w.reports (k, s)) (sound.reports k s) (λ r p. record { job = p.job; seq = p.seq; there = some-push k n w.jobs p.there; positive = p.positive; count = p.count; total = p.total });
       counts = each-append (λ e. IsGreatestCount w e.row) w.jobs (n ∷ []) sound.counts ((λ seq. not_kept w n.row.number seq _ (get w.reports (n.row.number, seq)) (none_new n.row.number 1 w.jobs rise) (sound.reports n.row.number seq), inl count), tt);
-      idle = each-append (λ e. get m e.row.owner ≡ None → IsIdle e.row) w.jobs (n ∷ []) (each-map (λ e. get w.free e.row.owner ≡ None → IsIdle e.row) (λ e. get m e.row.owner ≡ None → IsIdle e.row) w.jobs (λ e p none. p (sym (free e.row.owner) ∙ none)) sound.idle) (λ none. idle, tt);
+      idle = each-append (λ e. get w.free e.row.owner ≡ None → IsIdle e.row) w.jobs (n ∷ []) sound.idle (λ none. idle, tt);
       balances = λ a.
-          let r : reserved a (with_new w m n) ≡ reserved a w = (let sums = sum-push (λ (k : Job). cond (bytes_eq k.owner a) (owed k) 0) n w.jobs in let zero = nothing (bytes_eq n.row.owner a) (owed n.row) owing in omega arith) in
-          let p : printed a (with_new w m n) ≡ printed a w = (let sums = sum-push (λ (k : Job). cond (bytes_eq k.owner a) k.count 0) n w.jobs in let zero = nothing (bytes_eq n.row.owner a) n.row.count count in omega arith) in
-          subst (λ o. IfSome o (λ f. pos (granted a w) ≡ f +ℤ pos (reserved a (with_new w m n) + printed a (with_new w m n)))) (sym (free a))
-          (subst (λ s. IfSome (get w.free a) (λ f. pos (granted a w) ≡ f +ℤ pos (reserved a (with_new w m n) + s))) (sym p)
-          (subst (λ s. IfSome (get w.free a) (λ f. pos (granted a w) ≡ f +ℤ pos (s + printed a w))) (sym r) (sound.balances a)));
+          let r : reserved a (with_new w n) ≡ reserved a w = (let sums = sum-push (λ (k : Job). cond (bytes_eq k.owner a) (owed k) 0) n w.jobs in let zero = nothing (bytes_eq n.row.owner a) (owed n.row) owing in omega arith) in
+          let p : printed a (with_new w n) ≡ printed a w = (let sums = sum-push (λ (k : Job). cond (bytes_eq k.owner a) k.count 0) n w.jobs in let zero = nothing (bytes_eq n.row.owner a) n.row.count count in omega arith) in
+          subst (λ s. IfSome (get w.free a) (λ f. pos (granted a w) ≡ f +ℤ pos (reserved a (with_new w n) + s))) (sym p)
+          (subst (λ s. IfSome (get w.free a) (λ f. pos (granted a w) ≡ f +ℤ pos (s + printed a w))) (sym r) (sound.balances a));
     }

@@ -7,8 +7,8 @@ use Rattle.std.proofs.lemmas.Int.{ints}
 use Rattle.std.proofs.lemmas.List.Sums.{sum_by-cons}
 use Rattle.std.proofs.lemmas.Nat.{mul-le}
 use Rattle.queue_types.specs.Job.{owed, is_live}
-use Rattle.queue_types.specs.Event.{Event, Call, ask, tell, grant, send_document, cancel_job, cancel_my_jobs, hold_job, release_job, get_job_attributes, get_jobs, get_printer_attributes}
-use Rattle.queue_core.specs.World.{World, Entry, rows, cut, found_row, owner_row, known_grant, numbered, jobs_for, counts_for, granted}
+use Rattle.queue_types.specs.Event.{Event, Call, ask, tell, grant, print_job, validate_job, create_job, send_document, cancel_job, cancel_my_jobs, hold_job, release_job, get_job_attributes, get_jobs, get_printer_attributes}
+use Rattle.queue_core.specs.World.{World, Entry, rows, cut, found_row, owner_row, known_grant, numbered, jobs_for, free_for, next_for, counts_for, granted}
 use Rattle.queue_core.specs.Limits.{IsFair, IsKnown, IsSoundJob, IsAmount}
 use Rattle.queue_core.specs.Sound.{IsSound, IsSoundEntry, IsKept, Rise, reserved, printed}
 use Rattle.queue_types.specs.declared.event.FreeRow.{FreeRow}
@@ -124,6 +124,20 @@ jobs_few w caller (get_jobs which limit) =
     omega arith
 jobs_few w caller _ = omega arith
 
+call_amounts : (w : World) → IsSound w → (caller : List ℕ) (call : Call) → Each (λ (r : FreeRow). IsAmount r.free) (free_for caller call (get w.free caller))
+call_amounts w sound caller (cancel_job n) = found caller (get w.free caller) (amounts_of w sound caller)
+call_amounts w sound caller (cancel_my_jobs numbers) = found caller (get w.free caller) (amounts_of w sound caller)
+call_amounts w sound caller (hold_job n) = found caller (get w.free caller) (amounts_of w sound caller)
+call_amounts w sound caller (release_job n) = found caller (get w.free caller) (amounts_of w sound caller)
+call_amounts w sound caller _ = tt
+
+next_least : (call : Call) (next : ℕ) → 1 ≤ next → 1 ≤ next_for call next
+next_least (print_job new format payload) next least = least
+next_least (validate_job new) next least = least
+next_least (create_job new) next least = least
+next_least get_printer_attributes next least = least
+next_least _ next least = omega arith
+
 owner_amounts : (w : World) → IsSound w → (js : List Job) → Each (λ (r : FreeRow). IsAmount r.free) (owner_row w.free js)
 owner_amounts w sound [] = tt
 owner_amounts w sound (j ∷ js) = found j.owner (get w.free j.owner) (amounts_of w sound j.owner)
@@ -145,8 +159,8 @@ fair_of w (ask caller call) sound =
       settings = sound.settings;
       jobs = all_of IsSoundJob _ (jobs_sound w caller call sound);
       few = omega arith;
-      free = all_of (λ (r : FreeRow). IsAmount r.free) _ (found caller (get w.free caller) (amounts_of w sound caller));
-      next = first_below 1 w.next w.jobs sound.numbers;
+      free = all_of (λ (r : FreeRow). IsAmount r.free) _ (call_amounts w sound caller call);
+      next = next_least call w.next (first_below 1 w.next w.jobs sound.numbers);
       queued = queued_few w call (omega arith);
       report = tt;
       known = all_of IsKnown [] tt;
@@ -160,7 +174,7 @@ fair_of w (tell r) sound =
       jobs = all_of IsSoundJob _ (each_numbered r.job w sound);
       few = omega arith;
       free = all_of (λ (r : FreeRow). IsAmount r.free) _ (owner_amounts w sound (numbered r.job (rows w)));
-      next = first_below 1 w.next w.jobs sound.numbers;
+      next = omega arith;
       queued = omega arith;
       report = kept_within w r.job r.seq (get w.reports (r.job, r.seq)) (sound.reports r.job r.seq);
       known = all_of IsKnown [] tt;

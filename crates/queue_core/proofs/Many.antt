@@ -10,7 +10,7 @@ use Rattle.std.proofs.lemmas.Cmp.{nat_list_eq_equiv}
 use Rattle.std.proofs.lemmas.Int.{ints}
 use Rattle.std.proofs.lemmas.List.Elements.{filter_passes}
 use Rattle.queue_core.specs.World.{World, Entry, rows, cut, made_on, with_row, text_cmp, job_at, is_one_of}
-use Rattle.queue_types.specs.Event.{Call, ask, cancel_my_jobs}
+use Rattle.queue_types.specs.Event.{ask, cancel_my_jobs}
 use Rattle.queue_types.specs.Job.{is_live, state_in}
 use Rattle.queue_core.specs.Limits.{IsMoment, FitsPhase}
 use Rattle.queue_core.specs.Machine.{taken, returned, given_back, canceled, canceled_in, is_cancelable, is_cancelable_in, all_canceled, are_there, cancel_my_jobs_row, refused}
@@ -185,10 +185,10 @@ each_owned now caller (j ∷ js) each = ((replaced now j j.phase refl each.0.1).
 
 -- ---- the event
 
--- a call about the caller's jobs that pass a test
-module _ (w : World) (now : ℕ) (caller : List ℕ) (call : Call) (c : Job → Bool) (sound : IsSound w) (moment : IsMoment now) (named : (cut w (ask caller call)).jobs ≡ filter c (rows w)) (own : (j : Job) → c j ≡ true → j.owner ≡ caller) where
+-- Cancel-My-Jobs, on the caller's jobs that pass a test
+module _ (w : World) (now : ℕ) (caller : List ℕ) (numbers : Option (List ℕ)) (c : Job → Bool) (sound : IsSound w) (moment : IsMoment now) (named : (cut w (ask caller (cancel_my_jobs numbers))).jobs ≡ filter c (rows w)) (own : (j : Job) → c j ≡ true → j.owner ≡ caller) where
   abbrev scene : Scene
-  scene = cut w (ask caller call)
+  scene = cut w (ask caller (cancel_my_jobs numbers))
 
   abbrev asked : List Job
   asked = filter c (rows w)
@@ -230,11 +230,11 @@ module _ (w : World) (now : ℕ) (caller : List ℕ) (call : Call) (c : Job → 
 
 pub cancel_my_keeps : (w : World) (now : ℕ) (caller : List ℕ) (numbers : Option (List ℕ)) → IsSound w → IsMoment now → Keeps w (made_on (cancel_my_jobs_row (cut w (ask caller (cancel_my_jobs numbers))) now numbers).change w)
 cancel_my_keeps w now caller None sound moment =
-    all_keeps w now caller (cancel_my_jobs None) (λ j. bytes_eq j.owner caller && is_live j) sound moment refl (λ j is. same_key j.owner caller (and_parts (bytes_eq j.owner caller) (is_live j) is).0)
+    all_keeps w now caller None (λ j. bytes_eq j.owner caller && is_live j) sound moment refl (λ j is. same_key j.owner caller (and_parts (bytes_eq j.owner caller) (is_live j) is).0)
 cancel_my_keeps w now caller (Some numbers) sound moment =
     let s : Scene = cut w (ask caller (cancel_my_jobs (Some numbers))) in
     let keeps : Keeps w (made_on (all_canceled s now (filter is_cancelable s.jobs)).change w) =
-    all_keeps w now caller (cancel_my_jobs (Some numbers)) (λ j. bytes_eq j.owner caller && is_one_of numbers j) sound moment refl
+    all_keeps w now caller (Some numbers) (λ j. bytes_eq j.owner caller && is_one_of numbers j) sound moment refl
     (λ j is. same_key j.owner caller (and_parts (bytes_eq j.owner caller) (is_one_of numbers j) is).0) in
     elim (are_there s.jobs numbers) as (λ b. Keeps w (made_on (cond b (cond (list_all is_cancelable s.jobs) (all_canceled s now s.jobs) (refused 0x0404)) (refused 0x0406)).change w)) [
       | true ↦

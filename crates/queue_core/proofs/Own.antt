@@ -1,6 +1,6 @@
--- A job of the caller's own changes, with the free pages of its account: the world stays sound, and its jobs move along
+-- A job of the caller's own changes, and the free pages of its account where that is looked up: the world stays sound, and its jobs move along
 -- the allowed pairs.
-use Rattle.std.proofs.Common.{◌≡◌, ℕ, ℤ, pos, ◌+ℤ◌, ◌-ℤ◌, List, [], ◌∷◌, map, refl, ap, sym, ◌∙◌, arith, eq-eqb, subst, true, false, cond}
+use Rattle.std.proofs.Common.{◌≡◌, ℕ, ℤ, pos, ◌+ℤ◌, ◌-ℤ◌, List, [], ◌∷◌, map, refl, ap, sym, ◌∙◌, arith, eq-eqb, true, false, cond}
 use Rattle.std.specs.Prelude.{Option, Some, None, nat_eq, bytes_eq, option_map, filter, fold}
 use Rattle.std.specs.List.{AllByRecursion as Each}
 use Rattle.std.specs.Option.{option_map_or}
@@ -20,7 +20,7 @@ use Rattle.queue_types.specs.declared.event.Scene.{Scene}
 use Rattle.queue_core.proofs.Keep.{at}
 pub use Rattle.queue_core.proofs.Keep.{same_key}
 use Rattle.queue_core.proofs.Moves.{stays, row_moves}
-use Rattle.queue_core.proofs.Rows.{Replaces, KeepsDocuments, row_keeps, row_entries, rows_of, with_jobs, back, kept_amount}
+use Rattle.queue_core.proofs.Rows.{Replaces, KeepsDocuments, row_keeps, row_entries, rows_of, back, kept_amount}
 
 pub itself : (n : ℕ) → nat_eq n n ≡ true
 itself n = eq-eqb n n refl
@@ -85,26 +85,37 @@ module _ (w : World) (caller : List ℕ) (call : Call) (n : ℕ) (sound : IsSoun
   pub found_at : (j x : Job) (rest : List Job) → scene.jobs ≡ j ∷ rest → Replaces x j → at x.number w.jobs ≡ Some j
   found_at j x rest e fits = ap (λ m. job_at m (rows w)) (fits.number ∙ (found j rest e).1) ∙ (found j rest e).0
 
+  -- the accounts after the decision by which the job becomes x
+  abbrev pub free_after : Job → FinMap text_cmp ℤ
+  free_after x = fold put_free w.free (map (credited scene.jobs (x ∷ [])) scene.free)
+
   -- the job becomes x, and may get a document
-  pub changed_keeps : (j x : Job) (rest : List Job) (document : Option NewDocument) → scene.jobs ≡ j ∷ rest → j.owner ≡ caller → Replaces x j
+  pub changed_keeps : (j x : Job) (rest : List Job) (document : Option NewDocument) → scene.jobs ≡ j ∷ rest → Replaces x j
+      → ((q : List ℕ) → get (free_after x) q ≡ option_map (λ f. f +ℤ back x j q) (get w.free q))
       → rows_of (with_document (with_row w.jobs x) document) ≡ rows_of (with_row w.jobs x)
       → Each IsSoundEntry (with_document (with_row w.jobs x) document)
       → (get w.free x.owner ≡ None → IsIdle j → IsIdle x) → Follows (Some j) (Some x)
       → Keeps w (made_on (record (changed scene (x ∷ [])) { document = document }) w)
-  changed_keeps j x rest document e own fits same entries idle follows =
+  changed_keeps j x rest document e fits free same entries idle follows =
       let there : at x.number w.jobs ≡ Some j = found_at j x rest e fits in
       let es = with_document (with_row w.jobs x) document in
-      let kept : Keeps w (with_jobs w (moved w.free x.owner (j ∷ rest) (x ∷ [])) es) = record {
-        sound = row_keeps w (moved w.free x.owner (j ∷ rest) (x ∷ [])) es x j sound there fits same entries idle (moved_get w.free j x rest fits.number);
-        moves = row_moves w (moved w.free x.owner (j ∷ rest) (x ∷ [])) es x j same there follows;
-      } in
-      let by_caller : Keeps w (with_jobs w (moved w.free caller (j ∷ rest) (x ∷ [])) es) = subst (λ a. Keeps w (with_jobs w (moved w.free a (j ∷ rest) (x ∷ [])) es)) (fits.owner ∙ own) kept in
-      subst (λ js. Keeps w (with_jobs w (moved w.free caller js (x ∷ [])) es)) (sym e) by_caller
+      record {
+        sound = row_keeps w (free_after x) es x j sound there fits same entries idle free;
+        moves = row_moves w (free_after x) es x j same there follows;
+      }
+
+  -- where the caller's account is looked up, it moves by the balance
+  free_moves : (j x : Job) (rest : List Job) → scene.jobs ≡ j ∷ rest → scene.free ≡ found_row caller (get w.free caller) → j.owner ≡ caller → Replaces x j → (q : List ℕ) → get (free_after x) q ≡ option_map (λ f. f +ℤ back x j q) (get w.free q)
+  free_moves j x rest e looked_up own fits q =
+      ap (λ js. get (fold put_free w.free (map (credited js (x ∷ [])) scene.free)) q) e
+      ∙ ap (λ rows. get (fold put_free w.free (map (credited (j ∷ rest) (x ∷ [])) rows)) q) looked_up
+      ∙ ap (λ a. get (moved w.free a (j ∷ rest) (x ∷ [])) q) (sym (fits.owner ∙ own))
+      ∙ moved_get w.free j x rest fits.number q
 
   -- the job becomes x, and keeps its documents
-  pub becomes_keeps : (j x : Job) (rest : List Job) → scene.jobs ≡ j ∷ rest → j.owner ≡ caller → Replaces x j → KeepsDocuments x j → (get w.free x.owner ≡ None → IsIdle j → IsIdle x) → Follows (Some j) (Some x) → Keeps w (made_on (becomes scene x).change w)
-  becomes_keeps j x rest e own fits keeps idle follows =
-      changed_keeps j x rest None e own fits refl (row_entries w.jobs x j (found_at j x rest e fits) keeps sound.entries) idle follows
+  pub becomes_keeps : (j x : Job) (rest : List Job) → scene.jobs ≡ j ∷ rest → scene.free ≡ found_row caller (get w.free caller) → j.owner ≡ caller → Replaces x j → KeepsDocuments x j → (get w.free x.owner ≡ None → IsIdle j → IsIdle x) → Follows (Some j) (Some x) → Keeps w (made_on (becomes scene x).change w)
+  becomes_keeps j x rest e looked_up own fits keeps idle follows =
+      changed_keeps j x rest None e fits (free_moves j x rest e looked_up own fits) refl (row_entries w.jobs x j (found_at j x rest e fits) keeps sound.entries) idle follows
 
   rows_keep : (row : Job → Decision) → ((j : Job) (rest : List Job) → scene.jobs ≡ j ∷ rest → j.owner ≡ caller → Keeps w (made_on (row j).change w)) → (js : List Job) → scene.jobs ≡ js → Keeps w (made_on (of_own caller row js).change w)
   rows_keep row each [] e = unchanged w sound

@@ -1,13 +1,12 @@
 -- Print-Job and Create-Job keep a world sound: a row enters under the next number, and has taken nothing.
-use Rattle.std.proofs.Common.{◌≡◌, ℕ, pos, ◌+ℤ◌, ◌-ℤ◌, ◌+◌, ◌≤◌, ◌<◌, ◌^◌, List, [], ◌∷◌, ◌++◌, length, map, refl, ap, sym, ◌∙◌, arith, subst, inr, Bool, true, false, cond}
-use Rattle.std.specs.Prelude.{Option, Some, None, IfSome, nat_eq, nat_le, nat_lt, bytes_eq, option_map, unwrap_or}
-use Rattle.std.specs.FinMap.{get}
+use Rattle.std.proofs.Common.{◌≡◌, ℕ, ◌+◌, ◌≤◌, ◌<◌, ◌^◌, List, [], ◌∷◌, ◌++◌, length, map, refl, ap, sym, ◌∙◌, arith, subst, inr, Bool, true, false, cond}
+use Rattle.std.specs.Prelude.{Option, Some, None, IfSome, nat_eq, nat_le, nat_lt, unwrap_or}
 use Rattle.std.proofs.lemmas.Bool.{eqb-true}
 use Rattle.std.proofs.lemmas.Bool.Decides.{nat_tests}
 use Rattle.queue_types.specs.Settings.{AreSettings}
-use Rattle.queue_types.specs.Event.{Call, NewJob, NewDocument, ask, print_job, create_job}
-use Rattle.queue_core.specs.World.{World, Entry, rows, cut, made_on, with_row, with_document, add_document, live_for, live_jobs}
-use Rattle.queue_core.specs.Machine.{entered, new_job, new_document, new_refusal, unless_refused, print_job_row, create_job_row, returned}
+use Rattle.queue_types.specs.Event.{NewJob, NewDocument, ask, print_job, create_job}
+use Rattle.queue_core.specs.World.{World, Entry, rows, cut, new_scene, made_on, with_row, with_document, add_document, live_jobs}
+use Rattle.queue_core.specs.Machine.{entered, new_job, new_document, new_refusal, unless_refused, print_job_row, create_job_row}
 use Rattle.queue_core.specs.Limits.{IsMoment, IsOwner, IsNewJob, IsSoundJob}
 use Rattle.queue_core.specs.Sound.{IsSound, IsSoundEntry, Rise}
 use Rattle.queue_types.specs.declared.document.Document.{Document}
@@ -15,10 +14,9 @@ use Rattle.queue_types.specs.declared.document.Format.{Format}
 use Rattle.queue_types.specs.declared.document.Format.TheVariants.{OctetStream}
 use Rattle.queue_types.specs.declared.job.Job.{Job}
 use Rattle.queue_types.specs.declared.event.Scene.{Scene}
-use Rattle.queue_core.proofs.Rows.{kept_amount}
 use Rattle.queue_core.proofs.Enter.{fresh, first_below, with_row_new, with_document_new, with_new, new_row_keeps}
 use Rattle.queue_core.proofs.Moves.{new_moves}
-use Rattle.queue_core.proofs.Own.{Keeps, unchanged, itself, moved, moved_from, same_key}
+use Rattle.queue_core.proofs.Own.{Keeps, unchanged, itself}
 use Rattle.queue_core.proofs.Send.{one_fits, one_document}
 
 -- ---- the new job is within its limits
@@ -82,16 +80,12 @@ entry_sound : (s : Scene) (now : ℕ) (caller : List ℕ) (incoming : Bool) (j :
 entry_sound s now caller incoming j format [] fits sound = record { row = sound; documents = refl; octets = refl; sizes = tt }
 entry_sound s now caller incoming j format (b ∷ bytes) fits sound = record { row = sound; documents = one_document b bytes; octets = omega arith; sizes = ((omega arith, fits), tt) }
 
--- ---- its account
+-- ---- the event
 
-nothing : (b : Bool) → pos 0 +ℤ cond b (pos 0 -ℤ pos 0) (pos 0) ≡ pos 0
-nothing true = refl
-nothing false = refl
-
--- a call that speaks of no job that is there, and makes one
-module _ (w : World) (now : ℕ) (caller : List ℕ) (call : Call) (incoming : Bool) (j : NewJob) (format : Format) (payload : List ℕ) (sound : IsSound w) (moment : IsMoment now) (owner : IsOwner caller) (new : IsNewJob j) (fits : length payload ≤ 16777216) (none : (cut w (ask caller call)).jobs ≡ []) (counted : live_for caller call (rows w) ≡ live_jobs caller (rows w)) where
+-- Print-Job and Create-Job share their scene
+module _ (w : World) (now : ℕ) (caller : List ℕ) (incoming : Bool) (j : NewJob) (format : Format) (payload : List ℕ) (sound : IsSound w) (moment : IsMoment now) (owner : IsOwner caller) (new : IsNewJob j) (fits : length payload ≤ 16777216) where
   abbrev scene : Scene
-  scene = cut w (ask caller call)
+  scene = new_scene w caller
 
   abbrev x : Job
   x = new_job scene now caller incoming j payload
@@ -99,38 +93,25 @@ module _ (w : World) (now : ℕ) (caller : List ℕ) (call : Call) (incoming : B
   abbrev n : Entry
   n = record { row = x; documents = documents format payload }
 
-  none_returned : (a : List ℕ) → returned scene.jobs a (x ∷ []) ≡ pos 0
-  none_returned a = ap (λ js. returned js a (x ∷ [])) none ∙ nothing (bytes_eq caller a)
-
-  -- no account's free pages move
-  free_stays : (q : List ℕ) → get (moved w.free caller scene.jobs (x ∷ [])) q ≡ get w.free q
-  free_stays q =
-      moved_from w.free caller q scene.jobs (x ∷ []) (get w.free caller) refl
-      ∙ elim (bytes_eq q caller) as (λ t. bytes_eq q caller ≡ t → cond t (option_map (λ f. f +ℤ returned scene.jobs caller (x ∷ [])) (get w.free caller)) (get w.free q) ≡ get w.free q) [
-        | true ↦ λ is. ap (λ z. option_map (λ f. f +ℤ z) (get w.free caller)) (none_returned caller) ∙ sym (kept_amount (get w.free caller)) ∙ ap (get w.free) (sym (same_key q caller is))
-        | false ↦ λ is. refl
-      ] refl
-
-  entered_keeps : live_jobs caller (rows w) < 100 → w.next < 2 ^ 31 → Keeps w (made_on (entered scene x (new_document scene.next format payload)).change w)
+  entered_keeps : live_jobs caller (rows w) < 100 → w.next < 2 ^ 31 → Keeps w (made_on (entered scene x (new_document w.next format payload)).change w)
   entered_keeps live room =
       let job : IsSoundJob x = new_job_sound scene now caller incoming j payload sound.settings (first_below 1 w.next w.jobs sound.numbers) room moment owner new fits in
-      let m = moved w.free caller scene.jobs (x ∷ []) in
-      let kept : Keeps w (with_new w m n) = record {
-        sound = new_row_keeps w m n sound refl room (entry_sound scene now caller incoming j format payload fits job) refl refl (refl, refl, refl) live free_stays;
+      let kept : Keeps w (with_new w n) = record {
+        sound = new_row_keeps w n sound refl room (entry_sound scene now caller incoming j format payload fits job) refl refl (refl, refl, refl) live;
         moves = λ k. new_moves k n w.jobs (inr refl);
       } in
-      subst (λ es. Keeps w (record w { jobs = es; next = w.next + 1; free = m })) (sym (jobs_after x format payload w.jobs sound.numbers)) kept
+      subst (λ es. Keeps w (record w { jobs = es; next = w.next + 1 })) (sym (jobs_after x format payload w.jobs sound.numbers)) kept
 
-  new_keeps : Keeps w (made_on (unless_refused (new_refusal scene) (entered scene x (new_document scene.next format payload))).change w)
+  new_keeps : Keeps w (made_on (unless_refused (new_refusal scene) (entered scene x (new_document w.next format payload))).change w)
   new_keeps =
-      elim (new_refusal scene) as (λ o. new_refusal scene ≡ o → Keeps w (made_on (unless_refused o (entered scene x (new_document scene.next format payload))).change w)) [
-        | None ↦ λ is. entered_keeps (subst (λ n. n < 100) counted (not_refused scene is).0) (not_refused scene is).1
+      elim (new_refusal scene) as (λ o. new_refusal scene ≡ o → Keeps w (made_on (unless_refused o (entered scene x (new_document w.next format payload))).change w)) [
+        | None ↦ λ is. entered_keeps (not_refused scene is).0 (not_refused scene is).1
         | Some code ↦ λ is. unchanged w sound
       ] refl
 
 pub print_keeps : (w : World) (now : ℕ) (caller : List ℕ) (j : NewJob) (format : Format) (payload : List ℕ) → IsSound w → IsMoment now → IsOwner caller → IsNewJob j → length payload ≤ 16777216 → Keeps w (made_on (print_job_row (cut w (ask caller (print_job j format payload))) now caller j format payload).change w)
-print_keeps w now caller j format payload sound moment owner new fits = new_keeps w now caller (print_job j format payload) false j format payload sound moment owner new fits refl refl
+print_keeps w now caller j format payload sound moment owner new fits = new_keeps w now caller false j format payload sound moment owner new fits
 
 -- without a document its format does not matter
 pub create_keeps : (w : World) (now : ℕ) (caller : List ℕ) (j : NewJob) → IsSound w → IsMoment now → IsOwner caller → IsNewJob j → Keeps w (made_on (create_job_row (cut w (ask caller (create_job j))) now caller j).change w)
-create_keeps w now caller j sound moment owner new = new_keeps w now caller (create_job j) true j OctetStream [] sound moment owner new (omega arith) refl refl
+create_keeps w now caller j sound moment owner new = new_keeps w now caller true j OctetStream [] sound moment owner new (omega arith)

@@ -1,6 +1,8 @@
 -- Send-Document keeps a world sound, and its jobs move along the allowed pairs.
-use Rattle.std.proofs.Common.{◌≡◌, ℕ, suc, ◌+◌, ◌*◌, ◌≤◌, ◌<◌, List, [], ◌∷◌, ◌++◌, length, map, refl, ap, sym, ◌∙◌, arith, subst, inl, inr, Bool, true, false, cond}
-use Rattle.std.specs.Prelude.{Some, IsTrue, ◌⊎◌, nat_eq, nat_le, not, sum_by, ◌&&◌}
+use Rattle.std.proofs.Common.{◌≡◌, ℕ, pos, ◌+ℤ◌, ◌-ℤ◌, suc, ◌+◌, ◌*◌, ◌≤◌, ◌<◌, List, [], ◌∷◌, ◌++◌, length, map, refl, ap, sym, ◌∙◌, arith, subst, inl, inr, Bool, true, false, cond}
+use Rattle.std.specs.Prelude.{Some, IsTrue, ◌⊎◌, nat_eq, nat_le, not, sum_by, ◌&&◌, bytes_eq, option_map}
+use Rattle.std.specs.FinMap.{get}
+use Rattle.std.proofs.lemmas.Int.{ints}
 use Rattle.std.specs.List.{AllByRecursion as Each}
 use Rattle.std.proofs.lemmas.Bool.{eqb-true}
 use Rattle.std.proofs.lemmas.Bool.Decides.{nat_tests}
@@ -9,7 +11,7 @@ use Rattle.std.proofs.lemmas.List.Sums.{sum_by_push}
 use Rattle.queue_core.specs.World.{World, Entry, cut, made_on, with_row, with_document, add_document}
 use Rattle.queue_types.specs.Event.{NewDocument, ask, send_document}
 use Rattle.queue_types.specs.Job.{state_in}
-use Rattle.queue_core.specs.Machine.{refused, document_count, new_document, is_sendable, sent, document_sent, send_in, of_own}
+use Rattle.queue_core.specs.Machine.{refused, document_count, new_document, is_sendable, sent, document_sent, send_in, of_own, taken}
 use Rattle.queue_core.specs.Limits.{IsSoundJob, FitsPhase}
 use Rattle.queue_core.specs.Runs.{Follows, is_pair}
 use Rattle.queue_core.specs.Sound.{IsSound, IsSoundEntry, IsSoundDocument, Rise}
@@ -23,7 +25,7 @@ use Rattle.queue_core.proofs.Keep.{at, ne_from_gt}
 use Rattle.queue_core.proofs.Fair.{first_sound}
 use Rattle.queue_core.proofs.Ordered.{each-append}
 use Rattle.queue_core.proofs.Own.{Keeps, unchanged, changed_keeps, own_keeps, found_at, itself}
-use Rattle.queue_core.proofs.Rows.{Replaces, same_job, still_sound, row_entries, rows_of}
+use Rattle.queue_core.proofs.Rows.{Replaces, same_job, still_sound, row_entries, rows_of, back, kept_amount}
 
 -- ---- the job within its limits
 
@@ -125,6 +127,11 @@ sends_on true new = inl refl
 sends_on false true = inl refl
 sends_on false false = inr refl
 
+-- a job that takes as many pages as before gives none back
+nothing_back : (b : Bool) (pages : ℕ) → cond b (pos pages -ℤ pos pages) (pos 0) ≡ pos 0
+nothing_back true pages = omega (arith, ints)
+nothing_back false pages = refl
+
 waits_in : (j : Job) (p : Phase) → j.incoming ≡ true → FitsPhase p j → p ≡ Waiting
 waits_in j Waiting is fits = refl
 waits_in j _ is fits = let no = fits.1 in absurd (cc)
@@ -135,6 +142,10 @@ module _ (w : World) (caller : List ℕ) (n : ℕ) (format : Format) (payload : 
 
   replaced : (j : Job) → Replaces (sent j payload last) j
   replaced j = record { number = refl; owner = refl; count = refl; live = omega arith }
+
+  -- no account is looked up, and by the balance none moves: a document takes no pages
+  free_stays : (j : Job) (q : List ℕ) → get w.free q ≡ option_map (λ f. f +ℤ back (sent j payload last) j q) (get w.free q)
+  free_stays j q = kept_amount (get w.free q) ∙ ap (λ z. option_map (λ f. f +ℤ z) (get w.free q)) (sym (nothing_back (bytes_eq j.owner q) (taken j)))
 
   follows : (j : Job) → IsSoundJob j → j.incoming ≡ true → Follows (Some j) (Some (sent j payload last))
   follows j s is =
@@ -147,7 +158,7 @@ module _ (w : World) (caller : List ℕ) (n : ℕ) (format : Format) (payload : 
         | true ↦ λ is.
             let s = first_sound w (ask caller (send_document n format payload last)) sound j rest e in
             let there = found_at w caller (send_document n format payload last) n sound refl j (sent j payload last) rest e (replaced j) in
-            changed_keeps w caller (send_document n format payload last) n sound refl j (sent j payload last) rest (new_document j.number format payload) e own (replaced j)
+            changed_keeps w caller (send_document n format payload last) n sound refl j (sent j payload last) rest (new_document j.number format payload) e (replaced j) (free_stays j)
             (rows-document j.number format payload (with_row w.jobs (sent j payload last))) (sent_entries w j format payload last sound is fits there) (λ none h. h)
             (follows j s (both j.incoming (j.documents + document_count payload) is).0)
         | false ↦ λ is. unchanged w sound

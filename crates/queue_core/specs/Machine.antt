@@ -49,7 +49,7 @@ returned before account js = fold (λ sum j. sum +ℤ given_back before account 
 abbrev pub credited : List Job → List Job → FreeRow → FreeRow
 credited before js a = record a { free = a.free +ℤ returned before a.account js }
 
--- these jobs change, and free by the balance
+-- these jobs change, and the free pages of the scene's accounts by the balance
 abbrev pub changed : Scene → List Job → Change
 changed s js = record no_change { jobs = js; free = map (credited s.jobs js) s.free }
 
@@ -87,7 +87,7 @@ abbrev pub new_document : ℕ → Format → List ℕ → Option NewDocument
 new_document n format [] = None
 new_document n format (b ∷ bytes) = Some (record { job = n; format = format; bytes = b ∷ bytes })
 
--- the job enters under the next number, with its document
+-- the job enters under the next number, with its document; on hold it takes no pages, so its scene has no account
 abbrev pub entered : Scene → Job → Option NewDocument → Decision
 entered s j document = record {
   reply = Jobs (j ∷ []);
@@ -177,7 +177,7 @@ is_sendable j payload = j.incoming && nat_le (j.documents + document_count paylo
 abbrev pub sent : Job → List ℕ → Bool → Job
 sent j payload last = record j { documents = j.documents + document_count payload; octets = j.octets + length payload; incoming = not last }
 
--- the job takes the payload, and is answered
+-- the job takes the payload, and is answered; a document takes no pages, so its scene has no account
 abbrev pub document_sent : Scene → Job → Format → List ℕ → Bool → Decision
 document_sent s j format payload last = record {
   reply = Jobs (sent j payload last ∷ []);

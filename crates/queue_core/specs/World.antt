@@ -198,11 +198,45 @@ abbrev pub owner_row : FinMap text_cmp ℤ → List Job → List FreeRow
 owner_row free [] = []
 owner_row free (j ∷ js) = found_row j.owner (get free j.owner)
 
--- the account of the caller, or of the job's owner
+-- a caller's account is looked up where pages may be set aside or come back, and else not
+abbrev pub free_for : List ℕ → Call → Option ℤ → List FreeRow
+free_for caller (print_job new format payload) free = []
+free_for caller (validate_job new) free = []
+free_for caller (create_job new) free = []
+free_for caller (send_document n format payload last) free = []
+free_for caller (cancel_job n) free = found_row caller free
+free_for caller (cancel_my_jobs numbers) free = found_row caller free
+free_for caller (hold_job n) free = found_row caller free
+free_for caller (release_job n) free = found_row caller free
+free_for caller (get_job_attributes n) free = []
+free_for caller (get_jobs which limit) free = []
+free_for caller get_printer_attributes free = []
+
+-- the account of the caller, where it is looked up, or of the job's owner
 abbrev pub free_of : Event → World → List FreeRow
-free_of (ask caller call) w = found_row caller (get w.free caller)
+free_of (ask caller call) w = free_for caller call (get w.free caller)
 free_of (tell r) w = owner_row w.free (numbered r.job (rows w))
 free_of (grant new) w = []
+
+-- the next number is looked up where a job may enter, or where it is told whether one may; else it is that of a queue without jobs
+abbrev pub next_for : Call → ℕ → ℕ
+next_for (print_job new format payload) next = next
+next_for (validate_job new) next = next
+next_for (create_job new) next = next
+next_for (send_document n format payload last) next = 1
+next_for (cancel_job n) next = 1
+next_for (cancel_my_jobs numbers) next = 1
+next_for (hold_job n) next = 1
+next_for (release_job n) next = 1
+next_for (get_job_attributes n) next = 1
+next_for (get_jobs which limit) next = 1
+next_for get_printer_attributes next = next
+
+-- for an account file too: so a book in tables reads its tables for every event
+abbrev pub next_of : Event → World → ℕ
+next_of (ask caller call) w = next_for call w.next
+next_of (tell r) w = 1
+next_of (grant new) w = w.next
 
 -- the report that was accepted of the same job under the same sequence number
 abbrev pub report_of : Event → World → Option KeptReport
@@ -226,6 +260,23 @@ known_of (ask caller call) w = []
 known_of (tell r) w = []
 known_of (grant new) w = map (known_grant w) new
 
+-- the scene of jobs and accounts alone
+abbrev pub jobs_scene : SettingValues → List Job → List FreeRow → Scene
+jobs_scene settings jobs free = record {
+  settings = settings;
+  jobs = jobs;
+  free = free;
+  live = 0;
+  counts = queue_counts [];
+  report = None;
+  known = [];
+  next = 1;
+}
+
+-- the scene of a call that asks for a new job
+abbrev pub new_scene : World → List ℕ → Scene
+new_scene w caller = record (jobs_scene w.settings [] []) { live = live_jobs caller (rows w); next = w.next }
+
 -- the rows that the event needs
 abbrev pub cut : World → Event → Scene
 cut w e = record {
@@ -236,7 +287,7 @@ cut w e = record {
   counts = counts_of e w;
   report = report_of e w;
   known = known_of e w;
-  next = w.next;
+  next = next_of e w;
 }
 
 -- ---- codes of the maps, for a type whose content is a world

@@ -49,7 +49,8 @@ pub(crate) fn one_job(alloc: Global, job: &Job) -> Result<Reply, AllocError>
     Ok(Reply::Jobs(JobList::from_items(shown)))
 }
 
-/// Each job takes the place of the one of its number, or enters, and free pages move by the balance.
+/// Each job takes the place of the one of its number, or enters, and the free pages of the scene's accounts move by the
+/// balance.
 pub(crate) fn change_jobs<'a>(
     alloc: Global,
     scene: &Scene,

@@ -1,12 +1,13 @@
 //! The scene of an event, put together of what was read for it.
-ghost use Rattle.std.specs.Prelude.{◌≡◌, [], None, IfOk, OnOk};
+ghost use Rattle.std.specs.Prelude.{◌≡◌, [], IfOk, OnOk};
 ghost use Rattle.queue_types.specs.Settings.{AreSettings};
-ghost use Rattle.queue_core.specs.World.{queue_counts};
+ghost use Rattle.queue_core.specs.World.{jobs_scene as scene_of_jobs, queue_counts};
 
 use queue_types::event::{
     FreeList, FreeRow, KeptReport, KnownGrant, KnownList, QueueCounts, Scene,
 };
 use queue_types::job::{Job, JobList};
+use queue_types::limits::FIRST_JOB_NUMBER;
 use queue_types::settings::Settings;
 use std::alloc::{AllocError, Global};
 
@@ -21,8 +22,31 @@ pub fn no_counts() -> QueueCounts
     }
 }
 
-/// The scene of a caller's call: the jobs that it speaks of, its live jobs and the counts of the queue, each where the call
-/// needs it; the caller's account and the next job number, whatever the call is. The one error is want of memory.
+/// The scene of jobs and accounts alone: all else is as `Scene` has it where an event doesn't need it. The one error is
+/// want of memory.
+pub fn jobs_scene(
+    alloc: Global,
+    settings: &Settings,
+    jobs: Vec<Job>,
+    free: Vec<FreeRow>,
+) -> Result<Scene, AllocError>
+    ensures scene { IfOk result (λ s. s ≡ scene_of_jobs settings.now jobs.items free.items) }
+    ensures settings { OnOk result (AreSettings settings.now) }
+{
+    Ok(Scene {
+        settings: settings.try_clone()?,
+        jobs: JobList::from_items(jobs),
+        free: FreeList::from_items(free),
+        live: 0,
+        counts: no_counts(),
+        report: None,
+        known: KnownList::from_items(Vec::new(alloc)),
+        next: FIRST_JOB_NUMBER,
+    })
+}
+
+/// The scene of a caller's call: the jobs that it speaks of, the caller's account and live jobs, the counts of the queue
+/// and the next job number, each as `Scene` has it where the call doesn't need it. The one error is want of memory.
 pub fn call_scene(
     alloc: Global,
     settings: &Settings,
@@ -32,35 +56,29 @@ pub fn call_scene(
     counts: QueueCounts,
     next: u32,
 ) -> Result<Scene, AllocError>
-    ensures scene { IfOk result (λ s. s ≡ record { settings = settings.now; jobs = jobs.items; free = free.items; live = live; counts = counts; report = None; known = []; next = next }) }
+    ensures scene { IfOk result (λ s. s ≡ record (scene_of_jobs settings.now jobs.items free.items) { live = live; counts = counts; next = next }) }
     ensures settings { OnOk result (AreSettings settings.now) }
 {
-    Ok(Scene {
-        settings: settings.try_clone()?,
-        jobs: JobList::from_items(jobs),
-        free: FreeList::from_items(free),
-        live,
-        counts,
-        report: None,
-        known: KnownList::from_items(Vec::new(alloc)),
-        next,
-    })
+    let mut scene = jobs_scene(alloc, settings, jobs, free)?;
+    scene.live = live;
+    scene.counts = counts;
+    scene.next = next;
+    Ok(scene)
 }
 
-/// The scene of a report: the job that it speaks of, its owner's account, the report that is kept under its number, and
-/// the next job number. The one error is want of memory.
+/// The scene of a report: the job that it speaks of, its owner's account and the report that is kept under its number.
+/// The one error is want of memory.
 pub fn report_scene(
     alloc: Global,
     settings: &Settings,
     jobs: Vec<Job>,
     free: Vec<FreeRow>,
     report: Option<KeptReport>,
-    next: u32,
 ) -> Result<Scene, AllocError>
-    ensures scene { IfOk result (λ s. s ≡ record { settings = settings.now; jobs = jobs.items; free = free.items; live = 0; counts = queue_counts []; report = report; known = []; next = next }) }
+    ensures scene { IfOk result (λ s. s ≡ record (scene_of_jobs settings.now jobs.items free.items) { report = report }) }
     ensures settings { OnOk result (AreSettings settings.now) }
 {
-    let mut scene = call_scene(alloc, settings, jobs, free, 0, no_counts(), next)?;
+    let mut scene = jobs_scene(alloc, settings, jobs, free)?;
     scene.report = report;
     Ok(scene)
 }
@@ -73,17 +91,11 @@ pub fn grants_scene(
     known: Vec<KnownGrant>,
     next: u32,
 ) -> Result<Scene, AllocError>
-    ensures scene { IfOk result (λ s. s ≡ record { settings = settings.now; jobs = []; free = []; live = 0; counts = queue_counts []; report = None; known = known.items; next = next }) }
+    ensures scene { IfOk result (λ s. s ≡ record (scene_of_jobs settings.now [] []) { known = known.items; next = next }) }
     ensures settings { OnOk result (AreSettings settings.now) }
 {
-    Ok(Scene {
-        settings: settings.try_clone()?,
-        jobs: JobList::from_items(Vec::new(alloc)),
-        free: FreeList::from_items(Vec::new(alloc)),
-        live: 0,
-        counts: no_counts(),
-        report: None,
-        known: KnownList::from_items(known),
-        next,
-    })
+    let mut scene = jobs_scene(alloc, settings, Vec::new(alloc), Vec::new(alloc))?;
+    scene.known = KnownList::from_items(known);
+    scene.next = next;
+    Ok(scene)
 }

@@ -6,7 +6,7 @@ use Rattle.std.specs.FinMap.{get}
 use Rattle.std.proofs.lemmas.Bool.{and_parts, eqb-false}
 use Rattle.queue_types.specs.Job.{is_live}
 use Rattle.queue_types.specs.Event.{Call, Decision, NewJob, NewDocument, ask, print_job, validate_job, create_job, send_document, cancel_job, cancel_my_jobs, hold_job, release_job, get_job_attributes}
-use Rattle.queue_core.specs.World.{World, Entry, rows, cut, found_row, is_one_of}
+use Rattle.queue_core.specs.World.{World, Entry, rows, cut, new_scene, found_row, free_for, is_one_of}
 use Rattle.queue_core.specs.Machine.{decision, no_change, answered, credited, changed, becomes, entered, new_job, new_document, new_refusal, unless_refused, validate_job_row, canceled, canceled_in, is_cancelable, cancel_row, all_canceled, cancel_my_jobs_row, sent, send_in, hold_in, release_in, of_own}
 use Rattle.queue_core.specs.Sound.{IsSound, Rise}
 use Rattle.queue_types.specs.declared.document.Format.{Format}
@@ -51,6 +51,13 @@ pub credited_by : (caller : List ℕ) (before js : List Job) (o : Option ℤ) �
 credited_by caller before js None = tt
 credited_by caller before js (Some f) = (refl, tt)
 
+credited_for : (caller : List ℕ) (call : Call) (before js : List Job) (o : Option ℤ) → Each (λ (a : FreeRow). a.account ≡ caller) (map (credited before js) (free_for caller call o))
+credited_for caller (cancel_job n) before js o = credited_by caller before js o
+credited_for caller (cancel_my_jobs numbers) before js o = credited_by caller before js o
+credited_for caller (hold_job n) before js o = credited_by caller before js o
+credited_for caller (release_job n) before js o = credited_by caller before js o
+credited_for caller _ before js o = tt
+
 document_by : (P : ℕ → Type 0) (n : ℕ) (format : Format) (payload : List ℕ) → P n → IfSome (new_document n format payload) (λ d. P d.job)
 document_by P n format [] here = tt
 document_by P n format (b ∷ bytes) here = here
@@ -81,21 +88,9 @@ module _ (w : World) (caller : List ℕ) (call : Call) (sound : IsSound w) where
   nothing = nothing_by caller w
 
   changed_by : (js : List Job) → Each (IsRowBy caller w.jobs) js → IsBy caller w (changed scene js)
-  changed_by js each = record { jobs = each; document = tt; free = credited_by caller scene.jobs js (get w.free caller); grants = refl; report = tt; next = inl refl }
+  changed_by js each = record { jobs = each; document = tt; free = credited_for caller call scene.jobs js (get w.free caller); grants = refl; report = tt; next = inl refl }
 
-  -- ---- a new job
-
-  entered_by : (now : ℕ) (incoming : Bool) (j : NewJob) (payload : List ℕ) (document : Option NewDocument) → IfSome document (λ d. IsNumberOf caller d.job w.jobs) → By (unless_refused (new_refusal scene) (entered scene (new_job scene now caller incoming j payload) document))
-  entered_by now incoming j payload document number =
-      let x : Job = new_job scene now caller incoming j payload in
-      on_new By scene (entered scene x document) (record {
-        jobs = ((refl, none_next caller 1 w.next w.jobs sound.numbers), tt);
-        document = number;
-        free = credited_by caller scene.jobs (x ∷ []) (get w.free caller);
-        grants = refl;
-        report = tt;
-        next = inr refl;
-      }) (λ code. nothing)
+  -- ---- Validate-Job
 
   validated_by : By (validate_job_row scene)
   validated_by = on_new By scene (answered Done) nothing (λ code. nothing)
@@ -118,7 +113,7 @@ module _ (w : World) (caller : List ℕ) (call : Call) (sound : IsSound w) where
     sent_by : (format : Format) (payload : List ℕ) (last : Bool) → By (of_own caller (λ j. send_in scene j format payload last) scene.jobs)
     sent_by format payload last = own_by (λ j. send_in scene j format payload last) (λ j rest e own. on_send By scene j format payload last (λ can.
         let row : IsRowBy caller w.jobs (sent j payload last) = row_by j (sent j payload last) rest e own (record { number = refl; owner = refl }) in
-        record { jobs = (row, tt); document = document_by (λ m. IsNumberOf caller m w.jobs) j.number format payload row.1; free = credited_by caller scene.jobs (sent j payload last ∷ []) (get w.free caller); grants = refl; report = tt; next = inl refl }) nothing)
+        record { jobs = (row, tt); document = document_by (λ m. IsNumberOf caller m w.jobs) j.number format payload row.1; free = credited_for caller call scene.jobs (sent j payload last ∷ []) (get w.free caller); grants = refl; report = tt; next = inl refl }) nothing)
 
     canceled_by : (now : ℕ) → By (of_own caller (λ j. cancel_row scene now j) scene.jobs)
     canceled_by now = own_by (λ j. cancel_row scene now j) (λ j rest e own. on_cancel By scene j now (becomes_by j (canceled now j) rest e own (same_canceled now j j.phase)) nothing)
@@ -154,12 +149,27 @@ module _ (w : World) (caller : List ℕ) (call : Call) (sound : IsSound w) where
     all_named_by : (numbers : List ℕ) → By (cancel_my_jobs_row scene now (Some numbers))
     all_named_by numbers = on_named By scene now numbers (all_by scene.jobs each_scene) (λ code. nothing)
 
+-- ---- a new job
+
+entered_by : (w : World) (caller : List ℕ) → IsSound w → (now : ℕ) (incoming : Bool) (j : NewJob) (payload : List ℕ) (document : Option NewDocument) → IfSome document (λ d. IsNumberOf caller d.job w.jobs)
+    → IsBy caller w (unless_refused (new_refusal (new_scene w caller)) (entered (new_scene w caller) (new_job (new_scene w caller) now caller incoming j payload) document)).change
+entered_by w caller sound now incoming j payload document number =
+    let s : Scene = new_scene w caller in
+    on_new (λ d. IsBy caller w d.change) s (entered s (new_job s now caller incoming j payload) document) (record {
+      jobs = ((refl, none_next caller 1 w.next w.jobs sound.numbers), tt);
+      document = number;
+      free = tt;
+      grants = refl;
+      report = tt;
+      next = inr refl;
+    }) (λ code. nothing_by caller w)
+
 -- ---- each call
 
 pub asked_by : (w : World) (now : ℕ) (caller : List ℕ) (call : Call) → IsSound w → IsBy caller w (decision (cut w (ask caller call)) now (ask caller call)).change
-asked_by w now caller (print_job j format payload) sound = entered_by w caller (print_job j format payload) sound now false j payload (new_document w.next format payload) (document_by (λ m. IsNumberOf caller m w.jobs) w.next format payload (none_next caller 1 w.next w.jobs sound.numbers))
+asked_by w now caller (print_job j format payload) sound = entered_by w caller sound now false j payload (new_document w.next format payload) (document_by (λ m. IsNumberOf caller m w.jobs) w.next format payload (none_next caller 1 w.next w.jobs sound.numbers))
 asked_by w now caller (validate_job j) sound = validated_by w caller (validate_job j) sound
-asked_by w now caller (create_job j) sound = entered_by w caller (create_job j) sound now true j [] None tt
+asked_by w now caller (create_job j) sound = entered_by w caller sound now true j [] None tt
 asked_by w now caller (send_document n format payload last) sound = sent_by w caller (send_document n format payload last) sound n refl format payload last
 asked_by w now caller (cancel_job n) sound = canceled_by w caller (cancel_job n) sound n refl now
 asked_by w now caller (cancel_my_jobs None) sound = all_able_by w caller (cancel_my_jobs None) sound now (λ j. bytes_eq j.owner caller && is_live j) refl (λ j is. same_key j.owner caller (and_parts (bytes_eq j.owner caller) (is_live j) is).0)

@@ -8,8 +8,8 @@ use Rattle.std.proofs.lemmas.Int.{ints}
 use Rattle.std.proofs.lemmas.Option.{same_Some}
 use Rattle.queue_types.specs.Job.{is_live, estimate, owed}
 use Rattle.queue_types.specs.Event.{Call, Decision, NewJob, NewDocument, ask, print_job, validate_job, create_job, send_document, cancel_job, cancel_my_jobs, hold_job, release_job, get_job_attributes}
-use Rattle.queue_core.specs.World.{World, rows, cut, made_on, put_free, found_row, job_at, numbered, is_one_of}
-use Rattle.queue_core.specs.Machine.{decision, step, taken, given_back, returned, credited, answered, becomes, entered, new_job, new_document, new_refusal, unless_refused, validate_job_row, canceled, canceled_in, is_cancelable, cancel_row, all_canceled, cancel_my_jobs_row, sent, send_in, hold_in, has_pages, release_in, of_own}
+use Rattle.queue_core.specs.World.{World, rows, cut, new_scene, made_on, put_free, found_row, job_at, numbered, is_one_of}
+use Rattle.queue_core.specs.Machine.{decision, step, taken, given_back, returned, credited, answered, becomes, entered, new_job, new_document, new_refusal, unless_refused, validate_job_row, canceled, canceled_in, is_cancelable, cancel_row, all_canceled, cancel_my_jobs_row, send_in, hold_in, has_pages, release_in, of_own}
 use Rattle.queue_core.specs.Sound.{IsSound}
 use Rattle.queue_types.specs.declared.document.Format.{Format}
 use Rattle.queue_types.specs.declared.job.Job.{Job}
@@ -24,7 +24,6 @@ use Rattle.queue_core.proofs.Rows.{back}
 use Rattle.queue_laws.proofs.Asked.{same_canceled}
 use Rattle.queue_laws.proofs.Base.{own_key, same_key}
 use Rattle.queue_laws.proofs.LeftAlone.{account_stays}
-use Rattle.queue_laws.proofs.Entered.{nothing_back}
 use Rattle.queue_laws.proofs.Standing.{Stands, chosen_stand}
 use Rattle.queue_laws.proofs.Rows.{on_own, on_new, on_named, on_send, on_cancel, on_hold, on_release}
 
@@ -91,49 +90,52 @@ module _ (w : World) (caller : List ℕ) where
 
   -- ---- a new job
 
-  plus_nothing : (f z : ℤ) → z ≡ pos 0 → OwesNone f (f +ℤ z)
-  plus_nothing f z e = inl (omega (arith, ints))
-
-  module _ (call : Call) (none : (cut w (ask caller call)).jobs ≡ []) where
-    abbrev scene : Scene
-    scene = cut w (ask caller call)
-
-    entered_owes : (now : ℕ) (incoming : Bool) (new : NewJob) (payload : List ℕ) (document : Option NewDocument) → LeavesNone (unless_refused (new_refusal scene) (entered scene (new_job scene now caller incoming new payload) document))
-    entered_owes now incoming new payload document =
-        let x : Job = new_job scene now caller incoming new payload in
-        on_new LeavesNone scene (entered scene x document) (paid scene.jobs (x ∷ []) (λ f e. plus_nothing f (returned scene.jobs caller (x ∷ [])) (ap (λ js. returned js caller (x ∷ [])) none ∙ nothing_back (bytes_eq caller caller)))) (λ code. kept)
+  entered_owes : (now : ℕ) (incoming : Bool) (new : NewJob) (payload : List ℕ) (document : Option NewDocument)
+      → LeavesNone (unless_refused (new_refusal (new_scene w caller)) (entered (new_scene w caller) (new_job (new_scene w caller) now caller incoming new payload) document))
+  entered_owes now incoming new payload document =
+      let s : Scene = new_scene w caller in
+      on_new LeavesNone s (entered s (new_job s now caller incoming new payload) document) kept (λ code. kept)
 
   validated_owes : (s : Scene) → LeavesNone (validate_job_row s)
   validated_owes s = on_new LeavesNone s (answered Done) kept (λ code. kept)
 
   -- ---- a job of the caller's own
 
-  module _ (n : ℕ) (call : Call) (named : (cut w (ask caller call)).jobs ≡ numbered n (rows w)) where
+  module _ (call : Call) where
     abbrev here : Scene
     here = cut w (ask caller call)
-
-    becomes_owes : (j x : Job) (rest : List Job) → here.jobs ≡ j ∷ rest → x.number ≡ j.number
-        → ((f : ℤ) → get w.free caller ≡ Some f → OwesNone f (f +ℤ back x j caller)) → LeavesNone (becomes here x)
-    becomes_owes j x rest e number each = paid here.jobs (x ∷ []) (λ f is. subst (λ z. OwesNone f (f +ℤ z)) (sym (ap (λ js. returned js caller (x ∷ [])) e ∙ gives_back j x rest caller number)) (each f is))
-
-    less_owes : (j x : Job) (rest : List Job) → here.jobs ≡ j ∷ rest → x.number ≡ j.number → taken x ≤ taken j → LeavesNone (becomes here x)
-    less_owes j x rest e number less = becomes_owes j x rest e number (λ f is. inl (gains f (back x j caller) (no_less (bytes_eq x.owner caller) (taken j) (taken x) less)))
 
     own_owes : (row : Job → Decision) → ((j : Job) (rest : List Job) → here.jobs ≡ j ∷ rest → LeavesNone (row j)) → LeavesNone (of_own caller row here.jobs)
     own_owes row each = on_own LeavesNone caller row here.jobs (λ j rest e own. each j rest e) kept
 
-    sent_owes : (format : Format) (payload : List ℕ) (last : Bool) → LeavesNone (of_own caller (λ j. send_in here j format payload last) here.jobs)
-    sent_owes format payload last = own_owes (λ j. send_in here j format payload last) (λ j rest e. on_send LeavesNone here j format payload last (λ can. less_owes j (sent j payload last) rest e refl (omega arith)) kept)
+    -- where the caller's account is looked up
+    module _ (looked_up : here.free ≡ found_row caller (get w.free caller)) where
+      becomes_owes : (j x : Job) (rest : List Job) → here.jobs ≡ j ∷ rest → x.number ≡ j.number
+          → ((f : ℤ) → get w.free caller ≡ Some f → OwesNone f (f +ℤ back x j caller)) → LeavesNone (becomes here x)
+      becomes_owes j x rest e number each = subst (λ rows. (f g : ℤ) → get w.free caller ≡ Some f → get (fold put_free w.free (map (credited here.jobs (x ∷ [])) rows)) caller ≡ Some g → OwesNone f g) (sym looked_up)
+          (paid here.jobs (x ∷ []) (λ f is. subst (λ z. OwesNone f (f +ℤ z)) (sym (ap (λ js. returned js caller (x ∷ [])) e ∙ gives_back j x rest caller number)) (each f is)))
 
-    canceled_owes : (now : ℕ) → LeavesNone (of_own caller (λ j. cancel_row here now j) here.jobs)
-    canceled_owes now = own_owes (λ j. cancel_row here now j) (λ j rest e. on_cancel LeavesNone here j now (less_owes j (canceled now j) rest e (same_canceled now j j.phase).number (canceled_less now j j.phase)) kept)
+      less_owes : (j x : Job) (rest : List Job) → here.jobs ≡ j ∷ rest → x.number ≡ j.number → taken x ≤ taken j → LeavesNone (becomes here x)
+      less_owes j x rest e number less = becomes_owes j x rest e number (λ f is. inl (gains f (back x j caller) (no_less (bytes_eq x.owner caller) (taken j) (taken x) less)))
 
-    held_owes : LeavesNone (of_own caller (λ j. hold_in j.phase here j) here.jobs)
-    held_owes = own_owes (λ j. hold_in j.phase here j) (λ j rest e. on_hold LeavesNone here j (λ waits. less_owes j (record j { hold = true }) rest e refl (held_less j)) kept)
+      canceled_owes : (now : ℕ) → LeavesNone (of_own caller (λ j. cancel_row here now j) here.jobs)
+      canceled_owes now = own_owes (λ j. cancel_row here now j) (λ j rest e. on_cancel LeavesNone here j now (less_owes j (canceled now j) rest e (same_canceled now j j.phase).number (canceled_less now j j.phase)) kept)
 
-    released_owes : LeavesNone (of_own caller (λ j. release_in j.phase here j) here.jobs)
-    released_owes = own_owes (λ j. release_in j.phase here j) (λ j rest e. on_release LeavesNone here j (λ waits has.
-        becomes_owes j (record j { hold = false }) rest e refl (λ f is. inr (covers (bytes_eq j.owner caller) (is_live j) (cond (is_live j) (cond j.hold 0 (estimate j - j.count)) 0) j.count (estimate j) f (enough caller (get w.free caller) (estimate j) f is has)))) kept kept)
+      held_owes : LeavesNone (of_own caller (λ j. hold_in j.phase here j) here.jobs)
+      held_owes = own_owes (λ j. hold_in j.phase here j) (λ j rest e. on_hold LeavesNone here j (λ waits. less_owes j (record j { hold = true }) rest e refl (held_less j)) kept)
+
+      -- what is free covers the estimate
+      released_owes : LeavesNone (of_own caller (λ j. release_in j.phase here j) here.jobs)
+      released_owes = own_owes (λ j. release_in j.phase here j) (λ j rest e. on_release LeavesNone here j (λ waits has.
+          becomes_owes j (record j { hold = false }) rest e refl (λ f is. inr (covers (bytes_eq j.owner caller) (is_live j) (cond (is_live j) (cond j.hold 0 (estimate j - j.count)) 0) j.count (estimate j) f (enough caller (get w.free caller) (estimate j) f is (subst (λ rows. has_pages rows (estimate j) ≡ true) looked_up has))))) kept kept)
+
+  -- a document takes no pages
+  sent_owes : (n : ℕ) (format : Format) (payload : List ℕ) (last : Bool)
+      → LeavesNone (of_own caller (λ j. send_in (cut w (ask caller (send_document n format payload last))) j format payload last) (numbered n (rows w)))
+  sent_owes n format payload last =
+      let call : Call = send_document n format payload last in
+      let s : Scene = cut w (ask caller call) in
+      own_owes call (λ j. send_in s j format payload last) (λ j rest e. on_send LeavesNone s j format payload last (λ can. kept) kept)
 
   -- ---- several of the caller's jobs
 
@@ -149,9 +151,9 @@ module _ (w : World) (caller : List ℕ) where
       subst (λ z. pos 0 ≤ℤ z) (sym (returned-cons before caller (canceled now j) (map (canceled now) js)))
       (both_gain (given_back before caller (canceled now j)) (returned before caller (map (canceled now) js)) (one_back now before j each.0) (all_back now before js each.1))
 
-  module _ (now : ℕ) (call : Call) (c : Job → Bool) (sound : IsSound w) (named : (cut w (ask caller call)).jobs ≡ filter c (rows w)) where
+  module _ (now : ℕ) (numbers : Option (List ℕ)) (c : Job → Bool) (sound : IsSound w) (named : (cut w (ask caller (cancel_my_jobs numbers))).jobs ≡ filter c (rows w)) where
     abbrev of_call : Scene
-    of_call = cut w (ask caller call)
+    of_call = cut w (ask caller (cancel_my_jobs numbers))
 
     all_stand : Each (Stands of_call.jobs) of_call.jobs
     all_stand = subst (λ js. Each (Stands js) js) (sym named) (chosen_stand w sound c)
@@ -162,22 +164,22 @@ module _ (w : World) (caller : List ℕ) where
     able_owe : LeavesNone (cancel_my_jobs_row of_call now None)
     able_owe = all_owe (filter is_cancelable of_call.jobs) (each-filter (Stands of_call.jobs) is_cancelable of_call.jobs all_stand)
 
-    named_owe : (numbers : List ℕ) → LeavesNone (cancel_my_jobs_row of_call now (Some numbers))
-    named_owe numbers = on_named LeavesNone of_call now numbers (all_owe of_call.jobs all_stand) (λ code. kept)
+    named_owe : (asked : List ℕ) → LeavesNone (cancel_my_jobs_row of_call now (Some asked))
+    named_owe asked = on_named LeavesNone of_call now asked (all_owe of_call.jobs all_stand) (λ code. kept)
 
 -- ---- each call
 
 asked_owes : (w : World) (now : ℕ) (caller : List ℕ) (call : Call) → IsSound w → LeavesNone w caller (decision (cut w (ask caller call)) now (ask caller call))
-asked_owes w now caller (print_job new format payload) sound = entered_owes w caller (print_job new format payload) refl now false new payload (new_document w.next format payload)
+asked_owes w now caller (print_job new format payload) sound = entered_owes w caller now false new payload (new_document w.next format payload)
 asked_owes w now caller (validate_job new) sound = validated_owes w caller (cut w (ask caller (validate_job new)))
-asked_owes w now caller (create_job new) sound = entered_owes w caller (create_job new) refl now true new [] None
-asked_owes w now caller (send_document n format payload last) sound = sent_owes w caller n (send_document n format payload last) refl format payload last
-asked_owes w now caller (cancel_job n) sound = canceled_owes w caller n (cancel_job n) refl now
-asked_owes w now caller (cancel_my_jobs None) sound = able_owe w caller now (cancel_my_jobs None) (λ j. bytes_eq j.owner caller && is_live j) sound refl
-asked_owes w now caller (cancel_my_jobs (Some numbers)) sound = named_owe w caller now (cancel_my_jobs (Some numbers)) (λ j. bytes_eq j.owner caller && is_one_of numbers j) sound refl numbers
-asked_owes w now caller (hold_job n) sound = held_owes w caller n (hold_job n) refl
-asked_owes w now caller (release_job n) sound = released_owes w caller n (release_job n) refl
-asked_owes w now caller (get_job_attributes n) sound = own_owes w caller n (get_job_attributes n) refl (λ j. answered (Jobs (j ∷ []))) (λ j rest e. kept w caller)
+asked_owes w now caller (create_job new) sound = entered_owes w caller now true new [] None
+asked_owes w now caller (send_document n format payload last) sound = sent_owes w caller n format payload last
+asked_owes w now caller (cancel_job n) sound = canceled_owes w caller (cancel_job n) refl now
+asked_owes w now caller (cancel_my_jobs None) sound = able_owe w caller now None (λ j. bytes_eq j.owner caller && is_live j) sound refl
+asked_owes w now caller (cancel_my_jobs (Some numbers)) sound = named_owe w caller now (Some numbers) (λ j. bytes_eq j.owner caller && is_one_of numbers j) sound refl numbers
+asked_owes w now caller (hold_job n) sound = held_owes w caller (hold_job n) refl
+asked_owes w now caller (release_job n) sound = released_owes w caller (release_job n) refl
+asked_owes w now caller (get_job_attributes n) sound = own_owes w caller (get_job_attributes n) (λ j. answered (Jobs (j ∷ []))) (λ j rest e. kept w caller)
 asked_owes w now caller _ sound = kept w caller
 
 pub no_debt : (w : World) (now : ℕ) (caller a : List ℕ) (call : Call) (f g : ℤ) → IsSound w → get w.free a ≡ Some f → get (step w now (ask caller call)).world.free a ≡ Some g → (f ≤ℤ g) ⊎ (pos 0 ≤ℤ g)

@@ -1,9 +1,9 @@
 -- A new row stands at the end.
-use Rattle.std.proofs.Common.{◌≡◌, ℕ, pos, ◌+ℤ◌, ◌-ℤ◌, List, [], ◌∷◌, ◌++◌, map, refl, ap, ◌∙◌, Bool, true, false, cond}
-use Rattle.std.specs.Prelude.{Option, Some, None, bytes_eq}
-use Rattle.queue_types.specs.Event.{Call, Decision, NewJob, NewDocument, ask, print_job, create_job, validate_job}
-use Rattle.queue_core.specs.World.{World, Entry, cut, made_on, with_row, add_document, with_document}
-use Rattle.queue_core.specs.Machine.{Step, step, answered, new_job, new_document, entered, new_refusal, unless_refused, returned}
+use Rattle.std.proofs.Common.{◌≡◌, ℕ, List, [], ◌∷◌, ◌++◌, map, refl, ap, ◌∙◌, Bool, true, false, cond}
+use Rattle.std.specs.Prelude.{Option, Some, None}
+use Rattle.queue_types.specs.Event.{Decision, NewJob, NewDocument, ask, print_job, create_job, validate_job}
+use Rattle.queue_core.specs.World.{World, Entry, cut, new_scene, made_on, with_row, add_document, with_document}
+use Rattle.queue_core.specs.Machine.{Step, step, answered, new_job, new_document, entered, new_refusal, unless_refused}
 use Rattle.queue_core.specs.Sound.{IsSound, Rise}
 use Rattle.queue_types.specs.declared.document.Format.{Format}
 use Rattle.queue_types.specs.declared.document.Format.TheVariants.{OctetStream}
@@ -14,7 +14,6 @@ use Rattle.queue_core.proofs.Enter.{with_row_new, with_document_new}
 use Rattle.queue_laws.specs.Entering.{Enters, documents_of}
 use Rattle.queue_laws.specs.Replies.{refuses}
 use Rattle.queue_laws.proofs.Base.{fresh, itself}
-use Rattle.queue_laws.proofs.Funds.{same_free}
 
 jobs_after : (x : Job) (format : Format) (payload : List ℕ) (es : List Entry) → Rise 1 es x.number → with_document (with_row es x) (new_document x.number format payload) ≡ es ++ record { row = x; documents = documents_of format payload } ∷ []
 jobs_after x format [] es rise = with_row_new x 1 es rise
@@ -25,16 +24,12 @@ jobs_after x format (b ∷ bytes) es rise =
     ∙ with_document_new x d 1 es refl rise
     ∙ ap (λ e. es ++ e ∷ []) added
 
-pub nothing_back : (b : Bool) → pos 0 +ℤ cond b (pos 0 -ℤ pos 0) (pos 0) ≡ pos 0
-nothing_back true = refl
-nothing_back false = refl
-
 abbrev by : World → Decision → Step
 by w d = record { world = made_on d.change w; reply = d.reply }
 
-module _ (w : World) (now : ℕ) (caller : List ℕ) (call : Call) (incoming : Bool) (new : NewJob) (format : Format) (payload : List ℕ) (sound : IsSound w) (none : (cut w (ask caller call)).jobs ≡ []) where
+module _ (w : World) (now : ℕ) (caller : List ℕ) (incoming : Bool) (new : NewJob) (format : Format) (payload : List ℕ) (sound : IsSound w) where
   abbrev scene : Scene
-  scene = cut w (ask caller call)
+  scene = new_scene w caller
 
   abbrev x : Job
   x = new_job scene now caller incoming new payload
@@ -58,7 +53,7 @@ module _ (w : World) (now : ℕ) (caller : List ℕ) (call : Call) (incoming : B
     impressions = refl;
     created = refl;
     count = refl;
-    accounts = λ a. same_free w.free caller a scene.jobs (x ∷ []) (ap (λ js. returned js caller (x ∷ [])) none ∙ nothing_back (bytes_eq caller caller));
+    accounts = λ a. refl;
     reply = refl;
   }
 
@@ -69,10 +64,10 @@ module _ (w : World) (now : ℕ) (caller : List ℕ) (call : Call) (incoming : B
   ]
 
 pub printed : (w : World) (now : ℕ) (caller : List ℕ) (new : NewJob) (format : Format) (payload : List ℕ) → IsSound w → refuses (step w now (ask caller (print_job new format payload))).reply ≡ false → Enters w now caller new false (documents_of format payload) (step w now (ask caller (print_job new format payload)))
-printed w now caller new format payload sound = enters_unless w now caller (print_job new format payload) false new format payload sound refl
+printed w now caller new format payload sound = enters_unless w now caller false new format payload sound
 
 pub created : (w : World) (now : ℕ) (caller : List ℕ) (new : NewJob) → IsSound w → refuses (step w now (ask caller (create_job new))).reply ≡ false → Enters w now caller new true [] (step w now (ask caller (create_job new)))
-created w now caller new sound = enters_unless w now caller (create_job new) true new OctetStream [] sound refl
+created w now caller new sound = enters_unless w now caller true new OctetStream [] sound
 
 -- ---- Validate-Job
 

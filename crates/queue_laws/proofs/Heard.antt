@@ -106,7 +106,7 @@ seen_report u s o r = record {
   counts = queue_counts [];
   report = o.reports r.job r.seq;
   known = [];
-  next = o.next;
+  next = 1;
 }
 
 abbrev pub own_heard_on : List ℕ → SettingValues → ℕ → Report → Own → Own
@@ -140,7 +140,7 @@ module _ (u : List ℕ) (w : World) (now : ℕ) (r : Report) (sound : IsSound w)
   kept_same = sym (ap (λ b. cond b (get w.reports (r.job, r.seq)) None) yes)
 
   scene_same : cut w (tell r) ≡ seen_report u w.settings (own u w) r
-  scene_same = λ i. record { settings = w.settings; jobs = all i; free = free_same i; live = 0; counts = queue_counts []; report = kept_same i; known = []; next = w.next }
+  scene_same = λ i. record { settings = w.settings; jobs = all i; free = free_same i; live = 0; counts = queue_counts []; report = kept_same i; known = []; next = 1 }
 
   decided_same : decision (cut w (tell r)) now (tell r) ≡ decision (seen_report u w.settings (own u w) r) now (tell r)
   decided_same = ap (λ (s : Scene). decision s now (tell r)) scene_same

@@ -1,13 +1,13 @@
 -- What Cancel-My-Jobs gives back.
 use Rattle.std.proofs.Common.{◌≡◌, ℕ, ℤ, pos, ◌+ℤ◌, ◌-ℤ◌, ◌+◌, List, [], ◌∷◌, map, refl, ap, subst, sym, ◌∙◌, arith, Bool, true, false, cond}
-use Rattle.std.specs.Prelude.{Some, None, bytes_eq, nat_le, filter, sum_by, option_map, ◌&&◌}
+use Rattle.std.specs.Prelude.{Option, Some, None, bytes_eq, nat_le, filter, sum_by, option_map, ◌&&◌}
 use Rattle.std.specs.FinMap.{get}
 use Rattle.std.specs.List.{AllByRecursion as Each}
 use Rattle.std.specs.Option.{option_map_or}
 use Rattle.std.proofs.lemmas.Int.{ints}
 use Rattle.std.proofs.lemmas.List.Sums.{sum_by-cons}
 use Rattle.std.proofs.lemmas.Bool.{and_parts, le-leb, true≢false}
-use Rattle.queue_types.specs.Event.{Call, Decision, ask, cancel_my_jobs}
+use Rattle.queue_types.specs.Event.{Decision, ask, cancel_my_jobs}
 use Rattle.queue_types.specs.Job.{is_live_in, is_live, state, state_in, owed}
 use Rattle.queue_core.specs.World.{World, rows, cut, made_on, job_at, is_one_of}
 use Rattle.queue_core.specs.Machine.{step, taken, given_back, returned, canceled, canceled_in, is_cancelable, is_cancelable_in, all_canceled}
@@ -101,9 +101,9 @@ module _ (w : World) (now : ℕ) (caller : List ℕ) (free : ℤ) (sound : IsSou
   abbrev live_own : Job → Bool
   live_own j = bytes_eq j.owner caller && is_live j
 
-  module _ (call : Call) (c : Job → Bool) (chosen : (cut w (ask caller call)).jobs ≡ filter c (rows w)) (own : (j : Job) → c j ≡ true → bytes_eq j.owner caller ≡ true) where
+  module _ (numbers : Option (List ℕ)) (c : Job → Bool) (chosen : (cut w (ask caller (cancel_my_jobs numbers))).jobs ≡ filter c (rows w)) (own : (j : Job) → c j ≡ true → bytes_eq j.owner caller ≡ true) where
     abbrev scene : Scene
-    scene = cut w (ask caller call)
+    scene = cut w (ask caller (cancel_my_jobs numbers))
 
     all_own : Each (IsOwn now caller scene.jobs) scene.jobs
     all_own = subst (λ js. Each (IsOwn now caller js) js) (sym chosen) (each_both (Stands (filter c (rows w))) (λ j. bytes_eq j.owner caller ≡ true) (filter c (rows w))
@@ -120,10 +120,9 @@ module _ (w : World) (now : ℕ) (caller : List ℕ) (free : ℤ) (sound : IsSou
 
   pub mine_free : get (step w now (ask caller (cancel_my_jobs None))).world.free caller ≡ Some (free +ℤ pos (sum_by owed (waiting_of caller (rows w))))
   mine_free =
-      let call : Call = cancel_my_jobs None in
-      let js : List Job = (cut w (ask caller call)).jobs in
+      let js : List Job = (cut w (ask caller (cancel_my_jobs None))).jobs in
       let first : (j : Job) → live_own j ≡ true → bytes_eq j.owner caller ≡ true = λ j is. (and_parts (bytes_eq j.owner caller) (is_live j) is).0 in
-      free_by call live_own refl first (filter is_cancelable js) (each-filter (IsOwn now caller js) is_cancelable js (all_own call live_own refl first))
+      free_by None live_own refl first (filter is_cancelable js) (each-filter (IsOwn now caller js) is_cancelable js (all_own None live_own refl first))
       ∙ ap (λ n. Some (free +ℤ pos n)) (ap (sum_by freed) (both_filters is_cancelable live_own (rows w))
       ∙ agree (λ j. live_own j && is_cancelable j) (λ j. bytes_eq j.owner caller && nat_le (state j) 4) freed owed (rows w) (λ j. able (bytes_eq j.owner caller) j.phase j j.hold j.incoming (owed j)))
 
@@ -148,9 +147,8 @@ module _ (w : World) (now : ℕ) (caller : List ℕ) (free : ℤ) (sound : IsSou
 
     all_free : FreeBy (all_canceled named now named.jobs) pages
     all_free =
-        let call : Call = cancel_my_jobs (Some numbers) in
         let first : (j : Job) → is_asked j ≡ true → bytes_eq j.owner caller ≡ true = λ j is. (and_parts (bytes_eq j.owner caller) (is_one_of numbers j) is).0 in
-        free_by call is_asked refl first named.jobs (all_own call is_asked refl first)
+        free_by (Some numbers) is_asked refl first named.jobs (all_own (Some numbers) is_asked refl first)
         ∙ ap (λ n. Some (free +ℤ pos n)) same_pages
 
     pub named_free : refuses (step w now (ask caller (cancel_my_jobs (Some numbers)))).reply ≡ false → get (step w now (ask caller (cancel_my_jobs (Some numbers)))).world.free caller ≡ Some (free +ℤ pos pages)

@@ -1,12 +1,12 @@
 -- What an operation on one job takes of its owner's free pages, and gives back.
-use Rattle.std.proofs.Common.{◌≡◌, ℕ, ℤ, pos, ◌+ℤ◌, ◌-ℤ◌, ◌+◌, ◌-◌, List, [], ◌∷◌, refl, ap, ◌∙◌, arith, Bool, true, false, cond}
-use Rattle.std.specs.Prelude.{Some, bytes_eq, option_map, ◌≤ℤ◌}
+use Rattle.std.proofs.Common.{◌≡◌, ℕ, ℤ, pos, ◌+ℤ◌, ◌-ℤ◌, ◌+◌, ◌-◌, List, [], ◌∷◌, map, refl, ap, ◌∙◌, arith, Bool, true, false, cond}
+use Rattle.std.specs.Prelude.{Some, bytes_eq, fold, option_map, ◌≤ℤ◌}
 use Rattle.std.specs.FinMap.{get}
 use Rattle.std.proofs.lemmas.Int.{ints}
-use Rattle.queue_types.specs.Event.{Call, ask, hold_job, release_job, cancel_job, send_document}
+use Rattle.queue_types.specs.Event.{Call, ask, hold_job, release_job, cancel_job}
 use Rattle.queue_types.specs.Job.{is_live_in, is_live, estimate, owed}
-use Rattle.queue_core.specs.World.{World, Entry, rows, cut, made_on, numbered}
-use Rattle.queue_core.specs.Machine.{Step, step, becomes, returned, sent, taken}
+use Rattle.queue_core.specs.World.{World, Entry, rows, cut, made_on, numbered, found_row, put_free}
+use Rattle.queue_core.specs.Machine.{Step, step, becomes, credited, returned, taken}
 use Rattle.queue_core.specs.Limits.{FitsPhase}
 use Rattle.queue_core.specs.Sound.{IsSound}
 use Rattle.queue_core.proofs.Own.{gives_back, moved_from}
@@ -48,18 +48,19 @@ none_printed j Waiting is fits = fits.0
 none_printed j _ is fits = absurd (cc)
 
 module _ (w : World) (now n : ℕ) (caller : List ℕ) (e : Entry) (free : ℤ) where
-  free_after : HasOwn caller n e w → get w.free caller ≡ Some free → (call : Call) → (cut w (ask caller call)).jobs ≡ numbered n (rows w) → (x : Job) → x.number ≡ e.row.number → x.owner ≡ e.row.owner → get (made_on (becomes (cut w (ask caller call)) x).change w).free caller ≡ Some (free +ℤ (pos (taken e.row) -ℤ pos (taken x)))
-  free_after own account call jobs x number owner =
+  free_after : HasOwn caller n e w → get w.free caller ≡ Some free → (call : Call) → (cut w (ask caller call)).jobs ≡ numbered n (rows w) → (cut w (ask caller call)).free ≡ found_row caller (get w.free caller) → (x : Job) → x.number ≡ e.row.number → x.owner ≡ e.row.owner → get (made_on (becomes (cut w (ask caller call)) x).change w).free caller ≡ Some (free +ℤ (pos (taken e.row) -ℤ pos (taken x)))
+  free_after own account call jobs looked_up x number owner =
       let s : Scene = cut w (ask caller call) in
       let at = named n (rows w) e.row (row_at n w.jobs e own.there) in
-      moved_from w.free caller caller s.jobs (x ∷ []) (get w.free caller) refl
+      ap (λ rows. get (fold put_free w.free (map (credited s.jobs (x ∷ [])) rows)) caller) looked_up
+      ∙ moved_from w.free caller caller s.jobs (x ∷ []) (get w.free caller) refl
       ∙ ap (λ t. cond t (option_map (λ f. f +ℤ returned s.jobs caller (x ∷ [])) (get w.free caller)) (get w.free caller)) (own_key caller caller refl)
       ∙ ap (option_map (λ f. f +ℤ returned s.jobs caller (x ∷ []))) account
       ∙ ap (λ z. Some (free +ℤ z)) (ap (λ js. returned js caller (x ∷ [])) (jobs ∙ at.is) ∙ gives_back e.row x at.rest caller number ∙ ap (λ b. cond b (pos (taken e.row) -ℤ pos (taken x)) (pos 0)) (ap (λ a. bytes_eq a caller) owner ∙ own.owned))
 
   pub held_free : HasOwn caller n e w → Waits e.row → MovesFree w caller free (free +ℤ pos (owed e.row)) (step w now (ask caller (hold_job n)))
   held_free own low account = ap (λ (s : Step). get s.world.free caller) (hold_step w now n caller e own low)
-      ∙ free_after own account (hold_job n) refl (record e.row { hold = true }) refl refl
+      ∙ free_after own account (hold_job n) refl refl (record e.row { hold = true }) refl refl
       ∙ ap (λ k. Some (free +ℤ (pos (taken e.row) -ℤ pos (k + e.row.count)))) (nothing_owed (is_live e.row))
       ∙ ap Some (all_back (owed e.row) e.row.count free)
 
@@ -68,20 +69,18 @@ module _ (w : World) (now n : ℕ) (caller : List ℕ) (e : Entry) (free : ℤ) 
       let here = sound_entry n w.jobs e sound.entries is.own.there in
       let waits = is_waiting e.row is.waits in
       ap (λ (s : Step). get s.world.free caller) (enough_step w now n caller e free is account enough)
-      ∙ free_after is.own account (release_job n) refl (record e.row { hold = false }) refl refl
+      ∙ free_after is.own account (release_job n) refl refl (record e.row { hold = false }) refl refl
       ∙ ap Some (pays e.row.phase e.row.hold e.row.count (estimate e.row) free waits is.held (none_printed e.row e.row.phase waits here.row.phase))
 
   pub canceled_free : HasOwn caller n e w → Waits e.row → MovesFree w caller free (free +ℤ pos (owed e.row)) (step w now (ask caller (cancel_job n)))
   canceled_free own low account = ap (λ (s : Step). get s.world.free caller) (cancel_step w now n caller e own low)
-      ∙ free_after own account (cancel_job n) refl (canceled_by_user now e.row) refl refl
+      ∙ free_after own account (cancel_job n) refl refl (canceled_by_user now e.row) refl refl
       ∙ ap Some (all_back (owed e.row) e.row.count free)
 
   pub stopped_free : HasOwn caller n e w → IsAtDevice e.row → e.row.stopping ≡ false → MovesFree w caller free free (step w now (ask caller (cancel_job n)))
   stopped_free own at mark account = ap (λ (s : Step). get s.world.free caller) (begun_step w now n caller e own at false mark)
-      ∙ free_after own account (cancel_job n) refl (record e.row { stopping = true }) refl refl
+      ∙ free_after own account (cancel_job n) refl refl (record e.row { stopping = true }) refl refl
       ∙ ap Some (none_back (taken e.row) free)
 
   pub sent_free : (d : Document) (last : Bool) → HasOwn caller n e w → IsSound w → IsOpenFor e d → MovesFree w caller free free (step w now (sends caller n d last))
-  sent_free d last own sound can account = ap (λ (s : Step). get s.world.free caller) (taken_step w now n caller e d last own sound can)
-      ∙ free_after own account (send_document n d.format d.bytes last) refl (sent e.row d.bytes last) refl refl
-      ∙ ap Some (none_back (taken e.row) free)
+  sent_free d last own sound can account = ap (λ (s : Step). get s.world.free caller) (taken_step w now n caller e d last own sound can) ∙ account

@@ -7,7 +7,7 @@ use Rattle.std.proofs.lemmas.Bool.{ne_eqb}
 use Rattle.queue_types.specs.Settings.{SettingValues}
 use Rattle.queue_types.specs.Job.{is_live}
 use Rattle.queue_types.specs.Event.{Call, Decision, Event, ask, print_job, validate_job, create_job, send_document, cancel_job, cancel_my_jobs, hold_job, release_job, get_job_attributes, get_jobs, get_printer_attributes}
-use Rattle.queue_core.specs.World.{World, Entry, cut, found_row, jobs_for, live_for, live_jobs, counts_for, is_one_of}
+use Rattle.queue_core.specs.World.{World, Entry, cut, free_for, jobs_for, live_for, live_jobs, counts_for, next_for, is_one_of}
 use Rattle.queue_core.specs.Visible.{is_among, in_order, within_limit}
 use Rattle.queue_core.specs.Machine.{decision, refused, answered, of_own, cancel_row, send_in, hold_in, release_in}
 use Rattle.queue_core.specs.Sound.{IsSound, Rise}
@@ -23,12 +23,12 @@ abbrev pub seen : SettingValues → Own → List ℕ → Call → Scene
 seen s o caller call = record {
   settings = s;
   jobs = jobs_for caller call (rows_of o.jobs);
-  free = found_row caller o.free;
+  free = free_for caller call o.free;
   live = live_for caller call (rows_of o.jobs);
   counts = counts_for call [];
   report = None;
   known = [];
-  next = o.next;
+  next = next_for call o.next;
 }
 
 -- ---- tests that only jobs of the caller's pass
@@ -143,7 +143,7 @@ module _ (u : List ℕ) (w : World) (now : ℕ) (call : Call) (sound : IsSound w
 
   of_scene : here.jobs ≡ mine.jobs → here.live ≡ mine.live → here.counts ≡ mine.counts → IsDecided
   of_scene jobs live counts =
-      let one : here ≡ mine = λ i. record { settings = w.settings; jobs = jobs i; free = found_row u (get w.free u); live = live i; counts = counts i; report = None; known = []; next = w.next } in
+      let one : here ≡ mine = λ i. record { settings = w.settings; jobs = jobs i; free = free_for u call (get w.free u); live = live i; counts = counts i; report = None; known = []; next = next_for call w.next } in
       same (ap (λ (s : Scene). decision s now e) one)
 
   of_number : (n : ℕ) (row : Scene → Job → Decision) → here.jobs ≡ named n w.jobs → mine.jobs ≡ named n (own_jobs u w.jobs) → here.live ≡ mine.live → here.counts ≡ mine.counts → ((s : Scene) → decision s now e ≡ of_own u (row s) s.jobs) → IsDecided

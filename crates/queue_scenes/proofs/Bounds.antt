@@ -1,15 +1,17 @@
 -- What is read of a sound queue is within its bounds.
-use Rattle.std.proofs.Common.{◌≡◌, inl, inr, ℕ, ℤ, pos, ◌+ℤ◌, ◌+◌, Option, None, Some, option_map, IsSomeAnd, ◌<◌, ◌≤◌, ◌^◌, ◌==◌, List, [], ◌∷◌, IfSome, length, sym, subst, arith}
+use Rattle.std.proofs.Common.{◌≡◌, All, inl, inr, ℕ, ℤ, pos, ◌+ℤ◌, ◌+◌, Option, None, Some, option_map, IsSomeAnd, ◌<◌, ◌≤◌, ◌^◌, ◌==◌, List, [], ◌∷◌, IfSome, length, sym, subst, arith}
 use Rattle.std.specs.FinMap.{get}
 use Rattle.std.specs.List.{AllByRecursion as Each}
 use Rattle.std.proofs.lemmas.Bool.{cases_Bool, eqb-true}
 use Rattle.std.proofs.lemmas.List.{length-map}
+use Rattle.queue_types.specs.Settings.{AreSettings, SettingValues}
 use Rattle.queue_types.specs.Event.{Call, ask, get_printer_attributes, grant}
+use Rattle.queue_types.specs.declared.event.FreeRow.{FreeRow}
 use Rattle.queue_types.specs.declared.event.GrantRow.{GrantRow}
 use Rattle.queue_types.specs.declared.job.Job.{Job}
-use Rattle.queue_core.specs.Limits.{IsAmount, IsGrant, IsKnown}
+use Rattle.queue_core.specs.Limits.{IsAmount, IsFair, IsGrant, IsKnown, IsSoundJob}
 use Rattle.queue_core.specs.Sound.{IsKept, IsSound, Rise, printed, reserved}
-use Rattle.queue_core.specs.World.{Entry, World, granted, jobs_for, known_grant, numbered, queue_counts, rows}
+use Rattle.queue_core.specs.World.{Entry, World, granted, jobs_for, jobs_scene, known_grant, numbered, queue_counts, rows}
 use Rattle.queue_core.proofs.Fair.{fair_of}
 use Rattle.queue_tables.specs.Accounts.{pages_of}
 use Rattle.queue_tables.specs.declared.account_pages.AccountPages.{AccountPages}
@@ -83,3 +85,18 @@ pub report_fits : (w : World) (job seq : ℕ) (k : KeptReport) → IsSound w →
 report_fits w job seq k sound there =
     let it : IsKept w job seq k = subst (λ o. IfSome o (IsKept w job seq)) there (sound.reports job seq) in
     record { count = omega (arith, it.count); total = it.total }
+
+-- ---- a scene
+
+-- one of jobs and accounts alone, which are within their limits
+pub jobs_scene_fair : (settings : SettingValues) (jobs : List Job) (free : List FreeRow) → AreSettings settings → All IsSoundJob jobs → length jobs < 2 ^ 31 → All (λ (a : FreeRow). IsAmount a.free) free → IsFair (jobs_scene settings jobs free)
+jobs_scene_fair settings jobs free limits sound few within = record {
+  settings = limits;
+  jobs = sound;
+  few = few;
+  free = within;
+  next = omega arith;
+  queued = omega arith;
+  report = tt;
+  known = λ k d low. absurd (omega (arith, low));
+}

@@ -13,5 +13,4 @@ pub mod Live
 pub mod Known
 pub mod Told
 pub mod Picked
-pub mod Cut
 pub mod Bounds

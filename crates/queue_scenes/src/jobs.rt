@@ -1,5 +1,5 @@
 //! Jobs as they are read, each with the sizes of its documents.
-ghost use Rattle.std.specs.Prelude.{◌≡◌, ◌≢◌, List, Some, All, map, IfOk, OnOk, IsTrue, IfErr};
+ghost use Rattle.std.specs.Prelude.{◌≡◌, ◌≢◌, ◌≤◌, List, Some, All, length, map, IfOk, OnOk, IsTrue, IfErr};
 ghost use Rattle.sqlite.specs.Held.{state};
 ghost use Rattle.sqlite.specs.State.{HasCleanDisk};
 ghost use Rattle.sqlite.specs.Values.{bound};
@@ -91,4 +91,22 @@ pub(crate) fn with_number<S: Alter>(
         with_job_columns!("SELECT ", " FROM jobs WHERE number = ?1"),
         params![number],
     )
+}
+
+/// The job of that number, or none. It is damaged where two have the number.
+pub(crate) fn only_job<S: Alter>(
+    alloc: Global,
+    conn: &mut Connection<S>,
+    number: u32,
+) -> Result<Vec<Job>, Fault>
+    ensures reads { ReadsQueue (state S.Store conn.old) (state S.Store conn.new) result (λ w v. v.items ≡ numbered number (rows w)) }
+    ensures live { HasCleanDisk (state S.Store conn.new) → OnOk result (IsTrue (state S.Store conn.new).is_open) }
+    ensures sound { IfOk result (λ v. All IsSoundJob v.items) }
+    ensures few { IfOk result (λ v. length v.items ≤ 1) }
+{
+    let jobs = with_number(alloc, conn, number)?;
+    if jobs.len() > 1 {
+        return Err(Fault::Damaged);
+    }
+    Ok(jobs)
 }

@@ -2,6 +2,7 @@
 #![tactic(auto)]
 
 mod accounts;
+mod call_scene;
 mod counts;
 mod event_scene;
 mod grants;

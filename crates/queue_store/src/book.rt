@@ -17,6 +17,7 @@ use queue_core::{BookFault, empty_is_sound};
 use queue_rows::rows::{MetaRow, SCHEMA};
 use queue_tables::TABLES;
 use queue_tables::fault::Fault;
+use queue_types::limits::FIRST_JOB_NUMBER;
 use queue_types::settings::Settings;
 use queue_types::text::Text;
 use sqlite::{Alter, Connection, MemStore};
@@ -70,7 +71,7 @@ fn first_row(alloc: Global, settings: &Settings) -> Result<MetaRow, AllocError>
         name,
         estimate: settings.estimate(),
         epoch: settings.epoch(),
-        next_number: 1,
+        next_number: FIRST_JOB_NUMBER,
     })
 }
 

@@ -312,11 +312,14 @@ pub struct QueueCounts {
 
 /// The rows that an event needs: the jobs that it speaks of, the free pages of the account of the caller, or of
 /// the job's owner, how many live jobs its caller has, the counts of the queue, the report that is kept under the
-/// same sequence number, what is known of the rows of an account file, and the next job number.
+/// same sequence number, what is known of the rows of an account file, and the next job number. What an event doesn't
+/// need is as in a queue without jobs and accounts.
 #[derive(Drop)]
 pub struct Scene {
     pub settings: Settings,
     pub jobs: JobList,
+    /// The owner's for a report, and the caller's for Cancel-Job, Cancel-My-Jobs, Hold-Job and Release-Job, by which pages
+    /// may be set aside or come back; and else empty.
     pub free: FreeList,
     /// Counted for Print-Job, Validate-Job and Create-Job, and else 0.
     pub live: usize,
@@ -325,6 +328,7 @@ pub struct Scene {
     pub report: Option<KeptReport>,
     /// Row by row.
     pub known: KnownList,
-    /// The number of the next new job, 1 to 2,147,483,648.
+    /// The number of the next new job, 1 to 2,147,483,648, looked up for Print-Job, Validate-Job, Create-Job,
+    /// Get-Printer-Attributes and an account file, and else 1.
     pub next: u32,
 }

@@ -1,5 +1,8 @@
 //! The limits of a queue.
 
+/// The first number that a job may get.
+pub const FIRST_JOB_NUMBER: u32 = 1;
+
 /// The last number that a job may get: job-id is an integer from 1 to the greatest one (RFC 8011, section 5.3.2).
 pub const LAST_JOB_NUMBER: u32 = 2_147_483_647;
 

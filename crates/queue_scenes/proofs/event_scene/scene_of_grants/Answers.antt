@@ -1,8 +1,6 @@
-use Rattle.std.proofs.Common.{refl, sym, subst, ◌∙◌, arith}
-use Rattle.queue_types.specs.Event.{grant}
+use Rattle.std.proofs.Common.{[], sym, subst, ◌∙◌, arith}
 use Rattle.queue_core.specs.Limits.{IsFair}
-use Rattle.queue_core.specs.World.{cut}
-use Rattle.queue_scenes.proofs.Cut.{same_scene}
+use Rattle.queue_core.specs.World.{jobs_scene}
 use Rattle.queue_tables.proofs.Telling.{fails_behind, tells, told, told_then, told_while}
 use Rattle.queue_scenes.proofs.event_scene.scene_of_grants.Goals as goal
 
@@ -26,4 +24,4 @@ returns-in_err-known-clause-reads g c = fails_behind c.next_number.ensures.reads
 
 pub returns-clause-reads : goal.returns-clause-reads
 returns-clause-reads g c = tells (told_then (told c.in_ok-next.ensures.reads c.in_ok-next.ensures.live) (told_while c.in_ok-known.ensures.reads c.in_ok-known.ensures.live)) (λ w sound is settings_are.
-    c.in_ok-scene.ensures.scene ∙ same_scene _ (cut w (grant c.args.rows.now)) settings_are refl refl refl refl refl is.1 is.0)
+    c.in_ok-scene.ensures.scene ∙ (λ i. record (jobs_scene (settings_are i) [] []) { known = is.1 i; next = is.0 i }))

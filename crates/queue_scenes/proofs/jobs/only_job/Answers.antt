@@ -2,7 +2,7 @@ use Rattle.std.proofs.Common.{length, ap, refl, arith}
 use Rattle.queue_types.specs.declared.job.Job.{Job}
 use Rattle.queue_scenes.proofs.Bounds.{number_is_one}
 use Rattle.queue_tables.proofs.Telling.{refuses, told}
-use Rattle.queue_scenes.proofs.event_scene.job_of_report.Goals as goal
+use Rattle.queue_scenes.proofs.jobs.only_job.Goals as goal
 
 pub returns-then-len-gt1-clause-reads : goal.returns-then-len-gt1-clause-reads
 returns-then-len-gt1-clause-reads g c =
