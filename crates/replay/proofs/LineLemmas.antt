@@ -1,14 +1,16 @@
 -- How a line grows by the pieces that come, and what an input loses by it.
-use Rattle.std.proofs.Common.{◌≡◌, ℕ, ◌+◌, ◌-◌, ◌≤◌, ◌==◌, min, Bool, true, false, not, ◌||◌, List, [], ◌∷◌, ◌++◌, length, take, drop, slice_range, Option, Some, None, sym, ap, subst, refl, ◌∙◌, append_assoc, append-nil, arith, inl, inr, length-take, length-append}
+use Rattle.std.proofs.Common.{◌≡◌, ℕ, suc, ◌+◌, ◌-◌, ◌≤◌, ◌<◌, get_or, IsTrue, IfNone, IfSome, ◌==◌, min, Bool, true, false, not, ◌||◌, List, [], ◌∷◌, ◌++◌, length, take, drop, slice_range, Option, Some, None, sym, ap, subst, refl, ◌∙◌, append_assoc, append-nil, arith, inl, inr, length-take, length-append}
 use Rattle.std.specs.Prelude.{nat_lt}
 use Rattle.std.specs.Bool.{MatchBool}
 use Rattle.std.specs.Io.KnownBytes.{Consumes, IsAtEnd, prepend_known}
 use Rattle.std.proofs.KnownBytes.{Consumes-trans}
-use Rattle.std.proofs.Math.Seq.{take-append-add}
+use Rattle.std.proofs.Math.Seq.{split_at, take-append-add}
 use Rattle.std.proofs.lemmas.Bool.{cases_lt, eqb-false, eqb-true}
 use Rattle.std.proofs.lemmas.Bool.Decides.{nat_tests}
-use Rattle.std.proofs.lemmas.List.{drop-take, take-append-le, take_all, take_min}
+use Rattle.std.proofs.lemmas.Grind.{get_or_default_zero}
+use Rattle.std.proofs.lemmas.List.{drop-take, get_or-take, take-append-le, take_all, take_min}
 use Rattle.std.proofs.lemmas.List.Elements.{All-append}
+use Rattle.memchr.specs.Find.{IsFirstByte, NoneBefore, Nowhere, Passes, is_byte}
 use Rattle.replay.specs.Line.{GivesLine, IsFrontOf, IsOneLine}
 use Rattle.replay.specs.Unread.{Unread, left}
 use Rattle.replay.specs.declared.lines.Line.{Line}
@@ -119,3 +121,38 @@ input_ended old new line bytes one taken end front false is =
 pub left_all : (unread : Unread) (remaining : Option (List ℕ)) → unread.come ≡ [] → left unread remaining ≡ remaining
 left_all unread None is = refl
 left_all unread (Some rest) is = rw is refl
+
+-- ---- where a line feed stands
+
+no_feed_there : (b : Bool) → (b ≡ true → ⊥) → IsTrue (not b)
+no_feed_there true never = absurd (never refl)
+no_feed_there false never = refl
+
+no_feed : (come : List ℕ) → Nowhere (Passes (is_byte 10) come) 0 (length come) → IsOneLine come
+no_feed come none i d low = subst (λ x. IsTrue (not (x == 10))) (sym (get_or_default_zero come i d low)) (no_feed_there (get_or come i 0 == 10) (none i (omega arith) low))
+
+no_feed_before : (come : List ℕ) (place : ℕ) → NoneBefore (Passes (is_byte 10) come) 0 (length come) place → IsOneLine (take place come)
+no_feed_before come place first i d low =
+    let len = length-take place come in
+    let end = first.high in
+    let before : i < place = omega (arith, low, len) in
+    let within : i < length come = omega (arith, before, end) in
+    subst (λ x. IsTrue (not (x == 10))) (sym (get_or-take place come i d before ∙ get_or_default_zero come i d within)) (no_feed_there (get_or come i 0 == 10) (first.before i (omega arith) before))
+
+feed_at : (come : List ℕ) (place : ℕ) → place < length come → Passes (is_byte 10) come place → come ≡ take place come ++ 10 ∷ drop (place + 1) come
+feed_at come place low is =
+    let feed = eqb-true (get_or come place 0) 10 is in
+    let behind : suc place ≡ place + 1 = omega arith in
+    split_at come place 0 low ∙ (λ i. take place come ++ feed i ∷ drop (behind i) come)
+
+pub none_found : (come : List ℕ) (found : Option ℕ) → IsFirstByte (is_byte 10) come found → IfNone found (IsOneLine come)
+none_found come None none = no_feed come none
+none_found come (Some place) is = tt
+
+pub front_found : (come : List ℕ) (found : Option ℕ) → IsFirstByte (is_byte 10) come found → IfSome found (λ place. IsOneLine (take place come))
+front_found come None none = tt
+front_found come (Some place) is = no_feed_before come place is.0
+
+pub feed_found : (come : List ℕ) (found : Option ℕ) → IsFirstByte (is_byte 10) come found → IfSome found (λ place. (place < length come) × (come ≡ take place come ++ 10 ∷ drop (place + 1) come))
+feed_found come None none = tt
+feed_found come (Some place) is = (is.0.high, feed_at come place is.0.high is.1)

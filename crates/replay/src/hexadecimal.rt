@@ -1,6 +1,6 @@
 //! Messages as hexadecimal text, as the lines of a replay have them.
 
-ghost use Rattle.std.specs.Prelude.{◌≡◌, ◌<◌, ◌≤◌, ◌↔◌, length, vec_len, is_ok, IfOk, IsErr, IsOkAnd, IsErrOf, OnOk};
+ghost use Rattle.std.specs.Prelude.{◌≡◌, ◌<◌, ◌≤◌, ◌↔◌, length, vec_len, is_ok, IfOk, IsErr, IsOkAnd, IsErrOf, OnOk, if◌then◌else◌};
 ghost use Rattle.std.specs.List.{list_all};
 ghost use Rattle.std.specs.Char.{is_ascii_hexdigit};
 ghost use Rattle.std.specs.Io.KnownBytes.{Appends};
@@ -31,9 +31,8 @@ pub enum HexFault {
     Memory = 3,
 }
 
-/// The bytes that a text of hexadecimal digits stands for, two digits a byte, in either case. Only
-/// a text that is of the form and within the limit is given memory, and only there can it be
-/// wanting.
+/// The bytes that a text of hexadecimal digits stands for, two digits a byte, in either case. Only a text within the
+/// limit is given memory. The form is told before all else, and memory last.
 pub fn read_hex(alloc: Global, text: &[u8]) -> Result<Vec<u8>, HexFault>
     ensures value { IfOk result (λ bytes. decode_of text.now ≡ Ok bytes.items) }
     ensures fits { IfOk result (λ bytes. vec_len bytes ≤ 16777216) }
@@ -41,13 +40,22 @@ pub fn read_hex(alloc: Global, text: &[u8]) -> Result<Vec<u8>, HexFault>
     ensures long { IsErrOf result HexFault.TooLong
         ↔ IsOkAnd (decode_of text.now) (λ bytes. 16777216 < length bytes) }
 {
-    if !is_hexadecimal(text) {
-        return Err(HexFault::NotOfTheForm);
-    }
     if text.len() / 2 > MOST_MESSAGE_BYTES {
-        return Err(HexFault::TooLong);
+        return Err(refusal_of(text, HexFault::TooLong));
     }
-    hex::decode(alloc, text).map_err(|_| HexFault::Memory)
+    hex::decode(alloc, text).map_err(|_| refusal_of(text, HexFault::Memory))
+}
+
+/// Why a text is refused: for its form, or else for that.
+fn refusal_of(text: &[u8], other: HexFault) -> HexFault
+    ensures { result ≡ (if is_ok (decode_of text.now) then other else HexFault.NotOfTheForm) }
+{
+    // a text is gone over once more only where it is refused
+    if is_hexadecimal(text) {
+        other
+    } else {
+        HexFault::NotOfTheForm
+    }
 }
 
 /// Whether a text is an even number of hexadecimal digits.

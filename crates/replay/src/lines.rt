@@ -9,6 +9,7 @@ ghost use Rattle.replay.specs.Unread.{left};
 
 use crate::fault::Fault;
 use crate::hexadecimal::MOST_MESSAGE_BYTES;
+use memchr::memchr;
 use std::alloc::{AllocError, Global};
 use std::io;
 use std::io::{ErrorKind, Read, Write};
@@ -189,5 +190,5 @@ fn feed_place(come: &[u8]) -> Option<usize>
     ensures feed { IfSome result (λ place. (place < length come.now)
         × (come.now ≡ take place come.now ++ 10 ∷ drop (place + 1) come.now)) }
 {
-    come.iter().position(|byte| *byte == b'\n')
+    memchr(b'\n', come)
 }

@@ -1,6 +1,7 @@
 //! What the queue with a job in each phase shows at moment 100.
 
 use crate::desk::Desk;
+use crate::desk::fault::StepFault;
 use crate::desk::request::JobsWanted::{Ended, Live};
 use crate::desk::request::Request::{LookAtAll, Printer};
 use crate::desk::step::Step;
@@ -8,6 +9,7 @@ use crate::desk::step::Step::{
     Ask, Document, Fetch, Jobs, NoSheet, Queue, Reply, Sheet, Statement,
 };
 use crate::stores::queue::long_document;
+use queue_core::QueueBook;
 use queue_store::TableBook;
 use sqlite::Alter;
 use std::alloc::Global;
@@ -111,15 +113,25 @@ static LOOKS: &[Step<'static>] = &[
     NoSheet("carol"),
 ];
 
+/// The device fetches the long document of job 7.
+fn fetch_long<B: QueueBook>(desk: &mut Desk, book: &mut B) -> Result<(), StepFault> {
+    let document = long_document(desk.alloc(), 131_073)?;
+    desk.take(book, Fetch(7, 2, document.as_slice()))
+}
+
+/// A desk is shown all of the queue.
+fn show_all<B: QueueBook>(desk: &mut Desk, book: &mut B) -> Result<(), StepFault> {
+    desk.take_each(book, REPLIES)?;
+    desk.take_each(book, LOOKS)?;
+    fetch_long(desk, book)
+}
+
 /// A book shows all of the queue at moment 100.
 pub(super) fn shows_the_queue<S: Alter>(
     alloc: Global,
     book: &mut TableBook<S>,
 ) -> Result<(), Fail> {
     let mut desk = Desk::of(alloc, book.settings()?, 100);
-    desk.take_each(book, REPLIES)?;
-    desk.take_each(book, LOOKS)?;
-    let document = long_document(alloc, 131_073)?;
-    desk.take(book, Fetch(7, 2, document.as_slice()))?;
+    show_all(&mut desk, book)?;
     Ok(())
 }

@@ -120,8 +120,8 @@ fn fetch_large<B: DeskBook>(queue: &mut Queue<B>, answers: &[u8]) {
     queue.exchange(&whole, by(4096));
 }
 
-/// A document of 131,073 bytes is printed, released and fetched.
-fn take_large<B: DeskBook>(alloc: Global, document: &[u8], answers: &[u8]) -> Result<(), Mismatch> {
+/// A document of 131,073 bytes is printed and released.
+fn print_large<B: DeskBook>(queue: &mut Queue<B>, document: &[u8]) {
     let prints = Connection {
         stream: &[
             b"POST /ipp/print HTTP/1.1\r\nContent-Type: application/ipp\r\nContent-Length: 131216\r\n\r\n",
@@ -134,8 +134,13 @@ fn take_large<B: DeskBook>(alloc: Global, document: &[u8], answers: &[u8]) -> Re
         end: End::Closed,
         wanted: &[PRINTED, RELEASED],
     };
-    let mut queue = Queue::<B>::granted(alloc)?;
     queue.take(&prints, by(4096));
+}
+
+/// It is printed, released and fetched.
+fn take_large<B: DeskBook>(alloc: Global, document: &[u8], answers: &[u8]) -> Result<(), Mismatch> {
+    let mut queue = Queue::<B>::granted(alloc)?;
+    print_large(&mut queue, document);
     fetch_large(&mut queue, answers);
     queue.end()
 }

@@ -217,6 +217,21 @@ fn pass_over<B: DeskBook>(
         .map_err(|why| failed_at(day.name, day.wanted.len(), why))
 }
 
+/// It passes over such a book of the printer.
+fn pass_at<B: DeskBook>(
+    alloc: Global,
+    book: &mut B,
+    arrivals: &[Arrival<'_>],
+    day: &Day,
+    answers: &[u8],
+) -> Result<(), Fail>
+    requires { All (λ a. IsMoment a.moment) arrivals.now }
+{
+    let settings = settings(alloc)?;
+    pass_over(alloc, book, &settings, arrivals, day, answers)?;
+    Ok(())
+}
+
 /// It passes over a new one.
 fn pass<B: DeskBook>(
     alloc: Global,
@@ -226,10 +241,8 @@ fn pass<B: DeskBook>(
 ) -> Result<(), Fail>
     requires { All (λ a. IsMoment a.moment) arrivals.now }
 {
-    let settings = settings(alloc)?;
     let mut book = new_book::<B>(alloc)?;
-    pass_over(alloc, &mut book, &settings, arrivals, day, answers)?;
-    Ok(())
+    pass_at(alloc, &mut book, arrivals, day, answers)
 }
 
 /// It passes over each book.

@@ -166,15 +166,20 @@ static ROWS: [Row; 9] = [
     },
 ];
 
-/// A row comes to such a book.
+/// Such a book, in which alice has printed a job and released it.
+fn released<B: DeskBook>(alloc: Global) -> Result<B, Mismatch> {
+    let mut queue = Queue::<B>::granted(alloc)?;
+    queue.take_each(&[PRINT, RELEASE], AT_ONCE);
+    queue.into_book()
+}
+
+/// A row comes to it.
 fn take_in<B: DeskBook>(
     alloc: Global,
     failure: Failure,
     exchange: &Exchange<'_>,
 ) -> Result<(), Mismatch> {
-    let mut queue = Queue::<B>::granted(alloc)?;
-    queue.take_each(&[PRINT, RELEASE], AT_ONCE);
-    let inner = queue.into_book()?;
+    let inner = released::<B>(alloc)?;
     let mut faulty = Queue::over(alloc, FaultyBook { inner, failure }, B::subject())?;
     faulty.exchange(exchange, AT_ONCE);
     faulty.end()

@@ -203,6 +203,17 @@ static ENDLESS: [Endless; 3] = [
     },
 ];
 
+/// It comes in this way to such a book, whose queue stays empty.
+fn refuse_in<B: DeskBook>(
+    alloc: Global,
+    exchange: &Exchange<'_>,
+    way: Way,
+) -> Result<(), Mismatch> {
+    let mut queue = Queue::<B>::new(alloc)?;
+    queue.exchange(exchange, way);
+    queue.end()
+}
+
 /// It is refused so over such a book, at each of these speeds.
 fn refuse_endless<B: DeskBook>(
     alloc: Global,
@@ -217,15 +228,11 @@ fn refuse_endless<B: DeskBook>(
         past: row.past,
     };
     for most in speeds {
-        let mut queue = Queue::<B>::new(alloc)?;
-        queue.exchange(
-            &exchange,
-            Way {
-                behind: Behind::Endless(b'a'),
-                ..by(*most)
-            },
-        );
-        queue.end()?;
+        let way = Way {
+            behind: Behind::Endless(b'a'),
+            ..by(*most)
+        };
+        refuse_in::<B>(alloc, &exchange, way)?;
     }
     Ok(())
 }
