@@ -203,7 +203,7 @@ static NEW: [Row; 7] = [
     ),
 ];
 
-static OTHER: [Row; 7] = [
+static OTHER: [Row; 3] = [
     // no store is made over a file with other bytes, which stays as it was
     (
         "bytes of another file",
@@ -269,6 +269,9 @@ static OTHER: [Row; 7] = [
             Keeps(LOG, INIT, DAMAGED),
         ],
     ),
+];
+
+static LOGS: [Row; 4] = [
     // another program's database is no store, and none is made in it: it stays as it was
     (
         "a database of another program",
@@ -396,6 +399,11 @@ fn stores_that_are_made(rt: HostRuntime) -> Result<(), Fail> {
 #[test]
 fn files_that_are_no_store(rt: HostRuntime) -> Result<(), Fail> {
     take_rows(&rt, "other", &OTHER)
+}
+
+#[test]
+fn databases_and_logs_that_are_no_store(rt: HostRuntime) -> Result<(), Fail> {
+    take_rows(&rt, "logs", &LOGS)
 }
 
 #[test]
