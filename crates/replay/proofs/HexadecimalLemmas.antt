@@ -64,7 +64,7 @@ too_long text is_hexadecimal over =
     let len = length-decoded text bytes.0 bytes.1 in
     at_bytes _ bytes.0 _ bytes.1 (omega (arith, len))
 
-ok_and : {V E : Type 0} (r : Result V E) (P : V → Type 0) → IsOkAnd r P → (v : V) × (r ≡ Ok v) × P v
+pub ok_and : {V E : Type 0} (r : Result V E) (P : V → Type 0) → IsOkAnd r P → (v : V) × (r ≡ Ok v) × P v
 ok_and (Ok v) P h = (v, refl, h)
 ok_and (Err e) P h = absurd h
 

@@ -1,11 +1,11 @@
--- How a line grows by the pieces that come, and what an input loses by it.
+-- How a line grows by the pieces that come, what an input loses by it, and where the first line feed stands.
 use Rattle.std.proofs.Common.{◌≡◌, ℕ, suc, ◌+◌, ◌-◌, ◌≤◌, ◌<◌, get_or, IsTrue, IfNone, IfSome, ◌==◌, min, Bool, true, false, not, ◌||◌, List, [], ◌∷◌, ◌++◌, length, take, drop, slice_range, Option, Some, None, sym, ap, subst, refl, ◌∙◌, append_assoc, append-nil, arith, inl, inr, length-take, length-append}
 use Rattle.std.specs.Prelude.{nat_lt}
 use Rattle.std.specs.Bool.{MatchBool}
 use Rattle.std.specs.Io.KnownBytes.{Consumes, IsAtEnd, prepend_known}
 use Rattle.std.proofs.KnownBytes.{Consumes-trans}
 use Rattle.std.proofs.Math.Seq.{split_at, take-append-add}
-use Rattle.std.proofs.lemmas.Bool.{cases_lt, eqb-false, eqb-true}
+use Rattle.std.proofs.lemmas.Bool.{cases_lt, eqb-false, eqb-true, false_from_ne_true}
 use Rattle.std.proofs.lemmas.Bool.Decides.{nat_tests}
 use Rattle.std.proofs.lemmas.Grind.{get_or_default_zero}
 use Rattle.std.proofs.lemmas.List.{drop-take, get_or-take, take-append-le, take_all, take_min}
@@ -122,11 +122,10 @@ pub left_all : (unread : Unread) (remaining : Option (List ℕ)) → unread.come
 left_all unread None is = refl
 left_all unread (Some rest) is = rw is refl
 
--- ---- where a line feed stands
+-- ---- where the first line feed stands
 
 no_feed_there : (b : Bool) → (b ≡ true → ⊥) → IsTrue (not b)
-no_feed_there true never = absurd (never refl)
-no_feed_there false never = refl
+no_feed_there b never = ap not (false_from_ne_true b never)
 
 no_feed : (come : List ℕ) → Nowhere (Passes (is_byte 10) come) 0 (length come) → IsOneLine come
 no_feed come none i d low = subst (λ x. IsTrue (not (x == 10))) (sym (get_or_default_zero come i d low)) (no_feed_there (get_or come i 0 == 10) (none i (omega arith) low))

@@ -31,8 +31,9 @@ pub enum HexFault {
     Memory = 3,
 }
 
-/// The bytes that a text of hexadecimal digits stands for, two digits a byte, in either case. Only a text within the
-/// limit is given memory. The form is told before all else, and memory last.
+/// The bytes that a text of hexadecimal digits stands for, two digits a byte, in either case. A text of another form is
+/// refused for that, whatever its length; one of the form for more than [`MOST_MESSAGE_BYTES`] bytes; and last for want of
+/// memory, which is taken only for a text that is short enough.
 pub fn read_hex(alloc: Global, text: &[u8]) -> Result<Vec<u8>, HexFault>
     ensures value { IfOk result (λ bytes. decode_of text.now ≡ Ok bytes.items) }
     ensures fits { IfOk result (λ bytes. vec_len bytes ≤ 16777216) }
@@ -40,17 +41,17 @@ pub fn read_hex(alloc: Global, text: &[u8]) -> Result<Vec<u8>, HexFault>
     ensures long { IsErrOf result HexFault.TooLong
         ↔ IsOkAnd (decode_of text.now) (λ bytes. 16777216 < length bytes) }
 {
+    // the form is looked at only where a text is refused, so that one that is taken is gone over once
     if text.len() / 2 > MOST_MESSAGE_BYTES {
         return Err(refusal_of(text, HexFault::TooLong));
     }
     hex::decode(alloc, text).map_err(|_| refusal_of(text, HexFault::Memory))
 }
 
-/// Why a text is refused: for its form, or else for that.
+/// Why a text is refused: for its form if it isn't hexadecimal, else for the other reason.
 fn refusal_of(text: &[u8], other: HexFault) -> HexFault
     ensures { result ≡ (if is_ok (decode_of text.now) then other else HexFault.NotOfTheForm) }
 {
-    // a text is gone over once more only where it is refused
     if is_hexadecimal(text) {
         other
     } else {

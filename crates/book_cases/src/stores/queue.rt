@@ -72,6 +72,9 @@ static SECOND: &[Step<'static>] = &[
     Dev("6 2 stop 4", "ok 6 6 4"),
 ];
 
+/// How many bytes the long document of job 7 has.
+pub(super) const LONG: usize = 131_073;
+
 /// Bytes 0 to 255, again and again, so that whole pieces of a document are alike.
 pub(super) fn long_document(alloc: Global, length: usize) -> Result<Vec<u8>, AllocError> {
     (0..=255u8).cycle().take(length).collect(alloc)
@@ -79,7 +82,7 @@ pub(super) fn long_document(alloc: Global, length: usize) -> Result<Vec<u8>, All
 
 /// The long document is sent to job 7.
 fn send_long<B: QueueBook>(desk: &mut Desk, book: &mut B) -> Result<(), StepFault> {
-    let document = long_document(desk.alloc(), 131_073)?;
+    let document = long_document(desk.alloc(), LONG)?;
     let send = Send {
         job: 7,
         document: document.as_slice(),

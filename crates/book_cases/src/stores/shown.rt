@@ -8,7 +8,7 @@ use crate::desk::step::Step;
 use crate::desk::step::Step::{
     Ask, Document, Fetch, Jobs, NoSheet, Queue, Reply, Sheet, Statement,
 };
-use crate::stores::queue::long_document;
+use crate::stores::queue::{LONG, long_document};
 use queue_core::QueueBook;
 use queue_store::TableBook;
 use sqlite::Alter;
@@ -115,7 +115,7 @@ static LOOKS: &[Step<'static>] = &[
 
 /// The device fetches the long document of job 7.
 fn fetch_long<B: QueueBook>(desk: &mut Desk, book: &mut B) -> Result<(), StepFault> {
-    let document = long_document(desk.alloc(), 131_073)?;
+    let document = long_document(desk.alloc(), LONG)?;
     desk.take(book, Fetch(7, 2, document.as_slice()))
 }
 

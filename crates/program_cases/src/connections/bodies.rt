@@ -97,6 +97,23 @@ static ROOMS: [usize; 23] = [
     HEAD + 16 * PIECE,
 ];
 
+/// A document of 131,073 bytes is printed and released.
+fn print_large<B: DeskBook>(queue: &mut Queue<B>, document: &[u8]) {
+    let prints = Connection {
+        stream: &[
+            b"POST /ipp/print HTTP/1.1\r\nContent-Type: application/ipp\r\nContent-Length: 131216\r\n\r\n",
+            PRINT_JOB_BEGUN,
+            document,
+            POST_RELEASE,
+            RELEASE_JOB,
+        ],
+        acted: 2,
+        end: End::Closed,
+        wanted: &[PRINTED, RELEASED],
+    };
+    queue.take(&prints, by(4096));
+}
+
 /// The document is fetched by writers that fail, and by one that takes it whole.
 fn fetch_large<B: DeskBook>(queue: &mut Queue<B>, answers: &[u8]) {
     let whole = Exchange {
@@ -118,23 +135,6 @@ fn fetch_large<B: DeskBook>(queue: &mut Queue<B>, answers: &[u8]) {
         queue.exchange(&broken, way);
     }
     queue.exchange(&whole, by(4096));
-}
-
-/// A document of 131,073 bytes is printed and released.
-fn print_large<B: DeskBook>(queue: &mut Queue<B>, document: &[u8]) {
-    let prints = Connection {
-        stream: &[
-            b"POST /ipp/print HTTP/1.1\r\nContent-Type: application/ipp\r\nContent-Length: 131216\r\n\r\n",
-            PRINT_JOB_BEGUN,
-            document,
-            POST_RELEASE,
-            RELEASE_JOB,
-        ],
-        acted: 2,
-        end: End::Closed,
-        wanted: &[PRINTED, RELEASED],
-    };
-    queue.take(&prints, by(4096));
 }
 
 /// It is printed, released and fetched.

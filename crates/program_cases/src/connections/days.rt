@@ -217,8 +217,8 @@ fn pass_over<B: DeskBook>(
         .map_err(|why| failed_at(day.name, day.wanted.len(), why))
 }
 
-/// It passes over such a book of the printer.
-fn pass_at<B: DeskBook>(
+/// It passes over a book of the tests' printer, by the settings of that.
+fn pass_with_settings<B: DeskBook>(
     alloc: Global,
     book: &mut B,
     arrivals: &[Arrival<'_>],
@@ -242,7 +242,7 @@ fn pass<B: DeskBook>(
     requires { All (λ a. IsMoment a.moment) arrivals.now }
 {
     let mut book = new_book::<B>(alloc)?;
-    pass_at(alloc, &mut book, arrivals, day, answers)
+    pass_with_settings(alloc, &mut book, arrivals, day, answers)
 }
 
 /// It passes over each book.

@@ -166,14 +166,14 @@ static ROWS: [Row; 9] = [
     },
 ];
 
-/// Such a book, in which alice has printed a job and released it.
+/// A book in which job 1 of alice is released.
 fn released<B: DeskBook>(alloc: Global) -> Result<B, Mismatch> {
     let mut queue = Queue::<B>::granted(alloc)?;
     queue.take_each(&[PRINT, RELEASE], AT_ONCE);
     queue.into_book()
 }
 
-/// A row comes to it.
+/// A row comes to one that fails so from then on.
 fn take_in<B: DeskBook>(
     alloc: Global,
     failure: Failure,

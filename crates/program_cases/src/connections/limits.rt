@@ -203,18 +203,14 @@ static ENDLESS: [Endless; 3] = [
     },
 ];
 
-/// It comes in this way to such a book, whose queue stays empty.
-fn refuse_in<B: DeskBook>(
-    alloc: Global,
-    exchange: &Exchange<'_>,
-    way: Way,
-) -> Result<(), Mismatch> {
+/// Bytes come in this way to an empty queue in a book: this comes of it.
+fn come_in<B: DeskBook>(alloc: Global, exchange: &Exchange<'_>, way: Way) -> Result<(), Mismatch> {
     let mut queue = Queue::<B>::new(alloc)?;
     queue.exchange(exchange, way);
     queue.end()
 }
 
-/// It is refused so over such a book, at each of these speeds.
+/// A row is refused so over a book, at each of these speeds.
 fn refuse_endless<B: DeskBook>(
     alloc: Global,
     row: &Endless,
@@ -232,7 +228,7 @@ fn refuse_endless<B: DeskBook>(
             behind: Behind::Endless(b'a'),
             ..by(*most)
         };
-        refuse_in::<B>(alloc, &exchange, way)?;
+        come_in::<B>(alloc, &exchange, way)?;
     }
     Ok(())
 }
@@ -382,14 +378,7 @@ fn raw_body(
     in_chunks(alloc, CHUNKED, chunk.as_slice(), rest.as_slice())
 }
 
-/// One with this end comes to this.
-fn take_raw<B: DeskBook>(alloc: Global, exchange: &Exchange<'_>) -> Result<(), Mismatch> {
-    let mut queue = Queue::<B>::new(alloc)?;
-    queue.exchange(exchange, by(4096));
-    queue.end()
-}
-
-/// It does in lists.
+/// One with this end comes to this, over the queue in lists.
 fn take_raw_end(alloc: Global, row: &RawEnd) -> Result<(), Mismatch> {
     let stream = raw_body(alloc, row.rest)?;
     let answers = wanted_bytes(alloc, row.wanted)?;
@@ -399,7 +388,7 @@ fn take_raw_end(alloc: Global, row: &RawEnd) -> Result<(), Mismatch> {
         outcome: Ok(row.outcome),
         past: 1,
     };
-    take_raw::<ListBook>(alloc, &exchange)
+    come_in::<ListBook>(alloc, &exchange, by(4096))
 }
 
 /// Each row does. A test has three of them, as each takes seconds.

@@ -271,7 +271,7 @@ static OTHER: [Row; 3] = [
     ),
 ];
 
-static LOGS: [Row; 4] = [
+static DATABASES: [Row; 4] = [
     // another program's database is no store, and none is made in it: it stays as it was
     (
         "a database of another program",
@@ -402,8 +402,8 @@ fn files_that_are_no_store(rt: HostRuntime) -> Result<(), Fail> {
 }
 
 #[test]
-fn databases_and_logs_that_are_no_store(rt: HostRuntime) -> Result<(), Fail> {
-    take_rows(&rt, "logs", &LOGS)
+fn databases_that_are_no_store(rt: HostRuntime) -> Result<(), Fail> {
+    take_rows(&rt, "databases", &DATABASES)
 }
 
 #[test]

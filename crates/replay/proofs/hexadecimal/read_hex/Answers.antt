@@ -4,20 +4,16 @@ use Rattle.std.proofs.lemmas.Result.{IfOk-weaker}
 use Rattle.hex.specs.Hex.{decode_of}
 use Rattle.replay.specs.declared.hexadecimal.HexFault.{HexFault}
 use Rattle.replay.specs.declared.hexadecimal.HexFault.TheVariants.{NotOfTheForm, TooLong}
-use Rattle.replay.proofs.HexadecimalLemmas.{length-decoded, not_too_long, too_long}
+use Rattle.replay.proofs.HexadecimalLemmas.{length-decoded, ok_and, not_too_long, too_long}
 use Rattle.replay.proofs.hexadecimal.read_hex.Goals as goal
 
 of_the_form : {A : Type 0} (b : Bool) (r : HexFault) → r ≡ cond b TooLong NotOfTheForm → ◌≡◌ {A = Result A HexFault} (Err r) (Err TooLong) → true ≡ b
 of_the_form true r is e = refl
 of_the_form false r is e = absurd (cc)
 
-IsOkAnd-is_ok : {A E : Type 0} (r : Result A E) (P : A → Type 0) → IsOkAnd r P → is_ok r ≡ true
-IsOkAnd-is_ok (Ok x) P h = refl
-IsOkAnd-is_ok (Err e) P h = absurd h
-
 pub returns-then-text-gt-MOST_MESSAGE_BYTES-clause-long : goal.returns-then-text-gt-MOST_MESSAGE_BYTES-clause-long
 returns-then-text-gt-MOST_MESSAGE_BYTES-clause-long c =
-    (λ h. too_long c.args.text.now (of_the_form _ _ c.refusal_of.ensures h) (omega arith), λ h. ap Err (c.refusal_of.ensures ∙ ap (λ b. cond b TooLong NotOfTheForm) (IsOkAnd-is_ok (decode_of c.args.text.now) _ h)))
+    (λ h. too_long c.args.text.now (of_the_form _ _ c.refusal_of.ensures h) (omega arith), λ h. ap Err (c.refusal_of.ensures ∙ ap (λ b. cond b TooLong NotOfTheForm) (ap is_ok (ok_and (decode_of c.args.text.now) _ h).1)))
 
 pub returns-clause-fits : goal.returns-clause-fits
 returns-clause-fits c =
