@@ -1,15 +1,24 @@
--- Where the bytes that have come hold no head, those left of the connection hold none within the limits.
-use Rattle.std.proofs.Common.{◌≡◌, Option, ℕ, zero, suc, ◌≤◌, List, [], ◌∷◌, ◌++◌, None, Some, IfSome, length, take, drop, refl, sym, ap, ◌∙◌, subst, append_assoc, arith, take-append-drop, inl, inr, length-append}
-use Rattle.std.specs.Io.KnownBytes.{Keeps}
+-- What the bytes left of a connection begin with: where those that have come hold no head, none within the limits; where a head was found, that one.
+use Rattle.std.proofs.Common.{◌≡◌, Option, Ok, Err, ℕ, zero, suc, ◌≤◌, List, [], ◌∷◌, ◌++◌, None, Some, IfSome, length, take, drop, refl, sym, ap, ◌∙◌, subst, append_assoc, arith, take-append-drop, inl, inr, length-append}
+use Rattle.std.specs.Io.KnownBytes.{Consumes, Keeps}
 use Rattle.std.proofs.lemmas.List.{take-append-le, take_all}
 use Rattle.std.proofs.Math.Seq.{take-append_seam}
-use Rattle.httparse.specs.Grammar.{HasNoRequest, MayBecomeRequest, NeverHasRequest, print_request}
+use Rattle.httparse.specs.Grammar.{RequestHead, HasNoRequest, MayBecomeRequest, NeverHasRequest, print_request}
 use Rattle.httparse.specs.Spans.{RequestOverflows, RequestExceeds}
+use Rattle.httparse.specs.declared.spans.HeaderSpan.{HeaderSpan}
+use Rattle.httparse.specs.declared.spans.RequestSpans.{RequestSpans}
+use Rattle.http_head.specs.Fault.{IsHeadFault}
+use Rattle.http_head.specs.Found.{IsHeadAt}
 use Rattle.http_head.specs.Left.{left}
 use Rattle.http_head.specs.Head.{HasNoHead, EndsWithoutHead}
 use Rattle.http_head.specs.Limits.{head_limit, field_limit}
+use Rattle.http_head.specs.Planned.{IsPlanned}
+use Rattle.http_head.specs.Received.{TakesPlan}
 use Rattle.http_head.specs.declared.end.Finish.TheVariants.{Refused}
+use Rattle.http_head.specs.declared.end.Refusal.{Refusal}
 use Rattle.http_head.specs.declared.end.Refusal.TheVariants.{BadRequest, HeaderFieldsTooLarge}
+use Rattle.http_head.specs.declared.fault.HeadFault.TheVariants as fault
+use Rattle.http_head.specs.declared.plan.Plan.{Plan}
 
 -- a front that is no longer than another front begins it
 pub front_of : (a b c d : List ℕ) → a ++ b ≡ c ++ d → length c ≤ length a → a ≡ c ++ drop (length c) a
@@ -68,3 +77,44 @@ refused_many (Some x) None come p over many = absurd p
 refused_many (Some x) (Some y) come p over many =
     subst (λ xs. EndsWithoutHead xs (Refused HeaderFieldsTooLarge)) p
     (inr (refl, no_head_in_many come y over, inr (exceeds_more come y many)))
+
+-- ---- a head at the front of what has come
+
+module _ (come : List ℕ) (headers : List HeaderSpan) (spans : RequestSpans) where
+  begun : (x y : List ℕ) (h : RequestHead) → IsHeadAt come headers spans h → x ≡ come ++ y → x ≡ print_request h ++ (drop spans.len come ++ y)
+  begun x y h found is = is ∙ ap (λ l. l ++ y) found.at.reads.1 ∙ append_assoc (print_request h) (drop spans.len come) y
+
+  within_limit : (h : RequestHead) → IsHeadAt come headers spans h → length (print_request h) ≤ head_limit
+  within_limit h found = subst (λ n. n ≤ head_limit) found.at.len found.short
+
+  consumed : (bytes r : Option (List ℕ)) (h : RequestHead) → Keeps bytes (left come r) → IsHeadAt come headers spans h → Consumes bytes (left (drop spans.len come) r) (print_request h)
+  consumed None r h kept found = tt
+  consumed (Some x) None h kept found = absurd kept
+  consumed (Some x) (Some y) h kept found = begun x y h found (sym kept)
+
+  -- one that passes the checks is taken
+  pub taken_plan : (bytes r : Option (List ℕ)) (plan : Plan) → Keeps bytes (left come r) → (h : RequestHead) × IsHeadAt come headers spans h → IsPlanned come headers spans (Ok plan)
+      → TakesPlan bytes (left (drop spans.len come) r) plan
+  taken_plan bytes r plan kept it planned =
+      let h = it.0 in
+      let found = it.1 in
+      let passed = planned h found in (
+        h,
+        record { valid = found.at.reads.0; short = within_limit h found; few = found.few; taken = consumed bytes r h kept found },
+        passed.0,
+        passed.1,
+      )
+
+  -- one that a check refuses stands there
+  pub refused_plan : (bytes r : Option (List ℕ)) (refusal : Refusal) → Keeps bytes (left come r) → (h : RequestHead) × IsHeadAt come headers spans h → IsPlanned come headers spans (Err refusal)
+      → IsHeadFault bytes (fault.Refused refusal)
+  refused_plan None r refusal kept it planned = tt
+  refused_plan (Some x) None refusal kept it planned = absurd kept
+  refused_plan (Some x) (Some y) refusal kept it planned =
+      let h = it.0 in
+      let found = it.1 in (
+        h,
+        drop spans.len come ++ y,
+        record { reads = (found.at.reads.0, begun x y h found (sym kept)); short = within_limit h found; few = found.few },
+        planned h found,
+      )

@@ -1,8 +1,9 @@
 -- Tables that were adopted, and files that were opened.
-use Rattle.std.proofs.Common.{◌≡◌, ◌<◌, List, [], ◌∷◌, IsTrue, false, inl, inr, map, length, refl, sym, ap, subst, ◌∙◌, arith}
+use Rattle.std.proofs.Common.{◌≡◌, ◌<◌, List, [], ◌∷◌, Result, Ok, Err, IfOk, IsTrue, false, inl, inr, map, length, refl, sym, ap, subst, ◌∙◌, arith}
 use Rattle.std.proofs.lemmas.List.Sorted.{length_permutation}
 use Rattle.sqlite.specs.Effect.{Database, IsDatabase}
 use Rattle.sqlite.specs.Files.{AreFoundIn}
+use Rattle.sqlite.specs.Held.{Held, state}
 use Rattle.sqlite.specs.Order.{Row}
 use Rattle.sqlite.specs.Schema.{Schema}
 use Rattle.sqlite.specs.Start.{FindsIn}
@@ -21,7 +22,8 @@ use Rattle.queue_tables.specs.Content.{HasContent, content_of}
 use Rattle.queue_tables.specs.Leaving.{LeavesTables}
 use Rattle.queue_tables.specs.Tables.{book_schema, no_schema}
 use Rattle.queue_tables.specs.Values.{meta_view}
-use Rattle.queue_store.specs.Kept.{HasWorld, StandsFor, shown_by, without_limit}
+use Rattle.queue_store.specs.Handed.{MakesBook}
+use Rattle.queue_store.specs.Kept.{HasWorld, IsHonest, StandsFor, shown_by, without_limit}
 use Rattle.queue_store.specs.Opened.{FitsFile, HasNoTables, HoldsOnly, IsKeptIn}
 use Rattle.queue_store.specs.declared.book.TableBook.{TableBook}
 
@@ -98,3 +100,9 @@ module _ (s : State) (image : Image) (opened : HasCleanDisk s → Opens s × IsL
   -- files in which a blank store was found have no tables
   pub no_tables : HasCleanDisk s → s.now.schema ≡ no_schema → HasNoTables image
   no_tables clean blank = (s.now.trees, subst (λ (tables : Schema). HoldsOnly image tables s.now.trees) blank (holds_only clean))
+
+-- likewise files of which a new book was made
+pub no_tables_made : {S E : Type 0} (store : Ghosts S) (conn : Held S) (image : Image) → (HasCleanDisk (state store conn) → Opens (state store conn) × IsLive (state store conn)) → (HasCleanDisk (state store conn) → FindsIn image (state store conn))
+    → (result : Result (TableBook S) E) (settings : SettingValues) → MakesBook store conn result settings → IfOk result (λ b. IsHonest store b → HasNoTables image)
+no_tables_made store conn image opened found (Ok b) settings made = λ honest. no_tables (state store conn) image opened found (made.clean honest) made.blank
+no_tables_made store conn image opened found (Err e) settings made = tt

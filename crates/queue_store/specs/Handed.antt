@@ -1,4 +1,4 @@
--- What comes of a connection that a book takes, where a refusal hands back its store alone.
+-- What comes of a connection that a book takes, where a refusal hands back its store alone or nothing.
 use Rattle.std.specs.Prelude.{◌≡◌, IfErr, IfOk, IsTrue, Result}
 use Rattle.sqlite.specs.Held.{Held, state}
 use Rattle.sqlite.specs.State.{HasCleanDisk}
@@ -21,18 +21,17 @@ pub record IsBehind {S : Type 0} (store : Ghosts S) (conn : Held S) (left : S) :
   pub clean : IsClean (store.view left) → HasCleanDisk (state store conn)
   pub left_by : (db : Trees) → store.recovers left db → (state store conn).may_leave db
 
-module _ {S : Type 0} (store : Ghosts S) (conn : Held S) (result : Result (TableBook S) (BookFault × S)) where
-  -- of a new book with these settings
-  pub record MakesBook (settings : SettingValues) : Type 0 where
-    pub clean : IfOk result (λ b. IsHonest store b → HasCleanDisk (state store conn))
-    pub blank : IfOk result (λ b. (state store conn).now.schema ≡ no_schema)
-    pub stands : IfOk result (λ b. StandsFor store b (empty_queue settings))
-    pub live : IfOk result (λ b. IsHonest store b → IsTrue (shown_by store b).is_open)
+-- a new book with these settings, whatever a refusal hands back
+pub record MakesBook {S E : Type 0} (store : Ghosts S) (conn : Held S) (result : Result (TableBook S) E) (settings : SettingValues) : Type 0 where
+  pub clean : IfOk result (λ b. IsHonest store b → HasCleanDisk (state store conn))
+  pub blank : IfOk result (λ b. (state store conn).now.schema ≡ no_schema)
+  pub stands : IfOk result (λ b. StandsFor store b (empty_queue settings))
+  pub live : IfOk result (λ b. IsHonest store b → IsTrue (shown_by store b).is_open)
 
-  -- of the book that its tables hold
-  pub record AdoptsBook : Type 0 where
-    pub stands : FitsIn (state store conn) → IfOk result (λ b. StandsForOne store b)
-    pub kept : IfOk result (λ b. LeavesTables (without_limit (state store conn)) (shown_by store b))
-    pub clean : IfErr result (λ e. IsClean (store.view e.1) → HasCleanDisk (state store conn))
-    pub damaged : FitsIn (state store conn) → IfErr result (λ e. IsClean (store.view e.1) → e.0 ≡ Damaged → (w : World) → ¬ IsQueueIn w (state store conn).now)
-    pub left : IfErr result (λ e. IsClean (store.view e.1) → (db : Trees) → store.recovers e.1 db → (state store conn).may_leave db)
+-- the book that its tables hold
+pub record AdoptsBook {S : Type 0} (store : Ghosts S) (conn : Held S) (result : Result (TableBook S) (BookFault × S)) : Type 0 where
+  pub stands : FitsIn (state store conn) → IfOk result (λ b. StandsForOne store b)
+  pub kept : IfOk result (λ b. LeavesTables (without_limit (state store conn)) (shown_by store b))
+  pub clean : IfErr result (λ e. IsClean (store.view e.1) → HasCleanDisk (state store conn))
+  pub damaged : FitsIn (state store conn) → IfErr result (λ e. IsClean (store.view e.1) → e.0 ≡ Damaged → (w : World) → ¬ IsQueueIn w (state store conn).now)
+  pub left : IfErr result (λ e. IsClean (store.view e.1) → (db : Trees) → store.recovers e.1 db → (state store conn).may_leave db)

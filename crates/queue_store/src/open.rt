@@ -138,6 +138,20 @@ fn make_or_adopt_in_files<D: Disk + Drop>(
     make_or_adopt(alloc, conn, new)
 }
 
+/// A new book with these settings in files. A refusal lets them go.
+fn make_in_files<D: Disk + Drop>(
+    alloc: Global,
+    conn: Connection<FileStore<D>>,
+    settings: Settings,
+) -> Result<TableBook<FileStore<D>>, BookFault>
+    ensures { MakesBook over_files conn result settings }
+{
+    match make_or_adopt_in_files(alloc, conn, Some(settings)) {
+        Ok(book) => Ok(book),
+        Err((fault, _store)) => Err(fault),
+    }
+}
+
 impl<D: Disk + Drop> TableBook<FileStore<D>> {
     /// Gives the files of the book back as they are, without reading or writing: what a crash leaves of the book is what
     /// it leaves of them. While the book is open, as after each Ok, that is the queue that it stands for.
@@ -187,10 +201,7 @@ impl<S: Start> TableBook<FileStore<FileFrom<S>>> {
         ensures live { IfOk result (λ b. IsHonest over_files b → IsTrue (shown_by over_files b).is_open) }
     {
         let conn = connect(rt, path, start)?;
-        match make_or_adopt_in_files(rt.alloc(), conn, Some(settings)) {
-            Ok(book) => Ok(book),
-            Err((fault, _store)) => Err(fault),
-        }
+        make_in_files(rt.alloc(), conn, settings)
     }
 
     /// The book that the files at a path hold, where `start` stands for what they hold as they are opened. Disk is
