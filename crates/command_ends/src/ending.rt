@@ -11,6 +11,9 @@ use arrayvec::ArrayString;
 use queue_core::put_whole;
 use std::io::Write;
 
+/// The exit status of a command that was done.
+pub const DONE: u8 = 0;
+
 /// The exit status of a command that was refused.
 const REFUSED: u8 = 1;
 
@@ -79,6 +82,6 @@ pub fn tell_words<O: Write, E: Write>(
     } else {
         write!(out, "{error}")?;
         out.flush()?;
-        Ok(0)
+        Ok(DONE)
     }
 }

@@ -4,5 +4,5 @@
 mod ending;
 mod fault;
 
-pub use ending::{end, tell_words};
+pub use ending::{DONE, end, tell_words};
 pub use fault::Fault;

@@ -112,7 +112,7 @@ fn serve<'a>(alloc: Global) -> Result<Definition<'a>, AllocError>
 {
     let port = "The port on 127.0.0.1";
     let connections = "How many connections to serve, one after another";
-    let timeout = "How long a connection may be silent";
+    let timeout = "How long a read or a write may wait; a connection ends after 60 times as long";
     on_store(alloc, "serve", "Serve the queue over HTTP")?
         .arg(number(alloc, PORT, "P", port))?
         .arg(number(alloc, CONNECTIONS, "N", connections))?
@@ -122,7 +122,8 @@ fn serve<'a>(alloc: Global) -> Result<Definition<'a>, AllocError>
 fn replay<'a>(alloc: Global) -> Definition<'a>
     ensures { IsPart replay_words result }
 {
-    Definition::new(alloc, "replay").about("Answer the requests on standard input, a line each")
+    let about = "Answer the lines on standard input over a new queue in memory";
+    Definition::new(alloc, "replay").about(about)
 }
 
 /// The program by itself.

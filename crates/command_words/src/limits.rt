@@ -48,7 +48,7 @@ pub(crate) const CONNECTIONS: NumberOption = NumberOption {
     },
 };
 
-/// The seconds that a connection may be silent.
+/// The seconds that a read or a write of a connection may wait.
 pub(crate) const TIMEOUT: NumberOption = NumberOption {
     name: "timeout",
     limits: Limits {

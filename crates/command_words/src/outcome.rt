@@ -10,7 +10,7 @@ use std::alloc::AllocError;
 use std::num::NonZeroU32;
 
 /// A new store, and the printer's settings in it. Whether they are within their limits is not said yet.
-#[derive(Debug, Clone, Copy, PartialEq, Eq)]
+#[derive(Clone, Copy)]
 pub struct Init<'a> {
     /// The path of the file that keeps the queue.
     pub store: &'a str,
@@ -23,7 +23,7 @@ pub struct Init<'a> {
 }
 
 /// Connections that are to be served.
-#[derive(Debug, Clone, Copy, PartialEq, Eq)]
+#[derive(Clone, Copy)]
 pub struct Serve<'a> {
     /// The path of the store.
     pub store: &'a str,
@@ -36,7 +36,7 @@ pub struct Serve<'a> {
 }
 
 /// An account file that is to be taken.
-#[derive(Debug, Clone, Copy, PartialEq, Eq)]
+#[derive(Clone, Copy)]
 pub struct Import<'a> {
     /// The path of the store.
     pub store: &'a str,
@@ -45,7 +45,7 @@ pub struct Import<'a> {
 }
 
 /// An account whose statement is to be printed.
-#[derive(Debug, Clone, Copy, PartialEq, Eq)]
+#[derive(Clone, Copy)]
 pub struct Statement<'a> {
     /// The path of the store.
     pub store: &'a str,
@@ -54,7 +54,7 @@ pub struct Statement<'a> {
 }
 
 /// What the program is to do.
-#[derive(Debug, Clone, Copy, PartialEq, Eq)]
+#[derive(Clone, Copy)]
 pub enum Command<'a> {
     /// Make a new store.
     Init(Init<'a>),
@@ -64,7 +64,7 @@ pub enum Command<'a> {
     Statement(Statement<'a>),
     /// Serve connections.
     Serve(Serve<'a>),
-    /// Answer the requests on standard input, line by line.
+    /// Answer the lines on standard input over a new queue in memory.
     Replay,
 }
 

@@ -21,11 +21,17 @@ const LOG_MARK: &[u8] = b"7\x7f\x06\x82";
 
 const OTHER_LOG_MARK: &[u8] = b"7\x7f\x06\x83";
 
+/// The most bytes of a log that has no page: its header of 32 bytes and a page's of 24 (sections 4.1 and 4.2).
+const LOG_HEADERS: u64 = 56;
+
 /// What a path has, as far as the first bytes tell.
-#[derive(Debug, Clone, Copy, PartialEq, Eq)]
+#[derive(Clone, Copy)]
 pub(crate) enum Found {
     Nothing,
     EmptyFile,
+    /// No file, or an empty one, beside a log that may have pages, as where the file of a store was moved away. To make a database there is to write
+    /// over the log.
+    LogAlone,
     /// A database whose making was cut short: its first byte is written last, and is 0 until then.
     Unfinished,
     Database,
@@ -61,14 +67,36 @@ fn is_log<R: Read + Drop>(alloc: Global, file: R) -> io::Result<bool>
     Ok(front.as_slice() == LOG_MARK || front.as_slice() == OTHER_LOG_MARK)
 }
 
+/// The path of the log of a file.
+fn log_path(rt: &HostRuntime, path: &str) -> io::Result<String> {
+    Ok(format!(in rt.alloc(); "{}-wal", path)?)
+}
+
+/// How many bytes a regular file has; none where there is no such file.
+fn file_len(rt: &HostRuntime, path: &str) -> io::Result<Option<u64>> {
+    match fs::metadata(rt, path) {
+        Ok(about) if about.is_file() => Ok(Some(about.len())),
+        Ok(_) => Ok(None),
+        Err(error) if error.kind() == ErrorKind::NotFound => Ok(None),
+        Err(error) => Err(error),
+    }
+}
+
 /// A log lies beside the file of a path.
 fn has_log(rt: &HostRuntime, path: &str) -> io::Result<bool> {
-    let log = format!(in rt.alloc(); "{}-wal", path)?;
-    match fs::metadata(rt, log.as_str()) {
-        Ok(about) if about.is_file() => is_log(rt.alloc(), fs::open(rt, log.as_str())?),
-        Ok(_) => Ok(false),
-        Err(error) if error.kind() == ErrorKind::NotFound => Ok(false),
-        Err(error) => Err(error),
+    let log = log_path(rt, path)?;
+    match file_len(rt, log.as_str())? {
+        Some(_) => is_log(rt.alloc(), fs::open(rt, log.as_str())?),
+        None => Ok(false),
+    }
+}
+
+/// What lies beside a path in place of its log may have pages, by its length.
+fn may_have_pages(rt: &HostRuntime, path: &str) -> io::Result<bool> {
+    let log = log_path(rt, path)?;
+    match file_len(rt, log.as_str())? {
+        Some(len) => Ok(len > LOG_HEADERS),
+        None => Ok(false),
     }
 }
 
@@ -80,7 +108,17 @@ fn look_at_file(rt: &HostRuntime, path: &str) -> io::Result<Found> {
     let found = look_at(rt.alloc(), fs::open(rt, path)?)?;
     match found {
         Found::Unfinished | Found::OtherFile if has_log(rt, path)? => Ok(Found::Torn),
+        Found::EmptyFile if may_have_pages(rt, path)? => Ok(Found::LogAlone),
         _ => Ok(found),
+    }
+}
+
+/// What is at a path without a file, but for the log that may lie beside it.
+fn look_at_nothing(rt: &HostRuntime, path: &str) -> io::Result<Found> {
+    if may_have_pages(rt, path)? {
+        Ok(Found::LogAlone)
+    } else {
+        Ok(Found::Nothing)
     }
 }
 
@@ -88,7 +126,7 @@ fn look_at_file(rt: &HostRuntime, path: &str) -> io::Result<Found> {
 fn look_at_path(rt: &HostRuntime, path: &str) -> io::Result<Found> {
     match fs::canonicalize(rt, path) {
         Ok(real) => look_at_file(rt, real.as_str()),
-        Err(error) if error.kind() == ErrorKind::NotFound => Ok(Found::Nothing),
+        Err(error) if error.kind() == ErrorKind::NotFound => look_at_nothing(rt, path),
         Err(error) => Err(error),
     }
 }

@@ -15,7 +15,7 @@ ghost use Rattle.commands.specs.Refusals.{IsOfInit};
 ghost use Rattle.commands.specs.Store.{CanBeMade, IsOfStore, settings_of};
 
 use crate::found::{Found, fault_of_path, found_at};
-use crate::store::{Closed, FileBook, close};
+use crate::store::{Closed, FileBook, close, let_go};
 use command_ends::Fault;
 use command_words::Init;
 use queue_store::TableBook;
@@ -63,8 +63,8 @@ fn is_file_name(path: &str) -> bool
     path != ":memory:" && !path.as_bytes().starts_with(b"file:")
 }
 
-/// Readies the path of a new store: makes its file where there is none, and refuses one that is no database by its first bytes; what is in a database
-/// is looked at as it is opened. What is no file's name is refused before anything is looked at.
+/// Readies the path of a new store: makes its file where there is none, and refuses one that is no database by its first bytes, and a log that may have
+/// pages beside no file or an empty one; what is in a database is looked at as it is opened. What is no file's name is refused before anything is looked at.
 fn ready_path(rt: &HostRuntime, path: &str) -> Result<(), Fault>
     ensures named { IfOk result (λ nothing. IsTrue (spec.is_file_name path.now)) }
     ensures nameless { spec.is_file_name path.now ≡ false → result ≡ Err OfDisk }
@@ -77,7 +77,7 @@ fn ready_path(rt: &HostRuntime, path: &str) -> Result<(), Fault>
     match found_at(rt, path)? {
         Found::Nothing => make_file(rt, path).map_err(fault_of_path),
         Found::EmptyFile | Found::Unfinished | Found::Database | Found::Torn => Ok(()),
-        Found::OtherFile => Err(Fault::Damaged),
+        Found::LogAlone | Found::OtherFile => Err(Fault::Damaged),
     }
 }
 
@@ -114,7 +114,7 @@ fn make_store<S: Start>(rt: &HostRuntime, words: Init<'_>, start: S) -> Result<F
 }
 
 /// Makes a store as [`make_store`] does and closes it: its file alone keeps the empty queue. Where its log could not be copied the store is given back.
-pub(crate) fn make_and_close<S: Start>(
+fn make_and_close<S: Start>(
     rt: &HostRuntime,
     words: Init<'_>,
     start: S,
@@ -126,4 +126,22 @@ pub(crate) fn make_and_close<S: Start>(
 {
     let book = make_store(rt, words, start)?;
     Ok(close(book))
+}
+
+/// Makes a store as [`make_and_close`] does, and lets go the files or the store that it gives back.
+pub(crate) fn make_and_let_go<S: Start>(
+    rt: &HostRuntime,
+    words: Init<'_>,
+    start: S,
+) -> Result<(), Fault>
+    ensures made { OnOk result (CanBeMade words.entry) }
+    ensures told { IfErr result IsOfInit }
+{
+    match make_and_close(rt, words, start) {
+        Ok(closed) => {
+            let_go(closed);
+            Ok(())
+        }
+        Err(fault) => Err(fault),
+    }
 }

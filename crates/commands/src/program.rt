@@ -13,9 +13,9 @@ ghost use Rattle.commands.specs.Refusals.{IsOfInit, IsOfReplay, IsTold, MayBePri
 ghost use Rattle.commands.specs.Store.{CanBeMade, IsAllowed, IsOfStore};
 ghost use Rattle.commands.specs.Words.{AreWrong, AskForText, NameCommand, faults_of};
 
-use crate::new_store::make_and_close;
-use crate::work::{Work, work_and_close};
-use command_ends::{Fault, end, tell_words};
+use crate::new_store::make_and_let_go;
+use crate::work::{Work, work_and_let_go};
+use command_ends::{DONE, Fault, end, tell_words};
 use command_words::{Command, CommandFault, Init, command};
 use replay_in_memory::replay;
 use sqlite_std_file::Wary;
@@ -38,10 +38,9 @@ fn do_init<O: Write + Drop>(
     // a stream failed or there was no memory, or nothing was printed
     ensures quiet { IfErr result (λ f. IsOfStream f ⊎ (writer_contents O.contents out.new ≡ writer_contents O.contents out.old)) }
 {
-    // what it gives back is let go here, before the flush
-    let _ = make_and_close(rt, words, Wary)?;
+    make_and_let_go(rt, words, Wary)?;
     out.flush()?;
-    Ok(0)
+    Ok(DONE)
 }
 
 /// Does the work on the store that is at its path, closes the store and flushes what is printed, and gives the exit status.
@@ -57,10 +56,9 @@ fn do_work<O: Write + Drop>(
     // a stream failed or there was no memory, or nothing was printed; a server may have told of its port and of connections
     ensures quiet { IfErr result (λ f. IsOfStream f ⊎ MayBePrintedOf work.entry (writer_contents O.contents out.old) (writer_contents O.contents out.new)) }
 {
-    // what it gives back is let go here, before the flush
-    let _ = work_and_close(rt, work, out, Wary)?;
+    work_and_let_go(rt, work, out, Wary)?;
     out.flush()?;
-    Ok(0)
+    Ok(DONE)
 }
 
 /// Answers the lines of an input over a new queue in memory, flushes the answers, and gives the exit status. It has no way to files, nor to

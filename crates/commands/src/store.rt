@@ -43,7 +43,9 @@ pub(crate) fn open_store<S: Start>(
     match found_at(rt, path)? {
         Found::Database | Found::Torn => {}
         Found::Nothing => return Err(Fault::Disk),
-        Found::EmptyFile | Found::Unfinished | Found::OtherFile => return Err(Fault::Damaged),
+        Found::EmptyFile | Found::LogAlone | Found::Unfinished | Found::OtherFile => {
+            return Err(Fault::Damaged);
+        }
     }
     let book = TableBook::open_from(rt, path, start)?;
     Ok(book)
@@ -79,3 +81,6 @@ pub(crate) fn close<D: Disk + Drop>(book: TableBook<FileStore<D>>) -> Closed<D>
         Err((_fault, store)) => Err(store),
     }
 }
+
+/// Lets go the files of a store that was closed, or the store that could not be: one function, since each that drops such costs the prover its parts.
+pub(crate) fn let_go<D: Disk + Drop>(_closed: Closed<D>) {}

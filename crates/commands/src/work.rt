@@ -16,7 +16,7 @@ ghost use Rattle.commands.specs.Work.{AreAny, AreIn, AreReadIn, HasEnded, IsBrie
 
 use crate::office_commands::{import_into, print_from};
 use crate::serving::serve_book;
-use crate::store::{Closed, FileBook, close, left, open_store};
+use crate::store::{Closed, FileBook, close, left, let_go, open_store};
 use command_ends::Fault;
 use command_words::{Import, Serve, Statement};
 use office::read_account_file;
@@ -34,7 +34,7 @@ use std::rt::{Clock, HostRuntime};
 use std::{fs, io};
 
 /// What a command does on a store that is there.
-#[derive(Debug, Clone, Copy, PartialEq, Eq)]
+#[derive(Clone, Copy)]
 pub(crate) enum Work<'a> {
     /// Takes an account file, whole or not at all, and prints `new N repeats M`.
     Import(Import<'a>),
@@ -185,7 +185,7 @@ fn work_at<S: Start, W: Write>(
 
 /// Does the work as [`work_at`] does, and closes the store: its file alone keeps the queue that the work made. Where its log could not be copied the
 /// store is given back. The files of a refused command are let go.
-pub(crate) fn work_and_close<S: Start, W: Write>(
+fn work_and_close<S: Start, W: Write>(
     rt: &HostRuntime,
     work: Work<'_>,
     output: &mut W,
@@ -203,5 +203,25 @@ pub(crate) fn work_and_close<S: Start, W: Write>(
     match work_at(rt, work, output, start) {
         Ok(book) => Ok(close(book)),
         Err((fault, _left)) => Err(fault),
+    }
+}
+
+/// Does the work as [`work_and_close`] does, and lets go the files or the store that it gives back.
+pub(crate) fn work_and_let_go<S: Start, W: Write>(
+    rt: &HostRuntime,
+    work: Work<'_>,
+    output: &mut W,
+    start: S,
+) -> Result<(), Fault>
+    ensures printed { OnOk result (Prints work.entry (W.contents output.old) (W.contents output.new)) }
+    ensures quiet { IfErr result (λ f. IsOfStream f ⊎ MayBePrintedOf work.entry (W.contents output.old) (W.contents output.new)) }
+    ensures told { IfErr result (λ f. IsOfStore f ⊎ MayBeToldOf work.entry f) }
+{
+    match work_and_close(rt, work, output, start) {
+        Ok(closed) => {
+            let_go(closed);
+            Ok(())
+        }
+        Err(fault) => Err(fault),
     }
 }

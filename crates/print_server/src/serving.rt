@@ -150,7 +150,7 @@ fn check_book<B: QueueBook>(book: &mut B) -> Result<Standing, BookFault>
 }
 
 impl Service<'_> {
-    /// Serves a connection at a moment and closes it. One that can't be readied has gone away.
+    /// Serves a connection at a moment and closes it. One that can't be readied, as its client has gone away or the monotonic clock can't be read, is let go.
     fn serve_stream<C: Clock, B: QueueBook>(
         self,
         clock: &C,

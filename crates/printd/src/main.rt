@@ -1,5 +1,6 @@
 //! A print release server: `printd init` makes a store, `printd import` takes an account file, `printd serve` serves print clients and the
-//! device by HTTP, `printd statement` prints an account's statement, and `printd replay` answers requests that it reads as lines of text.
+//! device by HTTP, `printd statement` prints an account's statement, and `printd replay` answers lines of text
+//! over a queue in memory.
 #![tactic(auto)]
 
 use commands::{Fault, end, run};

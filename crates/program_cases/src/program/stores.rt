@@ -271,7 +271,7 @@ static OTHER: [Row; 3] = [
     ),
 ];
 
-static DATABASES: [Row; 4] = [
+static DATABASES: [Row; 6] = [
     // another program's database is no store, and none is made in it: it stays as it was
     (
         "a database of another program",
@@ -301,6 +301,31 @@ static DATABASES: [Row; 4] = [
                 "printd init --store @/link --uri ipp://localhost/ipp/print --name release",
                 DISK,
             ),
+        ],
+    ),
+    // a log that may have pages, beside no file or an empty one, is what is left of a database: no store is made over it
+    (
+        "a log beside no file",
+        &[
+            Writes(LOG, LOG_OF_NOTES),
+            Keeps(LOG, INIT, DAMAGED),
+            Keeps(LOG, STATEMENT, DAMAGED),
+            Lacks(STORE),
+            Writes(STORE, &[]),
+            Keeps(LOG, INIT, DAMAGED),
+            Keeps(LOG, STATEMENT, DAMAGED),
+            Writes(LOG, &[(b"\0", 57)]),
+            Keeps(LOG, INIT, DAMAGED),
+        ],
+    ),
+    // one that has no page is written over
+    (
+        "the headers of a log beside no file",
+        &[
+            Writes(LOG, &[(b"\0", 56)]),
+            Tells(STATEMENT, DISK),
+            MADE,
+            Tells(STATEMENT, NO_ACCOUNT),
         ],
     ),
     // what is left of a log beside other bytes makes no database of them
