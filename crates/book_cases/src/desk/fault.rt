@@ -10,6 +10,8 @@ use std::alloc::{AllocError, AllocFailed};
 pub(crate) enum StepFault {
     /// What came is not what was wanted: both.
     Differs(String),
+    /// What a test needs can't be made: its folder, or its tables.
+    SettingUp,
     /// The book could not do it.
     Book(BookFault),
     /// The book could not do it, and the answer is the one that tells this, and not why.
@@ -92,7 +94,7 @@ pub(crate) enum Books {
 }
 
 /// A step that is not well, by its book, its row and its number in the row, both from 0. The steps that a row begins
-/// with are counted, too.
+/// with are counted, too. On a stopping disk the pages of the log stand for the row's number.
 #[derive(Debug, Drop)]
 pub(crate) struct RowFault {
     pub(super) books: Books,

@@ -8,7 +8,6 @@ use crate::desk::shelf::{Shelf, take_row};
 use crate::desk::step::Step;
 use crate::desk::step::Step::{Ask, Jobs, Look};
 use crate::shelves::kinds::take_adopted;
-use queue_core::BookFault;
 use queue_store::TableBook;
 use sqlite::{Alter, Connection};
 
@@ -16,7 +15,7 @@ use sqlite::{Alter, Connection};
 fn skip_numbers<S: Alter>(conn: &mut Connection<S>) -> Result<(), StepFault> {
     match conn.execute("UPDATE meta SET next_number = 2147483647", &[]) {
         Ok(_count) => Ok(()),
-        Err(_error) => Err(StepFault::Book(BookFault::Disk)),
+        Err(_error) => Err(StepFault::SettingUp),
     }
 }
 

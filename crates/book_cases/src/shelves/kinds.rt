@@ -6,7 +6,6 @@ use crate::desk::shelf::Shelf;
 use crate::desk::step::Step;
 use crate::shelves::store::{Source, take_both, take_in_file_store};
 use list_book::ListBook;
-use queue_core::BookFault;
 use queue_store::TableBook;
 use queue_types::settings::Settings;
 use sqlite::{Connection, MemStore};
@@ -160,7 +159,7 @@ impl<'a> InFolder<'a> {
         self.remove();
         match fs::create_dir(self.rt, self.folder.as_path()) {
             Ok(()) => Ok(()),
-            Err(_error) => Err(StepFault::Book(BookFault::Disk)),
+            Err(_error) => Err(StepFault::SettingUp),
         }
     }
 

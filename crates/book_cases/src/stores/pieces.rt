@@ -3,10 +3,10 @@
 use crate::desk::fault::StepFault;
 use crate::desk::request::Request::{PrintThis, Release};
 use crate::desk::step::Step::{Ask, Dev, Document, Fetch, Grant};
-use crate::stores::queue::{empty_book, long_document, take_steps};
+use crate::stores::queue::{empty_book, take_steps};
 use crate::stores::tables::Tables;
 use queue_core::QueueBook;
-use std::alloc::Global;
+use std::alloc::{AllocError, Global};
 use std::test::Fail;
 
 /// How many bytes a document has, in how many pieces it is kept, and the number and the length of the last one.
@@ -25,6 +25,11 @@ const COUNT: &str = "SELECT count(*) FROM pieces";
 /// The number and the length of the last one.
 const LAST: &str = "SELECT piece, length(bytes) FROM pieces ORDER BY piece DESC LIMIT 1";
 
+/// Bytes 0 to 250, again and again, so that pieces of a document which follow each other differ.
+fn document_of(alloc: Global, length: usize) -> Result<Vec<u8>, AllocError> {
+    (0..=250u8).cycle().take(length).collect(alloc)
+}
+
 /// A document of one job, whose device has begun, comes back from a book.
 fn comes_back<B: QueueBook>(alloc: Global, book: &mut B, document: &[u8]) -> Result<(), StepFault> {
     let steps = [
@@ -41,7 +46,7 @@ fn comes_back<B: QueueBook>(alloc: Global, book: &mut B, document: &[u8]) -> Res
 /// A document of that length comes back from a book, which is closed.
 fn keep(alloc: Global, length: usize) -> Result<Tables, Fail> {
     let mut book = empty_book(alloc)?;
-    let document = long_document(alloc, length)?;
+    let document = document_of(alloc, length)?;
     comes_back(alloc, &mut book, document.as_slice())?;
     Ok(Tables::of(alloc, book))
 }

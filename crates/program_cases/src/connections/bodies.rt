@@ -147,7 +147,7 @@ fn take_large<B: DeskBook>(alloc: Global, document: &[u8], answers: &[u8]) -> Re
 
 #[test]
 fn a_large_document(rt: HostRuntime) -> Result<(), Mismatch> {
-    let document = filled(rt.alloc(), &[(b"01234567", 16_384), (b"!", 1)])?;
+    let document = filled(rt.alloc(), &[(b"0123456", 18_724), (b"01234", 1)])?;
     let answers = wanted_bytes(rt.alloc(), &[Success(OCTETS, document.as_slice())])?;
     take_large::<ListBook>(rt.alloc(), document.as_slice(), answers.as_slice())?;
     take_large::<MemoryBook>(rt.alloc(), document.as_slice(), answers.as_slice())

@@ -35,6 +35,8 @@ pub(crate) enum Subject {
     Files,
     /// A server, and what its clients get.
     Server,
+    /// A replay, and what it writes.
+    Replay,
 }
 
 /// Why a test fails. It borrows nothing: each `?` that passes on an error with a reference in it costs the prover more.

@@ -12,7 +12,7 @@ pub(crate) const PRINT_JOB_BEGUN: &[u8] =
 pub(crate) const PRINT_PDF: &[u8] =
     b"\x01\x01\x00\x02\x0a\x0b\x0c\x0d\x01G\x00\x12attributes-charset\x00\x05utf-8H\x00\x1battributes-natural-language\x00\x02enE\x00\x0bprinter-uri\x00\x19ipp://localhost/ipp/printB\x00\x14requesting-user-name\x00\x05aliceI\x00\x0fdocument-format\x00\x0fapplication/pdf\x03%PDF";
 
-/// The same in a version that is not spoken here.
+/// The smallest Print-Job in version 3.0, which is not spoken here.
 pub(crate) const PRINT_JOB_3_0: &[u8] =
     b"\x03\x00\x00\x02\x0a\x0b\x0c\x0d\x01G\x00\x12attributes-charset\x00\x05utf-8H\x00\x1battributes-natural-language\x00\x02enE\x00\x0bprinter-uri\x00\x19ipp://localhost/ipp/printB\x00\x14requesting-user-name\x00\x05alice\x03hi";
 

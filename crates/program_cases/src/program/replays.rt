@@ -1,11 +1,10 @@
 //! Replays over streams that fail and over a book that can't be read, and examples that are not answered as they are to be.
 
 use crate::desk::books::{DeskBook, MemoryBook};
-use crate::desk::compare::Mismatch;
+use crate::desk::compare::{Mismatch, Place, Subject};
 use crate::desk::connection::filled;
 use crate::desk::faulty::{Failure, FaultyBook, TAKES_NOTHING};
 use crate::desk::streams::{AT_ONCE, Behind, NO_FLUSH, TestReader, TestWriter, Way};
-use crate::program::sockets::AT;
 use queue_core::{BookFault, QueueBook};
 use queue_types::settings::Settings;
 use replay::{Fault, replay_over, replay_settings};
@@ -14,6 +13,12 @@ use replay_in_memory::replay;
 use std::alloc::Global;
 use std::cell::Cell;
 use std::test::Fail;
+
+/// Where comparisons are made.
+const AT: Place = Place {
+    subject: Subject::Replay,
+    most: usize::MAX,
+};
 
 /// How a replay ends: the way of its streams, what is to come, how often that is read at most, what is written, and what it comes to.
 type Ending = (Way, &'static [u8], usize, &'static [u8], Result<u8, Fault>);
