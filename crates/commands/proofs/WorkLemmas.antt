@@ -1,5 +1,5 @@
 -- Work on a store, where less is known of what its account file holds.
-use Rattle.std.proofs.Common.{◌≡◌, ℕ, IfErr, IfOk, IsErrAnd, IsOk, IsTrue, List, OnOk, Option, Result, Ok, Err, Vec, false, true, inl, inr, subst, sym}
+use Rattle.std.proofs.Common.{◌≡◌, ℕ, IfErr, IfNone, IfOk, IfSome, IsErrAnd, IsOk, IsSome, IsTrue, List, None, OnOk, Option, Result, Ok, Err, Some, Vec, false, true, inl, inr, subst, sym}
 use Rattle.grants_csv.specs.declared.importing.Imported.{Imported}
 use Rattle.office.specs.Told.{IsTaken}
 use Rattle.queue_core.specs.Limits.{IsMoment}
@@ -16,8 +16,9 @@ use Rattle.sqlite_store.specs.declared.store.FileStore.{FileStore}
 use Rattle.sqlite_trees.specs.declared.store.Store.{Ghosts}
 use Rattle.sqlite_wal.specs.Reads.{AreClean}
 use Rattle.command_ends.specs.declared.fault.Fault.{Fault}
+use Rattle.commands.specs.Books.{IfGivenBack}
 use Rattle.commands.specs.Printed.{Prints}
-use Rattle.commands.specs.Work.{AreAny, AreIn, HasEnded, IsDone, IsDoneFrom, IsDoneOn, IsImport, IsKeptFrom, IsNotDone, IsOfFile, IsRefusal, IsRefusedFrom, IsRefusedOn, MayBeLeft}
+use Rattle.commands.specs.Work.{AreAny, AreIn, HasEnded, IsDone, IsDoneFrom, IsDoneOn, IsImport, IsKeptFrom, IsNotDone, IsOfFile, IsRefusal, IsRefusedFrom, IsRefusedOn, IsRefusedOver, MayBeLeft}
 use Rattle.commands.specs.declared.work.Work.{Work}
 use Rattle.commands.specs.declared.work.Work.TheVariants.{Import}
 use Rattle.commands.proofs.CrashLemmas.{known_of_all}
@@ -139,3 +140,34 @@ refused_on are_read work old new before after r (Ok b) done refused ended honest
 refused_on are_read work old new before after (Ok a) (Err told) done refused ended honest = absurd (let no : false ≡ true = done in cc)
 refused_on are_read work old new before after (Err fault) (Err told) done refused ended honest =
     λ clean. subst (IsRefusedOn over_files are_read work old new before after) (sym refused) (ended.1 (honest clean))
+
+given_weaker : {D : Type 0} (g : disk.Ghosts D) (given : Option (Files D)) (P Q : Files D → Type 0) → ((files : Files D) → P files → Q files)
+    → IfSome given (λ files. AreClean g files.log files.db → P files) → IfSome given (λ files. AreClean g files.log files.db → Q files)
+given_weaker g None P Q then_q p = tt
+given_weaker g (Some files) P Q then_q p = λ clean. then_q files (p clean)
+
+given_back_weaker : {D A E : Type 0} (g : disk.Ghosts D) (r : Result A (E × Option (Files D))) (P Q : E → Files D → Type 0) → ((e : E) (files : Files D) → P e files → Q e files)
+    → IfGivenBack g r P → IfGivenBack g r Q
+given_back_weaker g (Ok a) P Q then_q p = tt
+given_back_weaker g (Err e) P Q then_q p = given_weaker g e.1 (P e.0) (Q e.0) (then_q e.0) p
+
+-- work that was refused on a store that was open
+module _ {D A : Type 0} {g : disk.Ghosts D} (r : Result A (Fault × Option (Files D))) (work : Work) (book : TableBook (FileStore D g)) (before after : Option (List ℕ))
+    (refused : IfGivenBack g r (IsRefusedOver g work book before after)) (live : IsHonest over_files book → IsTrue (shown_by over_files book).is_open) where
+  -- what it left of a queue for which the book stood
+  pub refused_of : (w : World) → StandsFor over_files book w → IfGivenBack g r (λ fault files. IsRefusedFrom g AreAny work w files before after fault)
+  refused_of w stands =
+      given_back_weaker g r (IsRefusedOver g work book before after) (λ fault files. IsRefusedFrom g AreAny work w files before after fault)
+      (λ fault files it. it.left (live it.began) w stands) refused
+
+  -- what it left of the queue that the files kept
+  pub refused_of_kept : (is_kept : World → Type 0) → (IsHonest over_files book → (w : World) × is_kept w × StandsFor over_files book w)
+      → IfGivenBack g r (λ fault files. (w : World) × is_kept w × IsRefusedFrom g AreAny work w files before after fault)
+  refused_of_kept is_kept kept =
+      given_back_weaker g r (IsRefusedOver g work book before after) (λ fault files. (w : World) × is_kept w × IsRefusedFrom g AreAny work w files before after fault)
+      (λ fault files it. let at = kept it.began in (at.0, at.1, it.left (live it.began) at.0 at.2)) refused
+
+-- what is given back is there
+pub given_is_some : {X : Type 0} (o : Option X) (P : Type 0) → IsSome o → IfNone o P
+given_is_some None P there = absurd (let no : false ≡ true = there in cc)
+given_is_some (Some x) P there = tt

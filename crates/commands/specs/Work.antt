@@ -17,8 +17,10 @@ use Rattle.queue_types.specs.declared.sheet.AccountSheet.{AccountSheet}
 use Rattle.queue_store.specs.Closed.{KeepAlone}
 use Rattle.queue_store.specs.Kept.{IsHonest, StandsFor, shown_by}
 use Rattle.queue_store.specs.declared.book.TableBook.{TableBook}
+use Rattle.sqlite.specs.Files.{over_files}
 use Rattle.sqlite_disk.specs.declared.Disk as disk
 use Rattle.sqlite_disk.specs.declared.Files.{Files}
+use Rattle.sqlite_store.specs.declared.store.FileStore.{FileStore}
 use Rattle.sqlite_trees.specs.declared.store.Store.{Ghosts}
 use Rattle.commands.specs.Books.{KeepBeside, LeavesBeside, MakesSafely}
 use Rattle.commands.specs.Printed.{Prints, server_lines}
@@ -163,6 +165,11 @@ pub record IsRefusedFrom {D : Type 0} (g : disk.Ghosts D) (are_read : List ℕ �
   pub queue : World
   pub refused : IsNotDone are_read work fault w queue before after
   pub left : KeepBeside g files queue (MayBeLeft are_read work w queue)
+
+-- the refused work was done on an honest book in files, and gave these back; where the store was open, of each queue for which it stood the work left one
+pub record IsRefusedOver {D : Type 0} (g : disk.Ghosts D) (work : Work) (book : TableBook (FileStore D g)) (before after : Option (List ℕ)) (fault : Fault) (files : Files D) : Type 0 where
+  pub began : IsHonest over_files book
+  pub left : IsTrue (shown_by over_files book).is_open → (w : World) → StandsFor over_files book w → IsRefusedFrom g AreAny work w files before after fault
 
 -- a book, and what was written, before the work and after it
 module _ {S : Type 0} (store : Ghosts S) (are_read : List ℕ → Type 0) (work : Work) (old new : TableBook S) (before after : Option (List ℕ)) where

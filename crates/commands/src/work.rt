@@ -1,5 +1,5 @@
 //! What a command does on the store that is at a path.
-ghost use Rattle.std.specs.Prelude.{◌≡◌, ◌⊎◌, IfErr, IfNone, IfOk, IsTrue, OnOk};
+ghost use Rattle.std.specs.Prelude.{◌≡◌, ◌⊎◌, IfErr, IfNone, IfOk, IsSome, IsTrue, OnOk};
 ghost use Rattle.sqlite.specs.Files.{over_files};
 ghost use Rattle.sqlite_wal.specs.Files.{image_at};
 ghost use Rattle.sqlite_wal.specs.Reads.{AreClean};
@@ -12,7 +12,7 @@ ghost use Rattle.commands.specs.Books.{IfClosed, IfGivenBack};
 ghost use Rattle.commands.specs.Store.{IsOfStore};
 ghost use Rattle.commands.specs.Printed.{Prints};
 ghost use Rattle.commands.specs.Refusals.{MayBePrintedOf, MayBeToldOf};
-ghost use Rattle.commands.specs.Work.{AreAny, AreIn, AreReadIn, HasEnded, IsBrief, IsDoneFrom, IsDoneOn, IsKeptFrom, IsRefusal, IsRefusedFrom, store_of};
+ghost use Rattle.commands.specs.Work.{AreAny, AreIn, AreReadIn, HasEnded, IsBrief, IsDoneFrom, IsDoneOn, IsKeptFrom, IsRefusal, IsRefusedFrom, IsRefusedOver, store_of};
 
 use crate::office_commands::{import_into, print_from};
 use crate::serving::serve_book;
@@ -142,9 +142,30 @@ fn work_over<C: Clock, F: Read + Drop, D: Disk + Drop, W: Write>(
     left(book, done)
 }
 
+/// Opens the account file or the port of the work, does it on a book in files, and gives the book back, or the files of one on which it was not done.
+fn work_opened<D: Disk + Drop, W: Write>(
+    rt: &HostRuntime,
+    work: Work<'_>,
+    output: &mut W,
+    book: TableBook<FileStore<D>>,
+) -> Result<TableBook<FileStore<D>>, (Fault, Option<Files<D>>)>
+    ensures done { IfOk result (λ b. IsHonest over_files b
+        → IsDoneOn over_files AreAny work.entry book b (W.contents output.old) (W.contents output.new)) }
+    ensures printed { OnOk result (Prints work.entry (W.contents output.old) (W.contents output.new)) }
+    ensures told { IfErr result (λ e. IsRefusal work.entry (W.contents output.old) (W.contents output.new) e.0) }
+    ensures given_back { IfErr result (λ e. IsSome e.1) }
+    ensures refused { IfGivenBack D.Disk result (IsRefusedOver D.Disk work.entry book (W.contents output.old) (W.contents output.new)) }
+{
+    let opened = work.open(rt);
+    match work_over(rt.alloc(), rt, work, opened, output, book) {
+        Ok(book) => Ok(book),
+        Err((fault, files)) => Err((fault, Some(files))),
+    }
+}
+
 /// Does the work on the store that is at its path, and gives the book, which is not closed yet, or the files of one on which it was not done; there are
 /// none where no store was opened. What is done on the open store is done behind
-/// [`work_over`], which has memory, a clock, and no way to a file or a port but the store and the account file or port that is opened here.
+/// [`work_over`], which has memory, a clock, and no way to a file or a port but the store and the account file or port that [`work_opened`] opens.
 fn work_at<S: Start, W: Write>(
     rt: &HostRuntime,
     work: Work<'_>,
@@ -172,13 +193,7 @@ fn work_at<S: Start, W: Write>(
         IsRefusedFrom ⟦<FileFrom<S> as Disk>⟧ AreAny work.entry w files (W.contents output.old) (W.contents output.new) fault) }
 {
     match open_store(rt, work.store(), start) {
-        Ok(book) => {
-            let opened = work.open(rt);
-            match work_over(rt.alloc(), rt, work, opened, output, book) {
-                Ok(book) => Ok(book),
-                Err((fault, files)) => Err((fault, Some(files))),
-            }
-        }
+        Ok(book) => work_opened(rt, work, output, book),
         Err(fault) => Err((fault, None)),
     }
 }

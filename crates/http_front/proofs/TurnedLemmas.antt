@@ -1,5 +1,5 @@
 -- The parts of one turn, put together.
-use Rattle.std.proofs.Common.{◌≡◌, Option, ℕ, List, [], ◌∷◌, ◌++◌, Bool, false, None, Some, IfSome, Ok, Err, refl, sym, ap, ◌∙◌, subst, inl, inr, append_assoc, append-nil, if◌then◌else◌}
+use Rattle.std.proofs.Common.{◌≡◌, ◌⊎◌, Option, ℕ, List, [], ◌∷◌, ◌++◌, Bool, false, None, Some, IfSome, Ok, Err, refl, sym, ap, ◌∙◌, subst, inl, inr, append_assoc, append-nil, if◌then◌else◌}
 use Rattle.std.specs.Prelude.{Result}
 use Rattle.std.specs.Io.KnownBytes.{Appends, Consumes}
 use Rattle.std.proofs.KnownBytes.{Appends-nil, Appends-trans, Consumes-trans}
@@ -46,10 +46,6 @@ planned_unsaid leaves now k w plan r s v x f a b h = (
   h,
 )
 
-pub planned_unread : (leaves : World → World → Type 0) (now k : ℕ) (w : World) (plan : Plan) (r s v x : Option (List ℕ)) (f : Stopped) → f.tally.acted ≡ false → f.tally.is_fault ≡ false
-    → Appends v x (interim_response plan) → IsPlanned leaves leaves now k w w plan r s v x (Err f)
-planned_unread leaves now k w plan r s v x f a b h = planned_unsaid leaves now k w plan r s v x f a b (front_all v x (interim_response plan) h)
-
 pub planned_closed : (before after : World → World → Type 0) (now k : ℕ) (w u : World) (plan : Plan) (r s v m x : Option (List ℕ)) (end : Finish) (result : Result Turned Stopped) → u ≡ w
     → Carries before after (λ e. ⊥) ⊥ now w u → IfSome r (λ bytes. IsPlanEnd w plan bytes end) → Appends v m (interim_response plan) → IsClosed end m x result → IsPlanned before after now k w u plan r s v x result
 planned_closed before after now k w u plan r s v m x end (Ok t) same left h a c =
@@ -61,13 +57,18 @@ planned_closed before after now k w u plan r s v m x end (Err f) same left h a c
   front_after v m x (interim_response plan) (last_response end) a c.2,
 )
 
-pub end_in_body : (w : World) (plan : Plan) (r : Option (List ℕ)) (end : Finish) → IfSome r (λ bytes. EndsInBody plan.framing bytes end) → IfSome r (λ bytes. IsPlanEnd w plan bytes end)
+end_in_body : (w : World) (plan : Plan) (r : Option (List ℕ)) (end : Finish) → IfSome r (λ bytes. EndsInBody plan.framing bytes end) → IfSome r (λ bytes. IsPlanEnd w plan bytes end)
 end_in_body w plan None end h = tt
 end_in_body w plan (Some bytes) end h = plan_in_body end h
 
-pub end_unavailable : (w : World) (plan : Plan) (r : Option (List ℕ)) → IfSome r (λ bytes. IsPlanEnd w plan bytes (Refused ServiceUnavailable))
+end_unavailable : (w : World) (plan : Plan) (r : Option (List ℕ)) → IfSome r (λ bytes. IsPlanEnd w plan bytes (Refused ServiceUnavailable))
 end_unavailable w plan None = tt
 end_unavailable w plan (Some bytes) = plan_unavailable
+
+pub end_untaken : (w : World) (plan : Plan) (r : Option (List ℕ)) (end : Finish) → IfSome r (λ bytes. EndsInBody plan.framing bytes end) ⊎ (end ≡ Refused ServiceUnavailable)
+    → IfSome r (λ bytes. IsPlanEnd w plan bytes end)
+end_untaken w plan r end (inl h) = end_in_body w plan r end h
+end_untaken w plan r end (inr is) = subst (λ (z : Finish). IfSome r (λ bytes. IsPlanEnd w plan bytes z)) (sym is) (end_unavailable w plan r)
 
 declined_at : (w : World) (plan : Plan) (x y raw content : List ℕ) (z : Refusal) → x ≡ raw ++ y → IsBody plan.framing raw content → IsDeclined w plan.target content z → IsPlanEnd w plan x (Refused z)
 declined_at w plan x y raw content z e body (inl d) = plan_declined raw content y z e body d

@@ -21,8 +21,10 @@ use Rattle.http_front.specs.declared.outcome.Replied.{Replied}
 use Rattle.http_front.specs.declared.outcome.Replied.TheVariants.{Answered as ReplyAnswered, Declined as ReplyDeclined}
 use Rattle.http_front.specs.declared.outcome.Turned.{Turned}
 use Rattle.http_front.specs.declared.outcome.Turned.TheVariants.{Answered, Ended}
-use Rattle.http_front.specs.declared.outcome.ServeCause.TheVariants.{Book}
+use Rattle.http_front.specs.declared.outcome.ServeCause.TheVariants.{Book, Read}
 use Rattle.http_front.specs.declared.outcome.Stopped.{Stopped}
+use Rattle.http_front.specs.declared.outcome.Untaken.{Untaken}
+use Rattle.http_front.specs.declared.outcome.Untaken.TheVariants.{Ended as UntakenEnded, Stopped as UntakenStopped}
 
 -- ---- a whole request
 
@@ -58,6 +60,13 @@ IsClosed end v x (Ok t) = (t ≡ Ended end) × Appends v x (last_response end)
 IsClosed end v x (Err f) = (f.tally.acted ≡ false) × (f.tally.is_fault ≡ is_unavailable end) × WritesFront v x (last_response end)
 
 -- ---- behind a head
+
+-- of a request with that plan, which stood in these bytes, no body was taken: it ends the connection, or there was no memory for it; or writing the leave to send it was
+-- broken off, or a read failed behind the whole leave. The writer's bytes went from v to x
+abbrev pub IsUntaken : Plan → Option (List ℕ) → Option (List ℕ) → Option (List ℕ) → Untaken → Type 0
+IsUntaken plan r v x (UntakenEnded end) = (IfSome r (λ bytes. EndsInBody plan.framing bytes end) ⊎ (end ≡ Refused ServiceUnavailable)) × Appends v x (interim_response plan)
+IsUntaken plan r v x (UntakenStopped f) =
+    (f.tally.acted ≡ false) × (f.tally.is_fault ≡ false) × WritesFront v x (interim_response plan) × (f.cause ≡ Read → Appends v x (interim_response plan))
 
 -- how a connection may end behind a head with that plan
 pub data IsPlanEnd (w : World) (plan : Plan) (bytes : List ℕ) : Finish → Type 0 where

@@ -108,6 +108,15 @@ impl From<WriteFault> for Stopped {
     }
 }
 
+/// Why the body of a request was not taken.
+#[derive(Clone, Copy)]
+pub(crate) enum Untaken {
+    /// The connection ends so.
+    Ended(Finish),
+    /// The turn was stopped.
+    Stopped(Stopped),
+}
+
 /// What became of a whole request.
 #[derive(Clone, Copy)]
 pub(crate) enum Replied {

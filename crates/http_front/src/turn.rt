@@ -1,21 +1,22 @@
 //! One request and its answer.
-ghost use Rattle.std.specs.Prelude.{◌≡◌, ◌≢◌, ◌≤◌, ◌==◌, ◌||◌, IfErr, IfOk};
-ghost use Rattle.std.specs.Io.KnownBytes.{Appends};
+ghost use Rattle.std.specs.Prelude.{◌≡◌, ◌≢◌, ◌≤◌, ◌==◌, ◌||◌, ℕ, IfErr, IfOk, List, OnOk, length};
+ghost use Rattle.std.specs.Io.KnownBytes.{Appends, Consumes};
 ghost use Rattle.std.specs.Option.{ForSome};
 ghost use Rattle.queue_core.specs.Limits.{IsMoment};
 ghost use Rattle.http_head.specs.Framing.{size_of};
 ghost use Rattle.http_head.specs.Reads.{bytes_left};
 ghost use Rattle.http_head.specs.Limits.{content_limit};
 ghost use Rattle.http_head.specs.Routes.{routes};
+ghost use Rattle.http_wire.specs.Bodies.{IsBody};
 ghost use Rattle.http_wire.specs.Responses.{interim_response};
 ghost use Rattle.http_front.specs.Books.{ComesTo};
 ghost use Rattle.http_front.specs.Turns.{last_request};
 ghost use Rattle.http_front.specs.FailedReads.{FailsToRead};
 ghost use Rattle.http_front.specs.Framed.{IsTurnFramed};
-ghost use Rattle.http_front.specs.Turned.{IsClosed, IsPlanned, IsTurnFaultless, IsTurned, ClosesLast};
+ghost use Rattle.http_front.specs.Turned.{IsClosed, IsPlanned, IsTurnFaultless, IsTurned, IsUntaken, ClosesLast};
 
 use crate::context::Context;
-use crate::outcome::{Replied, ServeCause, Stopped, Tally, Turned};
+use crate::outcome::{Replied, ServeCause, Stopped, Tally, Turned, Untaken};
 use crate::reply::{Request, reply};
 use http_head::end::{Finish, Refusal};
 use http_head::fault::HeadFault;
@@ -29,6 +30,7 @@ use http_wire::framed::take_framed;
 use http_wire::respond::{send_continue, send_end};
 use matchit::Router;
 use queue_core::QueueBook;
+use std::alloc::Global;
 use std::io::{Read, Write};
 
 /// The number, from 0, of the last request that a connection may have.
@@ -64,6 +66,33 @@ impl NumberedPlan {
     }
 }
 
+/// Takes the body of a request behind a head that passed the checks, once its client has the leave to send it. Where there is no memory for it the connection ends
+/// with status 503.
+fn take_content<R: Read, W: Write>(
+    alloc: Global,
+    input: &mut Input<R>,
+    writer: &mut W,
+    plan: Plan,
+) -> Result<Vec<u8>, Untaken>
+    requires { size_of plan.framing ≤ content_limit }
+    ensures taken { IfOk result (λ content. (raw : List ℕ) × IsBody plan.framing raw content.items
+        × Consumes (bytes_left R.Read input.old) (bytes_left R.Read input.new) raw) }
+    ensures fits { IfOk result (λ content. length content.items ≤ content_limit) }
+    ensures invited { OnOk result (Appends (W.contents writer.old) (W.contents writer.new) (interim_response plan)) }
+    ensures untaken { IfErr result (IsUntaken plan (bytes_left R.Read input.old) (W.contents writer.old) (W.contents writer.new)) }
+    ensures never_more { input.new.reads_left ≤ input.old.reads_left }
+{
+    let Ok(invited) = send_continue(writer, plan) else {
+        return Err(Untaken::Stopped(Stopped::by(ServeCause::Write)));
+    };
+    match take_framed(alloc, input, invited) {
+        Ok(content) => Ok(content),
+        Err(BodyFault::Ended(end)) => Err(Untaken::Ended(end)),
+        Err(BodyFault::Read) => Err(Untaken::Stopped(Stopped::by(ServeCause::Read))),
+        Err(BodyFault::Memory) => Err(Untaken::Ended(Finish::Refused(Refusal::ServiceUnavailable))),
+    }
+}
+
 /// Answers a request behind a head that passed the checks.
 fn take_planned<R: Read, W: Write, B: QueueBook>(
     context: Context<'_>,
@@ -91,15 +120,10 @@ fn take_planned<R: Read, W: Write, B: QueueBook>(
     ensures framed { IfOk result (λ turned. IsTurnFramed (W.contents writer.old) (W.contents writer.new) turned) }
 {
     let plan = numbered.plan;
-    let invited = send_continue(writer, plan)?;
-    let content = match take_framed(context.alloc, input, invited) {
+    let content = match take_content(context.alloc, input, writer, plan) {
         Ok(content) => content,
-        Err(BodyFault::Ended(end)) => return close_with(writer, end),
-        Err(BodyFault::Read) => return Err(Stopped::by(ServeCause::Read)),
-        Err(BodyFault::Memory) => return close_with(
-            writer,
-            Finish::Refused(Refusal::ServiceUnavailable),
-        ),
+        Err(Untaken::Ended(end)) => return close_with(writer, end),
+        Err(Untaken::Stopped(stopped)) => return Err(stopped),
     };
     let closes = numbered.closes_after();
     let request = Request {

@@ -12,7 +12,7 @@ ghost use Rattle.queue_core.specs.World.{World, cut, made_on};
 ghost use Rattle.queue_core.specs.declared.book.SendCause.TheVariants.{Book as ByBook, Write as ByWriter};
 ghost use Rattle.queue_types.specs.declared.document.Document.{Document};
 
-use crate::lists::{Lists, kept_document, reserve, write};
+use crate::lists::{Lists, prepare, write};
 use crate::scene::scene;
 use crate::send::send;
 use crate::{seen, sheet};
@@ -145,13 +145,7 @@ impl QueueBook for ListBook {
         decisions_are_sound();
         new_grants_add_up();
         let Decision { reply: _, change } = decision;
-        let document = kept_document(self.alloc, &change.document)?;
-        reserve(
-            &mut self.lists,
-            change.jobs.as_slice().len(),
-            change.free.as_slice().len(),
-            change.grants.as_slice().len(),
-        )?;
+        let document = prepare(self.alloc, &mut self.lists, &change)?;
         write(&mut self.lists, change, document);
         Ok(())
     }

@@ -121,7 +121,7 @@ fn put_report(reports: &mut Reports, report: Option<KeptReport>)
 }
 
 /// A copy of the document that a change brings.
-pub(crate) fn kept_document(
+fn kept_document(
     alloc: Global,
     document: &Option<NewDocument<'_>>,
 ) -> Result<Option<KeptDocument>, AllocError>
@@ -151,13 +151,8 @@ fn reserve_report(reports: &mut Reports) -> Result<(), AllocError>
     Ok(())
 }
 
-/// Makes room for all that a change brings, so that writing it needs no memory.
-pub(crate) fn reserve(
-    lists: &mut Lists,
-    jobs: usize,
-    accounts: usize,
-    grants: usize,
-) -> Result<(), AllocError>
+/// Makes room for so many jobs, accounts and grants, and for a document and a report.
+fn reserve(lists: &mut Lists, jobs: usize, accounts: usize, grants: usize) -> Result<(), AllocError>
     ensures same { HaveSameItems lists.old lists.new }
     ensures room { OnOk result (HasRoom lists.new jobs accounts grants) }
 {
@@ -167,6 +162,26 @@ pub(crate) fn reserve(
     reserve_grants(&mut lists.grants, grants)?;
     reserve_report(&mut lists.reports)?;
     Ok(())
+}
+
+/// Makes room for all that a change brings, and gives a copy of its document, so that writing it needs no memory.
+pub(crate) fn prepare(
+    alloc: Global,
+    lists: &mut Lists,
+    change: &Change<'_>,
+) -> Result<Option<KeptDocument>, AllocError>
+    ensures document { IfOk result (λ d. d ≡ option_map kept_of (change_of change.now).document) }
+    ensures same { HaveSameItems lists.old lists.new }
+    ensures room { OnOk result (HasRoom lists.new (length (change_of change.now).jobs) (length (change_of change.now).free) (length (change_of change.now).grants)) }
+{
+    let document = kept_document(alloc, &change.document)?;
+    reserve(
+        lists,
+        change.jobs.as_slice().len(),
+        change.free.as_slice().len(),
+        change.grants.as_slice().len(),
+    )?;
+    Ok(document)
 }
 
 /// Writes a change, with the copy of its document, into the room that was made for it. It needs no memory.

@@ -106,3 +106,10 @@ pub no_tables_made : {S E : Type 0} (store : Ghosts S) (conn : Held S) (image : 
     → (result : Result (TableBook S) E) (settings : SettingValues) → MakesBook store conn result settings → IfOk result (λ b. IsHonest store b → HasNoTables image)
 no_tables_made store conn image opened found (Ok b) settings made = λ honest. no_tables (state store conn) image opened found (made.clean honest) made.blank
 no_tables_made store conn image opened found (Err e) settings made = tt
+
+-- a new book is one, whatever else a refusal hands back
+pub made_however : {S E F : Type 0} (store : Ghosts S) (conn : Held S) (b : TableBook S) (settings : SettingValues) → MakesBook {S = S} {E = E} store conn (Ok b) settings → MakesBook {S = S} {E = F} store conn (Ok b) settings
+made_however store conn b settings made = record { clean = made.clean; blank = made.blank; stands = made.stands; live = made.live }
+
+pub none_made : {S E : Type 0} (store : Ghosts S) (conn : Held S) (e : E) (settings : SettingValues) → MakesBook store conn (Err e) settings
+none_made store conn e settings = record { clean = tt; blank = tt; stands = tt; live = tt }

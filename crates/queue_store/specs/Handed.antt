@@ -1,17 +1,24 @@
 -- What comes of a connection that a book takes, where a refusal hands back its store alone or nothing.
-use Rattle.std.specs.Prelude.{◌≡◌, IfErr, IfOk, IsTrue, Result}
+use Rattle.std.specs.Prelude.{◌≡◌, ◌≢◌, IfErr, IfOk, IfSome, IsTrue, Option, Result}
+use Rattle.sqlite.specs.Files.{HoldsDatabase, IsCleanLeft, over_files}
 use Rattle.sqlite.specs.Held.{Held, state}
 use Rattle.sqlite.specs.State.{HasCleanDisk}
+use Rattle.sqlite.specs.declared.file.Leftover.{Leftover}
+use Rattle.sqlite_disk.specs.declared.Disk as disk
+use Rattle.sqlite_store.specs.declared.store.FileStore.{FileStore}
 use Rattle.sqlite_trees.specs.Tree.{Trees}
 use Rattle.sqlite_trees.specs.View.{IsClean}
 use Rattle.sqlite_trees.specs.declared.store.Store.{Ghosts}
+use Rattle.sqlite_wal.specs.Recovery.{Image}
 use Rattle.queue_types.specs.Settings.{SettingValues}
 use Rattle.queue_core.specs.World.{World, empty_queue}
 use Rattle.queue_core.specs.declared.book.BookFault.{BookFault}
 use Rattle.queue_core.specs.declared.book.BookFault.TheVariants.{Damaged}
 use Rattle.queue_load.specs.Queues.{IsQueueIn}
 use Rattle.queue_load.specs.Store.{FitsIn}
+use Rattle.queue_store.specs.Crash.{IsKept, StillHolds}
 use Rattle.queue_store.specs.Kept.{IsHonest, StandsFor, StandsForOne, shown_by, without_limit}
+use Rattle.queue_store.specs.Opened.{FitsFile, IsFaultless, IsKeptIn}
 use Rattle.queue_store.specs.declared.book.TableBook.{TableBook}
 use Rattle.queue_tables.specs.Leaving.{LeavesTables}
 use Rattle.queue_tables.specs.Tables.{no_schema}
@@ -35,3 +42,12 @@ pub record AdoptsBook {S : Type 0} (store : Ghosts S) (conn : Held S) (result : 
   pub clean : IfErr result (λ e. IsClean (store.view e.1) → HasCleanDisk (state store conn))
   pub damaged : FitsIn (state store conn) → IfErr result (λ e. IsClean (store.view e.1) → e.0 ≡ Damaged → (w : World) → ¬ IsQueueIn w (state store conn).now)
   pub left : IfErr result (λ e. IsClean (store.view e.1) → (db : Trees) → store.recovers e.1 db → (state store conn).may_leave db)
+
+-- the book that files keep which held this image, or what is left of them
+pub record OpensBook {D : Type 0} {g : disk.Ghosts D} (image : Image) (result : Result (TableBook (FileStore D g)) (BookFault × Option (Leftover D g))) : Type 0 where
+  pub stands : FitsFile image → IfOk result (λ b. StandsForOne over_files b)
+  pub kept : FitsFile image → IfOk result (λ b. IsHonest over_files b → (w : World) × IsKeptIn image w × StandsFor over_files b w)
+  pub again : (w : World) → IsKept image w → IfOk result (λ b. StandsFor over_files b w)
+  pub live : (w : World) → IsKept image w → IfOk result (λ b. IsHonest over_files b → IsTrue (shown_by over_files b).is_open)
+  pub damaged : (w : World) → IsKept image w → IfErr result (λ e. IsFaultless e.1 → e.0 ≢ Damaged)
+  pub unharmed : (db : Trees) → HoldsDatabase image db → IfErr result (λ e. IfSome e.1 (λ left. IsCleanLeft left → StillHolds image left db))

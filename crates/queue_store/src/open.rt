@@ -12,7 +12,7 @@ ghost use Rattle.sqlite_wal.specs.Recovery.{Image};
 ghost use Rattle.queue_core.specs.World.{World, empty_queue};
 ghost use Rattle.queue_store.specs.Closed.{KeepAlone, LeavesNoMore};
 ghost use Rattle.queue_store.specs.Crash.{IsKept, KeepOneOf, KeepTogether, StillHolds};
-ghost use Rattle.queue_store.specs.Handed.{AdoptsBook, IsBehind, MakesBook};
+ghost use Rattle.queue_store.specs.Handed.{AdoptsBook, IsBehind, MakesBook, OpensBook};
 ghost use Rattle.queue_store.specs.Kept.{IsHonest, StandsFor, StandsForOne, shown_by};
 ghost use Rattle.queue_store.specs.Opened.{FitsFile, HasNoTables, IsFaultless, IsKeptIn, open_fault};
 ghost use Rattle.queue_tables.specs.Content.{LeavesOneOf};
@@ -152,6 +152,23 @@ fn make_in_files<D: Disk + Drop>(
     }
 }
 
+/// The book that the files of a connection hold. A refusal hands back what is left of them.
+fn adopt_or_left<S: Start>(
+    alloc: Global,
+    conn: Connection<FileStore<FileFrom<S>>>,
+) -> Result<TableBook<FileStore<FileFrom<S>>>, (BookFault, Option<Leftover<FileFrom<S>>>)>
+    requires opened { HasCleanDisk (file_state conn) → IsOpened conn }
+    requires found { HasCleanDisk (file_state conn) → FindsIn (image_at S.Start) (file_state conn) }
+    ensures { OpensBook (image_at S.Start) result }
+{
+    tables_hold_one_queue();
+    trees_list_one_schema();
+    match make_or_adopt_in_files(alloc, conn, None) {
+        Ok(book) => Ok(book),
+        Err((fault, store)) => Err((fault, Some(Leftover::Store(store)))),
+    }
+}
+
 impl<D: Disk + Drop> TableBook<FileStore<D>> {
     /// Gives the files of the book back as they are, without reading or writing: what a crash leaves of the book is what
     /// it leaves of them. While the book is open, as after each Ok, that is the queue that it stands for.
@@ -223,13 +240,8 @@ impl<S: Start> TableBook<FileStore<FileFrom<S>>> {
         ensures unharmed { (db : Trees) → HoldsDatabase (image_at S.Start) db → IfErr result (λ e. IfSome e.1 (λ left. IsCleanLeft left → StillHolds (image_at S.Start) left db)) }
         ensures memory { path.now ≡ codes ":memory:" → IsErrAnd result (λ e. e.0 ≡ BookFault.Disk) }
     {
-        tables_hold_one_queue();
-        trees_list_one_schema();
         let conn = connect_or_left(rt, path, start)?;
-        match make_or_adopt_in_files(rt.alloc(), conn, None) {
-            Ok(book) => Ok(book),
-            Err((fault, store)) => Err((fault, Some(Leftover::Store(store)))),
-        }
+        adopt_or_left(rt.alloc(), conn)
     }
 
     /// As `open_or_left`, but an error lets go what is left of the files.

@@ -83,8 +83,8 @@ const TAKEN: &[u8] = b"\r\n\r\nok ";
 /// How many calls are drawn from.
 pub(super) const KINDS: usize = 45;
 
-/// The calls that are drawn.
-pub(super) static ROWS: [Row; KINDS] = [
+/// The calls that are drawn of the clients.
+static CLIENT_ROWS: [Row; 22] = [
     (
         3,
         Call::Message(0x02, ALICE, b"hi"),
@@ -207,6 +207,10 @@ pub(super) static ROWS: [Row; KINDS] = [
         b"\x01\x01\x04\x00",
         "a message breaks off",
     ),
+];
+
+/// The calls that are drawn of the device, and those that are neither's.
+static DEVICE_ROWS: [Row; 23] = [
     (12, Call::Report("start", 0), TAKEN, "a job begins"),
     (8, Call::Report("stop", 4), TAKEN, "the device stops"),
     (10, Call::Report("resume", 4), TAKEN, "the device goes on"),
@@ -314,6 +318,16 @@ pub(super) static ROWS: [Row; KINDS] = [
     ),
     (1, Call::Stream(POST_JOB, b""), b"", "a connection is cut"),
 ];
+
+/// The calls that are drawn of the clients. They are given apart from the others, since one function that names the literals of all rows takes the prover four times as long.
+pub(super) fn client_rows() -> &'static [Row] {
+    &CLIENT_ROWS
+}
+
+/// The calls that are drawn of the device, and those that are neither's.
+pub(super) fn device_rows() -> &'static [Row] {
+    &DEVICE_ROWS
+}
 
 /// How often they are drawn, all of them.
 pub(super) const ALL_WEIGHTS: u32 = 121;

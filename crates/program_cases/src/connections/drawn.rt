@@ -3,7 +3,7 @@ ghost use Rattle.std.specs.Prelude.{◌<◌};
 ghost use Rattle.queue_core.specs.Limits.{IsMoment};
 
 use crate::connections::calls::{
-    ALL_WEIGHTS, Call, Drawn, KINDS, LOOKS, LOOKS_AT_JOB, ROWS, Row, stream_of,
+    ALL_WEIGHTS, Call, Drawn, KINDS, LOOKS, LOOKS_AT_JOB, Row, client_rows, device_rows, stream_of,
 };
 use crate::desk::books::{DeskBook, MemoryBook, grant_in};
 use crate::desk::compare::{Mismatch, Place, Subject};
@@ -280,5 +280,7 @@ fn draw_from<A: DeskBook, B: DeskBook>(alloc: Global, rows: &[Row]) -> Result<()
 
 #[test]
 fn five_hundred_connections_in_a_row(rt: HostRuntime) -> Result<(), Mismatch> {
-    draw_from::<ListBook, MemoryBook>(rt.alloc(), &ROWS)
+    let alloc = rt.alloc();
+    let rows = [client_rows(), device_rows()].concat(alloc)?;
+    draw_from::<ListBook, MemoryBook>(alloc, rows.as_slice())
 }

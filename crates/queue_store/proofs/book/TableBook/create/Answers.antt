@@ -1,6 +1,17 @@
+use Rattle.std.proofs.Common.{◌≡◌, ◌∙◌, refl, sym}
+use Rattle.queue_core.specs.declared.book.BookFault.TheVariants.{Damaged as BookDamaged}
 use Rattle.queue_store.proofs.Lifted.{new_live, new_stands, was_clean}
+use Rattle.queue_tables.specs.Faults.{told_as}
+use Rattle.queue_tables.specs.declared.fault.Fault.{Fault}
+use Rattle.queue_tables.specs.declared.fault.Fault.TheVariants.{Memory, Disk, Damaged}
 use Rattle.queue_store.specs.Laws.{open_leaves}
 use Rattle.queue_store.proofs.book.TableBook.create.Goals as goal
+
+-- a fault that is told as Damaged is one
+told_damaged : (fault : Fault) → told_as fault ≡ BookDamaged → fault ≡ Damaged
+told_damaged Memory is = absurd (let no = is in cc)
+told_damaged Disk is = absurd (let no = is in cc)
+told_damaged Damaged is = refl
 
 pub returns-in-Ok-clause-clean : goal.returns-in-Ok-clause-clean
 returns-in-Ok-clause-clean g c honest = c.in-Ok.ensures.makes.clean (was_clean g.S.Store c.over.result c.make_new.new.conn c.over.ensures.lifted honest)
@@ -40,3 +51,6 @@ returns-in-Ok-clause-untouched g c = tt
 
 pub returns-in-Ok-clause-inside : goal.returns-in-Ok-clause-inside
 returns-in-Ok-clause-inside g c = λ within. absurd (let no = (c.in-Ok.ensures.inside within).0 in cc)
+
+pub returns-in-Err-clause-damaged : goal.returns-in-Err-clause-damaged
+returns-in-Err-clause-damaged g c = λ told. c.in-Err.ensures.damaged (told_damaged c.in-Err.fault (sym c.from.ensures ∙ told))
