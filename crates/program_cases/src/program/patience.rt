@@ -60,12 +60,21 @@ const LEAVES_THE_DEVICE: &[Step<'static>] = &[
     Gets(1, All(&[Success(IPP, JOB_2)])),
 ];
 
-/// So it does over a book in which the document is released, and the device gets a front of that.
-fn is_left_unread<B: DeskBook>(rt: &HostRuntime, document: &[u8]) -> Result<(), Fail> {
-    let mut server = Server::over(rt, released::<B>(rt.alloc(), document)?)?;
+/// So it does at a server, and what the device gets of job 1 is a front of this document.
+fn leaves_the_device<B: DeskBook>(
+    rt: &HostRuntime,
+    server: &mut Server<B>,
+    document: &[u8],
+) -> Result<(), Fail> {
     server.take_each(rt, "a client that does not read", LEAVES_THE_DEVICE)?;
     server.get(0, Front(&[Success(OCTETS, document)]))?;
     Ok(())
+}
+
+/// So it does over a book in which the document is released.
+fn is_left_unread<B: DeskBook>(rt: &HostRuntime, document: &[u8]) -> Result<(), Fail> {
+    let mut server = Server::over(rt, released::<B>(rt.alloc(), document)?)?;
+    leaves_the_device(rt, &mut server, document)
 }
 
 /// A server that waited for it would wait for ever, and the test would be cut off.
