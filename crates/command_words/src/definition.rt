@@ -73,16 +73,43 @@ fn on_store<'a>(alloc: Global, name: &'a str, about: &'a str) -> Result<Definiti
     Definition::new(alloc, name).about(about).arg(store(alloc))
 }
 
+/// The option with the printer's URI.
+fn printer_uri<'a>(alloc: Global) -> Arg<'a>
+    ensures rule { rule_of result ≡ text_rule (codes "uri") }
+    ensures own { result.global ≡ false }
+{
+    text(
+        alloc,
+        "uri",
+        "URI",
+        "The printer's URI, with the path /ipp/print",
+    )
+}
+
+/// The option with the printer's name.
+fn printer_name<'a>(alloc: Global) -> Arg<'a>
+    ensures rule { rule_of result ≡ text_rule (codes "name") }
+    ensures own { result.global ≡ false }
+{
+    text(alloc, "name", "NAME", "The printer's name")
+}
+
+/// The option with the pages that a copy is taken to have.
+fn estimate<'a>(alloc: Global) -> Arg<'a>
+    ensures rule { rule_of result ≡ optional_rule (codes "estimate") 0 100000 (codes "20") }
+    ensures own { result.global ≡ false }
+{
+    let help = "Pages to take for one copy of a job that doesn't tell them";
+    optional(alloc, ESTIMATE, "N", help, USUAL_ESTIMATE)
+}
+
 fn init<'a>(alloc: Global) -> Result<Definition<'a>, AllocError>
     ensures { IfOk result (IsPart init_words) }
 {
-    let uri = "The printer's URI, with the path /ipp/print";
-    let name = "The printer's name";
-    let estimate = "Pages to take for one copy of a job that doesn't tell them";
     on_store(alloc, "init", "Make a new store")?
-        .arg(text(alloc, "uri", "URI", uri))?
-        .arg(text(alloc, "name", "NAME", name))?
-        .arg(optional(alloc, ESTIMATE, "N", estimate, USUAL_ESTIMATE))
+        .arg(printer_uri(alloc))?
+        .arg(printer_name(alloc))?
+        .arg(estimate(alloc))
 }
 
 fn import<'a>(alloc: Global) -> Result<Definition<'a>, AllocError>
@@ -107,16 +134,39 @@ fn statement<'a>(alloc: Global) -> Result<Definition<'a>, AllocError>
     ))
 }
 
+/// The option with the port to listen at.
+fn port<'a>(alloc: Global) -> Arg<'a>
+    ensures rule { rule_of result ≡ number_rule (codes "port") 1 65535 }
+    ensures own { result.global ≡ false }
+{
+    number(alloc, PORT, "P", "The port on 127.0.0.1")
+}
+
+/// The option with the number of connections to serve.
+fn connections<'a>(alloc: Global) -> Arg<'a>
+    ensures rule { rule_of result ≡ number_rule (codes "connections") 1 4294967295 }
+    ensures own { result.global ≡ false }
+{
+    let help = "How many connections to serve, one after another";
+    number(alloc, CONNECTIONS, "N", help)
+}
+
+/// The option with the time that a read or a write may wait.
+fn timeout<'a>(alloc: Global) -> Arg<'a>
+    ensures rule { rule_of result ≡ optional_rule (codes "timeout") 1 3600 (codes "5") }
+    ensures own { result.global ≡ false }
+{
+    let help = "How long a read or a write may wait; a connection ends after 60 times as long";
+    optional(alloc, TIMEOUT, "SECONDS", help, USUAL_TIMEOUT)
+}
+
 fn serve<'a>(alloc: Global) -> Result<Definition<'a>, AllocError>
     ensures { IfOk result (IsPart serve_words) }
 {
-    let port = "The port on 127.0.0.1";
-    let connections = "How many connections to serve, one after another";
-    let timeout = "How long a read or a write may wait; a connection ends after 60 times as long";
     on_store(alloc, "serve", "Serve the queue over HTTP")?
-        .arg(number(alloc, PORT, "P", port))?
-        .arg(number(alloc, CONNECTIONS, "N", connections))?
-        .arg(optional(alloc, TIMEOUT, "SECONDS", timeout, USUAL_TIMEOUT))
+        .arg(port(alloc))?
+        .arg(connections(alloc))?
+        .arg(timeout(alloc))
 }
 
 fn replay<'a>(alloc: Global) -> Definition<'a>

@@ -7,6 +7,7 @@ use crate::desk::{Desk, Place};
 use crate::shelves::disk::{Contents, Left, Remains, Stop, StoppingFile, is_one_spent};
 use crate::shelves::store::{End, Source, take_in_file_store, unopened};
 use queue_core::BookFault;
+use queue_store::TableBook;
 use queue_types::settings::Settings;
 use sqlite::{Connection, Error, ErrorCode, FileStore, Files, Options};
 use sqlite_disk::Disk;
@@ -15,17 +16,18 @@ use std::alloc::Global;
 /// More calls than a file gets in the steps of a row.
 const MOST_CALLS: u64 = 1_000_000;
 
-/// A connection over two files, or these, where they can't be opened.
-fn connect<D: Disk + Drop>(
+/// The source of a book in two files, which are opened with these options. Files that can't be opened are given back.
+fn source_in<D: Disk + Drop>(
     alloc: Global,
     files: Files<D>,
     options: Options,
-) -> Result<Connection<FileStore<D>>, (BookFault, Files<D>)> {
+    settings: Option<Settings>,
+) -> Result<Source<TableBook<FileStore<D>>, Connection<FileStore<D>>>, (BookFault, Files<D>)> {
     if !files.may_be_used() {
         return Err((BookFault::Disk, files));
     }
     match Connection::open_files(alloc, files, options) {
-        Ok(conn) => Ok(conn),
+        Ok(conn) => Ok(source_of(conn, settings)),
         Err((error, left)) => Err((fault_of(error), left.into_files())),
     }
 }
@@ -69,8 +71,8 @@ fn take_in_files(
     steps: &[Step<'_>],
     last: &[Step<'_>],
 ) -> (Result<End, StepFault>, Files<StoppingFile>) {
-    match connect(desk.alloc(), files, options) {
-        Ok(conn) => take_in_file_store(desk, source_of(conn, settings), steps, last),
+    match source_in(desk.alloc(), files, options, settings) {
+        Ok(source) => take_in_file_store(desk, source, steps, last),
         Err((fault, files)) => (unopened(fault), files),
     }
 }

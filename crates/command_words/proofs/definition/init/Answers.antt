@@ -5,8 +5,8 @@ use Rattle.command_words.proofs.definition.init.Goals as goal
 
 pub returns : goal.returns
 returns c =
-    let first = adds_argument _ _ _ _ _ c.in_ok-arg.ensures c.in_ok-on_store.ensures c.text.ensures.rule c.text.ensures.own in
-    let second = adds_argument _ _ _ _ _ c.in_ok-arg-2.ensures first c.text-2.ensures.rule c.text-2.ensures.own in
+    let first = adds_argument _ _ _ _ _ c.in_ok-arg.ensures c.in_ok-on_store.ensures c.printer_uri.ensures.rule c.printer_uri.ensures.own in
+    let second = adds_argument _ _ _ _ _ c.in_ok-arg-2.ensures first c.printer_name.ensures.rule c.printer_name.ensures.own in
     IfOk-weaker c.arg-3.result _ (IsPart _)
-    (λ x h. adds_argument _ _ _ _ x h second c.optional.ensures.rule c.optional.ensures.own)
+    (λ x h. adds_argument _ _ _ _ x h second c.estimate.ensures.rule c.estimate.ensures.own)
     c.arg-3.ensures

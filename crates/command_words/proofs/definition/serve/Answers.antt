@@ -5,8 +5,8 @@ use Rattle.command_words.proofs.definition.serve.Goals as goal
 
 pub returns : goal.returns
 returns c =
-    let first = adds_argument _ _ _ _ _ c.in_ok-arg.ensures c.in_ok-on_store.ensures c.number.ensures.rule c.number.ensures.own in
-    let second = adds_argument _ _ _ _ _ c.in_ok-arg-2.ensures first c.number-2.ensures.rule c.number-2.ensures.own in
+    let first = adds_argument _ _ _ _ _ c.in_ok-arg.ensures c.in_ok-on_store.ensures c.port.ensures.rule c.port.ensures.own in
+    let second = adds_argument _ _ _ _ _ c.in_ok-arg-2.ensures first c.connections.ensures.rule c.connections.ensures.own in
     IfOk-weaker c.arg-3.result _ (IsPart _)
-    (λ x h. adds_argument _ _ _ _ x h second c.optional.ensures.rule c.optional.ensures.own)
+    (λ x h. adds_argument _ _ _ _ x h second c.timeout.ensures.rule c.timeout.ensures.own)
     c.arg-3.ensures

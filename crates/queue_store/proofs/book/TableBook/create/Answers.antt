@@ -1,4 +1,4 @@
-use Rattle.std.proofs.Common.{◌≡◌, ◌∙◌, refl, sym}
+use Rattle.std.proofs.Common.{◌≡◌, ◌∙◌, ap, refl, sym}
 use Rattle.queue_core.specs.declared.book.BookFault.TheVariants.{Damaged as BookDamaged}
 use Rattle.queue_store.proofs.Lifted.{new_live, new_stands, was_clean}
 use Rattle.queue_tables.specs.Faults.{told_as}
@@ -52,5 +52,42 @@ returns-in-Ok-clause-untouched g c = tt
 pub returns-in-Ok-clause-inside : goal.returns-in-Ok-clause-inside
 returns-in-Ok-clause-inside g c = λ within. absurd (let no = (c.in-Ok.ensures.inside within).0 in cc)
 
+pub returns-in-Err-clause-clean : goal.returns-in-Err-clause-clean
+returns-in-Err-clause-clean g c = tt
+
+pub returns-in-Err-clause-blank : goal.returns-in-Err-clause-blank
+returns-in-Err-clause-blank g c = tt
+
+pub returns-in-Err-clause-stands : goal.returns-in-Err-clause-stands
+returns-in-Err-clause-stands g c = tt
+
+pub returns-in-Err-clause-live : goal.returns-in-Err-clause-live
+returns-in-Err-clause-live g c = tt
+
 pub returns-in-Err-clause-damaged : goal.returns-in-Err-clause-damaged
 returns-in-Err-clause-damaged g c = λ told. c.in-Err.ensures.damaged (told_damaged c.in-Err.fault (sym c.from.ensures ∙ told))
+
+pub returns-in-Err-clause-taken : goal.returns-in-Err-clause-taken
+returns-in-Err-clause-taken g c = λ taken.
+    let is : c.in-Err.fault ≡ Damaged = let is = c.in-Err.ensures.taken taken in cc in
+    c.from.ensures ∙ ap told_as is
+
+pub returns-in-Err-clause-others : goal.returns-in-Err-clause-others
+returns-in-Err-clause-others g c = λ other free.
+    let is : c.in-Err.fault ≡ Disk = let is = c.in-Err.ensures.others other free in cc in
+    c.from.ensures ∙ ap told_as is
+
+pub returns-in-Err-clause-lasts : goal.returns-in-Err-clause-lasts
+returns-in-Err-clause-lasts g c = tt
+
+pub returns-in-Err-clause-handed : goal.returns-in-Err-clause-handed
+returns-in-Err-clause-handed g c = c.in-Err.ensures.makes.refused
+
+pub returns-in-Err-clause-crash : goal.returns-in-Err-clause-crash
+returns-in-Err-clause-crash g c = c.in-Err.ensures.makes.crash (c.empty_is_sound.ensures c.args.settings c.estimate-estimate.ensures.limits)
+
+pub returns-in-Err-clause-untouched : goal.returns-in-Err-clause-untouched
+returns-in-Err-clause-untouched g c = c.in-Err.ensures.untouched
+
+pub returns-in-Err-clause-inside : goal.returns-in-Err-clause-inside
+returns-in-Err-clause-inside g c = λ within. (c.in-Err.ensures.inside within).1
