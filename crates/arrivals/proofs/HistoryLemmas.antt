@@ -1,5 +1,5 @@
 -- A list of arrivals grows by one, and what a run keeps.
-use Rattle.std.proofs.Common.{◌≡◌, ◌∙◌, ℕ, ◌+◌, zero, suc, List, [], ◌∷◌, ◌++◌, Option, None, Some, inl, refl, sym, ap, subst, append_assoc, append-nil, take}
+use Rattle.std.proofs.Common.{◌≡◌, ◌∙◌, ℕ, ◌+◌, zero, suc, List, [], ◌∷◌, ◌++◌, Option, None, Some, Result, Ok, Err, IsErrAnd, Vec, inl, refl, sym, ap, subst, append_assoc, append-nil, take}
 use Rattle.std.specs.List.{AllByRecursion as Each}
 use Rattle.std.proofs.KnownBytes.{Appends-nil, Appends-trans}
 use Rattle.std.proofs.Math.Numerals.{add-one}
@@ -10,7 +10,7 @@ use Rattle.queue_core.specs.Runs.{Place, IsPlace, Follows, MovesAlong, after, ru
 use Rattle.queue_core.specs.Sound.{Balances, IsSound}
 use Rattle.queue_core.specs.World.{World, job_at, rows}
 use Rattle.queue_core.specs.declared.book.QueueBook.{Ghosts}
-use Rattle.arrivals.specs.Books.{HistoryOver, IsTakenOver}
+use Rattle.arrivals.specs.Books.{CameTo, HistoryOver, IsTakenOver}
 use Rattle.arrivals.specs.Crash.{IsAskedBy, Carries}
 use Rattle.arrivals.specs.History.{AreTaken}
 use Rattle.arrivals.specs.Taken.{IsTaken, Takes}
@@ -102,6 +102,11 @@ none_taken book b w os v e s = record {
   comes = subst (λ (z : List Outcome). AreTaken w [] z [] [] w) (sym e) (refl, refl, refl);
   is_left = carries_none (book.crash_leaves b) os w;
 }
+
+-- after an error none was taken
+pub came_to_none : {Z E : Type 0} (Q : E → Type 0) (w : World) (arrivals : List Arrival) (r : Result (Vec Outcome Z) E) → IsErrAnd r Q → CameTo w arrivals r [] w
+came_to_none Q w arrivals (Ok outcomes) h = absurd h
+came_to_none Q w arrivals (Err e) h = (refl, refl)
 
 -- the same of lists by other names
 pub taken_by : {B : Type 0} (book : Ghosts B) (old new : B) (w : World) (v x : Option (List ℕ)) (xs ys : List Arrival) (os qs : List Outcome) → ys ≡ xs → qs ≡ os

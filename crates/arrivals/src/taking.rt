@@ -4,7 +4,7 @@ ghost use Rattle.std.specs.List.{AllByRecursion};
 ghost use Rattle.std.specs.Io.KnownBytes.{Keeps};
 ghost use Rattle.queue_core.specs.Limits.{IsMoment};
 ghost use Rattle.queue_core.specs.World.{World};
-ghost use Rattle.arrivals.specs.Books.{HistoryOver, IsTakenOver, LeavesAtMostOneMore};
+ghost use Rattle.arrivals.specs.Books.{CameTo, HistoryOver, IsTakenOver, LeavesAtMostOneMore};
 ghost use Rattle.arrivals.specs.Crash.{IsAskedBy, outcomes_of};
 ghost use Rattle.arrivals.specs.Taken.{IsFaultless};
 ghost use Rattle.arrivals.specs.declared.arrival.Arrived.TheVariants.{AccountFile, Connection, Line};
@@ -109,10 +109,10 @@ pub fn take_all<W: Write, B: QueueBook>(
         → HistoryOver B.QueueBook book.old book.new w arrivals.now outcomes.items (W.contents writer.old) (W.contents writer.new)) }
     // what shuts a book is told as a fault, or breaks a document off
     ensures live { B.is_honest book.new → B.is_live book.old → IfOk result (λ outcomes. AllByRecursion IsFaultless outcomes.items → B.is_live book.new) }
-    // whatever it answers, a crash at any moment leaves the queue that the machine came to, or the one after one event more, which one of the arrivals
-    // asked for at its moment, of which a fault was told, and before which the queue was that already
+    // whatever it answers, a crash at any moment leaves the queue to which the arrivals brought the machine, or that queue after one event more: one of
+    // them asked for that event at its moment and was told a fault of it, and the queue before it was the same already
     ensures crash { B.is_honest book.new → B.is_live book.old → (w : World) → B.stands book.old w → settings.now ≡ w.settings
-        → LeavesAtMostOneMore B.QueueBook book.new w (IsAskedBy arrivals.now (outcomes_of result) w) }
+        → LeavesAtMostOneMore B.QueueBook book.new w (CameTo w arrivals.now result) (IsAskedBy arrivals.now (outcomes_of result) w) }
     ensures err { OnErr result (book.new ≡ book.old) }
     ensures unwritten { OnErr result (Keeps (W.contents writer.old) (W.contents writer.new)) }
 {

@@ -2,7 +2,8 @@ use Rattle.std.proofs.Common.{◌+◌, List, [], ◌∷◌, ◌++◌, arith, ap,
 use Rattle.std.proofs.lemmas.List.{take_all, take_more}
 use Rattle.arrivals.specs.Crash.{IsAskedBy, IsAtMostOneMore}
 use Rattle.arrivals.proofs.CrashLemmas.{left_one}
-use Rattle.arrivals.proofs.HistoryLemmas.{each_before_last, history_of, more_taken, none_taken, settings_after, taken_by}
+use Rattle.arrivals.proofs.HistoryLemmas.{came_to_none, each_before_last, history_of, more_taken, none_taken, settings_after, taken_by}
+use Rattle.arrivals.specs.History.{AreTaken}
 use Rattle.arrivals.specs.Taken.{IsFaultless}
 use Rattle.arrivals.specs.declared.arrival.Arrival.{Arrival}
 use Rattle.arrivals.specs.declared.arrival.Arrived.TheVariants.{Connection}
@@ -57,6 +58,11 @@ returns-clause-crash g c = λ honest live w s set.
       queue = t.after;
       stands = t.stands_after;
       places = t.places;
+      came = (
+        t.written,
+        subst (λ (xs : List Arrival). AreTaken w xs c.loop-arrival.outcomes.items t.written t.places t.after)
+            (take_all c.loop-arrival.arrival-index c.args.arrivals.now c.loop-arrival-test.false) t.comes,
+      );
       are = t.are;
       run_is = t.run_is;
       left = l.0;
@@ -67,4 +73,4 @@ returns-clause-crash g c = λ honest live w s set.
 
 pub returns-in_err-outcomes-clause-crash : goal.returns-in_err-outcomes-clause-crash
 returns-in_err-outcomes-clause-crash g c = λ honest live w s set.
-    record { queue = w; stands = s; places = []; are = tt; run_is = refl; left = w; leaves = g.met.B.QueueBook.lasts c.args.book.now w w honest live s; one_more = inl refl }
+    record { queue = w; stands = s; places = []; came = came_to_none _ w c.args.arrivals.now c.from_residual.result c.from_residual.ensures.1; are = tt; run_is = refl; left = w; leaves = g.met.B.QueueBook.lasts c.args.book.now w w honest live s; one_more = inl refl }
