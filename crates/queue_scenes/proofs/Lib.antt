@@ -14,3 +14,4 @@ pub mod Known
 pub mod Told
 pub mod Picked
 pub mod Bounds
+pub mod SheetLemmas

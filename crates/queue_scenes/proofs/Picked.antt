@@ -114,12 +114,12 @@ picked_same p ms ns same (j ∷ js) =
       | inr fails ↦ rw (here ∙ fails, fails) (picked_same p ms ns same js)
     ]
 
--- what is picked among those that pass
-pub picked_among : (p : Job → Bool) (ns : List ℕ) (js : List Job) → filter (λ (j : Job). has j.number ns) (filter p js) ≡ filter (λ (j : Job). p j && has j.number ns) js
-picked_among p ns [] = refl
-picked_among p ns (j ∷ js) = elim (cases_Bool (p j)) [
-  | inl passes ↦ elim (cases_Bool (has j.number ns)) [ inl there ↦ rw (passes, there, picked_among p ns js) refl | inr gone ↦ rw (passes, gone, picked_among p ns js) refl ]
-  | inr fails ↦ rw (fails, picked_among p ns js) refl
+-- those that pass a second test, among those that pass a first
+pub picked_among : (p q : Job → Bool) (js : List Job) → filter q (filter p js) ≡ filter (λ (j : Job). p j && q j) js
+picked_among p q [] = refl
+picked_among p q (j ∷ js) = elim (cases_Bool (p j)) [
+  | inl passes ↦ elim (cases_Bool (q j)) [ inl there ↦ rw (passes, there, picked_among p q js) refl | inr gone ↦ rw (passes, gone, picked_among p q js) refl ]
+  | inr fails ↦ rw (fails, picked_among p q js) refl
 ]
 
 pub taken_more : (ns : List ℕ) (i k : ℕ) → i < length ns → k ≡ get_or ns i k → take (i + 1) ns ≡ take i ns ++ k ∷ []

@@ -1,4 +1,5 @@
-//! The rows that an event needs, read from the tables by SELECTs that each go by a key or an index.
+//! The rows that an event needs, the jobs that the device may start, and the sheet of an account, by SELECTs that each go by
+//! a key or an index.
 #![tactic(auto)]
 
 mod accounts;
@@ -12,6 +13,8 @@ mod own_jobs;
 mod own_numbers;
 mod pending_jobs;
 mod reports;
+mod sheets;
 
 pub use event_scene::scene;
 pub use pending_jobs::pending;
+pub use sheets::sheet;

@@ -103,6 +103,7 @@ fn are_many<S: Alter>(conn: &mut Connection<S>, owner: &str, numbers: &[u32]) ->
     ensures live { HasCleanDisk (state S.Store conn.new) → IsTrue (state S.Store conn.old).is_open → OnOk result (IsTrue (state S.Store conn.new).is_open) }
     ensures never { IfErr result (λ e. e ≢ Fault.Damaged) }
 {
+    // a call that cancels names no more jobs than may be live: each job that it names has to be live
     if numbers.len() <= MOST_LIVE_JOBS {
         return Ok(false);
     }

@@ -6,8 +6,6 @@ pub mod Writes
 pub mod Sending
 pub mod RowByRow
 pub mod PiecesSent
-pub mod OwnedJobs
-pub mod SheetLemmas
 pub mod ShortDocuments
 pub mod Damage
 pub mod PieceRows

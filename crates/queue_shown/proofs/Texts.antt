@@ -8,7 +8,7 @@ use Rattle.sqlite_value.specs.Keys.{ascending as plain_key}
 use Rattle.sqlite_resolve.specs.Compile.{first}
 use Rattle.sqlite_tied.specs.Compute.{everything}
 use Rattle.sqlite.specs.Listing.{understood}
-use Rattle.queue_tables.proofs.Statements.{IsSelection, Selection, jobs_selected}
+use Rattle.queue_tables.proofs.Statements.{IsSelection, Selection}
 
 -- ---- SELECT jobs: what the state of a job comes from
 
@@ -57,12 +57,3 @@ select_pieces = record {
 pub select_pieces_is : IsSelection select_pieces
 unfolding understood first everything
 select_pieces_is = record { shows = record { command = refl; plain = (refl, refl); query = refl; unlisted = refl }; plainly = λ db. refl }
-
--- ---- SELECT jobs of an owner
-
-abbrev pub select_owned : Selection
-select_owned = jobs_selected (codes " FROM jobs WHERE owner = ?1 ORDER BY number") (op2 (Compare Eq Binary) (col 1 2) (col 0 0) ∷ []) ((col 1 0, plain_key Binary) ∷ [])
-
-pub select_owned_is : IsSelection select_owned
-unfolding understood first everything
-select_owned_is = record { shows = record { command = refl; plain = (refl, refl); query = refl; unlisted = refl }; plainly = λ db. refl }

@@ -3,4 +3,3 @@ pub mod Heads
 pub mod Sent
 pub mod Sending
 pub mod Stops
-pub mod Sheets

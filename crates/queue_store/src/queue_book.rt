@@ -73,7 +73,7 @@ impl<S: Alter> QueueBook for TableBook<S> {
     }
 
     fn sheet(&mut self, account: &str) -> Result<Option<AccountSheet>, BookFault> {
-        Ok(queue_shown::sheet(self.alloc, &mut self.conn, account)?)
+        Ok(queue_scenes::sheet(self.alloc, &mut self.conn, account)?)
     }
 
     ghost sound = { λ b w honest h. (h honest).sound };

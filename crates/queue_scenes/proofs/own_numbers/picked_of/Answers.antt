@@ -16,4 +16,4 @@ pub returns-clause-reads : goal.returns-clause-reads
 returns-clause-reads g c =
     let t = λ (j : Job). has j.number c.args.numbers.now in
     tells (told c.in_ok-own.ensures.reads c.in_ok-own.ensures.live) (λ w sound is.
-    c.keep_numbered.ensures c.requires ∙ ap (filter t) is ∙ picked_among (λ (j : Job). bytes_eq j.owner c.args.owner.now) c.args.numbers.now (rows w))
+    c.keep_numbered.ensures c.requires ∙ ap (filter t) is ∙ picked_among (λ (j : Job). bytes_eq j.owner c.args.owner.now) t (rows w))

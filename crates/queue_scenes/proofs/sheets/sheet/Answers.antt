@@ -1,15 +1,17 @@
 use Rattle.std.proofs.Common.{◌∙◌, sym, refl, rules}
-use Rattle.queue_shown.proofs.SheetLemmas.{adds_up, granted_of, no_sheet, whole_sheet}
+use Rattle.queue_scenes.proofs.Bounds.{account_fits}
+use Rattle.queue_scenes.proofs.SheetLemmas.{granted_of, no_sheet, whole_sheet}
 use Rattle.queue_tables.proofs.Leaving.{leaves_then}
 use Rattle.queue_tables.proofs.Telling.{fails_behind, refuses, tells, told, told_then}
-use Rattle.queue_shown.proofs.sheets.sheet.Goals as goal
+use Rattle.queue_scenes.proofs.sheets.sheet.Goals as goal
 
 pub returns-in_default-clause-reads : goal.returns-in_default-clause-reads
 returns-in_default-clause-reads g c = tells (told c.in_ok-found.ensures.reads c.in_ok-found.ensures.live) (λ w sound is. no_sheet w c.args.account.now (sym c.in_default.is ∙ is))
 
 pub returns-in_err-granted-clause-reads : goal.returns-in_err-granted-clause-reads
 returns-in_err-granted-clause-reads g c = refuses (told c.in_ok-found.ensures.reads c.in_ok-found.ensures.live) c.in_ok-found.ensures.live (λ d w sound is.
-    adds_up w c.args.account.now c.in-Some.pages sound (sym c.in-Some.is ∙ is) c.in_err-granted.ensures.damaged) _ c.from_residual-in_err-granted.ensures.1
+    let fits = account_fits w c.args.account.now sound c.in-Some.pages (sym c.in-Some.is ∙ is) in
+    c.in_err-granted.ensures.damaged fits.0 fits.1 fits.3 fits.4) _ c.from_residual-in_err-granted.ensures.1
 
 pub returns-in_err-jobs-clause-reads : goal.returns-in_err-jobs-clause-reads
 returns-in_err-jobs-clause-reads g c = fails_behind c.find_account.ensures.reads.leaves c.in_err-jobs.ensures.reads _ c.from_residual-in_err-jobs.ensures.1
