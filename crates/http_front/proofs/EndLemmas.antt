@@ -12,7 +12,7 @@ use Rattle.http_head.specs.declared.end.End.TheVariants.{Closed as EndClosed, Cu
 use Rattle.http_head.specs.declared.end.Finish.{Finish}
 use Rattle.http_head.specs.declared.end.Finish.TheVariants.{Closed, Cut, Refused}
 use Rattle.http_head.specs.declared.end.Refusal.{Refusal}
-use Rattle.http_head.specs.declared.end.Refusal.TheVariants.{BadRequest, NotFound, PostAllowed, LengthRequired, ContentTooLarge, UnsupportedMediaType, HeaderFieldsTooLarge, ServiceUnavailable}
+use Rattle.http_head.specs.declared.end.Refusal.TheVariants.{BadRequest, NotFound, OnlyPostAllowed, LengthRequired, ContentTooLarge, UnsupportedMediaType, HeaderFieldsTooLarge, ServiceUnavailable}
 use Rattle.http_head.specs.declared.framing.Framing.{Framing}
 use Rattle.http_head.specs.declared.framing.Framing.TheVariants.{Nothing, Sized, Chunked}
 use Rattle.http_head.specs.declared.target.Target.{Target}
@@ -79,7 +79,7 @@ end_no_turn laws now w t bytes r _ _ is e (headed h rest end last begins behind)
 
 abbrev refusal_with : ℕ → Refusal
 refusal_with code =
-    if code == 400 then BadRequest else (if code == 404 then NotFound else (if code == 405 then PostAllowed else (if code == 411 then LengthRequired
+    if code == 400 then BadRequest else (if code == 404 then NotFound else (if code == 405 then OnlyPostAllowed else (if code == 411 then LengthRequired
     else (if code == 413 then ContentTooLarge else (if code == 415 then UnsupportedMediaType else (if code == 431 then HeaderFieldsTooLarge else ServiceUnavailable))))))
 
 abbrev finish_with : End → Finish

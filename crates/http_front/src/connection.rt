@@ -3,7 +3,7 @@ ghost use Rattle.std.specs.Prelude.{◌≡◌, ◌+◌, ◌^◌, ◌<◌, ◌≤
 ghost use Rattle.std.specs.Option.{ForSome};
 ghost use Rattle.queue_core.specs.Limits.{IsMoment};
 ghost use Rattle.queue_core.specs.World.{World};
-ghost use Rattle.http_head.specs.Reads.{bytes_left};
+ghost use Rattle.http_head.specs.Reads.{bytes_left, reads_left};
 ghost use Rattle.http_head.specs.Routes.{routes};
 ghost use Rattle.http_front.specs.Books.{ComesTo};
 ghost use Rattle.http_front.specs.Connections.{IsFaultless, IsServed, IsStopped, MarksFaults, Worked, WorkedOver, acted_of};
@@ -54,7 +54,7 @@ fn run<R: Read, W: Write, B: QueueBook>(
     ensures worked { ComesTo B.QueueBook book.old book.new context.entry.settings.now (λ w u.
         (k : Worked most_requests context.entry.now w u (acted_of result))
         × CarriesAll (B.crash_leaves book.old) (B.crash_leaves book.new) context.entry.now k.turns w u × MarksFaults k.turns result) }
-    ensures never_more { input.new.reads_left ≤ input.old.reads_left }
+    ensures never_more { reads_left input.new ≤ reads_left input.old }
     ensures few { IfOk result (λ served. served.acted ≤ most_requests) }
     ensures few_stopped { IfErr result (λ fault. fault.acted ≤ most_requests) }
     // what shuts a book is answered as a fault, or breaks a document off

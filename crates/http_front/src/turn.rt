@@ -4,7 +4,7 @@ ghost use Rattle.std.specs.Io.KnownBytes.{Appends, Consumes};
 ghost use Rattle.std.specs.Option.{ForSome};
 ghost use Rattle.queue_core.specs.Limits.{IsMoment};
 ghost use Rattle.http_head.specs.Framing.{size_of};
-ghost use Rattle.http_head.specs.Reads.{bytes_left};
+ghost use Rattle.http_head.specs.Reads.{bytes_left, reads_left};
 ghost use Rattle.http_head.specs.Limits.{content_limit};
 ghost use Rattle.http_head.specs.Routes.{routes};
 ghost use Rattle.http_wire.specs.Bodies.{IsBody};
@@ -80,7 +80,7 @@ fn take_content<R: Read, W: Write>(
     ensures fits { IfOk result (λ content. length content.items ≤ content_limit) }
     ensures invited { OnOk result (Appends (W.contents writer.old) (W.contents writer.new) (interim_response plan)) }
     ensures untaken { IfErr result (IsUntaken plan (bytes_left R.Read input.old) (W.contents writer.old) (W.contents writer.new)) }
-    ensures never_more { input.new.reads_left ≤ input.old.reads_left }
+    ensures never_more { reads_left input.new ≤ reads_left input.old }
 {
     let Ok(invited) = send_continue(writer, plan) else {
         return Err(Untaken::Stopped(Stopped::by(ServeCause::Write)));
@@ -109,7 +109,7 @@ fn take_planned<R: Read, W: Write, B: QueueBook>(
         IsPlanned (B.crash_leaves book.old) (B.crash_leaves book.new) context.entry.now numbered.k w u numbered.plan
         (bytes_left R.Read input.old) (bytes_left R.Read input.new)
         (W.contents writer.old) (W.contents writer.new) result) }
-    ensures never_more { input.new.reads_left ≤ input.old.reads_left }
+    ensures never_more { reads_left input.new ≤ reads_left input.old }
     ensures last { ClosesLast numbered.k result }
     // a read that fails behind a head comes behind the whole leave to send the body
     ensures invited { IfErr result (λ f. f.cause ≡ ServeCause.Read
@@ -155,7 +155,7 @@ pub(crate) fn turn<R: Read, W: Write, B: QueueBook>(
         IsTurned (B.crash_leaves book.old) (B.crash_leaves book.new) context.entry.now k w u
         (bytes_left R.Read input.old) (bytes_left R.Read input.new)
         (W.contents writer.old) (W.contents writer.new) result) }
-    ensures never_more { input.new.reads_left ≤ input.old.reads_left }
+    ensures never_more { reads_left input.new ≤ reads_left input.old }
     ensures last { ClosesLast k result }
     // a read that fails comes before a head is taken, or behind the whole leave to send the body
     ensures invited { IfErr result (λ f. f.cause ≡ ServeCause.Read

@@ -12,7 +12,7 @@ use Rattle.http_head.specs.declared.target.Target.{Target}
 use Rattle.http_head.specs.declared.target.Target.TheVariants.{Queue}
 use Rattle.http_head.specs.declared.framing.Framing.{Framing}
 use Rattle.http_head.specs.declared.end.Refusal.{Refusal}
-use Rattle.http_head.specs.declared.end.Refusal.TheVariants.{BadRequest, NotFound, PostAllowed, GetAllowed, LengthRequired, ContentTooLarge, UnsupportedMediaType}
+use Rattle.http_head.specs.declared.end.Refusal.TheVariants.{BadRequest, NotFound, OnlyPostAllowed, OnlyGetAllowed, LengthRequired, ContentTooLarge, UnsupportedMediaType}
 
 -- what a head says: its request line (RFC 9112, section 3) and its field lines (section 5)
 pub record Head : Type 0 where
@@ -76,7 +76,7 @@ unrouted misframed = (misframed, BadRequest) ∷ (true, NotFound) ∷ []
 abbrev pub rows : Target → Bool → Framing → List ℕ → Bool → List (Bool × Refusal)
 rows t misframed framing method typed =
     (misframed, BadRequest)
-    ∷ (not (bytes_eq method (method_of t)), (if is_posted t then PostAllowed else GetAllowed))
+    ∷ (not (bytes_eq method (method_of t)), (if is_posted t then OnlyPostAllowed else OnlyGetAllowed))
     ∷ (not (is_posted t) && (is_chunked framing || nat_lt 0 (size_of framing)), BadRequest)
     ∷ (is_posted t && is_untold framing, LengthRequired)
     ∷ (nat_lt content_limit (size_of framing), ContentTooLarge)

@@ -5,14 +5,14 @@ use Rattle.http_head.specs.declared.end.End.TheVariants.{Closed, Cut, Refused}
 use Rattle.http_head.specs.declared.end.Finish.{Finish}
 use Rattle.http_head.specs.declared.end.Finish.TheVariants.{Closed as FinishClosed, Cut as FinishCut, Refused as FinishRefused}
 use Rattle.http_head.specs.declared.end.Refusal.{Refusal}
-use Rattle.http_head.specs.declared.end.Refusal.TheVariants.{BadRequest, NotFound, PostAllowed, GetAllowed, LengthRequired, ContentTooLarge, UnsupportedMediaType, HeaderFieldsTooLarge, ServiceUnavailable}
+use Rattle.http_head.specs.declared.end.Refusal.TheVariants.{BadRequest, NotFound, OnlyPostAllowed, OnlyGetAllowed, LengthRequired, ContentTooLarge, UnsupportedMediaType, HeaderFieldsTooLarge, ServiceUnavailable}
 
 -- the status code
 abbrev pub code_of : Refusal → ℕ
 code_of BadRequest = 400
 code_of NotFound = 404
-code_of PostAllowed = 405
-code_of GetAllowed = 405
+code_of OnlyPostAllowed = 405
+code_of OnlyGetAllowed = 405
 code_of LengthRequired = 411
 code_of ContentTooLarge = 413
 code_of UnsupportedMediaType = 415

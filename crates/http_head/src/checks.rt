@@ -92,9 +92,9 @@ pub(crate) fn routed_refusal(
 {
     let posted = target.is_posted();
     let allowed = if posted {
-        Refusal::PostAllowed
+        Refusal::OnlyPostAllowed
     } else {
-        Refusal::GetAllowed
+        Refusal::OnlyGetAllowed
     };
     let size = framing.size();
     first_that_applies(&[

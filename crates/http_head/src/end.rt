@@ -24,9 +24,9 @@ pub enum Refusal {
     /// 404
     NotFound,
     /// 405, for a target that allows POST alone
-    PostAllowed,
+    OnlyPostAllowed,
     /// 405, for a target that allows GET alone
-    GetAllowed,
+    OnlyGetAllowed,
     /// 411
     LengthRequired,
     /// 413
@@ -58,7 +58,7 @@ impl Refusal {
         match self {
             Refusal::BadRequest => 400,
             Refusal::NotFound => 404,
-            Refusal::PostAllowed | Refusal::GetAllowed => 405,
+            Refusal::OnlyPostAllowed | Refusal::OnlyGetAllowed => 405,
             Refusal::LengthRequired => 411,
             Refusal::ContentTooLarge => 413,
             Refusal::UnsupportedMediaType => 415,

@@ -146,7 +146,7 @@ pub(crate) fn after(byte: u8, text: &[u8]) -> &[u8]
     }
 }
 
-fn are_digits(text: &[u8]) -> bool
+fn has_only_digits(text: &[u8]) -> bool
     ensures { result ≡ list_all is_ascii_digit text.now }
 {
     text.iter().all(|b| b.is_ascii_digit())
@@ -156,7 +156,7 @@ fn are_digits(text: &[u8]) -> bool
 pub(crate) fn is_digits(text: &[u8]) -> bool
     ensures { result ≡ spec.is_digits text.now }
 {
-    !text.is_empty() && text.len() <= MOST_DIGITS && are_digits(text)
+    !text.is_empty() && text.len() <= MOST_DIGITS && has_only_digits(text)
 }
 
 /// The number that digits write, or 16,777,217 where it is more.
@@ -182,7 +182,7 @@ pub(crate) fn utf8_text(bytes: &[u8]) -> Option<&str>
 pub(crate) fn number_in(text: &[u8]) -> Option<u32>
     ensures { result ≡ spec.number_in text.now }
 {
-    if !are_digits(text) || text.starts_with(b"0") {
+    if !has_only_digits(text) || text.starts_with(b"0") {
         return None;
     }
     utf8_text(text)?.parse::<u32>().ok()

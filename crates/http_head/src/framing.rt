@@ -54,7 +54,7 @@ fn is_chunked_alone(come: &[u8], codings: &[Span]) -> bool
     }
 }
 
-fn are_digits(come: &[u8], lengths: &[Span]) -> bool
+fn all_are_digits(come: &[u8], lengths: &[Span]) -> bool
     ensures { result ≡ list_all (λ s. is_digits_of (span_bytes come.now s)) lengths.now }
 {
     lengths.iter().all(|s| is_digits(text_at(come, *s)))
@@ -88,7 +88,7 @@ pub(crate) fn is_misframed(come: &[u8], codings: &[Span], lengths: &[Span]) -> b
     let coded = !codings.is_empty();
     let told = !lengths.is_empty();
     let chunked = is_chunked_alone(come, codings);
-    let digits = are_digits(come, lengths);
+    let digits = all_are_digits(come, lengths);
     let same = all_same(come, lengths);
     // `&&` and `||` would branch: `&` and `|` leave one goal in place of one for each path.
     (coded & told) | (coded & !chunked) | (told & !(digits & same))

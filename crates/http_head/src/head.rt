@@ -1,7 +1,7 @@
 //! The head of a request.
 ghost use Rattle.std.specs.Prelude.{◌≡◌, ◌≤◌, ℕ, List, IfErr, IfOk};
 ghost use Rattle.std.specs.Io.KnownBytes.{Keeps};
-ghost use Rattle.http_head.specs.Reads.{bytes_left};
+ghost use Rattle.http_head.specs.Reads.{bytes_left, come, reads_left};
 ghost use Rattle.http_head.specs.Fault.{IsHeadFault};
 ghost use Rattle.http_head.specs.Found.{IsHeadAt};
 ghost use Rattle.httparse.specs.Grammar.{RequestHead, ReadsRequest};
@@ -20,11 +20,11 @@ pub(crate) fn find_head<R: Read>(
     headers: &mut [HeaderSpan; MOST_FIELDS],
 ) -> Result<RequestSpans, HeadFault>
     ensures kept { Keeps (bytes_left R.Read input.old) (bytes_left R.Read input.new) }
-    ensures found { IfOk result (λ spans. (h : RequestHead) × IsHeadAt input.new.buffer headers.new spans h) }
+    ensures found { IfOk result (λ spans. (h : RequestHead) × IsHeadAt (come input.new) headers.new spans h) }
     ensures failed { IfErr result (IsHeadFault (bytes_left R.Read input.old)) }
-    ensures never_more { input.new.reads_left ≤ input.old.reads_left }
+    ensures never_more { reads_left input.new ≤ reads_left input.old }
     // where a head has come, nothing is read
-    ensures unread { (h : RequestHead) (rest : List ℕ) → ReadsRequest input.old.buffer h rest → input.new ≡ input.old }
+    ensures unread { (h : RequestHead) (rest : List ℕ) → ReadsRequest (come input.old) h rest → input.new ≡ input.old }
 {
     'fill: loop {
         match parse_request(input.bytes(), headers) {

@@ -5,7 +5,7 @@ ghost use Rattle.httparse.specs.Grammar.{RequestHead, ReadsRequest};
 ghost use Rattle.http_head.specs.Fault.{IsHeadFault};
 ghost use Rattle.http_head.specs.Framing.{size_of};
 ghost use Rattle.http_head.specs.Limits.{content_limit};
-ghost use Rattle.http_head.specs.Reads.{MakesNoRead, bytes_left};
+ghost use Rattle.http_head.specs.Reads.{MakesNoRead, bytes_left, come, reads_left};
 ghost use Rattle.http_head.specs.Received.{TakesPlan};
 ghost use Rattle.http_head.specs.Routes.{routes};
 
@@ -26,9 +26,9 @@ pub fn take_head<R: Read>(router: &Router<Route>, input: &mut Input<R>) -> Resul
     ensures fits { IfOk result (λ plan. size_of plan.framing ≤ content_limit) }
     ensures kept { OnErr result (Keeps (bytes_left R.Read input.old) (bytes_left R.Read input.new)) }
     ensures failed { IfErr result (IsHeadFault (bytes_left R.Read input.old)) }
-    ensures never_more { input.new.reads_left ≤ input.old.reads_left }
+    ensures never_more { reads_left input.new ≤ reads_left input.old }
     // where a head has come, no read is made
-    ensures unread { (h : RequestHead) (rest : List ℕ) → ReadsRequest input.old.buffer h rest → MakesNoRead input.old input.new }
+    ensures unread { (h : RequestHead) (rest : List ℕ) → ReadsRequest (come input.old) h rest → MakesNoRead input.old input.new }
 {
     let mut headers = [EMPTY_HEADER_SPAN; MOST_FIELDS];
     let spans = find_head(input, &mut headers)?;

@@ -5,7 +5,7 @@ use Rattle.std.proofs.lemmas.List.{length-take-le}
 use Rattle.std.proofs.KnownBytes.{Consumes-trans, Consumes-kept}
 use Rattle.http_wire.specs.Bodies.{TakesMore}
 use Rattle.http_head.specs.Left.{left}
-use Rattle.http_head.specs.Reads.{MakesNoRead}
+use Rattle.http_head.specs.Reads.{MakesNoRead, come, reader_of, reads_left, without_first}
 use Rattle.http_head.specs.declared.input.Input.{Input}
 
 -- the first n bytes are taken from the buffer
@@ -24,11 +24,11 @@ more_taken a b r come before body more taken n m k fits e = record {
 }
 
 -- bytes that had come were taken, and no read was made
-pub unread_on : {R : Type 0} (a b c d : Input R) (n taken size : ℕ) → MakesNoRead a b × (length b.buffer + taken ≡ size) → c ≡ b → d ≡ record c { buffer = drop n c.buffer } → n ≤ length c.buffer
-    → MakesNoRead a d × (length d.buffer + (taken + n) ≡ size)
+pub unread_on : {R : Type 0} (a b c d : Input R) (n taken size : ℕ) → MakesNoRead a b × (length (come b) + taken ≡ size) → c ≡ b → d ≡ without_first n c → n ≤ length (come c)
+    → MakesNoRead a d × (length (come d) + (taken + n) ≡ size)
 unread_on {R} a b c d n taken size h same took fits =
-    let reader = ap (λ (i : Input R). i.reader) same in
-    let counted = ap (λ (i : Input R). i.reads_left) same in
-    let come = ap (λ (i : Input R). length i.buffer) same in
-    let now = ap (λ (i : Input R). length i.buffer) took ∙ length-drop n c.buffer in
-    ((ap (λ (i : Input R). i.reader) took ∙ reader ∙ h.0.0, ap (λ (i : Input R). i.reads_left) took ∙ counted ∙ h.0.1), omega (arith, now, come, fits, h.1))
+    let reader = ap (λ (i : Input R). reader_of i) same in
+    let counted = ap (λ (i : Input R). reads_left i) same in
+    let before = ap (λ (i : Input R). length (come i)) same in
+    let now = ap (λ (i : Input R). length (come i)) took ∙ length-drop n (come c) in
+    ((ap (λ (i : Input R). reader_of i) took ∙ reader ∙ h.0.0, ap (λ (i : Input R). reads_left i) took ∙ counted ∙ h.0.1), omega (arith, now, before, fits, h.1))

@@ -1,7 +1,7 @@
 //! A body whose length is told.
 ghost use Rattle.std.specs.Prelude.{◌≡◌, ◌<◌, ◌≤◌, [], length, true, false, IfErr, IfOk, IfSome, OnOk};
 ghost use Rattle.std.specs.Io.KnownBytes.{Consumes, Keeps, IsAtEnd};
-ghost use Rattle.http_head.specs.Reads.{MakesNoRead, bytes_left};
+ghost use Rattle.http_head.specs.Reads.{MakesNoRead, bytes_left, come, reader_of, reads_left};
 ghost use Rattle.http_wire.specs.Bodies.{EndsInLength, TakesMore};
 ghost use Rattle.http_wire.specs.Fault.{IfEnded};
 
@@ -15,10 +15,10 @@ use std::io::Read;
 /// Reads where nothing has come, and says whether something has come now: nothing only at the input's end.
 pub(crate) fn await_bytes<R: Read>(input: &mut Input<R>) -> Result<bool, ReadFault>
     ensures kept { Keeps (bytes_left R.Read input.old) (bytes_left R.Read input.new) }
-    ensures there { IfOk result (λ some. some ≡ true → 0 < length input.new.buffer) }
-    ensures none { IfOk result (λ some. some ≡ false → (input.new.buffer ≡ []) × IsAtEnd (R.remaining input.new.reader)) }
-    ensures never_more { input.new.reads_left ≤ input.old.reads_left }
-    ensures unread { 0 < length input.old.buffer → input.new ≡ input.old }
+    ensures there { IfOk result (λ some. some ≡ true → 0 < length (come input.new)) }
+    ensures none { IfOk result (λ some. some ≡ false → (come input.new ≡ []) × IsAtEnd (R.remaining (reader_of input.new))) }
+    ensures never_more { reads_left input.new ≤ reads_left input.old }
+    ensures unread { 0 < length (come input.old) → input.new ≡ input.old }
 {
     if !input.bytes().is_empty() {
         return Ok(true);
@@ -34,9 +34,9 @@ pub(crate) fn take_more<R: Read>(
 ) -> Result<(), BodyFault>
     ensures whole { OnOk result (TakesMore n (bytes_left R.Read input.old) (bytes_left R.Read input.new) content.old.items content.new.items) }
     ensures cut { IfErr result (λ f. IfEnded f (λ end. IfSome (bytes_left R.Read input.old) (λ bytes. EndsInLength n bytes end))) }
-    ensures never_more { input.new.reads_left ≤ input.old.reads_left }
+    ensures never_more { reads_left input.new ≤ reads_left input.old }
     // where they have come, no read is made
-    ensures unread { n ≤ length input.old.buffer → MakesNoRead input.old input.new }
+    ensures unread { n ≤ length (come input.old) → MakesNoRead input.old input.new }
 {
     let mut taken: usize = 0;
     'take: while taken < n {
@@ -60,9 +60,9 @@ pub(crate) fn take_body<R: Read>(
     ensures whole { IfOk result (λ body. (length body.items ≡ n)
         × Consumes (bytes_left R.Read input.old) (bytes_left R.Read input.new) body.items) }
     ensures cut { IfErr result (λ f. IfEnded f (λ end. IfSome (bytes_left R.Read input.old) (λ bytes. EndsInLength n bytes end))) }
-    ensures never_more { input.new.reads_left ≤ input.old.reads_left }
+    ensures never_more { reads_left input.new ≤ reads_left input.old }
     // where they have come, no read is made
-    ensures unread { n ≤ length input.old.buffer → MakesNoRead input.old input.new }
+    ensures unread { n ≤ length (come input.old) → MakesNoRead input.old input.new }
 {
     let mut content = Vec::with_capacity(alloc, n)?;
     take_more(input, &mut content, n)?;

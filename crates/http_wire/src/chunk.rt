@@ -7,7 +7,7 @@ ghost use Rattle.httparse.specs.Spans.{IsChunkLineAt};
 ghost use Rattle.http_wire.specs.ChunkEnds as ends;
 ghost use Rattle.http_wire.specs.ChunkEnds.{EndsAtLine, EndsAtLineEnd, EndsInChunk};
 ghost use Rattle.http_wire.specs.ChunkParts.{TakesChunk, TakesLine};
-ghost use Rattle.http_head.specs.Reads.{bytes_left};
+ghost use Rattle.http_head.specs.Reads.{bytes_left, come, reads_left};
 ghost use Rattle.http_head.specs.Limits.{line_limit, raw_limit};
 ghost use Rattle.http_wire.specs.LineEnds.{IsLineEndState};
 ghost use Rattle.http_wire.specs.Fault.{IfEnded};
@@ -70,9 +70,9 @@ pub(crate) struct Line {
 fn find_line<R: Read>(input: &mut Input<R>, bound: Bound) -> Result<Line, BodyFault>
     requires { bound.limit ≤ line_limit }
     ensures kept { Keeps (bytes_left R.Read input.old) (bytes_left R.Read input.new) }
-    ensures found { IfOk result (λ line. (l : ChunkLine) × IsChunkLineAt input.new.buffer line.len line.size l × (line.len ≤ bound.limit)) }
+    ensures found { IfOk result (λ line. (l : ChunkLine) × IsChunkLineAt (come input.new) line.len line.size l × (line.len ≤ bound.limit)) }
     ensures ended { IfErr result (λ f. IfEnded f (λ end. IfSome (bytes_left R.Read input.old) (λ bytes. EndsAtLine bound bytes end))) }
-    ensures never_more { input.new.reads_left ≤ input.old.reads_left }
+    ensures never_more { reads_left input.new ≤ reads_left input.old }
 {
     'fill: loop {
         match parse_chunk_size(front(input.bytes(), bound.limit)) {
@@ -94,7 +94,7 @@ pub(crate) fn take_line<R: Read>(input: &mut Input<R>, bound: Bound) -> Result<L
     requires { bound.limit ≤ line_limit }
     ensures taken { IfOk result (λ line. TakesLine bound.limit (bytes_left R.Read input.old) (bytes_left R.Read input.new) line.len line.size) }
     ensures ended { IfErr result (λ f. IfEnded f (λ end. IfSome (bytes_left R.Read input.old) (λ bytes. EndsAtLine bound bytes end))) }
-    ensures never_more { input.new.reads_left ≤ input.old.reads_left }
+    ensures never_more { reads_left input.new ≤ reads_left input.old }
 {
     let line = find_line(input, bound)?;
     input.take(line.len);
@@ -126,7 +126,7 @@ fn line_end_in(bytes: &[u8]) -> LineEndState
 fn take_line_end<R: Read>(input: &mut Input<R>) -> Result<(), BodyFault>
     ensures taken { OnOk result (Consumes (bytes_left R.Read input.old) (bytes_left R.Read input.new) crlf_bytes) }
     ensures ended { IfErr result (λ f. IfEnded f (λ end. IfSome (bytes_left R.Read input.old) (λ bytes. EndsAtLineEnd bytes end))) }
-    ensures never_more { input.new.reads_left ≤ input.old.reads_left }
+    ensures never_more { reads_left input.new ≤ reads_left input.old }
 {
     'fill: loop {
         match line_end_in(input.bytes()) {
@@ -153,7 +153,7 @@ pub(crate) fn take_chunk<R: Read>(
 ) -> Result<(), BodyFault>
     ensures taken { OnOk result (TakesChunk size (bytes_left R.Read input.old) (bytes_left R.Read input.new) content.old.items content.new.items) }
     ensures ended { IfErr result (λ f. IfEnded f (λ end. IfSome (bytes_left R.Read input.old) (λ bytes. EndsInChunk size bytes end))) }
-    ensures never_more { input.new.reads_left ≤ input.old.reads_left }
+    ensures never_more { reads_left input.new ≤ reads_left input.old }
 {
     take_more(input, content, size)?;
     take_line_end(input)

@@ -4,7 +4,7 @@ ghost use Rattle.std.specs.Prelude.{◌≡◌, ◌+◌, ◌<◌, ◌≤◌, ◌�
 ghost use Rattle.std.specs.Bool.{OnTrue, OnFalse};
 ghost use Rattle.http_wire.specs.ChunkEnds.{EndsInChunks};
 ghost use Rattle.http_wire.specs.ChunkParts.{TakesChunked, TakesToLast};
-ghost use Rattle.http_head.specs.Reads.{bytes_left};
+ghost use Rattle.http_head.specs.Reads.{bytes_left, reads_left};
 ghost use Rattle.http_head.specs.Limits.{content_limit, line_limit, raw_limit};
 ghost use Rattle.http_wire.specs.Fault.{IfEnded};
 
@@ -36,7 +36,7 @@ fn take_chunks<R: Read>(input: &mut Input<R>, content: &mut Vec<u8>) -> Result<u
     requires { content.old.items ≡ [] }
     ensures taken { IfOk result (λ raw. TakesToLast (bytes_left R.Read input.old) (bytes_left R.Read input.new) raw content.new.items) }
     ensures ended { IfErr result (λ f. IfEnded f (λ end. IfSome (bytes_left R.Read input.old) (λ bytes. EndsInChunks bytes end))) }
-    ensures never_more { input.new.reads_left ≤ input.old.reads_left }
+    ensures never_more { reads_left input.new ≤ reads_left input.old }
 {
     let mut raw: usize = 0;
     'chunks: loop {
@@ -60,7 +60,7 @@ pub(crate) fn take_chunked<R: Read>(
     ensures taken { IfOk result (λ content. TakesChunked (bytes_left R.Read input.old) (bytes_left R.Read input.new) content.items) }
     ensures fits { IfOk result (λ content. length content.items ≤ content_limit) }
     ensures ended { IfErr result (λ f. IfEnded f (λ end. IfSome (bytes_left R.Read input.old) (λ bytes. EndsInChunks bytes end))) }
-    ensures never_more { input.new.reads_left ≤ input.old.reads_left }
+    ensures never_more { reads_left input.new ≤ reads_left input.old }
 {
     let mut content = Vec::new(alloc);
     let raw = take_chunks(input, &mut content)?;

@@ -4,7 +4,7 @@ ghost use Rattle.std.specs.Io.KnownBytes.{Consumes};
 ghost use Rattle.http_wire.specs.Bodies.{EndsInBody, IsBody};
 ghost use Rattle.http_head.specs.Framing.{is_chunked, size_of};
 ghost use Rattle.http_head.specs.Limits.{content_limit};
-ghost use Rattle.http_head.specs.Reads.{MakesNoRead, bytes_left};
+ghost use Rattle.http_head.specs.Reads.{MakesNoRead, bytes_left, come, reads_left};
 ghost use Rattle.http_wire.specs.Fault.{IfEnded};
 
 use crate::body::take_body;
@@ -27,9 +27,9 @@ pub fn take_framed<R: Read>(
         × Consumes (bytes_left R.Read input.old) (bytes_left R.Read input.new) raw) }
     ensures fits { IfOk result (λ content. length content.items ≤ content_limit) }
     ensures ended { IfErr result (λ f. IfEnded f (λ end. IfSome (bytes_left R.Read input.old) (λ bytes. EndsInBody invited bytes end))) }
-    ensures never_more { input.new.reads_left ≤ input.old.reads_left }
+    ensures never_more { reads_left input.new ≤ reads_left input.old }
     // where none is told, or as many bytes as its length tells have come, no read is made
-    ensures unread { is_chunked invited ≡ false → size_of invited ≤ length input.old.buffer → MakesNoRead input.old input.new }
+    ensures unread { is_chunked invited ≡ false → size_of invited ≤ length (come input.old) → MakesNoRead input.old input.new }
 {
     match invited.framing() {
         Framing::Nothing => Ok(Vec::new(alloc)),

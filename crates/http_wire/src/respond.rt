@@ -21,11 +21,11 @@ use std::marker::Model;
 const HEAD_CAPACITY: usize = 256;
 
 /// Adds a text that fits.
-fn add(line: &mut ArrayVec<u8, HEAD_CAPACITY>, text: &[u8])
-    requires { array_vec_len line.old + length text.now ≤ 256 }
-    ensures { line.new.items ≡ line.old.items ++ text.now }
+fn add(to: &mut ArrayVec<u8, HEAD_CAPACITY>, text: &[u8])
+    requires { array_vec_len to.old + length text.now ≤ 256 }
+    ensures { to.new.items ≡ to.old.items ++ text.now }
 {
-    let _fits = line.try_extend_from_slice(text);
+    let _fits = to.try_extend_from_slice(text);
 }
 
 /// The field line that ends a connection (RFC 9112, section 9.6), or none.
@@ -41,16 +41,16 @@ fn success_head(media_type: &str, size: u64, closes: bool) -> ArrayVec<u8, HEAD_
     requires { length media_type.now ≤ 64 }
     ensures { result.items ≡ spec.success_head media_type.now size closes }
 {
-    let mut line = ArrayVec::new();
+    let mut head = ArrayVec::new();
     let mut digits = itoa::Buffer::new();
-    add(&mut line, b"HTTP/1.1 200 OK\r\nContent-Type: ");
-    add(&mut line, media_type.as_bytes());
-    add(&mut line, b"\r\nContent-Length: ");
-    add(&mut line, digits.format(size).as_bytes());
-    add(&mut line, b"\r\n");
-    add(&mut line, close_line(closes).as_bytes());
-    add(&mut line, b"\r\n");
-    line
+    add(&mut head, b"HTTP/1.1 200 OK\r\nContent-Type: ");
+    add(&mut head, media_type.as_bytes());
+    add(&mut head, b"\r\nContent-Length: ");
+    add(&mut head, digits.format(size).as_bytes());
+    add(&mut head, b"\r\n");
+    add(&mut head, close_line(closes).as_bytes());
+    add(&mut head, b"\r\n");
+    head
 }
 
 /// The field line of a refused method (RFC 9110, section 15.5.6), or none.
@@ -59,8 +59,8 @@ fn allow_line(refusal: Refusal) -> &'static str
     ensures short { length result.now ≤ 40 }
 {
     match refusal {
-        Refusal::PostAllowed => "Allow: POST\r\n",
-        Refusal::GetAllowed => "Allow: GET\r\n",
+        Refusal::OnlyPostAllowed => "Allow: POST\r\n",
+        Refusal::OnlyGetAllowed => "Allow: GET\r\n",
         Refusal::BadRequest
         | Refusal::NotFound
         | Refusal::LengthRequired
@@ -93,17 +93,20 @@ fn phrase_text(refusal: Refusal) -> &'static str
 fn refusal_response(refusal: Refusal) -> ArrayVec<u8, HEAD_CAPACITY>
     ensures { result.items ≡ spec.refusal_response refusal }
 {
-    let mut line = ArrayVec::new();
+    let mut response = ArrayVec::new();
     let mut digits = itoa::Buffer::new();
     let phrase = phrase_of(refusal);
-    add(&mut line, b"HTTP/1.1 ");
-    add(&mut line, digits.format(refusal.code()).as_bytes());
-    add(&mut line, b" ");
-    add(&mut line, phrase.as_bytes());
-    add(&mut line, b"\r\n");
-    add(&mut line, allow_line(refusal).as_bytes());
-    add(&mut line, b"Content-Length: 0\r\nConnection: close\r\n\r\n");
-    line
+    add(&mut response, b"HTTP/1.1 ");
+    add(&mut response, digits.format(refusal.code()).as_bytes());
+    add(&mut response, b" ");
+    add(&mut response, phrase.as_bytes());
+    add(&mut response, b"\r\n");
+    add(&mut response, allow_line(refusal).as_bytes());
+    add(
+        &mut response,
+        b"Content-Length: 0\r\nConnection: close\r\n\r\n",
+    );
+    response
 }
 
 fn interim_response(plan: Plan) -> &'static [u8]

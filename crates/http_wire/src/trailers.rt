@@ -3,7 +3,7 @@ ghost use Rattle.std.specs.Prelude.{◌≤◌, IfErr, IfOk, IfSome, OnOk};
 ghost use Rattle.std.specs.Io.KnownBytes.{Keeps};
 ghost use Rattle.http_wire.specs.ChunkEnds.{EndsAtTrailers};
 ghost use Rattle.http_wire.specs.ChunkParts.{AreTrailersAt, TakesTrailers};
-ghost use Rattle.http_head.specs.Reads.{bytes_left};
+ghost use Rattle.http_head.specs.Reads.{bytes_left, come, reads_left};
 ghost use Rattle.http_head.specs.Limits.{trailer_limit};
 ghost use Rattle.http_wire.specs.Fault.{IfEnded};
 
@@ -20,9 +20,9 @@ use std::io::Read;
 fn find_trailers<R: Read>(input: &mut Input<R>, bound: Bound) -> Result<usize, BodyFault>
     requires { bound.limit ≤ trailer_limit }
     ensures kept { Keeps (bytes_left R.Read input.old) (bytes_left R.Read input.new) }
-    ensures found { IfOk result (λ len. AreTrailersAt input.new.buffer len × (len ≤ bound.limit)) }
+    ensures found { IfOk result (λ len. AreTrailersAt (come input.new) len × (len ≤ bound.limit)) }
     ensures ended { IfErr result (λ f. IfEnded f (λ end. IfSome (bytes_left R.Read input.old) (λ bytes. EndsAtTrailers bound bytes end))) }
-    ensures never_more { input.new.reads_left ≤ input.old.reads_left }
+    ensures never_more { reads_left input.new ≤ reads_left input.old }
 {
     let mut headers = [EMPTY_HEADER_SPAN; MOST_FIELDS];
     'fill: loop {
@@ -45,7 +45,7 @@ pub(crate) fn take_trailers<R: Read>(input: &mut Input<R>, bound: Bound) -> Resu
     requires { bound.limit ≤ trailer_limit }
     ensures taken { OnOk result (TakesTrailers bound.limit (bytes_left R.Read input.old) (bytes_left R.Read input.new)) }
     ensures ended { IfErr result (λ f. IfEnded f (λ end. IfSome (bytes_left R.Read input.old) (λ bytes. EndsAtTrailers bound bytes end))) }
-    ensures never_more { input.new.reads_left ≤ input.old.reads_left }
+    ensures never_more { reads_left input.new ≤ reads_left input.old }
 {
     let len = find_trailers(input, bound)?;
     input.take(len);

@@ -1,5 +1,5 @@
 use Rattle.std.proofs.Common.{◌-◌, ◌^◌, ◌<◌, ◌≤◌, ◌≡◌}
-use Rattle.http_head.specs.Reads.{bytes_left}
+use Rattle.http_head.specs.Reads.{bytes_left, reads_left}
 use Rattle.http_front.specs.Books.{ComesTo}
 use Rattle.http_front.specs.Crash.{CarriesAll}
 use Rattle.http_front.specs.Framed.{AreAnswered}
@@ -12,7 +12,7 @@ invariant-turns g l = record {
   few : l.k ≤ last_request;
   acted_few : l.acted ≤ l.k;
   below : l.faults < 2 ^ l.k;
-  never_more : l.input.reads_left ≤ l.initial.input.reads_left;
+  never_more : reads_left l.input ≤ reads_left l.initial.input;
   began : g.B.QueueBook.is_honest l.book → g.B.QueueBook.is_honest l.initial.book;
   live : g.B.QueueBook.is_honest l.book → g.B.QueueBook.is_live l.initial.book → l.faults ≡ 0 → g.B.QueueBook.is_live l.book;
   ran : ComesTo g.B.QueueBook l.initial.book l.book l.context.settings.now (λ w u.

@@ -1,4 +1,5 @@
 use Rattle.std.proofs.Common.{Option, ℕ, List, ap, subst, IfErr, IfOk, IfSome}
+use Rattle.http_head.specs.Reads.{come}
 use Rattle.http_head.specs.Routes.{routes}
 use Rattle.http_front.specs.Books.{ComesTo}
 use Rattle.http_front.specs.Connections.{IsServed, IsStopped}
@@ -13,13 +14,13 @@ pub returns-clause-served : goal.returns-clause-served
 returns-clause-served g c =
     subst (λ (r : Option (List ℕ)). IfOk c.run.result (λ z. ComesTo g.B.QueueBook c.args.book.now c.run.new.book c.args.settings.now (λ w u.
     IfSome r (IsServed (g.B.QueueBook.crash_leaves c.args.book.now) (g.B.QueueBook.crash_leaves c.run.new.book) c.args.now w u (g.W.Write.contents c.args.writer.now) (g.W.Write.contents c.run.new.writer) z))))
-    (left_at_first c.new-input.result.buffer _ (g.R.Read.remaining c.args.reader.now) c.new-input.ensures.empty (ap (λ p. g.R.Read.remaining p.now) c.new-input.ensures.reader)) c.run.ensures.served
+    (left_at_first (come c.new-input.result) _ (g.R.Read.remaining c.args.reader.now) c.new-input.ensures.empty (ap (λ p. g.R.Read.remaining p.now) c.new-input.ensures.reader)) c.run.ensures.served
 
 pub returns-clause-broken : goal.returns-clause-broken
 returns-clause-broken g c =
     subst (λ (r : Option (List ℕ)). IfErr c.run.result (λ z. ComesTo g.B.QueueBook c.args.book.now c.run.new.book c.args.settings.now (λ w u.
     IfSome r (IsStopped (g.B.QueueBook.crash_leaves c.args.book.now) (g.B.QueueBook.crash_leaves c.run.new.book) c.args.now w u (g.W.Write.contents c.args.writer.now) (g.W.Write.contents c.run.new.writer) z))))
-    (left_at_first c.new-input.result.buffer _ (g.R.Read.remaining c.args.reader.now) c.new-input.ensures.empty (ap (λ p. g.R.Read.remaining p.now) c.new-input.ensures.reader)) c.run.ensures.broken
+    (left_at_first (come c.new-input.result) _ (g.R.Read.remaining c.args.reader.now) c.new-input.ensures.empty (ap (λ p. g.R.Read.remaining p.now) c.new-input.ensures.reader)) c.run.ensures.broken
 
 pub returns-clause-worked : goal.returns-clause-worked
 returns-clause-worked g c = λ h w st set. let r = c.run.ensures.worked h w st set in (r.0, r.1, (r.2.0, r.2.2))

@@ -1,12 +1,10 @@
 use Rattle.std.proofs.Common.{refl}
 use Rattle.http_head.specs.Reads.{bytes_left}
 use Rattle.http_head.specs.declared.end.Finish.TheVariants.{Refused}
-use Rattle.http_head.specs.declared.end.Refusal.TheVariants.{ServiceUnavailable}
 use Rattle.http_front.proofs.CrashLemmas.{carries_none}
 use Rattle.http_front.proofs.TurnedLemmas.{planned_unsaid, planned_closed, planned_answered, planned_broken, end_untaken, end_declined, body_as, said_on, closed_faultless}
 use Rattle.http_front.proofs.FramedLemmas.{framed_answered, framed_closed}
 use Rattle.http_front.proofs.FailedReadLemmas.{unless_read}
-use Rattle.http_front.specs.Turned.{IsPlanned}
 use Rattle.http_front.proofs.turn.take_planned.Goals as goal
 
 pub returns-in-Err-Stopped-clause-planned : goal.returns-in-Err-Stopped-clause-planned
