@@ -1,5 +1,5 @@
 //! The book in lists, which keeps a queue in memory.
-ghost use Rattle.std.specs.Prelude.{◌≡◌, ◌≤◌, ⊤, ℕ, List, IfOk, IfErr, IfSome, IsSome, OnOk, OnErr, Some, length, option_map, take};
+ghost use Rattle.std.specs.Prelude.{◌≡◌, ◌≤◌, ⊤, ℕ, List, IfOk, IfErr, IfSome, IsOk, IsSome, OnOk, OnErr, Some, length, option_map, take};
 ghost use Rattle.std.specs.Io.KnownBytes.{Appends};
 ghost use Rattle.queue_core.specs.Book.{IsDecisionOn};
 ghost use Rattle.queue_types.specs.Event.{event_of, change_of, decision_of};
@@ -172,7 +172,8 @@ impl QueueBook for ListBook {
         ensures damaged { ⊤ → IfErr result (λ e. e ≡ BookFault.Damaged → (w : World) → ¬ IsContent self.old w) }
         ensures live { ⊤ → OnOk result ⊤ }
         ensures opened { ⊤ → ⊤ → ⊤ }
-        ensures fault { IfErr result (λ f. f ≡ BookFault.Memory) }
+        // it takes no memory
+        ensures found { IsOk result }
     {
         Ok(seen::document_head(&self.lists, job, n))
     }
@@ -194,7 +195,7 @@ impl QueueBook for ListBook {
         ensures fault { IfErr result (λ f. f.cause ≡ ByWriter) }
     {
         let Some(d) = seen::document(&self.lists, job, n) else {
-            return Ok(0);
+            unreachable!("the caller knows that the document is there");
         };
         send(out, d.bytes.as_slice())
     }

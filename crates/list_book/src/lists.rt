@@ -41,7 +41,7 @@ pub(crate) struct Lists {
     pub(crate) reports: Reports,
 }
 
-/// How many jobs have a smaller number. It looks at few of them.
+/// How many jobs have a smaller number, by binary search.
 fn smaller_than(jobs: &[Job], number: u32) -> usize
     requires { AreRising jobs.now }
     ensures within { result ≤ length jobs.now }
@@ -59,7 +59,7 @@ fn is_at(jobs: &[Job], i: usize, number: u32) -> bool
     i < jobs.len() && jobs[i].number == number
 }
 
-/// Where the job of that number stands. It looks at few of them.
+/// Where the job of that number stands, by binary search.
 pub(crate) fn place_of(jobs: &[Job], number: u32) -> Option<usize>
     requires { AreRising jobs.now }
     ensures within { IfSome result (λ i. i < length jobs.now) }

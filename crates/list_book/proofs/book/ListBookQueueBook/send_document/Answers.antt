@@ -1,6 +1,5 @@
-use Rattle.std.proofs.Common.{◌≡◌, ℕ, List, [], Option, Result, Ok, Err, IfOk, length, refl, sym}
+use Rattle.std.proofs.Common.{◌≡◌, ℕ, List, Option, Result, Ok, Err, IfOk, length, sym}
 use Rattle.std.specs.Io.KnownBytes.{Appends}
-use Rattle.std.proofs.KnownBytes.{Appends-nil}
 use Rattle.list_book.proofs.book.ListBookQueueBook.send_document.Goals as goal
 
 -- as many bytes as are told
@@ -11,6 +10,3 @@ counted (Err e) v x bytes sent appends = tt
 
 pub returns-clause-counted : goal.returns-clause-counted
 returns-clause-counted g c = counted c.send.result (g.W.Write.contents c.args.out.now) (g.W.Write.contents c.send.new.out) c.as_slice.result.now c.send.ensures.sent c.send.ensures.ok
-
-pub returns-in_default-clause-counted : goal.returns-in_default-clause-counted
-returns-in_default-clause-counted g c = ([], refl, Appends-nil (g.W.Write.contents c.args.out.now))
