@@ -25,7 +25,7 @@ pub enum Fault {
     /// made, another database is there that isn't empty.
     Disk,
     /// The store does not stand for a queue, or is no database; or where one is to be made, one is there already, or a database in which a
-    /// name of a queue's table is taken.
+    /// name of a queue's table is taken; or there is no file, or an empty one, beside a log that may have pages.
     Damaged,
     /// Nothing was ever granted to the account.
     NoAccount,

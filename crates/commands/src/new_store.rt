@@ -95,9 +95,10 @@ fn ready(rt: &HostRuntime, words: Init<'_>) -> Result<Settings, Fault>
     Ok(settings)
 }
 
-/// Makes a store with these settings, whose epoch is the present second, in files that hold no tables: it stands for the empty queue. A setting that is not within its limits
-/// makes no file. Damaged is told where a store is there, a database in which a name of a queue's table is taken, or a file that is no database; Disk
-/// where another database is that isn't empty, or the path is no file's name to SQLite. One whose making was cut short is made anew.
+/// Makes a store with these settings, whose epoch is the present second, in files that hold no tables: it stands for the empty queue. A setting that
+/// is not within its limits makes no file. Damaged is told where a store is there, a database in which a name of a queue's table is taken, a file that
+/// is no database, or a log that may have pages beside no file or an empty one; Disk where another database is that isn't empty, or the path is no
+/// file's name to SQLite. One whose making was cut short is made anew.
 fn make_store<S: Start>(rt: &HostRuntime, words: Init<'_>, start: S) -> Result<FileBook<S>, Fault>
     ensures named { IfOk result (λ b. IsTrue (spec.is_file_name words.entry.store.now)) }
     ensures blank { IfOk result (λ b. IsHonest over_files b → HasNoTables (image_at S.Start)) }
@@ -137,11 +138,7 @@ pub(crate) fn make_and_let_go<S: Start>(
     ensures made { OnOk result (CanBeMade words.entry) }
     ensures told { IfErr result IsOfInit }
 {
-    match make_and_close(rt, words, start) {
-        Ok(closed) => {
-            let_go(closed);
-            Ok(())
-        }
-        Err(fault) => Err(fault),
-    }
+    let closed = make_and_close(rt, words, start)?;
+    let_go(closed);
+    Ok(())
 }

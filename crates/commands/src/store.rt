@@ -26,7 +26,8 @@ pub(crate) type FileBook<S> = TableBook<FileStore<FileFrom<S>>>;
 pub(crate) type Closed<D> = Result<Files<D>, FileStore<D>>;
 
 /// Opens the store that is at a path, and makes none where there is none. Where its tables are those of a store, it stands for the queue that the
-/// files keep. Disk is told where there is no file, or it can't be opened or is in use; Damaged where it is no database, or keeps no queue.
+/// files keep. Disk is told where there is no file and no log that may have pages, or the file can't be opened or is in use; Damaged where such a log lies
+/// beside no file or an empty one, where the file is no database, or where it keeps no queue.
 pub(crate) fn open_store<S: Start>(
     rt: &HostRuntime,
     path: &str,

@@ -164,8 +164,8 @@ fn work_opened<D: Disk + Drop, W: Write>(
 }
 
 /// Does the work on the store that is at its path, and gives the book, which is not closed yet, or the files of one on which it was not done; there are
-/// none where no store was opened. What is done on the open store is done behind
-/// [`work_over`], which has memory, a clock, and no way to a file or a port but the store and the account file or port that [`work_opened`] opens.
+/// none where no store was opened. What is done on the open store is done by [`work_over`], which has memory, a clock, and no way to a file or a port but
+/// the store and the account file or port that [`work_opened`] opens.
 fn work_at<S: Start, W: Write>(
     rt: &HostRuntime,
     work: Work<'_>,
@@ -232,11 +232,7 @@ pub(crate) fn work_and_let_go<S: Start, W: Write>(
     ensures quiet { IfErr result (λ f. IsOfStream f ⊎ MayBePrintedOf work.entry (W.contents output.old) (W.contents output.new)) }
     ensures told { IfErr result (λ f. IsOfStore f ⊎ MayBeToldOf work.entry f) }
 {
-    match work_and_close(rt, work, output, start) {
-        Ok(closed) => {
-            let_go(closed);
-            Ok(())
-        }
-        Err(fault) => Err(fault),
-    }
+    let closed = work_and_close(rt, work, output, start)?;
+    let_go(closed);
+    Ok(())
 }

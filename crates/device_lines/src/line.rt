@@ -54,25 +54,25 @@ fn within(form: Form) -> Option<Report>
     ensures some { IfSome result (λ r. (r ≡ report_of form) × IsReport r) }
     ensures none { IfNone result (IsReport (report_of form) → ⊥) }
 {
-    if !is_within(form.job, LAST_JOB_NUMBER)
-        || !is_within(form.seq, LAST_REPORT_NUMBER)
-        || form.count > u64::from(MOST_PRINTED_PAGES)
-    {
-        return None;
-    }
     Some(Report {
-        job: form.job as u32,
-        seq: form.seq as u32,
+        job: number_within(form.job, 1, LAST_JOB_NUMBER)?,
+        seq: number_within(form.seq, 1, LAST_REPORT_NUMBER)?,
         kind: form.kind,
-        count: form.count as u32,
+        count: number_within(form.count, 0, MOST_PRINTED_PAGES)?,
     })
 }
 
-/// The number is from 1 to the last one.
-fn is_within(n: u64, last: u32) -> bool
-    ensures { IsTrue result ↔ (1 ≤ n) × (n ≤ last) }
+/// The number, where it is from the least to the last one.
+fn number_within(n: u64, least: u32, last: u32) -> Option<u32>
+    ensures some { IfSome result (λ m. (m ≡ n) × (least ≤ n) × (n ≤ last)) }
+    ensures none { IfNone result (least ≤ n → n ≤ last → ⊥) }
 {
-    1 <= n && n <= u64::from(last)
+    let n = u32::try_from(n).ok()?;
+    if least <= n && n <= last {
+        Some(n)
+    } else {
+        None
+    }
 }
 
 /// What the line says, where it is of the form.

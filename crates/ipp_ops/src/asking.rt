@@ -40,7 +40,8 @@ fn which_jobs(request: Request<'_, '_>) -> WhichJobs
     }
 }
 
-/// The numbers of an attribute's values.
+/// The numbers of an attribute's values. Where the checks pass, each is a number; 0 stands for one that is none, and
+/// `calls_name_jobs` says that no call has it.
 fn numbers(alloc: Global, values: &[ValueView<'_>]) -> Result<Vec<u32>, AllocError>
     ensures { IfOk result (λ n. n.items ≡ map (λ v. unwrap_or (number_of v.bytes) 0) (values_of values.now)) }
 {
@@ -64,7 +65,8 @@ fn job_ids(alloc: Global, request: Request<'_, '_>) -> Result<Option<NumberList>
     }
 }
 
-/// The number of the job that a request is about. Where the checks pass there is one.
+/// The number of the job that a request is about. Where the checks pass, there is one; 0 stands for none, and
+/// `calls_name_jobs` says that no call has it.
 fn job(request: Request<'_, '_>) -> u32
     ensures { result ≡ job (request_of request.entry) }
 {

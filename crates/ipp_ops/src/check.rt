@@ -6,7 +6,7 @@ ghost use Rattle.ipp_request.specs.Request.{has, request_of};
 ghost use Rattle.ipp_request.specs.Values as values;
 
 use ipp_request::Request;
-use ipp_request::attribute::{OperationAttribute, TABLE, needs};
+use ipp_request::attribute::{OPERATION_ATTRIBUTE_TABLE, OperationAttribute, needs};
 use ipp_request::format::format_of;
 use ipp_request::target::is_target;
 use ipp_request::value::{any_long, are_formed};
@@ -56,7 +56,9 @@ fn is_misformed(request: Request<'_, '_>, attribute: OperationAttribute) -> bool
 fn some_misformed(request: Request<'_, '_>) -> bool
     ensures { result ≡ some_fails (λ row vs. not (values.are_formed row vs)) (request_of request.entry) }
 {
-    TABLE.iter().any(|k| is_misformed(request, *k))
+    OPERATION_ATTRIBUTE_TABLE
+        .iter()
+        .any(|k| is_misformed(request, *k))
 }
 
 /// It is longer than its limit.
@@ -71,7 +73,9 @@ fn is_overlong(request: Request<'_, '_>, attribute: OperationAttribute) -> bool
 fn some_overlong(request: Request<'_, '_>) -> bool
     ensures { result ≡ some_fails values.any_long (request_of request.entry) }
 {
-    TABLE.iter().any(|k| is_overlong(request, *k))
+    OPERATION_ATTRIBUTE_TABLE
+        .iter()
+        .any(|k| is_overlong(request, *k))
 }
 
 fn has_all(request: Request<'_, '_>, needed: &[OperationAttribute]) -> bool

@@ -12,7 +12,6 @@ mod verdict;
 
 pub use answering::answer;
 pub use asking::ask;
-pub use ipp_reply::{JobAttribute, PrinterAttribute, Unsupported, Wanted};
 pub use law::{
     callers_are_named_first, calls_are_events, calls_name_jobs, job_paths, one_verdict,
     validations_are_answered_as_prints, whole_tables,

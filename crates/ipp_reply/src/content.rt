@@ -30,6 +30,7 @@ pub(crate) enum Content<'a> {
     Enum(u32),
     /// A text under its value tag.
     Text(u8, &'a str),
+    /// A text that was made for this reply, under its value tag.
     Made(u8, String),
     /// A moment, or no-value.
     Moment(Option<u32>),

@@ -17,12 +17,14 @@ pub(crate) trait Selectable: Copy {
         ensures { result ≡ selects self word.now };
 }
 
+/// A word in these values selects the row, said value by value.
 fn is_requested<R: Selectable>(row: R, values: &[ValueView<'_>]) -> bool
     ensures { result ≡ list_any (λ v. R.selects row v.bytes.now) values.now }
 {
     values.iter().any(|v| row.is_selected(v.bytes))
 }
 
+/// The same, said of the values' words, as the definition has it: a step for the prover.
 #[tactic(auto, using(crate::proofs::Lists::list_any_map))]
 fn is_named<R: Selectable>(row: R, values: &[ValueView<'_>]) -> bool
     ensures { result ≡ list_any (R.selects row) (words_of (values_of values.now)) }

@@ -88,7 +88,7 @@ pub struct Row {
 }
 
 /// The operation attributes.
-pub const TABLE: [OperationAttribute; 19] = [
+pub const OPERATION_ATTRIBUTE_TABLE: [OperationAttribute; 19] = [
     OperationAttribute::AttributesCharset,
     OperationAttribute::AttributesNaturalLanguage,
     OperationAttribute::PrinterUri,
@@ -156,7 +156,7 @@ const HELD: Support = Support::Words(&["indefinite"]);
 
 impl Syntax {
     /// The value tags that may stand (RFC 8010, section 3.5.2).
-    pub fn tags(self) -> &'static [u8]
+    pub(crate) fn tags(self) -> &'static [u8]
         ensures { result.now ≡ tags_of self }
     {
         match self {
@@ -173,7 +173,7 @@ impl Syntax {
     }
 
     /// The greatest number of octets of a value, of a nameWithLanguage that of its name.
-    pub fn limit(self) -> Option<usize>
+    pub(crate) fn limit(self) -> Option<usize>
         ensures { result ≡ limit_of self }
     {
         match self {

@@ -10,7 +10,8 @@ ghost use Rattle.ipp_request.specs.Unsupported as spec;
 ghost use Rattle.ipp_reply.specs.Unsupported.{unsupported_of};
 
 use crate::attribute::{
-    JOB_GROUP_TABLE, JobGroupAttribute, OperationAttribute, Support, TABLE, knows,
+    JOB_GROUP_TABLE, JobGroupAttribute, OPERATION_ATTRIBUTE_TABLE, OperationAttribute, Support,
+    knows,
 };
 use crate::request::Request;
 use crate::value::are_supported;
@@ -32,7 +33,8 @@ pub enum Source {
 fn attribute_named(operation: Operation, name: &[u8]) -> Option<OperationAttribute>
     ensures { result ≡ spec.attribute_named operation name.now }
 {
-    TABLE.iter().copied().find(|k| k.row().name.as_bytes() == name && knows(operation, *k))
+    OPERATION_ATTRIBUTE_TABLE.iter().copied().find(|k| k.row().name.as_bytes() == name
+        && knows(operation, *k))
 }
 
 fn job_group_attribute(name: &[u8]) -> Option<JobGroupAttribute>

@@ -72,7 +72,7 @@ fn behind_language(bytes: &[u8]) -> Option<&[u8]>
 }
 
 /// The text of a value: of a nameWithLanguage the name, else all of it.
-pub fn text<'a>(value: ValueView<'a>) -> Option<&'a [u8]>
+pub(crate) fn text<'a>(value: ValueView<'a>) -> Option<&'a [u8]>
     ensures { option_copied result ≡ spec.text_of (value_of value.entry) }
 {
     if value.tag == NAME_WITH_LANGUAGE {
