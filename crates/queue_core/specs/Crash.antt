@@ -4,7 +4,7 @@ use Rattle.queue_types.specs.Event.{Event}
 use Rattle.queue_core.specs.Machine.{step}
 use Rattle.queue_core.specs.World.{World}
 
--- what a crash leaves beside the queue w, before something is asked of the book, comes to what it leaves beside u, after it, as `left` has it
+-- A crash before the call may leave w or v (before w v), and one after it u or x (after u x): for each such v there is such an x, tied to it by `left`.
 abbrev pub CarriesBy : (before after : World → World → Type 0) (left : World → World → Type 0) → World → World → Type 0
 CarriesBy before after left w u = (v : World) → before w v → (x : World) × after u x × left v x
 

@@ -50,7 +50,7 @@ add_row repeated r k n rest new free repeats = rest new free (repeats + 1)
 add_row (refused_row refusal) r k n rest new free repeats = none_taken refusal n
 add_row new_row r k n rest new free repeats = rest (new ++ r ∷ []) (free ++ free_after r k new ∷ []) repeats
 
--- the rows from number n on, each beside what is known of it, after these new rows
+-- the rows from number n on, each beside what is known of it, after these new rows (a scene knows something of each row, by known_of)
 abbrev pub take_rows : List GrantRow → List KnownGrant → ℕ → List GrantRow → List FreeRow → ℕ → Taken
 take_rows [] known n new free repeats = all_taken new free repeats
 take_rows (r ∷ rows) [] n new free repeats = all_taken new free repeats

@@ -38,7 +38,7 @@ pub record IsTallied (t : Tally) : Type 0 where
   pub pages : ArePages t.pages t.rows.items
   pub totals : AreTotals t.totals t.rows.items
 
--- so they do once that became of one more; with a row that can't be taken, the others aren't either
+-- So they do after one row more, of which this became. Of a row that can't be taken nothing is said, as then no row of the file is added.
 abbrev pub IsTalliedAfter : Row → Tally → Type 0
 IsTalliedAfter repeated t = IsTallied t
 IsTalliedAfter (refused_row fault) t = ⊤
@@ -49,7 +49,7 @@ row_in Repeated = repeated
 row_in (Refused fault) = refused_row fault
 row_in New = new_row
 
--- the new rows once that becomes of one more
+-- the new rows after one row more, of which this became
 abbrev pub rows_after : Row → List GrantRow → GrantRow → List GrantRow
 rows_after repeated rows r = rows
 rows_after (refused_row fault) rows r = rows
@@ -61,12 +61,12 @@ free_rows_after repeated free rows r k = free
 free_rows_after (refused_row fault) free rows r k = free
 free_rows_after new_row free rows r k = free ++ free_after r k rows ∷ []
 
--- what it says of these new rows that their taking ended there
+-- how the taking ended, as the machine's definition tells it
 abbrev pub taken_at : End → List GrantRow → List FreeRow → Taken
 taken_at (Whole repeats) rows free = all_taken rows free repeats
 taken_at (At fault row) rows free = none_taken fault row
 
--- from so many new rows to so many, over that number of rows at most
+-- over n rows: the new rows, whose number goes from before to after, and the repeats are n at the most, or the row that can't be taken is one of the n
 abbrev pub IsEndWithin : End → ℕ → ℕ → ℕ → Type 0
 IsEndWithin (Whole repeats) after before n = after + repeats ≤ before + n
 IsEndWithin (At fault row) after before n = (1 ≤ row) × (row ≤ n)

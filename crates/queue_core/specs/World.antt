@@ -232,7 +232,8 @@ next_for (get_job_attributes n) next = 1
 next_for (get_jobs which limit) next = 1
 next_for get_printer_attributes next = next
 
--- for an account file too: so a book in tables reads its tables for every event
+-- An account file is decided without it. It is looked up all the same, so that a book in tables reads them for every event, also for a file without
+-- rows, and a book that is shut refuses each.
 abbrev pub next_of : Event → World → ℕ
 next_of (ask caller call) w = next_for call w.next
 next_of (tell r) w = 1

@@ -60,7 +60,7 @@ fn returned_to(before: &[Job], after: &[Job], account: &str) -> i64
     back
 }
 
-/// The accounts with what comes back to each.
+/// The accounts, each with its free pages once what comes back to it is added.
 pub(crate) fn credited_rows(
     alloc: Global,
     before: &[Job],

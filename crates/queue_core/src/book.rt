@@ -1,6 +1,6 @@
 //! A book keeps a queue, whichever way: in lists, or in tables.
 //!
-//! What a book may stand for is a relation to worlds. What is read of a book holds where it is honest as
+//! `stands` ties a book to each world that it may stand for. What is read of a book holds where it is honest as
 //! the call ends; a call that ends honest began so. A refused call leaves what the book stands for. No call on an
 //! honest book that stands for a queue is told Damaged. A book that an error has shut answers nothing but faults.
 //! A crash, at whatever moment of a call on a live book, leaves the queue from before the call or the one after it; of a
@@ -30,7 +30,7 @@ pub enum BookFault {
     /// Want of memory.
     #[error("there is no memory")]
     Memory = 1,
-    /// The disk, or its size, refused.
+    /// The disk refused, or something was too large for it or for a table.
     #[error("the disk refused")]
     Disk = 2,
     /// The rows that were read don't stand for a world.
@@ -75,7 +75,7 @@ pub trait QueueBook {
     /// What is read from the book is what was written to it.
     ghost is_honest: { Self → Type 0 };
 
-    /// No error has shut the book: what it stands for is what it keeps. Nothing opens a shut book again, so every call is refused by it.
+    /// No error has shut the book: what it stands for is what it keeps. A shut book is never opened again, and refuses every call.
     ghost is_live: { Self → Type 0 };
 
     /// Whatever a crash at this moment leaves of the book is found again as one of these two worlds.

@@ -177,6 +177,7 @@ fn take_rows<'a>(
     ensures within { IfOk result (λ e. IsEndWithin e (length tally.new.rows.items) (length tally.old.rows.items) (length rows.now)) }
 {
     let mut repeats = 0;
+    // the scene knows something of each row
     let end = rows.len().min(known.len());
     for i in 0..end {
         match take_row(tally, &rows[i], &known[i])? {

@@ -11,7 +11,7 @@ use queue_types::limits::FIRST_JOB_NUMBER;
 use queue_types::settings::Settings;
 use std::alloc::{AllocError, Global};
 
-/// Counts of a queue that nobody asks for.
+/// The counts for an event that doesn't need them: all 0.
 pub fn no_counts() -> QueueCounts
     ensures { result ≡ queue_counts [] }
 {

@@ -16,8 +16,8 @@ pub fn startable_jobs_are_shown()
     ensures in_order { (w : World) → IsSound w → AreRising (pending_jobs w) }
 {}
 
-/// The device may fetch each document of a job in state 3, 5 or 6, by the job's number and the document's place, from 1;
-/// in no other state, and of no number that no job has, is there one to fetch, nor at any other place.
+/// The device may fetch each document of a job in state 3, 5 or 6, by the job's number and the document's place, from 1.
+/// There is none to fetch of a job in another state, under a number that no job has, or at any other place.
 pub fn documents_are_fetched()
     ensures fetched { (w : World) (n : ℕ) (e : Entry) (before rest : List Document) (d : Document) → entry_at n w.jobs ≡ Some e → is_for_device e.row ≡ true → e.documents ≡ before ++ d ∷ rest → document_at w n (length before + 1) ≡ Some d }
     ensures elsewhere { (w : World) (n place : ℕ) (e : Entry) → entry_at n w.jobs ≡ Some e → is_for_device e.row ≡ false → document_at w n place ≡ None }

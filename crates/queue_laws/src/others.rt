@@ -26,9 +26,9 @@ pub fn run_two()
     run_keeps();
 }
 
-/// Places of two runs that are alike for u: a Print-Job of one and of another who are not u, where neither is refused,
-/// whatever their jobs; and, beside nothing, a request of another that is refused, and one that asks no new job:
-/// each but Print-Job and Create-Job.
+/// Pairs of places that are alike for u: two Print-Jobs of callers other than u, neither of which is refused, whatever their
+/// jobs; and, against a place at which nothing happens, a request of another that is refused, or one that asks no new job:
+/// any but Print-Job and Create-Job.
 pub fn others_requests_are_alike()
     ensures printed { (u : List ℕ) (w v : World) (now : ℕ) (event other : Event) → IsOthersPrint u w now event → IsOthersPrint u v now other → IsAlikePlace u w v (place_of now event) (place_of now other) }
     ensures refused { (u bob : List ℕ) (w v : World) (now : ℕ) (call : Call) → bytes_eq bob u ≡ false → refuses (answer w now (ask bob call)) ≡ true → IsAlikePlace u w v (place_of now (ask bob call)) (idle now) }

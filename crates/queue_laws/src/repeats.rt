@@ -34,7 +34,7 @@ pub fn thin_runs_have_no_repeats()
 }
 
 /// Nothing but repeats is left out. As a run goes on by a place, so does the run without repeats, unless that place is
-/// a report that was accepted before in the run. Of an account file the rows stay that were not granted before in it.
+/// a report that was accepted before in the run. Of an account file those rows stay that were not granted before in the run.
 pub fn repeats_alone_are_left_out()
     ensures idle { (w : World) (ps : List Place) (now : ℕ) → thin w (ps ++ idle now ∷ []) ≡ thin w ps ++ idle now ∷ [] }
     ensures requests { (w : World) (ps : List Place) (now : ℕ) (caller : List ℕ) (call : Call) → thin w (ps ++ place_of now (ask caller call) ∷ []) ≡ thin w ps ++ place_of now (ask caller call) ∷ [] }

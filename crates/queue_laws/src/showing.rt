@@ -23,7 +23,8 @@ pub fn own_jobs_are_shown()
 {}
 
 /// Without a limit it shows each job of the caller's own of that kind, once, and no other. Those that ended come
-/// from the newest on, the others by rank (those that the device has, those that it may start, those that wait)
+/// from the newest on, the others by rank (those that the device has, those that it may start, those that are on hold or
+/// still take documents)
 /// and number.
 pub fn own_jobs_are_in_order()
     ensures each { (w : World) (now : ℕ) (u : List ℕ) (kind : WhichJobs) (p : Job → Bool) (js : List Job) → answer w now (ask u (get_jobs kind None)) ≡ Jobs js → count_by p js ≡ count_by (λ j. is_owned_by u j && is_of_kind kind j && p j) (rows w) }

@@ -6,15 +6,15 @@ ghost use Rattle.queue_rows.specs.declared.rows.PieceRow.{PieceRow};
 
 use crate::rows::{DocumentRow, PieceRow};
 
-/// The bytes of a piece, but of a document's last one.
-pub const PIECE: u32 = 65_536;
+/// The octets of each piece of a document but the last.
+pub const PIECE_OCTETS: u32 = 65_536;
 
 /// It is the piece of that number of the document.
 fn is_piece(piece: &PieceRow, document: &DocumentRow, k: u32) -> bool
     requires { k * 65536 < document.now.octets }
     ensures { IsTrue result ↔ (piece.now ≡ piece_of document.now k) }
 {
-    let length = (document.octets - k * PIECE).min(PIECE);
+    let length = (document.octets - k * PIECE_OCTETS).min(PIECE_OCTETS);
     piece.job == document.job
         && piece.doc == document.doc
         && piece.piece == k
@@ -25,7 +25,7 @@ fn is_piece(piece: &PieceRow, document: &DocumentRow, k: u32) -> bool
 fn behind_pieces<'a>(pieces: &'a [PieceRow], document: &DocumentRow) -> Option<&'a [PieceRow]>
     ensures { MatchOption result ((rest : List PieceRow) → pieces.now ≢ pieces_of document.now ++ rest) (λ rest. pieces.now ≡ pieces_of document.now ++ rest.now) }
 {
-    let count = document.octets.div_ceil(PIECE);
+    let count = document.octets.div_ceil(PIECE_OCTETS);
     if pieces.len() < count as usize {
         return None;
     }

@@ -54,7 +54,7 @@ fn insert_account<S: Alter>(tx: &mut Transaction<'_, S>, account: &FreeRow) -> R
     )
 }
 
-/// Puts the free pages of an account, where it is there, and tells how many rows that are.
+/// Puts the free pages of an account, and tells how many rows were written: none where the account isn't there.
 fn update_free<S: Alter>(tx: &mut Transaction<'_, S>, account: &FreeRow) -> Result<usize, Fault>
     ensures same_reference { tx.new.conn.ghost_name ≡ tx.old.conn.ghost_name }
     ensures stays { StaysInside (state S.Store tx.old.conn.now) (state S.Store tx.new.conn.now) result }

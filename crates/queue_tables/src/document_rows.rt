@@ -8,6 +8,7 @@ ghost use Rattle.queue_tables.specs.Steps.{AreDistinct, document_count_at, with_
 ghost use Rattle.queue_tables.specs.Values.{document_values};
 ghost use Rattle.queue_tables.specs.Kept.{HasOne};
 
+use crate::document_sizes::OCTETS_OF_JOB;
 use crate::fault::Fault;
 use crate::piece_rows::insert_pieces;
 use crate::run::{insert, select_inside};
@@ -44,11 +45,8 @@ fn count_documents<S: Alter>(tx: &mut Transaction<'_, S>, job: u32) -> Result<u3
     ensures few { IfOk result (λ n. n < 16) }
     ensures reads { ReadsQueueInside (state S.Store tx.old.conn.now) (state S.Store tx.new.conn.now) result (λ w. AreDistinct w.jobs × (document_count_at job w.jobs < 16)) (λ w n. n ≡ document_count_at job w.jobs) }
 {
-    let found = select_inside(
-        tx,
-        "SELECT octets FROM documents WHERE job = ?1 ORDER BY doc",
-        params![job],
-    )?;
+    // of the lengths only their number is wanted
+    let found = select_inside(tx, OCTETS_OF_JOB, params![job])?;
     if found.len() >= MOST_DOCUMENTS as usize {
         return Err(Fault::Damaged);
     }

@@ -15,6 +15,9 @@ use crate::select::select;
 use queue_types::limits::{MOST_DOCUMENT_OCTETS, MOST_DOCUMENTS};
 use sqlite::{Alter, Connection, Row, params};
 
+/// Shows the length in octets of each document of a job.
+pub(crate) const OCTETS_OF_JOB: &str = "SELECT octets FROM documents WHERE job = ?1 ORDER BY doc";
+
 /// The number of a job's documents, and the sum of their lengths in bytes.
 #[derive(Clone, Copy)]
 pub struct Sizes {
@@ -46,11 +49,7 @@ pub fn sizes_of<S: Alter>(conn: &mut Connection<S>, job: u32) -> Result<Sizes, F
     ensures damaged { HasCleanDisk (state S.Store conn.new) → IfErr result (λ e. e ≡ Fault.Damaged → (w : World) (k : Job) → IsSound w → Holds (content_of w) (state S.Store conn.old) → job_at job (rows w) ≢ Some k) }
     ensures found { HasCleanDisk (state S.Store conn.new) → IfOk result (λ s. (w : World) (k : Job) → IsSound w → Holds (content_of w) (state S.Store conn.old) → job_at job (rows w) ≡ Some k → (s.documents ≡ k.documents) × (s.octets ≡ k.octets)) }
 {
-    let found = select(
-        conn,
-        "SELECT octets FROM documents WHERE job = ?1 ORDER BY doc",
-        params![job],
-    )?;
+    let found = select(conn, OCTETS_OF_JOB, params![job])?;
     if found.len() > MOST_DOCUMENTS as usize {
         return Err(Fault::Damaged);
     }

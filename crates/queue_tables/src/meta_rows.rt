@@ -13,7 +13,7 @@ use crate::run::write;
 use queue_rows::rows::MetaRow;
 use sqlite::{Alter, Transaction, params};
 
-/// Adds the row.
+/// Adds the row of the book itself.
 pub fn insert_meta<S: Alter>(tx: &mut Transaction<'_, S>, meta: &MetaRow) -> Result<(), Fault>
     ensures same_reference { tx.new.conn.ghost_name ≡ tx.old.conn.ghost_name }
     ensures stays { StaysInside (state S.Store tx.old.conn.now) (state S.Store tx.new.conn.now) result }

@@ -9,10 +9,8 @@ ghost use Rattle.queue_tables.specs.Kept.{HasOne};
 
 use crate::fault::Fault;
 use crate::run::insert;
+use queue_rows::pieces::PIECE_OCTETS;
 use sqlite::{Alter, Transaction, params};
-
-/// The bytes of a full piece.
-const PIECE_OCTETS: usize = queue_rows::pieces::PIECE as usize;
 
 /// Adds a piece.
 fn insert_piece<S: Alter>(
@@ -43,7 +41,7 @@ pub(crate) fn insert_pieces<S: Alter>(
     ensures same_reference { tx.new.conn.ghost_name ≡ tx.old.conn.ghost_name }
     ensures made { MakesRows (state S.Store tx.old.conn.now) (state S.Store tx.new.conn.now) result (λ c. HasOne (are_numbered job doc) c.documents × (filter (are_numbered job doc) c.pieces ≡ [])) (with_pieces job doc bytes.now (pieces_in (length bytes.now))) }
 {
-    for (k, piece) in bytes.chunks(PIECE_OCTETS).enumerate() {
+    for (k, piece) in bytes.chunks(PIECE_OCTETS as usize).enumerate() {
         insert_piece(tx, job, doc, k as u32, piece)?;
     }
     Ok(())

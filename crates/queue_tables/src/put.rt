@@ -23,7 +23,7 @@ fn enter_job<S: Alter>(tx: &mut Transaction<'_, S>, job: &Job) -> Result<(), Fau
     add_to_sums(tx, job.owner.as_str(), taken)
 }
 
-/// Puts a job anew that was this before, and what it takes of its account.
+/// Puts a job in place of what it was, and moves the pages that it takes of its account.
 fn replace_job<S: Alter>(tx: &mut Transaction<'_, S>, job: &Job, before: &Job) -> Result<(), Fault>
     ensures same_reference { tx.new.conn.ghost_name ≡ tx.old.conn.ghost_name }
     ensures made { MakesQueue (state S.Store tx.old.conn.now) (state S.Store tx.new.conn.now) result (λ w. CanPut (job.now ∷ []) w × (Some before.now ≡ option_map bare (job_at job.now.number (rows w)))) (with_put job.now) }
@@ -31,6 +31,7 @@ fn replace_job<S: Alter>(tx: &mut Transaction<'_, S>, job: &Job, before: &Job) -
     let back = returned_by(before)?;
     let taken = taken_by(job)?;
     update_job(tx, job)?;
+    // back to the owner before, and off the owner now: in a decision these are one, but no premise here says so
     add_to_sums(tx, before.owner.as_str(), back)?;
     add_to_sums(tx, job.owner.as_str(), taken)
 }
