@@ -58,8 +58,8 @@ class Calls:
         self.queue = queue
 
     def call(self):
-        """A request, or a line of the device or the office as a replay has it."""
-        calls = 5 * [self.new_job] + 7 * [self.on_job] + [self.cancel_jobs] + 2 * [self.look] + 8 * [self.device] + 2 * [self.office]
+        """A request, or a line of the device, of the office or of a sweep as a replay has it."""
+        calls = 5 * [self.new_job] + 7 * [self.on_job] + [self.cancel_jobs] + 2 * [self.look] + 8 * [self.device] + 2 * [self.office] + [self.expire]
         return self.draws.choice(calls)()
 
     def a_job(self, caller, is_fit):
@@ -147,6 +147,10 @@ class Calls:
         kind = self.draws.choice(TAKEN[job.state] if job.state in TAKEN and self.draws.chance(90) else KINDS)
         count = max(job.completed + self.draws.below(9) - 2, 0)
         return f"{job.number} {1 + self.draws.below(1_000_000)} {kind} {count}"
+
+    def expire(self) -> bytes:
+        """A sweep, which ends the jobs that have expired."""
+        return b"expire"
 
     def office(self):
         """An account file of one to three rows: new ones, some that came before, and a few that conflict or are none."""

@@ -56,8 +56,8 @@ class Ended(Exception):
 class Shelf(Queue):
     """A queue that keeps the documents of its jobs, as pairs of a format and content."""
 
-    def __init__(self):
-        super().__init__()
+    def __init__(self, seconds: int) -> None:
+        super().__init__(seconds)
         self.documents = {}
 
     def act(self, request, now):
@@ -299,8 +299,9 @@ def act(queue, name, match, body, now):
 
 
 def talk(queue, stream, now):
-    """Answers all that comes in on a connection."""
+    """Ends the jobs that have expired, and answers all that comes in on a connection."""
     reader, answered = Input(stream), Answered()
+    queue.expire(now)
     try:
         for count in range(1, MOST_REQUESTS + 1):
             if reader.is_over():

@@ -29,6 +29,8 @@ from second.grants import RefusedFile, new_rows, read_row, records
 MOST_LIVE_JOBS = 100
 MOST_DOCUMENTS = 16
 ESTIMATE = 20
+# the seconds for which the queue of a replay keeps a job that is held or open
+KEEP = 3600
 
 HELD = "job-hold-until-specified"
 INCOMING = "job-incoming"
@@ -113,7 +115,9 @@ def selected(rows, names, groups):
 class Queue:
     """The jobs of a printer in the order of their numbers, the accounts of their owners, and the reports that were accepted."""
 
-    def __init__(self):
+    def __init__(self, seconds: int = KEEP) -> None:
+        # a job that is held or open is kept for this time, and without end if it is 0
+        self.seconds = seconds
         self.jobs = {}
         self.granted = {}
         self.free = {}
@@ -258,7 +262,7 @@ class Queue:
             jobs = jobs[: signed(request.values[b"limit"][1])]
         return [job_group(job, now, request.names, [b"job-uri", b"job-id"]) for job in jobs]
 
-    # ---- the device and the office
+    # ---- the device, the office and sweeps
 
     def report(self, text, now):
         """The answer to a line of the device, both without their line feeds."""
@@ -291,6 +295,13 @@ class Queue:
             self.free[account] = self.free.get(account, 0) + pages
         self.granted.update(new)
         return b"new %d repeats %d" % (len(new), len(rows) - len(new))
+
+    def expire(self, now: int) -> int:
+        """Ends the jobs that are held or open and have been kept for their time, and returns their number."""
+        expired = [job for job in self.jobs.values() if job.state == 4 and 0 < self.seconds <= now - job.created]
+        for job in expired:
+            self.keep(job.ended_at(now, 8, ABORTED))
+        return len(expired)
 
 
 def can_be_canceled(job):

@@ -34,6 +34,8 @@ class Replay:
             return self.queue.report(line[len(b"dev ") :], self.now)
         if line.startswith(b"grant "):
             return b"grant " + self.queue.grant(line[len(b"grant ") :])
+        if line == b"expire":
+            return b"expired %d" % self.queue.expire(self.now)
         raise BadLine
 
 

@@ -1,5 +1,6 @@
 """What an example is made of."""
 import re
+from typing import Union
 
 from ipp import (
     BEGIN_COLLECTION,
@@ -33,7 +34,10 @@ MEDIA_COL = [
 ]
 
 # the answers that a server gives for want of memory, which no example wants
-FAULT = re.compile(rb"^(ipp .{4}0505|refused 6|grant refused 6)", re.MULTILINE)
+FAULT = re.compile(rb"^(ipp .{4}0505|refused 6|grant refused 6|expire refused)", re.MULTILINE)
+
+# an exchange: a request and its reply, or a line and its answer
+Step = Union[tuple[Message, Message], tuple[bytes, bytes]]
 
 
 def replay(name, text, wanted, status=0):
@@ -78,6 +82,11 @@ def dev(text, answer):
 def grant(row, answer="new 1 repeats 0"):
     """The step of an account file of one row, and what comes of it."""
     return b"grant %s\n" % octets(row), b"grant %s\n" % octets(answer)
+
+
+def expire(count: int) -> tuple[bytes, bytes]:
+    """The step that ends the jobs that have expired: count of them."""
+    return b"expire\n", b"expired %d\n" % count
 
 
 def sized(length, message):

@@ -1,4 +1,4 @@
-"""Five hundred calls in a row over one queue, drawn by a fixed rule: several callers, the device and the office, at moments that move."""
+"""Five hundred calls in a row over one queue, drawn by a fixed rule: several callers, the device, the office and sweeps, at moments that move."""
 from ipp import Message
 from second.calls import ACCOUNTS, KINDS, Calls, Draws
 from second.checks import OPERATIONS
@@ -7,21 +7,25 @@ from worked.played import Play
 CALLS = 500
 
 with Play("five hundred calls in a row") as play:
-    draws = Draws(2024)
+    draws = Draws(2029)
     calls = Calls(draws, play.queue)
     play.grant("b1,alice,60")
     play.grant("b1,bob,200")
-    done = set()
+    done: set = set()
     for _ in range(CALLS):
         if draws.chance(25):
-            play.now(play.replay.now + 1 + draws.below(5))
+            play.now(play.replay.now + 1 + draws.below(90))
         call = calls.call()
         if isinstance(call, Message):
             if play.ask(call) <= 0x0001:
                 done.add(call.code)
-        elif play.line(call).startswith(b"ok"):
+            continue
+        answer = play.line(call)
+        if answer.startswith(b"ok"):
             done.add(call.split()[3].decode())
+        elif answer.startswith(b"expired ") and answer != b"expired 0":
+            done.add("expire")
     for name in ACCOUNTS:
         play.find_free(name)
-    # each operation and each kind of report was taken
-    assert done >= {*OPERATIONS, *KINDS}, done
+    # each operation and each kind of report was taken, and jobs expired
+    assert done >= {*OPERATIONS, *KINDS, "expire"}, done

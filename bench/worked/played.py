@@ -51,6 +51,11 @@ class Play:
         assert answer in (None, came.decode()), (self.name, row, came)
         return came
 
+    def expire(self, count: int) -> None:
+        """Ends the jobs that have expired: count of them."""
+        came = self.line(b"expire")
+        assert came == b"expired %d" % count, (self.name, came)
+
     # ---- what several examples do
 
     def job(self, number):

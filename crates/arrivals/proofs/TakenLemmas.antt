@@ -2,19 +2,21 @@
 use Rattle.std.proofs.Common.{◌≡◌, ℕ, Bool, true, false, List, [], ◌∷◌, Bor, Option, None, Some, Ok, Err, inl, inr, refl, subst}
 use Rattle.std.specs.Prelude.{IfSome, MatchBool}
 use Rattle.std.proofs.KnownBytes.{Appends-nil}
-use Rattle.queue_types.specs.Event.{Event, grant}
+use Rattle.queue_types.specs.Event.{Event, grant, expire}
 use Rattle.queue_types.specs.declared.event.GrantRow.{GrantRow}
 use Rattle.queue_core.specs.Limits.{IsEvent, IsMoment}
 use Rattle.queue_core.specs.Runs.{after}
+use Rattle.queue_core.specs.Sweep.{Sweeps}
 use Rattle.queue_core.specs.World.{World}
+use Rattle.queue_core.specs.declared.book.BookFault.{BookFault}
 use Rattle.device_lines.specs.Reports.{IsReported, IsUntaken, Tells, is_fault_line}
 use Rattle.grants_csv.specs.File.{rows_of}
 use Rattle.grants_csv.specs.Import.{Imports, grants}
 use Rattle.grants_csv.specs.declared.fault.ImportFault.{ImportFault}
 use Rattle.grants_csv.specs.declared.importing.Imported.{Imported}
 use Rattle.arrivals.specs.Taken.{IsTaken, Takes}
-use Rattle.arrivals.specs.declared.arrival.Arrived.TheVariants.{Line, AccountFile}
-use Rattle.arrivals.specs.declared.arrival.Outcome.TheVariants.{Told, Imported as ImportedRows, Refused}
+use Rattle.arrivals.specs.declared.arrival.Arrived.TheVariants.{Line, AccountFile, Sweep}
+use Rattle.arrivals.specs.declared.arrival.Outcome.TheVariants.{Told, Imported as ImportedRows, Refused, Swept, Unswept}
 
 -- ---- a line
 
@@ -98,5 +100,33 @@ file_refused new left now file f w u moment i s l v = record {
   are = ((moment, tt), tt);
   run_is = i.1;
   comes = (refl, i, record { only = refl; world = i.1 });
+  is_left = l;
+}
+
+-- ---- a sweep
+
+pub jobs_swept : (new left : World → Type 0) (now n : ℕ) (w u : World) → IsMoment now → Sweeps {E = BookFault} w now u (Ok n) → new u → left u → (v : Option (List ℕ)) → IsTaken new left w v v (Takes now w Sweep (Swept n))
+jobs_swept new left now n w u moment swept s l v = record {
+  after = u;
+  stands_after = s;
+  written = [];
+  appended = Appends-nil v;
+  places = record { now = now; event = Some expire } ∷ [];
+  are = ((moment, tt), tt);
+  run_is = swept.1;
+  comes = (refl, swept, record { only = refl; world = swept.1 });
+  is_left = l;
+}
+
+pub none_swept : (new left : World → Type 0) (now : ℕ) (f : BookFault) (w u : World) → IsMoment now → Sweeps w now u (Err f) → new u → left u → (v : Option (List ℕ)) → IsTaken new left w v v (Takes now w Sweep (Unswept f))
+none_swept new left now f w u moment swept s l v = record {
+  after = u;
+  stands_after = s;
+  written = [];
+  appended = Appends-nil v;
+  places = record { now = now; event = None } ∷ [];
+  are = ((moment, tt), tt);
+  run_is = swept;
+  comes = (refl, swept, record { only = refl; world = swept });
   is_left = l;
 }

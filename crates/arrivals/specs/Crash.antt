@@ -1,6 +1,6 @@
 -- What a crash leaves of a book, at whatever moment it comes.
 use Rattle.std.specs.Prelude.{◌≡◌, ◌⊎◌, true, ℕ, List, [], ◌∷◌, ◌++◌, Some, Result, Ok, Err, Vec}
-use Rattle.queue_types.specs.Event.{Event}
+use Rattle.queue_types.specs.Event.{Event, expire}
 use Rattle.queue_core.specs.Crash.{CarriesBy, IsLeftOr}
 use Rattle.queue_core.specs.Machine.{step}
 use Rattle.queue_core.specs.Runs.{Place, IsPlace}
@@ -13,13 +13,13 @@ use Rattle.http_front.specs.Crash.{IsAskedIn}
 use Rattle.arrivals.specs.Taken.{Takes}
 use Rattle.arrivals.specs.declared.arrival.Arrival.{Arrival}
 use Rattle.arrivals.specs.declared.arrival.Arrived.{Arrived}
-use Rattle.arrivals.specs.declared.arrival.Arrived.TheVariants.{Connection, Line, AccountFile}
+use Rattle.arrivals.specs.declared.arrival.Arrived.TheVariants.{Connection, Line, AccountFile, Sweep}
 use Rattle.arrivals.specs.declared.arrival.Outcome.{Outcome}
-use Rattle.arrivals.specs.declared.arrival.Outcome.TheVariants.{Served, Broken, Told, Refused}
+use Rattle.arrivals.specs.declared.arrival.Outcome.TheVariants.{Served, Broken, Told, Refused, Unswept}
 
 -- ---- what is asked for and told as a fault, where the queue was u before it already
 
--- What reached the queue w at this moment, and came to this outcome, asks for the event, and a fault was told of it: of a line, of a file, or of one of the
+-- What reached the queue w at this moment, and came to this outcome, asks for the event, and a fault was told of it: of a line, of a file, of a sweep, or of one of the
 -- requests of a connection that were answered one after another, with the one whose answer was broken off.
 abbrev pub AsksFor : ℕ → Arrived → Outcome → World → World → Event → Type 0
 AsksFor now (Connection stream) (Served s) w u e =
@@ -28,6 +28,7 @@ AsksFor now (Connection stream) (Broken f) w u e =
     (written : List ℕ) × (after : World) × (b : Breaks now w stream.now written after f.acted f.faults) × IsAskedIn w (b.turns ++ b.broken) u e
 AsksFor now (Line line) (Told out) w u e = Tells line.now (Some e) × (is_fault_line out ≡ true) × (u ≡ w)
 AsksFor now (AccountFile file) (Refused f) w u e = Asks file.now (Some e) × (f ≡ fault) × (u ≡ w)
+AsksFor now Sweep (Unswept f) w u e = (e ≡ expire) × (u ≡ w)
 AsksFor now _ _ w u e = ⊥
 
 -- it does so at its own moment

@@ -1,19 +1,21 @@
 -- What comes of one thing that reaches a queue: the answer to it, and the places of a run of the machine that it is.
-use Rattle.std.specs.Prelude.{◌≡◌, ◌≢◌, ⊤, ℕ, List, [], ◌∷◌, ◌++◌, Option, None, Ok, Err, MatchBool, false}
+use Rattle.std.specs.Prelude.{◌≡◌, ◌≢◌, ⊤, ℕ, List, [], ◌∷◌, ◌++◌, Option, None, Some, Ok, Err, MatchBool, false}
 use Rattle.std.specs.List.{AllByRecursion}
 use Rattle.std.specs.Io.KnownBytes.{Appends}
-use Rattle.queue_types.specs.Event.{Event}
+use Rattle.queue_types.specs.Event.{Event, expire}
 use Rattle.queue_core.specs.Runs.{Place, IsPlace, after, run}
+use Rattle.queue_core.specs.Sweep.{Sweeps}
 use Rattle.queue_core.specs.World.{World}
+use Rattle.queue_core.specs.declared.book.BookFault.{BookFault}
 use Rattle.device_lines.specs.Reports.{AnswersLine, Tells, is_fault_line}
 use Rattle.grants_csv.specs.Fault.{fault}
 use Rattle.grants_csv.specs.Import.{Asks, Imports}
 use Rattle.http_front.specs.Connections.{Answers, Breaks, IsFaultless as IsServedFaultless}
 use Rattle.http_front.specs.Places.{ArePlacesOf}
 use Rattle.arrivals.specs.declared.arrival.Arrived.{Arrived}
-use Rattle.arrivals.specs.declared.arrival.Arrived.TheVariants.{Connection, Line, AccountFile}
+use Rattle.arrivals.specs.declared.arrival.Arrived.TheVariants.{Connection, Line, AccountFile, Sweep}
 use Rattle.arrivals.specs.declared.arrival.Outcome.{Outcome}
-use Rattle.arrivals.specs.declared.arrival.Outcome.TheVariants.{Served, Broken, Told, Imported, Refused}
+use Rattle.arrivals.specs.declared.arrival.Outcome.TheVariants.{Served, Broken, Told, Imported, Refused, Swept, Unswept}
 
 -- at this moment one event, or nothing, makes u of the world w
 pub record IsOnePlace (now : ℕ) (w u : World) (event : Option Event) (ps : List Place) : Type 0 where
@@ -37,6 +39,8 @@ Takes now w (Line line) (Told out) written ps u = (written ≡ []) × TakesLine 
 Takes now w (AccountFile file) (Imported n) written ps u =
     (written ≡ []) × Imports w now file.now u (Ok n) × ((e : Option Event) × Asks file.now e × IsOnePlace now w u e ps)
 Takes now w (AccountFile file) (Refused f) written ps u = (written ≡ []) × Imports w now file.now u (Err f) × IsOnePlace now w u None ps
+Takes now w Sweep (Swept n) written ps u = (written ≡ []) × Sweeps {E = BookFault} w now u (Ok n) × IsOnePlace now w u (Some expire) ps
+Takes now w Sweep (Unswept f) written ps u = (written ≡ []) × Sweeps w now u (Err f) × IsOnePlace now w u None ps
 Takes now w _ _ written ps u = ⊥
 
 -- no fault of the server's own was told, and the book did not fail inside a document
@@ -46,6 +50,8 @@ IsFaultless (Broken f) = IsServedFaultless (Err f)
 IsFaultless (Told out) = is_fault_line out ≡ false
 IsFaultless (Imported n) = ⊤
 IsFaultless (Refused f) = f ≢ fault
+IsFaultless (Swept n) = ⊤
+IsFaultless (Unswept f) = ⊥
 
 -- ---- what taking it leaves
 

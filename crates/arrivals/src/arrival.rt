@@ -3,6 +3,7 @@
 use device_lines::ReportAnswer;
 use grants_csv::{ImportFault, Imported};
 use http_front::{ServeFault, Served};
+use queue_core::BookFault;
 
 /// What reaches a queue at a moment.
 #[derive(Clone, Copy)]
@@ -22,6 +23,8 @@ pub enum Arrived<'a> {
     Line(&'a [u8]),
     /// An account file.
     AccountFile(&'a [u8]),
+    /// Nothing but the moment: every job that has expired ends.
+    Sweep,
 }
 
 /// What came of it.
@@ -37,4 +40,8 @@ pub enum Outcome {
     Imported(Imported),
     /// Why the account file was refused.
     Refused(ImportFault),
+    /// A sweep, and the number of jobs that it ended.
+    Swept(u32),
+    /// A sweep during which the book failed: no job ended.
+    Unswept(BookFault),
 }

@@ -1,4 +1,5 @@
-//! Whatever reaches a print queue from outside, in any order: connections of HTTP, lines of the device, account files.
+//! Whatever reaches a print queue from outside, in any order: connections of HTTP, lines of the device, account files, and sweeps that end
+//! expired jobs.
 //!
 //! [`take_all`] takes a list of them over any book of the queue, each at its moment, and its contract has the promise of the whole: the bytes that are
 //! answered and the queue are the machine's, what is answered by a fault changes nothing, each job moves along the allowed pairs of states alone, and in

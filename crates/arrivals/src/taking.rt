@@ -7,13 +7,13 @@ ghost use Rattle.queue_core.specs.World.{World};
 ghost use Rattle.arrivals.specs.Books.{CameTo, HistoryOver, IsTakenOver, LeavesAtMostOneMore};
 ghost use Rattle.arrivals.specs.Crash.{IsAskedBy, outcomes_of};
 ghost use Rattle.arrivals.specs.Taken.{IsFaultless};
-ghost use Rattle.arrivals.specs.declared.arrival.Arrived.TheVariants.{AccountFile, Connection, Line};
+ghost use Rattle.arrivals.specs.declared.arrival.Arrived.TheVariants.{AccountFile, Connection, Line, Sweep};
 
 use crate::arrival::{Arrival, Arrived, Outcome};
 use device_lines::{lines_are_events, report};
 use grants_csv::{files_are_events, import};
 use http_front::{connections_are_runs, serve};
-use queue_core::{QueueBook, run_keeps};
+use queue_core::{QueueBook, run_keeps, sweep};
 use queue_types::settings::Settings;
 use std::alloc::{AllocError, Global};
 use std::io::Write;
@@ -68,6 +68,20 @@ fn take_file<B: QueueBook>(alloc: Global, book: &mut B, now: u32, file: &[u8]) -
     }
 }
 
+/// Ends the jobs that have expired at this moment.
+fn take_sweep<B: QueueBook>(book: &mut B, now: u32) -> Outcome
+    requires { IsMoment now }
+    ensures began { B.is_honest book.new → B.is_honest book.old }
+    ensures taken { B.is_honest book.new → (w : World) → B.stands book.old w → (v : _)
+        → IsTakenOver B.QueueBook book.old book.new w now Sweep result v v }
+    ensures live { B.is_honest book.new → B.is_live book.old → IsFaultless result → B.is_live book.new }
+{
+    match sweep(book, now) {
+        Ok(ended) => Outcome::Swept(ended),
+        Err(fault) => Outcome::Unswept(fault),
+    }
+}
+
 /// Takes one thing.
 fn take<W: Write, B: QueueBook>(
     alloc: Global,
@@ -88,11 +102,12 @@ fn take<W: Write, B: QueueBook>(
         }
         Arrived::Line(line) => take_line(book, arrival.moment, line),
         Arrived::AccountFile(file) => take_file(alloc, book, arrival.moment, file),
+        Arrived::Sweep => take_sweep(book, arrival.moment),
     }
 }
 
 /// Takes a list of things, one after another, over any book of a queue with these settings: serves connections, answers lines of the device, imports
-/// account files. What answers the connections is written, and what came of each thing is handed back in order.
+/// account files, ends jobs that have expired. What answers the connections is written, and what came of each thing is handed back in order.
 ///
 /// The one error is want of memory, before anything is taken or written.
 pub fn take_all<W: Write, B: QueueBook>(

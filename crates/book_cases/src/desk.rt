@@ -9,6 +9,7 @@ pub(crate) mod fault;
 pub(crate) mod request;
 pub(crate) mod shelf;
 pub(crate) mod step;
+mod sweep;
 
 ghost use Rattle.queue_core.specs.Limits.{IsMoment};
 
@@ -20,9 +21,9 @@ use queue_types::settings::{SettingFault, Settings};
 use std::alloc::Global;
 use std::fmt::Debug;
 
-/// The settings of a printer with an estimate of 20 pages.
+/// The settings of a printer with an estimate of 20 pages, which keeps a held job for an hour.
 pub(crate) fn printer(alloc: Global) -> Result<Settings, SettingFault> {
-    Settings::new(alloc, "ipp://localhost/ipp/print", "release", 20, 0)
+    Settings::new(alloc, "ipp://localhost/ipp/print", "release", 20, 0, 3600)
 }
 
 /// Where a desk is in its row.
@@ -155,6 +156,7 @@ impl Desk {
             Step::Grant(rows, wanted) => self.compare_grant(book, rows, wanted),
             Step::File(file, wanted) => self.compare_file(book, file, wanted),
             Step::Dev(line, wanted) => self.compare_answer(book, line, wanted),
+            Step::Expire(wanted) => self.compare_sweep(book, wanted),
             Step::Ask(caller, request, wanted) => self.compare_code(book, caller, request, wanted),
             Step::AskTimes(count, caller, request, wanted) => {
                 self.compare_codes(book, count, caller, request, wanted)

@@ -3,6 +3,7 @@
 
 mod accounts;
 mod device;
+mod expiry;
 mod files;
 mod job_numbers;
 mod lists_of_jobs;

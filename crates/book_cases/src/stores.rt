@@ -4,6 +4,7 @@ mod adopted;
 mod columns;
 mod compare;
 mod judge;
+mod older;
 mod pieces;
 mod queue;
 mod rows;

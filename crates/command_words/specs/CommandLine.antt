@@ -41,13 +41,17 @@ store_rule = text_rule (codes "store")
 
 abbrev pub init_words : Shape
 init_words = words (codes "init")
-    (store_rule ∷ text_rule (codes "uri") ∷ text_rule (codes "name") ∷ optional_rule (codes "estimate") 0 100000 (codes "20") ∷ [])
+    (store_rule ∷ text_rule (codes "uri") ∷ text_rule (codes "name") ∷ optional_rule (codes "estimate") 0 100000 (codes "20")
+    ∷ optional_rule (codes "keep") 0 2147483647 (codes "0") ∷ [])
 
 abbrev pub import_words : Shape
 import_words = words (codes "import") (store_rule ∷ place_rule (codes "file") ∷ [])
 
 abbrev pub statement_words : Shape
 statement_words = words (codes "statement") (store_rule ∷ place_rule (codes "account") ∷ [])
+
+abbrev pub expire_words : Shape
+expire_words = words (codes "expire") (store_rule ∷ [])
 
 abbrev pub serve_words : Shape
 serve_words = words (codes "serve")
@@ -67,12 +71,12 @@ program = record (new_shape (codes "printd")) {
   disable_help_subcommand = true;
 }
 
--- of a store: its making, its account files and their statements
+-- of a store: making it, importing account files, printing statements and ending expired jobs
 abbrev pub office_subcommands : List Shape
-office_subcommands = init_words ∷ import_words ∷ statement_words ∷ []
+office_subcommands = init_words ∷ import_words ∷ statement_words ∷ expire_words ∷ []
 
 abbrev pub subcommands : List Shape
-subcommands = init_words ∷ import_words ∷ statement_words ∷ serve_words ∷ replay_words ∷ []
+subcommands = init_words ∷ import_words ∷ statement_words ∷ expire_words ∷ serve_words ∷ replay_words ∷ []
 
 -- the program with these subcommands
 abbrev pub program_with : List Shape → App

@@ -5,10 +5,11 @@ use Rattle.std.specs.Str.Parse.{digits_value, without_leading_plus}
 use Rattle.clap.specs.Values.{IsUnsignedIn}
 use Rattle.clap.specs.Walk.{Row, Text, first_of, one_of}
 use Rattle.command_words.specs.declared.outcome.Command.{Command}
-use Rattle.command_words.specs.declared.outcome.Command.TheVariants.{Init as InitCommand, Import as ImportCommand, Statement as StatementCommand, Serve as ServeCommand, Replay}
+use Rattle.command_words.specs.declared.outcome.Command.TheVariants.{Init as InitCommand, Import as ImportCommand, Statement as StatementCommand, Expire as ExpireCommand, Serve as ServeCommand, Replay}
 use Rattle.command_words.specs.declared.outcome.Init.{Init}
 use Rattle.command_words.specs.declared.outcome.Import.{Import}
 use Rattle.command_words.specs.declared.outcome.Statement.{Statement}
+use Rattle.command_words.specs.declared.outcome.Expire.{Expire}
 use Rattle.command_words.specs.declared.outcome.Serve.{Serve}
 
 -- the value of an argument, and no text where it has none
@@ -26,6 +27,8 @@ pub record IsInit (rows : List Row) (i : Init) : Type 0 where
   pub name : i.name.now ≡ text_at (codes "name") rows
   pub estimate : IsNumberAt (codes "estimate") 0 100000 rows i.estimate
   pub estimate_fits : i.estimate ≤ 100000
+  pub keep : IsNumberAt (codes "keep") 0 2147483647 rows i.keep
+  pub keep_fits : i.keep ≤ 2147483647
 
 pub record IsImport (rows : List Row) (i : Import) : Type 0 where
   pub store : i.store.now ≡ text_at (codes "store") rows
@@ -34,6 +37,9 @@ pub record IsImport (rows : List Row) (i : Import) : Type 0 where
 pub record IsStatement (rows : List Row) (s : Statement) : Type 0 where
   pub store : s.store.now ≡ text_at (codes "store") rows
   pub account : s.account.now ≡ text_at (codes "account") rows
+
+pub record IsExpire (rows : List Row) (e : Expire) : Type 0 where
+  pub store : e.store.now ≡ text_at (codes "store") rows
 
 pub record IsServe (rows : List Row) (s : Serve) : Type 0 where
   pub store : s.store.now ≡ text_at (codes "store") rows
@@ -49,5 +55,6 @@ abbrev pub IsCommand : Command → Text × List Row → Type 0
 IsCommand (InitCommand i) met = (met.0 ≡ codes "init") × IsInit met.1 i
 IsCommand (ImportCommand i) met = (met.0 ≡ codes "import") × IsImport met.1 i
 IsCommand (StatementCommand s) met = (met.0 ≡ codes "statement") × IsStatement met.1 s
+IsCommand (ExpireCommand e) met = (met.0 ≡ codes "expire") × IsExpire met.1 e
 IsCommand (ServeCommand s) met = (met.0 ≡ codes "serve") × IsServe met.1 s
 IsCommand Replay met = met.0 ≡ codes "replay"

@@ -7,7 +7,7 @@ ghost use Rattle.command_words.specs.Values.{IsCommand};
 
 use crate::definition::defined;
 use crate::outcome::{Command, CommandFault};
-use crate::values::{import_of, init_of, serve_of, statement_of};
+use crate::values::{expire_of, import_of, init_of, serve_of, statement_of};
 use clap::ArgMatches;
 use std::alloc::Global;
 
@@ -23,6 +23,7 @@ fn command_of<'a>(matches: &ArgMatches<'a>) -> Command<'a>
         "init" => Command::Init(init_of(values)),
         "import" => Command::Import(import_of(values)),
         "statement" => Command::Statement(statement_of(values)),
+        "expire" => Command::Expire(expire_of(values)),
         "serve" => Command::Serve(serve_of(values)),
         "replay" => Command::Replay,
         _ => unreachable!("the definition has no other"),

@@ -3,10 +3,11 @@
 ghost use Rattle.std.specs.Prelude.{◌≡◌, ◌∷◌, [], IfOk, false, codes};
 ghost use Rattle.clap.specs.Simple.{App, Shape, with_subcommand};
 ghost use Rattle.clap.specs.Words.{rule_of};
-ghost use Rattle.command_words.specs.CommandLine.{IsApp, IsPart, definition, import_words, init_words, number_rule, office_subcommands, optional_rule, place_rule, program, program_with, replay_words, serve_words, statement_words, store_rule, text_rule, words};
+ghost use Rattle.command_words.specs.CommandLine.{IsApp, IsPart, definition, expire_words, import_words, init_words, number_rule, office_subcommands, optional_rule, place_rule, program, program_with, replay_words, serve_words, statement_words, store_rule, text_rule, words};
 
 use crate::limits::{
-    CONNECTIONS, ESTIMATE, NumberOption, PORT, TIMEOUT, USUAL_ESTIMATE, USUAL_TIMEOUT,
+    CONNECTIONS, ESTIMATE, KEEP, NumberOption, PORT, TIMEOUT, USUAL_ESTIMATE, USUAL_KEEP,
+    USUAL_TIMEOUT,
 };
 use clap::builder::ValueParser;
 use clap::{Arg, ArgAction, Command as Definition};
@@ -103,13 +104,23 @@ fn estimate<'a>(alloc: Global) -> Arg<'a>
     optional(alloc, ESTIMATE, "N", help, USUAL_ESTIMATE)
 }
 
+/// The option with the seconds for which a held or open job is kept.
+fn keep<'a>(alloc: Global) -> Arg<'a>
+    ensures rule { rule_of result ≡ optional_rule (codes "keep") 0 2147483647 (codes "0") }
+    ensures own { result.global ≡ false }
+{
+    let help = "How long a held job is kept before it expires, 0 for ever";
+    optional(alloc, KEEP, "SECONDS", help, USUAL_KEEP)
+}
+
 fn init<'a>(alloc: Global) -> Result<Definition<'a>, AllocError>
     ensures { IfOk result (IsPart init_words) }
 {
     on_store(alloc, "init", "Make a new store")?
         .arg(printer_uri(alloc))?
         .arg(printer_name(alloc))?
-        .arg(estimate(alloc))
+        .arg(estimate(alloc))?
+        .arg(keep(alloc))
 }
 
 fn import<'a>(alloc: Global) -> Result<Definition<'a>, AllocError>
@@ -132,6 +143,12 @@ fn statement<'a>(alloc: Global) -> Result<Definition<'a>, AllocError>
         "ACCOUNT",
         "The account's name",
     ))
+}
+
+fn expire<'a>(alloc: Global) -> Result<Definition<'a>, AllocError>
+    ensures { IfOk result (IsPart expire_words) }
+{
+    on_store(alloc, "expire", "End the held jobs that have expired")
 }
 
 /// The option with the port to listen at.
@@ -197,13 +214,14 @@ fn with<'a>(
     command.subcommand(subcommand?)
 }
 
-/// The program with the subcommands that make a store, fill its accounts and tell of them.
+/// The program with the subcommands that make a store, fill its accounts, print their statements and end expired jobs.
 fn for_office<'a>(alloc: Global) -> Result<Definition<'a>, AllocError>
     ensures { IfOk result (IsApp (program_with office_subcommands)) }
 {
     let program = with(bare(alloc), init(alloc))?;
     let program = with(program, import(alloc))?;
-    with(program, statement(alloc))
+    let program = with(program, statement(alloc))?;
+    with(program, expire(alloc))
 }
 
 /// The program and its subcommands.

@@ -30,6 +30,18 @@ pub(crate) const ESTIMATE: NumberOption = NumberOption {
 /// The estimate where the words leave it out, as a word.
 pub(crate) const USUAL_ESTIMATE: &str = "20";
 
+/// The seconds for which a held or open job is kept; 0 keeps it without end.
+pub(crate) const KEEP: NumberOption = NumberOption {
+    name: "keep",
+    limits: Limits {
+        least: 0,
+        most: 2_147_483_647,
+    },
+};
+
+/// The seconds, as a word, if the words leave them out.
+pub(crate) const USUAL_KEEP: &str = "0";
+
 /// A port that is listened on.
 pub(crate) const PORT: NumberOption = NumberOption {
     name: "port",

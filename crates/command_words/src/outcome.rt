@@ -20,6 +20,8 @@ pub struct Init<'a> {
     pub name: &'a str,
     /// The pages that one copy takes of a job that doesn't tell them, 0 to 100,000.
     pub estimate: u32,
+    /// The seconds for which a held or open job is kept, 0 to 2,147,483,647; 0 keeps it without end.
+    pub keep: u32,
 }
 
 /// Connections that are to be served.
@@ -53,6 +55,13 @@ pub struct Statement<'a> {
     pub account: &'a str,
 }
 
+/// The values of `expire`: a store whose expired jobs end.
+#[derive(Clone, Copy)]
+pub struct Expire<'a> {
+    /// The path of the store.
+    pub store: &'a str,
+}
+
 /// What the program is to do.
 #[derive(Clone, Copy)]
 pub enum Command<'a> {
@@ -62,6 +71,8 @@ pub enum Command<'a> {
     Import(Import<'a>),
     /// Print an account's statement.
     Statement(Statement<'a>),
+    /// End the held and open jobs that have expired.
+    Expire(Expire<'a>),
     /// Serve connections.
     Serve(Serve<'a>),
     /// Answer the lines on standard input over a new queue in memory.

@@ -3,10 +3,10 @@
 ghost use Rattle.std.specs.Prelude.{◌≡◌, ◌≤◌};
 ghost use Rattle.std.specs.Int.NonZero.{non_zero_u32_get};
 ghost use Rattle.clap.specs.Words.{found_of, rows_of};
-ghost use Rattle.command_words.specs.Values.{IsNumberAt, IsInit, IsServe, IsImport, IsStatement, text_at};
+ghost use Rattle.command_words.specs.Values.{IsNumberAt, IsInit, IsServe, IsImport, IsStatement, IsExpire, text_at};
 
-use crate::limits::{CONNECTIONS, ESTIMATE, NumberOption, PORT, TIMEOUT};
-use crate::outcome::{Import, Init, Serve, Statement};
+use crate::limits::{CONNECTIONS, ESTIMATE, KEEP, NumberOption, PORT, TIMEOUT};
+use crate::outcome::{Expire, Import, Init, Serve, Statement};
 use clap::ArgMatches;
 use std::num::NonZeroU32;
 
@@ -50,6 +50,7 @@ pub(crate) fn init_of<'a>(matches: &ArgMatches<'a>) -> Init<'a>
         uri: text_of(matches, "uri"),
         name: text_of(matches, "name"),
         estimate: number_of(matches, ESTIMATE),
+        keep: number_of(matches, KEEP),
     }
 }
 
@@ -82,5 +83,14 @@ pub(crate) fn statement_of<'a>(matches: &ArgMatches<'a>) -> Statement<'a>
     Statement {
         store: text_of(matches, "store"),
         account: text_of(matches, "account"),
+    }
+}
+
+/// The values of `expire`.
+pub(crate) fn expire_of<'a>(matches: &ArgMatches<'a>) -> Expire<'a>
+    ensures { IsExpire (rows_of (found_of matches.now)) result }
+{
+    Expire {
+        store: text_of(matches, "store"),
     }
 }

@@ -1,11 +1,12 @@
--- What a crash leaves of a book where an account file was to be taken or connections were served, or where nothing was done.
-use Rattle.std.proofs.Common.{◌≡◌, ◌∙◌, ◌⊎◌, ℕ, List, [], IsTrue, Some, refl, subst, sym, inl, inr}
+-- What a crash leaves of a book where an account file was to be taken, expired jobs were to end or connections were served, or where nothing was done.
+use Rattle.std.proofs.Common.{◌≡◌, ◌∙◌, ◌⊎◌, ℕ, List, [], IsTrue, Some, length, refl, subst, sym, inl, inr}
 use Rattle.sqlite.specs.State.{State}
 use Rattle.sqlite_trees.specs.Tree.{Trees}
 use Rattle.sqlite_trees.specs.declared.store.Store.{Ghosts}
-use Rattle.queue_types.specs.Event.{Event, grant}
+use Rattle.queue_types.specs.Event.{Event, expire, grant}
 use Rattle.queue_core.specs.Crash.{Leaves, broken_off as left_off, taken as left_taken, untaken as left_untaken}
 use Rattle.queue_core.specs.Grants.{Taken, all_taken, none_taken, take_rows}
+use Rattle.queue_core.specs.Limits.{IsMoment}
 use Rattle.queue_core.specs.Machine.{grant_row, step}
 use Rattle.queue_core.specs.World.{World, cut, made_on}
 use Rattle.queue_store.specs.Kept.{IsHonest, StandsFor, connection_of, shown_by}
@@ -14,11 +15,11 @@ use Rattle.queue_store.specs.declared.book.TableBook.{TableBook}
 use Rattle.queue_tables.specs.Content.{IsBookOf, LeavesOneOf}
 use Rattle.grants_csv.specs.Import.{Adds, Asks, grants}
 use Rattle.grants_csv.specs.declared.importing.Imported.{Imported}
-use Rattle.office.specs.Told.{IsTaken}
+use Rattle.office.specs.Told.{HaveExpired, IsTaken}
 use Rattle.print_server.specs.Connections.{AreConnections, Carries}
 use Rattle.print_server.proofs.CrashLemmas.{left_one}
 use Rattle.commands.specs.Books.{LeavesBeside, StoreServed}
-use Rattle.commands.specs.Work.{IsAllOrNone, IsTakenAt, broken_off, taken, untaken}
+use Rattle.commands.specs.Work.{HasSweep, IsAllOrNone, IsSweep, IsSweepOrNone, IsTakenAt, broken_off, taken, untaken}
 
 -- of an open book a crash leaves the queue that it stands for
 pub lasts : {S : Type 0} (store : Ghosts S) → ((s : S) (db : Trees) → IsTrue (store.view s).is_open → store.recovers s db → db ≡ (store.view s).committed)
@@ -48,7 +49,7 @@ added_or_same (none_taken fault row) w = inr refl
 
 taken_or_same : (now : ℕ) (w : World) (bytes : List ℕ) (e : Event) → Asks bytes (Some e)
     → IsTakenAt now bytes w (step w now e).world ⊎ ((step w now e).world ≡ w)
-taken_or_same now w bytes e (grants rows read) = elim (added_or_same (take_rows rows (cut w (grant rows)).known 1 [] [] 0) w) [
+taken_or_same now w bytes e (grants rows read) = elim (added_or_same (take_rows rows (cut w now (grant rows)).known 1 [] [] 0) w) [
   | inl added ↦ inl (added.0, (rows, read, added.1, refl))
   | inr same ↦ inr same
 ]
@@ -65,6 +66,19 @@ module _ {failed : Type 0} {now : ℕ} {w u x : World} {bytes : List ℕ} where
     | inl all ↦ broken_off stays (all.0, subst (λ (v : World). IsTaken now w v bytes all.0) (sym left) all.1)
     | inr same ↦ untaken stays (left ∙ same ∙ sym stays)
   ]
+
+-- jobs that expired at a moment
+pub sweep_at : (now : ℕ) → IsMoment now → (w u : World) (n : ℕ) → HaveExpired now w u n → IsSweep w u n
+sweep_at now moment w u n told = record { now = now; moment = moment; expired = told }
+
+swept : (now : ℕ) → IsMoment now → (w u : World) → u ≡ (step w now expire).world → HasSweep w u
+swept now moment w u made = (length (cut w now expire).jobs, sweep_at now moment w u (length (cut w now expire).jobs) (refl, made))
+
+-- all of the expired jobs, or none
+pub swept_or_none : {failed : Type 0} (now : ℕ) → IsMoment now → (w u x : World) → Leaves (λ e. e ≡ expire) failed now w w u x → IsSweepOrNone w u x
+swept_or_none now moment w u x (left_untaken stays left) = untaken stays (left ∙ sym stays)
+swept_or_none now moment w u x (left_taken e asks made left) = taken (swept now moment w u (subst (λ (z : Event). u ≡ (step w now z).world) asks made)) left
+swept_or_none now moment w u x (left_off e asks told stays left) = broken_off stays (swept now moment w x (subst (λ (z : Event). x ≡ (step w now z).world) asks left))
 
 -- of a store that stands for w too, a crash leaves w, or another
 pub beside : (all : World → Type 0) (w u x : World) (s : State) → LeavesOneOf u x s → IsAllOrNone all w u x → LeavesBeside s w (IsAllOrNone all w w)

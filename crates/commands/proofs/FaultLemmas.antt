@@ -6,12 +6,12 @@ use Rattle.queue_core.specs.declared.book.BookFault.{BookFault}
 use Rattle.queue_core.specs.declared.book.BookFault.TheVariants as book
 use Rattle.office.specs.declared.fault.OfficeFault.{OfficeFault}
 use Rattle.office.specs.declared.fault.OfficeFault.TheVariants as office
-use Rattle.office.specs.Faults.{IsOfFile, IsOfStream as IsOfOfficeStream}
+use Rattle.office.specs.Faults.{IsOfFile, IsOfStream as IsOfOfficeStream, fault_of_book as office_fault_of_book}
 use Rattle.command_ends.specs.Faults.{IsOfStream, fault_of_book, fault_of_office}
 use Rattle.command_ends.specs.declared.fault.Fault.{Fault}
 use Rattle.command_ends.specs.declared.fault.Fault.TheVariants.{Damaged, NoAccount, Import}
 use Rattle.commands.specs.Store.{IsOfStore}
-use Rattle.commands.specs.Refusals.{IsOfImport, IsOfNoAccount, IsOfServe, IsOfStatement}
+use Rattle.commands.specs.Refusals.{IsOfExpire, IsOfImport, IsOfNoAccount, IsOfServe, IsOfStatement}
 use Rattle.print_server.specs.declared.fault.ServerFault.{ServerFault}
 use Rattle.print_server.specs.declared.fault.ServerFault.TheVariants as server
 
@@ -82,6 +82,23 @@ pub of_book : (told : BookFault) (fault : Fault) → fault ≡ fault_of_book tol
 of_book book.Memory fault is = inl is
 of_book book.Disk fault is = inr (inl is)
 of_book book.Damaged fault is = inr (inr is)
+
+-- a book's fault that is told there is told here
+told_of_book : (told : BookFault) → fault_of_office (office_fault_of_book told) ≡ fault_of_book told
+told_of_book book.Memory = refl
+told_of_book book.Disk = refl
+told_of_book book.Damaged = refl
+
+pub of_expire_stream : (fault : Fault) → IsOfStream fault → IsOfExpire fault
+of_expire_stream fault stream = elim stream [ inl e ↦ inl (inl e) | inr e ↦ inr e ]
+
+-- a stream or the book failed there, so it did here
+pub of_expire : (told : OfficeFault) (fault : Fault) → fault ≡ fault_of_office told
+    → IsOfOfficeStream told ⊎ ((by_book : BookFault) × (told ≡ office_fault_of_book by_book)) → IsOfExpire fault
+of_expire told fault is why = elim why [
+  | inl stream ↦ of_expire_stream fault (of_stream told fault is stream)
+  | inr by_book ↦ inl (of_book by_book.0 fault (is ∙ ap fault_of_office by_book.1 ∙ told_of_book by_book.0))
+]
 
 pub of_serve_stream : (fault : Fault) → IsOfStream fault → IsOfServe fault
 of_serve_stream fault stream = elim stream [ inl e ↦ inl (inl e) | inr e ↦ inr e ]

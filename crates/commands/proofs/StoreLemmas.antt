@@ -22,6 +22,7 @@ at_any_second words a b s = record {
   name_fits = s.name_fits;
   name_utf8 = s.name_utf8;
   estimate_fits = s.estimate_fits;
+  keep_fits = s.keep_fits;
 }
 
 pub is_bad : (told : SettingFault) → fault_of_setting told ≡ BadSetting → told ≡ setting.Bad

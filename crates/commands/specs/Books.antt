@@ -51,7 +51,8 @@ module _ {S : Type 0} (store : Ghosts S) (old new : TableBook S) where
     pub queue : World
     pub are : AreConnections w counts queue
     pub stands : StandsFor store new queue
-    -- of a store that was open before, a crash at any moment leaves it, or what the event of one of their requests, which a fault answered, makes of it
+    -- of a store that was open before, a crash at any moment leaves it, or what the event of one of their requests, which a fault answered, makes of it,
+    -- or what one of their sweeps, which met a fault, does
     pub left : CrashLeaves (shown_by store old) (shown_by store new) queue (IsAtMostOneMore w counts queue are)
 
   -- of each queue that the book stood for: connections, one after another, whose counts are so

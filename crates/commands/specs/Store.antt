@@ -10,7 +10,7 @@ use Rattle.queue_types.specs.Settings.{AreSettings, SettingValues}
 
 -- the settings that a new store is to have, from this second of the clock on
 abbrev pub settings_of : Init → ℤ → SettingValues
-settings_of words epoch = record { uri = words.uri.now; name = words.name.now; estimate = words.estimate; epoch = epoch }
+settings_of words epoch = record { uri = words.uri.now; name = words.name.now; estimate = words.estimate; epoch = epoch; keep = words.keep }
 
 -- SQLite takes the path for a file's name: it is not that of a database in memory, and no URI
 abbrev pub is_file_name : List ℕ → Bool

@@ -7,7 +7,7 @@ use Rattle.command_ends.specs.declared.fault.Fault.TheVariants.{Damaged, NoAccou
 use Rattle.command_words.specs.declared.outcome.Serve.{Serve as ServeWords}
 use Rattle.grants_csv.specs.declared.fault.ImportFault.{ImportFault}
 use Rattle.grants_csv.specs.declared.importing.Imported.{Imported}
-use Rattle.office.specs.Told.{AreReadOf, IsRefused, IsTaken, import_line}
+use Rattle.office.specs.Told.{AreReadOf, HaveExpired, IsRefused, IsTaken, expired_line, import_line}
 use Rattle.page_statements.specs.Statement.{sheet_text}
 use Rattle.print_server.specs.Connections.{AreConnections, IsAtMostOneMore}
 use Rattle.queue_core.specs.Limits.{IsMoment}
@@ -26,7 +26,7 @@ use Rattle.commands.specs.Books.{KeepBeside, LeavesBeside, MakesSafely}
 use Rattle.commands.specs.Printed.{Prints, server_lines}
 use Rattle.commands.specs.Refusals.{IsOfNoAccount, MayBePrintedOf, MayBeToldOf}
 use Rattle.commands.specs.declared.work.Work.{Work}
-use Rattle.commands.specs.declared.work.Work.TheVariants.{Import, Statement, Serve}
+use Rattle.commands.specs.declared.work.Work.TheVariants.{Import, Statement, Expire, Serve}
 
 -- an account file was opened, and these bytes are read of it, as far as its reader tells what it has
 abbrev pub AreReadIn : {R E : Type 0} → (R → Option (List ℕ)) → Result R E → List ℕ → Type 0
@@ -78,12 +78,27 @@ pub record IsOfFile (are_read : List ℕ → Type 0) (fault : Fault) (w : World)
 abbrev pub PrintsStatement : World → List ℕ → Option (List ℕ) → Option (List ℕ) → Type 0
 PrintsStatement w account before after = (s : AccountSheet) × (sheet_of w account ≡ Some s) × Appends before after (sheet_text s)
 
+-- at some moment n jobs expire and end, and u is the queue after it
+pub record IsSweep (w u : World) (n : ℕ) : Type 0 where
+  pub now : ℕ
+  pub moment : IsMoment now
+  pub expired : HaveExpired now w u n
+
+-- whatever their number
+abbrev pub HasSweep : World → World → Type 0
+HasSweep w u = (n : ℕ) × IsSweep w u n
+
+-- their number is printed
+abbrev pub PrintsSweep : World → World → Option (List ℕ) → Option (List ℕ) → Type 0
+PrintsSweep w u before after = (n : ℕ) × IsSweep w u n × Appends before after (expired_line n)
+
 -- it made the second queue of the first, and what was written is the output then, where that was the output before:
 -- the rows of an account file are taken, and what became of them is told; the statement of the account is printed, and the
--- queue stays as it is; so many connections are served, one after the other
+-- queue stays as it is; the expired jobs end, and their number is printed; so many connections are served, one after the other
 abbrev pub IsDone : (List ℕ → Type 0) → Work → World → World → Option (List ℕ) → Option (List ℕ) → Type 0
 IsDone are_read (Import words) w u before after = TellsImport are_read w u before after
 IsDone are_read (Statement words) w u before after = (u ≡ w) × PrintsStatement w words.account.now before after
+IsDone are_read (Expire words) w u before after = PrintsSweep w u before after
 IsDone are_read (Serve words) w u before after =
     (counts : List ℕ) × AreConnections w counts u × (length counts ≡ words.connections) × Appends before after (server_lines words counts)
 
@@ -101,6 +116,11 @@ pub record IsNoStatement (account : List ℕ) (fault : Fault) (w u : World) (bef
   pub stays : u ≡ w
   pub quiet : IsOfStream fault ⊎ (after ≡ before)
 
+-- no job ends and nothing is printed; or the expired jobs end, and then a stream failed, so that their number may not be printed
+pub record IsNoSweep (fault : Fault) (w u : World) (before after : Option (List ℕ)) : Type 0 where
+  pub undamaged : fault ≢ Damaged
+  pub left : (u ≡ w) × (after ≡ before) ⊎ (IsOfStream fault × HasSweep w u)
+
 -- a server stops: no more than so many connections are served, and each is told of but where a stream failed
 pub record IsNoService (words : ServeWords) (fault : Fault) (w u : World) (before after : Option (List ℕ)) : Type 0 where
   pub undamaged : fault ≢ Damaged
@@ -113,6 +133,7 @@ pub record IsNoService (words : ServeWords) (fault : Fault) (w u : World) (befor
 abbrev pub IsNotDone : (List ℕ → Type 0) → Work → Fault → World → World → Option (List ℕ) → Option (List ℕ) → Type 0
 IsNotDone are_read (Import words) fault w u before after = IsNoImport are_read fault w u before after
 IsNotDone are_read (Statement words) fault w u before after = IsNoStatement words.account.now fault w u before after
+IsNotDone are_read (Expire words) fault w u before after = IsNoSweep fault w u before after
 IsNotDone are_read (Serve words) fault w u before after = IsNoService words fault w u before after
 
 -- of the queue w all of something is taken, or nothing: nothing is, u is w, and a crash leaves u; all is taken in u, and a crash leaves u; or taking it was
@@ -126,19 +147,25 @@ pub data IsAllOrNone (all : World → Type 0) (w u x : World) : Type 0 where
 abbrev pub IsFileOrNone : (List ℕ → Type 0) → World → World → World → Type 0
 IsFileOrNone are_read w u x = IsAllOrNone (HasImport are_read w) w u x
 
+-- of the queue w all expired jobs end, or none
+abbrev pub IsSweepOrNone : World → World → World → Type 0
+IsSweepOrNone w u x = IsAllOrNone (HasSweep w) w u x
+
 -- it made u of the queue w, and a crash at any moment leaves u or x:
--- all rows of an account file are taken, or none; a statement leaves the queue as it is; no more than so many connections are served, and x is u or what
--- one request of theirs, which a fault answered, makes of it
+-- all rows of an account file are taken, or none; a statement leaves the queue as it is; all expired jobs end, or none; no more than so many connections are
+-- served, and x is u or what one request of theirs, which a fault answered, or one sweep before them, which met a fault, makes of it
 abbrev pub MayBeLeft : (List ℕ → Type 0) → Work → World → World → World → Type 0
 MayBeLeft are_read (Import words) w u x = IsFileOrNone are_read w u x
 MayBeLeft are_read (Statement words) w u x = (u ≡ w) × (x ≡ u)
+MayBeLeft are_read (Expire words) w u x = IsSweepOrNone w u x
 MayBeLeft are_read (Serve words) w u x =
     (counts : List ℕ) × (are : AreConnections w counts u) × (length counts ≤ words.connections) × IsAtMostOneMore w counts u are x
 
--- it is an account file or a statement, which is no server
+-- it is no server
 abbrev pub IsBrief : Work → Type 0
 IsBrief (Import words) = ⊤
 IsBrief (Statement words) = ⊤
+IsBrief (Expire words) = ⊤
 IsBrief (Serve words) = ⊥
 
 -- what is told of work that was refused, and printed: a fault that may be told of it, and what may be printed then
@@ -194,4 +221,5 @@ module _ {S : Type 0} (store : Ghosts S) (are_read : List ℕ → Type 0) (work 
 abbrev pub store_of : Work → List ℕ
 store_of (Import words) = words.store.now
 store_of (Statement words) = words.store.now
+store_of (Expire words) = words.store.now
 store_of (Serve words) = words.store.now

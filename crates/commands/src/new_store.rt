@@ -42,7 +42,14 @@ fn new_settings<C: Clock>(alloc: Global, clock: &C, words: Init<'_>) -> Result<S
     ensures told { IfErr result (λ f. IsOfStream f ⊎ (f ≡ BadSetting)) }
 {
     let epoch = present_second(clock)?;
-    let settings = Settings::new(alloc, words.uri, words.name, words.estimate, epoch)?;
+    let settings = Settings::new(
+        alloc,
+        words.uri,
+        words.name,
+        words.estimate,
+        epoch,
+        words.keep,
+    )?;
     Ok(settings)
 }
 

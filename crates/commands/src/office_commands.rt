@@ -1,16 +1,16 @@
 //! What the office asks of a store.
-ghost use Rattle.std.specs.Prelude.{◌≡◌, ◌≢◌, ◌≤◌, ◌⊎◌, Err, IfErr, IfOk, IsTrue, OnOk, None, length};
+ghost use Rattle.std.specs.Prelude.{◌≡◌, ◌≢◌, ◌≤◌, ◌⊎◌, ℕ, Err, IfErr, IfOk, IsTrue, OnOk, None, length};
 ghost use Rattle.std.specs.Io.KnownBytes.{Appends};
 ghost use Rattle.command_ends.specs.Faults.{IsOfStream};
 ghost use Rattle.command_ends.specs.declared.fault.Fault.TheVariants.{Damaged, NoAccount, Import as ByFile};
 ghost use Rattle.commands.specs.Books.{LeavesBeside, Makes, MakesSafely};
-ghost use Rattle.commands.specs.Refusals.{IsOfImport, IsOfNoAccount, IsOfStatement};
-ghost use Rattle.commands.specs.Work.{AreIn, HasImport, IsAllOrNone, IsFileOrNone, IsOfFile, IsRefusedAt, IsTakenAt, PrintsStatement, TellsImport};
+ghost use Rattle.commands.specs.Refusals.{IsOfExpire, IsOfImport, IsOfNoAccount, IsOfStatement};
+ghost use Rattle.commands.specs.Work.{AreIn, HasImport, HasSweep, IsAllOrNone, IsFileOrNone, IsOfFile, IsRefusedAt, IsSweepOrNone, IsTakenAt, PrintsStatement, PrintsSweep, TellsImport};
 ghost use Rattle.grants_csv.specs.Fault.{fault};
 ghost use Rattle.grants_csv.specs.File.{rows_of};
 ghost use Rattle.grants_csv.specs.declared.fault.ImportFault.{ImportFault};
 ghost use Rattle.grants_csv.specs.declared.importing.Imported.{Imported as ImportedRows};
-ghost use Rattle.office.specs.Told.{IsTaken, import_line};
+ghost use Rattle.office.specs.Told.{IsTaken, expired_line, import_line};
 ghost use Rattle.page_statements.specs.Statement.{sheet_text};
 ghost use Rattle.queue_core.specs.Limits.{IsMoment};
 ghost use Rattle.queue_core.specs.Shown.{sheet_of};
@@ -20,7 +20,7 @@ ghost use Rattle.queue_store.specs.Kept.{IsHonest, StandsFor, shown_by};
 ghost use Rattle.queue_tables.specs.Content.{LeavesOneOf};
 
 use command_ends::Fault;
-use office::{import_bytes, print_statement};
+use office::{expire_jobs, import_bytes, print_statement};
 use print_server::present_moment;
 use queue_store::TableBook;
 use sqlite::Alter;
@@ -129,5 +129,31 @@ pub(crate) fn print_from<S: Alter, W: Write>(
     ensures quiet { IfErr result (λ f. IsOfStream f ⊎ (output.new ≡ output.old)) }
 {
     print_statement(alloc, output, book, account)?;
+    Ok(())
+}
+
+/// Ends the jobs of a book that have expired at the present moment, all of them or none, and prints `expired N`. An error leaves the queue as it was, and
+/// nothing is printed, unless the jobs ended and the line could not be written.
+pub(crate) fn expire_in<C: Clock, S: Alter, W: Write>(
+    clock: &C,
+    output: &mut W,
+    book: &mut TableBook<S>,
+) -> Result<(), Fault>
+    ensures began { IsHonest S.Store book.new → IsHonest S.Store book.old }
+    // these two: whatever it answers, a crash at any moment leaves all of the expired jobs ended, or none, as `IsSweepOrNone` says
+    ensures expired { IsHonest S.Store book.new → OnOk result (MakesSafely S.Store book.old book.new
+        (λ w u. PrintsSweep w u (W.contents output.old) (W.contents output.new)) IsSweepOrNone) }
+    ensures left { IsHonest S.Store book.new → IfErr result (λ f. MakesSafely S.Store book.old book.new
+        (λ w u. (u ≡ w) × (output.new ≡ output.old) ⊎ (IsOfStream f × HasSweep w u)) IsSweepOrNone) }
+    ensures damaged { IsHonest S.Store book.new → IfErr result (λ f. f ≡ Damaged → (w : World) → ¬ StandsFor S.Store book.old w) }
+    ensures live { IsHonest S.Store book.new → OnOk result (IsTrue (shown_by S.Store book.new).is_open) }
+    ensures told { IfErr result IsOfExpire }
+    // over any book, also one that is not honest
+    ensures written { OnOk result ((n : ℕ) × Appends (W.contents output.old) (W.contents output.new) (expired_line n)) }
+    // a stream failed or there was no memory, or nothing was written
+    ensures quiet { IfErr result (λ f. IsOfStream f ⊎ (output.new ≡ output.old)) }
+{
+    let now = moment_of(clock, book)?;
+    expire_jobs(output, book, now)?;
     Ok(())
 }

@@ -98,6 +98,7 @@ fn do_command<O: Write + Drop>(
         Command::Init(words) => do_init(rt, words, out),
         Command::Import(words) => do_work(rt, Work::Import(words), out),
         Command::Statement(words) => do_work(rt, Work::Statement(words), out),
+        Command::Expire(words) => do_work(rt, Work::Expire(words), out),
         Command::Serve(words) => do_work(rt, Work::Serve(words), out),
         Command::Replay => do_replay(rt.alloc(), &mut rt.reader(), out),
     }

@@ -102,8 +102,8 @@ fn serve_at<C: Clock, S: Alter, W: Write>(
     book: &mut TableBook<S>,
 ) -> Result<(), Fault>
     ensures began { IsHonest S.Store book.new → IsHonest S.Store book.old }
-    // these two: whatever it answers, a crash at any moment leaves the queue that the book stands for, or the one after one of these connections' requests
-    // more, as `left` of `StoreServed` says
+    // these two: whatever it answers, a crash at any moment leaves the queue that the book stands for, or the one after one more of these connections'
+    // requests or sweeps, as `left` of `StoreServed` says
     ensures served { IsHonest S.Store book.new → OnOk result (ServesWith S.Store book.old book.new service.entry.settings.now
         (λ counts. (length counts ≡ connections) × Appends (W.contents output.old) (W.contents output.new) (served_lines counts))) }
     // no more than so many connections were served, and each was told of, or a stream failed or there was no memory
@@ -134,8 +134,8 @@ pub(crate) fn serve_book<C: Clock, S: Alter, W: Write>(
     book: &mut TableBook<S>,
 ) -> Result<(), Fault>
     ensures began { IsHonest S.Store book.new → IsHonest S.Store book.old }
-    // these two: whatever it answers, a crash at any moment leaves the queue that the book stands for, or the one after one of these connections' requests
-    // more, as `left` of `StoreServed` says
+    // these two: whatever it answers, a crash at any moment leaves the queue that the book stands for, or the one after one more of these connections'
+    // requests or sweeps, as `left` of `StoreServed` says
     ensures served { IsHonest S.Store book.new → OnOk result (Serves S.Store book.old book.new
         (λ counts. (length counts ≡ words.entry.connections) × Appends (W.contents output.old) (W.contents output.new) (server_lines words.entry counts))) }
     // no more than so many connections were served, and each was told of, or a stream failed or there was no memory

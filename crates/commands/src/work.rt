@@ -14,11 +14,11 @@ ghost use Rattle.commands.specs.Printed.{Prints};
 ghost use Rattle.commands.specs.Refusals.{MayBePrintedOf, MayBeToldOf};
 ghost use Rattle.commands.specs.Work.{AreAny, AreIn, AreReadIn, HasEnded, IsBrief, IsDoneFrom, IsDoneOn, IsKeptFrom, IsRefusal, IsRefusedFrom, IsRefusedOver, store_of};
 
-use crate::office_commands::{import_into, print_from};
+use crate::office_commands::{expire_in, import_into, print_from};
 use crate::serving::serve_book;
 use crate::store::{Closed, FileBook, close, left, let_go, open_store};
 use command_ends::Fault;
-use command_words::{Import, Serve, Statement};
+use command_words::{Expire, Import, Serve, Statement};
 use office::read_account_file;
 use print_server::listen;
 use queue_store::TableBook;
@@ -40,6 +40,8 @@ pub(crate) enum Work<'a> {
     Import(Import<'a>),
     /// Prints the statement of an account.
     Statement(Statement<'a>),
+    /// Ends the held and open jobs that have expired, all of them or none, and prints `expired N`.
+    Expire(Expire<'a>),
     /// Listens on a port, prints `listening 127.0.0.1:P`, and serves connections.
     Serve(Serve<'a>),
 }
@@ -59,6 +61,7 @@ impl<'a> Work<'a> {
         match self {
             Work::Import(words) => words.store,
             Work::Statement(words) => words.store,
+            Work::Expire(words) => words.store,
             Work::Serve(words) => words.store,
         }
     }
@@ -71,7 +74,7 @@ impl<'a> Work<'a> {
         };
         match self {
             Work::Import(words) => opened.file = fs::open(rt, words.file),
-            Work::Statement(_) => {}
+            Work::Statement(_) | Work::Expire(_) => {}
             Work::Serve(words) => opened.listener = listen(rt, words.port),
         }
         opened
@@ -100,6 +103,7 @@ fn work_on<C: Clock, S: Alter, W: Write>(
     match work {
         Work::Import(_) => import_into(alloc, clock, file, output, book),
         Work::Statement(words) => print_from(alloc, words.account, output, book),
+        Work::Expire(_) => expire_in(clock, output, book),
         Work::Serve(words) => serve_book(alloc, clock, words, listener, output, book),
     }
 }

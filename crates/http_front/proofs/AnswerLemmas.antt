@@ -11,7 +11,7 @@ use Rattle.queue_types.specs.Event.{tell}
 use Rattle.queue_types.specs.Formats.{format_name}
 use Rattle.queue_types.specs.declared.document.Document.{Document}
 use Rattle.queue_types.specs.declared.event.Reply.{Reply}
-use Rattle.queue_types.specs.declared.event.Reply.TheVariants.{Refused, Done, Jobs, Printer, Told, NotTold, Added, NotAdded}
+use Rattle.queue_types.specs.declared.event.Reply.TheVariants.{Refused, Done, Jobs, Printer, Told, NotTold, Added, NotAdded, Expired}
 use Rattle.queue_types.specs.declared.event.Report.{Report as DeviceReport}
 use Rattle.queue_core.specs.Machine.{step}
 use Rattle.queue_core.specs.World.{World}
@@ -59,6 +59,7 @@ one_line job (Jobs jobs) a b p q = absurd p
 one_line job (Printer state queued accepting) a b p q = absurd p
 one_line job (Added added repeats) a b p q = absurd p
 one_line job (NotAdded refusal row) a b p q = absurd p
+one_line job (Expired ended) a b p q = absurd p
 
 one_brought : (r : Result DeviceReport LineFault) (w : World) (now : ℕ) (u v : World) (a b : List ℕ) → BringsAbout r w now u a → BringsAbout r w now v b → (a ≡ b) × (u ≡ v)
 one_brought (Ok r) w now u v a b p q = (one_line r.job (step w now (tell r)).reply a b p.1 q.1, p.0 ∙ sym q.0)

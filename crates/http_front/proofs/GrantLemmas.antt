@@ -93,10 +93,10 @@ report_grantless s now r (j ∷ js) (Some k) =
 -- ---- a step of the machine
 
 pub asked : (w : World) (now : ℕ) (caller : List ℕ) (call : Call) → (step w now (ask caller call)).world.grants ≡ w.grants
-asked w now caller call = ap (λ gs. fold put_grant w.grants gs) (row_grantless (cut w (ask caller call)) now caller call)
+asked w now caller call = ap (λ gs. fold put_grant w.grants gs) (row_grantless (cut w now (ask caller call)) now caller call)
 
 pub told : (w : World) (now : ℕ) (r : Report) → (step w now (tell r)).world.grants ≡ w.grants
-told w now r = ap (λ gs. fold put_grant w.grants gs) (report_grantless (cut w (tell r)) now r (cut w (tell r)).jobs (cut w (tell r)).report)
+told w now r = ap (λ gs. fold put_grant w.grants gs) (report_grantless (cut w now (tell r)) now r (cut w now (tell r)).jobs (cut w now (tell r)).report)
 
 -- ---- a turn of a connection
 

@@ -167,7 +167,7 @@ reply_quiet _ change h rows u s now q = absurd q
 
 outcome_tells : (v : Verdict) (h : Head) (w : World) (now : ℕ) → QuietVerdict v → is_fault (spelling (outcome v h w now).reply) ≡ false
 outcome_tells (refused code u) h w now q = q h (if code == 0x040B then unsupported_groups u else [])
-outcome_tells (passed caller call rows u) h w now q = reply_quiet _ _ h rows u w.settings now (machine_quiet (cut w (ask caller call)) now caller call)
+outcome_tells (passed caller call rows u) h w now q = reply_quiet _ _ h rows u w.settings now (machine_quiet (cut w now (ask caller call)) now caller call)
 
 -- nothing that refuses bytes is a fault
 bytes_quiet : (b : List ℕ) (v : Verdict) → IsVerdictOn b v → QuietVerdict v
@@ -201,7 +201,7 @@ reply_keeps _ change h rows u s now w q e = absurd q
 
 outcome_keeps : (v : Verdict) (h : Head) (w : World) (now : ℕ) → is_refusal (spelling (outcome v h w now).reply) ≡ true → (outcome v h w now).world ≡ w
 outcome_keeps (refused code u) h w now e = refl
-outcome_keeps (passed caller call rows u) h w now e = reply_keeps _ _ h rows u w.settings now w (machine_quiet (cut w (ask caller call)) now caller call) e
+outcome_keeps (passed caller call rows u) h w now e = reply_keeps _ _ h rows u w.settings now w (machine_quiet (cut w now (ask caller call)) now caller call) e
 
 -- an answer that refuses leaves the world
 pub answer_keeps : (w : World) (now : ℕ) (b : List ℕ) (new : World) (out : List ℕ) → Answers w now b new out → is_refusal out ≡ true → new ≡ w

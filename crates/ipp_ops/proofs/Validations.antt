@@ -120,7 +120,7 @@ keeps (Some code) w = refl
 
 alike_keeps : (v u : Verdict) → AreAlike v u → (h : Head) (w : World) (now : ℕ) → (outcome u h w now).world ≡ w
 alike_keeps _ _ (both_refused code u) h w now = refl
-alike_keeps _ _ (both_passed caller j format payload shown rows u) h w now = keeps (new_refusal (cut w (ask caller (print_job j format payload)))) w
+alike_keeps _ _ (both_passed caller j format payload shown rows u) h w now = keeps (new_refusal (cut w now (ask caller (print_job j format payload)))) w
 
 verdict_keeps : OneSpelling → (major minor : ℕ) (rest : List ℕ) (v : Verdict) → IsVerdictOn (bytes_asking 0x0004 major minor rest) v
     → (h : Head) (w : World) (now : ℕ) → (outcome v h w now).world ≡ w
@@ -167,7 +167,7 @@ decision_replied (Some code) scene j document h shown rows u s now = sym (refusa
 alike_replied : (v u : Verdict) → AreAlike v u → (h : Head) (w : World) (now : ℕ) → (outcome u (record h { code = 0x0004 }) w now).reply ≡ without_jobs (outcome v h w now).reply
 alike_replied _ _ (both_refused code u) h w now = sym (refusal_replied code h no_rows u w.settings now)
 alike_replied _ _ (both_passed caller j format payload shown rows u) h w now =
-    let scene : Scene = cut w (ask caller (print_job j format payload)) in
+    let scene : Scene = cut w now (ask caller (print_job j format payload)) in
     decision_replied (new_refusal scene) scene (entering_job scene now caller false j payload) (new_document scene.next format payload) h shown rows u w.settings now
 
 pub answered_alike : OneSpelling → (w p v : World) (now major minor : ℕ) (rest print validate : List ℕ)

@@ -5,7 +5,7 @@ use Rattle.std.specs.Option.{option_map_or}
 use Rattle.std.specs.List.{flat_map}
 use Rattle.std.proofs.lemmas.Bool.{and_parts, leb-true}
 use Rattle.ipp_wire.specs.Message.{Value, Attribute, Message, Spells, head_bytes, group_bytes}
-use Rattle.queue_types.specs.Event.{Event, ask, tell, grant}
+use Rattle.queue_types.specs.Event.{Event, ask, tell, grant, expire}
 use Rattle.queue_types.specs.declared.event.Reply.{Reply}
 use Rattle.queue_core.specs.Limits.{IsOwner, IsJobName, IsNewJob, IsCall, IsEvent, IsReplyTo, IsSoundReply}
 use Rattle.ipp_reply.specs.declared.operation.Operation.{Operation}
@@ -150,3 +150,4 @@ pub asked_reply : (e : Event) (r : Reply) → IsAsk e → IsReplyTo e r → IsSo
 asked_reply (ask caller call) r is sound = sound
 asked_reply (tell report) r is sound = absurd is
 asked_reply (grant rows) r is sound = absurd is
+asked_reply expire r is sound = absurd is

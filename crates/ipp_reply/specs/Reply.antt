@@ -33,5 +33,5 @@ reply_of (Refused code) h rows u s now = refusal h code u
 reply_of Done h rows u s now = with_groups (bare h (success u)) (unsupported_groups u)
 reply_of (Jobs js) h rows u s now = with_groups (bare h (success u)) (unsupported_groups u ++ map (job_group s.uri now (job_rows rows)) js)
 reply_of (Printer state queued accepting) h rows u s now = with_groups (bare h (success u)) (unsupported_groups u ++ printer_group (record { settings = s; now = now; state = state; queued = queued; accepting = accepting }) (printer_rows rows) ∷ [])
--- what answers a report or an account file answers no request: here it stands as the printer's own fault, server-error-temporary-error
+-- what answers a report, an account file or a sweep answers no request: here it stands as the printer's own fault, server-error-temporary-error
 reply_of _ h rows u s now = bare h 0x0505

@@ -155,8 +155,10 @@ pub fn reply_message(
             put_jobs(alloc, &mut message, view, jobs.as_slice())?;
             Ok(message)
         }
-        Reply::Told { .. } | Reply::NotTold(_) | Reply::Added { .. } | Reply::NotAdded { .. } => {
-            unreachable!("these answer reports and account files")
-        }
+        Reply::Told { .. }
+        | Reply::NotTold(_)
+        | Reply::Added { .. }
+        | Reply::NotAdded { .. }
+        | Reply::Expired(_) => { unreachable!("these answer reports, account files and sweeps") }
     }
 }

@@ -5,3 +5,4 @@ pub mod ByKey
 pub mod Keyed
 pub mod SeenLemmas
 pub mod Totals
+pub mod Sweeps

@@ -135,8 +135,8 @@ made_is l m c tidy settings jobs documents free next grants reports =
     λ i. record { settings = settings i; jobs = p i; next = next i; grants = grants i; free = free i; reports = reports i }
 
 -- what is read of the lists is the scene
-pub scene_is : (l : Lists) (caller : List ℕ) (call : Call) (jobs : List Job) (free : List FreeRow) (live : ℕ) (counts : QueueCounts) (next : ℕ) → jobs ≡ jobs_for caller call l.jobs.items → free ≡ free_for caller call (get (free_map l.accounts.entries) caller) → live ≡ live_for caller call l.jobs.items → counts ≡ counts_for call l.jobs.items → next ≡ next_for call l.next → cut (world_of l) (ask caller call) ≡ record { settings = l.settings; jobs = jobs; free = free; live = live; counts = counts; report = None; known = []; next = next }
-scene_is l caller call jobs free live counts next of_jobs of_free of_live of_counts of_next =
+pub scene_is : (l : Lists) (now : ℕ) (caller : List ℕ) (call : Call) (jobs : List Job) (free : List FreeRow) (live : ℕ) (counts : QueueCounts) (next : ℕ) → jobs ≡ jobs_for caller call l.jobs.items → free ≡ free_for caller call (get (free_map l.accounts.entries) caller) → live ≡ live_for caller call l.jobs.items → counts ≡ counts_for call l.jobs.items → next ≡ next_for call l.next → cut (world_of l) now (ask caller call) ≡ record { settings = l.settings; jobs = jobs; free = free; live = live; counts = counts; report = None; known = []; next = next }
+scene_is l now caller call jobs free live counts next of_jobs of_free of_live of_counts of_next =
     let same : map (λ e. e.row) (entries_of l.documents.items l.jobs.items) ≡ l.jobs.items = rows_of l.documents.items l.jobs.items in
     let p = ap (jobs_for caller call) same ∙ sym of_jobs in
     let q = ap (counts_for call) same ∙ sym of_counts in
@@ -145,8 +145,8 @@ scene_is l caller call jobs free live counts next of_jobs of_free of_live of_cou
     let n = sym of_next in
     λ i. record { settings = l.settings; jobs = p i; free = f i; live = r i; counts = q i; report = None; known = []; next = n i }
 
-pub report_scene_is : (l : Lists) (r : Report) (jobs : List Job) (free : List FreeRow) (report : Option KeptReport) → jobs ≡ numbered r.job l.jobs.items → free ≡ owner_row (free_map l.accounts.entries) (numbered r.job l.jobs.items) → report ≡ get (reports_map l.reports.entries) (r.job, r.seq) → cut (world_of l) (tell r) ≡ record { settings = l.settings; jobs = jobs; free = free; live = 0; counts = queue_counts []; report = report; known = []; next = 1 }
-report_scene_is l r jobs free report of_jobs of_free of_report =
+pub report_scene_is : (l : Lists) (now : ℕ) (r : Report) (jobs : List Job) (free : List FreeRow) (report : Option KeptReport) → jobs ≡ numbered r.job l.jobs.items → free ≡ owner_row (free_map l.accounts.entries) (numbered r.job l.jobs.items) → report ≡ get (reports_map l.reports.entries) (r.job, r.seq) → cut (world_of l) now (tell r) ≡ record { settings = l.settings; jobs = jobs; free = free; live = 0; counts = queue_counts []; report = report; known = []; next = 1 }
+report_scene_is l now r jobs free report of_jobs of_free of_report =
     let same : map (λ e. e.row) (entries_of l.documents.items l.jobs.items) ≡ l.jobs.items = rows_of l.documents.items l.jobs.items in
     let p = ap (numbered r.job) same ∙ sym of_jobs in
     let f = ap (λ js. owner_row (free_map l.accounts.entries) (numbered r.job js)) same ∙ sym of_free in

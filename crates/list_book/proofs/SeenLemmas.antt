@@ -7,7 +7,7 @@ use Rattle.list_book.proofs.Keyed.{grant_exact, grant_total}
 use Rattle.queue_core.specs.Limits.{IsSoundJob}
 use Rattle.queue_core.specs.Shown.{charged_to, document_at, document_of, may_be_fetched, sheet_of}
 use Rattle.queue_core.specs.Sound.{IsSound, IsSoundEntry, Rise, printed_for, reserved_for}
-use Rattle.queue_core.specs.World.{World, Entry, grant_cmp, granted_in, known_grant, rows, job_at, cut, queue_counts}
+use Rattle.queue_core.specs.World.{World, Entry, grant_cmp, granted_in, known_grant, rows, job_at, cut, queue_counts, jobs_scene, has_expired, owners, rows_of_accounts}
 use Rattle.queue_types.specs.declared.job.Job.{Job}
 use Rattle.queue_types.specs.declared.document.Document.{Document}
 use Rattle.list_book.specs.declared.lists.KeptDocument.{KeptDocument}
@@ -23,7 +23,8 @@ use Rattle.std.proofs.Math.Nat.{mul-le-mul_left}
 use Rattle.queue_types.specs.Job.{owed, estimate, is_live}
 use Rattle.queue_types.specs.declared.event.KnownGrant.{KnownGrant}
 use Rattle.queue_types.specs.declared.sheet.AccountSheet.{AccountSheet}
-use Rattle.queue_types.specs.Event.{grant}
+use Rattle.queue_types.specs.declared.event.FreeRow.{FreeRow}
+use Rattle.queue_types.specs.Event.{grant, expire}
 
 -- ---- documents
 
@@ -139,10 +140,16 @@ known_is l (g ∷ rows) totals =
     let total = totals g.account in
     λ i. record { pages = get (grants_map l.grants.entries) (g.batch, g.account); granted = total i; free = get (free_map l.accounts.entries) g.account } ∷ rest i
 
-pub grants_scene_is : (l : Lists) (rows : List GrantRow) (known : List KnownGrant) → known ≡ map (known_grant (world_of l)) rows → cut (world_of l) (grant rows) ≡ record { settings = l.settings; jobs = []; free = []; live = 0; counts = queue_counts []; report = None; known = known; next = l.next }
-grants_scene_is l rows known of_known =
+pub grants_scene_is : (l : Lists) (now : ℕ) (rows : List GrantRow) (known : List KnownGrant) → known ≡ map (known_grant (world_of l)) rows → cut (world_of l) now (grant rows) ≡ record { settings = l.settings; jobs = []; free = []; live = 0; counts = queue_counts []; report = None; known = known; next = l.next }
+grants_scene_is l now rows known of_known =
     let k = sym of_known in
     λ i. record { settings = l.settings; jobs = []; free = []; live = 0; counts = queue_counts []; report = None; known = k i; next = l.next }
+
+pub sweep_scene_is : (l : Lists) (now : ℕ) (jobs : List Job) (free : List FreeRow) → jobs ≡ filter (has_expired l.settings.keep now) l.jobs.items → free ≡ rows_of_accounts (free_map l.accounts.entries) (owners jobs) → cut (world_of l) now expire ≡ jobs_scene l.settings jobs free
+sweep_scene_is l now jobs free of_jobs of_free =
+    let late : filter (has_expired l.settings.keep now) (map (λ e. e.row) (entries_of l.documents.items l.jobs.items)) ≡ jobs = ap (filter (has_expired l.settings.keep now)) (rows_of l.documents.items l.jobs.items) ∙ sym of_jobs in
+    let accounts = ap (λ js. rows_of_accounts (free_map l.accounts.entries) (owners js)) late ∙ sym of_free in
+    λ i. jobs_scene l.settings (late i) (accounts i)
 
 -- a sheet is of the account that was asked for
 pub sheet_named : (l : Lists) (a : List ℕ) (free : Option ℤ) → IfSome (option_map (sheet_in l a) free) (λ it. it.account ≡ a)

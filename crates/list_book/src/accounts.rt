@@ -1,5 +1,5 @@
 //! The accounts of the book in lists, by name.
-ghost use Rattle.std.specs.Prelude.{ℕ, List, ◌≡◌, ◌≤◌, ◌<◌, ◌+◌, ◌^◌, IfOk, IsSome, OnOk, bytes_eq, fold, if◌then◌else◌, length};
+ghost use Rattle.std.specs.Prelude.{ℕ, List, ◌≡◌, ◌≤◌, ◌<◌, ◌+◌, ◌^◌, IfOk, IsSome, OnOk, bytes_eq, fold, if◌then◌else◌, length, option_map};
 ghost use Rattle.std.specs.FinMap.{get};
 ghost use Rattle.std.specs.HashMap.{spare};
 ghost use Rattle.std.specs.Map.{lookup};
@@ -45,6 +45,24 @@ fn free_pages(accounts: &Accounts, name: &Name) -> Option<i64>
 }
 
 /// The account with its free pages, where it is there.
+pub(crate) fn free_row_of(
+    alloc: Global,
+    accounts: &Accounts,
+    account: &str,
+) -> Result<Option<FreeRow>, AllocError>
+    ensures { IfOk result (λ row. row ≡ option_map (λ free. record { account = account.now; free = free }) (get (free_map accounts.now.entries) account.now)) }
+{
+    let name = Name::copy_of(alloc, account)?;
+    let Some(free) = free_pages(accounts, &name) else {
+        return Ok(None);
+    };
+    Ok(Some(FreeRow {
+        account: name.into_text(),
+        free,
+    }))
+}
+
+/// The account with its free pages in a list, where it is there.
 pub(crate) fn free_rows_of(
     alloc: Global,
     accounts: &Accounts,
@@ -52,13 +70,9 @@ pub(crate) fn free_rows_of(
 ) -> Result<Vec<FreeRow>, AllocError>
     ensures { IfOk result (λ v. v.items ≡ found_row account.now (get (free_map accounts.now.entries) account.now)) }
 {
-    let name = Name::copy_of(alloc, account)?;
     let mut rows = Vec::new(alloc);
-    if let Some(free) = free_pages(accounts, &name) {
-        rows.push(FreeRow {
-            account: name.into_text(),
-            free,
-        })?;
+    if let Some(row) = free_row_of(alloc, accounts, account)? {
+        rows.push(row)?;
     }
     Ok(rows)
 }

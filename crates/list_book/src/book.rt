@@ -93,11 +93,11 @@ fn decided<'a>(
     requires event { IsEvent (event_of event.now) }
     requires totals { AreTotals lists.now }
     requires sound { IsSound (world_of lists.now) }
-    ensures decides { IfOk result (λ d. decision_of d ≡ decision (cut (world_of lists.now) (event_of event.now)) now (event_of event.now)) }
+    ensures decides { IfOk result (λ d. decision_of d ≡ decision (cut (world_of lists.now) now (event_of event.now)) now (event_of event.now)) }
     ensures limits { IfOk result (λ d. IsReplyTo (event_of event.now) d.reply) }
 {
     cut_is_fair();
-    let scene = scene(alloc, lists, event)?;
+    let scene = scene(alloc, lists, now, event)?;
     queue_core::decide(alloc, &scene, now, event)
 }
 
@@ -120,7 +120,7 @@ impl QueueBook for ListBook {
         ensures kept { (w : World) → IsContent self.old w → IsContent self.new w }
         ensures left { ⊤ → (v w : World) → ⊤ → ⊤ }
         ensures decides { ⊤ → IfOk result (λ d. (w : World) → IsContent self.new w
-            → decision_of d ≡ decision (cut w (event_of event.now)) now (event_of event.now)) }
+            → decision_of d ≡ decision (cut w now (event_of event.now)) now (event_of event.now)) }
         ensures limits { IfOk result (λ d. IsReplyTo (event_of event.now) d.reply) }
         ensures damaged { ⊤ → IfErr result (λ e. e ≡ BookFault.Damaged → (w : World) → ¬ IsContent self.old w) }
         ensures live { ⊤ → OnOk result ⊤ }

@@ -3,6 +3,7 @@
 
 mod accounts;
 mod book;
+mod expiry;
 mod grants;
 mod lists;
 mod name;

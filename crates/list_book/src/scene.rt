@@ -4,7 +4,7 @@ ghost use Rattle.std.specs.BTreeSet.{contains};
 ghost use Rattle.std.specs.FinMap.{get};
 ghost use Rattle.std.specs.List.{list_any};
 ghost use Rattle.std.specs.Ordering.{nat_cmp};
-ghost use Rattle.queue_types.specs.Event.{ask, tell, grant, event_of, call_of};
+ghost use Rattle.queue_types.specs.Event.{ask, tell, grant, expire, event_of, call_of};
 ghost use Rattle.queue_types.specs.Job.{is_live, is_running, is_stopped};
 ghost use Rattle.queue_core.specs.Order.{AreRising};
 ghost use Rattle.queue_core.specs.Visible.{is_among, visible};
@@ -13,10 +13,11 @@ ghost use Rattle.list_book.specs.Lists.{AreTotals, reports_map, world_of};
 ghost use Rattle.list_book.specs.Tables.{free_map};
 
 use crate::accounts::{Accounts, free_rows_of};
+use crate::expiry::{accounts_of_owners, expired_in};
 use crate::grants::known_rows;
 use crate::lists::{Lists, Reports, place_of};
 use crate::shown::{cut_at, ordered};
-use queue_core::{call_scene, grants_scene, no_counts, number_set, report_scene};
+use queue_core::{call_scene, grants_scene, jobs_scene, no_counts, number_set, report_scene};
 use queue_types::event::{
     Call, Event, FreeRow, GrantRow, KeptReport, QueueCounts, Report, Scene, WhichJobs,
 };
@@ -240,7 +241,7 @@ fn scene_of_call(
     call: &Call<'_>,
 ) -> Result<Scene, AllocError>
     requires { AreRising lists.now.jobs.items }
-    ensures { IfOk result (λ s. s ≡ cut (world_of lists.now) (ask caller.now (call_of call.now))) }
+    ensures { IfOk result (λ s. (now : ℕ) → s ≡ cut (world_of lists.now) now (ask caller.now (call_of call.now))) }
 {
     let jobs = concerned(alloc, lists.jobs.as_slice(), caller, call)?;
     let free = free_for_call(alloc, &lists.accounts, caller, call)?;
@@ -270,7 +271,7 @@ fn kept_report(reports: &Reports, job: u32, seq: u32) -> Option<KeptReport>
 /// The rows that a report needs.
 fn scene_of_report(alloc: Global, lists: &Lists, report: &Report) -> Result<Scene, AllocError>
     requires { AreRising lists.now.jobs.items }
-    ensures { IfOk result (λ s. s ≡ cut (world_of lists.now) (tell report.now)) }
+    ensures { IfOk result (λ s. (now : ℕ) → s ≡ cut (world_of lists.now) now (tell report.now)) }
 {
     let jobs = with_number(alloc, lists.jobs.as_slice(), report.job)?;
     let free = owner_rows(alloc, &lists.accounts, jobs.as_slice())?;
@@ -281,21 +282,36 @@ fn scene_of_report(alloc: Global, lists: &Lists, report: &Report) -> Result<Scen
 /// The rows that an account file needs.
 fn scene_of_grants(alloc: Global, lists: &Lists, rows: &[GrantRow]) -> Result<Scene, AllocError>
     requires { AreTotals lists.now }
-    ensures { IfOk result (λ s. s ≡ cut (world_of lists.now) (grant rows.now)) }
+    ensures { IfOk result (λ s. (now : ℕ) → s ≡ cut (world_of lists.now) now (grant rows.now)) }
 {
     let known = known_rows(alloc, &lists.grants, &lists.accounts, rows)?;
     grants_scene(alloc, &lists.settings, known, lists.next)
 }
 
-/// The rows that an event needs. The one error is want of memory.
-pub(crate) fn scene(alloc: Global, lists: &Lists, event: &Event<'_>) -> Result<Scene, AllocError>
+/// The rows that a sweep needs at that moment.
+fn scene_of_sweep(alloc: Global, lists: &Lists, now: u32) -> Result<Scene, AllocError>
+    ensures { IfOk result (λ s. s ≡ cut (world_of lists.now) now expire) }
+{
+    let jobs = expired_in(alloc, lists.jobs.as_slice(), lists.settings.keep(), now)?;
+    let free = accounts_of_owners(alloc, &lists.accounts, jobs.as_slice())?;
+    jobs_scene(alloc, &lists.settings, jobs, free)
+}
+
+/// The rows that an event needs at that moment. The one error is want of memory.
+pub(crate) fn scene(
+    alloc: Global,
+    lists: &Lists,
+    now: u32,
+    event: &Event<'_>,
+) -> Result<Scene, AllocError>
     requires totals { AreTotals lists.now }
     requires rising { AreRising lists.now.jobs.items }
-    ensures { IfOk result (λ s. s ≡ cut (world_of lists.now) (event_of event.now)) }
+    ensures { IfOk result (λ s. s ≡ cut (world_of lists.now) now (event_of event.now)) }
 {
     match event {
         Event::Ask { caller, call } => scene_of_call(alloc, lists, caller, call),
         Event::Report(r) => scene_of_report(alloc, lists, r),
         Event::Grants(rows) => scene_of_grants(alloc, lists, rows),
+        Event::Expire => scene_of_sweep(alloc, lists, now),
     }
 }

@@ -5,6 +5,8 @@ use Rattle.std.specs.Option.{IfSome}
 use Rattle.grants_csv.specs.Import.{Imports}
 use Rattle.grants_csv.specs.declared.fault.ImportFault.{ImportFault}
 use Rattle.grants_csv.specs.declared.importing.Imported.{Imported}
+use Rattle.queue_core.specs.Sweep.{Sweeps}
+use Rattle.queue_core.specs.declared.book.BookFault.{BookFault}
 use Rattle.queue_core.specs.World.{World}
 
 -- the most bytes of a file that are read: one more than a file may have
@@ -26,3 +28,11 @@ IsTaken now old new bytes n = Imports old now bytes new (Ok n)
 -- this is why the rows of these bytes are not taken at this moment, and the queue stays as it is
 abbrev pub IsRefused : ℕ → World → List ℕ → ImportFault → Type 0
 IsRefused now w bytes why = Imports w now bytes w (Err why)
+
+-- `expired N`
+abbrev pub expired_line : ℕ → List ℕ
+expired_line n = codes "expired " ++ decimal n ++ 10 ∷ []
+
+-- n jobs expire at this moment, and this is the queue after the sweep
+abbrev pub HaveExpired : ℕ → World → World → ℕ → Type 0
+HaveExpired now old new n = Sweeps {E = BookFault} old now new (Ok n)

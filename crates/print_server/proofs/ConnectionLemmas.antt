@@ -3,13 +3,13 @@ use Rattle.std.proofs.Common.{◌≡◌, ◌≢◌, ◌∙◌, ℕ, List, [], �
 use Rattle.std.specs.Io.KnownBytes.{Appends}
 use Rattle.std.proofs.KnownBytes.{Appends-trans}
 use Rattle.std.proofs.lemmas.Grind.{flat_map-append}
-use Rattle.queue_core.specs.Limits.{IsMoment}
 use Rattle.queue_core.specs.World.{World}
 use Rattle.queue_core.specs.declared.book.BookFault.{BookFault}
 use Rattle.queue_core.specs.declared.book.BookFault.TheVariants.{Memory, Disk, Damaged}
+use Rattle.queue_core.specs.Sweep.{Sweeps}
 use Rattle.http_front.specs.Connections.{Worked}
 use Rattle.http_front.specs.Turns.{most_requests}
-use Rattle.print_server.specs.Connections.{AreConnections}
+use Rattle.print_server.specs.Connections.{AreConnections, IsConnection}
 use Rattle.print_server.specs.Lines.{served_line, served_lines}
 use Rattle.print_server.specs.declared.serving.Standing.{Standing}
 use Rattle.print_server.specs.declared.serving.Standing.TheVariants.{Live, Unseen}
@@ -18,17 +18,29 @@ use Rattle.print_server.specs.declared.serving.Standing.TheVariants.{Live, Unsee
 pub worked_none : (now : ℕ) (w : World) → Worked most_requests now w w 0
 worked_none now w = record { turns = []; few = omega arith; are = tt; world = refl; settings = refl; acted_is = refl }
 
+-- ---- a sweep
+
+pub swept_settings : (w v : World) (now : ℕ) (r : Result ℕ BookFault) → Sweeps w now v r → v.settings ≡ w.settings
+swept_settings w v now (Ok n) s = ap (λ (z : World). z.settings) s.1
+swept_settings w v now (Err e) s = ap (λ (z : World). z.settings) s
+
+swept_grants : (w v : World) (now : ℕ) (r : Result ℕ BookFault) → Sweeps w now v r → v.grants ≡ w.grants
+swept_grants w v now (Ok n) s = ap (λ (z : World). z.grants) s.1
+swept_grants w v now (Err e) s = ap (λ (z : World). z.grants) s
+
+-- ---- connections
+
 pub settings_after : (w u : World) (counts : List ℕ) → AreConnections w counts u → u.settings ≡ w.settings
 settings_after w u [] is = ap (λ (z : World). z.settings) is
-settings_after w u (n ∷ rest) h = settings_after h.0 u rest h.2 ∙ h.1.worked.settings
+settings_after w u (n ∷ rest) h = settings_after h.0 u rest h.2 ∙ h.1.worked.settings ∙ swept_settings w h.1.swept h.1.now h.1.sweep h.1.sweeps
 
 pub grants_after : ((most now : ℕ) (w u : World) (acted : ℕ) → Worked most now w u acted → u.grants ≡ w.grants) → (w u : World) (counts : List ℕ) → AreConnections w counts u
     → u.grants ≡ w.grants
 grants_after kept w u [] is = ap (λ (z : World). z.grants) is
-grants_after kept w u (n ∷ rest) h = grants_after kept h.0 u rest h.2 ∙ kept most_requests h.1.now w h.0 n h.1.worked
+grants_after kept w u (n ∷ rest) h = grants_after kept h.0 u rest h.2 ∙ kept most_requests h.1.now h.1.swept h.0 n h.1.worked ∙ swept_grants w h.1.swept h.1.now h.1.sweep h.1.sweeps
 
-abbrev pub one : (now : ℕ) (w u : World) (acted : ℕ) → IsMoment now → Worked most_requests now w u acted → AreConnections w (acted ∷ []) u
-one now w u acted moment worked = (u, record { now = now; moment = moment; worked = worked }, refl)
+abbrev pub one : (w u : World) (acted : ℕ) → IsConnection w acted u → AreConnections w (acted ∷ []) u
+one w u acted c = (u, c, refl)
 
 abbrev pub joined : (w v u : World) (front rest : List ℕ) → AreConnections w front v → AreConnections v rest u → AreConnections w (front ++ rest) u
 joined w v u [] rest is h = subst (λ (z : World). AreConnections z rest u) is h

@@ -1,26 +1,36 @@
 -- What a crash leaves, from one connection to the next.
 use Rattle.std.proofs.Common.{◌≡◌, ◌∙◌, ℕ, List, [], ◌∷◌, ◌++◌, inl, inr, refl, ap, subst, sym}
-use Rattle.queue_core.specs.Limits.{IsMoment}
+use Rattle.std.specs.Prelude.{IsErr}
+use Rattle.queue_types.specs.Event.{expire}
+use Rattle.queue_core.specs.Crash.{Carries as CarriesSweep, Leaves, broken_off, taken, untaken}
+use Rattle.queue_core.specs.Machine.{step}
 use Rattle.queue_core.specs.World.{World}
-use Rattle.http_front.specs.Connections.{Worked}
 use Rattle.http_front.specs.Crash.{CarriesAll, IsAtMostOneMore as IsAtMostOneMoreIn, IsLeft as IsLeftAt}
-use Rattle.http_front.specs.Turns.{Turn, most_requests}
-use Rattle.print_server.specs.Connections.{AreConnections, Carries, IsAtMostOneMore, IsLeft}
+use Rattle.http_front.specs.Turns.{Turn}
+use Rattle.print_server.specs.Connections.{AreConnections, Carries, IsAtMostOneMore, IsAtMostOneMoreAt, IsConnection, IsLeft}
 use Rattle.print_server.proofs.ConnectionLemmas.{joined, one}
 
 -- where nothing is done, all stays
 pub carries_none : (before : World → World → Type 0) (w : World) → Carries before before w [] w refl
 carries_none before w = λ v left. (v, left, inl (refl, refl))
 
-left_at : (now : ℕ) (w v u x : World) (acted : ℕ) (moment : IsMoment now) (k : Worked most_requests now w u acted) → IsLeftAt now k.turns w v u x
-    → IsLeft w (acted ∷ []) u (one now w u acted moment k) v x
-left_at now w v u x acted moment k (inl e) = inl e
-left_at now w v u x acted moment k (inr h) = inr (inl h)
+-- behind the sweep of a connection a crash leaves y, and behind its requests x
+left_at : (w v u x y : World) (acted : ℕ) (c : IsConnection w acted u) → Leaves (λ e. e ≡ expire) (IsErr c.sweep) c.now w v c.swept y → IsLeftAt c.now c.worked.turns c.swept y u x
+    → IsLeft w (acted ∷ []) u (one w u acted c) v x
+left_at w v u x y acted c swept (inr h) = inr (inl (inr h))
+left_at w v u x y acted c (untaken p q) (inl e) = inl (e.0 ∙ p, e.1 ∙ q)
+left_at w v u x y acted c (taken f asks p q) (inl e) = inr (inl (inr (inl (e.1 ∙ q ∙ sym e.0))))
+left_at w v u x y acted c (broken_off f asks failed p q) (inl e) =
+    let same : u ≡ w = e.0 ∙ p in
+    inr (inl (inl (failed, same, e.1 ∙ q ∙ (λ i. (step (sym same i) c.now (asks i)).world))))
 
--- one connection at its moment
-pub carries_at : (before after : World → World → Type 0) (now : ℕ) (w u : World) (acted : ℕ) (moment : IsMoment now) (k : Worked most_requests now w u acted)
-    → CarriesAll before after now k.turns w u → Carries before after w (acted ∷ []) u (one now w u acted moment k)
-carries_at before after now w u acted moment k c = λ v left. let l = c v left in (l.0, l.1, left_at now w v u l.0 acted moment k l.2)
+-- one connection, whose sweep comes first
+pub carries_at : (before between after : World → World → Type 0) (w u : World) (acted : ℕ) (c : IsConnection w acted u)
+    → CarriesSweep before between (λ e. e ≡ expire) (IsErr c.sweep) c.now w c.swept → CarriesAll between after c.now c.worked.turns c.swept u → Carries before after w (acted ∷ []) u (one w u acted c)
+carries_at before between after w u acted c sweeps works = λ v left.
+    let s = sweeps v left in
+    let l = works s.0 s.1 in
+    (l.0, l.1, left_at w v u l.0 s.0 acted c s.2 l.2)
 
 -- a look at the book behind them
 pub carries_seen : (before between after : World → World → Type 0) (w : World) (counts : List ℕ) (u : World) (are : AreConnections w counts u)
@@ -30,13 +40,13 @@ carries_seen before between after w counts u are seen c = λ v left. let l = c v
 -- a crash that leaves the queue leaves no more
 unchanged : (w : World) (counts : List ℕ) (u : World) (are : AreConnections w counts u) (x : World) → x ≡ u → IsAtMostOneMore w counts u are x
 unchanged w [] u are x is = is
-unchanged w (n ∷ rest) u are x is = inl (inl is)
+unchanged w (n ∷ rest) u are x is = inl (inr (inl is))
 
 -- a request of connections behind which nothing was done, and one of those that came behind others
 more_before : (w v p x : World) (front rest : List ℕ) (a : AreConnections w front v) (b : AreConnections v rest p) → p ≡ v → IsAtMostOneMore w front v a x
     → IsAtMostOneMore w (front ++ rest) p (joined w v p front rest a b) x
 more_before w v p x [] rest a b same is = unchanged w rest p (joined w v p [] rest a b) x (is ∙ sym same)
-more_before w v p x (n ∷ front) rest a b same (inl h) = inl (subst (λ (z : World). IsAtMostOneMoreIn a.1.now w a.1.worked.turns z x) (sym same) h)
+more_before w v p x (n ∷ front) rest a b same (inl h) = inl (subst (λ (z : World). IsAtMostOneMoreAt a.1 z x) (sym same) h)
 more_before w v p x (n ∷ front) rest a b same (inr h) = inr (more_before a.0 v p x front rest a.2 b same h)
 
 more_behind : (w v p x : World) (front rest : List ℕ) (a : AreConnections w front v) (b : AreConnections v rest p) → IsAtMostOneMore v rest p b x
@@ -67,7 +77,8 @@ left_one w counts u are x (inr h) = h
 pub left_grants : ((now : ℕ) (w : World) (turns : List Turn) (u x : World) → IsAtMostOneMoreIn now w turns u x → x.grants ≡ u.grants)
     → (w : World) (counts : List ℕ) (u : World) (are : AreConnections w counts u) (x : World) → IsAtMostOneMore w counts u are x → x.grants ≡ u.grants
 left_grants one w [] u are x is = ap (λ (z : World). z.grants) is
-left_grants one w (n ∷ rest) u are x (inl h) = one are.1.now w are.1.worked.turns u x h
+left_grants one w (n ∷ rest) u are x (inl (inl h)) = ap (λ (z : World). z.grants) h.2
+left_grants one w (n ∷ rest) u are x (inl (inr h)) = one are.1.now are.1.swept are.1.worked.turns u x h
 left_grants one w (n ∷ rest) u are x (inr h) = left_grants one are.0 rest u are.2 x h
 
 more_settings : (now : ℕ) (w : World) (turns : List Turn) (u x : World) → IsAtMostOneMoreIn now w turns u x → x.settings ≡ u.settings
@@ -76,5 +87,6 @@ more_settings now w turns u x (inr h) = ap (λ (z : World). z.settings) h.2
 
 pub left_settings : (w : World) (counts : List ℕ) (u : World) (are : AreConnections w counts u) (x : World) → IsAtMostOneMore w counts u are x → x.settings ≡ u.settings
 left_settings w [] u are x is = ap (λ (z : World). z.settings) is
-left_settings w (n ∷ rest) u are x (inl h) = more_settings are.1.now w are.1.worked.turns u x h
+left_settings w (n ∷ rest) u are x (inl (inl h)) = ap (λ (z : World). z.settings) h.2
+left_settings w (n ∷ rest) u are x (inl (inr h)) = more_settings are.1.now are.1.swept are.1.worked.turns u x h
 left_settings w (n ∷ rest) u are x (inr h) = left_settings are.0 rest u are.2 x h

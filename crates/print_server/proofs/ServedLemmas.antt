@@ -1,12 +1,17 @@
 -- Connections over a book, one after another.
-use Rattle.std.proofs.Common.{◌≡◌, ◌∙◌, ℕ, [], ◌∷◌, ◌++◌, refl, sym}
+use Rattle.std.proofs.Common.{◌≡◌, ◌∙◌, ℕ, [], ◌∷◌, ◌++◌, Result, refl, sym}
+use Rattle.std.specs.Prelude.{IsErr}
 use Rattle.queue_types.specs.Settings.{SettingValues}
+use Rattle.queue_types.specs.Event.{expire}
+use Rattle.queue_core.specs.Crash.{Carries as CarriesSweep}
 use Rattle.queue_core.specs.Limits.{IsMoment}
+use Rattle.queue_core.specs.Sweep.{Sweeps}
 use Rattle.queue_core.specs.World.{World}
+use Rattle.queue_core.specs.declared.book.BookFault.{BookFault}
 use Rattle.queue_core.specs.declared.book.QueueBook.{Ghosts}
 use Rattle.http_front.specs.Connections.{WorkedOver}
-use Rattle.print_server.specs.Connections.{IsAtMostOneMore, ServedOver}
-use Rattle.print_server.proofs.ConnectionLemmas.{joined, one, settings_after}
+use Rattle.print_server.specs.Connections.{ConnectedOver, IsAtMostOneMore, IsConnection, ServedOver}
+use Rattle.print_server.proofs.ConnectionLemmas.{joined, one, settings_after, swept_settings}
 use Rattle.print_server.proofs.CrashLemmas.{carries_at, carries_none, carries_on, carries_seen, left_one}
 
 module _ {B : Type 0} {book : Ghosts B} where
@@ -14,16 +19,16 @@ module _ {B : Type 0} {book : Ghosts B} where
   abbrev pub served_none : {now : B} {w : World} → book.stands now w → ServedOver book now now w
   served_none {now} {w} stands = record { counts = []; queue = w; are = refl; stands = stands; carries = carries_none (book.crash_leaves now) w }
 
-  -- one, at its moment
-  abbrev pub served_one : {old new : B} {w : World} (now acted : ℕ) → IsMoment now
-      → (u : World) × book.stands new u × WorkedOver (book.crash_leaves old) (book.crash_leaves new) now w u acted
+  -- one
+  abbrev pub served_one : {old new : B} {w : World} (acted : ℕ)
+      → (u : World) × book.stands new u × ConnectedOver (book.crash_leaves old) (book.crash_leaves new) w u acted
       → ServedOver book old new w
-  served_one {old} {new} {w} now acted moment it = record {
+  served_one {old} {new} {w} acted it = record {
     counts = acted ∷ [];
     queue = it.0;
-    are = one now w it.0 acted moment it.2.0;
+    are = one w it.0 acted it.2.0;
     stands = it.1;
-    carries = carries_at (book.crash_leaves old) (book.crash_leaves new) now w it.0 acted moment it.2.0 it.2.1;
+    carries = it.2.1;
   }
 
   -- a look at the book behind them
@@ -57,3 +62,13 @@ module _ {B : Type 0} {book : Ghosts B} where
   served_left {w = w} s lasts =
       let left = s.carries w lasts in
       (left.0, left.1, left_one w s.counts s.queue s.are left.0 left.2)
+
+-- what a sweep and then requests come to at a moment
+pub connected : {B : Type 0} (book : Ghosts B) {old between new : B} {w : World} {set : SettingValues} (now acted : ℕ) (r : Result ℕ BookFault) → IsMoment now → set ≡ w.settings
+    → (v : World) × Sweeps w now v r × book.stands between v × CarriesSweep (book.crash_leaves old) (book.crash_leaves between) (λ e. e ≡ expire) (IsErr r) now w v
+    → ((v : World) → book.stands between v → set ≡ v.settings → (u : World) × book.stands new u × WorkedOver (book.crash_leaves between) (book.crash_leaves new) now v u acted)
+    → (u : World) × book.stands new u × ConnectedOver (book.crash_leaves old) (book.crash_leaves new) w u acted
+connected {B} book {old} {between} {new} {w} now acted r moment is s works =
+    let it = works s.0 s.2 (is ∙ sym (swept_settings w s.0 now r s.1)) in
+    let c : IsConnection w acted it.0 = record { now = now; moment = moment; sweep = r; swept = s.0; sweeps = s.1; worked = it.2.0 } in
+    (it.0, it.1, (c, carries_at (book.crash_leaves old) (book.crash_leaves between) (book.crash_leaves new) w it.0 acted c s.3 it.2.1))

@@ -1,6 +1,7 @@
 //! A print queue served over HTTP on the loopback interface: connections one after another, over any book of the queue.
 //!
-//! [`listen`] opens a port (`listening`), [`tell_listening`] says so, and a [`Service`] takes its connections in turn (`serving`). All that is not a socket
+//! [`listen`] opens a port (`listening`), [`tell_listening`] says so, and a [`Service`] takes its connections in turn, and ends the jobs that have
+//! expired before each (`serving`). All that is not a socket
 //! is a function over values, or over a reader and a writer: the moment of a connection (`moment`), what a connection comes to
 //! (`connection`) and the lines that are printed (`lines`).
 //!

@@ -9,7 +9,7 @@ ghost use Rattle.queue_core.specs.declared.book.BookFault.{BookFault};
 ghost use Rattle.http_front.specs.Books.{ComesTo};
 ghost use Rattle.http_front.specs.Connections.{WorkedOver};
 ghost use Rattle.http_front.specs.Turns.{most_requests};
-ghost use Rattle.print_server.specs.Connections.{IsAtMostOneMore, ServedOver};
+ghost use Rattle.print_server.specs.Connections.{ConnectedOver, IsAtMostOneMore, ServedOver};
 ghost use Rattle.print_server.specs.Lines.{served_line, served_lines};
 
 use crate::connection::{acted_of, drain, has_fault, is_ended_here};
@@ -19,7 +19,7 @@ use crate::listening::next_stream;
 use crate::moment::present_moment;
 use crate::timed::TimedStream;
 use http_front::serve;
-use queue_core::{BookFault, QueueBook};
+use queue_core::{BookFault, QueueBook, sweep};
 use queue_types::job::JobList;
 use queue_types::settings::Settings;
 use std::alloc::Global;
@@ -102,7 +102,7 @@ fn linger<C: Clock>(stream: &TcpStream, clock: &C) -> io::Result<()> {
 struct Outcome {
     /// How many of its requests acted.
     acted: u32,
-    /// One of them met a fault.
+    /// One of them met a fault, or the sweep before them did.
     has_fault: bool,
 }
 
@@ -111,12 +111,12 @@ struct Outcome {
 pub enum Standing {
     /// No error has shut it.
     Live,
-    /// A request met a fault, and it wasn't seen since then whether the book can still be read.
+    /// A request or a sweep met a fault, and it wasn't seen since then whether the book can still be read.
     Unseen,
 }
 
 impl Standing {
-    /// Behind a connection one of whose requests met a fault, or none did.
+    /// After a connection with its sweep, one of which met a fault, or none did.
     fn behind(self, has_fault: bool) -> Standing
         ensures { result ≡ Standing.Live → (has_fault ≡ false) × (self ≡ Standing.Live) }
     {
@@ -191,7 +191,32 @@ impl Service<'_> {
         }
     }
 
-    /// Takes the next connection, serves it at the moment when it was taken, and prints `served ACTED`.
+    /// Ends the jobs that have expired at this moment, then serves a connection and closes it. If the sweep meets a fault, no job ends, and
+    /// the connection is served all the same.
+    fn sweep_and_serve<C: Clock, B: QueueBook>(
+        self,
+        clock: &C,
+        stream: TcpStream,
+        book: &mut B,
+        now: u32,
+    ) -> Outcome
+        requires { IsMoment now }
+        ensures began { B.is_honest book.new → B.is_honest book.old }
+        ensures worked { ComesTo B.QueueBook book.old book.new self.entry.settings.now (λ w u.
+            ConnectedOver (B.crash_leaves book.old) (B.crash_leaves book.new) w u result.acted) }
+        ensures few { result.acted ≤ most_requests }
+        ensures live { B.is_honest book.new → result.has_fault ≡ false → B.is_live book.new }
+    {
+        let swept = sweep(book, now);
+        let outcome = self.serve_stream(clock, stream, book, now);
+        Outcome {
+            acted: outcome.acted,
+            has_fault: swept.is_err() || outcome.has_fault,
+        }
+    }
+
+    /// Takes the next connection, ends the jobs that have expired at the moment when it was taken, serves it at that moment, and
+    /// prints `served ACTED`.
     fn serve_one<C: Clock, O: Write, B: QueueBook>(
         self,
         clock: &C,
@@ -210,13 +235,14 @@ impl Service<'_> {
     {
         let stream = next_stream(self.listener)?;
         let now = present_moment(clock, self.settings.epoch())?;
-        let outcome = self.serve_stream(clock, stream, book, now);
+        let outcome = self.sweep_and_serve(clock, stream, book, now);
         tell_served(out, outcome.acted)?;
         Ok(outcome)
     }
 
-    /// Takes the next connection, serves it at the moment when it was taken, and prints `served ACTED`. Where a request met a fault, or one had
-    /// met one before and the book wasn't seen since, the book is looked at.
+    /// Takes the next connection, ends the jobs that have expired at the moment when it was taken, serves it at that moment, and
+    /// prints `served ACTED`. Where a request or the sweep
+    /// met a fault, or one had met one before and the book wasn't seen since, the book is looked at.
     fn serve_next<C: Clock, O: Write, B: QueueBook>(
         self,
         clock: &C,
@@ -252,7 +278,7 @@ impl Service<'_> {
     }
 
     /// Serves so many connections, one after another, over a book whose queue has the settings, each at the moment by the clock when it is taken, and
-    /// prints `served ACTED` as it ends.
+    /// prints `served ACTED` as it ends. The jobs that have expired at its moment end before it is served.
     ///
     /// It is an error where no connection can be taken, the clock can't be read or the line can't be written, and where after a fault the book can't be
     /// read any more. The connections before it stay served. A book that there is no memory to look at is looked at behind the next connection again.
@@ -277,7 +303,7 @@ impl Service<'_> {
             → (served : ServedOver B.QueueBook book.old book.new w) × (length served.counts ≤ connections)
             × Appends (O.contents out.old) (O.contents out.new) (served_lines served.counts)) }
         // whatever it answers: a crash at any moment leaves the queue that the book stands for, or what the event of one of these connections' requests,
-        // which was answered by a fault, makes of it
+        // which was answered by a fault, or one of their sweeps, which met one, makes of it
         ensures crash { B.is_honest book.new → B.is_live book.old → (w : World) → B.stands book.old w → self.entry.settings.now ≡ w.settings
             → (served : ServedOver B.QueueBook book.old book.new w) × (length served.counts ≤ connections)
             × (x : World) × B.crash_leaves book.new served.queue x × IsAtMostOneMore w served.counts served.queue served.are x }

@@ -1,6 +1,6 @@
 //! A print release server: `printd init` makes a store, `printd import` takes an account file, `printd serve` serves print clients and the
-//! device by HTTP, `printd statement` prints an account's statement, and `printd replay` answers lines of text
-//! over a queue in memory.
+//! device by HTTP, `printd statement` prints an account's statement, `printd expire` ends the held jobs that have expired, and `printd replay`
+//! answers lines of text over a queue in memory.
 #![tactic(auto)]
 
 use commands::{Fault, end, run};

@@ -8,6 +8,7 @@
 mod account_files;
 mod clients;
 mod clocks;
+mod expiry;
 mod faults;
 mod folder;
 mod listening;

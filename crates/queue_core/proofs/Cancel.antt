@@ -45,23 +45,23 @@ held_follows hold j is = subst (λ p. (state_in p hold j.incoming ≡ state_in p
 
 -- ---- Cancel-Job
 
-pub cancel_keeps : (w : World) (now : ℕ) (caller : List ℕ) (n : ℕ) (sound : IsSound w) → IsMoment now → Keeps w (made_on (of_own caller (λ j. cancel_row (cut w (ask caller (cancel_job n))) now j) (cut w (ask caller (cancel_job n))).jobs).change w)
+pub cancel_keeps : (w : World) (now : ℕ) (caller : List ℕ) (n : ℕ) (sound : IsSound w) → IsMoment now → Keeps w (made_on (of_own caller (λ j. cancel_row (cut w now (ask caller (cancel_job n))) now j) (cut w now (ask caller (cancel_job n))).jobs).change w)
 cancel_keeps w now caller n sound moment =
-    own_keeps w caller (cancel_job n) n sound refl (λ j. cancel_row (cut w (ask caller (cancel_job n))) now j)
+    own_keeps w now caller (cancel_job n) n sound refl (λ j. cancel_row (cut w now (ask caller (cancel_job n))) now j)
     (λ j rest e own.
-    elim (is_cancelable j) as (λ b. is_cancelable j ≡ b → Keeps w (made_on (cond b (becomes (cut w (ask caller (cancel_job n))) (canceled now j)) (refused 0x0404)).change w)) [
-      | true ↦ λ can. becomes_keeps w caller (cancel_job n) n sound refl j (canceled now j) rest e refl own (replaced now j j.phase refl can) (keeps_documents now j j.phase moment refl can) (λ none h. stays_idle now j j.phase can h) (follows now j j.phase refl can)
+    elim (is_cancelable j) as (λ b. is_cancelable j ≡ b → Keeps w (made_on (cond b (becomes (cut w now (ask caller (cancel_job n))) (canceled now j)) (refused 0x0404)).change w)) [
+      | true ↦ λ can. becomes_keeps w now caller (cancel_job n) n sound refl j (canceled now j) rest e refl own (replaced now j j.phase refl can) (keeps_documents now j j.phase moment refl can) (λ none h. stays_idle now j j.phase can h) (follows now j j.phase refl can)
       | false ↦ λ can. unchanged w sound
     ] refl)
 
 -- ---- Hold-Job
 
-pub hold_keeps : (w : World) (caller : List ℕ) (n : ℕ) (sound : IsSound w) → Keeps w (made_on (of_own caller (λ j. hold_in j.phase (cut w (ask caller (hold_job n))) j) (cut w (ask caller (hold_job n))).jobs).change w)
-hold_keeps w caller n sound =
-    own_keeps w caller (hold_job n) n sound refl (λ j. hold_in j.phase (cut w (ask caller (hold_job n))) j)
+pub hold_keeps : (w : World) (now : ℕ) (caller : List ℕ) (n : ℕ) (sound : IsSound w) → Keeps w (made_on (of_own caller (λ j. hold_in j.phase (cut w now (ask caller (hold_job n))) j) (cut w now (ask caller (hold_job n))).jobs).change w)
+hold_keeps w now caller n sound =
+    own_keeps w now caller (hold_job n) n sound refl (λ j. hold_in j.phase (cut w now (ask caller (hold_job n))) j)
     (λ j rest e own.
-    elim j.phase as (λ p. j.phase ≡ p → Keeps w (made_on (hold_in p (cut w (ask caller (hold_job n))) j).change w)) [
-      | Waiting ↦ λ is. becomes_keeps w caller (hold_job n) n sound refl j (held true j) rest e refl own (holds true j) (held_documents true j is) (λ none h. (h.0, h.1, refl)) (held_follows true j is)
+    elim j.phase as (λ p. j.phase ≡ p → Keeps w (made_on (hold_in p (cut w now (ask caller (hold_job n))) j).change w)) [
+      | Waiting ↦ λ is. becomes_keeps w now caller (hold_job n) n sound refl j (held true j) rest e refl own (holds true j) (held_documents true j is) (λ none h. (h.0, h.1, refl)) (held_follows true j is)
       | _ ↦ λ is. unchanged w sound
     ] refl)
 
@@ -72,21 +72,21 @@ has_account : (caller : List ℕ) (o : Option ℤ) (pages : ℕ) → has_pages (
 has_account caller None pages has none = absurd (cc)
 has_account caller (Some f) pages has none = absurd (cc)
 
-module _ (w : World) (caller : List ℕ) (n : ℕ) (sound : IsSound w) where
+module _ (w : World) (now : ℕ) (caller : List ℕ) (n : ℕ) (sound : IsSound w) where
   abbrev release_scene : Scene
-  release_scene = cut w (ask caller (release_job n))
+  release_scene = cut w now (ask caller (release_job n))
 
   let_print_keeps : (j : Job) (rest : List Job) → release_scene.jobs ≡ j ∷ rest → j.owner ≡ caller → j.phase ≡ Waiting → Keeps w (made_on (let_print release_scene j).change w)
   let_print_keeps j rest e own is =
       elim (has_pages release_scene.free (estimate j)) as (λ b. has_pages release_scene.free (estimate j) ≡ b → Keeps w (made_on (cond b (becomes release_scene (held false j)) (refused 0x0404)).change w)) [
-        | true ↦ λ has. becomes_keeps w caller (release_job n) n sound refl j (held false j) rest e refl own (holds false j) (held_documents false j is)
+        | true ↦ λ has. becomes_keeps w now caller (release_job n) n sound refl j (held false j) rest e refl own (holds false j) (held_documents false j is)
             (λ none h. absurd (has_account caller (get w.free caller) (estimate j) has (subst (λ a. get w.free a ≡ None) own none))) (held_follows false j is)
         | false ↦ λ has. unchanged w sound
       ] refl
 
   pub release_keeps : Keeps w (made_on (of_own caller (λ j. release_in j.phase release_scene j) release_scene.jobs).change w)
   release_keeps =
-      own_keeps w caller (release_job n) n sound refl (λ j. release_in j.phase release_scene j)
+      own_keeps w now caller (release_job n) n sound refl (λ j. release_in j.phase release_scene j)
       (λ j rest e own.
       elim j.phase as (λ p. j.phase ≡ p → Keeps w (made_on (release_in p release_scene j).change w)) [
         | Waiting ↦ λ is. elim j.hold as (λ b. Keeps w (made_on (cond b (let_print release_scene j) (answered Done)).change w)) [ true ↦ let_print_keeps j rest e own is | false ↦ unchanged w sound ]

@@ -1,5 +1,5 @@
 -- The scene of each sound world is fair.
-use Rattle.std.proofs.Common.{◌≡◌, ℕ, suc, ℤ, pos, ◌+ℤ◌, ◌+◌, ◌-◌, ◌*◌, ◌^◌, ◌≤◌, ◌<◌, List, [], ◌∷◌, length, map, arith, subst, Bool, true, false, cond}
+use Rattle.std.proofs.Common.{◌≡◌, ℕ, suc, ℤ, pos, ◌+ℤ◌, ◌+◌, ◌-◌, ◌*◌, ◌^◌, ◌≤◌, ◌<◌, List, [], ◌∷◌, ◌++◌, length, map, arith, subst, Bool, true, false, cond}
 use Rattle.std.specs.Prelude.{Option, Some, None, All, IfSome, bytes_eq, filter, sum_by, ◌==◌, ◌&&◌}
 use Rattle.std.specs.List.{AllByRecursion as Each}
 use Rattle.std.specs.FinMap.{get}
@@ -7,8 +7,8 @@ use Rattle.std.proofs.lemmas.Int.{ints}
 use Rattle.std.proofs.lemmas.List.Sums.{sum_by-cons}
 use Rattle.std.proofs.lemmas.Nat.{mul-le}
 use Rattle.queue_types.specs.Job.{owed, is_live}
-use Rattle.queue_types.specs.Event.{Event, Call, ask, tell, grant, print_job, validate_job, create_job, send_document, cancel_job, cancel_my_jobs, hold_job, release_job, get_job_attributes, get_jobs, get_printer_attributes}
-use Rattle.queue_core.specs.World.{World, Entry, rows, cut, found_row, owner_row, known_grant, numbered, jobs_for, free_for, next_for, counts_for, granted}
+use Rattle.queue_types.specs.Event.{Event, Call, ask, tell, grant, expire, print_job, validate_job, create_job, send_document, cancel_job, cancel_my_jobs, hold_job, release_job, get_job_attributes, get_jobs, get_printer_attributes}
+use Rattle.queue_core.specs.World.{World, Entry, rows, cut, found_row, owner_row, known_grant, numbered, jobs_for, has_expired, owners, rows_of_accounts, free_for, next_for, counts_for, granted}
 use Rattle.queue_core.specs.Limits.{IsFair, IsKnown, IsSoundJob, IsAmount}
 use Rattle.queue_core.specs.Sound.{IsSound, IsSoundEntry, IsKept, Rise, reserved, printed}
 use Rattle.queue_types.specs.declared.event.FreeRow.{FreeRow}
@@ -68,6 +68,10 @@ at_most_one false = omega arith
 found : (a : List ℕ) (o : Option ℤ) → IfSome o IsAmount → Each (λ (r : FreeRow). IsAmount r.free) (found_row a o)
 found a None h = tt
 found a (Some f) h = (h, tt)
+
+found_more : (a : List ℕ) (o : Option ℤ) (more : List FreeRow) → IfSome o IsAmount → Each (λ (r : FreeRow). IsAmount r.free) more → Each (λ (r : FreeRow). IsAmount r.free) (found_row a o ++ more)
+found_more a None more h each = each
+found_more a (Some f) more h each = (h, each)
 
 amount : (o : Option ℤ) (g r p : ℕ) → g ≤ 1000000000 → r ≤ 2 ^ 59 → p ≤ 2 ^ 59 → IfSome o (λ f. pos g ≡ f +ℤ pos (r + p)) → IfSome o IsAmount
 amount None g r p hg hr hp is = tt
@@ -150,8 +154,12 @@ each_known : (w : World) → IsSound w → (rows : List GrantRow) → Each IsKno
 each_known w sound [] = tt
 each_known w sound (g ∷ rows) = (record { granted = sound.most g.account; free = amounts_of w sound g.account }, each_known w sound rows)
 
-pub fair_of : (w : World) (e : Event) → IsSound w → IsFair (cut w e)
-fair_of w (ask caller call) sound =
+accounts_within : (w : World) → IsSound w → (names : List (List ℕ)) → Each (λ (r : FreeRow). IsAmount r.free) (rows_of_accounts w.free names)
+accounts_within w sound [] = tt
+accounts_within w sound (a ∷ names) = found_more a (get w.free a) (rows_of_accounts w.free names) (amounts_of w sound a) (accounts_within w sound names)
+
+pub fair_of : (w : World) (now : ℕ) (e : Event) → IsSound w → IsFair (cut w now e)
+fair_of w now (ask caller call) sound =
     let numbers = rise_length 1 w.next w.jobs sound.numbers in
     let next = sound.next in
     let named = jobs_few w caller call in
@@ -165,7 +173,7 @@ fair_of w (ask caller call) sound =
       report = tt;
       known = all_of IsKnown [] tt;
     }
-fair_of w (tell r) sound =
+fair_of w now (tell r) sound =
     let numbers = rise_length 1 w.next w.jobs sound.numbers in
     let next = sound.next in
     let named = few_numbered r.job w in
@@ -179,7 +187,7 @@ fair_of w (tell r) sound =
       report = kept_within w r.job r.seq (get w.reports (r.job, r.seq)) (sound.reports r.job r.seq);
       known = all_of IsKnown [] tt;
     }
-fair_of w (grant new) sound = record {
+fair_of w now (grant new) sound = record {
   settings = sound.settings;
   jobs = all_of IsSoundJob [] tt;
   few = omega arith;
@@ -189,7 +197,21 @@ fair_of w (grant new) sound = record {
   report = tt;
   known = all_of IsKnown _ (each_known w sound new);
 }
+fair_of w now expire sound =
+    let numbers = rise_length 1 w.next w.jobs sound.numbers in
+    let next = sound.next in
+    let named = named_few (has_expired w.settings.keep now) w.jobs in
+    record {
+      settings = sound.settings;
+      jobs = all_of IsSoundJob _ (each_named (has_expired w.settings.keep now) w.jobs sound.entries);
+      few = omega arith;
+      free = all_of (λ (r : FreeRow). IsAmount r.free) _ (accounts_within w sound (owners (filter (has_expired w.settings.keep now) (rows w))));
+      next = omega arith;
+      queued = omega arith;
+      report = tt;
+      known = all_of IsKnown [] tt;
+    }
 
 -- the first job that an event needs is within its limits
-pub first_sound : (w : World) (e : Event) → IsSound w → (j : Job) (rest : List Job) → (cut w e).jobs ≡ j ∷ rest → IsSoundJob j
-first_sound w e sound j rest is = subst (All IsSoundJob) is (fair_of w e sound).jobs 0 j (omega arith)
+pub first_sound : (w : World) (now : ℕ) (e : Event) → IsSound w → (j : Job) (rest : List Job) → (cut w now e).jobs ≡ j ∷ rest → IsSoundJob j
+first_sound w now e sound j rest is = subst (All IsSoundJob) is (fair_of w now e sound).jobs 0 j (omega arith)

@@ -22,3 +22,6 @@ pub mod GrantLemmas
 pub mod Granted
 pub mod Crashes
 pub mod Writes
+pub mod ExpiredJobs
+pub mod Expired
+pub mod AmountLemmas

@@ -162,7 +162,7 @@ many_sound now before moment (j ∷ js) w m sound rising each free =
     ∙ ap (option_map (λ f. f +ℤ returned before q (map (canceled now) js))) (sym (got q)))
 
 -- rows that each follow what stood at their number
-many_move : (old es : List Entry) (xs : List Job) → ((n : ℕ) → Follows (at n old) (at n es)) → Each (λ x. Follows (at x.number old) (Some x)) xs → (n : ℕ) → Follows (at n old) (at n (fold with_row es xs))
+pub many_move : (old es : List Entry) (xs : List Job) → ((n : ℕ) → Follows (at n old) (at n es)) → Each (λ x. Follows (at x.number old) (Some x)) xs → (n : ℕ) → Follows (at n old) (at n (fold with_row es xs))
 many_move old es [] before each n = before n
 many_move old es (x ∷ xs) before each n =
     many_move old (with_row es x) xs
@@ -186,9 +186,9 @@ each_owned now caller (j ∷ js) each = ((replaced now j j.phase refl each.0.1).
 -- ---- the event
 
 -- Cancel-My-Jobs, on the caller's jobs that pass a test
-module _ (w : World) (now : ℕ) (caller : List ℕ) (numbers : Option (List ℕ)) (c : Job → Bool) (sound : IsSound w) (moment : IsMoment now) (named : (cut w (ask caller (cancel_my_jobs numbers))).jobs ≡ filter c (rows w)) (own : (j : Job) → c j ≡ true → j.owner ≡ caller) where
+module _ (w : World) (now : ℕ) (caller : List ℕ) (numbers : Option (List ℕ)) (c : Job → Bool) (sound : IsSound w) (moment : IsMoment now) (named : (cut w now (ask caller (cancel_my_jobs numbers))).jobs ≡ filter c (rows w)) (own : (j : Job) → c j ≡ true → j.owner ≡ caller) where
   abbrev scene : Scene
-  scene = cut w (ask caller (cancel_my_jobs numbers))
+  scene = cut w now (ask caller (cancel_my_jobs numbers))
 
   abbrev asked : List Job
   asked = filter c (rows w)
@@ -228,11 +228,11 @@ module _ (w : World) (now : ℕ) (caller : List ℕ) (numbers : Option (List ℕ
   pub all_keeps : Keeps w (made_on (all_canceled scene now (filter is_cancelable scene.jobs)).change w)
   all_keeps = subst (λ js. Keeps w (with_jobs w (moved w.free caller js (map (canceled now) (filter is_cancelable js))) (fold with_row w.jobs (map (canceled now) (filter is_cancelable js))))) (sym named) able_keeps
 
-pub cancel_my_keeps : (w : World) (now : ℕ) (caller : List ℕ) (numbers : Option (List ℕ)) → IsSound w → IsMoment now → Keeps w (made_on (cancel_my_jobs_row (cut w (ask caller (cancel_my_jobs numbers))) now numbers).change w)
+pub cancel_my_keeps : (w : World) (now : ℕ) (caller : List ℕ) (numbers : Option (List ℕ)) → IsSound w → IsMoment now → Keeps w (made_on (cancel_my_jobs_row (cut w now (ask caller (cancel_my_jobs numbers))) now numbers).change w)
 cancel_my_keeps w now caller None sound moment =
     all_keeps w now caller None (λ j. bytes_eq j.owner caller && is_live j) sound moment refl (λ j is. same_key j.owner caller (and_parts (bytes_eq j.owner caller) (is_live j) is).0)
 cancel_my_keeps w now caller (Some numbers) sound moment =
-    let s : Scene = cut w (ask caller (cancel_my_jobs (Some numbers))) in
+    let s : Scene = cut w now (ask caller (cancel_my_jobs (Some numbers))) in
     let keeps : Keeps w (made_on (all_canceled s now (filter is_cancelable s.jobs)).change w) =
     all_keeps w now caller (Some numbers) (λ j. bytes_eq j.owner caller && is_one_of numbers j) sound moment refl
     (λ j is. same_key j.owner caller (and_parts (bytes_eq j.owner caller) (is_one_of numbers j) is).0) in

@@ -75,9 +75,9 @@ pub unchanged : (w : World) → IsSound w → Keeps w w
 unchanged w sound = record { sound = sound; moves = stays w }
 
 -- a call about the job of number n, on the scene that it needs
-module _ (w : World) (caller : List ℕ) (call : Call) (n : ℕ) (sound : IsSound w) (named : (cut w (ask caller call)).jobs ≡ filter (λ j. nat_eq j.number n) (rows w)) where
+module _ (w : World) (now : ℕ) (caller : List ℕ) (call : Call) (n : ℕ) (sound : IsSound w) (named : (cut w now (ask caller call)).jobs ≡ filter (λ j. nat_eq j.number n) (rows w)) where
   abbrev scene : Scene
-  scene = cut w (ask caller call)
+  scene = cut w now (ask caller call)
 
   pub found : (j : Job) (rest : List Job) → scene.jobs ≡ j ∷ rest → (job_at n (rows w) ≡ Some j) × (j.number ≡ n)
   found j rest e = first_named n (rows w) j rest (sym named ∙ e)

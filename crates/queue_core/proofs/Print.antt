@@ -109,9 +109,9 @@ module _ (w : World) (now : ℕ) (caller : List ℕ) (incoming : Bool) (j : NewJ
         | Some code ↦ λ is. unchanged w sound
       ] refl
 
-pub print_keeps : (w : World) (now : ℕ) (caller : List ℕ) (j : NewJob) (format : Format) (payload : List ℕ) → IsSound w → IsMoment now → IsOwner caller → IsNewJob j → length payload ≤ 16777216 → Keeps w (made_on (print_job_row (cut w (ask caller (print_job j format payload))) now caller j format payload).change w)
+pub print_keeps : (w : World) (now : ℕ) (caller : List ℕ) (j : NewJob) (format : Format) (payload : List ℕ) → IsSound w → IsMoment now → IsOwner caller → IsNewJob j → length payload ≤ 16777216 → Keeps w (made_on (print_job_row (cut w now (ask caller (print_job j format payload))) now caller j format payload).change w)
 print_keeps w now caller j format payload sound moment owner new fits = new_keeps w now caller false j format payload sound moment owner new fits
 
 -- without a document its format does not matter
-pub create_keeps : (w : World) (now : ℕ) (caller : List ℕ) (j : NewJob) → IsSound w → IsMoment now → IsOwner caller → IsNewJob j → Keeps w (made_on (create_job_row (cut w (ask caller (create_job j))) now caller j).change w)
+pub create_keeps : (w : World) (now : ℕ) (caller : List ℕ) (j : NewJob) → IsSound w → IsMoment now → IsOwner caller → IsNewJob j → Keeps w (made_on (create_job_row (cut w now (ask caller (create_job j))) now caller j).change w)
 create_keeps w now caller j sound moment owner new = new_keeps w now caller true j OctetStream [] sound moment owner new (omega arith)

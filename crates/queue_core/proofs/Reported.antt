@@ -157,7 +157,7 @@ each-with_row_apart P Q x j first next (e ∷ es) there rise other here all =
 
 module _ (w : World) (now : ℕ) (r : Report) (sound : IsSound w) (moment : IsMoment now) (limits : IsReport r) where
   abbrev scene : Scene
-  scene = cut w (tell r)
+  scene = cut w now (tell r)
 
   abbrev kept_report : Job → KeptReport
   kept_report x = record { report = r; state = job_state x; total = x.count }
@@ -282,7 +282,7 @@ module _ (w : World) (now : ℕ) (r : Report) (sound : IsSound w) (moment : IsMo
 
   taken_keeps : (j : Job) (rest : List Job) → scene.jobs ≡ j ∷ rest → get w.reports (r.job, r.seq) ≡ None → (o : Option Job) → reported r now j ≡ o → Keeps w (made_on (accepted_where scene r o).change w)
   taken_keeps j rest e new None is = unchanged w sound
-  taken_keeps j rest e new (Some x) is = accepted_keeps j x rest e new (reported_is r now j x (first_sound w (tell r) sound j rest e) moment limits is)
+  taken_keeps j rest e new (Some x) is = accepted_keeps j x rest e new (reported_is r now j x (first_sound w now (tell r) sound j rest e) moment limits is)
 
   row_keeps : (js : List Job) → scene.jobs ≡ js → (o : Option KeptReport) → get w.reports (r.job, r.seq) ≡ o → Keeps w (made_on (report_row scene now r js o).change w)
   row_keeps [] e o kept = unchanged w sound

@@ -136,9 +136,9 @@ waits_in : (j : Job) (p : Phase) → j.incoming ≡ true → FitsPhase p j → p
 waits_in j Waiting is fits = refl
 waits_in j _ is fits = let no = fits.1 in absurd (cc)
 
-module _ (w : World) (caller : List ℕ) (n : ℕ) (format : Format) (payload : List ℕ) (last : Bool) (sound : IsSound w) (fits : length payload ≤ 16777216) where
+module _ (w : World) (now : ℕ) (caller : List ℕ) (n : ℕ) (format : Format) (payload : List ℕ) (last : Bool) (sound : IsSound w) (fits : length payload ≤ 16777216) where
   abbrev scene : Scene
-  scene = cut w (ask caller (send_document n format payload last))
+  scene = cut w now (ask caller (send_document n format payload last))
 
   replaced : (j : Job) → Replaces (sent j payload last) j
   replaced j = record { number = refl; owner = refl; count = refl; live = omega arith }
@@ -156,13 +156,13 @@ module _ (w : World) (caller : List ℕ) (n : ℕ) (format : Format) (payload : 
   row j rest e own =
       elim (is_sendable j payload) as (λ b. is_sendable j payload ≡ b → Keeps w (made_on (cond b (document_sent scene j format payload last) (refused 0x0404)).change w)) [
         | true ↦ λ is.
-            let s = first_sound w (ask caller (send_document n format payload last)) sound j rest e in
-            let there = found_at w caller (send_document n format payload last) n sound refl j (sent j payload last) rest e (replaced j) in
-            changed_keeps w caller (send_document n format payload last) n sound refl j (sent j payload last) rest (new_document j.number format payload) e (replaced j) (free_stays j)
+            let s = first_sound w now (ask caller (send_document n format payload last)) sound j rest e in
+            let there = found_at w now caller (send_document n format payload last) n sound refl j (sent j payload last) rest e (replaced j) in
+            changed_keeps w now caller (send_document n format payload last) n sound refl j (sent j payload last) rest (new_document j.number format payload) e (replaced j) (free_stays j)
             (rows-document j.number format payload (with_row w.jobs (sent j payload last))) (sent_entries w j format payload last sound is fits there) (λ none h. h)
             (follows j s (both j.incoming (j.documents + document_count payload) is).0)
         | false ↦ λ is. unchanged w sound
       ] refl
 
   pub send_keeps : Keeps w (made_on (of_own caller (λ j. send_in scene j format payload last) scene.jobs).change w)
-  send_keeps = own_keeps w caller (send_document n format payload last) n sound refl (λ j. send_in scene j format payload last) row
+  send_keeps = own_keeps w now caller (send_document n format payload last) n sound refl (λ j. send_in scene j format payload last) row

@@ -2,11 +2,11 @@
 use Rattle.std.proofs.Common.{◌≡◌, ℕ, zero, suc, ◌+◌, ◌≤◌, List, [], ◌∷◌, ◌++◌, length, length-append, map, refl, ap, arith, subst, eq-eqb, Bool, true, false, cond}
 use Rattle.std.specs.List.{AllByRecursion as Each}
 use Rattle.std.specs.Prelude.{All, IsSome, IfSome, is_some, filter, Option, Some, None}
-use Rattle.queue_types.specs.Event.{Event, Call, NewJob, NewDocument, Decision, ask, tell, grant}
+use Rattle.queue_types.specs.Event.{Event, Call, NewJob, NewDocument, Decision, ask, tell, grant, expire}
 use Rattle.queue_core.specs.World.{job_at}
 use Rattle.queue_core.specs.Reports.{reported, is_same_report}
 use Rattle.queue_core.specs.Grants.{repeated, refused_row, new_row, row_of, Taken, all_taken, none_taken, free_after, add_row, take_rows}
-use Rattle.queue_core.specs.Machine.{decision, call_row, refused, becomes, answered, canceled, is_cancelable, all_canceled, entered, new_job, new_document, new_refusal, sent, accepted, accepted_where, report_row, grant_row}
+use Rattle.queue_core.specs.Machine.{decision, call_row, refused, becomes, answered, canceled, is_cancelable, all_canceled, entered, new_job, new_document, new_refusal, sent, accepted, accepted_where, report_row, grant_row, expired, expire_row}
 use Rattle.queue_core.specs.Limits.{IsMoment, IsEvent, IsCall, IsOwner, IsNewJob, IsSoundJob, IsFair, IsReport, IsReplyTo, IsSoundReply, IsSoundChange}
 use Rattle.queue_types.specs.declared.document.Format.{Format}
 use Rattle.queue_types.specs.declared.job.Job.{Job}
@@ -25,6 +25,7 @@ use Rattle.queue_core.proofs.Forms.{IsOwn, HasForm, not_possible, not_found, out
 use Rattle.queue_core.proofs.Ordered.{all_of, each_of, each-filter}
 use Rattle.queue_core.proofs.Print.{new_job_sound, not_refused}
 use Rattle.queue_core.proofs.Reported.{reported_is}
+use Rattle.queue_core.proofs.ExpiredJobs.{expired_sound}
 use Rattle.queue_core.proofs.Send.{sent_sound}
 
 -- ---- the forms of a decision
@@ -154,9 +155,22 @@ granting : (rows : List GrantRow) (t : Taken) → IsFew t 16777216 → IsSoundDe
 granting rows (all_taken new free repeats) few = record { reply = few; change = record { jobs = all_of IsSoundJob [] tt; document = tt } }
 granting rows (none_taken refusal row) few = told (grant rows) (NotAdded refusal row) few
 
+-- ---- held jobs that expire
+
+each_expired : (now : ℕ) (js : List Job) → IsMoment now → Each IsSoundJob js → Each IsSoundJob (map (expired now) js)
+each_expired now [] moment each = tt
+each_expired now (j ∷ js) moment each = (expired_sound now j moment each.0, each_expired now js moment each.1)
+
+expiring : (s : Scene) (now : ℕ) → IsFair s → IsMoment now → IsSoundDecision expire (expire_row s now)
+expiring s now fair moment = record {
+  reply = fair.few;
+  change = record { jobs = all_of IsSoundJob _ (each_expired now s.jobs moment (each_of IsSoundJob s.jobs fair.jobs)); document = tt };
+}
+
 -- ---- every event
 
 pub decision_within : (s : Scene) (now : ℕ) (e : Event) → IsFair s → IsMoment now → IsEvent e → IsSoundDecision e (decision s now e)
 decision_within s now (ask caller call) fair moment event = let within = ask_within s now caller call fair moment event in record { reply = within.reply; change = within.change }
 decision_within s now (tell r) fair moment event = telling s now r moment event s.jobs fair.jobs s.report fair.report
 decision_within s now (grant rows) fair moment event = granting rows (take_rows rows s.known 1 [] [] 0) (few_rows rows s.known 1 [] [] 0 16777216 (omega arith) (omega arith) (let few = event.0 in omega arith))
+decision_within s now expire fair moment event = expiring s now fair moment

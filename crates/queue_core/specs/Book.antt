@@ -11,4 +11,4 @@ pub record IsDecisionOn (w : World) (d : Decision) : Type 0 where
   pub event : Event
   pub moment : IsMoment now
   pub limits : IsEvent event
-  pub is : d ≡ decision (cut w event) now event
+  pub is : d ≡ decision (cut w now event) now event

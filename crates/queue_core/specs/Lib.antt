@@ -12,3 +12,5 @@ pub mod Sound
 pub mod Shown
 pub mod Runs
 pub mod Book
+pub mod Totals
+pub mod Sweep

@@ -3,7 +3,7 @@ use Rattle.std.specs.Prelude.{◌≡◌, ℕ, ℤ, ◌^◌, ◌*◌, ◌+◌, �
 use Rattle.std.specs.List.{list_all}
 use Rattle.std.specs.Str.{IsUtf8}
 use Rattle.queue_types.specs.Settings.{AreSettings}
-use Rattle.queue_types.specs.Event.{Event, Call, NewJob, Change, ask, tell, grant, print_job, validate_job, create_job, send_document, cancel_job, cancel_my_jobs, hold_job, release_job, get_job_attributes, get_jobs, get_printer_attributes}
+use Rattle.queue_types.specs.Event.{Event, Call, NewJob, Change, ask, tell, grant, expire, print_job, validate_job, create_job, send_document, cancel_job, cancel_my_jobs, hold_job, release_job, get_job_attributes, get_jobs, get_printer_attributes}
 use Rattle.queue_core.specs.Balance.{IsWithin}
 use Rattle.queue_core.specs.World.{job_at}
 use Rattle.queue_types.specs.declared.job.Job.{Job}
@@ -13,7 +13,7 @@ use Rattle.queue_types.specs.declared.event.GrantRow.{GrantRow}
 use Rattle.queue_types.specs.declared.event.KnownGrant.{KnownGrant}
 use Rattle.queue_types.specs.declared.event.Report.{Report}
 use Rattle.queue_types.specs.declared.event.Reply.{Reply}
-use Rattle.queue_types.specs.declared.event.Reply.TheVariants.{Refused, Done, Jobs, Printer, Told, NotTold, Added, NotAdded}
+use Rattle.queue_types.specs.declared.event.Reply.TheVariants.{Refused, Done, Jobs, Printer, Told, NotTold, Added, NotAdded, Expired}
 use Rattle.queue_types.specs.declared.event.Scene.{Scene}
 
 -- 1 to 2,147,483,647: a moment, a job number or a sequence number
@@ -112,6 +112,7 @@ abbrev pub IsEvent : Event → Type 0
 IsEvent (ask caller call) = IsOwner caller × IsCall call
 IsEvent (tell r) = IsReport r
 IsEvent (grant new) = (length new ≤ 16777216) × All IsGrantRow new
+IsEvent expire = ⊤
 
 -- pages of an account that a sum over jobs can't take past 64 bits
 abbrev pub IsAmount : ℤ → Type 0
@@ -143,6 +144,7 @@ IsSoundReply (Told state count) = ⊥
 IsSoundReply (NotTold refusal) = ⊥
 IsSoundReply (Added new repeats) = ⊥
 IsSoundReply (NotAdded refusal row) = ⊥
+IsSoundReply (Expired ended) = ⊥
 
 -- the answer to a report
 abbrev pub IsReportReply : Reply → Type 0
@@ -156,11 +158,17 @@ IsGrantReply (Added new repeats) = new + repeats ≤ 16777216
 IsGrantReply (NotAdded refusal row) = (1 ≤ row) × (row ≤ 16777216)
 IsGrantReply _ = ⊥
 
+-- the answer to a sweep
+abbrev pub IsSweepReply : Reply → Type 0
+IsSweepReply (Expired ended) = ended < 2 ^ 31
+IsSweepReply _ = ⊥
+
 -- each kind of event has replies of its own
 abbrev pub IsReplyTo : Event → Reply → Type 0
 IsReplyTo (ask caller call) r = IsSoundReply r
 IsReplyTo (tell report) r = IsReportReply r
 IsReplyTo (grant new) r = IsGrantReply r
+IsReplyTo expire r = IsSweepReply r
 
 -- a change whose jobs are within their limits, and whose document is of one of them
 pub record IsSoundChange (c : Change) : Type 0 where

@@ -3,10 +3,11 @@ use Rattle.std.specs.Prelude.{ℕ, ℤ, pos, ◌+ℤ◌, ◌-ℤ◌, ◌+◌, fo
 use Rattle.std.specs.List.{list_all, list_any}
 use Rattle.std.specs.Option.{option_map_or}
 use Rattle.queue_types.specs.Job.{estimate, owed, job_state}
-use Rattle.queue_types.specs.Event.{NewJob, NewDocument, Change, Decision, Event, Call, ask, tell, grant, print_job, validate_job, create_job, send_document, cancel_job, cancel_my_jobs, hold_job, release_job, get_job_attributes, get_jobs, get_printer_attributes}
+use Rattle.queue_types.specs.Event.{NewJob, NewDocument, Change, Decision, Event, Call, ask, tell, grant, expire, print_job, validate_job, create_job, send_document, cancel_job, cancel_my_jobs, hold_job, release_job, get_job_attributes, get_jobs, get_printer_attributes}
 use Rattle.queue_core.specs.World.{World, cut, made_on, job_at}
-use Rattle.queue_core.specs.Reports.{reported, is_same_report}
+use Rattle.queue_core.specs.Reports.{reported, is_same_report, ended_as}
 use Rattle.queue_core.specs.Grants.{Taken, all_taken, none_taken, take_rows}
+use Rattle.queue_core.specs.Sound.{reserved_for}
 use Rattle.queue_types.specs.declared.job.Job.{Job}
 use Rattle.queue_types.specs.declared.document.Format.{Format}
 use Rattle.queue_types.specs.declared.job.Why.TheVariants.{ByUser}
@@ -17,7 +18,7 @@ use Rattle.queue_types.specs.declared.event.KeptReport.{KeptReport}
 use Rattle.queue_types.specs.declared.event.Report.{Report}
 use Rattle.queue_types.specs.declared.event.ReportRefusal.TheVariants.{NoJob, State, Conflict}
 use Rattle.queue_types.specs.declared.event.Reply.{Reply}
-use Rattle.queue_types.specs.declared.event.Reply.TheVariants.{Refused, Done, Jobs, Printer, Told, NotTold, Added, NotAdded}
+use Rattle.queue_types.specs.declared.event.Reply.TheVariants.{Refused, Done, Jobs, Printer, Told, NotTold, Added, NotAdded, Expired}
 use Rattle.queue_types.specs.declared.event.Scene.{Scene}
 use Rattle.queue_types.specs.declared.event.QueueCounts.{QueueCounts}
 use Rattle.queue_types.specs.declared.states.PrinterState.{PrinterState}
@@ -239,6 +240,23 @@ abbrev pub grant_row : Taken → Decision
 grant_row (all_taken new free repeats) = record { reply = Added (length new) repeats; change = record no_change { free = free; grants = new } }
 grant_row (none_taken refusal row) = answered (NotAdded refusal row)
 
+-- ---- held jobs that expire
+
+-- a held or open job ends, aborted by the system
+abbrev pub expired : ℕ → Job → Job
+expired now j = ended_as Aborted now (record j { hold = false; incoming = false })
+
+-- the pages that were set aside for these jobs go back to the account
+abbrev pub freed : List Job → FreeRow → FreeRow
+freed js a = record a { free = a.free +ℤ pos (reserved_for a.account js) }
+
+-- the jobs of the scene are those that have expired
+abbrev pub expire_row : Scene → ℕ → Decision
+expire_row s now = record {
+  reply = Expired (length s.jobs);
+  change = record no_change { jobs = map (expired now) s.jobs; free = map (freed s.jobs) s.free };
+}
+
 -- ---- the table
 
 -- the caller's own job; another's and none are one answer
@@ -263,6 +281,7 @@ abbrev pub decision : Scene → ℕ → Event → Decision
 decision s now (ask caller call) = call_row s now caller call
 decision s now (tell r) = report_row s now r s.jobs s.report
 decision s now (grant rows) = grant_row (take_rows rows s.known 1 [] [] 0)
+decision s now expire = expire_row s now
 
 pub record Step : Type 0 where
   pub world : World
@@ -270,4 +289,4 @@ pub record Step : Type 0 where
 
 -- one event: its answer, and the world after it
 abbrev pub step : World → ℕ → Event → Step
-step w now e = record { world = made_on (decision (cut w e) now e).change w; reply = (decision (cut w e) now e).reply }
+step w now e = record { world = made_on (decision (cut w now e) now e).change w; reply = (decision (cut w now e) now e).reply }

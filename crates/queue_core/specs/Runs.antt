@@ -11,7 +11,7 @@ use Rattle.queue_types.specs.declared.job.Job.{Job}
 -- the pairs of states along which a job may move (RFC 8011, section 5.3.7)
 abbrev pub is_pair : ℕ → ℕ → Bool
 is_pair a b = list_any (λ (p : ℕ × ℕ). p.0 == a && p.1 == b)
-    ((3, 4) ∷ (3, 5) ∷ (3, 7) ∷ (4, 3) ∷ (4, 7) ∷ (5, 6) ∷ (5, 7) ∷ (5, 8) ∷ (5, 9) ∷ (6, 5) ∷ (6, 7) ∷ (6, 8) ∷ [])
+    ((3, 4) ∷ (3, 5) ∷ (3, 7) ∷ (4, 3) ∷ (4, 7) ∷ (4, 8) ∷ (5, 6) ∷ (5, 7) ∷ (5, 8) ∷ (5, 9) ∷ (6, 5) ∷ (6, 7) ∷ (6, 8) ∷ [])
 
 -- a new job enters in state 3 or 4; a job keeps its state or takes a pair; no job vanishes
 abbrev pub Follows : Option Job → Option Job → Type 0

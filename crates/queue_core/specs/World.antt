@@ -1,5 +1,5 @@
 -- A queue as a whole: its jobs with their documents, accounts, grants and reports; and what a change makes of it.
-use Rattle.std.specs.Prelude.{◌≡◌, ⊤, ℕ, ℤ, sum_by, List, [], ◌∷◌, ◌++◌, Option, Some, None, map, filter, find, fold, count_by, ◌==◌, ◌&&◌, bytes_eq, Bool, if◌then◌else◌, unwrap_or}
+use Rattle.std.specs.Prelude.{◌≡◌, ⊤, ℕ, ℤ, sum_by, List, [], ◌∷◌, ◌++◌, Option, Some, None, map, filter, find, fold, count_by, ◌==◌, ◌&&◌, ◌+◌, bytes_eq, nat_le, nat_lt, Bool, if◌then◌else◌, unwrap_or}
 use Rattle.std.specs.List.{list_any}
 use Rattle.std.specs.declared.cmp.Ordering.{Ordering}
 use Rattle.std.specs.Ordering.{nat_cmp, ordering_then}
@@ -8,9 +8,9 @@ use Rattle.std.specs.Cmp.Lexicographic.{nat_list_cmp_total, slice_cmp}
 use Rattle.std.specs.Coded.{Coded, coded×, coded_list, coded_ℕ, coded_ℤ}
 use Rattle.std.specs.FinMap.{code, FinMap, empty, entries, insert, get}
 use Rattle.queue_types.specs.Settings.{SettingValues}
-use Rattle.queue_types.specs.Job.{is_live, is_running, is_stopped}
+use Rattle.queue_types.specs.Job.{is_live, is_running, is_stopped, state}
 use Rattle.queue_core.specs.Visible.{visible}
-use Rattle.queue_types.specs.Event.{NewDocument, Change, Event, Call, ask, tell, grant, print_job, validate_job, create_job, send_document, cancel_job, cancel_my_jobs, hold_job, release_job, get_job_attributes, get_jobs, get_printer_attributes}
+use Rattle.queue_types.specs.Event.{NewDocument, Change, Event, Call, ask, tell, grant, expire, print_job, validate_job, create_job, send_document, cancel_job, cancel_my_jobs, hold_job, release_job, get_job_attributes, get_jobs, get_printer_attributes}
 use Rattle.queue_types.specs.declared.job.Job.{Job}
 use Rattle.queue_types.specs.declared.document.Document.{Document}
 use Rattle.queue_types.specs.declared.event.FreeRow.{FreeRow}
@@ -141,11 +141,16 @@ jobs_for caller get_printer_attributes js = []
 abbrev pub live_jobs : List ℕ → List Job → ℕ
 live_jobs caller js = count_by (λ j. bytes_eq j.owner caller && is_live j) js
 
--- the jobs that the event speaks of
-abbrev pub jobs_of : Event → World → List Job
-jobs_of (ask caller call) w = jobs_for caller call (rows w)
-jobs_of (tell r) w = numbered r.job (rows w)
-jobs_of (grant new) w = []
+-- the job is in state 4, and at least `keep` seconds have passed since it was created; with 0 seconds no job expires
+unfoldable pub has_expired : ℕ → ℕ → Job → Bool
+has_expired keep now j = nat_lt 0 keep && (nat_le (j.created + keep) now && state j == 4)
+
+-- the jobs that the event is about at that moment
+abbrev pub jobs_of : ℕ → Event → World → List Job
+jobs_of now (ask caller call) w = jobs_for caller call (rows w)
+jobs_of now (tell r) w = numbered r.job (rows w)
+jobs_of now (grant new) w = []
+jobs_of now expire w = filter (has_expired w.settings.keep now) (rows w)
 
 -- a caller's live jobs are counted where a new one is asked for, and else not
 abbrev pub live_for : List ℕ → Call → List Job → ℕ
@@ -165,6 +170,7 @@ abbrev pub live_of : Event → World → ℕ
 live_of (ask caller call) w = live_for caller call (rows w)
 live_of (tell r) w = 0
 live_of (grant new) w = 0
+live_of expire w = 0
 
 abbrev pub queue_counts : List Job → QueueCounts
 queue_counts js = record { running = count_by is_running js; stopped = count_by is_stopped js; queued = count_by is_live js }
@@ -187,6 +193,7 @@ abbrev pub counts_of : Event → World → QueueCounts
 counts_of (ask caller call) w = counts_for call (rows w)
 counts_of (tell r) w = queue_counts []
 counts_of (grant new) w = queue_counts []
+counts_of expire w = queue_counts []
 
 -- the account with its free pages, where it is there
 abbrev pub found_row : List ℕ → Option ℤ → List FreeRow
@@ -197,6 +204,20 @@ found_row account (Some free) = record { account = account; free = free } ∷ []
 abbrev pub owner_row : FinMap text_cmp ℤ → List Job → List FreeRow
 owner_row free [] = []
 owner_row free (j ∷ js) = found_row j.owner (get free j.owner)
+
+-- these names, then the owners of these jobs that are not among them yet
+abbrev pub owners_after : List (List ℕ) → List Job → List (List ℕ)
+owners_after names [] = names
+owners_after names (j ∷ js) = owners_after (if list_any (λ a. bytes_eq j.owner a) names then names else names ++ j.owner ∷ []) js
+
+-- the owners of these jobs, each once, in the order in which they first come
+abbrev pub owners : List Job → List (List ℕ)
+owners js = owners_after [] js
+
+-- the accounts of these names that are there
+abbrev pub rows_of_accounts : FinMap text_cmp ℤ → List (List ℕ) → List FreeRow
+rows_of_accounts free [] = []
+rows_of_accounts free (a ∷ names) = found_row a (get free a) ++ rows_of_accounts free names
 
 -- a caller's account is looked up where pages may be set aside or come back, and else not
 abbrev pub free_for : List ℕ → Call → Option ℤ → List FreeRow
@@ -212,11 +233,12 @@ free_for caller (get_job_attributes n) free = []
 free_for caller (get_jobs which limit) free = []
 free_for caller get_printer_attributes free = []
 
--- the account of the caller, where it is looked up, or of the job's owner
-abbrev pub free_of : Event → World → List FreeRow
-free_of (ask caller call) w = free_for caller call (get w.free caller)
-free_of (tell r) w = owner_row w.free (numbered r.job (rows w))
-free_of (grant new) w = []
+-- the account of the caller, where it is looked up, or of the job's owner, or of all owners of the jobs that end
+abbrev pub free_of : ℕ → Event → World → List FreeRow
+free_of now (ask caller call) w = free_for caller call (get w.free caller)
+free_of now (tell r) w = owner_row w.free (numbered r.job (rows w))
+free_of now (grant new) w = []
+free_of now expire w = rows_of_accounts w.free (owners (jobs_of now expire w))
 
 -- the next number is looked up where a job may enter, or where it is told whether one may; else it is that of a queue without jobs
 abbrev pub next_for : Call → ℕ → ℕ
@@ -238,12 +260,14 @@ abbrev pub next_of : Event → World → ℕ
 next_of (ask caller call) w = next_for call w.next
 next_of (tell r) w = 1
 next_of (grant new) w = w.next
+next_of expire w = 1
 
 -- the report that was accepted of the same job under the same sequence number
 abbrev pub report_of : Event → World → Option KeptReport
 report_of (ask caller call) w = None
 report_of (tell r) w = get w.reports (r.job, r.seq)
 report_of (grant new) w = None
+report_of expire w = None
 
 -- the pages granted to an account in all
 abbrev pub granted_in : List ℕ → FinMap grant_cmp ℕ → ℕ
@@ -260,6 +284,7 @@ abbrev pub known_of : Event → World → List KnownGrant
 known_of (ask caller call) w = []
 known_of (tell r) w = []
 known_of (grant new) w = map (known_grant w) new
+known_of expire w = []
 
 -- the scene of jobs and accounts alone
 abbrev pub jobs_scene : SettingValues → List Job → List FreeRow → Scene
@@ -278,12 +303,12 @@ jobs_scene settings jobs free = record {
 abbrev pub new_scene : World → List ℕ → Scene
 new_scene w caller = record (jobs_scene w.settings [] []) { live = live_jobs caller (rows w); next = w.next }
 
--- the rows that the event needs
-abbrev pub cut : World → Event → Scene
-cut w e = record {
+-- the rows that the event needs at that moment
+abbrev pub cut : World → ℕ → Event → Scene
+cut w now e = record {
   settings = w.settings;
-  jobs = jobs_of e w;
-  free = free_of e w;
+  jobs = jobs_of now e w;
+  free = free_of now e w;
   live = live_of e w;
   counts = counts_of e w;
   report = report_of e w;

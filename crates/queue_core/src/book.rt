@@ -89,7 +89,7 @@ pub trait QueueBook {
         ensures kept { (w : World) → stands self.old w → stands self.new w }
         ensures left { is_honest self.new → (v w : World) → crash_leaves self.old v w → crash_leaves self.new v w }
         ensures decides { is_honest self.new → IfOk result (λ d. (w : World) → stands self.new w
-            → decision_of d ≡ decision (cut w (event_of event.now)) now (event_of event.now)) }
+            → decision_of d ≡ decision (cut w now (event_of event.now)) now (event_of event.now)) }
         ensures damaged { is_honest self.new → IfErr result (λ e. e ≡ BookFault.Damaged → (w : World) → ¬ stands self.old w) }
         ensures live { is_honest self.new → OnOk result (is_live self.new) }
         ensures opened { is_honest self.new → is_live self.new → is_live self.old }

@@ -28,7 +28,7 @@ pub fn run_keeps()
 
 /// The scene that is cut from a sound world is one that `decide` takes.
 pub fn cut_is_fair()
-    ensures { (w : World) (e : Event) → IsSound w → IsFair (cut w e) }
+    ensures { (w : World) (now : ℕ) (e : Event) → IsSound w → IsFair (cut w now e) }
 {}
 
 /// A queue without jobs, accounts and reports is sound.

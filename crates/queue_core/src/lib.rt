@@ -5,6 +5,7 @@
 mod balance;
 mod book;
 mod decision;
+mod expiry;
 mod grants;
 mod laws;
 mod machine;
@@ -13,6 +14,8 @@ mod names;
 mod own_job;
 mod reports;
 mod scenes;
+mod sweeping;
+mod totals;
 mod writing;
 
 pub use balance::numbered_job;
@@ -25,4 +28,5 @@ pub use machine::decide;
 pub use my_jobs::number_set;
 pub use names::{are_batch_bytes, has_no_control, has_no_zero, is_batch, is_job_name, is_owner};
 pub use scenes::{call_scene, grants_scene, jobs_scene, no_counts, report_scene};
+pub use sweeping::sweep;
 pub use writing::{Unwritten, put_whole};

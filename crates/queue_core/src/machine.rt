@@ -10,6 +10,7 @@ ghost use Rattle.queue_core.specs.World.{World, cut, made_on};
 ghost use Rattle.queue_types.specs.declared.event.Reply.TheVariants.{Jobs};
 
 use crate::decision::{answer_only, change_job, one_job, refuse};
+use crate::expiry::expire;
 use crate::grants::grant;
 use crate::my_jobs::{cancel_all, cancel_named};
 use crate::own_job::{Sent, cancel, count_of, document_in, hold, own, release, send, show};
@@ -266,6 +267,7 @@ fn decision_on<'a>(
         }
         Event::Report(r) => report(alloc, scene, now, *r),
         Event::Grants(rows) => grant(alloc, scene, rows),
+        Event::Expire => expire(alloc, scene, now),
     }
 }
 
@@ -287,11 +289,11 @@ pub fn decide<'a>(
     ensures change { IfOk result (λ d. IsSoundChange (change_of d.change)) }
 
     // on the scene that was cut from a world
-    ensures reply { IfOk result (λ d. (w : World) → scene.now ≡ cut w (event_of event.now) → d.reply ≡ (step w now (event_of event.now)).reply) }
-    ensures world { IfOk result (λ d. (w : World) → scene.now ≡ cut w (event_of event.now) → made_on (change_of d.change) w ≡ (step w now (event_of event.now)).world) }
-    ensures sound { IfOk result (λ d. (w : World) → scene.now ≡ cut w (event_of event.now) → IsSound w → IsSound (made_on (change_of d.change) w)) }
-    ensures moves { IfOk result (λ d. (w : World) → scene.now ≡ cut w (event_of event.now) → IsSound w → MovesAlong w (made_on (change_of d.change) w)) }
-    ensures balances { IfOk result (λ d. (w : World) → scene.now ≡ cut w (event_of event.now) → IsSound w → Balances (made_on (change_of d.change) w)) }
+    ensures reply { IfOk result (λ d. (w : World) → scene.now ≡ cut w now (event_of event.now) → d.reply ≡ (step w now (event_of event.now)).reply) }
+    ensures world { IfOk result (λ d. (w : World) → scene.now ≡ cut w now (event_of event.now) → made_on (change_of d.change) w ≡ (step w now (event_of event.now)).world) }
+    ensures sound { IfOk result (λ d. (w : World) → scene.now ≡ cut w now (event_of event.now) → IsSound w → IsSound (made_on (change_of d.change) w)) }
+    ensures moves { IfOk result (λ d. (w : World) → scene.now ≡ cut w now (event_of event.now) → IsSound w → MovesAlong w (made_on (change_of d.change) w)) }
+    ensures balances { IfOk result (λ d. (w : World) → scene.now ≡ cut w now (event_of event.now) → IsSound w → Balances (made_on (change_of d.change) w)) }
 {
     decision_on(alloc, scene, now, event)
 }

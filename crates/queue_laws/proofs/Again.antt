@@ -3,7 +3,7 @@ use Rattle.std.proofs.Common.{◌≡◌, ℕ, List, [], ◌∷◌, refl, ap, sym
 use Rattle.std.specs.Prelude.{Option, Some, None, IfSome, is_some, nat_eq, ◌&&◌}
 use Rattle.std.specs.List.{AllByRecursion as Each}
 use Rattle.std.specs.FinMap.{FinMap, get, get-insert}
-use Rattle.queue_types.specs.Event.{Decision, Event, ask, tell, grant, kind_number}
+use Rattle.queue_types.specs.Event.{Decision, Event, ask, tell, grant, expire, kind_number}
 use Rattle.queue_types.specs.Job.{job_state}
 use Rattle.queue_core.specs.Limits.{IsMoment, IsReport}
 use Rattle.queue_core.specs.World.{World, rows, cut, made_on, job_at, numbered, report_cmp}
@@ -88,6 +88,7 @@ stays w now None n m k kept = kept
 stays w now (Some (ask caller call)) n m k kept = ap (λ reports. get reports (n, m)) (reports_kept w now caller call) ∙ kept
 stays w now (Some (tell r)) n m k kept = stays_told w now r n m k kept
 stays w now (Some (grant rows)) n m k kept = ap (λ reports. get reports (n, m)) (reports_left w now rows) ∙ kept
+stays w now (Some expire) n m k kept = kept
 
 pub kept_stays : (w : World) (now : ℕ) (e : Option Event) (r : Report) (s : JobState) (c : ℕ) → IsKeptAs w.reports r s c → IsKeptAs (after w now e).reports r s c
 kept_stays w now e r s c kept = record { report = kept.report; there = stays w now e r.job r.seq kept.report kept.there; same = kept.same; state = kept.state; total = kept.total }
@@ -111,13 +112,13 @@ some_there n (j ∷ js) there none =
     ] there none
 
 module _ (w : World) (later : ℕ) (r : Report) (s : JobState) (c : ℕ) (sound : IsSound w) (kept : IsKeptAs w.reports r s c) where
-  again_row : (js : List Job) → numbered r.job (rows w) ≡ js → report_row (cut w (tell r)) later r js (Some kept.report) ≡ answered (Told kept.report.state kept.report.total)
+  again_row : (js : List Job) → numbered r.job (rows w) ≡ js → report_row (cut w later (tell r)) later r js (Some kept.report) ≡ answered (Told kept.report.state kept.report.total)
   again_row [] e = absurd (some_there r.job (rows w) (there_of w r.job r.seq (get w.reports (r.job, r.seq)) kept.report kept.there (sound.reports r.job r.seq)) e)
   again_row (j ∷ rest) e = ap (λ b. cond b (answered (Told kept.report.state kept.report.total)) (answered (NotTold Conflict))) kept.same
 
-  pub decided_again : decision (cut w (tell r)) later (tell r) ≡ answered (Told s c)
+  pub decided_again : decision (cut w later (tell r)) later (tell r) ≡ answered (Told s c)
   decided_again =
-      ap (report_row (cut w (tell r)) later r (numbered r.job (rows w))) kept.there
+      ap (report_row (cut w later (tell r)) later r (numbered r.job (rows w))) kept.there
       ∙ again_row (numbered r.job (rows w)) refl
       ∙ (λ i. answered (Told (kept.state i) (kept.total i)))
 

@@ -77,9 +77,9 @@ each_canceled caller es now (j ∷ js) each =
     let same = same_canceled now j j.phase in
     ((same.owner ∙ each.0.0, subst (λ m. IsNumberOf caller m es) (sym same.number) each.0.1), each_canceled caller es now js each.1)
 
-module _ (w : World) (caller : List ℕ) (call : Call) (sound : IsSound w) where
+module _ (w : World) (now : ℕ) (caller : List ℕ) (call : Call) (sound : IsSound w) where
   abbrev scene : Scene
-  scene = cut w (ask caller call)
+  scene = cut w now (ask caller call)
 
   abbrev By : Decision → Type 0
   By d = IsBy caller w d.change
@@ -115,8 +115,8 @@ module _ (w : World) (caller : List ℕ) (call : Call) (sound : IsSound w) where
         let row : IsRowBy caller w.jobs (sent j payload last) = row_by j (sent j payload last) rest e own (record { number = refl; owner = refl }) in
         record { jobs = (row, tt); document = document_by (λ m. IsNumberOf caller m w.jobs) j.number format payload row.1; free = credited_for caller call scene.jobs (sent j payload last ∷ []) (get w.free caller); grants = refl; report = tt; next = inl refl }) nothing)
 
-    canceled_by : (now : ℕ) → By (of_own caller (λ j. cancel_row scene now j) scene.jobs)
-    canceled_by now = own_by (λ j. cancel_row scene now j) (λ j rest e own. on_cancel By scene j now (becomes_by j (canceled now j) rest e own (same_canceled now j j.phase)) nothing)
+    canceled_by : By (of_own caller (λ j. cancel_row scene now j) scene.jobs)
+    canceled_by = own_by (λ j. cancel_row scene now j) (λ j rest e own. on_cancel By scene j now (becomes_by j (canceled now j) rest e own (same_canceled now j j.phase)) nothing)
 
     held_by : By (of_own caller (λ j. hold_in j.phase scene j) scene.jobs)
     held_by = own_by (λ j. hold_in j.phase scene j) (λ j rest e own. on_hold By scene j (λ waits. becomes_by j (record j { hold = true }) rest e own (record { number = refl; owner = refl })) nothing)
@@ -129,7 +129,7 @@ module _ (w : World) (caller : List ℕ) (call : Call) (sound : IsSound w) where
 
   -- ---- several of the caller's jobs
 
-  module _ (now : ℕ) (c : Job → Bool) (named : scene.jobs ≡ filter c (rows w)) (mine : (j : Job) → c j ≡ true → j.owner ≡ caller) where
+  module _ (c : Job → Bool) (named : scene.jobs ≡ filter c (rows w)) (mine : (j : Job) → c j ≡ true → j.owner ≡ caller) where
     each_here : Each (λ j. IsRowBy caller w.jobs j) (filter c (rows w))
     each_here =
         let own = each_map (λ j. c j ≡ true) (λ j. j.owner ≡ caller) (filter c (rows w)) mine (passed c (rows w)) in
@@ -166,17 +166,17 @@ entered_by w caller sound now incoming j payload document number =
 
 -- ---- each call
 
-pub asked_by : (w : World) (now : ℕ) (caller : List ℕ) (call : Call) → IsSound w → IsBy caller w (decision (cut w (ask caller call)) now (ask caller call)).change
+pub asked_by : (w : World) (now : ℕ) (caller : List ℕ) (call : Call) → IsSound w → IsBy caller w (decision (cut w now (ask caller call)) now (ask caller call)).change
 asked_by w now caller (print_job j format payload) sound = entered_by w caller sound now false j payload (new_document w.next format payload) (document_by (λ m. IsNumberOf caller m w.jobs) w.next format payload (none_next caller 1 w.next w.jobs sound.numbers))
-asked_by w now caller (validate_job j) sound = validated_by w caller (validate_job j) sound
+asked_by w now caller (validate_job j) sound = validated_by w now caller (validate_job j) sound
 asked_by w now caller (create_job j) sound = entered_by w caller sound now true j [] None tt
-asked_by w now caller (send_document n format payload last) sound = sent_by w caller (send_document n format payload last) sound n refl format payload last
-asked_by w now caller (cancel_job n) sound = canceled_by w caller (cancel_job n) sound n refl now
-asked_by w now caller (cancel_my_jobs None) sound = all_able_by w caller (cancel_my_jobs None) sound now (λ j. bytes_eq j.owner caller && is_live j) refl (λ j is. same_key j.owner caller (and_parts (bytes_eq j.owner caller) (is_live j) is).0)
+asked_by w now caller (send_document n format payload last) sound = sent_by w now caller (send_document n format payload last) sound n refl format payload last
+asked_by w now caller (cancel_job n) sound = canceled_by w now caller (cancel_job n) sound n refl
+asked_by w now caller (cancel_my_jobs None) sound = all_able_by w now caller (cancel_my_jobs None) sound (λ j. bytes_eq j.owner caller && is_live j) refl (λ j is. same_key j.owner caller (and_parts (bytes_eq j.owner caller) (is_live j) is).0)
 asked_by w now caller (cancel_my_jobs (Some numbers)) sound =
-    all_named_by w caller (cancel_my_jobs (Some numbers)) sound now (λ j. bytes_eq j.owner caller && is_one_of numbers j) refl
+    all_named_by w now caller (cancel_my_jobs (Some numbers)) sound (λ j. bytes_eq j.owner caller && is_one_of numbers j) refl
     (λ j is. same_key j.owner caller (and_parts (bytes_eq j.owner caller) (is_one_of numbers j) is).0) numbers
-asked_by w now caller (hold_job n) sound = held_by w caller (hold_job n) sound n refl
-asked_by w now caller (release_job n) sound = released_by w caller (release_job n) sound n refl
-asked_by w now caller (get_job_attributes n) sound = shown_by w caller (get_job_attributes n) sound n refl
+asked_by w now caller (hold_job n) sound = held_by w now caller (hold_job n) sound n refl
+asked_by w now caller (release_job n) sound = released_by w now caller (release_job n) sound n refl
+asked_by w now caller (get_job_attributes n) sound = shown_by w now caller (get_job_attributes n) sound n refl
 asked_by w now caller _ sound = nothing_by caller w

@@ -18,7 +18,7 @@ row_keeps : (s : Scene) (now : ℕ) (caller : List ℕ) (call : Call) → Keeps 
 row_keeps s now caller call = form_keeps s now caller call (call_row s now caller call) (call_form s now caller call)
 
 pub grants_kept : (w : World) (now : ℕ) (caller : List ℕ) (call : Call) → (step w now (ask caller call)).world.grants ≡ w.grants
-grants_kept w now caller call = ap (λ gs. fold put_grant w.grants gs) (row_keeps (cut w (ask caller call)) now caller call).0
+grants_kept w now caller call = ap (λ gs. fold put_grant w.grants gs) (row_keeps (cut w now (ask caller call)) now caller call).0
 
 pub reports_kept : (w : World) (now : ℕ) (caller : List ℕ) (call : Call) → (step w now (ask caller call)).world.reports ≡ w.reports
-reports_kept w now caller call = ap (with_report w.reports) (row_keeps (cut w (ask caller call)) now caller call).1
+reports_kept w now caller call = ap (with_report w.reports) (row_keeps (cut w now (ask caller call)) now caller call).1

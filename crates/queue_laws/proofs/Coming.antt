@@ -4,7 +4,7 @@ use Rattle.std.specs.Prelude.{Option, Some, None, nat_eq, bytes_eq, option_map, 
 use Rattle.std.specs.List.{AllByRecursion as Each}
 use Rattle.std.specs.Option.{option_map_or}
 use Rattle.std.proofs.lemmas.List.{append-nil}
-use Rattle.queue_types.specs.Event.{Event, Call, Change, Decision, NewDocument, ask, tell, grant, print_job, send_document}
+use Rattle.queue_types.specs.Event.{Event, Call, Change, Decision, NewDocument, ask, tell, grant, expire, print_job, send_document}
 use Rattle.queue_core.specs.World.{World, Entry, rows, cut, made_on, with_row, add_document, with_document}
 use Rattle.queue_core.specs.Grants.{Taken, all_taken, none_taken, take_rows}
 use Rattle.queue_core.specs.Machine.{step, decision, call_row, answered, refused, entered, new_job, new_document, new_refusal, unless_refused, is_sendable, document_sent, send_in, report_row, accepted_where, grant_row, of_own}
@@ -148,23 +148,24 @@ module _ (n : ℕ) where
     file_sends (all_taken new free repeats) = inl refl
     file_sends (none_taken fault row) = inl refl
 
-  call_sends : (w : World) (now : ℕ) (caller : List ℕ) (call : Call) → Sends (sent_by w.next n call) (decision (cut w (ask caller call)) now (ask caller call))
+  call_sends : (w : World) (now : ℕ) (caller : List ℕ) (call : Call) → Sends (sent_by w.next n call) (decision (cut w now (ask caller call)) now (ask caller call))
   call_sends w now caller (print_job j format payload) =
-      let s : Scene = cut w (ask caller (print_job j format payload)) in
+      let s : Scene = cut w now (ask caller (print_job j format payload)) in
       unless_sends (cond (nat_eq w.next n) (documents_of format payload) []) (new_refusal s) (entered s (new_job s now caller false j payload) (new_document s.next format payload)) (inr (carries n w.next format payload))
   call_sends w now caller (send_document m format payload last) =
-      let s : Scene = cut w (ask caller (send_document m format payload last)) in
+      let s : Scene = cut w now (ask caller (send_document m format payload last)) in
       let ds : List Document = cond (nat_eq m n) (documents_of format payload) [] in
       own_sends ds caller (λ j. send_in s j format payload last) s.jobs
       (each_map (λ j. nat_eq j.number m ≡ true) (λ j. Sends ds (send_in s j format payload last)) s.jobs (λ j is. payload_sends s m j format payload last (equal j.number m is)) (passed (λ j. nat_eq j.number m) (rows w)))
-  call_sends w now caller call = let s : Scene = cut w (ask caller call) in inl (form_sends_none s now caller call (call_row s now caller call) (call_form s now caller call) refl)
+  call_sends w now caller call = let s : Scene = cut w now (ask caller call) in inl (form_sends_none s now caller call (call_row s now caller call) (call_form s now caller call) refl)
 
-  event_sends : (w : World) (now : ℕ) (e : Event) → Sends (sent_in w.next n e) (decision (cut w e) now e)
+  event_sends : (w : World) (now : ℕ) (e : Event) → Sends (sent_in w.next n e) (decision (cut w now e) now e)
   event_sends w now (ask caller call) = call_sends w now caller call
-  event_sends w now (tell r) = let s : Scene = cut w (tell r) in report_sends s now r s.jobs s.report
-  event_sends w now (grant file) = file_sends (cut w (grant file)) (take_rows file (cut w (grant file)).known 1 [] [] 0)
+  event_sends w now (tell r) = let s : Scene = cut w now (tell r) in report_sends s now r s.jobs s.report
+  event_sends w now (grant file) = file_sends (cut w now (grant file)) (take_rows file (cut w now (grant file)).known 1 [] [] 0)
+  event_sends w now expire = inl refl
 
 pub only_sent_come : (w : World) (now n : ℕ) (e : Event) → Comes (sent_in w.next n e) (documents_at n w.jobs) (documents_at n (step w now e).world.jobs)
 only_sent_come w now n e =
-    let d : Decision = decision (cut w e) now e in
+    let d : Decision = decision (cut w now e) now e in
     comes_by n d.change.document (sent_in w.next n e) (documents_at n w.jobs) (documents_at n (made_on d.change w).jobs) (event_sends n w now e) (made_comes n d.change w)

@@ -101,9 +101,9 @@ module _ (w : World) (caller : List ℕ) where
 
   -- ---- a job of the caller's own
 
-  module _ (call : Call) where
+  module _ (now : ℕ) (call : Call) where
     abbrev here : Scene
-    here = cut w (ask caller call)
+    here = cut w now (ask caller call)
 
     own_owes : (row : Job → Decision) → ((j : Job) (rest : List Job) → here.jobs ≡ j ∷ rest → LeavesNone (row j)) → LeavesNone (of_own caller row here.jobs)
     own_owes row each = on_own LeavesNone caller row here.jobs (λ j rest e own. each j rest e) kept
@@ -118,8 +118,8 @@ module _ (w : World) (caller : List ℕ) where
       less_owes : (j x : Job) (rest : List Job) → here.jobs ≡ j ∷ rest → x.number ≡ j.number → taken x ≤ taken j → LeavesNone (becomes here x)
       less_owes j x rest e number less = becomes_owes j x rest e number (λ f is. inl (gains f (back x j caller) (no_less (bytes_eq x.owner caller) (taken j) (taken x) less)))
 
-      canceled_owes : (now : ℕ) → LeavesNone (of_own caller (λ j. cancel_row here now j) here.jobs)
-      canceled_owes now = own_owes (λ j. cancel_row here now j) (λ j rest e. on_cancel LeavesNone here j now (less_owes j (canceled now j) rest e (same_canceled now j j.phase).number (canceled_less now j j.phase)) kept)
+      canceled_owes : LeavesNone (of_own caller (λ j. cancel_row here now j) here.jobs)
+      canceled_owes = own_owes (λ j. cancel_row here now j) (λ j rest e. on_cancel LeavesNone here j now (less_owes j (canceled now j) rest e (same_canceled now j j.phase).number (canceled_less now j j.phase)) kept)
 
       held_owes : LeavesNone (of_own caller (λ j. hold_in j.phase here j) here.jobs)
       held_owes = own_owes (λ j. hold_in j.phase here j) (λ j rest e. on_hold LeavesNone here j (λ waits. less_owes j (record j { hold = true }) rest e refl (held_less j)) kept)
@@ -130,12 +130,12 @@ module _ (w : World) (caller : List ℕ) where
           becomes_owes j (record j { hold = false }) rest e refl (λ f is. inr (covers (bytes_eq j.owner caller) (is_live j) (cond (is_live j) (cond j.hold 0 (estimate j - j.count)) 0) j.count (estimate j) f (enough caller (get w.free caller) (estimate j) f is (subst (λ rows. has_pages rows (estimate j) ≡ true) looked_up has))))) kept kept)
 
   -- a document takes no pages
-  sent_owes : (n : ℕ) (format : Format) (payload : List ℕ) (last : Bool)
-      → LeavesNone (of_own caller (λ j. send_in (cut w (ask caller (send_document n format payload last))) j format payload last) (numbered n (rows w)))
-  sent_owes n format payload last =
+  sent_owes : (now n : ℕ) (format : Format) (payload : List ℕ) (last : Bool)
+      → LeavesNone (of_own caller (λ j. send_in (cut w now (ask caller (send_document n format payload last))) j format payload last) (numbered n (rows w)))
+  sent_owes now n format payload last =
       let call : Call = send_document n format payload last in
-      let s : Scene = cut w (ask caller call) in
-      own_owes call (λ j. send_in s j format payload last) (λ j rest e. on_send LeavesNone s j format payload last (λ can. kept) kept)
+      let s : Scene = cut w now (ask caller call) in
+      own_owes now call (λ j. send_in s j format payload last) (λ j rest e. on_send LeavesNone s j format payload last (λ can. kept) kept)
 
   -- ---- several of the caller's jobs
 
@@ -151,9 +151,9 @@ module _ (w : World) (caller : List ℕ) where
       subst (λ z. pos 0 ≤ℤ z) (sym (returned-cons before caller (canceled now j) (map (canceled now) js)))
       (both_gain (given_back before caller (canceled now j)) (returned before caller (map (canceled now) js)) (one_back now before j each.0) (all_back now before js each.1))
 
-  module _ (now : ℕ) (numbers : Option (List ℕ)) (c : Job → Bool) (sound : IsSound w) (named : (cut w (ask caller (cancel_my_jobs numbers))).jobs ≡ filter c (rows w)) where
+  module _ (now : ℕ) (numbers : Option (List ℕ)) (c : Job → Bool) (sound : IsSound w) (named : (cut w now (ask caller (cancel_my_jobs numbers))).jobs ≡ filter c (rows w)) where
     abbrev of_call : Scene
-    of_call = cut w (ask caller (cancel_my_jobs numbers))
+    of_call = cut w now (ask caller (cancel_my_jobs numbers))
 
     all_stand : Each (Stands of_call.jobs) of_call.jobs
     all_stand = subst (λ js. Each (Stands js) js) (sym named) (chosen_stand w sound c)
@@ -169,17 +169,17 @@ module _ (w : World) (caller : List ℕ) where
 
 -- ---- each call
 
-asked_owes : (w : World) (now : ℕ) (caller : List ℕ) (call : Call) → IsSound w → LeavesNone w caller (decision (cut w (ask caller call)) now (ask caller call))
+asked_owes : (w : World) (now : ℕ) (caller : List ℕ) (call : Call) → IsSound w → LeavesNone w caller (decision (cut w now (ask caller call)) now (ask caller call))
 asked_owes w now caller (print_job new format payload) sound = entered_owes w caller now false new payload (new_document w.next format payload)
-asked_owes w now caller (validate_job new) sound = validated_owes w caller (cut w (ask caller (validate_job new)))
+asked_owes w now caller (validate_job new) sound = validated_owes w caller (cut w now (ask caller (validate_job new)))
 asked_owes w now caller (create_job new) sound = entered_owes w caller now true new [] None
-asked_owes w now caller (send_document n format payload last) sound = sent_owes w caller n format payload last
-asked_owes w now caller (cancel_job n) sound = canceled_owes w caller (cancel_job n) refl now
+asked_owes w now caller (send_document n format payload last) sound = sent_owes w caller now n format payload last
+asked_owes w now caller (cancel_job n) sound = canceled_owes w caller now (cancel_job n) refl
 asked_owes w now caller (cancel_my_jobs None) sound = able_owe w caller now None (λ j. bytes_eq j.owner caller && is_live j) sound refl
 asked_owes w now caller (cancel_my_jobs (Some numbers)) sound = named_owe w caller now (Some numbers) (λ j. bytes_eq j.owner caller && is_one_of numbers j) sound refl numbers
-asked_owes w now caller (hold_job n) sound = held_owes w caller (hold_job n) refl
-asked_owes w now caller (release_job n) sound = released_owes w caller (release_job n) refl
-asked_owes w now caller (get_job_attributes n) sound = own_owes w caller (get_job_attributes n) (λ j. answered (Jobs (j ∷ []))) (λ j rest e. kept w caller)
+asked_owes w now caller (hold_job n) sound = held_owes w caller now (hold_job n) refl
+asked_owes w now caller (release_job n) sound = released_owes w caller now (release_job n) refl
+asked_owes w now caller (get_job_attributes n) sound = own_owes w caller now (get_job_attributes n) (λ j. answered (Jobs (j ∷ []))) (λ j rest e. kept w caller)
 asked_owes w now caller _ sound = kept w caller
 
 pub no_debt : (w : World) (now : ℕ) (caller a : List ℕ) (call : Call) (f g : ℤ) → IsSound w → get w.free a ≡ Some f → get (step w now (ask caller call)).world.free a ≡ Some g → (f ≤ℤ g) ⊎ (pos 0 ≤ℤ g)

@@ -81,11 +81,11 @@ taken (Some code) d e = absurd (cc)
 
 pub refused_alike : (w : World) (now : ℕ) (caller : List ℕ) (new : NewJob) (format : Format) (payload : List ℕ) → refuses (step w now (ask caller (print_job new format payload))).reply ≡ true → (step w now (ask caller (validate_job new))).reply ≡ (step w now (ask caller (print_job new format payload))).reply
 refused_alike w now caller new format payload =
-    let s : Scene = cut w (ask caller (print_job new format payload)) in
+    let s : Scene = cut w now (ask caller (print_job new format payload)) in
     let x : Job = new_job s now caller false new payload in
     alike (new_refusal s) (entered s x (new_document s.next format payload)) (x ∷ []) refl
 
 pub taken_alike : (w : World) (now : ℕ) (caller : List ℕ) (new : NewJob) (format : Format) (payload : List ℕ) → refuses (step w now (ask caller (print_job new format payload))).reply ≡ false → (step w now (ask caller (validate_job new))).reply ≡ Done
 taken_alike w now caller new format payload =
-    let s : Scene = cut w (ask caller (print_job new format payload)) in
+    let s : Scene = cut w now (ask caller (print_job new format payload)) in
     taken (new_refusal s) (entered s (new_job s now caller false new payload) (new_document s.next format payload))

@@ -4,7 +4,7 @@ use Rattle.std.specs.Prelude.{Option, Some, None, fold, is_some, option_map, unw
 use Rattle.std.specs.List.{AllByRecursion as Each}
 use Rattle.std.specs.FinMap.{FinMap, get}
 use Rattle.std.proofs.lemmas.Int.{ints}
-use Rattle.queue_types.specs.Event.{Event, ask, tell, grant}
+use Rattle.queue_types.specs.Event.{Event, ask, tell, grant, expire}
 use Rattle.queue_core.specs.Grants.{Taken, all_taken, none_taken, take_rows, pages_to, row_under}
 use Rattle.queue_core.specs.World.{World, AreNew, made_on, known_grant, put_grant, put_free, grant_cmp, granted, granted_in}
 use Rattle.queue_core.specs.Machine.{Step, step, grant_row}
@@ -115,6 +115,7 @@ granted_after w now None g there = there
 granted_after w now (Some (ask caller call)) g there = ap (λ m. get m (g.batch, g.account)) (grants_kept w now caller call) ∙ there
 granted_after w now (Some (tell r)) g there = ap (λ m. get m (g.batch, g.account)) (grants_left w now r) ∙ there
 granted_after w now (Some (grant rows)) g there = row_stays w now rows g there
+granted_after w now (Some expire) g there = there
 
 granted_along : (ps : List Place) (w : World) (file : List GrantRow) → Each (IsGranted w.grants) file → Each (IsGranted (run w ps).grants) file
 granted_along [] w file each = each

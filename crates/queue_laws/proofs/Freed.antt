@@ -1,12 +1,12 @@
 -- A job is held until its owner releases it.
-use Rattle.std.proofs.Common.{◌≡◌, ℕ, ◌≤◌, List, refl, ap, sym, ◌∙◌, arith, Bool, true, false, cond}
-use Rattle.std.specs.Prelude.{Some, nat_eq}
+use Rattle.std.proofs.Common.{◌≡◌, ℕ, ◌≤◌, List, refl, ap, sym, ◌∙◌, subst, arith, Bool, true, false, cond}
+use Rattle.std.specs.Prelude.{Some, nat_eq, option_map}
 use Rattle.std.proofs.lemmas.Option.{same_Some}
 use Rattle.std.proofs.lemmas.Bool.{both_ways}
-use Rattle.queue_types.specs.Event.{Event, Call, Decision, ask, tell, grant, release_job}
+use Rattle.queue_types.specs.Event.{Event, Call, Decision, ask, tell, grant, expire, release_job}
 use Rattle.queue_types.specs.Job.{state, state_in}
-use Rattle.queue_core.specs.World.{World, rows, cut, made_on}
-use Rattle.queue_core.specs.Machine.{decision, step, sent, canceled_in}
+use Rattle.queue_core.specs.World.{World, rows, cut, made_on, has_expired}
+use Rattle.queue_core.specs.Machine.{decision, step, sent, canceled_in, expired}
 use Rattle.queue_core.specs.Sound.{IsSound}
 use Rattle.queue_types.specs.declared.event.Report.{Report}
 use Rattle.queue_types.specs.declared.job.Job.{Job}
@@ -15,6 +15,7 @@ use Rattle.queue_types.specs.declared.job.Phase.TheVariants.{Waiting}
 use Rattle.queue_core.proofs.Moves.{at-with_row}
 use Rattle.queue_laws.proofs.Base.{at, equal, same_key, first_named, named}
 use Rattle.queue_laws.proofs.Filed.{jobs_left}
+use Rattle.queue_laws.proofs.Swept.{becomes, at_replaced, jobs_swept}
 use Rattle.queue_laws.proofs.Telling.{declined, known, taken, telling, named_before}
 use Rattle.queue_laws.proofs.Work.{Holds, held_on}
 
@@ -51,7 +52,7 @@ release_holds caller call = record {
 told_held : (w : World) (now n : ℕ) (r : Report) (j k : Job) → at n w.jobs ≡ Some j → at n (step w now (tell r)).world.jobs ≡ Some k → k.hold ≡ j.hold
 told_held w now n r j k old then =
     let by : Decision → World = λ d. made_on d.change w in
-    let d : Decision = decision (cut w (tell r)) now (tell r) in
+    let d : Decision = decision (cut w now (tell r)) now (tell r) in
     let stays : at n w.jobs ≡ Some k → k.hold ≡ j.hold = λ e. ap (λ (x : Job). x.hold) (same_Some k j (sym e ∙ old)) in
     elim (telling w now r) as (λ _. k.hold ≡ j.hold) [
       | declined cause e ↦ stays (sym (ap (λ d. at n (by d).jobs) e) ∙ then)
@@ -67,12 +68,25 @@ told_held w now n r j k old then =
           ] refl (sym (at-with_row n a.after w.jobs) ∙ sym (ap (λ d. at n (by d).jobs) a.is) ∙ then)
     ]
 
+-- ---- a sweep
+
+swept_freed : (A : Type 0) (w : World) (now n : ℕ) (j k : Job) → IsSound w → at n w.jobs ≡ Some j → at n (step w now expire).world.jobs ≡ Some k → IsFreed k j → A
+swept_freed A w now n j k sound old then freed =
+    let late : Job → Bool = has_expired w.settings.keep now in
+    let is : k ≡ becomes late (expired now) j =
+    same_Some k (becomes late (expired now) j) (sym then ∙ ap (at n) (jobs_swept w now sound) ∙ at_replaced now late n w.jobs ∙ ap (option_map (becomes late (expired now))) old) in
+    elim (late j) as (λ b. k ≡ cond b (expired now j) j → A) [
+      | true ↦ λ e. let low : 8 ≤ 6 = subst (λ x. state x ≤ 6) e freed.2 in absurd (omega arith)
+      | false ↦ λ e. still_held A k j (ap (λ (x : Job). x.hold) e) freed
+    ] is
+
 -- ---- any event
 
 freed_by : (w : World) (now n : ℕ) (e : Event) (j k : Job) → IsSound w → at n w.jobs ≡ Some j → at n (step w now e).world.jobs ≡ Some k → IsFreed k j → e ≡ ask j.owner (release_job n)
 freed_by w now n (ask caller call) j k sound old then freed = held_on (IsReleased caller call) caller call (release_holds caller call) w now n j k sound old then freed ∙ ap (λ m. ask j.owner (release_job m)) (number_of n w j old)
 freed_by w now n (tell r) j k sound old then freed = still_held _ k j (told_held w now n r j k old then) freed
 freed_by w now n (grant file) j k sound old then freed = still_held _ k j (ap (λ (x : Job). x.hold) (same_Some k j (sym then ∙ ap (at n) (jobs_left w now file) ∙ old))) freed
+freed_by w now n expire j k sound old then freed = swept_freed _ w now n j k sound old then freed
 
 pub held_until_released : (w : World) (now n : ℕ) (e : Event) (j k : Job) → IsSound w → at n w.jobs ≡ Some j → j.hold ≡ true → at n (step w now e).world.jobs ≡ Some k → k.hold ≡ false → state k ≤ 6 → e ≡ ask j.owner (release_job n)
 held_until_released w now n e j k sound old held then free low = freed_by w now n e j k sound old then (held, free, low)

@@ -3,7 +3,7 @@ use Rattle.std.proofs.Common.{◌≡◌, ℕ, List, [], ◌∷◌, ◌++◌, ref
 use Rattle.std.specs.Prelude.{Option, Some, None, not, ◌||◌}
 use Rattle.std.specs.List.{AllByRecursion as Each}
 use Rattle.std.proofs.lemmas.List.Folds.{list_any-append}
-use Rattle.queue_types.specs.Event.{Event, Call, ask, tell, grant}
+use Rattle.queue_types.specs.Event.{Event, Call, ask, tell, grant, expire}
 use Rattle.queue_core.specs.Runs.{Place, after, run}
 use Rattle.queue_core.specs.World.{World}
 use Rattle.queue_types.specs.declared.event.GrantRow.{GrantRow}
@@ -59,6 +59,7 @@ came_here kept w now None r none there = clash (Came w now None (tell r)) (has_r
 came_here kept w now (Some (ask caller call)) r none there = clash (Came w now (Some (ask caller call)) (tell r)) (has_report r kept) none there
 came_here kept w now (Some (tell s)) r none there = told_here kept w now s r none there
 came_here kept w now (Some (grant file)) r none there = clash (Came w now (Some (grant file)) (tell r)) (has_report r kept) none there
+came_here kept w now (Some expire) r none there = clash (Came w now (Some expire) (tell r)) (has_report r kept) none there
 
 -- what is among the reports at the end was so before or was accepted along the run
 came : (ps : List Place) (kept : List Report) (w : World) (r : Report) → has_report r kept ≡ false → has_report r (reports_along kept w ps) ≡ true → WasAccepted w ps (tell r)
@@ -132,6 +133,7 @@ granted_here given w now None g none there = clash (Granted w now None g) (has_r
 granted_here given w now (Some (ask caller call)) g none there = clash (Granted w now (Some (ask caller call)) g) (has_row g given) none there
 granted_here given w now (Some (tell r)) g none there = clash (Granted w now (Some (tell r)) g) (has_row g given) none there
 granted_here given w now (Some (grant file)) g none there = file_here given w now file g none there
+granted_here given w now (Some expire) g none there = clash (Granted w now (Some expire) g) (has_row g given) none there
 
 granted : (ps : List Place) (given : List GrantRow) (w : World) (g : GrantRow) → has_row g given ≡ false → has_row g (rows_along given w ps) ≡ true → WasGranted w ps g
 granted [] given w g none there = clash (WasGranted w [] g) (has_row g given) none there

@@ -34,7 +34,7 @@ accepted_by w now r d sound a owner own =
     let number : IsNumberOf owner r.job w.jobs = subst (λ o. IsNumberOf o r.job w.jobs) own (number_of r.job 1 w.next a.before w.jobs sound.numbers here.0) in
     let same : x.number ≡ r.job = ap (λ (k : Job). k.number) a.moved.0 ∙ here.1 in
     let mine : x.owner ≡ owner = ap (λ (k : Job). k.owner) a.moved.0 ∙ own in
-    let by : IsBy owner w (accepted (cut w (tell r)) r x).change = record {
+    let by : IsBy owner w (accepted (cut w now (tell r)) r x).change = record {
       jobs = ((mine, subst (λ n. IsNumberOf owner n w.jobs) (sym same) number), tt);
       document = tt;
       free = each_credited w owner a.before x a.rest (numbered r.job (rows w)) a.jobs own;
@@ -76,15 +76,15 @@ module _ (u : List ℕ) (w : World) (now : ℕ) (r : Report) (sound : IsSound w)
   abbrev by : Decision → Own
   by d = own u (made_on d.change w)
 
-  others_taken : (a : IsAccepted w now r (decision (cut w (tell r)) now (tell r))) → (b : Bool) → bytes_eq a.before.owner u ≡ b → by (decision (cut w (tell r)) now (tell r)) ≡ own u w
-  others_taken a true is = let yes : has_number r.job (own_jobs u w.jobs) ≡ true = own_has u r.job w.jobs a.before (named_before w now r (decision (cut w (tell r)) now (tell r)) a).0 is in absurd (cc)
+  others_taken : (a : IsAccepted w now r (decision (cut w now (tell r)) now (tell r))) → (b : Bool) → bytes_eq a.before.owner u ≡ b → by (decision (cut w now (tell r)) now (tell r)) ≡ own u w
+  others_taken a true is = let yes : has_number r.job (own_jobs u w.jobs) ≡ true = own_has u r.job w.jobs a.before (named_before w now r (decision (cut w now (tell r)) now (tell r)) a).0 is in absurd (cc)
   others_taken a false is =
-      let d : Decision = decision (cut w (tell r)) now (tell r) in
+      let d : Decision = decision (cut w now (tell r)) now (tell r) in
       let none : unwrap_or d.change.next w.next ≡ w.next = ap (λ (d : Decision). unwrap_or d.change.next w.next) a.is in
       others_made u a.before.owner w d.change is (accepted_by w now r d sound a a.before.owner refl) ∙ ap (λ n. record (own u w) { next = n }) none
 
   pub heard_others : own u (step w now (tell r)).world ≡ own u w
-  heard_others = elim (telling w now r) as (λ _. by (decision (cut w (tell r)) now (tell r)) ≡ own u w) [
+  heard_others = elim (telling w now r) as (λ _. by (decision (cut w now (tell r)) now (tell r)) ≡ own u w) [
     | declined cause e ↦ ap by e
     | known k kept same e ↦ ap by e
     | taken a ↦ others_taken a (bytes_eq a.before.owner u) refl
@@ -139,10 +139,10 @@ module _ (u : List ℕ) (w : World) (now : ℕ) (r : Report) (sound : IsSound w)
   kept_same : get w.reports (r.job, r.seq) ≡ (own u w).reports r.job r.seq
   kept_same = sym (ap (λ b. cond b (get w.reports (r.job, r.seq)) None) yes)
 
-  scene_same : cut w (tell r) ≡ seen_report u w.settings (own u w) r
+  scene_same : cut w now (tell r) ≡ seen_report u w.settings (own u w) r
   scene_same = λ i. record { settings = w.settings; jobs = all i; free = free_same i; live = 0; counts = queue_counts []; report = kept_same i; known = []; next = 1 }
 
-  decided_same : decision (cut w (tell r)) now (tell r) ≡ decision (seen_report u w.settings (own u w) r) now (tell r)
+  decided_same : decision (cut w now (tell r)) now (tell r) ≡ decision (seen_report u w.settings (own u w) r) now (tell r)
   decided_same = ap (λ (s : Scene). decision s now (tell r)) scene_same
 
   pub heard_reply : (step w now (tell r)).reply ≡ (decision (seen_report u w.settings (own u w) r) now (tell r)).reply
@@ -151,14 +151,14 @@ module _ (u : List ℕ) (w : World) (now : ℕ) (r : Report) (sound : IsSound w)
   first_own : (j : Job) (rest : List Job) → numbered r.job (rows w) ≡ j ∷ rest → j.owner ≡ u
   first_own j rest e = (subst (λ js. Each (λ (j : Job). j.owner ≡ u) js) (sym all ∙ e) each_own).0
 
-  heard_by : IsBy u w (decision (cut w (tell r)) now (tell r)).change
-  heard_by = elim (telling w now r) as (λ _. IsBy u w (decision (cut w (tell r)) now (tell r)).change) [
+  heard_by : IsBy u w (decision (cut w now (tell r)) now (tell r)).change
+  heard_by = elim (telling w now r) as (λ _. IsBy u w (decision (cut w now (tell r)) now (tell r)).change) [
     | declined cause e ↦ subst (λ (d : Decision). IsBy u w d.change) (sym e) (nothing_by u w)
     | known k kept same e ↦ subst (λ (d : Decision). IsBy u w d.change) (sym e) (nothing_by u w)
-    | taken a ↦ accepted_by w now r (decision (cut w (tell r)) now (tell r)) sound a u (first_own a.before a.rest a.jobs)
+    | taken a ↦ accepted_by w now r (decision (cut w now (tell r)) now (tell r)) sound a u (first_own a.before a.rest a.jobs)
   ]
 
   pub heard_own : own u (step w now (tell r)).world ≡ own_heard_on u w.settings now r (own u w)
   heard_own =
-      own_made u w (decision (cut w (tell r)) now (tell r)).change sound heard_by
+      own_made u w (decision (cut w now (tell r)) now (tell r)).change sound heard_by
       ∙ ap (λ (d : Decision). own_made_on u d.change (own u w)) decided_same

@@ -12,7 +12,7 @@ use Rattle.queue_laws.proofs.Asked.{asked_by}
 
 module _ (w : World) (now : ℕ) (caller other : List ℕ) (call : Call) (sound : IsSound w) (apart : bytes_eq caller other ≡ false) where
   abbrev change : Change
-  change = (decision (cut w (ask caller call)) now (ask caller call)).change
+  change = (decision (cut w now (ask caller call)) now (ask caller call)).change
 
   stays : own other (step w now (ask caller call)).world ≡ record (own other w) { next = unwrap_or change.next w.next }
   stays = others_made other caller w change apart (asked_by w now caller call sound)

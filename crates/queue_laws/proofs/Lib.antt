@@ -22,7 +22,9 @@ pub mod Seen
 pub mod Sheets
 pub mod Heard
 pub mod Shared
+pub mod Swept
 pub mod TwoRuns
+pub mod Overdue
 pub mod Thinned
 pub mod Once
 pub mod GoesOn

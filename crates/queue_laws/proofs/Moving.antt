@@ -65,7 +65,7 @@ waiting_unbegun w n j sound there low = waiting_in j.phase j (sound_at n j w.job
 
 module _ (w : World) (now : ℕ) (r : Report) where
   abbrev scene : Scene
-  scene = cut w (tell r)
+  scene = cut w now (tell r)
 
   pub no_job : at r.job w.jobs ≡ None → step w now (tell r) ≡ record { world = w; reply = NotTold NoJob }
   no_job none = ap (λ js. by w (report_row scene now r js scene.report)) (none_named r.job (rows w) none)

@@ -101,9 +101,9 @@ module _ (w : World) (now : ℕ) (caller : List ℕ) (free : ℤ) (sound : IsSou
   abbrev live_own : Job → Bool
   live_own j = bytes_eq j.owner caller && is_live j
 
-  module _ (numbers : Option (List ℕ)) (c : Job → Bool) (chosen : (cut w (ask caller (cancel_my_jobs numbers))).jobs ≡ filter c (rows w)) (own : (j : Job) → c j ≡ true → bytes_eq j.owner caller ≡ true) where
+  module _ (numbers : Option (List ℕ)) (c : Job → Bool) (chosen : (cut w now (ask caller (cancel_my_jobs numbers))).jobs ≡ filter c (rows w)) (own : (j : Job) → c j ≡ true → bytes_eq j.owner caller ≡ true) where
     abbrev scene : Scene
-    scene = cut w (ask caller (cancel_my_jobs numbers))
+    scene = cut w now (ask caller (cancel_my_jobs numbers))
 
     all_own : Each (IsOwn now caller scene.jobs) scene.jobs
     all_own = subst (λ js. Each (IsOwn now caller js) js) (sym chosen) (each_both (Stands (filter c (rows w))) (λ j. bytes_eq j.owner caller ≡ true) (filter c (rows w))
@@ -120,7 +120,7 @@ module _ (w : World) (now : ℕ) (caller : List ℕ) (free : ℤ) (sound : IsSou
 
   pub mine_free : get (step w now (ask caller (cancel_my_jobs None))).world.free caller ≡ Some (free +ℤ pos (sum_by owed (waiting_of caller (rows w))))
   mine_free =
-      let js : List Job = (cut w (ask caller (cancel_my_jobs None))).jobs in
+      let js : List Job = (cut w now (ask caller (cancel_my_jobs None))).jobs in
       let first : (j : Job) → live_own j ≡ true → bytes_eq j.owner caller ≡ true = λ j is. (and_parts (bytes_eq j.owner caller) (is_live j) is).0 in
       free_by None live_own refl first (filter is_cancelable js) (each-filter (IsOwn now caller js) is_cancelable js (all_own None live_own refl first))
       ∙ ap (λ n. Some (free +ℤ pos n)) (ap (sum_by freed) (both_filters is_cancelable live_own (rows w))
@@ -131,7 +131,7 @@ module _ (w : World) (now : ℕ) (caller : List ℕ) (free : ℤ) (sound : IsSou
     is_asked j = bytes_eq j.owner caller && is_one_of numbers j
 
     abbrev named : Scene
-    named = cut w (ask caller (cancel_my_jobs (Some numbers)))
+    named = cut w now (ask caller (cancel_my_jobs (Some numbers)))
 
     abbrev pages : ℕ
     pages = sum_by owed (waiting_among numbers caller (rows w))

@@ -48,9 +48,9 @@ none_printed j Waiting is fits = fits.0
 none_printed j _ is fits = absurd (cc)
 
 module _ (w : World) (now n : ℕ) (caller : List ℕ) (e : Entry) (free : ℤ) where
-  free_after : HasOwn caller n e w → get w.free caller ≡ Some free → (call : Call) → (cut w (ask caller call)).jobs ≡ numbered n (rows w) → (cut w (ask caller call)).free ≡ found_row caller (get w.free caller) → (x : Job) → x.number ≡ e.row.number → x.owner ≡ e.row.owner → get (made_on (becomes (cut w (ask caller call)) x).change w).free caller ≡ Some (free +ℤ (pos (taken e.row) -ℤ pos (taken x)))
+  free_after : HasOwn caller n e w → get w.free caller ≡ Some free → (call : Call) → (cut w now (ask caller call)).jobs ≡ numbered n (rows w) → (cut w now (ask caller call)).free ≡ found_row caller (get w.free caller) → (x : Job) → x.number ≡ e.row.number → x.owner ≡ e.row.owner → get (made_on (becomes (cut w now (ask caller call)) x).change w).free caller ≡ Some (free +ℤ (pos (taken e.row) -ℤ pos (taken x)))
   free_after own account call jobs looked_up x number owner =
-      let s : Scene = cut w (ask caller call) in
+      let s : Scene = cut w now (ask caller call) in
       let at = named n (rows w) e.row (row_at n w.jobs e own.there) in
       ap (λ rows. get (fold put_free w.free (map (credited s.jobs (x ∷ [])) rows)) caller) looked_up
       ∙ moved_from w.free caller caller s.jobs (x ∷ []) (get w.free caller) refl

@@ -16,7 +16,7 @@ use Rattle.queue_laws.proofs.OneDone.{by, own_step, done_by, is_waiting, few_wai
 
 module _ (w : World) (now n : ℕ) (caller : List ℕ) (e : Entry) (own : HasOwn caller n e w) where
   abbrev scene : Scene
-  scene = cut w (ask caller (cancel_job n))
+  scene = cut w now (ask caller (cancel_job n))
 
   -- what the row of the table is in a phase
   abbrev cancel_in : Phase → Decision

@@ -13,7 +13,7 @@ use Rattle.queue_laws.proofs.OneDone.{by, own_step, done_by, is_waiting, few_wai
 
 module _ (w : World) (now n : ℕ) (caller : List ℕ) (e : Entry) (own : HasOwn caller n e w) where
   abbrev hold_scene : Scene
-  hold_scene = cut w (ask caller (hold_job n))
+  hold_scene = cut w now (ask caller (hold_job n))
 
   hold_step : step w now (ask caller (hold_job n)) ≡ by w (hold_in e.row.phase hold_scene e.row)
   hold_step = ap (by w) (own_step w n caller (λ j. hold_in j.phase hold_scene j) e own)

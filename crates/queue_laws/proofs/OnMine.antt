@@ -33,7 +33,7 @@ module _ (w : World) (now : ℕ) (caller : List ℕ) where
   one n = step w now (ask caller (cancel_job n))
 
   abbrev pub scene : ℕ → Scene
-  scene n = cut w (ask caller (cancel_job n))
+  scene n = cut w now (ask caller (cancel_job n))
 
   abbrev pub by_tests : ℕ → Job → Bool → Bool → Decision
   by_tests n j own can = cond own (cond can (becomes (scene n) (canceled now j)) (refused 0x0404)) (refused 0x0406)

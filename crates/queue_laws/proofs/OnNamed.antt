@@ -94,7 +94,7 @@ module _ (w : World) (now : ℕ) (caller numbers : List ℕ) where
   -- ---- all of them or none
 
   abbrev scene : Scene
-  scene = cut w (ask caller (cancel_my_jobs (Some numbers)))
+  scene = cut w now (ask caller (cancel_my_jobs (Some numbers)))
 
   abbrev is_asked : Job → Bool
   is_asked j = bytes_eq j.owner caller && is_one_of numbers j

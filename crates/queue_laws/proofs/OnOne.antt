@@ -23,21 +23,21 @@ module _ (w : World) (now n : ℕ) (caller : List ℕ) where
   at_number : (m : ℕ) (row : Job → Decision) → Some m ≡ Some n → of_own caller row (numbered m (rows w)) ≡ of_own caller row (numbered n (rows w))
   at_number m row on = ap (λ k. of_own caller row (numbered k (rows w))) (same_Some m n on)
 
-  on_one : (call : Call) → on_job call ≡ Some n → IsOnOne n caller (rows w) (decision (cut w (ask caller call)) now (ask caller call))
+  on_one : (call : Call) → on_job call ≡ Some n → IsOnOne n caller (rows w) (decision (cut w now (ask caller call)) now (ask caller call))
   on_one (send_document m format payload last) on =
-      let s : Scene = cut w (ask caller (send_document m format payload last)) in
+      let s : Scene = cut w now (ask caller (send_document m format payload last)) in
       let row : Job → Decision = λ j. send_in s j format payload last in
       record { row = row; is = at_number m row on; finds = λ j. finds_sent s j format payload last; one = λ j is. sent_one n s j is format payload last }
   on_one (cancel_job m) on =
-      let s : Scene = cut w (ask caller (cancel_job m)) in
+      let s : Scene = cut w now (ask caller (cancel_job m)) in
       let row : Job → Decision = λ j. cancel_row s now j in
       record { row = row; is = at_number m row on; finds = finds_canceled s now; one = λ j is. canceled_one n s j is now }
   on_one (hold_job m) on =
-      let s : Scene = cut w (ask caller (hold_job m)) in
+      let s : Scene = cut w now (ask caller (hold_job m)) in
       let row : Job → Decision = λ j. hold_in j.phase s j in
       record { row = row; is = at_number m row on; finds = finds_held s; one = held_one n s }
   on_one (release_job m) on =
-      let s : Scene = cut w (ask caller (release_job m)) in
+      let s : Scene = cut w now (ask caller (release_job m)) in
       let row : Job → Decision = λ j. release_in j.phase s j in
       record { row = row; is = at_number m row on; finds = finds_released s; one = released_one n s }
   on_one (get_job_attributes m) on =

@@ -23,7 +23,7 @@ too_few a b h = grind (arith, ints)
 
 module _ (w : World) (now n : ℕ) (caller : List ℕ) (e : Entry) where
   abbrev scene : Scene
-  scene = cut w (ask caller (release_job n))
+  scene = cut w now (ask caller (release_job n))
 
   release_step : HasOwn caller n e w → step w now (ask caller (release_job n)) ≡ by w (release_in e.row.phase scene e.row)
   release_step own = ap (by w) (own_step w n caller (λ j. release_in j.phase scene j) e own)

@@ -49,7 +49,7 @@ open_state j _ fits is = let no = fits.1 in absurd (cc)
 
 module _ (w : World) (now n : ℕ) (caller : List ℕ) (e : Entry) (d : Document) (last : Bool) (own : HasOwn caller n e w) where
   abbrev scene : Scene
-  scene = cut w (sends caller n d last)
+  scene = cut w now (sends caller n d last)
 
   abbrev x : Job
   x = sent e.row d.bytes last

@@ -3,7 +3,7 @@ use Rattle.std.proofs.Common.{◌≡◌, ℕ, List, [], ◌∷◌, ◌++◌, ref
 use Rattle.std.specs.Prelude.{Option, Some, None, not, ◌&&◌, ◌||◌, ⊤}
 use Rattle.std.specs.List.{AllByRecursion as Each}
 use Rattle.std.proofs.lemmas.List.Folds.{list_any-append}
-use Rattle.queue_types.specs.Event.{Event, ask, tell, grant, kind_number}
+use Rattle.queue_types.specs.Event.{Event, ask, tell, grant, expire, kind_number}
 use Rattle.queue_core.specs.Runs.{Place, IsPlace, after, run}
 use Rattle.queue_core.specs.Sound.{IsSound}
 use Rattle.queue_core.specs.World.{World}
@@ -49,6 +49,7 @@ still_among kept w now (Some (tell s)) r e = elim (is_accepted w now (tell s)) a
   | false ↦ e
 ]
 still_among kept w now (Some (grant file)) r e = e
+still_among kept w now (Some expire) r e = e
 
 pub now_among : (kept : List Report) (w : World) (now : ℕ) (r : Report) → refuses (answer w now (tell r)) ≡ false → has_report r (reports_then kept w now (Some (tell r))) ≡ true
 now_among kept w now r accepted = ap (λ b. has_report r (cond (not b) (r ∷ kept) kept)) accepted ∙ or_left (are_equal_reports r r) (has_report r kept) (own_report r)
@@ -62,6 +63,7 @@ other_here kept given w now (Some (tell s)) r here =
       | false ↦ λ is. (λ e. let same : s ≡ r = cc in clash ⊥ (has_report s kept) is (ap (λ t. has_report t kept) same ∙ here), tt)
     ] refl
 other_here kept given w now (Some (grant file)) r here = (λ e. cc, tt)
+other_here kept given w now (Some expire) r here = (λ e. cc, tt)
 
 others : (ps : List Place) (kept : List Report) (given : List GrantRow) (w : World) (r : Report) → has_report r kept ≡ true → Each (IsOther r) (thin_from kept given w ps)
 others [] kept given w r here = tt
@@ -100,6 +102,7 @@ still_given given w now (Some (grant file)) g e = elim (is_accepted w now (grant
   | true ↦ list_any-append (λ h. are_equal_rows h g) file given ∙ or_right (has_row g file) (has_row g given) e
   | false ↦ e
 ]
+still_given given w now (Some expire) g e = e
 
 pub now_given : (given : List GrantRow) (w : World) (now : ℕ) (file : List GrantRow) (g : GrantRow) → is_accepted w now (grant file) ≡ true → has_row g file ≡ true → has_row g (rows_then given w now (Some (grant file))) ≡ true
 now_given given w now file g accepted there =
@@ -112,6 +115,7 @@ HasNoRow g p = (before behind : List GrantRow) → p.event ≡ Some (grant (befo
 
 no_row_here : (kept : List Report) (given : List GrantRow) (w : World) (now : ℕ) (o : Option Event) (g : GrantRow) → has_row g given ≡ true → Each (HasNoRow g) (thin_place kept given w now o)
 no_row_here kept given w now None g here = (λ before behind e. cc, tt)
+no_row_here kept given w now (Some expire) g here = (λ before behind e. cc, tt)
 no_row_here kept given w now (Some (ask caller call)) g here = (λ before behind e. cc, tt)
 no_row_here kept given w now (Some (tell s)) g here = elim (has_report s kept) as (λ b. Each (HasNoRow g) (cond b [] (place_of now (tell s) ∷ []))) [
   | true ↦ tt
@@ -202,6 +206,7 @@ module _ (kept : List Report) (given : List GrantRow) (w : World) (now : ℕ) (h
   last_here (Some (grant file)) ps sound none no_row rest =
       let left = thin_rows (is_accepted w now (grant file)) given file in
       (λ r e. absurd (cc), file_last file ps no_row left refl, subst (λ v. AreLast v ps) (thin_file w (is_accepted w now (grant file)) file given now holds.rows) rest)
+  last_here (Some expire) ps sound none no_row rest = (λ r e. absurd (cc), λ before behind g e. absurd (cc), rest)
 
 all_last : KeepsSound → (ps : List Place) (kept : List Report) (given : List GrantRow) (w : World) → IsSound w → Each IsPlace ps → Holds kept given w → AreLast w (thin_from kept given w ps)
 all_last keeps [] kept given w sound places holds = tt

@@ -119,12 +119,12 @@ module _ (caller : List ℕ) (numbers : List ℕ) where
 
 pub named_others : (w : World) (now : ℕ) (caller numbers : List ℕ) → list_all (λ n. has_job caller n (rows w)) numbers ≡ false → (step w now (ask caller (cancel_my_jobs (Some numbers)))).reply ≡ Refused 0x0406
 named_others w now caller numbers other =
-    let s : Scene = cut w (ask caller (cancel_my_jobs (Some numbers))) in
+    let s : Scene = cut w now (ask caller (cancel_my_jobs (Some numbers))) in
     ap (λ b. (cond b (cond (list_all is_cancelable s.jobs) (all_canceled s now s.jobs) (refused 0x0404)) (refused 0x0406)).reply) (are_own caller numbers (rows w) ∙ other)
 
 pub named_own : (w : World) (now : ℕ) (caller numbers : List ℕ) → list_all (λ n. has_job caller n (rows w)) numbers ≡ true → (step w now (ask caller (cancel_my_jobs (Some numbers)))).reply ≡ Refused 0x0406 → ⊥
 named_own w now caller numbers own e =
-    let s : Scene = cut w (ask caller (cancel_my_jobs (Some numbers))) in
+    let s : Scene = cut w now (ask caller (cancel_my_jobs (Some numbers))) in
     let finds : Finds (cond (list_all is_cancelable s.jobs) (all_canceled s now s.jobs) (refused 0x0404)) =
     elim (list_all is_cancelable s.jobs) as (λ b. Finds (cond b (all_canceled s now s.jobs) (refused 0x0404))) [ true ↦ done (all_canceled s now s.jobs) refl | false ↦ not_possible ] in
     finds (sym (ap (λ b. (cond b (cond (list_all is_cancelable s.jobs) (all_canceled s now s.jobs) (refused 0x0404)) (refused 0x0406)).reply) (are_own caller numbers (rows w) ∙ own)) ∙ e)

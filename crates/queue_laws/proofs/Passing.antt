@@ -62,7 +62,7 @@ module _ (w : World) (now : ℕ) (r : Report) where
   by d = made_on d.change w
 
   abbrev d : Decision
-  d = decision (cut w (tell r)) now (tell r)
+  d = decision (cut w now (tell r)) now (tell r)
 
   module _ (a : IsAccepted w now r d) where
     abbrev j : Job
@@ -86,7 +86,7 @@ module _ (w : World) (now : ℕ) (r : Report) where
     taken_back : returned (j ∷ a.rest) j.owner (x ∷ []) ≡ pos (taken j) -ℤ pos (taken x)
     taken_back = gives_back j x a.rest j.owner same_number ∙ ap (λ b. cond b (pos (taken j) -ℤ pos (taken x)) (pos 0)) (own_key x.owner j.owner same_owner)
 
-    free_then : (f : ℤ) → get w.free j.owner ≡ Some f → get (by (accepted (cut w (tell r)) r x)).free j.owner ≡ Some (f +ℤ (pos (taken j) -ℤ pos (taken x)))
+    free_then : (f : ℤ) → get w.free j.owner ≡ Some f → get (by (accepted (cut w now (tell r)) r x)).free j.owner ≡ Some (f +ℤ (pos (taken j) -ℤ pos (taken x)))
     free_then f there =
         ap (λ js. get (fold put_free w.free (map (credited js (x ∷ [])) (owner_row w.free js))) j.owner) a.jobs
         ∙ moved_from w.free j.owner j.owner (j ∷ a.rest) (x ∷ []) (get w.free j.owner) refl

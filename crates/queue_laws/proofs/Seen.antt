@@ -129,7 +129,7 @@ module _ (u : List ℕ) (w : World) (now : ℕ) (call : Call) (sound : IsSound w
   e = ask u call
 
   abbrev here : Scene
-  here = cut w e
+  here = cut w now e
 
   abbrev mine : Scene
   mine = seen w.settings (own u w) u call

@@ -59,7 +59,7 @@ module _ (n : ℕ) (first : List Document) where
   made_has c w has = document_has c.document (fold with_row w.jobs c.jobs) (rows_have c.jobs w.jobs has)
 
   pub step_has : (w : World) (now : ℕ) (e : Event) → HasFirst n first w.jobs → HasFirst n first (step w now e).world.jobs
-  step_has w now e has = made_has (decision (cut w e) now e).change w has
+  step_has w now e has = made_has (decision (cut w now e) now e).change w has
 
   after_has : (w : World) (now : ℕ) (o : Option Event) → HasFirst n first w.jobs → HasFirst n first (after w now o).jobs
   after_has w now None has = has
@@ -114,7 +114,7 @@ printed_fetched w now caller new format payload j places d sound some told =
 
 module _ (w : World) (now n : ℕ) (caller : List ℕ) (e : Entry) (format : Format) (payload : List ℕ) (last : Bool) (there : entry_at n w.jobs ≡ Some e) where
   abbrev scene : Scene
-  scene = cut w (ask caller (send_document n format payload last))
+  scene = cut w now (ask caller (send_document n format payload last))
 
   abbrev x : Job
   x = sent e.row payload last

@@ -67,7 +67,7 @@ pub record IsAccepted (w : World) (now : ℕ) (r : Report) (d : Decision) : Type
   pub came : reported r now before ≡ Some after
   pub moved : IsMoved r.count before after
   pub first : get w.reports (r.job, r.seq) ≡ None
-  pub is : d ≡ accepted (cut w (tell r)) r after
+  pub is : d ≡ accepted (cut w now (tell r)) r after
 
 pub data Telling (w : World) (now : ℕ) (r : Report) (d : Decision) : Type 0 where
   declined : (cause : ReportRefusal) → d ≡ answered (NotTold cause) → Telling w now r d
@@ -76,7 +76,7 @@ pub data Telling (w : World) (now : ℕ) (r : Report) (d : Decision) : Type 0 wh
 
 module _ (w : World) (now : ℕ) (r : Report) where
   abbrev scene : Scene
-  scene = cut w (tell r)
+  scene = cut w now (tell r)
 
   rows_tell : (js : List Job) → numbered r.job (rows w) ≡ js → (o : Option KeptReport) → get w.reports (r.job, r.seq) ≡ o → Telling w now r (report_row scene now r js o)
   rows_tell [] e o kept = declined NoJob refl
@@ -89,7 +89,7 @@ module _ (w : World) (now : ℕ) (r : Report) where
     | Some x ↦ λ is. taken (record { before = j; rest = rest; jobs = e; after = x; came = is; moved = moved_is r.count now j x r.kind j.phase is; first = kept; is = refl })
   ] refl
 
-  pub telling : Telling w now r (decision (cut w (tell r)) now (tell r))
+  pub telling : Telling w now r (decision (cut w now (tell r)) now (tell r))
   telling = rows_tell (numbered r.job (rows w)) refl (get w.reports (r.job, r.seq)) refl
 
 -- ---- what it changes
@@ -137,11 +137,11 @@ module _ (w : World) (now : ℕ) (r : Report) where
   new = (step w now (tell r)).world
 
   -- what an accepted report leaves, every report leaves
-  leaves : {X : Type 0} (f : World → X) → ((d : Decision) (a : IsAccepted w now r d) → f (by (accepted (cut w (tell r)) r a.after)) ≡ f w) → f new ≡ f w
+  leaves : {X : Type 0} (f : World → X) → ((d : Decision) (a : IsAccepted w now r d) → f (by (accepted (cut w now (tell r)) r a.after)) ≡ f w) → f new ≡ f w
   leaves f each = elim (telling w now r) as (λ _. f new ≡ f w) [
     | declined cause e ↦ ap (λ d. f (by d)) e
     | known k kept same e ↦ ap (λ d. f (by d)) e
-    | taken a ↦ ap (λ d. f (by d)) a.is ∙ each (decision (cut w (tell r)) now (tell r)) a
+    | taken a ↦ ap (λ d. f (by d)) a.is ∙ each (decision (cut w now (tell r)) now (tell r)) a
   ]
 
   module _ (d : Decision) (a : IsAccepted w now r d) where
@@ -183,7 +183,7 @@ module _ (w : World) (now : ℕ) (r : Report) where
     | declined cause e ↦ itself_same j k (sym old ∙ sym (ap (λ d. at r.job (by d).jobs) e) ∙ then)
     | known l kept same e ↦ itself_same j k (sym old ∙ sym (ap (λ d. at r.job (by d).jobs) e) ∙ then)
     | taken a ↦
-        let d : Decision = decision (cut w (tell r)) now (tell r) in
+        let d : Decision = decision (cut w now (tell r)) now (tell r) in
         let was : a.before ≡ j = is_before d a j old in
         let is : a.after ≡ k = is_after d a k then in
         subst (λ j. IsSameJob k j) was (subst (λ k. IsSameJob k a.before) is a.moved.0)
@@ -211,7 +211,7 @@ module _ (w : World) (now : ℕ) (r : Report) where
 
   -- of a first report that is accepted, with the state and count that are told
   first_told : (s : JobState) (c : ℕ) (P : Type 0) → get w.reports (r.job, r.seq) ≡ None → (step w now (tell r)).reply ≡ Told s c
-      → ((a : IsAccepted w now r (decision (cut w (tell r)) now (tell r))) → job_state a.after ≡ s → a.after.count ≡ c → P) → P
+      → ((a : IsAccepted w now r (decision (cut w now (tell r)) now (tell r))) → job_state a.after ≡ s → a.after.count ≡ c → P) → P
   first_told s c P none told each = elim (telling w now r) as (λ _. P) [
     | declined cause e ↦ no_reply cause s c P (sym (ap (λ (d : Decision). d.reply) e) ∙ told)
     | known k kept same e ↦ absurd (none-some k (sym none ∙ kept))
@@ -227,12 +227,12 @@ module _ (w : World) (now : ℕ) (r : Report) where
 
   pub first_state : (s : JobState) (c : ℕ) (k : Job) → get w.reports (r.job, r.seq) ≡ None → (step w now (tell r)).reply ≡ Told s c → at r.job new.jobs ≡ Some k → (s ≡ job_state k) × (c ≡ k.count)
   first_state s c k none told there = first_told s c ((s ≡ job_state k) × (c ≡ k.count)) none told (λ a is_state is_count.
-      let d : Decision = decision (cut w (tell r)) now (tell r) in
+      let d : Decision = decision (cut w now (tell r)) now (tell r) in
       let is : a.after ≡ k = is_after d a k there in
       (sym is_state ∙ ap job_state is, sym is_count ∙ ap (λ (t : Job). t.count) is))
 
   pub first_counted : (s : JobState) (c : ℕ) (j : Job) → get w.reports (r.job, r.seq) ≡ None → (step w now (tell r)).reply ≡ Told s c → at r.job w.jobs ≡ Some j → c ≡ max j.count r.count
   first_counted s c j none told there = first_told s c (c ≡ max j.count r.count) none told (λ a is_state is_count.
-      let d : Decision = decision (cut w (tell r)) now (tell r) in
+      let d : Decision = decision (cut w now (tell r)) now (tell r) in
       let was : a.before ≡ j = is_before d a j there in
       sym is_count ∙ a.moved.1 ∙ ap (λ (t : Job). max t.count r.count) was)

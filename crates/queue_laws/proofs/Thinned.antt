@@ -4,7 +4,7 @@ use Rattle.std.specs.Prelude.{Option, Some, None, nat_eq, bytes_eq, not, is_some
 use Rattle.std.specs.List.{AllByRecursion as Each}
 use Rattle.std.specs.FinMap.{FinMap, get}
 use Rattle.std.proofs.lemmas.Bool.{and_parts}
-use Rattle.queue_types.specs.Event.{Decision, Event, ask, tell, grant, kind_number}
+use Rattle.queue_types.specs.Event.{Decision, Event, ask, tell, grant, expire, kind_number}
 use Rattle.queue_core.specs.Grants.{Taken, all_taken, none_taken, take_rows, add_row, row_of, repeated, refused_row, new_row, free_after}
 use Rattle.queue_core.specs.Machine.{Step, step, grant_row}
 use Rattle.queue_types.specs.Job.{job_state}
@@ -114,6 +114,7 @@ then_reports kept w now (Some (tell r)) each =
       | false ↦ λ is. all
     ] refl
 then_reports kept w now (Some (grant file)) each = reports_hold w now (Some (grant file)) kept each
+then_reports kept w now (Some expire) each = reports_hold w now (Some expire) kept each
 
 then_rows : (given : List GrantRow) (w : World) (now : ℕ) (o : Option Event) → Each (IsGranted w.grants) given → Each (IsGranted (after w now o).grants) (rows_then given w now o)
 then_rows given w now None each = each
@@ -125,6 +126,7 @@ then_rows given w now (Some (grant file)) each =
       | true ↦ λ is. (let t = added_by (taken_of w file) is in each_append (IsGranted (step w now (grant file)).world.grants) file given (file_granted w now file t.added t.repeats t.is) all)
       | false ↦ λ is. all
     ] refl
+then_rows given w now (Some expire) each = rows_hold w now (Some expire) given each
 
 pub then_holds : (kept : List Report) (given : List GrantRow) (w : World) (now : ℕ) (o : Option Event) → Holds kept given w → Holds (reports_then kept w now o) (rows_then given w now o) (after w now o)
 then_holds kept given w now o holds = record { reports = then_reports kept w now o holds.reports; rows = then_rows given w now o holds.rows }
@@ -231,6 +233,7 @@ thin_here kept given w now (Some (tell r)) ps sound holds =
       | false ↦ λ any. refl
     ] refl
 thin_here kept given w now (Some (grant file)) ps sound holds = ap (λ v. run v ps) (sym (thin_file w (is_accepted w now (grant file)) file given now holds.rows))
+thin_here kept given w now (Some expire) ps sound holds = refl
 
 thin_all : KeepsSound → (ps : List Place) (kept : List Report) (given : List GrantRow) (w : World) → IsSound w → Each IsPlace ps → Holds kept given w → run w (thin_from kept given w ps) ≡ run w ps
 thin_all keeps [] kept given w sound places holds = refl
@@ -264,6 +267,7 @@ then_answers before w now (Some (tell r)) each =
       | false ↦ λ is. all
     ] refl
 then_answers before w now (Some (grant file)) each = answers_hold w now (Some (grant file)) before each
+then_answers before w now (Some expire) each = answers_hold w now (Some expire) before each
 
 same_answers : (before : List Answered) (w : World) (now : ℕ) (r : Report) → IsSound w → Each (IsAnswered w) before → Each (λ (x : Answered). are_equal_reports x.0 r ≡ true → (step w now (tell r)).reply ≡ x.1) before
 same_answers before w now r sound each = each_map (IsAnswered w) (λ (x : Answered). are_equal_reports x.0 r ≡ true → (step w now (tell r)).reply ≡ x.1) before
@@ -274,6 +278,7 @@ one_again before w now None sound each = tt
 one_again before w now (Some (ask caller call)) sound each = tt
 one_again before w now (Some (tell r)) sound each = same_answers before w now r sound each
 one_again before w now (Some (grant file)) sound each = tt
+one_again before w now (Some expire) sound each = tt
 
 all_again : KeepsSound → (ps : List Place) (before : List Answered) (w : World) → IsSound w → Each IsPlace ps → Each (IsAnswered w) before → AnswerAgain before w ps
 all_again keeps [] before w sound places each = tt

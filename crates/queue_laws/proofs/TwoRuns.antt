@@ -4,7 +4,7 @@ use Rattle.std.specs.Prelude.{Option, Some, None, IsTrue, is_none, nat_eq, bytes
 use Rattle.std.specs.List.{AllByRecursion as Each}
 use Rattle.std.proofs.lemmas.Bool.{or_parts, ne_eqb, not-true, or_left}
 use Rattle.queue_types.specs.Settings.{SettingValues}
-use Rattle.queue_types.specs.Event.{Call, Event, ask, tell, grant}
+use Rattle.queue_types.specs.Event.{Call, Event, ask, tell, grant, expire}
 use Rattle.queue_core.specs.World.{World, cut, has_number}
 use Rattle.queue_core.specs.Machine.{decision, step}
 use Rattle.queue_core.specs.Runs.{Place, IsPlace, after}
@@ -22,6 +22,7 @@ use Rattle.queue_laws.proofs.Filed.{next_left as next_filed}
 use Rattle.queue_laws.proofs.Heard.{heard_others, heard_own, heard_reply, own_heard_on, seen_report}
 use Rattle.queue_laws.proofs.Seen.{seen, decided}
 use Rattle.queue_laws.proofs.Shared.{files_alike}
+use Rattle.queue_laws.proofs.Swept.{own_swept, own_after_sweep}
 use Rattle.queue_laws.proofs.Telling.{next_left as next_told}
 
 -- ---- what is drawn
@@ -39,9 +40,10 @@ next_after w p sound =
     elim p.event as (λ o. (after w p.now o).next ≡ cond (not (nat_eq (after w p.now o).next w.next)) (w.next + 1) w.next) [
       | None ↦ sym (ap (λ b. cond (not b) (w.next + 1) w.next) (itself w.next))
       | Some e ↦ elim e as (λ e. (after w p.now (Some e)).next ≡ cond (not (nat_eq (after w p.now (Some e)).next w.next)) (w.next + 1) w.next) [
-        | ask caller call ↦ drawn (decision (cut w (ask caller call)) p.now (ask caller call)).change.next w.next (asked_by w p.now caller call sound).next
+        | ask caller call ↦ drawn (decision (cut w p.now (ask caller call)) p.now (ask caller call)).change.next w.next (asked_by w p.now caller call sound).next
         | tell r ↦ same_next (step w p.now (tell r)).world.next w.next (next_told w p.now r)
         | grant file ↦ same_next (step w p.now (grant file)).world.next w.next (next_filed w p.now file)
+        | expire ↦ same_next (step w p.now expire).world.next w.next refl
       ]
     ]
 
@@ -55,7 +57,7 @@ others_after : (u : List ℕ) (w : World) (now : ℕ) (o : Option Event) → IsS
 others_after u w now None sound other = (refl, refl)
 others_after u w now (Some (ask caller call)) sound other =
     let not_u : bytes_eq caller u ≡ false = not-true (bytes_eq caller u) other in (
-      others_made u caller w (decision (cut w (ask caller call)) now (ask caller call)).change not_u (asked_by w now caller call sound),
+      others_made u caller w (decision (cut w now (ask caller call)) now (ask caller call)).change not_u (asked_by w now caller call sound),
       ap (λ b. cond (b && not (counts_all call)) (Some (step w now (ask caller call)).reply) None) not_u,
     )
 others_after u w now _ sound other = absurd (cc)
@@ -67,7 +69,7 @@ own_step u s now call o = own_made_on u (decision (seen s o u call) now (ask u c
 
 own_after : (u : List ℕ) (w : World) (now : ℕ) (call : Call) → IsSound w → own u (after w now (Some (ask u call))) ≡ own_step u w.settings now call (own u w)
 own_after u w now call sound =
-    own_made u w (decision (cut w (ask u call)) now (ask u call)).change sound (asked_by w now u call sound)
+    own_made u w (decision (cut w now (ask u call)) now (ask u call)).change sound (asked_by w now u call sound)
     ∙ ap (λ c. own_made_on u c (own u w)) (decided u w now call sound).0
 
 own_told : (u : List ℕ) (w : World) (now : ℕ) (call : Call) → IsSound w → counts_all call ≡ false → (step w now (ask u call)).reply ≡ (decision (seen w.settings (own u w) u call) now (ask u call)).reply
@@ -147,6 +149,13 @@ module _ (u : List ℕ) (w v : World) (same : SameFor u w v) where
   file_goes : (now : ℕ) (file : List GrantRow) → Goes u w v (record { now = now; event = Some (grant file) }) (record { now = now; event = Some (grant file) })
   file_goes now file = let both = files_alike u w v now file same.own in record { own = both.0; told = ap Some both.1 }
 
+  -- a sweep on both sides
+  sweep_goes : (now : ℕ) → Goes u w v (record { now = now; event = Some expire }) (record { now = now; event = Some expire })
+  sweep_goes now = record {
+    own = own_after_sweep w now u same.left ∙ (λ i. own_swept u (same.settings i).keep now (same.own i)) ∙ sym (own_after_sweep v now u same.right);
+    told = refl;
+  }
+
   -- one event on both sides
   event_goes : (now : ℕ) (o : Option Event) → (IsTrue (is_others u o) → draws w (record { now = now; event = o }) ≡ draws v (record { now = now; event = o })) → Goes u w v (record { now = now; event = o }) (record { now = now; event = o })
   event_goes now None draw = others_go (record { now = now; event = None }) (record { now = now; event = None }) refl refl (ap not (itself w.next ∙ sym (itself v.next)))
@@ -159,6 +168,7 @@ module _ (u : List ℕ) (w v : World) (same : SameFor u w v) where
       ] refl
   event_goes now (Some (tell r)) draw = report_goes now r (has_number r.job (own_jobs u w.jobs)) refl
   event_goes now (Some (grant file)) draw = file_goes now file
+  event_goes now (Some expire) draw = sweep_goes now
 
   -- nothing on both sides draws nothing
   drawn_alike : (p q : Place) → IsTrue (is_none p.event || is_others u p.event) → IsTrue (is_none q.event || is_others u q.event) → (IsTrue (is_others u p.event || is_others u q.event) → draws w p ≡ draws v q) → draws w p ≡ draws v q

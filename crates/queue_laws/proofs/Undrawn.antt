@@ -15,5 +15,5 @@ form_draws_none s now caller _ _ _ draws = refl
 
 pub next_kept : (w : World) (now : ℕ) (caller : List ℕ) (call : Call) → draws_number call ≡ false → (step w now (ask caller call)).world.next ≡ w.next
 next_kept w now caller call draws =
-    let s : Scene = cut w (ask caller call) in
+    let s : Scene = cut w now (ask caller call) in
     ap (λ o. unwrap_or o w.next) (form_draws_none s now caller call (call_row s now caller call) (call_form s now caller call) draws)

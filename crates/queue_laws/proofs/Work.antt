@@ -135,35 +135,35 @@ module _ (caller : List ℕ) (call : Call) (R : Job → Job → Type 0) (holds :
 
   -- ---- each call
 
-  asked_work : (now : ℕ) (c : Call) → call ≡ c → AreWork (decision (cut w (ask caller c)) now (ask caller c))
+  asked_work : (now : ℕ) (c : Call) → call ≡ c → AreWork (decision (cut w now (ask caller c)) now (ask caller c))
   asked_work now (print_job new format payload) is =
-      let s : Scene = cut w (ask caller (print_job new format payload)) in
+      let s : Scene = cut w now (ask caller (print_job new format payload)) in
       entered_work s (new_job s now caller false new payload) (new_document s.next format payload) refl
-  asked_work now (validate_job new) is = validated_work (cut w (ask caller (validate_job new)))
+  asked_work now (validate_job new) is = validated_work (cut w now (ask caller (validate_job new)))
   asked_work now (create_job new) is =
-      let s : Scene = cut w (ask caller (create_job new)) in
+      let s : Scene = cut w now (ask caller (create_job new)) in
       entered_work s (new_job s now caller true new []) None refl
   asked_work now (send_document n format payload last) is =
-      let s : Scene = cut w (ask caller (send_document n format payload last)) in
+      let s : Scene = cut w now (ask caller (send_document n format payload last)) in
       own_work n (λ j. send_in s j format payload last) (λ j there number own. sent_work n s j there number format payload last)
   asked_work now (cancel_job n) is =
-      let s : Scene = cut w (ask caller (cancel_job n)) in
+      let s : Scene = cut w now (ask caller (cancel_job n)) in
       own_work n (λ j. cancel_row s now j) (λ j there number own. canceled_work n s j there number now)
   asked_work now (cancel_my_jobs None) is =
       each_work now (filter is_cancelable (filter (λ j. bytes_eq j.owner caller && is_live j) (rows w))) (each-filter (Stands (rows w)) is_cancelable (filter (λ j. bytes_eq j.owner caller && is_live j) (rows w)) (all_stand w sound (λ j. bytes_eq j.owner caller && is_live j)))
-  asked_work now (cancel_my_jobs (Some numbers)) is = named_work (cut w (ask caller (cancel_my_jobs (Some numbers)))) now numbers (all_stand w sound (λ j. bytes_eq j.owner caller && is_one_of numbers j))
+  asked_work now (cancel_my_jobs (Some numbers)) is = named_work (cut w now (ask caller (cancel_my_jobs (Some numbers)))) now numbers (all_stand w sound (λ j. bytes_eq j.owner caller && is_one_of numbers j))
   asked_work now (hold_job n) is =
-      let s : Scene = cut w (ask caller (hold_job n)) in
+      let s : Scene = cut w now (ask caller (hold_job n)) in
       own_work n (λ j. hold_in j.phase s j) (λ j there number own. held_work n s j there number)
   asked_work now (release_job n) is =
-      let s : Scene = cut w (ask caller (release_job n)) in
+      let s : Scene = cut w now (ask caller (release_job n)) in
       own_work n (λ j. release_in j.phase s j) (λ j there number own. released_work n s j there number is own)
   asked_work now (get_job_attributes n) is = own_work n (λ j. answered (Jobs (j ∷ []))) (λ j there number own. tt)
   asked_work now _ is = tt
 
 -- what holds of each change to a job, a request keeps
 pub held_on : (R : Job → Job → Type 0) (caller : List ℕ) (call : Call) → Holds caller call R → (w : World) (now n : ℕ) (j k : Job) → IsSound w → at n w.jobs ≡ Some j → at n (step w now (ask caller call)).world.jobs ≡ Some k → R k j
-held_on R caller call holds w now n j k sound old then = work_left caller call R holds w sound n (decision (cut w (ask caller call)) now (ask caller call)) (asked_work caller call R holds w sound now call refl) j k old then
+held_on R caller call holds w now n j k sound old then = work_left caller call R holds w sound n (decision (cut w now (ask caller call)) now (ask caller call)) (asked_work caller call R holds w sound now call refl) j k old then
 
 pub work_kept : (w : World) (now n : ℕ) (caller : List ℕ) (call : Call) (j k : Job) → IsSound w → at n w.jobs ≡ Some j → at n (step w now (ask caller call)).world.jobs ≡ Some k → IsSameWork k j
 work_kept w now n caller call = held_on IsSameWork caller call (work_holds caller call) w now n

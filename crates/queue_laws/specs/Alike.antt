@@ -1,7 +1,7 @@
 -- What a caller is told, and when two lists of places differ in nothing but what other callers ask.
 use Rattle.std.specs.Prelude.{◌≡◌, List, [], ◌∷◌, Option, Some, None, ⊤, ◌⊎◌, not, is_none, ◌==◌, ◌&&◌, ◌||◌, bytes_eq, ℕ, Bool, true, false, IsTrue, if◌then◌else◌}
 use Rattle.std.specs.List.{AllByRecursion as Each}
-use Rattle.queue_types.specs.Event.{Event, Call, NewJob, ask, tell, grant, print_job, validate_job, create_job, send_document, cancel_job, cancel_my_jobs, hold_job, release_job, get_job_attributes, get_jobs, get_printer_attributes}
+use Rattle.queue_types.specs.Event.{Event, Call, NewJob, ask, tell, grant, expire, print_job, validate_job, create_job, send_document, cancel_job, cancel_my_jobs, hold_job, release_job, get_job_attributes, get_jobs, get_printer_attributes}
 use Rattle.queue_core.specs.World.{World, has_number}
 use Rattle.queue_core.specs.Runs.{Place, IsPlace, after as after_place}
 use Rattle.queue_core.specs.Sound.{IsSound}
@@ -38,6 +38,7 @@ told u w now None = None
 told u w now (Some (ask caller call)) = if bytes_eq caller u && not (counts_all call) then Some (answer w now (ask caller call)) else None
 told u w now (Some (tell r)) = if has_number r.job (own_jobs u w.jobs) then Some (answer w now (tell r)) else None
 told u w now (Some (grant file)) = Some (answer w now (grant file))
+told u w now (Some expire) = None
 
 -- what is told at each place
 abbrev pub told_along : List ℕ → World → List Place → List (Option Reply)
@@ -50,6 +51,7 @@ is_others u None = false
 is_others u (Some (ask caller call)) = not (bytes_eq caller u)
 is_others u (Some (tell r)) = false
 is_others u (Some (grant file)) = false
+is_others u (Some expire) = false
 
 -- a job number is drawn
 abbrev pub draws : World → Place → Bool

@@ -1,7 +1,7 @@
 -- The documents of a job.
 use Rattle.std.specs.Prelude.{◌≡◌, ℕ, ◌==◌, List, [], ◌++◌, Some, if◌then◌else◌}
 use Rattle.std.specs.Option.{option_map_or}
-use Rattle.queue_types.specs.Event.{Event, Call, ask, tell, grant, print_job, validate_job, create_job, send_document, cancel_job, cancel_my_jobs, hold_job, release_job, get_job_attributes, get_jobs, get_printer_attributes}
+use Rattle.queue_types.specs.Event.{Event, Call, ask, tell, grant, expire, print_job, validate_job, create_job, send_document, cancel_job, cancel_my_jobs, hold_job, release_job, get_job_attributes, get_jobs, get_printer_attributes}
 use Rattle.queue_core.specs.Runs.{Place, run}
 use Rattle.queue_core.specs.Shown.{document_at}
 use Rattle.queue_core.specs.World.{World, Entry}
@@ -31,6 +31,7 @@ abbrev pub sent_in : ℕ → ℕ → Event → List Document
 sent_in next n (ask caller call) = sent_by next n call
 sent_in next n (tell r) = []
 sent_in next n (grant file) = []
+sent_in next n expire = []
 
 -- the job of that number is there, with these documents, and maybe more behind them
 pub record HasFirst (n : ℕ) (first : List Document) (es : List Entry) : Type 0 where

@@ -12,3 +12,4 @@ pub mod Thin
 pub mod Before
 pub mod Doing
 pub mod Documents
+pub mod Expiring

@@ -1,7 +1,7 @@
 -- Which answers refuse.
 use Rattle.std.specs.Prelude.{Bool, true, false}
 use Rattle.queue_types.specs.declared.event.Reply.{Reply}
-use Rattle.queue_types.specs.declared.event.Reply.TheVariants.{Refused, Done, Jobs, Printer, Told, NotTold, Added, NotAdded}
+use Rattle.queue_types.specs.declared.event.Reply.TheVariants.{Refused, Done, Jobs, Printer, Told, NotTold, Added, NotAdded, Expired}
 
 -- a request, a report or an account file is refused
 abbrev pub refuses : Reply → Bool
@@ -13,3 +13,4 @@ refuses (Jobs jobs) = false
 refuses (Printer state queued accepting) = false
 refuses (Told state count) = false
 refuses (Added added repeats) = false
+refuses (Expired ended) = false

@@ -1,7 +1,7 @@
 -- Runs without what repeats.
 use Rattle.std.specs.Prelude.{◌≡◌, ℕ, List, [], ◌∷◌, ◌++◌, Option, Some, None, ⊤, not, ◌==◌, ◌&&◌, bytes_eq, Bool, true, if◌then◌else◌}
 use Rattle.std.specs.List.{list_any, AllByRecursion as Each}
-use Rattle.queue_types.specs.Event.{Event, ask, tell, grant}
+use Rattle.queue_types.specs.Event.{Event, ask, tell, grant, expire}
 use Rattle.queue_types.specs.Event.{kind_number}
 use Rattle.queue_core.specs.Runs.{Place, after as after_place}
 use Rattle.queue_core.specs.World.{World}
@@ -36,12 +36,14 @@ reports_then kept w now None = kept
 reports_then kept w now (Some (ask caller call)) = kept
 reports_then kept w now (Some (tell r)) = if is_accepted w now (tell r) then r ∷ kept else kept
 reports_then kept w now (Some (grant file)) = kept
+reports_then kept w now (Some expire) = kept
 
 abbrev pub rows_then : List GrantRow → World → ℕ → Option Event → List GrantRow
 rows_then given w now None = given
 rows_then given w now (Some (ask caller call)) = given
 rows_then given w now (Some (tell r)) = given
 rows_then given w now (Some (grant file)) = if is_accepted w now (grant file) then file ++ given else given
+rows_then given w now (Some expire) = given
 
 -- ---- the run without repeats
 
@@ -56,6 +58,7 @@ thin_place kept given w now None = record { now = now; event = None } ∷ []
 thin_place kept given w now (Some (ask caller call)) = record { now = now; event = Some (ask caller call) } ∷ []
 thin_place kept given w now (Some (tell r)) = if has_report r kept then [] else record { now = now; event = Some (tell r) } ∷ []
 thin_place kept given w now (Some (grant file)) = record { now = now; event = Some (grant (thin_rows (is_accepted w now (grant file)) given file)) } ∷ []
+thin_place kept given w now (Some expire) = record { now = now; event = Some expire } ∷ []
 
 abbrev pub thin_from : List Report → List GrantRow → World → List Place → List Place
 thin_from kept given w [] = []
@@ -76,6 +79,7 @@ answered_then before w now None = before
 answered_then before w now (Some (ask caller call)) = before
 answered_then before w now (Some (tell r)) = if is_accepted w now (tell r) then (r, answer w now (tell r)) ∷ before else before
 answered_then before w now (Some (grant file)) = before
+answered_then before w now (Some expire) = before
 
 -- a report is answered as each equal one was that was accepted before it
 abbrev pub IsAnsweredAgain : List Answered → World → ℕ → Option Event → Type 0
@@ -83,6 +87,7 @@ IsAnsweredAgain before w now None = ⊤
 IsAnsweredAgain before w now (Some (ask caller call)) = ⊤
 IsAnsweredAgain before w now (Some (tell r)) = Each (λ (x : Answered). are_equal_reports x.0 r ≡ true → answer w now (tell r) ≡ x.1) before
 IsAnsweredAgain before w now (Some (grant file)) = ⊤
+IsAnsweredAgain before w now (Some expire) = ⊤
 
 abbrev pub AnswerAgain : List Answered → World → List Place → Type 0
 AnswerAgain before w [] = ⊤

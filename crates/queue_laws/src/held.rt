@@ -7,7 +7,7 @@ ghost use Rattle.queue_core.specs.World.{World};
 ghost use Rattle.queue_types.specs.declared.job.Job.{Job};
 ghost use Rattle.queue_laws.specs.Steps.{Turns};
 
-/// A job is held until its owner releases it. Whatever is asked, reported or granted: where a job was held and is held
+/// A job is held until its owner releases it. Whatever is asked, reported, granted or swept: where a job was held and is held
 /// no more, and did not end, the event is Release-Job of its number, asked by its owner. No other makes a held job one
 /// that the device may start.
 pub fn jobs_are_held_until_released()

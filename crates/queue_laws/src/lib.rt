@@ -22,6 +22,7 @@ mod device;
 mod documents;
 mod doing;
 mod entering;
+mod expiring;
 mod fetching;
 mod held;
 mod limits;
@@ -51,6 +52,7 @@ pub use doing::{
     own_jobs_are_canceled, pages_are_set_aside, waiting_jobs_are_held,
 };
 pub use entering::{new_jobs_enter_held, validated_jobs_would_print};
+pub use expiring::held_jobs_expire;
 pub use fetching::{documents_are_fetched, startable_jobs_are_shown};
 pub use held::jobs_are_held_until_released;
 pub use limits::hundred_own_jobs_are_most;

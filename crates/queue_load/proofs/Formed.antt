@@ -24,9 +24,10 @@ use Rattle.queue_rows.specs.Jobs.{IsJobRow, has_number}
 use Rattle.queue_rows.specs.Pieces.{piece_of, pieces_in, pieces_of}
 use Rattle.queue_rows.specs.Reports.{IsReportRow}
 use Rattle.queue_rows.specs.Rows.{document_rows, meta_row}
+use Rattle.queue_rows.specs.Versions.{Version, number_of, policy_row, first_version, second_version}
 use Rattle.queue_rows.specs.declared.rows.AccountRow.{AccountRow}
 use Rattle.queue_rows.specs.declared.rows.DocumentRow.{DocumentRow}
-use Rattle.queue_load.specs.Tells.{IsFormedAccount, IsFormedDocument, IsFormedGrant, IsFormedMeta, IsFormedPiece, IsFormedReport}
+use Rattle.queue_load.specs.Tells.{IsFormedAccount, IsFormedDocument, IsFormedGrant, IsFormedMeta, IsFormedPolicy, IsFormedPiece, IsFormedReport}
 use Rattle.queue_load.proofs.Rising.{range_rises}
 
 -- ---- texts of ASCII
@@ -48,10 +49,17 @@ batch_low b h = grind (arith, nat_tests)
 
 -- ---- meta
 
-pub formed_meta : (w : World) → IsSound w → IsFormedMeta (meta_row w)
-formed_meta w sound = record {
+small : (n : Version) → number_of n < 2 ^ 32
+small first_version = omega arith
+small second_version = omega arith
+
+pub formed_policy : (w : World) → IsSound w → IsFormedPolicy (policy_row w.settings.keep)
+formed_policy w sound = record { one = omega arith; keep = omega (arith, sound.settings.keep_fits) }
+
+pub formed_meta : (n : Version) (w : World) → IsSound w → IsFormedMeta (meta_row n w)
+formed_meta n w sound = record {
   one = omega arith;
-  schema = omega arith;
+  schema = small n;
   uri = ascii_text is_uri_byte uri_low w.settings.uri sound.settings.uri_bytes;
   name = sound.settings.name_utf8;
   estimate = omega (arith, sound.settings.estimate_fits);

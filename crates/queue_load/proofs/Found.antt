@@ -1,5 +1,5 @@
 -- Typed rows that stand for sound queues: the tables hold one.
-use Rattle.std.proofs.Common.{◌≡◌, ℕ, ℤ, pos, ◌+◌, ◌<◌, ◌≤◌, List, [], ◌∷◌, map, length, All, refl, sym, ap, subst, subst₂, ◌∙◌, arith, Less}
+use Rattle.std.proofs.Common.{◌≡◌, Option, ℕ, ℤ, pos, ◌+◌, ◌<◌, ◌≤◌, List, [], ◌∷◌, map, length, All, refl, sym, ap, subst, subst₂, ◌∙◌, arith, Less}
 use Rattle.std.specs.Ordering.{int_cmp}
 use Rattle.std.specs.List.Sorted.{IsPermutation}
 use Rattle.std.proofs.lemmas.List.Elements.{All-cons, All-tail}
@@ -7,21 +7,23 @@ use Rattle.std.proofs.lemmas.Int.{ints}
 use Rattle.sqlite.specs.Effect.{Database}
 use Rattle.sqlite.specs.Order.{Row}
 use Rattle.queue_core.specs.Sound.{Rise}
-use Rattle.queue_core.specs.World.{Entry}
+use Rattle.queue_core.specs.World.{Entry, World}
 use Rattle.queue_types.specs.declared.job.Job.{Job}
 use Rattle.queue_rows.specs.Pieces.{length_in}
 use Rattle.queue_rows.specs.Rows.{Tables, HaveWorld, StandForSoundWorlds, rows_of, bytes_of, job_row, meta_row}
 use Rattle.queue_rows.specs.declared.rows.MetaRow.{MetaRow}
 use Rattle.queue_rows.specs.declared.rows.PieceRow.{PieceRow}
-use Rattle.queue_tables.specs.Content.{Content, HasContent, content_of}
+use Rattle.queue_rows.specs.Versions.{Version, policy_row, policy_rows, first_version, second_version}
+use Rattle.queue_rows.specs.declared.rows.PolicyRow.{PolicyRow}
+use Rattle.queue_tables.specs.Content.{Content, HasFirst, HasQueueOf}
 use Rattle.queue_tables.specs.Kept.{AreKeyed}
-use Rattle.queue_tables.specs.Tables.{book_schema}
-use Rattle.queue_tables.specs.Values.{meta_values, meta_view, job_values, job_view, piece_view}
+use Rattle.queue_tables.specs.Tables.{schema_of}
+use Rattle.queue_tables.specs.Values.{meta_values, meta_view, policy_values, policy_view, job_values, job_view, piece_view}
 use Rattle.queue_load.specs.Content.{content_in, piece_rows_in}
 use Rattle.queue_load.specs.Loaded.{IsLong, Piece, row_of, whole_piece}
 use Rattle.queue_load.specs.Queues.{HasQueue}
-use Rattle.queue_load.specs.Store.{AreTables}
-use Rattle.queue_load.proofs.Contents.{content_is}
+use Rattle.queue_load.specs.Store.{ArePolicyRows, AreTables}
+use Rattle.queue_load.proofs.Contents.{content_is, shown_content}
 use Rattle.queue_load.proofs.KeyLemmas.{Rises, keyed_by}
 use Rattle.queue_load.proofs.Queues.{bytes_in}
 
@@ -61,6 +63,9 @@ numbers_rise first (e ∷ es) next rise = (above e.row.number es next rise.1, nu
 abbrev one_of : MetaRow → ℤ
 one_of m = pos m.one
 
+abbrev key_of : PolicyRow → ℤ
+key_of p = pos p.one
+
 -- ---- the whole
 
 module _ (t : Tables) (d : Database) (are : AreTables t d) (keyed : AreKeyed (d.trees 6)) where
@@ -75,25 +80,49 @@ module _ (t : Tables) (d : Database) (are : AreTables t d) (keyed : AreKeyed (d.
   unfolding bytes
   pieces_are = beside_is are.first.pieces.pieces ∙ ap (λ (ps : List PieceRow). piece_rows_in ps (map bytes_in are.first.pieces.pieces)) (sym are.first.pieces.items_are)
 
-  holds : (have : HaveWorld t bytes) → HasContent (content_of have.world) d.trees
-  holds have =
-      let w = have.world in
-      let is : content_of w ≡ content_in t bytes = content_is w ∙ subst₂ (λ (u : Tables) (bs : List (List ℕ)). content_in (rows_of w) (bytes_of w) ≡ content_in u bs) have.rows have.bytes refl in
-      let meta_keyed : AreKeyed (d.trees 0) = keyed_by one_of meta_values meta_view (λ m. refl) (λ r. refl) (meta_row w ∷ []) (d.trees 0) ((λ k e low. absurd (omega (arith, low))), tt)
-      (subst (λ (ms : List MetaRow). IsPermutation (map meta_values ms) (map meta_view (d.trees 0))) (sym (ap (λ (u : Tables). u.meta) have.rows)) are.first.meta.same) in
-      let jobs_keyed : AreKeyed (d.trees 1) = keyed_by number_of job_values job_view (λ j. refl) (λ r. refl) (map job_row w.jobs) (d.trees 1) (numbers_rise 1 w.jobs w.next have.sound.numbers)
-      (subst (λ (js : List Job). IsPermutation (map job_values js) (map job_view (d.trees 1))) (sym (ap (λ (u : Tables). u.jobs) have.rows)) are.first.jobs.same) in
-      subst (λ (c : Content). HasContent c d.trees) (sym is) (record {
-        meta = record { same = are.first.meta.same; keyed = λ k. meta_keyed };
-        jobs = record { same = are.first.jobs.same; keyed = λ k. jobs_keyed };
-        documents = record { same = are.first.documents.same; keyed = λ k. absurd k };
-        pieces = record { same = subst (λ (rs : List Row). IsPermutation rs (map piece_view (d.trees 4))) pieces_are are.first.pieces.table.same; keyed = λ k. absurd k };
-        accounts = record { same = are.second.accounts.same; keyed = λ k. keyed };
-        grants = record { same = are.second.grants.same; keyed = λ k. absurd k };
-        reports = record { same = are.second.reports.same; keyed = λ k. absurd k };
-      })
+  module _ (have : HaveWorld t bytes) where
+    holds : HasFirst (shown_content have.version have.world) d.trees
+    holds =
+        let w = have.world in
+        let n = have.version in
+        let is : shown_content n w ≡ content_in t bytes = content_is n w ∙ subst₂ (λ (u : Tables) (bs : List (List ℕ)). content_in (rows_of n w) (bytes_of w) ≡ content_in u bs) have.rows have.bytes refl in
+        let meta_keyed : AreKeyed (d.trees 0) = keyed_by one_of meta_values meta_view (λ m. refl) (λ r. refl) (meta_row n w ∷ []) (d.trees 0) ((λ k e low. absurd (omega (arith, low))), tt)
+        (subst (λ (ms : List MetaRow). IsPermutation (map meta_values ms) (map meta_view (d.trees 0))) (sym (ap (λ (u : Tables). u.meta) have.rows)) are.first.meta.same) in
+        let jobs_keyed : AreKeyed (d.trees 1) = keyed_by number_of job_values job_view (λ j. refl) (λ r. refl) (map job_row w.jobs) (d.trees 1) (numbers_rise 1 w.jobs w.next have.sound.numbers)
+        (subst (λ (js : List Job). IsPermutation (map job_values js) (map job_view (d.trees 1))) (sym (ap (λ (u : Tables). u.jobs) have.rows)) are.first.jobs.same) in
+        subst (λ (c : Content). HasFirst c d.trees) (sym is) (record {
+          meta = record { same = are.first.meta.same; keyed = λ k. meta_keyed };
+          jobs = record { same = are.first.jobs.same; keyed = λ k. jobs_keyed };
+          documents = record { same = are.first.documents.same; keyed = λ k. absurd k };
+          pieces = record { same = subst (λ (rs : List Row). IsPermutation rs (map piece_view (d.trees 4))) pieces_are are.first.pieces.table.same; keyed = λ k. absurd k };
+          accounts = record { same = are.second.accounts.same; keyed = λ k. keyed };
+          grants = record { same = are.second.grants.same; keyed = λ k. absurd k };
+          reports = record { same = are.second.reports.same; keyed = λ k. absurd k };
+        })
 
-  pub queue_found : d.schema ≡ book_schema → StandForSoundWorlds t → HasQueue t d
-  queue_found schema stand =
+    policy_are : ArePolicyRows (policy_rows have.version have.world.settings.keep) d
+    policy_are = subst (λ (o : Option (List PolicyRow)). ArePolicyRows o d) (sym (ap (λ (u : Tables). u.policy) have.rows)) are.second.policy
+
+  -- in tables of that version
+  found_in : (n : Version) (w : World) → HasFirst (shown_content n w) d.trees → ArePolicyRows (policy_rows n w.settings.keep) d → (d.schema ≡ schema_of n) × HasQueueOf n w d.trees
+  found_in first_version w has schema = (schema, record { meta = has.meta; jobs = has.jobs; documents = has.documents; pieces = has.pieces; accounts = has.accounts; grants = has.grants; reports = has.reports })
+  found_in second_version w has policy =
+      let policy_keyed : AreKeyed (d.trees 15) = keyed_by key_of policy_values policy_view (λ p. refl) (λ r. refl) (policy_row w.settings.keep ∷ []) (d.trees 15) ((λ k e low. absurd (omega (arith, low))), tt) policy.1.same in (
+        policy.0,
+        record {
+          meta = has.meta;
+          jobs = has.jobs;
+          documents = has.documents;
+          pieces = has.pieces;
+          accounts = has.accounts;
+          grants = has.grants;
+          reports = has.reports;
+          policy = record { same = policy.1.same; keyed = λ k. policy_keyed };
+        },
+      )
+
+  pub queue_found : StandForSoundWorlds t → HasQueue t d
+  queue_found stand =
       let have = stand bytes lengths in
-      record { world = have.world; queue = record { sound = have.sound; schema = schema; rows = holds have }; rows = have.rows }
+      let found = found_in have.version have.world (holds have) (policy_are have) in
+      record { world = have.world; queue = record { version = have.version; fits = have.fits; sound = have.sound; schema = found.0; rows = found.1 }; rows = have.rows }

@@ -14,8 +14,9 @@ use Rattle.queue_rows.specs.Codes.{flag_number, job_state_number, kind_number, p
 use Rattle.queue_rows.specs.declared.rows.AccountRow.{AccountRow}
 use Rattle.queue_rows.specs.declared.rows.DocumentRow.{DocumentRow}
 use Rattle.queue_rows.specs.declared.rows.MetaRow.{MetaRow}
+use Rattle.queue_rows.specs.declared.rows.PolicyRow.{PolicyRow}
 use Rattle.queue_types.specs.Formats.{format_name}
-use Rattle.queue_tables.specs.Values.{document_values, grant_values, job_values, meta_values, number, report_values}
+use Rattle.queue_tables.specs.Values.{document_values, grant_values, job_values, meta_values, policy_values, number, report_values}
 use Rattle.queue_tables.proofs.JobPut.{same_job}
 use Rattle.queue_load.specs.Loaded.{IsBare, IsLong, Piece, whole_piece}
 use Rattle.queue_load.specs.Tells.{account_row_values}
@@ -64,6 +65,13 @@ same_meta a b e =
     let q = same_int a.epoch b.epoch (c 5) in
     let t = same_number a.next_number b.next_number (c 6) in
     λ x. record { one = o x; schema = s x; uri = u x; name = n x; estimate = p x; epoch = q x; next_number = t x }
+
+pub same_policy : (a b : PolicyRow) → policy_values a ≡ policy_values b → a ≡ b
+same_policy a b e =
+    let c = at _ _ e in
+    let o = same_number a.one b.one (c 0) in
+    let k = same_number a.keep b.keep (c 1) in
+    λ x. record { one = o x; keep = k x }
 
 pub same_bare : ((p q : Phase) → phase_number p ≡ phase_number q → why_number p ≡ why_number q → p ≡ q) → ((x y : Bool) → flag_number x ≡ flag_number y → x ≡ y)
     → (a b : Job) → IsBare a → IsBare b → job_values a ≡ job_values b → a ≡ b

@@ -1,16 +1,9 @@
 -- A table that is read whole, row by row.
-use Rattle.std.proofs.Common.{◌≡◌, ℕ, List, [], ◌∷◌, ◌++◌, sym, subst}
+use Rattle.std.proofs.Common.{◌≡◌, ℕ, List, [], ◌∷◌, ◌++◌}
 use Rattle.sqlite.specs.Order.{Row}
-use Rattle.sqlite.specs.Listing.{understood}
 use Rattle.sqlite.specs.State.{State}
-use Rattle.sqlite.proofs.Callers.{IsPlain}
-use Rattle.sqlite_schema.specs.declared.schema.Schema.{Schema}
 use Rattle.queue_load.specs.Reads.{FindsFormless, HasRead, Tell}
-use Rattle.queue_tables.specs.Tables.{book_schema}
 use Rattle.queue_tables.proofs.Reading.{answers_same, begins_at}
-
-pub plain_in : (sql : List ℕ) (schema : Schema) → IsPlain (understood book_schema sql) → schema ≡ book_schema → IsPlain (understood schema sql)
-plain_in sql schema plain has = subst (λ (s : Schema). IsPlain (understood s sql)) (sym has) plain
 
 -- one more row that is told of
 pub tell_more : {T : Type 0} (tells : T → Row → Type 0) (ts : List T) (rs : List Row) (t : T) (r : Row) → Tell tells ts rs → tells t r → Tell tells (ts ++ t ∷ []) (rs ++ r ∷ [])

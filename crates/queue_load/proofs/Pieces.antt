@@ -4,11 +4,12 @@ use Rattle.std.proofs.lemmas.List.Elements.{All-cons, All-tail}
 use Rattle.sqlite.specs.Order.{Row}
 use Rattle.sqlite.specs.State.{State}
 use Rattle.queue_rows.specs.declared.rows.PieceRow.{PieceRow}
-use Rattle.queue_tables.specs.Tables.{book_schema}
+use Rattle.queue_rows.specs.Versions.{Version}
+use Rattle.queue_tables.specs.Tables.{schema_of}
 use Rattle.queue_load.specs.Loaded.{ArePieces, IsLong, Piece, row_of, whole_piece}
 use Rattle.queue_load.specs.Reads.{HasRead, Tell}
 use Rattle.queue_load.specs.Tells.{TellsPiece}
-use Rattle.queue_load.proofs.Texts.{pieces_query, pieces_is}
+use Rattle.queue_load.proofs.Texts.{pieces_query, pieces_is, pieces_reads}
 use Rattle.queue_load.proofs.Whole.{table_read, wide_rows}
 
 -- a piece with its bytes tells of the row
@@ -30,12 +31,12 @@ wholes (p ∷ ps) (r ∷ rs) told wide =
     record { pieces = one ∷ more.pieces; items_are = ap (λ (qs : List PieceRow). p ∷ qs) more.items_are; long = All-cons IsLong one more.pieces it.long more.long; told = (λ len. it.is, more.told) }
 wholes _ _ told wide = absurd told
 
-pub pieces_read : (s : State) (items : List PieceRow) → s.now.schema ≡ book_schema → HasRead TellsPiece pieces_query.sql s items → ArePieces items (s.now.trees 4)
-pieces_read s items has h =
-    let it = wholes items h.rows h.told (wide_rows pieces_query pieces_is s h.rows has h.all) in
+pub pieces_read : (n : Version) (s : State) (items : List PieceRow) → s.now.schema ≡ schema_of n → HasRead TellsPiece pieces_query.sql s items → ArePieces items (s.now.trees 4)
+pieces_read n s items has h =
+    let it = wholes items h.rows h.told (wide_rows pieces_query pieces_is (schema_of n) (pieces_reads n) s h.rows has h.all) in
     record {
       pieces = it.pieces;
       items_are = it.items_are;
       long = it.long;
-      table = table_read pieces_query pieces_is TellsWhole whole_piece (λ t r told. told) (λ a b. refl) s it.pieces has (record { rows = h.rows; all = h.all; told = it.told });
+      table = table_read pieces_query pieces_is (schema_of n) (pieces_reads n) TellsWhole whole_piece (λ t r told. told) (λ a b. refl) s it.pieces has (record { rows = h.rows; all = h.all; told = it.told });
     }

@@ -1,5 +1,5 @@
 -- What the texts that read whole tables mean.
-use Rattle.std.proofs.Common.{◌≡◌, ℕ, List, [], ◌∷◌, map, take, length, codes, refl}
+use Rattle.std.proofs.Common.{◌≡◌, ℕ, List, [], ◌∷◌, map, take, length, codes, false, refl}
 use Rattle.sqlite.specs.Order.{Row}
 use Rattle.sqlite.specs.Term.{Term, col, eval_all}
 use Rattle.sqlite.specs.Collation.TheVariants.{Binary}
@@ -7,9 +7,17 @@ use Rattle.sqlite_value.specs.Keys.{ascending as plain_key}
 use Rattle.sqlite_value.specs.declared.keys.Key.{Key}
 use Rattle.sqlite_resolve.specs.Compile.{first}
 use Rattle.sqlite_tied.specs.Compute.{everything}
-use Rattle.sqlite.specs.Listing.{understood}
+use Rattle.sqlite.specs.Command.TheVariants.{Select}
+use Rattle.sqlite.specs.Listing.{reads_listing, understood}
+use Rattle.sqlite.specs.Program.{overlay}
+use Rattle.sqlite.specs.Schema.{Schema}
+use Rattle.sqlite.specs.Tree.{Trees}
+use Rattle.sqlite.proofs.Callers.{IsPlain, command_of}
+use Rattle.queue_rows.specs.Versions.{Version, first_version, second_version}
+use Rattle.queue_tables.specs.Queries.{IsQueryText}
+use Rattle.queue_tables.specs.Tables.{book_schema, schema_of}
 use Rattle.queue_tables.proofs.PlainQueries.{shown_of}
-use Rattle.queue_tables.proofs.Statements.{IsSelection, Selection, job_names, job_terms, with_job_columns}
+use Rattle.queue_tables.proofs.Statements.{Selection, query_of, job_names, job_terms, with_job_columns}
 
 -- a SELECT of these columns of all rows of a table, in the order of the first of them, its keys
 pub record WholeQuery : Type 0 where
@@ -24,11 +32,18 @@ pub record WholeQuery : Type 0 where
 abbrev pub selection_of : WholeQuery → Selection
 selection_of q = record { text = q.sql; names = q.names; tree = q.tree; filter = []; terms = q.terms; order = q.order }
 
--- its text means it
+-- its text is a query, and shows the rows in that order
 pub record IsWhole (q : WholeQuery) : Type 0 where
-  pub selection : IsSelection (selection_of q)
+  pub query : IsQueryText q.sql
+  pub plainly : (db : Trees) → overlay db [] q.tree ≡ db q.tree
   pub leads : (r : Row) → eval_all (map (λ t. t.0) q.order) ([] ∷ r ∷ []) ≡ take q.keys (shown_of q.terms [] r)
   pub wide : (r : Row) → length (shown_of q.terms [] r) ≡ q.width
+
+-- over the tables of that schema its text means it
+pub record IsReading (schema : Schema) (q : WholeQuery) : Type 0 where
+  pub command : command_of (understood schema q.sql) ≡ Select (record { lets = []; body = query_of (selection_of q) }) q.names
+  pub plain : IsPlain (understood schema q.sql)
+  pub unlisted : reads_listing schema q.sql ≡ false
 
 abbrev by : Term → Term × Key
 by t = (t, plain_key Binary)
@@ -47,12 +62,13 @@ meta_query = record {
 }
 
 pub meta_is : IsWhole meta_query
+unfolding first everything
+meta_is = record { query = refl; plainly = λ db. refl; leads = λ r. refl; wide = λ r. refl }
+
+pub meta_reads : (n : Version) → IsReading (schema_of n) meta_query
 unfolding understood first everything
-meta_is = record {
-  selection = record { shows = record { command = refl; plain = (refl, refl); query = refl; unlisted = refl }; plainly = λ db. refl };
-  leads = λ r. refl;
-  wide = λ r. refl;
-}
+meta_reads first_version = record { command = refl; plain = (refl, refl); unlisted = refl }
+meta_reads second_version = record { command = refl; plain = (refl, refl); unlisted = refl }
 
 -- ---- jobs
 
@@ -68,12 +84,13 @@ jobs_query = record {
 }
 
 pub jobs_is : IsWhole jobs_query
+unfolding first everything
+jobs_is = record { query = refl; plainly = λ db. refl; leads = λ r. refl; wide = λ r. refl }
+
+pub jobs_reads : (n : Version) → IsReading (schema_of n) jobs_query
 unfolding understood first everything
-jobs_is = record {
-  selection = record { shows = record { command = refl; plain = (refl, refl); query = refl; unlisted = refl }; plainly = λ db. refl };
-  leads = λ r. refl;
-  wide = λ r. refl;
-}
+jobs_reads first_version = record { command = refl; plain = (refl, refl); unlisted = refl }
+jobs_reads second_version = record { command = refl; plain = (refl, refl); unlisted = refl }
 
 -- ---- documents
 
@@ -89,12 +106,13 @@ documents_query = record {
 }
 
 pub documents_is : IsWhole documents_query
+unfolding first everything
+documents_is = record { query = refl; plainly = λ db. refl; leads = λ r. refl; wide = λ r. refl }
+
+pub documents_reads : (n : Version) → IsReading (schema_of n) documents_query
 unfolding understood first everything
-documents_is = record {
-  selection = record { shows = record { command = refl; plain = (refl, refl); query = refl; unlisted = refl }; plainly = λ db. refl };
-  leads = λ r. refl;
-  wide = λ r. refl;
-}
+documents_reads first_version = record { command = refl; plain = (refl, refl); unlisted = refl }
+documents_reads second_version = record { command = refl; plain = (refl, refl); unlisted = refl }
 
 -- ---- pieces
 
@@ -110,12 +128,13 @@ pieces_query = record {
 }
 
 pub pieces_is : IsWhole pieces_query
+unfolding first everything
+pieces_is = record { query = refl; plainly = λ db. refl; leads = λ r. refl; wide = λ r. refl }
+
+pub pieces_reads : (n : Version) → IsReading (schema_of n) pieces_query
 unfolding understood first everything
-pieces_is = record {
-  selection = record { shows = record { command = refl; plain = (refl, refl); query = refl; unlisted = refl }; plainly = λ db. refl };
-  leads = λ r. refl;
-  wide = λ r. refl;
-}
+pieces_reads first_version = record { command = refl; plain = (refl, refl); unlisted = refl }
+pieces_reads second_version = record { command = refl; plain = (refl, refl); unlisted = refl }
 
 -- ---- accounts
 
@@ -131,12 +150,13 @@ accounts_query = record {
 }
 
 pub accounts_is : IsWhole accounts_query
+unfolding first everything
+accounts_is = record { query = refl; plainly = λ db. refl; leads = λ r. refl; wide = λ r. refl }
+
+pub accounts_reads : (n : Version) → IsReading (schema_of n) accounts_query
 unfolding understood first everything
-accounts_is = record {
-  selection = record { shows = record { command = refl; plain = (refl, refl); query = refl; unlisted = refl }; plainly = λ db. refl };
-  leads = λ r. refl;
-  wide = λ r. refl;
-}
+accounts_reads first_version = record { command = refl; plain = (refl, refl); unlisted = refl }
+accounts_reads second_version = record { command = refl; plain = (refl, refl); unlisted = refl }
 
 -- ---- grants
 
@@ -152,12 +172,13 @@ grants_query = record {
 }
 
 pub grants_is : IsWhole grants_query
+unfolding first everything
+grants_is = record { query = refl; plainly = λ db. refl; leads = λ r. refl; wide = λ r. refl }
+
+pub grants_reads : (n : Version) → IsReading (schema_of n) grants_query
 unfolding understood first everything
-grants_is = record {
-  selection = record { shows = record { command = refl; plain = (refl, refl); query = refl; unlisted = refl }; plainly = λ db. refl };
-  leads = λ r. refl;
-  wide = λ r. refl;
-}
+grants_reads first_version = record { command = refl; plain = (refl, refl); unlisted = refl }
+grants_reads second_version = record { command = refl; plain = (refl, refl); unlisted = refl }
 
 -- ---- reports
 
@@ -173,12 +194,34 @@ reports_query = record {
 }
 
 pub reports_is : IsWhole reports_query
+unfolding first everything
+reports_is = record { query = refl; plainly = λ db. refl; leads = λ r. refl; wide = λ r. refl }
+
+pub reports_reads : (n : Version) → IsReading (schema_of n) reports_query
 unfolding understood first everything
-reports_is = record {
-  selection = record { shows = record { command = refl; plain = (refl, refl); query = refl; unlisted = refl }; plainly = λ db. refl };
-  leads = λ r. refl;
-  wide = λ r. refl;
+reports_reads first_version = record { command = refl; plain = (refl, refl); unlisted = refl }
+reports_reads second_version = record { command = refl; plain = (refl, refl); unlisted = refl }
+
+-- ---- policy, which the first version lacks
+
+abbrev pub policy_query : WholeQuery
+policy_query = record {
+  sql = codes "SELECT one, keep FROM policy ORDER BY one";
+  names = codes "one" ∷ codes "keep" ∷ [];
+  tree = 15;
+  terms = col 1 0 ∷ col 1 2 ∷ [];
+  order = by (col 1 0) ∷ [];
+  keys = 1;
+  width = 2;
 }
+
+pub policy_is : IsWhole policy_query
+unfolding first everything
+policy_is = record { query = refl; plainly = λ db. refl; leads = λ r. refl; wide = λ r. refl }
+
+pub policy_reads : IsReading book_schema policy_query
+unfolding understood first everything
+policy_reads = record { command = refl; plain = (refl, refl); unlisted = refl }
 
 -- ---- rowids
 
@@ -194,9 +237,10 @@ rowids_query = record {
 }
 
 pub rowids_is : IsWhole rowids_query
+unfolding first everything
+rowids_is = record { query = refl; plainly = λ db. refl; leads = λ r. refl; wide = λ r. refl }
+
+pub rowids_reads : (n : Version) → IsReading (schema_of n) rowids_query
 unfolding understood first everything
-rowids_is = record {
-  selection = record { shows = record { command = refl; plain = (refl, refl); query = refl; unlisted = refl }; plainly = λ db. refl };
-  leads = λ r. refl;
-  wide = λ r. refl;
-}
+rowids_reads first_version = record { command = refl; plain = (refl, refl); unlisted = refl }
+rowids_reads second_version = record { command = refl; plain = (refl, refl); unlisted = refl }

@@ -1,5 +1,5 @@
 -- What a store is loaded from.
-use Rattle.std.specs.Prelude.{◌≡◌, ◌&&◌, Bool, is_some, IsTrue, All, codes}
+use Rattle.std.specs.Prelude.{◌≡◌, ◌&&◌, Bool, is_some, IsTrue, All, List, Option, None, Some, codes}
 use Rattle.sqlite.specs.Effect.{Database}
 use Rattle.sqlite.specs.Schema.{Schema}
 use Rattle.sqlite.specs.State.{State, HasCleanDisk}
@@ -7,21 +7,27 @@ use Rattle.sqlite.specs.Tree.{Trees}
 use Rattle.sqlite_schema.specs.Names.{table_named}
 use Rattle.queue_rows.specs.Rows.{Tables}
 use Rattle.queue_tables.specs.Forms.{IsFormedJob}
-use Rattle.queue_tables.specs.Tables.{book_schema}
-use Rattle.queue_tables.specs.Values.{meta_values, meta_view, job_values, job_view, document_values, document_view, piece_view, account_view, grant_values, grant_view, report_values, report_view}
+use Rattle.queue_rows.specs.Versions.{Version, first_version, second_version}
+use Rattle.queue_rows.specs.declared.rows.PolicyRow.{PolicyRow}
+use Rattle.queue_tables.specs.Tables.{schema_of}
+use Rattle.queue_tables.specs.Values.{meta_values, meta_view, policy_values, policy_view, job_values, job_view, document_values, document_view, piece_view, account_view, grant_values, grant_view, report_values, report_view}
 use Rattle.queue_load.specs.Loaded.{AreFormedRows, ArePieces, IsBare, IsFormedWhole, IsTable, whole_piece}
-use Rattle.queue_load.specs.Tells.{account_row_values, IsFormedMeta, IsFormedDocument, IsFormedAccount, IsFormedGrant, IsFormedReport}
+use Rattle.queue_load.specs.Tells.{account_row_values, IsFormedMeta, IsFormedPolicy, IsFormedDocument, IsFormedAccount, IsFormedGrant, IsFormedReport}
 
+-- the tables that each version has
 abbrev pub has_all : Schema → Bool
 has_all s =
     is_some (table_named s (codes "meta")) && is_some (table_named s (codes "jobs")) && is_some (table_named s (codes "documents")) && is_some (table_named s (codes "pieces"))
     && is_some (table_named s (codes "accounts")) && is_some (table_named s (codes "grants")) && is_some (table_named s (codes "reports"))
 
--- a table is missing, or all are as `create` makes them
-abbrev pub FitsBook : Schema → Type 0
-FitsBook s = IsTrue (has_all s) → s ≡ book_schema
+abbrev pub has_policy : Schema → Bool
+has_policy s = is_some (table_named s (codes "policy"))
 
--- the premise on a connection: its tables are those of `create`, or one is missing
+-- one of these tables is missing, or all are as one of the versions has them
+abbrev pub FitsBook : Schema → Type 0
+FitsBook s = IsTrue (has_all s) → (n : Version) × (s ≡ schema_of n)
+
+-- the premise on a connection: its tables are those of one of the versions, or one is missing
 abbrev pub FitsIn : State → Type 0
 FitsIn s = HasCleanDisk s → FitsBook s.now.schema
 
@@ -34,15 +40,21 @@ pub record AreJobTables (t : Tables) (db : Trees) : Type 0 where
   pub documents : IsTable document_values document_view 2 t.documents (db 2)
   pub pieces : ArePieces t.pieces (db 4)
 
-pub record AreAccountTables (t : Tables) (db : Trees) : Type 0 where
-  pub accounts : IsTable account_row_values account_view 1 t.accounts (db 6)
-  pub grants : IsTable grant_values grant_view 2 t.grants (db 8)
-  pub reports : IsTable report_values report_view 2 t.reports (db 10)
+-- the first version has no table policy, the second has it
+abbrev pub ArePolicyRows : Option (List PolicyRow) → Database → Type 0
+ArePolicyRows None d = d.schema ≡ schema_of first_version
+ArePolicyRows (Some ps) d = (d.schema ≡ schema_of second_version) × IsTable policy_values policy_view 1 ps (d.trees 15)
+
+pub record AreAccountTables (t : Tables) (d : Database) : Type 0 where
+  pub accounts : IsTable account_row_values account_view 1 t.accounts (d.trees 6)
+  pub grants : IsTable grant_values grant_view 2 t.grants (d.trees 8)
+  pub reports : IsTable report_values report_view 2 t.reports (d.trees 10)
+  pub policy : ArePolicyRows t.policy d
 
 pub record AreTables (t : Tables) (d : Database) : Type 0 where
   pub tables : IsTrue (has_all d.schema)
   pub first : AreJobTables t d.trees
-  pub second : AreAccountTables t d.trees
+  pub second : AreAccountTables t d
 
 -- ---- tables whose rows have their forms
 
@@ -52,13 +64,17 @@ pub record HasJobTables (db : Trees) : Type 0 where
   pub documents : AreFormedRows IsFormedDocument document_values document_view (db 2)
   pub pieces : AreFormedRows IsFormedWhole whole_piece piece_view (db 4)
 
-pub record HasAccountTables (db : Trees) : Type 0 where
-  pub accounts : AreFormedRows IsFormedAccount account_row_values account_view (db 6)
-  pub grants : AreFormedRows IsFormedGrant grant_values grant_view (db 8)
-  pub reports : AreFormedRows IsFormedReport report_values report_view (db 10)
+abbrev pub HasPolicyForm : Database → Type 0
+HasPolicyForm d = d.schema ≡ schema_of second_version → AreFormedRows IsFormedPolicy policy_values policy_view (d.trees 15)
+
+pub record HasAccountTables (d : Database) : Type 0 where
+  pub accounts : AreFormedRows IsFormedAccount account_row_values account_view (d.trees 6)
+  pub grants : AreFormedRows IsFormedGrant grant_values grant_view (d.trees 8)
+  pub reports : AreFormedRows IsFormedReport report_values report_view (d.trees 10)
+  pub policy : HasPolicyForm d
 
 -- all tables are there, and their rows have their forms
 pub record IsLoadable (d : Database) : Type 0 where
   pub tables : IsTrue (has_all d.schema)
   pub first : HasJobTables d.trees
-  pub second : HasAccountTables d.trees
+  pub second : HasAccountTables d

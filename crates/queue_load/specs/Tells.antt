@@ -9,8 +9,9 @@ use Rattle.queue_rows.specs.declared.rows.AccountRow.{AccountRow}
 use Rattle.queue_rows.specs.declared.rows.DocumentRow.{DocumentRow}
 use Rattle.queue_rows.specs.declared.rows.MetaRow.{MetaRow}
 use Rattle.queue_rows.specs.declared.rows.PieceRow.{PieceRow}
+use Rattle.queue_rows.specs.declared.rows.PolicyRow.{PolicyRow}
 use Rattle.queue_tables.specs.Forms.{IsFormedJob}
-use Rattle.queue_tables.specs.Values.{meta_values, job_values, document_values, piece_values, account_values, grant_values, report_values}
+use Rattle.queue_tables.specs.Values.{meta_values, policy_values, job_values, document_values, piece_values, account_values, grant_values, report_values}
 
 -- ---- meta
 
@@ -27,6 +28,18 @@ pub record IsFormedMeta (m : MetaRow) : Type 0 where
 
 abbrev pub IsNoMeta : Row → Type 0
 IsNoMeta r = (m : MetaRow) → IsFormedMeta m → r ≢ meta_values m
+
+-- ---- policy
+
+abbrev pub TellsPolicy : PolicyRow → Row → Type 0
+TellsPolicy p r = length r ≡ 2 → r ≡ policy_values p
+
+pub record IsFormedPolicy (p : PolicyRow) : Type 0 where
+  pub one : p.one < 2 ^ 32
+  pub keep : p.keep < 2 ^ 32
+
+abbrev pub IsNoPolicy : Row → Type 0
+IsNoPolicy r = (p : PolicyRow) → IsFormedPolicy p → r ≢ policy_values p
 
 -- ---- jobs
 

@@ -25,7 +25,7 @@ impl Keyed for RowId {
 
 /// The rowids of the accounts, in their order.
 fn read_ids<S: Alter>(alloc: Global, conn: &mut Connection<S>) -> Result<Vec<RowId>, Fault>
-    ensures reads { ReadsTable (state S.Store conn.old) (state S.Store conn.new) result (λ db v. IsTable id_values id_view 1 v.items (db 6)) (λ db. AreKeyed (db 6)) }
+    ensures reads { ReadsTable (state S.Store conn.old) (state S.Store conn.new) result (λ db v. IsTable id_values id_view 1 v.items (db.trees 6)) (λ db. AreKeyed (db.trees 6)) }
 {
     read_table(alloc, conn, "SELECT rowid FROM accounts ORDER BY rowid")
 }
@@ -35,7 +35,7 @@ pub(crate) fn accounts_are_keyed<S: Alter>(
     alloc: Global,
     conn: &mut Connection<S>,
 ) -> Result<bool, Fault>
-    ensures reads { ReadsTable (state S.Store conn.old) (state S.Store conn.new) result (λ db b. IsTrue b ↔ AreKeyed (db 6)) (λ db. AreKeyed (db 6)) }
+    ensures reads { ReadsTable (state S.Store conn.old) (state S.Store conn.new) result (λ db b. IsTrue b ↔ AreKeyed (db.trees 6)) (λ db. AreKeyed (db.trees 6)) }
 {
     let ids = read_ids(alloc, conn)?;
     Ok(are_in_order(ids.as_slice()))

@@ -7,7 +7,6 @@ ghost use Rattle.queue_load.specs.Queues.{HasQueue, IsQueueIn};
 ghost use Rattle.queue_load.specs.Store.{AreTables, IsLoadable};
 ghost use Rattle.queue_rows.specs.Rows.{bytes_of, rows_of, StandForSoundWorlds, Tables};
 ghost use Rattle.queue_tables.specs.Kept.{AreKeyed};
-ghost use Rattle.queue_tables.specs.Tables.{book_schema};
 
 use queue_rows::laws::{numbers_tell_names, sound_queues_have_sound_rows};
 
@@ -25,7 +24,7 @@ pub fn queues_are_loadable()
 
 /// Typed rows that are the tables of a sound queue are its rows, one by one.
 pub fn tables_give_their_queue()
-    ensures { (w : World) (d : Database) (t : Tables) → IsQueueIn w d → AreTables t d → t ≡ rows_of w }
+    ensures { (w : World) (d : Database) (t : Tables) (q : IsQueueIn w d) → AreTables t d → t ≡ rows_of q.version w }
 {
     numbers_tell_names();
     sound_queues_have_sound_rows();
@@ -33,13 +32,13 @@ pub fn tables_give_their_queue()
 
 /// Tables hold a sound queue where their rows stand for such ones, and the accounts have rowids of their own.
 pub fn sound_rows_are_a_queue()
-    ensures { (t : Tables) (d : Database) → d.schema ≡ book_schema → AreTables t d → AreKeyed (d.trees 6) → StandForSoundWorlds t → HasQueue t d }
+    ensures { (t : Tables) (d : Database) → AreTables t d → AreKeyed (d.trees 6) → StandForSoundWorlds t → HasQueue t d }
 {}
 
 /// The rows of a sound queue are the typed rows of the tables that hold it, and two sound queues that the same tables hold have the
 /// same bytes in their pieces.
 pub fn queues_have_their_tables()
-    ensures tables { (w : World) (d : Database) → IsQueueIn w d → AreTables (rows_of w) d }
+    ensures tables { (w : World) (d : Database) (q : IsQueueIn w d) → AreTables (rows_of q.version w) d }
     ensures bytes { (v w : World) (d : Database) → IsQueueIn v d → IsQueueIn w d → bytes_of v ≡ bytes_of w }
 {
     sound_queues_have_sound_rows();

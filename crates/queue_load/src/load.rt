@@ -1,16 +1,18 @@
 //! The tables, each read whole by one SELECT in the order of its key.
-ghost use Rattle.std.specs.Prelude.{All};
+ghost use Rattle.std.specs.Prelude.{◌≡◌, All, IsTrue, option_map};
 ghost use Rattle.sqlite.specs.Held.{state};
+ghost use Rattle.sqlite.specs.State.{HasCleanDisk};
 ghost use Rattle.queue_load.specs.Loaded.{AreFormedRows, ArePieces, IsBare, IsFormedWhole, IsTable, whole_piece};
 ghost use Rattle.queue_load.specs.Reads.{ReadsTable};
+ghost use Rattle.queue_load.specs.Store.{ArePolicyRows, HasPolicyForm, has_policy};
 ghost use Rattle.queue_load.specs.Tells.{account_row_values, IsFormedMeta, IsFormedDocument, IsFormedAccount, IsFormedGrant, IsFormedReport};
 ghost use Rattle.queue_tables.specs.Forms.{IsFormedJob};
 ghost use Rattle.queue_tables.specs.Values.{meta_values, meta_view, job_values, job_view, document_values, document_view, piece_view, account_view, grant_values, grant_view, report_values, report_view};
 
 use crate::table::read_table;
-use queue_rows::rows::{AccountRow, DocumentRow, MetaRow, PieceRow};
+use queue_rows::rows::{AccountRow, DocumentRow, MetaRow, PieceRow, PolicyRow};
 use queue_tables::fault::Fault;
-use queue_tables::with_job_columns;
+use queue_tables::{POLICY, with_job_columns};
 use queue_types::event::{GrantRow, KeptReport};
 use queue_types::job::Job;
 use sqlite::{Alter, Connection};
@@ -21,7 +23,7 @@ pub(crate) fn read_meta<S: Alter>(
     alloc: Global,
     conn: &mut Connection<S>,
 ) -> Result<Vec<MetaRow>, Fault>
-    ensures reads { ReadsTable (state S.Store conn.old) (state S.Store conn.new) result (λ db v. IsTable meta_values meta_view 1 v.items (db 0)) (λ db. AreFormedRows IsFormedMeta meta_values meta_view (db 0)) }
+    ensures reads { ReadsTable (state S.Store conn.old) (state S.Store conn.new) result (λ db v. IsTable meta_values meta_view 1 v.items (db.trees 0)) (λ db. AreFormedRows IsFormedMeta meta_values meta_view (db.trees 0)) }
 {
     read_table(
         alloc,
@@ -35,7 +37,7 @@ pub(crate) fn read_jobs<S: Alter>(
     alloc: Global,
     conn: &mut Connection<S>,
 ) -> Result<Vec<Job>, Fault>
-    ensures reads { ReadsTable (state S.Store conn.old) (state S.Store conn.new) result (λ db v. IsTable job_values job_view 1 v.items (db 1) × All IsBare v.items) (λ db. AreFormedRows IsFormedJob job_values job_view (db 1)) }
+    ensures reads { ReadsTable (state S.Store conn.old) (state S.Store conn.new) result (λ db v. IsTable job_values job_view 1 v.items (db.trees 1) × All IsBare v.items) (λ db. AreFormedRows IsFormedJob job_values job_view (db.trees 1)) }
 {
     read_table(
         alloc,
@@ -49,7 +51,7 @@ pub(crate) fn read_documents<S: Alter>(
     alloc: Global,
     conn: &mut Connection<S>,
 ) -> Result<Vec<DocumentRow>, Fault>
-    ensures reads { ReadsTable (state S.Store conn.old) (state S.Store conn.new) result (λ db v. IsTable document_values document_view 2 v.items (db 2)) (λ db. AreFormedRows IsFormedDocument document_values document_view (db 2)) }
+    ensures reads { ReadsTable (state S.Store conn.old) (state S.Store conn.new) result (λ db v. IsTable document_values document_view 2 v.items (db.trees 2)) (λ db. AreFormedRows IsFormedDocument document_values document_view (db.trees 2)) }
 {
     read_table(
         alloc,
@@ -64,7 +66,7 @@ pub(crate) fn read_pieces<S: Alter>(
     alloc: Global,
     conn: &mut Connection<S>,
 ) -> Result<Vec<PieceRow>, Fault>
-    ensures reads { ReadsTable (state S.Store conn.old) (state S.Store conn.new) result (λ db v. ArePieces v.items (db 4)) (λ db. AreFormedRows IsFormedWhole whole_piece piece_view (db 4)) }
+    ensures reads { ReadsTable (state S.Store conn.old) (state S.Store conn.new) result (λ db v. ArePieces v.items (db.trees 4)) (λ db. AreFormedRows IsFormedWhole whole_piece piece_view (db.trees 4)) }
 {
     read_table(
         alloc,
@@ -78,7 +80,7 @@ pub(crate) fn read_accounts<S: Alter>(
     alloc: Global,
     conn: &mut Connection<S>,
 ) -> Result<Vec<AccountRow>, Fault>
-    ensures reads { ReadsTable (state S.Store conn.old) (state S.Store conn.new) result (λ db v. IsTable account_row_values account_view 1 v.items (db 6)) (λ db. AreFormedRows IsFormedAccount account_row_values account_view (db 6)) }
+    ensures reads { ReadsTable (state S.Store conn.old) (state S.Store conn.new) result (λ db v. IsTable account_row_values account_view 1 v.items (db.trees 6)) (λ db. AreFormedRows IsFormedAccount account_row_values account_view (db.trees 6)) }
 {
     read_table(
         alloc,
@@ -92,7 +94,7 @@ pub(crate) fn read_grants<S: Alter>(
     alloc: Global,
     conn: &mut Connection<S>,
 ) -> Result<Vec<GrantRow>, Fault>
-    ensures reads { ReadsTable (state S.Store conn.old) (state S.Store conn.new) result (λ db v. IsTable grant_values grant_view 2 v.items (db 8)) (λ db. AreFormedRows IsFormedGrant grant_values grant_view (db 8)) }
+    ensures reads { ReadsTable (state S.Store conn.old) (state S.Store conn.new) result (λ db v. IsTable grant_values grant_view 2 v.items (db.trees 8)) (λ db. AreFormedRows IsFormedGrant grant_values grant_view (db.trees 8)) }
 {
     read_table(
         alloc,
@@ -106,11 +108,32 @@ pub(crate) fn read_reports<S: Alter>(
     alloc: Global,
     conn: &mut Connection<S>,
 ) -> Result<Vec<KeptReport>, Fault>
-    ensures reads { ReadsTable (state S.Store conn.old) (state S.Store conn.new) result (λ db v. IsTable report_values report_view 2 v.items (db 10)) (λ db. AreFormedRows IsFormedReport report_values report_view (db 10)) }
+    ensures reads { ReadsTable (state S.Store conn.old) (state S.Store conn.new) result (λ db v. IsTable report_values report_view 2 v.items (db.trees 10)) (λ db. AreFormedRows IsFormedReport report_values report_view (db.trees 10)) }
 {
     read_table(
         alloc,
         conn,
         "SELECT job, seq, kind, count, state, total FROM reports ORDER BY job, seq",
     )
+}
+
+/// There is the table that the first version lacks.
+fn has_policy<S: Alter>(conn: &Connection<S>) -> bool
+    ensures { result ≡ has_policy (state S.Store conn.now).now.schema }
+{
+    conn.schema().table_named(POLICY).is_some()
+}
+
+/// The rows of `policy`, where there is such a table, of a connection that is open. Damaged is told only where one of them is no such row.
+pub(crate) fn read_policy<S: Alter>(
+    alloc: Global,
+    conn: &mut Connection<S>,
+) -> Result<Option<Vec<PolicyRow>>, Fault>
+    ensures reads { (HasCleanDisk (state S.Store conn.old) → IsTrue (state S.Store conn.old).is_open) → ReadsTable (state S.Store conn.old) (state S.Store conn.new) result (λ d p. ArePolicyRows (option_map (λ v. v.items) p) d) HasPolicyForm }
+{
+    if !has_policy(conn) {
+        return Ok(None);
+    }
+    let rows = read_table(alloc, conn, "SELECT one, keep FROM policy ORDER BY one")?;
+    Ok(Some(rows))
 }

@@ -22,7 +22,7 @@ use std::alloc::Global;
 
 /// The accounts have rowids of their own. Damaged is told only where they have not.
 fn check_accounts<S: Alter>(alloc: Global, conn: &mut Connection<S>) -> Result<(), Fault>
-    ensures reads { ReadsTable (state S.Store conn.old) (state S.Store conn.new) result (λ db u. AreKeyed (db 6)) (λ db. AreKeyed (db 6)) }
+    ensures reads { ReadsTable (state S.Store conn.old) (state S.Store conn.new) result (λ db u. AreKeyed (db.trees 6)) (λ db. AreKeyed (db.trees 6)) }
 {
     let keyed = accounts_are_keyed(alloc, conn)?;
     if !keyed {
@@ -33,7 +33,7 @@ fn check_accounts<S: Alter>(alloc: Global, conn: &mut Connection<S>) -> Result<(
 
 /// The rows are those of a sound queue, and the accounts have rowids of their own. Damaged is told only where it is not so.
 fn check_rows<S: Alter>(alloc: Global, conn: &mut Connection<S>, rows: &Rows) -> Result<(), Fault>
-    ensures reads { ReadsTable (state S.Store conn.old) (state S.Store conn.new) result (λ db u. StandForSoundWorlds (tables_in rows.now) × AreKeyed (db 6)) (λ db. (¬ StandForNoSoundWorld (tables_in rows.now)) × AreKeyed (db 6)) }
+    ensures reads { ReadsTable (state S.Store conn.old) (state S.Store conn.new) result (λ db u. StandForSoundWorlds (tables_in rows.now) × AreKeyed (db.trees 6)) (λ db. (¬ StandForNoSoundWorld (tables_in rows.now)) × AreKeyed (db.trees 6)) }
 {
     if !are_sound_rows(alloc, rows)? {
         return Err(Fault::Damaged);

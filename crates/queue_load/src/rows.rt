@@ -9,20 +9,23 @@ ghost use Rattle.queue_tables.specs.Leaving.{LeavesTables};
 ghost use Rattle.queue_tables.specs.declared.fault.Fault.TheVariants.{Damaged};
 
 use crate::load::{
-    read_accounts, read_documents, read_grants, read_jobs, read_meta, read_pieces, read_reports,
+    read_accounts, read_documents, read_grants, read_jobs, read_meta, read_pieces, read_policy,
+    read_reports,
 };
 use queue_rows::rows::Rows;
-use queue_tables::TABLES;
+use queue_tables::FIRST_TABLES;
 use queue_tables::fault::Fault;
 use sqlite::{Alter, Connection};
 use std::alloc::Global;
 
-/// Each table of the book is there.
+/// Each table is there that each version of the book has.
 fn has_tables<S: Alter>(conn: &Connection<S>) -> bool
     ensures { result ≡ has_all (state S.Store conn.now).now.schema }
 {
     let schema = conn.schema();
-    TABLES.iter().all(|name| schema.table_named(name).is_some())
+    FIRST_TABLES
+        .iter()
+        .all(|name| schema.table_named(name).is_some())
 }
 
 /// The row of the book itself, and the jobs with their documents and pieces.
@@ -31,7 +34,7 @@ fn fill_jobs<S: Alter>(
     conn: &mut Connection<S>,
     rows: &mut Rows,
 ) -> Result<(), Fault>
-    ensures reads { ReadsTable (state S.Store conn.old) (state S.Store conn.new) result (λ db u. AreJobTables (tables_in rows.new) db) HasJobTables }
+    ensures reads { ReadsTable (state S.Store conn.old) (state S.Store conn.new) result (λ d u. AreJobTables (tables_in rows.new) d.trees) (λ d. HasJobTables d.trees) }
 {
     rows.meta = read_meta(alloc, conn)?;
     rows.jobs = read_jobs(alloc, conn)?;
@@ -40,18 +43,19 @@ fn fill_jobs<S: Alter>(
     Ok(())
 }
 
-/// The accounts, the grants and the reports.
+/// The accounts, the grants, the reports and for how long a held job is kept.
 fn fill_accounts<S: Alter>(
     alloc: Global,
     conn: &mut Connection<S>,
     rows: &mut Rows,
 ) -> Result<(), Fault>
-    ensures reads { ReadsTable (state S.Store conn.old) (state S.Store conn.new) result (λ db u. AreAccountTables (tables_in rows.new) db) HasAccountTables }
+    ensures reads { ReadsTable (state S.Store conn.old) (state S.Store conn.new) result (λ d u. AreAccountTables (tables_in rows.new) d) HasAccountTables }
     ensures others { (rows.new.meta ≡ rows.old.meta) × (rows.new.jobs ≡ rows.old.jobs) × (rows.new.documents ≡ rows.old.documents) × (rows.new.pieces ≡ rows.old.pieces) }
 {
     rows.accounts = read_accounts(alloc, conn)?;
     rows.grants = read_grants(alloc, conn)?;
     rows.reports = read_reports(alloc, conn)?;
+    rows.policy = read_policy(alloc, conn)?;
     Ok(())
 }
 

@@ -1,15 +1,12 @@
 //! A whole table, read a row at a time.
 ghost use Rattle.std.specs.Prelude.{◌≡◌, ◌≢◌, IfOk, IfErr, OnOk};
-ghost use Rattle.sqlite.specs.Given.{IsPlain};
 ghost use Rattle.sqlite.specs.Held.{state};
-ghost use Rattle.sqlite.specs.Listing.{understood};
 ghost use Rattle.sqlite.specs.Order.{Row as Columns};
 ghost use Rattle.sqlite.specs.State.{HasCleanDisk, IsUnchanged};
-ghost use Rattle.queue_load.specs.Reads.{FindsFormless, HasBook, HasRead};
+ghost use Rattle.queue_load.specs.Reads.{FindsFormless, HasRead, IsUnderstood};
 ghost use Rattle.queue_load.specs.RowByRow.{ReadsNext, ReadsRows};
 ghost use Rattle.queue_tables.specs.Leaving.{LeavesTables};
 ghost use Rattle.queue_tables.specs.Queries.{IsQueryText};
-ghost use Rattle.queue_tables.specs.Tables.{book_schema};
 ghost use Rattle.queue_tables.specs.declared.fault.Fault.TheVariants.{Damaged, Disk};
 
 use queue_tables::fault::Fault;
@@ -65,11 +62,10 @@ pub(crate) fn read_table<S: Alter, T: TableRow>(
     sql: &str,
 ) -> Result<Vec<T>, Fault>
     requires query { IsQueryText sql.now }
-    requires plain { IsPlain (understood book_schema sql.now) }
     ensures leaves { LeavesTables (state S.Store conn.old) (state S.Store conn.new) }
     ensures same { HasCleanDisk (state S.Store conn.new) → OnOk result (IsUnchanged (state S.Store conn.old) (state S.Store conn.new)) }
-    ensures read { HasBook (state S.Store conn.old) → HasCleanDisk (state S.Store conn.new) → IfOk result (λ v. HasRead T.tells sql.now (state S.Store conn.old) v.items) }
-    ensures formless { HasBook (state S.Store conn.old) → HasCleanDisk (state S.Store conn.new) → IfErr result (λ e. e ≡ Damaged → FindsFormless T.is_formless sql.now (state S.Store conn.old)) }
+    ensures read { IsUnderstood sql.now (state S.Store conn.old) → HasCleanDisk (state S.Store conn.new) → IfOk result (λ v. HasRead T.tells sql.now (state S.Store conn.old) v.items) }
+    ensures formless { IsUnderstood sql.now (state S.Store conn.old) → HasCleanDisk (state S.Store conn.new) → IfErr result (λ e. e ≡ Damaged → FindsFormless T.is_formless sql.now (state S.Store conn.old)) }
 {
     if !conn.is_autocommit() {
         return Err(Fault::Disk);

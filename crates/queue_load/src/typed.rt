@@ -5,7 +5,7 @@ ghost use Rattle.sqlite.specs.declared.types.Value.TheVariants.{Blob};
 ghost use Rattle.queue_tables.specs.declared.fault.Fault.TheVariants.{Damaged, Disk};
 
 use crate::table::TableRow;
-use queue_rows::rows::{AccountRow, DocumentRow, MetaRow, PieceRow};
+use queue_rows::rows::{AccountRow, DocumentRow, MetaRow, PieceRow, PolicyRow};
 use queue_tables::fault::Fault;
 use queue_tables::read::{format, job_state, kind, read_job, text, value};
 use queue_types::event::{GrantRow, KeptReport, Report};
@@ -60,6 +60,21 @@ impl TableRow for MetaRow {
             estimate: value(row, 4)?,
             epoch: value(row, 5)?,
             next_number: value(row, 6)?,
+        })
+    }
+}
+
+impl TableRow for PolicyRow {
+    ghost use Rattle.queue_load.specs.Tells.{TellsPolicy, IsNoPolicy};
+
+    ghost tells = { TellsPolicy };
+
+    ghost is_formless = { IsNoPolicy };
+
+    fn read(_alloc: Global, row: &Row) -> Result<PolicyRow, Fault> {
+        Ok(PolicyRow {
+            one: value(row, 0)?,
+            keep: value(row, 1)?,
         })
     }
 }

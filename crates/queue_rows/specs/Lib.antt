@@ -1,5 +1,6 @@
 pub mod Order
 pub mod Totals
+pub mod Versions
 pub mod Meta
 pub mod Jobs
 pub mod Documents

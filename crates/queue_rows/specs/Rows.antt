@@ -1,5 +1,5 @@
 -- The rows that a queue has: what each table holds, in the order of its key.
-use Rattle.std.specs.Prelude.{◌≡◌, ◌≢◌, ℕ, ℤ, List, [], ◌∷◌, map, length}
+use Rattle.std.specs.Prelude.{◌≡◌, ◌≢◌, ℕ, ℤ, List, [], ◌∷◌, map, length, Option, option_map}
 use Rattle.std.specs.List.{flat_map}
 use Rattle.std.specs.FinMap.{entries}
 use Rattle.queue_core.specs.Sound.{IsSound, reserved, printed}
@@ -9,10 +9,12 @@ use Rattle.queue_types.specs.declared.event.KeptReport.{KeptReport}
 use Rattle.queue_types.specs.declared.job.Job.{Job}
 use Rattle.queue_rows.specs.Documents.{documents_from}
 use Rattle.queue_rows.specs.Pieces.{pieces_of, cut_up, length_in}
+use Rattle.queue_rows.specs.Versions.{IsOf, Version, number_of, policy_rows}
 use Rattle.queue_rows.specs.declared.rows.AccountRow.{AccountRow}
 use Rattle.queue_rows.specs.declared.rows.DocumentRow.{DocumentRow}
 use Rattle.queue_rows.specs.declared.rows.MetaRow.{MetaRow}
 use Rattle.queue_rows.specs.declared.rows.PieceRow.{PieceRow}
+use Rattle.queue_rows.specs.declared.rows.PolicyRow.{PolicyRow}
 use Rattle.queue_rows.specs.declared.rows.Rows.{Rows}
 
 pub record Tables : Type 0 where
@@ -24,6 +26,8 @@ pub record Tables : Type 0 where
   pub accounts : List AccountRow
   pub grants : List GrantRow
   pub reports : List KeptReport
+  -- none where there is no such table
+  pub policy : Option (List PolicyRow)
 
 abbrev pub tables_in : Rows → Tables
 tables_in r = record {
@@ -34,14 +38,15 @@ tables_in r = record {
   accounts = r.accounts.items;
   grants = r.grants.items;
   reports = r.reports.items;
+  policy = option_map (λ v. v.items) r.policy;
 }
 
 -- ---- of a queue
 
-abbrev pub meta_row : World → MetaRow
-meta_row w = record {
+abbrev pub meta_row : Version → World → MetaRow
+meta_row n w = record {
   one = 1;
-  schema = 1;
+  schema = number_of n;
   uri = w.settings.uri;
   name = w.settings.name;
   estimate = w.settings.estimate;
@@ -66,15 +71,17 @@ grant_row g = record { batch = g.0.0; account = g.0.1; pages = g.1 }
 abbrev pub report_row : (ℕ × ℕ) × KeptReport → KeptReport
 report_row r = r.1
 
-abbrev pub rows_of : World → Tables
-rows_of w = record {
-  meta = meta_row w ∷ [];
+-- in tables of that version
+abbrev pub rows_of : Version → World → Tables
+rows_of n w = record {
+  meta = meta_row n w ∷ [];
   jobs = map job_row w.jobs;
   documents = flat_map document_rows w.jobs;
   pieces = flat_map pieces_of (flat_map document_rows w.jobs);
   accounts = map (account_row w) (entries w.free);
   grants = map grant_row (entries w.grants);
   reports = map report_row (entries w.reports);
+  policy = policy_rows n w.settings.keep;
 }
 
 abbrev pub bytes_of_entry : Entry → List (List ℕ)
@@ -90,7 +97,9 @@ bytes_of w = flat_map bytes_of_entry w.jobs
 pub record HaveWorld (t : Tables) (bs : List (List ℕ)) : Type 0 where
   pub world : World
   pub sound : IsSound world
-  pub rows : rows_of world ≡ t
+  pub version : Version
+  pub fits : IsOf version world
+  pub rows : rows_of version world ≡ t
   pub bytes : bytes_of world ≡ bs
 
 -- whatever the bytes of the pieces are, of the lengths that the rows say
@@ -98,4 +107,4 @@ abbrev pub StandForSoundWorlds : Tables → Type 0
 StandForSoundWorlds t = (bs : List (List ℕ)) → map length bs ≡ map length_in t.pieces → HaveWorld t bs
 
 abbrev pub StandForNoSoundWorld : Tables → Type 0
-StandForNoSoundWorld t = (w : World) → IsSound w → rows_of w ≢ t
+StandForNoSoundWorld t = (n : Version) (w : World) → IsSound w → IsOf n w → rows_of n w ≢ t

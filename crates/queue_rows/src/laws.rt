@@ -9,11 +9,12 @@ ghost use Rattle.queue_rows.specs.Codes.{phase_number, why_number, kind_number, 
 ghost use Rattle.queue_rows.specs.Pieces.{length_in};
 ghost use Rattle.queue_rows.specs.Rows.{rows_of, bytes_of};
 ghost use Rattle.queue_rows.specs.Sound.{AreSoundRows};
+ghost use Rattle.queue_rows.specs.Versions.{IsOf, Version};
 
-/// Two sound queues with the same rows, and the same bytes in their pieces, are one: the rows tell all of
+/// Two sound queues with the same rows, in tables of whatever version, and the same bytes in their pieces, are one: the rows tell all of
 /// a queue.
 pub fn rows_tell_the_queue()
-    ensures { (v w : World) → IsSound v → IsSound w → rows_of v ≡ rows_of w → bytes_of v ≡ bytes_of w → v ≡ w }
+    ensures { (m n : Version) (v w : World) → IsSound v → IsSound w → IsOf m v → IsOf n w → rows_of m v ≡ rows_of n w → bytes_of v ≡ bytes_of w → v ≡ w }
 {}
 
 /// No two phases, kinds of reports, states or truth values have the same numbers in their columns.
@@ -27,6 +28,6 @@ pub fn numbers_tell_names()
 /// The rows of a sound queue keep each clause over the rows, and the bytes of its pieces have the lengths
 /// that the rows say.
 pub fn sound_queues_have_sound_rows()
-    ensures rows { (w : World) → IsSound w → AreSoundRows (rows_of w) }
-    ensures lengths { (w : World) → map length (bytes_of w) ≡ map length_in (rows_of w).pieces }
+    ensures rows { (n : Version) (w : World) → IsSound w → IsOf n w → AreSoundRows (rows_of n w) }
+    ensures lengths { (n : Version) (w : World) → map length (bytes_of w) ≡ map length_in (rows_of n w).pieces }
 {}

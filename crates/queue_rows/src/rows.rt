@@ -1,5 +1,5 @@
 //! The rows of all tables.
-ghost use Rattle.std.specs.Prelude.{◌≡◌, []};
+ghost use Rattle.std.specs.Prelude.{◌≡◌, [], None};
 ghost use Rattle.queue_rows.specs.Rows.{tables_in};
 
 use queue_types::document::Format;
@@ -8,15 +8,18 @@ use queue_types::job::Job;
 use queue_types::text::Text;
 use std::alloc::Global;
 
-/// The number of the schema of a store's tables.
-pub const SCHEMA: u32 = 1;
+/// The number of the schema of a new store's tables.
+pub const SCHEMA: u32 = 2;
+
+/// The number of the schema without the table `policy`, whose stores are still read.
+pub const FIRST_SCHEMA: u32 = 1;
 
 /// The one row of the table `meta`.
 #[derive(Debug, Drop)]
 pub struct MetaRow {
     /// The key, always 1.
     pub one: u32,
-    /// The number of the schema, [`SCHEMA`].
+    /// The number of the schema, [`SCHEMA`], or [`FIRST_SCHEMA`] where there is no table `policy`.
     pub schema: u32,
     /// The printer's URI, as are the next three a value of its settings.
     pub uri: Text,
@@ -61,6 +64,15 @@ pub struct AccountRow {
     pub printed: u64,
 }
 
+/// The one row of the table `policy`.
+#[derive(Clone, Copy, Debug)]
+pub struct PolicyRow {
+    /// The key, always 1.
+    pub one: u32,
+    /// The seconds for which a job may be held; 0 where there is no end to it.
+    pub keep: u32,
+}
+
 /// The rows of all tables, each table in the order of its key.
 #[derive(Debug, Drop)]
 pub struct Rows {
@@ -72,12 +84,14 @@ pub struct Rows {
     pub accounts: Vec<AccountRow>,
     pub grants: Vec<GrantRow>,
     pub reports: Vec<KeptReport>,
+    /// None where there is no such table.
+    pub policy: Option<Vec<PolicyRow>>,
 }
 
 impl Rows {
     /// Tables without rows.
     pub fn new(alloc: Global) -> Self
-        ensures { tables_in result ≡ record { meta = []; jobs = []; documents = []; pieces = []; accounts = []; grants = []; reports = [] } }
+        ensures { tables_in result ≡ record { meta = []; jobs = []; documents = []; pieces = []; accounts = []; grants = []; reports = []; policy = None } }
     {
         Rows {
             meta: Vec::new(alloc),
@@ -87,6 +101,7 @@ impl Rows {
             accounts: Vec::new(alloc),
             grants: Vec::new(alloc),
             reports: Vec::new(alloc),
+            policy: None,
         }
     }
 }

@@ -1,5 +1,5 @@
 -- What is read of a sound queue is within its bounds.
-use Rattle.std.proofs.Common.{◌≡◌, All, inl, inr, ℕ, ℤ, pos, ◌+ℤ◌, ◌+◌, Option, None, Some, option_map, IsSomeAnd, ◌<◌, ◌≤◌, ◌^◌, ◌==◌, List, [], ◌∷◌, IfSome, length, sym, subst, arith}
+use Rattle.std.proofs.Common.{◌≡◌, All, Bool, filter, inl, inr, ℕ, ℤ, pos, ◌+ℤ◌, ◌+◌, Option, None, Some, option_map, IsSomeAnd, ◌<◌, ◌≤◌, ◌^◌, ◌==◌, List, [], ◌∷◌, IfSome, length, sym, subst, arith}
 use Rattle.std.specs.FinMap.{get}
 use Rattle.std.specs.List.{AllByRecursion as Each}
 use Rattle.std.proofs.lemmas.Bool.{cases_Bool, eqb-true}
@@ -11,7 +11,7 @@ use Rattle.queue_types.specs.declared.event.GrantRow.{GrantRow}
 use Rattle.queue_types.specs.declared.job.Job.{Job}
 use Rattle.queue_core.specs.Limits.{IsAmount, IsFair, IsGrant, IsKnown, IsSoundJob}
 use Rattle.queue_core.specs.Sound.{IsKept, IsSound, Rise, printed, reserved}
-use Rattle.queue_core.specs.World.{Entry, World, granted, jobs_for, jobs_scene, known_grant, numbered, queue_counts, rows}
+use Rattle.queue_core.specs.World.{Entry, World, granted, has_expired, jobs_for, jobs_scene, known_grant, numbered, queue_counts, rows}
 use Rattle.queue_core.proofs.Fair.{fair_of}
 use Rattle.queue_tables.specs.Accounts.{pages_of}
 use Rattle.queue_tables.specs.declared.account_pages.AccountPages.{AccountPages}
@@ -33,10 +33,20 @@ pub jobs_are_few : (w : World) → IsSound w → length (rows w) < 2 ^ 31
 jobs_are_few w sound = omega (arith, length-map w.jobs (λ (e : Entry). e.row), risen 1 w.jobs w.next sound.numbers, sound.next)
 
 pub queued_fit : (w : World) → IsSound w → (queue_counts (rows w)).queued < 2 ^ 31
-queued_fit w sound = (fair_of w (ask [] get_printer_attributes) sound).queued
+queued_fit w sound = (fair_of w 0 (ask [] get_printer_attributes) sound).queued
 
 pub jobs_fit : (w : World) (caller : List ℕ) (call : Call) → IsSound w → length (jobs_for caller call (rows w)) < 2 ^ 31
-jobs_fit w caller call sound = (fair_of w (ask caller call) sound).few
+jobs_fit w caller call sound = (fair_of w 0 (ask caller call) sound).few
+
+few_filtered : (p : Job → Bool) (js : List Job) → length (filter p js) ≤ length js
+few_filtered p [] = omega arith
+few_filtered p (j ∷ js) = elim (cases_Bool (p j)) [
+  | inl passed ↦ rw passed (omega (arith, few_filtered p js))
+  | inr failed ↦ rw failed (omega (arith, few_filtered p js))
+]
+
+pub expired_fit : (w : World) (keep now : ℕ) → IsSound w → length (filter (has_expired keep now) (rows w)) < 2 ^ 31
+expired_fit w keep now sound = omega (arith, few_filtered (has_expired keep now) (rows w), jobs_are_few w sound)
 
 one_numbered : (n : ℕ) (js : List Job) → AreRising js → length (numbered n js) ≤ 1
 one_numbered n [] rise = omega arith
@@ -51,7 +61,7 @@ number_is_one w n sound = one_numbered n (rows w) (world_rising w sound)
 -- ---- accounts
 
 row_is_known : (w : World) (g : GrantRow) → IsSound w → IsKnown (known_grant w g)
-row_is_known w g sound = (fair_of w (grant (g ∷ [])) sound).known 0 (known_grant w g) (omega arith)
+row_is_known w g sound = (fair_of w 0 (grant (g ∷ [])) sound).known 0 (known_grant w g) (omega arith)
 
 pub free_fits : (w : World) (a : List ℕ) → IsSound w → IfSome (get w.free a) IsAmount
 free_fits w a sound = (row_is_known w (record { batch = []; account = a; pages = 0 }) sound).free
@@ -79,7 +89,7 @@ grant_fits w batch account n sound there =
 -- ---- the next number, and a kept report
 
 pub next_fits : (w : World) → IsSound w → (1 ≤ w.next) × (w.next < 2 ^ 32)
-next_fits w sound = ((fair_of w (ask [] get_printer_attributes) sound).next, omega (arith, sound.next))
+next_fits w sound = ((fair_of w 0 (ask [] get_printer_attributes) sound).next, omega (arith, sound.next))
 
 pub report_fits : (w : World) (job seq : ℕ) (k : KeptReport) → IsSound w → get w.reports (job, seq) ≡ Some k → IsFormedReport k
 report_fits w job seq k sound there =

@@ -15,3 +15,4 @@ pub mod Told
 pub mod Picked
 pub mod Bounds
 pub mod SheetLemmas
+pub mod Owners

@@ -6,7 +6,7 @@ use Rattle.std.specs.List.Sorted.{IsPermutation}
 use Rattle.std.proofs.lemmas.Bool.{cases_Bool, eqb-true, eq-eqb, ne_eqb, or_parts}
 use Rattle.std.proofs.lemmas.List.{map-id}
 use Rattle.std.proofs.lemmas.List.Elements.{All-from_recursion}
-use Rattle.sqlite.specs.declared.types.Value.TheVariants.{Text as Words}
+use Rattle.sqlite.specs.declared.types.Value.TheVariants.{Int, Text as Words}
 use Rattle.sqlite.specs.Collation.TheVariants.{Binary}
 use Rattle.sqlite.specs.Order.{Row}
 use Rattle.sqlite.specs.State.{State}
@@ -21,7 +21,7 @@ use Rattle.queue_types.specs.Job.{is_live, state}
 use Rattle.queue_core.specs.Shown.{pending_in, pending_jobs}
 use Rattle.queue_core.specs.Limits.{IsSoundJob}
 use Rattle.queue_core.specs.Sound.{IsSound, IsSoundEntry}
-use Rattle.queue_core.specs.World.{World, Entry, rows, job_at, numbered, has_number}
+use Rattle.queue_core.specs.World.{World, Entry, has_expired, rows, job_at, numbered, has_number}
 use Rattle.queue_tables.specs.Content.{AreRowsOf, Holds, content_of}
 use Rattle.queue_tables.specs.Kept.{HasRows}
 use Rattle.queue_tables.specs.Steps.{AreDistinct}
@@ -30,12 +30,13 @@ use Rattle.queue_tables.proofs.Entries.{rows_in, found_rows, distinct_of}
 use Rattle.queue_tables.proofs.JobPut.{reads_job_at}
 use Rattle.queue_tables.proofs.PlainQueries.{passes, shown_of}
 use Rattle.queue_tables.proofs.Statements.{IsSelection, Selection, select_job}
+use Rattle.queue_scenes.specs.Expiry.{latest}
 use Rattle.queue_scenes.specs.Jobs.{Selects, own_live}
 use Rattle.queue_scenes.proofs.Lookup.{rows_passing}
 use Rattle.queue_scenes.proofs.Numbers.{AreRising, rising, rising_filter, numbers_ascend, number_key}
 use Rattle.queue_scenes.proofs.Ordered.{shows_in_order}
-use Rattle.queue_scenes.proofs.Statements.{select_own, select_own_is, select_own_live, select_own_live_is, select_pending, select_pending_is}
-use Rattle.queue_scenes.proofs.Tests.{is_own_row, own-row, is_own_live_row, own_live-row, is_pending_row, pending-row}
+use Rattle.queue_scenes.proofs.Statements.{select_expired, select_expired_is, select_own, select_own_is, select_own_live, select_own_live_is, select_pending, select_pending_is}
+use Rattle.queue_scenes.proofs.Tests.{expired-row, is_expired_row, is_own_row, own-row, is_own_live_row, own_live-row, is_pending_row, pending-row}
 
 -- ---- each row of a world is its job of that number
 
@@ -123,3 +124,7 @@ selects_own name = selects_all select_own refl (Words name ∷ []) (is_own_row n
 pub selects_pending : (s : State) → Selects select_pending.text [] s pending_jobs
 unfolding is_pending_row pending_in
 selects_pending = selects_all select_pending refl [] is_pending_row (λ j. state j == 3) (λ r. refl) (λ r. refl) (λ r. refl) refl pending-row select_pending_is
+
+pub selects_expired : (keep now : ℕ) (s : State) → Selects select_expired.text (Int (latest keep now) ∷ []) s (λ w. filter (has_expired keep now) (rows w))
+unfolding is_expired_row
+selects_expired keep now = selects_all select_expired refl (Int (latest keep now) ∷ []) (is_expired_row (latest keep now)) (has_expired keep now) (λ r. refl) (λ r. refl) (λ r. refl) refl (expired-row keep now) select_expired_is

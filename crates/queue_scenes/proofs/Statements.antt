@@ -4,7 +4,7 @@ use Rattle.sqlite.specs.declared.types.Value.TheVariants.{Int}
 use Rattle.sqlite.specs.Term.{lit, col, op2}
 use Rattle.sqlite_sql.specs.declared.ops.BinaryOp.TheVariants.{Arith, Compare}
 use Rattle.sqlite_sql.specs.declared.ops.ArithOp.TheVariants.{Add}
-use Rattle.sqlite_sql.specs.declared.ops.CompareOp.TheVariants.{Eq, Lt, Gt}
+use Rattle.sqlite_sql.specs.declared.ops.CompareOp.TheVariants.{Eq, Lt, Le, Gt}
 use Rattle.sqlite.specs.Collation.TheVariants.{Binary}
 use Rattle.sqlite_value.specs.Keys.{ascending as plain_key}
 use Rattle.sqlite_value.specs.declared.keys.Key.{Key}
@@ -72,6 +72,16 @@ select_pending = jobs_selected (codes " FROM jobs WHERE phase = 0 AND hold = 0 A
 pub select_pending_is : IsSelection select_pending
 unfolding understood first everything
 select_pending_is = record { shows = record { command = refl; plain = (refl, refl); query = refl; unlisted = refl }; plainly = λ db. refl }
+
+-- ---- the jobs that have expired
+
+abbrev pub select_expired : Selection
+select_expired = jobs_selected (codes " FROM jobs WHERE phase = 0 AND hold + incoming > 0 AND created <= ?1 ORDER BY number")
+    (op2 (Compare Eq Binary) (col 1 8) (lit (Int (pos 0))) ∷ op2 (Compare Gt Binary) (op2 (Arith Add) (col 1 6) (col 1 7)) (lit (Int (pos 0))) ∷ op2 (Compare Le Binary) (col 1 12) (col 0 0) ∷ []) ((col 1 0, plain_key Binary) ∷ [])
+
+pub select_expired_is : IsSelection select_expired
+unfolding understood first everything
+select_expired_is = record { shows = record { command = refl; plain = (refl, refl); query = refl; unlisted = refl }; plainly = λ db. refl }
 
 -- ---- all jobs of an owner
 

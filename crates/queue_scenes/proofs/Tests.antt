@@ -1,7 +1,7 @@
 -- What WHERE asks of a job's row, by the job.
-use Rattle.std.proofs.Common.{◌≡◌, ℕ, ◌+◌, pos, List, Bool, true, false, ◌&&◌, ◌||◌, ◌==◌, Some, refl, bytes_eq, is_lt, is_gt}
+use Rattle.std.proofs.Common.{◌≡◌, ℕ, ℤ, ◌+◌, nat_le, nat_lt, arith, pos, ap, ◌∙◌, List, Bool, true, false, ◌&&◌, ◌||◌, ◌==◌, Some, refl, bytes_eq, is_lt, is_gt}
 use mathlib.Core.Bool.{and-true}
-use Rattle.std.specs.Ordering.{int_cmp}
+use Rattle.std.specs.Ordering.{int_cmp, is_le}
 use Rattle.std.proofs.lemmas.Map.Text.{is_eq-slice_cmp}
 use Rattle.sqlite.specs.declared.types.Value.TheVariants.{Int, Text as Words}
 use Rattle.sqlite.specs.Order.{Row, column}
@@ -9,12 +9,16 @@ use Rattle.sqlite.specs.Ops.{binary, is_true, from_truth}
 use Rattle.sqlite.specs.Collation.TheVariants.{Binary}
 use Rattle.sqlite_sql.specs.declared.ops.BinaryOp.TheVariants.{Arith, Compare}
 use Rattle.sqlite_sql.specs.declared.ops.ArithOp.TheVariants.{Add}
-use Rattle.sqlite_sql.specs.declared.ops.CompareOp.TheVariants.{Lt, Eq, Gt}
+use Rattle.sqlite_sql.specs.declared.ops.CompareOp.TheVariants.{Lt, Le, Eq, Gt}
 use Rattle.sqlite_value.proofs.OrderLemmas.{value_cmp-Int, value_cmp-Text}
 use Rattle.queue_types.specs.declared.job.Job.{Job}
 use Rattle.queue_types.specs.declared.job.Phase.{Phase}
 use Rattle.queue_types.specs.declared.job.Phase.TheVariants.{Waiting}
 use Rattle.queue_types.specs.Job.{is_live, is_live_in, is_running, is_running_in, is_stopped, is_stopped_in, state, state_in}
+use Rattle.std.proofs.lemmas.Int.{ints}
+use Rattle.std.proofs.lemmas.Bool.Decides.{nat_tests}
+use Rattle.queue_core.specs.World.{has_expired}
+use Rattle.queue_scenes.specs.Expiry.{latest}
 use Rattle.queue_rows.specs.Codes.{phase_number, flag_number}
 use Rattle.queue_tables.specs.Values.{job_values}
 use Rattle.queue_tables.proofs.Numbers.{same_number}
@@ -122,3 +126,38 @@ is_pending_row v = is_true (binary (Compare Eq Binary) (column v 7) (Int (pos 0)
 pub pending-row : (j : Job) → is_pending_row (job_values j) ≡ (state j == 3)
 unfolding is_pending_row
 pending-row j = rw (where_number_is (phase_number j.phase) 0, where_number_is (flag_number j.hold) 0, where_number_is (flag_number j.incoming) 0, and-true _) (pending_by_numbers j.phase j.hold j.incoming)
+
+-- ---- phase = 0 AND hold + incoming > 0 AND created <= ?1
+
+unfoldable pub is_expired_row : ℤ → Row → Bool
+is_expired_row z v = is_true (binary (Compare Eq Binary) (column v 7) (Int (pos 0))) && (is_true (binary (Compare Gt Binary) (binary (Arith Add) (column v 5) (column v 6)) (Int (pos 0))) && (is_true (binary (Compare Le Binary) (column v 11) (Int z)) && true))
+
+where_at_most : (m : ℕ) (z : ℤ) → is_true (binary (Compare Le Binary) (Int (pos m)) (Int z)) ≡ is_le (int_cmp (pos m) z)
+unfolding binary
+where_at_most m z = rw (value_cmp-Int (pos m) z, bare _) refl
+
+held_by_numbers : (p : Phase) (h i : Bool) → ((phase_number p == 0) && (h || i)) ≡ (state_in p h i == 4)
+held_by_numbers Waiting true i = refl
+held_by_numbers Waiting false true = refl
+held_by_numbers _ _ _ = refl
+
+last_first : (x y a b : Bool) → (x && (y && (a && b))) ≡ (a && (b && (x && y)))
+last_first true true true true = refl
+last_first true true true false = refl
+last_first true true false b = refl
+last_first true false true true = refl
+last_first true false true false = refl
+last_first true false false b = refl
+last_first false y true true = refl
+last_first false y true false = refl
+last_first false y false b = refl
+
+-- it came so long ago
+came_by : (keep now created : ℕ) → is_le (int_cmp (pos created) (latest keep now)) ≡ (nat_lt 0 keep && nat_le (created + keep) now)
+came_by keep now created = grind (arith, ints, nat_tests)
+
+pub expired-row : (keep now : ℕ) (j : Job) → is_expired_row (latest keep now) (job_values j) ≡ has_expired keep now j
+unfolding is_expired_row has_expired
+expired-row keep now j =
+    rw (where_number_is (phase_number j.phase) 0, flags_added j.hold j.incoming, where_above (flag_number j.hold + flag_number j.incoming) 0, either_by_number j.hold j.incoming, where_at_most j.created (latest keep now), came_by keep now j.created, and-true _)
+    (last_first (phase_number j.phase == 0) (j.hold || j.incoming) (nat_lt 0 keep) (nat_le (j.created + keep) now) ∙ ap (λ (b : Bool). nat_lt 0 keep && (nat_le (j.created + keep) now && b)) (held_by_numbers j.phase j.hold j.incoming))

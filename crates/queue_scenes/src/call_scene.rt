@@ -95,7 +95,7 @@ fn scene_of_job_and_account<S: Alter>(
 }
 
 /// The jobs as they are. They are damaged where they are more than there are job numbers.
-fn no_more_than_numbers(jobs: Vec<Job>) -> Result<Vec<Job>, Fault>
+pub(crate) fn no_more_than_numbers(jobs: Vec<Job>) -> Result<Vec<Job>, Fault>
     ensures same { IfOk result (λ v. v.items ≡ jobs.items) }
     ensures few { IfOk result (λ v. length v.items < 2 ^ 31) }
     ensures damaged { IfErr result (λ e. 2 ^ 31 ≤ length jobs.items) }
@@ -131,7 +131,7 @@ fn scene_of_my_jobs<S: Alter>(
     caller: &str,
     numbers: &Option<NumberList>,
 ) -> Result<Scene, Fault>
-    ensures reads { ReadsQueue (state S.Store conn.old) (state S.Store conn.new) result (λ w s. settings.now ≡ w.settings → s ≡ cut w (ask caller.now (cancel_my_jobs numbers.now))) }
+    ensures reads { ReadsQueue (state S.Store conn.old) (state S.Store conn.new) result (λ w s. settings.now ≡ w.settings → s ≡ cut w 0 (ask caller.now (cancel_my_jobs numbers.now))) }
     ensures live { HasCleanDisk (state S.Store conn.new) → OnOk result (IsTrue (state S.Store conn.new).is_open) }
     ensures fair { IfOk result IsFair }
 {
@@ -151,7 +151,7 @@ fn scene_of_shown<S: Alter>(
     which: WhichJobs,
     limit: Option<u32>,
 ) -> Result<Scene, Fault>
-    ensures reads { ReadsQueue (state S.Store conn.old) (state S.Store conn.new) result (λ w s. settings.now ≡ w.settings → s ≡ cut w (ask caller.now (get_jobs which limit))) }
+    ensures reads { ReadsQueue (state S.Store conn.old) (state S.Store conn.new) result (λ w s. settings.now ≡ w.settings → s ≡ cut w 0 (ask caller.now (get_jobs which limit))) }
     ensures live { HasCleanDisk (state S.Store conn.new) → OnOk result (IsTrue (state S.Store conn.new).is_open) }
     ensures fair { IfOk result IsFair }
 {
@@ -169,7 +169,7 @@ pub(crate) fn scene_of_call<S: Alter>(
     caller: &str,
     call: &Call<'_>,
 ) -> Result<Scene, Fault>
-    ensures reads { ReadsQueue (state S.Store conn.old) (state S.Store conn.new) result (λ w s. settings.now ≡ w.settings → s ≡ cut w (ask caller.now (call_of call.now))) }
+    ensures reads { ReadsQueue (state S.Store conn.old) (state S.Store conn.new) result (λ w s. settings.now ≡ w.settings → s ≡ cut w 0 (ask caller.now (call_of call.now))) }
     ensures live { HasCleanDisk (state S.Store conn.new) → OnOk result (IsTrue (state S.Store conn.new).is_open) }
     ensures fair { IfOk result IsFair }
 {

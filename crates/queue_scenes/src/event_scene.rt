@@ -9,6 +9,7 @@ ghost use Rattle.queue_tables.specs.Telling.{ReadsQueue};
 
 use crate::accounts::free_rows;
 use crate::call_scene::scene_of_call;
+use crate::expiry_scene::scene_of_expire;
 use crate::grants::known_rows;
 use crate::jobs::only_job;
 use crate::meta::next_number;
@@ -44,7 +45,7 @@ fn scene_of_report<S: Alter>(
     settings: &Settings,
     r: &Report,
 ) -> Result<Scene, Fault>
-    ensures reads { ReadsQueue (state S.Store conn.old) (state S.Store conn.new) result (λ w s. settings.now ≡ w.settings → s ≡ cut w (tell r.now)) }
+    ensures reads { ReadsQueue (state S.Store conn.old) (state S.Store conn.new) result (λ w s. settings.now ≡ w.settings → s ≡ cut w 0 (tell r.now)) }
     ensures live { HasCleanDisk (state S.Store conn.new) → OnOk result (IsTrue (state S.Store conn.new).is_open) }
     ensures fair { IfOk result IsFair }
 {
@@ -62,7 +63,7 @@ fn scene_of_grants<S: Alter>(
     settings: &Settings,
     rows: &[GrantRow],
 ) -> Result<Scene, Fault>
-    ensures reads { ReadsQueue (state S.Store conn.old) (state S.Store conn.new) result (λ w s. settings.now ≡ w.settings → s ≡ cut w (grant rows.now)) }
+    ensures reads { ReadsQueue (state S.Store conn.old) (state S.Store conn.new) result (λ w s. settings.now ≡ w.settings → s ≡ cut w 0 (grant rows.now)) }
     ensures live { HasCleanDisk (state S.Store conn.new) → OnOk result (IsTrue (state S.Store conn.new).is_open) }
     ensures fair { IfOk result IsFair }
 {
@@ -72,16 +73,17 @@ fn scene_of_grants<S: Alter>(
     Ok(scene)
 }
 
-/// The rows that an event needs, under the settings of the queue. Whatever rows the tables hold, they hold after it,
+/// The rows that an event needs at this moment, under the settings of the queue. Whatever rows the tables hold, they hold after it,
 /// where the connection is open still; whatever they hold after it, they held before; and a scene is within its limits
 /// on any disk. Damaged is told only where the tables of an open connection hold no sound queue.
 pub fn scene<S: Alter>(
     alloc: Global,
     conn: &mut Connection<S>,
     settings: &Settings,
+    now: u32,
     event: &Event<'_>,
 ) -> Result<Scene, Fault>
-    ensures reads { ReadsQueue (state S.Store conn.old) (state S.Store conn.new) result (λ w s. settings.now ≡ w.settings → s ≡ cut w (event_of event.now)) }
+    ensures reads { ReadsQueue (state S.Store conn.old) (state S.Store conn.new) result (λ w s. settings.now ≡ w.settings → s ≡ cut w now (event_of event.now)) }
     ensures live { HasCleanDisk (state S.Store conn.new) → OnOk result (IsTrue (state S.Store conn.new).is_open) }
     ensures fair { IfOk result IsFair }
 {
@@ -89,5 +91,6 @@ pub fn scene<S: Alter>(
         Event::Ask { caller, call } => scene_of_call(alloc, conn, settings, caller, call),
         Event::Report(r) => scene_of_report(alloc, conn, settings, r),
         Event::Grants(rows) => scene_of_grants(alloc, conn, settings, rows),
+        Event::Expire => scene_of_expire(alloc, conn, settings, now),
     }
 }

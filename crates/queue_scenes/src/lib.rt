@@ -6,6 +6,7 @@ mod accounts;
 mod call_scene;
 mod counts;
 mod event_scene;
+mod expiry_scene;
 mod grants;
 mod jobs;
 mod meta;

@@ -12,9 +12,9 @@ use Rattle.queue_types.specs.declared.event.KeptReport.{KeptReport}
 use Rattle.queue_rows.specs.Rows.{grant_row}
 use Rattle.queue_tables.specs.Content.{Holds, content_of}
 use Rattle.queue_tables.specs.Kept.{AreKeyed, HasRows}
-use Rattle.queue_tables.specs.Values.{meta_values, account_values, grant_values, report_values}
-use Rattle.queue_store.proofs.Schemas.{IsMade, schema10}
-use Rattle.queue_store.specs.New.{no_content, new_content, new_meta}
+use Rattle.queue_tables.specs.Values.{meta_values, policy_values, account_values, grant_values, report_values}
+use Rattle.queue_store.proofs.Schemas.{IsMade, schema12}
+use Rattle.queue_store.specs.New.{no_content, new_content, new_meta, new_policy}
 use Rattle.queue_store.proofs.Made.{all_made}
 
 none_keyed : AreKeyed []
@@ -23,7 +23,7 @@ none_keyed = record { ints = λ k d low. absurd (omega (arith, low)); apart = λ
 no_rows : {K : Type 0} (view : Row → Row) (rows : List Row) → rows ≡ [] → HasRows K view [] rows
 no_rows {K} view rows none = subst (λ (rs : List Row). HasRows K view [] rs) (sym none) (record { same = IsPermutation-refl []; keyed = λ k. none_keyed })
 
-pub made_holds : (s : State) → IsMade schema10 s → IsDatabase s.now → IsTrue s.is_open → Holds no_content s
+pub made_holds : (s : State) → IsMade schema12 s → IsDatabase s.now → IsTrue s.is_open → Holds no_content s
 made_holds s m sound is_open = record {
   schema = m.schema_is ∙ all_made;
   sound = sound;
@@ -35,6 +35,7 @@ made_holds s m sound is_open = record {
     accounts = no_rows _ _ m.empty.1.1.1.1.0;
     grants = no_rows _ _ m.empty.1.1.1.1.1.0;
     reports = no_rows _ _ m.empty.1.1.1.1.1.1.0;
+    policy = no_rows _ _ m.empty.1.1.1.1.1.1.1.0;
   };
   live = is_open;
 }
@@ -42,7 +43,7 @@ made_holds s m sound is_open = record {
 no_entries : {K X : Type 0} (R : K → K → Ordering) → [] ≡ entries (empty {K = K} {X = X} {R = R})
 no_entries {K} {X} R = sym (ap entries (sym (empty_of_len (from_sorted {K = K} {X = X} {R = R} []) (len-entries _ ∙ ap length (entries-from_sorted R [] tt)))) ∙ entries-from_sorted R [] tt)
 
-pub new_is : (s : SettingValues) → new_content (new_meta s) ≡ content_of (empty_queue s)
+pub new_is : (s : SettingValues) → new_content (new_meta s) (new_policy s) ≡ content_of (empty_queue s)
 new_is s = λ i. record {
   meta = meta_values (new_meta s) ∷ [];
   jobs = [];
@@ -51,4 +52,5 @@ new_is s = λ i. record {
   accounts = map (λ (a : List ℕ × ℤ). account_values a.0 a.1 (pos 0) (pos 0)) (no_entries text_cmp i);
   grants = map (λ (g : (List ℕ × List ℕ) × ℕ). grant_values (grant_row g)) (no_entries grant_cmp i);
   reports = map (λ (r : (ℕ × ℕ) × KeptReport). report_values r.1) (no_entries report_cmp i);
+  policy = policy_values (new_policy s) ∷ [];
 }

@@ -10,9 +10,10 @@ use Rattle.queue_core.specs.declared.book.BookFault.TheVariants.{Damaged}
 use Rattle.queue_load.specs.Queues.{IsQueueIn}
 use Rattle.queue_load.specs.Store.{FitsIn}
 use Rattle.queue_store.specs.Handed.{AdoptsBook, IsBehind, MakesBook}
-use Rattle.queue_store.specs.Kept.{IsHonest, StandsFor, StandsForOne, shown_by, without_limit}
+use Rattle.queue_store.specs.Kept.{IsHonest, StandsFor, StandsForOne, shown_by}
+use Rattle.queue_store.specs.New.{KeepsTables}
+use Rattle.queue_store.specs.Older.{LeavesOldOrTaken, TakesQueue}
 use Rattle.queue_store.specs.declared.book.TableBook.{TableBook}
-use Rattle.queue_tables.specs.Leaving.{LeavesTables}
 use Rattle.queue_tables.specs.Tables.{no_schema}
 
 module _ {S : Type 0} (store : Ghosts S) (conn : Held S) where
@@ -29,21 +30,23 @@ module _ {S : Type 0} (store : Ghosts S) (conn : Held S) where
 
   pub adopts_book : (result : Result (TableBook S) (BookFault × S)) (came : Result (TableBook S) (BookFault × Held S)) → IfOk result (λ b. came ≡ Ok b)
       → IfErr result (λ e. IsErrAnd came (λ f. (f.0 ≡ e.0) × IsBehind store f.1 e.1)) → (FitsIn (state store conn) → IfOk came (λ b. StandsForOne store b))
-      → IfOk came (λ b. LeavesTables (without_limit (state store conn)) (shown_by store b))
+      → (FitsIn (state store conn) → IfOk came (λ b. IsHonest store b → TakesQueue (state store conn) (shown_by store b) b.settings)) → IfOk came (λ b. IsHonest store b → HasCleanDisk (state store conn))
       → (FitsIn (state store conn) → IfErr came (λ e. HasCleanDisk (state store e.1) → e.0 ≡ Damaged → (w : World) → ¬ IsQueueIn w (state store conn).now))
-      → IfErr came (λ e. LeavesTables (state store conn) (state store e.1)) → AdoptsBook store conn result
-  adopts_book (Ok b) came book left stands kept damaged handed = record {
+      → IfErr came (λ e. KeepsTables (state store conn) (state store e.1)) → (FitsIn (state store conn) → IfErr came (λ e. LeavesOldOrTaken (state store conn) (state store e.1))) → AdoptsBook store conn result
+  adopts_book (Ok b) came book left stands takes was_clean damaged handed crash = record {
     stands = λ fits. subst (λ z. IfOk z (λ b. StandsForOne store b)) book (stands fits);
-    kept = subst (λ z. IfOk z (λ b. LeavesTables (without_limit (state store conn)) (shown_by store b))) book kept;
+    takes = λ fits. subst (λ z. IfOk z (λ b. IsHonest store b → TakesQueue (state store conn) (shown_by store b) b.settings)) book (takes fits);
+    was_clean = subst (λ z. IfOk z (λ b. IsHonest store b → HasCleanDisk (state store conn))) book was_clean;
     clean = tt;
     damaged = λ fits. tt;
-    left = tt;
+    left = λ fits. tt;
   }
-  adopts_book (Err e) (Ok b) book left stands kept damaged handed = absurd left
-  adopts_book (Err e) (Err f) book left stands kept damaged handed = record {
+  adopts_book (Err e) (Ok b) book left stands takes was_clean damaged handed crash = absurd left
+  adopts_book (Err e) (Err f) book left stands takes was_clean damaged handed crash = record {
     stands = λ fits. tt;
-    kept = tt;
+    takes = λ fits. tt;
+    was_clean = tt;
     clean = λ clean. handed.clean (left.1.clean clean);
     damaged = λ fits clean told. damaged fits (left.1.clean clean) (left.0 ∙ told);
-    left = λ clean db may. handed.left (left.1.clean clean) db (left.1.left_by db may);
+    left = λ fits clean db may. crash fits (left.1.clean clean) db (left.1.left_by db may);
   }

@@ -15,3 +15,4 @@ pub mod Again
 pub mod Refused
 pub mod OneSchema
 pub mod Unharmed
+pub mod Taken

@@ -10,6 +10,7 @@ use Rattle.queue_tables.proofs.Ending.{same_holds}
 use Rattle.queue_tables.specs.Content.{Holds, content_of}
 use Rattle.queue_tables.specs.Leaving.{LeavesTables}
 use Rattle.queue_store.specs.Kept.{HasWorld, IsHonest, Keeps, StandsFor, StandsForOne, connection_of, shown_by, without_limit}
+use Rattle.queue_store.specs.Older.{TakesQueue}
 use Rattle.queue_store.specs.declared.book.TableBook.{TableBook}
 
 module _ {S : Type 0} (store : Ghosts S) (b : TableBook S) (conn : Held S) (lifted : connection_of b ≡ record conn { step_limit = None }) where
@@ -44,6 +45,11 @@ module _ {S : Type 0} (store : Ghosts S) (b : TableBook S) (conn : Held S) (lift
       let has = subst (HasWorld (without_limit before)) (sym same) (world (was_clean honest)) in
       subst (λ (h : Held S). HasWorld (state store h) b.settings) (sym lifted) has
 
+  pub adopted_takes : (old : State) (settings : SettingValues) → b.settings ≡ settings → (HasCleanDisk before → TakesQueue old (without_limit before) settings) → IsHonest store b → TakesQueue old (shown_by store b) b.settings
+  adopted_takes old settings same takes honest =
+      let has = subst (TakesQueue old (without_limit before)) (sym same) (takes (was_clean honest)) in
+      subst (λ (h : Held S). TakesQueue old (state store h) b.settings) (sym lifted) has
+
   pub adopted_leaves : (old : State) → LeavesTables old before → LeavesTables (without_limit old) (shown_by store b)
   adopted_leaves old leaves =
       let kept : LeavesTables (without_limit old) (without_limit before) = record {
@@ -56,3 +62,6 @@ module _ {S : Type 0} (store : Ghosts S) (b : TableBook S) (conn : Held S) (lift
         serves = record { limit = refl; counts = leaves.serves.counts; closes = leaves.serves.closes };
       } in
       subst (λ (h : Held S). LeavesTables (without_limit old) (state store h)) (sym lifted) kept
+
+pub world_of : (old new : State) (settings : SettingValues) → TakesQueue old new settings → HasWorld new settings
+world_of old new settings it = record { world = it.world; keeps = it.keeps; live = it.live }

@@ -1,7 +1,7 @@
 -- The tables as they are made, one after another, by the statements of one text.
 use Rattle.std.proofs.Common.{arith, true, ◌≡◌, ◌<◌, ℕ, List, [], ◌∷◌, ◌++◌, codes, None, Some, Ok, IsTrue, false, length, slice_get, refl, sym, ap, subst, ◌∙◌}
 use Rattle.std.specs.List.{AllByRecursion as Each}
-use Rattle.sqlite.specs.Batch.{ExecutesAllInside, first_len}
+use Rattle.sqlite.specs.Batch.{ExecutesAllInside, RunInTurn, first_len}
 use Rattle.sqlite.specs.Change.{created, next_tree, KeepsRows}
 use Rattle.sqlite.specs.Command.TheVariants.{CreateTable, CreateIndex}
 use Rattle.sqlite.specs.Compile.{table_defined_by}
@@ -21,9 +21,9 @@ use Rattle.sqlite_resolve.specs.Compile.{index_defined_by}
 use Rattle.sqlite_tied.specs.Compute.{everything}
 use Rattle.sqlite_trees.specs.declared.store.Store.{Ghosts}
 use Rattle.queue_tables.specs.Plain.{table_of}
-use Rattle.queue_tables.specs.Tables.{meta, jobs, documents, pieces, accounts, grants, reports, by_owner, by_end, by_phase, no_schema, book_schema}
-use Rattle.queue_store.proofs.Schemas.{schema1, schema2, schema3, schema4, schema5, schema6, schema7, schema8, schema9, schema10, IsMade}
-use Rattle.queue_store.proofs.Texts.{meta_text, jobs_text, documents_text, pieces_text, accounts_text, grants_text, reports_text, by_owner_text, by_end_text, by_phase_text}
+use Rattle.queue_tables.specs.Tables.{meta, jobs, documents, pieces, accounts, grants, reports, by_owner, by_end, by_phase, policy, by_age, no_schema, book_schema}
+use Rattle.queue_store.proofs.Schemas.{schema1, schema2, schema3, schema4, schema5, schema6, schema7, schema8, schema9, schema10, schema11, schema12, IsMade}
+use Rattle.queue_store.proofs.Texts.{meta_text, jobs_text, documents_text, pieces_text, accounts_text, grants_text, reports_text, by_owner_text, by_end_text, by_phase_text, policy_text, by_age_text}
 use Rattle.queue_tables.proofs.Writing.{same_value, went}
 use Rattle.queue_store.proofs.Batch.{first_ran, runs_in_batch}
 
@@ -198,19 +198,43 @@ by_phase_is = record { command = refl; whole = refl; placed = refl; defined = re
 makes_by_phase : (old new : State) (count : ℕ) → IsMade schema9 old → ExecutesIn true (ended by_phase_text) [] old new (Ok count) → IsMade schema10 new
 makes_by_phase = indexes schema9 by_phase_text 1 (table_of jobs) (record by_phase { tree = 0 }) by_phase_is
 
-sound_by_phase : (old new : State) (count : ℕ) → IsMade schema9 old → ExecutesIn true (ended by_phase_text) [] old new (Ok count) → IsDatabase new.now × IsTrue new.is_open
-sound_by_phase old new count has h =
-    let w = index_written schema9 by_phase_text 1 (table_of jobs) (record by_phase { tree = 0 }) by_phase_is old new count has h in
+-- ---- policy
+
+policy_is : Creates schema10 policy_text (record (table_of policy) { tree = 0 })
+unfolding understood everything
+policy_is = record { command = refl; whole = refl; defined = refl; plain = (refl, refl); unnumbered = refl }
+
+makes_policy : (old new : State) (count : ℕ) → IsMade schema10 old → ExecutesIn true (ended policy_text) [] old new (Ok count) → IsMade schema11 new
+makes_policy = makes schema10 policy_text (record (table_of policy) { tree = 0 }) policy_is
+
+-- ---- by_age
+
+by_age_is : Indexes schema11 by_age_text 1 (table_of jobs) (record by_age { tree = 0 })
+unfolding understood everything
+by_age_is = record { command = refl; whole = refl; placed = refl; defined = refl; plain = (refl, refl) }
+
+makes_by_age : (old new : State) (count : ℕ) → IsMade schema11 old → ExecutesIn true (ended by_age_text) [] old new (Ok count) → IsMade schema12 new
+makes_by_age = indexes schema11 by_age_text 1 (table_of jobs) (record by_age { tree = 0 }) by_age_is
+
+sound_by_age : (old new : State) (count : ℕ) → IsMade schema11 old → ExecutesIn true (ended by_age_text) [] old new (Ok count) → IsDatabase new.now × IsTrue new.is_open
+sound_by_age old new count has h =
+    let w = index_written schema11 by_age_text 1 (table_of jobs) (record by_age { tree = 0 }) by_age_is old new count has h in
     (w.sound, w.shown.is_open)
 
-pub all_made : schema10 ≡ book_schema
+pub all_made : schema12 ≡ book_schema
 unfolding understood everything
 all_made = refl
 
 -- ---- the whole text, from its end
 
+abbrev text11 : List ℕ
+text11 = ended policy_text ++ ended by_age_text
+
+abbrev text10 : List ℕ
+text10 = ended by_phase_text ++ text11
+
 abbrev text9 : List ℕ
-text9 = ended by_end_text ++ ended by_phase_text
+text9 = ended by_end_text ++ text10
 
 abbrev text8 : List ℕ
 text8 = ended by_owner_text ++ text9
@@ -273,37 +297,64 @@ by_owner_ends : Ends by_owner_text text9
 unfolding past_semi everything
 by_owner_ends = record { len = refl; some = omega arith }
 
-by_end_ends : Ends by_end_text (ended by_phase_text)
+by_end_ends : Ends by_end_text text10
 unfolding past_semi everything
 by_end_ends = record { len = refl; some = omega arith }
 
-by_phase_ends : Ends by_phase_text []
+by_phase_ends : Ends by_phase_text text11
 unfolding past_semi everything
 by_phase_ends = record { len = refl; some = omega arith }
 
-module _ {S : Type 0} (g : Ghosts S) (old new : Held S) where
-  pub makes_all : (state g old).now.schema ≡ no_schema → ExecutesAllInside g 0 whole_text old new (Ok tt) → IsMade schema10 (state g new) × IsDatabase (state g new).now × IsTrue (state g new).is_open
-  unfolding ExecutesAllInside
-  makes_all blank ran =
-      let s1 = first_ran g (length whole_text) (ended meta_text) text2 old new meta_ends.len meta_ends.some ran in
-      let m1 = makes_meta (state g old) (state g s1.0) s1.1 (record { schema_is = blank; empty = tt }) s1.2 in
-      let s2 = first_ran g s1.3 (ended jobs_text) text3 s1.0 new jobs_ends.len jobs_ends.some s1.4 in
-      let m2 = makes_jobs (state g s1.0) (state g s2.0) s2.1 m1 s2.2 in
-      let s3 = first_ran g s2.3 (ended documents_text) text4 s2.0 new documents_ends.len documents_ends.some s2.4 in
-      let m3 = makes_documents (state g s2.0) (state g s3.0) s3.1 m2 s3.2 in
-      let s4 = first_ran g s3.3 (ended pieces_text) text5 s3.0 new pieces_ends.len pieces_ends.some s3.4 in
-      let m4 = makes_pieces (state g s3.0) (state g s4.0) s4.1 m3 s4.2 in
-      let s5 = first_ran g s4.3 (ended accounts_text) text6 s4.0 new accounts_ends.len accounts_ends.some s4.4 in
-      let m5 = makes_accounts (state g s4.0) (state g s5.0) s5.1 m4 s5.2 in
-      let s6 = first_ran g s5.3 (ended grants_text) text7 s5.0 new grants_ends.len grants_ends.some s5.4 in
-      let m6 = makes_grants (state g s5.0) (state g s6.0) s6.1 m5 s6.2 in
-      let s7 = first_ran g s6.3 (ended reports_text) text8 s6.0 new reports_ends.len reports_ends.some s6.4 in
-      let m7 = makes_reports (state g s6.0) (state g s7.0) s7.1 m6 s7.2 in
-      let s8 = first_ran g s7.3 (ended by_owner_text) text9 s7.0 new by_owner_ends.len by_owner_ends.some s7.4 in
-      let m8 = makes_by_owner (state g s7.0) (state g s8.0) s8.1 m7 s8.2 in
-      let s9 = first_ran g s8.3 (ended by_end_text) (ended by_phase_text) s8.0 new by_end_ends.len by_end_ends.some s8.4 in
-      let m9 = makes_by_end (state g s8.0) (state g s9.0) s9.1 m8 s9.2 in
-      let s10 = first_ran g s9.3 (ended by_phase_text) [] s9.0 new by_phase_ends.len by_phase_ends.some s9.4 in
-      let m10 = makes_by_phase (state g s9.0) (state g s10.0) s10.1 m9 s10.2 in
-      let last = sound_by_phase (state g s9.0) (state g s10.0) s10.1 m9 s10.2 in
-      subst (λ (h : Held S). IsMade schema10 (state g h) × IsDatabase (state g h).now × IsTrue (state g h).is_open) (sym s10.4.1) (m10, last.0, last.1)
+policy_ends : Ends policy_text (ended by_age_text)
+unfolding past_semi everything
+policy_ends = record { len = refl; some = omega arith }
+
+by_age_ends : Ends by_age_text []
+unfolding past_semi everything
+by_age_ends = record { len = refl; some = omega arith }
+
+module _ {S : Type 0} (g : Ghosts S) (new : Held S) where
+  -- the statements before the rest have made these tables
+  record Reached (schema : Schema) (rest : List ℕ) : Type 0 where
+    mid : Held S
+    made : IsMade schema (state g mid)
+    less : ℕ
+    ran : RunInTurn g (Some 0) less rest mid new (Ok tt)
+
+  abbrev Makes : Schema → Schema → List ℕ → Type 1
+  Makes schema next text = (old after : State) (count : ℕ) → IsMade schema old → ExecutesIn true (ended text) [] old after (Ok count) → IsMade next after
+
+  step : (schema next : Schema) (text rest : List ℕ) → Ends text rest → Makes schema next text → Reached schema (ended text ++ rest) → Reached next rest
+  step schema next text rest ends makes_it before =
+      let ran = first_ran g before.less (ended text) rest before.mid new ends.len ends.some before.ran in
+      record { mid = ran.0; made = makes_it (state g before.mid) (state g ran.0) ran.1 before.made ran.2; less = ran.3; ran = ran.4 }
+
+  last_step : Reached schema11 (ended by_age_text) → IsMade schema12 (state g new) × IsDatabase (state g new).now × IsTrue (state g new).is_open
+  last_step before =
+      let ran = first_ran g before.less (ended by_age_text) [] before.mid new by_age_ends.len by_age_ends.some before.ran in
+      let made = makes_by_age (state g before.mid) (state g ran.0) ran.1 before.made ran.2 in
+      let sound = sound_by_age (state g before.mid) (state g ran.0) ran.1 before.made ran.2 in
+      subst (λ (h : Held S). IsMade schema12 (state g h) × IsDatabase (state g h).now × IsTrue (state g h).is_open) (sym ran.4.1) (made, sound.0, sound.1)
+
+  reached2 : Reached no_schema whole_text → Reached schema2 text3
+  reached2 begun = step schema1 schema2 jobs_text text3 jobs_ends makes_jobs (step no_schema schema1 meta_text text2 meta_ends makes_meta begun)
+
+  reached4 : Reached schema2 text3 → Reached schema4 text5
+  reached4 two = step schema3 schema4 pieces_text text5 pieces_ends makes_pieces (step schema2 schema3 documents_text text4 documents_ends makes_documents two)
+
+  reached6 : Reached schema4 text5 → Reached schema6 text7
+  reached6 four = step schema5 schema6 grants_text text7 grants_ends makes_grants (step schema4 schema5 accounts_text text6 accounts_ends makes_accounts four)
+
+  reached8 : Reached schema6 text7 → Reached schema8 text9
+  reached8 six = step schema7 schema8 by_owner_text text9 by_owner_ends makes_by_owner (step schema6 schema7 reports_text text8 reports_ends makes_reports six)
+
+  reached10 : Reached schema8 text9 → Reached schema10 text11
+  reached10 eight = step schema9 schema10 by_phase_text text11 by_phase_ends makes_by_phase (step schema8 schema9 by_end_text text10 by_end_ends makes_by_end eight)
+
+  reached11 : Reached schema10 text11 → Reached schema11 (ended by_age_text)
+  reached11 ten = step schema10 schema11 policy_text (ended by_age_text) policy_ends makes_policy ten
+
+pub makes_all : {S : Type 0} (g : Ghosts S) (old new : Held S) → (state g old).now.schema ≡ no_schema → ExecutesAllInside g 0 whole_text old new (Ok tt) → IsMade schema12 (state g new) × IsDatabase (state g new).now × IsTrue (state g new).is_open
+unfolding ExecutesAllInside
+makes_all g old new blank ran =
+    last_step g new (reached11 g new (reached10 g new (reached8 g new (reached6 g new (reached4 g new (reached2 g new (record { mid = old; made = record { schema_is = blank; empty = tt }; less = length whole_text; ran = ran })))))))

@@ -15,7 +15,8 @@ use Rattle.sqlite_schema.specs.declared.schema.Schema.{Schema}
 use Rattle.sqlite_schema.specs.declared.schema.Table.{Table}
 use Rattle.sqlite_trees.specs.Objects.{catalog_tree}
 use Rattle.sqlite_trees.specs.Tree.{IsAscending, Trees}
-use Rattle.queue_tables.specs.Tables.{book_schema}
+use Rattle.queue_rows.specs.Versions.{Version, first_version, second_version}
+use Rattle.queue_tables.specs.Tables.{schema_of}
 
 -- ---- lists
 
@@ -92,6 +93,10 @@ module _ (objects : List Row) (s t : Schema) (first : AreListed objects s) (seco
       let views : s.views ≡ t.views = none ∙ sym (zip_none IsViewRow (filter is_view_row objects) t.views bare second.views) in
       λ i. record { tables = tables_once i; indexes = indexes_once i; views = views i }
 
+no_views : (n : Version) → (schema_of n).views ≡ []
+no_views first_version = refl
+no_views second_version = refl
+
 -- trees with the tables of a book are listed as no other schema
-pub one_schema : (schema : Schema) (db : Trees) → IsSound book_schema db → IsSound schema db → schema ≡ book_schema
-one_schema schema db book other = sym (listed_once (db catalog_tree) book_schema schema book.lists.listed other.lists.listed refl)
+pub one_schema : (n : Version) (schema : Schema) (db : Trees) → IsSound (schema_of n) db → IsSound schema db → schema ≡ schema_of n
+one_schema n schema db book other = sym (listed_once (db catalog_tree) (schema_of n) schema book.lists.listed other.lists.listed (no_views n))

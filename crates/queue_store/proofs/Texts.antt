@@ -28,5 +28,11 @@ by_owner_text = codes "CREATE INDEX jobs_by_owner ON jobs (owner, phase)"
 abbrev pub by_end_text : List ℕ
 by_end_text = codes "CREATE INDEX jobs_by_end ON jobs (owner, ended)"
 
+abbrev pub policy_text : List ℕ
+policy_text = codes "CREATE TABLE policy (one INTEGER PRIMARY KEY, keep INTEGER NOT NULL) STRICT"
+
+abbrev pub by_age_text : List ℕ
+by_age_text = codes "CREATE INDEX jobs_by_age ON jobs (phase, created)"
+
 abbrev pub by_phase_text : List ℕ
 by_phase_text = codes "CREATE INDEX jobs_by_phase ON jobs (phase, hold, incoming)"

@@ -22,7 +22,14 @@ use Rattle.sqlite_wal.proofs.LogLemmas.{SeenMayStay}
 use Rattle.sqlite_wal.specs.Files.{outcomes}
 use Rattle.sqlite_wal.specs.Recovery as raw
 use Rattle.sqlite_wal.specs.Recovery.{Image, IsIgnored}
-use Rattle.queue_store.specs.Crash.{StillHolds}
+use Rattle.sqlite.specs.Effect.{IsDatabase}
+use Rattle.sqlite.specs.Schema.{Schema}
+use Rattle.sqlite.specs.State.{State}
+use Rattle.sqlite_catalog.specs.Listing.{IsSound as KeepsSchema}
+use Rattle.queue_core.specs.World.{World}
+use Rattle.queue_load.specs.Queues.{IsQueueIn}
+use Rattle.queue_tables.specs.Content.{IsBookOf}
+use Rattle.queue_store.specs.Crash.{StillHolds, StillKeeps}
 
 -- a crash leaves a file to which nothing was done as it was
 pub left_alone : (mixes is_log which : Bool) (log db : List ℕ) (history : List Event) (key : ℕ) → is_log ≡ which → history ≡ settled key ∷ [] → (c : List ℕ)
@@ -105,3 +112,17 @@ module _ (first : Image) (db : Trees) (held : HoldsDatabase first db) where
     -- of a connection that was opened a crash leaves the database that was found
     pub same_behind : SeenMayStay g → (c : Held (FileStore D g)) → IsOpened c → FindsIn first (file_state c) → (found : Trees) → (file_state c).may_leave found → found ≡ db
     same_behind stays c opened finds found may = settled_at c.store stays found opened.0.is_open may ∙ finds.holds db held
+
+-- what holds the database keeps its queue
+pub still_keeps : {D : Type 0} {g : Ghosts D} (first : Image) (db : Trees) (o : Option (Leftover D g)) → IfSome o (λ left. IsCleanLeft left → StillHolds first left db) → IfSome o (λ left. IsCleanLeft left → StillKeeps first left db)
+still_keeps first db None h = tt
+still_keeps {D} {g} first db (Some left) h = λ clean. at left (h clean)
+  where
+    at : (left : Leftover D g) → StillHolds first left db → StillKeeps first left db
+    at (Plain now) holds = holds
+    at (Unopened now) holds = holds
+    at (Store now) holds = λ found may. inl (holds found may)
+
+-- a queue in the tables of a connection is in its trees
+pub book_in : (w : World) (s : State) → IsQueueIn w s.now → IsDatabase s.now → IsBookOf w s.now.trees
+book_in w s it sound = record { version = it.version; fits = it.fits; sound = it.sound; tables = subst (λ (schema : Schema). KeepsSchema schema s.now.trees) it.schema sound; rows = it.rows }

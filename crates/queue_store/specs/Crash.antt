@@ -39,3 +39,9 @@ abbrev pub StillHolds : {D : Type 0} {g : Ghosts D} → Image → Leftover D g �
 StillHolds {D} {g} first (left.Files files) db = (image : Image) → outcomes g files.log files.db image → HoldsDatabase image db
 StillHolds first (left.Unopened files) db = HaveNoSums first → (image : Image) → (state_of files).may_leave image → HoldsDatabase image db
 StillHolds first (left.Store store) db = (found : Trees) → recovers store found → found ≡ db
+
+-- The same, or, of a store that was taken to the newest tables and refused then, a database that holds the queue which this one holds.
+abbrev pub StillKeeps : {D : Type 0} {g : Ghosts D} → Image → Leftover D g → Trees → Type 0
+StillKeeps {D} {g} first (left.Files files) db = StillHolds {g = g} first (left.Files files) db
+StillKeeps {D} {g} first (left.Unopened files) db = StillHolds {g = g} first (left.Unopened files) db
+StillKeeps first (left.Store store) db = (found : Trees) → recovers store found → (found ≡ db) ⊎ ((w : World) × IsBookOf w db × IsBookOf w found)

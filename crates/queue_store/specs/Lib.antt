@@ -5,4 +5,5 @@ pub mod Kept
 pub mod Laws
 pub mod Making
 pub mod New
+pub mod Older
 pub mod Opened

@@ -8,21 +8,26 @@ use Rattle.sqlite_trees.specs.Tree.{Trees}
 use Rattle.queue_types.specs.Settings.{SettingValues}
 use Rattle.queue_core.specs.World.{World, empty_queue}
 use Rattle.queue_rows.specs.Rows.{meta_row}
+use Rattle.queue_rows.specs.Versions.{policy_row, second_version}
 use Rattle.queue_rows.specs.declared.rows.MetaRow.{MetaRow}
+use Rattle.queue_rows.specs.declared.rows.PolicyRow.{PolicyRow}
 use Rattle.queue_tables.specs.Content.{Content, IsBookOf}
 use Rattle.queue_tables.specs.Leaving.{KeepsServing}
 use Rattle.queue_tables.specs.Tables.{book_schema}
-use Rattle.queue_tables.specs.Values.{meta_values}
+use Rattle.queue_tables.specs.Values.{meta_values, policy_values}
 
 abbrev pub no_content : Content
-no_content = record { meta = []; jobs = []; documents = []; pieces = []; accounts = []; grants = []; reports = [] }
+no_content = record { meta = []; jobs = []; documents = []; pieces = []; accounts = []; grants = []; reports = []; policy = [] }
 
-abbrev pub new_content : MetaRow → Content
-new_content m = record no_content { meta = meta_values m ∷ [] }
+abbrev pub new_content : MetaRow → PolicyRow → Content
+new_content m p = record no_content { meta = meta_values m ∷ []; policy = policy_values p ∷ [] }
 
--- the row of a new book
+-- the rows of a new book
 abbrev pub new_meta : SettingValues → MetaRow
-new_meta s = meta_row (empty_queue s)
+new_meta s = meta_row second_version (empty_queue s)
+
+abbrev pub new_policy : SettingValues → PolicyRow
+new_policy s = policy_row s.keep
 
 -- a connection that is open was open, shows what it showed, and has committed nothing. No transaction was begun or ended. Once the disk
 -- has lied, it says no more than that, and of the step limit and the faults

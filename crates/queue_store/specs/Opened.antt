@@ -14,10 +14,11 @@ use Rattle.queue_core.specs.World.{World}
 use Rattle.queue_core.specs.declared.book.BookFault.{BookFault}
 use Rattle.queue_core.specs.declared.book.BookFault.TheVariants.{Memory, Disk, Damaged}
 use Rattle.queue_load.specs.Store.{FitsBook}
-use Rattle.queue_tables.specs.Content.{HasContent, content_of}
-use Rattle.queue_tables.specs.Tables.{book_schema, no_schema}
+use Rattle.queue_rows.specs.Versions.{IsOf, Version}
+use Rattle.queue_tables.specs.Content.{HasQueueOf}
+use Rattle.queue_tables.specs.Tables.{no_schema, schema_of}
 
--- the tables in the files are those that `create` makes, or one is missing
+-- the tables in the files are those that `create` makes or an older version has, or one is missing
 abbrev pub FitsFile : Image → Type 0
 FitsFile image = (db : Trees) (schema : Schema) → AreFoundIn image db → IsSound schema db → FitsBook schema
 
@@ -27,12 +28,14 @@ pub record HoldsOnly (image : Image) (schema : Schema) (db : Trees) : Type 0 whe
   pub tables : IsSound schema db
   pub only : (other : Trees) → HoldsDatabase image other → other ≡ db
 
--- the file isn't empty, and the database that it holds with its log has the tables of a book and the rows of this queue
+-- the file isn't empty, and the database that it holds with its log has the tables of a book, of whatever version, and the rows of this queue
 pub record IsKeptIn (image : Image) (w : World) : Type 0 where
   pub present : 0 < length image.db
+  pub version : Version
+  pub fits : IsOf version w
   pub db : Trees
-  pub held : HoldsOnly image book_schema db
-  pub rows : HasContent (content_of w) db
+  pub held : HoldsOnly image (schema_of version) db
+  pub rows : HasQueueOf version w db
 
 -- the files hold no tables
 abbrev pub HasNoTables : Image → Type 0

@@ -9,12 +9,12 @@ ghost use Rattle.queue_core.specs.World.{World, empty_queue};
 ghost use Rattle.queue_core.specs.declared.book.BookFault.TheVariants.{Damaged};
 ghost use Rattle.queue_store.specs.Kept.{IsHonest, StandsFor, connection_of, shown_by};
 ghost use Rattle.queue_store.specs.Making.{MakesTables};
-ghost use Rattle.queue_store.specs.New.{KeepsTables, LeavesOldOrNew, LeavesOnly, has_any, new_meta};
+ghost use Rattle.queue_store.specs.New.{KeepsTables, LeavesOldOrNew, LeavesOnly, has_any, new_meta, new_policy};
 ghost use Rattle.queue_tables.specs.Tables.{no_schema};
 
 use crate::create::make_tables;
 use queue_core::{BookFault, empty_is_sound};
-use queue_rows::rows::{MetaRow, SCHEMA};
+use queue_rows::rows::{MetaRow, PolicyRow, SCHEMA};
 use queue_tables::TABLES;
 use queue_tables::fault::Fault;
 use queue_types::limits::FIRST_JOB_NUMBER;
@@ -75,6 +75,16 @@ fn first_row(alloc: Global, settings: &Settings) -> Result<MetaRow, AllocError>
     })
 }
 
+/// The row that says for how long held jobs are kept.
+fn policy_row(settings: &Settings) -> PolicyRow
+    ensures { result ≡ new_policy settings.now }
+{
+    PolicyRow {
+        one: 1,
+        keep: settings.keep(),
+    }
+}
+
 /// Makes the tables of a book with these settings in a blank store. In another, and within a transaction, nothing is done.
 fn make_new<S: Alter>(
     alloc: Global,
@@ -98,7 +108,8 @@ fn make_new<S: Alter>(
         return Err(Fault::Disk);
     }
     let meta = first_row(alloc, settings)?;
-    make_tables(conn, &meta)
+    let policy = policy_row(settings);
+    make_tables(conn, &meta, &policy)
 }
 
 impl<S: Alter> TableBook<S> {

@@ -7,17 +7,18 @@ ghost use Rattle.queue_store.specs.Making.{MakesTables};
 ghost use Rattle.queue_store.specs.New.{new_content, no_content};
 ghost use Rattle.queue_tables.specs.Content.{Content, Holds, content_of};
 ghost use Rattle.queue_tables.specs.Leaving.{StaysInside};
-ghost use Rattle.queue_tables.specs.Steps.{with_meta_row};
+ghost use Rattle.queue_tables.specs.Steps.{with_meta_row, with_policy_row};
 ghost use Rattle.queue_tables.specs.Tables.{no_schema};
-ghost use Rattle.queue_tables.specs.Values.{meta_values};
+ghost use Rattle.queue_tables.specs.Values.{meta_values, policy_values};
 ghost use Rattle.queue_tables.specs.declared.fault.Fault.TheVariants.{Damaged};
 
-use queue_rows::rows::MetaRow;
+use queue_rows::rows::{MetaRow, PolicyRow};
 use queue_tables::fault::Fault;
-use queue_tables::meta_rows::insert_meta;
+use queue_tables::meta_rows::{insert_meta, insert_policy};
 use sqlite::{Alter, Connection, Transaction};
 
 /// What makes the tables of the book itself, of jobs, documents and pieces, of accounts, grants and reports, and their indexes.
+/// The additions of later versions come last, so that a migrated store has the trees of a new one.
 const TABLES_AND_INDEXES: &str = "\
     CREATE TABLE meta (one INTEGER PRIMARY KEY, schema INTEGER NOT NULL, uri TEXT NOT NULL, name TEXT NOT NULL, estimate INTEGER NOT NULL, epoch INTEGER NOT NULL, next_number INTEGER NOT NULL) STRICT;\
     CREATE TABLE jobs (number INTEGER PRIMARY KEY, owner TEXT NOT NULL, name TEXT NOT NULL, copies INTEGER NOT NULL, impressions INTEGER NOT NULL, hold INTEGER NOT NULL, incoming INTEGER NOT NULL, phase INTEGER NOT NULL, why INTEGER NOT NULL, stopping INTEGER NOT NULL, count INTEGER NOT NULL, created INTEGER NOT NULL, begun INTEGER, ended INTEGER) STRICT;\
@@ -28,7 +29,9 @@ const TABLES_AND_INDEXES: &str = "\
     CREATE TABLE reports (job INTEGER NOT NULL REFERENCES jobs (number), seq INTEGER NOT NULL, kind INTEGER NOT NULL, count INTEGER NOT NULL, state INTEGER NOT NULL, total INTEGER NOT NULL, PRIMARY KEY (job, seq)) STRICT;\
     CREATE INDEX jobs_by_owner ON jobs (owner, phase);\
     CREATE INDEX jobs_by_end ON jobs (owner, ended);\
-    CREATE INDEX jobs_by_phase ON jobs (phase, hold, incoming);";
+    CREATE INDEX jobs_by_phase ON jobs (phase, hold, incoming);\
+    CREATE TABLE policy (one INTEGER PRIMARY KEY, keep INTEGER NOT NULL) STRICT;\
+    CREATE INDEX jobs_by_age ON jobs (phase, created);";
 
 /// All tables and indexes, which have no rows.
 fn create_schema<S: Alter>(tx: &mut Transaction<'_, S>) -> Result<(), Fault>
@@ -55,21 +58,47 @@ fn add_meta<S: Alter>(tx: &mut Transaction<'_, S>, meta: &MetaRow) -> Result<(),
     }
 }
 
-/// All tables and indexes, and the first row.
-fn create_all<S: Alter>(tx: &mut Transaction<'_, S>, meta: &MetaRow) -> Result<(), Fault>
+/// Adds the row that says for how long a held job is kept.
+pub(crate) fn add_policy<S: Alter>(
+    tx: &mut Transaction<'_, S>,
+    policy: &PolicyRow,
+) -> Result<(), Fault>
     ensures same_reference { tx.new.conn.ghost_name ≡ tx.old.conn.ghost_name }
     ensures stays { StaysInside (state S.Store tx.old.conn.now) (state S.Store tx.new.conn.now) result }
-    ensures done { HasCleanDisk (state S.Store tx.new.conn.now) → OnOk result ((state S.Store tx.old.conn.now).now.schema ≡ no_schema → Holds (new_content meta.now) (state S.Store tx.new.conn.now)) }
+    ensures done { HasCleanDisk (state S.Store tx.new.conn.now) → OnOk result ((c : Content) → Holds c (state S.Store tx.old.conn.now) → Holds (with_policy_row (policy_values policy.now) c) (state S.Store tx.new.conn.now)) }
+    ensures never { IfErr result (λ e. e ≢ Damaged) }
+{
+    match insert_policy(tx, policy) {
+        Ok(()) => Ok(()),
+        Err(Fault::Memory) => Err(Fault::Memory),
+        Err(_) => Err(Fault::Disk),
+    }
+}
+
+/// All tables and indexes, and the first rows.
+fn create_all<S: Alter>(
+    tx: &mut Transaction<'_, S>,
+    meta: &MetaRow,
+    policy: &PolicyRow,
+) -> Result<(), Fault>
+    ensures same_reference { tx.new.conn.ghost_name ≡ tx.old.conn.ghost_name }
+    ensures stays { StaysInside (state S.Store tx.old.conn.now) (state S.Store tx.new.conn.now) result }
+    ensures done { HasCleanDisk (state S.Store tx.new.conn.now) → OnOk result ((state S.Store tx.old.conn.now).now.schema ≡ no_schema → Holds (new_content meta.now policy.now) (state S.Store tx.new.conn.now)) }
     ensures never { IfErr result (λ e. e ≢ Damaged) }
 {
     create_schema(tx)?;
-    add_meta(tx, meta)
+    add_meta(tx, meta)?;
+    add_policy(tx, policy)
 }
 
 /// Makes the tables of a book without jobs in a store without any, in one transaction. Whatever the answer, a crash then leaves
 /// what it might have left before, or the new book. Inside a transaction of the caller's it answers Disk and does nothing.
-pub(crate) fn make_tables<S: Alter>(conn: &mut Connection<S>, meta: &MetaRow) -> Result<(), Fault>
-    ensures makes { (state S.Store conn.old).now.schema ≡ no_schema → (w : World) → new_content meta.now ≡ content_of w → MakesTables w (state S.Store conn.old) (state S.Store conn.new) result }
+pub(crate) fn make_tables<S: Alter>(
+    conn: &mut Connection<S>,
+    meta: &MetaRow,
+    policy: &PolicyRow,
+) -> Result<(), Fault>
+    ensures makes { (state S.Store conn.old).now.schema ≡ no_schema → (w : World) → new_content meta.now policy.now ≡ content_of w → MakesTables w (state S.Store conn.old) (state S.Store conn.new) result }
     ensures never { IfErr result (λ e. e ≢ Damaged) }
     ensures inside { IsTrue (state S.Store conn.old).in_transaction → (result ≡ Err Fault.Disk) × (conn.new ≡ conn.old) }
 {
@@ -77,7 +106,7 @@ pub(crate) fn make_tables<S: Alter>(conn: &mut Connection<S>, meta: &MetaRow) ->
         return Err(Fault::Disk);
     }
     let mut tx = conn.transaction();
-    create_all(&mut tx, meta)?;
+    create_all(&mut tx, meta, policy)?;
     tx.commit()?;
     Ok(())
 }

@@ -9,7 +9,8 @@ ghost use Rattle.sqlite_wal.specs.Recovery.{Image};
 ghost use Rattle.queue_load.specs.Queues.{IsQueueIn};
 ghost use Rattle.queue_store.specs.Closed.{IsKeptAlone};
 ghost use Rattle.queue_store.specs.Crash.{IsKept};
-ghost use Rattle.queue_tables.specs.Tables.{book_schema};
+ghost use Rattle.queue_rows.specs.Versions.{Version};
+ghost use Rattle.queue_tables.specs.Tables.{schema_of};
 
 use queue_load::laws::{queues_have_their_tables, tables_give_their_queue};
 use queue_rows::laws::rows_tell_the_queue;
@@ -23,9 +24,9 @@ pub fn tables_hold_one_queue()
     rows_tell_the_queue();
 }
 
-/// Trees that list the tables and indexes of a book list no other schema.
+/// Trees that list the tables and indexes of a book, of one version, list no other schema.
 pub fn trees_list_one_schema()
-    ensures { (schema : Schema) (db : Trees) → IsSound book_schema db → IsSound schema db → schema ≡ book_schema }
+    ensures { (n : Version) (schema : Schema) (db : Trees) → IsSound (schema_of n) db → IsSound schema db → schema ≡ schema_of n }
 {}
 
 /// What the database file keeps without its log, it keeps with it.

@@ -5,6 +5,7 @@ mod adopt;
 mod book;
 mod create;
 pub mod laws;
+mod migrate;
 mod open;
 mod queue_book;
 

@@ -11,7 +11,7 @@ ghost use Rattle.sqlite_wal.specs.Reads.{AreClean};
 ghost use Rattle.sqlite_wal.specs.Recovery.{Image};
 ghost use Rattle.queue_core.specs.World.{World, empty_queue};
 ghost use Rattle.queue_store.specs.Closed.{KeepAlone, LeavesNoMore};
-ghost use Rattle.queue_store.specs.Crash.{IsKept, KeepOneOf, KeepTogether, StillHolds};
+ghost use Rattle.queue_store.specs.Crash.{IsKept, KeepOneOf, KeepTogether, StillHolds, StillKeeps};
 ghost use Rattle.queue_store.specs.Handed.{AdoptsBook, IsBehind, MakesBook, OpensBook};
 ghost use Rattle.queue_store.specs.Kept.{IsHonest, StandsFor, StandsForOne, shown_by};
 ghost use Rattle.queue_store.specs.Opened.{FitsFile, HasNoTables, IsFaultless, IsKeptIn, open_fault};
@@ -225,8 +225,9 @@ impl<S: Start> TableBook<FileStore<FileFrom<S>>> {
     /// told also where they can't be opened or are in use, Damaged also where they are no database. A path without a
     /// file gets an empty one, which is Damaged. Files that keep a queue, with their log or without, are found as it. An
     /// error hands back what is left of the files, where they were opened: where this tells of no disk that lied or
-    /// failed, files that keep a queue are not told to be Damaged. Where no disk lied, files that hold a database, whatever
-    /// is in it, hold it behind the error too; of files that were being recovered that is said where their pages have no sums.
+    /// failed, files that keep a queue are not told to be Damaged. Where no disk lied, files with the tables of a book, or
+    /// with one missing, hold after the error the database that they held, or one with the same queue in the newest tables; of files that
+    /// were being recovered that is said where their pages have no sums.
     pub fn open_or_left(
         rt: &HostRuntime,
         path: &str,
@@ -237,7 +238,7 @@ impl<S: Start> TableBook<FileStore<FileFrom<S>>> {
         ensures again { (w : World) → IsKept (image_at S.Start) w → IfOk result (λ b. StandsFor over_files b w) }
         ensures live { (w : World) → IsKept (image_at S.Start) w → IfOk result (λ b. IsHonest over_files b → IsTrue (shown_by over_files b).is_open) }
         ensures damaged { (w : World) → IsKept (image_at S.Start) w → IfErr result (λ e. IsFaultless e.1 → e.0 ≢ BookFault.Damaged) }
-        ensures unharmed { (db : Trees) → HoldsDatabase (image_at S.Start) db → IfErr result (λ e. IfSome e.1 (λ left. IsCleanLeft left → StillHolds (image_at S.Start) left db)) }
+        ensures unharmed { FitsFile (image_at S.Start) → (db : Trees) → HoldsDatabase (image_at S.Start) db → IfErr result (λ e. IfSome e.1 (λ left. IsCleanLeft left → StillKeeps (image_at S.Start) left db)) }
         ensures memory { path.now ≡ codes ":memory:" → IsErrAnd result (λ e. e.0 ≡ BookFault.Disk) }
     {
         let conn = connect_or_left(rt, path, start)?;

@@ -47,7 +47,7 @@ impl<S: Alter> QueueBook for TableBook<S> {
     ghost crash_leaves = { λ b v w. LeavesOneOf v w (shown_by S.Store b) };
 
     fn decide<'a>(&mut self, now: u32, event: &Event<'a>) -> Result<Decision<'a>, BookFault> {
-        let scene = queue_scenes::scene(self.alloc, &mut self.conn, &self.settings, event)?;
+        let scene = queue_scenes::scene(self.alloc, &mut self.conn, &self.settings, now, event)?;
         decide_on(self.alloc, scene, now, event)
     }
 

@@ -14,10 +14,10 @@ use Rattle.queue_tables.specs.Faults.{write_fault}
 use Rattle.queue_tables.specs.Leaving.{KeepsServing, StaysInside}
 use Rattle.queue_tables.specs.Making.{CommitsQueue, MakesQueue}
 use Rattle.queue_tables.specs.declared.fault.Fault.{Fault}
-use Rattle.queue_tables.specs.declared.fault.Fault.TheVariants.{Damaged}
+use Rattle.queue_tables.specs.declared.fault.Fault.TheVariants.{Damaged, Disk}
 use Rattle.queue_tables.proofs.Crash.{book_of}
 use Rattle.queue_tables.proofs.Ending.{clean_before, committed_holds, same_holds}
-use Rattle.queue_tables.proofs.Leaving.{serves_then, survives_serves}
+use Rattle.queue_tables.proofs.Leaving.{serves_all, serves_then, survives_serves}
 
 never_damage : (cause : StoreError) → write_fault (store_error cause) ≡ Damaged → ⊥
 never_damage OutOfMemory e = cc
@@ -113,3 +113,19 @@ module _ (old mid new : State) (Can : World → Type 0) (make : World → World)
   ended (Ok y) r made shown fails survives told = subst (λ (k : Result _ Fault). CommitsQueue old new k Can make) (sym told) (committed y made shown survives)
   ended (Err why) (Ok y) made shown fails survives told = absurd told
   ended (Err why) (Err f) made shown fails survives told = failed made fails survives f told
+
+-- nothing was done
+pub none_done : {T : Type 0} (s : State) (Can : World → Type 0) (make : World → World) → ((db : Trees) → IsTrue s.is_open → s.may_leave db → db ≡ s.committed.trees) → ((w : World) → Can w → IsSound w)
+    → CommitsQueue {T = T} s s (Err Disk) Can make
+none_done s Can make last sound = record {
+  clean = λ clean. clean;
+  opened = λ clean live. live;
+  live = λ clean. tt;
+  made = λ clean. tt;
+  refused = λ clean w has live. has;
+  settled = λ clean. tt;
+  still_settled = λ clean same live. same;
+  crash = λ clean w can has same db left. inl (subst (IsBookOf w) (ap (λ (d : Database). d.trees) same ∙ sym (last db has.live left)) (book_of w s (sound w can) has));
+  damaged = λ clean d. absurd cc;
+  serves = serves_all s;
+}

@@ -9,7 +9,7 @@ use Rattle.queue_types.specs.declared.job.Phase.{Phase}
 use Rattle.queue_types.specs.declared.job.Phase.TheVariants.{Waiting}
 use Rattle.std.specs.List.{list_all}
 use Rattle.queue_core.specs.Book.{IsDecisionOn}
-use Rattle.queue_types.specs.Event.{Call, Decision, Event, ask, tell, grant, print_job, validate_job, create_job, send_document, cancel_job, cancel_my_jobs, hold_job, release_job, get_job_attributes}
+use Rattle.queue_types.specs.Event.{Call, Decision, Event, ask, tell, grant, expire, print_job, validate_job, create_job, send_document, cancel_job, cancel_my_jobs, hold_job, release_job, get_job_attributes}
 use Rattle.queue_core.specs.Grants.{Taken, all_taken, none_taken, take_rows}
 use Rattle.queue_core.specs.Machine.{accepted_where, call_row, decision, grant_row, hold_in, new_refusal, of_own, release_in, report_row, unless_refused, cancel_row, cancel_my_jobs_row, send_in, let_print, all_canceled, are_there, refused, answered, is_cancelable}
 use Rattle.queue_core.specs.Reports.{reported}
@@ -92,10 +92,11 @@ fresh_of w r (Some k) h = ap (λ (x : Report). get w.reports (x.job, x.seq)) h.0
 fresh_none : (w : World) (o : Option KeptReport) → o ≡ None → IsFresh w o
 fresh_none w o none = subst (IsFresh w) (sym none) tt
 
-fresh : (w : World) (now : ℕ) (e : Event) → IsFresh w (decision (cut w e) now e).change.report
-fresh w now (ask caller call) = fresh_none w _ (silent_call (cut w (ask caller call)) now caller call)
-fresh w now (tell r) = fresh_of w r _ (keeps (cut w (tell r)) now r (cut w (tell r)).jobs (get w.reports (r.job, r.seq)))
-fresh w now (grant rows) = fresh_none w _ (silent_grant (take_rows rows (cut w (grant rows)).known 1 [] [] 0))
+fresh : (w : World) (now : ℕ) (e : Event) → IsFresh w (decision (cut w now e) now e).change.report
+fresh w now (ask caller call) = fresh_none w _ (silent_call (cut w now (ask caller call)) now caller call)
+fresh w now (tell r) = fresh_of w r _ (keeps (cut w now (tell r)) now r (cut w now (tell r)).jobs (get w.reports (r.job, r.seq)))
+fresh w now (grant rows) = fresh_none w _ (silent_grant (take_rows rows (cut w now (grant rows)).known 1 [] [] 0))
+fresh w now expire = fresh_none w _ refl
 
 -- no report is kept yet of the job and the sequence number of the one that a decision keeps
 pub new_report : (w : World) (d : Decision) → IsDecisionOn w d → IfSome d.change.report (λ k. get w.reports (k.report.job, k.report.seq) ≡ None)

@@ -157,6 +157,7 @@ added_holds d w was s distinct there has =
       accounts = same_order (ap (λ (js : List Job). map (λ (a : List ℕ × ℤ). account_values a.0 a.1 (pos (sum_by (of_account owed a.0) js)) (pos (sum_by (of_account (λ j. j.count) a.0) js))) (entries w.free)) (sym (rows_added d w.jobs)));
       grants = same_order refl;
       reports = same_order refl;
+      policy = same_order refl;
     }) has
 
 -- ---- what soundness of the made world gives

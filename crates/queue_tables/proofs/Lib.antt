@@ -47,3 +47,4 @@ pub mod Added
 pub mod Committing
 pub mod Telling
 mod Chain
+pub mod Numbered

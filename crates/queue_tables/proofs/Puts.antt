@@ -158,6 +158,7 @@ entered j w s none has = like_holds (with_sums j.owner (pos (owed j)) (pos j.cou
       (λ a. sum_new owed j w a none) (λ a. sum_new (λ k. k.count) j w a none) (entries w.free));
   grants = same_order refl;
   reports = same_order refl;
+  policy = same_order refl;
 }) has
 
 -- ---- a job that is there
@@ -200,6 +201,7 @@ module _ (j was : Job) (w : World) (s : IsSummable w.jobs) (there : job_at j.num
         (λ a. sum_anew owed j w a was there) (λ a. sum_anew (λ k. k.count) j w a was there) (entries w.free));
     grants = same_order refl;
     reports = same_order refl;
+    policy = same_order refl;
   }) has
 
 -- ---- one job after another

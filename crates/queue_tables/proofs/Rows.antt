@@ -9,15 +9,16 @@ use Rattle.queue_types.specs.declared.event.GrantRow.{GrantRow}
 use Rattle.queue_types.specs.declared.event.KeptReport.{KeptReport}
 use Rattle.queue_rows.specs.Codes.{phase_number, why_number, kind_number, flag_number, job_state_number}
 use Rattle.queue_rows.specs.declared.rows.MetaRow.{MetaRow}
+use Rattle.queue_rows.specs.declared.rows.PolicyRow.{PolicyRow}
 use Rattle.queue_tables.specs.Plain.{table_of}
-use Rattle.queue_tables.specs.Tables.{book_schema, meta, jobs, documents, pieces, accounts, grants, reports}
-use Rattle.queue_tables.specs.Values.{number, moment, meta_values, meta_view, job_values, job_view, document_view, piece_values, piece_view, account_values, account_view, grant_values, grant_view, report_values, report_view}
+use Rattle.queue_tables.specs.Tables.{book_schema, meta, policy, jobs, documents, pieces, accounts, grants, reports}
+use Rattle.queue_tables.specs.Values.{number, moment, meta_values, meta_view, policy_values, policy_view, job_values, job_view, document_view, piece_values, piece_view, account_values, account_view, grant_values, grant_view, report_values, report_view}
 use Rattle.queue_tables.specs.Content.{Content, Holds}
-use Rattle.queue_tables.specs.Steps.{with_meta_row, with_job_row, with_document_row, with_piece_row, with_account_row, with_grant_row, with_report_row}
+use Rattle.queue_tables.specs.Steps.{with_meta_row, with_policy_row, with_job_row, with_document_row, with_piece_row, with_account_row, with_grant_row, with_report_row}
 use Rattle.queue_tables.proofs.Casts.{cast_null, cast_int, cast_moment}
 use Rattle.queue_tables.proofs.Changing.{Left, inserts_row}
-use Rattle.queue_tables.proofs.Held.{holds_meta, holds_jobs, holds_documents, holds_pieces, holds_accounts, holds_grants, holds_reports, reordered, at_end}
-use Rattle.queue_tables.proofs.Statements.{insert_meta_text, insert_meta_terms, insert_meta_is, meta_still, insert_job_text, insert_job_terms, insert_job_is, jobs_still, insert_document_text, insert_document_terms, insert_document_is, documents_still, insert_piece_text, insert_piece_terms, insert_piece_is, pieces_still, insert_account_text, insert_account_terms, insert_account_is, accounts_still, insert_grant_text, insert_grant_terms, insert_grant_is, grants_still, insert_report_text, insert_report_terms, insert_report_is, reports_still}
+use Rattle.queue_tables.proofs.Held.{holds_meta, holds_policy, holds_jobs, holds_documents, holds_pieces, holds_accounts, holds_grants, holds_reports, reordered, at_end}
+use Rattle.queue_tables.proofs.Statements.{insert_meta_text, insert_meta_terms, insert_meta_is, meta_still, insert_policy_text, insert_policy_terms, insert_policy_is, policy_still, insert_job_text, insert_job_terms, insert_job_is, jobs_still, insert_document_text, insert_document_terms, insert_document_is, documents_still, insert_piece_text, insert_piece_terms, insert_piece_is, pieces_still, insert_account_text, insert_account_terms, insert_account_is, accounts_still, insert_grant_text, insert_grant_terms, insert_grant_is, grants_still, insert_report_text, insert_report_terms, insert_report_is, reports_still}
 
 -- the new row stands last
 last : {K : Type 0} {view : Row → Row} {tree : ℕ} (v : Row) (vs : List Row) (old new : State) → Left K book_schema view tree (v ∷ vs) old new → Left K book_schema view tree (vs ++ v ∷ []) old new
@@ -37,6 +38,19 @@ unfolding meta_stored
 adds_meta old new m count c has h =
     holds_meta c _ old new has (last (meta_values m) c.meta old new (inserts_row book_schema insert_meta_text 0 meta insert_meta_terms 8 insert_meta_is.command insert_meta_is.plain refl (meta_still []) meta_view c.meta
     old new (meta_values m) _ _ (meta_values m) count has.schema refl (cast_meta m) refl has.rows.meta h.0)) h.1.is_open
+
+policy_stored : PolicyRow → Row
+policy_stored p = number p.one ∷ Null ∷ number p.keep ∷ []
+
+cast_policy : (p : PolicyRow) → cast_row (table_of policy) (policy_stored p) ≡ policy_stored p
+unfolding policy_stored
+cast_policy p = rw (cast_null, cast_int (pos p.one), cast_int (pos p.keep)) refl
+
+pub adds_policy : (old new : State) (p : PolicyRow) (count : ℕ) (c : Content) → Holds c old → ExecutesInside 0 insert_policy_text (policy_values p) old new (Ok count) → Holds (with_policy_row (policy_values p) c) new
+unfolding policy_stored
+adds_policy old new p count c has h =
+    holds_policy c _ old new has (last (policy_values p) c.policy old new (inserts_row book_schema insert_policy_text 7 policy insert_policy_terms 3 insert_policy_is.command insert_policy_is.plain refl (policy_still []) policy_view c.policy
+    old new (policy_values p) _ _ (policy_values p) count has.schema refl (cast_policy p) refl has.rows.policy h.0)) h.1.is_open
 
 -- a job's row as it is stored
 abbrev pub job_stored : Job → Row

@@ -89,6 +89,18 @@ pub insert_meta_is : Means insert_meta_text (Insert 0 (Values insert_meta_terms 
 unfolding understood everything
 insert_meta_is = record { command = refl; plain = (refl, refl) }
 
+-- ---- a new row of policy
+
+abbrev pub insert_policy_text : List ℕ
+insert_policy_text = codes "INSERT INTO policy (one, keep) VALUES (?1, ?2)"
+
+abbrev pub insert_policy_terms : List Term
+insert_policy_terms = col 0 0 ∷ lit Null ∷ col 0 1 ∷ []
+
+pub insert_policy_is : Means insert_policy_text (Insert 7 (Values insert_policy_terms 3))
+unfolding understood everything
+insert_policy_is = record { command = refl; plain = (refl, refl) }
+
 -- ---- a new row of jobs
 
 abbrev pub insert_job_text : List ℕ
@@ -221,6 +233,18 @@ pub update_next_is : Means update_next_text (Update 0 (record { lets = []; body 
 unfolding understood everything
 update_next_is = record { command = refl; plain = (refl, refl) }
 
+-- ---- UPDATE meta: schema
+
+abbrev pub update_schema_text : List ℕ
+update_schema_text = codes "UPDATE meta SET schema = ?1 WHERE one = 1"
+
+abbrev pub update_schema_terms : List Term
+update_schema_terms = col 1 0 ∷ col 1 0 ∷ lit Null ∷ col 0 0 ∷ col 1 3 ∷ col 1 4 ∷ col 1 5 ∷ col 1 6 ∷ col 1 7 ∷ []
+
+pub update_schema_is : Means update_schema_text (Update 0 (record { lets = []; body = plain_query 0 update_next_where update_schema_terms [] }))
+unfolding understood everything
+update_schema_is = record { command = refl; plain = (refl, refl) }
+
 -- ---- SELECT jobs by number
 
 abbrev pub select_job : Selection
@@ -271,6 +295,10 @@ no_action false = refl
 pub meta_still : (olds news : List Row) → works book_schema Enforced 0 0 olds news ≡ []
 unfolding everything
 meta_still olds news = rw (no_action (length news == 0)) refl
+
+pub policy_still : (olds news : List Row) → works book_schema Enforced 0 15 olds news ≡ []
+unfolding everything
+policy_still olds news = rw (no_action (length news == 0)) refl
 
 pub jobs_still : (olds news : List Row) → works book_schema Enforced 0 1 olds news ≡ []
 unfolding everything

@@ -28,6 +28,9 @@ use Rattle.queue_tables.specs.Forms.{AreFormed, IsFormedJob}
 abbrev pub with_meta_row : Row → Content → Content
 with_meta_row v c = record c { meta = c.meta ++ v ∷ [] }
 
+abbrev pub with_policy_row : Row → Content → Content
+with_policy_row v c = record c { policy = c.policy ++ v ∷ [] }
+
 abbrev pub with_job_row : Row → Content → Content
 with_job_row v c = record c { jobs = c.jobs ++ v ∷ [] }
 

@@ -1,4 +1,5 @@
--- The tables and indexes of the book, schema 1, as a schema of the kit's.
+-- The tables and indexes of the book, as schemas of the kit's. What a later version adds stands behind all that the earlier have, so that a store
+-- that was taken to it has the trees of a new one.
 use Rattle.sqlite.specs.Collation.TheVariants.{Binary}
 use Rattle.std.specs.Prelude.{true, false, [], ◌∷◌, ◌++◌, Some, None, codes, List, ℕ, Bool, map}
 use Rattle.sqlite.specs.declared.types.Value.TheVariants.{Null}
@@ -10,6 +11,7 @@ use Rattle.sqlite_schema.specs.declared.schema.Reference.{Reference}
 use Rattle.sqlite_schema.specs.declared.schema.Action.TheVariants.{NoAction}
 use Rattle.sqlite_schema.specs.declared.schema.Index.{Index}
 use Rattle.sqlite_value.specs.Keys.{plain}
+use Rattle.queue_rows.specs.Versions.{Version, first_version, second_version}
 use Rattle.queue_tables.specs.Plain.{Plain, table_of}
 
 -- a column of a STRICT table, compared by its bytes
@@ -113,6 +115,19 @@ reports = record {
   references = refers (1 ∷ []) (codes "jobs") (codes "number" ∷ []) ∷ [];
 }
 
+-- for how many seconds a held job is kept
+abbrev pub policy : Plain
+policy = record {
+  name = codes "policy";
+  tree = 15;
+  columns = strict (codes "one") Integer false ∷ integer (codes "keep") ∷ [];
+  key = Some 0;
+  primary = 0 ∷ [];
+  uniques = [];
+  orders = [];
+  references = [];
+}
+
 -- the index that a key makes, on the next tree
 abbrev pub key_of : Plain → List ℕ → ℕ → List ℕ → Index
 key_of p name tree columns = record { name = name; tree = tree; table = p.tree; columns = columns; order = plain; is_unique = true }
@@ -129,6 +144,10 @@ by_end = record { name = codes "jobs_by_end"; tree = 13; table = 1; columns = 2 
 abbrev pub by_phase : Index
 by_phase = record { name = codes "jobs_by_phase"; tree = 14; table = 1; columns = 8 ∷ 6 ∷ 7 ∷ []; order = plain; is_unique = false }
 
+-- all jobs by phase, and those of one by the moment at which they came
+abbrev pub by_age : Index
+by_age = record { name = codes "jobs_by_age"; tree = 16; table = 1; columns = 8 ∷ 12 ∷ []; order = plain; is_unique = false }
+
 abbrev pub no_schema : Schema
 no_schema = record { tables = []; indexes = []; views = [] }
 
@@ -140,5 +159,13 @@ tables_alone = record {
   views = [];
 }
 
+abbrev pub first_schema : Schema
+first_schema = record { tables = tables_alone.tables; indexes = tables_alone.indexes ++ by_owner ∷ by_end ∷ by_phase ∷ []; views = [] }
+
+-- as `create` makes it
 abbrev pub book_schema : Schema
-book_schema = record { tables = tables_alone.tables; indexes = tables_alone.indexes ++ by_owner ∷ by_end ∷ by_phase ∷ []; views = [] }
+book_schema = record { tables = first_schema.tables ++ table_of policy ∷ []; indexes = first_schema.indexes ++ by_age ∷ []; views = [] }
+
+abbrev pub schema_of : Version → Schema
+schema_of first_version = first_schema
+schema_of second_version = book_schema

@@ -11,6 +11,7 @@ use Rattle.queue_types.specs.declared.event.KeptReport.{KeptReport}
 use Rattle.queue_rows.specs.Codes.{phase_number, why_number, kind_number, flag_number, job_state_number}
 use Rattle.queue_rows.specs.declared.rows.DocumentRow.{DocumentRow}
 use Rattle.queue_rows.specs.declared.rows.MetaRow.{MetaRow}
+use Rattle.queue_rows.specs.declared.rows.PolicyRow.{PolicyRow}
 
 -- ---- one value
 
@@ -31,6 +32,12 @@ meta_values m = number m.one ∷ number m.schema ∷ Words m.uri ∷ Words m.nam
 
 abbrev pub meta_view : Row → Row
 meta_view r = column r 0 ∷ column r 2 ∷ column r 3 ∷ column r 4 ∷ column r 5 ∷ column r 6 ∷ column r 7 ∷ []
+
+abbrev pub policy_values : PolicyRow → Row
+policy_values p = number p.one ∷ number p.keep ∷ []
+
+abbrev pub policy_view : Row → Row
+policy_view r = column r 0 ∷ column r 2 ∷ []
 
 -- nothing of a job's documents stands in its row
 abbrev pub job_values : Job → Row

@@ -23,8 +23,8 @@ mod transaction;
 
 pub use transaction::make;
 
-/// The names of the book's tables.
-pub const TABLES: [&[u8]; 7] = [
+/// The names of the tables that a book of each version has.
+pub const FIRST_TABLES: [&[u8]; 7] = [
     b"meta",
     b"jobs",
     b"documents",
@@ -32,4 +32,19 @@ pub const TABLES: [&[u8]; 7] = [
     b"accounts",
     b"grants",
     b"reports",
+];
+
+/// The name of the table that the first version lacks.
+pub const POLICY: &[u8] = b"policy";
+
+/// The names of the book's tables.
+pub const TABLES: [&[u8]; 8] = [
+    b"meta",
+    b"jobs",
+    b"documents",
+    b"pieces",
+    b"accounts",
+    b"grants",
+    b"reports",
+    b"policy",
 ];

@@ -6,7 +6,7 @@ use Rattle.queue_types.specs.declared.event.NewJob.{NewJob as NewJobRef}
 use Rattle.queue_types.specs.declared.event.Call.{Call as CallRef}
 use Rattle.queue_types.specs.declared.event.Call.TheVariants.{PrintJob, ValidateJob, CreateJob, SendDocument, CancelJob, CancelMyJobs, HoldJob, ReleaseJob, GetJobAttributes, GetJobs, GetPrinterAttributes}
 use Rattle.queue_types.specs.declared.event.Event.{Event as EventRef}
-use Rattle.queue_types.specs.declared.event.Event.TheVariants.{Ask, Report as ReportEvent, Grants}
+use Rattle.queue_types.specs.declared.event.Event.TheVariants.{Ask, Report as ReportEvent, Grants, Expire}
 use Rattle.queue_types.specs.declared.event.FreeRow.{FreeRow}
 use Rattle.queue_types.specs.declared.event.GrantRow.{GrantRow}
 use Rattle.queue_types.specs.declared.event.KeptReport.{KeptReport}
@@ -45,6 +45,8 @@ pub data Event : Type 0 where
   tell : Report → Event
   -- the rows of an account file
   grant : List GrantRow → Event
+  -- held and open jobs that are older than the printer keeps them end
+  expire : Event
 
 pub record NewDocument : Type 0 where
   pub job : ℕ
@@ -99,6 +101,7 @@ abbrev pub event_of : EventRef → Event
 event_of (Ask caller call) = ask caller.now (call_of call)
 event_of (ReportEvent r) = tell r
 event_of (Grants rows) = grant rows.now
+event_of Expire = expire
 
 abbrev pub document_of : NewDocumentRef → NewDocument
 document_of d = record { job = d.job; format = d.format; bytes = d.bytes.now }

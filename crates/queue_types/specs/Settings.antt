@@ -12,6 +12,8 @@ pub record SettingValues : Type 0 where
   pub estimate : ℕ
   -- the second of the clock, since 1970, that is moment 1
   pub epoch : ℤ
+  -- the seconds for which a held or open job is kept; 0 keeps it without end
+  pub keep : ℕ
 
 -- a printable character of ASCII that begins neither a query nor a fragment
 abbrev pub is_uri_byte : ℕ → Bool
@@ -26,3 +28,4 @@ pub record AreSettings (s : SettingValues) : Type 0 where
   pub name_fits : length s.name ≤ 127
   pub name_utf8 : IsUtf8 s.name
   pub estimate_fits : s.estimate ≤ 100000
+  pub keep_fits : s.keep ≤ 2147483647

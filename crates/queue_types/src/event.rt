@@ -120,6 +120,8 @@ pub enum Event<'a> {
     Report(Report),
     /// The office grants pages: the rows of an account file, at most 16,777,216.
     Grants(&'a [GrantRow]),
+    /// Held and open jobs that are older than the printer keeps them end.
+    Expire,
 }
 
 /// What the machine answers.
@@ -155,6 +157,8 @@ pub enum Reply {
         refusal: GrantRefusal,
         row: u32,
     },
+    /// The number of jobs that a sweep ended.
+    Expired(u32),
 }
 
 /// Why a report is not accepted, by its number.

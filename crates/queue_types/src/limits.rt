@@ -36,6 +36,9 @@ pub const MOST_BATCH_OCTETS: usize = 40;
 /// The most jobs in states 3 to 6 that one caller may have.
 pub const MOST_LIVE_JOBS: usize = 100;
 
+/// The most seconds for which a held or open job is kept.
+pub const MOST_KEEP: u32 = 2_147_483_647;
+
 /// The most documents of a job.
 pub const MOST_DOCUMENTS: u32 = 16;
 

@@ -4,7 +4,7 @@ ghost use Rattle.std.specs.List.{list_all};
 ghost use Rattle.queue_types.specs.Settings.{AreSettings, is_uri_byte};
 ghost use Rattle.queue_types.specs.Uri.{printer_path};
 
-use crate::limits::MOST_IMPRESSIONS;
+use crate::limits::{MOST_IMPRESSIONS, MOST_KEEP};
 use crate::text::Text;
 use crate::uri::{PRINTER_PATH, path};
 use std::alloc::{AllocError, Global};
@@ -35,6 +35,7 @@ pub struct Settings {
     name: Text,
     estimate: u32,
     epoch: i64,
+    keep: u32,
 }
 
 impl Model for Settings {
@@ -42,9 +43,9 @@ impl Model for Settings {
 
     ghost Value = { SettingValues };
 
-    ghost view = { λ s. record { uri = s.uri; name = s.name; estimate = s.estimate; epoch = s.epoch } };
+    ghost view = { λ s. record { uri = s.uri; name = s.name; estimate = s.estimate; epoch = s.epoch; keep = s.keep } };
 
-    ghost invariant = { λ s. AreSettings (record { uri = s.uri; name = s.name; estimate = s.estimate; epoch = s.epoch }) };
+    ghost invariant = { λ s. AreSettings (record { uri = s.uri; name = s.name; estimate = s.estimate; epoch = s.epoch; keep = s.keep }) };
 }
 
 fn has_uri_bytes(uri: &[u8]) -> bool
@@ -65,17 +66,19 @@ impl Settings {
 
     /// Settings of these values: a URI of 1 to 255 printable ASCII characters (0x20 to 0x7e) with the path `/ipp/print`,
     /// without query and fragment; a name of 1 to 127 octets; an estimate of 0 to 100,000 pages; the
-    /// epoch in seconds since 1970.
+    /// epoch in seconds since 1970; 0 to 2,147,483,647 seconds for which a held or open job is kept, where
+    /// 0 keeps it without end.
     pub fn new(
         alloc: Global,
         uri: &str,
         name: &str,
         estimate: u32,
         epoch: i64,
+        keep: u32,
     ) -> Result<Settings, SettingFault>
-        ensures ok { IfOk result (λ s. s ≡ record { uri = uri.now; name = name.now; estimate = estimate; epoch = epoch }) }
-        ensures fits { IsOk result → AreSettings (record { uri = uri.now; name = name.now; estimate = estimate; epoch = epoch }) }
-        ensures bad { (result ≡ Err SettingFault.Bad) ↔ (¬ AreSettings (record { uri = uri.now; name = name.now; estimate = estimate; epoch = epoch })) }
+        ensures ok { IfOk result (λ s. s ≡ record { uri = uri.now; name = name.now; estimate = estimate; epoch = epoch; keep = keep }) }
+        ensures fits { IsOk result → AreSettings (record { uri = uri.now; name = name.now; estimate = estimate; epoch = epoch; keep = keep }) }
+        ensures bad { (result ≡ Err SettingFault.Bad) ↔ (¬ AreSettings (record { uri = uri.now; name = name.now; estimate = estimate; epoch = epoch; keep = keep })) }
     {
         let uri_fits = !uri.is_empty()
             && uri.len() <= MOST_PRINTER_URI_OCTETS
@@ -85,6 +88,7 @@ impl Settings {
             || !is_printer_path(path(uri.as_bytes()))
             || !name_fits
             || estimate > MOST_IMPRESSIONS
+            || keep > MOST_KEEP
         {
             return Err(SettingFault::Bad);
         }
@@ -99,6 +103,7 @@ impl Settings {
             name,
             estimate,
             epoch,
+            keep,
         })
     }
 
@@ -134,6 +139,14 @@ impl Settings {
         self.epoch
     }
 
+    /// The seconds for which a held or open job is kept; 0 keeps it without end.
+    pub fn keep(&self) -> u32
+        ensures keep { result ≡ self.now.keep }
+        ensures limits { AreSettings self.now }
+    {
+        self.keep
+    }
+
     /// A copy. The one error is want of memory.
     pub fn try_clone(&self) -> Result<Settings, AllocError>
         ensures same { IfOk result (λ s. s ≡ self.now) }
@@ -144,12 +157,14 @@ impl Settings {
             name,
             estimate,
             epoch,
+            keep,
         } = self;
         Ok(Settings {
             uri: uri.try_clone()?,
             name: name.try_clone()?,
             estimate: *estimate,
             epoch: *epoch,
+            keep: *keep,
         })
     }
 }

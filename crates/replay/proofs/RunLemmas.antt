@@ -3,11 +3,13 @@ use Rattle.std.proofs.Common.{◌≡◌, ◌∙◌, ℕ, ◌≤◌, List, [], �
 use Rattle.std.specs.Prelude.{⊤, IfSome, MatchBool, codes}
 use Rattle.std.specs.List.{AllByRecursion as Each}
 use Rattle.hex.specs.Hex.{decode_of}
-use Rattle.queue_types.specs.Event.{Event, grant}
+use Rattle.queue_types.specs.Event.{Event, grant, expire}
 use Rattle.queue_core.specs.Limits.{IsEvent, IsMoment}
 use Rattle.queue_core.specs.Runs.{Place, IsPlace, MovesAlong, after, run}
 use Rattle.queue_core.specs.Sound.{Balances, IsSound}
+use Rattle.queue_core.specs.Sweep.{Sweeps}
 use Rattle.queue_core.specs.World.{World}
+use Rattle.queue_core.specs.declared.book.BookFault.{BookFault}
 use Rattle.ipp_ops.specs.Answer.{Answers, Asks, Fails, is_fault}
 use Rattle.device_lines.specs.Reports.{AnswersLine, IsReported, Tells}
 use Rattle.grants_csv.specs.Import.{Asks as AsksOfFile, Imports, grants}
@@ -17,10 +19,10 @@ use Rattle.replay.specs.Line.{GivesLine}
 use Rattle.replay.specs.Places.{ArePlacesOf, AsksFor, IsPlaceOf, IsRunOf, TellsOfNothing}
 use Rattle.replay.specs.Replay.{Replays, Taken, TakesLine, TakesNext, broken, none, one_more, whole}
 use Rattle.replay.specs.RequestLine.{Says}
-use Rattle.replay.specs.Session.{AnswersMessage, State, Takes, file_of, import_line, reply_line}
+use Rattle.replay.specs.Session.{AnswersMessage, State, Takes, file_of, import_line, reply_line, sweep_line}
 use Rattle.replay.specs.declared.lines.Line.{Line}
 use Rattle.replay.specs.declared.request_line.RequestLine.{RequestLine}
-use Rattle.replay.specs.declared.request_line.RequestLine.TheVariants.{Now, Ipp, Dev, Grant}
+use Rattle.replay.specs.declared.request_line.RequestLine.TheVariants.{Now, Ipp, Dev, Grant, Expire}
 use Rattle.replay.proofs.HexadecimalLemmas.{length-decoded}
 
 -- what messages and lines of the device ask for is within the limits, and what they are answered says what it comes to: the laws of requests and of lines
@@ -67,6 +69,10 @@ file_comes : AreFiles → (row : Bor (List ℕ)) (old new : State) (said : Resul
 file_comes are row old new (Ok n) answer i e = let asks = grants i.0 i.1 in (Some (grant i.0), inl asks, are (file_of row.now) (Some (grant i.0)) asks, i.3)
 file_comes are row old new (Err why) answer i e = (None, inr (refl, (why, e)), tt, i.1)
 
+sweep_comes : (old new : State) (said : Result ℕ BookFault) (answer : List ℕ) → Sweeps old.queue old.now new.queue said → answer ≡ sweep_line said → ComesTo Expire old new answer
+sweep_comes old new (Ok n) answer s e = (Some expire, inl refl, tt, s.1)
+sweep_comes old new (Err why) answer s e = (None, inr (refl, (why, e)), tt, s)
+
 -- a message is within its limit
 abbrev FitsIn : RequestLine → Type 0
 FitsIn (Ipp digits) = (message : List ℕ) → decode_of digits.now ≡ Ok message → length message ≤ 16777216
@@ -78,6 +84,7 @@ comes are done are_files (Now n) old new answer fits t = (None, inl refl, tt, t.
 comes are done are_files (Ipp digits) old new answer fits t = message_comes are done digits old new t.1.0 answer t.1.1 (fits t.1.0 t.1.1) t.1.2
 comes are done are_files (Dev line) old new answer fits t = line_comes are done line old new answer t.1
 comes are done are_files (Grant row) old new answer fits t = file_comes are_files row old new t.1.0 answer t.1.1 t.1.2
+comes are done are_files Expire old new answer fits t = sweep_comes old new t.1.0 answer t.1.1 t.1.2
 
 -- of a line there are so many bytes that its message fits
 fits_in : (before behind : Option (List ℕ)) (line : Line) → GivesLine before behind line → (request : RequestLine) → Says line.bytes.items request → FitsIn request

@@ -13,11 +13,13 @@ use Rattle.ipp_ops.specs.declared.outcome.Answer.{Answer}
 use Rattle.ipp_ops.specs.declared.outcome.TooShort.{TooShort}
 use Rattle.ipp_wire.specs.Message.{head_of}
 use Rattle.queue_types.specs.Settings.{SettingValues}
+use Rattle.queue_core.specs.Sweep.{Sweeps}
 use Rattle.queue_core.specs.World.{World}
+use Rattle.queue_core.specs.declared.book.BookFault.{BookFault}
 use Rattle.queue_types.specs.declared.event.Report.{Report}
 use Rattle.replay.specs.Session.{AnswersMessage, State, Takes, file_of}
 use Rattle.replay.specs.declared.request_line.RequestLine.{RequestLine}
-use Rattle.replay.specs.declared.request_line.RequestLine.TheVariants.{Now, Ipp, Dev, Grant}
+use Rattle.replay.specs.declared.request_line.RequestLine.TheVariants.{Now, Ipp, Dev, Grant, Expire}
 
 -- ---- the settings stay
 
@@ -45,11 +47,16 @@ import_settings : (now : ℕ) (w u : World) (file : List ℕ) (answer : Result I
 import_settings now w u file (Ok n) i = ap (λ (z : World). z.settings) i.3
 import_settings now w u file (Err f) i = ap (λ (z : World). z.settings) i.1
 
+sweep_settings : (now : ℕ) (w u : World) (answer : Result ℕ BookFault) → Sweeps w now u answer → u.settings ≡ w.settings
+sweep_settings now w u (Ok n) s = ap (λ (z : World). z.settings) s.1
+sweep_settings now w u (Err f) s = ap (λ (z : World). z.settings) s
+
 pub takes_settings : (request : RequestLine) (old new : State) (text : List ℕ) → Takes request old new text → new.queue.settings ≡ old.queue.settings
 takes_settings (Now n) old new text t = ap (λ (z : World). z.settings) t.1
 takes_settings (Ipp digits) old new text t = message_settings old.now old.queue new.queue t.1.0 text t.1.2
 takes_settings (Dev line) old new text t = line_settings old.now old.queue new.queue (line.now ++ 10 ∷ []) text t.1
 takes_settings (Grant row) old new text t = import_settings old.now old.queue new.queue (file_of row.now) t.1.0 t.1.1
+takes_settings Expire old new text t = sweep_settings old.now old.queue new.queue t.1.0 t.1.1
 
 -- ---- a message
 

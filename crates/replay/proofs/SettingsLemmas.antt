@@ -24,4 +24,5 @@ are_settings = record {
   name_fits = lit≤ tt;
   name_utf8 = IsUtf8-from_ascii settings.name name_is_ascii;
   estimate_fits = lit≤ tt;
+  keep_fits = lit≤ tt;
 }

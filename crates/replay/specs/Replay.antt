@@ -9,11 +9,11 @@ use Rattle.replay.specs.RequestLine.{Says}
 use Rattle.replay.specs.Session.{IsRefused, State, Takes, state}
 use Rattle.replay.specs.declared.lines.Line.{Line}
 use Rattle.replay.specs.declared.request_line.RequestLine.{RequestLine}
-use Rattle.replay.specs.declared.request_line.RequestLine.TheVariants.{Now, Ipp, Dev, Grant}
+use Rattle.replay.specs.declared.request_line.RequestLine.TheVariants.{Now, Ipp, Dev, Grant, Expire}
 
 -- what the printer of a replay is set up with
 abbrev pub settings : SettingValues
-settings = record { uri = codes "ipp://localhost/ipp/print"; name = codes "release"; estimate = 20; epoch = pos 0 }
+settings = record { uri = codes "ipp://localhost/ipp/print"; name = codes "release"; estimate = 20; epoch = pos 0; keep = 3600 }
 
 -- a replay over this queue begins at moment 1
 abbrev pub first : World → State
@@ -25,6 +25,7 @@ HasWhole line (Ipp digits) = line.is_cut ≡ false
 HasWhole line (Now n) = ⊤
 HasWhole line (Dev text) = ⊤
 HasWhole line (Grant row) = ⊤
+HasWhole line Expire = ⊤
 
 -- what is kept of the line says what takes old to new and has this answer
 pub record TakesLine (line : Line) (old new : State) (answer : List ℕ) : Type 0 where

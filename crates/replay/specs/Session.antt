@@ -8,9 +8,11 @@ use Rattle.grants_csv.specs.declared.fault.ImportFault.{ImportFault}
 use Rattle.grants_csv.specs.declared.importing.Imported.{Imported}
 use Rattle.hex.specs.Hex.{decode_of, encode_lower}
 use Rattle.ipp_ops.specs.Answer.{BringsReply}
+use Rattle.queue_core.specs.Sweep.{Sweeps}
 use Rattle.queue_core.specs.World.{World}
+use Rattle.queue_core.specs.declared.book.BookFault.{BookFault}
 use Rattle.replay.specs.declared.request_line.RequestLine.{RequestLine}
-use Rattle.replay.specs.declared.request_line.RequestLine.TheVariants.{Now, Ipp, Dev, Grant}
+use Rattle.replay.specs.declared.request_line.RequestLine.TheVariants.{Now, Ipp, Dev, Grant, Expire}
 
 -- where a session is: the moment at which requests come, and the queue
 pub record State : Type 0 where
@@ -49,12 +51,22 @@ import_line (Err f) = codes "grant refused " ++ decimal (code_of f.cause) ++ 10 
 abbrev pub AnswersFile : World → ℕ → List ℕ → World → List ℕ → Type 0
 AnswersFile old now file new text = (answer : Result Imported ImportFault) × Imports old now file new answer × (text ≡ import_line answer)
 
+-- `expired N`, or `expire refused` after a fault
+abbrev pub sweep_line : Result ℕ BookFault → List ℕ
+sweep_line (Ok n) = codes "expired " ++ decimal n ++ 10 ∷ []
+sweep_line (Err f) = codes "expire refused" ++ 10 ∷ []
+
+-- the text is the answer to a sweep at this moment
+abbrev pub AnswersSweep : World → ℕ → World → List ℕ → Type 0
+AnswersSweep old now new text = (answer : Result ℕ BookFault) × Sweeps old now new answer × (text ≡ sweep_line answer)
+
 -- `now N` sets the moment and has no answer; the others are answered at the moment that was set last
 abbrev pub Takes : RequestLine → State → State → List ℕ → Type 0
 Takes (Now n) old new text = (new.now ≡ n) × (new.queue ≡ old.queue) × (text ≡ [])
 Takes (Ipp digits) old new text = (new.now ≡ old.now) × AnswersDigits old.queue old.now digits.now new.queue text
 Takes (Dev line) old new text = (new.now ≡ old.now) × AnswersLine old.queue old.now (line.now ++ 10 ∷ []) new.queue text
 Takes (Grant row) old new text = (new.now ≡ old.now) × AnswersFile old.queue old.now (file_of row.now) new.queue text
+Takes Expire old new text = (new.now ≡ old.now) × AnswersSweep old.queue old.now new.queue text
 
 -- the digits stand for no message of at most 16,777,216 bytes
 abbrev pub IsNoMessage : List ℕ → Type 0
@@ -65,4 +77,5 @@ abbrev pub IsRefused : Bool → RequestLine → Type 0
 IsRefused is_cut (Now n) = ⊥
 IsRefused is_cut (Dev line) = ⊥
 IsRefused is_cut (Grant row) = ⊥
+IsRefused is_cut Expire = ⊥
 IsRefused is_cut (Ipp digits) = (is_cut ≡ true) ⊎ IsNoMessage digits.now

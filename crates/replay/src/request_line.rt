@@ -19,6 +19,8 @@ pub(crate) enum RequestLine<'a> {
     Dev(&'a [u8]),
     /// `grant B,A,P`: the one row of an account file, without its line feed.
     Grant(&'a [u8]),
+    /// `expire`: held and open jobs that have expired end.
+    Expire,
 }
 
 impl<'a> RequestLine<'a> {
@@ -35,6 +37,9 @@ impl<'a> RequestLine<'a> {
         }
         if let Some(row) = line.strip_prefix(b"grant ".as_slice()) {
             return Some(RequestLine::Grant(row));
+        }
+        if line == b"expire".as_slice() {
+            return Some(RequestLine::Expire);
         }
         let moment = read_now(line)?;
         Some(RequestLine::Now(moment))

@@ -12,7 +12,7 @@ ghost use Rattle.queue_core.specs.World.{World};
 ghost use Rattle.replay.specs.Books.{AnswersEach, AnswersEachWith};
 ghost use Rattle.replay.specs.Faults.{IsOfStream};
 ghost use Rattle.replay.specs.Replay.{IsBadLine, TakesLine};
-ghost use Rattle.replay.specs.Session.{AnswersDigits, AnswersFile, AnswersMessage, IsNoMessage, file_of, import_line, state};
+ghost use Rattle.replay.specs.Session.{AnswersDigits, AnswersFile, AnswersMessage, AnswersSweep, IsNoMessage, file_of, import_line, state, sweep_line};
 
 use crate::context::Context;
 use crate::fault::Fault;
@@ -22,7 +22,7 @@ use crate::request_line::RequestLine;
 use device_lines::report;
 use grants_csv::{ImportCause, ImportFault, Imported, import};
 use ipp_ops::{Answer, TooShort, answer};
-use queue_core::QueueBook;
+use queue_core::{BookFault, QueueBook, sweep};
 use std::alloc::{AllocError, Global};
 use std::io::Write;
 
@@ -64,6 +64,10 @@ pub(crate) fn take_line<B: QueueBook, W: Write>(
         }
         RequestLine::Grant(row) => {
             import_row(context, book, row, output)?;
+            Ok(Some(context.now))
+        }
+        RequestLine::Expire => {
+            expire_jobs(context, book, output)?;
             Ok(Some(context.now))
         }
     }
@@ -172,6 +176,23 @@ fn import_row<B: QueueBook, W: Write>(
     Ok(())
 }
 
+/// Ends the jobs that have expired, and writes the answer.
+fn expire_jobs<B: QueueBook, W: Write>(
+    context: Context<'_>,
+    book: &mut B,
+    output: &mut W,
+) -> Result<(), Fault>
+    ensures began { B.is_honest book.new → B.is_honest book.old }
+    ensures answered { B.is_honest book.new → OnOk result
+        (AnswersEach B.QueueBook W.contents book.old book.new output.old output.new
+        (λ w u text. AnswersSweep w context.entry.now u text)) }
+    ensures failed { IfErr result IsOfStream }
+{
+    let answer = sweep(book, context.now);
+    tell_sweep(output, &answer)?;
+    Ok(())
+}
+
 /// A line with its line feed.
 fn ended_line(alloc: Global, text: &[u8]) -> Result<Vec<u8>, AllocError>
     ensures { IfOk result (λ line. line.items ≡ text.now ++ 10 ∷ []) }
@@ -203,6 +224,33 @@ fn tell_import<W: Write>(
         Ok(n) => tell_added(output, *n),
         Err(fault) => tell_refused(output, fault.cause),
     }
+}
+
+/// Writes the answer to a sweep.
+fn tell_sweep<W: Write>(output: &mut W, answer: &Result<u32, BookFault>) -> Result<(), Fault>
+    ensures told { OnOk result (Appends (W.contents output.old) (W.contents output.new) (sweep_line answer.now)) }
+    ensures failed { IfErr result IsOfStream }
+{
+    match answer {
+        Ok(ended) => tell_expired(output, *ended),
+        Err(_) => tell_unswept(output),
+    }
+}
+
+fn tell_expired<W: Write>(output: &mut W, ended: u32) -> Result<(), Fault>
+    ensures told { OnOk result (Appends (W.contents output.old) (W.contents output.new) (codes "expired " ++ decimal ended ++ 10 ∷ [])) }
+    ensures failed { IfErr result IsOfStream }
+{
+    writeln!(output, "expired {ended}")?;
+    Ok(())
+}
+
+fn tell_unswept<W: Write>(output: &mut W) -> Result<(), Fault>
+    ensures told { OnOk result (Appends (W.contents output.old) (W.contents output.new) (codes "expire refused" ++ 10 ∷ [])) }
+    ensures failed { IfErr result IsOfStream }
+{
+    output.write_all(b"expire refused\n")?;
+    Ok(())
 }
 
 fn tell_added<W: Write>(output: &mut W, imported: Imported) -> Result<(), Fault>

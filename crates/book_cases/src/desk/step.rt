@@ -19,6 +19,8 @@ pub(crate) enum Step<'a> {
     File(&'a [u8], Outcome),
     /// A line of the device, and its answer, both without their line feeds.
     Dev(&'a str, &'a str),
+    /// A sweep, and how many jobs it ends.
+    Expire(u32),
     /// A caller's request, and the status code of the reply.
     Ask(&'a str, Request<'a>, u16),
     /// A caller's request so many times, and the status code of each reply.
@@ -60,6 +62,7 @@ impl Step<'_> {
             | Step::Grant(..)
             | Step::File(..)
             | Step::Dev(..)
+            | Step::Expire(_)
             | Step::Ask(..)
             | Step::AskTimes(..) => false,
         }

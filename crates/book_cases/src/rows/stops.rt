@@ -6,7 +6,10 @@ use crate::desk::request::Request;
 use crate::desk::request::Request::{Cancel, Create, Hold, Print, Release, Send};
 use crate::desk::shelf::take_row;
 use crate::desk::step::Step;
-use crate::desk::step::Step::{Ask, Dev, Document, Fetch, Grant, Look, NoSheet, Queue, Sheet};
+use crate::desk::step::Step::{
+    Ask, Dev, Document, Expire, Fetch, Grant, Look, NoSheet, Now, Queue, Sheet,
+};
+use crate::shelves::older::{FIRST_QUEUE, FIRST_ROWS, FIRST_TABLES};
 use crate::shelves::stops::Stopping;
 use std::alloc::Global;
 
@@ -17,8 +20,20 @@ fn stop(
     steps: &[Step<'_>],
     last: &'static [Step<'static>],
 ) -> Result<(), RowFault> {
+    stop_over(alloc, &[], first, steps, last)
+}
+
+/// The same, but statements make the tables in place of the first steps, if there are any.
+fn stop_over(
+    alloc: Global,
+    statements: &'static [&'static str],
+    first: &[Step<'_>],
+    steps: &[Step<'_>],
+    last: &'static [Step<'static>],
+) -> Result<(), RowFault> {
     for (log_pages, cache_pages) in [(4, 8), (1000, 2000)] {
         let shelf = Stopping {
+            statements,
             log_pages,
             cache_pages,
             last,
@@ -211,4 +226,46 @@ fn account_files(rt: HostRuntime) -> Result<(), RowFault> {
         NoSheet("dave"),
     ];
     stop(rt.alloc(), &[], STEPS, LAST)
+}
+
+#[test]
+fn jobs_that_expire(rt: HostRuntime) -> Result<(), RowFault> {
+    const FIRST: &[Step<'static>] = &[
+        GRANTED,
+        Ask("alice", Create, 0x0000),
+        Ask("alice", Release(1), 0x0000),
+        Ask("alice", Print, 0x0000),
+        Now(3601),
+    ];
+    const STEPS: &[Step<'static>] = &[
+        Sheet("alice", (30, 10, 20, 0)),
+        Expire(2),
+        Sheet("alice", (30, 30, 0, 0)),
+        Expire(0),
+    ];
+    const LAST: &[Step<'static>] = &[
+        Sheet("alice", (30, 30, 0, 0)),
+        Look("alice", 1, 8, &["aborted-by-system"]),
+        Look("alice", 2, 8, &["aborted-by-system"]),
+        Queue(""),
+    ];
+    stop(rt.alloc(), FIRST, STEPS, LAST)
+}
+
+#[test]
+fn tables_of_the_first_schema(rt: HostRuntime) -> Result<(), RowFault> {
+    const STEPS: &[Step<'static>] = &[
+        Sheet("alice", (30, 5, 0, 25)),
+        Expire(0),
+        Queue("5 1 1 4\n"),
+        Ask("alice", Print, 0x0000),
+        Look("alice", 8, 4, &["job-hold-until-specified"]),
+    ];
+    stop_over(
+        rt.alloc(),
+        &[FIRST_TABLES, FIRST_ROWS],
+        &[],
+        STEPS,
+        FIRST_QUEUE,
+    )
 }

@@ -17,7 +17,7 @@ use std::path::PathBuf;
 use std::{env, fs, io, mem, process, slice};
 
 /// Books in lists.
-pub(super) struct InLists;
+pub(crate) struct InLists;
 
 impl Shelf for InLists {
     fn books(&self) -> Books {
@@ -36,7 +36,7 @@ impl Shelf for InLists {
 }
 
 /// Books in tables in memory.
-pub(super) struct InTables;
+pub(crate) struct InTables;
 
 impl Shelf for InTables {
     fn books(&self) -> Books {
@@ -95,7 +95,7 @@ pub(crate) fn take_adopted(
 }
 
 /// Books in tables in memory that are closed and adopted before every step.
-pub(super) struct Adopted;
+pub(crate) struct Adopted;
 
 impl Shelf for Adopted {
     fn books(&self) -> Books {

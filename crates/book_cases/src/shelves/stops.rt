@@ -5,7 +5,7 @@ use crate::desk::shelf::Shelf;
 use crate::desk::step::Step;
 use crate::desk::{Desk, Place};
 use crate::shelves::disk::{Contents, Left, Remains, Stop, StoppingFile, is_one_spent};
-use crate::shelves::store::{End, Source, take_in_file_store, unopened};
+use crate::shelves::store::{End, Source, run_in_files, take_in_file_store, unopened};
 use queue_core::BookFault;
 use queue_store::TableBook;
 use queue_types::settings::Settings;
@@ -16,19 +16,31 @@ use std::alloc::Global;
 /// More calls than a file gets in the steps of a row.
 const MOST_CALLS: u64 = 1_000_000;
 
-/// The source of a book in two files, which are opened with these options. Files that can't be opened are given back.
+/// A connection over two files, which are opened with these options. Files that can't be opened are given back.
+fn open_in<D: Disk + Drop>(
+    alloc: Global,
+    files: Files<D>,
+    options: Options,
+) -> Result<Connection<FileStore<D>>, (BookFault, Files<D>)> {
+    if !files.may_be_used() {
+        return Err((BookFault::Disk, files));
+    }
+    match Connection::open_files(alloc, files, options) {
+        Ok(conn) => Ok(conn),
+        Err((error, left)) => Err((fault_of(error), left.into_files())),
+    }
+}
+
+/// The source of a book in such files.
 fn source_in<D: Disk + Drop>(
     alloc: Global,
     files: Files<D>,
     options: Options,
     settings: Option<Settings>,
 ) -> Result<Source<TableBook<FileStore<D>>, Connection<FileStore<D>>>, (BookFault, Files<D>)> {
-    if !files.may_be_used() {
-        return Err((BookFault::Disk, files));
-    }
-    match Connection::open_files(alloc, files, options) {
+    match open_in(alloc, files, options) {
         Ok(conn) => Ok(source_of(conn, settings)),
-        Err((error, left)) => Err((fault_of(error), left.into_files())),
+        Err(refused) => Err(refused),
     }
 }
 
@@ -87,12 +99,14 @@ fn has_stopped(ended: End, is_spent: bool) -> Result<bool, StepFault> {
 }
 
 /// Books in tables in two files of a disk that stops: at each call of the log, and at each of the database file, until
-/// the steps come to no further one. A book without first steps is made on that disk, another is opened on it behind
+/// the steps come to no further one. A book without first steps and statements is made on that disk, another is opened on it behind
 /// them. The step that meets the stop, and the look behind it, tell a fault, or what is right. What is left then is
 /// opened again, as it was written (as by a program that is killed) and as it was synced (as by a machine without
 /// power), and goes on from the step that met the stop or from the one behind it.
 #[derive(Clone, Copy)]
 pub(crate) struct Stopping<'a> {
+    /// Statements that make the tables of the files in place of first steps; none if a book makes them.
+    pub(crate) statements: &'a [&'a str],
     /// The pages that the log may have before it is copied into the database file.
     pub(crate) log_pages: usize,
     /// The pages that are kept in memory.
@@ -115,6 +129,18 @@ impl Stopping<'_> {
         let (ended, files) = self.take_stopping(desk, None, Stop::Never, first)?;
         ended.well()?;
         Ok(Contents::of(desk.alloc(), &files)?)
+    }
+
+    /// The contents of the files after the statements made the tables.
+    fn make(self, alloc: Global) -> Result<Contents, StepFault> {
+        let files = Left::NOTHING.files(alloc, Stop::Never)?;
+        match open_in(alloc, files, self.options()) {
+            Ok(conn) => {
+                let files = run_in_files(conn, self.statements)?;
+                Ok(Contents::of(alloc, &files)?)
+            }
+            Err(_) => Err(StepFault::SettingUp),
+        }
     }
 
     /// Steps and then the last ones are well over the book that a stop left.
@@ -289,6 +315,9 @@ impl Stopping<'_> {
 
     /// The files as the steps begin, where their book is not a new one.
     fn kept(self, desk: &mut Desk, first: &[Step<'_>]) -> Result<Option<Contents>, StepFault> {
+        if !self.statements.is_empty() {
+            return Ok(Some(self.make(desk.alloc())?));
+        }
         if first.is_empty() {
             return Ok(None);
         }

@@ -183,3 +183,24 @@ pub(super) fn take_in_file_store<D: Disk + Drop>(
     let (ended, store) = take_in_store(desk, source, steps, last);
     (ended, store.close())
 }
+
+/// Runs statements over a store, none of which is refused.
+fn run_in_store<S: Alter + Drop>(
+    mut conn: Connection<S>,
+    statements: &[&str],
+) -> Result<S, StepFault> {
+    for some in statements {
+        if conn.execute_batch(some).is_err() {
+            return Err(StepFault::SettingUp);
+        }
+    }
+    Ok(conn.into_store())
+}
+
+/// `run_in_store` over files, which it gives back.
+pub(super) fn run_in_files<D: Disk + Drop>(
+    conn: Connection<FileStore<D>>,
+    statements: &[&str],
+) -> Result<Files<D>, StepFault> {
+    Ok(run_in_store(conn, statements)?.close())
+}

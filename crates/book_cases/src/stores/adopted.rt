@@ -25,8 +25,9 @@ fn a_queue_comes_back(rt: HostRuntime) -> Result<(), Fail> {
 const COLUMNS: &[(&str, &str)] = &[
     (
         "SELECT * FROM meta",
-        "1|1|ipp://localhost/ipp/print|release|20|0|11|\n",
+        "1|2|ipp://localhost/ipp/print|release|20|0|11|\n",
     ),
+    ("SELECT * FROM policy", "1|3600|\n"),
     (
         "SELECT * FROM jobs ORDER BY number",
         "1|alice|untitled|1|20|0|0|9|0|0|25|2|22|24|\n\
@@ -68,18 +69,19 @@ fn columns_of_a_queue(rt: HostRuntime) -> Result<(), Fail> {
     full_tables(rt.alloc())?.show_each(COLUMNS)
 }
 
-/// The URI, the name, the estimate and the epoch of a printer.
-type Printer<'a> = (&'a str, &'a str, u32, i64);
+/// The URI, the name, the estimate and the epoch of a printer, and the seconds for which it keeps a held job.
+type Printer<'a> = (&'a str, &'a str, u32, i64, u32);
 
 const PRINTERS: &[Printer<'static>] = &[
-    ("ipp://localhost/ipp/print", "release", 20, 0),
+    ("ipp://localhost/ipp/print", "release", 20, 0, 3600),
     (
         "ipps://print.example.org:8631/ipp/print",
         "Druckraum f\u{fc}r alle",
         100_000,
         1_795_000_000,
+        2_147_483_647,
     ),
-    (":///ipp/print", "\n", 0, -1),
+    (":///ipp/print", "\n", 0, -1, 0),
 ];
 
 fn has_settings(book: &TableBook<MemStore>, printer: Printer<'_>) -> Result<(), Fail> {
@@ -89,14 +91,16 @@ fn has_settings(book: &TableBook<MemStore>, printer: Printer<'_>) -> Result<(), 
         settings.name(),
         settings.estimate(),
         settings.epoch(),
+        settings.keep(),
     );
     same(&came, &printer, "settings")
 }
 
 /// A new book of the printer has its settings. It is closed.
 fn make_with(alloc: Global, printer: Printer<'_>) -> Result<Tables, Fail> {
-    let (uri, name, estimate, epoch) = printer;
-    let book = new_book(alloc, Settings::new(alloc, uri, name, estimate, epoch)?)?;
+    let (uri, name, estimate, epoch, keep) = printer;
+    let settings = Settings::new(alloc, uri, name, estimate, epoch, keep)?;
+    let book = new_book(alloc, settings)?;
     has_settings(&book, printer)?;
     Ok(Tables::of(alloc, book))
 }
@@ -125,6 +129,7 @@ const STRANGERS: &[(&str, &str, BookFault)] = &[
     ("CREATE TABLE accounts (x)", "1|\n", BookFault::Damaged),
     ("CREATE TABLE grants (x)", "1|\n", BookFault::Damaged),
     ("CREATE TABLE reports (x)", "1|\n", BookFault::Damaged),
+    ("CREATE TABLE policy (x)", "1|\n", BookFault::Damaged),
     ("CREATE TABLE Jobs (x)", "1|\n", BookFault::Damaged),
     ("CREATE VIEW jobs AS SELECT 1", "1|\n", BookFault::Damaged),
     (
@@ -180,7 +185,7 @@ const TOTALS: &str = "\
     UPDATE accounts SET free = 11 => UPDATE accounts SET free = 10";
 
 /// Each change of the tables damages them.
-fn damage_each(tables: &mut Tables, lines: &str) -> Result<(), Fail> {
+pub(super) fn damage_each(tables: &mut Tables, lines: &str) -> Result<(), Fail> {
     let whole = tables.content()?;
     let changes = Changes {
         whole: whole.as_slice(),

@@ -7,7 +7,7 @@ use std::test::Fail;
 /// Values of columns, each by itself.
 const UNSOUND_VALUES: &str = "\
     meta | one < 9 | one | 1 | 2; 0; -1\n\
-    meta | one = 1 | schema | 1 | 0; 2; 4294967297\n\
+    meta | one = 1 | schema | 2 | 0; 1; 3; 99; 4294967298\n\
     meta | one = 1 | uri | 'ipp://localhost/ipp/print' | ''; 'ipp://h/x'; '/ipp/print'; 'ipp://h/ipp/print?a'; 'ipp://h/ipp/print#a'; 'ipp://\u{e9}/ipp/print'; 'ipp://' || replace('xxxxxxxxxxxxxxxx', 'x', 'hhhhhhhhhhhhhhh') || '/ipp/print'\n\
     meta | one = 1 | name | 'release' | ''; replace('xxxxxxxx', 'x', 'nnnnnnnnnnnnnnnn')\n\
     meta | one = 1 | estimate | 20 | -1; 100001; 4294967316\n\
@@ -65,7 +65,9 @@ const UNSOUND_VALUES: &str = "\
     reports | job = 1 AND seq = 2 | count | 12 | 26; -1; 100000001\n\
     reports | job = 1 AND seq = 3 | count | 25 | 24\n\
     reports | job = 1 AND seq = 2 | state | 5 | 2; 10; -1; 261\n\
-    reports | job = 1 AND seq = 2 | total | 12 | -1; 100000001";
+    reports | job = 1 AND seq = 2 | total | 12 | -1; 100000001\n\
+    policy | one < 9 | one | 1 | 2; 0; -1\n\
+    policy | one = 1 | keep | 3600 | -1; 2147483648; 4294970896";
 
 /// Several values, or keys.
 const UNSOUND_KEYS: &str = "\
@@ -112,14 +114,16 @@ const SOUND_VALUES: &str = "\
     reports | job = 1 AND seq = 2 | kind | 4 | 1; 2; 3; 5; 6; 7\n\
     reports | job = 1 AND seq = 2 | count | 12 | 0; 25\n\
     reports | job = 1 AND seq = 2 | state | 5 | 3; 9\n\
-    reports | job = 1 AND seq = 2 | total | 12 | 0; 100000000";
+    reports | job = 1 AND seq = 2 | total | 12 | 0; 100000000\n\
+    policy | one = 1 | keep | 3600 | 0; 1; 2147483647";
 
-/// Rows that come and go, and an index that goes, on which no answer rests.
+/// Rows that come and go, and indexes that go, on which no answer rests.
 const SOUND_ROWS: &str = "\
     UPDATE jobs SET number = 2147483647 WHERE number = 9; UPDATE meta SET next_number = 2147483648 => UPDATE jobs SET number = 9 WHERE number = 2147483647; UPDATE meta SET next_number = 11\n\
     DELETE FROM pieces WHERE job = 8; DELETE FROM documents WHERE job = 8 => INSERT INTO documents VALUES (8, 1, 'application/octet-stream', 5); INSERT INTO pieces VALUES (8, 1, 0, x'6569676874')\n\
     INSERT INTO grants VALUES ('f25', 'bob', 7); UPDATE accounts SET free = 57 WHERE name = 'bob' => DELETE FROM grants WHERE batch = 'f25'; UPDATE accounts SET free = 50 WHERE name = 'bob'\n\
     DROP INDEX jobs_by_owner => CREATE INDEX jobs_by_owner ON jobs (owner, phase)\n\
+    DROP INDEX jobs_by_age => CREATE INDEX jobs_by_age ON jobs (phase, created)\n\
     INSERT INTO reports VALUES (8, 5, 4, 0, 4, 0) => DELETE FROM reports WHERE job = 8";
 
 #[test]

@@ -11,8 +11,9 @@ use std::alloc::{AllocError, Global};
 use std::io::Write;
 use std::test::Fail;
 
-/// All rows of each table.
-const QUERIES: [&str; 7] = [
+/// The names of all tables and indexes, and all rows of each table.
+const QUERIES: [&str; 9] = [
+    "SELECT name FROM sqlite_schema ORDER BY 1",
     "SELECT * FROM meta ORDER BY 1",
     "SELECT * FROM jobs ORDER BY 1",
     "SELECT * FROM documents ORDER BY 1, 2",
@@ -20,6 +21,7 @@ const QUERIES: [&str; 7] = [
     "SELECT * FROM accounts ORDER BY 1",
     "SELECT * FROM grants ORDER BY 1, 2",
     "SELECT * FROM reports ORDER BY 1, 2",
+    "SELECT * FROM policy ORDER BY 1",
 ];
 
 /// What becomes of tables that a book is made in or taken from.

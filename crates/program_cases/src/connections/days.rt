@@ -1,4 +1,4 @@
-//! Connections, lines of the device and account files, one after another, over each book.
+//! Connections, lines of the device, account files and sweeps, one after another, over each book.
 ghost use Rattle.std.specs.Prelude.{All};
 ghost use Rattle.queue_core.specs.Limits.{IsMoment};
 
@@ -6,7 +6,7 @@ use crate::desk::books::{DeskBook, GRANT, MemoryBook};
 use crate::desk::compare::{Failed, Mismatch, Place, failed_at};
 use crate::desk::connection::Wanted::Success;
 use crate::desk::connection::{Wanted, broken_off, faultless, wanted_bytes};
-use crate::desk::messages::{DONE, JOB_1, PRINT_JOB, RELEASE_JOB};
+use crate::desk::messages::{DONE, JOB_1, JOB_2, PRINT_JOB, RELEASE_JOB};
 use crate::desk::queue::{new_book, settings};
 use crate::desk::requests::{GET_QUEUE, IPP, POST_JOB, POST_RELEASE, TEXT};
 use crate::desk::streams::{AT_ONCE, TestWriter, Way};
@@ -34,6 +34,8 @@ enum Comes {
     Imports(u32, u32),
     /// The file is refused for this, at this row.
     Refuses(ImportCause, u32),
+    /// This number of jobs expire.
+    Expires(u32),
 }
 
 /// What is wanted of each of a day.
@@ -98,6 +100,21 @@ fn print_and_start(print: &[u8]) -> [Arrival<'_>; 2]
     ]
 }
 
+/// Two jobs are printed and the first is released. A job that isn't released is kept for an hour.
+fn print_and_sweep(print: &[u8]) -> [Arrival<'_>; 7]
+    ensures { All (λ a. IsMoment a.moment) result }
+{
+    [
+        at(1, Arrived::AccountFile(GRANT)),
+        at(1, Arrived::Connection(print)),
+        at(1, Arrived::Connection(print)),
+        at(3600, Arrived::Sweep),
+        at(3601, Arrived::Sweep),
+        at(LAST_MOMENT, Arrived::Sweep),
+        at(2, Arrived::Line(b"2 1 start 0\n")),
+    ]
+}
+
 /// What comes of a day, and what it leaves.
 struct Day {
     name: &'static str,
@@ -130,6 +147,28 @@ static LOST: Day = Day {
     pages: None,
 };
 
+/// The job that isn't released expires.
+static SWEPT: Day = Day {
+    name: "a day of sweeps",
+    way: AT_ONCE,
+    wanted: &[
+        Comes::Imports(1, 0),
+        Comes::Serves(2, End::Closed),
+        Comes::Serves(2, End::Closed),
+        Comes::Expires(0),
+        Comes::Expires(1),
+        Comes::Expires(0),
+        Comes::Tells("refused 3 state\n"),
+    ],
+    answers: &[
+        Success(IPP, JOB_1),
+        Success(IPP, DONE),
+        Success(IPP, JOB_2),
+        Success(IPP, DONE),
+    ],
+    pages: Some((30, 10, 20, 0)),
+};
+
 /// One came to what it was to come to.
 fn is_wanted(wanted: Comes, came: &Outcome) -> bool {
     match (wanted, came) {
@@ -144,6 +183,7 @@ fn is_wanted(wanted: Comes, came: &Outcome) -> bool {
         (Comes::Refuses(cause, row), Outcome::Refused(fault)) => {
             *fault == ImportFault { cause, row }
         }
+        (Comes::Expires(ended), Outcome::Swept(count)) => *count == ended,
         _ => false,
     }
 }
@@ -266,5 +306,10 @@ fn days_of_a_queue(rt: HostRuntime) -> Result<(), Fail> {
         rt.alloc(),
         print_and_start(print.as_slice()).as_slice(),
         &LOST,
+    )?;
+    pass_over_both(
+        rt.alloc(),
+        print_and_sweep(print.as_slice()).as_slice(),
+        &SWEPT,
     )
 }

@@ -1,4 +1,5 @@
-//! Five hundred connections in a row, drawn by a fixed rule, to two queues that are kept by books of two kinds: from both comes the same.
+//! Five hundred connections in a row, drawn by a fixed rule, to two queues that are kept by books of two kinds: from both comes the same. Account
+//! files and sweeps come between them.
 ghost use Rattle.std.specs.Prelude.{◌<◌};
 ghost use Rattle.queue_core.specs.Limits.{IsMoment};
 
@@ -11,7 +12,8 @@ use crate::desk::queue::{new_book, settings};
 use crate::desk::streams::{SPEEDS, TestReader, by};
 use http_front::{ServeFault, Served, serve};
 use list_book::ListBook;
-use queue_core::QueueBook;
+use queue_core::{QueueBook, sweep};
+use queue_types::limits::LAST_MOMENT;
 use queue_types::settings::Settings;
 use std::alloc::Global;
 use std::cell::Cell;
@@ -19,8 +21,11 @@ use std::cell::Cell;
 /// How many connections are drawn.
 const CALLS: u32 = 500;
 
-/// Behind so many an account file comes.
+/// An account file and a sweep come after this number of calls, again and again.
 const UNTIL_GRANT: u32 = 50;
+
+/// The seconds by which a sweep is later than the calls around it: it ends jobs that are held or open since 330 calls, one a second.
+const LATER: u32 = 3270;
 
 /// So many concern the same jobs.
 const UNTIL_NEXT_JOB: u32 = 40;
@@ -147,6 +152,18 @@ impl<A: DeskBook, B: DeskBook> Pair<A, B> {
         grant_in(self.alloc, &mut self.tables, moment, file.as_bytes(), 2)
     }
 
+    /// Sweeps both queues some time after a moment, and returns the number of jobs that expire, which has to be the same in both.
+    fn expire(&mut self, moment: u32) -> u32 {
+        let later = moment.saturating_add(LATER).clamp(1, LAST_MOMENT);
+        let one = sweep(&mut self.lists, later);
+        let other = sweep(&mut self.tables, later);
+        self.note(AT.is_so(
+            other.is_ok() && one == other,
+            "the same number of jobs expires",
+        ));
+        other.unwrap_or(0)
+    }
+
     /// A stream is served alike by both at a moment, where a read gives at most so many bytes: the same is written, and the same comes of
     /// it, which is no fault.
     fn take(&mut self, moment: u32, read: (&[u8], usize))
@@ -253,17 +270,31 @@ fn draw_call<A: DeskBook, B: DeskBook>(
     }
 }
 
-/// Draws all of the calls, each at a moment of its own, and counts the answers that are looked for. Account files come between them.
+/// Takes an account file or a sweep, if one comes before the call of this moment. Returns the number of jobs that expire.
+fn come_between<A: DeskBook, B: DeskBook>(pair: &mut Pair<A, B>, moment: u32) -> u32
+    requires { IsMoment moment }
+{
+    match moment % UNTIL_GRANT {
+        0 => pair.expire(moment),
+        1 => {
+            let granted = pair.grant(moment);
+            pair.note(granted);
+            0
+        }
+        _ => 0,
+    }
+}
+
+/// Draws all of the calls, each at a moment of its own, and counts the answers that are looked for. Account files and sweeps come between them.
 fn draw_calls<A: DeskBook, B: DeskBook>(pair: &mut Pair<A, B>, rows: &[Row]) -> [u32; KINDS] {
     let mut counts = [0; KINDS];
     let mut draws = Draws { state: 10, rows };
+    let mut expired: u32 = 0;
     for moment in 1..=CALLS {
-        if moment % UNTIL_GRANT == 1 {
-            let granted = pair.grant(moment);
-            pair.note(granted);
-        }
+        expired = expired.saturating_add(come_between(pair, moment));
         draw_call(pair, &mut draws, &mut counts, moment);
     }
+    pair.note(AT.is_so(expired > 0, "jobs expire"));
     counts
 }
 

@@ -20,6 +20,18 @@ pub(crate) const PRINT_JOB_3_0: &[u8] =
 pub(crate) const RELEASE_JOB: &[u8] =
     b"\x01\x01\x00\r\x0a\x0b\x0c\x0d\x01G\x00\x12attributes-charset\x00\x05utf-8H\x00\x1battributes-natural-language\x00\x02enE\x00\x0bprinter-uri\x00\x19ipp://localhost/ipp/print!\x00\x06job-id\x00\x04\x00\x00\x00\x01B\x00\x14requesting-user-name\x00\x05alice\x03";
 
+/// Get-Job-Attributes of `job-state` of job 1 by alice: 192 bytes.
+pub(crate) const GET_STATE: &[u8] =
+    b"\x01\x01\x00\x09\x0a\x0b\x0c\x0d\x01G\x00\x12attributes-charset\x00\x05utf-8H\x00\x1battributes-natural-language\x00\x02enE\x00\x0bprinter-uri\x00\x19ipp://localhost/ipp/print!\x00\x06job-id\x00\x04\x00\x00\x00\x01B\x00\x14requesting-user-name\x00\x05aliceD\x00\x14requested-attributes\x00\x09job-state\x03";
+
+/// The reply of a job in state 4, pending-held.
+pub(crate) const IS_HELD: &[u8] =
+    b"\x01\x01\x00\x00\x0a\x0b\x0c\x0d\x01G\x00\x12attributes-charset\x00\x05utf-8H\x00\x1battributes-natural-language\x00\x02en\x02#\x00\x09job-state\x00\x04\x00\x00\x00\x04\x03";
+
+/// The reply of a job in state 8, aborted.
+pub(crate) const IS_ABORTED: &[u8] =
+    b"\x01\x01\x00\x00\x0a\x0b\x0c\x0d\x01G\x00\x12attributes-charset\x00\x05utf-8H\x00\x1battributes-natural-language\x00\x02en\x02#\x00\x09job-state\x00\x04\x00\x00\x00\x08\x03";
+
 /// Get-Printer-Attributes of `printer-up-time`: 153 bytes.
 pub(crate) const GET_UP_TIME: &[u8] =
     b"\x01\x01\x00\x0b\x0a\x0b\x0c\x0d\x01G\x00\x12attributes-charset\x00\x05utf-8H\x00\x1battributes-natural-language\x00\x02enE\x00\x0bprinter-uri\x00\x19ipp://localhost/ipp/printD\x00\x14requested-attributes\x00\x0fprinter-up-time\x03";

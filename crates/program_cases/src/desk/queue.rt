@@ -16,9 +16,9 @@ use std::cell::Cell;
 /// What every connection and file comes at.
 const MOMENT: u32 = 1;
 
-/// A printer with an estimate of 20 pages.
+/// A printer with an estimate of 20 pages, which keeps a held job for an hour.
 pub(crate) fn settings(alloc: Global) -> Result<Settings, Mismatch> {
-    let settings = Settings::new(alloc, "ipp://localhost/ipp/print", "release", 20, 0)?;
+    let settings = Settings::new(alloc, "ipp://localhost/ipp/print", "release", 20, 0, 3600)?;
     Ok(settings)
 }
 

@@ -25,6 +25,10 @@ pub(crate) const POST_LARGEST: &[u8] =
 pub(crate) const POST_UP_TIME: &[u8] =
     b"POST /ipp/print HTTP/1.1\r\nContent-Type: application/ipp\r\nContent-Length: 153\r\n\r\n";
 
+/// The head of a POST that asks for a job's state.
+pub(crate) const POST_STATE: &[u8] =
+    b"POST /ipp/print HTTP/1.1\r\nContent-Type: application/ipp\r\nContent-Length: 192\r\n\r\n";
+
 /// The head of a POST of the release of a job.
 pub(crate) const POST_RELEASE: &[u8] =
     b"POST /ipp/print HTTP/1.1\r\nContent-Type: application/ipp\r\nContent-Length: 158\r\n\r\n";

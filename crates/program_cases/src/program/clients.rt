@@ -2,9 +2,11 @@
 
 use crate::desk::books::{DeskBook, MemoryBook};
 use crate::desk::connection::Wanted::{Continue, Last, Refusal, Success};
-use crate::desk::messages::{GET_UP_TIME, JOB_1, JOB_2, JOB_3, PRINT_JOB, UP_FOR_42};
+use crate::desk::messages::{
+    GET_STATE, GET_UP_TIME, IS_ABORTED, IS_HELD, JOB_1, JOB_2, JOB_3, PRINT_JOB, UP_FOR_42,
+};
 use crate::desk::queue::new_book;
-use crate::desk::requests::{GET_QUEUE, IPP, POST_JOB, POST_UP_TIME, TEXT};
+use crate::desk::requests::{GET_QUEUE, IPP, POST_JOB, POST_STATE, POST_UP_TIME, TEXT};
 use crate::desk::streams::{NO_FLUSH, NO_ROOM};
 use crate::program::server::Step::{Comes, Gets, Serves, ServesSo, Waits};
 use crate::program::server::{Ends, PRINTS, Pace, Row, Serving, Step, USUAL, take_row};
@@ -27,6 +29,9 @@ const ASKS: Step<'static> = Comes(SendsLast(&[POST_UP_TIME, GET_UP_TIME]));
 
 /// The first is told of 42 seconds.
 const IS_TOLD: Step<'static> = Gets(0, All(&[Success(IPP, UP_FOR_42)]));
+
+/// A client asks for the state of job 1.
+const ASKS_STATE: Step<'static> = Comes(SendsLast(&[POST_STATE, GET_STATE]));
 
 /// The head of a request whose body is too large.
 pub(super) const POST_TOO_LARGE: &[u8] =
@@ -206,7 +211,7 @@ static SILENT: [Row; 5] = [
 ];
 
 /// Connections whose time is over, and what is done as the server looks at its clock.
-static BY_THE_CLOCK: [Row; 7] = [
+static BY_THE_CLOCK: [Row; 8] = [
     // A connection has a minute in all, 60 timeouts of a second. In its last second the request is still read and acts; then its answer is
     // not written any more.
     (
@@ -277,6 +282,27 @@ static BY_THE_CLOCK: [Row; 7] = [
     (
         "the moment of a connection",
         &[ASKS, Serves(1, "served 1\n"), IS_TOLD],
+    ),
+    // a job that isn't released is kept for an hour, and ends before the first connection after that is served
+    (
+        "a job that expires",
+        &[
+            PRINTS,
+            Serves(1, "served 1\n"),
+            GETS_JOB_1,
+            ASKS_STATE,
+            ServesSo(Serving {
+                second: 3640,
+                ..USUAL
+            }),
+            Gets(1, All(&[Success(IPP, IS_HELD)])),
+            ASKS_STATE,
+            ServesSo(Serving {
+                second: 3641,
+                ..USUAL
+            }),
+            Gets(2, All(&[Success(IPP, IS_ABORTED)])),
+        ],
     ),
     // two clients wait: the server takes the first and then looks at the clock, which takes the second away
     (

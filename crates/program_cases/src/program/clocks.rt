@@ -8,9 +8,6 @@ use std::net::{TcpListener, TcpStream};
 use std::rt::Clock;
 use std::time::Duration;
 
-/// The second of the year 1970 at which each of these clocks stands.
-const SECOND: u64 = 41;
-
 /// What tells a client to send its body.
 const LEAVE: [u8; 25] = *b"HTTP/1.1 100 Continue\r\n\r\n";
 
@@ -35,6 +32,8 @@ pub(super) enum AtLook<'a> {
 #[derive(Drop)]
 pub(super) struct TestClock<'a> {
     rt: &'a HostRuntime,
+    /// The second since 1970 that it shows.
+    second: u64,
     /// The seconds that pass from each look to the next, if it doesn't go with the machine's.
     leap: Option<u64>,
     at_look: AtLook<'a>,
@@ -49,11 +48,13 @@ impl<'a> TestClock<'a> {
     /// One at which nobody has looked.
     pub(super) fn new(
         rt: &'a HostRuntime,
+        second: u64,
         leap: Option<u64>,
         at_look: AtLook<'a>,
     ) -> TestClock<'a> {
         TestClock {
             rt,
+            second,
             leap,
             at_look,
             looks: Cell::new(0),
@@ -136,6 +137,6 @@ impl Clock for TestClock<'_> {
         if let AtLook::TakesAway(listener) = self.at_look {
             let _gone = listener.accept()?;
         }
-        Ok(Duration::from_secs(SECOND))
+        Ok(Duration::from_secs(self.second))
     }
 }

@@ -4,9 +4,11 @@ use crate::desk::books::{DeskBook, MemoryBook};
 use crate::desk::connection::Wanted::Success;
 use crate::desk::faulty::{Failure, FaultyBook, TAKES_NOTHING};
 use crate::desk::messages::FAULT;
-use crate::desk::requests::IPP;
-use crate::program::server::Step::{Gets, Serves, ServesSo};
+use crate::desk::refused::NO_LINE;
+use crate::desk::requests::{IPP, NO_REPORT};
+use crate::program::server::Step::{Comes, Gets, Serves, ServesSo};
 use crate::program::server::{Ends, PRINTS, Serving, Step, USUAL, take_row};
+use crate::program::sockets::Comes::SendsLast;
 use crate::program::sockets::Gets::All;
 use queue_core::BookFault;
 use std::test::Fail;
@@ -27,7 +29,7 @@ const TWO: Serving<'static> = Serving {
 };
 
 /// Books that fail so, and what a server over them does.
-static ROWS: [(&str, Failure, &[Step<'static>]); 5] = [
+static ROWS: [(&str, Failure, &[Step<'static>]); 6] = [
     ("a book that takes nothing", TAKES_NOTHING, GOES_ON),
     // it is read where it can decide nothing
     (
@@ -76,6 +78,22 @@ static ROWS: [(&str, Failure, &[Step<'static>]); 5] = [
                 ..TWO
             }),
             Gets(0, All(&[Success(IPP, FAULT)])),
+        ],
+    ),
+    // the client asks nothing of it: its sweep alone meets the fault
+    (
+        "a sweep that the disk does not read",
+        Failure {
+            unread: Some(BookFault::Disk),
+            ..TAKES_NOTHING
+        },
+        &[
+            Comes(SendsLast(&[NO_REPORT])),
+            ServesSo(Serving {
+                ends: Ends::Unread(BookFault::Disk),
+                ..TWO
+            }),
+            Gets(0, All(&[NO_LINE])),
         ],
     ),
 ];

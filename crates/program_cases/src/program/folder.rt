@@ -8,6 +8,7 @@ use crate::desk::connection::filled;
 use crate::desk::streams::{TestWriter, Way};
 use commands::run;
 use print_server::listen;
+use sqlite::{Alter, Connection, Wary};
 use std::alloc::Global;
 use std::cell::Cell;
 use std::io::{BufWriter, ErrorKind, Write};
@@ -48,6 +49,9 @@ pub(super) const INIT: &str =
 /// The line that imports the other file into the store.
 pub(super) const IMPORT: &str = "printd import --store @/store @/file";
 
+/// The line that ends the store's jobs which have expired.
+pub(super) const EXPIRE: &str = "printd expire --store @/store";
+
 /// The line that prints alice's statement.
 pub(super) const STATEMENT: &str = "printd statement --store @/store alice";
 
@@ -72,6 +76,8 @@ pub(super) enum Step {
     TakenPort(&'static str, Told),
     /// The other file has these bytes, and its import into the store leaves this.
     Imports(&'static [u8], Told),
+    /// Statements change the tables of the store, as the shell of SQLite could.
+    Runs(&'static str),
     /// No file is there.
     Lacks(&'static str),
     /// The bytes of one file are those of another, with the one place of some bytes turned into others.
@@ -127,6 +133,11 @@ fn parted_at<'a>(bytes: &'a [u8], part: &[u8]) -> Option<(&'a [u8], &'a [u8])> {
     let place = bytes.windows(part.len().max(1)).position(|it| it == part)?;
     let (front, rest) = bytes.split_at(place);
     Some((front, rest.strip_prefix(part)?))
+}
+
+/// Statements run in a store, which is closed, and none is refused.
+fn are_run<S: Alter + Drop>(mut conn: Connection<S>, statements: &str) -> bool {
+    conn.execute_batch(statements).is_ok()
 }
 
 /// A folder of a test.
@@ -253,6 +264,15 @@ impl<'a> Folder<'a> {
         self.tell(IMPORT, wanted)
     }
 
+    /// Runs statements in the store, none of which is refused.
+    fn run(&self, statements: &str) -> Result<(), Mismatch> {
+        let path = self.whole(STORE)?;
+        match Connection::open_from(self.rt, path.as_str(), false, Wary) {
+            Ok(conn) => AT.is_so(are_run(conn, statements), statements),
+            Err(_) => Err(AT.not("a store that opens")),
+        }
+    }
+
     fn lacks(&self, path: &str) -> Result<(), Mismatch> {
         let came = self.read(path);
         let is_lacking = matches!(&came, Err(Mismatch::Io(ErrorKind::NotFound)));
@@ -301,6 +321,7 @@ impl<'a> Folder<'a> {
             Step::Unprinted(line, way) => self.tell_unprinted(line, way),
             Step::TakenPort(line, wanted) => self.tell_of_taken_port(line, wanted),
             Step::Imports(bytes, wanted) => self.import(bytes, wanted),
+            Step::Runs(statements) => self.run(statements),
             Step::Lacks(path) => self.lacks(path),
             Step::Turns(from, to, old, new) => self.turn(from, to, old, new),
             Step::HasByte(path, place, byte) => self.has_byte(path, place, byte),

@@ -115,13 +115,13 @@ fn lines_that_are_cut(rt: HostRuntime) -> Result<(), Mismatch> {
 /// Why a book can't be read.
 static UNREAD: [BookFault; 3] = [BookFault::Disk, BookFault::Memory, BookFault::Damaged];
 
-/// A Print-Job of alice, a line of the device and a row of an account file.
+/// A Print-Job of alice, a line of the device, a row of an account file and a sweep.
 const LINES: &[u8] =
-    b"ipp 010100020a0b0c0d01470012617474726962757465732d6368617273657400057574662d3848001b617474726962757465732d6e61747572616c2d6c616e67756167650002656e45000b7072696e7465722d75726900196970703a2f2f6c6f63616c686f73742f6970702f7072696e7442001472657175657374696e672d757365722d6e616d650005616c696365036869\ndev 1 1 start 0\ngrant f24,alice,30\n";
+    b"ipp 010100020a0b0c0d01470012617474726962757465732d6368617273657400057574662d3848001b617474726962757465732d6e61747572616c2d6c616e67756167650002656e45000b7072696e7465722d75726900196970703a2f2f6c6f63616c686f73742f6970702f7072696e7442001472657175657374696e672d757365722d6e616d650005616c696365036869\ndev 1 1 start 0\ngrant f24,alice,30\nexpire\n";
 
-/// Each is told a fault: the bare reply of server-error-temporary-error, and the codes of a fault.
+/// The answers that report a fault: the bare reply of server-error-temporary-error, the codes of a fault, and a refusal.
 const FAULTS: &[u8] =
-    b"ipp 010105050a0b0c0d01470012617474726962757465732d6368617273657400057574662d3848001b617474726962757465732d6e61747572616c2d6c616e67756167650002656e03\nrefused 6 fault\ngrant refused 6\n";
+    b"ipp 010105050a0b0c0d01470012617474726962757465732d6368617273657400057574662d3848001b617474726962757465732d6e61747572616c2d6c616e67756167650002656e03\nrefused 6 fault\ngrant refused 6\nexpire refused\n";
 
 /// A replay over such a book tells a fault line by line, and comes to its end.
 fn tells_faults<B: QueueBook>(

@@ -55,6 +55,8 @@ pub(super) struct Serving<'a> {
     pub(super) lines: &'a str,
     pub(super) way: Way,
     pub(super) pace: Pace,
+    /// The second since 1970 at which its connections come.
+    pub(super) second: u64,
     pub(super) ends: Ends,
     /// All of it takes so many seconds at least, and fewer than so many.
     pub(super) seconds: (u64, u64),
@@ -68,6 +70,7 @@ pub(super) const USUAL: Serving<'static> = Serving {
     lines: "served 1\n",
     way: AT_ONCE,
     pace: Pace::OfMachine,
+    second: 41,
     ends: Ends::Well,
     seconds: (0, 60),
     wait: (0, u64::MAX),
@@ -113,11 +116,11 @@ pub(super) struct Server<B: QueueBook> {
 /// The clock of a server with these clients.
 fn clock_of<'a>(
     rt: &'a HostRuntime,
-    pace: Pace,
+    serving: &Serving<'_>,
     listener: &'a TcpListener,
     clients: &'a Clients,
 ) -> Result<TestClock<'a>, Mismatch> {
-    let (leap, at_look) = match pace {
+    let (leap, at_look) = match serving.pace {
         Pace::OfMachine => (None, AtLook::Nothing),
         Pace::Leaps(seconds) => (Some(seconds), AtLook::Nothing),
         Pace::SendsOn(seconds, client) => (Some(seconds), AtLook::SendsOn(clients.stream(client)?)),
@@ -125,7 +128,7 @@ fn clock_of<'a>(
         Pace::SendsWhenTold(client) => (Some(0), AtLook::SendsWhenTold(clients.stream(client)?)),
         Pace::TakesAway => (Some(0), AtLook::TakesAway(listener)),
     };
-    Ok(TestClock::new(rt, leap, at_look))
+    Ok(TestClock::new(rt, serving.second, leap, at_look))
 }
 
 /// A server came to this end.
@@ -209,7 +212,7 @@ impl<B: QueueBook + Drop> Server<B> {
 
     /// Serves connections as it is to.
     fn serve(&mut self, rt: &HostRuntime, serving: &Serving<'_>) -> Result<(), Mismatch> {
-        let clock = clock_of(rt, serving.pace, &self.listener, &self.clients)?;
+        let clock = clock_of(rt, serving, &self.listener, &self.clients)?;
         let service = Service {
             alloc: self.alloc,
             listener: &self.listener,

@@ -2,12 +2,13 @@
 
 use crate::desk::compare::{Failed, Mismatch, failed_at};
 use crate::desk::connection::Wanted::Success;
-use crate::desk::messages::{GET_UP_TIME, JOB_1, JOB_2, PRINT_JOB};
-use crate::desk::requests::{IPP, POST_JOB, POST_UP_TIME};
+use crate::desk::messages::{GET_STATE, GET_UP_TIME, IS_ABORTED, JOB_1, JOB_2, PRINT_JOB};
+use crate::desk::requests::{IPP, POST_JOB, POST_STATE, POST_UP_TIME};
+use crate::program::expiry::{HELD, MADE_WITH_KEEP};
 use crate::program::folder::Step::{Copies, IsEmpty, Keeps, Lacks, TakenPort, Tells};
 use crate::program::folder::{
-    AT, DISK, DONE, FILE, Folder, IMPORT, IMPORTED, INIT, IO, MADE, REPEATED, Row, STATEMENT,
-    STORE, Step, take_rows,
+    AT, DISK, DONE, EXPIRE, FILE, Folder, IMPORT, IMPORTED, INIT, IO, MADE, REPEATED, Row,
+    STATEMENT, STORE, Step, take_rows,
 };
 use crate::program::serving::Turn::{Serves, Takes};
 use crate::program::sockets::Comes::{Sends, SendsLast};
@@ -184,7 +185,7 @@ const OF_7_PAGES: &[u8] =
     b"\x01\x01\x00\x00\x0a\x0b\x0c\x0d\x01G\x00\x12attributes-charset\x00\x05utf-8H\x00\x1battributes-natural-language\x00\x02en\x02!\x00\x0fjob-impressions\x00\x04\x00\x00\x00\x07\x03";
 
 /// Servers over stores, each row in a folder of its own.
-static SERVED: [(&str, &[Turn]); 4] = [
+static SERVED: [(&str, &[Turn]); 5] = [
     // What a server took stands in the store that the next one opens. A store is whole in its one file once its server has ended, so that a
     // copy of that file alone is served too.
     (
@@ -225,6 +226,7 @@ static SERVED: [(&str, &[Turn]); 4] = [
                 steps: &[
                     Keeps(STORE, STATEMENT, DISK),
                     Keeps(STORE, IMPORT, DISK),
+                    Keeps(STORE, EXPIRE, DISK),
                     Keeps(STORE, INIT, DISK),
                 ],
                 clients: &[(PRINTS, All(&[Success(IPP, JOB_1)]))],
@@ -275,6 +277,24 @@ static SERVED: [(&str, &[Turn]); 4] = [
                 counts: "served 1\nserved 2\n",
                 seconds: (0, 60),
             }),
+        ],
+    ),
+    // The jobs of the store have expired: they end before the first client is served, and none is left to expire.
+    (
+        "jobs that have expired before a client comes",
+        &[
+            Takes(&[MADE_WITH_KEEP, IMPORTED, HELD]),
+            Serves(Serving {
+                words: "--store @/store --timeout 1",
+                steps: &[],
+                clients: &[(
+                    SendsLast(&[POST_STATE, GET_STATE]),
+                    All(&[Success(IPP, IS_ABORTED)]),
+                )],
+                counts: "served 1\n",
+                seconds: (0, 60),
+            }),
+            Takes(&[Tells(EXPIRE, (0, "expired 0\n", ""))]),
         ],
     ),
 ];

@@ -12,11 +12,12 @@ Make a new store
 Usage: printd init [OPTIONS] --store <PATH> --uri <URI> --name <NAME>
 
 Options:
-      --store <PATH>  The file that keeps the queue
-      --uri <URI>     The printer's URI, with the path /ipp/print
-      --name <NAME>   The printer's name
-      --estimate <N>  Pages to take for one copy of a job that doesn't tell them [default: 20]
-  -h, --help          Print help
+      --store <PATH>    The file that keeps the queue
+      --uri <URI>       The printer's URI, with the path /ipp/print
+      --name <NAME>     The printer's name
+      --estimate <N>    Pages to take for one copy of a job that doesn't tell them [default: 20]
+      --keep <SECONDS>  How long a held job is kept before it expires, 0 for ever [default: 0]
+  -h, --help            Print help
 ";
 
 /// What `serve` is, as it tells it.
@@ -41,7 +42,7 @@ For more information, try '--help'.
 ";
 
 /// Lines of words that name no command, the exit status, and what is told; none where only that something is told is looked at.
-static NO_COMMANDS: [(&str, u8, Option<&str>); 16] = [
+static NO_COMMANDS: [(&str, u8, Option<&str>); 21] = [
     ("printd", 2, None),
     ("printd print", 2, None),
     ("printd replay now", 2, None),
@@ -54,6 +55,15 @@ static NO_COMMANDS: [(&str, u8, Option<&str>); 16] = [
         2,
         None,
     ),
+    (
+        "printd init --store a --uri b --name c --keep 2147483648",
+        2,
+        None,
+    ),
+    ("printd init --store a --uri b --name c --keep -1", 2, None),
+    ("printd expire", 2, None),
+    ("printd expire --store", 2, None),
+    ("printd expire --store a b", 2, None),
     (
         "printd serve --store a --port 0 --connections 1",
         2,

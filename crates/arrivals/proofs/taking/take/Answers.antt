@@ -17,3 +17,8 @@ pub returns-in-AccountFile-clause-taken : goal.returns-in-AccountFile-clause-tak
 returns-in-AccountFile-clause-taken g c = λ honest w s set.
     subst (λ (x : Arrived). IsTakenOver g.B.QueueBook c.args.book.now c.take_file.new.book w c.args.arrival.moment x c.take_file.result
     (g.W.Write.contents c.args.writer.now) (g.W.Write.contents c.args.writer.now)) (sym c.in-AccountFile.is) (c.take_file.ensures.taken honest w s (g.W.Write.contents c.args.writer.now))
+
+pub returns-in-Sweep-clause-taken : goal.returns-in-Sweep-clause-taken
+returns-in-Sweep-clause-taken g c = λ honest w s set.
+    subst (λ (x : Arrived). IsTakenOver g.B.QueueBook c.args.book.now c.take_sweep.new.book w c.args.arrival.moment x c.take_sweep.result
+    (g.W.Write.contents c.args.writer.now) (g.W.Write.contents c.args.writer.now)) (sym c.in-Sweep.is) (c.take_sweep.ensures.taken honest w s (g.W.Write.contents c.args.writer.now))

@@ -10,7 +10,8 @@ unreachable-requires-in_default-name c =
       | inl h ↦ c.in_default-name.not-init h
       | inr (inl h) ↦ c.in_default-name.not-import h
       | inr (inr (inl h)) ↦ c.in_default-name.not-statement h
-      | inr (inr (inr (inl h))) ↦ c.in_default-name.not-serve h
-      | inr (inr (inr (inr (inl h)))) ↦ c.in_default-name.not-replay h
-      | inr (inr (inr (inr (inr h)))) ↦ h
+      | inr (inr (inr (inl h))) ↦ c.in_default-name.not-expire h
+      | inr (inr (inr (inr (inl h)))) ↦ c.in_default-name.not-serve h
+      | inr (inr (inr (inr (inr (inl h))))) ↦ c.in_default-name.not-replay h
+      | inr (inr (inr (inr (inr (inr h))))) ↦ h
     ]

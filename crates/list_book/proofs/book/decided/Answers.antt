@@ -8,7 +8,7 @@ use Rattle.list_book.proofs.ByNumber.{rising_jobs}
 use Rattle.list_book.proofs.book.decided.Goals as goal
 
 pub decide-requires-clause-fair : goal.decide-requires-clause-fair
-decide-requires-clause-fair c = subst IsFair (sym c.in_ok-scene.ensures) (c.cut_is_fair.ensures (world_of c.args.lists.now) (event_of c.args.event.now) c.requires.sound)
+decide-requires-clause-fair c = subst IsFair (sym c.in_ok-scene.ensures) (c.cut_is_fair.ensures (world_of c.args.lists.now) c.args.now (event_of c.args.event.now) c.requires.sound)
 
 pub returns-clause-decides : goal.returns-clause-decides
 returns-clause-decides c = IfOk-weaker c.decide.result _ _ (λ d is.

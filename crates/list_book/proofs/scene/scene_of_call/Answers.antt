@@ -9,7 +9,7 @@ pub returns : goal.returns
 returns c =
     let caller = c.args.caller.now in
     let call = call_of c.args.call.now in
-    IfOk-weaker c.call_scene.result _ _ (λ s is. is ∙ sym (scene_is c.args.lists.now caller call _ _ _ _ _
+    IfOk-weaker c.call_scene.result _ _ (λ s is now. is ∙ sym (scene_is c.args.lists.now now caller call _ _ _ _ _
     (c.in_ok-jobs.ensures ∙ ap (jobs_for caller call) c.as_slice.ensures.value)
     c.in_ok-free.ensures
     (c.live_for_call-live.ensures ∙ ap (live_for caller call) c.as_slice-2.ensures.value)

@@ -15,4 +15,4 @@ pub returns : goal.returns
 returns g c =
     let sound : IsTrue c.in_ok-are_sound_rows.field-0 = search rules in
     let reads = c.check_accounts.ensures.reads in
-    record { reads = reads_by c.check_accounts.result reads.leaves reads.same reads.read reads.damaged (λ schema u keyed. (c.in_ok-are_sound_rows.ensures.sound sound, keyed)) (λ schema bad form. bad form.1) }
+    record { reads = reads_by c.check_accounts.result reads.leaves reads.same (λ fits. fits) reads.read reads.damaged (λ n schema u keyed. (c.in_ok-are_sound_rows.ensures.sound sound, keyed)) (λ n schema bad form. bad form.1) }

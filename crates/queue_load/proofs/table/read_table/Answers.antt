@@ -9,8 +9,8 @@ use Rattle.sqlite.proofs.StateLemmas.{survives_then}
 use Rattle.queue_tables.proofs.Ending.{clean_before, on_ok, query_fails}
 use Rattle.queue_tables.proofs.Leaving.{begun_unchanged, leaves_all, left_leaves, query_stays, still_outside, survives_serves}
 use Rattle.queue_tables.proofs.Reading.{left_then, plain_at}
-use Rattle.queue_load.specs.Reads.{HasBook}
-use Rattle.queue_load.proofs.Loading.{plain_in, same_read, same_formless}
+use Rattle.queue_load.specs.Reads.{IsUnderstood}
+use Rattle.queue_load.proofs.Loading.{same_read, same_formless}
 use Rattle.queue_load.proofs.table.read_table.Goals.{After-read_rows}
 use Rattle.queue_load.proofs.table.read_table.Given.{Over}
 use Rattle.queue_load.proofs.table.read_table.Goals as goal
@@ -35,10 +35,10 @@ module _ (g : Over) (c : After-read_rows g) where
   same : HasCleanDisk first → IsUnchanged old first
   same clean = begun_unchanged g.S.Store c.args.sql.now [] c.args.conn.now c.in_ok-rows.rows.conn.now c.requires.query (c.in_ok-rows.ensures.begun clean)
 
-  plain : HasBook old → HasCleanDisk first → IsPlain (understood old.now.schema c.args.sql.now)
-  plain fits clean = plain_in c.args.sql.now old.now.schema c.requires.plain (fits (early clean))
+  plain : IsUnderstood c.args.sql.now old → HasCleanDisk first → IsPlain (understood old.now.schema c.args.sql.now)
+  plain fits clean = fits (early clean)
 
-  given : HasBook old → HasCleanDisk first → HasGiven g.S.Store c.args.sql.now [] c.in_ok-rows.rows.conn.now []
+  given : IsUnderstood c.args.sql.now old → HasCleanDisk first → HasGiven g.S.Store c.args.sql.now [] c.in_ok-rows.rows.conn.now []
   given fits clean = (begun_plain g.S.Store c.args.sql.now [] c.args.conn.now c.in_ok-rows.rows.conn.now (plain fits clean) (c.in_ok-rows.ensures.begun clean)).0
 
 pub returns-then-not-is_autocommit-clause-leaves : goal.returns-then-not-is_autocommit-clause-leaves

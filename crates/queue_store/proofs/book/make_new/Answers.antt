@@ -1,4 +1,4 @@
-use Rattle.std.proofs.Common.{IsTrue, rules, ap, refl, ◌∙◌}
+use Rattle.std.proofs.Common.{IsTrue, rules, refl, ◌∙◌}
 use Rattle.sqlite.specs.Held.{state}
 use Rattle.queue_core.specs.World.{empty_queue}
 use Rattle.queue_store.specs.New.{new_content}
@@ -18,4 +18,4 @@ returns-in_err-meta-clause-makes g c = none_made (empty_queue c.args.settings.no
 pub returns-clause-makes : goal.returns-clause-makes
 returns-clause-makes g c =
     let blank : IsTrue c.is_blank.result = search rules in
-    c.make_tables.ensures.makes (c.is_blank.ensures.0 blank) (empty_queue c.args.settings.now) (ap new_content c.in_ok-meta.ensures ∙ new_is c.args.settings.now)
+    c.make_tables.ensures.makes (c.is_blank.ensures.0 blank) (empty_queue c.args.settings.now) ((λ i. new_content (c.in_ok-meta.ensures i) (c.policy_row-policy.ensures i)) ∙ new_is c.args.settings.now)

@@ -13,5 +13,5 @@ pub returns-in-None-clause-adopted : goal.returns-in-None-clause-adopted
 returns-in-None-clause-adopted g c =
     let came = c.adopt.ensures in
     let behind = c.store_behind-in-None.ensures in
-    let adopted = adopts_book g.S.Store c.args.conn c.store_behind-in-None.result c.adopt.result behind.book behind.left came.stands came.kept came.damaged came.handed in
+    let adopted = adopts_book g.S.Store c.args.conn c.store_behind-in-None.result c.adopt.result behind.book behind.left came.stands came.takes came.clean came.damaged came.handed came.crash in
     subst (λ new. IfNone new (AdoptsBook g.S.Store c.args.conn c.store_behind-in-None.result)) (sym c.in-None.is) adopted

@@ -3,7 +3,7 @@ use Rattle.std.proofs.lemmas.Bool.{OnTrue_at}
 use Rattle.std.proofs.KnownBytes.{Appends-nil}
 use Rattle.replay.specs.RequestLine.{Says}
 use Rattle.replay.specs.declared.request_line.RequestLine.{RequestLine}
-use Rattle.replay.specs.declared.request_line.RequestLine.TheVariants.{Now, Ipp, Dev, Grant}
+use Rattle.replay.specs.declared.request_line.RequestLine.TheVariants.{Now, Ipp, Dev, Grant, Expire}
 use Rattle.replay.proofs.session.take_line.Goals as goal
 
 -- the bytes say this, by other names
@@ -33,3 +33,9 @@ returns-in_ok-import_row-in-Grant-clause-taken g c =
     let says = said c.args.line.now.bytes.items c.as_slice.result.now c.in-Some.request (Grant c.in-Grant.row) c.as_slice.ensures.value c.in-Grant.is c.in-Some.ensures.said in
     λ h w s set. let a = c.in_ok-import_row-in-Grant.ensures.answered h w s in
     (a.0, a.1, record { request = Grant c.in-Grant.row; says = says; whole = tt; takes = (refl, a.2) }, a.3, a.4)
+
+pub returns-in_ok-expire_jobs-in-Expire-clause-taken : goal.returns-in_ok-expire_jobs-in-Expire-clause-taken
+returns-in_ok-expire_jobs-in-Expire-clause-taken g c =
+    let says = said c.args.line.now.bytes.items c.as_slice.result.now c.in-Some.request Expire c.as_slice.ensures.value c.in-Expire.is c.in-Some.ensures.said in
+    λ h w s set. let a = c.in_ok-expire_jobs-in-Expire.ensures.answered h w s in
+    (a.0, a.1, record { request = Expire; says = says; whole = tt; takes = (refl, a.2) }, a.3, a.4)

@@ -7,4 +7,4 @@ use Rattle.list_book.proofs.book.ListBookQueueBook.decide.Goals as goal
 pub returns-clause-decides : goal.returns-clause-decides
 returns-clause-decides c = λ _ w h.
     c.in_ok-decision.ensures.decides
-    ∙ ap (λ (v : World). decision (cut v (event_of c.args.event.now)) c.args.now (event_of c.args.event.now)) (c.self.view_is ∙ h.0)
+    ∙ ap (λ (v : World). decision (cut v c.args.now (event_of c.args.event.now)) c.args.now (event_of c.args.event.now)) (c.self.view_is ∙ h.0)

@@ -11,13 +11,13 @@ returns-in_err-now-clause-err g c = λ h. on_err c.from_residual-in_err-now.resu
 
 pub returns-in_err-tell_served-clause-err : goal.returns-in_err-tell_served-clause-err
 returns-in_err-tell_served-clause-err g c = λ h. on_err c.from_residual-in_err-tell_served.result _ (λ w st set. (
-  served_one c.in_ok-now.now c.serve_stream-outcome.result.acted c.in_ok-now.ensures (c.serve_stream-outcome.ensures.worked h w st set),
+  served_one c.sweep_and_serve-outcome.result.acted (c.sweep_and_serve-outcome.ensures.worked h w st set),
   omega arith,
 ))
 
 pub returns-clause-ok : goal.returns-clause-ok
 returns-clause-ok g c = λ h w st set. (
-  served_one c.in_ok-now.now c.serve_stream-outcome.result.acted c.in_ok-now.ensures (c.serve_stream-outcome.ensures.worked h w st set),
+  served_one c.sweep_and_serve-outcome.result.acted (c.sweep_and_serve-outcome.ensures.worked h w st set),
   refl,
   told_one _ _ _ c.in_ok-tell_served.ensures,
 )
